@@ -17,6 +17,11 @@ OTHER_DECLS = {"TsInterface", "TsTypeAlias", "TsEnum", "TsModule"}
 OTHER_MODULE_DECLS = {"TsImportEquals", "TsExportAssignment", "TsNamespaceExport"}
 TYPES = ("type_ann", "type_args", "type_params", "return_type", "super_type_params", "accessibility", "with")
 FLAGS = ("declare", "definite", "is_abstract", "is_optional", "is_override", "readonly", "type_only", "is_type_only")
+# what of TypeScript isn't printed yet: modifiers of members of classes, and types of fields and getters
+MEMBERS = ("Constructor", "Method", "PrivateMethod", "ClassProp", "PrivateProp", "AutoAccessor")
+MODIFIERS = ("is_abstract", "is_optional", "is_override", "readonly", "declare", "definite")
+UNTYPED = ("ClassProp", "PrivateProp", "AutoAccessor", "Getter")
+OF_CLASS = "member of a class"
 # what the reference changes in a part of a template
 ESCAPES = ("\\x24", "\\x5c", "\\x60", "\\x7b", "\\\n", "\\\r")
 # which numbers are printed alike: those that these are put for
@@ -52,12 +57,40 @@ def is_other_module_decl(node):
     )
 
 
+def without_types(made):
+    """A node without what TypeScript adds to it."""
+    for name in TYPES:
+        if name in made:
+            made[name] = None
+    for name in FLAGS:
+        if name in made:
+            made[name] = False
+    if made.get("optional") is True and "base" not in made:
+        made["optional"] = False
+    # (the reference forgets the semicolon of a function without a body before most punctuators)
+    if "body" in made and made["body"] is None:
+        made["body"] = {"span": NOWHERE, "stmts": []}
+
+
+def unprinted(node, under):
+    """What of a node isn't printed yet: the names of its members, with what would stand there if nothing did."""
+    absent = {"type_ann": None} if under in UNTYPED else {}
+    if under in MEMBERS:
+        absent.update({name: False for name in MODIFIERS}, accessibility=None)
+    if "super_class" in node:
+        absent.update(is_abstract=False, implements=[])
+    if "init" in node:
+        absent.update(definite=False)
+    absent.update(this_param=None)
+    return {name: it for name, it in absent.items() if name in node and node[name] != it}
+
+
 def restricted(node, under=None, departs=False):
     """A tree of what is printed alike; `under` is the name of the variant or of the member that holds it.
 
     With `departs` the reference is one that prints as this printer does where only its texts differ by intent
     (docs/DIFFERENCES.md): declarations by `using`, decorators of private methods, dots after numbers, calls of `new`, semicolons that
-    are held back, strings and text of JSX.
+    are held back, strings and text of JSX, and what TypeScript adds.
     """
     if isinstance(node, list):
         return [restricted(item, under, departs) for item in node]
@@ -67,18 +100,18 @@ def restricted(node, under=None, departs=False):
         ((name, value),) = node.items()
         if not departs and (name in JSX or (name == "Lit" and "JSXText" in value)):
             return {"Ident": A}
-        if name == "Num":
+        if name == "Num" or (name == "Number" and "value" in value):
             return {name: number(value)}
         if name == "BigInt":
             return {name: big_integer(value)}
-        if name == "Decl" and any(other in value for other in OTHER_DECLS):
+        if name == "Decl" and any(other in value for other in OTHER_DECLS) and not departs:
             return {"Empty": {"span": NOWHERE}}
         if name == "Using" and under in ("Decl", "decl") and not departs:
             # (the reference writes no semicolon after it)
             return {"Var": {"span": NOWHERE, "kind": "Const", "declare": False, "decls": restricted(value["decls"], "decls", departs)}}
-        if name == "ModuleDecl" and is_other_module_decl(value):
+        if name == "ModuleDecl" and is_other_module_decl(value) and not departs:
             return {"Stmt": {"Empty": {"span": NOWHERE}}}
-        if name == "TsIndexSignature":
+        if name == "TsIndexSignature" and under == OF_CLASS:
             return {"Empty": {"span": NOWHERE}}
         if name == "TsParamProp":
             decorators = restricted(value["decorators"], "decorators", departs)
@@ -96,23 +129,13 @@ def restricted(node, under=None, departs=False):
         node = {**node, "obj": {"Ident": A}}
     if "callee" in node and "optional" not in node and under == "Call" and "New" in node["callee"] and not departs:
         node = {**node, "callee": {"Paren": {"span": NOWHERE, "expr": node["callee"]}}}
-    made = {name: restricted(value, name, departs) for name, value in node.items()}
-    for name in TYPES:
-        if name in made and not (departs and name == "with"):
-            made[name] = None
-    for name in FLAGS:
-        if name in made:
-            made[name] = False
-    if "implements" in made:
-        made["implements"] = []
-    if made.get("optional") is True and "base" not in made:
-        made["optional"] = False
-    for name in ("shebang", "this_param"):
-        if name in made:
-            made[name] = None
-    # (the reference forgets the semicolon of a function without a body before most punctuators)
-    if "body" in made and made["body"] is None and not departs:
-        made["body"] = {"span": NOWHERE, "stmts": []}
+    inside = {"body": OF_CLASS} if "super_class" in node else {}
+    made = {name: restricted(value, inside.get(name, name), departs) for name, value in node.items()}
+    if not departs:
+        without_types(made)
+    made.update(unprinted(made, under))
+    if "shebang" in made:
+        made["shebang"] = None
     return made
 
 

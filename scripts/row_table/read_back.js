@@ -1,7 +1,8 @@
 'use strict';
 // Reads lines of JSON, each some texts of one tree, `{"texts":[{"text":"..","tokens":["n:a",..]},..],"tree":..}`, and answers each
-// with who told the tokens of each text, how many texts Babel parsed, how many elements and fragments the tree holds, and a fault
-// or null. See scripts/read-back.
+// with who told the tokens of each text, how many texts Babel parsed, how many elements and fragments the tree holds, whether it
+// holds types, and a fault or null. With `isRow` a text may be no program. See scripts/read-back.
+const { holdsTypes, isReadAs } = require('./typed.js');
 let acorn, babel;
 try {
   acorn = require('acorn');
@@ -47,19 +48,30 @@ function tokensByAcorn(text) {
   }
 }
 
-// What stands before a text and after it. A hashbang is one at the very beginning alone.
-function frame(text) {
-  return text.startsWith('#!') ? ['', ''] : [OPEN, CLOSE];
+// What may stand before a text and after it. A hashbang is one at the very beginning alone, and much of TypeScript stands in no function.
+function frames(text, isTyped) {
+  if (text.startsWith('#!')) return [['', '']];
+  return isTyped ? [[OPEN, CLOSE], ['', '']] : [[OPEN, CLOSE]];
 }
 
-// As a script, or else as a module, which alone has `import.meta`.
-function parsed(text) {
-  const [open, close] = frame(text);
-  for (const sourceType of ['script', 'module']) {
-    try {
-      return babel.parse(open + text + close, { sourceType, plugins: PLUGINS, tokens: true, attachComment: false, allowSuperOutsideMethod: true, allowImportExportEverywhere: true });
-    } catch (error) {
-      // (the other may have it)
+// What reads a text: of TypeScript also what reads files of declarations alone.
+function plugins(isTyped) {
+  return isTyped ? [['typescript', ...PLUGINS], [['typescript', { dts: true }], ...PLUGINS]] : [PLUGINS];
+}
+
+// As a script, or else as a module, which alone has `import.meta`; with what stands before it.
+function parsed(text, isTyped) {
+  const allowed = { allowSuperOutsideMethod: true, allowImportExportEverywhere: true, allowReturnOutsideFunction: true, allowUndeclaredExports: true };
+  for (const [open, close] of frames(text, isTyped)) {
+    for (const sourceType of ['script', 'module']) {
+      for (const some of plugins(isTyped)) {
+        try {
+          const file = babel.parse(open + text + close, { sourceType, plugins: some, tokens: true, attachComment: false, ...allowed });
+          return { program: file.program, tokens: file.tokens, open, close };
+        } catch (error) {
+          // (another may have it)
+        }
+      }
     }
   }
   return null;
@@ -67,7 +79,7 @@ function parsed(text) {
 
 function tokensByBabel(text, file) {
   if (file === null) return null;
-  const [open, close] = frame(text), src = open + text + close, found = [];
+  const { open, close } = file, src = open + text + close, found = [];
   for (const token of file.tokens) {
     // (comments stand among them)
     if (token.start >= open.length && token.end <= open.length + text.length && typeof token.type !== 'string') {
@@ -180,8 +192,9 @@ function core(tokens) {
   return tokens.filter((token, at) => !['(', ')', ';'].includes(token) && !(token === ',' && [']', '}', ')'].includes(tokens[at + 1])));
 }
 
-function look({ texts, tree }) {
-  const files = texts.map(({ text }) => parsed(text));
+function look({ texts, tree, isRow }) {
+  const isTyped = holdsTypes(tree || {});
+  const files = texts.map(({ text }) => parsed(text, isTyped));
   const eyes = [];
   let fault = null;
   texts.forEach(({ text, tokens }, at) => {
@@ -195,16 +208,18 @@ function look({ texts, tree }) {
     if (files[0] !== null && files[1] !== null && !isSame(files[0].program, files[1].program)) fault = fault || 'two programs';
     if (texts[0].tokens === null) {
       const [pretty, minified] = texts.map(({ text }, at) => tokensByBabel(text, files[at]));
-      if (pretty === null || minified === null) fault = fault || 'no program';
+      if (pretty === null || minified === null) fault = fault || (isRow ? null : 'no program');
       else if (core(pretty).map(spelled).join(' ') !== core(minified).map(spelled).join(' ')) fault = fault || 'other tokens';
     }
   }
   if (tree) {
     const wanted = JSON.stringify(ownElements(tree));
     if (files.some((file) => file !== null && JSON.stringify(elements(file.program)) !== wanted)) fault = fault || 'other elements';
+    const readings = isTyped && texts[0].tokens === null ? texts.map(({ text }) => isReadAs(text, tree)) : [];
+    if (readings.includes(false) || (readings.includes(null) && !isRow)) fault = fault || 'another tree';
   }
   const read = files.filter((file) => file !== null).length;
-  return { eyes, parsed: read, alone: texts.length === 2 && read === 1, elements: tree ? ownElements(tree).length : 0, fault };
+  return { eyes, parsed: read, alone: texts.length === 2 && read === 1, elements: tree ? ownElements(tree).length : 0, isTyped, fault };
 }
 
 const lines = require('fs').readFileSync(0, 'utf8').split('\n').filter((line) => line);

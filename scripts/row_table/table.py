@@ -159,6 +159,11 @@ class Table:
             return tree(parts[-1]), tokens
         return (script_of(",".join(parts)), tokens) if word.startswith("script_") else (script(parts[-1]), tokens + " e:;")
 
+    def of_program(self, row, words, made_of, text):
+        """The text of a program that steps make, with these words."""
+        program, tokens = self.program_of("program_", made_of)
+        return Case(row, words, program, text, "", written(tokens, words))
+
     def commented(self, row, word, made_of, comments, left, texts):
         """The texts of a tree with comments, pretty, minified, and minified without semicolons that aren't needed."""
         program, tokens = self.program_of(word, made_of)
@@ -180,6 +185,10 @@ class Table:
             return [self.case(row, [], *rest)]
         if word in ("prints", "script_prints"):
             return [self.case(row, rest[0].split(), *rest[1:], word == "script_prints")]
+        if word == "program_tree":
+            return [self.of_program(row, words, rest[0], text) for words, text in (([], rest[1]), (["--minify", "--bare"], rest[2]))]
+        if word == "program_prints":
+            return [self.of_program(row, rest[0].split(), *rest[1:])]
         if word in ("program", "expr"):
             return [Case(row, [], tree(rest[0]) if word == "program" else script(rest[0]), rest[1], "", None)]
         if word == "malformed_program":

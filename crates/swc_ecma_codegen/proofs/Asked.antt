@@ -4,6 +4,7 @@ use Rattle.std.proofs.lemmas.Bool.{true≢false}
 use Rattle.swc_ecma_codegen_tokens.specs.Run.{Env, Plan, Part, when_minified, no_part}
 use Rattle.swc_ecma_codegen_tokens.specs.Words.{by_maps, commit_pending_semi, keyword, punct, semi, trailing_comments}
 use Rattle.swc_ecma_codegen_tokens.proofs.Emitting.{minified_same, pretty_same}
+use Rattle.swc_ecma_codegen_grammar.specs.FunctionPhrases.{is_typed_arrow}
 use Rattle.swc_ecma_codegen.specs.FunctionExprs.{parenthesis, is_only, is_plain, has_comment_behind, arrow_children, arrow_within, arrow_parameters}
 use Rattle.swc_ecma_codegen_grammar.specs.CommentMaps.{Maps}
 use Rattle.swc_ecma_codegen_tokens.specs.Lists.{ListChild}
@@ -125,6 +126,6 @@ pub yield_asked : {X : Type 0} (asks : X → Answers) (items : X → Place → P
 unfolding yield_argument
 yield_asked asks items delegate x breaks a b e h = by_answer (yield_argument_in asks items delegate x) (asks x).breaks breaks a b e h
 
-pub arrow_asked : {X : Type 0} (asks : X → Answers) (items : X → Place → Part) (n : ArrowExpr X) (plain : Bool) (a b : Standing) → plain ≡ (is_only is_plain asks n.params.items && not (has_comment_behind asks n.params.items a.state.env.maps)) → Makes (arrow_within plain n.span (arrow_children asks items n)) a b → Makes (arrow_parameters asks items n) a b
+pub arrow_asked : {X : Type 0} (asks : X → Answers) (items : X → Place → Part) (n : ArrowExpr X) (plain : Bool) (a b : Standing) → plain ≡ (not (is_typed_arrow n) && (is_only is_plain asks n.params.items && not (has_comment_behind asks n.params.items a.state.env.maps))) → Makes (arrow_within plain n.span (arrow_children asks items n)) a b → Makes (arrow_parameters asks items n) a b
 unfolding arrow_parameters
-arrow_asked asks items n plain a b e h = by_answer (λ z. arrow_within z n.span (arrow_children asks items n)) (λ maps. is_only is_plain asks n.params.items && not (has_comment_behind asks n.params.items maps)) plain a b e h
+arrow_asked asks items n plain a b e h = by_answer (λ z. arrow_within z n.span (arrow_children asks items n)) (λ maps. not (is_typed_arrow n) && (is_only is_plain asks n.params.items && not (has_comment_behind asks n.params.items maps))) plain a b e h

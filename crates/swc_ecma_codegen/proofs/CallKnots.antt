@@ -19,15 +19,16 @@ use Rattle.swc_ecma_codegen_grammar.specs.ElementPhrases.{last_is_hole}
 use Rattle.swc_ecma_codegen_grammar.proofs.Mapped.{list_mapped, hole_mapped}
 use Rattle.swc_ecma_codegen_grammar.specs.TreePhrases.{is_sequence}
 use Rattle.swc_ecma_codegen_tokens.specs.Lists.{ListChild, list}
-use Rattle.swc_ecma_codegen_tokens.specs.Run.{Plan, Part, refuse}
+use Rattle.swc_ecma_codegen_tokens.specs.Run.{Plan, Part}
 use Rattle.swc_ecma_codegen_tokens.specs.Words.{keyword, punct, commit_pending_semi, start_of, end_of, leading_comments, trailing_comments}
 use Rattle.swc_ecma_codegen.specs.declared.nodes.Place.{Place}
 use Rattle.swc_ecma_codegen.specs.declared.nodes.Place.TheVariants as places
 use Rattle.swc_ecma_codegen.specs.Answers.{Answers}
-use Rattle.swc_ecma_codegen.specs.Calls.{expr_or_spread, argument_place, argument_items, array_format, array_lit, call_format, new_format, arguments, super_keyword, import_callee, callee, call_parts, call_expr, keeps_arguments, listed_arguments, new_arguments, new_gap, new_parts, new_expr, call_mark, chain_call_parts, chain_call, is_optional}
+use Rattle.swc_ecma_codegen.specs.Calls.{expr_or_spread, argument_place, argument_items, array_format, array_lit, call_format, new_format, arguments, super_keyword, import_callee, callee, call_expr, keeps_arguments, listed_arguments, new_arguments, new_gap, new_expr, call_mark, chain_call, is_optional}
 use Rattle.swc_ecma_codegen.specs.AnyExpr as words
 use Rattle.swc_ecma_codegen.specs.AnyExpr.{expr}
-use Rattle.swc_ecma_codegen.specs.Lists.{child_of, if_some_at, unsupported}
+use Rattle.swc_ecma_codegen.specs.Annotations.{type_args}
+use Rattle.swc_ecma_codegen.specs.Lists.{child_of, if_some_at}
 use Rattle.swc_ecma_codegen.specs.Parts.{expr_part}
 use Rattle.swc_ecma_codegen.specs.Tree.{node_items}
 
@@ -61,13 +62,13 @@ unfolding node_items expr words.expr_parts words.expr_closed expr_span words.lea
 array_lit_mapped g asks items n place rest = ap (λ z. leading_comments n.span.lo (start_of n.span (punct (codes "[") z))) (elements_mapped _ _ asks items (λ x. asks (g x)) (λ x. items (g x)) refl (λ x. refl) (λ x. refl) n.span n.elems.items (punct (codes "]") (end_of n.span (trailing_comments true n.span.hi rest))))
 
 call_by : {X Y : Type 0} (g : X → Y) (asks : Y → Answers) (items : Y → Place → Part) (n : CallExpr X) (c : Callee X) (type_args : Option (TsTypeParamInstantiationBox X)) (place : Place) (rest : Plan) → node_items asks items (map-AnyNode X Y g (nodes.Expr (exprs.Call (record n { callee = c; type_args = type_args })))) place rest ≡ expr (λ x. asks (g x)) (λ x. items (g x)) (exprs.Call (record n { callee = c; type_args = type_args })) place rest
-unfolding node_items expr words.expr_parts words.expr_closed expr_span words.leaves_comments words.placed_expr words.is_wrapped is_sequence call_expr call_parts callee expr_or_spread expr_or_spread_span unsupported refuse
-call_by g asks items n (callees.Super c) None place rest = ap (λ z. commit_pending_semi (leading_comments n.span.lo (start_of n.span (super_keyword c z)))) (arguments_mapped _ asks items (λ x. asks (g x)) (λ x. items (g x)) (λ x. refl) call_format n.span n.args.items (trailing_comments true n.span.hi rest))
-call_by g asks items n (callees.Import c) None place rest = ap (λ z. commit_pending_semi (leading_comments n.span.lo (start_of n.span (import_callee c z)))) (arguments_mapped _ asks items (λ x. asks (g x)) (λ x. items (g x)) (λ x. refl) call_format n.span n.args.items (trailing_comments true n.span.hi rest))
-call_by g asks items n (callees.Expr c) None place rest = ap (λ z. commit_pending_semi (leading_comments n.span.lo (start_of n.span (items (g c.node.value) places.Callee z)))) (arguments_mapped _ asks items (λ x. asks (g x)) (λ x. items (g x)) (λ x. refl) call_format n.span n.args.items (trailing_comments true n.span.hi rest))
-call_by g asks items n (callees.Super c) (Some t) place rest = refl
-call_by g asks items n (callees.Import c) (Some t) place rest = refl
-call_by g asks items n (callees.Expr c) (Some t) place rest = refl
+unfolding node_items expr words.expr_parts words.expr_closed expr_span words.leaves_comments words.placed_expr words.is_wrapped is_sequence call_expr callee expr_or_spread expr_or_spread_span type_args
+call_by g asks items n (callees.Super c) None place rest = ap (λ z. commit_pending_semi (leading_comments n.span.lo (start_of n.span (super_keyword c (z))))) (arguments_mapped _ asks items (λ x. asks (g x)) (λ x. items (g x)) (λ x. refl) call_format n.span n.args.items (trailing_comments true n.span.hi rest))
+call_by g asks items n (callees.Super c) (Some t) place rest = ap (λ z. commit_pending_semi (leading_comments n.span.lo (start_of n.span (super_keyword c (items (g t.node.value) places.Plain (z)))))) (arguments_mapped _ asks items (λ x. asks (g x)) (λ x. items (g x)) (λ x. refl) call_format n.span n.args.items (trailing_comments true n.span.hi rest))
+call_by g asks items n (callees.Import c) None place rest = ap (λ z. commit_pending_semi (leading_comments n.span.lo (start_of n.span (import_callee c (z))))) (arguments_mapped _ asks items (λ x. asks (g x)) (λ x. items (g x)) (λ x. refl) call_format n.span n.args.items (trailing_comments true n.span.hi rest))
+call_by g asks items n (callees.Import c) (Some t) place rest = ap (λ z. commit_pending_semi (leading_comments n.span.lo (start_of n.span (import_callee c (items (g t.node.value) places.Plain (z)))))) (arguments_mapped _ asks items (λ x. asks (g x)) (λ x. items (g x)) (λ x. refl) call_format n.span n.args.items (trailing_comments true n.span.hi rest))
+call_by g asks items n (callees.Expr c) None place rest = ap (λ z. commit_pending_semi (leading_comments n.span.lo (start_of n.span (items (g c.node.value) places.Callee (z))))) (arguments_mapped _ asks items (λ x. asks (g x)) (λ x. items (g x)) (λ x. refl) call_format n.span n.args.items (trailing_comments true n.span.hi rest))
+call_by g asks items n (callees.Expr c) (Some t) place rest = ap (λ z. commit_pending_semi (leading_comments n.span.lo (start_of n.span (items (g c.node.value) places.Callee (items (g t.node.value) places.Plain (z)))))) (arguments_mapped _ asks items (λ x. asks (g x)) (λ x. items (g x)) (λ x. refl) call_format n.span n.args.items (trailing_comments true n.span.hi rest))
 
 pub call_mapped : {X Y : Type 0} (g : X → Y) (asks : Y → Answers) (items : Y → Place → Part) (n : CallExpr X) (place : Place) (rest : Plan) → node_items asks items (map-AnyNode X Y g (nodes.Expr (exprs.Call n))) place rest ≡ expr (λ x. asks (g x)) (λ x. items (g x)) (exprs.Call n) place rest
 call_mapped g asks items n place rest = call_by g asks items n n.callee n.type_args place rest
@@ -79,21 +80,23 @@ listed_arguments_mapped g asks items asked put same parent false (x ∷ xs) rest
 listed_arguments_mapped g asks items asked put same parent true xs rest = arguments_mapped g asks items asked put same new_format parent xs rest
 
 new_by : {X Y : Type 0} (g : X → Y) (asks : Y → Answers) (items : Y → Place → Part) (n : NewExpr X) (args : Option (Vec (ExprOrSpread X) Global)) (type_args : Option (TsTypeParamInstantiationBox X)) (place : Place) (rest : Plan) → node_items asks items (map-AnyNode X Y g (nodes.Expr (exprs.New (record n { args = args; type_args = type_args })))) place rest ≡ expr (λ x. asks (g x)) (λ x. items (g x)) (exprs.New (record n { args = args; type_args = type_args })) place rest
-unfolding node_items expr words.expr_parts words.expr_closed expr_span words.leaves_comments words.placed_expr words.is_wrapped is_sequence new_expr new_parts new_arguments expr_or_spread expr_or_spread_span unsupported refuse
+unfolding node_items expr words.expr_parts words.expr_closed expr_span words.leaves_comments words.placed_expr words.is_wrapped is_sequence new_expr new_arguments expr_or_spread expr_or_spread_span type_args
 new_by g asks items n None None place rest = refl
 new_by g asks items n (Some args) None place rest =
-    ap (λ z. commit_pending_semi (leading_comments n.span.lo (start_of n.span (keyword None (codes "new") (new_gap (asks (g n.callee.node.value)).starts (items (g n.callee.node.value) places.Plain z))))))
+    ap (λ z. commit_pending_semi (leading_comments n.span.lo (start_of n.span (keyword None (codes "new") (new_gap (asks (g n.callee.node.value)).starts (items (g n.callee.node.value) places.Plain (z)))))))
     (listed_arguments_mapped _ asks items (λ x. asks (g x)) (λ x. items (g x)) (λ x. refl) n.span (keeps_arguments place) args.items (trailing_comments true n.span.hi rest))
 new_by g asks items n None (Some t) place rest = refl
-new_by g asks items n (Some args) (Some t) place rest = refl
+new_by g asks items n (Some args) (Some t) place rest =
+    ap (λ z. commit_pending_semi (leading_comments n.span.lo (start_of n.span (keyword None (codes "new") (new_gap (asks (g n.callee.node.value)).starts (items (g n.callee.node.value) places.Plain (items (g t.node.value) places.Plain (z))))))))
+    (listed_arguments_mapped _ asks items (λ x. asks (g x)) (λ x. items (g x)) (λ x. refl) n.span (keeps_arguments place) args.items (trailing_comments true n.span.hi rest))
 
 pub new_mapped : {X Y : Type 0} (g : X → Y) (asks : Y → Answers) (items : Y → Place → Part) (n : NewExpr X) (place : Place) (rest : Plan) → node_items asks items (map-AnyNode X Y g (nodes.Expr (exprs.New n))) place rest ≡ expr (λ x. asks (g x)) (λ x. items (g x)) (exprs.New n) place rest
 new_mapped g asks items n place rest = new_by g asks items n n.args n.type_args place rest
 
 chain_call_by : {X Y : Type 0} (g : X → Y) (asks : Y → Answers) (items : Y → Place → Part) (n : OptCall X) (type_args : Option (TsTypeParamInstantiationBox X)) (place : Place) (rest : Plan) → node_items asks items (map-AnyNode X Y g (nodes.ExprPart (expr_parts.OptCall (record n { type_args = type_args })))) place rest ≡ chain_call (λ x. asks (g x)) (λ x. items (g x)) (is_optional place) (record n { type_args = type_args }) rest
-unfolding node_items expr_part chain_call chain_call_parts expr_or_spread expr_or_spread_span unsupported refuse
-chain_call_by g asks items n None place rest = ap (λ z. items (g n.callee.node.value) places.Callee (call_mark (is_optional place) z)) (arguments_mapped _ asks items (λ x. asks (g x)) (λ x. items (g x)) (λ x. refl) call_format n.span n.args.items rest)
-chain_call_by g asks items n (Some t) place rest = refl
+unfolding node_items expr_part chain_call expr_or_spread expr_or_spread_span type_args
+chain_call_by g asks items n None place rest = ap (λ z. items (g n.callee.node.value) places.Callee (call_mark (is_optional place) (z))) (arguments_mapped _ asks items (λ x. asks (g x)) (λ x. items (g x)) (λ x. refl) call_format n.span n.args.items rest)
+chain_call_by g asks items n (Some t) place rest = ap (λ z. items (g n.callee.node.value) places.Callee (call_mark (is_optional place) (items (g t.node.value) places.Plain (z)))) (arguments_mapped _ asks items (λ x. asks (g x)) (λ x. items (g x)) (λ x. refl) call_format n.span n.args.items rest)
 
 pub chain_call_mapped : {X Y : Type 0} (g : X → Y) (asks : Y → Answers) (items : Y → Place → Part) (n : OptCall X) (place : Place) (rest : Plan) → node_items asks items (map-AnyNode X Y g (nodes.ExprPart (expr_parts.OptCall n))) place rest ≡ chain_call (λ x. asks (g x)) (λ x. items (g x)) (is_optional place) n rest
 chain_call_mapped g asks items n place rest = chain_call_by g asks items n n.type_args place rest

@@ -1,5 +1,5 @@
 -- What is written of arrays, calls and `new` is what it reads as.
-use Rattle.std.proofs.Common.{◌≡◌, ℕ, Bool, true, false, cond, is_some, List, [], ◌∷◌, map, codes, refl, Option, Some, None}
+use Rattle.std.proofs.Common.{◌≡◌, ℕ, Bool, true, false, List, [], ◌∷◌, map, codes, refl, Option, Some, None}
 use Rattle.std.specs.declared.vec.Vec.{Vec}
 use Rattle.std.specs.Str.{chars, is_utf8}
 use Rattle.std.proofs.lemmas.Bool.{false≢true}
@@ -18,23 +18,24 @@ use Rattle.swc_ecma_codegen_grammar.specs.Chars.{is_start, is_part, is_letter, i
 use Rattle.swc_ecma_codegen_grammar.specs.Names.{is_word, all_part}
 use Rattle.swc_ecma_codegen_grammar.specs.Punctuators.{is_punctuator, punctuators}
 use Rattle.swc_ecma_codegen_grammar.specs.Texts.{is_same, is_among}
-use Rattle.swc_ecma_codegen_grammar.specs.Phrases.{Phrase, Never, ◌>◌, word, mark}
+use Rattle.swc_ecma_codegen_grammar.specs.Phrases.{◌>◌, mark}
 use Rattle.swc_ecma_codegen_grammar.specs.ElementPhrases.{element, last_is_hole}
 use Rattle.swc_ecma_codegen_grammar.specs.CallPhrases as lists
 use Rattle.swc_ecma_codegen_grammar.specs.ListFormats.{comma_delimited, allows_trailing_comma, forces_trailing_comma}
 use Rattle.swc_ecma_codegen_grammar.specs.declared.roles.Role.TheVariants.{Callee as IsCallee}
-use Rattle.swc_ecma_codegen_tokens.specs.Run.{Env, Part}
+use Rattle.swc_ecma_codegen_tokens.specs.Run.{Env}
 use Rattle.swc_ecma_codegen_tokens.specs.Lists.{list}
 use Rattle.swc_ecma_codegen_tokens.specs.Words.{punct, space, formatting_space, position}
 use Rattle.swc_ecma_codegen_tokens.specs.Written.{IsWord, IsMark}
 use Rattle.swc_ecma_codegen_tokens.proofs.Printed.{writes_if, writes_nothing, writes_space, writes_formatting_space, writes_commit, writes_position, writes_leading, Fills, makes_wider}
-use Rattle.swc_ecma_codegen_tokens.proofs.Phrased.{Prints, then, after, before, prints_nothing, prints_never, prints_keyword, prints_punct, PrintsAt, prints_wider, loosened}
+use Rattle.swc_ecma_codegen_tokens.proofs.Phrased.{Prints, then, after, before, prints_nothing, prints_keyword, prints_punct, PrintsAt, prints_wider, loosened}
 use Rattle.swc_ecma_codegen_tokens.proofs.Choices.{prints_empty_arguments}
 use Rattle.swc_ecma_codegen_tokens.proofs.ListLaws.{prints_bracketed, prints_bracketed_some, prints_forced_closing}
 use Rattle.swc_ecma_codegen.specs.declared.nodes.Place.TheVariants.{Plain, Callee}
 use Rattle.swc_ecma_codegen.specs.Answers.{place_of}
 use Rattle.swc_ecma_codegen.specs.Calls as words
-use Rattle.swc_ecma_codegen.specs.Lists.{child_of, if_some_at, unsupported}
+use Rattle.swc_ecma_codegen.specs.Lists.{child_of, if_some_at}
+use Rattle.swc_ecma_codegen.proofs.AnnotationParts.{type_args_print}
 use Rattle.swc_ecma_codegen.proofs.Linked.{Linked, expr_at}
 use Rattle.swc_ecma_codegen_tokens.proofs.Shapes.{open_, loose}
 
@@ -85,11 +86,6 @@ defer_is_word = record { utf8 = refl; ascii = refl; shape = refl }
 new_is_word : IsWord (codes "new")
 unfolding is_word is_start is_part is_letter is_digit all_part chars is_utf8 lib.Utf8.encode
 new_is_word = record { utf8 = refl; ascii = refl; shape = refl }
-
--- nothing is written where types are among the arguments, and nothing is read
-unless_typed : {env : Env} {p : Part} {f : Phrase} (typed : Bool) → Prints env p f → Prints env (λ rest. cond typed (unsupported rest) (p rest)) (cond typed Never f)
-unless_typed true h = prints_never
-unless_typed false h = h
 
 -- ---- elements and arguments
 
@@ -143,16 +139,13 @@ callee_prints l (callees.Super n) = prints_keyword l.env (Some n.span) (codes "s
 callee_prints l (callees.Import n) = then (prints_keyword l.env (Some n.span) (codes "import") import_is_word) (import_phase_prints l.env n.phase)
 callee_prints l (callees.Expr n) = l.law n.node.value Callee IsCallee
 
-call_parts_print : {X : Type 0} (l : Linked X) (n : CallExpr X) → Prints l.env (words.call_parts l.asks l.items n) (lists.callee l.reads n.callee > lists.arguments l.reads n.args.items)
-unfolding words.call_parts
-call_parts_print l n =
-    after (writes_commit l.env)
-    (after (writes_leading l.env n.span.lo)
-    (after (writes_position l.env n.span.lo) (then (callee_prints l n.callee) (arguments_print l words.call_format refl refl refl n.span n.args.items))))
-
 pub call_prints : {X : Type 0} (l : Linked X) (n : CallExpr X) → Prints l.env (words.call_expr l.asks l.items n) (lists.call_expr l.reads n)
 unfolding words.call_expr lists.call_expr
-call_prints l n = unless_typed (is_some n.type_args) (call_parts_print l n)
+call_prints l n =
+    after (writes_commit l.env)
+    (after (writes_leading l.env n.span.lo)
+    (after (writes_position l.env n.span.lo)
+    (then (callee_prints l n.callee) (then (type_args_print l Plain n.type_args) (arguments_print l words.call_format refl refl refl n.span n.args.items)))))
 
 -- ---- `new`
 
@@ -171,18 +164,15 @@ writes_new_gap : (env : Env) (starts : Bool) → Fills env (words.new_gap starts
 unfolding words.new_gap
 writes_new_gap env starts = writes_if env starts space formatting_space [] (writes_space env) (writes_formatting_space env)
 
-new_parts_print : {X : Type 0} (l : Linked X) (keeps : Bool) (n : NewExpr X) → Prints l.env (words.new_parts l.asks l.items keeps n) (word (codes "new") > lists.value_at l.reads n.callee > lists.new_arguments l.reads keeps n.args)
-unfolding words.new_parts
-new_parts_print l keeps n =
+pub new_prints : {X : Type 0} (l : Linked X) (keeps : Bool) (n : NewExpr X) → Prints l.env (words.new_expr l.asks l.items keeps n) (lists.new_expr l.reads keeps n)
+unfolding words.new_expr lists.new_expr
+new_prints l keeps n =
     after (writes_commit l.env)
     (after (writes_leading l.env n.span.lo)
     (after (writes_position l.env n.span.lo)
     (then (prints_keyword l.env None (codes "new") new_is_word)
-    (after (writes_new_gap l.env (l.asks n.callee.node.value).starts) (then (expr_at l n.callee Plain) (new_arguments_print l n.span keeps n.args))))))
-
-pub new_prints : {X : Type 0} (l : Linked X) (keeps : Bool) (n : NewExpr X) → Prints l.env (words.new_expr l.asks l.items keeps n) (lists.new_expr l.reads keeps n)
-unfolding words.new_expr lists.new_expr
-new_prints l keeps n = unless_typed (is_some n.type_args) (new_parts_print l keeps n)
+    (after (writes_new_gap l.env (l.asks n.callee.node.value).starts)
+    (then (expr_at l n.callee Plain) (then (type_args_print l Plain n.type_args) (new_arguments_print l n.span keeps n.args)))))))
 
 -- ---- calls in optional chains
 
@@ -191,10 +181,9 @@ unfolding words.call_mark lists.call_mark
 call_mark_prints env true = prints_wider open_ refl (prints_punct env (codes "?.") question_dot_is_mark)
 call_mark_prints env false = prints_nothing
 
-chain_call_parts_print : {X : Type 0} (l : Linked X) (optional : Bool) (n : OptCall X) → Prints l.env (words.chain_call_parts l.asks l.items optional n) (lists.callee_at l.reads n.callee > lists.call_mark optional > lists.arguments l.reads n.args.items)
-unfolding words.chain_call_parts
-chain_call_parts_print l optional n = then (l.law n.callee.node.value Callee IsCallee) (then (call_mark_prints l.env optional) (arguments_print l words.call_format refl refl refl n.span n.args.items))
-
 pub chain_call_prints : {X : Type 0} (l : Linked X) (optional : Bool) (n : OptCall X) → Prints l.env (words.chain_call l.asks l.items optional n) (lists.chain_call l.reads optional n)
 unfolding words.chain_call lists.chain_call
-chain_call_prints l optional n = unless_typed (is_some n.type_args) (chain_call_parts_print l optional n)
+chain_call_prints l optional n =
+    then (l.law n.callee.node.value Callee IsCallee)
+    (then (call_mark_prints l.env optional)
+    (then (type_args_print l Plain n.type_args) (arguments_print l words.call_format refl refl refl n.span n.args.items)))

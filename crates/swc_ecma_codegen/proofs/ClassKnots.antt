@@ -27,6 +27,7 @@ use Rattle.swc_ecma_codegen_tokens.specs.Run.{Plan, Part, refuse}
 use Rattle.swc_ecma_codegen_tokens.specs.Words.{keyword, punct, space, formatting_space, start_of, last_of, leading_comments}
 use Rattle.swc_ecma_codegen.specs.declared.nodes.Place.{Place}
 use Rattle.swc_ecma_codegen.specs.declared.nodes.Place.TheVariants.{Plain, ClassHead}
+use Rattle.swc_ecma_codegen.specs.Annotations.{type_args, type_params}
 use Rattle.swc_ecma_codegen.specs.Answers.{Answers}
 use Rattle.swc_ecma_codegen.specs.Classes.{class_members_format, heritage, class_trailing, class_tail, class, constructor_param, constructor_param_place, constructor_body, constructor_tail, constructor_word, constructor_parts, class_constructor, method_word, method_kind, class_method_parts, class_method, private_kind, private_method_parts, private_method, prop_value, class_prop_parts, class_prop, private_prop_tail, private_prop_parts, private_prop, accessor_key, accessor_tail, auto_accessor_parts, auto_accessor, static_block, class_member}
 use Rattle.swc_ecma_codegen.specs.Exprs.{blank}
@@ -54,15 +55,15 @@ class_same : {X Y : Type 0} (g : ClassMemberBox X → ClassMemberBox Y) (asks : 
 class_same g asks items known put same n typed other head ms rest e = either_same typed other _ _ _ e (ap (λ cs. head (braced n cs rest)) (list_mapped g (member_child asks items) (member_child known put) same ms))
 
 class_by : {X Y : Type 0} (g : X → Y) (asks : Y → Answers) (items : Y → Place → Part) (b : Box (classes.Class X) Global) (n : classes.Class X) (super_class : Option (ExprBox X)) (type_params : Option (TsTypeParamDeclBox X)) (super_type_params : Option (TsTypeParamInstantiationBox X)) (rest : Plan) → node_items asks items (map-AnyNode X Y g (nodes.StmtPart (stmt_parts.Class (record b { value = with_class_parts n super_class type_params super_type_params })))) Plain rest ≡ class_tail (λ x. asks (g x)) (λ x. items (g x)) (with_class_parts n super_class type_params super_type_params) rest
-unfolding node_items stmt_part class class_tail class_trailing heritage
+unfolding node_items stmt_part class class_tail class_trailing heritage type_args type_params
 class_by {X} {Y} g asks items b n None None None rest = class_same {X = X} {Y = Y} _ asks items (λ x. asks (g x)) (λ x. items (g x)) (λ m. refl) n _ _ (λ z. z) n.body.items rest (ap (λ z. n.is_abstract || z) (some_mapped _ n.implements.items))
-class_by {X} {Y} g asks items b n None None (Some t) rest = class_same {X = X} {Y = Y} _ asks items (λ x. asks (g x)) (λ x. items (g x)) (λ m. refl) n _ _ (λ z. z) n.body.items rest refl
-class_by {X} {Y} g asks items b n None (Some p) None rest = class_same {X = X} {Y = Y} _ asks items (λ x. asks (g x)) (λ x. items (g x)) (λ m. refl) n _ _ (λ z. z) n.body.items rest refl
-class_by {X} {Y} g asks items b n None (Some p) (Some t) rest = class_same {X = X} {Y = Y} _ asks items (λ x. asks (g x)) (λ x. items (g x)) (λ m. refl) n _ _ (λ z. z) n.body.items rest refl
-class_by {X} {Y} g asks items b n (Some s) None None rest = class_same {X = X} {Y = Y} _ asks items (λ x. asks (g x)) (λ x. items (g x)) (λ m. refl) n _ _ (λ z. space (keyword None (codes "extends") (blank (asks (g s.node.value)).starts (items (g s.node.value) Plain z)))) n.body.items rest (ap (λ z. n.is_abstract || z) (some_mapped _ n.implements.items))
-class_by {X} {Y} g asks items b n (Some s) None (Some t) rest = class_same {X = X} {Y = Y} _ asks items (λ x. asks (g x)) (λ x. items (g x)) (λ m. refl) n _ _ (λ z. space (keyword None (codes "extends") (blank (asks (g s.node.value)).starts (items (g s.node.value) Plain z)))) n.body.items rest refl
-class_by {X} {Y} g asks items b n (Some s) (Some p) None rest = class_same {X = X} {Y = Y} _ asks items (λ x. asks (g x)) (λ x. items (g x)) (λ m. refl) n _ _ (λ z. space (keyword None (codes "extends") (blank (asks (g s.node.value)).starts (items (g s.node.value) Plain z)))) n.body.items rest refl
-class_by {X} {Y} g asks items b n (Some s) (Some p) (Some t) rest = class_same {X = X} {Y = Y} _ asks items (λ x. asks (g x)) (λ x. items (g x)) (λ m. refl) n _ _ (λ z. space (keyword None (codes "extends") (blank (asks (g s.node.value)).starts (items (g s.node.value) Plain z)))) n.body.items rest refl
+class_by {X} {Y} g asks items b n None None (Some t) rest = class_same {X = X} {Y = Y} _ asks items (λ x. asks (g x)) (λ x. items (g x)) (λ m. refl) n _ _ (λ z. z) n.body.items rest (ap (λ z. n.is_abstract || z) (some_mapped _ n.implements.items))
+class_by {X} {Y} g asks items b n None (Some q) None rest = class_same {X = X} {Y = Y} _ asks items (λ x. asks (g x)) (λ x. items (g x)) (λ m. refl) n _ _ (λ z. items (g q.node.value) Plain (z)) n.body.items rest (ap (λ z. n.is_abstract || z) (some_mapped _ n.implements.items))
+class_by {X} {Y} g asks items b n None (Some q) (Some t) rest = class_same {X = X} {Y = Y} _ asks items (λ x. asks (g x)) (λ x. items (g x)) (λ m. refl) n _ _ (λ z. items (g q.node.value) Plain (z)) n.body.items rest (ap (λ z. n.is_abstract || z) (some_mapped _ n.implements.items))
+class_by {X} {Y} g asks items b n (Some s) None None rest = class_same {X = X} {Y = Y} _ asks items (λ x. asks (g x)) (λ x. items (g x)) (λ m. refl) n _ _ (λ z. space (keyword None (codes "extends") (blank (asks (g s.node.value)).starts (items (g s.node.value) Plain (z))))) n.body.items rest (ap (λ z. n.is_abstract || z) (some_mapped _ n.implements.items))
+class_by {X} {Y} g asks items b n (Some s) None (Some t) rest = class_same {X = X} {Y = Y} _ asks items (λ x. asks (g x)) (λ x. items (g x)) (λ m. refl) n _ _ (λ z. space (keyword None (codes "extends") (blank (asks (g s.node.value)).starts (items (g s.node.value) Plain (items (g t.node.value) Plain z))))) n.body.items rest (ap (λ z. n.is_abstract || z) (some_mapped _ n.implements.items))
+class_by {X} {Y} g asks items b n (Some s) (Some q) None rest = class_same {X = X} {Y = Y} _ asks items (λ x. asks (g x)) (λ x. items (g x)) (λ m. refl) n _ _ (λ z. items (g q.node.value) Plain (space (keyword None (codes "extends") (blank (asks (g s.node.value)).starts (items (g s.node.value) Plain (z)))))) n.body.items rest (ap (λ z. n.is_abstract || z) (some_mapped _ n.implements.items))
+class_by {X} {Y} g asks items b n (Some s) (Some q) (Some t) rest = class_same {X = X} {Y = Y} _ asks items (λ x. asks (g x)) (λ x. items (g x)) (λ m. refl) n _ _ (λ z. items (g q.node.value) Plain (space (keyword None (codes "extends") (blank (asks (g s.node.value)).starts (items (g s.node.value) Plain (items (g t.node.value) Plain z)))))) n.body.items rest (ap (λ z. n.is_abstract || z) (some_mapped _ n.implements.items))
 
 head_mapped : {X Y : Type 0} (g : X → Y) (asks : Y → Answers) (items : Y → Place → Part) (b : Box (classes.Class X) Global) (rest : Plan) → node_items asks items (map-AnyNode X Y g (nodes.StmtPart (stmt_parts.Class b))) ClassHead rest ≡ decorator_lines (λ x. items (g x)) b.value.decorators.items rest
 unfolding node_items stmt_part class decorator

@@ -1,6 +1,6 @@
 -- What is written of classes is what they read as.
-use Rattle.std.proofs.Common.{Bool, true, false, cond, ◌||◌, is_some, List, map, codes, Option, Some, None, refl}
-use Rattle.swc_ecma_codegen_tree.specs.Links.{BlockStmtBox, ClassMemberBox, ExprBox, FunctionBox}
+use Rattle.std.proofs.Common.{Bool, true, false, cond, ◌||◌, is_none, is_some, List, map, codes, Option, Some, None, refl}
+use Rattle.swc_ecma_codegen_tree.specs.Links.{BlockStmtBox, ClassMemberBox, ExprBox, FunctionBox, TsTypeParamInstantiationBox}
 use Rattle.swc_ecma_codegen_tree.specs.declared.classes.Class as class_nodes
 use Rattle.swc_ecma_codegen_tree.specs.declared.classes.ClassMember as class_members
 use Rattle.swc_ecma_codegen_tree.specs.declared.classes.ClassMember.TheVariants as members
@@ -29,7 +29,7 @@ use Rattle.swc_ecma_codegen_grammar.specs.declared.roles.Role.TheVariants.{Class
 use Rattle.swc_ecma_codegen_tokens.specs.Run.{Env}
 use Rattle.swc_ecma_codegen_tokens.specs.Words.{keyword, punct, last_of}
 use Rattle.swc_ecma_codegen_tokens.proofs.ListLaws.{IsUndelimited, prints_list, prints_in_order, prints_bracketed_in_order}
-use Rattle.swc_ecma_codegen_tokens.proofs.Phrased.{Prints, PrintsAt, prints_wider, joined_then, then, after, before, prints_nothing, prints_never, prints_keyword, prints_punct, prints_semi}
+use Rattle.swc_ecma_codegen_tokens.proofs.Phrased.{Prints, PrintsAt, prints_wider, joined_then, then, after, before, prints_nothing, prints_never, prints_where, prints_keyword, prints_punct, prints_semi}
 use Rattle.swc_ecma_codegen_tokens.proofs.Printed.{makes_wider, writes_nothing, writes_space, writes_formatting_space, writes_position, writes_position_before, writes_leading}
 use Rattle.swc_ecma_codegen_tokens.proofs.Shapes.{open_, ended_if_any, closed, loose, joining_if_any}
 use Rattle.swc_ecma_codegen.specs.declared.nodes.Place.{Place}
@@ -38,23 +38,25 @@ use Rattle.swc_ecma_codegen.specs.Classes as words
 use Rattle.swc_ecma_codegen.specs.Places.{behind_key}
 use Rattle.swc_ecma_codegen.specs.FunctionExprs.{comma_list_format}
 use Rattle.swc_ecma_codegen.specs.Functions.{decorators_format, decorator, decorator_lines, decorator_place}
+use Rattle.swc_ecma_codegen.proofs.AnnotationParts.{type_args_print, type_params_print}
 use Rattle.swc_ecma_codegen.proofs.ExprParts.{ident_prints, private_name_prints, writes_blank}
 use Rattle.swc_ecma_codegen.proofs.FunctionParts.{decorator_prints, decorators_print, param_prints, undelimited}
 use Rattle.swc_ecma_codegen.proofs.Impossible.{refused_or}
+use Rattle.swc_ecma_codegen.proofs.TsDeclParts.{declare_prints}
 use Rattle.swc_ecma_codegen.proofs.Linked.{Linked, expr_at, prop_name_at, block_at}
 use Rattle.swc_ecma_codegen.proofs.MarkWords as marks
 use Rattle.swc_ecma_codegen.proofs.PatParts.{initializer_prints}
 
 -- ---- classes
 
-heritage_prints : {X : Type 0} (l : Linked X) (n : Option (ExprBox X)) → PrintsAt open_ l.env (words.heritage l.asks l.items n) (lists.heritage l.reads n)
+heritage_prints : {X : Type 0} (l : Linked X) (n : Option (ExprBox X)) (args : Option (TsTypeParamInstantiationBox X)) → PrintsAt open_ l.env (words.heritage l.asks l.items n args) (lists.heritage l.reads n args)
 unfolding words.heritage lists.heritage
-heritage_prints l None = prints_nothing
-heritage_prints l (Some n) =
+heritage_prints l None args = prints_where (is_none args) (λ h. prints_nothing)
+heritage_prints l (Some n) args =
     prints_wider open_ refl
     (after (writes_space l.env)
     (then (prints_keyword l.env None (codes "extends") marks.extends_word)
-    (after (writes_blank l.env (l.asks n.node.value).starts) (expr_at l n Plain))))
+    (after (writes_blank l.env (l.asks n.node.value).starts) (then (expr_at l n Plain) (type_args_print l Plain args)))))
 
 member_at : {X : Type 0} (l : Linked X) (n : ClassMemberBox X) → PrintsAt closed l.env (l.items n.node.value Plain) (l.reads n.node.value Member)
 member_at l n = l.law n.node.value Plain Member
@@ -72,17 +74,18 @@ braced_prints l n =
 
 pub class_tail_prints : {X : Type 0} (l : Linked X) (n : class_nodes.Class X) → Prints l.env (words.class_tail l.asks l.items n) (lists.class_tail l.reads n)
 unfolding words.class_tail words.class_trailing lists.class_tail
-class_tail_prints l n = refused_or (is_typed_class n) (then (heritage_prints l n.super_class) (after (writes_formatting_space l.env) (braced_prints l n)))
+class_tail_prints l n = refused_or (is_typed_class n) (then (type_params_print l n.type_params) (then (heritage_prints l n.super_class n.super_type_params) (after (writes_formatting_space l.env) (braced_prints l n))))
 
 pub class_head_prints : {X : Type 0} (l : Linked X) (n : class_nodes.Class X) → PrintsAt ended_if_any l.env (decorator_lines l.items n.decorators.items) (lists.class_head l.reads n)
 unfolding lists.class_head
 class_head_prints l n = decorators_print l n.decorators.items
 
 pub class_decl_prints : {X : Type 0} (l : Linked X) (n : ClassDecl X) → Prints l.env (words.class_decl l.asks l.items n) (lists.class_decl l.reads n)
-unfolding words.class_decl words.class_decl_parts lists.class_decl
-class_decl_prints l n = refused_or n.declare
-    (after (writes_leading l.env (l.asks n.class.node.value).place.lo)
+unfolding words.class_decl lists.class_decl
+class_decl_prints l n =
+    after (writes_leading l.env (l.asks n.class.node.value).place.lo)
     (after (writes_position l.env (l.asks n.class.node.value).place.lo)
+    (then (declare_prints l.env n.declare)
     (then (l.law n.class.node.value Plain HeadOfClass)
     (then (prints_keyword l.env None (codes "class") marks.class_word)
     (after (writes_space l.env) (then (ident_prints l n.ident) (l.law n.class.node.value Plain ClassTail)))))))

@@ -1,5 +1,5 @@
 -- What is written of each declaration is what it reads as.
-use Rattle.std.proofs.Common.{Bool, true, false, cond, List, [], ◌∷◌, map, codes, refl, None}
+use Rattle.std.proofs.Common.{Bool, true, false, List, [], ◌∷◌, map, codes, refl, None}
 use Rattle.swc_ecma_codegen_common.specs.declared.positions.Span.{Span}
 use Rattle.swc_ecma_codegen_tree.specs.declared.decls.ClassDecl.{ClassDecl}
 use Rattle.swc_ecma_codegen_tree.specs.declared.decls.Decl.{Decl}
@@ -12,7 +12,7 @@ use Rattle.swc_ecma_codegen_tree.specs.declared.decls.VarDeclKind.TheVariants.{V
 use Rattle.swc_ecma_codegen_tree.specs.declared.decls.VarDeclarator.{VarDeclarator}
 use Rattle.swc_ecma_codegen_grammar.specs.declared.roles.Role.TheVariants.{Function, FunctionHead, ClassHead as HeadOfClass, ClassTail}
 use Rattle.swc_ecma_codegen_grammar.specs.Phrases as phrases
-use Rattle.swc_ecma_codegen_grammar.specs.Phrases.{Never, ◌>◌}
+use Rattle.swc_ecma_codegen_grammar.specs.Phrases.{◌>◌}
 use Rattle.swc_ecma_codegen_grammar.specs.NamePhrases.{ident as ident_list}
 use Rattle.swc_ecma_codegen_grammar.specs.ModulePhrases as module_lists
 use Rattle.swc_ecma_codegen_grammar.specs.DeclPhrases as lists
@@ -28,17 +28,20 @@ use Rattle.swc_ecma_codegen.specs.Decls.{declarators_format, declarator_place}
 use Rattle.swc_ecma_codegen.proofs.ExprParts.{writes_blank, writes_opened, ident_prints}
 use Rattle.swc_ecma_codegen.proofs.ClassParts.{class_decl_prints}
 use Rattle.swc_ecma_codegen.proofs.Impossible.{refused_or}
+use Rattle.swc_ecma_codegen.proofs.TsDeclParts.{declare_prints, interface_prints, alias_prints, enum_prints, module_prints}
+use Rattle.swc_ecma_codegen_grammar.specs.TsDeclPhrases.{declare_word}
 use Rattle.swc_ecma_codegen.proofs.Linked.{Linked}
 use Rattle.swc_ecma_codegen.proofs.MarkWords as marks
 use Rattle.swc_ecma_codegen.proofs.PatParts.{initializer_prints, pat_prints}
 use Rattle.swc_ecma_codegen_tokens.proofs.Shapes.{ended, ended_if_any}
 
 fn_decl_prints : {X : Type 0} (l : Linked X) (n : FnDecl X) → Prints l.env (words.fn_decl l.asks l.items n) (lists.fn_decl l.reads n)
-unfolding words.fn_decl words.fn_decl_parts lists.fn_decl
-fn_decl_prints l n = refused_or n.declare
-    (after (writes_leading l.env (l.asks n.function.node.value).place.lo)
+unfolding words.fn_decl lists.fn_decl
+fn_decl_prints l n =
+    after (writes_leading l.env (l.asks n.function.node.value).place.lo)
     (after (writes_commit l.env)
     (after (writes_position l.env (l.asks n.function.node.value).place.lo)
+    (then (declare_prints l.env n.declare)
     (then (l.law n.function.node.value DeclarationHead FunctionHead)
     (then (ident_prints l n.ident) (l.law n.function.node.value Plain Function))))))
 
@@ -61,11 +64,12 @@ kind_prints env Let = prints_keyword env None (codes "let") marks.let_word
 kind_prints env Const = prints_keyword env None (codes "const") marks.const_word
 
 pub var_decl_prints : {X : Type 0} (l : Linked X) (n : VarDecl X) → PrintsAt ended l.env (words.var_decl l.asks l.items n) (lists.var_decl l.reads n)
-unfolding words.var_decl words.var_decl_parts lists.var_decl
-var_decl_prints l n = refused_or n.declare
-    (after (writes_leading l.env n.span.lo)
+unfolding words.var_decl lists.var_decl
+var_decl_prints l n =
+    after (writes_leading l.env n.span.lo)
     (after (writes_commit l.env)
     (after (writes_position l.env n.span.lo)
+    (then (declare_prints l.env n.declare)
     (then (kind_prints l.env n.kind)
     (after (writes_blank l.env (words.first_is_unmarked n.decls.items)) (declarators_print l n.span n.decls.items))))))
 
@@ -102,7 +106,10 @@ decl_prints l (decls.Class n) place = by_prints l.env place _ _ (class_decl_prin
 decl_prints l (decls.Fn n) place = by_prints l.env place _ _ (fn_decl_prints l n)
 decl_prints l (decls.Var n) place = by_prints l.env place _ _ (then (var_decl_prints l n) (before (prints_semi l.env) (writes_decl_end l.env (declared place) n.span)))
 decl_prints l (decls.Using n) place = by_prints l.env place _ _ (then (using_decl_prints l n) (prints_semi l.env))
-decl_prints l n place = prints_never
+decl_prints l (decls.TsInterface n) place = by_prints l.env place _ _ (interface_prints l n.value)
+decl_prints l (decls.TsTypeAlias n) place = by_prints l.env place _ _ (alias_prints l n.value)
+decl_prints l (decls.TsEnum n) place = by_prints l.env place _ _ (enum_prints l n.value)
+decl_prints l (decls.TsModule n) place = by_prints l.env place _ _ (module_prints l n.value)
 
 -- ---- one that is exported
 
@@ -111,11 +118,12 @@ unfolding words.decl words.without_head words.by_export module_lists.exported_he
 exported_head_prints l (decls.Class n) = l.law n.class.node.value Plain HeadOfClass
 exported_head_prints l n = prints_wider ended_if_any refl prints_nothing
 
-exported_class_prints : {X : Type 0} (l : Linked X) (n : ClassDecl X) → Prints l.env (words.exported_class l.asks l.items n) (cond n.declare Never (phrases.word (codes "class") > ident_list n.ident > l.reads n.class.node.value ClassTail))
-unfolding words.exported_class words.exported_class_parts
-exported_class_prints l n = refused_or n.declare
-    (after (writes_leading l.env (l.asks n.class.node.value).place.lo)
+exported_class_prints : {X : Type 0} (l : Linked X) (n : ClassDecl X) → Prints l.env (words.exported_class l.asks l.items n) (declare_word n.declare > phrases.word (codes "class") > ident_list n.ident > l.reads n.class.node.value ClassTail)
+unfolding words.exported_class
+exported_class_prints l n =
+    after (writes_leading l.env (l.asks n.class.node.value).place.lo)
     (after (writes_position l.env (l.asks n.class.node.value).place.lo)
+    (then (declare_prints l.env n.declare)
     (then (prints_keyword l.env None (codes "class") marks.class_word)
     (after (writes_space l.env) (then (ident_prints l n.ident) (l.law n.class.node.value Plain ClassTail))))))
 
@@ -125,4 +133,7 @@ exported_tail_prints l (decls.Class n) = exported_class_prints l n
 exported_tail_prints l (decls.Fn n) = fn_decl_prints l n
 exported_tail_prints l (decls.Var n) = then (var_decl_prints l n) (before (prints_semi l.env) (writes_position l.env n.span.hi))
 exported_tail_prints l (decls.Using n) = then (using_decl_prints l n) (prints_semi l.env)
-exported_tail_prints l n = prints_never
+exported_tail_prints l (decls.TsInterface n) = interface_prints l n.value
+exported_tail_prints l (decls.TsTypeAlias n) = alias_prints l n.value
+exported_tail_prints l (decls.TsEnum n) = enum_prints l n.value
+exported_tail_prints l (decls.TsModule n) = module_prints l n.value

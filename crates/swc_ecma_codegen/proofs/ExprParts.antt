@@ -252,7 +252,7 @@ pub ident_prints : {X : Type 0} (l : Linked X) (n : Ident) → Prints l.env (wor
 unfolding words.ident names.ident
 ident_prints l n = prints_ident l.env n.span (string_bytes n.sym) n.optional l.leaves_out
 
-ident_name_prints : {X : Type 0} (l : Linked X) (n : IdentName) → Prints l.env (words.ident_name n) (names.ident_name n)
+pub ident_name_prints : {X : Type 0} (l : Linked X) (n : IdentName) → Prints l.env (words.ident_name n) (names.ident_name n)
 unfolding words.ident_name names.ident_name
 ident_name_prints l n = prints_name l.env n.span (string_bytes n.sym) l.leaves_out
 

@@ -1,9 +1,8 @@
 -- What is written of functions and classes in expressions is what it reads as.
-use Rattle.std.proofs.Common.{◌≡◌, not, ℕ, ◌+◌, arith, refl, sym, subst, Bool, true, false, cond, ◌||◌, ◌&&◌, is_some, List, [], ◌∷◌, map, codes, string_bytes, Option, Some, None, inl, inr}
+use Rattle.std.proofs.Common.{◌≡◌, not, ℕ, ◌+◌, arith, refl, sym, subst, Bool, true, false, cond, ◌||◌, ◌&&◌, List, [], ◌∷◌, map, codes, string_bytes, Option, Some, None, inl, inr}
 use Rattle.std.proofs.lemmas.Bool.{cases_Bool}
 use Rattle.swc_ecma_codegen_common.specs.declared.positions.Span.{Span}
-use Rattle.swc_ecma_codegen_tree.specs.Links.{PatBox}
-use Rattle.swc_ecma_codegen_tree.specs.declared.decls.Function as functions
+use Rattle.swc_ecma_codegen_tree.specs.Links.{PatBox, TsTypeAnnBox}
 use Rattle.swc_ecma_codegen_tree.specs.declared.exprs.ClassExpr.{ClassExpr}
 use Rattle.swc_ecma_codegen_tree.specs.declared.exprs.FnExpr.{FnExpr}
 use Rattle.swc_ecma_codegen_tree.specs.declared.exprs.ArrowExpr.{ArrowExpr}
@@ -11,11 +10,12 @@ use Rattle.swc_ecma_codegen_tree.specs.declared.exprs.BlockStmtOrExpr.{BlockStmt
 use Rattle.swc_ecma_codegen_tree.specs.declared.exprs.BlockStmtOrExpr.TheVariants as bodies
 use Rattle.swc_ecma_codegen_tree.specs.declared.idents.Ident.{Ident}
 use Rattle.swc_ecma_codegen_grammar.specs.declared.kinds.Kind.TheVariants.{Punctuator}
-use Rattle.swc_ecma_codegen_grammar.specs.declared.roles.Role.TheVariants.{Pattern, PlainParameter, Function, FunctionHead, ClassHead, ClassTail}
+use Rattle.swc_ecma_codegen_grammar.specs.declared.roles.Role.TheVariants.{Annotation, Pattern, PlainParameter, Function, FunctionHead, ClassHead, ClassTail}
 use Rattle.swc_ecma_codegen_grammar.specs.Tokens as lexical
 use Rattle.swc_ecma_codegen_grammar.specs.Tokens.{token_of}
 use Rattle.swc_ecma_codegen_grammar.specs.Phrases.{Phrase, Never, OptionalParentheses, ◌>◌, mark, is_possible}
 use Rattle.swc_ecma_codegen_grammar.specs.Phrases as phrases
+use Rattle.swc_ecma_codegen_grammar.specs.AnnotationPhrases.{annotation}
 use Rattle.swc_ecma_codegen_grammar.specs.NamePhrases as names
 use Rattle.swc_ecma_codegen_grammar.specs.PatPhrases as pats
 use Rattle.swc_ecma_codegen_grammar.specs.ClassPhrases as classes
@@ -36,7 +36,8 @@ use Rattle.swc_ecma_codegen.specs.FunctionExprs as words
 use Rattle.swc_ecma_codegen.specs.Commented.{has_comment_after}
 use Rattle.swc_ecma_codegen_grammar.specs.CommentMaps.{Maps}
 use Rattle.swc_ecma_codegen.specs.FunctionExprs.{comma_list_format}
-use Rattle.swc_ecma_codegen.proofs.Impossible.{refused_or, prints_impossible, never_impossible}
+use Rattle.swc_ecma_codegen.proofs.Impossible.{prints_impossible, never_impossible}
+use Rattle.swc_ecma_codegen.proofs.AnnotationParts.{type_params_print}
 use Rattle.swc_ecma_codegen.proofs.Linked.{Linked, expr_at, pat_at, block_at}
 use Rattle.swc_ecma_codegen.proofs.MarkWords as marks
 use Rattle.swc_ecma_codegen_tokens.proofs.Shapes.{open_, loose, joined}
@@ -133,11 +134,22 @@ only_commented l span n true true e =
     let P : Phrase → Type 0 = λ z. Prints l.env (only_part l false span n) (cond (is_never z) (mark (codes "(") > pats.pat_at l.reads n > mark (codes ")")) (OptionalParentheses (pats.pat_at l.reads n))) in
     subst P (sym e) (kept_or_never l span n (is_never (pats.pat_at l.reads n)) refl)
 
-arrow_params_prints : {X : Type 0} (l : Linked X) (span : Span) (ns : List (PatBox X)) (maps : Maps) → Prints l.env (words.arrow_within (words.is_only words.is_plain l.asks ns && not (words.has_comment_behind l.asks ns maps)) span (children_of (λ p. (l.asks p.node.value).place) (λ p. l.items p.node.value Plain) ns)) (lists.arrow_parameters l.reads ns)
+arrow_params_prints : {X : Type 0} (l : Linked X) (span : Span) (typed : Bool) (ns : List (PatBox X)) (maps : Maps) → Prints l.env (words.arrow_within (not typed && (words.is_only words.is_plain l.asks ns && not (words.has_comment_behind l.asks ns maps))) span (children_of (λ p. (l.asks p.node.value).place) (λ p. l.items p.node.value Plain) ns)) (lists.arrow_parameters l.reads typed ns)
 unfolding words.arrow_within words.is_only words.has_comment_behind lists.arrow_parameters
-arrow_params_prints l span [] maps = params_prints l span []
-arrow_params_prints l span (n ∷ []) maps = only_commented l span n (words.is_plain (l.asks n.node.value).pattern) (has_comment_after (l.asks n.node.value).place maps) (l.plain n.node.value)
-arrow_params_prints l span (n ∷ m ∷ ns) maps = params_prints l span (n ∷ m ∷ ns)
+arrow_params_prints l span true [] maps = params_prints l span []
+arrow_params_prints l span true (n ∷ []) maps = params_prints l span (n ∷ [])
+arrow_params_prints l span true (n ∷ m ∷ ns) maps = params_prints l span (n ∷ m ∷ ns)
+arrow_params_prints l span false [] maps = params_prints l span []
+arrow_params_prints l span false (n ∷ []) maps = only_commented l span n (words.is_plain (l.asks n.node.value).pattern) (has_comment_after (l.asks n.node.value).place maps) (l.plain n.node.value)
+arrow_params_prints l span false (n ∷ m ∷ ns) maps = params_prints l span (n ∷ m ∷ ns)
+
+arrow_result_prints : {X : Type 0} (l : Linked X) (n : Option (TsTypeAnnBox X)) → PrintsAt open_ l.env (words.arrow_result l.items n) (annotation l.reads n)
+unfolding words.arrow_result annotation
+arrow_result_prints l None = prints_nothing
+arrow_result_prints l (Some n) =
+    prints_wider open_ refl
+    (then (before (prints_punct l.env (codes ":") marks.colon) (writes_formatting_space l.env))
+    (before (l.law n.node.value Plain Annotation) (writes_formatting_space l.env)))
 
 arrow_ends_nothing : is_ending (codes "=>") ≡ false
 unfolding is_ending
@@ -156,18 +168,16 @@ unfolding words.arrow_body lists.arrow_body
 arrow_body_prints l (bodies.BlockStmt n) = prints_regrouped (then (prints_joined_punct l.env (codes "=>") arrow_ends_nothing marks.arrow) (block_at l n Body))
 arrow_body_prints l (bodies.Expr n) = prints_regrouped (then (arrow_deeper l.env) (before (expr_at l n Plain) (writes_shallower l.env)))
 
-arrow_parts_prints : {X : Type 0} (l : Linked X) (n : ArrowExpr X) → Prints l.env (words.arrow_parts l.asks l.items n) (lists.after_async n.is_async (lists.word_if n.is_generator (mark (codes "*")) > lists.arrow_parameters l.reads n.params.items > phrases.same_line > mark (codes "=>") > lists.arrow_body l.reads n.body))
-unfolding words.arrow_parts words.arrow_parameters
-arrow_parts_prints l n =
+pub arrow_expr_prints : {X : Type 0} (l : Linked X) (n : ArrowExpr X) → Prints l.env (words.arrow_expr l.asks l.items n) (lists.arrow_expr l.reads n)
+unfolding words.arrow_expr words.arrow_parameters lists.arrow_expr
+arrow_expr_prints l n =
     after (writes_leading l.env n.span.lo)
     (after (writes_position l.env n.span.lo)
     (async_arrow_then l.env n.is_async (words.is_only words.is_name l.asks n.params.items)
     (then (star_prints l.env n.is_generator)
-    (then (prints_by_maps (λ maps. words.arrow_within (words.is_only words.is_plain l.asks n.params.items && not (words.has_comment_behind l.asks n.params.items maps)) n.span (words.arrow_children l.asks l.items n)) (arrow_params_prints l n.span n.params.items)) (arrow_body_prints l n.body)))))
-
-pub arrow_expr_prints : {X : Type 0} (l : Linked X) (n : ArrowExpr X) → Prints l.env (words.arrow_expr l.asks l.items n) (lists.arrow_expr l.reads n)
-unfolding words.arrow_expr lists.arrow_expr
-arrow_expr_prints l n = refused_or (is_some n.type_params || is_some n.return_type) (arrow_parts_prints l n)
+    (then (type_params_print l n.type_params)
+    (then (prints_by_maps (λ maps. words.arrow_within (not (lists.is_typed_arrow n) && (words.is_only words.is_plain l.asks n.params.items && not (words.has_comment_behind l.asks n.params.items maps))) n.span (words.arrow_children l.asks l.items n)) (arrow_params_prints l n.span (lists.is_typed_arrow n) n.params.items))
+    (then (arrow_result_prints l n.return_type) (arrow_body_prints l n.body)))))))
 
 -- ---- classes in expressions
 

@@ -1,5 +1,5 @@
 -- What is written of functions and blocks sees what links hold through `asks` and `items` alone.
-use Rattle.std.proofs.Common.{◌≡◌, not, ◌&&◌, refl, ◌∙◌, ap, List, [], ◌∷◌, map, codes, Bool, cond, Option, Some, None, Box, Global}
+use Rattle.std.proofs.Common.{◌≡◌, not, ◌&&◌, refl, ◌∙◌, ap, List, [], ◌∷◌, map, codes, Bool, false, cond, Option, Some, None, Box, Global}
 use Rattle.swc_ecma_codegen_common.specs.declared.positions.Span.{Span}
 use Rattle.swc_ecma_codegen_tree.specs.declared.links.AnyNode.{map-AnyNode}
 use Rattle.swc_ecma_codegen_tree.specs.declared.links.AnyNode.TheOpen as nodes
@@ -18,20 +18,21 @@ use Rattle.swc_ecma_codegen_spans.specs.Spans.{expr_span, stmt_span, node_span}
 use Rattle.swc_ecma_codegen_grammar.proofs.Mapped.{list_mapped}
 use Rattle.swc_ecma_codegen_grammar.proofs.MappedFunctions.{some_mapped}
 use Rattle.swc_ecma_codegen_grammar.specs.TreePhrases.{is_sequence}
-use Rattle.swc_ecma_codegen_tokens.specs.Run.{Plan, Part, refuse}
+use Rattle.swc_ecma_codegen_tokens.specs.Run.{Plan, Part}
 use Rattle.swc_ecma_codegen_tokens.specs.Lists.{ListChild, list}
 use Rattle.swc_ecma_codegen_tokens.specs.Words.{by_maps, punct, leading_comments, start_of, end_of}
 use Rattle.swc_ecma_codegen.specs.declared.nodes.Place.{Place}
 use Rattle.swc_ecma_codegen.specs.declared.nodes.Place.TheVariants.{Plain, FunctionHead, MethodHead, DeclarationHead, StaticHead, MethodDecorators, MethodTail}
 use Rattle.swc_ecma_codegen.specs.declared.patterns.PatternKind.{PatternKind}
+use Rattle.swc_ecma_codegen.specs.Annotations.{annotation, type_params}
 use Rattle.swc_ecma_codegen.specs.Answers.{Answers, place_of}
 use Rattle.swc_ecma_codegen.specs.Blocks.{block_lines, block_start, block_stmt}
 use Rattle.swc_ecma_codegen.specs.AnyExpr.{expr, expr_parts, expr_closed, leaves_comments, is_wrapped, placed_expr}
 use Rattle.swc_ecma_codegen.specs.Commented.{has_comment_after}
 use Rattle.swc_ecma_codegen_grammar.specs.CommentMaps.{Maps}
-use Rattle.swc_ecma_codegen.specs.FunctionExprs.{comma_list_format, is_plain, is_name, is_only, async_arrow, star, has_comment_behind, arrow_within, arrow_parameters, arrow_body, arrow_parts, arrow_expr}
-use Rattle.swc_ecma_codegen.specs.Functions.{decorators_format, decorator, decorator_place, param, function_body, fn_trailing_parts, fn_trailing, function_head, declaration_head, method_head, static_head, decorator_lines, method_body, method_tail_parts, method_tail, function}
-use Rattle.swc_ecma_codegen.specs.Lists.{child_of, in_order, unsupported}
+use Rattle.swc_ecma_codegen.specs.FunctionExprs.{comma_list_format, is_plain, is_name, is_only, async_arrow, star, has_comment_behind, arrow_within, arrow_parameters, arrow_body, arrow_result, arrow_expr}
+use Rattle.swc_ecma_codegen.specs.Functions.{decorators_format, decorator, decorator_place, param, function_body, fn_trailing, function_head, declaration_head, method_head, static_head, decorator_lines, method_body, method_tail, function}
+use Rattle.swc_ecma_codegen.specs.Lists.{child_of, in_order}
 use Rattle.swc_ecma_codegen.specs.Parts.{expr_part, stmt_part}
 use Rattle.swc_ecma_codegen.specs.Stmts.{stmt}
 use Rattle.swc_ecma_codegen.specs.Tree.{node_items}
@@ -54,13 +55,15 @@ abbrev with_parts : {X : Type 0} → functions.Function X → Option (BlockStmtB
 with_parts n body type_params return_type = record n { body = body; type_params = type_params; return_type = return_type }
 
 trailing_mapped : {X Y : Type 0} (g : X → Y) (asks : Y → Answers) (items : Y → Place → Part) (b : Box (functions.Function X) Global) (n : functions.Function X) (body : Option (BlockStmtBox X)) (type_params : Option (TsTypeParamDeclBox X)) (return_type : Option (TsTypeAnnBox X)) (rest : Plan) → node_items asks items (map-AnyNode X Y g (nodes.StmtPart (stmt_parts.Function (record b { value = with_parts n body type_params return_type })))) Plain rest ≡ fn_trailing (λ x. asks (g x)) (λ x. items (g x)) (with_parts n body type_params return_type) rest
-unfolding node_items expr_part stmt_part function fn_trailing fn_trailing_parts function_body param decorator unsupported refuse
+unfolding node_items expr_part stmt_part function fn_trailing function_body param decorator annotation type_params
 trailing_mapped {X} {Y} g asks items b n None None None rest = ap (λ z. punct (codes "(") z) (children_mapped {A = Param X} _ _ _ (λ p. param_same p.span _ _ _ _ (list_mapped {A = Decorator X} _ _ (child_of decorator_place (λ d place. decorator (λ x. items (g x)) d)) (λ d. refl) p.decorators.items) (pat_mapped g asks items p.pat Plain)) comma_list_format n.span n.params.items _)
+trailing_mapped {X} {Y} g asks items b n None None (Some t) rest = ap (λ z. punct (codes "(") z) (children_mapped {A = Param X} _ _ _ (λ p. param_same p.span _ _ _ _ (list_mapped {A = Decorator X} _ _ (child_of decorator_place (λ d place. decorator (λ x. items (g x)) d)) (λ d. refl) p.decorators.items) (pat_mapped g asks items p.pat Plain)) comma_list_format n.span n.params.items _)
+trailing_mapped {X} {Y} g asks items b n None (Some q) None rest = ap (λ z. items (g q.node.value) Plain (punct (codes "(") z)) (children_mapped {A = Param X} _ _ _ (λ p. param_same p.span _ _ _ _ (list_mapped {A = Decorator X} _ _ (child_of decorator_place (λ d place. decorator (λ x. items (g x)) d)) (λ d. refl) p.decorators.items) (pat_mapped g asks items p.pat Plain)) comma_list_format n.span n.params.items _)
+trailing_mapped {X} {Y} g asks items b n None (Some q) (Some t) rest = ap (λ z. items (g q.node.value) Plain (punct (codes "(") z)) (children_mapped {A = Param X} _ _ _ (λ p. param_same p.span _ _ _ _ (list_mapped {A = Decorator X} _ _ (child_of decorator_place (λ d place. decorator (λ x. items (g x)) d)) (λ d. refl) p.decorators.items) (pat_mapped g asks items p.pat Plain)) comma_list_format n.span n.params.items _)
 trailing_mapped {X} {Y} g asks items b n (Some body) None None rest = ap (λ z. punct (codes "(") z) (children_mapped {A = Param X} _ _ _ (λ p. param_same p.span _ _ _ _ (list_mapped {A = Decorator X} _ _ (child_of decorator_place (λ d place. decorator (λ x. items (g x)) d)) (λ d. refl) p.decorators.items) (pat_mapped g asks items p.pat Plain)) comma_list_format n.span n.params.items _)
-trailing_mapped g asks items b n None None (Some t) rest = refl
-trailing_mapped g asks items b n None (Some p) t rest = refl
-trailing_mapped g asks items b n (Some body) None (Some t) rest = refl
-trailing_mapped g asks items b n (Some body) (Some p) t rest = refl
+trailing_mapped {X} {Y} g asks items b n (Some body) None (Some t) rest = ap (λ z. punct (codes "(") z) (children_mapped {A = Param X} _ _ _ (λ p. param_same p.span _ _ _ _ (list_mapped {A = Decorator X} _ _ (child_of decorator_place (λ d place. decorator (λ x. items (g x)) d)) (λ d. refl) p.decorators.items) (pat_mapped g asks items p.pat Plain)) comma_list_format n.span n.params.items _)
+trailing_mapped {X} {Y} g asks items b n (Some body) (Some q) None rest = ap (λ z. items (g q.node.value) Plain (punct (codes "(") z)) (children_mapped {A = Param X} _ _ _ (λ p. param_same p.span _ _ _ _ (list_mapped {A = Decorator X} _ _ (child_of decorator_place (λ d place. decorator (λ x. items (g x)) d)) (λ d. refl) p.decorators.items) (pat_mapped g asks items p.pat Plain)) comma_list_format n.span n.params.items _)
+trailing_mapped {X} {Y} g asks items b n (Some body) (Some q) (Some t) rest = ap (λ z. items (g q.node.value) Plain (punct (codes "(") z)) (children_mapped {A = Param X} _ _ _ (λ p. param_same p.span _ _ _ _ (list_mapped {A = Decorator X} _ _ (child_of decorator_place (λ d place. decorator (λ x. items (g x)) d)) (λ d. refl) p.decorators.items) (pat_mapped g asks items p.pat Plain)) comma_list_format n.span n.params.items _)
 
 in_order_mapped : {A B : Type 0} (g : A → B) (e : B → Part) (d : A → Part) → ((x : A) → e (g x) ≡ d x) → (xs : List A) (rest : Plan) → in_order e (map g xs) rest ≡ in_order d xs rest
 unfolding in_order
@@ -71,13 +74,15 @@ pub decorators_mapped : {X Y : Type 0} (g : Decorator X → Decorator Y) (items 
 decorators_mapped g items put same ns rest = in_order_mapped g (decorator items) (decorator put) same ns rest
 
 tail_mapped : {X Y : Type 0} (g : X → Y) (asks : Y → Answers) (items : Y → Place → Part) (b : Box (functions.Function X) Global) (n : functions.Function X) (body : Option (BlockStmtBox X)) (type_params : Option (TsTypeParamDeclBox X)) (return_type : Option (TsTypeAnnBox X)) (rest : Plan) → node_items asks items (map-AnyNode X Y g (nodes.StmtPart (stmt_parts.Function (record b { value = with_parts n body type_params return_type })))) MethodTail rest ≡ method_tail (λ x. asks (g x)) (λ x. items (g x)) (with_parts n body type_params return_type) rest
-unfolding node_items expr_part stmt_part function method_tail method_tail_parts method_body param decorator unsupported refuse
+unfolding node_items expr_part stmt_part function method_tail method_body param decorator annotation type_params
 tail_mapped {X} {Y} g asks items b n None None None rest = ap (λ z. punct (codes "(") z) (children_mapped {A = Param X} _ _ _ (λ p. param_same p.span _ _ _ _ (list_mapped {A = Decorator X} _ _ (child_of decorator_place (λ d place. decorator (λ x. items (g x)) d)) (λ d. refl) p.decorators.items) (pat_mapped g asks items p.pat Plain)) comma_list_format n.span n.params.items _)
+tail_mapped {X} {Y} g asks items b n None None (Some t) rest = ap (λ z. punct (codes "(") z) (children_mapped {A = Param X} _ _ _ (λ p. param_same p.span _ _ _ _ (list_mapped {A = Decorator X} _ _ (child_of decorator_place (λ d place. decorator (λ x. items (g x)) d)) (λ d. refl) p.decorators.items) (pat_mapped g asks items p.pat Plain)) comma_list_format n.span n.params.items _)
+tail_mapped {X} {Y} g asks items b n None (Some q) None rest = ap (λ z. items (g q.node.value) Plain (punct (codes "(") z)) (children_mapped {A = Param X} _ _ _ (λ p. param_same p.span _ _ _ _ (list_mapped {A = Decorator X} _ _ (child_of decorator_place (λ d place. decorator (λ x. items (g x)) d)) (λ d. refl) p.decorators.items) (pat_mapped g asks items p.pat Plain)) comma_list_format n.span n.params.items _)
+tail_mapped {X} {Y} g asks items b n None (Some q) (Some t) rest = ap (λ z. items (g q.node.value) Plain (punct (codes "(") z)) (children_mapped {A = Param X} _ _ _ (λ p. param_same p.span _ _ _ _ (list_mapped {A = Decorator X} _ _ (child_of decorator_place (λ d place. decorator (λ x. items (g x)) d)) (λ d. refl) p.decorators.items) (pat_mapped g asks items p.pat Plain)) comma_list_format n.span n.params.items _)
 tail_mapped {X} {Y} g asks items b n (Some body) None None rest = ap (λ z. punct (codes "(") z) (children_mapped {A = Param X} _ _ _ (λ p. param_same p.span _ _ _ _ (list_mapped {A = Decorator X} _ _ (child_of decorator_place (λ d place. decorator (λ x. items (g x)) d)) (λ d. refl) p.decorators.items) (pat_mapped g asks items p.pat Plain)) comma_list_format n.span n.params.items _)
-tail_mapped g asks items b n None None (Some t) rest = refl
-tail_mapped g asks items b n None (Some p) t rest = refl
-tail_mapped g asks items b n (Some body) None (Some t) rest = refl
-tail_mapped g asks items b n (Some body) (Some p) t rest = refl
+tail_mapped {X} {Y} g asks items b n (Some body) None (Some t) rest = ap (λ z. punct (codes "(") z) (children_mapped {A = Param X} _ _ _ (λ p. param_same p.span _ _ _ _ (list_mapped {A = Decorator X} _ _ (child_of decorator_place (λ d place. decorator (λ x. items (g x)) d)) (λ d. refl) p.decorators.items) (pat_mapped g asks items p.pat Plain)) comma_list_format n.span n.params.items _)
+tail_mapped {X} {Y} g asks items b n (Some body) (Some q) None rest = ap (λ z. items (g q.node.value) Plain (punct (codes "(") z)) (children_mapped {A = Param X} _ _ _ (λ p. param_same p.span _ _ _ _ (list_mapped {A = Decorator X} _ _ (child_of decorator_place (λ d place. decorator (λ x. items (g x)) d)) (λ d. refl) p.decorators.items) (pat_mapped g asks items p.pat Plain)) comma_list_format n.span n.params.items _)
+tail_mapped {X} {Y} g asks items b n (Some body) (Some q) (Some t) rest = ap (λ z. items (g q.node.value) Plain (punct (codes "(") z)) (children_mapped {A = Param X} _ _ _ (λ p. param_same p.span _ _ _ _ (list_mapped {A = Decorator X} _ _ (child_of decorator_place (λ d place. decorator (λ x. items (g x)) d)) (λ d. refl) p.decorators.items) (pat_mapped g asks items p.pat Plain)) comma_list_format n.span n.params.items _)
 
 method_decorators_mapped : {X Y : Type 0} (g : X → Y) (asks : Y → Answers) (items : Y → Place → Part) (b : Box (functions.Function X) Global) (rest : Plan) → node_items asks items (map-AnyNode X Y g (nodes.StmtPart (stmt_parts.Function b))) MethodDecorators rest ≡ decorator_lines (λ x. items (g x)) b.value.decorators.items rest
 unfolding node_items stmt_part function decorator
@@ -127,13 +132,23 @@ behind_mapped g asks known same (n ∷ m ∷ ns) = refl
 arrow_same : {X : Type 0} (n : ArrowExpr X) (named other : Bool) (plain bare : Bool) (behind beyond : Maps → Bool) (cs ds : List ListChild) (after : Plan) → named ≡ other → plain ≡ bare → behind ≡ beyond → cs ≡ ds → head_of n named (params_of n plain behind cs after) ≡ head_of n other (params_of n bare beyond ds after)
 arrow_same n named other plain bare behind beyond cs ds after e k b h = ap (λ z. head_of n z (params_of n plain behind cs after)) e ∙ ap (λ z. head_of n other (params_of n z behind cs after)) k ∙ ap (λ z. head_of n other (params_of n bare z cs after)) b ∙ ap (λ z. head_of n other (params_of n bare beyond z after)) h
 
+-- with types around them its parameters have their parentheses
+abbrev typed_head : {X : Type 0} → ArrowExpr X → (Plan → Plan) → Bool → List ListChild → Plan → Plan
+typed_head n before named cs after = head_of n named (before (by_maps (λ maps. arrow_within false n.span cs) after))
+
+typed_same : {X : Type 0} (n : ArrowExpr X) (before : Plan → Plan) (named other : Bool) (cs ds : List ListChild) (after : Plan) → named ≡ other → cs ≡ ds → typed_head n before named cs after ≡ typed_head n before other ds after
+typed_same n before named other cs ds after e h = ap (λ z. typed_head n before z cs after) e ∙ ap (λ z. typed_head n before other z after) h
+
 arrow_mapped : {X Y : Type 0} (g : X → Y) (asks : Y → Answers) (items : Y → Place → Part) (b : Box (ArrowExpr X) Global) (n : ArrowExpr X) (body : BlockStmtOrExpr X) (type_params : Option (TsTypeParamDeclBox X)) (return_type : Option (TsTypeAnnBox X)) (place : Place) (rest : Plan) → node_items asks items (map-AnyNode X Y g (nodes.Expr (exprs.Arrow (record b { value = record n { body = body; type_params = type_params; return_type = return_type } })))) place rest ≡ expr (λ x. asks (g x)) (λ x. items (g x)) (exprs.Arrow (record b { value = record n { body = body; type_params = type_params; return_type = return_type } })) place rest
-unfolding node_items expr expr_parts expr_closed expr_span leaves_comments placed_expr is_wrapped is_sequence arrow_expr arrow_parts arrow_parameters arrow_body unsupported refuse
+unfolding node_items expr expr_parts expr_closed expr_span leaves_comments placed_expr is_wrapped is_sequence arrow_expr arrow_parameters arrow_body arrow_result type_params
 arrow_mapped {X} g asks items b n (bodies.BlockStmt m) None None place rest = arrow_same n _ _ _ _ _ _ _ _ _ (only_mapped _ is_name asks (λ x. asks (g x)) (λ p. refl) n.params.items) (only_mapped _ is_plain asks (λ x. asks (g x)) (λ p. refl) n.params.items) (behind_mapped _ asks (λ x. asks (g x)) (λ p. refl) n.params.items) (list_mapped {A = PatBox X} _ _ (child_of (λ p. (asks (g p.node.value)).place) (λ p place. items (g p.node.value) place)) (λ p. refl) n.params.items)
+arrow_mapped {X} g asks items b n (bodies.BlockStmt m) None (Some t) place rest = typed_same n (λ z. z) _ _ _ _ _ (only_mapped _ is_name asks (λ x. asks (g x)) (λ p. refl) n.params.items) (list_mapped {A = PatBox X} _ _ (child_of (λ p. (asks (g p.node.value)).place) (λ p place. items (g p.node.value) place)) (λ p. refl) n.params.items)
+arrow_mapped {X} g asks items b n (bodies.BlockStmt m) (Some q) None place rest = typed_same n (λ z. items (g q.node.value) Plain z) _ _ _ _ _ (only_mapped _ is_name asks (λ x. asks (g x)) (λ p. refl) n.params.items) (list_mapped {A = PatBox X} _ _ (child_of (λ p. (asks (g p.node.value)).place) (λ p place. items (g p.node.value) place)) (λ p. refl) n.params.items)
+arrow_mapped {X} g asks items b n (bodies.BlockStmt m) (Some q) (Some t) place rest = typed_same n (λ z. items (g q.node.value) Plain z) _ _ _ _ _ (only_mapped _ is_name asks (λ x. asks (g x)) (λ p. refl) n.params.items) (list_mapped {A = PatBox X} _ _ (child_of (λ p. (asks (g p.node.value)).place) (λ p place. items (g p.node.value) place)) (λ p. refl) n.params.items)
 arrow_mapped {X} g asks items b n (bodies.Expr m) None None place rest = arrow_same n _ _ _ _ _ _ _ _ _ (only_mapped _ is_name asks (λ x. asks (g x)) (λ p. refl) n.params.items) (only_mapped _ is_plain asks (λ x. asks (g x)) (λ p. refl) n.params.items) (behind_mapped _ asks (λ x. asks (g x)) (λ p. refl) n.params.items) (list_mapped {A = PatBox X} _ _ (child_of (λ p. (asks (g p.node.value)).place) (λ p place. items (g p.node.value) place)) (λ p. refl) n.params.items)
-arrow_mapped g asks items b n body None (Some t) place rest = refl
-arrow_mapped g asks items b n body (Some p) None place rest = refl
-arrow_mapped g asks items b n body (Some p) (Some t) place rest = refl
+arrow_mapped {X} g asks items b n (bodies.Expr m) None (Some t) place rest = typed_same n (λ z. z) _ _ _ _ _ (only_mapped _ is_name asks (λ x. asks (g x)) (λ p. refl) n.params.items) (list_mapped {A = PatBox X} _ _ (child_of (λ p. (asks (g p.node.value)).place) (λ p place. items (g p.node.value) place)) (λ p. refl) n.params.items)
+arrow_mapped {X} g asks items b n (bodies.Expr m) (Some q) None place rest = typed_same n (λ z. items (g q.node.value) Plain z) _ _ _ _ _ (only_mapped _ is_name asks (λ x. asks (g x)) (λ p. refl) n.params.items) (list_mapped {A = PatBox X} _ _ (child_of (λ p. (asks (g p.node.value)).place) (λ p place. items (g p.node.value) place)) (λ p. refl) n.params.items)
+arrow_mapped {X} g asks items b n (bodies.Expr m) (Some q) (Some t) place rest = typed_same n (λ z. items (g q.node.value) Plain z) _ _ _ _ _ (only_mapped _ is_name asks (λ x. asks (g x)) (λ p. refl) n.params.items) (list_mapped {A = PatBox X} _ _ (child_of (λ p. (asks (g p.node.value)).place) (λ p place. items (g p.node.value) place)) (λ p. refl) n.params.items)
 
 pub arrow_expr_mapped : {X Y : Type 0} (g : X → Y) (asks : Y → Answers) (items : Y → Place → Part) (b : Box (ArrowExpr X) Global) (place : Place) (rest : Plan) → node_items asks items (map-AnyNode X Y g (nodes.Expr (exprs.Arrow b))) place rest ≡ expr (λ x. asks (g x)) (λ x. items (g x)) (exprs.Arrow b) place rest
 arrow_expr_mapped g asks items b place rest = arrow_mapped g asks items b b.value b.value.body b.value.type_params b.value.return_type place rest

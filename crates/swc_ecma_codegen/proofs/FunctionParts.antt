@@ -1,11 +1,10 @@
 -- What is written of functions and blocks is what it reads as.
-use Rattle.std.proofs.Common.{refl, Bool, true, false, cond, ◌||◌, is_some, List, [], map, codes, Option, Some, None}
+use Rattle.std.proofs.Common.{refl, Bool, true, false, cond, ◌||◌, List, [], codes, Option, Some, None}
 use Rattle.swc_ecma_codegen_tree.specs.Links.{BlockStmtBox}
 use Rattle.swc_ecma_codegen_tree.specs.declared.decls.Decorator.{Decorator}
 use Rattle.swc_ecma_codegen_tree.specs.declared.decls.Param.{Param}
 use Rattle.swc_ecma_codegen_tree.specs.declared.decls.Function as functions
 use Rattle.swc_ecma_codegen_grammar.specs.Phrases.{Phrase, Never, ◌>◌, mark, word}
-use Rattle.swc_ecma_codegen_grammar.specs.Phrases as phrases
 use Rattle.swc_ecma_codegen_grammar.specs.ClassPhrases as classes
 use Rattle.swc_ecma_codegen_grammar.specs.FunctionPhrases as lists
 use Rattle.swc_ecma_codegen_grammar.specs.FunctionPhrases.{is_some_listed}
@@ -20,8 +19,7 @@ use Rattle.swc_ecma_codegen.specs.Places.{before_name, before_method, behind_key
 use Rattle.swc_ecma_codegen.specs.Functions as words
 use Rattle.swc_ecma_codegen.specs.FunctionExprs.{comma_list_format}
 use Rattle.swc_ecma_codegen.specs.Functions.{decorators_format, decorator_place, param_place}
-use Rattle.swc_ecma_codegen.specs.Lists.{unsupported}
-use Rattle.swc_ecma_codegen.proofs.Impossible.{refused_or}
+use Rattle.swc_ecma_codegen.proofs.AnnotationParts.{annotation_prints, type_params_print}
 use Rattle.swc_ecma_codegen.proofs.FunctionExprParts.{star_prints}
 use Rattle.swc_ecma_codegen.proofs.Linked.{Linked, expr_at, block_at}
 use Rattle.swc_ecma_codegen.proofs.ListParts.{in_order_prints}
@@ -58,23 +56,24 @@ unfolding words.function_body lists.function_body
 body_prints l None = prints_semi l.env
 body_prints l (Some n) = after (writes_formatting_space l.env) (block_at l n Body)
 
-trailing_prints : {X : Type 0} (l : Linked X) (n : functions.Function X) → Prints l.env (words.fn_trailing_parts l.asks l.items n) (mark (codes "(") > phrases.listed (codes ",") (map (lists.param l.reads) n.params.items) > mark (codes ")") > lists.function_body l.reads n.body)
-unfolding words.fn_trailing_parts
-trailing_prints l n =
-    then (prints_punct l.env (codes "(") marks.left_parenthesis)
+-- behind the name of a function, and behind that of a private method
+private_tail_prints : {X : Type 0} (l : Linked X) (n : functions.Function X) → Prints l.env (words.fn_trailing l.asks l.items n) (classes.method_tail l.reads n)
+unfolding words.fn_trailing classes.method_tail
+private_tail_prints l n =
+    then (type_params_print l n.type_params)
+    (then (prints_punct l.env (codes "(") marks.left_parenthesis)
     (then (prints_list l.env comma_list_format n.span param_place (words.param l.asks l.items) (lists.param l.reads) (λ p. prints_wider loose refl (param_prints l p)) refl refl refl refl n.params.items)
-    (then (prints_punct l.env (codes ")") marks.right_parenthesis) (body_prints l n.body)))
+    (then (prints_punct l.env (codes ")") marks.right_parenthesis)
+    (then (annotation_prints l n.return_type) (body_prints l n.body)))))
 
--- what TypeScript adds is refused; decorators are passed over, and no function that isn't a method's has any
-plain_or : {env : Env} {p : Part} {f : Phrase} (typed returns decorated : Bool) → Prints env p f → Prints env (λ rest. cond (typed || returns) (unsupported rest) (p rest)) (cond (typed || (returns || decorated)) Never f)
-plain_or true returns decorated h = prints_never
-plain_or false true decorated h = prints_never
-plain_or false false true h = prints_never
-plain_or false false false h = h
+-- decorators are passed over, and no function that isn't a method's has any
+unless_decorated : {env : Env} {p : Part} {f : Phrase} (decorated : Bool) → Prints env p f → Prints env p (cond decorated Never f)
+unless_decorated true h = prints_never
+unless_decorated false h = h
 
 pub fn_trailing_prints : {X : Type 0} (l : Linked X) (n : functions.Function X) → Prints l.env (words.fn_trailing l.asks l.items n) (lists.function l.reads n)
-unfolding words.fn_trailing lists.function
-fn_trailing_prints l n = plain_or (is_some n.type_params) (is_some n.return_type) (is_some_listed n.decorators.items) (trailing_prints l n)
+unfolding lists.function classes.method_tail
+fn_trailing_prints l n = unless_decorated (is_some_listed n.decorators.items) (private_tail_prints l n)
 
 async_prints : (env : Env) (wanted : Bool) → PrintsAt open_ env (words.async_word wanted) (lists.word_if wanted (word (codes "async")))
 unfolding words.async_word lists.word_if
@@ -143,20 +142,14 @@ unfolding words.method_body lists.function_body
 method_body_prints l None = prints_semi l.env
 method_body_prints l (Some n) = after (writes_formatting_space l.env) (block_at l n Plain)
 
-method_trailing_prints : {X : Type 0} (l : Linked X) (n : functions.Function X) → Prints l.env (words.method_tail_parts l.asks l.items n) (mark (codes "(") > phrases.listed (codes ",") (map (lists.param l.reads) n.params.items) > mark (codes ")") > lists.function_body l.reads n.body)
-unfolding words.method_tail_parts
-method_trailing_prints l n =
-    then (prints_punct l.env (codes "(") marks.left_parenthesis)
-    (then (prints_list l.env comma_list_format n.span param_place (words.param l.asks l.items) (lists.param l.reads) (λ p. prints_wider loose refl (param_prints l p)) refl refl refl refl n.params.items)
-    (then (prints_punct l.env (codes ")") marks.right_parenthesis) (method_body_prints l n.body)))
-
 plain_tail_prints : {X : Type 0} (l : Linked X) (n : functions.Function X) → Prints l.env (words.method_tail l.asks l.items n) (classes.method_tail l.reads n)
 unfolding words.method_tail classes.method_tail
-plain_tail_prints l n = refused_or (is_some n.type_params || is_some n.return_type) (method_trailing_prints l n)
-
-private_tail_prints : {X : Type 0} (l : Linked X) (n : functions.Function X) → Prints l.env (words.fn_trailing l.asks l.items n) (classes.method_tail l.reads n)
-unfolding words.fn_trailing classes.method_tail
-private_tail_prints l n = refused_or (is_some n.type_params || is_some n.return_type) (trailing_prints l n)
+plain_tail_prints l n =
+    then (type_params_print l n.type_params)
+    (then (prints_punct l.env (codes "(") marks.left_parenthesis)
+    (then (prints_list l.env comma_list_format n.span param_place (words.param l.asks l.items) (lists.param l.reads) (λ p. prints_wider loose refl (param_prints l p)) refl refl refl refl n.params.items)
+    (then (prints_punct l.env (codes ")") marks.right_parenthesis)
+    (then (annotation_prints l n.return_type) (method_body_prints l n.body)))))
 
 -- what of a method stands behind its key, private or not
 pub method_tail_prints : {X : Type 0} (l : Linked X) (n : functions.Function X) (place : Place) → Prints l.env (words.function l.asks l.items n (behind_key place)) (classes.method_tail l.reads n)

@@ -1,5 +1,5 @@
 -- The words of JSX see what links hold through `asks` and `items` alone.
-use Rattle.std.proofs.Common.{◌≡◌, refl, ◌∙◌, ap, is_some, Bool, true, false, cond, List, [], ◌∷◌, map, codes, Option, Some, None, Box, Global}
+use Rattle.std.proofs.Common.{◌≡◌, refl, ◌∙◌, ap, Bool, true, false, List, [], ◌∷◌, map, codes, Option, Some, None, Box, Global}
 use Rattle.swc_ecma_codegen_common.specs.declared.positions.Span.{Span}
 use Rattle.swc_ecma_codegen_tree.specs.declared.links.AnyNode.{AnyNode-F, map-AnyNode}
 use Rattle.swc_ecma_codegen_tree.specs.declared.links.AnyNode.TheOpen as nodes
@@ -30,14 +30,15 @@ use Rattle.swc_ecma_codegen_tree.specs.declared.jsx.JSXSpreadChild.{JSXSpreadChi
 use Rattle.swc_ecma_codegen_tree.specs.declared.parts.JSXPart.{JSXPart}
 use Rattle.swc_ecma_codegen_tree.specs.declared.parts.JSXPart.TheVariants as jsx_parts
 use Rattle.swc_ecma_codegen_spans.specs.Spans.{spread_element_span}
-use Rattle.swc_ecma_codegen_tokens.specs.Run.{Plan, Part, refuse}
+use Rattle.swc_ecma_codegen_tokens.specs.Run.{Plan, Part}
 use Rattle.swc_ecma_codegen_tokens.specs.Tags.{close}
 use Rattle.swc_ecma_codegen.specs.declared.nodes.Place.{Place}
 use Rattle.swc_ecma_codegen.specs.declared.nodes.Place.TheVariants.{Plain}
+use Rattle.swc_ecma_codegen.specs.Annotations.{type_args}
 use Rattle.swc_ecma_codegen.specs.Answers.{Answers}
 use Rattle.swc_ecma_codegen.specs.Exprs.{blank, spread_element}
-use Rattle.swc_ecma_codegen.specs.Lists.{in_order, unsupported}
-use Rattle.swc_ecma_codegen.specs.Jsx.{jsx_member_expr, jsx_object, jsx_element_name, open_at, jsx_expr, jsx_expr_container, jsx_spread_child, jsx_attr_value, attr_initializer, jsx_attr, jsx_attr_or_spread, jsx_attributes, self_closing, opening_parts, jsx_opening_element, jsx_closing_element, jsx_element_child, jsx_children, optional_closing, jsx_element, opening_fragment, closing_fragment, jsx_fragment, jsx_part}
+use Rattle.swc_ecma_codegen.specs.Lists.{in_order}
+use Rattle.swc_ecma_codegen.specs.Jsx.{jsx_member_expr, jsx_object, jsx_element_name, open_at, jsx_expr, jsx_expr_container, jsx_spread_child, jsx_attr_value, attr_initializer, jsx_attr, jsx_attr_or_spread, jsx_attributes, self_closing, jsx_opening_element, jsx_closing_element, jsx_element_child, jsx_children, optional_closing, jsx_element, opening_fragment, closing_fragment, jsx_fragment, jsx_part}
 use Rattle.swc_ecma_codegen.specs.Tree.{node_items}
 
 -- ---- by what is there
@@ -107,29 +108,30 @@ unfolding jsx_children
 children_mapped g items put same ns rest = in_order_mapped g (jsx_element_child items) (jsx_element_child put) same ns rest
 
 opening_same : {X Y : Type 0} (asks : Y → Answers) (items : Y → Place → Part) (said : X → Answers) (put : X → Place → Part) (o : JSXOpeningElement Y) (n : JSXOpeningElement X) (place : Place)
+    → ((rest : Plan) → type_args items Plain o.type_args rest ≡ type_args put Plain n.type_args rest)
     → ((rest : Plan) → jsx_element_name items o.name rest ≡ jsx_element_name put n.name rest)
     → ((rest : Plan) → jsx_attributes (jsx_attr_or_spread asks items) true o.attrs.items rest ≡ jsx_attributes (jsx_attr_or_spread said put) true n.attrs.items rest)
     → o.self_closing ≡ n.self_closing
-    → (rest : Plan) → opening_parts asks items o place rest ≡ opening_parts said put n place rest
-unfolding opening_parts
-opening_same asks items said put o n place name listed closes rest =
+    → (rest : Plan) → jsx_opening_element asks items o place rest ≡ jsx_opening_element said put n place rest
+unfolding jsx_opening_element
+opening_same asks items said put o n place typed name listed closes rest =
     ap (open_at place (codes "<"))
-    (name (jsx_attributes (jsx_attr_or_spread asks items) true o.attrs.items (self_closing o.self_closing (close rest)))
+    (name (type_args items Plain o.type_args (jsx_attributes (jsx_attr_or_spread asks items) true o.attrs.items (self_closing o.self_closing (close rest))))
     ∙ ap (jsx_element_name put n.name)
+    (typed (jsx_attributes (jsx_attr_or_spread asks items) true o.attrs.items (self_closing o.self_closing (close rest)))
+    ∙ ap (type_args put Plain n.type_args)
     (listed (self_closing o.self_closing (close rest))
-    ∙ ap (λ c. jsx_attributes (jsx_attr_or_spread said put) true n.attrs.items (self_closing c (close rest))) closes))
+    ∙ ap (λ c. jsx_attributes (jsx_attr_or_spread said put) true n.attrs.items (self_closing c (close rest))) closes)))
 
 element_same : {X Y : Type 0} (asks : Y → Answers) (items : Y → Place → Part) (said : X → Answers) (put : X → Place → Part) (o : JSXElement Y) (n : JSXElement X) (place : Place)
-    → is_some o.opening.type_args ≡ is_some n.opening.type_args
-    → ((rest : Plan) → opening_parts asks items o.opening place rest ≡ opening_parts said put n.opening place rest)
+    → ((rest : Plan) → jsx_opening_element asks items o.opening place rest ≡ jsx_opening_element said put n.opening place rest)
     → ((rest : Plan) → jsx_children items o.children.items rest ≡ jsx_children put n.children.items rest)
     → ((rest : Plan) → optional_closing items o.closing rest ≡ optional_closing put n.closing rest)
     → (rest : Plan) → jsx_element asks items o place rest ≡ jsx_element said put n place rest
-unfolding jsx_element jsx_opening_element
-element_same asks items said put o n place typed opening children closing rest =
-    ap (λ t. cond t (unsupported (jsx_children items o.children.items (optional_closing items o.closing rest))) (opening_parts asks items o.opening place (jsx_children items o.children.items (optional_closing items o.closing rest)))) typed
-    ∙ ap (λ after. cond (is_some n.opening.type_args) (unsupported after) (opening_parts asks items o.opening place after)) (children (optional_closing items o.closing rest) ∙ ap (jsx_children put n.children.items) (closing rest))
-    ∙ ap (λ plan. cond (is_some n.opening.type_args) (unsupported (jsx_children put n.children.items (optional_closing put n.closing rest))) plan) (opening (jsx_children put n.children.items (optional_closing put n.closing rest)))
+unfolding jsx_element
+element_same asks items said put o n place opening children closing rest =
+    ap (jsx_opening_element asks items o.opening place) (children (optional_closing items o.closing rest) ∙ ap (jsx_children put n.children.items) (closing rest))
+    ∙ opening (jsx_children put n.children.items (optional_closing put n.closing rest))
 
 fragment_same : {X Y : Type 0} (items : Y → Place → Part) (put : X → Place → Part) (o : JSXFragment Y) (n : JSXFragment X) (place : Place) → ((rest : Plan) → jsx_children items o.children.items rest ≡ jsx_children put n.children.items rest) → (rest : Plan) → jsx_fragment items o place rest ≡ jsx_fragment put n place rest
 unfolding jsx_fragment
@@ -155,9 +157,9 @@ abbrev name_in : {X : Type 0} → (X → Place → Part) → AnyNode-F X → Par
 name_in items (nodes.JSXPart (jsx_parts.JSXElement b)) rest = jsx_element_name items b.value.opening.name rest
 name_in items n rest = rest
 
-abbrev has_types : {X : Type 0} → AnyNode-F X → Bool
-has_types (nodes.JSXPart (jsx_parts.JSXElement b)) = is_some b.value.opening.type_args
-has_types n = false
+abbrev types_in : {X : Type 0} → (X → Place → Part) → AnyNode-F X → Part
+types_in items (nodes.JSXPart (jsx_parts.JSXElement b)) rest = type_args items Plain b.value.opening.type_args rest
+types_in items n rest = rest
 
 abbrev closing_in : {X : Type 0} → (X → Place → Part) → AnyNode-F X → Part
 closing_in items (nodes.JSXPart (jsx_parts.JSXElement b)) rest = optional_closing items b.value.closing rest
@@ -169,9 +171,10 @@ name_mapped g items b n (element_names.Ident m) rest = refl
 name_mapped g items b n (element_names.JSXMemberExpr m) rest = refl
 name_mapped g items b n (element_names.JSXNamespacedName m) rest = refl
 
-types_mapped : {X Y : Type 0} (g : X → Y) (b : Box (JSXElement X) Global) (n : JSXElement X) (type_args : Option (TsTypeParamInstantiationBox X)) → has_types (map-AnyNode X Y g (as_node b (record n { opening = record n.opening { type_args = type_args } }))) ≡ is_some type_args
-types_mapped g b n None = refl
-types_mapped g b n (Some t) = refl
+types_mapped : {X Y : Type 0} (g : X → Y) (items : Y → Place → Part) (b : Box (JSXElement X) Global) (n : JSXElement X) (args : Option (TsTypeParamInstantiationBox X)) (rest : Plan) → types_in items (map-AnyNode X Y g (as_node b (record n { opening = record n.opening { type_args = args } }))) rest ≡ type_args (λ x. items (g x)) Plain args rest
+unfolding type_args
+types_mapped g items b n None rest = refl
+types_mapped g items b n (Some t) rest = refl
 
 closed_mapped : {X Y : Type 0} (g : X → Y) (items : Y → Place → Part) (b : Box (JSXElement X) Global) (n : JSXElement X) (span : Span) (name : JSXElementName X) (rest : Plan) → closing_in items (map-AnyNode X Y g (as_node b (record n { closing = Some (record { span = span; name = name }) }))) rest ≡ optional_closing (λ x. items (g x)) (Some (record { span = span; name = name })) rest
 unfolding optional_closing jsx_closing_element jsx_element_name jsx_member_expr
@@ -188,8 +191,8 @@ element_mapped : {X Y : Type 0} (g : X → Y) (asks : Y → Answers) (items : Y 
 unfolding node_items jsx_part jsx_attr_or_spread jsx_attr attr_initializer jsx_attr_value jsx_expr_container jsx_expr jsx_spread_child jsx_element_child spread_element spread_element_span
 element_mapped {X} {Y} g asks items b place rest =
     element_same asks items (λ x. asks (g x)) (λ x. items (g x)) _ b.value place
-    (types_mapped g b b.value b.value.opening.type_args)
     (opening_same asks items (λ x. asks (g x)) (λ x. items (g x)) _ b.value.opening place
+    (types_mapped g items b b.value b.value.opening.type_args)
     (name_mapped g items b b.value b.value.opening.name)
     (attributes_mapped {A = JSXAttrOrSpread X} _ (jsx_attr_or_spread asks items) (jsx_attr_or_spread (λ x. asks (g x)) (λ x. items (g x))) (by_attr {X = X} _ (λ m after. refl) (λ m v after. refl) (λ m at v after. refl) (λ m at v after. refl) (λ m v after. refl) (λ m v after. refl) (λ m after. refl)) true b.value.opening.attrs.items)
     refl)

@@ -1,5 +1,5 @@
 -- What is written of JSX is what it reads as.
-use Rattle.std.proofs.Common.{◌≡◌, ℕ, Bool, true, false, cond, not, ◌&&◌, is_some, List, [], ◌∷◌, map, codes, refl, sym, string_bytes, Option, Some, None}
+use Rattle.std.proofs.Common.{◌≡◌, ℕ, Bool, true, false, not, ◌&&◌, List, [], ◌∷◌, map, codes, refl, sym, string_bytes, Option, Some, None}
 use Rattle.std.specs.Str.{chars, is_utf8}
 use Rattle.std.proofs.lemmas.Bool.{and_parts, true≢false}
 use Rattle.swc_ecma_codegen_tree.specs.declared.idents.Ident.{Ident}
@@ -34,7 +34,7 @@ use Rattle.swc_ecma_codegen_tree.specs.declared.parts.JSXPart.TheVariants as jsx
 use Rattle.swc_ecma_codegen_grammar.specs.Jsx.{is_jsx_open}
 use Rattle.swc_ecma_codegen_grammar.specs.JsxPhrases as lists
 use Rattle.swc_ecma_codegen_grammar.specs.Phrases as phrases
-use Rattle.swc_ecma_codegen_grammar.specs.Phrases.{Phrase, Never, ◌>◌}
+use Rattle.swc_ecma_codegen_grammar.specs.Phrases.{Phrase, ◌>◌}
 use Rattle.swc_ecma_codegen_grammar.specs.Punctuators.{is_punctuator, punctuators}
 use Rattle.swc_ecma_codegen_grammar.specs.Texts.{begins, is_same, is_among}
 use Rattle.swc_ecma_codegen_grammar.specs.declared.roles.Role.{Role}
@@ -54,8 +54,9 @@ use Rattle.swc_ecma_codegen.specs.declared.nodes.Place.{Place}
 use Rattle.swc_ecma_codegen.specs.declared.nodes.Place.TheVariants.{Plain, Child}
 use Rattle.swc_ecma_codegen.specs.Exprs.{blank}
 use Rattle.swc_ecma_codegen.specs.Jsx as words
-use Rattle.swc_ecma_codegen.specs.Lists.{in_order, unsupported}
+use Rattle.swc_ecma_codegen.specs.Lists.{in_order}
 use Rattle.swc_ecma_codegen.specs.Places.{placed}
+use Rattle.swc_ecma_codegen.proofs.AnnotationParts.{tag_types_print}
 use Rattle.swc_ecma_codegen.proofs.ExprParts.{spread_element_prints}
 use Rattle.swc_ecma_codegen.proofs.Linked.{Linked, PrintsIn, expr_at}
 use Rattle.swc_ecma_codegen.proofs.MarkWords as marks
@@ -208,16 +209,12 @@ unfolding words.self_closing lists.self_close
 self_closing_prints env true = wider_on open_ refl (prints_spots InName InName refl refl (named_slash env))
 self_closing_prints env false = prints_none
 
--- nothing is written where types are in a tag, and nothing is read
-unless_typed : {v w : Spot} {env : Env} {p : Part} {f : Phrase} (typed : Bool) → PrintsOn v w whole env p f → PrintsOn v w whole env (λ rest. cond typed (unsupported rest) (p rest)) (cond typed Never f)
-unless_typed true h = prints_never_on
-unless_typed false h = h
-
 opening_prints : {X : Type 0} (l : Linked X) (is_child : Bool) (n : JSXOpeningElement X) → PrintsOn (before_open is_child) Between whole l.env (words.jsx_opening_element l.asks l.items n (child_place is_child)) (lists.jsx_opening_element l.reads is_child n)
-unfolding words.jsx_opening_element words.opening_parts lists.jsx_opening_element
-opening_prints l is_child n = unless_typed (is_some n.type_args)
-    (then_on (less_prints l.env is_child)
+unfolding words.jsx_opening_element lists.jsx_opening_element
+opening_prints l is_child n =
+    then_on (less_prints l.env is_child)
     (then_on (element_name_prints l n.name)
+    (then_on (tag_types_print l n.type_args)
     (then_on (attributes_print l.env (words.jsx_attr_or_spread l.asks l.items) (lists.jsx_attr_or_spread l.reads) (attr_or_spread_prints l) true n.attrs.items)
     (then_on (self_closing_prints l.env n.self_closing) (prints_tag_end l.env)))))
 

@@ -27,6 +27,7 @@ use Rattle.swc_ecma_codegen_tree.specs.declared.parts.ExprPart.TheVariants as ex
 use Rattle.swc_ecma_codegen_tree.specs.declared.parts.StmtPart.{StmtPart}
 use Rattle.swc_ecma_codegen_tree.specs.declared.parts.StmtPart.TheVariants as stmt_parts
 use Rattle.swc_ecma_codegen_tree.specs.declared.parts.JSXPart.{JSXPart}
+use Rattle.swc_ecma_codegen_tree.specs.declared.parts.TsPart.{TsPart}
 use Rattle.swc_ecma_codegen_tree.specs.declared.pats.AssignTarget.{AssignTarget}
 use Rattle.swc_ecma_codegen_tree.specs.declared.pats.AssignTarget.TheVariants as targets
 use Rattle.swc_ecma_codegen_tree.specs.declared.pats.SimpleAssignTarget.{SimpleAssignTarget}
@@ -43,9 +44,11 @@ use Rattle.swc_ecma_codegen.specs.Exprs.{this, unary, update, update_parts, bin,
 use Rattle.swc_ecma_codegen.specs.AnyExpr.{expr_parts, expr_closed, leaves_comments, expr, is_field_value, is_wrapped, wrapped, placed_expr}
 use Rattle.swc_ecma_codegen.specs.FunctionExprs.{fn_expr, optional_name}
 use Rattle.swc_ecma_codegen.specs.ClassExprs.{class_expr}
+use Rattle.swc_ecma_codegen.specs.Annotations.{annotation}
 use Rattle.swc_ecma_codegen.specs.Names.{binding_ident}
+use Rattle.swc_ecma_codegen.proofs.TypeKnots.{ts_part_mapped}
 use Rattle.swc_ecma_codegen.specs.Targets.{simple_assign_target, assign_target}
-use Rattle.swc_ecma_codegen.specs.Parts.{expr_part, stmt_part}
+use Rattle.swc_ecma_codegen.specs.Parts.{expr_part, stmt_part, ts_part}
 use Rattle.swc_ecma_codegen.specs.Stmts.{stmt}
 use Rattle.swc_ecma_codegen.specs.Jsx.{jsx_member_expr, jsx_part}
 use Rattle.swc_ecma_codegen.specs.Tree.{node_items, any_items}
@@ -118,8 +121,8 @@ expr_mapped g asks items n place rest = refl
 abbrev as_target : {X : Type 0} → SimpleAssignTarget X → AnyNode-F X
 as_target n = nodes.ExprPart (expr_parts.AssignTarget (targets.Simple n))
 
-binding_target_mapped : {X Y : Type 0} (g : X → Y) (asks : Y → Answers) (items : Y → Place → Part) (id : Ident) (type_ann : Option (TsTypeAnnBox X)) (place : Place) (rest : Plan) → node_items asks items (map-AnyNode X Y g (as_target (simple_targets.Ident (record { id = id; type_ann = type_ann })))) place rest ≡ binding_ident {X = X} (record { id = id; type_ann = type_ann }) rest
-unfolding node_items expr_part assign_target simple_assign_target binding_ident
+binding_target_mapped : {X Y : Type 0} (g : X → Y) (asks : Y → Answers) (items : Y → Place → Part) (id : Ident) (type_ann : Option (TsTypeAnnBox X)) (place : Place) (rest : Plan) → node_items asks items (map-AnyNode X Y g (as_target (simple_targets.Ident (record { id = id; type_ann = type_ann })))) place rest ≡ binding_ident (λ x. items (g x)) (record { id = id; type_ann = type_ann }) rest
+unfolding node_items expr_part assign_target simple_assign_target binding_ident annotation
 binding_target_mapped g asks items id None place rest = refl
 binding_target_mapped g asks items id (Some x) place rest = refl
 
@@ -173,7 +176,7 @@ node_mapped g asks items (nodes.MemberExpr n) place rest = member_mapped g asks 
 node_mapped g asks items (nodes.ExprPart n) place rest = part_mapped g asks items n place rest
 node_mapped g asks items (nodes.StmtPart n) place rest = stmt_part_mapped g asks items n place rest
 node_mapped g asks items (nodes.JSXPart n) place rest = jsx_part_mapped g asks items n place rest
-node_mapped g asks items n place rest = refl
+node_mapped g asks items (nodes.TsPart n) place rest = ts_part_mapped g asks items n place rest
 
 -- ---- whole nodes
 
@@ -188,7 +191,7 @@ items_of_layer n place rest = at_rest (para-roll-AnyNode (Place → Part) (node_
 pub items_of : {X : Type 0} (g : X → AnyNode) (n : AnyNode-F X) (place : Place) → any_items (roll-AnyNode (map-AnyNode X AnyNode g n)) place ≡ node_items (λ x. any_answers (g x)) (λ x. any_items (g x)) n place
 items_of {X} g n place = λ i. λ rest. (items_of_layer (map-AnyNode X AnyNode g n) place rest ∙ node_mapped g any_answers any_items n place rest) i
 
--- by what a node is: one that isn't printed yet is refused
+-- by what a node is
 pub any_items_of : (n : AnyNode) (place : Place) → any_items n place ≡ node_items any_answers any_items (out-AnyNode n) place
 any_items_of n place = λ i. λ rest. (at_rest (ap any_items (sym (roll-out-AnyNode n))) place rest ∙ items_of_layer (out-AnyNode n) place rest) i
 
@@ -224,3 +227,7 @@ any_items_stmt_part n place = λ i. λ rest. (at_rest (ap any_items (sym (whole.
 pub any_items_jsx_part : (n : JSXPart AnyNode) (place : Place) → any_items (whole.JSXPart n) place ≡ jsx_part any_answers any_items n place
 unfolding node_items
 any_items_jsx_part n place = λ i. λ rest. (at_rest (ap any_items (sym (whole.rolls-JSXPart n))) place rest ∙ items_of_layer (nodes.JSXPart n) place rest) i
+
+pub any_items_ts_part : (n : TsPart AnyNode) (place : Place) → any_items (whole.TsPart n) place ≡ ts_part any_answers any_items n place
+unfolding node_items
+any_items_ts_part n place = λ i. λ rest. (at_rest (ap any_items (sym (whole.rolls-TsPart n))) place rest ∙ items_of_layer (nodes.TsPart n) place rest) i

@@ -38,6 +38,7 @@ pub mod StmtParts
 pub mod BlockParts
 pub mod PropParts
 pub mod JsxParts
+pub mod AnnotationParts
 pub mod AnyExprParts
 pub mod TargetParts
 pub mod ModuleParts
@@ -50,3 +51,13 @@ pub mod TreeMade
 pub mod OperatorLaws
 pub mod Between
 pub mod Standings
+pub mod TypeKnots
+pub mod TypeParts
+pub mod TypeWords
+pub mod TsDeclWords
+pub mod TsMemberParts
+pub mod TsMemberKnots
+pub mod TsDeclParts
+pub mod TsDeclKnots
+pub mod NamespaceParts
+pub mod NamespaceKnots

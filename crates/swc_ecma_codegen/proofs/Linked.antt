@@ -2,7 +2,7 @@
 use Rattle.std.proofs.Common.{◌≡◌, false, cond}
 use Rattle.swc_ecma_codegen_grammar.specs.Phrases.{Phrase, Never}
 use Rattle.swc_ecma_codegen_grammar.specs.declared.roles.Role.{Role}
-use Rattle.swc_ecma_codegen_grammar.specs.declared.roles.Role.TheVariants.{Expression, Statement, Pattern, PlainParameter, PropertyName, Block, VariableDeclaration, MethodHead, ClassHead, MethodDecorators, Member, ExportedHead, ModuleDeclaration, Element, Child, TagObject}
+use Rattle.swc_ecma_codegen_grammar.specs.declared.roles.Role.TheVariants.{Expression, Statement, Pattern, PlainParameter, PropertyName, Block, VariableDeclaration, MethodHead, ClassHead, MethodDecorators, Member, ExportedHead, ModuleDeclaration, Element, Child, TagObject, TypeArguments}
 use Rattle.swc_ecma_codegen_tree.specs.Links.{BlockStmtBox, ExprBox, PatBox, PropNameBox, StmtBox, VarDeclBox}
 use Rattle.swc_ecma_codegen_tokens.specs.Run.{Env, Part}
 use Rattle.swc_ecma_codegen_tokens.specs.Written.{Spot, Anything, Between, InText, InName}
@@ -29,9 +29,10 @@ role_shape Member = closed
 role_shape role = whole
 
 -- What may come before it, and behind it: a child of an element stands right behind a tag or text, and behind an element another child may;
--- behind the object of a name in a tag no dash.
+-- behind the object of a name in a tag no dash, and type arguments stand behind such a name.
 abbrev pub role_before : Role → Spot
 role_before Child = InText
+role_before TypeArguments = InName
 role_before role = Anything
 
 abbrev pub role_behind : Role → Spot

@@ -36,7 +36,7 @@ use Rattle.swc_ecma_codegen_grammar.specs.ModulePhrases as lists
 use Rattle.swc_ecma_codegen_grammar.specs.StmtPhrases as stmt_lists
 use Rattle.swc_ecma_codegen_grammar.specs.NamePhrases.{ident}
 use Rattle.swc_ecma_codegen_grammar.specs.Phrases as phrases
-use Rattle.swc_ecma_codegen_grammar.specs.Phrases.{Phrase, Never, CommaBefore, RightBrace, closing_mark, ◌>◌, mark, word, ending, is_possible}
+use Rattle.swc_ecma_codegen_grammar.specs.Phrases.{Phrase, CommaBefore, RightBrace, closing_mark, ◌>◌, mark, word, ending, is_possible}
 use Rattle.swc_ecma_codegen_grammar.specs.LitPhrases.{str_lit}
 use Rattle.swc_ecma_codegen_grammar.specs.declared.roles.Role.TheVariants.{ObjectLiteral, ModuleDeclaration, ExportedHead as HeadOfExported, ExportedTail as TailOfExported}
 use Rattle.swc_ecma_codegen_tokens.specs.Lists.{list}
@@ -51,12 +51,16 @@ use Rattle.swc_ecma_codegen_tokens.proofs.StringPrints.{prints_str}
 use Rattle.swc_ecma_codegen.specs.declared.nodes.Place.TheVariants.{Plain}
 use Rattle.swc_ecma_codegen.specs.Answers.{place_of}
 use Rattle.swc_ecma_codegen.specs.Exprs.{ident as words_ident}
-use Rattle.swc_ecma_codegen.specs.Lists.{comma, unsupported}
+use Rattle.swc_ecma_codegen.specs.Lists.{comma}
 use Rattle.swc_ecma_codegen.specs.Modules as words
 use Rattle.swc_ecma_codegen.specs.Templates.{bad_shape}
 use Rattle.swc_ecma_codegen.proofs.ExprParts.{ident_prints, writes_blank}
 use Rattle.swc_ecma_codegen.proofs.FunctionExprParts.{class_expr_prints, fn_expr_prints}
-use Rattle.swc_ecma_codegen.proofs.Impossible.{refused_or, if_possible, prints_impossible}
+use Rattle.swc_ecma_codegen.proofs.Impossible.{if_possible, prints_impossible}
+use Rattle.swc_ecma_codegen.proofs.TsDeclParts.{interface_prints, import_equals_prints, export_assignment_prints, namespace_export_prints}
+use Rattle.swc_ecma_codegen.proofs.TsDeclWords as decl_words
+use Rattle.swc_ecma_codegen.proofs.TypeParts.{word_before_prints}
+use Rattle.swc_ecma_codegen_grammar.specs.FunctionPhrases.{word_if}
 use Rattle.swc_ecma_codegen.proofs.Linked.{Linked, expr_at}
 use Rattle.swc_ecma_codegen.proofs.MarkWords as marks
 use Rattle.swc_ecma_codegen.proofs.StmtParts.{stmt_prints}
@@ -82,6 +86,11 @@ star_prints env h =
     then (prints_punct env (codes "*") marks.star)
     (after (writes_formatting_space env) (then (prints_keyword env None (codes "as") marks.as_word) (after (writes_space env) h)))
 
+type_word_prints : (env : Env) (type_only : Bool) → PrintsAt open_ env (words.type_word type_only) (lists.type_word type_only)
+unfolding words.type_word lists.type_word word_if
+type_word_prints env true = prints_wider open_ refl (after (writes_space env) (prints_keyword env None (codes "type") decl_words.type_word))
+type_word_prints env false = prints_nothing
+
 -- ---- imports
 
 imported_prints : {X : Type 0} (l : Linked X) (n : Option ModuleExportName) → PrintsAt open_ l.env (words.imported_as n) (lists.imported_as n)
@@ -90,9 +99,11 @@ imported_prints l None = prints_nothing
 imported_prints l (Some n) = prints_wider open_ refl (then (name_prints l n) (as_prints l.env))
 
 import_named_prints : {X : Type 0} (l : Linked X) (n : ImportNamedSpecifier) → Prints l.env (words.import_named n) (lists.import_named n)
-unfolding words.import_named words.import_named_parts lists.import_named
-import_named_prints l n = refused_or n.is_type_only
-    (after (writes_position l.env n.span.lo) (then (imported_prints l n.imported) (before (ident_prints l n.local) (writes_position l.env n.span.hi))))
+unfolding words.import_named lists.import_named lists.type_word
+import_named_prints l n =
+    after (writes_position l.env n.span.lo)
+    (then (word_before_prints l.env n.is_type_only (codes "type") decl_words.type_word)
+    (then (imported_prints l n.imported) (before (ident_prints l n.local) (writes_position l.env n.span.hi))))
 
 import_specifier_prints : {X : Type 0} (l : Linked X) (n : ImportSpecifier) → Prints l.env (words.import_specifier n) (lists.import_specifier n)
 unfolding words.import_specifier lists.import_specifier
@@ -246,24 +257,25 @@ unfolding words.source_end
 source_end_prints l src with_ span = then (prints_str l.env src) (then (attributes_print l with_) (before (prints_semi l.env) (writes_position l.env span.hi)))
 
 -- a namespace among more than two is refused, and has no list of tokens
-unless_crowded : {i : Shape} {env : Env} {p : Part} {f : Phrase} (crowded typed : Bool) → (is_possible f ≡ true → crowded ≡ false) → PrintsAt i env p f → PrintsAt i env (λ rest. cond crowded (bad_shape rest) (cond typed (unsupported rest) (p rest))) (cond typed Never f)
-unless_crowded crowded true room h = prints_never
-unless_crowded {env = env} {p = p} crowded false room h =
+unless_crowded : {i : Shape} {env : Env} {p : Part} {f : Phrase} (crowded : Bool) → (is_possible f ≡ true → crowded ≡ false) → PrintsAt i env p f → PrintsAt i env (λ rest. cond crowded (bad_shape rest) (p rest)) f
+unless_crowded {env = env} {p = p} crowded room h =
     if_possible (λ w. prints_same (λ rest. cond crowded (bad_shape rest) (p rest)) p (λ maps rest. ap (λ b. cond b (bad_shape rest) (p rest) (at_maps maps env)) (room w)) h)
 
-import_has_room : (phase : ImportPhase) (ns : List ImportSpecifier) (tail : Phrase) → is_possible (word (codes "import") > lists.import_phase phase > lists.import_clause ns > tail) ≡ true → words.is_crowded ns ≡ false
+import_has_room : (type_only : Bool) (phase : ImportPhase) (ns : List ImportSpecifier) (tail : Phrase) → is_possible (word (codes "import") > lists.type_word type_only > lists.import_phase phase > lists.import_clause ns > tail) ≡ true → words.is_crowded ns ≡ false
 unfolding is_possible
-import_has_room phase ns tail w = ordered_not_crowded (imports_ordered ns (and_parts (is_possible (lists.import_clause ns)) _ (and_parts (is_possible (lists.import_phase phase)) _ w).1).0)
+import_has_room type_only phase ns tail w =
+    ordered_not_crowded (imports_ordered ns (and_parts (is_possible (lists.import_clause ns)) _ (and_parts (is_possible (lists.import_phase phase)) _ (and_parts (is_possible (lists.type_word type_only)) _ w).1).1).0)
 
 import_prints : {X : Type 0} (l : Linked X) (n : ImportDecl X) → Prints l.env (words.import_decl l.items n) (lists.import_decl l.reads n)
 unfolding words.import_decl words.import_parts words.import_tail lists.import_decl
-import_prints l n = unless_crowded (words.is_crowded n.specifiers.items) n.type_only (import_has_room n.phase n.specifiers.items _)
+import_prints l n = unless_crowded (words.is_crowded n.specifiers.items) (import_has_room n.type_only n.phase n.specifiers.items _)
     (after (writes_leading l.env n.span.lo)
     (after (writes_position l.env n.span.lo)
     (then (prints_keyword l.env None (codes "import") marks.import_word)
+    (then (type_word_prints l.env n.type_only)
     (then (phase_prints l.env n.phase)
     (after (writes_blank l.env (words.begins_default n.specifiers.items))
-    (then (import_clause_prints l n.span n.specifiers.items) (source_end_prints l n.src n.with_ n.span)))))))
+    (then (import_clause_prints l n.span n.specifiers.items) (source_end_prints l n.src n.with_ n.span))))))))
 
 -- ---- exports
 
@@ -273,10 +285,12 @@ exported_as_prints l None = prints_nothing
 exported_as_prints l (Some n) = prints_wider open_ refl (then (as_prints l.env) (name_prints l n))
 
 export_named_specifier_prints : {X : Type 0} (l : Linked X) (n : ExportNamedSpecifier) → Prints l.env (words.export_named_specifier n) (lists.export_named_specifier n)
-unfolding words.export_named_specifier words.export_named_parts lists.export_named_specifier
-export_named_specifier_prints l n = refused_or n.is_type_only
-    (after (writes_leading l.env n.span.lo)
-    (after (writes_position l.env n.span.lo) (then (name_prints l n.orig) (before (exported_as_prints l n.exported) (writes_position l.env n.span.hi)))))
+unfolding words.export_named_specifier lists.export_named_specifier lists.type_word
+export_named_specifier_prints l n =
+    after (writes_leading l.env n.span.lo)
+    (after (writes_position l.env n.span.lo)
+    (then (word_before_prints l.env n.is_type_only (codes "type") decl_words.type_word)
+    (then (name_prints l n.orig) (before (exported_as_prints l n.exported) (writes_position l.env n.span.hi)))))
 
 export_specifier_prints : {X : Type 0} (l : Linked X) (n : ExportSpecifier) → Prints l.env (words.export_specifier n) (lists.export_specifier n)
 unfolding words.export_specifier lists.export_specifier
@@ -359,25 +373,31 @@ from_clause_prints l (Some w) needed None = prints_never
 from_clause_prints l with_ needed (Some n) = prints_wider open_ refl (after (writes_blank l.env needed) (then (from_prints l.env) (then (prints_str l.env n) (attributes_print l with_))))
 
 export_named_prints : {X : Type 0} (l : Linked X) (n : NamedExport X) → Prints l.env (words.export_named l.items n) (lists.export_named l.reads n)
-unfolding words.export_named words.export_parts words.export_tail lists.export_named
-export_named_prints l n = refused_or n.type_only
-    (after (writes_leading l.env n.span.lo)
+unfolding words.export_named words.export_tail lists.export_named
+export_named_prints l n =
+    after (writes_leading l.env n.span.lo)
     (after (writes_position l.env n.span.lo)
     (then (prints_keyword l.env None (codes "export") marks.export_word)
+    (then (type_word_prints l.env n.type_only)
     (after (writes_formatting_space l.env)
     (then (export_clause_prints l n.span n.specifiers.items)
     (then (from_clause_prints l n.with_ (words.ends_with_name n.specifiers.items) n.src) (before (prints_semi l.env) (writes_position l.env n.span.hi))))))))
 
+all_word_prints : (env : Env) (type_only : Bool) → PrintsAt open_ env (words.all_word type_only) (lists.type_word type_only)
+unfolding words.all_word lists.type_word word_if
+all_word_prints env true = prints_wider open_ refl (after (writes_space env) (before (prints_keyword env None (codes "type") decl_words.type_word) (writes_space env)))
+all_word_prints env false = after (writes_formatting_space env) prints_nothing
+
 export_all_prints : {X : Type 0} (l : Linked X) (n : ExportAll X) → Prints l.env (words.export_all l.items n) (lists.export_all l.reads n)
-unfolding words.export_all words.all_parts words.all_tail lists.export_all
-export_all_prints l n = refused_or n.type_only
-    (after (writes_leading l.env n.span.lo)
+unfolding words.export_all words.all_tail lists.export_all
+export_all_prints l n =
+    after (writes_leading l.env n.span.lo)
     (after (writes_position l.env n.span.lo)
     (then (prints_keyword l.env None (codes "export") marks.export_word)
-    (after (writes_formatting_space l.env)
+    (then (all_word_prints l.env n.type_only)
     (then (prints_punct l.env (codes "*") marks.star)
     (after (writes_formatting_space l.env)
-    (then (from_prints l.env) (source_end_prints l n.src n.with_ n.span))))))))
+    (then (from_prints l.env) (source_end_prints l n.src n.with_ n.span)))))))
 
 export_decl_prints : {X : Type 0} (l : Linked X) (n : ExportDecl X) → Prints l.env (words.export_decl l.items n) (lists.export_decl l.reads n)
 unfolding words.export_decl lists.export_decl
@@ -390,7 +410,7 @@ default_decl_prints : {X : Type 0} (l : Linked X) (n : DefaultDecl X) → Prints
 unfolding words.default_decl lists.default_decl
 default_decl_prints l (default_decls.Class n) = class_expr_prints l n
 default_decl_prints l (default_decls.Fn n) = fn_expr_prints l n
-default_decl_prints l (default_decls.TsInterfaceDecl n) = prints_never
+default_decl_prints l (default_decls.TsInterfaceDecl n) = interface_prints l n
 
 default_prints : (env : Env) {p : Part} {f : Phrase} → Prints env p f → Prints env (λ rest. words.export_default (p rest)) (word (codes "export") > word (codes "default") > f)
 unfolding words.export_default
@@ -418,7 +438,9 @@ decl_by_prints l (module_decls.ExportNamed n) = export_named_prints l n
 decl_by_prints l (module_decls.ExportDefaultDecl n) = export_default_decl_prints l n
 decl_by_prints l (module_decls.ExportDefaultExpr n) = export_default_expr_prints l n
 decl_by_prints l (module_decls.ExportAll n) = export_all_prints l n
-decl_by_prints l n = prints_never
+decl_by_prints l (module_decls.TsImportEquals n) = import_equals_prints l n
+decl_by_prints l (module_decls.TsExportAssignment n) = export_assignment_prints l n
+decl_by_prints l (module_decls.TsNamespaceExport n) = namespace_export_prints l n
 
 pub module_decl_prints : {X : Type 0} (l : Linked X) (n : ModuleDecl X) → PrintsAt ended l.env (words.module_decl l.asks l.items n) (lists.module_decl l.reads n)
 unfolding words.module_decl

@@ -1,30 +1,23 @@
 -- What is written of names that are bound, and of those of properties, is what it reads as.
-use Rattle.std.proofs.Common.{Bool, true, false, cond, is_some, string_bytes}
+use Rattle.std.proofs.Common.{string_bytes}
 use Rattle.swc_ecma_codegen_tree.specs.declared.exprs.PropName.{PropName}
 use Rattle.swc_ecma_codegen_tree.specs.declared.exprs.PropName.TheVariants as prop_names
-use Rattle.swc_ecma_codegen_tree.specs.declared.idents.Ident.{Ident}
 use Rattle.swc_ecma_codegen_tree.specs.declared.idents.BindingIdent.{BindingIdent}
-use Rattle.swc_ecma_codegen_grammar.specs.Phrases.{Never}
 use Rattle.swc_ecma_codegen_grammar.specs.KeyPhrases as keys
 use Rattle.swc_ecma_codegen_grammar.specs.NamePhrases as names
 use Rattle.swc_ecma_codegen_tokens.proofs.BigPrints.{prints_big_int}
 use Rattle.swc_ecma_codegen_tokens.proofs.KeyPrints.{prints_key}
 use Rattle.swc_ecma_codegen_tokens.proofs.NumberPrints.{prints_number}
-use Rattle.swc_ecma_codegen_tokens.proofs.Phrased.{Prints, prints_never}
+use Rattle.swc_ecma_codegen_tokens.proofs.Phrased.{Prints, then}
 use Rattle.swc_ecma_codegen_tokens.proofs.StringPrints.{prints_str}
-use Rattle.swc_ecma_codegen.specs.Exprs.{ident}
-use Rattle.swc_ecma_codegen.specs.Lists.{unsupported}
 use Rattle.swc_ecma_codegen.specs.Names as bound
+use Rattle.swc_ecma_codegen.proofs.AnnotationParts.{annotation_prints}
 use Rattle.swc_ecma_codegen.proofs.Linked.{Linked}
 use Rattle.swc_ecma_codegen.proofs.ExprParts.{ident_prints, computed_prints}
 
-binding_case : {X : Type 0} (l : Linked X) (typed : Bool) (id : Ident) → Prints l.env (λ rest. cond typed (unsupported rest) (ident id rest)) (cond typed Never (names.ident id))
-binding_case l true id = prints_never
-binding_case l false id = ident_prints l id
-
-pub binding_ident_prints : {X : Type 0} (l : Linked X) (n : BindingIdent X) → Prints l.env (bound.binding_ident n) (names.binding_ident n)
+pub binding_ident_prints : {X : Type 0} (l : Linked X) (n : BindingIdent X) → Prints l.env (bound.binding_ident l.items n) (names.binding_ident l.reads n)
 unfolding bound.binding_ident names.binding_ident
-binding_ident_prints l n = binding_case l (is_some n.type_ann) n.id
+binding_ident_prints l n = then (ident_prints l n.id) (annotation_prints l n.type_ann)
 
 pub prop_name_prints : {X : Type 0} (l : Linked X) (n : PropName X) → Prints l.env (bound.prop_name l.items n) (keys.prop_name l.reads n)
 unfolding bound.prop_name keys.prop_name

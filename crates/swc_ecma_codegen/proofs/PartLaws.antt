@@ -1,14 +1,15 @@
--- What is written of a part of an expression or a statement that a link holds is what it reads as, by its sort.
+-- What is written of a part of an expression, of a statement or of TypeScript that a link holds is what it reads as, by its sort.
 use Rattle.std.proofs.Common.{true, false}
 use Rattle.swc_ecma_codegen_tree.specs.declared.parts.ExprPart.{ExprPart}
 use Rattle.swc_ecma_codegen_tree.specs.declared.parts.ExprPart.TheVariants as expr_parts
 use Rattle.swc_ecma_codegen_tree.specs.declared.parts.StmtPart.{StmtPart}
 use Rattle.swc_ecma_codegen_tree.specs.declared.parts.StmtPart.TheVariants as stmt_parts
 use Rattle.swc_ecma_codegen_grammar.specs.declared.roles.Role.{Role}
-use Rattle.swc_ecma_codegen_grammar.specs.declared.roles.Role.TheVariants.{AssignmentTarget, Pattern, PlainParameter, PropertyName, ObjectLiteral, Function, FunctionHead, MethodHead, Block, Declaration, VariableDeclaration, ChainCall, Template, TaggedTemplate, ClassHead, ClassTail, Member, MethodDecorators, MethodTail, AccessorTail, ModuleDeclaration, ExportedHead, ExportedTail}
+use Rattle.swc_ecma_codegen_grammar.specs.declared.roles.Role.TheVariants.{AssignmentTarget, Pattern, PlainParameter, PropertyName, ObjectLiteral, Function, FunctionHead, MethodHead, Block, Declaration, VariableDeclaration, ChainCall, Template, TaggedTemplate, ClassHead, ClassTail, Member, MethodDecorators, MethodTail, AccessorTail, ModuleDeclaration, ExportedHead, ExportedTail, AnyType, Annotation, TypeArguments, TypeParameters, EntityName, SignatureParameter, TypeMember, NamespaceBody, DottedBody}
 use Rattle.swc_ecma_codegen_grammar.specs.PartPhrases as lists
 use Rattle.swc_ecma_codegen_tokens.proofs.TagPrints.{prints_never_on}
 use Rattle.swc_ecma_codegen.specs.declared.nodes.Place.{Place}
+use Rattle.swc_ecma_codegen.specs.Namespaces.{ts_namespace_body}
 use Rattle.swc_ecma_codegen.specs.Parts as words
 use Rattle.swc_ecma_codegen.specs.Places.{placed}
 use Rattle.swc_ecma_codegen.specs.Classes.{class}
@@ -25,6 +26,11 @@ use Rattle.swc_ecma_codegen.proofs.PropParts.{object_lit_prints}
 use Rattle.swc_ecma_codegen.proofs.CallParts.{chain_call_prints}
 use Rattle.swc_ecma_codegen.proofs.TemplateParts.{tpl_prints}
 use Rattle.swc_ecma_codegen.proofs.TargetParts.{assign_target_prints}
+use Rattle.swc_ecma_codegen_tree.specs.declared.parts.TsPart.{TsPart}
+use Rattle.swc_ecma_codegen_tree.specs.declared.parts.TsPart.TheVariants as ts_parts
+use Rattle.swc_ecma_codegen.proofs.NamespaceParts.{dotted_body_prints, namespace_body_prints}
+use Rattle.swc_ecma_codegen.proofs.TsMemberParts.{type_element_prints}
+use Rattle.swc_ecma_codegen.proofs.TypeParts.{type_prints, ann_prints, params_print, arguments_print, fn_param_prints, entity_prints}
 
 pub part_prints : {X : Type 0} (l : Linked X) (n : ExprPart X) (place : Place) (role : Role) → PrintsIn role l.env (words.expr_part l.asks l.items n (placed role place)) (lists.expr_part l.reads n role)
 unfolding words.expr_part lists.expr_part
@@ -56,3 +62,16 @@ stmt_part_prints l (stmt_parts.Decl n) place ExportedTail = exported_tail_prints
 stmt_part_prints l (stmt_parts.ModuleDecl n) place ModuleDeclaration = module_decl_prints l n.value
 stmt_part_prints l (stmt_parts.VarDecl n) place VariableDeclaration = var_decl_prints l n
 stmt_part_prints l n place role = prints_never_on
+
+pub ts_part_prints : {X : Type 0} (l : Linked X) (n : TsPart X) (place : Place) (role : Role) → PrintsIn role l.env (words.ts_part l.asks l.items n (placed role place)) (lists.ts_part l.reads n role)
+unfolding words.ts_part lists.ts_part ts_namespace_body
+ts_part_prints l (ts_parts.TsType n) place AnyType = type_prints l n.value
+ts_part_prints l (ts_parts.TsTypeAnn n) place Annotation = ann_prints l n place
+ts_part_prints l (ts_parts.TsTypeParamDecl n) place TypeParameters = params_print l n
+ts_part_prints l (ts_parts.TsTypeParamInstantiation n) place TypeArguments = arguments_print l n place
+ts_part_prints l (ts_parts.TsFnParam n) place SignatureParameter = fn_param_prints l n
+ts_part_prints l (ts_parts.TsEntityName n) place EntityName = entity_prints l n
+ts_part_prints l (ts_parts.TsTypeElement n) place TypeMember = type_element_prints l n.value
+ts_part_prints l (ts_parts.TsNamespaceBody n) place NamespaceBody = namespace_body_prints l n
+ts_part_prints l (ts_parts.TsNamespaceBody n) place DottedBody = dotted_body_prints l n
+ts_part_prints l n place role = prints_never_on

@@ -1,7 +1,7 @@
 -- What is written of patterns is what it reads as.
 use Rattle.std.proofs.Common.{◌≡◌, refl, Bool, true, false, cond, ◌||◌, is_some, List, [], ◌∷◌, map, codes, Option, Some, None}
 use Rattle.swc_ecma_codegen_common.specs.declared.positions.Span.{Span}
-use Rattle.swc_ecma_codegen_tree.specs.Links.{ExprBox, PatBox}
+use Rattle.swc_ecma_codegen_tree.specs.Links.{ExprBox, PatBox, TsTypeAnnBox}
 use Rattle.swc_ecma_codegen_tree.specs.declared.pats.Pat.{Pat}
 use Rattle.swc_ecma_codegen_tree.specs.declared.pats.Pat.TheVariants as variants
 use Rattle.swc_ecma_codegen_tree.specs.declared.pats.ArrayPat.{ArrayPat}
@@ -18,20 +18,22 @@ use Rattle.swc_ecma_codegen_spans.specs.Spans.{prop_name_span, option_span, pat_
 use Rattle.swc_ecma_codegen_grammar.specs.Phrases.{Phrase, CommaBefore, RightBracket, RightBrace, closing_mark, ◌>◌, mark}
 use Rattle.swc_ecma_codegen_grammar.specs.Phrases as phrases
 use Rattle.swc_ecma_codegen_grammar.specs.ElementPhrases.{element, last_is_hole, elements_end, closing_of}
+use Rattle.swc_ecma_codegen_grammar.specs.AnnotationPhrases as annotations
 use Rattle.swc_ecma_codegen_grammar.specs.PatPhrases as lists
 use Rattle.swc_ecma_codegen_tokens.specs.Run.{Env, Part}
 use Rattle.swc_ecma_codegen_tokens.specs.Lists.{list, list_closing}
-use Rattle.swc_ecma_codegen_tokens.specs.Words.{punct, position}
+use Rattle.swc_ecma_codegen_tokens.specs.Words.{punct, position, question}
 use Rattle.swc_ecma_codegen_tokens.proofs.ListLaws.{children_of, writes_no_list, prints_some, prints_forced_closing, prints_optional_closing}
-use Rattle.swc_ecma_codegen_tokens.proofs.Phrased.{Prints, then, after, before, prints_nothing, prints_never, prints_punct, prints_placed_punct, PrintsAt, prints_wider, loosened}
+use Rattle.swc_ecma_codegen_tokens.proofs.Phrased.{Prints, then, after, before, prints_nothing, prints_never, prints_punct, prints_placed_punct, prints_regrouped, PrintsAt, prints_wider, loosened}
 use Rattle.swc_ecma_codegen_tokens.proofs.Printed.{writes_formatting_space, writes_position, writes_leading, writes_trailing}
 use Rattle.swc_ecma_codegen.specs.declared.nodes.Place.TheVariants.{Plain}
+use Rattle.swc_ecma_codegen.specs.Annotations.{spaced_annotation}
 use Rattle.swc_ecma_codegen.specs.Answers.{place_of}
 use Rattle.swc_ecma_codegen.specs.Lists.{if_some_at}
 use Rattle.swc_ecma_codegen.specs.Pats as words
 use Rattle.swc_ecma_codegen.specs.Pats.{pat_place, pat_items, array_pat_format, object_pat_format}
 use Rattle.swc_ecma_codegen.proofs.ExprParts.{spaced_prints, writes_opened}
-use Rattle.swc_ecma_codegen.proofs.Impossible.{refused_or}
+use Rattle.swc_ecma_codegen.proofs.AnnotationParts.{annotation_prints, spaced_annotation_prints, question_prints}
 use Rattle.swc_ecma_codegen.proofs.Linked.{Linked, expr_at, pat_at}
 use Rattle.swc_ecma_codegen.proofs.MarkWords as marks
 use Rattle.swc_ecma_codegen.proofs.NameParts.{binding_ident_prints, prop_name_prints}
@@ -74,26 +76,26 @@ elements_prints l parent close h (x ∷ xs) =
     prints_some l.env (array_pat_format hole) parent (option_span (pat_place l.asks)) (λ o. if_some_at (pat_items l.items) o Plain) (element (lists.pat_at l.reads)) (elements_end hole (x ∷ xs)) close
     (λ n. prints_wider loose refl (element_prints l n)) (is_list hole) (is_flat hole) (λ last. end_prints l.env hole parent last close h x xs) x xs
 
-array_parts_prints : {X : Type 0} (l : Linked X) (n : ArrayPat X) → Prints l.env (words.array_pat_parts l.asks l.items n) (mark (codes "[") > phrases.listed (codes ",") (map (element (lists.pat_at l.reads)) n.elems.items) > elements_end (last_is_hole n.elems.items) n.elems.items)
-unfolding words.array_pat_parts
-array_parts_prints l n =
+-- one part more behind a list and its end: `Then` is right-associated
+closed_then : {env : Env} {p q : Part} {a b f : Phrase} → PrintsAt closed env p (a > b) → PrintsAt open_ env q f → PrintsAt closed env (λ rest. p (q rest)) (a > b > f)
+closed_then h k = prints_regrouped (then h k)
+
+-- `?` and a type, to the end
+typed_prints : {X : Type 0} (l : Linked X) (optional : Bool) (type_ann : Option (TsTypeAnnBox X)) (span : Span) → PrintsAt open_ l.env (λ rest. question optional (spaced_annotation l.items type_ann (position span.hi rest))) (annotations.question optional > annotations.annotation l.reads type_ann)
+typed_prints l optional type_ann span = then (question_prints l.env optional) (before (spaced_annotation_prints l type_ann) (writes_position l.env span.hi))
+
+pub array_pat_prints : {X : Type 0} (l : Linked X) (n : ArrayPat X) → Prints l.env (words.array_pat l.asks l.items n) (lists.array_pat l.reads n)
+unfolding words.array_pat lists.array_pat
+array_pat_prints l n =
     after (writes_opened l.env n.span)
     (then (prints_punct l.env (codes "[") marks.left_bracket)
-    (elements_prints l n.span (λ rest. punct (codes "]") (position n.span.hi rest)) (before (prints_punct l.env (codes "]") marks.right_bracket) (writes_position l.env n.span.hi)) n.elems.items))
-
-array_pat_prints : {X : Type 0} (l : Linked X) (n : ArrayPat X) → Prints l.env (words.array_pat l.asks l.items n) (lists.array_pat l.reads n)
-unfolding words.array_pat lists.array_pat
-array_pat_prints l n = refused_or (n.optional || is_some n.type_ann) (array_parts_prints l n)
+    (closed_then (elements_prints l n.span (punct (codes "]")) (prints_punct l.env (codes "]") marks.right_bracket) n.elems.items) (typed_prints l n.optional n.type_ann n.span)))
 
 -- ---- rest and default
 
-rest_parts_prints : {X : Type 0} (l : Linked X) (n : RestPat X) → Prints l.env (words.rest_pat_parts l.items n) (mark (codes "...") > lists.pat_at l.reads n.arg)
-unfolding words.rest_pat_parts
-rest_parts_prints l n = after (writes_leading l.env n.span.lo) (then (prints_placed_punct l.env n.dot3_token (codes "...") marks.ellipsis) (pat_at l n.arg))
-
-rest_pat_prints : {X : Type 0} (l : Linked X) (n : RestPat X) → Prints l.env (words.rest_pat l.items n) (lists.rest_pat l.reads n)
+pub rest_pat_prints : {X : Type 0} (l : Linked X) (n : RestPat X) → Prints l.env (words.rest_pat l.items n) (lists.rest_pat l.reads n)
 unfolding words.rest_pat lists.rest_pat
-rest_pat_prints l n = refused_or (is_some n.type_ann) (rest_parts_prints l n)
+rest_pat_prints l n = after (writes_leading l.env n.span.lo) (then (prints_placed_punct l.env n.dot3_token (codes "...") marks.ellipsis) (then (pat_at l n.arg) (annotation_prints l n.type_ann)))
 
 assign_pat_prints : {X : Type 0} (l : Linked X) (n : AssignPat X) → Prints l.env (words.assign_pat l.items n) (lists.assign_pat l.reads n)
 unfolding words.assign_pat lists.assign_pat
@@ -134,16 +136,12 @@ props_prints l parent close h (x ∷ xs) =
     prints_some l.env object_pat_format parent (object_pat_prop_span (place_of l.asks)) (words.object_pat_prop l.asks l.items) (lists.object_pat_prop l.reads) (CommaBefore RightBrace) close
     (λ n. loosened (prop_prints l n)) refl refl (λ last. prints_optional_closing l.env object_pat_format parent last RightBrace close refl refl h) x xs
 
-object_parts_prints : {X : Type 0} (l : Linked X) (n : ObjectPat X) → Prints l.env (words.object_pat_parts l.asks l.items n) (mark (codes "{") > phrases.listed (codes ",") (map (lists.object_pat_prop l.reads) n.props.items) > closing_of RightBrace n.props.items)
-unfolding words.object_pat_parts
-object_parts_prints l n =
+pub object_pat_prints : {X : Type 0} (l : Linked X) (n : ObjectPat X) → Prints l.env (words.object_pat l.asks l.items n) (lists.object_pat l.reads n)
+unfolding words.object_pat lists.object_pat
+object_pat_prints l n =
     after (writes_opened l.env n.span)
     (then (prints_punct l.env (codes "{") marks.left_brace)
-    (props_prints l n.span (λ rest. punct (codes "}") (position n.span.hi rest)) (before (prints_punct l.env (codes "}") marks.right_brace) (writes_position l.env n.span.hi)) n.props.items))
-
-object_pat_prints : {X : Type 0} (l : Linked X) (n : ObjectPat X) → Prints l.env (words.object_pat l.asks l.items n) (lists.object_pat l.reads n)
-unfolding words.object_pat lists.object_pat
-object_pat_prints l n = refused_or (n.optional || is_some n.type_ann) (object_parts_prints l n)
+    (closed_then (props_prints l n.span (punct (codes "}")) (prints_punct l.env (codes "}") marks.right_brace) n.props.items) (typed_prints l n.optional n.type_ann n.span)))
 
 -- ---- patterns
 
@@ -162,13 +160,13 @@ unfolding words.pat
 pat_prints l n = before (parts_print l n) (writes_trailing l.env true (pat_span (place_of l.asks) n).hi)
 
 -- the same as the only parameter that is a name alone: in that role other patterns have no list of tokens
-plain_case : {env : Env} {p : Part} {f : Phrase} (optional : Bool) → Prints env p f → Prints env p (cond optional phrases.Never f)
+plain_case : {env : Env} {p : Part} {f : Phrase} (typed : Bool) → Prints env p f → Prints env p (cond typed phrases.Never f)
 plain_case true h = prints_never
 plain_case false h = h
 
-pub plain_prints : {X : Type 0} (l : Linked X) (n : Pat X) → Prints l.env (words.pat l.asks l.items n) (lists.plain_parameter n)
+pub plain_prints : {X : Type 0} (l : Linked X) (n : Pat X) → Prints l.env (words.pat l.asks l.items n) (lists.plain_parameter l.reads n)
 unfolding words.pat words.pat_parts lists.plain_parameter lists.plain_name
-plain_prints l (variants.Ident n) = before (plain_case n.id.optional (binding_ident_prints l n)) (writes_trailing l.env true (pat_span (place_of l.asks) (variants.Ident n)).hi)
+plain_prints l (variants.Ident n) = before (plain_case (n.id.optional || is_some n.type_ann) (binding_ident_prints l n)) (writes_trailing l.env true (pat_span (place_of l.asks) (variants.Ident n)).hi)
 plain_prints l n = prints_never
 
 pub assign_target_pat_prints : {X : Type 0} (l : Linked X) (n : AssignTargetPat X) → Prints l.env (words.assign_target_pat l.asks l.items n) (lists.assign_target_pat l.reads n)

@@ -9,11 +9,9 @@ use Rattle.swc_ecma_codegen_tokens.specs.Run.{Plan, Part}
 use Rattle.swc_ecma_codegen_common.specs.declared.positions.Span.{Span}
 use Rattle.swc_ecma_codegen_tokens.specs.Lists.{ListChild, more_children, last_place, next_child, list_closing, list_after, list, level_if, list_levels}
 use Rattle.swc_ecma_codegen.specs.declared.nodes.Place.{Place}
-use Rattle.swc_ecma_codegen_tree.specs.Links.{ExprBox}
 use Rattle.swc_ecma_codegen_tree.specs.declared.exprs.TplElement.{TplElement}
 use Rattle.swc_ecma_codegen_grammar.specs.TemplatePhrases.{part_before}
 use Rattle.swc_ecma_codegen_tokens.specs.Templates.{tpl_element}
-use Rattle.swc_ecma_codegen.specs.declared.nodes.Place.TheVariants.{Plain}
 use Rattle.swc_ecma_codegen.specs.Lists.{comma, listed, in_order, child_of, braced_child, braced_rest}
 use Rattle.swc_ecma_codegen.specs.Exprs.{blank}
 use Rattle.swc_ecma_codegen.specs.Jsx.{jsx_attributes}
@@ -81,7 +79,7 @@ pub before_next : (first : Bool) (xs : List ImportSpecifier) (i : ℕ) (d : Impo
 unfolding before_braces
 before_next first xs i d rest h = ap (λ ys. before_braces first ys rest) (drop-cons xs i d h) ∙ rw (add-one) refl
 
--- the next expression of a template, and the part after it
-pub tpl_next : {X : Type 0} (items : X → Place → Part) (tagged : Bool) (es : List (ExprBox X)) (i : ℕ) (d : ExprBox X) (q : TplElement) (qs : List TplElement) (rest : Plan) → i < length es → tpl_rest items tagged (drop i es) (q ∷ qs) rest ≡ items (get_or es i d).node.value Plain (tpl_element false (part_before tagged qs) q (tpl_rest items tagged (drop (i + 1) es) qs rest))
+-- the next expression of a template, or type, and the part after it
+pub tpl_next : {A : Type 0} (each : A → Part) (tagged : Bool) (es : List A) (i : ℕ) (d : A) (q : TplElement) (qs : List TplElement) (rest : Plan) → i < length es → tpl_rest each tagged (drop i es) (q ∷ qs) rest ≡ each (get_or es i d) (tpl_element false (part_before tagged qs) q (tpl_rest each tagged (drop (i + 1) es) qs rest))
 unfolding tpl_rest
-tpl_next items tagged es i d q qs rest h = ap (λ ys. tpl_rest items tagged ys (q ∷ qs) rest) (drop-cons es i d h) ∙ rw (add-one) refl
+tpl_next each tagged es i d q qs rest h = ap (λ ys. tpl_rest each tagged ys (q ∷ qs) rest) (drop-cons es i d h) ∙ rw (add-one) refl

@@ -162,7 +162,7 @@ stmt_mapped g asks items (stmts.ForOf n) place rest = for_of_by g asks items n n
 stmt_mapped g asks items (stmts.Decl n) place rest = decl_by g asks items n place rest
 stmt_mapped g asks items n place rest = refl
 
-stmt_placed : {X Y : Type 0} (g : X → Y) (asks : Y → Answers) (n : Stmt X) → node_span (place_of asks) (map-AnyNode X Y g (nodes.Stmt n)) ≡ stmt_span (place_of (λ x. asks (g x))) n
+pub stmt_placed : {X Y : Type 0} (g : X → Y) (asks : Y → Answers) (n : Stmt X) → node_span (place_of asks) (map-AnyNode X Y g (nodes.Stmt n)) ≡ stmt_span (place_of (λ x. asks (g x))) n
 unfolding node_span stmt_span stmt_part_span
 stmt_placed g asks (stmts.Block n) = refl
 stmt_placed g asks (stmts.Decl n) = decl_placed g asks n

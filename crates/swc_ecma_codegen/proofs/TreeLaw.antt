@@ -25,7 +25,7 @@ use Rattle.swc_ecma_codegen.proofs.Linked.{Linked, PrintsIn}
 use Rattle.swc_ecma_codegen.proofs.ExprParts.{member_prints, chain_member_prints}
 use Rattle.swc_ecma_codegen.proofs.AnyExprParts.{plain_expr_prints, callee_expr_prints, unwrapped_prints, field_value_prints}
 use Rattle.swc_ecma_codegen.proofs.JsxParts.{jsx_part_prints}
-use Rattle.swc_ecma_codegen.proofs.PartLaws.{part_prints, stmt_part_prints}
+use Rattle.swc_ecma_codegen.proofs.PartLaws.{part_prints, stmt_part_prints, ts_part_prints}
 use Rattle.swc_ecma_codegen.proofs.PatternLaws.{plain_reads}
 use Rattle.swc_ecma_codegen.proofs.StmtParts.{stmt_prints}
 
@@ -69,6 +69,7 @@ node_prints l (nodes.MemberExpr n) place (ChainMember optional) = chain_member_p
 node_prints l (nodes.ExprPart n) place role = part_prints l n place role
 node_prints l (nodes.StmtPart n) place role = stmt_part_prints l n place role
 node_prints l (nodes.JSXPart n) place role = jsx_part_prints l n place role
+node_prints l (nodes.TsPart n) place role = ts_part_prints l n place role
 node_prints l n place role = prints_never_on
 
 abbrev Law : Env → AnyNode → Type 0

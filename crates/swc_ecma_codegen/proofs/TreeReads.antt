@@ -41,7 +41,6 @@ use Rattle.swc_ecma_codegen_tokens.proofs.TagPrints.{prints_spots}
 use Rattle.swc_ecma_codegen_tokens.proofs.Made.{run_env, ends_where_out, follows_in_target, follows_out_of_target, follows_shaped, follows_supported}
 use Rattle.swc_ecma_codegen.specs.declared.nodes.Place.TheVariants.{Plain}
 use Rattle.swc_ecma_codegen.specs.Answers.{any_answers}
-use Rattle.swc_ecma_codegen.specs.Lists.{unsupported}
 use Rattle.swc_ecma_codegen.specs.Modules.{is_crowded, import_parts, import_decl, module_item}
 use Rattle.swc_ecma_codegen.specs.Places.{placed}
 use Rattle.swc_ecma_codegen.specs.Programs as programs
@@ -56,7 +55,7 @@ use Rattle.swc_ecma_codegen.proofs.TreeLaw.{prints, known}
 use Rattle.swc_ecma_codegen_tokens.proofs.Shapes.{Shape, unbroken, unbroken_at, loose_at, is_within}
 use Rattle.swc_ecma_codegen.proofs.Linked.{role_shape}
 use Rattle.swc_ecma_codegen_grammar.specs.declared.roles.Role.{Role}
-use Rattle.swc_ecma_codegen_grammar.specs.declared.roles.Role.TheVariants.{Statement, VariableDeclaration, MethodHead, MethodDecorators, ClassHead, ExportedHead, Member, ModuleDeclaration, Element, Child, TagObject}
+use Rattle.swc_ecma_codegen_grammar.specs.declared.roles.Role.TheVariants.{Statement, VariableDeclaration, MethodHead, MethodDecorators, ClassHead, ExportedHead, Member, ModuleDeclaration, Element, Child, TagObject, TypeArguments}
 
 role_within : (role : Role) → is_within (role_shape role) unbroken ≡ true
 role_within Statement = refl
@@ -85,6 +84,7 @@ link_prints : (env : Env) → env.keeps_invalid ≡ false → (n : AnyNode) (rol
 link_prints env e n Child = prints_never
 link_prints env e n TagObject = prints_never
 link_prints env e n Element = prints_wider unbroken refl (prints_spots Anything Anything refl refl (prints env e n Plain Element))
+link_prints env e n TypeArguments = prints_wider unbroken refl (prints_spots Anything Anything refl refl (prints env e n Plain TypeArguments))
 link_prints env e n role = prints_wider unbroken (role_within role) (prints env e n Plain role)
 
 pub root_prints : (env : Env) → env.keeps_invalid ≡ false → (n : Root) → PrintsAt (root_shape n) env (root_items n) (root_phrase n)
@@ -231,7 +231,7 @@ root_supported n a b w e h = follows_supported (root_items n) (root_phrase n) a 
 -- a shape of which no text is written
 pub crowded_refused : (n : ImportDecl AnyNode) (rest : Plan) (env : Env) → is_crowded n.specifiers.items ≡ true → import_decl any_items n rest env ≡ refused BadShape
 unfolding import_decl bad_shape refuse
-crowded_refused n rest env h = ap (λ b. cond b (bad_shape rest) (cond n.type_only (unsupported rest) (import_parts any_items n rest)) env) h
+crowded_refused n rest env h = ap (λ b. cond b (bad_shape rest) (import_parts any_items n rest) env) h
 
 pub uncounted_refused : (n : Tpl AnyNode) (tagged : Bool) (rest : Plan) (env : Env) → is_counted n.exprs.items n.quasis.items ≡ false → tpl any_items tagged n rest env ≡ refused BadShape
 unfolding tpl bad_shape refuse

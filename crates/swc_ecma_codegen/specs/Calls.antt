@@ -1,5 +1,5 @@
 -- What is written of arrays, calls and `new`. What TypeScript adds, arguments that are types, isn't printed yet.
-use Rattle.std.specs.Prelude.{ℕ, Bool, true, false, if◌then◌else◌, is_some, List, [], ◌∷◌, map, codes, Option, Some, None}
+use Rattle.std.specs.Prelude.{ℕ, Bool, true, false, if◌then◌else◌, List, [], ◌∷◌, map, codes, Option, Some, None}
 use Rattle.std.specs.declared.vec.Vec.{Vec}
 use Rattle.swc_ecma_codegen_common.specs.declared.positions.Span.{Span}
 use Rattle.swc_ecma_codegen_tree.specs.declared.modules.ImportPhase.{ImportPhase}
@@ -22,7 +22,8 @@ use Rattle.swc_ecma_codegen_tokens.specs.Words.{keyword, punct, space, formattin
 use Rattle.swc_ecma_codegen.specs.declared.nodes.Place.{Place}
 use Rattle.swc_ecma_codegen.specs.declared.nodes.Place.TheVariants.{Plain, Object, DottedObject, Callee, Chain}
 use Rattle.swc_ecma_codegen.specs.Answers.{Answers, place_of}
-use Rattle.swc_ecma_codegen.specs.Lists.{child_of, if_some_at, unsupported}
+use Rattle.swc_ecma_codegen.specs.Annotations.{type_args}
+use Rattle.swc_ecma_codegen.specs.Lists.{child_of, if_some_at}
 
 -- `...` of `...a`
 unfoldable pub spread_mark : Option Span → Part
@@ -90,13 +91,12 @@ callee items (callees.Super n) rest = super_keyword n rest
 callee items (callees.Import n) rest = import_callee n rest
 callee items (callees.Expr n) rest = items n.node.value Callee rest
 
--- `f(a, b)`
-unfoldable pub call_parts : {X : Type 0} → (X → Answers) → (X → Place → Part) → CallExpr X → Part
-call_parts asks items n rest =
-    commit_pending_semi (leading_comments n.span.lo (start_of n.span (callee items n.callee (arguments asks items call_format n.span n.args.items rest))))
-
+-- `f<A>(a, b)`
 unfoldable pub call_expr : {X : Type 0} → (X → Answers) → (X → Place → Part) → CallExpr X → Part
-call_expr asks items n rest = if is_some n.type_args then unsupported rest else call_parts asks items n rest
+call_expr asks items n rest =
+    commit_pending_semi
+    (leading_comments n.span.lo
+    (start_of n.span (callee items n.callee (type_args items Plain n.type_args (arguments asks items call_format n.span n.args.items rest)))))
 
 -- ---- `new`
 
@@ -123,16 +123,15 @@ new_arguments asks items parent keeps (Some xs) rest = listed_arguments asks ite
 unfoldable pub new_gap : Bool → Part
 new_gap starts rest = if starts then space rest else formatting_space rest
 
--- `new A(a)`
-unfoldable pub new_parts : {X : Type 0} → (X → Answers) → (X → Place → Part) → Bool → NewExpr X → Part
-new_parts asks items keeps n rest =
+-- `new A<B>(a)`
+unfoldable pub new_expr : {X : Type 0} → (X → Answers) → (X → Place → Part) → Bool → NewExpr X → Part
+new_expr asks items keeps n rest =
     commit_pending_semi
     (leading_comments n.span.lo
     (start_of n.span
-    (keyword None (codes "new") (new_gap (asks n.callee.node.value).starts (items n.callee.node.value Plain (new_arguments asks items n.span keeps n.args rest))))))
-
-unfoldable pub new_expr : {X : Type 0} → (X → Answers) → (X → Place → Part) → Bool → NewExpr X → Part
-new_expr asks items keeps n rest = if is_some n.type_args then unsupported rest else new_parts asks items keeps n rest
+    (keyword None (codes "new")
+    (new_gap (asks n.callee.node.value).starts
+    (items n.callee.node.value Plain (type_args items Plain n.type_args (new_arguments asks items n.span keeps n.args rest)))))))
 
 -- ---- calls in optional chains
 
@@ -141,11 +140,10 @@ unfoldable pub call_mark : Bool → Part
 call_mark optional rest = if optional then punct (codes "?.") rest else rest
 
 -- A call in an optional chain has neither comments nor positions of its own.
-unfoldable pub chain_call_parts : {X : Type 0} → (X → Answers) → (X → Place → Part) → Bool → OptCall X → Part
-chain_call_parts asks items optional n rest = items n.callee.node.value Callee (call_mark optional (arguments asks items call_format n.span n.args.items rest))
-
 unfoldable pub chain_call : {X : Type 0} → (X → Answers) → (X → Place → Part) → Bool → OptCall X → Part
-chain_call asks items optional n rest = if is_some n.type_args then unsupported rest else chain_call_parts asks items optional n rest
+chain_call asks items optional n rest =
+    items n.callee.node.value Callee
+    (call_mark optional (type_args items Plain n.type_args (arguments asks items call_format n.span n.args.items rest)))
 
 -- its place says whether `?.` stands before its arguments
 abbrev pub is_optional : Place → Bool

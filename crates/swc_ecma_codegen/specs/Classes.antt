@@ -1,7 +1,8 @@
--- What is written of classes. What TypeScript adds isn't printed yet: types and their parameters, modifiers, and index signatures.
+-- What is written of classes. Of what TypeScript adds this isn't printed yet: types of fields, modifiers, what a class implements, and index
+-- signatures.
 use Rattle.std.specs.Prelude.{ℕ, Bool, true, false, ◌||◌, is_some, if◌then◌else◌, List, map, codes, Option, Some, None}
 use Rattle.swc_ecma_codegen_common.specs.declared.positions.Span.{Span}
-use Rattle.swc_ecma_codegen_tree.specs.Links.{BlockStmtBox, ExprBox}
+use Rattle.swc_ecma_codegen_tree.specs.Links.{BlockStmtBox, ExprBox, TsTypeParamInstantiationBox}
 use Rattle.swc_ecma_codegen_tree.specs.declared.classes.Class as classes
 use Rattle.swc_ecma_codegen_tree.specs.declared.classes.ClassMember as class_members
 use Rattle.swc_ecma_codegen_tree.specs.declared.classes.ClassMember.TheVariants as members
@@ -30,26 +31,29 @@ use Rattle.swc_ecma_codegen.specs.Answers.{Answers}
 use Rattle.swc_ecma_codegen.specs.FunctionExprs.{comma_list_format}
 use Rattle.swc_ecma_codegen.specs.Functions.{decorator, decorator_lines, decorators_format, decorator_place, param}
 use Rattle.swc_ecma_codegen.specs.Exprs.{blank, ident, private_name}
+use Rattle.swc_ecma_codegen.specs.Annotations.{type_args, type_params}
 use Rattle.swc_ecma_codegen.specs.Lists.{child_of, unsupported}
 use Rattle.swc_ecma_codegen.specs.Pats.{initializer}
+use Rattle.swc_ecma_codegen.specs.TsDecls.{declare_word}
 
 -- `ClassMembers`
 abbrev pub class_members_format : ℕ
 class_members_format = 65
 
--- `extends A`, minified `extends(A)`
-unfoldable pub heritage : {X : Type 0} → (X → Answers) → (X → Place → Part) → Option (ExprBox X) → Part
-heritage asks items None rest = rest
-heritage asks items (Some n) rest = space (keyword None (codes "extends") (blank (asks n.node.value).starts (items n.node.value Plain rest)))
+-- `extends A<B>`, minified `extends(A)`
+unfoldable pub heritage : {X : Type 0} → (X → Answers) → (X → Place → Part) → Option (ExprBox X) → Option (TsTypeParamInstantiationBox X) → Part
+heritage asks items None args rest = rest
+heritage asks items (Some n) args rest = space (keyword None (codes "extends") (blank (asks n.node.value).starts (items n.node.value Plain (type_args items Plain args rest))))
 
 abbrev pub member_list : {X : Type 0} → (X → Answers) → (X → Place → Part) → classes.Class X → Part
 member_list asks items n = list class_members_format n.span (map (child_of (λ m. (asks m.node.value).place) (λ m place. items m.node.value place)) n.body.items)
 
--- `extends A { b; }`
+-- `<A> extends B<C> { d; }`
 unfoldable pub class_trailing : {X : Type 0} → (X → Answers) → (X → Place → Part) → classes.Class X → Part
 class_trailing asks items n rest =
-    heritage asks items n.super_class
-    (formatting_space (punct (codes "{") (member_list asks items n (last_of n.span (punct (codes "}") rest)))))
+    type_params items n.type_params
+    (heritage asks items n.super_class n.super_type_params
+    (formatting_space (punct (codes "{") (member_list asks items n (last_of n.span (punct (codes "}") rest))))))
 
 unfoldable pub class_tail : {X : Type 0} → (X → Answers) → (X → Place → Part) → classes.Class X → Part
 class_tail asks items n rest = if is_typed_class n then unsupported rest else class_trailing asks items n rest
@@ -59,14 +63,13 @@ unfoldable pub class : {X : Type 0} → (X → Answers) → (X → Place → Par
 class asks items n ClassHead rest = decorator_lines items n.decorators.items rest
 class asks items n place rest = class_tail asks items n rest
 
-unfoldable pub class_decl_parts : {X : Type 0} → (X → Answers) → (X → Place → Part) → ClassDecl X → Part
-class_decl_parts asks items n rest =
+-- `declare @a class B { c; }`
+unfoldable pub class_decl : {X : Type 0} → (X → Answers) → (X → Place → Part) → ClassDecl X → Part
+class_decl asks items n rest =
     let class = n.class.node.value in
     leading_comments (asks class).place.lo
-    (start_of (asks class).place (items class ClassHead (keyword None (codes "class") (space (ident n.ident (items class Plain rest))))))
-
-unfoldable pub class_decl : {X : Type 0} → (X → Answers) → (X → Place → Part) → ClassDecl X → Part
-class_decl asks items n rest = if n.declare then unsupported rest else class_decl_parts asks items n rest
+    (start_of (asks class).place
+    (declare_word n.declare (items class ClassHead (keyword None (codes "class") (space (ident n.ident (items class Plain rest)))))))
 
 -- ---- members
 

@@ -1,4 +1,4 @@
--- What is written of declarations. What TypeScript adds, `declare` and `!` after a name, isn't printed yet.
+-- What is written of declarations. `!` after a name, which TypeScript adds, isn't printed yet.
 use Rattle.std.specs.Prelude.{ℕ, Bool, true, false, if◌then◌else◌, List, [], ◌∷◌, map, codes, None}
 use Rattle.swc_ecma_codegen_common.specs.declared.positions.Span.{Span}
 use Rattle.swc_ecma_codegen_tree.specs.declared.decls.ClassDecl.{ClassDecl}
@@ -23,21 +23,20 @@ use Rattle.swc_ecma_codegen.specs.Exprs.{blank, opened, ident}
 use Rattle.swc_ecma_codegen.specs.Lists.{child_of, unsupported}
 use Rattle.swc_ecma_codegen.specs.Pats.{initializer, pat}
 use Rattle.swc_ecma_codegen.specs.Patterns.{pat_kind}
+use Rattle.swc_ecma_codegen.specs.TsDecls.{declare_word, ts_interface_decl, ts_type_alias_decl, ts_enum_decl, ts_module_decl}
 
 -- `VariableDeclarationList`
 abbrev pub declarators_format : ℕ
 declarators_format = 272
 
--- `function f(a) { b; }`
-unfoldable pub fn_decl_parts : {X : Type 0} → (X → Answers) → (X → Place → Part) → FnDecl X → Part
-fn_decl_parts asks items n rest =
+-- `function f(a) { b; }`, `declare function f(a);`
+unfoldable pub fn_decl : {X : Type 0} → (X → Answers) → (X → Place → Part) → FnDecl X → Part
+fn_decl asks items n rest =
     let function = n.function.node.value in
     leading_comments (asks function).place.lo
     (commit_pending_semi
-    (start_of (asks function).place (items function DeclarationHead (ident n.ident (items function Plain rest)))))
-
-unfoldable pub fn_decl : {X : Type 0} → (X → Answers) → (X → Place → Part) → FnDecl X → Part
-fn_decl asks items n rest = if n.declare then unsupported rest else fn_decl_parts asks items n rest
+    (start_of (asks function).place
+    (declare_word n.declare (items function DeclarationHead (ident n.ident (items function Plain rest))))))
 
 -- `a`, `a = b`
 unfoldable pub var_declarator_parts : {X : Type 0} → (X → Answers) → (X → Place → Part) → VarDeclarator X → Part
@@ -69,14 +68,12 @@ first_is_unmarked [] = true
 first_is_unmarked (n ∷ ns) = is_unmarked (pat_kind n.name)
 
 -- `let a = b, c`, minified `let[a]=b`
-unfoldable pub var_decl_parts : {X : Type 0} → (X → Answers) → (X → Place → Part) → VarDecl X → Part
-var_decl_parts asks items n rest =
+unfoldable pub var_decl : {X : Type 0} → (X → Answers) → (X → Place → Part) → VarDecl X → Part
+var_decl asks items n rest =
     leading_comments n.span.lo
     (commit_pending_semi
-    (start_of n.span (var_kind n.kind (blank (first_is_unmarked n.decls.items) (declarators asks items n.span n.decls.items rest)))))
-
-unfoldable pub var_decl : {X : Type 0} → (X → Answers) → (X → Place → Part) → VarDecl X → Part
-var_decl asks items n rest = if n.declare then unsupported rest else var_decl_parts asks items n rest
+    (start_of n.span
+    (declare_word n.declare (var_kind n.kind (blank (first_is_unmarked n.decls.items) (declarators asks items n.span n.decls.items rest))))))
 
 -- `await` and a blank, where it is so
 unfoldable pub await_word : Bool → Part
@@ -98,14 +95,12 @@ by_export ExportedTail head tail whole rest = tail rest
 by_export place head tail whole rest = whole rest
 
 -- `class A {}` of `@b export class A {}`: decorators stand before the word
-unfoldable pub exported_class_parts : {X : Type 0} → (X → Answers) → (X → Place → Part) → ClassDecl X → Part
-exported_class_parts asks items n rest =
+unfoldable pub exported_class : {X : Type 0} → (X → Answers) → (X → Place → Part) → ClassDecl X → Part
+exported_class asks items n rest =
     let class = n.class.node.value in
     leading_comments (asks class).place.lo
-    (start_of (asks class).place (keyword None (codes "class") (space (ident n.ident (items class Plain rest)))))
-
-unfoldable pub exported_class : {X : Type 0} → (X → Answers) → (X → Place → Part) → ClassDecl X → Part
-exported_class asks items n rest = if n.declare then unsupported rest else exported_class_parts asks items n rest
+    (start_of (asks class).place
+    (declare_word n.declare (keyword None (codes "class") (space (ident n.ident (items class Plain rest))))))
 
 -- one that has no head
 unfoldable pub without_head : Place → Part → Part
@@ -125,4 +120,7 @@ decl asks items (decls.Class n) place rest = by_export place (items n.class.node
 decl asks items (decls.Fn n) place rest = without_head place (fn_decl asks items n) rest
 decl asks items (decls.Var n) place rest = without_head place (variables asks items n place) rest
 decl asks items (decls.Using n) place rest = without_head place (resources asks items n) rest
-decl asks items n place rest = without_head place unsupported rest
+decl asks items (decls.TsInterface n) place rest = without_head place (ts_interface_decl asks items n.value) rest
+decl asks items (decls.TsTypeAlias n) place rest = without_head place (ts_type_alias_decl items n.value) rest
+decl asks items (decls.TsEnum n) place rest = without_head place (ts_enum_decl items n.value) rest
+decl asks items (decls.TsModule n) place rest = without_head place (ts_module_decl items n.value) rest

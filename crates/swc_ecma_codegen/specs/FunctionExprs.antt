@@ -1,6 +1,6 @@
--- What is written of functions as expressions. What TypeScript adds, types and their parameters, isn't printed yet.
-use Rattle.std.specs.Prelude.{ℕ, ◌||◌, ◌&&◌, not, Bool, true, false, if◌then◌else◌, is_some, List, [], ◌∷◌, map, codes, string_bytes, Option, Some, None}
-use Rattle.swc_ecma_codegen_tree.specs.Links.{PatBox}
+-- What is written of functions as expressions.
+use Rattle.std.specs.Prelude.{ℕ, ◌&&◌, not, Bool, true, false, if◌then◌else◌, List, [], ◌∷◌, map, codes, string_bytes, Option, Some, None}
+use Rattle.swc_ecma_codegen_tree.specs.Links.{PatBox, TsTypeAnnBox}
 use Rattle.swc_ecma_codegen_tree.specs.declared.exprs.FnExpr.{FnExpr}
 use Rattle.swc_ecma_codegen_tree.specs.declared.exprs.ArrowExpr.{ArrowExpr}
 use Rattle.swc_ecma_codegen_tree.specs.declared.exprs.BlockStmtOrExpr.{BlockStmtOrExpr}
@@ -16,8 +16,10 @@ use Rattle.swc_ecma_codegen.specs.declared.patterns.PatternKind.TheVariants.{Pla
 use Rattle.swc_ecma_codegen.specs.Answers.{Answers}
 use Rattle.swc_ecma_codegen.specs.Commented.{has_comment_after}
 use Rattle.swc_ecma_codegen_grammar.specs.CommentMaps.{Maps}
+use Rattle.swc_ecma_codegen_grammar.specs.FunctionPhrases.{is_typed_arrow}
 use Rattle.swc_ecma_codegen_common.specs.declared.positions.Span.{Span}
-use Rattle.swc_ecma_codegen.specs.Lists.{child_of, unsupported}
+use Rattle.swc_ecma_codegen.specs.Annotations.{type_params}
+use Rattle.swc_ecma_codegen.specs.Lists.{child_of}
 
 -- `CommaListElements`
 abbrev pub comma_list_format : ℕ
@@ -79,22 +81,26 @@ arrow_list asks items n = list comma_list_format n.span (arrow_children asks ite
 unfoldable pub arrow_within : Bool → Span → List ListChild → Part
 arrow_within plain span cs rest = parenthesis plain (codes "(") (list comma_list_format span cs (parenthesis plain (codes ")") rest))
 
--- `(a, b)`, `a`
+-- `(a, b)`, `a`; between types a name alone has parentheses too
 unfoldable pub arrow_parameters : {X : Type 0} → (X → Answers) → (X → Place → Part) → ArrowExpr X → Part
-arrow_parameters asks items n = by_maps (λ maps. arrow_within (is_only is_plain asks n.params.items && not (has_comment_behind asks n.params.items maps)) n.span (arrow_children asks items n))
+arrow_parameters asks items n = by_maps (λ maps. arrow_within (not (is_typed_arrow n) && (is_only is_plain asks n.params.items && not (has_comment_behind asks n.params.items maps))) n.span (arrow_children asks items n))
 
 -- an expression is indented, whatever the settings
 unfoldable pub arrow_body : {X : Type 0} → (X → Place → Part) → BlockStmtOrExpr X → Part
 arrow_body items (bodies.BlockStmt n) rest = items n.node.value Body rest
 arrow_body items (bodies.Expr n) rest = deeper (items n.node.value Plain (shallower rest))
 
--- `async (a, b) => c`
-unfoldable pub arrow_parts : {X : Type 0} → (X → Answers) → (X → Place → Part) → ArrowExpr X → Part
-arrow_parts asks items n rest =
+-- `: A ` of `(a): A => b`
+unfoldable pub arrow_result : {X : Type 0} → (X → Place → Part) → Option (TsTypeAnnBox X) → Part
+arrow_result items None rest = rest
+arrow_result items (Some n) rest = punct (codes ":") (formatting_space (items n.node.value Plain (formatting_space rest)))
+
+-- `async <A>(a, b): B => c`
+unfoldable pub arrow_expr : {X : Type 0} → (X → Answers) → (X → Place → Part) → ArrowExpr X → Part
+arrow_expr asks items n rest =
     leading_comments n.span.lo
     (start_of n.span
     (async_arrow n.is_async (is_only is_name asks n.params.items)
-    (star n.is_generator (arrow_parameters asks items n (punct (codes "=>") (arrow_body items n.body rest))))))
-
-unfoldable pub arrow_expr : {X : Type 0} → (X → Answers) → (X → Place → Part) → ArrowExpr X → Part
-arrow_expr asks items n rest = if is_some n.type_params || is_some n.return_type then unsupported rest else arrow_parts asks items n rest
+    (star n.is_generator
+    (type_params items n.type_params
+    (arrow_parameters asks items n (arrow_result items n.return_type (punct (codes "=>") (arrow_body items n.body rest))))))))

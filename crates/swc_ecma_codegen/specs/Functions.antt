@@ -1,5 +1,5 @@
--- What is written of functions. What TypeScript adds, types and their parameters, isn't printed yet.
-use Rattle.std.specs.Prelude.{ℕ, ◌||◌, ◌&&◌, not, Bool, if◌then◌else◌, is_some, List, map, codes, Option, Some, None}
+-- What is written of functions.
+use Rattle.std.specs.Prelude.{ℕ, ◌||◌, ◌&&◌, not, Bool, if◌then◌else◌, List, map, codes, Option, Some, None}
 use Rattle.swc_ecma_codegen_common.specs.declared.positions.Span.{Span}
 use Rattle.swc_ecma_codegen_tree.specs.Links.{BlockStmtBox}
 use Rattle.swc_ecma_codegen_tree.specs.declared.decls.Decorator.{Decorator}
@@ -10,9 +10,10 @@ use Rattle.swc_ecma_codegen_tokens.specs.Lists.{list}
 use Rattle.swc_ecma_codegen_tokens.specs.Words.{keyword, punct, semi, space, formatting_space, line_end, start_of, end_of, leading_comments}
 use Rattle.swc_ecma_codegen.specs.declared.nodes.Place.{Place}
 use Rattle.swc_ecma_codegen.specs.declared.nodes.Place.TheVariants.{Plain, Body, FunctionHead, MethodHead, DeclarationHead, StaticHead, MethodDecorators, MethodTail}
+use Rattle.swc_ecma_codegen.specs.Annotations.{annotation, type_params}
 use Rattle.swc_ecma_codegen.specs.Answers.{Answers}
 use Rattle.swc_ecma_codegen.specs.FunctionExprs.{comma_list_format, star}
-use Rattle.swc_ecma_codegen.specs.Lists.{child_of, in_order, unsupported}
+use Rattle.swc_ecma_codegen.specs.Lists.{child_of, in_order}
 use Rattle.swc_ecma_codegen.specs.Pats.{pat}
 
 -- `Decorators`
@@ -50,16 +51,13 @@ function_body items (Some n) rest = formatting_space (items n.node.value Body re
 abbrev pub parameters : {X : Type 0} → (X → Answers) → (X → Place → Part) → functions.Function X → Part
 parameters asks items n = list comma_list_format n.span (map (child_of param_place (λ p place. param asks items p)) n.params.items)
 
--- `(a) { b; }`
-unfoldable pub fn_trailing_parts : {X : Type 0} → (X → Answers) → (X → Place → Part) → functions.Function X → Part
-fn_trailing_parts asks items n rest =
-    punct (codes "(")
-    (parameters asks items n
-    (punct (codes ")") (function_body items n.body rest)))
-
--- decorators of a function that is no method's are passed over
+-- `<A>(a): B { c; }`; decorators of a function that is no method's are passed over
 unfoldable pub fn_trailing : {X : Type 0} → (X → Answers) → (X → Place → Part) → functions.Function X → Part
-fn_trailing asks items n rest = if is_some n.type_params || is_some n.return_type then unsupported rest else fn_trailing_parts asks items n rest
+fn_trailing asks items n rest =
+    type_params items n.type_params
+    (punct (codes "(")
+    (parameters asks items n
+    (punct (codes ")") (annotation items n.return_type (function_body items n.body rest)))))
 
 -- `async` and a blank, where it is so
 unfoldable pub async_word : Bool → Part
@@ -97,15 +95,13 @@ unfoldable pub method_body : {X : Type 0} → (X → Place → Part) → Option 
 method_body items None rest = semi rest
 method_body items (Some n) rest = formatting_space (items n.node.value Plain rest)
 
-unfoldable pub method_tail_parts : {X : Type 0} → (X → Answers) → (X → Place → Part) → functions.Function X → Part
-method_tail_parts asks items n rest =
-    punct (codes "(")
-    (parameters asks items n
-    (punct (codes ")") (method_body items n.body rest)))
-
--- `(a) { b; }` of a method, whose decorators stand elsewhere
+-- `<A>(a): B { c; }` of a method, whose decorators stand elsewhere
 unfoldable pub method_tail : {X : Type 0} → (X → Answers) → (X → Place → Part) → functions.Function X → Part
-method_tail asks items n rest = if is_some n.type_params || is_some n.return_type then unsupported rest else method_tail_parts asks items n rest
+method_tail asks items n rest =
+    type_params items n.type_params
+    (punct (codes "(")
+    (parameters asks items n
+    (punct (codes ")") (annotation items n.return_type (method_body items n.body rest)))))
 
 -- a function, or what of it stands before its name
 unfoldable pub function : {X : Type 0} → (X → Answers) → (X → Place → Part) → functions.Function X → Place → Part

@@ -1,5 +1,5 @@
--- What is written of JSX. What TypeScript adds, types behind the name of a tag, isn't printed yet.
-use Rattle.std.specs.Prelude.{ℕ, Bool, true, false, if◌then◌else◌, is_some, List, [], ◌∷◌, codes, Option, Some, None, string_bytes}
+-- What is written of JSX.
+use Rattle.std.specs.Prelude.{ℕ, Bool, true, false, if◌then◌else◌, List, [], ◌∷◌, codes, Option, Some, None, string_bytes}
 use Rattle.swc_ecma_codegen_tree.specs.declared.idents.Ident.{Ident}
 use Rattle.swc_ecma_codegen_tree.specs.declared.idents.IdentName.{IdentName}
 use Rattle.swc_ecma_codegen_tree.specs.declared.lits.Lit.{Lit}
@@ -35,9 +35,10 @@ use Rattle.swc_ecma_codegen_tokens.specs.Tags.{tag_name, child_open, close}
 use Rattle.swc_ecma_codegen_tokens.specs.Words.{punct}
 use Rattle.swc_ecma_codegen.specs.declared.nodes.Place.{Place}
 use Rattle.swc_ecma_codegen.specs.declared.nodes.Place.TheVariants.{Plain, Child}
+use Rattle.swc_ecma_codegen.specs.Annotations.{type_args}
 use Rattle.swc_ecma_codegen.specs.Answers.{Answers}
 use Rattle.swc_ecma_codegen.specs.Exprs.{blank, spread_element}
-use Rattle.swc_ecma_codegen.specs.Lists.{in_order, unsupported}
+use Rattle.swc_ecma_codegen.specs.Lists.{in_order}
 use Rattle.swc_ecma_codegen.specs.Lits.{lit_at}
 
 -- ---- names of tags and of attributes: as they are in the tree, without `?`
@@ -124,15 +125,13 @@ jsx_attributes each first (x ∷ xs) rest = blank first (each x (jsx_attributes 
 unfoldable pub self_closing : Bool → Part
 self_closing closes rest = if closes then punct (codes "/") rest else rest
 
--- `<a b="c">`, `<a/>`
-unfoldable pub opening_parts : {X : Type 0} → (X → Answers) → (X → Place → Part) → JSXOpeningElement X → Place → Part
-opening_parts asks items n place rest =
+-- `<a<A> b="c">`, `<a/>`
+unfoldable pub jsx_opening_element : {X : Type 0} → (X → Answers) → (X → Place → Part) → JSXOpeningElement X → Place → Part
+jsx_opening_element asks items n place rest =
     open_at place (codes "<")
     (jsx_element_name items n.name
-    (jsx_attributes (jsx_attr_or_spread asks items) true n.attrs.items (self_closing n.self_closing (close rest))))
-
-unfoldable pub jsx_opening_element : {X : Type 0} → (X → Answers) → (X → Place → Part) → JSXOpeningElement X → Place → Part
-jsx_opening_element asks items n place rest = if is_some n.type_args then unsupported rest else opening_parts asks items n place rest
+    (type_args items Plain n.type_args
+    (jsx_attributes (jsx_attr_or_spread asks items) true n.attrs.items (self_closing n.self_closing (close rest)))))
 
 -- `</a>`
 unfoldable pub jsx_closing_element : {X : Type 0} → (X → Place → Part) → JSXClosingElement X → Part

@@ -21,6 +21,7 @@ pub mod Classes
 pub mod Props
 pub mod Jsx
 pub mod AnyExpr
+pub mod Annotations
 pub mod Targets
 pub mod Decls
 pub mod Stmts
@@ -29,5 +30,9 @@ pub mod Modules
 pub mod Parts
 pub mod Programs
 pub mod Tree
+pub mod Types
+pub mod TsMembers
+pub mod TsDecls
+pub mod Namespaces
 pub mod Texts
 pub mod Roots

@@ -1,5 +1,4 @@
--- What is written of imports and exports. What TypeScript adds isn't printed yet. Specifiers that stand in no order of the language are
--- written as swc writes them.
+-- What is written of imports and exports. Specifiers that stand in no order of the language are written as swc writes them.
 use Rattle.std.specs.Prelude.{ℕ, nat_lt, Bool, true, false, not, ◌&&◌, if◌then◌else◌, List, [], ◌∷◌, length, map, filter, codes, Option, Some, None}
 use Rattle.std.specs.List.{list_any}
 use Rattle.swc_ecma_codegen_common.specs.declared.positions.Span.{Span}
@@ -45,6 +44,8 @@ use Rattle.swc_ecma_codegen.specs.FunctionExprs.{fn_expr}
 use Rattle.swc_ecma_codegen.specs.Lists.{child_of, comma, unsupported}
 use Rattle.swc_ecma_codegen.specs.Stmts.{stmt}
 use Rattle.swc_ecma_codegen.specs.Templates.{bad_shape}
+use Rattle.swc_ecma_codegen.specs.TsDecls.{ts_interface_decl, ts_import_equals_decl, ts_export_assignment, ts_namespace_export_decl}
+use Rattle.swc_ecma_codegen.specs.Types.{word_before}
 
 -- `a` or `'b c'`
 unfoldable pub module_export_name : ModuleExportName → Part
@@ -67,6 +68,10 @@ as_word rest = space (keyword None (codes "as") (space rest))
 unfoldable pub star_as : Part
 star_as rest = punct (codes "*") (formatting_space (keyword None (codes "as") (space rest)))
 
+-- ` type` of `import type a from 'b'`, where it stands
+unfoldable pub type_word : Bool → Part
+type_word type_only rest = if type_only then space (keyword None (codes "type") rest) else rest
+
 -- ---- imports
 
 -- `a as ` of `import { a as b } from 'c'`
@@ -75,11 +80,8 @@ imported_as None rest = rest
 imported_as (Some n) rest = module_export_name n (as_word rest)
 
 -- `a as b`
-unfoldable pub import_named_parts : ImportNamedSpecifier → Part
-import_named_parts n rest = start_of n.span (imported_as n.imported (ident n.local (end_of n.span rest)))
-
 unfoldable pub import_named : ImportNamedSpecifier → Part
-import_named n rest = if n.is_type_only then unsupported rest else import_named_parts n rest
+import_named n rest = start_of n.span (word_before n.is_type_only (codes "type") (imported_as n.imported (ident n.local (end_of n.span rest))))
 
 -- such stand among braces, and others before them
 unfoldable pub import_specifier : ImportSpecifier → Part
@@ -159,10 +161,11 @@ unfoldable pub import_parts : {X : Type 0} → (X → Place → Part) → Import
 import_parts items n rest =
     leading_comments n.span.lo
     (start_of n.span
-    (keyword None (codes "import") (phase_word n.phase (blank (begins_default n.specifiers.items) (import_tail items n rest)))))
+    (keyword None (codes "import")
+    (type_word n.type_only (phase_word n.phase (blank (begins_default n.specifiers.items) (import_tail items n rest))))))
 
 unfoldable pub import_decl : {X : Type 0} → (X → Place → Part) → ImportDecl X → Part
-import_decl items n rest = if is_crowded n.specifiers.items then bad_shape rest else (if n.type_only then unsupported rest else import_parts items n rest)
+import_decl items n rest = if is_crowded n.specifiers.items then bad_shape rest else import_parts items n rest
 
 -- ---- exports
 
@@ -171,12 +174,11 @@ unfoldable pub exported_as : Option ModuleExportName → Part
 exported_as None rest = rest
 exported_as (Some n) rest = as_word (module_export_name n rest)
 
-unfoldable pub export_named_parts : ExportNamedSpecifier → Part
-export_named_parts n rest = leading_comments n.span.lo (start_of n.span (module_export_name n.orig (exported_as n.exported (end_of n.span rest))))
-
 -- `a as b`
 unfoldable pub export_named_specifier : ExportNamedSpecifier → Part
-export_named_specifier n rest = if n.is_type_only then unsupported rest else export_named_parts n rest
+export_named_specifier n rest =
+    leading_comments n.span.lo
+    (start_of n.span (word_before n.is_type_only (codes "type") (module_export_name n.orig (exported_as n.exported (end_of n.span rest)))))
 
 -- `* as a`
 unfoldable pub export_namespace : ExportNamespaceSpecifier → Part
@@ -232,22 +234,22 @@ unfoldable pub export_tail : {X : Type 0} → (X → Place → Part) → NamedEx
 export_tail items n rest = export_clause n.span n.specifiers.items (from_clause items n.with_ (ends_with_name n.specifiers.items) n.src (semi (end_of n.span rest)))
 
 -- `export { a, b as c } from 'd';`
-unfoldable pub export_parts : {X : Type 0} → (X → Place → Part) → NamedExport X → Part
-export_parts items n rest = leading_comments n.span.lo (start_of n.span (keyword None (codes "export") (formatting_space (export_tail items n rest))))
-
 unfoldable pub export_named : {X : Type 0} → (X → Place → Part) → NamedExport X → Part
-export_named items n rest = if n.type_only then unsupported rest else export_parts items n rest
+export_named items n rest =
+    leading_comments n.span.lo
+    (start_of n.span (keyword None (codes "export") (type_word n.type_only (formatting_space (export_tail items n rest)))))
 
 -- `* from 'a';`
 unfoldable pub all_tail : {X : Type 0} → (X → Place → Part) → ExportAll X → Part
 all_tail items n rest = punct (codes "*") (formatting_space (from_word (source_end items n.src n.with_ n.span rest)))
 
-unfoldable pub all_parts : {X : Type 0} → (X → Place → Part) → ExportAll X → Part
-all_parts items n rest = leading_comments n.span.lo (start_of n.span (keyword None (codes "export") (formatting_space (all_tail items n rest))))
+-- ` type ` of `export type * from 'a'`, with its blanks minified too, or the blank in its place
+unfoldable pub all_word : Bool → Part
+all_word type_only rest = if type_only then space (keyword None (codes "type") (space rest)) else formatting_space rest
 
 -- `export * from 'a';`
 unfoldable pub export_all : {X : Type 0} → (X → Place → Part) → ExportAll X → Part
-export_all items n rest = if n.type_only then unsupported rest else all_parts items n rest
+export_all items n rest = leading_comments n.span.lo (start_of n.span (keyword None (codes "export") (all_word n.type_only (all_tail items n rest))))
 
 -- `export let a = b;`; decorators of a class stand before the word
 unfoldable pub export_decl : {X : Type 0} → (X → Place → Part) → ExportDecl X → Part
@@ -257,7 +259,7 @@ export_decl items n rest = start_of n.span (items n.decl.node.value ExportedHead
 unfoldable pub default_decl : {X : Type 0} → (X → Answers) → (X → Place → Part) → DefaultDecl X → Part
 default_decl asks items (default_decls.Class n) rest = class_expr asks items n rest
 default_decl asks items (default_decls.Fn n) rest = fn_expr asks items n rest
-default_decl asks items (default_decls.TsInterfaceDecl n) rest = unsupported rest
+default_decl asks items (default_decls.TsInterfaceDecl n) rest = ts_interface_decl asks items n rest
 
 -- `export default`
 unfoldable pub export_default : Part
@@ -279,8 +281,9 @@ module_decl_by asks items (module_decls.ExportNamed n) rest = export_named items
 module_decl_by asks items (module_decls.ExportDefaultDecl n) rest = export_default_decl asks items n rest
 module_decl_by asks items (module_decls.ExportDefaultExpr n) rest = export_default_expr asks items n rest
 module_decl_by asks items (module_decls.ExportAll n) rest = export_all items n rest
--- what TypeScript adds
-module_decl_by asks items n rest = unsupported rest
+module_decl_by asks items (module_decls.TsImportEquals n) rest = ts_import_equals_decl items n rest
+module_decl_by asks items (module_decls.TsExportAssignment n) rest = ts_export_assignment items n rest
+module_decl_by asks items (module_decls.TsNamespaceExport n) rest = ts_namespace_export_decl n rest
 
 -- each on a line of its own
 unfoldable pub module_decl : {X : Type 0} → (X → Answers) → (X → Place → Part) → ModuleDecl X → Part

@@ -1,5 +1,5 @@
 -- What is written of the names that are bound, and of those of properties.
-use Rattle.std.specs.Prelude.{is_some, if◌then◌else◌, string_bytes}
+use Rattle.std.specs.Prelude.{string_bytes}
 use Rattle.swc_ecma_codegen_tree.specs.declared.exprs.PropName.{PropName}
 use Rattle.swc_ecma_codegen_tree.specs.declared.exprs.PropName.TheVariants as prop_names
 use Rattle.swc_ecma_codegen_tree.specs.declared.idents.BindingIdent.{BindingIdent}
@@ -7,12 +7,12 @@ use Rattle.swc_ecma_codegen_tokens.specs.Keys.{key}
 use Rattle.swc_ecma_codegen_tokens.specs.Lits.{str_lit, number_lit, big_int_lit}
 use Rattle.swc_ecma_codegen_tokens.specs.Run.{Part}
 use Rattle.swc_ecma_codegen.specs.declared.nodes.Place.{Place}
+use Rattle.swc_ecma_codegen.specs.Annotations.{annotation}
 use Rattle.swc_ecma_codegen.specs.Exprs.{ident, computed_prop_name}
-use Rattle.swc_ecma_codegen.specs.Lists.{unsupported}
 
--- with a type, as in `a: T`, it isn't printed yet
-unfoldable pub binding_ident : {X : Type 0} → BindingIdent X → Part
-binding_ident n rest = if is_some n.type_ann then unsupported rest else ident n.id rest
+-- with a type, as in `a: T`, or without
+unfoldable pub binding_ident : {X : Type 0} → (X → Place → Part) → BindingIdent X → Part
+binding_ident items n rest = ident n.id (annotation items n.type_ann rest)
 
 unfoldable pub prop_name : {X : Type 0} → (X → Place → Part) → PropName X → Part
 prop_name items (prop_names.Ident n) rest = key n.span (string_bytes n.sym) rest

@@ -1,5 +1,5 @@
--- What is written of patterns. What TypeScript adds, a type or `?` after a bracket, isn't printed yet.
-use Rattle.std.specs.Prelude.{ℕ, ◌||◌, Bool, true, if◌then◌else◌, is_some, List, map, codes, Option, Some, None}
+-- What is written of patterns.
+use Rattle.std.specs.Prelude.{ℕ, Bool, true, if◌then◌else◌, List, map, codes, Option, Some, None}
 use Rattle.swc_ecma_codegen_common.specs.declared.positions.Span.{Span}
 use Rattle.swc_ecma_codegen_tree.specs.Links.{ExprBox, PatBox}
 use Rattle.swc_ecma_codegen_tree.specs.declared.pats.Pat.{Pat}
@@ -18,9 +18,10 @@ use Rattle.swc_ecma_codegen_spans.specs.Spans.{option_span, pat_span, prop_name_
 use Rattle.swc_ecma_codegen_grammar.specs.ElementPhrases.{last_is_hole}
 use Rattle.swc_ecma_codegen_tokens.specs.Run.{Part}
 use Rattle.swc_ecma_codegen_tokens.specs.Lists.{list}
-use Rattle.swc_ecma_codegen_tokens.specs.Words.{punct, placed_punct, formatting_space, end_of, leading_comments, trailing_comments}
+use Rattle.swc_ecma_codegen_tokens.specs.Words.{punct, placed_punct, question, formatting_space, end_of, leading_comments, trailing_comments}
 use Rattle.swc_ecma_codegen.specs.declared.nodes.Place.{Place}
 use Rattle.swc_ecma_codegen.specs.declared.nodes.Place.TheVariants.{Plain}
+use Rattle.swc_ecma_codegen.specs.Annotations.{annotation, spaced_annotation}
 use Rattle.swc_ecma_codegen.specs.Answers.{Answers, place_of}
 use Rattle.swc_ecma_codegen.specs.Exprs.{opened, spaced_punct}
 use Rattle.swc_ecma_codegen.specs.Lists.{child_of, if_some_at, unsupported}
@@ -46,23 +47,17 @@ array_pat_format hole = if hole then 16688 else 304
 abbrev pub array_pat_elements : {X : Type 0} → (X → Answers) → (X → Place → Part) → ArrayPat X → Part
 array_pat_elements asks items n = list (array_pat_format (last_is_hole n.elems.items)) n.span (map (child_of (option_span (pat_place asks)) (if_some_at (pat_items items))) n.elems.items)
 
--- `[a, , b]`
-unfoldable pub array_pat_parts : {X : Type 0} → (X → Answers) → (X → Place → Part) → ArrayPat X → Part
-array_pat_parts asks items n rest =
+-- `[a, , b]?: A`
+unfoldable pub array_pat : {X : Type 0} → (X → Answers) → (X → Place → Part) → ArrayPat X → Part
+array_pat asks items n rest =
     opened n.span
     (punct (codes "[")
     (array_pat_elements asks items n
-    (punct (codes "]") (end_of n.span rest))))
+    (punct (codes "]") (question n.optional (spaced_annotation items n.type_ann (end_of n.span rest))))))
 
-unfoldable pub array_pat : {X : Type 0} → (X → Answers) → (X → Place → Part) → ArrayPat X → Part
-array_pat asks items n rest = if n.optional || is_some n.type_ann then unsupported rest else array_pat_parts asks items n rest
-
--- `...a`
-unfoldable pub rest_pat_parts : {X : Type 0} → (X → Place → Part) → RestPat X → Part
-rest_pat_parts items n rest = leading_comments n.span.lo (placed_punct n.dot3_token (codes "...") (items n.arg.node.value Plain rest))
-
+-- `...a: A`
 unfoldable pub rest_pat : {X : Type 0} → (X → Place → Part) → RestPat X → Part
-rest_pat items n rest = if is_some n.type_ann then unsupported rest else rest_pat_parts items n rest
+rest_pat items n rest = leading_comments n.span.lo (placed_punct n.dot3_token (codes "...") (items n.arg.node.value Plain (annotation items n.type_ann rest)))
 
 -- `a = b`
 unfoldable pub assign_pat : {X : Type 0} → (X → Place → Part) → AssignPat X → Part
@@ -76,7 +71,7 @@ key_value_pat_prop asks items n rest =
 
 -- `a`, `a = b`
 unfoldable pub assign_pat_prop : {X : Type 0} → (X → Place → Part) → AssignPatProp X → Part
-assign_pat_prop items n rest = opened n.span (binding_ident n.key (initializer items n.value (end_of n.span rest)))
+assign_pat_prop items n rest = opened n.span (binding_ident items n.key (initializer items n.value (end_of n.span rest)))
 
 unfoldable pub object_pat_prop : {X : Type 0} → (X → Answers) → (X → Place → Part) → ObjectPatProp X → Part
 object_pat_prop asks items (pat_props.KeyValue n) rest = key_value_pat_prop asks items n rest
@@ -91,20 +86,17 @@ object_pat_format = 41392
 abbrev pub object_pat_props : {X : Type 0} → (X → Answers) → (X → Place → Part) → ObjectPat X → Part
 object_pat_props asks items n = list object_pat_format n.span (map (child_of (object_pat_prop_span (place_of asks)) (λ p place. object_pat_prop asks items p)) n.props.items)
 
--- `{ a, b: c }`
-unfoldable pub object_pat_parts : {X : Type 0} → (X → Answers) → (X → Place → Part) → ObjectPat X → Part
-object_pat_parts asks items n rest =
+-- `{ a, b: c }?: A`
+unfoldable pub object_pat : {X : Type 0} → (X → Answers) → (X → Place → Part) → ObjectPat X → Part
+object_pat asks items n rest =
     opened n.span
     (punct (codes "{")
     (object_pat_props asks items n
-    (punct (codes "}") (end_of n.span rest))))
-
-unfoldable pub object_pat : {X : Type 0} → (X → Answers) → (X → Place → Part) → ObjectPat X → Part
-object_pat asks items n rest = if n.optional || is_some n.type_ann then unsupported rest else object_pat_parts asks items n rest
+    (punct (codes "}") (question n.optional (spaced_annotation items n.type_ann (end_of n.span rest))))))
 
 -- a pattern by its variant
 unfoldable pub pat_parts : {X : Type 0} → (X → Answers) → (X → Place → Part) → Pat X → Part
-pat_parts asks items (pats.Ident n) rest = binding_ident n rest
+pat_parts asks items (pats.Ident n) rest = binding_ident items n rest
 pat_parts asks items (pats.Array n) rest = array_pat asks items n rest
 pat_parts asks items (pats.Rest n) rest = rest_pat items n rest
 pat_parts asks items (pats.Object n) rest = object_pat asks items n rest

@@ -1,8 +1,8 @@
 -- Where a node may stand in its role.
 use Rattle.swc_ecma_codegen_grammar.specs.declared.roles.Role.{Role}
-use Rattle.swc_ecma_codegen_grammar.specs.declared.roles.Role.TheVariants.{MemberExpression, ChainMember, Function, FunctionHead as HeadOfFunction, MethodHead as HeadOfMethod, Expression, Callee as IsCallee, ChainCall, Template, TaggedTemplate, ClassHead as HeadOfClass, ClassTail, MethodDecorators as DecoratorsOfMethod, MethodTail as TailOfMethod, AccessorTail as TailOfAccessor, FieldValue as ValueOfField, ModuleDeclaration, Declaration, ExportedHead as HeadOfExported, ExportedTail as TailOfExported, Element, Child as IsChild}
+use Rattle.swc_ecma_codegen_grammar.specs.declared.roles.Role.TheVariants.{MemberExpression, ChainMember, Function, FunctionHead as HeadOfFunction, MethodHead as HeadOfMethod, Expression, Callee as IsCallee, ChainCall, Template, TaggedTemplate, ClassHead as HeadOfClass, ClassTail, MethodDecorators as DecoratorsOfMethod, MethodTail as TailOfMethod, AccessorTail as TailOfAccessor, FieldValue as ValueOfField, ModuleDeclaration, Declaration, ExportedHead as HeadOfExported, ExportedTail as TailOfExported, Element, Child as IsChild, NamespaceBody, DottedBody}
 use Rattle.swc_ecma_codegen.specs.declared.nodes.Place.{Place}
-use Rattle.swc_ecma_codegen.specs.declared.nodes.Place.TheVariants.{Plain, Chain, FunctionHead, MethodHead, DeclarationHead, Object, DottedObject, Callee, Tagged, ClassHead, StaticHead, MethodDecorators, MethodTail, FieldValue, ExportedHead, ExportedTail, Child}
+use Rattle.swc_ecma_codegen.specs.declared.nodes.Place.TheVariants.{Plain, Chain, FunctionHead, MethodHead, DeclarationHead, Object, DottedObject, Callee, Tagged, ClassHead, StaticHead, MethodDecorators, MethodTail, FieldValue, ExportedHead, ExportedTail, Child, Dotted}
 
 -- a place where nothing is asked of an expression, and one inside of a callee
 abbrev pub outside : Place → Place
@@ -39,7 +39,8 @@ declared ExportedTail = Plain
 declared place = place
 
 -- An expression stands where it is called or has a property where that is its role, and there alone, and so does a member, or a call,
--- in a chain, what of a function or a class stands before its name, a template with a tag, the value of a field, and a child of an element; another node stands
+-- in a chain, what of a function or a class stands before its name, a template with a tag, the value of a field, a child of an element, and the body of a namespace
+-- behind its name; another node stands
 -- where it is put.
 abbrev pub placed : Role → Place → Place
 placed Expression place = outside place
@@ -64,4 +65,6 @@ placed Template place = Plain
 placed TaggedTemplate place = Tagged
 placed Element place = Plain
 placed IsChild place = Child
+placed NamespaceBody place = Plain
+placed DottedBody place = Dotted
 placed role place = place

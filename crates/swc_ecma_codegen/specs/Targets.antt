@@ -13,7 +13,7 @@ use Rattle.swc_ecma_codegen.specs.Pats.{assign_target_pat}
 
 -- `a`, `a.b`, `super.a`, `(a)`
 unfoldable pub simple_assign_target : {X : Type 0} → (X → Place → Part) → SimpleAssignTarget X → Part
-simple_assign_target items (simple_targets.Ident n) rest = binding_ident n rest
+simple_assign_target items (simple_targets.Ident n) rest = binding_ident items n rest
 simple_assign_target items (simple_targets.Member n) rest = member items n rest
 simple_assign_target items (simple_targets.SuperProp n) rest = super_prop_expr items n rest
 simple_assign_target items (simple_targets.Paren n) rest = paren items n rest

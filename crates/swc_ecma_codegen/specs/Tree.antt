@@ -8,9 +8,8 @@ use Rattle.swc_ecma_codegen.specs.Answers.{Answers, any_answers}
 use Rattle.swc_ecma_codegen.specs.AnyExpr.{placed_expr}
 use Rattle.swc_ecma_codegen.specs.Exprs.{member_at}
 use Rattle.swc_ecma_codegen.specs.Jsx.{jsx_part}
-use Rattle.swc_ecma_codegen.specs.Parts.{expr_part, stmt_part}
+use Rattle.swc_ecma_codegen.specs.Parts.{expr_part, stmt_part, ts_part}
 use Rattle.swc_ecma_codegen.specs.Stmts.{stmt}
-use Rattle.swc_ecma_codegen.specs.Lists.{unsupported}
 
 -- one node, from what is known of what its links hold
 unfoldable pub node_items : {X : Type 0} → (X → Answers) → (X → Place → Part) → AnyNode-F X → Place → Part
@@ -20,7 +19,7 @@ node_items asks items (nodes.MemberExpr n) place = member_at items n place
 node_items asks items (nodes.ExprPart n) place = expr_part asks items n place
 node_items asks items (nodes.StmtPart n) place = stmt_part asks items n place
 node_items asks items (nodes.JSXPart n) place = jsx_part asks items n place
-node_items asks items n place = unsupported
+node_items asks items (nodes.TsPart n) place = ts_part asks items n place
 
 -- a whole node
 unfoldable pub any_items : AnyNode → Place → Part

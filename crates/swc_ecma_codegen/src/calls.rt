@@ -123,17 +123,15 @@ impl EmitAt for Import {
 impl<N: Held> EmitAt for OptCall<N> {
     ghost items = { λ n place. chain_call N.answers N.items (is_optional place) n };
 
-    #[tactic(auto, unfolding(crate::specs::Calls::chain_call, crate::specs::Calls::chain_call_parts))]
+    #[tactic(auto, unfolding(crate::specs::Calls::chain_call))]
     fn emit_at<W: WriteJs, S: SourceMapper, C: Comments>(
         &self,
         e: &mut Emitter<'_, W, S, C>,
         place: Place,
     ) {
-        if self.type_args.is_some() {
-            return e.unsupported();
-        }
         self.callee.held().emit_at(e, Place::Callee);
         e.call_mark(is_optional(place));
+        e.type_args(Place::Plain, &self.type_args);
         e.arguments(call_format(), self.span, &self.args);
     }
 }
@@ -141,19 +139,17 @@ impl<N: Held> EmitAt for OptCall<N> {
 impl<N: Held> EmitAt for CallExpr<N> {
     ghost items = { λ n _. call_expr N.answers N.items n };
 
-    #[tactic(auto, unfolding(crate::specs::Calls::call_expr, crate::specs::Calls::call_parts))]
+    #[tactic(auto, unfolding(crate::specs::Calls::call_expr))]
     fn emit_at<W: WriteJs, S: SourceMapper, C: Comments>(
         &self,
         e: &mut Emitter<'_, W, S, C>,
         place: Place,
     ) {
-        if self.type_args.is_some() {
-            return e.unsupported();
-        }
         e.commit_pending_semi();
         e.leading_comments(self.span.lo);
         e.start_of(self.span);
         self.callee.emit_at(e, Place::Plain);
+        e.type_args(Place::Plain, &self.type_args);
         e.arguments(call_format(), self.span, &self.args);
     }
 }
@@ -161,21 +157,19 @@ impl<N: Held> EmitAt for CallExpr<N> {
 impl<N: Held> EmitAt for NewExpr<N> {
     ghost items = { λ n place. new_expr N.answers N.items (keeps_arguments place) n };
 
-    #[tactic(auto, unfolding(crate::specs::Calls::new_expr, crate::specs::Calls::new_parts))]
+    #[tactic(auto, unfolding(crate::specs::Calls::new_expr))]
     fn emit_at<W: WriteJs, S: SourceMapper, C: Comments>(
         &self,
         e: &mut Emitter<'_, W, S, C>,
         place: Place,
     ) {
-        if self.type_args.is_some() {
-            return e.unsupported();
-        }
         e.commit_pending_semi();
         e.leading_comments(self.span.lo);
         e.start_of(self.span);
         e.keyword(None, "new");
         e.new_gap(self.callee.held().starts());
         self.callee.held().emit_at(e, Place::Plain);
+        e.type_args(Place::Plain, &self.type_args);
         e.new_arguments(self.span, keeps_arguments(place), &self.args);
     }
 }

@@ -19,7 +19,7 @@ use swc_ecma_codegen_text_writer::WriteJs;
 use swc_ecma_codegen_tree::{
     AutoAccessor, BlockStmtBox, Class, ClassDecl, ClassExpr, ClassMember, ClassMethod, ClassProp,
     Constructor, EmptyStmt, ExprBox, Key, MethodKind, ParamOrTsParamProp, PrivateMethod,
-    PrivateProp, StaticBlock,
+    PrivateProp, StaticBlock, TsTypeParamInstantiationBox,
 };
 
 /// The format of members.
@@ -29,14 +29,11 @@ fn class_members_format() -> ListFormat
     ListFormat::ClassMembers
 }
 
-/// Whether TypeScript adds to a class.
+/// Whether TypeScript adds to a class what isn't printed yet.
 fn is_typed_class<N>(node: &Class<N>) -> bool
     ensures { result ≡ is_typed_class node.now }
 {
-    node.is_abstract
-        || node.type_params.is_some()
-        || node.super_type_params.is_some()
-        || is_some_listed(&node.implements)
+    node.is_abstract || is_some_listed(&node.implements)
 }
 
 /// Whether TypeScript adds to a field.
@@ -79,18 +76,16 @@ fn is_typed_accessor<N>(node: &AutoAccessor<N>) -> bool
 impl<N: Held> EmitAt for ClassDecl<N> {
     ghost items = { λ n _. class_decl N.answers N.items n };
 
-    #[tactic(auto, unfolding(crate::specs::Classes::class_decl, crate::specs::Classes::class_decl_parts))]
+    #[tactic(auto, unfolding(crate::specs::Classes::class_decl))]
     fn emit_at<W: WriteJs, S: SourceMapper, C: Comments>(
         &self,
         e: &mut Emitter<'_, W, S, C>,
         place: Place,
     ) {
-        if self.declare {
-            return e.unsupported();
-        }
         let span = self.class.held().place();
         e.leading_comments(span.lo);
         e.start_of(span);
+        e.declare_word(self.declare);
         self.class.held().emit_at(e, Place::ClassHead);
         e.keyword(None, "class");
         e.space();
@@ -353,7 +348,7 @@ impl<N: Held> EmitAt for StaticBlock<N> {
 }
 
 impl<W: WriteJs, S: SourceMapper, C: Comments> Emitter<'_, W, S, C> {
-    /// Writes `extends A { b; }`. swc's `emit_class_trailing`.
+    /// Writes `<A> extends B<C> { d; }`. swc's `emit_class_trailing`.
     #[tactic(auto, unfolding(crate::specs::Classes::class_tail, crate::specs::Classes::class_trailing))]
     fn class_trailing<N: Held>(&mut self, node: &Class<N>)
         ensures items { Makes (class_tail N.answers N.items node.now) (standing_of S.lines C.maps W.sheet self.old) (standing_of S.lines C.maps W.sheet self.new) }
@@ -362,7 +357,8 @@ impl<W: WriteJs, S: SourceMapper, C: Comments> Emitter<'_, W, S, C> {
         if is_typed_class(node) {
             return self.unsupported();
         }
-        self.heritage(&node.super_class);
+        self.type_params(&node.type_params);
+        self.heritage(&node.super_class, &node.super_type_params);
         self.formatting_space();
         self.punct(Punctuator::LeftBrace);
         self.member_list(node);
@@ -370,10 +366,14 @@ impl<W: WriteJs, S: SourceMapper, C: Comments> Emitter<'_, W, S, C> {
         self.punct(Punctuator::RightBrace);
     }
 
-    /// Writes `extends A`, where it is so.
+    /// Writes `extends A<B>`, where it is so.
     #[tactic(auto, unfolding(crate::specs::Classes::heritage))]
-    fn heritage<N: Held>(&mut self, super_class: &Option<ExprBox<N>>)
-        ensures items { Makes (heritage N.answers N.items super_class.now) (standing_of S.lines C.maps W.sheet self.old) (standing_of S.lines C.maps W.sheet self.new) }
+    fn heritage<N: Held>(
+        &mut self,
+        super_class: &Option<ExprBox<N>>,
+        args: &Option<TsTypeParamInstantiationBox<N>>,
+    )
+        ensures items { Makes (heritage N.answers N.items super_class.now args.now) (standing_of S.lines C.maps W.sheet self.old) (standing_of S.lines C.maps W.sheet self.new) }
         ensures level { Stays (standing_of S.lines C.maps W.sheet self.old) (standing_of S.lines C.maps W.sheet self.new) }
     {
         match super_class {
@@ -381,7 +381,8 @@ impl<W: WriteJs, S: SourceMapper, C: Comments> Emitter<'_, W, S, C> {
                 self.space();
                 self.keyword(None, "extends");
                 self.blank(super_class.held().starts());
-                super_class.held().emit_at(self, Place::Plain)
+                super_class.held().emit_at(self, Place::Plain);
+                self.type_args(Place::Plain, args)
             }
             None => {}
         }

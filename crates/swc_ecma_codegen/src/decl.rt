@@ -5,7 +5,7 @@ ghost use Rattle.swc_ecma_codegen.specs.Standing.{Makes, Stays, standing_of};
 ghost use Rattle.swc_ecma_codegen.specs.Decls.{declarators_format, fn_decl, var_declarator, declarators, var_kind, is_unmarked, first_is_unmarked, var_decl, await_word, using_decl, decl_end, by_export, without_head, exported_class, variables, resources, decl};
 ghost use Rattle.swc_ecma_codegen.specs.declared.nodes.Place.TheVariants.{ClassHead};
 ghost use Rattle.swc_ecma_codegen.specs.Classes.{class_decl};
-ghost use Rattle.swc_ecma_codegen.specs.Lists.{unsupported};
+ghost use Rattle.swc_ecma_codegen.specs.TsDecls.{ts_interface_decl, ts_type_alias_decl, ts_enum_decl, ts_module_decl};
 
 use crate::emitter::Emitter;
 use crate::nodes::{Child, EmitAt, Held, Place};
@@ -16,7 +16,8 @@ use swc_ecma_codegen_grammar::comments::Comments;
 use swc_ecma_codegen_grammar::mapper::SourceMapper;
 use swc_ecma_codegen_text_writer::WriteJs;
 use swc_ecma_codegen_tree::{
-    ClassDecl, Decl, FnDecl, UsingDecl, VarDecl, VarDeclKind, VarDeclarator,
+    ClassDecl, Decl, FnDecl, TsEnumDecl, TsInterfaceDecl, TsModuleDecl, TsTypeAliasDecl, UsingDecl,
+    VarDecl, VarDeclKind, VarDeclarator,
 };
 
 /// The format of declarators.
@@ -62,7 +63,10 @@ impl<N: Held> EmitAt for Decl<N> {
             Decl::Fn(node) => e.fn_by_place(node, place),
             Decl::Var(node) => e.var_by_place(node, place),
             Decl::Using(node) => e.using_by_place(node, place),
-            _ => e.unsupported_by_place(place),
+            Decl::TsInterface(node) => e.interface_by_place(node, place),
+            Decl::TsTypeAlias(node) => e.alias_by_place(node, place),
+            Decl::TsEnum(node) => e.enum_by_place(node, place),
+            Decl::TsModule(node) => e.module_by_place(node, place),
         }
     }
 }
@@ -87,19 +91,17 @@ impl<N: Held> EmitAt for UsingDecl<N> {
 impl<N: Held> EmitAt for FnDecl<N> {
     ghost items = { λ n _. fn_decl N.answers N.items n };
 
-    #[tactic(auto, unfolding(crate::specs::Decls::fn_decl, crate::specs::Decls::fn_decl_parts))]
+    #[tactic(auto, unfolding(crate::specs::Decls::fn_decl))]
     fn emit_at<W: WriteJs, S: SourceMapper, C: Comments>(
         &self,
         e: &mut Emitter<'_, W, S, C>,
         place: Place,
     ) {
-        if self.declare {
-            return e.unsupported();
-        }
         let span = self.function.held().place();
         e.leading_comments(span.lo);
         e.commit_pending_semi();
         e.start_of(span);
+        e.declare_word(self.declare);
         self.function.held().emit_at(e, Place::DeclarationHead);
         self.ident.emit_at(e, Place::Plain);
         self.function.held().emit_at(e, Place::Plain);
@@ -109,18 +111,16 @@ impl<N: Held> EmitAt for FnDecl<N> {
 impl<N: Held> EmitAt for VarDecl<N> {
     ghost items = { λ n _. var_decl N.answers N.items n };
 
-    #[tactic(auto, unfolding(crate::specs::Decls::var_decl, crate::specs::Decls::var_decl_parts))]
+    #[tactic(auto, unfolding(crate::specs::Decls::var_decl))]
     fn emit_at<W: WriteJs, S: SourceMapper, C: Comments>(
         &self,
         e: &mut Emitter<'_, W, S, C>,
         place: Place,
     ) {
-        if self.declare {
-            return e.unsupported();
-        }
         e.leading_comments(self.span.lo);
         e.commit_pending_semi();
         e.start_of(self.span);
+        e.declare_word(self.declare);
         e.var_kind(self.kind);
         e.blank(first_is_unmarked(&self.decls));
         e.declarators(self.span, &self.decls);
@@ -201,17 +201,15 @@ impl<W: WriteJs, S: SourceMapper, C: Comments> Emitter<'_, W, S, C> {
     }
 
     /// Writes what of a class stands after `export`.
-    #[tactic(auto, unfolding(crate::specs::Decls::exported_class, crate::specs::Decls::exported_class_parts))]
+    #[tactic(auto, unfolding(crate::specs::Decls::exported_class))]
     fn exported_class<N: Held>(&mut self, node: &ClassDecl<N>)
         ensures items { Makes (exported_class N.answers N.items node.now) (standing_of S.lines C.maps W.sheet self.old) (standing_of S.lines C.maps W.sheet self.new) }
         ensures level { Stays (standing_of S.lines C.maps W.sheet self.old) (standing_of S.lines C.maps W.sheet self.new) }
     {
-        if node.declare {
-            return self.unsupported();
-        }
         let span = node.class.held().place();
         self.leading_comments(span.lo);
         self.start_of(span);
+        self.declare_word(node.declare);
         self.keyword(None, "class");
         self.space();
         node.ident.emit_at(self, Place::Plain);
@@ -261,15 +259,51 @@ impl<W: WriteJs, S: SourceMapper, C: Comments> Emitter<'_, W, S, C> {
         }
     }
 
-    /// Refuses a declaration, before `export` it writes nothing.
+    /// Writes an interface, before `export` nothing.
     #[tactic(auto, unfolding(crate::specs::Decls::without_head, crate::specs::Decls::by_export))]
-    fn unsupported_by_place(&mut self, place: Place)
-        ensures items { Makes (without_head place unsupported) (standing_of S.lines C.maps W.sheet self.old) (standing_of S.lines C.maps W.sheet self.new) }
+    fn interface_by_place<N: Held>(&mut self, node: &TsInterfaceDecl<N>, place: Place)
+        ensures items { Makes (without_head place (ts_interface_decl N.answers N.items node.now)) (standing_of S.lines C.maps W.sheet self.old) (standing_of S.lines C.maps W.sheet self.new) }
         ensures level { Stays (standing_of S.lines C.maps W.sheet self.old) (standing_of S.lines C.maps W.sheet self.new) }
     {
         match place {
             Place::ExportedHead => {}
-            _ => self.unsupported(),
+            _ => node.emit_at(self, Place::Plain),
+        }
+    }
+
+    /// Writes an alias of a type, before `export` nothing.
+    #[tactic(auto, unfolding(crate::specs::Decls::without_head, crate::specs::Decls::by_export))]
+    fn alias_by_place<N: Held>(&mut self, node: &TsTypeAliasDecl<N>, place: Place)
+        ensures items { Makes (without_head place (ts_type_alias_decl N.items node.now)) (standing_of S.lines C.maps W.sheet self.old) (standing_of S.lines C.maps W.sheet self.new) }
+        ensures level { Stays (standing_of S.lines C.maps W.sheet self.old) (standing_of S.lines C.maps W.sheet self.new) }
+    {
+        match place {
+            Place::ExportedHead => {}
+            _ => node.emit_at(self, Place::Plain),
+        }
+    }
+
+    /// Writes an enum, before `export` nothing.
+    #[tactic(auto, unfolding(crate::specs::Decls::without_head, crate::specs::Decls::by_export))]
+    fn enum_by_place<N: Held>(&mut self, node: &TsEnumDecl<N>, place: Place)
+        ensures items { Makes (without_head place (ts_enum_decl N.items node.now)) (standing_of S.lines C.maps W.sheet self.old) (standing_of S.lines C.maps W.sheet self.new) }
+        ensures level { Stays (standing_of S.lines C.maps W.sheet self.old) (standing_of S.lines C.maps W.sheet self.new) }
+    {
+        match place {
+            Place::ExportedHead => {}
+            _ => node.emit_at(self, Place::Plain),
+        }
+    }
+
+    /// Writes a namespace or a module, before `export` nothing.
+    #[tactic(auto, unfolding(crate::specs::Decls::without_head, crate::specs::Decls::by_export))]
+    fn module_by_place<N: Held>(&mut self, node: &TsModuleDecl<N>, place: Place)
+        ensures items { Makes (without_head place (ts_module_decl N.items node.now)) (standing_of S.lines C.maps W.sheet self.old) (standing_of S.lines C.maps W.sheet self.new) }
+        ensures level { Stays (standing_of S.lines C.maps W.sheet self.old) (standing_of S.lines C.maps W.sheet self.new) }
+    {
+        match place {
+            Place::ExportedHead => {}
+            _ => node.emit_at(self, Place::Plain),
         }
     }
 

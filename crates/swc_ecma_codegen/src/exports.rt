@@ -3,7 +3,7 @@
 ghost use Rattle.std.specs.Prelude.{◌≡◌};
 ghost use Rattle.swc_ecma_codegen.specs.Standing.{Makes, Stays, standing_of};
 ghost use Rattle.swc_ecma_codegen_spans.specs.Spans.{export_specifier_span};
-ghost use Rattle.swc_ecma_codegen.specs.Modules.{named_format, exported_as, export_named_specifier, export_specifier, is_braced, is_namespace, export_list, export_braces, export_namespace, star_export, more_exports, star_exports, export_clause, ends_with_name, from_clause, export_tail, export_named, all_tail, export_all, export_decl, default_decl, export_default, export_default_decl, export_default_expr, attributes};
+ghost use Rattle.swc_ecma_codegen.specs.Modules.{named_format, exported_as, export_named_specifier, export_specifier, is_braced, is_namespace, export_list, export_braces, export_namespace, star_export, more_exports, star_exports, export_clause, ends_with_name, from_clause, export_tail, export_named, all_word, all_tail, export_all, export_decl, default_decl, export_default, export_default_decl, export_default_expr, attributes};
 
 use crate::emitter::Emitter;
 use crate::modules::named_format;
@@ -30,17 +30,15 @@ fn ends_with_name(specifiers: &[ExportSpecifier]) -> bool
 impl EmitAt for ExportNamedSpecifier {
     ghost items = { λ n _. export_named_specifier n };
 
-    #[tactic(auto, unfolding(crate::specs::Modules::export_named_specifier, crate::specs::Modules::export_named_parts))]
+    #[tactic(auto, unfolding(crate::specs::Modules::export_named_specifier))]
     fn emit_at<W: WriteJs, S: SourceMapper, C: Comments>(
         &self,
         e: &mut Emitter<'_, W, S, C>,
         place: Place,
     ) {
-        if self.is_type_only {
-            return e.unsupported();
-        }
         e.leading_comments(self.span.lo);
         e.start_of(self.span);
+        e.word_before(self.is_type_only, "type");
         self.orig.emit_at(e, Place::Plain);
         e.exported_as(&self.exported);
         e.end_of(self.span);
@@ -113,18 +111,16 @@ impl EmitAt for ExportNamespaceSpecifier {
 impl<N: Held> EmitAt for NamedExport<N> {
     ghost items = { λ n _. export_named N.items n };
 
-    #[tactic(auto, unfolding(crate::specs::Modules::export_named, crate::specs::Modules::export_parts))]
+    #[tactic(auto, unfolding(crate::specs::Modules::export_named))]
     fn emit_at<W: WriteJs, S: SourceMapper, C: Comments>(
         &self,
         e: &mut Emitter<'_, W, S, C>,
         place: Place,
     ) {
-        if self.type_only {
-            return e.unsupported();
-        }
         e.leading_comments(self.span.lo);
         e.start_of(self.span);
         e.keyword(None, "export");
+        e.type_word(self.type_only);
         e.formatting_space();
         e.export_tail(self);
     }
@@ -133,19 +129,16 @@ impl<N: Held> EmitAt for NamedExport<N> {
 impl<N: Held> EmitAt for ExportAll<N> {
     ghost items = { λ n _. export_all N.items n };
 
-    #[tactic(auto, unfolding(crate::specs::Modules::export_all, crate::specs::Modules::all_parts))]
+    #[tactic(auto, unfolding(crate::specs::Modules::export_all))]
     fn emit_at<W: WriteJs, S: SourceMapper, C: Comments>(
         &self,
         e: &mut Emitter<'_, W, S, C>,
         place: Place,
     ) {
-        if self.type_only {
-            return e.unsupported();
-        }
         e.leading_comments(self.span.lo);
         e.start_of(self.span);
         e.keyword(None, "export");
-        e.formatting_space();
+        e.all_word(self.type_only);
         e.all_tail(self);
     }
 }
@@ -179,7 +172,7 @@ impl<N: Held> EmitAt for DefaultDecl<N> {
         match self {
             DefaultDecl::Class(node) => node.emit_at(e, Place::Plain),
             DefaultDecl::Fn(node) => node.emit_at(e, Place::Plain),
-            DefaultDecl::TsInterfaceDecl(_) => e.unsupported(),
+            DefaultDecl::TsInterfaceDecl(node) => node.emit_at(e, Place::Plain),
         }
     }
 }
@@ -335,6 +328,20 @@ impl<W: WriteJs, S: SourceMapper, C: Comments> Emitter<'_, W, S, C> {
         self.from_clause(&node.with_, ends_with_name(&node.specifiers), &node.src);
         self.semi();
         self.end_of(node.span);
+    }
+
+    /// Writes `type` between two blanks, or the blank in its place.
+    #[tactic(auto, unfolding(crate::specs::Modules::all_word))]
+    fn all_word(&mut self, type_only: bool)
+        ensures items { Makes (all_word type_only) (standing_of S.lines C.maps W.sheet self.old) (standing_of S.lines C.maps W.sheet self.new) }
+        ensures level { Stays (standing_of S.lines C.maps W.sheet self.old) (standing_of S.lines C.maps W.sheet self.new) }
+    {
+        if !type_only {
+            return self.formatting_space();
+        }
+        self.space();
+        self.keyword(None, "type");
+        self.space();
     }
 
     /// Writes `* from 'a';`

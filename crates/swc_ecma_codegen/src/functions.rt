@@ -2,10 +2,11 @@
 
 ghost use Rattle.std.specs.Prelude.{◌≡◌, ◌&&◌, not};
 ghost use Rattle.swc_ecma_codegen_grammar.specs.Comments.{maps_in};
+ghost use Rattle.swc_ecma_codegen_grammar.specs.FunctionPhrases.{is_typed_arrow};
 ghost use Rattle.swc_ecma_codegen_literals.specs.Punctuators.{spelling};
 ghost use Rattle.swc_ecma_codegen.specs.Standing.{Makes, Stays, standing_of};
-ghost use Rattle.swc_ecma_codegen.specs.FunctionExprs.{comma_list_format, star, optional_name, fn_expr, is_plain, is_name, is_only, async_arrow, parenthesis, has_comment_behind, arrow_children, arrow_list, arrow_within, arrow_parameters, arrow_body, arrow_expr};
-ghost use Rattle.swc_ecma_codegen.specs.Functions.{decorators_format, decorator, decorators, decorator_lines, param, function_body, parameters, fn_trailing_parts, fn_trailing, static_gap, static_head, method_body, method_tail_parts, method_tail, async_word, function_head, star_or_space, declaration_head, method_head, function};
+ghost use Rattle.swc_ecma_codegen.specs.FunctionExprs.{comma_list_format, star, optional_name, fn_expr, is_plain, is_name, is_only, async_arrow, parenthesis, has_comment_behind, arrow_children, arrow_list, arrow_within, arrow_parameters, arrow_body, arrow_result, arrow_expr};
+ghost use Rattle.swc_ecma_codegen.specs.Functions.{decorators_format, decorator, decorators, decorator_lines, param, function_body, parameters, fn_trailing, static_gap, static_head, method_body, method_tail, async_word, function_head, star_or_space, declaration_head, method_head, function};
 
 use crate::commented::has_comment_after;
 use crate::emitter::Emitter;
@@ -19,6 +20,7 @@ use swc_ecma_codegen_literals::Punctuator;
 use swc_ecma_codegen_text_writer::WriteJs;
 use swc_ecma_codegen_tree::{
     ArrowExpr, BlockStmtBox, BlockStmtOrExpr, Decorator, FnExpr, Function, Ident, Param, PatBox,
+    TsTypeAnnBox,
 };
 
 /// The format of parameters.
@@ -67,6 +69,20 @@ fn is_bare<N: Asked, C: Comments>(params: &[PatBox<N>], comments: &Option<C>) ->
     is_only_plain(params) && !has_comment_behind(params, comments)
 }
 
+/// Whether an arrow function has types around its parameters.
+fn is_typed_arrow<N>(node: &ArrowExpr<N>) -> bool
+    ensures { result ≡ is_typed_arrow node.now }
+{
+    node.type_params.is_some() || node.return_type.is_some()
+}
+
+/// Whether the parameters of an arrow function are a name alone, without a comment after it or types around it.
+fn is_bare_arrow<N: Asked, C: Comments>(node: &ArrowExpr<N>, comments: &Option<C>) -> bool
+    ensures { result ≡ (not (is_typed_arrow node.now) && (is_only is_plain N.answers node.now.params.items && not (has_comment_behind N.answers node.now.params.items (maps_in C.maps comments.now)))) }
+{
+    !is_typed_arrow(node) && is_bare(&node.params, comments)
+}
+
 /// Whether the only parameter is a name, with or without a type.
 #[tactic(auto, unfolding(crate::specs::FunctionExprs::is_only, crate::specs::FunctionExprs::is_name))]
 fn is_only_name<N: Asked>(params: &[PatBox<N>]) -> bool
@@ -84,20 +100,19 @@ fn is_only_name<N: Asked>(params: &[PatBox<N>]) -> bool
 impl<N: Held> EmitAt for ArrowExpr<N> {
     ghost items = { λ n _. arrow_expr N.answers N.items n };
 
-    #[tactic(auto, unfolding(crate::specs::FunctionExprs::arrow_expr, crate::specs::FunctionExprs::arrow_parts))]
+    #[tactic(auto, unfolding(crate::specs::FunctionExprs::arrow_expr))]
     fn emit_at<W: WriteJs, S: SourceMapper, C: Comments>(
         &self,
         e: &mut Emitter<'_, W, S, C>,
         place: Place,
     ) {
-        if self.type_params.is_some() || self.return_type.is_some() {
-            return e.unsupported();
-        }
         e.leading_comments(self.span.lo);
         e.start_of(self.span);
         e.async_arrow(self.is_async, is_only_name(&self.params));
         e.star(self.is_generator);
+        e.type_params(&self.type_params);
         e.arrow_parameters(self);
+        e.arrow_result(&self.return_type);
         e.punct(Punctuator::Arrow);
         self.body.emit_at(e, Place::Plain);
     }
@@ -291,16 +306,18 @@ impl<W: WriteJs, S: SourceMapper, C: Comments> Emitter<'_, W, S, C> {
         self.star(node.is_generator);
     }
 
-    /// Writes `(a) { b; }` of `function f(a) { b; }`, and of a private method, without decorators. swc's `emit_fn_trailing`.
+    /// Writes `<A>(a): B { c; }` of a function, and of a private method, without decorators. swc's `emit_fn_trailing`.
     #[tactic(auto, unfolding(crate::specs::Functions::fn_trailing))]
     fn fn_trailing<N: Held>(&mut self, node: &Function<N>)
         ensures items { Makes (fn_trailing N.answers N.items node.now) (standing_of S.lines C.maps W.sheet self.old) (standing_of S.lines C.maps W.sheet self.new) }
         ensures level { Stays (standing_of S.lines C.maps W.sheet self.old) (standing_of S.lines C.maps W.sheet self.new) }
     {
-        if node.type_params.is_some() || node.return_type.is_some() {
-            return self.unsupported();
-        }
-        self.fn_trailing_parts(node)
+        self.type_params(&node.type_params);
+        self.punct(Punctuator::LeftParenthesis);
+        self.parameters(node);
+        self.punct(Punctuator::RightParenthesis);
+        self.annotation(&node.return_type);
+        self.function_body(&node.body);
     }
 
     /// Writes the body of a method, or a semicolon in its place.
@@ -318,40 +335,18 @@ impl<W: WriteJs, S: SourceMapper, C: Comments> Emitter<'_, W, S, C> {
         }
     }
 
-    /// Writes `(a) { b; }` of a method, without what TypeScript adds.
-    #[tactic(auto, unfolding(crate::specs::Functions::method_tail_parts))]
-    fn method_tail_parts<N: Held>(&mut self, node: &Function<N>)
-        ensures items { Makes (method_tail_parts N.answers N.items node.now) (standing_of S.lines C.maps W.sheet self.old) (standing_of S.lines C.maps W.sheet self.new) }
-        ensures level { Stays (standing_of S.lines C.maps W.sheet self.old) (standing_of S.lines C.maps W.sheet self.new) }
-    {
-        self.punct(Punctuator::LeftParenthesis);
-        self.parameters(node);
-        self.punct(Punctuator::RightParenthesis);
-        self.method_body(&node.body);
-    }
-
-    /// Writes `(a) { b; }` of a method, whose decorators stand elsewhere.
+    /// Writes `<A>(a): B { c; }` of a method, whose decorators stand elsewhere.
     #[tactic(auto, unfolding(crate::specs::Functions::method_tail))]
     fn method_tail<N: Held>(&mut self, node: &Function<N>)
         ensures items { Makes (method_tail N.answers N.items node.now) (standing_of S.lines C.maps W.sheet self.old) (standing_of S.lines C.maps W.sheet self.new) }
         ensures level { Stays (standing_of S.lines C.maps W.sheet self.old) (standing_of S.lines C.maps W.sheet self.new) }
     {
-        if node.type_params.is_some() || node.return_type.is_some() {
-            return self.unsupported();
-        }
-        self.method_tail_parts(node)
-    }
-
-    /// Writes `(a) { b; }`.
-    #[tactic(auto, unfolding(crate::specs::Functions::fn_trailing_parts))]
-    fn fn_trailing_parts<N: Held>(&mut self, node: &Function<N>)
-        ensures items { Makes (fn_trailing_parts N.answers N.items node.now) (standing_of S.lines C.maps W.sheet self.old) (standing_of S.lines C.maps W.sheet self.new) }
-        ensures level { Stays (standing_of S.lines C.maps W.sheet self.old) (standing_of S.lines C.maps W.sheet self.new) }
-    {
+        self.type_params(&node.type_params);
         self.punct(Punctuator::LeftParenthesis);
         self.parameters(node);
         self.punct(Punctuator::RightParenthesis);
-        self.function_body(&node.body);
+        self.annotation(&node.return_type);
+        self.method_body(&node.body);
     }
 
     /// Writes the blank after `static`.
@@ -452,6 +447,23 @@ impl<W: WriteJs, S: SourceMapper, C: Comments> Emitter<'_, W, S, C> {
         self.punct(mark)
     }
 
+    /// Writes `: A ` of `(a): A => b`, where there is a type.
+    #[tactic(auto, unfolding(crate::specs::FunctionExprs::arrow_result))]
+    fn arrow_result<N: Held>(&mut self, ty: &Option<TsTypeAnnBox<N>>)
+        ensures items { Makes (arrow_result N.items ty.now) (standing_of S.lines C.maps W.sheet self.old) (standing_of S.lines C.maps W.sheet self.new) }
+        ensures level { Stays (standing_of S.lines C.maps W.sheet self.old) (standing_of S.lines C.maps W.sheet self.new) }
+    {
+        match ty {
+            Some(node) => {
+                self.punct(Punctuator::Colon);
+                self.formatting_space();
+                node.held().emit_at(self, Place::Plain);
+                self.formatting_space()
+            }
+            None => {}
+        }
+    }
+
     /// Writes the parameters of an arrow function, with commas between.
     fn arrow_list<N: Held>(&mut self, node: &ArrowExpr<N>)
         ensures items { Makes (arrow_list N.answers N.items node.now) (standing_of S.lines C.maps W.sheet self.old) (standing_of S.lines C.maps W.sheet self.new) }
@@ -477,7 +489,7 @@ impl<W: WriteJs, S: SourceMapper, C: Comments> Emitter<'_, W, S, C> {
         ensures items { Makes (arrow_parameters N.answers N.items node.now) (standing_of S.lines C.maps W.sheet self.old) (standing_of S.lines C.maps W.sheet self.new) }
         ensures level { Stays (standing_of S.lines C.maps W.sheet self.old) (standing_of S.lines C.maps W.sheet self.new) }
     {
-        let plain = is_bare(&node.params, &self.comments);
+        let plain = is_bare_arrow(node, &self.comments);
         self.arrow_within(plain, node)
     }
 }

@@ -54,16 +54,14 @@ fn is_crowded(specifiers: &[ImportSpecifier]) -> bool
 impl EmitAt for ImportNamedSpecifier {
     ghost items = { λ n _. import_named n };
 
-    #[tactic(auto, unfolding(crate::specs::Modules::import_named, crate::specs::Modules::import_named_parts))]
+    #[tactic(auto, unfolding(crate::specs::Modules::import_named))]
     fn emit_at<W: WriteJs, S: SourceMapper, C: Comments>(
         &self,
         e: &mut Emitter<'_, W, S, C>,
         place: Place,
     ) {
-        if self.is_type_only {
-            return e.unsupported();
-        }
         e.start_of(self.span);
+        e.word_before(self.is_type_only, "type");
         e.imported_as(&self.imported);
         self.local.emit_at(e, Place::Plain);
         e.end_of(self.span);
@@ -127,12 +125,10 @@ impl<N: Held> EmitAt for ImportDecl<N> {
         if is_crowded(&self.specifiers) {
             return e.bad_shape();
         }
-        if self.type_only {
-            return e.unsupported();
-        }
         e.leading_comments(self.span.lo);
         e.start_of(self.span);
         e.keyword(None, "import");
+        e.type_word(self.type_only);
         e.phase_word(self.phase);
         e.blank(begins_default(&self.specifiers));
         e.import_tail(self);

@@ -42,17 +42,15 @@ impl<N: Held> EmitAt for JSXElement<N> {
 impl<N: Held> EmitAt for JSXOpeningElement<N> {
     ghost items = { jsx_opening_element N.answers N.items };
 
-    #[tactic(auto, unfolding(crate::specs::Jsx::jsx_opening_element, crate::specs::Jsx::opening_parts))]
+    #[tactic(auto, unfolding(crate::specs::Jsx::jsx_opening_element))]
     fn emit_at<W: WriteJs, S: SourceMapper, C: Comments>(
         &self,
         e: &mut Emitter<'_, W, S, C>,
         place: Place,
     ) {
-        if self.type_args.is_some() {
-            return e.unsupported();
-        }
         e.open_at(place, Punctuator::Less);
         self.name.emit_at(e, Place::Plain);
+        e.type_args(Place::Plain, &self.type_args);
         e.jsx_attributes(&self.attrs);
         e.self_closing(self.self_closing);
         e.close();
@@ -429,9 +427,9 @@ impl<W: WriteJs, S: SourceMapper, C: Comments> Emitter<'_, W, S, C> {
         }
     }
 
-    /// Writes the `>` of a tag.
+    /// Writes the `>` of a tag, or of a list of types.
     #[tactic(auto, using(crate::proofs::Standings::refused_makes))]
-    fn close(&mut self)
+    pub(crate) fn close(&mut self)
         ensures items { Makes close (standing_of S.lines C.maps W.sheet self.old) (standing_of S.lines C.maps W.sheet self.new) }
         ensures level { Stays (standing_of S.lines C.maps W.sheet self.old) (standing_of S.lines C.maps W.sheet self.new) }
     {

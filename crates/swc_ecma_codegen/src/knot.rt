@@ -48,7 +48,7 @@ impl Asked for AnyNode {
 impl EmitAt for AnyNode {
     ghost items = { any_items };
 
-    #[tactic(auto, using(crate::proofs::Knots::any_items_of, crate::proofs::Knots::any_items_expr, crate::proofs::Knots::any_items_stmt, crate::proofs::Knots::any_items_member_expr, crate::proofs::Knots::any_items_expr_part, crate::proofs::Knots::any_items_stmt_part, crate::proofs::Knots::any_items_jsx_part), unfolding(crate::specs::Tree::node_items))]
+    #[tactic(auto, using(crate::proofs::Knots::any_items_of, crate::proofs::Knots::any_items_expr, crate::proofs::Knots::any_items_stmt, crate::proofs::Knots::any_items_member_expr, crate::proofs::Knots::any_items_expr_part, crate::proofs::Knots::any_items_stmt_part, crate::proofs::Knots::any_items_jsx_part, crate::proofs::Knots::any_items_ts_part), unfolding(crate::specs::Tree::node_items))]
     fn emit_at<W: WriteJs, S: SourceMapper, C: Comments>(
         &self,
         e: &mut Emitter<'_, W, S, C>,
@@ -61,7 +61,7 @@ impl EmitAt for AnyNode {
             AnyNode::ExprPart(node) => node.emit_at(e, place),
             AnyNode::StmtPart(node) => node.emit_at(e, place),
             AnyNode::JSXPart(node) => node.emit_at(e, place),
-            _ => e.unsupported(),
+            AnyNode::TsPart(node) => node.emit_at(e, place),
         }
     }
 }

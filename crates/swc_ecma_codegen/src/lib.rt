@@ -1,6 +1,7 @@
 //! Prints trees of ECMAScript as text. A port of `swc_ecma_codegen`.
 #![tactic(auto)]
 
+mod annotations;
 pub mod ast;
 mod blocks;
 mod branches;
@@ -13,6 +14,7 @@ mod decl;
 mod emitter;
 mod exports;
 mod expr;
+mod fn_types;
 mod functions;
 mod imports;
 mod jsx;
@@ -36,11 +38,15 @@ mod stmt;
 mod targets;
 mod templates;
 mod tokens;
+mod ts_decls;
+mod ts_members;
+mod type_params;
+mod types;
 
 pub use crate::code::{to_code, to_code_default, to_code_with_comments};
 pub use crate::emitter::Emitter;
 pub use crate::node::Node;
-pub use swc_ecma_codegen_grammar::{Error, Result};
+pub use swc_ecma_codegen_common::{Error, Result};
 pub use swc_ecma_codegen_text_writer as text_writer;
 pub use swc_ecma_codegen_util::config::Config;
 pub use swc_ecma_codegen_util::{config, util};

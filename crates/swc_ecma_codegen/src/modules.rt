@@ -3,12 +3,14 @@
 ghost use Rattle.std.specs.Prelude.{◌≡◌};
 ghost use Rattle.swc_ecma_codegen.specs.Standing.{Makes, Stays, standing_of};
 ghost use Rattle.swc_ecma_codegen_tokens.specs.Choices.{attributes_word};
-ghost use Rattle.swc_ecma_codegen.specs.Modules.{named_format, module_export_name, from_word, as_word, star_as, module_decl_by, module_decl, module_item_by, module_item, attributes, source_end};
+ghost use Rattle.swc_ecma_codegen.specs.Modules.{named_format, module_export_name, type_word, from_word, as_word, star_as, module_decl_by, module_decl, module_item_by, module_item, attributes, source_end};
+ghost use Rattle.swc_ecma_codegen_spans.specs.Spans.{module_item_span};
+ghost use Rattle.swc_ecma_codegen.specs.Answers.{place_of};
 ghost use Rattle.swc_ecma_codegen.specs.Lists.{in_order};
 ghost use Rattle.swc_ecma_codegen.specs.Programs.{whole_module};
 
 use crate::emitter::Emitter;
-use crate::nodes::{EmitAt, Held, Place};
+use crate::nodes::{Child, EmitAt, Held, Place};
 use crate::places::module_item_place;
 use swc_ecma_codegen_common::Span;
 use swc_ecma_codegen_grammar::ListFormat;
@@ -78,6 +80,14 @@ impl<N: Held> EmitAt for ModuleItem<N> {
     }
 }
 
+impl<N: Held> Child for ModuleItem<N> {
+    ghost stands = { module_item_span (place_of N.answers) };
+
+    fn place(&self) -> Span {
+        module_item_place(self)
+    }
+}
+
 impl<N: Held> EmitAt for Module<N> {
     ghost items = { λ n _. whole_module N.answers N.items n };
 
@@ -101,6 +111,18 @@ impl<W: WriteJs, S: SourceMapper, C: Comments> Emitter<'_, W, S, C> {
         ensures level { Stays (standing_of S.lines C.maps W.sheet self.old) (standing_of S.lines C.maps W.sheet self.new) }
     {
         self.in_order(nodes)
+    }
+
+    /// Writes `type` behind a blank, where it is so.
+    #[tactic(auto, unfolding(crate::specs::Modules::type_word))]
+    pub(crate) fn type_word(&mut self, type_only: bool)
+        ensures items { Makes (type_word type_only) (standing_of S.lines C.maps W.sheet self.old) (standing_of S.lines C.maps W.sheet self.new) }
+        ensures level { Stays (standing_of S.lines C.maps W.sheet self.old) (standing_of S.lines C.maps W.sheet self.new) }
+    {
+        if type_only {
+            self.space();
+            self.keyword(None, "type");
+        }
     }
 
     /// Writes `from` and a blank.
@@ -195,9 +217,9 @@ impl<W: WriteJs, S: SourceMapper, C: Comments> Emitter<'_, W, S, C> {
             ModuleDecl::ExportDefaultDecl(node) => node.emit_at(self, Place::Plain),
             ModuleDecl::ExportDefaultExpr(node) => node.emit_at(self, Place::Plain),
             ModuleDecl::ExportAll(node) => node.emit_at(self, Place::Plain),
-            ModuleDecl::TsImportEquals(_)
-            | ModuleDecl::TsExportAssignment(_)
-            | ModuleDecl::TsNamespaceExport(_) => self.unsupported(),
+            ModuleDecl::TsImportEquals(node) => node.emit_at(self, Place::Plain),
+            ModuleDecl::TsExportAssignment(node) => node.emit_at(self, Place::Plain),
+            ModuleDecl::TsNamespaceExport(node) => node.emit_at(self, Place::Plain),
         }
     }
 

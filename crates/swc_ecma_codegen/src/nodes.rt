@@ -61,6 +61,11 @@ pub enum Place {
     ExportedTail,
     /// Between two tags: `<b/>` and `{c}` of `<a><b/>{c}</a>`
     Child,
+    /// Type arguments behind the name of a type, and the type of a getter, which leave the comments before them: `<B>` of `A<B>`, `C` of
+    /// `{ get a(): C; }`
+    Reference,
+    /// The body of a namespace behind its name: ` {}` of `namespace a {}`, `.b {}` of `namespace a.b {}`
+    Dotted,
 }
 
 /// What a node tells those above it.

@@ -65,18 +65,16 @@ impl<N: Held> EmitAt for Pat<N> {
 impl<N: Held> EmitAt for RestPat<N> {
     ghost items = { λ n _. rest_pat N.items n };
 
-    #[tactic(auto, unfolding(crate::specs::Pats::rest_pat, crate::specs::Pats::rest_pat_parts))]
+    #[tactic(auto, unfolding(crate::specs::Pats::rest_pat))]
     fn emit_at<W: WriteJs, S: SourceMapper, C: Comments>(
         &self,
         e: &mut Emitter<'_, W, S, C>,
         place: Place,
     ) {
-        if self.type_ann.is_some() {
-            return e.unsupported();
-        }
         e.leading_comments(self.span.lo);
         e.placed_punct(self.dot3_token, Punctuator::Ellipsis);
         self.arg.held().emit_at(e, Place::Plain);
+        e.annotation(&self.type_ann);
     }
 }
 
@@ -100,19 +98,18 @@ impl<N: Held> EmitAt for AssignTargetPat<N> {
 impl<N: Held> EmitAt for ArrayPat<N> {
     ghost items = { λ n _. array_pat N.answers N.items n };
 
-    #[tactic(auto, unfolding(crate::specs::Pats::array_pat, crate::specs::Pats::array_pat_parts))]
+    #[tactic(auto, unfolding(crate::specs::Pats::array_pat))]
     fn emit_at<W: WriteJs, S: SourceMapper, C: Comments>(
         &self,
         e: &mut Emitter<'_, W, S, C>,
         place: Place,
     ) {
-        if self.optional || self.type_ann.is_some() {
-            return e.unsupported();
-        }
         e.opened(self.span);
         e.punct(Punctuator::LeftBracket);
         e.array_pat_elements(self);
         e.punct(Punctuator::RightBracket);
+        e.question(self.optional);
+        e.spaced_annotation(&self.type_ann);
         e.end_of(self.span);
     }
 }
@@ -137,19 +134,18 @@ impl<N: Held> EmitAt for AssignPat<N> {
 impl<N: Held> EmitAt for ObjectPat<N> {
     ghost items = { λ n _. object_pat N.answers N.items n };
 
-    #[tactic(auto, unfolding(crate::specs::Pats::object_pat, crate::specs::Pats::object_pat_parts))]
+    #[tactic(auto, unfolding(crate::specs::Pats::object_pat))]
     fn emit_at<W: WriteJs, S: SourceMapper, C: Comments>(
         &self,
         e: &mut Emitter<'_, W, S, C>,
         place: Place,
     ) {
-        if self.optional || self.type_ann.is_some() {
-            return e.unsupported();
-        }
         e.opened(self.span);
         e.punct(Punctuator::LeftBrace);
         e.object_pat_props(self);
         e.punct(Punctuator::RightBrace);
+        e.question(self.optional);
+        e.spaced_annotation(&self.type_ann);
         e.end_of(self.span);
     }
 }

@@ -10,8 +10,8 @@ use swc_ecma_codegen_grammar::mapper::SourceMapper;
 use swc_ecma_codegen_text_writer::WriteJs;
 use swc_ecma_codegen_tree::{AssignTarget, BindingIdent, SimpleAssignTarget};
 
-impl<N> EmitAt for BindingIdent<N> {
-    ghost items = { λ n _. binding_ident n };
+impl<N: Held> EmitAt for BindingIdent<N> {
+    ghost items = { λ n _. binding_ident N.items n };
 
     #[tactic(auto, unfolding(crate::specs::Names::binding_ident))]
     fn emit_at<W: WriteJs, S: SourceMapper, C: Comments>(
@@ -19,10 +19,8 @@ impl<N> EmitAt for BindingIdent<N> {
         e: &mut Emitter<'_, W, S, C>,
         place: Place,
     ) {
-        if self.type_ann.is_some() {
-            return e.unsupported();
-        }
-        self.id.emit_at(e, place)
+        self.id.emit_at(e, place);
+        e.annotation(&self.type_ann);
     }
 }
 

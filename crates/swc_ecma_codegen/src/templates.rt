@@ -4,6 +4,8 @@ ghost use Rattle.std.specs.Prelude.{◌≡◌, true};
 ghost use Rattle.swc_ecma_codegen_grammar.specs.TemplatePhrases.{is_counted, part_before};
 ghost use Rattle.swc_ecma_codegen.specs.Standing.{Makes, Stays, standing_of};
 ghost use Rattle.swc_ecma_codegen_tokens.specs.Templates.{tpl_element};
+ghost use Rattle.swc_ecma_codegen.specs.Lists.{plainly};
+ghost use Rattle.swc_ecma_codegen.specs.Exprs.{held};
 ghost use Rattle.swc_ecma_codegen.specs.Templates.{tpl_rest, tpl_parts, bad_shape, tpl, is_tagged, tagged_tpl};
 
 use crate::emitter::Emitter;
@@ -37,11 +39,11 @@ fn part_before(tagged: bool, quasis: &[TplElement]) -> TemplatePart
     }
 }
 
-/// Whether there is one part more than expressions.
-fn is_counted<N>(exprs: &[ExprBox<N>], quasis: &[TplElement]) -> bool
-    ensures { result ≡ is_counted exprs.now quasis.now }
+/// Whether there is one part more than expressions, or types.
+pub(crate) fn is_counted<T>(nodes: &[T], quasis: &[TplElement]) -> bool
+    ensures { result ≡ is_counted nodes.now quasis.now }
 {
-    !quasis.is_empty() && quasis.len() - 1 == exprs.len()
+    !quasis.is_empty() && quasis.len() - 1 == nodes.len()
 }
 
 impl<N: Held> EmitAt for Tpl<N> {
@@ -58,7 +60,7 @@ impl<N: Held> EmitAt for Tpl<N> {
         }
         e.leading_comments(self.span.lo);
         e.start_of(self.span);
-        e.tpl_parts(is_tagged(place), &self.exprs, &self.quasis);
+        e.tpl_exprs(is_tagged(place), &self.exprs, &self.quasis);
         e.end_of(self.span);
     }
 }
@@ -66,18 +68,16 @@ impl<N: Held> EmitAt for Tpl<N> {
 impl<N: Held> EmitAt for TaggedTpl<N> {
     ghost items = { λ n _. tagged_tpl N.items n };
 
-    #[tactic(auto, unfolding(crate::specs::Templates::tagged_tpl, crate::specs::Templates::tagged_tpl_parts))]
+    #[tactic(auto, unfolding(crate::specs::Templates::tagged_tpl))]
     fn emit_at<W: WriteJs, S: SourceMapper, C: Comments>(
         &self,
         e: &mut Emitter<'_, W, S, C>,
         place: Place,
     ) {
-        if self.type_params.is_some() {
-            return e.unsupported();
-        }
         e.leading_comments(self.span.lo);
         e.start_of(self.span);
         self.tag.held().emit_at(e, Place::Callee);
+        e.type_args(Place::Plain, &self.type_params);
         self.tpl.held().emit_at(e, Place::Tagged);
         e.end_of(self.span);
     }
@@ -117,18 +117,18 @@ impl<W: WriteJs, S: SourceMapper, C: Comments> Emitter<'_, W, S, C> {
         );
     }
 
-    /// Writes the parts of a template after the first, each behind an expression.
+    /// Writes the parts of a template after the first, each behind an expression, or a type.
     #[tactic(auto, using(crate::proofs::Steps::tpl_next), unfolding(crate::specs::Templates::tpl_rest))]
-    fn tpl_rest<N: Held>(&mut self, tagged: bool, exprs: &[ExprBox<N>], quasis: &[TplElement])
-        ensures items { Makes (tpl_rest N.items tagged exprs.now quasis.now) (standing_of S.lines C.maps W.sheet self.old) (standing_of S.lines C.maps W.sheet self.new) }
+    fn tpl_rest<T: EmitAt>(&mut self, tagged: bool, nodes: &[T], quasis: &[TplElement])
+        ensures items { Makes (tpl_rest (plainly T.items) tagged nodes.now quasis.now) (standing_of S.lines C.maps W.sheet self.old) (standing_of S.lines C.maps W.sheet self.new) }
         ensures level { Stays (standing_of S.lines C.maps W.sheet self.old) (standing_of S.lines C.maps W.sheet self.new) }
     {
         let mut left = quasis;
-        for expr in exprs {
+        for node in nodes {
             let Some((quasi, others)) = left.split_first() else {
                 return;
             };
-            expr.held().emit_at(self, Place::Plain);
+            node.emit_at(self, Place::Plain);
             self.tpl_element(false, part_before(tagged, others), quasi);
             left = others;
         }
@@ -136,16 +136,24 @@ impl<W: WriteJs, S: SourceMapper, C: Comments> Emitter<'_, W, S, C> {
 
     /// Writes the parts of a template.
     #[tactic(auto, unfolding(crate::specs::Templates::tpl_parts))]
-    fn tpl_parts<N: Held>(&mut self, tagged: bool, exprs: &[ExprBox<N>], quasis: &[TplElement])
-        ensures items { Makes (tpl_parts N.items tagged exprs.now quasis.now) (standing_of S.lines C.maps W.sheet self.old) (standing_of S.lines C.maps W.sheet self.new) }
+    pub(crate) fn tpl_parts<T: EmitAt>(&mut self, tagged: bool, nodes: &[T], quasis: &[TplElement])
+        ensures items { Makes (tpl_parts (plainly T.items) tagged nodes.now quasis.now) (standing_of S.lines C.maps W.sheet self.old) (standing_of S.lines C.maps W.sheet self.new) }
         ensures level { Stays (standing_of S.lines C.maps W.sheet self.old) (standing_of S.lines C.maps W.sheet self.new) }
     {
         match quasis {
             [quasi, quasis @ ..] => {
                 self.tpl_element(true, part_before(tagged, quasis), quasi);
-                self.tpl_rest(tagged, exprs, quasis)
+                self.tpl_rest(tagged, nodes, quasis)
             }
             [] => {}
         }
+    }
+
+    /// Writes the parts of a template, with expressions between.
+    fn tpl_exprs<N: Held>(&mut self, tagged: bool, exprs: &[ExprBox<N>], quasis: &[TplElement])
+        ensures items { Makes (tpl_parts (held N.items) tagged exprs.now quasis.now) (standing_of S.lines C.maps W.sheet self.old) (standing_of S.lines C.maps W.sheet self.new) }
+        ensures level { Stays (standing_of S.lines C.maps W.sheet self.old) (standing_of S.lines C.maps W.sheet self.new) }
+    {
+        self.tpl_parts(tagged, exprs, quasis)
     }
 }

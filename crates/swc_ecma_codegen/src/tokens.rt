@@ -478,7 +478,7 @@ impl<W: WriteJs, S: SourceMapper, C: Comments> Emitter<'_, W, S, C> {
     /// Writes a punctuator between two blanks.
     #[inline(never)]
     #[tactic(auto, using(crate::proofs::Standings::refused_makes))]
-    fn punct_between(&mut self, mark: Punctuator)
+    pub(crate) fn punct_between(&mut self, mark: Punctuator)
         ensures items { Makes (punct_between (spelling mark)) (standing_of S.lines C.maps W.sheet self.old) (standing_of S.lines C.maps W.sheet self.new) }
         ensures level { Stays (standing_of S.lines C.maps W.sheet self.old) (standing_of S.lines C.maps W.sheet self.new) }
     {

@@ -1,11 +1,12 @@
 //! What is printed of a tree with comments.
 
-use crate::looks::{Answers, Page, Texts, look};
+use crate::looks::{Answers, Emission, Page, Texts, look};
 use crate::reading::{MINIFIED, Manner, PRETTY, SHORT, comments_read};
-use crate::remarks::{remarks_of, taken, told};
+use crate::remarks::{BETWEEN, Remark, remarks_of, taken, told};
 use crate::sources::source_of;
 use crate::steps::Tree;
 use std::alloc::{AllocError, Global};
+use swc_ecma_codegen_common::Error;
 
 /// What a row with comments wants: these comments are left; and these texts, with blanks, without, and without semicolons too,
 /// or `…` where none is asked for.
@@ -129,7 +130,72 @@ pub fn has_places(
                 texts: Ok(found),
                 ..
             },
-        ) => Ok(found.pretty.text.as_slice() == text.as_bytes() && found.places.as_str() == places),
+        ) => Ok(
+            found.pretty.text.as_slice() == text.as_bytes()
+                && is_whole(&found.reserved, text, places),
+        ),
+        _ => Ok(false),
+    }
+}
+
+/// Whether an emission was whole, with this text and these positions.
+fn is_whole(emission: &Emission, text: &str, places: &str) -> bool {
+    emission.answer.is_ok()
+        && emission.next.is_ok()
+        && emission.page.text.as_slice() == text.as_bytes()
+        && emission.places.as_str() == places
+}
+
+/// Whether memory was refused in an emission: with a beginning of this text and of these positions, an emission of nothing fails
+/// then, and the comments that were written are taken.
+fn is_beginning(
+    alloc: Global,
+    emission: &Emission,
+    remarks: &[Remark],
+    text: &str,
+    places: &str,
+) -> Result<bool, AllocError> {
+    let (Some(left), Ok(written)) = (
+        remarks_of(alloc, &emission.page.left)?,
+        std::str::from_utf8(&emission.page.text),
+    ) else {
+        return Ok(false);
+    };
+    let all = taken(alloc, remarks, &[])?;
+    let taken = taken(alloc, remarks, &left)?;
+    let mut holds = matches!(&emission.answer, Err(Error::OutOfMemory))
+        && matches!(&emission.next, Err(Error::Failed))
+        && text.starts_with(written)
+        && places.starts_with(emission.places.as_str());
+    for comment in all.split(BETWEEN) {
+        holds = holds && (!written.contains(comment) || taken.contains(comment));
+    }
+    Ok(holds)
+}
+
+/// Whether a tree with these comments has this text and these positions over a writer whose room is reserved, or else, where
+/// memory is refused, a beginning of them. Without comments, and so without positions, nothing is asked for that could be refused.
+pub fn has_beginning(
+    alloc: Global,
+    tree: &Tree,
+    comments: &str,
+    [text, places]: [&str; 2],
+) -> Result<bool, AllocError> {
+    let Some(remarks) = remarks_of(alloc, comments)? else {
+        return Ok(false);
+    };
+    let source = source_of(alloc, "apart", None)?;
+    match look(alloc, &source, tree.json.as_bytes(), &remarks) {
+        Ok(
+            Answers {
+                texts: Ok(found),
+                ..
+            },
+        ) => Ok(
+            is_whole(&found.reserved, text, places)
+                || (!remarks.is_empty()
+                    && is_beginning(alloc, &found.reserved, &remarks, text, places)?),
+        ),
         _ => Ok(false),
     }
 }

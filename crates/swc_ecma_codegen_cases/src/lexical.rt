@@ -41,6 +41,8 @@ pub fn holds(alloc: Global, word: &str, rest: &[String]) -> Result<bool, Error> 
             | "without_separators",
             _,
         ) => { spellings::holds(alloc, word, rest) }
+        ("counts", _) => writers::holds_counted(alloc, rest),
+        ("reserves", _) => writers::holds_reserved(alloc, rest),
         ("writes" | "omits", _) => writers::holds(alloc, word, rest),
         ("gap" | "gap_after" | "number_class" | "mark_start", _) => Ok(gaps::holds(word, rest)),
         _ => sweeps::holds(alloc, word, rest),

@@ -6,12 +6,12 @@ use crate::writers::told_by;
 use std::alloc::Global;
 use swc_ecma_codegen::nodes::Held;
 use swc_ecma_codegen::{Config, Emitter, Node, to_code, to_code_default, to_code_with_comments};
-use swc_ecma_codegen_common::Error;
+use swc_ecma_codegen_common::{BytePos, Error, LineCol};
 use swc_ecma_codegen_grammar::comments::CommentMaps;
 use swc_ecma_codegen_json::{ReadError, Tree, program_from_slice};
 use swc_ecma_codegen_spans::Spanned;
 use swc_ecma_codegen_text_writer::{JsWriter, WriteJs, omit_trailing_semi};
-use swc_ecma_codegen_tree::{AnyNode, Expr, Holds, Lit, Program, Stmt};
+use swc_ecma_codegen_tree::{AnyNode, Expr, Holds, Ident, Lit, Program, Stmt};
 use swc_ecma_codegen_validate::{Fits, WellFormed};
 
 /// What links hold. All but [`look`] and what looks at depths is made for any of it, which costs a check less than to make it
@@ -41,9 +41,24 @@ pub struct Texts {
     pub minified: Page,
     /// Without blanks, and without semicolons that aren't needed.
     pub short: Page,
-    /// The positions that are recorded with blanks, where there are comments.
+    pub reserved: Emission,
+}
+
+/// An emission with blanks over a writer whose room was reserved before: with comments and positions, and in ASCII, or with none of
+/// these where there are no comments.
+#[derive(Drop)]
+pub struct Emission {
+    pub answer: Result<(), Error>,
+    /// What an emission of nothing answered then.
+    pub next: Result<(), Error>,
+    pub page: Page,
+    /// The positions that were recorded.
     pub places: String,
 }
+
+/// How many bytes are reserved for a text. Nothing else asks for as many: so scripts/refuse-memory sees where an emission begins,
+/// and where it has ended.
+pub const ROOM: usize = 4099;
 
 /// What a program answers.
 #[derive(Drop)]
@@ -191,20 +206,73 @@ fn page_of<P: Node>(
     })
 }
 
-/// The positions that are recorded of a program with comments; nothing where there are none.
-fn places_of<P: Node>(
+/// Prints a program to a writer, and then nothing, notes the answers, and gives the writer back. It is printed in ASCII where there
+/// are comments, which takes memory for some names.
+fn answered_on<P: Node, W: WriteJs + Drop>(
+    alloc: Global,
+    source: &Source,
+    tree: &P,
+    comments: Option<&mut CommentMaps>,
+    emission: &mut Emission,
+    wr: W,
+) -> W {
+    let config = Config::default().with_ascii_only(comments.is_some());
+    let mut emitter = Emitter::new(alloc, config, source, comments, wr);
+    emission.answer = tree.emit_with(&mut emitter);
+    emission.next = None::<Ident>.emit_with(&mut emitter);
+    emitter.wr
+}
+
+/// The text of a program over a writer whose room is reserved. The answers are noted.
+fn reserved_text<P: Node>(
+    alloc: Global,
+    source: &Source,
+    tree: &P,
+    comments: Option<&mut CommentMaps>,
+    pairs: Option<&mut Vec<(BytePos, LineCol)>>,
+    emission: &mut Emission,
+) -> Result<Vec<u8>, Error> {
+    let room = Vec::with_capacity(alloc, ROOM)?;
+    let wr = JsWriter::new(alloc, source, "\n", room, pairs);
+    let wr = answered_on(alloc, source, tree, comments, emission, wr);
+    let text = wr.into_inner();
+    let _ended: Vec<u8> = Vec::with_capacity(alloc, ROOM)?;
+    Ok(text)
+}
+
+/// The emission of a program over such a writer.
+fn reserved_of<P: Node>(
     alloc: Global,
     source: &Source,
     tree: &P,
     remarks: &[Remark],
-) -> Result<String, Error> {
-    let mut pairs = Vec::new(alloc);
-    if !remarks.is_empty() {
+) -> Result<Emission, Error> {
+    let mut emission = Emission {
+        answer: Ok(()),
+        next: Ok(()),
+        page: Page {
+            text: Vec::new(alloc),
+            left: String::new(alloc),
+        },
+        places: String::new(alloc),
+    };
+    if remarks.is_empty() {
+        emission.page.text = reserved_text(alloc, source, tree, None, None, &mut emission)?;
+    } else {
         let mut maps = maps_of(alloc, remarks)?;
-        let wr = JsWriter::new(alloc, source, "\n", Vec::new(alloc), Some(&mut pairs));
-        printed_on(alloc, source, Config::default(), tree, Some(&mut maps), wr)?;
+        let mut pairs = Vec::new(alloc);
+        emission.page.text = reserved_text(
+            alloc,
+            source,
+            tree,
+            Some(&mut maps),
+            Some(&mut pairs),
+            &mut emission,
+        )?;
+        emission.page.left = left_in(alloc, remarks, &mut maps)?;
+        emission.places = told_by(alloc, &pairs)?;
     }
-    Ok(told_by(alloc, &pairs)?)
+    Ok(emission)
 }
 
 fn texts_of<N: Printed>(
@@ -222,7 +290,7 @@ fn texts_of<N: Printed>(
         pretty: page_of(alloc, source, tree, Layout::Pretty, remarks)?,
         minified: page_of(alloc, source, tree, Layout::Minified, remarks)?,
         short: page_of(alloc, source, tree, Layout::Short, remarks)?,
-        places: places_of(alloc, source, tree, remarks)?,
+        reserved: reserved_of(alloc, source, tree, remarks)?,
     })
 }
 

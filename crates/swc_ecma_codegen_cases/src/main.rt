@@ -1,6 +1,6 @@
 //! Goes through the table on standard input: what is printed of trees, and what isn't read or printed; then what the
 //! lexical grammar, the spellings, the formats of lists, the writers and the gaps between tokens must answer. Prints the
-//! rows that don't hold, and how many rows there are.
+//! rows that don't hold, which say what was wanted, what came of their trees, and how many rows there are.
 //!
 //! A row is a word and its fields, with a tab between. `‹e9›` stands for the character of that code, `‹3×ab›` for
 //! `ababab`, `‹›` for no text. In JSON `~` stands for a span that stands nowhere, and `@` for the expression `a`. Lines
@@ -16,10 +16,13 @@
 //! with `¦` between: `before 3 /* b */¦after 5~8-12 // c`, of which the second stands from 8 to 12 in its source text. They are in
 //! the order in which they are taken; those that aren't are given again.
 //! A row `sweep` says of a tree how many texts read back with comments at each place of it, each node having a place of its own.
+//! A row `reserved` has the text of a tree, and its positions where it has comments, over a writer whose room is reserved; a beginning
+//! of both serves where memory is refused (scripts/refuse-memory).
 //! A row `literal` says of one, in JSON, which tokens it is, and its texts with the words of each column of `literals`.
 #![tactic(auto)]
 
 mod between;
+mod came;
 mod commented;
 mod depths;
 mod everywhere;
@@ -46,6 +49,7 @@ mod trees;
 mod values;
 mod writers;
 
+use crate::came::came;
 use crate::rows::holds;
 use crate::steps::steps;
 use std::io;
@@ -62,6 +66,9 @@ fn main(rt: HostRuntime) -> io::Result<()> {
             if !holds(alloc, &steps, line).unwrap_or(false) {
                 failed = failed.saturating_add(1);
                 println!(rt; "{line}")?;
+                for answer in came(alloc, &steps, line)? {
+                    println!(rt; "{answer}")?;
+                }
             }
         }
     }

@@ -2,9 +2,9 @@
 
 use crate::fields::is_yes;
 use std::alloc::Global;
-use swc_ecma_codegen_common::{Decimal, Error};
-use swc_ecma_codegen_grammar::{BigInt, DUMMY_SP, Radix};
+use swc_ecma_codegen_common::{DUMMY_SP, Decimal, Error};
 use swc_ecma_codegen_literals::{big_integer_text, minified_number, plain_number};
+use swc_ecma_codegen_tree::{BigInt, Radix};
 
 /// The decimal of a sign, digits and an exponent, where they are those of one.
 fn decimal_of(

@@ -34,9 +34,10 @@ pub fn holds(alloc: Global, steps: &[Step], line: &str) -> Result<bool, Error> {
         ("prints" | "over", [given, words, rest @ ..]) => {
             Ok(of_steps(alloc, steps, word, words, given, rest)?)
         }
-        ("commented" | "commented_node" | "commented_places", [words, comments, rest @ ..]) => Ok(
-            of_comments(alloc, steps, word, words, comments, rest)?,
-        ),
+        (
+            "commented" | "commented_node" | "commented_places" | "reserved",
+            [words, comments, rest @ ..],
+        ) => Ok(of_comments(alloc, steps, word, words, comments, rest)?),
         (
             "tree" | "script" | "malformed" | "well_formed" | "node" | "commas" | "sweep",
             [words, rest @ ..],
@@ -49,7 +50,7 @@ pub fn holds(alloc: Global, steps: &[Step], line: &str) -> Result<bool, Error> {
 }
 
 /// What the steps of a row make, by how its word begins, and the rest of that word.
-fn made_by(word: &str) -> (Made, &str) {
+pub fn made_by(word: &str) -> (Made, &str) {
     if let Some(rest) = word.strip_prefix("script_") {
         return (Made::Statements, rest);
     }
@@ -109,6 +110,9 @@ fn of_comments(
             commented::has_texts(alloc, &tree, comments, wanted)
         }
         ("commented_node", [text]) => commented::has_node_text(alloc, &tree, comments, text),
+        ("reserved", [text, places]) => {
+            commented::has_beginning(alloc, &tree, comments, [text, places])
+        }
         ("commented_places", [text, places]) => {
             commented::has_places(alloc, &tree, comments, [text, places])
         }

@@ -3,21 +3,43 @@
 use std::alloc::{AllocError, Global};
 use swc_ecma_codegen_tool::run;
 
-/// Whether a run with these words, with blanks between, on this input answers with this status, text and lines.
-pub fn answers(
-    alloc: Global,
-    words: &str,
-    mut input: &[u8],
-    (status, text, lines): (u8, &str, &str),
-) -> Result<bool, AllocError> {
+/// What a run leaves behind: its status, and what it wrote to standard output and to standard error.
+#[derive(Drop)]
+pub struct Ran {
+    pub status: u8,
+    pub text: Vec<u8>,
+    pub lines: Vec<u8>,
+}
+
+/// A run with these words, with blanks between, on this input.
+pub fn ran(alloc: Global, words: &str, mut input: &[u8]) -> Result<Ran, AllocError> {
     let mut given = Vec::new(alloc);
     for word in words.split_ascii_whitespace() {
         given.push(String::from_str(alloc, word)?)?;
     }
-    let mut out = Vec::new(alloc);
-    let mut err = Vec::new(alloc);
-    let answer = run(alloc, &given, &mut input, &mut out, &mut err);
-    Ok(answer == status && out.as_slice() == text.as_bytes() && err.as_slice() == lines.as_bytes())
+    let mut text = Vec::new(alloc);
+    let mut lines = Vec::new(alloc);
+    let status = run(alloc, &given, &mut input, &mut text, &mut lines);
+    Ok(Ran {
+        status,
+        text,
+        lines,
+    })
+}
+
+/// Whether such a run answers with this status, text and lines.
+pub fn answers(
+    alloc: Global,
+    words: &str,
+    input: &[u8],
+    (status, text, lines): (u8, &str, &str),
+) -> Result<bool, AllocError> {
+    let ran = ran(alloc, words, input)?;
+    Ok(
+        ran.status == status
+            && ran.text.as_slice() == text.as_bytes()
+            && ran.lines.as_slice() == lines.as_bytes(),
+    )
 }
 
 /// Whether a run prints this text of a tree, with these words; of one that isn't well-formed only with `--any`.

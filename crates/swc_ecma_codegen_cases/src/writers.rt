@@ -1,7 +1,12 @@
 //! What the writers write of calls, and which positions they record.
 
+ghost use Rattle.std.specs.Prelude.{None};
+
 use crate::gaps::mark_of;
+use crate::looks::ROOM;
 use std::alloc::{AllocError, Global};
+use std::io;
+use std::io::Write;
 use swc_ecma_codegen_common::{BytePos, Error, LineCol, Result as Answer, Span};
 use swc_ecma_codegen_text_writer::{JsWriter, WriteJs, omit_trailing_semi};
 
@@ -28,6 +33,85 @@ pub fn holds(alloc: Global, word: &str, rest: &[String]) -> Result<bool, Error> 
         }
     }
     Ok(true)
+}
+
+/// Whether a writer that keeps no positions, over room that is reserved, makes of these calls this text. It asks for no memory.
+pub fn holds_reserved(alloc: Global, rest: &[String]) -> Result<bool, Error> {
+    let [calls @ .., text] = rest else {
+        return Ok(false);
+    };
+    let room = Vec::with_capacity(alloc, ROOM)?;
+    let mut wr = JsWriter::new(alloc, &(), "\r\n", room, None);
+    let mut all = true;
+    for call in calls {
+        all = make_ahead(&mut wr, call).is_ok() && all;
+    }
+    let _ended: Vec<u8> = Vec::with_capacity(alloc, ROOM)?;
+    Ok(all && wr.into_inner().as_slice() == text.as_bytes())
+}
+
+/// Takes all that is written, and keeps nothing.
+#[derive(Drop)]
+struct Drain {}
+
+impl Write for Drain {
+    ghost contents = { λ _. None };
+
+    fn write(&mut self, buf: &[u8]) -> io::Result<usize> {
+        Ok(buf.len())
+    }
+
+    fn flush(&mut self) -> io::Result<()> {
+        Ok(())
+    }
+}
+
+/// Makes the indentation so many levels deeper.
+fn deepen<W: WriteJs>(wr: &mut W, levels: u32) -> Answer {
+    for _ in 0..levels {
+        wr.increase_indent()?;
+    }
+    Ok(())
+}
+
+/// Makes a call as often as it says: that of `3×text a` three times.
+fn make_often<W: WriteJs>(wr: &mut W, call: &str) -> Answer {
+    let (times, call) = call.split_once('×').unwrap_or(("1", call));
+    let times = times.parse().unwrap_or(0);
+    if call == "deeper" {
+        return deepen(wr, times);
+    }
+    for _ in 0..times {
+        make(wr, call)?;
+    }
+    Ok(())
+}
+
+/// Makes calls until one is refused, and one more.
+fn make_all<W: WriteJs>(wr: &mut W, calls: &[String]) -> [Answer; 2] {
+    let mut answer = Ok(());
+    for call in calls {
+        if answer.is_ok() {
+            answer = make_often(wr, call);
+        }
+    }
+    [answer, wr.write_str("")]
+}
+
+/// Whether a writer records these pairs of calls, and then refuses the last of them, since a place or the indentation is too
+/// large, and each further one. See scripts/try-places.
+pub fn holds_counted(alloc: Global, rest: &[String]) -> Result<bool, Error> {
+    let [calls @ .., told] = rest else {
+        return Ok(false);
+    };
+    let mut pairs = Vec::new(alloc);
+    let mut wr = JsWriter::new(alloc, &(), "\n", Drain {}, Some(&mut pairs));
+    let answers = make_all(&mut wr, calls);
+    let _ = wr.into_inner();
+    Ok(
+        matches!(&answers, [Err(Error::PositionTooLarge), Err(Error::Failed)])
+            && told_by(alloc, &pairs)?.as_str() == told.as_str(),
+    )
 }
 
 /// What a writer makes of calls.

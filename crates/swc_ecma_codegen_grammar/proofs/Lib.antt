@@ -15,6 +15,10 @@ pub mod MappedPats
 pub mod MappedProps
 pub mod MappedStmts
 pub mod MappedTemplates
+pub mod MappedTypes
+pub mod MappedTsMembers
+pub mod MappedTsDecls
+pub mod MappedNamespaces
 pub mod MappedClasses
 pub mod MappedModules
 pub mod MappedCalls

@@ -13,6 +13,7 @@ use Rattle.swc_ecma_codegen_tree.specs.declared.exprs.Callee.TheVariants as call
 use Rattle.swc_ecma_codegen_tree.specs.declared.exprs.NewExpr.{NewExpr}
 use Rattle.swc_ecma_codegen_tree.specs.declared.exprs.OptCall.{OptCall}
 use Rattle.swc_ecma_codegen_tree.specs.declared.parts.ExprPart.TheVariants as expr_parts
+use Rattle.swc_ecma_codegen_grammar.specs.AnnotationPhrases.{type_args}
 use Rattle.swc_ecma_codegen_grammar.specs.Phrases.{Phrase, Never, ◌>◌, word, mark, listed}
 use Rattle.swc_ecma_codegen_grammar.specs.declared.roles.Role.{Role}
 use Rattle.swc_ecma_codegen_grammar.specs.declared.roles.Role.TheVariants.{Expression, ChainCall}
@@ -51,13 +52,13 @@ unfolding node_phrase expr array_lit expr_or_spread
 array_lit_mapped g f n = bracketed_mapped _ _ f (λ x. f (g x)) refl (λ x. refl) (λ x. refl) n.elems.items
 
 call_by : {X Y : Type 0} (g : X → Y) (f : Y → Role → Phrase) (n : CallExpr X) (c : Callee X) (type_args : Option (TsTypeParamInstantiationBox X)) → node_phrase f (map-AnyNode X Y g (nodes.Expr (exprs.Call (record n { callee = c; type_args = type_args })))) Expression ≡ call_expr (λ x. f (g x)) (record n { callee = c; type_args = type_args })
-unfolding node_phrase expr call_expr callee expr_or_spread
-call_by g f n (callees.Super c) None = ap (λ p. word (codes "super") > p) (arguments_mapped _ f (λ x. f (g x)) (λ x. refl) n.args.items)
-call_by g f n (callees.Import c) None = ap (λ p. import_callee c > p) (arguments_mapped _ f (λ x. f (g x)) (λ x. refl) n.args.items)
-call_by g f n (callees.Expr c) None = ap (λ p. callee_at (λ x. f (g x)) c > p) (arguments_mapped _ f (λ x. f (g x)) (λ x. refl) n.args.items)
-call_by g f n (callees.Super c) (Some t) = refl
-call_by g f n (callees.Import c) (Some t) = refl
-call_by g f n (callees.Expr c) (Some t) = refl
+unfolding node_phrase expr call_expr callee expr_or_spread type_args
+call_by g f n (callees.Super c) None = ap (λ p. word (codes "super") > type_args (λ x. f (g x)) None > p) (arguments_mapped _ f (λ x. f (g x)) (λ x. refl) n.args.items)
+call_by g f n (callees.Super c) (Some t) = ap (λ p. word (codes "super") > type_args (λ x. f (g x)) (Some t) > p) (arguments_mapped _ f (λ x. f (g x)) (λ x. refl) n.args.items)
+call_by g f n (callees.Import c) None = ap (λ p. import_callee c > type_args (λ x. f (g x)) None > p) (arguments_mapped _ f (λ x. f (g x)) (λ x. refl) n.args.items)
+call_by g f n (callees.Import c) (Some t) = ap (λ p. import_callee c > type_args (λ x. f (g x)) (Some t) > p) (arguments_mapped _ f (λ x. f (g x)) (λ x. refl) n.args.items)
+call_by g f n (callees.Expr c) None = ap (λ p. callee_at (λ x. f (g x)) c > type_args (λ x. f (g x)) None > p) (arguments_mapped _ f (λ x. f (g x)) (λ x. refl) n.args.items)
+call_by g f n (callees.Expr c) (Some t) = ap (λ p. callee_at (λ x. f (g x)) c > type_args (λ x. f (g x)) (Some t) > p) (arguments_mapped _ f (λ x. f (g x)) (λ x. refl) n.args.items)
 
 pub call_mapped : {X Y : Type 0} (g : X → Y) (f : Y → Role → Phrase) (n : CallExpr X) → node_phrase f (map-AnyNode X Y g (nodes.Expr (exprs.Call n))) Expression ≡ call_expr (λ x. f (g x)) n
 call_mapped g f n = call_by g f n n.callee n.type_args
@@ -68,19 +69,19 @@ phrase_in f keeps (nodes.Expr n) = expr_in f keeps n
 phrase_in f keeps n = Never
 
 new_by : {X Y : Type 0} (g : X → Y) (f : Y → Role → Phrase) (keeps : Bool) (n : NewExpr X) (args : Option (Vec (ExprOrSpread X) Global)) (type_args : Option (TsTypeParamInstantiationBox X)) → phrase_in f keeps (map-AnyNode X Y g (nodes.Expr (exprs.New (record n { args = args; type_args = type_args })))) ≡ new_expr (λ x. f (g x)) keeps (record n { args = args; type_args = type_args })
-unfolding expr_in new_expr new_arguments expr_or_spread
+unfolding expr_in new_expr new_arguments expr_or_spread type_args
 new_by g f keeps n None None = refl
-new_by g f keeps n (Some args) None = ap (λ p. word (codes "new") > value_at (λ x. f (g x)) n.callee > p) (listed_arguments_mapped _ f (λ x. f (g x)) (λ x. refl) keeps args.items)
+new_by g f keeps n (Some args) None = ap (λ p. word (codes "new") > value_at (λ x. f (g x)) n.callee > type_args (λ x. f (g x)) None > p) (listed_arguments_mapped _ f (λ x. f (g x)) (λ x. refl) keeps args.items)
 new_by g f keeps n None (Some t) = refl
-new_by g f keeps n (Some args) (Some t) = refl
+new_by g f keeps n (Some args) (Some t) = ap (λ p. word (codes "new") > value_at (λ x. f (g x)) n.callee > type_args (λ x. f (g x)) (Some t) > p) (listed_arguments_mapped _ f (λ x. f (g x)) (λ x. refl) keeps args.items)
 
 pub new_mapped : {X Y : Type 0} (g : X → Y) (f : Y → Role → Phrase) (keeps : Bool) (n : NewExpr X) → phrase_in f keeps (map-AnyNode X Y g (nodes.Expr (exprs.New n))) ≡ new_expr (λ x. f (g x)) keeps n
 new_mapped g f keeps n = new_by g f keeps n n.args n.type_args
 
 chain_call_by : {X Y : Type 0} (g : X → Y) (f : Y → Role → Phrase) (optional : Bool) (n : OptCall X) (type_args : Option (TsTypeParamInstantiationBox X)) → node_phrase f (map-AnyNode X Y g (nodes.ExprPart (expr_parts.OptCall (record n { type_args = type_args })))) (ChainCall optional) ≡ chain_call (λ x. f (g x)) optional (record n { type_args = type_args })
-unfolding node_phrase expr_part chain_call expr_or_spread
-chain_call_by g f optional n None = ap (λ p. callee_at (λ x. f (g x)) n.callee > call_mark optional > p) (arguments_mapped _ f (λ x. f (g x)) (λ x. refl) n.args.items)
-chain_call_by g f optional n (Some t) = refl
+unfolding node_phrase expr_part chain_call expr_or_spread type_args
+chain_call_by g f optional n None = ap (λ p. callee_at (λ x. f (g x)) n.callee > call_mark optional > type_args (λ x. f (g x)) None > p) (arguments_mapped _ f (λ x. f (g x)) (λ x. refl) n.args.items)
+chain_call_by g f optional n (Some t) = ap (λ p. callee_at (λ x. f (g x)) n.callee > call_mark optional > type_args (λ x. f (g x)) (Some t) > p) (arguments_mapped _ f (λ x. f (g x)) (λ x. refl) n.args.items)
 
 pub chain_call_mapped : {X Y : Type 0} (g : X → Y) (f : Y → Role → Phrase) (optional : Bool) (n : OptCall X) → node_phrase f (map-AnyNode X Y g (nodes.ExprPart (expr_parts.OptCall n))) (ChainCall optional) ≡ chain_call (λ x. f (g x)) optional n
 chain_call_mapped g f optional n = chain_call_by g f optional n n.type_args

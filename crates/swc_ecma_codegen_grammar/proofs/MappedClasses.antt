@@ -23,7 +23,8 @@ use Rattle.swc_ecma_codegen_tree.specs.declared.classes.PrivateProp.{PrivateProp
 use Rattle.swc_ecma_codegen_tree.specs.declared.decls.Decorator.{Decorator}
 use Rattle.swc_ecma_codegen_tree.specs.declared.decls.Param.{Param}
 use Rattle.swc_ecma_codegen_tree.specs.declared.decls.Function as functions
-use Rattle.swc_ecma_codegen_grammar.specs.Phrases.{Phrase, Never, ◌>◌, mark, word, listed, in_order}
+use Rattle.swc_ecma_codegen_grammar.specs.AnnotationPhrases.{annotation, type_args, type_params}
+use Rattle.swc_ecma_codegen_grammar.specs.Phrases.{Phrase, Never, ◌>◌, mark, word, listed, in_order, where_}
 use Rattle.swc_ecma_codegen_grammar.specs.declared.roles.Role.{Role}
 use Rattle.swc_ecma_codegen_grammar.specs.declared.roles.Role.TheVariants.{ClassHead, ClassTail, Member, MethodDecorators, MethodTail, AccessorTail}
 use Rattle.swc_ecma_codegen_grammar.specs.PatPhrases.{initializer}
@@ -49,13 +50,15 @@ unfolding node_phrase stmt_part method_decorators decorator
 method_decorators_mapped g f b = decorators_mapped _ f (λ x. f (g x)) (λ n. refl) b.value.decorators.items
 
 tail_by : {X Y : Type 0} (g : X → Y) (f : Y → Role → Phrase) (b : Box (functions.Function X) Global) (n : functions.Function X) (body : Option (BlockStmtBox X)) (type_params : Option (TsTypeParamDeclBox X)) (return_type : Option (TsTypeAnnBox X)) → node_phrase f (map-AnyNode X Y g (nodes.StmtPart (stmt_parts.Function (record b { value = with_parts n body type_params return_type })))) MethodTail ≡ method_tail (λ x. f (g x)) (with_parts n body type_params return_type)
-unfolding node_phrase expr_part stmt_part method_tail function_body decorator
-tail_by {X} {Y} g f b n None None None = ap (λ ps. mark (codes "(") > listed (codes ",") ps > mark (codes ")") > function_body (λ x. f (g x)) None) (list_mapped _ (param f) (param (λ x. f (g x))) (param_mapped {X = X} {Y = Y} _ _ f (λ x. f (g x)) (λ x. refl) (λ x. pat_mapped g f x.pat) (λ x. refl)) n.params.items)
-tail_by {X} {Y} g f b n (Some body) None None = ap (λ ps. mark (codes "(") > listed (codes ",") ps > mark (codes ")") > function_body (λ x. f (g x)) (Some body)) (list_mapped _ (param f) (param (λ x. f (g x))) (param_mapped {X = X} {Y = Y} _ _ f (λ x. f (g x)) (λ x. refl) (λ x. pat_mapped g f x.pat) (λ x. refl)) n.params.items)
-tail_by g f b n None None (Some t) = refl
-tail_by g f b n (Some body) None (Some t) = refl
-tail_by g f b n None (Some p) t = refl
-tail_by g f b n (Some body) (Some p) t = refl
+unfolding node_phrase expr_part stmt_part method_tail function_body decorator annotation type_params
+tail_by {X} {Y} g f b n None None None = ap (λ ps. type_params (λ x. f (g x)) None > mark (codes "(") > listed (codes ",") ps > mark (codes ")") > annotation (λ x. f (g x)) None > function_body (λ x. f (g x)) None) (list_mapped _ (param f) (param (λ x. f (g x))) (param_mapped {X = X} {Y = Y} _ _ f (λ x. f (g x)) (λ x. refl) (λ x. pat_mapped g f x.pat) (λ x. refl)) n.params.items)
+tail_by {X} {Y} g f b n None None (Some t) = ap (λ ps. type_params (λ x. f (g x)) None > mark (codes "(") > listed (codes ",") ps > mark (codes ")") > annotation (λ x. f (g x)) (Some t) > function_body (λ x. f (g x)) None) (list_mapped _ (param f) (param (λ x. f (g x))) (param_mapped {X = X} {Y = Y} _ _ f (λ x. f (g x)) (λ x. refl) (λ x. pat_mapped g f x.pat) (λ x. refl)) n.params.items)
+tail_by {X} {Y} g f b n None (Some p) None = ap (λ ps. type_params (λ x. f (g x)) (Some p) > mark (codes "(") > listed (codes ",") ps > mark (codes ")") > annotation (λ x. f (g x)) None > function_body (λ x. f (g x)) None) (list_mapped _ (param f) (param (λ x. f (g x))) (param_mapped {X = X} {Y = Y} _ _ f (λ x. f (g x)) (λ x. refl) (λ x. pat_mapped g f x.pat) (λ x. refl)) n.params.items)
+tail_by {X} {Y} g f b n None (Some p) (Some t) = ap (λ ps. type_params (λ x. f (g x)) (Some p) > mark (codes "(") > listed (codes ",") ps > mark (codes ")") > annotation (λ x. f (g x)) (Some t) > function_body (λ x. f (g x)) None) (list_mapped _ (param f) (param (λ x. f (g x))) (param_mapped {X = X} {Y = Y} _ _ f (λ x. f (g x)) (λ x. refl) (λ x. pat_mapped g f x.pat) (λ x. refl)) n.params.items)
+tail_by {X} {Y} g f b n (Some body) None None = ap (λ ps. type_params (λ x. f (g x)) None > mark (codes "(") > listed (codes ",") ps > mark (codes ")") > annotation (λ x. f (g x)) None > function_body (λ x. f (g x)) (Some body)) (list_mapped _ (param f) (param (λ x. f (g x))) (param_mapped {X = X} {Y = Y} _ _ f (λ x. f (g x)) (λ x. refl) (λ x. pat_mapped g f x.pat) (λ x. refl)) n.params.items)
+tail_by {X} {Y} g f b n (Some body) None (Some t) = ap (λ ps. type_params (λ x. f (g x)) None > mark (codes "(") > listed (codes ",") ps > mark (codes ")") > annotation (λ x. f (g x)) (Some t) > function_body (λ x. f (g x)) (Some body)) (list_mapped _ (param f) (param (λ x. f (g x))) (param_mapped {X = X} {Y = Y} _ _ f (λ x. f (g x)) (λ x. refl) (λ x. pat_mapped g f x.pat) (λ x. refl)) n.params.items)
+tail_by {X} {Y} g f b n (Some body) (Some p) None = ap (λ ps. type_params (λ x. f (g x)) (Some p) > mark (codes "(") > listed (codes ",") ps > mark (codes ")") > annotation (λ x. f (g x)) None > function_body (λ x. f (g x)) (Some body)) (list_mapped _ (param f) (param (λ x. f (g x))) (param_mapped {X = X} {Y = Y} _ _ f (λ x. f (g x)) (λ x. refl) (λ x. pat_mapped g f x.pat) (λ x. refl)) n.params.items)
+tail_by {X} {Y} g f b n (Some body) (Some p) (Some t) = ap (λ ps. type_params (λ x. f (g x)) (Some p) > mark (codes "(") > listed (codes ",") ps > mark (codes ")") > annotation (λ x. f (g x)) (Some t) > function_body (λ x. f (g x)) (Some body)) (list_mapped _ (param f) (param (λ x. f (g x))) (param_mapped {X = X} {Y = Y} _ _ f (λ x. f (g x)) (λ x. refl) (λ x. pat_mapped g f x.pat) (λ x. refl)) n.params.items)
 
 pub method_tail_mapped : {X Y : Type 0} (g : X → Y) (f : Y → Role → Phrase) (b : Box (functions.Function X) Global) → node_phrase f (map-AnyNode X Y g (nodes.StmtPart (stmt_parts.Function b))) MethodTail ≡ method_tail (λ x. f (g x)) b.value
 method_tail_mapped g f b = tail_by g f b b.value b.value.body b.value.type_params b.value.return_type
@@ -76,19 +79,19 @@ typed_same a b p q e h = ap (λ z. cond z Never p) e ∙ ap (λ z. cond b Never 
 abbrev with_class_parts : {X : Type 0} → classes.Class X → Option (ExprBox X) → Option (TsTypeParamDeclBox X) → Option (TsTypeParamInstantiationBox X) → classes.Class X
 with_class_parts n super_class type_params super_type_params = record n { super_class = super_class; type_params = type_params; super_type_params = super_type_params }
 
-members_same : {X Y : Type 0} (g : ClassMemberBox X → ClassMemberBox Y) (f : Y → Role → Phrase) (d : X → Role → Phrase) → ((n : ClassMemberBox X) → member_at f (g n) ≡ member_at d n) → (head : Phrase) (ns : List (ClassMemberBox X)) → (head > mark (codes "{") > in_order (map (member_at f) (map g ns)) > mark (codes "}")) ≡ (head > mark (codes "{") > in_order (map (member_at d) ns) > mark (codes "}"))
-members_same g f d same head ns = ap (λ ps. head > mark (codes "{") > in_order ps > mark (codes "}")) (list_mapped g (member_at f) (member_at d) same ns)
+members_same : {X Y : Type 0} (g : ClassMemberBox X → ClassMemberBox Y) (f : Y → Role → Phrase) (d : X → Role → Phrase) → ((n : ClassMemberBox X) → member_at f (g n) ≡ member_at d n) → (before head : Phrase) (ns : List (ClassMemberBox X)) → (before > head > mark (codes "{") > in_order (map (member_at f) (map g ns)) > mark (codes "}")) ≡ (before > head > mark (codes "{") > in_order (map (member_at d) ns) > mark (codes "}"))
+members_same g f d same before head ns = ap (λ ps. before > head > mark (codes "{") > in_order ps > mark (codes "}")) (list_mapped g (member_at f) (member_at d) same ns)
 
 class_by : {X Y : Type 0} (g : X → Y) (f : Y → Role → Phrase) (b : Box (classes.Class X) Global) (n : classes.Class X) (super_class : Option (ExprBox X)) (type_params : Option (TsTypeParamDeclBox X)) (super_type_params : Option (TsTypeParamInstantiationBox X)) → node_phrase f (map-AnyNode X Y g (nodes.StmtPart (stmt_parts.Class (record b { value = with_class_parts n super_class type_params super_type_params })))) ClassTail ≡ class_tail (λ x. f (g x)) (with_class_parts n super_class type_params super_type_params)
-unfolding node_phrase stmt_part class_tail heritage
-class_by {X} {Y} g f b n None None None = typed_same _ _ _ _ (ap (λ z. n.is_abstract || z) (some_mapped _ n.implements.items)) (members_same {X = X} {Y = Y} _ f (λ x. f (g x)) (λ m. refl) _ n.body.items)
-class_by {X} {Y} g f b n (Some s) None None = typed_same _ _ _ _ (ap (λ z. n.is_abstract || z) (some_mapped _ n.implements.items)) (members_same {X = X} {Y = Y} _ f (λ x. f (g x)) (λ m. refl) _ n.body.items)
-class_by {X} {Y} g f b n None None (Some t) = typed_same _ _ _ _ refl (members_same {X = X} {Y = Y} _ f (λ x. f (g x)) (λ m. refl) _ n.body.items)
-class_by {X} {Y} g f b n (Some s) None (Some t) = typed_same _ _ _ _ refl (members_same {X = X} {Y = Y} _ f (λ x. f (g x)) (λ m. refl) _ n.body.items)
-class_by {X} {Y} g f b n None (Some p) None = typed_same _ _ _ _ refl (members_same {X = X} {Y = Y} _ f (λ x. f (g x)) (λ m. refl) _ n.body.items)
-class_by {X} {Y} g f b n (Some s) (Some p) None = typed_same _ _ _ _ refl (members_same {X = X} {Y = Y} _ f (λ x. f (g x)) (λ m. refl) _ n.body.items)
-class_by {X} {Y} g f b n None (Some p) (Some t) = typed_same _ _ _ _ refl (members_same {X = X} {Y = Y} _ f (λ x. f (g x)) (λ m. refl) _ n.body.items)
-class_by {X} {Y} g f b n (Some s) (Some p) (Some t) = typed_same _ _ _ _ refl (members_same {X = X} {Y = Y} _ f (λ x. f (g x)) (λ m. refl) _ n.body.items)
+unfolding node_phrase stmt_part class_tail heritage type_args type_params where_
+class_by {X} {Y} g f b n None None None = typed_same _ _ _ _ (ap (λ z. n.is_abstract || z) (some_mapped _ n.implements.items)) (members_same {X = X} {Y = Y} _ f (λ x. f (g x)) (λ m. refl) _ _ n.body.items)
+class_by {X} {Y} g f b n None None (Some t) = typed_same _ _ _ _ (ap (λ z. n.is_abstract || z) (some_mapped _ n.implements.items)) (members_same {X = X} {Y = Y} _ f (λ x. f (g x)) (λ m. refl) _ _ n.body.items)
+class_by {X} {Y} g f b n None (Some p) None = typed_same _ _ _ _ (ap (λ z. n.is_abstract || z) (some_mapped _ n.implements.items)) (members_same {X = X} {Y = Y} _ f (λ x. f (g x)) (λ m. refl) _ _ n.body.items)
+class_by {X} {Y} g f b n None (Some p) (Some t) = typed_same _ _ _ _ (ap (λ z. n.is_abstract || z) (some_mapped _ n.implements.items)) (members_same {X = X} {Y = Y} _ f (λ x. f (g x)) (λ m. refl) _ _ n.body.items)
+class_by {X} {Y} g f b n (Some s) None None = typed_same _ _ _ _ (ap (λ z. n.is_abstract || z) (some_mapped _ n.implements.items)) (members_same {X = X} {Y = Y} _ f (λ x. f (g x)) (λ m. refl) _ _ n.body.items)
+class_by {X} {Y} g f b n (Some s) None (Some t) = typed_same _ _ _ _ (ap (λ z. n.is_abstract || z) (some_mapped _ n.implements.items)) (members_same {X = X} {Y = Y} _ f (λ x. f (g x)) (λ m. refl) _ _ n.body.items)
+class_by {X} {Y} g f b n (Some s) (Some p) None = typed_same _ _ _ _ (ap (λ z. n.is_abstract || z) (some_mapped _ n.implements.items)) (members_same {X = X} {Y = Y} _ f (λ x. f (g x)) (λ m. refl) _ _ n.body.items)
+class_by {X} {Y} g f b n (Some s) (Some p) (Some t) = typed_same _ _ _ _ (ap (λ z. n.is_abstract || z) (some_mapped _ n.implements.items)) (members_same {X = X} {Y = Y} _ f (λ x. f (g x)) (λ m. refl) _ _ n.body.items)
 
 pub class_tail_mapped : {X Y : Type 0} (g : X → Y) (f : Y → Role → Phrase) (b : Box (classes.Class X) Global) → node_phrase f (map-AnyNode X Y g (nodes.StmtPart (stmt_parts.Class b))) ClassTail ≡ class_tail (λ x. f (g x)) b.value
 class_tail_mapped g f b = class_by g f b b.value b.value.super_class b.value.type_params b.value.super_type_params

@@ -1,5 +1,5 @@
 -- The productions of functions and blocks see what links hold through f alone.
-use Rattle.std.proofs.Common.{◌≡◌, refl, ◌∙◌, ap, List, [], ◌∷◌, map, codes, Bool, cond, Option, Some, None, Box, Global}
+use Rattle.std.proofs.Common.{◌≡◌, refl, ◌∙◌, ap, List, [], ◌∷◌, map, codes, Bool, true, false, cond, Option, Some, None, Box, Global}
 use Rattle.swc_ecma_codegen_tree.specs.declared.links.AnyNode.{map-AnyNode}
 use Rattle.swc_ecma_codegen_tree.specs.declared.links.AnyNode.TheOpen as nodes
 use Rattle.swc_ecma_codegen_tree.specs.Links.{BlockStmtBox, PatBox, TsTypeAnnBox, TsTypeParamDeclBox}
@@ -13,6 +13,7 @@ use Rattle.swc_ecma_codegen_tree.specs.declared.exprs.BlockStmtOrExpr.TheVariant
 use Rattle.swc_ecma_codegen_tree.specs.declared.exprs.Expr.TheVariants as exprs
 use Rattle.swc_ecma_codegen_tree.specs.declared.stmts.BlockStmt.{BlockStmt}
 use Rattle.swc_ecma_codegen_tree.specs.declared.stmts.Stmt.{Stmt}
+use Rattle.swc_ecma_codegen_grammar.specs.AnnotationPhrases.{annotation, type_params}
 use Rattle.swc_ecma_codegen_grammar.specs.Phrases.{Phrase, Never, ◌>◌, mark, listed, in_order, same_line}
 use Rattle.swc_ecma_codegen_grammar.specs.declared.roles.Role.{Role}
 use Rattle.swc_ecma_codegen_grammar.specs.declared.roles.Role.TheVariants.{Expression, Function, Block}
@@ -40,23 +41,25 @@ param_mapped g h f d items pattern same n =
     ∙ ap (λ ps. in_order ps > pat f (g n).pat) (list_mapped h (decorator f) (decorator d) same n.decorators.items)
     ∙ ap (λ p. in_order (map (decorator d) n.decorators.items) > p) (pattern n)
 
-abbrev undecorated : Bool → List Phrase → Phrase → Phrase
-undecorated decorated ps body = cond decorated Never (mark (codes "(") > listed (codes ",") ps > mark (codes ")") > body)
+abbrev undecorated : Bool → Phrase → List Phrase → Phrase → Phrase → Phrase
+undecorated decorated before ps result body = cond decorated Never (before > mark (codes "(") > listed (codes ",") ps > mark (codes ")") > result > body)
 
-undecorated_same : (b c : Bool) (ps qs : List Phrase) (body : Phrase) → b ≡ c → ps ≡ qs → undecorated b ps body ≡ undecorated c qs body
-undecorated_same b c ps qs body e k = ap (λ z. undecorated z ps body) e ∙ ap (λ z. undecorated c z body) k
+undecorated_same : (b c : Bool) (before : Phrase) (ps qs : List Phrase) (result body : Phrase) → b ≡ c → ps ≡ qs → undecorated b before ps result body ≡ undecorated c before qs result body
+undecorated_same b c before ps qs result body e k = ap (λ z. undecorated z before ps result body) e ∙ ap (λ z. undecorated c before z result body) k
 
 abbrev pub with_parts : {X : Type 0} → functions.Function X → Option (BlockStmtBox X) → Option (TsTypeParamDeclBox X) → Option (TsTypeAnnBox X) → functions.Function X
 with_parts n body type_params return_type = record n { body = body; type_params = type_params; return_type = return_type }
 
 function_mapped : {X Y : Type 0} (g : X → Y) (f : Y → Role → Phrase) (b : Box (functions.Function X) Global) (n : functions.Function X) (body : Option (BlockStmtBox X)) (type_params : Option (TsTypeParamDeclBox X)) (return_type : Option (TsTypeAnnBox X)) → node_phrase f (map-AnyNode X Y g (nodes.StmtPart (stmt_parts.Function (record b { value = with_parts n body type_params return_type })))) Function ≡ function (λ x. f (g x)) (with_parts n body type_params return_type)
-unfolding node_phrase expr_part stmt_part function function_body decorator
-function_mapped {X} {Y} g f b n None None None = undecorated_same _ _ _ _ _ (some_mapped _ n.decorators.items) (list_mapped _ (param f) (param (λ x. f (g x))) (param_mapped {X = X} {Y = Y} _ _ f (λ x. f (g x)) (λ x. refl) (λ x. pat_mapped g f x.pat) (λ x. refl)) n.params.items)
-function_mapped {X} {Y} g f b n (Some body) None None = undecorated_same _ _ _ _ _ (some_mapped _ n.decorators.items) (list_mapped _ (param f) (param (λ x. f (g x))) (param_mapped {X = X} {Y = Y} _ _ f (λ x. f (g x)) (λ x. refl) (λ x. pat_mapped g f x.pat) (λ x. refl)) n.params.items)
-function_mapped g f b n None None (Some t) = refl
-function_mapped g f b n (Some body) None (Some t) = refl
-function_mapped g f b n None (Some p) t = refl
-function_mapped g f b n (Some body) (Some p) t = refl
+unfolding node_phrase expr_part stmt_part function function_body decorator annotation type_params
+function_mapped {X} {Y} g f b n None None None = undecorated_same _ _ _ _ _ _ _ (some_mapped _ n.decorators.items) (list_mapped _ (param f) (param (λ x. f (g x))) (param_mapped {X = X} {Y = Y} _ _ f (λ x. f (g x)) (λ x. refl) (λ x. pat_mapped g f x.pat) (λ x. refl)) n.params.items)
+function_mapped {X} {Y} g f b n None None (Some t) = undecorated_same _ _ _ _ _ _ _ (some_mapped _ n.decorators.items) (list_mapped _ (param f) (param (λ x. f (g x))) (param_mapped {X = X} {Y = Y} _ _ f (λ x. f (g x)) (λ x. refl) (λ x. pat_mapped g f x.pat) (λ x. refl)) n.params.items)
+function_mapped {X} {Y} g f b n None (Some p) None = undecorated_same _ _ _ _ _ _ _ (some_mapped _ n.decorators.items) (list_mapped _ (param f) (param (λ x. f (g x))) (param_mapped {X = X} {Y = Y} _ _ f (λ x. f (g x)) (λ x. refl) (λ x. pat_mapped g f x.pat) (λ x. refl)) n.params.items)
+function_mapped {X} {Y} g f b n None (Some p) (Some t) = undecorated_same _ _ _ _ _ _ _ (some_mapped _ n.decorators.items) (list_mapped _ (param f) (param (λ x. f (g x))) (param_mapped {X = X} {Y = Y} _ _ f (λ x. f (g x)) (λ x. refl) (λ x. pat_mapped g f x.pat) (λ x. refl)) n.params.items)
+function_mapped {X} {Y} g f b n (Some body) None None = undecorated_same _ _ _ _ _ _ _ (some_mapped _ n.decorators.items) (list_mapped _ (param f) (param (λ x. f (g x))) (param_mapped {X = X} {Y = Y} _ _ f (λ x. f (g x)) (λ x. refl) (λ x. pat_mapped g f x.pat) (λ x. refl)) n.params.items)
+function_mapped {X} {Y} g f b n (Some body) None (Some t) = undecorated_same _ _ _ _ _ _ _ (some_mapped _ n.decorators.items) (list_mapped _ (param f) (param (λ x. f (g x))) (param_mapped {X = X} {Y = Y} _ _ f (λ x. f (g x)) (λ x. refl) (λ x. pat_mapped g f x.pat) (λ x. refl)) n.params.items)
+function_mapped {X} {Y} g f b n (Some body) (Some p) None = undecorated_same _ _ _ _ _ _ _ (some_mapped _ n.decorators.items) (list_mapped _ (param f) (param (λ x. f (g x))) (param_mapped {X = X} {Y = Y} _ _ f (λ x. f (g x)) (λ x. refl) (λ x. pat_mapped g f x.pat) (λ x. refl)) n.params.items)
+function_mapped {X} {Y} g f b n (Some body) (Some p) (Some t) = undecorated_same _ _ _ _ _ _ _ (some_mapped _ n.decorators.items) (list_mapped _ (param f) (param (λ x. f (g x))) (param_mapped {X = X} {Y = Y} _ _ f (λ x. f (g x)) (λ x. refl) (λ x. pat_mapped g f x.pat) (λ x. refl)) n.params.items)
 
 pub function_part_mapped : {X Y : Type 0} (g : X → Y) (f : Y → Role → Phrase) (b : Box (functions.Function X) Global) → node_phrase f (map-AnyNode X Y g (nodes.StmtPart (stmt_parts.Function b))) Function ≡ function (λ x. f (g x)) b.value
 function_part_mapped g f b = function_mapped g f b b.value b.value.body b.value.type_params b.value.return_type
@@ -67,19 +70,25 @@ block_mapped {X} g f n = ap (λ ps. mark (codes "{") > in_order ps > mark (codes
 
 -- ---- arrow functions
 
-parameters_mapped : {X Y : Type 0} (g : PatBox X → PatBox Y) (f : Y → Role → Phrase) (d : X → Role → Phrase) → ((n : PatBox X) → pat_at f (g n) ≡ pat_at d n) → ((n : PatBox X) → only_parameter f (g n) ≡ only_parameter d n) → (ns : List (PatBox X)) → arrow_parameters f (map g ns) ≡ arrow_parameters d ns
+parameters_mapped : {X Y : Type 0} (g : PatBox X → PatBox Y) (f : Y → Role → Phrase) (d : X → Role → Phrase) → ((n : PatBox X) → pat_at f (g n) ≡ pat_at d n) → ((n : PatBox X) → only_parameter f (g n) ≡ only_parameter d n) → (typed : Bool) (ns : List (PatBox X)) → arrow_parameters f typed (map g ns) ≡ arrow_parameters d typed ns
 unfolding arrow_parameters
-parameters_mapped g f d same only [] = refl
-parameters_mapped g f d same only (n ∷ []) = only n
-parameters_mapped g f d same only (n ∷ m ∷ ns) = ap (λ ps. mark (codes "(") > listed (codes ",") ps > mark (codes ")")) (list_mapped g (pat_at f) (pat_at d) same (n ∷ m ∷ ns))
+parameters_mapped g f d same only false [] = refl
+parameters_mapped g f d same only true [] = refl
+parameters_mapped g f d same only false (n ∷ []) = only n
+parameters_mapped g f d same only true (n ∷ []) = ap (λ ps. mark (codes "(") > listed (codes ",") ps > mark (codes ")")) (list_mapped g (pat_at f) (pat_at d) same (n ∷ []))
+parameters_mapped g f d same only false (n ∷ m ∷ ns) = ap (λ ps. mark (codes "(") > listed (codes ",") ps > mark (codes ")")) (list_mapped g (pat_at f) (pat_at d) same (n ∷ m ∷ ns))
+parameters_mapped g f d same only true (n ∷ m ∷ ns) = ap (λ ps. mark (codes "(") > listed (codes ",") ps > mark (codes ")")) (list_mapped g (pat_at f) (pat_at d) same (n ∷ m ∷ ns))
 
 arrow_mapped : {X Y : Type 0} (g : X → Y) (f : Y → Role → Phrase) (b : Box (ArrowExpr X) Global) (n : ArrowExpr X) (body : BlockStmtOrExpr X) (type_params : Option (TsTypeParamDeclBox X)) (return_type : Option (TsTypeAnnBox X)) → node_phrase f (map-AnyNode X Y g (nodes.Expr (exprs.Arrow (record b { value = record n { body = body; type_params = type_params; return_type = return_type } })))) Expression ≡ arrow_expr (λ x. f (g x)) (record n { body = body; type_params = type_params; return_type = return_type })
-unfolding node_phrase expr arrow_expr arrow_body only_parameter
-arrow_mapped {X} {Y} g f b n (bodies.BlockStmt body) None None = ap (λ p. after_async n.is_async (word_if n.is_generator (mark (codes "*")) > p > same_line > mark (codes "=>") > f (g body.node.value) Block)) (parameters_mapped {X = X} {Y = Y} _ f (λ x. f (g x)) (λ x. refl) (λ x. refl) n.params.items)
-arrow_mapped {X} {Y} g f b n (bodies.Expr body) None None = ap (λ p. after_async n.is_async (word_if n.is_generator (mark (codes "*")) > p > same_line > mark (codes "=>") > f (g body.node.value) Expression)) (parameters_mapped {X = X} {Y = Y} _ f (λ x. f (g x)) (λ x. refl) (λ x. refl) n.params.items)
-arrow_mapped g f b n body None (Some t) = refl
-arrow_mapped g f b n body (Some p) None = refl
-arrow_mapped g f b n body (Some p) (Some t) = refl
+unfolding node_phrase expr arrow_expr arrow_body only_parameter annotation type_params
+arrow_mapped {X} {Y} g f b n (bodies.BlockStmt body) None None = ap (λ z. after_async n.is_async (word_if n.is_generator (mark (codes "*")) > type_params (λ x. f (g x)) None > z > annotation (λ x. f (g x)) None > same_line > mark (codes "=>") > f (g body.node.value) Block)) (parameters_mapped {X = X} {Y = Y} _ f (λ x. f (g x)) (λ x. refl) (λ x. refl) false n.params.items)
+arrow_mapped {X} {Y} g f b n (bodies.BlockStmt body) None (Some t) = ap (λ z. after_async n.is_async (word_if n.is_generator (mark (codes "*")) > type_params (λ x. f (g x)) None > z > annotation (λ x. f (g x)) (Some t) > same_line > mark (codes "=>") > f (g body.node.value) Block)) (parameters_mapped {X = X} {Y = Y} _ f (λ x. f (g x)) (λ x. refl) (λ x. refl) true n.params.items)
+arrow_mapped {X} {Y} g f b n (bodies.BlockStmt body) (Some p) None = ap (λ z. after_async n.is_async (word_if n.is_generator (mark (codes "*")) > type_params (λ x. f (g x)) (Some p) > z > annotation (λ x. f (g x)) None > same_line > mark (codes "=>") > f (g body.node.value) Block)) (parameters_mapped {X = X} {Y = Y} _ f (λ x. f (g x)) (λ x. refl) (λ x. refl) true n.params.items)
+arrow_mapped {X} {Y} g f b n (bodies.BlockStmt body) (Some p) (Some t) = ap (λ z. after_async n.is_async (word_if n.is_generator (mark (codes "*")) > type_params (λ x. f (g x)) (Some p) > z > annotation (λ x. f (g x)) (Some t) > same_line > mark (codes "=>") > f (g body.node.value) Block)) (parameters_mapped {X = X} {Y = Y} _ f (λ x. f (g x)) (λ x. refl) (λ x. refl) true n.params.items)
+arrow_mapped {X} {Y} g f b n (bodies.Expr body) None None = ap (λ z. after_async n.is_async (word_if n.is_generator (mark (codes "*")) > type_params (λ x. f (g x)) None > z > annotation (λ x. f (g x)) None > same_line > mark (codes "=>") > f (g body.node.value) Expression)) (parameters_mapped {X = X} {Y = Y} _ f (λ x. f (g x)) (λ x. refl) (λ x. refl) false n.params.items)
+arrow_mapped {X} {Y} g f b n (bodies.Expr body) None (Some t) = ap (λ z. after_async n.is_async (word_if n.is_generator (mark (codes "*")) > type_params (λ x. f (g x)) None > z > annotation (λ x. f (g x)) (Some t) > same_line > mark (codes "=>") > f (g body.node.value) Expression)) (parameters_mapped {X = X} {Y = Y} _ f (λ x. f (g x)) (λ x. refl) (λ x. refl) true n.params.items)
+arrow_mapped {X} {Y} g f b n (bodies.Expr body) (Some p) None = ap (λ z. after_async n.is_async (word_if n.is_generator (mark (codes "*")) > type_params (λ x. f (g x)) (Some p) > z > annotation (λ x. f (g x)) None > same_line > mark (codes "=>") > f (g body.node.value) Expression)) (parameters_mapped {X = X} {Y = Y} _ f (λ x. f (g x)) (λ x. refl) (λ x. refl) true n.params.items)
+arrow_mapped {X} {Y} g f b n (bodies.Expr body) (Some p) (Some t) = ap (λ z. after_async n.is_async (word_if n.is_generator (mark (codes "*")) > type_params (λ x. f (g x)) (Some p) > z > annotation (λ x. f (g x)) (Some t) > same_line > mark (codes "=>") > f (g body.node.value) Expression)) (parameters_mapped {X = X} {Y = Y} _ f (λ x. f (g x)) (λ x. refl) (λ x. refl) true n.params.items)
 
 pub arrow_expr_mapped : {X Y : Type 0} (g : X → Y) (f : Y → Role → Phrase) (b : Box (ArrowExpr X) Global) → node_phrase f (map-AnyNode X Y g (nodes.Expr (exprs.Arrow b))) Expression ≡ arrow_expr (λ x. f (g x)) b.value
 arrow_expr_mapped g f b = arrow_mapped g f b b.value b.value.body b.value.type_params b.value.return_type

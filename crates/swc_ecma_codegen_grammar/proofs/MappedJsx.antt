@@ -1,5 +1,5 @@
 -- The productions of JSX see what links hold through f alone.
-use Rattle.std.proofs.Common.{◌≡◌, refl, ◌∙◌, ap, ◌&&◌, not, is_some, Bool, true, false, cond, List, [], ◌∷◌, map, codes, Option, Some, None, Box, Global}
+use Rattle.std.proofs.Common.{◌≡◌, refl, ◌∙◌, ap, ◌&&◌, not, Bool, true, false, List, [], ◌∷◌, map, codes, Option, Some, None, Box, Global}
 use Rattle.swc_ecma_codegen_common.specs.declared.positions.Span.{Span}
 use Rattle.swc_ecma_codegen_tree.specs.declared.links.AnyNode.{AnyNode-F, map-AnyNode}
 use Rattle.swc_ecma_codegen_tree.specs.declared.links.AnyNode.TheOpen as nodes
@@ -29,7 +29,8 @@ use Rattle.swc_ecma_codegen_tree.specs.declared.jsx.JSXOpeningElement.{JSXOpenin
 use Rattle.swc_ecma_codegen_tree.specs.declared.jsx.JSXSpreadChild.{JSXSpreadChild}
 use Rattle.swc_ecma_codegen_tree.specs.declared.parts.JSXPart.{JSXPart}
 use Rattle.swc_ecma_codegen_tree.specs.declared.parts.JSXPart.TheVariants as jsx_parts
-use Rattle.swc_ecma_codegen_grammar.specs.Phrases.{Phrase, Never, Nothing, One, ◌>◌, where_, mark, in_order}
+use Rattle.swc_ecma_codegen_grammar.specs.AnnotationPhrases.{type_args}
+use Rattle.swc_ecma_codegen_grammar.specs.Phrases.{Phrase, Nothing, One, ◌>◌, where_, mark, in_order}
 use Rattle.swc_ecma_codegen_grammar.specs.JsxPhrases.{jsx_member_expr, jsx_object, jsx_element_name, open_mark, jsx_expr, jsx_expr_container, jsx_spread_child, jsx_attr_value, jsx_attr_init, jsx_attr, jsx_attr_or_spread, self_close, jsx_opening_element, jsx_closing_element, jsx_element_child, is_text, is_parted, ends_in_text, jsx_children, jsx_rest, jsx_element, jsx_opening_fragment, jsx_closing_fragment, jsx_fragment, jsx_part}
 use Rattle.swc_ecma_codegen_grammar.specs.PropPhrases.{spread_element}
 use Rattle.swc_ecma_codegen_grammar.specs.Tokens as tokens
@@ -91,15 +92,15 @@ by_child P text empty full spread element fragment (children.JSXFragment n) = fr
 -- ---- parts of the same phrases
 
 opening_same : {X Y : Type 0} (f : Y → Role → Phrase) (d : X → Role → Phrase) (is_child : Bool) (o : JSXOpeningElement Y) (p : JSXOpeningElement X)
-    → is_some o.type_args ≡ is_some p.type_args → jsx_element_name f o.name ≡ jsx_element_name d p.name → map (jsx_attr_or_spread f) o.attrs.items ≡ map (jsx_attr_or_spread d) p.attrs.items → o.self_closing ≡ p.self_closing
+    → type_args f o.type_args ≡ type_args d p.type_args → jsx_element_name f o.name ≡ jsx_element_name d p.name → map (jsx_attr_or_spread f) o.attrs.items ≡ map (jsx_attr_or_spread d) p.attrs.items → o.self_closing ≡ p.self_closing
     → jsx_opening_element f is_child o ≡ jsx_opening_element d is_child p
 unfolding jsx_opening_element
 opening_same f d is_child o p typed name listed closes =
-    let of : Bool → Phrase → List Phrase → Bool → Phrase = λ t n ps c. cond t Never (open_mark is_child (codes "<") > n > in_order ps > self_close c > One tokens.tag_close) in
+    let of : Phrase → Phrase → List Phrase → Bool → Phrase = λ t n ps c. open_mark is_child (codes "<") > n > t > in_order ps > self_close c > One tokens.tag_close in
     ap (λ t. of t (jsx_element_name f o.name) (map (jsx_attr_or_spread f) o.attrs.items) o.self_closing) typed
-    ∙ ap (λ n. of (is_some p.type_args) n (map (jsx_attr_or_spread f) o.attrs.items) o.self_closing) name
-    ∙ ap (λ ps. of (is_some p.type_args) (jsx_element_name d p.name) ps o.self_closing) listed
-    ∙ ap (λ c. of (is_some p.type_args) (jsx_element_name d p.name) (map (jsx_attr_or_spread d) p.attrs.items) c) closes
+    ∙ ap (λ n. of (type_args d p.type_args) n (map (jsx_attr_or_spread f) o.attrs.items) o.self_closing) name
+    ∙ ap (λ ps. of (type_args d p.type_args) (jsx_element_name d p.name) ps o.self_closing) listed
+    ∙ ap (λ c. of (type_args d p.type_args) (jsx_element_name d p.name) (map (jsx_attr_or_spread d) p.attrs.items) c) closes
 
 closing_same : {X Y : Type 0} (f : Y → Role → Phrase) (d : X → Role → Phrase) (o : JSXClosingElement Y) (p : JSXClosingElement X) → jsx_element_name f o.name ≡ jsx_element_name d p.name → jsx_closing_element f o ≡ jsx_closing_element d p
 unfolding jsx_closing_element
@@ -166,9 +167,9 @@ abbrev name_in : {X : Type 0} → (X → Role → Phrase) → AnyNode-F X → Ph
 name_in f (nodes.JSXPart (jsx_parts.JSXElement b)) = jsx_element_name f b.value.opening.name
 name_in f n = Nothing
 
-abbrev has_types : {X : Type 0} → AnyNode-F X → Bool
-has_types (nodes.JSXPart (jsx_parts.JSXElement b)) = is_some b.value.opening.type_args
-has_types n = false
+abbrev types_in : {X : Type 0} → (X → Role → Phrase) → AnyNode-F X → Phrase
+types_in f (nodes.JSXPart (jsx_parts.JSXElement b)) = type_args f b.value.opening.type_args
+types_in f n = Nothing
 
 abbrev rest_in : {X : Type 0} → (X → Role → Phrase) → AnyNode-F X → Phrase
 rest_in f (nodes.JSXPart (jsx_parts.JSXElement b)) = jsx_rest f b.value.children.items b.value.closing
@@ -180,9 +181,10 @@ name_mapped g f b n (element_names.Ident m) = refl
 name_mapped g f b n (element_names.JSXMemberExpr m) = refl
 name_mapped g f b n (element_names.JSXNamespacedName m) = refl
 
-types_mapped : {X Y : Type 0} (g : X → Y) (b : Box (JSXElement X) Global) (n : JSXElement X) (type_args : Option (TsTypeParamInstantiationBox X)) → has_types (map-AnyNode X Y g (as_node b (record n { opening = record n.opening { type_args = type_args } }))) ≡ is_some type_args
-types_mapped g b n None = refl
-types_mapped g b n (Some t) = refl
+types_mapped : {X Y : Type 0} (g : X → Y) (f : Y → Role → Phrase) (b : Box (JSXElement X) Global) (n : JSXElement X) (args : Option (TsTypeParamInstantiationBox X)) → types_in f (map-AnyNode X Y g (as_node b (record n { opening = record n.opening { type_args = args } }))) ≡ type_args (λ x. f (g x)) args
+unfolding type_args
+types_mapped g f b n None = refl
+types_mapped g f b n (Some t) = refl
 
 closed_mapped : {X Y : Type 0} (g : X → Y) (f : Y → Role → Phrase) (b : Box (JSXElement X) Global) (n : JSXElement X) (span : Span) (name : JSXElementName X) → rest_in f (map-AnyNode X Y g (as_node b (record n { closing = Some (record { span = span; name = name }) }))) ≡ jsx_rest (λ x. f (g x)) n.children.items (Some (record { span = span; name = name }))
 unfolding jsx_element_name jsx_member_expr is_text jsx_element_child jsx_expr_container jsx_expr jsx_spread_child
@@ -197,8 +199,8 @@ rest_mapped g f b n (Some c) = closed_mapped g f b n c.span c.name
 
 element_mapped : {X Y : Type 0} (g : X → Y) (f : Y → Role → Phrase) (is_child : Bool) (b : Box (JSXElement X) Global) → node_phrase f (map-AnyNode X Y g (nodes.JSXPart (jsx_parts.JSXElement b))) (role_of is_child) ≡ jsx_element (λ x. f (g x)) is_child b.value
 unfolding node_phrase jsx_part jsx_attr_or_spread jsx_attr jsx_attr_init jsx_attr_value jsx_expr_container jsx_expr spread_element
-element_mapped {X} {Y} g f true b = element_same f (λ x. f (g x)) true _ b.value (opening_same f (λ x. f (g x)) true _ b.value.opening (types_mapped g b b.value b.value.opening.type_args) (name_mapped g f b b.value b.value.opening.name) (list_mapped {A = JSXAttrOrSpread X} _ (jsx_attr_or_spread f) (jsx_attr_or_spread (λ x. f (g x))) (by_attr {X = X} _ (λ m. refl) (λ m v. refl) (λ m at v. refl) (λ m at v. refl) (λ m v. refl) (λ m v. refl) (λ m. refl)) b.value.opening.attrs.items) refl) (rest_mapped g f b b.value b.value.closing)
-element_mapped {X} {Y} g f false b = element_same f (λ x. f (g x)) false _ b.value (opening_same f (λ x. f (g x)) false _ b.value.opening (types_mapped g b b.value b.value.opening.type_args) (name_mapped g f b b.value b.value.opening.name) (list_mapped {A = JSXAttrOrSpread X} _ (jsx_attr_or_spread f) (jsx_attr_or_spread (λ x. f (g x))) (by_attr {X = X} _ (λ m. refl) (λ m v. refl) (λ m at v. refl) (λ m at v. refl) (λ m v. refl) (λ m v. refl) (λ m. refl)) b.value.opening.attrs.items) refl) (rest_mapped g f b b.value b.value.closing)
+element_mapped {X} {Y} g f true b = element_same f (λ x. f (g x)) true _ b.value (opening_same f (λ x. f (g x)) true _ b.value.opening (types_mapped g f b b.value b.value.opening.type_args) (name_mapped g f b b.value b.value.opening.name) (list_mapped {A = JSXAttrOrSpread X} _ (jsx_attr_or_spread f) (jsx_attr_or_spread (λ x. f (g x))) (by_attr {X = X} _ (λ m. refl) (λ m v. refl) (λ m at v. refl) (λ m at v. refl) (λ m v. refl) (λ m v. refl) (λ m. refl)) b.value.opening.attrs.items) refl) (rest_mapped g f b b.value b.value.closing)
+element_mapped {X} {Y} g f false b = element_same f (λ x. f (g x)) false _ b.value (opening_same f (λ x. f (g x)) false _ b.value.opening (types_mapped g f b b.value b.value.opening.type_args) (name_mapped g f b b.value b.value.opening.name) (list_mapped {A = JSXAttrOrSpread X} _ (jsx_attr_or_spread f) (jsx_attr_or_spread (λ x. f (g x))) (by_attr {X = X} _ (λ m. refl) (λ m v. refl) (λ m at v. refl) (λ m at v. refl) (λ m v. refl) (λ m v. refl) (λ m. refl)) b.value.opening.attrs.items) refl) (rest_mapped g f b b.value b.value.closing)
 
 pub jsx_part_mapped : {X Y : Type 0} (g : X → Y) (f : Y → Role → Phrase) (n : JSXPart X) (role : Role) → node_phrase f (map-AnyNode X Y g (nodes.JSXPart n)) role ≡ jsx_part (λ x. f (g x)) n role
 unfolding node_phrase jsx_part

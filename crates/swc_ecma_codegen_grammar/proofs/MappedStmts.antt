@@ -1,5 +1,5 @@
 -- The productions of statements and declarations see what links hold through f alone.
-use Rattle.std.proofs.Common.{◌≡◌, refl, ap, List, map, codes, Bool, true, false, cond, Option, Some, None, Vec, Global}
+use Rattle.std.proofs.Common.{◌≡◌, refl, ap, List, map, codes, Bool, cond, Option, Some, None, Vec, Global}
 use Rattle.swc_ecma_codegen_common.specs.declared.positions.Span.{Span}
 use Rattle.swc_ecma_codegen_tree.specs.declared.links.AnyNode.{map-AnyNode}
 use Rattle.swc_ecma_codegen_tree.specs.declared.links.AnyNode.TheOpen as nodes
@@ -32,11 +32,13 @@ use Rattle.swc_ecma_codegen_grammar.specs.PatPhrases.{value_at, initializer}
 use Rattle.swc_ecma_codegen_grammar.specs.FunctionPhrases.{word_if}
 use Rattle.swc_ecma_codegen_grammar.specs.DeclPhrases.{after_await, fn_decl, var_declarator, var_kind, var_decl, using_decl, decl}
 use Rattle.swc_ecma_codegen_grammar.specs.ClassPhrases.{class_decl}
+use Rattle.swc_ecma_codegen_grammar.specs.TsDeclPhrases.{declare_word}
 use Rattle.swc_ecma_codegen_grammar.specs.StmtPhrases.{stmt_at, optional_value, empty_stmt, expr_stmt, debugger_stmt, with_stmt, return_stmt, labeled_stmt, break_stmt, continue_stmt, else_branch, if_stmt, case_test, switch_case, switch_stmt, throw_stmt, catch_param, catch_clause, handler, finalizer, try_stmt, while_stmt, do_while_stmt, var_decl_or_expr, for_init, for_stmt, for_head, for_in_stmt, for_of_stmt, stmt, return_rest}
 use Rattle.swc_ecma_codegen_grammar.specs.PartPhrases.{expr_part, stmt_part}
 use Rattle.swc_ecma_codegen_grammar.specs.TreePhrases.{node_phrase}
 use Rattle.swc_ecma_codegen_grammar.proofs.Mapped.{list_mapped, each_option}
 use Rattle.swc_ecma_codegen_grammar.proofs.MappedPats.{pat_mapped}
+use Rattle.swc_ecma_codegen_grammar.proofs.MappedTsDecls.{interface_mapped, alias_mapped, enum_mapped, module_mapped}
 
 -- ---- declarations
 
@@ -54,19 +56,19 @@ named definite p q init e = ap (λ z. cond definite Never (z > init)) e
 declarators_mapped : {X Y : Type 0} (g : VarDeclarator X → VarDeclarator Y) (f : Y → Role → Phrase) (d : X → Role → Phrase) → ((n : VarDeclarator X) → var_declarator f (g n) ≡ var_declarator d n) → (xs : List (VarDeclarator X)) → some_listed (codes ",") (map (var_declarator f) (map g xs)) ≡ some_listed (codes ",") (map (var_declarator d) xs)
 declarators_mapped g f d same xs = ap (some_listed (codes ",")) (list_mapped g (var_declarator f) (var_declarator d) same xs)
 
-var_by : {X Y : Type 0} (g : X → Y) (f : Y → Role → Phrase) (n : VarDecl X) (declare : Bool) → node_phrase f (map-AnyNode X Y g (nodes.StmtPart (stmt_parts.VarDecl (record n { declare = declare })))) VariableDeclaration ≡ var_decl (λ x. f (g x)) (record n { declare = declare })
-unfolding node_phrase expr_part stmt_part var_decl var_declarator initializer
-var_by g f n true = refl
-var_by {X} {Y} g f n false = ap (λ p. var_kind n.kind > p) (declarators_mapped {X = X} {Y = Y} _ f (λ x. f (g x)) (by_init {X = X} _ (λ span name definite. named definite _ _ _ (pat_mapped g f name)) (λ span name init definite. named definite _ _ _ (pat_mapped g f name))) n.decls.items)
-
 pub var_decl_mapped : {X Y : Type 0} (g : X → Y) (f : Y → Role → Phrase) (n : VarDecl X) → node_phrase f (map-AnyNode X Y g (nodes.StmtPart (stmt_parts.VarDecl n))) VariableDeclaration ≡ var_decl (λ x. f (g x)) n
-var_decl_mapped g f n = var_by g f n n.declare
+unfolding node_phrase expr_part stmt_part var_decl var_declarator initializer
+var_decl_mapped {X} {Y} g f n = ap (λ p. declare_word n.declare > var_kind n.kind > p) (declarators_mapped {X = X} {Y = Y} _ f (λ x. f (g x)) (by_init {X = X} _ (λ span name definite. named definite _ _ _ (pat_mapped g f name)) (λ span name init definite. named definite _ _ _ (pat_mapped g f name))) n.decls.items)
 
 pub decl_mapped : {X Y : Type 0} (g : X → Y) (f : Y → Role → Phrase) (n : Decl X) → node_phrase f (map-AnyNode X Y g (nodes.StmtPart (stmt_parts.Decl n))) Declaration ≡ decl (λ x. f (g x)) n
 unfolding node_phrase expr_part stmt_part decl fn_decl using_decl var_declarator initializer class_decl
 decl_mapped {X} {Y} g f (decls.Using n) = ap (λ p. after_await n.is_await (word (codes "using") > same_line > p) > ending) (declarators_mapped {X = X} {Y = Y} _ f (λ x. f (g x)) (by_init {X = X} _ (λ span name definite. named definite _ _ _ (pat_mapped g f name)) (λ span name init definite. named definite _ _ _ (pat_mapped g f name))) n.decls.items)
 decl_mapped g f (decls.Fn n) = refl
 decl_mapped g f (decls.Var n) = ap (λ p. p > ending) (var_decl_mapped g f n)
+decl_mapped g f (decls.TsInterface n) = interface_mapped g f n
+decl_mapped g f (decls.TsTypeAlias n) = alias_mapped g f n
+decl_mapped g f (decls.TsEnum n) = enum_mapped g f n
+decl_mapped g f (decls.TsModule n) = module_mapped g f n
 decl_mapped g f n = refl
 
 -- ---- statements

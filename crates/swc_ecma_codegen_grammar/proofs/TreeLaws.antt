@@ -27,6 +27,7 @@ use Rattle.swc_ecma_codegen_tree.specs.declared.pats.SimpleAssignTarget.{SimpleA
 use Rattle.swc_ecma_codegen_tree.specs.declared.pats.SimpleAssignTarget.TheVariants as simple_targets
 use Rattle.swc_ecma_codegen_tree.specs.declared.idents.Ident.{Ident}
 use Rattle.swc_ecma_codegen_tree.specs.declared.parts.JSXPart.{JSXPart}
+use Rattle.swc_ecma_codegen_tree.specs.declared.parts.TsPart.{TsPart}
 use Rattle.swc_ecma_codegen_tree.specs.declared.parts.StmtPart.{StmtPart}
 use Rattle.swc_ecma_codegen_tree.specs.declared.parts.StmtPart.TheVariants as stmt_parts
 use Rattle.swc_ecma_codegen_tree.specs.declared.stmts.Stmt.{Stmt}
@@ -35,6 +36,7 @@ use Rattle.swc_ecma_codegen_grammar.specs.declared.roles.Role.{Role}
 use Rattle.swc_ecma_codegen_grammar.specs.declared.roles.Role.TheVariants.{Expression, Statement, MemberExpression, ChainMember, AssignmentTarget, Pattern, PlainParameter, PropertyName, ObjectLiteral, Function, Block, Declaration, VariableDeclaration, Callee, ChainCall, Template, TaggedTemplate, ClassHead, ClassTail, Member, MethodDecorators, MethodTail, AccessorTail, FieldValue, ModuleDeclaration, ExportedHead, ExportedTail}
 use Rattle.swc_ecma_codegen_grammar.specs.ExprPhrases.{expr, expr_at, this_expr, unary_expr, update_expr, bin_expr, member_prop, member_expr, super_prop, super_prop_expr, chain_mark, chain_prop, chain_member, chain_base, opt_chain_expr, meta_prop_expr, assign_expr, yield_arg, yield_expr, await_expr, cond_expr, seq_expr, paren_expr, expr_in, yield_rest}
 use Rattle.swc_ecma_codegen_grammar.specs.KeyPhrases.{computed_prop_name}
+use Rattle.swc_ecma_codegen_grammar.specs.AnnotationPhrases.{annotation}
 use Rattle.swc_ecma_codegen_grammar.specs.NamePhrases.{binding_ident}
 use Rattle.swc_ecma_codegen_grammar.specs.AssignPhrases.{assign_target, simple_assign_target}
 use Rattle.swc_ecma_codegen_grammar.specs.PartPhrases.{expr_part, stmt_part}
@@ -50,6 +52,7 @@ use Rattle.swc_ecma_codegen_grammar.proofs.MappedKeys.{prop_name_mapped}
 use Rattle.swc_ecma_codegen_grammar.proofs.MappedProps.{object_lit_mapped}
 use Rattle.swc_ecma_codegen_grammar.proofs.MappedClasses.{method_decorators_mapped, method_tail_mapped, accessor_tail_mapped, class_head_mapped, class_tail_mapped, class_member_mapped}
 use Rattle.swc_ecma_codegen_grammar.proofs.MappedModules.{module_decl_mapped, exported_head_mapped, exported_tail_mapped}
+use Rattle.swc_ecma_codegen_grammar.proofs.MappedTypes.{ts_part_mapped}
 use Rattle.swc_ecma_codegen_grammar.proofs.MappedTemplates.{tpl_mapped, tagged_mapped, tagged_tpl_mapped}
 use Rattle.swc_ecma_codegen_grammar.proofs.MappedCalls.{array_lit_mapped, call_mapped, new_mapped, chain_call_mapped}
 
@@ -118,8 +121,8 @@ chain_member_mapped g f span obj (member_props.PrivateName n) false = refl
 abbrev as_target : {X : Type 0} → SimpleAssignTarget X → AnyNode-F X
 as_target n = nodes.ExprPart (expr_parts.AssignTarget (targets.Simple n))
 
-binding_target_mapped : {X Y : Type 0} (g : X → Y) (f : Y → Role → Phrase) (id : Ident) (type_ann : Option (TsTypeAnnBox X)) → node_phrase f (map-AnyNode X Y g (as_target (simple_targets.Ident (record { id = id; type_ann = type_ann })))) AssignmentTarget ≡ binding_ident {X = X} (record { id = id; type_ann = type_ann })
-unfolding node_phrase expr_part assign_target simple_assign_target binding_ident
+binding_target_mapped : {X Y : Type 0} (g : X → Y) (f : Y → Role → Phrase) (id : Ident) (type_ann : Option (TsTypeAnnBox X)) → node_phrase f (map-AnyNode X Y g (as_target (simple_targets.Ident (record { id = id; type_ann = type_ann })))) AssignmentTarget ≡ binding_ident (λ x. f (g x)) (record { id = id; type_ann = type_ann })
+unfolding node_phrase expr_part assign_target simple_assign_target binding_ident annotation
 binding_target_mapped g f id None = refl
 binding_target_mapped g f id (Some x) = refl
 
@@ -186,6 +189,7 @@ node_mapped g f (nodes.MemberExpr n) (ChainMember optional) = chain_member_mappe
 node_mapped g f (nodes.ExprPart n) role = part_mapped g f n role
 node_mapped g f (nodes.StmtPart n) role = stmt_part_mapped g f n role
 node_mapped g f (nodes.JSXPart n) role = jsx_part_mapped g f n role
+node_mapped g f (nodes.TsPart n) role = ts_part_mapped g f n role
 node_mapped g f n role = refl
 
 -- ---- whole nodes
@@ -219,3 +223,6 @@ phrase_stmt_part n role = ap (λ x. phrase x role) (sym (whole.rolls-StmtPart n)
 
 pub phrase_jsx_part : (n : JSXPart AnyNode) (role : Role) → phrase (whole.JSXPart n) role ≡ node_phrase phrase (nodes.JSXPart n) role
 phrase_jsx_part n role = ap (λ x. phrase x role) (sym (whole.rolls-JSXPart n)) ∙ phrase_of_layer (nodes.JSXPart n) role
+
+pub phrase_ts_part : (n : TsPart AnyNode) (role : Role) → phrase (whole.TsPart n) role ≡ node_phrase phrase (nodes.TsPart n) role
+phrase_ts_part n role = ap (λ x. phrase x role) (sym (whole.rolls-TsPart n)) ∙ phrase_of_layer (nodes.TsPart n) role

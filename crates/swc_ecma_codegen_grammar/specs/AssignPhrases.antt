@@ -11,7 +11,7 @@ use Rattle.swc_ecma_codegen_grammar.specs.ExprPhrases.{member_expr, super_prop_e
 
 -- `a`, `a.b`, `super.a`, `(a)`; what TypeScript adds isn't printed yet
 unfoldable pub simple_assign_target : {X : Type 0} → (X → Role → Phrase) → SimpleAssignTarget X → Phrase
-simple_assign_target f (simple_targets.Ident n) = binding_ident n
+simple_assign_target f (simple_targets.Ident n) = binding_ident f n
 simple_assign_target f (simple_targets.Member n) = member_expr f n
 simple_assign_target f (simple_targets.SuperProp n) = super_prop_expr f n
 simple_assign_target f (simple_targets.Paren n) = paren_expr f n

@@ -1,6 +1,6 @@
 -- Arrays, calls and `new`: one production a node. `f` says what is read of what a link holds, in its role. What TypeScript adds,
 -- arguments that are types, isn't printed yet.
-use Rattle.std.specs.Prelude.{Bool, true, false, is_some, if◌then◌else◌, List, [], ◌∷◌, map, codes, Option, Some, None}
+use Rattle.std.specs.Prelude.{Bool, true, false, List, [], map, codes, Option, Some, None}
 use Rattle.std.specs.declared.vec.Vec.{Vec}
 use Rattle.swc_ecma_codegen_common.specs.declared.positions.Span.{Span}
 use Rattle.swc_ecma_codegen_tree.specs.declared.modules.ImportPhase.{ImportPhase}
@@ -14,7 +14,8 @@ use Rattle.swc_ecma_codegen_tree.specs.declared.exprs.Callee.TheVariants as call
 use Rattle.swc_ecma_codegen_tree.specs.declared.exprs.Import.{Import}
 use Rattle.swc_ecma_codegen_tree.specs.declared.exprs.NewExpr.{NewExpr}
 use Rattle.swc_ecma_codegen_tree.specs.declared.exprs.OptCall.{OptCall}
-use Rattle.swc_ecma_codegen_grammar.specs.Phrases.{Phrase, Never, Nothing, Chosen, EmptyArguments, ◌>◌, word, mark, listed}
+use Rattle.swc_ecma_codegen_grammar.specs.Phrases.{Phrase, Nothing, Chosen, EmptyArguments, ◌>◌, word, mark, listed}
+use Rattle.swc_ecma_codegen_grammar.specs.AnnotationPhrases.{type_args}
 use Rattle.swc_ecma_codegen_grammar.specs.ElementPhrases.{element, last_is_hole}
 use Rattle.swc_ecma_codegen_grammar.specs.declared.roles.Role.{Role}
 use Rattle.swc_ecma_codegen_grammar.specs.declared.roles.Role.TheVariants.{Expression, Callee}
@@ -62,7 +63,7 @@ callee f (callees.Import n) = import_callee n
 callee f (callees.Expr n) = callee_at f n
 
 unfoldable pub call_expr : {X : Type 0} → (X → Role → Phrase) → CallExpr X → Phrase
-call_expr f n = if is_some n.type_args then Never else (callee f n.callee > arguments f n.args.items)
+call_expr f n = callee f n.callee > type_args f n.type_args > arguments f n.args.items
 
 -- section 13.3.5: `new A(a)`. `()` is there by the settings, or always where `keeps` says so, as in `new A().b`.
 unfoldable pub listed_arguments : {X : Type 0} → (X → Role → Phrase) → Bool → List (ExprOrSpread X) → Phrase
@@ -74,7 +75,7 @@ new_arguments f keeps None = Nothing
 new_arguments f keeps (Some xs) = listed_arguments f keeps xs.items
 
 unfoldable pub new_expr : {X : Type 0} → (X → Role → Phrase) → Bool → NewExpr X → Phrase
-new_expr f keeps n = if is_some n.type_args then Never else (word (codes "new") > value_at f n.callee > new_arguments f keeps n.args)
+new_expr f keeps n = word (codes "new") > value_at f n.callee > type_args f n.type_args > new_arguments f keeps n.args
 
 -- section 13.3.9: `a?.(b)`, and `(c)` of `a?.b(c)`
 unfoldable pub call_mark : Bool → Phrase
@@ -82,4 +83,4 @@ call_mark true = mark (codes "?.")
 call_mark false = Nothing
 
 unfoldable pub chain_call : {X : Type 0} → (X → Role → Phrase) → Bool → OptCall X → Phrase
-chain_call f optional n = if is_some n.type_args then Never else (callee_at f n.callee > call_mark optional > arguments f n.args.items)
+chain_call f optional n = callee_at f n.callee > call_mark optional > type_args f n.type_args > arguments f n.args.items

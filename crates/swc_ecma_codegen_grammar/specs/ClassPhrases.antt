@@ -1,7 +1,7 @@
--- Classes: one production a node. `f` says what is read of what a link holds, in its role. What TypeScript adds isn't printed
--- yet: types and their parameters, modifiers, and index signatures. ECMA-262, section 15.7.
-use Rattle.std.specs.Prelude.{Bool, true, false, ◌||◌, is_some, if◌then◌else◌, List, map, codes, Option, Some, None}
-use Rattle.swc_ecma_codegen_tree.specs.Links.{ClassMemberBox, ExprBox, FunctionBox}
+-- Classes: one production a node. `f` says what is read of what a link holds, in its role. Of what TypeScript adds this isn't
+-- printed yet: types of fields, modifiers, what a class implements, and index signatures. ECMA-262, section 15.7.
+use Rattle.std.specs.Prelude.{Bool, ◌||◌, is_none, is_some, if◌then◌else◌, List, map, codes, Option, Some, None}
+use Rattle.swc_ecma_codegen_tree.specs.Links.{ClassMemberBox, ExprBox, FunctionBox, TsTypeParamInstantiationBox}
 use Rattle.swc_ecma_codegen_tree.specs.declared.classes.Class as classes
 use Rattle.swc_ecma_codegen_tree.specs.declared.classes.ClassMember as class_members
 use Rattle.swc_ecma_codegen_tree.specs.declared.classes.ClassMember.TheVariants as members
@@ -22,10 +22,12 @@ use Rattle.swc_ecma_codegen_tree.specs.declared.decls.ClassDecl.{ClassDecl}
 use Rattle.swc_ecma_codegen_tree.specs.declared.decls.Decorator.{Decorator}
 use Rattle.swc_ecma_codegen_tree.specs.declared.decls.Function as functions
 use Rattle.swc_ecma_codegen_tree.specs.declared.exprs.ClassExpr.{ClassExpr}
-use Rattle.swc_ecma_codegen_grammar.specs.Phrases.{Phrase, Never, Nothing, ◌>◌, word, mark, same_line, ending, listed, in_order}
+use Rattle.swc_ecma_codegen_grammar.specs.Phrases.{Phrase, Never, Nothing, ◌>◌, where_, word, mark, same_line, ending, listed, in_order}
+use Rattle.swc_ecma_codegen_grammar.specs.AnnotationPhrases.{annotation, type_args, type_params}
 use Rattle.swc_ecma_codegen_grammar.specs.NamePhrases.{ident, private_name}
 use Rattle.swc_ecma_codegen_grammar.specs.PatPhrases.{value_at, prop_name_at, initializer}
 use Rattle.swc_ecma_codegen_grammar.specs.FunctionPhrases.{block_at, word_if, is_some_listed, decorator, param, function_body, optional_name}
+use Rattle.swc_ecma_codegen_grammar.specs.TsDeclPhrases.{declare_word}
 use Rattle.swc_ecma_codegen_grammar.specs.declared.roles.Role.{Role}
 use Rattle.swc_ecma_codegen_grammar.specs.declared.roles.Role.TheVariants.{ClassHead, ClassTail, Member, MethodHead, MethodDecorators, MethodTail, AccessorTail, FieldValue}
 
@@ -41,23 +43,23 @@ decorators f ns = in_order (map (decorator f) ns)
 unfoldable pub class_head : {X : Type 0} → (X → Role → Phrase) → classes.Class X → Phrase
 class_head f n = decorators f n.decorators.items
 
--- `extends A`
-unfoldable pub heritage : {X : Type 0} → (X → Role → Phrase) → Option (ExprBox X) → Phrase
-heritage f None = Nothing
-heritage f (Some n) = word (codes "extends") > value_at f n
+-- `extends A<B>`; no source text spells arguments without a class
+unfoldable pub heritage : {X : Type 0} → (X → Role → Phrase) → Option (ExprBox X) → Option (TsTypeParamInstantiationBox X) → Phrase
+heritage f None args = where_ (is_none args) Nothing
+heritage f (Some n) args = word (codes "extends") > value_at f n > type_args f args
 
--- what TypeScript adds to a class
+-- what TypeScript adds to a class, and isn't printed yet
 abbrev pub is_typed_class : {X : Type 0} → classes.Class X → Bool
-is_typed_class n = n.is_abstract || (is_some n.type_params || (is_some n.super_type_params || is_some_listed n.implements.items))
+is_typed_class n = n.is_abstract || is_some_listed n.implements.items
 
--- `extends A { b; }`
+-- `<A> extends B<C> { d; }`
 unfoldable pub class_tail : {X : Type 0} → (X → Role → Phrase) → classes.Class X → Phrase
 class_tail f n =
     if is_typed_class n then Never
-    else (heritage f n.super_class > mark (codes "{") > in_order (map (member_at f) n.body.items) > mark (codes "}"))
+    else (type_params f n.type_params > heritage f n.super_class n.super_type_params > mark (codes "{") > in_order (map (member_at f) n.body.items) > mark (codes "}"))
 
 unfoldable pub class_decl : {X : Type 0} → (X → Role → Phrase) → ClassDecl X → Phrase
-class_decl f n = if n.declare then Never else (f n.class.node.value ClassHead > word (codes "class") > ident n.ident > f n.class.node.value ClassTail)
+class_decl f n = declare_word n.declare > f n.class.node.value ClassHead > word (codes "class") > ident n.ident > f n.class.node.value ClassTail
 
 unfoldable pub class_expr : {X : Type 0} → (X → Role → Phrase) → ClassExpr X → Phrase
 class_expr f n = f n.class.node.value ClassHead > word (codes "class") > optional_name n.ident > f n.class.node.value ClassTail
@@ -80,8 +82,8 @@ method_decorators f n = decorators f n.decorators.items
 
 unfoldable pub method_tail : {X : Type 0} → (X → Role → Phrase) → functions.Function X → Phrase
 method_tail f n =
-    if is_some n.type_params || is_some n.return_type then Never
-    else (mark (codes "(") > listed (codes ",") (map (param f) n.params.items) > mark (codes ")") > function_body f n.body)
+    type_params f n.type_params > mark (codes "(") > listed (codes ",") (map (param f) n.params.items) > mark (codes ")") > annotation f n.return_type
+    > function_body f n.body
 
 -- the same of a getter or a setter, which is neither async nor a generator
 unfoldable pub accessor_tail : {X : Type 0} → (X → Role → Phrase) → functions.Function X → Phrase

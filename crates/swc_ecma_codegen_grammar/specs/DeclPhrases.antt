@@ -1,5 +1,5 @@
--- Declarations: one production a node. `f` says what is read of what a link holds, in its role. What TypeScript adds, `declare` and
--- `!` after a name, isn't printed yet.
+-- Declarations: one production a node. `f` says what is read of what a link holds, in its role. `!` after a name, which TypeScript adds,
+-- isn't printed yet.
 use Rattle.std.specs.Prelude.{Bool, true, false, if◌then◌else◌, map, codes}
 use Rattle.swc_ecma_codegen_tree.specs.Links.{VarDeclBox}
 use Rattle.swc_ecma_codegen_tree.specs.declared.decls.Decl.{Decl}
@@ -15,6 +15,7 @@ use Rattle.swc_ecma_codegen_grammar.specs.NamePhrases.{ident}
 use Rattle.swc_ecma_codegen_grammar.specs.PatPhrases.{pat, initializer}
 use Rattle.swc_ecma_codegen_grammar.specs.ClassPhrases.{class_decl}
 use Rattle.swc_ecma_codegen_grammar.specs.FunctionPhrases.{function_at}
+use Rattle.swc_ecma_codegen_grammar.specs.TsDeclPhrases.{declare_word, ts_interface_decl, ts_type_alias_decl, ts_enum_decl, ts_module_decl}
 use Rattle.swc_ecma_codegen_grammar.specs.declared.roles.Role.{Role}
 use Rattle.swc_ecma_codegen_grammar.specs.declared.roles.Role.TheVariants.{FunctionHead, VariableDeclaration}
 
@@ -22,9 +23,9 @@ use Rattle.swc_ecma_codegen_grammar.specs.declared.roles.Role.TheVariants.{Funct
 abbrev pub var_decl_at : {X : Type 0} → (X → Role → Phrase) → VarDeclBox X → Phrase
 var_decl_at f n = f n.node.value VariableDeclaration
 
--- ECMA-262, section 15.2: `function f(a) { b; }`
+-- ECMA-262, section 15.2: `function f(a) { b; }`, in TypeScript `declare function f(a);` too
 unfoldable pub fn_decl : {X : Type 0} → (X → Role → Phrase) → FnDecl X → Phrase
-fn_decl f n = if n.declare then Never else (f n.function.node.value FunctionHead > ident n.ident > function_at f n.function)
+fn_decl f n = declare_word n.declare > f n.function.node.value FunctionHead > ident n.ident > function_at f n.function
 
 -- section 14.3: `a`, `a = b`
 unfoldable pub var_declarator : {X : Type 0} → (X → Role → Phrase) → VarDeclarator X → Phrase
@@ -37,7 +38,7 @@ var_kind Const = word (codes "const")
 
 -- `let a = b, c`: of one declarator at least
 unfoldable pub var_decl : {X : Type 0} → (X → Role → Phrase) → VarDecl X → Phrase
-var_decl f n = if n.declare then Never else (var_kind n.kind > some_listed (codes ",") (map (var_declarator f) n.decls.items))
+var_decl f n = declare_word n.declare > var_kind n.kind > some_listed (codes ",") (map (var_declarator f) n.decls.items)
 
 -- behind `await`, where it is so, with no line end between
 unfoldable pub after_await : Bool → Phrase → Phrase
@@ -54,5 +55,7 @@ decl f (decls.Class n) = class_decl f n
 decl f (decls.Fn n) = fn_decl f n
 decl f (decls.Var n) = var_decl f n > ending
 decl f (decls.Using n) = using_decl f n > ending
--- what isn't printed yet
-decl f n = Never
+decl f (decls.TsInterface n) = ts_interface_decl f n.value
+decl f (decls.TsTypeAlias n) = ts_type_alias_decl f n.value
+decl f (decls.TsEnum n) = ts_enum_decl f n.value
+decl f (decls.TsModule n) = ts_module_decl f n.value

@@ -1,5 +1,4 @@
--- Functions: one production a node. `f` says what is read of what a link holds, in its role. What TypeScript adds, types and their
--- parameters, isn't printed yet.
+-- Functions: one production a node. `f` says what is read of what a link holds, in its role.
 use Rattle.std.specs.Prelude.{Bool, true, false, ◌||◌, is_some, if◌then◌else◌, List, [], ◌∷◌, map, codes, Option, Some, None}
 use Rattle.swc_ecma_codegen_tree.specs.Links.{BlockStmtBox, FunctionBox, PatBox}
 use Rattle.swc_ecma_codegen_tree.specs.declared.decls.Decorator.{Decorator}
@@ -11,6 +10,7 @@ use Rattle.swc_ecma_codegen_tree.specs.declared.exprs.BlockStmtOrExpr.{BlockStmt
 use Rattle.swc_ecma_codegen_tree.specs.declared.exprs.BlockStmtOrExpr.TheVariants as bodies
 use Rattle.swc_ecma_codegen_tree.specs.declared.idents.Ident.{Ident}
 use Rattle.swc_ecma_codegen_grammar.specs.Phrases.{Phrase, Never, Nothing, OptionalParentheses, ◌>◌, word, mark, ending, listed, in_order, same_line}
+use Rattle.swc_ecma_codegen_grammar.specs.AnnotationPhrases.{annotation, type_params}
 use Rattle.swc_ecma_codegen_grammar.specs.NamePhrases.{ident}
 use Rattle.swc_ecma_codegen_grammar.specs.PatPhrases.{value_at, pat_at, pat}
 use Rattle.swc_ecma_codegen_grammar.specs.declared.roles.Role.{Role}
@@ -51,11 +51,11 @@ unfoldable pub function_body : {X : Type 0} → (X → Role → Phrase) → Opti
 function_body f None = ending
 function_body f (Some n) = block_at f n
 
--- section 15.2: `(a) { b; }`. Only methods of classes have decorators.
+-- section 15.2: `<A>(a): B { c; }`. Only methods of classes have decorators.
 unfoldable pub function : {X : Type 0} → (X → Role → Phrase) → functions.Function X → Phrase
 function f n =
-    if is_some n.type_params || (is_some n.return_type || is_some_listed n.decorators.items) then Never
-    else (mark (codes "(") > listed (codes ",") (map (param f) n.params.items) > mark (codes ")") > function_body f n.body)
+    if is_some_listed n.decorators.items then Never
+    else (type_params f n.type_params > mark (codes "(") > listed (codes ",") (map (param f) n.params.items) > mark (codes ")") > annotation f n.return_type > function_body f n.body)
 
 -- sections 15.2, 15.5, 15.6 and 15.8: `function`, `function*`, `async function`, `async function*`
 unfoldable pub function_head : {X : Type 0} → functions.Function X → Phrase
@@ -84,16 +84,22 @@ only_parameter f n =
     if is_never (f n.node.value PlainParameter) then mark (codes "(") > pat_at f n > mark (codes ")")
     else OptionalParentheses (pat_at f n)
 
-unfoldable pub arrow_parameters : {X : Type 0} → (X → Role → Phrase) → List (PatBox X) → Phrase
-arrow_parameters f (n ∷ []) = only_parameter f n
-arrow_parameters f ns = mark (codes "(") > listed (codes ",") (map (pat_at f) ns) > mark (codes ")")
+-- types around the parameters: before them their own parameters, and behind them that of the result
+abbrev pub is_typed_arrow : {X : Type 0} → ArrowExpr X → Bool
+is_typed_arrow n = is_some n.type_params || is_some n.return_type
+
+-- a name alone needs no parentheses but between types
+unfoldable pub arrow_parameters : {X : Type 0} → (X → Role → Phrase) → Bool → List (PatBox X) → Phrase
+arrow_parameters f false (n ∷ []) = only_parameter f n
+arrow_parameters f typed ns = mark (codes "(") > listed (codes ",") (map (pat_at f) ns) > mark (codes ")")
 
 unfoldable pub arrow_body : {X : Type 0} → (X → Role → Phrase) → BlockStmtOrExpr X → Phrase
 arrow_body f (bodies.BlockStmt n) = block_at f n
 arrow_body f (bodies.Expr n) = value_at f n
 
--- sections 15.3 and 15.9: `a => b`; no source text spells a generator
+-- sections 15.3 and 15.9: `a => b`, `<A>(a): B => c`; no source text spells a generator
 unfoldable pub arrow_expr : {X : Type 0} → (X → Role → Phrase) → ArrowExpr X → Phrase
 arrow_expr f n =
-    if is_some n.type_params || is_some n.return_type then Never
-    else after_async n.is_async (word_if n.is_generator (mark (codes "*")) > arrow_parameters f n.params.items > same_line > mark (codes "=>") > arrow_body f n.body)
+    after_async n.is_async
+    (word_if n.is_generator (mark (codes "*")) > type_params f n.type_params > arrow_parameters f (is_typed_arrow n) n.params.items
+    > annotation f n.return_type > same_line > mark (codes "=>") > arrow_body f n.body)

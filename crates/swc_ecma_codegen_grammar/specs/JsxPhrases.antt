@@ -1,6 +1,6 @@
 -- JSX: one production a node. `f` says what is read of what a link holds, in its role. What TypeScript adds, arguments of a tag that are
 -- types, isn't printed yet. JSX specification, sections "JSX Elements", "JSX Attributes", "JSX Children" and "JSX Strings".
-use Rattle.std.specs.Prelude.{ℕ, Bool, true, false, not, ◌&&◌, ◌==◌, is_some, if◌then◌else◌, List, [], ◌∷◌, ◌++◌, map, codes, string_bytes, Option, Some, None}
+use Rattle.std.specs.Prelude.{ℕ, Bool, true, false, not, ◌&&◌, ◌==◌, if◌then◌else◌, List, [], ◌∷◌, ◌++◌, map, codes, string_bytes, Option, Some, None}
 use Rattle.std.specs.List.{list_any}
 use Rattle.std.specs.Str.{chars}
 use Rattle.std.specs.declared.string.String.{String}
@@ -36,6 +36,7 @@ use Rattle.swc_ecma_codegen_tree.specs.declared.jsx.JSXSpreadChild.{JSXSpreadChi
 use Rattle.swc_ecma_codegen_tree.specs.declared.parts.JSXPart.{JSXPart}
 use Rattle.swc_ecma_codegen_tree.specs.declared.parts.JSXPart.TheVariants as jsx_parts
 use Rattle.swc_ecma_codegen_grammar.specs.Jsx.{is_jsx_string, is_jsx_text}
+use Rattle.swc_ecma_codegen_grammar.specs.AnnotationPhrases.{type_args}
 use Rattle.swc_ecma_codegen_grammar.specs.PatPhrases.{value_at}
 use Rattle.swc_ecma_codegen_grammar.specs.Phrases.{Phrase, Never, Nothing, One, TagNameOf, ◌>◌, where_, mark, in_order}
 use Rattle.swc_ecma_codegen_grammar.specs.PropPhrases.{spread_element}
@@ -159,8 +160,8 @@ self_close false = Nothing
 -- JSXOpeningElement, and JSXSelfClosingElement
 unfoldable pub jsx_opening_element : {X : Type 0} → (X → Role → Phrase) → Bool → JSXOpeningElement X → Phrase
 jsx_opening_element f is_child n =
-    if is_some n.type_args then Never
-    else (open_mark is_child (codes "<") > jsx_element_name f n.name > in_order (map (jsx_attr_or_spread f) n.attrs.items) > self_close n.self_closing > One tokens.tag_close)
+    open_mark is_child (codes "<") > jsx_element_name f n.name > type_args f n.type_args > in_order (map (jsx_attr_or_spread f) n.attrs.items)
+    > self_close n.self_closing > One tokens.tag_close
 
 -- JSXClosingElement: `</a>`
 unfoldable pub jsx_closing_element : {X : Type 0} → (X → Role → Phrase) → JSXClosingElement X → Phrase

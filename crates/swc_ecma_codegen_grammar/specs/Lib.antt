@@ -1,3 +1,4 @@
+pub mod AnnotationPhrases
 pub mod AssignPhrases
 pub mod CallPhrases
 pub mod Chars
@@ -26,6 +27,7 @@ pub mod LitPhrases
 pub mod LongestMatch
 pub mod SourceLines
 pub mod SpelledNames
+pub mod MemberPhrases
 pub mod NamePhrases
 pub mod NameTurns
 pub mod Names
@@ -52,5 +54,8 @@ pub mod Tokens
 pub mod TreePhrases
 pub mod Trivia
 pub mod Turns
+pub mod TypePhrases
+pub mod TsDeclPhrases
+pub mod NamespacePhrases
 pub mod ValidNames
 pub mod WrittenUnits

@@ -1,6 +1,6 @@
--- Imports and exports: one production a node. `f` says what is read of what a link holds, in its role. What TypeScript adds isn't printed
--- yet. ECMA-262, section 16.2.
-use Rattle.std.specs.Prelude.{if◌then◌else◌, List, [], ◌∷◌, map, codes, Option, Some, None}
+-- Imports and exports: one production a node. `f` says what is read of what a link holds, in its role. ECMA-262, section 16.2. `type` and
+-- `declare` are TypeScript's: its handbook, section "Modules".
+use Rattle.std.specs.Prelude.{Bool, List, [], ◌∷◌, map, codes, Option, Some, None}
 use Rattle.swc_ecma_codegen_tree.specs.Links.{ObjectLitBox}
 use Rattle.swc_ecma_codegen_tree.specs.declared.decls.Decl.{Decl}
 use Rattle.swc_ecma_codegen_tree.specs.declared.decls.Decl.TheVariants as decls
@@ -30,10 +30,11 @@ use Rattle.swc_ecma_codegen_grammar.specs.Phrases.{Phrase, Never, Nothing, Right
 use Rattle.swc_ecma_codegen_grammar.specs.ClassPhrases.{class_expr}
 use Rattle.swc_ecma_codegen_grammar.specs.DeclPhrases.{decl}
 use Rattle.swc_ecma_codegen_grammar.specs.ElementPhrases.{closing_of}
-use Rattle.swc_ecma_codegen_grammar.specs.FunctionPhrases.{fn_expr}
+use Rattle.swc_ecma_codegen_grammar.specs.FunctionPhrases.{word_if, fn_expr}
 use Rattle.swc_ecma_codegen_grammar.specs.LitPhrases.{str_lit}
 use Rattle.swc_ecma_codegen_grammar.specs.NamePhrases.{ident}
 use Rattle.swc_ecma_codegen_grammar.specs.PatPhrases.{value_at}
+use Rattle.swc_ecma_codegen_grammar.specs.TsDeclPhrases.{declare_word, ts_interface_decl, ts_import_equals_decl, ts_export_assignment, ts_namespace_export_decl}
 use Rattle.swc_ecma_codegen_grammar.specs.declared.roles.Role.{Role}
 use Rattle.swc_ecma_codegen_grammar.specs.declared.roles.Role.TheVariants.{ObjectLiteral, ClassHead, ClassTail, ExportedHead, ExportedTail}
 
@@ -42,6 +43,10 @@ unfoldable pub module_export_name : ModuleExportName → Phrase
 module_export_name (export_names.Ident n) = ident n
 module_export_name (export_names.Str n) = str_lit n
 
+-- `type` of `import type a from 'b'`, where it stands
+unfoldable pub type_word : Bool → Phrase
+type_word type_only = word_if type_only (word (codes "type"))
+
 -- ---- imports
 
 -- `a as` of `import { a as b } from 'c'`
@@ -49,9 +54,9 @@ unfoldable pub imported_as : Option ModuleExportName → Phrase
 imported_as None = Nothing
 imported_as (Some n) = module_export_name n > word (codes "as")
 
--- section 16.2.2: `a as b`
+-- section 16.2.2: `a as b`, or `type a as b`
 unfoldable pub import_named : ImportNamedSpecifier → Phrase
-import_named n = if n.is_type_only then Never else (imported_as n.imported > ident n.local)
+import_named n = type_word n.is_type_only > imported_as n.imported > ident n.local
 
 -- among braces only such stand
 unfoldable pub import_specifier : ImportSpecifier → Phrase
@@ -85,11 +90,10 @@ unfoldable pub attributes : {X : Type 0} → (X → Role → Phrase) → Option 
 attributes f None = Nothing
 attributes f (Some n) = Chosen AttributesWord > f n.node.value ObjectLiteral
 
--- `import a, { b as c } from 'd' with { type: 'json' };`
+-- `import a, { b as c } from 'd' with { type: 'json' };`, or `import type a from 'b';`
 unfoldable pub import_decl : {X : Type 0} → (X → Role → Phrase) → ImportDecl X → Phrase
 import_decl f n =
-    if n.type_only then Never
-    else (word (codes "import") > import_phase n.phase > import_clause n.specifiers.items > str_lit n.src > attributes f n.with_ > ending)
+    word (codes "import") > type_word n.type_only > import_phase n.phase > import_clause n.specifiers.items > str_lit n.src > attributes f n.with_ > ending
 
 -- ---- exports
 
@@ -98,9 +102,9 @@ unfoldable pub exported_as : Option ModuleExportName → Phrase
 exported_as None = Nothing
 exported_as (Some n) = word (codes "as") > module_export_name n
 
--- section 16.2.3: `a as b`
+-- section 16.2.3: `a as b`, or `type a as b`
 unfoldable pub export_named_specifier : ExportNamedSpecifier → Phrase
-export_named_specifier n = if n.is_type_only then Never else (module_export_name n.orig > exported_as n.exported)
+export_named_specifier n = type_word n.is_type_only > module_export_name n.orig > exported_as n.exported
 
 -- among braces only such stand
 unfoldable pub export_specifier : ExportSpecifier → Phrase
@@ -127,17 +131,14 @@ from_clause f with_ (Some n) = word (codes "from") > str_lit n > attributes f wi
 from_clause f None None = Nothing
 from_clause f (Some n) None = Never
 
--- `export { a, b as c } from 'd';`
+-- `export { a, b as c } from 'd';`, or `export type { a };`
 unfoldable pub export_named : {X : Type 0} → (X → Role → Phrase) → NamedExport X → Phrase
-export_named f n =
-    if n.type_only then Never
-    else (word (codes "export") > export_clause n.specifiers.items > from_clause f n.with_ n.src > ending)
+export_named f n = word (codes "export") > type_word n.type_only > export_clause n.specifiers.items > from_clause f n.with_ n.src > ending
 
--- `export * from 'a';`
+-- `export * from 'a';`, or `export type * from 'a';`
 unfoldable pub export_all : {X : Type 0} → (X → Role → Phrase) → ExportAll X → Phrase
 export_all f n =
-    if n.type_only then Never
-    else (word (codes "export") > mark (codes "*") > word (codes "from") > str_lit n.src > attributes f n.with_ > ending)
+    word (codes "export") > type_word n.type_only > mark (codes "*") > word (codes "from") > str_lit n.src > attributes f n.with_ > ending
 
 -- what of a declaration stands before `export`: `@a` of `@a export class B {}`
 unfoldable pub exported_head : {X : Type 0} → (X → Role → Phrase) → Decl X → Phrase
@@ -146,7 +147,7 @@ exported_head f n = Nothing
 
 -- and what stands after it
 unfoldable pub exported_tail : {X : Type 0} → (X → Role → Phrase) → Decl X → Phrase
-exported_tail f (decls.Class n) = if n.declare then Never else (word (codes "class") > ident n.ident > f n.class.node.value ClassTail)
+exported_tail f (decls.Class n) = declare_word n.declare > word (codes "class") > ident n.ident > f n.class.node.value ClassTail
 exported_tail f n = decl f n
 
 -- `export let a = b;`
@@ -157,7 +158,7 @@ export_decl f n = f n.decl.node.value ExportedHead > word (codes "export") > f n
 unfoldable pub default_decl : {X : Type 0} → (X → Role → Phrase) → DefaultDecl X → Phrase
 default_decl f (default_decls.Class n) = class_expr f n
 default_decl f (default_decls.Fn n) = fn_expr f n
-default_decl f (default_decls.TsInterfaceDecl n) = Never
+default_decl f (default_decls.TsInterfaceDecl n) = ts_interface_decl f n
 
 unfoldable pub export_default_decl : {X : Type 0} → (X → Role → Phrase) → ExportDefaultDecl X → Phrase
 export_default_decl f n = word (codes "export") > word (codes "default") > default_decl f n.decl
@@ -175,5 +176,6 @@ module_decl f (module_decls.ExportNamed n) = export_named f n
 module_decl f (module_decls.ExportDefaultDecl n) = export_default_decl f n
 module_decl f (module_decls.ExportDefaultExpr n) = export_default_expr f n
 module_decl f (module_decls.ExportAll n) = export_all f n
--- what TypeScript adds
-module_decl f n = Never
+module_decl f (module_decls.TsImportEquals n) = ts_import_equals_decl f n
+module_decl f (module_decls.TsExportAssignment n) = ts_export_assignment f n
+module_decl f (module_decls.TsNamespaceExport n) = ts_namespace_export_decl n

@@ -1,7 +1,6 @@
 -- Templates: one production a node. `f` says what is read of what a link holds, in its role. What TypeScript adds, types after a tag,
 -- isn't printed yet. ECMA-262, sections 12.9.6, 13.2.8 and 13.3.11.
-use Rattle.std.specs.Prelude.{ℕ, ◌+◌, ◌==◌, Bool, true, false, is_some, if◌then◌else◌, List, [], ◌∷◌, ◌++◌, codes, length}
-use Rattle.swc_ecma_codegen_tree.specs.Links.{ExprBox}
+use Rattle.std.specs.Prelude.{ℕ, ◌+◌, ◌==◌, Bool, true, false, if◌then◌else◌, List, [], ◌∷◌, ◌++◌, codes, length}
 use Rattle.swc_ecma_codegen_tree.specs.declared.exprs.Tpl.{Tpl}
 use Rattle.swc_ecma_codegen_tree.specs.declared.exprs.TplElement.{TplElement}
 use Rattle.swc_ecma_codegen_tree.specs.declared.exprs.TaggedTpl.{TaggedTpl}
@@ -10,6 +9,7 @@ use Rattle.swc_ecma_codegen_grammar.specs.declared.kinds.Kind.TheVariants.{Templ
 use Rattle.swc_ecma_codegen_grammar.specs.declared.kinds.TemplatePart.{TemplatePart}
 use Rattle.swc_ecma_codegen_grammar.specs.LitPhrases.{characters}
 use Rattle.swc_ecma_codegen_grammar.specs.Phrases.{Phrase, Never, Nothing, One, ◌>◌, where_}
+use Rattle.swc_ecma_codegen_grammar.specs.AnnotationPhrases.{type_args}
 use Rattle.swc_ecma_codegen_grammar.specs.CallPhrases.{value_at, callee_at}
 use Rattle.swc_ecma_codegen_grammar.specs.FunctionPhrases.{is_some_listed}
 use Rattle.swc_ecma_codegen_grammar.specs.Templates.{part_end}
@@ -40,14 +40,14 @@ tpl_element first part n = part_phrase (part_kind first part) (part_text first p
 abbrev pub part_before : Bool → List TplElement → TemplatePart
 part_before tagged quasis = record { tagged = tagged; opens = is_some_listed quasis }
 
--- the parts after the first, each behind an expression: `b}c${d}e`
-unfoldable pub tpl_rest : {X : Type 0} → (X → Role → Phrase) → Bool → List (ExprBox X) → List TplElement → Phrase
-tpl_rest f tagged (e ∷ es) (q ∷ qs) = value_at f e > tpl_element false (part_before tagged qs) q > tpl_rest f tagged es qs
-tpl_rest f tagged es qs = Nothing
+-- the parts after the first, each behind an expression: `b}c${d}e`; or each behind a type
+unfoldable pub tpl_rest : {A : Type 0} → (A → Phrase) → Bool → List A → List TplElement → Phrase
+tpl_rest each tagged (e ∷ es) (q ∷ qs) = each e > tpl_element false (part_before tagged qs) q > tpl_rest each tagged es qs
+tpl_rest each tagged es qs = Nothing
 
-unfoldable pub tpl_parts : {X : Type 0} → (X → Role → Phrase) → Bool → List (ExprBox X) → List TplElement → Phrase
-tpl_parts f tagged es [] = Never
-tpl_parts f tagged es (q ∷ qs) = tpl_element true (part_before tagged qs) q > tpl_rest f tagged es qs
+unfoldable pub tpl_parts : {A : Type 0} → (A → Phrase) → Bool → List A → List TplElement → Phrase
+tpl_parts each tagged es [] = Never
+tpl_parts each tagged es (q ∷ qs) = tpl_element true (part_before tagged qs) q > tpl_rest each tagged es qs
 
 -- there is one part more than expressions
 abbrev pub is_counted : {A B : Type 0} → List A → List B → Bool
@@ -55,7 +55,7 @@ is_counted exprs quasis = length quasis == length exprs + 1
 
 -- whether it has a tag
 unfoldable pub tpl : {X : Type 0} → (X → Role → Phrase) → Bool → Tpl X → Phrase
-tpl f tagged n = if is_counted n.exprs.items n.quasis.items then tpl_parts f tagged n.exprs.items n.quasis.items else Never
+tpl f tagged n = if is_counted n.exprs.items n.quasis.items then tpl_parts (value_at f) tagged n.exprs.items n.quasis.items else Never
 
 unfoldable pub tagged_tpl : {X : Type 0} → (X → Role → Phrase) → TaggedTpl X → Phrase
-tagged_tpl f n = if is_some n.type_params then Never else (callee_at f n.tag > f n.tpl.node.value TaggedTemplate)
+tagged_tpl f n = callee_at f n.tag > type_args f n.type_params > f n.tpl.node.value TaggedTemplate

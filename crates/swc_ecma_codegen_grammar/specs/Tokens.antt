@@ -143,7 +143,7 @@ jsx_text spelling = record { kind = JsxText; value = Characters spelling }
 unfoldable pub child_open : List ℕ → Token
 child_open spelling = record { kind = JsxOpen; value = Characters spelling }
 
--- the `>` that closes a tag
+-- the `>` that closes a tag, or a list of types
 unfoldable pub tag_close : Token
 tag_close = record { kind = Close; value = Characters (codes ">") }
 

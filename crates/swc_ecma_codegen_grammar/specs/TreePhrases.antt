@@ -13,7 +13,7 @@ use Rattle.swc_ecma_codegen_grammar.specs.declared.roles.Role.{Role}
 use Rattle.swc_ecma_codegen_grammar.specs.declared.roles.Role.TheVariants.{Expression, Statement, MemberExpression, ChainMember, Callee, FieldValue}
 use Rattle.swc_ecma_codegen_grammar.specs.ExprPhrases.{expr, member_expr, chain_member, expr_in}
 use Rattle.swc_ecma_codegen_grammar.specs.JsxPhrases.{jsx_part}
-use Rattle.swc_ecma_codegen_grammar.specs.PartPhrases.{expr_part, stmt_part}
+use Rattle.swc_ecma_codegen_grammar.specs.PartPhrases.{expr_part, stmt_part, ts_part}
 use Rattle.swc_ecma_codegen_grammar.specs.StmtPhrases.{stmt, program}
 
 -- `a, b`
@@ -36,6 +36,7 @@ node_phrase f (nodes.MemberExpr n) (ChainMember optional) = chain_member f optio
 node_phrase f (nodes.ExprPart n) role = expr_part f n role
 node_phrase f (nodes.StmtPart n) role = stmt_part f n role
 node_phrase f (nodes.JSXPart n) role = jsx_part f n role
+node_phrase f (nodes.TsPart n) role = ts_part f n role
 node_phrase f n role = Never
 
 -- a whole node

@@ -65,4 +65,22 @@ pub enum Role {
     Child,
     /// `a.b` of `<a.b.c />`.
     TagObject,
+    /// `A<B>` of `(A<B>)[]`: a type.
+    AnyType,
+    /// `A` of `let a: A`: a type behind its colon, or behind what stands for one.
+    Annotation,
+    /// `<A, B>` of `f<A, B>()`.
+    TypeArguments,
+    /// `<A, B extends C>` of `class D<A, B extends C> {}`.
+    TypeParameters,
+    /// `a.B` of `let c: a.B`: the name of a type.
+    EntityName,
+    /// `a: B` of `let c: (a: B) => C`: a parameter of a type.
+    SignatureParameter,
+    /// `a: B;` of `let c: { a: B; }`: a member of a type.
+    TypeMember,
+    /// `{ b; }` of `namespace a { b; }`: the body of a namespace.
+    NamespaceBody,
+    /// `.b { c; }` of `namespace a.b { c; }`: the same behind the name, with further names.
+    DottedBody,
 }

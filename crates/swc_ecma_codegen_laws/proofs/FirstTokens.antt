@@ -10,7 +10,7 @@ use Rattle.swc_ecma_codegen_tree.specs.declared.links.AnyNode.{AnyNode, AnyNode-
 use Rattle.swc_ecma_codegen_tree.specs.declared.links.AnyNode.TheOpen as nodes
 use Rattle.swc_ecma_codegen_tree.specs.declared.links.AnyNode.TheBlock.{the_family, member-AnyNode}
 use Rattle.swc_ecma_codegen_tree.specs.declared.links.AnyNode.TheFolds.{claims}
-use Rattle.swc_ecma_codegen_tree.specs.Links.{ExprBox, PatBox}
+use Rattle.swc_ecma_codegen_tree.specs.Links.{ExprBox, PatBox, TsTypeParamDeclBox}
 use Rattle.swc_ecma_codegen_tree.specs.declared.exprs.Expr.{Expr}
 use Rattle.swc_ecma_codegen_tree.specs.declared.exprs.Expr.TheVariants as exprs
 use Rattle.swc_ecma_codegen_tree.specs.declared.exprs.Callee.{Callee}
@@ -24,12 +24,16 @@ use Rattle.swc_ecma_codegen_tree.specs.declared.exprs.TplElement.{TplElement}
 use Rattle.swc_ecma_codegen_tree.specs.declared.exprs.PropName.{PropName}
 use Rattle.swc_ecma_codegen_tree.specs.declared.exprs.PropName.TheVariants as prop_names
 use Rattle.swc_ecma_codegen_tree.specs.declared.decls.Function as functions
-use Rattle.swc_ecma_codegen_tree.specs.declared.idents.Ident.{Ident}
 use Rattle.swc_ecma_codegen_tree.specs.declared.parts.ExprPart.{ExprPart}
 use Rattle.swc_ecma_codegen_tree.specs.declared.parts.ExprPart.TheVariants as expr_parts
 use Rattle.swc_ecma_codegen_tree.specs.declared.parts.StmtPart.{StmtPart}
 use Rattle.swc_ecma_codegen_tree.specs.declared.parts.StmtPart.TheVariants as stmt_parts
 use Rattle.swc_ecma_codegen_tree.specs.declared.jsx.JSXOpeningElement.{JSXOpeningElement}
+use Rattle.swc_ecma_codegen_tree.specs.declared.idents.BindingIdent.{BindingIdent}
+use Rattle.swc_ecma_codegen_tree.specs.declared.parts.TsPart.{TsPart}
+use Rattle.swc_ecma_codegen_tree.specs.declared.parts.TsPart.TheVariants as ts_parts
+use Rattle.swc_ecma_codegen_grammar.specs.TypePhrases.{ts_type_param_decl}
+use Rattle.swc_ecma_codegen_grammar.specs.AnnotationPhrases.{type_params}
 use Rattle.swc_ecma_codegen_tree.specs.declared.parts.JSXPart.{JSXPart}
 use Rattle.swc_ecma_codegen_tree.specs.declared.parts.JSXPart.TheVariants as jsx_parts
 use Rattle.swc_ecma_codegen_tree.specs.declared.pats.Pat.{Pat}
@@ -59,7 +63,7 @@ use Rattle.swc_ecma_codegen_grammar.specs.Phrases.{Phrase, Never, Nothing, One, 
 use Rattle.swc_ecma_codegen_grammar.specs.Phrases as phrases
 use Rattle.swc_ecma_codegen_grammar.specs.Settings.{Settings}
 use Rattle.swc_ecma_codegen_grammar.specs.declared.roles.Role.{Role}
-use Rattle.swc_ecma_codegen_grammar.specs.declared.roles.Role.TheVariants.{Expression, Statement, MemberExpression, ChainMember, AssignmentTarget, Pattern, PlainParameter, PropertyName, ObjectLiteral, Function, FunctionHead, MethodHead, Block, Declaration, VariableDeclaration, Callee as IsCallee, ChainCall, Template, TaggedTemplate, ClassHead, ClassTail, Member, MethodDecorators, MethodTail, AccessorTail, FieldValue, ModuleDeclaration, ExportedHead, ExportedTail, Element, Child, TagObject}
+use Rattle.swc_ecma_codegen_grammar.specs.declared.roles.Role.TheVariants.{Expression, Statement, MemberExpression, ChainMember, AssignmentTarget, Pattern, PlainParameter, PropertyName, ObjectLiteral, Function, FunctionHead, MethodHead, Block, Declaration, VariableDeclaration, Callee as IsCallee, ChainCall, Template, TaggedTemplate, ClassHead, ClassTail, Member, MethodDecorators, MethodTail, AccessorTail, FieldValue, ModuleDeclaration, ExportedHead, ExportedTail, Element, Child, TagObject, AnyType, Annotation, TypeArguments, TypeParameters, EntityName, SignatureParameter, TypeMember, NamespaceBody, DottedBody}
 use Rattle.swc_ecma_codegen_grammar.specs.NamePhrases as names
 use Rattle.swc_ecma_codegen_grammar.specs.ExprPhrases as lists
 use Rattle.swc_ecma_codegen_grammar.specs.LitPhrases as lit_lists
@@ -67,6 +71,9 @@ use Rattle.swc_ecma_codegen_grammar.specs.AssignPhrases as target_lists
 use Rattle.swc_ecma_codegen_grammar.specs.CallPhrases as call_lists
 use Rattle.swc_ecma_codegen_grammar.specs.PartPhrases as part_lists
 use Rattle.swc_ecma_codegen_grammar.specs.DeclPhrases as decl_lists
+use Rattle.swc_ecma_codegen_grammar.specs.TsDeclPhrases as ts_decl_lists
+use Rattle.swc_ecma_codegen_tree.specs.declared.ts_decls.TsModuleName.{TsModuleName}
+use Rattle.swc_ecma_codegen_tree.specs.declared.ts_decls.TsModuleName.TheVariants as module_names
 use Rattle.swc_ecma_codegen_grammar.specs.FunctionPhrases as function_lists
 use Rattle.swc_ecma_codegen_grammar.specs.PatPhrases as pat_lists
 use Rattle.swc_ecma_codegen_grammar.specs.KeyPhrases as key_lists
@@ -205,7 +212,7 @@ begins_update : (prefix : Bool) (op : List ℕ) (f : Phrase) (b : Bool) → Begi
 begins_update true op f b h = begins_then (mark op) f false (begins_mark op false)
 begins_update false op f b h = begins_then f (phrases.same_line > mark op) b h
 
--- In these roles something begins that is asked how it begins. A property, the value of one and a member are never asked, nor is a part of a tag's name,
+-- In these roles something begins that is asked how it begins. A property, the value of one and a member are never asked, nor is a part of a tag's name, nor a type,
 -- and what stands before the name of a method or before a class may be nothing.
 leads : Role → Bool
 leads MethodHead = false
@@ -220,6 +227,14 @@ leads ModuleDeclaration = false
 leads ExportedHead = false
 leads ExportedTail = false
 leads TagObject = false
+leads AnyType = false
+leads Annotation = false
+leads TypeArguments = false
+leads EntityName = false
+leads SignatureParameter = false
+leads TypeMember = false
+leads NamespaceBody = false
+leads DottedBody = false
 leads role = true
 
 -- `function` is a word, and so is `let`; a block and an object begin with a brace, a template with a back quote, and an
@@ -233,6 +248,7 @@ begins_as Template b = false
 begins_as TaggedTemplate b = false
 begins_as Element b = false
 begins_as Child b = false
+begins_as TypeParameters b = false
 begins_as role b = b
 
 -- what a node begins with, where what its links hold begins as f says
@@ -266,7 +282,7 @@ callee_begins reads starts law (callees.Expr n) = law n.node.value IsCallee refl
 
 new_begins : {X : Type 0} (reads : X → Role → Phrase) (keeps : Bool) (n : NewExpr X) → Begins (call_lists.new_expr reads keeps n) true
 unfolding call_lists.new_expr
-new_begins reads keeps n = unless_begins (is_some n.type_args) _ true (begins_then _ _ _ (begins_true _))
+new_begins reads keeps n = begins_then _ _ _ (begins_true _)
 
 -- ---- functions
 
@@ -292,9 +308,18 @@ unfolding function_lists.after_async
 function_head_begins n true rest = begins_then _ _ _ (begins_true _)
 function_head_begins n false rest = begins_then _ _ _ (begins_true _)
 
-function_begins : (typed : Bool) (rest : Phrase) → Begins (cond typed Never (mark (codes "(") > rest)) false
-function_begins true rest = begins_never false
-function_begins false rest = begins_then _ _ _ (begins_mark _ false)
+-- what begins with no word
+begins_no_word : (f : Phrase) (b : Bool) → Begins f false → Begins f b
+begins_no_word f b h = record { some = h.some; told = λ s x xs k j. absurd (true≢false (sym (h.told s x xs k j))) }
+
+types_then : {X : Type 0} (reads : X → Role → Phrase) (starts : X → Bool) → Begin reads starts → (ps : Option (TsTypeParamDeclBox X)) (f : Phrase) (b : Bool) → Begins f b → Begins (type_params reads ps > f) b
+unfolding leads begins_as type_params
+types_then reads starts law None f b h = begins_behind f b h
+types_then reads starts law (Some t) f b h = begins_then _ _ _ (begins_no_word _ b (law t.node.value TypeParameters refl))
+
+function_begins : {X : Type 0} (reads : X → Role → Phrase) (starts : X → Bool) → Begin reads starts → (decorated : Bool) (ps : Option (TsTypeParamDeclBox X)) (rest : Phrase) → Begins (cond decorated Never (type_params reads ps > mark (codes "(") > rest)) false
+function_begins reads starts law true ps rest = begins_never false
+function_begins reads starts law false ps rest = types_then reads starts law ps _ false (begins_then _ _ _ (begins_mark _ false))
 
 only_begins : {X : Type 0} (reads : X → Role → Phrase) (starts : X → Bool) → Begin reads starts → (n : PatBox X) → Begins (function_lists.only_parameter reads n) (starts n.node.value)
 unfolding function_lists.only_parameter leads begins_as
@@ -304,18 +329,18 @@ only_begins reads starts law n = either (function_lists.is_never (reads n.node.v
     either true = begins_then _ _ _ (begins_mark _ _)
     either false = begins_parentheses _ _ (law n.node.value Pattern refl)
 
-params_begin : {X : Type 0} (reads : X → Role → Phrase) (starts : X → Bool) → Begin reads starts → (ns : List (PatBox X)) (rest : Phrase) → Begins (function_lists.arrow_parameters reads ns > rest) (only_starts starts ns)
+params_begin : {X : Type 0} (reads : X → Role → Phrase) (starts : X → Bool) → Begin reads starts → (typed : Bool) (ns : List (PatBox X)) (rest : Phrase) → Begins (function_lists.arrow_parameters reads typed ns > rest) (only_starts starts ns)
 unfolding function_lists.arrow_parameters only_starts
-params_begin reads starts law [] rest = begins_then _ _ _ (begins_then _ _ _ (begins_mark _ _))
-params_begin reads starts law (n ∷ []) rest = begins_then _ _ _ (only_begins reads starts law n)
-params_begin reads starts law (n ∷ m ∷ ns) rest = begins_then _ _ _ (begins_then _ _ _ (begins_mark _ _))
+params_begin reads starts law true ns rest = begins_then _ _ _ (begins_then _ _ _ (begins_mark _ _))
+params_begin reads starts law false [] rest = begins_then _ _ _ (begins_then _ _ _ (begins_mark _ _))
+params_begin reads starts law false (n ∷ []) rest = begins_then _ _ _ (only_begins reads starts law n)
+params_begin reads starts law false (n ∷ m ∷ ns) rest = begins_then _ _ _ (begins_then _ _ _ (begins_mark _ _))
 
-arrow_begins : {X : Type 0} (reads : X → Role → Phrase) (starts : X → Bool) → Begin reads starts → (typed is_async is_generator : Bool) (ns : List (PatBox X)) (rest : Phrase) → Begins (cond typed Never (function_lists.after_async is_async (function_lists.word_if is_generator (mark (codes "*")) > function_lists.arrow_parameters reads ns > rest))) (cond is_async true (only_starts starts ns))
+arrow_begins : {X : Type 0} (reads : X → Role → Phrase) (starts : X → Bool) → Begin reads starts → (ps : Option (TsTypeParamDeclBox X)) (typed is_async is_generator : Bool) (ns : List (PatBox X)) (rest : Phrase) → Begins (function_lists.after_async is_async (function_lists.word_if is_generator (mark (codes "*")) > type_params reads ps > function_lists.arrow_parameters reads typed ns > rest)) (cond is_async true (only_starts starts ns))
 unfolding function_lists.word_if function_lists.after_async
-arrow_begins reads starts law true is_async is_generator ns rest = begins_never _
-arrow_begins reads starts law false true is_generator ns rest = begins_then _ _ _ (begins_true _)
-arrow_begins reads starts law false false true ns rest = begins_then _ _ _ (begins_mark _ _)
-arrow_begins reads starts law false false false ns rest = begins_behind _ _ (params_begin reads starts law ns rest)
+arrow_begins reads starts law ps typed true is_generator ns rest = begins_then _ _ _ (begins_true _)
+arrow_begins reads starts law ps typed false true ns rest = begins_then _ _ _ (begins_mark _ _)
+arrow_begins reads starts law ps typed false false ns rest = begins_behind _ _ (types_then reads starts law ps _ _ (params_begin reads starts law typed ns rest))
 
 -- ---- classes
 
@@ -333,11 +358,11 @@ begins_before f g h = record {
 
 -- ---- templates
 
-tpl_begins : {X : Type 0} (reads : X → Role → Phrase) (counted tagged : Bool) (es : List (ExprBox X)) (qs : List TplElement) → Begins (cond counted (template_lists.tpl_parts reads tagged es qs) Never) false
+tpl_begins : {A : Type 0} (each : A → Phrase) (counted tagged : Bool) (es : List A) (qs : List TplElement) → Begins (cond counted (template_lists.tpl_parts each tagged es qs) Never) false
 unfolding template_lists.tpl_parts template_lists.tpl_element template_lists.part_phrase template_lists.part_kind tokens.token_of joins_a_word
-tpl_begins reads true tagged es [] = begins_never false
-tpl_begins reads true tagged es (q ∷ qs) = begins_then _ _ _ (begins_where _ _ _ (begins_other _ false refl))
-tpl_begins reads false tagged es qs = begins_never false
+tpl_begins each true tagged es [] = begins_never false
+tpl_begins each true tagged es (q ∷ qs) = begins_then _ _ _ (begins_where _ _ _ (begins_other _ false refl))
+tpl_begins each false tagged es qs = begins_never false
 
 expr_begins : {X : Type 0} (reads : X → Role → Phrase) (starts : X → Bool) → Begin reads starts → (n : Expr X) → Begins (lists.expr reads n) (expr_starts starts n)
 unfolding expr_starts update_starts arrow_starts template_lists.tagged_tpl class_lists.class_expr function_lists.fn_expr function_lists.arrow_expr lists.expr lists.member_expr lists.this_expr lists.unary_expr lists.update_expr lists.update_op lists.bin_expr lists.assign_expr lists.super_prop_expr lists.yield_expr lists.meta_prop_expr lists.await_expr lists.opt_chain_expr lists.cond_expr lists.seq_expr lists.paren_expr names.ident names.private_name call_lists.array_lit call_lists.call_expr prop_lists.object_lit leads begins_as
@@ -352,14 +377,14 @@ expr_begins reads starts law (exprs.Assign n) = begins_then _ _ _ (law n.left.no
 expr_begins reads starts law (exprs.Member n) = begins_then _ _ _ (law n.obj.node.value IsCallee refl)
 expr_begins reads starts law (exprs.SuperProp n) = begins_then _ _ _ (begins_true _)
 expr_begins reads starts law (exprs.Cond n) = begins_then _ _ _ (law n.test.node.value Expression refl)
-expr_begins reads starts law (exprs.Call n) = unless_begins (is_some n.type_args) _ _ (begins_then _ _ _ (callee_begins reads starts law n.callee))
+expr_begins reads starts law (exprs.Call n) = begins_then _ _ _ (callee_begins reads starts law n.callee)
 expr_begins reads starts law (exprs.New n) = new_begins reads false n
 expr_begins reads starts law (exprs.Seq n) = seq_begins reads starts law n.exprs.items
 expr_begins reads starts law (exprs.Ident n) = begins_then _ _ _ (begins_name _ _)
 expr_begins reads starts law (exprs.Lit n) = begins_lit n
 expr_begins reads starts law (exprs.Tpl n) = law n.node.value Template refl
-expr_begins reads starts law (exprs.TaggedTpl n) = unless_begins (is_some n.type_params) _ _ (begins_then _ _ _ (law n.tag.node.value IsCallee refl))
-expr_begins reads starts law (exprs.Arrow n) = arrow_begins reads starts law (is_some n.value.type_params || is_some n.value.return_type) n.value.is_async n.value.is_generator n.value.params.items _
+expr_begins reads starts law (exprs.TaggedTpl n) = begins_then _ _ _ (law n.tag.node.value IsCallee refl)
+expr_begins reads starts law (exprs.Arrow n) = arrow_begins reads starts law n.value.type_params (function_lists.is_typed_arrow n.value) n.value.is_async n.value.is_generator n.value.params.items _
 expr_begins reads starts law (exprs.Class n) = begins_before _ _ (begins_then _ _ _ (begins_true _))
 expr_begins reads starts law (exprs.Yield n) = begins_then _ _ _ (begins_true _)
 expr_begins reads starts law (exprs.MetaProp n) = meta_prop_begins n.kind
@@ -382,9 +407,25 @@ kind_begins Var = begins_true _
 kind_begins Let = begins_true _
 kind_begins Const = begins_true _
 
+-- behind a word that may be missing
+word_first : (wanted : Bool) (t : List ℕ) (f : Phrase) → Begins f true → Begins (function_lists.word_if wanted (phrases.word t) > f) true
+unfolding function_lists.word_if
+word_first true t f h = begins_then _ _ _ (begins_true _)
+word_first false t f h = begins_behind f true h
+
+declare_first : (declared : Bool) (f : Phrase) → Begins f true → Begins (ts_decl_lists.declare_word declared > f) true
+unfolding ts_decl_lists.declare_word
+declare_first declared f h = word_first declared (codes "declare") f h
+
+module_head_begins : (global : Bool) (n : TsModuleName) → Begins (ts_decl_lists.module_head global n) true
+unfolding ts_decl_lists.module_head ts_decl_lists.ts_module_name
+module_head_begins true n = begins_true _
+module_head_begins false (module_names.Ident n) = begins_then _ _ _ (begins_true _)
+module_head_begins false (module_names.Str n) = begins_then _ _ _ (begins_true _)
+
 var_decl_begins : {X : Type 0} (reads : X → Role → Phrase) (n : VarDecl X) → Begins (decl_lists.var_decl reads n) true
 unfolding decl_lists.var_decl
-var_decl_begins reads n = unless_begins n.declare _ true (begins_then _ _ _ (kind_begins n.kind))
+var_decl_begins reads n = declare_first n.declare _ (begins_then _ _ _ (kind_begins n.kind))
 
 using_begins : (is_await : Bool) (rest : Phrase) → Begins (decl_lists.after_await is_await (phrases.word (codes "using") > rest)) true
 unfolding decl_lists.after_await
@@ -392,12 +433,15 @@ using_begins true rest = begins_then _ _ _ (begins_true _)
 using_begins false rest = begins_then _ _ _ (begins_true _)
 
 decl_begins : {X : Type 0} (reads : X → Role → Phrase) (starts : X → Bool) → Begin reads starts → (n : Decl X) → Begins (decl_lists.decl reads n) true
-unfolding leads begins_as decl_lists.decl class_lists.class_decl decl_lists.fn_decl decl_lists.using_decl
-decl_begins reads starts law (decls.Class n) = unless_begins n.declare _ true (begins_before _ _ (begins_then _ _ _ (begins_true _)))
-decl_begins reads starts law (decls.Fn n) = unless_begins n.declare _ true (begins_then _ _ _ (law n.function.node.value FunctionHead refl))
+unfolding leads begins_as decl_lists.decl class_lists.class_decl decl_lists.fn_decl decl_lists.using_decl ts_decl_lists.ts_interface_decl ts_decl_lists.ts_type_alias_decl ts_decl_lists.ts_enum_decl ts_decl_lists.ts_module_decl
+decl_begins reads starts law (decls.Class n) = declare_first n.declare _ (begins_before _ _ (begins_then _ _ _ (begins_true _)))
+decl_begins reads starts law (decls.Fn n) = declare_first n.declare _ (begins_then _ _ _ (law n.function.node.value FunctionHead refl))
 decl_begins reads starts law (decls.Var n) = begins_then _ _ _ (var_decl_begins reads n)
 decl_begins reads starts law (decls.Using n) = begins_then _ _ _ (using_begins n.is_await _)
-decl_begins reads starts law n = begins_never true
+decl_begins reads starts law (decls.TsInterface n) = declare_first n.value.declare _ (begins_then _ _ _ (begins_true _))
+decl_begins reads starts law (decls.TsTypeAlias n) = declare_first n.value.declare _ (begins_then _ _ _ (begins_true _))
+decl_begins reads starts law (decls.TsEnum n) = declare_first n.value.declare _ (word_first n.value.is_const (codes "const") _ (begins_then _ _ _ (begins_true _)))
+decl_begins reads starts law (decls.TsModule n) = declare_first n.value.declare _ (begins_then _ _ _ (module_head_begins n.value.global n.value.id))
 
 stmt_begins : {X : Type 0} (reads : X → Role → Phrase) (starts : X → Bool) → Begin reads starts → (n : Stmt X) → Begins (stmt_lists.stmt reads n) (stmt_starts starts n)
 unfolding leads begins_as stmt_starts names.ident stmt_lists.stmt stmt_lists.empty_stmt stmt_lists.expr_stmt stmt_lists.debugger_stmt stmt_lists.with_stmt stmt_lists.return_stmt stmt_lists.labeled_stmt stmt_lists.break_stmt stmt_lists.continue_stmt stmt_lists.if_stmt stmt_lists.switch_stmt stmt_lists.throw_stmt stmt_lists.try_stmt stmt_lists.while_stmt stmt_lists.do_while_stmt stmt_lists.for_stmt stmt_lists.for_in_stmt stmt_lists.for_of_stmt
@@ -408,28 +452,23 @@ stmt_begins reads starts law (stmts.Decl n) = decl_begins reads starts law n
 stmt_begins reads starts law (stmts.Labeled n) = begins_then _ _ _ (begins_then _ _ _ (begins_name _ _))
 stmt_begins reads starts law n = begins_then _ _ _ (begins_true _)
 
-binding_begins : (typed : Bool) (id : Ident) → Begins (cond typed Never (names.ident id)) true
-unfolding names.ident
-binding_begins true id = begins_never true
-binding_begins false id = begins_then _ _ _ (begins_name _ _)
+binding_begins : {X : Type 0} (reads : X → Role → Phrase) (n : BindingIdent X) → Begins (names.binding_ident reads n) true
+unfolding names.ident names.binding_ident
+binding_begins reads n = begins_then _ _ _ (begins_then _ _ _ (begins_name _ _))
 
 simple_target_begins : {X : Type 0} (reads : X → Role → Phrase) (starts : X → Bool) → Begin reads starts → (n : SimpleAssignTarget X) → Begins (target_lists.simple_assign_target reads n) (simple_target_starts starts n)
-unfolding simple_target_starts target_lists.simple_assign_target lists.member_expr names.binding_ident lists.super_prop_expr lists.paren_expr lists.opt_chain_expr leads begins_as
-simple_target_begins reads starts law (simple_targets.Ident n) = binding_begins (is_some n.type_ann) n.id
+unfolding simple_target_starts target_lists.simple_assign_target lists.member_expr lists.super_prop_expr lists.paren_expr lists.opt_chain_expr leads begins_as
+simple_target_begins reads starts law (simple_targets.Ident n) = binding_begins reads n
 simple_target_begins reads starts law (simple_targets.Member n) = begins_then _ _ _ (law n.obj.node.value IsCallee refl)
 simple_target_begins reads starts law (simple_targets.SuperProp n) = begins_then _ _ _ (begins_true _)
 simple_target_begins reads starts law (simple_targets.Paren n) = begins_then _ _ _ (begins_mark _ false)
 simple_target_begins reads starts law (simple_targets.OptChain n) = chain_begins reads starts law n.optional n.base
 simple_target_begins reads starts law n = begins_never _
 
-bracket_begins : (typed : Bool) (t : List ℕ) (rest : Phrase) (b : Bool) → Begins (cond typed Never (mark t > rest)) b
-bracket_begins true t rest b = begins_never b
-bracket_begins false t rest b = begins_then _ _ _ (begins_mark t b)
-
 target_pat_begins : {X : Type 0} (reads : X → Role → Phrase) (n : AssignTargetPat X) → Begins (pat_lists.assign_target_pat reads n) false
 unfolding pat_lists.assign_target_pat pat_lists.array_pat pat_lists.object_pat
-target_pat_begins reads (target_pats.Array n) = bracket_begins (n.optional || is_some n.type_ann) (codes "[") _ false
-target_pat_begins reads (target_pats.Object n) = bracket_begins (n.optional || is_some n.type_ann) (codes "{") _ false
+target_pat_begins reads (target_pats.Array n) = begins_then _ _ _ (begins_mark _ false)
+target_pat_begins reads (target_pats.Object n) = begins_then _ _ _ (begins_mark _ false)
 target_pat_begins reads (target_pats.Invalid n) = begins_never false
 
 target_begins : {X : Type 0} (reads : X → Role → Phrase) (starts : X → Bool) → Begin reads starts → (n : AssignTarget X) → Begins (target_lists.assign_target reads n) (target_starts starts n)
@@ -438,19 +477,19 @@ target_begins reads starts law (targets.Simple n) = simple_target_begins reads s
 target_begins reads starts law (targets.Pat n) = target_pat_begins reads n
 
 pat_begins : {X : Type 0} (reads : X → Role → Phrase) (starts : X → Bool) → Begin reads starts → (n : Pat X) → Begins (pat_lists.pat reads n) (pat_starts starts n)
-unfolding pat_starts pat_lists.pat names.binding_ident pat_lists.array_pat pat_lists.rest_pat pat_lists.object_pat pat_lists.assign_pat leads begins_as
-pat_begins reads starts law (pats.Ident n) = binding_begins (is_some n.type_ann) n.id
-pat_begins reads starts law (pats.Array n) = bracket_begins (n.optional || is_some n.type_ann) (codes "[") _ false
-pat_begins reads starts law (pats.Rest n) = bracket_begins (is_some n.type_ann) (codes "...") _ false
-pat_begins reads starts law (pats.Object n) = bracket_begins (n.optional || is_some n.type_ann) (codes "{") _ false
+unfolding pat_starts pat_lists.pat pat_lists.array_pat pat_lists.rest_pat pat_lists.object_pat pat_lists.assign_pat leads begins_as
+pat_begins reads starts law (pats.Ident n) = binding_begins reads n
+pat_begins reads starts law (pats.Array n) = begins_then _ _ _ (begins_mark _ false)
+pat_begins reads starts law (pats.Rest n) = begins_then _ _ _ (begins_mark _ false)
+pat_begins reads starts law (pats.Object n) = begins_then _ _ _ (begins_mark _ false)
 pat_begins reads starts law (pats.Assign n) = begins_then _ _ _ (law n.left.node.value Pattern refl)
 pat_begins reads starts law (pats.Invalid n) = begins_never _
 pat_begins reads starts law (pats.Expr n) = law n.node.value Expression refl
 
-plain_parameter_begins : {X : Type 0} (starts : X → Bool) (n : Pat X) → Begins (pat_lists.plain_parameter n) (pat_starts starts n)
-unfolding pat_starts pat_lists.plain_parameter pat_lists.plain_name names.binding_ident
-plain_parameter_begins starts (pats.Ident n) = unless_begins n.id.optional _ _ (binding_begins (is_some n.type_ann) n.id)
-plain_parameter_begins starts n = begins_never _
+plain_parameter_begins : {X : Type 0} (reads : X → Role → Phrase) (starts : X → Bool) (n : Pat X) → Begins (pat_lists.plain_parameter reads n) (pat_starts starts n)
+unfolding pat_starts pat_lists.plain_parameter pat_lists.plain_name
+plain_parameter_begins reads starts (pats.Ident n) = unless_begins (n.id.optional || is_some n.type_ann) _ _ (binding_begins reads n)
+plain_parameter_begins reads starts n = begins_never _
 
 begins_key : (at : BytePos) (bytes : List ℕ) → Begins (KeyOf at bytes) true
 unfolding Generates
@@ -467,18 +506,18 @@ prop_name_begins reads (prop_names.Computed n) = begins_then _ _ _ (begins_mark 
 part_begins : {X : Type 0} (reads : X → Role → Phrase) (starts : X → Bool) → Begin reads starts → (n : ExprPart X) (role : Role) → leads role ≡ true → Begins (part_lists.expr_part reads n role) (begins_as role (expr_part_starts starts n))
 unfolding leads begins_as part_lists.expr_part expr_part_starts prop_lists.object_lit call_lists.chain_call template_lists.tpl
 part_begins reads starts law (expr_parts.Pat n) Pattern h = pat_begins reads starts law n
-part_begins reads starts law (expr_parts.Pat n) PlainParameter h = plain_parameter_begins starts n
+part_begins reads starts law (expr_parts.Pat n) PlainParameter h = plain_parameter_begins reads starts n
 part_begins reads starts law (expr_parts.ObjectLit n) ObjectLiteral h = begins_then _ _ _ (begins_mark _ false)
 part_begins reads starts law (expr_parts.PropName n) PropertyName h = prop_name_begins reads n
-part_begins reads starts law (expr_parts.OptCall n) (ChainCall optional) h = unless_begins (is_some n.type_args) _ _ (begins_then _ _ _ (law n.callee.node.value IsCallee refl))
+part_begins reads starts law (expr_parts.OptCall n) (ChainCall optional) h = begins_then _ _ _ (law n.callee.node.value IsCallee refl)
 part_begins reads starts law (expr_parts.AssignTarget n) AssignmentTarget h = target_begins reads starts law n
-part_begins reads starts law (expr_parts.Tpl n) Template h = tpl_begins reads (template_lists.is_counted n.exprs.items n.quasis.items) false n.exprs.items n.quasis.items
-part_begins reads starts law (expr_parts.Tpl n) TaggedTemplate h = tpl_begins reads (template_lists.is_counted n.exprs.items n.quasis.items) true n.exprs.items n.quasis.items
+part_begins reads starts law (expr_parts.Tpl n) Template h = tpl_begins (call_lists.value_at reads) (template_lists.is_counted n.exprs.items n.quasis.items) false n.exprs.items n.quasis.items
+part_begins reads starts law (expr_parts.Tpl n) TaggedTemplate h = tpl_begins (call_lists.value_at reads) (template_lists.is_counted n.exprs.items n.quasis.items) true n.exprs.items n.quasis.items
 part_begins reads starts law n role h = begins_never _
 
 stmt_part_begins : {X : Type 0} (reads : X → Role → Phrase) (starts : X → Bool) → Begin reads starts → (n : StmtPart X) (role : Role) → leads role ≡ true → Begins (part_lists.stmt_part reads n role) (begins_as role (stmt_part_starts n))
 unfolding leads begins_as part_lists.stmt_part stmt_part_starts function_lists.function function_lists.function_head stmt_lists.block_stmt
-stmt_part_begins reads starts law (stmt_parts.Function n) Function h = function_begins (is_some n.value.type_params || (is_some n.value.return_type || function_lists.is_some_listed n.value.decorators.items)) _
+stmt_part_begins reads starts law (stmt_parts.Function n) Function h = function_begins reads starts law (function_lists.is_some_listed n.value.decorators.items) n.value.type_params _
 stmt_part_begins reads starts law (stmt_parts.Function n) FunctionHead h = function_head_begins n.value n.value.is_async _
 stmt_part_begins reads starts law (stmt_parts.Function n) MethodHead h = absurd (true≢false (sym h))
 stmt_part_begins reads starts law (stmt_parts.Function n) MethodDecorators h = absurd (true≢false (sym h))
@@ -503,7 +542,7 @@ open_begins false = begins_mark _ false
 
 opening_begins : {X : Type 0} (reads : X → Role → Phrase) (is_child : Bool) (n : JSXOpeningElement X) → Begins (jsx_lists.jsx_opening_element reads is_child n) false
 unfolding jsx_lists.jsx_opening_element
-opening_begins reads is_child n = unless_begins (is_some n.type_args) _ false (begins_then _ _ _ (open_begins is_child))
+opening_begins reads is_child n = begins_then _ _ _ (open_begins is_child)
 
 jsx_begins : {X : Type 0} (reads : X → Role → Phrase) (n : JSXPart X) (role : Role) → leads role ≡ true → Begins (jsx_lists.jsx_part reads n role) (begins_as role false)
 unfolding leads begins_as jsx_lists.jsx_part jsx_lists.jsx_element jsx_lists.jsx_fragment jsx_lists.jsx_opening_fragment
@@ -513,6 +552,20 @@ jsx_begins reads (jsx_parts.JSXFragment n) Element h = begins_then _ _ _ (begins
 jsx_begins reads (jsx_parts.JSXFragment n) Child h = begins_then _ _ _ (begins_then _ _ _ (open_begins true))
 jsx_begins reads (jsx_parts.JSXObject n) TagObject h = absurd (true≢false (sym h))
 jsx_begins reads n role h = begins_never _
+
+-- of types none is asked how it begins
+ts_begins : {X : Type 0} (reads : X → Role → Phrase) (n : TsPart X) (role : Role) → leads role ≡ true → Begins (part_lists.ts_part reads n role) (begins_as role false)
+unfolding leads begins_as part_lists.ts_part ts_type_param_decl
+ts_begins reads (ts_parts.TsType n) AnyType h = absurd (true≢false (sym h))
+ts_begins reads (ts_parts.TsTypeAnn n) Annotation h = absurd (true≢false (sym h))
+ts_begins reads (ts_parts.TsTypeParamDecl n) TypeParameters h = begins_then _ _ _ (begins_mark _ _)
+ts_begins reads (ts_parts.TsTypeParamInstantiation n) TypeArguments h = absurd (true≢false (sym h))
+ts_begins reads (ts_parts.TsFnParam n) SignatureParameter h = absurd (true≢false (sym h))
+ts_begins reads (ts_parts.TsEntityName n) EntityName h = absurd (true≢false (sym h))
+ts_begins reads (ts_parts.TsTypeElement n) TypeMember h = absurd (true≢false (sym h))
+ts_begins reads (ts_parts.TsNamespaceBody n) NamespaceBody h = absurd (true≢false (sym h))
+ts_begins reads (ts_parts.TsNamespaceBody n) DottedBody h = absurd (true≢false (sym h))
+ts_begins reads n role h = begins_never _
 
 node_begins : {X : Type 0} (reads : X → Role → Phrase) (starts : X → Bool) → Begin reads starts → (n : AnyNode-F X) (role : Role) → leads role ≡ true → Begins (node_phrase reads n role) (begins_as role (node_starts starts n))
 unfolding begins_as node_phrase node_starts lists.member_expr lists.chain_member leads
@@ -525,6 +578,7 @@ node_begins reads starts law (nodes.Expr n) FieldValue h = absurd (true≢false 
 node_begins reads starts law (nodes.ExprPart n) role h = part_begins reads starts law n role h
 node_begins reads starts law (nodes.StmtPart n) role h = stmt_part_begins reads starts law n role h
 node_begins reads starts law (nodes.JSXPart n) role h = jsx_begins reads n role h
+node_begins reads starts law (nodes.TsPart n) role h = ts_begins reads n role h
 node_begins reads starts law n role h = begins_never _
 
 -- ---- whole nodes

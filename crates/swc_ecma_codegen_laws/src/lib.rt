@@ -9,6 +9,7 @@ ghost use Rattle.std.specs.Prelude.{◌≡◌, ℕ, Bool, true, false, if◌then
 ghost use Rattle.swc_ecma_codegen_common.specs.declared.errors.Refusal.TheVariants as refusals;
 ghost use Rattle.std.specs.String.{string_bytes};
 ghost use Rattle.swc_ecma_codegen_tree.specs.declared.exprs.Tpl.{Tpl};
+ghost use Rattle.swc_ecma_codegen_tree.specs.declared.ts_types.TsTplLitType.{TsTplLitType};
 ghost use Rattle.swc_ecma_codegen_tree.specs.declared.stmts.Stmt.{Stmt};
 ghost use Rattle.swc_ecma_codegen_tree.specs.declared.links.AnyNode.{AnyNode};
 ghost use Rattle.swc_ecma_codegen_tree.specs.declared.lits.Str.{Str};
@@ -44,6 +45,7 @@ ghost use Rattle.swc_ecma_codegen.specs.Modules.{is_crowded, import_decl};
 ghost use Rattle.swc_ecma_codegen.specs.Stmts.{stmt as stmt_items};
 ghost use Rattle.swc_ecma_codegen.specs.Templates.{tpl};
 ghost use Rattle.swc_ecma_codegen.specs.Tree.{any_items};
+ghost use Rattle.swc_ecma_codegen.specs.Types.{ts_tpl_lit_type};
 ghost use Rattle.swc_ecma_codegen_tokens.specs.Escapes.{may_make_text};
 ghost use Rattle.swc_ecma_codegen_tokens.specs.Ascii.{other_texts, may_keep_other, WantsAscii};
 ghost use Rattle.swc_ecma_codegen.specs.Roots.{Root, OfExpr, OfStmt, root_items, root_phrase, root_hashbang, is_well_formed_root, MayBegin};
@@ -147,12 +149,15 @@ pub fn well_formed_trees_are_supported()
 {}
 
 /// The shapes of which no text is written, and no step is made before the refusal: an import of a namespace among more than
-/// two specifiers, a template without one part more than expressions, and a string of an attribute of JSX without a raw whose
-/// value holds both quotes. A plan comes to `BadShape` in no other words.
-#[tactic(auto, using(swc_ecma_codegen::proofs::TreeReads::crowded_refused, swc_ecma_codegen::proofs::TreeReads::uncounted_refused, crate::proofs::BadShapes::textless_refused))]
+/// two specifiers, a template without one part more than expressions or types, and a string of an attribute of JSX without a
+/// raw whose value holds both quotes. A plan comes to `BadShape` in no other words.
+#[tactic(auto, using(swc_ecma_codegen::proofs::TreeReads::crowded_refused, swc_ecma_codegen::proofs::TreeReads::uncounted_refused, crate::proofs::BadShapes::textless_refused, crate::proofs::BadShapes::type_template_refused))]
 pub fn bad_shapes_are_refused_first()
     ensures import_ { (n : ImportDecl AnyNode) (rest : Plan) (env : Env) → is_crowded n.specifiers.items ≡ true → import_decl any_items n rest env ≡ refused BadShape }
     ensures template { (n : Tpl AnyNode) (tagged : Bool) (rest : Plan) (env : Env) → is_counted n.exprs.items n.quasis.items ≡ false → tpl any_items tagged n rest env ≡ refused BadShape }
+    ensures type_template { (n : TsTplLitType AnyNode) (rest : Plan) (env : Env) →
+        is_counted n.types.items n.quasis.items ≡ false →
+        ts_tpl_lit_type any_items n rest env ≡ refused BadShape }
     ensures attribute { (n : Str) (rest : Plan) (env : Env) → has_no_text n ≡ true → attribute_string n rest env ≡ refused BadShape }
 {}
 

@@ -10,7 +10,7 @@ use crate::numbers::sign_of;
 use crate::separators::without_separators;
 use std::alloc::Global;
 use swc_ecma_codegen_common::Error;
-use swc_ecma_codegen_grammar::{BigInt, Radix};
+use swc_ecma_codegen_tree::{BigInt, Radix};
 
 /// A big integer up to its `n`: its sign, the prefix of its radix and its digits without `_`, `-0xff` of -255 in
 /// hexadecimal digits. `Error::OutOfMemory` where there is no room for the text.

@@ -1,8 +1,8 @@
 -- What is written of a big integer is what it reads as, under any settings.
-use Rattle.std.proofs.Common.{◌≡◌, ℕ, Bool, true, false, not, cond, ◌==◌, ◌&&◌, ◌||◌, List, [], ◌∷◌, ◌++◌, codes, Option, Some, None, is_none, refl, sym, ap, ◌∙◌, subst, append_assoc}
+use Rattle.std.proofs.Common.{◌≡◌, ℕ, Bool, true, false, not, cond, ◌==◌, ◌&&◌, ◌||◌, List, [], ◌∷◌, ◌++◌, codes, nat_lt, Option, Some, None, is_none, refl, sym, ap, ◌∙◌, subst, append_assoc}
 use Rattle.std.specs.Str.{chars, is_utf8, IsUtf8}
 use Rattle.std.specs.declared.string.String.{String}
-use Rattle.std.proofs.lemmas.Bool.{and_parts, eqb-true, not-true, true≢false}
+use Rattle.std.proofs.lemmas.Bool.{and_from, and_parts, eqb-true, not-true, true≢false}
 use Rattle.std.proofs.lemmas.Str.{chars-append, chars-nil, IsUtf8-append, IsUtf8-from_ascii, IsUtf8-from_is_utf8, IsUtf8-string_bytes}
 use Rattle.swc_ecma_codegen_common.specs.declared.positions.Span.{Span}
 use Rattle.swc_ecma_codegen_tree.specs.declared.lits.BigInt as trees
@@ -16,8 +16,10 @@ use Rattle.swc_ecma_codegen_grammar.specs.Texts.{is_same}
 use Rattle.swc_ecma_codegen_grammar.specs.Tokens as lexical
 use Rattle.swc_ecma_codegen_grammar.specs.Tokens.{Digits, Spells, Value, has_shape, token_of, value_of}
 use Rattle.swc_ecma_codegen_grammar.proofs.Tables.{eq_of_same}
+use Rattle.swc_ecma_codegen_literals.specs.AsciiNames.{is_ascii_text}
 use Rattle.swc_ecma_codegen_literals.specs.BigIntegers.{IsSignedInteger, big_part, big_text}
 use Rattle.swc_ecma_codegen_literals.specs.NumberTexts.{sign_text}
+use Rattle.swc_ecma_codegen_literals.proofs.BeginningLaws.{big_integer_begins}
 use Rattle.swc_ecma_codegen_literals.proofs.BigTokens.{big_signed}
 use Rattle.swc_ecma_codegen_literals.proofs.SpelledTokens.{integer_spells, integer_spells_without}
 use Rattle.swc_ecma_codegen_tokens.specs.Escapes.{is_spelled_anew}
@@ -29,8 +31,9 @@ use Rattle.swc_ecma_codegen_tokens.specs.Scripts.{is_str}
 use Rattle.swc_ecma_codegen_tokens.specs.Starts.{start_class}
 use Rattle.swc_ecma_codegen_tokens.specs.Words.{leading_comments}
 use Rattle.swc_ecma_codegen_tokens.proofs.LitTexts.{IsRawOf, SignedToken, big_integer_signed, joined_raw, more_class, signed_spelled, signed_tokens, signed_written, some_after_sign, spelled_big_integer}
-use Rattle.swc_ecma_codegen_tokens.proofs.LiteralParts.{writes_big_digits, writes_big_integer}
+use Rattle.swc_ecma_codegen_tokens.proofs.LiteralParts.{big_ascii, writes_big_digits, writes_big_integer}
 use Rattle.swc_ecma_codegen_tokens.proofs.NumberEnds.{size_utf8}
+use Rattle.swc_ecma_codegen_tokens.proofs.NumberPrints.{sign_text_ascii}
 use Rattle.swc_ecma_codegen_tokens.proofs.Phrased.{Prints, prints_same, prints_where}
 use Rattle.swc_ecma_codegen_tokens.proofs.Printed.{Writes, writes_leading, writes_then}
 use Rattle.swc_ecma_codegen_tokens.proofs.RawTexts.{ascii_is}
@@ -111,6 +114,36 @@ module _ (n : trees.BigInt) (s : IsSignedInteger n (big_text n) (big_part n)) wh
 
   writes_digits : (env : Env) → Writes env (words.big_digits n.span (big_text n)) (signed_tokens BigInt (value_of_big n) n.negative)
   writes_digits env = subst (λ z. Writes env (words.big_digits n.span (big_text n)) z) (signed_written digits_signed) (writes_big_digits env n.span (big_text n) (signed_spelled digits_signed) suffix_class some_digits (sym (ascii_is true (big_text n) s.ascii)))
+
+-- ---- any digits, which may have a sign
+
+with_suffix : (negative : Bool) (size t : List ℕ) → t ≡ sign_text negative ++ size → IsUtf8 size → is_big_integer (chars size ++ codes "n") ≡ true → SignedToken BigInt (value_of BigInt (chars size ++ codes "n")) negative (t ++ codes "n")
+unfolding spelling
+with_suffix negative size t p u s =
+    let whole : chars (size ++ codes "n") ≡ chars size ++ codes "n" = chars-append size (codes "n") u ∙ ap (λ z. chars size ++ z) suffix_chars in
+    let shape : is_big_integer (chars (size ++ codes "n")) ≡ true = ap is_big_integer whole ∙ s in
+    record {
+      size = size ++ codes "n";
+      parts = ap (λ z. z ++ codes "n") p ∙ append_assoc (sign_text negative) size (codes "n");
+      spelled = spelled_big_integer (size ++ codes "n") (IsUtf8-append size (codes "n") u suffix_utf8) shape;
+      front = big_integer_begins (chars (size ++ codes "n")) shape;
+      same = ap (value_of BigInt) whole;
+    }
+
+ascii_front : (t u : List ℕ) → is_ascii_text (t ++ u) ≡ true → is_ascii_text t ≡ true
+ascii_front [] u h = refl
+ascii_front (c ∷ cs) u h = let p = and_parts (nat_lt c 128) (is_ascii_text (cs ++ u)) h in and_from (nat_lt c 128) (is_ascii_text cs) p.0 (ascii_front cs u p.1)
+
+big_signed_ascii : {value : Value} {negative : Bool} {t : List ℕ} → SignedToken BigInt value negative t → is_ascii_text t ≡ true
+big_signed_ascii {value} {negative} h = subst (λ z. is_ascii_text z ≡ true) (sym h.parts) (sign_text_ascii negative h.size (big_ascii h.size h.spelled))
+
+pub writes_digits_text : (env : Env) (span : Span) (negative : Bool) (size t : List ℕ) → t ≡ sign_text negative ++ size → IsUtf8 size → begins_digit (chars size) ≡ true → is_big_integer (chars size ++ codes "n") ≡ true → Writes env (words.big_digits span t) (signed_tokens BigInt (value_of BigInt (chars size ++ codes "n")) negative)
+writes_digits_text env span negative size t p u f s =
+    let h = with_suffix negative size t p u s in
+    let same : start_class (chars (t ++ codes "n")) ≡ start_class (chars t) =
+    ap (λ z. start_class (chars (z ++ codes "n"))) p ∙ more_class negative size (codes "n") u f ∙ sym (ap (λ z. start_class (chars z)) p) in
+    let some : t ≡ [] → ⊥ = λ e. some_after_sign negative size (some_part size f) (sym p ∙ e) in
+    subst (λ z. Writes env (words.big_digits span t) z) (signed_written h) (writes_big_digits env span t (signed_spelled h) same some (ascii_front t (codes "n") (big_signed_ascii h)))
 
 -- ---- a big integer
 

@@ -68,3 +68,4 @@ pub mod TagStanding
 pub mod TagPrints
 pub mod TagStrings
 pub mod NodesSoFar
+pub mod ListsSoFar

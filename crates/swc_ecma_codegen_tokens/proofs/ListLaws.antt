@@ -26,7 +26,7 @@ use Rattle.swc_ecma_codegen_tokens.proofs.Hands.{holds_string}
 use Rattle.swc_ecma_codegen_tokens.proofs.Choices.{IsAmong, placed_among, comma_among, no_comma_among, prints_no_comma}
 use Rattle.swc_ecma_codegen_tokens.proofs.Shapes.{Shape, open_, ended, loose, closed, past_line, join}
 use Rattle.swc_ecma_codegen_tokens.proofs.PartSteps.{NamedBy, names_then, no_names, placed_after, safe_then, no_strings}
-use Rattle.swc_ecma_codegen_tokens.proofs.Phrased.{Prints, PrintsAt, prints_wider, loosened, then, after as behind, before, prints_nothing, prints_same, prints_punct, prints_mark, mark_spelled}
+use Rattle.swc_ecma_codegen_tokens.proofs.Phrased.{Prints, PrintsAt, prints_wider, loosened, then, after as behind, before, prints_nothing, prints_never, prints_same, prints_punct, prints_mark, mark_spelled}
 
 -- ---- parts
 
@@ -345,6 +345,56 @@ prints_bracketed_in_order env t w p h format parent place part e after close law
     (λ maps rest. list_in_parts (writes_then env (punct t) p (token_of Punctuator (spelling Punctuator t) ∷ []) [] (writes_punct env t (mark_spelled t w) w.ascii) h) format parent place part x xs maps (close rest))
     (then (prints_bracket env t w p h format line)
     (then (then (prints_child env format line (record { place = place x; part = part x }) (law x)) (before (more_in_order env format place part e law u (place x) xs) (closing_undelimited env format parent last u))) closed))
+
+-- ---- lists joined by `|` or `&`, all on one line
+
+-- A blank and this mark stand between the children, and no line ends; nothing else is written.
+pub record IsJoined (format : ℕ) (t : List ℕ) : Type 0 where
+  pub joins : (rest : Plan) → delimiter format rest ≡ formatting_space (punct t rest)
+  pub is_mark : IsMark t
+  pub no_comma : comma_delimited format ≡ false
+  pub flat : indented format ≡ false
+  pub leads : (lines : Lines) (p q : Span) → leading_line lines format p q ≡ false
+  pub separates : (lines : Lines) (p q : Span) → separating_line lines format p q ≡ false
+  pub closes : (lines : Lines) (p q : Span) → closing_line lines format p q ≡ false
+
+prints_joint : (env : Env) (format : ℕ) (t : List ℕ) → IsJoined format t → Prints env (separator format false) (mark t)
+unfolding separator line_or_blank
+prints_joint env format t j =
+    before (prints_same (delimiter format) (λ rest. formatting_space (punct t rest)) (λ maps rest. ap (λ plan. plan (at_maps maps env)) (j.joins rest)) (behind (writes_formatting_space env) (prints_punct env t j.is_mark)))
+    (writes_blank_if env (space_between_siblings format))
+
+joined_more : {A : Type 0} (env : Env) (format : ℕ) (t : List ℕ) (place : A → Span) (part : A → Part) (e : A → Phrase) → ((x : A) → Prints env (part x) (e x)) → IsJoined format t → (previous : Span) (xs : List A) → PrintsAt open_ env (more_children format previous (children_of place part xs)) (phrases.each_after t (map e xs))
+unfolding more_children phrases.each_after by_lines next_child_after
+joined_more env format t place part e law j previous [] = prints_nothing
+joined_more env format t place part e law j previous (x ∷ xs) =
+    let line : Bool = separating_line env.lines format previous (place x) in
+    let more : Part = more_children format (place x) (children_of place part xs) in
+    let P : Bool → Type 0 = λ b. PrintsAt open_ env (λ rest. separator format b (part x (child_comments format b (place x) (more rest)))) (mark t > e x > phrases.each_after t (map e xs)) in
+    prints_same (more_children format previous (children_of place part (x ∷ xs))) (λ rest. separator format line (part x (child_comments format line (place x) (more rest)))) (λ maps rest. refl)
+    (subst P (sym (j.separates env.lines previous (place x)))
+    (prints_wider open_ refl (then (prints_joint env format t j) (then (prints_child env format false (record { place = place x; part = part x }) (law x)) (joined_more env format t place part e law j (place x) xs)))))
+
+joined_closing : (env : Env) (format : ℕ) (t : List ℕ) (parent last : Span) → IsJoined format t → Fills env (list_closing format parent last)
+unfolding list_closing
+joined_closing env format t parent last j =
+    writes_then env (trailing_comma format parent) (list_end format parent last) [] []
+    (writes_same env (trailing_comma format parent) (λ rest. rest) [] (λ maps rest. left_out_same format parent rest (at_maps maps env) (ap (λ b. b && not (can_skip_trailing_comma format && env.config.minify)) j.no_comma)) (writes_nothing env))
+    (blank_end env format parent last (j.closes env.lines parent last))
+
+-- one at least: `A | B`
+pub prints_joined : {A : Type 0} (env : Env) (format : ℕ) (t : List ℕ) (parent : Span) (place : A → Span) (part : A → Part) (e : A → Phrase) → ((x : A) → Prints env (part x) (e x)) → IsJoined format t → (xs : List A) → Prints env (list format parent (children_of place part xs)) (phrases.some_listed t (map e xs))
+unfolding phrases.some_listed
+prints_joined env format t parent place part e law j [] = prints_never
+prints_joined env format t parent place part e law j (x ∷ xs) =
+    let line : Bool = leading_line env.lines format parent (place x) in
+    let last : Span = last_place (place x) (children_of place part xs) in
+    let ending : Part = list_closing format parent last in
+    let P : Bool → Type 0 = λ b. Prints env (λ rest. opening format b (children_after format b place part x xs (ending rest))) (e x > phrases.each_after t (map e xs)) in
+    prints_same (list format parent (children_of place part (x ∷ xs))) (λ rest. opening format line (children_after format line place part x xs (ending rest))) (λ maps rest. list_in_parts (writes_nothing env) format parent place part x xs maps rest)
+    (subst P (sym (j.leads env.lines parent (place x)))
+    (behind (blank_opening env format j.flat)
+    (then (prints_child env format false (record { place = place x; part = part x }) (law x)) (before (joined_more env format t place part e law j (place x) xs) (joined_closing env format t parent last j)))))
 
 -- ---- a trailing comma where the source text has one
 

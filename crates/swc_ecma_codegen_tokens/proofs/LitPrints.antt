@@ -39,7 +39,7 @@ null_is_word : IsWord (codes "null")
 unfolding is_word is_start is_part is_letter is_digit all_part chars is_utf8 lib.Utf8.encode
 null_is_word = record { utf8 = refl; ascii = refl; shape = refl }
 
-bool_is_word : (b : Bool) → IsWord (bool_text b)
+pub bool_is_word : (b : Bool) → IsWord (bool_text b)
 unfolding bool_text
 bool_is_word true = true_is_word
 bool_is_word false = false_is_word

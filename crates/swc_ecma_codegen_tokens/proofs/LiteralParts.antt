@@ -103,7 +103,7 @@ pub writes_number_name : (env : Env) (span : Span) (t : List ℕ) → Spelled Na
 unfolding words.number_name
 writes_number_name env span t p a = literal_token env Name span t p a
 
-big_ascii : (t : List ℕ) → Spelled BigInt t → is_ascii_text t ≡ true
+pub big_ascii : (t : List ℕ) → Spelled BigInt t → is_ascii_text t ≡ true
 unfolding has_shape spelling is_big_integer
 big_ascii t p = ascii_by_chars t p.utf8 (numeric_ascii (chars t) (and_parts (is_numeric (chars t)) (has_suffix (chars t)) p.shape).0)
 

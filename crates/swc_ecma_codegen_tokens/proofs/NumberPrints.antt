@@ -92,7 +92,7 @@ size_raw size raw h =
     record { utf8 = IsUtf8-string_bytes raw; spells = record { shape = p.0; value = ap Exactly (sizes_same (exact_value (numeric_value text)) size q.1) } }
 
 -- it is ASCII
-sign_text_ascii : (negative : Bool) (size : List ℕ) → is_ascii_text size ≡ true → is_ascii_text (sign_text negative ++ size) ≡ true
+pub sign_text_ascii : (negative : Bool) (size : List ℕ) → is_ascii_text size ≡ true → is_ascii_text (sign_text negative ++ size) ≡ true
 unfolding sign_text
 sign_text_ascii true size a = a
 sign_text_ascii false size a = a
@@ -236,14 +236,17 @@ writes_between_dots : (env : Env) (pos : BytePos) → Fills env (between_dots po
 unfolding between_dots
 writes_between_dots env pos = writes_if env (nat_lt pos.0 2) (λ rest. rest) (leading_comments (record { 0 = pos.0 - 2 })) [] (writes_nothing env) (writes_leading env (record { 0 = pos.0 - 2 }))
 
+-- with a dot of its own it is the same number
+pub writes_dotted_text : (env : Env) (value : Value) (negative : Bool) (t : List ℕ) → SignedToken Number value negative t → takes_dot (chars (size_of t)) ≡ true → Writes env (words.dotted_number t) (signed_tokens Number value negative)
+writes_dotted_text env value negative t h e =
+    let takes : takes_dot (chars h.size) ≡ true = sym (ap (λ z. takes_dot (chars z)) (signed_size h)) ∙ e in
+    let k = with_dot value negative t h takes in
+    subst (λ z. Writes env (words.dotted_number t) z) (signed_written k) (writes_dotted env t (signed_spelled k) (signed_class h (codes ".") (dotted_begins (chars h.size) takes)) (some_signed h) (signed_ascii h))
+
 property_case : (b : Bool) (env : Env) (pos : BytePos) (value : Value) (negative : Bool) (t : List ℕ) → SignedToken Number value negative t → takes_dot (chars (size_of t)) ≡ b → Writes env (λ rest. cond b (words.dotted_number t (between_dots pos rest)) (words.number t rest)) (signed_tokens Number value negative)
 property_case true env pos value negative t h e =
     let ts : List lexical.Token = signed_tokens Number value negative in
-    let takes : takes_dot (chars h.size) ≡ true = sym (ap (λ z. takes_dot (chars z)) (signed_size h)) ∙ e in
-    let k = with_dot value negative t h takes in
-    let own : Writes env (words.dotted_number t) ts =
-    subst (λ z. Writes env (words.dotted_number t) z) (signed_written k) (writes_dotted env t (signed_spelled k) (signed_class h (codes ".") (dotted_begins (chars h.size) takes)) (some_signed h) (signed_ascii h)) in
-    subst (λ z. Writes env (λ rest. words.dotted_number t (between_dots pos rest)) z) (append-nil ts) (writes_then env (words.dotted_number t) (between_dots pos) ts [] own (writes_between_dots env pos))
+    subst (λ z. Writes env (λ rest. words.dotted_number t (between_dots pos rest)) z) (append-nil ts) (writes_then env (words.dotted_number t) (between_dots pos) ts [] (writes_dotted_text env value negative t h e) (writes_between_dots env pos))
 property_case false env pos value negative t h e = writes_number_text env value negative t h
 
 writes_object_by : (env : Env) (span : Span) (pos : BytePos) (value : Value) (negative : Bool) (t : List ℕ) → SignedToken Number value negative t → Writes env (object_by span pos t) (signed_tokens Number value negative)

@@ -19,7 +19,7 @@ use Rattle.swc_ecma_codegen_tree.specs.declared.lits.Regex.{Regex as RegexLit}
 use Rattle.swc_ecma_codegen_tree.specs.declared.lits.Str as strs
 use Rattle.swc_ecma_codegen_spans.specs.Spans.{dummy_span}
 use Rattle.swc_ecma_codegen_grammar.specs.declared.kinds.Kind.{Kind}
-use Rattle.swc_ecma_codegen_grammar.specs.declared.kinds.Kind.TheVariants.{Name, Number, BigInt as BigIntToken, Str, Regex, Hashbang}
+use Rattle.swc_ecma_codegen_grammar.specs.declared.kinds.Kind.TheVariants.{Name, Number, BigInt as BigIntToken, Punctuator, Str, Regex, Hashbang}
 use Rattle.swc_ecma_codegen_grammar.specs.declared.kinds.TemplatePart.{TemplatePart}
 use Rattle.swc_ecma_codegen_grammar.specs.CommentMaps.{Maps}
 use Rattle.swc_ecma_codegen_grammar.specs.Comments.{AreClosed, no_maps, all_closed, remarks_of}
@@ -28,7 +28,7 @@ use Rattle.swc_ecma_codegen_grammar.specs.JsxPhrases.{jsx_string}
 use Rattle.swc_ecma_codegen_grammar.specs.LitPhrases as phrases
 use Rattle.swc_ecma_codegen_grammar.specs.CodeUnits.{all_utf16}
 use Rattle.swc_ecma_codegen_grammar.specs.Names.{is_name, name_value}
-use Rattle.swc_ecma_codegen_grammar.specs.Numbers.{is_big_integer, is_number}
+use Rattle.swc_ecma_codegen_grammar.specs.Numbers.{is_big_integer, is_number, takes_dot}
 use Rattle.swc_ecma_codegen_grammar.specs.Phrases.{Phrase, Never, Nothing, One, NameOf, KeyOf, PrivateOf, TagNameOf, Then, Generates, is_possible, where_}
 use Rattle.swc_ecma_codegen_grammar.specs.Reads.{is_same_line}
 use Rattle.swc_ecma_codegen_grammar.specs.Settings.{Settings}
@@ -36,7 +36,7 @@ use Rattle.swc_ecma_codegen_grammar.specs.SourceLines.{no_lines}
 use Rattle.swc_ecma_codegen_grammar.specs.SpelledNames.{spelled_name}
 use Rattle.swc_ecma_codegen_grammar.specs.RegularExpressions.{is_regex}
 use Rattle.swc_ecma_codegen_grammar.specs.Strings.{is_string}
-use Rattle.swc_ecma_codegen_grammar.specs.Chars.{is_one_line}
+use Rattle.swc_ecma_codegen_grammar.specs.Chars.{begins_digit, is_one_line}
 use Rattle.swc_ecma_codegen_grammar.specs.TemplatePhrases as templates
 use Rattle.swc_ecma_codegen_grammar.specs.Tokens as lexical
 use Rattle.swc_ecma_codegen_grammar.specs.Tokens.{token_of, value_of}
@@ -45,22 +45,24 @@ use Rattle.swc_ecma_codegen_grammar.proofs.NumberShapes.{number_numeric, some_nu
 use Rattle.swc_ecma_codegen_literals.specs.NumberTexts.{sign_text}
 use Rattle.swc_ecma_codegen_literals.proofs.BeginningLaws.{number_begins}
 use Rattle.swc_ecma_codegen_text_writer.specs.Sheet.{StrLit}
-use Rattle.swc_ecma_codegen_tokens.specs.Adds.{tokens_of_number}
-use Rattle.swc_ecma_codegen_tokens.specs.Literals.{string, number, number_name, big_integer, regex, hashbang, size_of}
+use Rattle.swc_ecma_codegen_tokens.specs.Adds.{sign_tokens, tokens_of_digits, tokens_of_number}
+use Rattle.swc_ecma_codegen_tokens.specs.Literals.{string, number, dotted_number, sign, number_name, big_digits, big_integer, regex, hashbang, size_of}
 use Rattle.swc_ecma_codegen_tokens.specs.Run.{Part, State, Step, Guard, Token, step, after_step, taken_in, taken_by, steps_of, run, nothing, spelling, at_source, with_source, Emits, Does, DoesTaking}
 use Rattle.swc_ecma_codegen_tokens.specs.Settings.{settings_of}
 use Rattle.swc_ecma_codegen_tokens.specs.Words.{line_end}
 use Rattle.swc_ecma_codegen_tokens.specs.Written.{IsNew, IsAtMargin, Spot, ReadsSoFar, ReadsSoFarAt, taken_remarks}
+use Rattle.swc_ecma_codegen_tokens.proofs.BigPrints.{writes_digits_text}
 use Rattle.swc_ecma_codegen_tokens.proofs.HashbangPrints.{hashbang_steps, calls_lay}
 use Rattle.swc_ecma_codegen_tokens.proofs.Jointless.{holds_joint}
 use Rattle.swc_ecma_codegen_tokens.proofs.LiteralParts.{literal_lays}
 use Rattle.swc_ecma_codegen_tokens.proofs.LitPrints.{writes_regex_text}
 use Rattle.swc_ecma_codegen_tokens.proofs.LitTexts.{SignedToken, signed_tokens, spelled_string, spelled_number, spelled_big_integer}
-use Rattle.swc_ecma_codegen_tokens.proofs.NumberPrints.{writes_number_text}
+use Rattle.swc_ecma_codegen_tokens.proofs.NumberPrints.{writes_dotted_text, writes_number_text}
 use Rattle.swc_ecma_codegen_tokens.proofs.NoneTaken.{no_maps_bare, no_maps_closed, same_remarks}
 use Rattle.swc_ecma_codegen_tokens.proofs.Phrased.{Prints, PrintsOn, enters_new}
 use Rattle.swc_ecma_codegen_tokens.proofs.Shapes.{whole}
 use Rattle.swc_ecma_codegen_tokens.proofs.SoFar.{laid_so_far, made_so_far, new_so_far, phrase_so_far, so_far_at, so_far_from}
+use Rattle.swc_ecma_codegen_tokens.proofs.Texts.{minus_is_mark}
 use Rattle.swc_ecma_codegen_tokens.proofs.Written.{Spelled, spelled_name as name_spelled}
 
 -- ---- phrases without `[no LineTerminator here]`
@@ -263,3 +265,54 @@ number_so_far (c ∷ cs) old tokens rs a b u s w h =
       | inl e ↦ subst P (sym e) (λ v t. number_case true c cs old tokens rs a b e v t w h) u s
       | inr e ↦ subst P (sym e) (λ v t. number_case false c cs old tokens rs a b e v t w h) u s
     ]
+
+-- ---- a number with a dot of its own
+
+dotted_case : (minus : Bool) (c : ℕ) (cs old : List ℕ) (tokens : List lexical.Token) (rs : List Remark) (a b : State) → (c == 45) ≡ minus → takes_dot (chars (size_of (c ∷ cs))) ≡ true → is_utf8 (cond minus cs (c ∷ cs)) ≡ true → is_number (chars (cond minus cs (c ∷ cs))) ≡ true → Emits (dotted_number (c ∷ cs)) a b (Ok tt) → ReadsSoFar old tokens rs a → ReadsSoFar old (tokens ++ signed_tokens Number (value_of Number (chars (cond minus cs (c ∷ cs)))) minus) rs b
+unfolding dotted_number step steps_of nothing after_step taken_in taken_by remarks_of is_same_line
+dotted_case minus c cs old tokens rs a b e t u s w h =
+    made_so_far (dotted_number (c ∷ cs)) old tokens (signed_tokens Number (value_of Number (chars (cond minus cs (c ∷ cs)))) minus) rs a b
+    (writes_dotted_text a.env _ minus (c ∷ cs) (signed_case minus c cs e u s) t) (sized_free minus _ refl) refl w h
+
+pub dotted_so_far : (t old : List ℕ) (tokens : List lexical.Token) (rs : List Remark) (a b : State) → takes_dot (chars (size_of t)) ≡ true → is_utf8 (size_of t) ≡ true → is_number (chars (size_of t)) ≡ true → Emits (dotted_number t) a b (Ok tt) → ReadsSoFar old tokens rs a → ReadsSoFar old (tokens ++ tokens_of_number t) rs b
+unfolding size_of tokens_of_number token_of
+dotted_so_far [] old tokens rs a b t u s w h = absurd (some_number (number_numeric [] (sym (ap is_number chars-nil) ∙ s)))
+dotted_so_far (c ∷ cs) old tokens rs a b t u s w h =
+    let P : Bool → Type 0 = λ m. is_utf8 (cond m cs (c ∷ cs)) ≡ true → is_number (chars (cond m cs (c ∷ cs))) ≡ true → ReadsSoFar old (tokens ++ cond m (lexical.punctuator (codes "-") ∷ token_of Number (chars cs) ∷ []) (token_of Number (chars (c ∷ cs)) ∷ [])) rs b in
+    elim (cases_Bool (c == 45)) [
+      | inl e ↦ subst P (sym e) (λ v n. dotted_case true c cs old tokens rs a b e t v n w h) u s
+      | inr e ↦ subst P (sym e) (λ v n. dotted_case false c cs old tokens rs a b e t v n w h) u s
+    ]
+
+-- ---- a big integer by its digits, which may have a sign
+
+sign_parts : (minus : Bool) (c : ℕ) (cs : List ℕ) → (c == 45) ≡ minus → c ∷ cs ≡ sign_text minus ++ cond minus cs (c ∷ cs)
+unfolding sign_text
+sign_parts true c cs e = ap (λ z. z ∷ cs) (eqb-true c 45 e)
+sign_parts false c cs e = refl
+
+digits_case : (minus : Bool) (span : Span) (c : ℕ) (cs old : List ℕ) (tokens : List lexical.Token) (rs : List Remark) (a b : State) → (c == 45) ≡ minus → is_utf8 (cond minus cs (c ∷ cs)) ≡ true → begins_digit (chars (cond minus cs (c ∷ cs))) ≡ true → is_big_integer (chars (cond minus cs (c ∷ cs)) ++ codes "n") ≡ true → Emits (big_digits span (c ∷ cs)) a b (Ok tt) → ReadsSoFar old tokens rs a → ReadsSoFar old (tokens ++ signed_tokens BigIntToken (value_of BigIntToken (chars (cond minus cs (c ∷ cs)) ++ codes "n")) minus) rs b
+unfolding big_digits step steps_of nothing after_step taken_in taken_by remarks_of is_same_line
+digits_case minus span c cs old tokens rs a b e u f s w h =
+    made_so_far (big_digits span (c ∷ cs)) old tokens (signed_tokens BigIntToken (value_of BigIntToken (chars (cond minus cs (c ∷ cs)) ++ codes "n")) minus) rs a b
+    (writes_digits_text a.env span minus (cond minus cs (c ∷ cs)) (c ∷ cs) (sign_parts minus c cs e) (IsUtf8-from_is_utf8 _ u) f s) (sized_free minus _ refl) refl w h
+
+pub digits_so_far : (span : Span) (t old : List ℕ) (tokens : List lexical.Token) (rs : List Remark) (a b : State) → is_utf8 (size_of t) ≡ true → begins_digit (chars (size_of t)) ≡ true → is_big_integer (chars (size_of t) ++ codes "n") ≡ true → Emits (big_digits span t) a b (Ok tt) → ReadsSoFar old tokens rs a → ReadsSoFar old (tokens ++ tokens_of_digits t) rs b
+unfolding size_of tokens_of_digits token_of begins_digit
+digits_so_far span [] old tokens rs a b u f s w h = absurd (true≢false (sym (sym (ap begins_digit chars-nil) ∙ f)))
+digits_so_far span (c ∷ cs) old tokens rs a b u f s w h =
+    let P : Bool → Type 0 = λ m. is_utf8 (cond m cs (c ∷ cs)) ≡ true → begins_digit (chars (cond m cs (c ∷ cs))) ≡ true → is_big_integer (chars (cond m cs (c ∷ cs)) ++ codes "n") ≡ true → ReadsSoFar old (tokens ++ cond m (lexical.punctuator (codes "-") ∷ token_of BigIntToken (chars cs ++ codes "n") ∷ []) (token_of BigIntToken (chars (c ∷ cs) ++ codes "n") ∷ [])) rs b in
+    elim (cases_Bool (c == 45)) [
+      | inl e ↦ subst P (sym e) (λ v d n. digits_case true span c cs old tokens rs a b e v d n w h) u f s
+      | inr e ↦ subst P (sym e) (λ v d n. digits_case false span c cs old tokens rs a b e v d n w h) u f s
+    ]
+
+-- ---- the sign of a number that is a name
+
+minus_token : token_of Punctuator (spelling Punctuator (codes "-")) ≡ lexical.punctuator (codes "-")
+unfolding token_of value_of spelling lexical.punctuator
+minus_token = refl
+
+pub minus_so_far : (span : Span) (old : List ℕ) (tokens : List lexical.Token) (rs : List Remark) (a b : State) → Emits (sign true span) a b (Ok tt) → ReadsSoFar old tokens rs a → ReadsSoFar old (tokens ++ sign_tokens true) rs b
+unfolding sign sign_tokens is_same_line
+minus_so_far span old tokens rs a b e h = subst (λ z. ReadsSoFar old (tokens ++ z ∷ []) rs b) minus_token (literal_so_far Punctuator span (codes "-") old tokens rs a b refl minus_is_mark e h)

@@ -1,6 +1,6 @@
 //! Strings of attributes, which have no escapes, and which text of JSX is printed.
 
-ghost use Rattle.std.specs.Prelude.{◌≡◌, true, false, OnOk, IfOk, IfErr, IfSome, IfNone, is_none, [], ◌∷◌, string_bytes};
+ghost use Rattle.std.specs.Prelude.{◌≡◌, true, false, OnOk, IfOk, IfErr, is_none, [], ◌∷◌, string_bytes};
 ghost use Rattle.std.specs.Cow.{cow_str_bytes};
 ghost use Rattle.std.specs.Str.{chars};
 ghost use Rattle.swc_ecma_codegen_common.specs.declared.errors.Error.TheVariants.{OutOfMemory};
@@ -26,53 +26,10 @@ use std::alloc::{AllocError, Global};
 use std::borrow::CowStr;
 use swc_ecma_codegen_common::{Answer, DUMMY_SP, Error, Refusal, Span};
 use swc_ecma_codegen_grammar::comments::Comments;
+use swc_ecma_codegen_grammar::texts::is_jsx_text;
 use swc_ecma_codegen_text_writer::WriteJs;
 use swc_ecma_codegen_tree::{JSXText, Str};
 use swc_ecma_codegen_util::config::Config;
-
-/// The first character of a text, and what follows it.
-fn split_first(text: &str) -> Option<(char, &str)>
-    ensures some { IfSome result (λ r. chars text.now ≡ r.0 ∷ chars r.1.now) }
-    ensures none { IfNone result (chars text.now ≡ []) }
-{
-    let mut chars = text.chars();
-    let c = chars.next()?;
-    Some((c, chars.as_str()))
-}
-
-/// Whether a character may stand in text between tags.
-#[tactic(auto, unfolding(swc_ecma_codegen_grammar::specs::Jsx::is_bare))]
-fn is_bare(c: char) -> bool
-    ensures { result ≡ lexical.is_bare c }
-{
-    !matches!(c, '{' | '}' | '<' | '>')
-}
-
-/// Whether each character of a text may.
-#[tactic(auto, unfolding(swc_ecma_codegen_grammar::specs::Jsx::all_bare))]
-fn all_bare(text: &str) -> bool
-    ensures { result ≡ lexical.all_bare (chars text.now) }
-{
-    let mut rest = text;
-    while let Some((c, more)) = split_first(rest) {
-        if !is_bare(c) {
-            return false;
-        }
-        rest = more;
-    }
-    true
-}
-
-/// Whether a text may stand between tags.
-#[tactic(auto, unfolding(swc_ecma_codegen_grammar::specs::Jsx::is_jsx_text, swc_ecma_codegen_grammar::specs::Texts::is_empty))]
-fn is_jsx_text(text: &str) -> bool
-    ensures { result ≡ lexical.is_jsx_text (chars text.now) }
-{
-    match split_first(text) {
-        Some(_) => all_bare(text),
-        None => false,
-    }
-}
 
 /// Which text is printed: the value, or the raw where that has no place between tags.
 #[tactic(auto, unfolding(swc_ecma_codegen_grammar::specs::JsxPhrases::text_spelling))]

@@ -5,6 +5,7 @@ ghost use Rattle.std.specs.Char.{is_whitespace};
 ghost use Rattle.std.specs.Str.{chars};
 ghost use Rattle.swc_ecma_codegen_common.specs.declared.errors.Error.TheVariants.{OutOfMemory};
 ghost use Rattle.swc_ecma_codegen_grammar.specs.CommentMaps.{Maps};
+ghost use Rattle.swc_ecma_codegen_tokens.specs.Adds.{Adds, comma_tokens, stands_with_comma, wants_comma, ends_with_comma};
 ghost use Rattle.swc_ecma_codegen_tokens.specs.Run.{Does, Emits, at_source};
 ghost use Rattle.swc_ecma_codegen_tokens.specs.Lists.{comma_before_end, has_trailing_comma, source_has_comma, comma_if, source_comma, wanted_comma, may_have_comma, trailing_comma};
 ghost use Rattle.swc_ecma_codegen_tokens.specs.View.{state_of};
@@ -77,6 +78,8 @@ impl LowerEmitter {
     #[tactic(auto, unfolding(crate::specs::Lists::comma_if))]
     fn comma_if<W: WriteJs>(&mut self, cfg: &Config, wr: &mut W, wanted: bool) -> Answer
         ensures items { Does (comma_if wanted) (state_of cfg.now (W.sheet wr.old) self.old) (state_of cfg.now (W.sheet wr.new) self.new) result }
+        ensures reads { Adds (comma_tokens wanted)
+            cfg.now (W.sheet wr.old) self.old (W.sheet wr.new) self.new result }
         ensures level { OnOk result ((W.sheet wr.new).indentation ≡ (W.sheet wr.old).indentation) }
     {
         if wanted {
@@ -96,6 +99,8 @@ impl LowerEmitter {
         parent: Span,
     ) -> Answer
         ensures items { (maps : Maps) → Emits (source_comma parent) (at_source (S.lines cm.now) maps (state_of cfg.now (W.sheet wr.old) self.old)) (at_source (S.lines cm.now) maps (state_of cfg.now (W.sheet wr.new) self.new)) result }
+        ensures reads { Adds (comma_tokens (stands_with_comma (S.lines cm.now) parent))
+            cfg.now (W.sheet wr.old) self.old (W.sheet wr.new) self.new result }
         ensures level { OnOk result ((W.sheet wr.new).indentation ≡ (W.sheet wr.old).indentation) }
     {
         if parent.lo.0 == 0 {
@@ -124,6 +129,8 @@ impl LowerEmitter {
         parent: Span,
     ) -> Answer
         ensures items { (maps : Maps) → Emits (wanted_comma format.0 parent) (at_source (S.lines cm.now) maps (state_of cfg.now (W.sheet wr.old) self.old)) (at_source (S.lines cm.now) maps (state_of cfg.now (W.sheet wr.new) self.new)) result }
+        ensures reads { Adds (comma_tokens (wants_comma (S.lines cm.now) format.0 parent))
+            cfg.now (W.sheet wr.old) self.old (W.sheet wr.new) self.new result }
         ensures level { OnOk result ((W.sheet wr.new).indentation ≡ (W.sheet wr.old).indentation) }
     {
         if format.contains(ListFormat::ForceTrailingComma) {
@@ -146,6 +153,8 @@ impl LowerEmitter {
         parent: Span,
     ) -> Answer
         ensures items { (maps : Maps) → Emits (trailing_comma format.0 parent) (at_source (S.lines cm.now) maps (state_of cfg.now (W.sheet wr.old) self.old)) (at_source (S.lines cm.now) maps (state_of cfg.now (W.sheet wr.new) self.new)) result }
+        ensures reads { Adds (comma_tokens (ends_with_comma (S.lines cm.now) cfg.now format.0 parent))
+            cfg.now (W.sheet wr.old) self.old (W.sheet wr.new) self.new result }
         ensures level { OnOk result ((W.sheet wr.new).indentation ≡ (W.sheet wr.old).indentation) }
     {
         if !may_have_comma(cfg, format) {

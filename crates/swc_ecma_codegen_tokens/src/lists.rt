@@ -2,6 +2,7 @@
 
 ghost use Rattle.std.specs.Prelude.{◌≡◌, true, ◌+◌, ◌<◌, ◌≤◌, OnOk};
 ghost use Rattle.swc_ecma_codegen_grammar.specs.Comments.{maps_in};
+ghost use Rattle.swc_ecma_codegen_tokens.specs.Adds.{Adds, tokens_between};
 ghost use Rattle.swc_ecma_codegen_tokens.specs.Run.{DoesTaking, Does};
 ghost use Rattle.swc_ecma_codegen_tokens.specs.Lists.{blank_if, line_or_blank, deeper, formatting_deeper, deeper_if, shallower, formatting_shallower, shallower_if, opening, delimiter, separator, child_comments, closing, empty_list, level_if, list_levels};
 ghost use Rattle.swc_ecma_codegen_tokens.specs.View.{state_of};
@@ -152,6 +153,8 @@ impl LowerEmitter {
     #[tactic(auto, unfolding(crate::specs::Lists::delimiter))]
     fn delimiter<W: WriteJs>(&mut self, cfg: &Config, wr: &mut W, format: ListFormat) -> Answer
         ensures items { Does (delimiter format.0) (state_of cfg.now (W.sheet wr.old) self.old) (state_of cfg.now (W.sheet wr.new) self.new) result }
+        ensures reads { Adds (tokens_between format.0)
+            cfg.now (W.sheet wr.old) self.old (W.sheet wr.new) self.new result }
         ensures level { OnOk result ((W.sheet wr.new).indentation ≡ (W.sheet wr.old).indentation) }
     {
         if format.contains(ListFormat::CommaDelimited) {
@@ -176,6 +179,8 @@ impl LowerEmitter {
         line: bool,
     ) -> Answer
         ensures items { Does (separator format.0 line) (state_of cfg.now (W.sheet wr.old) self.old) (state_of cfg.now (W.sheet wr.new) self.new) result }
+        ensures reads { Adds (tokens_between format.0)
+            cfg.now (W.sheet wr.old) self.old (W.sheet wr.new) self.new result }
         ensures level { OnOk result ((W.sheet wr.new).indentation ≡ (W.sheet wr.old).indentation) }
     {
         self.delimiter(cfg, wr, format)?;

@@ -5,7 +5,7 @@ ghost use Rattle.std.specs.Str.{chars, is_utf8};
 ghost use Rattle.swc_ecma_codegen_spans.specs.Spans.{dummy_span};
 ghost use Rattle.swc_ecma_codegen_grammar.specs.declared.kinds.Kind.TheVariants as kind;
 ghost use Rattle.swc_ecma_codegen_grammar.specs.GapRules as rules;
-ghost use Rattle.swc_ecma_codegen_grammar.specs.Chars.{is_one_line};
+ghost use Rattle.swc_ecma_codegen_grammar.specs.Chars.{begins_digit, is_one_line};
 ghost use Rattle.swc_ecma_codegen_grammar.specs.LitPhrases.{regex_text as regex_characters};
 ghost use Rattle.swc_ecma_codegen_grammar.specs.Names.{is_name};
 ghost use Rattle.swc_ecma_codegen_grammar.specs.Numbers.{takes_dot, is_big_integer, is_number};
@@ -18,7 +18,7 @@ ghost use Rattle.swc_ecma_codegen_tokens.specs.Last.{last_at};
 ghost use Rattle.swc_ecma_codegen_tokens.specs.Run.{Does, step, Token, Plain, Ends};
 ghost use Rattle.swc_ecma_codegen_tokens.specs.Literals.{size_of, signed, string, number, dotted_number, sign, number_name, big_digits, big_integer, regex_text, regex, hashbang};
 ghost use Rattle.swc_ecma_codegen_tokens.specs.Written.{IsNew, IsAtMargin, ReadsSoFar};
-ghost use Rattle.swc_ecma_codegen_tokens.specs.Adds.{Adds, tokens_of_number};
+ghost use Rattle.swc_ecma_codegen_tokens.specs.Adds.{Adds, sign_tokens, tokens_of_digits, tokens_of_number};
 ghost use Rattle.swc_ecma_codegen_tokens.specs.View.{state_of};
 
 use crate::LowerEmitter;
@@ -287,6 +287,10 @@ impl LowerEmitter {
     pub fn dotted_number<W: WriteJs>(&mut self, cfg: &Config, wr: &mut W, text: &str) -> Answer
         requires { takes_dot (chars (size_of text.now)) ≡ true }
         ensures items { Does (dotted_number text.now) (state_of cfg.now (W.sheet wr.old) self.old) (state_of cfg.now (W.sheet wr.new) self.new) result }
+        // The number that it is without the dot: `1.` reads as 1.
+        ensures reads { is_utf8 (size_of text.now) ≡ true → is_number (chars (size_of text.now)) ≡ true →
+            Adds (tokens_of_number text.now)
+            cfg.now (W.sheet wr.old) self.old (W.sheet wr.new) self.new result }
         ensures level { OnOk result ((W.sheet wr.new).indentation ≡ (W.sheet wr.old).indentation) }
     {
         self.guard(cfg, wr, text, StartClass::of_literal(text))?;
@@ -305,6 +309,8 @@ impl LowerEmitter {
         span: Span,
     ) -> Answer
         ensures items { Does (sign negative span) (state_of cfg.now (W.sheet wr.old) self.old) (state_of cfg.now (W.sheet wr.new) self.new) result }
+        ensures reads { Adds (sign_tokens negative)
+            cfg.now (W.sheet wr.old) self.old (W.sheet wr.new) self.new result }
         ensures level { OnOk result ((W.sheet wr.new).indentation ≡ (W.sheet wr.old).indentation) }
     {
         if negative {
@@ -344,6 +350,11 @@ impl LowerEmitter {
         text: &str,
     ) -> Answer
         ensures items { Does (big_digits span text.now) (state_of cfg.now (W.sheet wr.old) self.old) (state_of cfg.now (W.sheet wr.new) self.new) result }
+        ensures reads { is_utf8 (size_of text.now) ≡ true →
+            begins_digit (chars (size_of text.now)) ≡ true →
+            is_big_integer (chars (size_of text.now) ++ codes "n") ≡ true →
+            Adds (tokens_of_digits text.now)
+            cfg.now (W.sheet wr.old) self.old (W.sheet wr.new) self.new result }
         ensures level { OnOk result ((W.sheet wr.new).indentation ≡ (W.sheet wr.old).indentation) }
     {
         self.guard(cfg, wr, text, StartClass::of_literal(text))?;

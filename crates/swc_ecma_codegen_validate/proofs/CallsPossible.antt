@@ -12,12 +12,15 @@ use Rattle.swc_ecma_codegen_tree.specs.declared.exprs.CallExpr.{CallExpr}
 use Rattle.swc_ecma_codegen_tree.specs.declared.exprs.Import.{Import}
 use Rattle.swc_ecma_codegen_tree.specs.declared.exprs.NewExpr.{NewExpr}
 use Rattle.swc_ecma_codegen_tree.specs.declared.exprs.OptCall.{OptCall}
+use Rattle.swc_ecma_codegen_grammar.specs.AnnotationPhrases.{type_args}
+use Rattle.swc_ecma_codegen_grammar.specs.TypePhrases.{args_at}
 use Rattle.swc_ecma_codegen_grammar.specs.Phrases.{Phrase, Never, ◌>◌, listed, is_possible}
 use Rattle.swc_ecma_codegen_grammar.specs.ElementPhrases.{element, last_is_hole}
 use Rattle.swc_ecma_codegen_grammar.specs.CallPhrases.{value_at, callee_at, spread_mark, expr_or_spread, array_elements, array_lit, arguments, import_phase, import_callee, callee, call_expr, listed_arguments, new_arguments, new_expr, call_mark, chain_call}
 use Rattle.swc_ecma_codegen_grammar.specs.ExprPhrases.{expr, expr_in}
 use Rattle.swc_ecma_codegen_grammar.specs.declared.roles.Role.{Role}
 use Rattle.swc_ecma_codegen_validate.specs.Possible.{all_possible}
+use Rattle.swc_ecma_codegen_validate.proofs.Annotations.{args_possible}
 use Rattle.swc_ecma_codegen_validate.proofs.Lists.{listed_possible, and_true}
 
 pub spread_possible : (spread : Option Span) → is_possible (spread_mark spread) ≡ true
@@ -48,22 +51,11 @@ pub import_possible : (n : Import) → is_possible (import_callee n) ≡ true
 unfolding is_possible import_callee
 import_possible n = phase_possible n.phase
 
--- nothing is well-formed that has types in its arguments
-typed : (b : Bool) (p : Phrase) → is_possible (cond b Never p) ≡ not b && is_possible p
-unfolding is_possible
-typed true p = refl
-typed false p = refl
-
-not_some : {A : Type 0} (o : Option A) → not (is_some o) ≡ is_none o
-not_some None = refl
-not_some (Some x) = refl
-
-untyped : {A : Type 0} (o : Option A) (p : Phrase) → is_possible (cond (is_some o) Never p) ≡ is_none o && is_possible p
-untyped o p = typed (is_some o) p ∙ ap (λ b. b && is_possible p) (not_some o)
-
-pub call_possible : {X : Type 0} (f : X → Role → Phrase) (n : CallExpr X) → is_possible (call_expr f n) ≡ is_none n.type_args && (is_possible (callee f n.callee) && all_possible (expr_or_spread f) n.args.items)
+pub call_possible : {X : Type 0} (f : X → Role → Phrase) (n : CallExpr X) → is_possible (call_expr f n) ≡ (is_possible (callee f n.callee) && (is_possible (element (args_at f) n.type_args) && all_possible (expr_or_spread f) n.args.items))
 unfolding is_possible call_expr
-call_possible f n = untyped n.type_args (callee f n.callee > arguments f n.args.items) ∙ ap (λ b. is_none n.type_args && (is_possible (callee f n.callee) && b)) (arguments_possible f n.args.items)
+call_possible f n =
+    ap (λ b. is_possible (callee f n.callee) && (b && is_possible (arguments f n.args.items))) (args_possible f n.type_args)
+    ∙ ap (λ b. is_possible (callee f n.callee) && (is_possible (element (args_at f) n.type_args) && b)) (arguments_possible f n.args.items)
 
 pub listed_arguments_possible : {X : Type 0} (f : X → Role → Phrase) (keeps : Bool) (xs : List (ExprOrSpread X)) → is_possible (listed_arguments f keeps xs) ≡ all_possible (expr_or_spread f) xs
 unfolding is_possible listed_arguments all_possible
@@ -71,14 +63,21 @@ listed_arguments_possible f false [] = refl
 listed_arguments_possible f false (x ∷ xs) = arguments_possible f (x ∷ xs)
 listed_arguments_possible f true xs = arguments_possible f xs
 
-pub new_possible : {X : Type 0} (f : X → Role → Phrase) (keeps : Bool) (n : NewExpr X) → is_possible (new_expr f keeps n) ≡ is_none n.type_args && (is_possible (value_at f n.callee) && is_possible (new_arguments f keeps n.args))
+pub new_possible : {X : Type 0} (f : X → Role → Phrase) (keeps : Bool) (n : NewExpr X) → is_possible (new_expr f keeps n) ≡ (is_possible (value_at f n.callee) && (is_possible (element (args_at f) n.type_args) && is_possible (new_arguments f keeps n.args)))
 unfolding is_possible new_expr
-new_possible f keeps n = untyped n.type_args _
+new_possible f keeps n = ap (λ b. is_possible (value_at f n.callee) && (b && is_possible (new_arguments f keeps n.args))) (args_possible f n.type_args)
 
-pub chain_call_possible : {X : Type 0} (f : X → Role → Phrase) (optional : Bool) (n : OptCall X) → is_possible (chain_call f optional n) ≡ is_none n.type_args && (is_possible (callee_at f n.callee) && all_possible (expr_or_spread f) n.args.items)
-unfolding is_possible chain_call call_mark
-chain_call_possible f true n = untyped n.type_args (callee_at f n.callee > call_mark true > arguments f n.args.items) ∙ ap (λ b. is_none n.type_args && (is_possible (callee_at f n.callee) && b)) (arguments_possible f n.args.items)
-chain_call_possible f false n = untyped n.type_args (callee_at f n.callee > call_mark false > arguments f n.args.items) ∙ ap (λ b. is_none n.type_args && (is_possible (callee_at f n.callee) && b)) (arguments_possible f n.args.items)
+mark_possible : (optional : Bool) → is_possible (call_mark optional) ≡ true
+unfolding is_possible call_mark
+mark_possible true = refl
+mark_possible false = refl
+
+pub chain_call_possible : {X : Type 0} (f : X → Role → Phrase) (optional : Bool) (n : OptCall X) → is_possible (chain_call f optional n) ≡ (is_possible (callee_at f n.callee) && (is_possible (element (args_at f) n.type_args) && all_possible (expr_or_spread f) n.args.items))
+unfolding is_possible chain_call
+chain_call_possible f optional n =
+    ap (λ b. is_possible (callee_at f n.callee) && (b && (is_possible (type_args f n.type_args) && is_possible (arguments f n.args.items)))) (mark_possible optional)
+    ∙ ap (λ b. is_possible (callee_at f n.callee) && (b && is_possible (arguments f n.args.items))) (args_possible f n.type_args)
+    ∙ ap (λ b. is_possible (callee_at f n.callee) && (is_possible (element (args_at f) n.type_args) && b)) (arguments_possible f n.args.items)
 
 pub optional_call_possible : {X : Type 0} (f : X → Role → Phrase) (optional : Bool) (n : OptCall X) → is_possible (chain_call f optional n) ≡ is_possible (chain_call f false n)
 optional_call_possible f optional n = chain_call_possible f optional n ∙ sym (chain_call_possible f false n)
@@ -91,5 +90,5 @@ kept_arguments_possible f (Some xs) = listed_arguments_possible f true xs.items 
 -- a callee is well-formed where it is another expression
 pub callee_possible : {X : Type 0} (f : X → Role → Phrase) (n : Expr X) → is_possible (expr_in f true n) ≡ is_possible (expr f n)
 unfolding expr_in expr
-callee_possible f (exprs.New n) = new_possible f true n ∙ ap (λ b. is_none n.type_args && (is_possible (value_at f n.callee) && b)) (kept_arguments_possible f n.args) ∙ sym (new_possible f false n)
+callee_possible f (exprs.New n) = new_possible f true n ∙ ap (λ b. is_possible (value_at f n.callee) && (is_possible (element (args_at f) n.type_args) && b)) (kept_arguments_possible f n.args) ∙ sym (new_possible f false n)
 callee_possible f n = refl

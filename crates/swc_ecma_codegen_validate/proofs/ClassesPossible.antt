@@ -11,12 +11,15 @@ use Rattle.swc_ecma_codegen_tree.specs.declared.classes.PrivateMethod.{PrivateMe
 use Rattle.swc_ecma_codegen_tree.specs.declared.classes.PrivateProp.{PrivateProp}
 use Rattle.swc_ecma_codegen_tree.specs.declared.decls.ClassDecl.{ClassDecl}
 use Rattle.swc_ecma_codegen_tree.specs.declared.exprs.Expr.{Expr}
-use Rattle.swc_ecma_codegen_tree.specs.Links.{FunctionBox}
 use Rattle.swc_ecma_codegen_tree.specs.declared.decls.Decorator.{Decorator}
 use Rattle.swc_ecma_codegen_tree.specs.declared.decls.Function as functions
-use Rattle.swc_ecma_codegen_grammar.specs.Phrases.{Phrase, Never, ◌>◌, mark, word, in_order, is_possible}
+use Rattle.swc_ecma_codegen_tree.specs.Links.{ExprBox, FunctionBox, TsTypeParamInstantiationBox}
+use Rattle.swc_ecma_codegen_grammar.specs.AnnotationPhrases.{type_params}
+use Rattle.swc_ecma_codegen_grammar.specs.ElementPhrases.{element}
+use Rattle.swc_ecma_codegen_grammar.specs.TypePhrases.{ann_at, args_at, params_at}
+use Rattle.swc_ecma_codegen_grammar.specs.Phrases.{Phrase, Never, ◌>◌, where_, mark, word, in_order, is_possible}
 use Rattle.swc_ecma_codegen_grammar.specs.NamePhrases.{ident, private_name}
-use Rattle.swc_ecma_codegen_grammar.specs.PatPhrases.{prop_name_at, initializer}
+use Rattle.swc_ecma_codegen_grammar.specs.PatPhrases.{value_at, prop_name_at, initializer}
 use Rattle.swc_ecma_codegen_grammar.specs.FunctionPhrases.{word_if, is_some_listed, decorator, param, function_body}
 use Rattle.swc_ecma_codegen_grammar.specs.ClassPhrases.{member_at, decorators, class_head, heritage, is_typed_class, class_tail, class_decl, constructor_param, class_constructor, method_decorators, method_tail, accessor_tail, tail_role, kind_head, method_kind, class_method, private_method, prop_value, is_typed_prop, class_prop, is_typed_private, private_prop, accessor_key, is_typed_accessor, auto_accessor}
 use Rattle.swc_ecma_codegen_grammar.specs.ExprPhrases.{expr}
@@ -24,7 +27,10 @@ use Rattle.swc_ecma_codegen_grammar.specs.TreePhrases.{is_sequence, field_value}
 use Rattle.swc_ecma_codegen_grammar.specs.declared.roles.Role.{Role}
 use Rattle.swc_ecma_codegen_grammar.specs.declared.roles.Role.TheVariants.{ClassHead, ClassTail, MethodDecorators}
 use Rattle.swc_ecma_codegen_validate.specs.Possible.{all_possible}
+use Rattle.swc_ecma_codegen_validate.proofs.Annotations.{args_possible, params_possible}
+use Rattle.swc_ecma_codegen_validate.proofs.FunctionsPossible.{signature_possible}
 use Rattle.swc_ecma_codegen_validate.proofs.Lists.{in_order_possible, listed_possible, and_true}
+use Rattle.swc_ecma_codegen_validate.proofs.TsDeclsPossible.{past_declare}
 
 -- ---- what TypeScript adds
 
@@ -59,13 +65,24 @@ pub class_head_possible : {X : Type 0} (f : X → Role → Phrase) (n : classes.
 unfolding class_head
 class_head_possible f n = decorators_possible f n.decorators.items
 
-pub class_tail_possible : {X : Type 0} (f : X → Role → Phrase) (n : classes.Class X) → is_possible (class_tail f n) ≡ (not (is_typed_class n) && (is_possible (heritage f n.super_class) && all_possible (member_at f) n.body.items))
-unfolding is_possible class_tail
-class_tail_possible f n = typed (is_typed_class n) _ _ (ap (λ b. is_possible (heritage f n.super_class) && b) (and_true (is_possible (in_order (map (member_at f) n.body.items))) ∙ in_order_possible (member_at f) n.body.items))
+pub none_extended : {X : Type 0} (f : X → Role → Phrase) (args : Option (TsTypeParamInstantiationBox X)) → is_possible (heritage f None args) ≡ is_none args
+unfolding is_possible heritage where_
+none_extended f None = refl
+none_extended f (Some t) = refl
 
-pub class_decl_possible : {X : Type 0} (f : X → Role → Phrase) (n : ClassDecl X) → is_possible (class_decl f n) ≡ (not n.declare && (is_possible (f n.class.node.value ClassHead) && (is_possible (ident n.ident) && is_possible (f n.class.node.value ClassTail))))
+pub one_extended : {X : Type 0} (f : X → Role → Phrase) (n : ExprBox X) (args : Option (TsTypeParamInstantiationBox X)) → is_possible (heritage f (Some n) args) ≡ (is_possible (value_at f n) && is_possible (element (args_at f) args))
+unfolding is_possible heritage
+one_extended f n args = ap (λ b. is_possible (value_at f n) && b) (args_possible f args)
+
+pub class_tail_possible : {X : Type 0} (f : X → Role → Phrase) (n : classes.Class X) → is_possible (class_tail f n) ≡ (not (is_typed_class n) && (is_possible (element (params_at f) n.type_params) && (is_possible (heritage f n.super_class n.super_type_params) && all_possible (member_at f) n.body.items)))
+unfolding is_possible class_tail
+class_tail_possible f n = typed (is_typed_class n) _ _
+    (ap (λ b. is_possible (type_params f n.type_params) && (is_possible (heritage f n.super_class n.super_type_params) && b)) (and_true (is_possible (in_order (map (member_at f) n.body.items))) ∙ in_order_possible (member_at f) n.body.items)
+    ∙ ap (λ b. b && (is_possible (heritage f n.super_class n.super_type_params) && all_possible (member_at f) n.body.items)) (params_possible f n.type_params))
+
+pub class_decl_possible : {X : Type 0} (f : X → Role → Phrase) (n : ClassDecl X) → is_possible (class_decl f n) ≡ (is_possible (f n.class.node.value ClassHead) && (is_possible (ident n.ident) && is_possible (f n.class.node.value ClassTail)))
 unfolding is_possible class_decl
-class_decl_possible f n = typed n.declare _ _ refl
+class_decl_possible f n = past_declare n.declare _
 
 -- ---- members
 
@@ -79,14 +96,9 @@ pub method_decorators_possible : {X : Type 0} (f : X → Role → Phrase) (n : f
 unfolding method_decorators
 method_decorators_possible f n = decorators_possible f n.decorators.items
 
-pub method_tail_possible : {X : Type 0} (f : X → Role → Phrase) (n : functions.Function X) → is_possible (method_tail f n) ≡ (is_none n.type_params && (is_none n.return_type && (all_possible (param f) n.params.items && is_possible (function_body f n.body))))
+pub method_tail_possible : {X : Type 0} (f : X → Role → Phrase) (n : functions.Function X) → is_possible (method_tail f n) ≡ (is_possible (element (params_at f) n.type_params) && (all_possible (param f) n.params.items && (is_possible (element (ann_at f) n.return_type) && is_possible (function_body f n.body))))
 unfolding is_possible method_tail
-method_tail_possible f n =
-    let rest : Bool = all_possible (param f) n.params.items && is_possible (function_body f n.body) in
-    typed (is_some n.type_params || is_some n.return_type) _ rest (ap (λ b. b && is_possible (function_body f n.body)) (listed_possible (codes ",") (param f) n.params.items))
-    ∙ not_either (is_some n.type_params) (is_some n.return_type) rest
-    ∙ ap (λ b. b && (not (is_some n.return_type) && rest)) (not_some n.type_params)
-    ∙ ap (λ b. is_none n.type_params && (b && rest)) (not_some n.return_type)
+method_tail_possible f n = signature_possible f n.type_params (param f) n.params.items n.return_type (is_possible (function_body f n.body))
 
 pub accessor_tail_possible : {X : Type 0} (f : X → Role → Phrase) (n : functions.Function X) → is_possible (accessor_tail f n) ≡ (not n.is_async && (not n.is_generator && is_possible (method_tail f n)))
 unfolding accessor_tail

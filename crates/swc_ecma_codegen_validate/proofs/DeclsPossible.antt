@@ -1,6 +1,5 @@
 -- When the phrase of a declaration is possible.
-use Rattle.std.proofs.Common.{◌≡◌, ◌∙◌, refl, sym, ap, ℕ, suc, ◌==◌, Bool, true, false, not, ◌&&◌, cond, List, [], ◌∷◌, length, map, codes, arith}
-use Rattle.std.proofs.lemmas.Bool.{ne_eqb}
+use Rattle.std.proofs.Common.{◌≡◌, ◌∙◌, refl, ap, ◌==◌, Bool, true, false, not, ◌&&◌, cond, List, length, map, codes}
 use Rattle.swc_ecma_codegen_tree.specs.declared.decls.FnDecl.{FnDecl}
 use Rattle.swc_ecma_codegen_tree.specs.declared.decls.UsingDecl.{UsingDecl}
 use Rattle.swc_ecma_codegen_tree.specs.declared.decls.VarDecl.{VarDecl}
@@ -15,7 +14,8 @@ use Rattle.swc_ecma_codegen_grammar.specs.FunctionPhrases.{function_at}
 use Rattle.swc_ecma_codegen_grammar.specs.DeclPhrases.{after_await, fn_decl, var_declarator, var_kind, var_decl, using_decl}
 use Rattle.swc_ecma_codegen_grammar.specs.Phrases.{Phrase, Never, ◌>◌, some_listed, is_possible}
 use Rattle.swc_ecma_codegen_validate.specs.Possible.{all_possible}
-use Rattle.swc_ecma_codegen_validate.proofs.Lists.{some_possible}
+use Rattle.swc_ecma_codegen_validate.proofs.Lists.{some_or_never}
+use Rattle.swc_ecma_codegen_validate.proofs.TsDeclsPossible.{past_declare}
 
 -- what isn't printed yet
 unless : (refused : Bool) (p : Phrase) → is_possible (cond refused Never p) ≡ (not refused && is_possible p)
@@ -23,24 +23,13 @@ unfolding is_possible
 unless true p = refl
 unless false p = refl
 
-pub fn_decl_possible : {X : Type 0} (f : X → Role → Phrase) (n : FnDecl X) → is_possible (fn_decl f n) ≡ (not n.declare && (is_possible (f n.function.node.value FunctionHead) && (is_possible (ident n.ident) && is_possible (function_at f n.function))))
+pub fn_decl_possible : {X : Type 0} (f : X → Role → Phrase) (n : FnDecl X) → is_possible (fn_decl f n) ≡ (is_possible (f n.function.node.value FunctionHead) && (is_possible (ident n.ident) && is_possible (function_at f n.function)))
 unfolding is_possible fn_decl
-fn_decl_possible f n = unless n.declare (f n.function.node.value FunctionHead > ident n.ident > function_at f n.function)
+fn_decl_possible f n = past_declare n.declare _
 
 pub var_declarator_possible : {X : Type 0} (f : X → Role → Phrase) (n : VarDeclarator X) → is_possible (var_declarator f n) ≡ (not n.definite && (is_possible (pat f n.name) && is_possible (initializer f n.init)))
 unfolding is_possible var_declarator
 var_declarator_possible f n = unless n.definite (pat f n.name > initializer f n.init)
-
-some_long : {A : Type 0} (xs : List A) → suc (length xs) ≡ 0 → ⊥
-some_long xs e = omega (arith, e)
-
--- of one at least
-some_or_never : {A : Type 0} (t : List ℕ) (e : A → Phrase) (xs : List A) → is_possible (some_listed t (map e xs)) ≡ (not (length xs == 0) && all_possible e xs)
-unfolding is_possible some_listed
-some_or_never t e [] = refl
-some_or_never t e (x ∷ xs) =
-    let some : (length (x ∷ xs) == 0) ≡ false = ne_eqb (suc (length xs)) 0 (some_long xs) in
-    some_possible t e (x ∷ xs) some ∙ sym (ap (λ b. not b && all_possible e (x ∷ xs)) some)
 
 kind_possible : (kind : VarDeclKind) → is_possible (var_kind kind) ≡ true
 unfolding is_possible var_kind
@@ -48,20 +37,19 @@ kind_possible Var = refl
 kind_possible Let = refl
 kind_possible Const = refl
 
-pub var_decl_possible : {X : Type 0} (f : X → Role → Phrase) (n : VarDecl X) → is_possible (var_decl f n) ≡ (not n.declare && (not (length n.decls.items == 0) && all_possible (var_declarator f) n.decls.items))
+pub declarators_possible : {X : Type 0} (f : X → Role → Phrase) (ns : List (VarDeclarator X)) → is_possible (some_listed (codes ",") (map (var_declarator f) ns)) ≡ (not (length ns == 0) && all_possible (var_declarator f) ns)
+declarators_possible f ns = some_or_never (codes ",") (var_declarator f) ns
+
+pub var_decl_possible : {X : Type 0} (f : X → Role → Phrase) (n : VarDecl X) → is_possible (var_decl f n) ≡ is_possible (some_listed (codes ",") (map (var_declarator f) n.decls.items))
 unfolding is_possible var_decl
 var_decl_possible f n =
-    let declarators : Phrase = some_listed (codes ",") (map (var_declarator f) n.decls.items) in
-    unless n.declare (var_kind n.kind > declarators)
-    ∙ ap (λ b. not n.declare && (b && is_possible declarators)) (kind_possible n.kind)
-    ∙ ap (λ b. not n.declare && b) (some_or_never (codes ",") (var_declarator f) n.decls.items)
+    past_declare n.declare _ ∙ ap (λ b. b && is_possible (some_listed (codes ",") (map (var_declarator f) n.decls.items))) (kind_possible n.kind)
 
 after_await_possible : (b : Bool) (p : Phrase) → is_possible (after_await b p) ≡ is_possible p
 unfolding is_possible after_await
 after_await_possible true p = refl
 after_await_possible false p = refl
 
-pub using_decl_possible : {X : Type 0} (f : X → Role → Phrase) (n : UsingDecl X) → is_possible (using_decl f n) ≡ (not (length n.decls.items == 0) && all_possible (var_declarator f) n.decls.items)
+pub using_decl_possible : {X : Type 0} (f : X → Role → Phrase) (n : UsingDecl X) → is_possible (using_decl f n) ≡ is_possible (some_listed (codes ",") (map (var_declarator f) n.decls.items))
 unfolding is_possible using_decl
-using_decl_possible f n =
-    after_await_possible n.is_await _ ∙ some_or_never (codes ",") (var_declarator f) n.decls.items
+using_decl_possible f n = after_await_possible n.is_await _

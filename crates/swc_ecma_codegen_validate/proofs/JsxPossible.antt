@@ -12,6 +12,9 @@ use Rattle.swc_ecma_codegen_tree.specs.declared.jsx.JSXExprContainer.{JSXExprCon
 use Rattle.swc_ecma_codegen_tree.specs.declared.jsx.JSXFragment.{JSXFragment}
 use Rattle.swc_ecma_codegen_tree.specs.declared.jsx.JSXOpeningElement.{JSXOpeningElement}
 use Rattle.swc_ecma_codegen_tree.specs.declared.jsx.JSXSpreadChild.{JSXSpreadChild}
+use Rattle.swc_ecma_codegen_grammar.specs.AnnotationPhrases.{type_args}
+use Rattle.swc_ecma_codegen_grammar.specs.ElementPhrases.{element}
+use Rattle.swc_ecma_codegen_grammar.specs.TypePhrases.{args_at}
 use Rattle.swc_ecma_codegen_grammar.specs.Jsx.{is_jsx_name, is_jsx_string, is_jsx_text}
 use Rattle.swc_ecma_codegen_grammar.specs.JsxPhrases.{holds, jsx_quoted, text_spelling, jsx_text, open_mark, jsx_expr, jsx_expr_container, jsx_spread_child, jsx_attr_or_spread, self_close, jsx_opening_element, jsx_closing_element, jsx_element_name, jsx_element_child, is_text, is_parted, ends_in_text, jsx_children, jsx_rest, jsx_element, jsx_opening_fragment, jsx_closing_fragment, jsx_fragment}
 use Rattle.swc_ecma_codegen_grammar.specs.PatPhrases.{value_at}
@@ -22,6 +25,7 @@ use Rattle.swc_ecma_codegen_grammar.specs.declared.roles.Role.{Role}
 use Rattle.swc_ecma_codegen_grammar.proofs.Quotes.{held_by_characters, quoted_string}
 use Rattle.swc_ecma_codegen_validate.specs.JsxForms.{holds_character, is_some_text}
 use Rattle.swc_ecma_codegen_validate.specs.Possible.{all_possible}
+use Rattle.swc_ecma_codegen_validate.proofs.Annotations.{args_possible}
 use Rattle.swc_ecma_codegen_validate.proofs.Lists.{in_order_possible, and_true}
 use Rattle.swc_ecma_codegen_validate.proofs.Possible.{where_possible}
 
@@ -84,24 +88,20 @@ spread_possible f n = and_true (is_possible (value_at f n.expr))
 
 -- ---- tags
 
-untyped : {A : Type 0} (o : Option A) (p : Phrase) → is_possible (cond (is_some o) Never p) ≡ is_none o && is_possible p
-unfolding is_possible
-untyped None p = refl
-untyped (Some x) p = refl
-
 ends_possible : (closes : Bool) → is_possible (self_close closes > One tokens.tag_close) ≡ true
 unfolding is_possible self_close
 ends_possible true = refl
 ends_possible false = refl
 
-pub opening_possible : {X : Type 0} (f : X → Role → Phrase) (is_child : Bool) (n : JSXOpeningElement X) → is_possible (jsx_opening_element f is_child n) ≡ is_none n.type_args && (is_possible (jsx_element_name f n.name) && all_possible (jsx_attr_or_spread f) n.attrs.items)
+pub opening_possible : {X : Type 0} (f : X → Role → Phrase) (is_child : Bool) (n : JSXOpeningElement X) → is_possible (jsx_opening_element f is_child n) ≡ (is_possible (jsx_element_name f n.name) && (is_possible (element (args_at f) n.type_args) && all_possible (jsx_attr_or_spread f) n.attrs.items))
 unfolding is_possible jsx_opening_element
 opening_possible f is_child n =
     let ps : Phrase = in_order (map (jsx_attr_or_spread f) n.attrs.items) in
-    untyped n.type_args _
-    ∙ ap (λ b. is_none n.type_args && b) (opened is_child (codes "<") (jsx_element_name f n.name > ps > self_close n.self_closing > One tokens.tag_close)
-    ∙ ap (λ b. is_possible (jsx_element_name f n.name) && (is_possible ps && b)) (ends_possible n.self_closing)
-    ∙ ap (λ b. is_possible (jsx_element_name f n.name) && b) (and_true (is_possible ps) ∙ in_order_possible (jsx_attr_or_spread f) n.attrs.items))
+    let name : Bool = is_possible (jsx_element_name f n.name) in
+    opened is_child (codes "<") (jsx_element_name f n.name > type_args f n.type_args > ps > self_close n.self_closing > One tokens.tag_close)
+    ∙ ap (λ b. name && (is_possible (type_args f n.type_args) && (is_possible ps && b))) (ends_possible n.self_closing)
+    ∙ ap (λ b. name && (b && (is_possible ps && true))) (args_possible f n.type_args)
+    ∙ ap (λ b. name && (is_possible (element (args_at f) n.type_args) && b)) (and_true (is_possible ps) ∙ in_order_possible (jsx_attr_or_spread f) n.attrs.items)
 
 pub closing_possible : {X : Type 0} (f : X → Role → Phrase) (n : JSXClosingElement X) → is_possible (jsx_closing_element f n) ≡ is_possible (jsx_element_name f n.name)
 unfolding is_possible jsx_closing_element open_mark

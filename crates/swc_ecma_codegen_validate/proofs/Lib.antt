@@ -1,3 +1,4 @@
+pub mod Annotations
 pub mod BigSpellings
 pub mod CallsPossible
 pub mod DigitCounts
@@ -20,5 +21,8 @@ pub mod PropsPossible
 pub mod Slashes
 pub mod SpelledUnits
 pub mod Turned
+pub mod TypesPossible
+pub mod MembersPossible
+pub mod TsDeclsPossible
 pub mod UnitsLeft
 pub mod WholeSizes

@@ -1,6 +1,6 @@
 -- When the phrase of a list is possible.
-use Rattle.std.proofs.Common.{◌≡◌, ℕ, ◌==◌, Bool, true, false, List, [], ◌∷◌, length, map, ◌&&◌, ap, refl}
-use Rattle.std.proofs.lemmas.Bool.{true≢false}
+use Rattle.std.proofs.Common.{◌≡◌, ℕ, suc, ◌==◌, Bool, true, false, not, List, [], ◌∷◌, length, map, ◌&&◌, ◌∙◌, ap, refl, sym, arith}
+use Rattle.std.proofs.lemmas.Bool.{true≢false, ne_eqb}
 use Rattle.swc_ecma_codegen_grammar.specs.Phrases.{Phrase, is_possible, in_order, each_after, listed, some_listed}
 use Rattle.swc_ecma_codegen_validate.specs.Possible.{all_possible}
 
@@ -28,3 +28,14 @@ listed_possible t e (x ∷ xs) = ap (λ b. is_possible (e x) && b) (each_after_p
 pub and_true : (b : Bool) → (b && true) ≡ b
 and_true true = refl
 and_true false = refl
+
+some_long : {A : Type 0} (xs : List A) → suc (length xs) ≡ 0 → ⊥
+some_long xs e = omega (arith, e)
+
+-- of one at least
+pub some_or_never : {A : Type 0} (t : List ℕ) (e : A → Phrase) (xs : List A) → is_possible (some_listed t (map e xs)) ≡ (not (length xs == 0) && all_possible e xs)
+unfolding is_possible some_listed
+some_or_never t e [] = refl
+some_or_never t e (x ∷ xs) =
+    let some : (length (x ∷ xs) == 0) ≡ false = ne_eqb (suc (length xs)) 0 (some_long xs) in
+    some_possible t e (x ∷ xs) some ∙ sym (ap (λ b. not b && all_possible e (x ∷ xs)) some)

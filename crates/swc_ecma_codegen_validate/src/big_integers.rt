@@ -7,9 +7,10 @@ ghost use Rattle.swc_ecma_codegen_grammar.specs.LitPhrases as lits;
 ghost use Rattle.swc_ecma_codegen_grammar.specs.Texts as texts;
 ghost use Rattle.swc_ecma_codegen_validate.specs.BigDigits as big;
 
-use crate::texts::{after_first, is_empty, split_first};
+use crate::texts::after_first;
 use swc_ecma_codegen_grammar::characters::is_digit;
 use swc_ecma_codegen_grammar::numerals::{is_binary, is_either, is_hex, is_octal};
+use swc_ecma_codegen_grammar::texts::{is_empty, split_first};
 use swc_ecma_codegen_tree::Radix;
 
 #[tactic(auto, unfolding(swc_ecma_codegen_grammar::specs::LitPhrases::is_digit_of))]

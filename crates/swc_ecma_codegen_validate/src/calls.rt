@@ -43,7 +43,9 @@ impl<N: Fits> WellFormed for CallExpr<N> {
 
     #[tactic(auto, using(crate::proofs::CallsPossible::call_possible))]
     fn is_well_formed(&self) -> bool {
-        self.type_args.is_none() && self.callee.is_well_formed() && all_well_formed(&self.args)
+        self.callee.is_well_formed()
+            && self.type_args.is_well_formed()
+            && all_well_formed(&self.args)
     }
 }
 
@@ -63,7 +65,7 @@ impl<N: Fits> WellFormed for NewExpr<N> {
 
     #[tactic(auto, using(crate::proofs::CallsPossible::new_possible))]
     fn is_well_formed(&self) -> bool {
-        self.type_args.is_none() && self.callee.is_well_formed() && are_arguments(&self.args)
+        self.callee.is_well_formed() && self.type_args.is_well_formed() && are_arguments(&self.args)
     }
 }
 
@@ -72,8 +74,8 @@ impl<N: Fits> WellFormed for OptCall<N> {
 
     #[tactic(auto, using(crate::proofs::CallsPossible::chain_call_possible))]
     fn is_well_formed(&self) -> bool {
-        self.type_args.is_none()
-            && self.callee.held().fits(Role::Callee)
+        self.callee.held().fits(Role::Callee)
+            && self.type_args.is_well_formed()
             && all_well_formed(&self.args)
     }
 }

@@ -11,7 +11,7 @@ use swc_ecma_codegen_grammar::roles::Role;
 use swc_ecma_codegen_tree::{
     AutoAccessor, Class, ClassDecl, ClassExpr, ClassMember, ClassMethod, ClassProp, Constructor,
     ExprBox, Function, FunctionBox, Key, MethodKind, ParamOrTsParamProp, PrivateMethod,
-    PrivateProp, StaticBlock,
+    PrivateProp, StaticBlock, TsTypeParamInstantiationBox,
 };
 
 /// Whether what stands before the word of a class is well-formed.
@@ -22,26 +22,26 @@ pub(crate) fn is_class_head<N: Fits>(node: &Class<N>) -> bool
     all_well_formed(&node.decorators)
 }
 
-/// Whether the class that is extended is well-formed, or there is none.
-#[tactic(auto, unfolding(swc_ecma_codegen_grammar::specs::ClassPhrases::heritage, swc_ecma_codegen_grammar::specs::Phrases::is_possible))]
-fn is_heritage<N: Fits>(super_class: &Option<ExprBox<N>>) -> bool
-    ensures { result ≡ is_possible (heritage N.reads super_class.now) }
+/// Whether the class that is extended is well-formed with its arguments, or there is none.
+#[tactic(auto, using(crate::proofs::ClassesPossible::none_extended, crate::proofs::ClassesPossible::one_extended))]
+fn is_heritage<N: Fits>(
+    super_class: &Option<ExprBox<N>>,
+    args: &Option<TsTypeParamInstantiationBox<N>>,
+) -> bool
+    ensures { result ≡ is_possible (heritage N.reads super_class.now args.now) }
 {
     match super_class {
-        Some(super_class) => super_class.is_well_formed(),
-        None => true,
+        Some(super_class) => super_class.is_well_formed() && args.is_well_formed(),
+        None => args.is_none(),
     }
 }
 
-/// Whether TypeScript adds to a class.
+/// Whether TypeScript adds to a class what isn't printed yet.
 #[tactic(auto, using(crate::proofs::ClassesPossible::some_listed))]
 fn is_typed_class<N>(node: &Class<N>) -> bool
     ensures { result ≡ is_typed_class node.now }
 {
-    node.is_abstract
-        || node.type_params.is_some()
-        || node.super_type_params.is_some()
-        || !node.implements.is_empty()
+    node.is_abstract || !node.implements.is_empty()
 }
 
 impl<N: Fits> WellFormed for Class<N> {
@@ -49,7 +49,10 @@ impl<N: Fits> WellFormed for Class<N> {
 
     #[tactic(auto, using(crate::proofs::ClassesPossible::class_tail_possible))]
     fn is_well_formed(&self) -> bool {
-        !is_typed_class(self) && is_heritage(&self.super_class) && all_well_formed(&self.body)
+        !is_typed_class(self)
+            && self.type_params.is_well_formed()
+            && is_heritage(&self.super_class, &self.super_type_params)
+            && all_well_formed(&self.body)
     }
 }
 
@@ -58,8 +61,7 @@ impl<N: Fits> WellFormed for ClassDecl<N> {
 
     #[tactic(auto, using(crate::proofs::ClassesPossible::class_decl_possible))]
     fn is_well_formed(&self) -> bool {
-        !self.declare
-            && self.class.held().fits(Role::ClassHead)
+        self.class.held().fits(Role::ClassHead)
             && self.ident.is_well_formed()
             && self.class.held().fits(Role::ClassTail)
     }
@@ -110,9 +112,9 @@ pub(crate) fn are_method_decorators<N: Fits>(node: &Function<N>) -> bool
 pub(crate) fn is_method_tail<N: Fits>(node: &Function<N>) -> bool
     ensures { result ≡ is_possible (method_tail N.reads node.now) }
 {
-    node.type_params.is_none()
-        && node.return_type.is_none()
+    node.type_params.is_well_formed()
         && all_well_formed(&node.params)
+        && node.return_type.is_well_formed()
         && is_body(&node.body)
 }
 

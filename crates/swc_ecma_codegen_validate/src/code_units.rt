@@ -7,7 +7,8 @@ ghost use Rattle.swc_ecma_codegen_grammar.specs.Texts as texts;
 ghost use Rattle.swc_ecma_codegen_grammar.specs.WrittenUnits.{IsSurrogate, IsWrittenUnit};
 ghost use Rattle.swc_ecma_codegen_validate.specs.UnitStates.{left_units};
 
-use crate::texts::{after_first, is_empty, split_first};
+use crate::texts::after_first;
+use swc_ecma_codegen_grammar::texts::{is_empty, split_first};
 use swc_ecma_codegen_grammar::units::surrogate_value;
 
 /// Four hexadecimal digits from D800 to DFFF: their value, and the rest of the text.

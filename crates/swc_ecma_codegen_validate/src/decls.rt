@@ -1,6 +1,7 @@
 //! Declarations.
 
-ghost use Rattle.std.specs.Prelude.{◌≡◌};
+ghost use Rattle.std.specs.Prelude.{◌≡◌, map, codes};
+ghost use Rattle.swc_ecma_codegen_grammar.specs.Phrases.{is_possible, some_listed};
 ghost use Rattle.swc_ecma_codegen_grammar.specs.DeclPhrases.{fn_decl, var_declarator, var_decl, using_decl, decl};
 
 use crate::forms::{Fits, WellFormed, all_well_formed};
@@ -13,8 +14,7 @@ impl<N: Fits> WellFormed for FnDecl<N> {
 
     #[tactic(auto, using(crate::proofs::DeclsPossible::fn_decl_possible))]
     fn is_well_formed(&self) -> bool {
-        !self.declare
-            && self.function.held().fits(Role::FunctionHead)
+        self.function.held().fits(Role::FunctionHead)
             && self.ident.is_well_formed()
             && self.function.is_well_formed()
     }
@@ -29,12 +29,20 @@ impl<N: Fits> WellFormed for VarDeclarator<N> {
     }
 }
 
+/// Whether declarators are well-formed, and there is one at least.
+#[tactic(auto, using(crate::proofs::DeclsPossible::declarators_possible))]
+fn are_declarators<N: Fits>(declarators: &[VarDeclarator<N>]) -> bool
+    ensures { result ≡ is_possible (some_listed (codes ",") (map (var_declarator N.reads) declarators.now)) }
+{
+    !declarators.is_empty() && all_well_formed(declarators)
+}
+
 impl<N: Fits> WellFormed for VarDecl<N> {
     ghost phrase = { var_decl N.reads };
 
     #[tactic(auto, using(crate::proofs::DeclsPossible::var_decl_possible))]
     fn is_well_formed(&self) -> bool {
-        !self.declare && !self.decls.is_empty() && all_well_formed(&self.decls)
+        are_declarators(&self.decls)
     }
 }
 
@@ -43,7 +51,7 @@ impl<N: Fits> WellFormed for UsingDecl<N> {
 
     #[tactic(auto, using(crate::proofs::DeclsPossible::using_decl_possible))]
     fn is_well_formed(&self) -> bool {
-        !self.decls.is_empty() && all_well_formed(&self.decls)
+        are_declarators(&self.decls)
     }
 }
 
@@ -57,8 +65,10 @@ impl<N: Fits> WellFormed for Decl<N> {
             Decl::Fn(node) => node.is_well_formed(),
             Decl::Var(node) => node.is_well_formed(),
             Decl::Using(node) => node.is_well_formed(),
-            Decl::TsInterface(_) | Decl::TsTypeAlias(_) | Decl::TsEnum(_) | Decl::TsModule(_) =>
-                false,
+            Decl::TsInterface(node) => node.is_well_formed(),
+            Decl::TsTypeAlias(node) => node.is_well_formed(),
+            Decl::TsEnum(node) => node.is_well_formed(),
+            Decl::TsModule(node) => node.is_well_formed(),
         }
     }
 }

@@ -2,7 +2,7 @@
 
 ghost use Rattle.std.specs.Prelude.{◌≡◌, Bool, List, true};
 ghost use Rattle.swc_ecma_codegen_grammar.specs.declared.roles.Role.{Role as InRole};
-ghost use Rattle.swc_ecma_codegen_grammar.specs.declared.roles.Role.TheVariants.{Expression, Statement, MemberExpression, AssignmentTarget, Pattern, PropertyName, ObjectLiteral, Function, Block, Declaration, VariableDeclaration, Member, Template, ModuleDeclaration, Element, TagObject};
+ghost use Rattle.swc_ecma_codegen_grammar.specs.declared.roles.Role.TheVariants.{Expression, Statement, MemberExpression, AssignmentTarget, Pattern, PropertyName, ObjectLiteral, Function, Block, Declaration, VariableDeclaration, Member, Template, ModuleDeclaration, Element, TagObject, AnyType, Annotation, TypeArguments, TypeParameters, EntityName, SignatureParameter, TypeMember, NamespaceBody};
 ghost use Rattle.swc_ecma_codegen_grammar.specs.ElementPhrases.{element};
 ghost use Rattle.swc_ecma_codegen_grammar.specs.Phrases.{Phrase, is_possible};
 ghost use Rattle.swc_ecma_codegen_validate.specs.Possible.{all_possible};
@@ -11,7 +11,8 @@ use swc_ecma_codegen_grammar::roles::Role;
 use swc_ecma_codegen_tree::{
     Link, ToAssignTarget, ToBlockStmt, ToClassMember, ToDecl, ToExpr, ToFunction, ToJSXElement,
     ToJSXFragment, ToJSXObject, ToMemberExpr, ToModuleDecl, ToObjectLit, ToPat, ToPropName, ToStmt,
-    ToTpl, ToVarDecl,
+    ToTpl, ToTsEntityName, ToTsFnParam, ToTsNamespaceBody, ToTsType, ToTsTypeAnn, ToTsTypeElement,
+    ToTsTypeParamDecl, ToTsTypeParamInstantiation, ToVarDecl,
 };
 
 /// A node, or a link to one.
@@ -147,6 +148,54 @@ impl LinkRole for ToJSXObject {
     const ROLE: Role = Role::TagObject;
 
     ghost ROLE = { TagObject };
+}
+
+impl LinkRole for ToTsType {
+    const ROLE: Role = Role::AnyType;
+
+    ghost ROLE = { AnyType };
+}
+
+impl LinkRole for ToTsTypeAnn {
+    const ROLE: Role = Role::Annotation;
+
+    ghost ROLE = { Annotation };
+}
+
+impl LinkRole for ToTsTypeParamDecl {
+    const ROLE: Role = Role::TypeParameters;
+
+    ghost ROLE = { TypeParameters };
+}
+
+impl LinkRole for ToTsTypeParamInstantiation {
+    const ROLE: Role = Role::TypeArguments;
+
+    ghost ROLE = { TypeArguments };
+}
+
+impl LinkRole for ToTsFnParam {
+    const ROLE: Role = Role::SignatureParameter;
+
+    ghost ROLE = { SignatureParameter };
+}
+
+impl LinkRole for ToTsTypeElement {
+    const ROLE: Role = Role::TypeMember;
+
+    ghost ROLE = { TypeMember };
+}
+
+impl LinkRole for ToTsEntityName {
+    const ROLE: Role = Role::EntityName;
+
+    ghost ROLE = { EntityName };
+}
+
+impl LinkRole for ToTsNamespaceBody {
+    const ROLE: Role = Role::NamespaceBody;
+
+    ghost ROLE = { NamespaceBody };
 }
 
 /// A hole among elements is nothing.

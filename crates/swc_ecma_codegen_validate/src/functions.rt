@@ -44,10 +44,10 @@ impl<N: Fits> WellFormed for Function<N> {
 
     #[tactic(auto, using(crate::proofs::FunctionsPossible::function_possible))]
     fn is_well_formed(&self) -> bool {
-        self.type_params.is_none()
-            && self.return_type.is_none()
-            && self.decorators.is_empty()
+        self.decorators.is_empty()
+            && self.type_params.is_well_formed()
             && all_well_formed(&self.params)
+            && self.return_type.is_well_formed()
             && is_body(&self.body)
     }
 }
@@ -91,9 +91,9 @@ impl<N: Fits> WellFormed for ArrowExpr<N> {
 
     #[tactic(auto, using(crate::proofs::FunctionsPossible::arrow_possible))]
     fn is_well_formed(&self) -> bool {
-        self.type_params.is_none()
-            && self.return_type.is_none()
+        self.type_params.is_well_formed()
             && all_well_formed(&self.params)
+            && self.return_type.is_well_formed()
             && self.body.is_well_formed()
     }
 }

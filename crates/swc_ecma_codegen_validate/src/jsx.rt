@@ -6,8 +6,9 @@ ghost use Rattle.swc_ecma_codegen_grammar.specs.JsxPhrases as phrases;
 ghost use Rattle.swc_ecma_codegen_grammar.specs.JsxPhrases.{tag_ident, tag_ident_name, jsx_namespaced_name, jsx_member_expr, jsx_object, jsx_element_name, jsx_attr_name, jsx_string, jsx_text, jsx_expr, jsx_expr_container, jsx_spread_child, jsx_attr_lit, jsx_attr_value, jsx_attr_init, jsx_attr, jsx_attr_or_spread, jsx_opening_element, jsx_closing_element, jsx_element_child, is_parted, jsx_children, jsx_rest, jsx_element, jsx_fragment, jsx_part};
 
 use crate::forms::{Fits, WellFormed, all_well_formed};
-use crate::jsx_texts::{has_quotes, is_jsx_string, is_jsx_text, is_tag_name};
+use crate::jsx_texts::{has_quotes, is_jsx_string, is_tag_name};
 use swc_ecma_codegen_grammar::roles::Role;
+use swc_ecma_codegen_grammar::texts::is_jsx_text;
 use swc_ecma_codegen_tree::{
     Ident, IdentName, JSXAttr, JSXAttrName, JSXAttrOrSpread, JSXAttrValue, JSXClosingElement,
     JSXElement, JSXElementChild, JSXElementName, JSXExpr, JSXExprContainer, JSXFragment,
@@ -199,7 +200,9 @@ impl<N: Fits> WellFormed for JSXOpeningElement<N> {
 
     #[tactic(auto, using(crate::proofs::JsxPossible::opening_possible))]
     fn is_well_formed(&self) -> bool {
-        self.type_args.is_none() && self.name.is_well_formed() && all_well_formed(&self.attrs)
+        self.name.is_well_formed()
+            && self.type_args.is_well_formed()
+            && all_well_formed(&self.attrs)
     }
 }
 

@@ -1,4 +1,4 @@
-//! Names in tags, strings of attributes and text between tags: none has escapes.
+//! Names in tags and strings of attributes: none has escapes.
 
 ghost use Rattle.std.specs.Prelude.{◌≡◌};
 ghost use Rattle.std.specs.Str.{chars};
@@ -7,8 +7,8 @@ ghost use Rattle.swc_ecma_codegen_grammar.specs.JsxPhrases.{jsx_quoted};
 ghost use Rattle.swc_ecma_codegen_grammar.specs.SpelledNames.{is_well_formed_tag_name};
 ghost use Rattle.swc_ecma_codegen_validate.specs.JsxForms as forms;
 
-use crate::texts::{is_empty, split_first};
 use swc_ecma_codegen_grammar::characters::{is_part, is_quote, is_start};
+use swc_ecma_codegen_grammar::texts::{is_empty, split_first};
 
 /// Whether a name in a tag goes on like this: `b-c` after the first character of `ab-c`.
 #[tactic(auto, unfolding(swc_ecma_codegen_grammar::specs::Jsx::all_tag))]
@@ -83,27 +83,4 @@ pub(crate) fn has_quotes(value: &str) -> bool
     ensures { result ≡ jsx.is_jsx_string (chars (jsx_quoted value.now)) }
 {
     !(holds(value, '"') && holds(value, '\''))
-}
-
-/// Whether each character of a text may stand between tags.
-#[tactic(auto, unfolding(swc_ecma_codegen_grammar::specs::Jsx::all_bare, swc_ecma_codegen_grammar::specs::Jsx::is_bare))]
-fn is_bare(text: &str) -> bool
-    ensures { result ≡ jsx.all_bare (chars text.now) }
-{
-    let mut rest = text;
-    while let Some((c, more)) = split_first(rest) {
-        if matches!(c, '{' | '}' | '<' | '>') {
-            return false;
-        }
-        rest = more;
-    }
-    true
-}
-
-/// Whether it is text between tags.
-#[tactic(auto, unfolding(swc_ecma_codegen_grammar::specs::Jsx::is_jsx_text))]
-pub(crate) fn is_jsx_text(text: &str) -> bool
-    ensures { result ≡ jsx.is_jsx_text (chars text.now) }
-{
-    !is_empty(text) && is_bare(text)
 }

@@ -7,14 +7,14 @@ ghost use Rattle.swc_ecma_codegen_grammar.specs.Phrases.{is_possible};
 
 use crate::forms::{Fits, WellFormed};
 use crate::jsx::jsx_part_fits;
-use crate::parts::{expr_part_fits, stmt_part_fits};
+use crate::parts::{expr_part_fits, stmt_part_fits, ts_part_fits};
 use swc_ecma_codegen_grammar::roles::Role;
 use swc_ecma_codegen_tree::{AnyNode, Expr, ModuleItem, Program, Stmt};
 
 impl Fits for AnyNode {
     ghost reads = { phrase };
 
-    #[tactic(auto, using(swc_ecma_codegen_grammar::proofs::TreeLaws::phrase_at, swc_ecma_codegen_grammar::proofs::TreeLaws::phrase_expr, swc_ecma_codegen_grammar::proofs::TreeLaws::phrase_stmt, swc_ecma_codegen_grammar::proofs::TreeLaws::phrase_member_expr, swc_ecma_codegen_grammar::proofs::TreeLaws::phrase_expr_part, swc_ecma_codegen_grammar::proofs::TreeLaws::phrase_stmt_part, swc_ecma_codegen_grammar::proofs::TreeLaws::phrase_jsx_part, crate::proofs::Possible::chain_member_possible, crate::proofs::CallsPossible::callee_possible, crate::proofs::ClassesPossible::field_value_possible), unfolding(swc_ecma_codegen_grammar::specs::TreePhrases::node_phrase, swc_ecma_codegen_grammar::specs::Phrases::is_possible))]
+    #[tactic(auto, using(swc_ecma_codegen_grammar::proofs::TreeLaws::phrase_at, swc_ecma_codegen_grammar::proofs::TreeLaws::phrase_expr, swc_ecma_codegen_grammar::proofs::TreeLaws::phrase_stmt, swc_ecma_codegen_grammar::proofs::TreeLaws::phrase_member_expr, swc_ecma_codegen_grammar::proofs::TreeLaws::phrase_expr_part, swc_ecma_codegen_grammar::proofs::TreeLaws::phrase_stmt_part, swc_ecma_codegen_grammar::proofs::TreeLaws::phrase_jsx_part, swc_ecma_codegen_grammar::proofs::TreeLaws::phrase_ts_part, crate::proofs::Possible::chain_member_possible, crate::proofs::CallsPossible::callee_possible, crate::proofs::ClassesPossible::field_value_possible), unfolding(swc_ecma_codegen_grammar::specs::TreePhrases::node_phrase, swc_ecma_codegen_grammar::specs::Phrases::is_possible))]
     fn fits(&self, role: Role) -> bool {
         match (self, role) {
             (AnyNode::Expr(node), Role::Expression | Role::Callee | Role::FieldValue) => {
@@ -27,6 +27,7 @@ impl Fits for AnyNode {
             (AnyNode::ExprPart(node), role) => expr_part_fits(node, role),
             (AnyNode::StmtPart(node), role) => stmt_part_fits(node, role),
             (AnyNode::JSXPart(node), role) => jsx_part_fits(node, role),
+            (AnyNode::TsPart(node), role) => ts_part_fits(node, role),
             _ => false,
         }
     }

@@ -26,6 +26,9 @@ mod strings;
 mod targets;
 mod templates;
 mod texts;
+mod ts_decls;
+mod ts_members;
+mod types;
 
 pub use crate::forms::{Fits, WellFormed};
 pub use crate::knot::{

@@ -43,7 +43,7 @@ impl WellFormed for ImportNamedSpecifier {
 
     #[tactic(auto, using(crate::proofs::ModulesPossible::import_named_possible))]
     fn is_well_formed(&self) -> bool {
-        !self.is_type_only && is_imported_as(&self.imported) && self.local.is_well_formed()
+        is_imported_as(&self.imported) && self.local.is_well_formed()
     }
 }
 
@@ -111,10 +111,7 @@ impl<N: Fits> WellFormed for ImportDecl<N> {
 
     #[tactic(auto, using(crate::proofs::ModulesPossible::import_decl_possible))]
     fn is_well_formed(&self) -> bool {
-        !self.type_only
-            && imports_fit(&self.specifiers)
-            && self.src.is_well_formed()
-            && are_attributes(&self.with_)
+        imports_fit(&self.specifiers) && self.src.is_well_formed() && are_attributes(&self.with_)
     }
 }
 
@@ -134,7 +131,7 @@ impl WellFormed for ExportNamedSpecifier {
 
     #[tactic(auto, using(crate::proofs::ModulesPossible::export_named_specifier_possible))]
     fn is_well_formed(&self) -> bool {
-        !self.is_type_only && self.orig.is_well_formed() && is_exported_as(&self.exported)
+        self.orig.is_well_formed() && is_exported_as(&self.exported)
     }
 }
 
@@ -180,7 +177,7 @@ impl<N: Fits> WellFormed for NamedExport<N> {
 
     #[tactic(auto, using(crate::proofs::ModulesPossible::export_named_possible))]
     fn is_well_formed(&self) -> bool {
-        !self.type_only && exports_fit(&self.specifiers) && is_from_clause(&self.with_, &self.src)
+        exports_fit(&self.specifiers) && is_from_clause(&self.with_, &self.src)
     }
 }
 
@@ -189,7 +186,7 @@ impl<N: Fits> WellFormed for ExportAll<N> {
 
     #[tactic(auto, using(crate::proofs::ModulesPossible::export_all_possible))]
     fn is_well_formed(&self) -> bool {
-        !self.type_only && self.src.is_well_formed() && are_attributes(&self.with_)
+        self.src.is_well_formed() && are_attributes(&self.with_)
     }
 }
 
@@ -211,9 +208,7 @@ pub(crate) fn is_exported_tail<N: Fits>(node: &Decl<N>) -> bool
 {
     match node {
         Decl::Class(class) => {
-            !class.declare
-                && class.ident.is_well_formed()
-                && class.class.held().fits(Role::ClassTail)
+            class.ident.is_well_formed() && class.class.held().fits(Role::ClassTail)
         }
         _ => node.is_well_formed(),
     }
@@ -236,7 +231,7 @@ impl<N: Fits> WellFormed for DefaultDecl<N> {
         match self {
             DefaultDecl::Class(node) => node.is_well_formed(),
             DefaultDecl::Fn(node) => node.is_well_formed(),
-            DefaultDecl::TsInterfaceDecl(_) => false,
+            DefaultDecl::TsInterfaceDecl(node) => node.is_well_formed(),
         }
     }
 }
@@ -271,7 +266,9 @@ impl<N: Fits> WellFormed for ModuleDecl<N> {
             ModuleDecl::ExportDefaultDecl(node) => node.is_well_formed(),
             ModuleDecl::ExportDefaultExpr(node) => node.is_well_formed(),
             ModuleDecl::ExportAll(node) => node.is_well_formed(),
-            _ => false,
+            ModuleDecl::TsImportEquals(node) => node.is_well_formed(),
+            ModuleDecl::TsExportAssignment(node) => node.is_well_formed(),
+            ModuleDecl::TsNamespaceExport(node) => node.is_well_formed(),
         }
     }
 }

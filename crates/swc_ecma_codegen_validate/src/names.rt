@@ -7,9 +7,9 @@ ghost use Rattle.swc_ecma_codegen_grammar.specs.SpelledNames.{is_well_formed_nam
 ghost use Rattle.swc_ecma_codegen_grammar.specs.NamePhrases.{ident, ident_name, binding_ident, private_name};
 ghost use Rattle.swc_ecma_codegen_validate.specs.NameStates.{goes_on, IsNext};
 
-use crate::forms::WellFormed;
-use crate::texts::split_first;
+use crate::forms::{Fits, WellFormed};
 use swc_ecma_codegen_grammar::names::{NameTurn, Place, turn};
+use swc_ecma_codegen_grammar::texts::split_first;
 use swc_ecma_codegen_tree::{BindingIdent, Ident, IdentName, PrivateName};
 
 /// Where the reading of a name in a tree stands.
@@ -99,12 +99,12 @@ impl WellFormed for IdentName {
     }
 }
 
-impl<N> WellFormed for BindingIdent<N> {
-    ghost phrase = { binding_ident };
+impl<N: Fits> WellFormed for BindingIdent<N> {
+    ghost phrase = { binding_ident N.reads };
 
-    #[tactic(auto, unfolding(swc_ecma_codegen_grammar::specs::NamePhrases::binding_ident, swc_ecma_codegen_grammar::specs::Phrases::is_possible))]
+    #[tactic(auto, using(crate::proofs::Annotations::binding_possible))]
     fn is_well_formed(&self) -> bool {
-        self.type_ann.is_none() && self.id.is_well_formed()
+        self.id.is_well_formed() && self.type_ann.is_well_formed()
     }
 }
 

@@ -8,11 +8,12 @@ ghost use Rattle.swc_ecma_codegen_grammar.specs.NumberValues as values;
 ghost use Rattle.swc_ecma_codegen_validate.specs.Mantissas as parts;
 
 use crate::numerals::is_number;
-use crate::texts::{after_first, is_empty, split_first};
+use crate::texts::after_first;
 use swc_ecma_codegen_common::Decimal;
 use swc_ecma_codegen_grammar::characters::is_digit;
 use swc_ecma_codegen_grammar::number_values::with_digit;
 use swc_ecma_codegen_grammar::numerals::{hex_digit, is_either, is_octal};
+use swc_ecma_codegen_grammar::texts::{is_empty, split_first};
 
 /// What stands after the dot, up to an exponent.
 #[tactic(auto, unfolding(crate::specs::Mantissas::after_dot, crate::specs::Mantissas::mantissa))]

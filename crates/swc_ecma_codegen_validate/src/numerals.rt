@@ -6,9 +6,9 @@ ghost use Rattle.swc_ecma_codegen_grammar.specs.LitPhrases.{is_digit_of};
 ghost use Rattle.swc_ecma_codegen_grammar.specs.Numbers as numbers;
 
 use crate::big_integers::is_digit_of;
-use crate::texts::{is_empty, split_first};
 use swc_ecma_codegen_grammar::characters::is_digit;
 use swc_ecma_codegen_grammar::numerals::{is_either, is_octal};
+use swc_ecma_codegen_grammar::texts::{is_empty, split_first};
 use swc_ecma_codegen_tree::Radix;
 
 /// The digits of an exponent.

@@ -1,16 +1,17 @@
-//! Parts of expressions and statements that links hold.
+//! Parts of expressions, of statements and of TypeScript that links hold.
 
 ghost use Rattle.std.specs.Prelude.{◌≡◌};
 ghost use Rattle.swc_ecma_codegen_grammar.specs.Phrases.{is_possible};
-ghost use Rattle.swc_ecma_codegen_grammar.specs.PartPhrases.{expr_part, stmt_part};
+ghost use Rattle.swc_ecma_codegen_grammar.specs.PartPhrases.{expr_part, stmt_part, ts_part};
 
 use crate::classes::{are_method_decorators, is_accessor_tail, is_class_head, is_method_tail};
 use crate::forms::{Fits, WellFormed};
 use crate::modules::{is_exported_head, is_exported_tail};
 use crate::pats::is_plain_parameter;
 use crate::templates::is_template;
+use crate::ts_decls::is_dotted_body;
 use swc_ecma_codegen_grammar::roles::Role;
-use swc_ecma_codegen_tree::{ExprPart, StmtPart};
+use swc_ecma_codegen_tree::{ExprPart, StmtPart, TsPart};
 
 /// Whether a part may stand in this role, and is well-formed.
 #[tactic(auto, using(crate::proofs::CallsPossible::optional_call_possible), unfolding(swc_ecma_codegen_grammar::specs::PartPhrases::expr_part, swc_ecma_codegen_grammar::specs::Phrases::is_possible))]
@@ -51,6 +52,25 @@ pub(crate) fn stmt_part_fits<N: Fits>(part: &StmtPart<N>, role: Role) -> bool
         (StmtPart::Decl(node), Role::ExportedTail) => is_exported_tail(node),
         (StmtPart::ModuleDecl(node), Role::ModuleDeclaration) => (**node).is_well_formed(),
         (StmtPart::VarDecl(node), Role::VariableDeclaration) => node.is_well_formed(),
+        _ => false,
+    }
+}
+
+/// Whether a part of TypeScript may stand in this role, and is well-formed.
+#[tactic(auto, unfolding(swc_ecma_codegen_grammar::specs::PartPhrases::ts_part, swc_ecma_codegen_grammar::specs::Phrases::is_possible))]
+pub(crate) fn ts_part_fits<N: Fits>(part: &TsPart<N>, role: Role) -> bool
+    ensures { result ≡ is_possible (ts_part N.reads part.now role) }
+{
+    match (part, role) {
+        (TsPart::TsType(node), Role::AnyType) => (**node).is_well_formed(),
+        (TsPart::TsTypeAnn(node), Role::Annotation) => node.is_well_formed(),
+        (TsPart::TsTypeParamDecl(node), Role::TypeParameters) => node.is_well_formed(),
+        (TsPart::TsTypeParamInstantiation(node), Role::TypeArguments) => node.is_well_formed(),
+        (TsPart::TsFnParam(node), Role::SignatureParameter) => node.is_well_formed(),
+        (TsPart::TsEntityName(node), Role::EntityName) => node.is_well_formed(),
+        (TsPart::TsTypeElement(node), Role::TypeMember) => (**node).is_well_formed(),
+        (TsPart::TsNamespaceBody(node), Role::NamespaceBody) => node.is_well_formed(),
+        (TsPart::TsNamespaceBody(node), Role::DottedBody) => is_dotted_body(node),
         _ => false,
     }
 }

@@ -26,7 +26,7 @@ impl<N: Fits> WellFormed for ArrayPat<N> {
 
     #[tactic(auto, using(crate::proofs::PatsPossible::array_pat_possible))]
     fn is_well_formed(&self) -> bool {
-        !self.optional && self.type_ann.is_none() && all_well_formed(&self.elems)
+        all_well_formed(&self.elems) && self.type_ann.is_well_formed()
     }
 }
 
@@ -35,7 +35,7 @@ impl<N: Fits> WellFormed for RestPat<N> {
 
     #[tactic(auto, using(crate::proofs::PatsPossible::rest_pat_possible))]
     fn is_well_formed(&self) -> bool {
-        self.type_ann.is_none() && self.arg.is_well_formed()
+        self.arg.is_well_formed() && self.type_ann.is_well_formed()
     }
 }
 
@@ -84,7 +84,7 @@ impl<N: Fits> WellFormed for ObjectPat<N> {
 
     #[tactic(auto, using(crate::proofs::PatsPossible::object_pat_possible))]
     fn is_well_formed(&self) -> bool {
-        !self.optional && self.type_ann.is_none() && all_well_formed(&self.props)
+        all_well_formed(&self.props) && self.type_ann.is_well_formed()
     }
 }
 
@@ -107,11 +107,13 @@ impl<N: Fits> WellFormed for Pat<N> {
 
 /// Whether a pattern is a name alone, and well-formed.
 #[tactic(auto, using(crate::proofs::PatsPossible::plain_name_possible), unfolding(swc_ecma_codegen_grammar::specs::PatPhrases::plain_parameter, swc_ecma_codegen_grammar::specs::Phrases::is_possible))]
-pub(crate) fn is_plain_parameter<N>(pat: &Pat<N>) -> bool
-    ensures { result ≡ is_possible (plain_parameter pat.now) }
+pub(crate) fn is_plain_parameter<N: Fits>(pat: &Pat<N>) -> bool
+    ensures { result ≡ is_possible (plain_parameter N.reads pat.now) }
 {
     match pat {
-        Pat::Ident(name) => !name.id.optional && name.is_well_formed(),
+        Pat::Ident(name) => {
+            !name.id.optional && name.type_ann.is_none() && name.id.is_well_formed()
+        }
         _ => false,
     }
 }

@@ -7,8 +7,8 @@ ghost use Rattle.swc_ecma_codegen_grammar.specs.Names.{all_part};
 ghost use Rattle.swc_ecma_codegen_grammar.specs.RegularExpressions.{is_regex};
 ghost use Rattle.swc_ecma_codegen_validate.specs.RegexStates.{goes_on};
 
-use crate::texts::split_first;
 use swc_ecma_codegen_grammar::characters::{is_line_end, is_part};
+use swc_ecma_codegen_grammar::texts::split_first;
 
 /// Where the reading of a body stands.
 #[derive(Clone, Copy)]

@@ -9,9 +9,9 @@ ghost use Rattle.swc_ecma_codegen_grammar.specs.Turns.{IsReached, IsStringTurn, 
 ghost use Rattle.swc_ecma_codegen_grammar.specs.declared.units.Place.TheVariants.{Between};
 
 use crate::code_units::{after_character, is_at_end};
-use crate::texts::split_first;
 use swc_ecma_codegen_grammar::characters::is_quote;
 use swc_ecma_codegen_grammar::string_values::string_turn;
+use swc_ecma_codegen_grammar::texts::split_first;
 use swc_ecma_codegen_grammar::turns::Turn;
 use swc_ecma_codegen_grammar::units::Place;
 

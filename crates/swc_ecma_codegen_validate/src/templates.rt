@@ -12,14 +12,15 @@ ghost use Rattle.swc_ecma_codegen_validate.specs.TemplateStates.{inside, is_elem
 
 use crate::forms::{Fits, WellFormed, all_well_formed};
 use crate::strings::first;
-use crate::texts::{begins_with, split_first};
+use crate::texts::begins_with;
 use swc_ecma_codegen_grammar::characters::is_digit;
 use swc_ecma_codegen_grammar::roles::Role;
+use swc_ecma_codegen_grammar::texts::split_first;
 use swc_ecma_codegen_grammar::turns::{
     Turn, braced_turn, due_turn, escape_turn, is_digit_next, unicode_turn,
 };
 use swc_ecma_codegen_grammar::units::Place;
-use swc_ecma_codegen_tree::{ExprBox, TaggedTpl, Tpl, TplElement};
+use swc_ecma_codegen_tree::{TaggedTpl, Tpl, TplElement};
 
 /// After one more character of a part, or `None` where the part ends before it.
 #[tactic(auto, unfolding(crate::specs::TemplateStates::inside))]
@@ -126,7 +127,7 @@ fn is_element(tagged: bool, element: &TplElement) -> bool
 
 /// Whether all of them are.
 #[tactic(auto, unfolding(crate::specs::TemplateStates::all_elements))]
-fn all_elements(tagged: bool, elements: &[TplElement]) -> bool
+pub(crate) fn all_elements(tagged: bool, elements: &[TplElement]) -> bool
     ensures { result ≡ all_elements tagged elements.now }
 {
     for element in elements {
@@ -137,11 +138,11 @@ fn all_elements(tagged: bool, elements: &[TplElement]) -> bool
     true
 }
 
-/// Whether there is one part more than expressions.
-fn is_counted<N>(exprs: &[ExprBox<N>], elements: &[TplElement]) -> bool
-    ensures { result ≡ is_counted exprs.now elements.now }
+/// Whether there is one part more than expressions, or types.
+pub(crate) fn is_counted<T>(nodes: &[T], elements: &[TplElement]) -> bool
+    ensures { result ≡ is_counted nodes.now elements.now }
 {
-    !elements.is_empty() && elements.len() - 1 == exprs.len()
+    !elements.is_empty() && elements.len() - 1 == nodes.len()
 }
 
 /// Whether a template is well-formed, with a tag or without.
@@ -159,8 +160,8 @@ impl<N: Fits> WellFormed for TaggedTpl<N> {
 
     #[tactic(auto, using(crate::proofs::TemplatesPossible::tagged_possible))]
     fn is_well_formed(&self) -> bool {
-        self.type_params.is_none()
-            && self.tag.held().fits(Role::Callee)
+        self.tag.held().fits(Role::Callee)
+            && self.type_params.is_well_formed()
             && self.tpl.held().fits(Role::TaggedTemplate)
     }
 }

@@ -6,16 +6,7 @@ ghost use Rattle.swc_ecma_codegen_grammar.specs.Chars as characters;
 ghost use Rattle.swc_ecma_codegen_grammar.specs.Texts as texts;
 
 use swc_ecma_codegen_grammar::characters::is_line_end;
-
-/// The first character of a text, and what follows it.
-pub(crate) fn split_first(text: &str) -> Option<(char, &str)>
-    ensures some { IfSome result (λ r. chars text.now ≡ r.0 ∷ chars r.1.now) }
-    ensures none { IfNone result (chars text.now ≡ []) }
-{
-    let mut chars = text.chars();
-    let c = chars.next()?;
-    Some((c, chars.as_str()))
-}
+use swc_ecma_codegen_grammar::texts::split_first;
 
 /// What follows this character at the beginning of a text, or `None` where another stands there.
 #[tactic(auto, unfolding(swc_ecma_codegen_grammar::specs::Texts::begins))]
@@ -27,14 +18,6 @@ pub(crate) fn after_first(text: &str, c: char) -> Option<&str>
         Some((d, rest)) if c == d => Some(rest),
         _ => None,
     }
-}
-
-/// Whether no character is left.
-#[tactic(auto, unfolding(swc_ecma_codegen_grammar::specs::Texts::is_empty))]
-pub(crate) fn is_empty(text: &str) -> bool
-    ensures { result ≡ texts.is_empty (chars text.now) }
-{
-    split_first(text).is_none()
 }
 
 /// Whether a text begins with this character.

@@ -1,0 +1,56 @@
+'use strict';
+// What scripts/jsx-trees and scripts/ts-trees make trees with: the words that they are given, chance, and how much may still be made.
+const DEEPEST = 118; // the program reads 127 levels of JSON, some of which stand round a tree
+const options = { seed: 1, n: 10, size: 40, root: 'Expr', plain: false };
+for (let at = 2; at < process.argv.length; at++) {
+  const name = process.argv[at].slice(2);
+  if (name === 'plain') options.plain = true;
+  else options[name] = name === 'root' ? process.argv[++at] : Number(process.argv[++at]);
+}
+
+let state = (options.seed * 2654435761) >>> 0 || 1;
+function below(count) {
+  state ^= state << 13;
+  state >>>= 0;
+  state ^= state >>> 17;
+  state ^= state << 5;
+  state >>>= 0;
+  return state % count;
+}
+
+// How many levels of JSON a node has.
+function depth(node) {
+  return node !== null && typeof node === 'object' ? 1 + Math.max(0, ...Object.values(node).map(depth)) : 0;
+}
+
+const dice = {
+  options,
+  below,
+  left: 0, // how many nodes may still be made
+  isOdd: false, // whether something may be ill-formed
+  chance: (parts) => below(1000) < parts * 1000,
+  pick: (some) => some[below(some.length)],
+  odd: () => dice.isOdd && dice.chance(0.2),
+  span: () => ({ lo: 0, hi: 0 }),
+
+  // A list that is short where little may still be made.
+  few(make) {
+    const found = [];
+    for (let count = dice.left > 0 ? dice.pick([0, 1, 1, 2]) : 0; count > 0; count--) found.push(make(found.length));
+    return found;
+  },
+
+  // Prints the trees that are asked for, each by the function of its root.
+  print(roots) {
+    for (let made = 0; made < options.n; ) {
+      dice.left = options.size;
+      dice.isOdd = !options.plain && dice.chance(0.08);
+      const tree = roots[options.root]();
+      if (depth(tree) > DEEPEST) continue;
+      process.stdout.write(JSON.stringify({ tree }) + '\n');
+      made++;
+    }
+  },
+};
+
+module.exports = dice;
