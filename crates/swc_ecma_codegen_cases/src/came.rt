@@ -2,7 +2,7 @@
 
 use crate::fields::{EXPRESSION, PROGRAM, fields, json};
 use crate::rows::made_by;
-use crate::runs::ran;
+use crate::runs::outcome_of;
 use crate::steps::{Step, tree_of};
 use std::alloc::{AllocError, Global};
 
@@ -34,10 +34,10 @@ fn json_of(
 
 /// What a run with these words answers, on a line.
 fn told(alloc: Global, words: &str, input: &[u8]) -> Result<String, AllocError> {
-    let ran = ran(alloc, words, input)?;
-    let status = ran.status;
-    let text = std::str::from_utf8(&ran.text).unwrap_or("?");
-    let lines = std::str::from_utf8(&ran.lines).unwrap_or("?");
+    let outcome = outcome_of(alloc, words, input)?;
+    let status = outcome.status;
+    let text = std::str::from_utf8(&outcome.text).unwrap_or("?");
+    let lines = std::str::from_utf8(&outcome.lines).unwrap_or("?");
     format!(in alloc; "  came of `{words}`: {status} {text}{lines}")
 }
 

@@ -5,14 +5,14 @@ use swc_ecma_codegen_tool::run;
 
 /// What a run leaves behind: its status, and what it wrote to standard output and to standard error.
 #[derive(Drop)]
-pub struct Ran {
+pub struct Outcome {
     pub status: u8,
     pub text: Vec<u8>,
     pub lines: Vec<u8>,
 }
 
 /// A run with these words, with blanks between, on this input.
-pub fn ran(alloc: Global, words: &str, mut input: &[u8]) -> Result<Ran, AllocError> {
+pub fn outcome_of(alloc: Global, words: &str, mut input: &[u8]) -> Result<Outcome, AllocError> {
     let mut given = Vec::new(alloc);
     for word in words.split_ascii_whitespace() {
         given.push(String::from_str(alloc, word)?)?;
@@ -20,7 +20,7 @@ pub fn ran(alloc: Global, words: &str, mut input: &[u8]) -> Result<Ran, AllocErr
     let mut text = Vec::new(alloc);
     let mut lines = Vec::new(alloc);
     let status = run(alloc, &given, &mut input, &mut text, &mut lines);
-    Ok(Ran {
+    Ok(Outcome {
         status,
         text,
         lines,
@@ -34,11 +34,11 @@ pub fn answers(
     input: &[u8],
     (status, text, lines): (u8, &str, &str),
 ) -> Result<bool, AllocError> {
-    let ran = ran(alloc, words, input)?;
+    let outcome = outcome_of(alloc, words, input)?;
     Ok(
-        ran.status == status
-            && ran.text.as_slice() == text.as_bytes()
-            && ran.lines.as_slice() == lines.as_bytes(),
+        outcome.status == status
+            && outcome.text.as_slice() == text.as_bytes()
+            && outcome.lines.as_slice() == lines.as_bytes(),
     )
 }
 

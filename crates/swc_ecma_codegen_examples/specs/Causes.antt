@@ -11,8 +11,8 @@ use Rattle.swc_ecma_codegen_util.specs.Defaults.{default_config}
 use Rattle.swc_ecma_codegen_util.specs.declared.config.Config.{Config}
 use Rattle.swc_ecma_codegen_text_writer.specs.Sheet.{HoldsNone}
 use Rattle.swc_ecma_codegen_tokens.specs.Run.{State, start}
-use Rattle.swc_ecma_codegen.specs.Roots.{OfProgram, root_items}
-use Rattle.swc_ecma_codegen.specs.Texts.{blank_sheet, GivesCause}
+use Rattle.swc_ecma_codegen_emit.specs.Roots.{OfProgram, root_items}
+use Rattle.swc_ecma_codegen_emit.specs.Texts.{blank_sheet, GivesCause}
 use Rattle.swc_ecma_codegen_examples.specs.declared.NoText.{NoText}
 use Rattle.swc_ecma_codegen_examples.specs.declared.NoText.TheVariants.{Unread, NotWellFormed, Refused}
 

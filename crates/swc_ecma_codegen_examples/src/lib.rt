@@ -18,8 +18,8 @@ ghost use Rattle.swc_ecma_codegen_text_writer.specs.View.{sheet_of, new_sheet, k
 ghost use Rattle.swc_ecma_codegen_tokens.specs.Ready.{token_count};
 ghost use Rattle.swc_ecma_codegen_tokens.specs.Run.{maps_after, start, steps_in, steps_of};
 ghost use Rattle.swc_ecma_codegen_tokens.specs.Written.{AddsReading, AddsText, ReadsAs, taken_remarks};
-ghost use Rattle.swc_ecma_codegen.specs.Roots.{Root, root_items, root_phrase, is_well_formed_root, MayBegin};
-ghost use Rattle.swc_ecma_codegen.specs.Texts.{blank_sheet, GivesCause};
+ghost use Rattle.swc_ecma_codegen_emit.specs.Roots.{Root, root_items, root_phrase, is_well_formed_root, MayBegin};
+ghost use Rattle.swc_ecma_codegen_emit.specs.Texts.{blank_sheet, GivesCause};
 ghost use Rattle.swc_ecma_codegen_examples.specs.Causes.{commented_start, minified_config, minified_start, IsOfMachine, IsUnread, LacksText};
 ghost use Rattle.swc_ecma_codegen_examples.specs.Negation.{negation_tokens, IsNegation};
 

@@ -7,9 +7,9 @@ use Rattle.swc_ecma_codegen_grammar.specs.TemplatePhrases.{is_counted}
 use Rattle.swc_ecma_codegen_tokens.specs.declared.refusals.Unprintable.TheVariants.{BadShape}
 use Rattle.swc_ecma_codegen_tokens.specs.Attributes.{attribute_string, has_no_text, spelled_string}
 use Rattle.swc_ecma_codegen_tokens.specs.Run.{Env, Plan, refuse, refused}
-use Rattle.swc_ecma_codegen.specs.Templates.{bad_shape}
-use Rattle.swc_ecma_codegen.specs.Tree.{any_items}
-use Rattle.swc_ecma_codegen.specs.Types.{ts_tpl_lit_type, ts_tpl_parts}
+use Rattle.swc_ecma_codegen_emit.specs.Templates.{bad_shape}
+use Rattle.swc_ecma_codegen_emit.specs.Tree.{any_items}
+use Rattle.swc_ecma_codegen_emit.specs.Types.{ts_tpl_lit_type, ts_tpl_parts}
 
 -- a string of an attribute without a raw whose value holds both quotes
 pub textless_refused : (n : Str) (rest : Plan) (env : Env) → has_no_text n ≡ true → attribute_string n rest env ≡ refused BadShape

@@ -39,21 +39,21 @@ use Rattle.swc_ecma_codegen_util.specs.Starts as starts
 use Rattle.swc_ecma_codegen_tokens.specs.Run.{Env, Part, at_maps}
 use Rattle.swc_ecma_codegen_tokens.specs.Words.{keyword, operator, word_operator, punct, formatting_line, commit_pending_semi, trailing_comments}
 use Rattle.swc_ecma_codegen_tokens.proofs.Printed.{writes_commit, writes_formatting_line, writes_formatting_space, writes_leading, writes_position, writes_position_before, writes_trailing}
-use Rattle.swc_ecma_codegen.specs.declared.nodes.Place.{Place}
-use Rattle.swc_ecma_codegen.specs.declared.nodes.Place.TheVariants.{Plain, LeftOperand}
-use Rattle.swc_ecma_codegen.specs.Answers.{Answers, any_answers, place_of}
-use Rattle.swc_ecma_codegen.specs.Operands.{is_word_op, operand_space}
-use Rattle.swc_ecma_codegen.specs.Exprs as words
-use Rattle.swc_ecma_codegen.specs.AnyExpr as wholes
-use Rattle.swc_ecma_codegen.specs.Branches.{is_block}
-use Rattle.swc_ecma_codegen.specs.Lists.{comma, listed, in_order}
-use Rattle.swc_ecma_codegen.specs.Stmts as statements
-use Rattle.swc_ecma_codegen.specs.Programs as programs
-use Rattle.swc_ecma_codegen.specs.Roots.{Root, OfExpr, OfStmt, OfItem, OfModule, OfScript, OfProgram, OfLink, root_items}
-use Rattle.swc_ecma_codegen.specs.Tree.{node_items, any_items}
-use Rattle.swc_ecma_codegen.proofs.Asked.{kept_same, committed_same}
-use Rattle.swc_ecma_codegen.proofs.ExprParts.{writes_blank, writes_comments_before, writes_opened, writes_space_if}
-use Rattle.swc_ecma_codegen.proofs.Knots.{items_of}
+use Rattle.swc_ecma_codegen_emit.specs.declared.nodes.Place.{Place}
+use Rattle.swc_ecma_codegen_emit.specs.declared.nodes.Place.TheVariants.{Plain, LeftOperand}
+use Rattle.swc_ecma_codegen_emit.specs.Answers.{Answers, any_answers, place_of}
+use Rattle.swc_ecma_codegen_emit.specs.Operands.{is_word_op, operand_space}
+use Rattle.swc_ecma_codegen_emit.specs.Exprs as words
+use Rattle.swc_ecma_codegen_emit.specs.AnyExpr as wholes
+use Rattle.swc_ecma_codegen_emit.specs.Branches.{is_block}
+use Rattle.swc_ecma_codegen_emit.specs.Lists.{comma, listed, in_order}
+use Rattle.swc_ecma_codegen_emit.specs.Stmts as statements
+use Rattle.swc_ecma_codegen_emit.specs.Programs as programs
+use Rattle.swc_ecma_codegen_emit.specs.Roots.{Root, OfExpr, OfStmt, OfItem, OfModule, OfScript, OfProgram, OfLink, root_items}
+use Rattle.swc_ecma_codegen_emit.specs.Tree.{node_items, any_items}
+use Rattle.swc_ecma_codegen_emit.proofs.Asked.{kept_same, committed_same}
+use Rattle.swc_ecma_codegen_emit.proofs.ExprParts.{writes_blank, writes_comments_before, writes_opened, writes_space_if}
+use Rattle.swc_ecma_codegen_emit.proofs.Knots.{items_of}
 use Rattle.swc_ecma_codegen_laws.specs.Basic.{is_bare, basic_prop, all_basic, basic_expr, basic_stmt, basic_node, any_basic, basic_stmts, is_basic, TakesNoMemory}
 use Rattle.swc_ecma_codegen_laws.proofs.Quiet.{Quiet, then, quiet_same, quiet_made, quiet_if, quiet_nothing, quiet_keyword, quiet_operator, quiet_word_operator, quiet_punct, quiet_semi, quiet_name, takes_none}
 

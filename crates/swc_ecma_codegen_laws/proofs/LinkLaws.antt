@@ -17,17 +17,17 @@ use Rattle.swc_ecma_codegen_grammar.proofs.TreeLaws.{phrase_member_expr, phrase_
 use Rattle.swc_ecma_codegen_util.specs.declared.config.Config.{Config}
 use Rattle.swc_ecma_codegen_tokens.specs.Run.{Env, Part, State, Follows, nothing}
 use Rattle.swc_ecma_codegen_tokens.specs.Written.{AddsText, taken_remarks}
-use Rattle.swc_ecma_codegen.specs.declared.nodes.Place.{Place}
-use Rattle.swc_ecma_codegen.specs.declared.nodes.Place.TheVariants.{Plain}
-use Rattle.swc_ecma_codegen.specs.Exprs.{member, member_at}
-use Rattle.swc_ecma_codegen.specs.Answers.{any_answers}
-use Rattle.swc_ecma_codegen.specs.Targets.{assign_target}
-use Rattle.swc_ecma_codegen.specs.Parts.{expr_part}
-use Rattle.swc_ecma_codegen.specs.Lists.{if_some_at}
-use Rattle.swc_ecma_codegen.specs.Roots.{Root, OfExpr, OfStmt, OfItem, OfModule, OfScript, OfProgram, OfLink, root_items}
+use Rattle.swc_ecma_codegen_emit.specs.declared.nodes.Place.{Place}
+use Rattle.swc_ecma_codegen_emit.specs.declared.nodes.Place.TheVariants.{Plain}
+use Rattle.swc_ecma_codegen_emit.specs.Exprs.{member, member_at}
+use Rattle.swc_ecma_codegen_emit.specs.Answers.{any_answers}
+use Rattle.swc_ecma_codegen_emit.specs.Targets.{assign_target}
+use Rattle.swc_ecma_codegen_emit.specs.Parts.{expr_part}
+use Rattle.swc_ecma_codegen_emit.specs.Lists.{if_some_at}
+use Rattle.swc_ecma_codegen_emit.specs.Roots.{Root, OfExpr, OfStmt, OfItem, OfModule, OfScript, OfProgram, OfLink, root_items}
 use Rattle.swc_ecma_codegen_laws.specs.HeldRoots.{IsHeld}
-use Rattle.swc_ecma_codegen.specs.Tree.{any_items}
-use Rattle.swc_ecma_codegen.proofs.Knots.{any_items_plain_expr, any_items_stmt, any_items_member_expr, any_items_expr_part}
+use Rattle.swc_ecma_codegen_emit.specs.Tree.{any_items}
+use Rattle.swc_ecma_codegen_emit.proofs.Knots.{any_items_plain_expr, any_items_stmt, any_items_member_expr, any_items_expr_part}
 
 -- ---- what is written
 

@@ -12,13 +12,13 @@ use Rattle.swc_ecma_codegen_util.specs.declared.config.Config.{Config}
 use Rattle.swc_ecma_codegen_tokens.specs.Run.{State, Step, Follows, nothing, run, steps_of}
 use Rattle.swc_ecma_codegen_tokens.specs.Settings.{settings_of}
 use Rattle.swc_ecma_codegen_tokens.specs.Written.{ReadsAs, AddsReading, AddsText, taken_remarks}
-use Rattle.swc_ecma_codegen.specs.Roots.{Root, root_items, root_phrase, is_well_formed_root, MayBegin}
+use Rattle.swc_ecma_codegen_emit.specs.Roots.{Root, root_items, root_phrase, is_well_formed_root, MayBegin}
 use Rattle.swc_ecma_codegen_tokens.specs.Targets.{is_out}
 use Rattle.swc_ecma_codegen_tokens.proofs.Printed.{remarks_by}
 use Rattle.swc_ecma_codegen_tokens.proofs.Phrased.{laid_reads, made_not_out, new_at_rest, taken_closed}
 use Rattle.swc_ecma_codegen_tokens.proofs.PartSteps.{steps_of_chain}
-use Rattle.swc_ecma_codegen.specs.Roots.{root_hashbang}
-use Rattle.swc_ecma_codegen.proofs.TreeReads.{root_prints, root_reads}
+use Rattle.swc_ecma_codegen_emit.specs.Roots.{root_hashbang}
+use Rattle.swc_ecma_codegen_emit.proofs.TreeReads.{root_prints, root_reads}
 use Rattle.swc_ecma_codegen_laws.specs.SameTokens.{AddTokensAlike, AddOneList}
 
 like_itself : (s : Settings) → AreAlike s s

@@ -13,7 +13,7 @@ use Rattle.swc_ecma_codegen_tree.specs.declared.programs.Script.{Script}
 use Rattle.swc_ecma_codegen_tree.specs.declared.programs.Program.TheVariants as programs
 use Rattle.swc_ecma_codegen_tokens.specs.Ready.{IsReady}
 use Rattle.swc_ecma_codegen_tokens.specs.Run.{Part, State, IsUnhindered, has_backslash, makes_text, steps_in, steps_of, unprintable_in}
-use Rattle.swc_ecma_codegen.specs.Roots.{Root, OfExpr, OfStmt, OfItem, OfModule, OfScript, OfProgram, OfLink}
+use Rattle.swc_ecma_codegen_emit.specs.Roots.{Root, OfExpr, OfStmt, OfItem, OfModule, OfScript, OfProgram, OfLink}
 
 -- a name without a backslash
 abbrev pub is_bare : List ℕ → Bool

@@ -2,9 +2,9 @@
 use Rattle.std.specs.Prelude.{◌≡◌}
 use Rattle.swc_ecma_codegen_tree.specs.declared.links.AnyNode.{AnyNode}
 use Rattle.swc_ecma_codegen_tree.specs.declared.links.AnyNode.TheVariants as nodes
-use Rattle.swc_ecma_codegen.specs.declared.nodes.Place.TheVariants.{Plain}
-use Rattle.swc_ecma_codegen.specs.Places.{placed}
-use Rattle.swc_ecma_codegen.specs.Roots.{Root, OfExpr, OfStmt, OfItem, OfModule, OfScript, OfProgram, OfLink}
+use Rattle.swc_ecma_codegen_emit.specs.declared.nodes.Place.TheVariants.{Plain}
+use Rattle.swc_ecma_codegen_emit.specs.Places.{placed}
+use Rattle.swc_ecma_codegen_emit.specs.Roots.{Root, OfExpr, OfStmt, OfItem, OfModule, OfScript, OfProgram, OfLink}
 
 -- It is this expression, this statement, or this node in any role that it has by itself, as a callee and a member of an optional
 -- chain have not; no link holds an item of a module or a program.

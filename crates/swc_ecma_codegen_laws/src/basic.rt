@@ -18,12 +18,12 @@ ghost use Rattle.swc_ecma_codegen_tree.specs.declared.exprs.ParenExpr.{ParenExpr
 ghost use Rattle.swc_ecma_codegen_tree.specs.declared.stmts.EmptyStmt.{EmptyStmt};
 ghost use Rattle.swc_ecma_codegen_tree.specs.declared.stmts.ExprStmt.{ExprStmt};
 ghost use Rattle.swc_ecma_codegen_tree.specs.declared.stmts.Stmt.TheVariants as stmts;
-ghost use Rattle.swc_ecma_codegen.specs.declared.nodes.Place.TheVariants.{Plain};
-ghost use Rattle.swc_ecma_codegen.specs.Answers.{any_answers};
-ghost use Rattle.swc_ecma_codegen.specs.Exprs.{this, ident, ident_name, unary, update, bin, computed_prop_name, member_at, choice, seq, paren};
-ghost use Rattle.swc_ecma_codegen.specs.Roots.{Root, OfExpr, OfStmt, root_items};
-ghost use Rattle.swc_ecma_codegen.specs.Stmts.{empty_stmt, expr_stmt};
-ghost use Rattle.swc_ecma_codegen.specs.Tree.{any_items};
+ghost use Rattle.swc_ecma_codegen_emit.specs.declared.nodes.Place.TheVariants.{Plain};
+ghost use Rattle.swc_ecma_codegen_emit.specs.Answers.{any_answers};
+ghost use Rattle.swc_ecma_codegen_emit.specs.Exprs.{this, ident, ident_name, unary, update, bin, computed_prop_name, member_at, choice, seq, paren};
+ghost use Rattle.swc_ecma_codegen_emit.specs.Roots.{Root, OfExpr, OfStmt, root_items};
+ghost use Rattle.swc_ecma_codegen_emit.specs.Stmts.{empty_stmt, expr_stmt};
+ghost use Rattle.swc_ecma_codegen_emit.specs.Tree.{any_items};
 ghost use Rattle.swc_ecma_codegen_laws.specs.Basic.{any_basic, is_bare, is_basic, TakesNoMemory};
 
 /// An emission of names and operators alone takes no memory, nor comes to a node that can't be printed, where the settings don't

@@ -38,17 +38,17 @@ ghost use Rattle.swc_ecma_codegen_tokens.specs.Settings.{settings_of};
 ghost use Rattle.swc_ecma_codegen_tokens.specs.Written.{IsLineEnd, IsNew, ReadsAs, all_indent, taken_remarks};
 ghost use Rattle.swc_ecma_codegen_tokens.specs.Ready.{IsReady};
 ghost use Rattle.swc_ecma_codegen_util.specs.Starts.{expr_starts, any_starts};
-ghost use Rattle.swc_ecma_codegen.specs.declared.nodes.Place.TheVariants.{Plain};
-ghost use Rattle.swc_ecma_codegen.specs.Answers.{any_answers};
-ghost use Rattle.swc_ecma_codegen.specs.AnyExpr.{expr as expr_items};
-ghost use Rattle.swc_ecma_codegen.specs.Modules.{is_crowded, import_decl};
-ghost use Rattle.swc_ecma_codegen.specs.Stmts.{stmt as stmt_items};
-ghost use Rattle.swc_ecma_codegen.specs.Templates.{tpl};
-ghost use Rattle.swc_ecma_codegen.specs.Tree.{any_items};
-ghost use Rattle.swc_ecma_codegen.specs.Types.{ts_tpl_lit_type};
+ghost use Rattle.swc_ecma_codegen_emit.specs.declared.nodes.Place.TheVariants.{Plain};
+ghost use Rattle.swc_ecma_codegen_emit.specs.Answers.{any_answers};
+ghost use Rattle.swc_ecma_codegen_emit.specs.AnyExpr.{expr as expr_items};
+ghost use Rattle.swc_ecma_codegen_emit.specs.Modules.{is_crowded, import_decl};
+ghost use Rattle.swc_ecma_codegen_emit.specs.Stmts.{stmt as stmt_items};
+ghost use Rattle.swc_ecma_codegen_emit.specs.Templates.{tpl};
+ghost use Rattle.swc_ecma_codegen_emit.specs.Tree.{any_items};
+ghost use Rattle.swc_ecma_codegen_emit.specs.Types.{ts_tpl_lit_type};
 ghost use Rattle.swc_ecma_codegen_tokens.specs.Escapes.{may_make_text};
 ghost use Rattle.swc_ecma_codegen_tokens.specs.Ascii.{other_texts, may_keep_other, WantsAscii};
-ghost use Rattle.swc_ecma_codegen.specs.Roots.{Root, OfExpr, OfStmt, root_items, root_phrase, root_hashbang, is_well_formed_root, MayBegin};
+ghost use Rattle.swc_ecma_codegen_emit.specs.Roots.{Root, OfExpr, OfStmt, root_items, root_phrase, root_hashbang, is_well_formed_root, MayBegin};
 ghost use Rattle.swc_ecma_codegen_laws.specs.FirstTokens.{joins_a_word};
 ghost use Rattle.swc_ecma_codegen_laws.specs.SameTokens.{AddTokensAlike, AddOneList};
 
@@ -68,7 +68,7 @@ use swc_ecma_codegen_util::util::StartsWithAlphaNum;
 
 /// What is written of an expression, and of a statement, is what is written of the root that it is, which may begin wherever an
 /// emission is new. So the clauses of `emit_with` that speak of roots speak of these.
-#[tactic(auto, using(swc_ecma_codegen::proofs::TreeReads::may_begin))]
+#[tactic(auto, using(swc_ecma_codegen_emit::proofs::TreeReads::may_begin))]
 pub fn expressions_and_statements_are_roots()
     ensures expr { (expr : Expr AnyNode) → expr_items any_answers any_items expr Plain ≡ root_items (OfExpr expr) }
     ensures stmt { (stmt : Stmt AnyNode) → stmt_items any_answers any_items stmt ≡ root_items (OfStmt stmt) }
@@ -110,7 +110,7 @@ pub fn first_token_is_told(expr: &Expr) -> bool
 /// isn't ASCII under `ascii_only`, and no number, no big integer and no string stands in it, over a writer that leaves out
 /// U+0000 after a backslash: what the clauses `cause`, `no_memory` and `succeeds` of `emit_with` ask of memory. Of a tree with
 /// such, these clauses speak of its steps: one takes memory where the text of a literal isn't its raw.
-#[tactic(auto, using(swc_ecma_codegen::proofs::TreeReads::root_remakes))]
+#[tactic(auto, using(swc_ecma_codegen_emit::proofs::TreeReads::root_remakes))]
 pub fn plain_trees_take_no_memory()
     ensures { (root : Root) (s : State) → is_well_formed_root root ≡ true → s.env.keeps_invalid ≡ false → may_make_text s.env.config (root_phrase root) ≡ false → makes_text (steps_of (steps_in (root_items root) s)) ≡ false }
 {}
@@ -118,7 +118,7 @@ pub fn plain_trees_take_no_memory()
 /// Only texts of comments aren't ASCII among the steps of an emission of a well-formed tree whose names can all be written,
 /// where each regular expression, template with a tag and hashbang of the tree is ASCII, and all of its JSX, and no string of it reads `use strict`: of
 /// these texts the clause `ascii` of `emit_with` speaks. Such a string is another only where it has a backslash and isn't ASCII.
-#[tactic(auto, using(swc_ecma_codegen::proofs::TreeReads::root_keeps))]
+#[tactic(auto, using(swc_ecma_codegen_emit::proofs::TreeReads::root_keeps))]
 pub fn plain_trees_keep_no_other_text()
     ensures { (root : Root) (s : State) → is_well_formed_root root ≡ true → s.env.keeps_invalid ≡ false → is_out s.env.config (root_phrase root) ≡ false → may_keep_other (root_phrase root) ≡ false → other_texts (steps_of (steps_in (root_items root) s)) ≡ spoken (steps_of (steps_in (root_items root) s)) }
 {}
@@ -133,7 +133,7 @@ pub fn strings_by_value_are_told()
 /// An emission of a well-formed tree comes to a node that can't be printed exactly where some name of the tree is to be
 /// written in ASCII and can't be for the target. So it answers `NameOutOfTarget` for no other cause, and a tree that holds
 /// such a name is never printed as a whole.
-#[tactic(auto, using(swc_ecma_codegen::proofs::TreeReads::root_ends, swc_ecma_codegen::proofs::TreeReads::root_in_target, swc_ecma_codegen::proofs::TreeReads::root_out_of_target))]
+#[tactic(auto, using(swc_ecma_codegen_emit::proofs::TreeReads::root_ends, swc_ecma_codegen_emit::proofs::TreeReads::root_in_target, swc_ecma_codegen_emit::proofs::TreeReads::root_out_of_target))]
 pub fn names_out_of_target_are_refused()
     ensures steps { (root : Root) (s : State) → is_well_formed_root root ≡ true → s.env.keeps_invalid ≡ false → unprintable_in (steps_in (root_items root) s) ≡ (if is_out s.env.config (root_phrase root) then Some NameOutOfTarget else None) }
     ensures printed { (root : Root) (a b : State) → is_well_formed_root root ≡ true → a.env.keeps_invalid ≡ false → Follows (root_items root nothing) a b (Ok tt) → is_out a.env.config (root_phrase root) ≡ false }
@@ -142,7 +142,7 @@ pub fn names_out_of_target_are_refused()
 
 /// An emission of a well-formed tree is refused neither for a shape of which no text is written nor for a node that isn't
 /// supported.
-#[tactic(auto, using(swc_ecma_codegen::proofs::TreeReads::root_shaped, swc_ecma_codegen::proofs::TreeReads::root_supported))]
+#[tactic(auto, using(swc_ecma_codegen_emit::proofs::TreeReads::root_shaped, swc_ecma_codegen_emit::proofs::TreeReads::root_supported))]
 pub fn well_formed_trees_are_supported()
     ensures shape { (root : Root) (a b : State) → is_well_formed_root root ≡ true → a.env.keeps_invalid ≡ false → Follows (root_items root nothing) a b (Err refusals.BadShape) → ⊥ }
     ensures node { (root : Root) (a b : State) → is_well_formed_root root ≡ true → a.env.keeps_invalid ≡ false → Follows (root_items root nothing) a b (Err refusals.UnsupportedNode) → ⊥ }
@@ -151,7 +151,7 @@ pub fn well_formed_trees_are_supported()
 /// The shapes of which no text is written, and no step is made before the refusal: an import of a namespace among more than
 /// two specifiers, a template without one part more than expressions or types, and a string of an attribute of JSX without a
 /// raw whose value holds both quotes. A plan comes to `BadShape` in no other words.
-#[tactic(auto, using(swc_ecma_codegen::proofs::TreeReads::crowded_refused, swc_ecma_codegen::proofs::TreeReads::uncounted_refused, crate::proofs::BadShapes::textless_refused, crate::proofs::BadShapes::type_template_refused))]
+#[tactic(auto, using(swc_ecma_codegen_emit::proofs::TreeReads::crowded_refused, swc_ecma_codegen_emit::proofs::TreeReads::uncounted_refused, crate::proofs::BadShapes::textless_refused, crate::proofs::BadShapes::type_template_refused))]
 pub fn bad_shapes_are_refused_first()
     ensures import_ { (n : ImportDecl AnyNode) (rest : Plan) (env : Env) → is_crowded n.specifiers.items ≡ true → import_decl any_items n rest env ≡ refused BadShape }
     ensures template { (n : Tpl AnyNode) (tagged : Bool) (rest : Plan) (env : Env) → is_counted n.exprs.items n.quasis.items ≡ false → tpl any_items tagged n rest env ≡ refused BadShape }

@@ -9,10 +9,10 @@ use crate::trees::{
 };
 use std::alloc::{AllocError, Global};
 use std::test::Fail;
-use swc_ecma_codegen::operands::{Operand, OperandKind, SpaceBefore};
 use swc_ecma_codegen::util::{EndsWithAlphaNum, StartsWithAlphaNum};
 use swc_ecma_codegen::{Node, to_code};
 use swc_ecma_codegen_common::{BinaryOp, DUMMY_SP, Error, UpdateOp};
+use swc_ecma_codegen_emit::operands::{Operand, OperandKind, SpaceBefore};
 use swc_ecma_codegen_spans::{SpanEnds, Spanned};
 use swc_ecma_codegen_tree::{
     EmptyStmt, Expr, ExprBox, ExprStmt, Ident, IdentName, MemberExpr, MemberExprBox, MemberProp,

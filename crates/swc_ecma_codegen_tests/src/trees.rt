@@ -2,14 +2,14 @@
 
 use crate::pipes::Page;
 use std::alloc::Global;
-use swc_ecma_codegen::nodes::Held;
-use swc_ecma_codegen::operands::SpaceBefore;
 use swc_ecma_codegen::util::{EndsWithAlphaNum, StartsWithAlphaNum};
 use swc_ecma_codegen::{
     Config, Emitter, Node, is_well_formed, is_well_formed_expr, is_well_formed_item,
     is_well_formed_stmt,
 };
 use swc_ecma_codegen_common::{DUMMY_SP, Error, EsVersion, Result as Answer};
+use swc_ecma_codegen_emit::nodes::Held;
+use swc_ecma_codegen_emit::operands::SpaceBefore;
 use swc_ecma_codegen_grammar::comments::{CommentMaps, Comments};
 use swc_ecma_codegen_grammar::mapper::{NoSource, SourceMapper};
 use swc_ecma_codegen_grammar::reading_laws;

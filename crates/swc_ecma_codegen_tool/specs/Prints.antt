@@ -10,10 +10,10 @@ use Rattle.swc_ecma_codegen_grammar.specs.Comments.{no_maps}
 use Rattle.swc_ecma_codegen_grammar.specs.SourceLines.{no_lines}
 use Rattle.swc_ecma_codegen_grammar.specs.TreePhrases.{is_well_formed}
 use Rattle.swc_ecma_codegen_tokens.specs.Run.{Part, printed, start}
-use Rattle.swc_ecma_codegen.specs.Answers.{any_answers}
-use Rattle.swc_ecma_codegen.specs.Programs.{program}
-use Rattle.swc_ecma_codegen.specs.Texts.{blank_sheet}
-use Rattle.swc_ecma_codegen.specs.Tree.{any_items}
+use Rattle.swc_ecma_codegen_emit.specs.Answers.{any_answers}
+use Rattle.swc_ecma_codegen_emit.specs.Programs.{program}
+use Rattle.swc_ecma_codegen_emit.specs.Texts.{blank_sheet}
+use Rattle.swc_ecma_codegen_emit.specs.Tree.{any_items}
 use Rattle.swc_ecma_codegen_tool.specs.declared.words.Options.{Options}
 use Rattle.swc_ecma_codegen_tool.specs.Words.{settings_of}
 

@@ -5,8 +5,8 @@ ghost use Rattle.swc_ecma_codegen_text_writer.specs.View.{sheet_of};
 ghost use Rattle.swc_ecma_codegen_grammar.specs.Comments.{no_maps};
 ghost use Rattle.swc_ecma_codegen_grammar.specs.SourceLines.{no_lines};
 ghost use Rattle.swc_ecma_codegen_tokens.specs.Run.{State, printed, start};
-ghost use Rattle.swc_ecma_codegen.specs.Texts.{blank_sheet};
-ghost use Rattle.swc_ecma_codegen.specs.View.{state_of};
+ghost use Rattle.swc_ecma_codegen_emit.specs.Texts.{blank_sheet};
+ghost use Rattle.swc_ecma_codegen_emit.specs.View.{state_of};
 ghost use Rattle.swc_ecma_codegen_tool.specs.Faults.{EndsWithFault, GivesFault};
 ghost use Rattle.swc_ecma_codegen_tool.specs.Prints.{text_with, with_positions};
 

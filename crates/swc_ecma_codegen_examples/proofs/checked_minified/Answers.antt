@@ -1,6 +1,6 @@
 use Rattle.std.proofs.Common.{◌≡◌, refl, rules, true}
 use Rattle.swc_ecma_codegen_grammar.specs.TreePhrases.{is_well_formed}
-use Rattle.swc_ecma_codegen.specs.Roots.{OfProgram}
+use Rattle.swc_ecma_codegen_emit.specs.Roots.{OfProgram}
 use Rattle.swc_ecma_codegen_examples.proofs.checked_minified.Goals as goal
 
 pub returns-in-Ok-clause-reads : goal.returns-in-Ok-clause-reads

@@ -1,7 +1,7 @@
 use Rattle.std.proofs.Common.{◌≡◌, refl, rules, true, ap}
 use Rattle.swc_ecma_codegen_grammar.specs.TreePhrases.{is_well_formed}
 use Rattle.swc_ecma_codegen_common.specs.declared.errors.Error.{Error}
-use Rattle.swc_ecma_codegen.specs.Roots.{OfProgram}
+use Rattle.swc_ecma_codegen_emit.specs.Roots.{OfProgram}
 use Rattle.swc_ecma_codegen_examples.specs.declared.NoText.TheVariants.{Refused}
 use Rattle.swc_ecma_codegen_examples.proofs.checked_text.Goals as goal
 

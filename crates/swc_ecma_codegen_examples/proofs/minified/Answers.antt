@@ -9,8 +9,8 @@ use Rattle.swc_ecma_codegen_text_writer.specs.Held.{with_held}
 use Rattle.swc_ecma_codegen_text_writer.specs.View.{sheet_of, new_sheet}
 use Rattle.swc_ecma_codegen_tokens.specs.Run.{start}
 use Rattle.swc_ecma_codegen_tokens.specs.Written.{AddsReading, ReadsAs, all_indent, is_indent, holds_one}
-use Rattle.swc_ecma_codegen.specs.Roots.{root_phrase, MayBegin}
-use Rattle.swc_ecma_codegen.specs.Texts.{GivesCause}
+use Rattle.swc_ecma_codegen_emit.specs.Roots.{root_phrase, MayBegin}
+use Rattle.swc_ecma_codegen_emit.specs.Texts.{GivesCause}
 use Rattle.swc_ecma_codegen_examples.specs.Causes.{minified_config}
 use Rattle.swc_ecma_codegen_examples.proofs.minified.Goals as goal
 

@@ -1,7 +1,7 @@
 use Rattle.std.proofs.Common.{refl}
 use Rattle.std.proofs.lemmas.Result.{IfOk-weaker}
 use Rattle.swc_ecma_codegen_tree.specs.declared.stmts.Stmt.TheVariants.{Expr}
-use Rattle.swc_ecma_codegen.specs.Roots.{OfStmt}
+use Rattle.swc_ecma_codegen_emit.specs.Roots.{OfStmt}
 use Rattle.swc_ecma_codegen_examples.proofs.Negations.{well_formed_negation, short_negation, negation_reads}
 use Rattle.swc_ecma_codegen_examples.proofs.negation_text.Goals as goal
 

@@ -7,9 +7,9 @@ use Rattle.swc_ecma_codegen_text_writer.specs.Told.{told}
 use Rattle.swc_ecma_codegen_text_writer.specs.View.{sheet_of, new_sheet}
 use Rattle.swc_ecma_codegen_tokens.specs.Run.{start}
 use Rattle.swc_ecma_codegen_tokens.specs.Written.{AddsReading}
-use Rattle.swc_ecma_codegen.specs.Roots.{root_phrase, MayBegin}
-use Rattle.swc_ecma_codegen.specs.Texts.{GivesCause}
-use Rattle.swc_ecma_codegen.proofs.TreeReads.{new_begins}
+use Rattle.swc_ecma_codegen_emit.specs.Roots.{root_phrase, MayBegin}
+use Rattle.swc_ecma_codegen_emit.specs.Texts.{GivesCause}
+use Rattle.swc_ecma_codegen_emit.proofs.TreeReads.{new_begins}
 use Rattle.swc_ecma_codegen_examples.proofs.print_into.Goals as goal
 
 -- the writer began with a new sheet over what `out` told, and what was added to that sheet `out` tells in the end

@@ -10,9 +10,9 @@ use Rattle.swc_ecma_codegen_text_writer.specs.Told.{told}
 use Rattle.swc_ecma_codegen_text_writer.specs.View.{sheet_of, new_sheet}
 use Rattle.swc_ecma_codegen_tokens.specs.Run.{State, maps_after, start, steps_in, steps_of}
 use Rattle.swc_ecma_codegen_tokens.specs.Written.{AddsReading, ReadsAs, taken_remarks}
-use Rattle.swc_ecma_codegen.specs.Roots.{root_phrase, MayBegin}
-use Rattle.swc_ecma_codegen.specs.Texts.{blank_sheet, GivesCause}
-use Rattle.swc_ecma_codegen.proofs.TreeReads.{new_begins}
+use Rattle.swc_ecma_codegen_emit.specs.Roots.{root_phrase, MayBegin}
+use Rattle.swc_ecma_codegen_emit.specs.Texts.{blank_sheet, GivesCause}
+use Rattle.swc_ecma_codegen_emit.proofs.TreeReads.{new_begins}
 use Rattle.swc_ecma_codegen_examples.specs.Causes.{commented_start}
 use Rattle.swc_ecma_codegen_examples.proofs.print_with_comments.Goals as goal
 

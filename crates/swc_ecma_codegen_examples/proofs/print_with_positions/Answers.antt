@@ -8,8 +8,8 @@ use Rattle.swc_ecma_codegen_text_writer.specs.Sheet.{Sheet}
 use Rattle.swc_ecma_codegen_text_writer.specs.View.{sheet_of, new_sheet, keeping}
 use Rattle.swc_ecma_codegen_tokens.specs.Run.{start}
 use Rattle.swc_ecma_codegen_tokens.specs.Written.{AddsReading, ReadsAs, all_indent, is_indent, holds_one}
-use Rattle.swc_ecma_codegen.specs.Roots.{root_phrase, MayBegin}
-use Rattle.swc_ecma_codegen.specs.Texts.{blank_sheet, GivesCause}
+use Rattle.swc_ecma_codegen_emit.specs.Roots.{root_phrase, MayBegin}
+use Rattle.swc_ecma_codegen_emit.specs.Texts.{blank_sheet, GivesCause}
 use Rattle.swc_ecma_codegen_examples.proofs.print_with_positions.Goals as goal
 
 -- the writer began with a blank sheet that keeps positions after those of the list, and what it has was added to that

@@ -5,7 +5,7 @@ use Rattle.swc_ecma_codegen_tokens.proofs.NoneTaken.{no_maps_bare, no_maps_close
 use Rattle.swc_ecma_codegen_tokens.specs.Run.{State, start}
 use Rattle.swc_ecma_codegen_tokens.specs.Written.{AddsReading, taken_remarks}
 use Rattle.swc_ecma_codegen_text_writer.specs.Recorded.{RecordsTruly}
-use Rattle.swc_ecma_codegen.specs.Roots.{root_phrase, MayBegin}
+use Rattle.swc_ecma_codegen_emit.specs.Roots.{root_phrase, MayBegin}
 use Rattle.swc_ecma_codegen_examples.proofs.printed_on.Goals as goal
 
 -- a new emitter stands at the start, over the sheet that was handed in, under these settings and without comments, of which it takes none

@@ -1,5 +1,5 @@
-use Rattle.swc_ecma_codegen.proofs.TreeReads.{new_begins, indented_begins, holding_begins, new_wants_ascii}
-use Rattle.swc_ecma_codegen.proofs.TreeMade.{new_is_ready}
+use Rattle.swc_ecma_codegen_emit.proofs.TreeReads.{new_begins, indented_begins, holding_begins, new_wants_ascii}
+use Rattle.swc_ecma_codegen_emit.proofs.TreeMade.{new_is_ready}
 use Rattle.swc_ecma_codegen_laws.proofs.new_emitter_reads.Goals as goal
 
 pub returns-clause-new : goal.returns-clause-new

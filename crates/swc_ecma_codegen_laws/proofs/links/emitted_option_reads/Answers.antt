@@ -1,6 +1,6 @@
 use Rattle.std.proofs.Common.{◌∙◌}
 use Rattle.swc_ecma_codegen_tokens.proofs.Made.{nothing_changes, nothing_made}
-use Rattle.swc_ecma_codegen.specs.declared.nodes.Place.TheVariants.{Plain}
+use Rattle.swc_ecma_codegen_emit.specs.declared.nodes.Place.TheVariants.{Plain}
 use Rattle.swc_ecma_codegen_laws.proofs.LinkLaws.{some_written, none_written, follows_part, reads_part}
 use Rattle.swc_ecma_codegen_laws.proofs.links.emitted_option_reads.Goals as goal
 

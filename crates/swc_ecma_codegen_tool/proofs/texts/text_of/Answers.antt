@@ -8,7 +8,7 @@ use Rattle.swc_ecma_codegen_text_writer.specs.View.{sheet_of}
 use Rattle.swc_ecma_codegen_grammar.specs.Comments.{no_maps}
 use Rattle.swc_ecma_codegen_grammar.specs.SourceLines.{no_lines}
 use Rattle.swc_ecma_codegen_tokens.specs.Run.{Part, State, printed, start}
-use Rattle.swc_ecma_codegen.specs.Texts.{blank_sheet}
+use Rattle.swc_ecma_codegen_emit.specs.Texts.{blank_sheet}
 use Rattle.swc_ecma_codegen_tool.specs.Faults.{EndsWithFault, GivesFault}
 use Rattle.swc_ecma_codegen_tool.specs.declared.faults.Fault.{Fault}
 use Rattle.swc_ecma_codegen_tool.specs.declared.words.Options.{Options}

@@ -1,4 +1,0 @@
-use Rattle.swc_ecma_codegen.proofs.emitter.Emitter.stmts.Goals as goal
-
-pub returns-clause-items : goal.returns-clause-items
-returns-clause-items g c = c.in_order.ensures.items

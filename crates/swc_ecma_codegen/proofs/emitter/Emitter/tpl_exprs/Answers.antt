@@ -1,4 +1,0 @@
-use Rattle.swc_ecma_codegen.proofs.emitter.Emitter.tpl_exprs.Goals as goal
-
-pub returns-clause-items : goal.returns-clause-items
-returns-clause-items g c = c.tpl_parts.ensures.items

@@ -1,0 +1,49 @@
+-- What is written of what types add to other nodes is what it reads as.
+use Rattle.std.proofs.Common.{Bool, true, false, codes, refl, Option, Some, None}
+use Rattle.swc_ecma_codegen_tree.specs.Links.{TsTypeAnnBox, TsTypeParamDeclBox, TsTypeParamInstantiationBox}
+use Rattle.swc_ecma_codegen_grammar.specs.AnnotationPhrases as lists
+use Rattle.swc_ecma_codegen_grammar.specs.declared.roles.Role.TheVariants.{Annotation, TypeArguments, TypeParameters}
+use Rattle.swc_ecma_codegen_tokens.specs.Run.{Env}
+use Rattle.swc_ecma_codegen_tokens.specs.Words as parts
+use Rattle.swc_ecma_codegen_tokens.specs.Written.{Anything, InName}
+use Rattle.swc_ecma_codegen_tokens.proofs.Phrased.{then, before, prints_nothing, prints_punct, PrintsOn, PrintsAt, prints_wider}
+use Rattle.swc_ecma_codegen_tokens.proofs.Printed.{writes_space, writes_formatting_space}
+use Rattle.swc_ecma_codegen_tokens.proofs.Shapes.{open_}
+use Rattle.swc_ecma_codegen_tokens.proofs.TagPrints.{prints_spots, prints_none, wider_on}
+use Rattle.swc_ecma_codegen_emit.specs.declared.nodes.Place.{Place}
+use Rattle.swc_ecma_codegen_emit.specs.declared.nodes.Place.TheVariants.{Plain}
+use Rattle.swc_ecma_codegen_emit.specs.Annotations as words
+use Rattle.swc_ecma_codegen_emit.proofs.Linked.{Linked}
+use Rattle.swc_ecma_codegen_emit.proofs.MarkWords as marks
+use Rattle.swc_ecma_codegen_emit.proofs.TypeWords as type_words
+
+pub annotation_prints : {X : Type 0} (l : Linked X) (n : Option (TsTypeAnnBox X)) → PrintsAt open_ l.env (words.annotation l.items n) (lists.annotation l.reads n)
+unfolding words.annotation lists.annotation
+annotation_prints l None = prints_nothing
+annotation_prints l (Some n) = prints_wider open_ refl (then (before (prints_punct l.env (codes ":") marks.colon) (writes_formatting_space l.env)) (l.law n.node.value Plain Annotation))
+
+pub spaced_annotation_prints : {X : Type 0} (l : Linked X) (n : Option (TsTypeAnnBox X)) → PrintsAt open_ l.env (words.spaced_annotation l.items n) (lists.annotation l.reads n)
+unfolding words.spaced_annotation lists.annotation
+spaced_annotation_prints l None = prints_nothing
+spaced_annotation_prints l (Some n) = prints_wider open_ refl (then (before (prints_punct l.env (codes ":") marks.colon) (writes_space l.env)) (l.law n.node.value Plain Annotation))
+
+pub question_prints : (env : Env) (optional : Bool) → PrintsAt open_ env (parts.question optional) (lists.question optional)
+unfolding parts.question lists.question
+question_prints env true = prints_wider open_ refl (prints_punct env (codes "?") type_words.question)
+question_prints env false = prints_nothing
+
+pub type_args_print : {X : Type 0} (l : Linked X) (place : Place) (n : Option (TsTypeParamInstantiationBox X)) → PrintsAt open_ l.env (words.type_args l.items place n) (lists.type_args l.reads n)
+unfolding words.type_args lists.type_args
+type_args_print l place None = prints_nothing
+type_args_print l place (Some n) = prints_wider open_ refl (prints_spots Anything Anything refl refl (l.law n.node.value place TypeArguments))
+
+-- behind the name of a tag
+pub tag_types_print : {X : Type 0} (l : Linked X) (n : Option (TsTypeParamInstantiationBox X)) → PrintsOn InName InName open_ l.env (words.type_args l.items Plain n) (lists.type_args l.reads n)
+unfolding words.type_args lists.type_args
+tag_types_print l None = prints_none
+tag_types_print l (Some n) = wider_on open_ refl (prints_spots InName InName refl refl (l.law n.node.value Plain TypeArguments))
+
+pub type_params_print : {X : Type 0} (l : Linked X) (n : Option (TsTypeParamDeclBox X)) → PrintsAt open_ l.env (words.type_params l.items n) (lists.type_params l.reads n)
+unfolding words.type_params lists.type_params
+type_params_print l None = prints_nothing
+type_params_print l (Some n) = prints_wider open_ refl (l.law n.node.value Plain TypeParameters)

@@ -1,0 +1,231 @@
+-- What is written of classes is what they read as.
+use Rattle.std.proofs.Common.{Bool, true, false, cond, ◌||◌, is_none, is_some, List, map, codes, Option, Some, None, refl}
+use Rattle.swc_ecma_codegen_tree.specs.Links.{BlockStmtBox, ClassMemberBox, ExprBox, FunctionBox, TsTypeParamInstantiationBox}
+use Rattle.swc_ecma_codegen_tree.specs.declared.classes.Class as class_nodes
+use Rattle.swc_ecma_codegen_tree.specs.declared.classes.ClassMember as class_members
+use Rattle.swc_ecma_codegen_tree.specs.declared.classes.ClassMember.TheVariants as members
+use Rattle.swc_ecma_codegen_tree.specs.declared.classes.Constructor.{Constructor}
+use Rattle.swc_ecma_codegen_tree.specs.declared.classes.ParamOrTsParamProp.{ParamOrTsParamProp}
+use Rattle.swc_ecma_codegen_tree.specs.declared.classes.ParamOrTsParamProp.TheVariants as params
+use Rattle.swc_ecma_codegen_tree.specs.declared.classes.ClassMethod.{ClassMethod}
+use Rattle.swc_ecma_codegen_tree.specs.declared.classes.MethodKind.{MethodKind}
+use Rattle.swc_ecma_codegen_tree.specs.declared.classes.MethodKind.TheVariants.{Method, Getter, Setter}
+use Rattle.swc_ecma_codegen_tree.specs.declared.classes.ClassProp.{ClassProp}
+use Rattle.swc_ecma_codegen_tree.specs.declared.classes.PrivateMethod.{PrivateMethod}
+use Rattle.swc_ecma_codegen_tree.specs.declared.classes.PrivateProp.{PrivateProp}
+use Rattle.swc_ecma_codegen_tree.specs.declared.classes.AutoAccessor.{AutoAccessor}
+use Rattle.swc_ecma_codegen_tree.specs.declared.classes.Key.{Key}
+use Rattle.swc_ecma_codegen_tree.specs.declared.classes.Key.TheVariants as keys
+use Rattle.swc_ecma_codegen_tree.specs.declared.classes.StaticBlock.{StaticBlock}
+use Rattle.swc_ecma_codegen_tree.specs.declared.decls.ClassDecl.{ClassDecl}
+use Rattle.swc_ecma_codegen_tree.specs.declared.stmts.EmptyStmt.{EmptyStmt}
+use Rattle.swc_ecma_codegen_grammar.specs.ClassPhrases as lists
+use Rattle.swc_ecma_codegen_grammar.specs.ClassPhrases.{is_typed_class, is_typed_prop, is_typed_private, is_typed_accessor}
+use Rattle.swc_ecma_codegen_grammar.specs.FunctionPhrases.{word_if}
+use Rattle.swc_ecma_codegen_grammar.specs.FunctionPhrases as function_lists
+use Rattle.swc_ecma_codegen_grammar.specs.Phrases as phrases
+use Rattle.swc_ecma_codegen_grammar.specs.Phrases.{◌>◌, mark, word}
+use Rattle.swc_ecma_codegen_grammar.specs.declared.roles.Role.TheVariants.{ClassHead as HeadOfClass, ClassTail, Member, MethodHead as HeadOfMethod, MethodDecorators as DecoratorsOfMethod, MethodTail as TailOfMethod, AccessorTail as TailOfAccessor, FieldValue as ValueOfField}
+use Rattle.swc_ecma_codegen_tokens.specs.Run.{Env}
+use Rattle.swc_ecma_codegen_tokens.specs.Words.{keyword, punct, last_of}
+use Rattle.swc_ecma_codegen_tokens.proofs.ListLaws.{IsUndelimited, prints_list, prints_in_order, prints_bracketed_in_order}
+use Rattle.swc_ecma_codegen_tokens.proofs.Phrased.{Prints, PrintsAt, prints_wider, joined_then, then, after, before, prints_nothing, prints_never, prints_where, prints_keyword, prints_punct, prints_semi}
+use Rattle.swc_ecma_codegen_tokens.proofs.Printed.{makes_wider, writes_nothing, writes_space, writes_formatting_space, writes_position, writes_position_before, writes_leading}
+use Rattle.swc_ecma_codegen_tokens.proofs.Shapes.{open_, ended_if_any, closed, loose, joining_if_any}
+use Rattle.swc_ecma_codegen_emit.specs.declared.nodes.Place.{Place}
+use Rattle.swc_ecma_codegen_emit.specs.declared.nodes.Place.TheVariants.{Plain, MethodHead, StaticHead, MethodTail}
+use Rattle.swc_ecma_codegen_emit.specs.Classes as words
+use Rattle.swc_ecma_codegen_emit.specs.Places.{behind_key}
+use Rattle.swc_ecma_codegen_emit.specs.FunctionExprs.{comma_list_format}
+use Rattle.swc_ecma_codegen_emit.specs.Functions.{decorators_format, decorator, decorator_lines, decorator_place}
+use Rattle.swc_ecma_codegen_emit.proofs.AnnotationParts.{type_args_print, type_params_print}
+use Rattle.swc_ecma_codegen_emit.proofs.ExprParts.{ident_prints, private_name_prints, writes_blank}
+use Rattle.swc_ecma_codegen_emit.proofs.FunctionParts.{decorator_prints, decorators_print, param_prints, undelimited}
+use Rattle.swc_ecma_codegen_emit.proofs.Impossible.{refused_or}
+use Rattle.swc_ecma_codegen_emit.proofs.TsDeclParts.{declare_prints}
+use Rattle.swc_ecma_codegen_emit.proofs.Linked.{Linked, expr_at, prop_name_at, block_at}
+use Rattle.swc_ecma_codegen_emit.proofs.MarkWords as marks
+use Rattle.swc_ecma_codegen_emit.proofs.PatParts.{initializer_prints}
+
+-- ---- classes
+
+heritage_prints : {X : Type 0} (l : Linked X) (n : Option (ExprBox X)) (args : Option (TsTypeParamInstantiationBox X)) → PrintsAt open_ l.env (words.heritage l.asks l.items n args) (lists.heritage l.reads n args)
+unfolding words.heritage lists.heritage
+heritage_prints l None args = prints_where (is_none args) (λ h. prints_nothing)
+heritage_prints l (Some n) args =
+    prints_wider open_ refl
+    (after (writes_space l.env)
+    (then (prints_keyword l.env None (codes "extends") marks.extends_word)
+    (after (writes_blank l.env (l.asks n.node.value).starts) (then (expr_at l n Plain) (type_args_print l Plain args)))))
+
+member_at : {X : Type 0} (l : Linked X) (n : ClassMemberBox X) → PrintsAt closed l.env (l.items n.node.value Plain) (l.reads n.node.value Member)
+member_at l n = l.law n.node.value Plain Member
+
+members_undelimited : IsUndelimited words.class_members_format
+members_undelimited = record { no_comma = refl; no_bar = refl; no_ampersand = refl }
+
+closing_prints : {X : Type 0} (env : Env) (n : class_nodes.Class X) → Prints env (λ rest. last_of n.span (punct (codes "}") rest)) (mark (codes "}"))
+closing_prints env n = after (writes_position_before env n.span.hi) (prints_punct env (codes "}") marks.right_brace)
+
+braced_prints : {X : Type 0} (l : Linked X) (n : class_nodes.Class X) → Prints l.env (λ rest. punct (codes "{") (words.member_list l.asks l.items n (last_of n.span (punct (codes "}") rest)))) (mark (codes "{") > phrases.in_order (map (lists.member_at l.reads) n.body.items) > mark (codes "}"))
+braced_prints l n =
+    prints_bracketed_in_order l.env (codes "{") marks.left_brace (λ rest. rest) (makes_wider loose refl (writes_nothing l.env)) words.class_members_format n.span (λ m. (l.asks m.node.value).place) (λ m. l.items m.node.value Plain) (lists.member_at l.reads) (mark (codes "}")) (λ rest. last_of n.span (punct (codes "}") rest))
+    (λ m. prints_wider loose refl (member_at l m)) members_undelimited (closing_prints l.env n) n.body.items
+
+pub class_tail_prints : {X : Type 0} (l : Linked X) (n : class_nodes.Class X) → Prints l.env (words.class_tail l.asks l.items n) (lists.class_tail l.reads n)
+unfolding words.class_tail words.class_trailing lists.class_tail
+class_tail_prints l n = refused_or (is_typed_class n) (then (type_params_print l n.type_params) (then (heritage_prints l n.super_class n.super_type_params) (after (writes_formatting_space l.env) (braced_prints l n))))
+
+pub class_head_prints : {X : Type 0} (l : Linked X) (n : class_nodes.Class X) → PrintsAt ended_if_any l.env (decorator_lines l.items n.decorators.items) (lists.class_head l.reads n)
+unfolding lists.class_head
+class_head_prints l n = decorators_print l n.decorators.items
+
+pub class_decl_prints : {X : Type 0} (l : Linked X) (n : ClassDecl X) → Prints l.env (words.class_decl l.asks l.items n) (lists.class_decl l.reads n)
+unfolding words.class_decl lists.class_decl
+class_decl_prints l n =
+    after (writes_leading l.env (l.asks n.class.node.value).place.lo)
+    (after (writes_position l.env (l.asks n.class.node.value).place.lo)
+    (then (declare_prints l.env n.declare)
+    (then (l.law n.class.node.value Plain HeadOfClass)
+    (then (prints_keyword l.env None (codes "class") marks.class_word)
+    (after (writes_space l.env) (then (ident_prints l n.ident) (l.law n.class.node.value Plain ClassTail)))))))
+
+-- ---- members
+
+constructor_param_prints : {X : Type 0} (l : Linked X) (n : ParamOrTsParamProp X) → PrintsAt closed l.env (words.constructor_param l.asks l.items n) (lists.constructor_param l.reads n)
+unfolding words.constructor_param lists.constructor_param
+constructor_param_prints l (params.Param n) = param_prints l n
+constructor_param_prints l (params.TsParamProp n) = prints_never
+
+constructor_body_prints : {X : Type 0} (l : Linked X) (body : Option (BlockStmtBox X)) → Prints l.env (words.constructor_body l.items body) (function_lists.function_body l.reads body)
+unfolding words.constructor_body function_lists.function_body
+constructor_body_prints l None = prints_semi l.env
+constructor_body_prints l (Some n) = block_at l n Plain
+
+constructor_prints : {X : Type 0} (l : Linked X) (n : Constructor X) → Prints l.env (words.class_constructor l.asks l.items n) (lists.class_constructor l.reads n)
+unfolding words.class_constructor words.constructor_parts words.constructor_word words.constructor_tail lists.class_constructor
+constructor_prints l n = refused_or (is_some n.accessibility)
+    (after (writes_leading l.env n.span.lo)
+    (after (writes_position l.env n.span.lo)
+    (then (prints_keyword l.env None (codes "constructor") marks.constructor_word)
+    (then (prints_punct l.env (codes "(") marks.left_parenthesis)
+    (then (prints_list l.env comma_list_format n.span words.constructor_param_place (words.constructor_param l.asks l.items) (lists.constructor_param l.reads) (λ p. prints_wider loose refl (constructor_param_prints l p)) refl refl refl refl n.params.items)
+    (then (prints_punct l.env (codes ")") marks.right_parenthesis) (constructor_body_prints l n.body)))))))
+
+static_prints : (env : Env) (wanted : Bool) → PrintsAt open_ env (words.static_word wanted) (word_if wanted (word (codes "static")))
+unfolding words.static_word word_if
+static_prints env true = prints_wider open_ refl (before (prints_keyword env None (codes "static") marks.static_word) (writes_space env))
+static_prints env false = prints_nothing
+
+get_prints : (env : Env) (starts : Bool) → Prints env (words.accessor_word (codes "get") starts) (word (codes "get"))
+unfolding words.accessor_word
+get_prints env starts = before (prints_keyword env None (codes "get") marks.get_word) (writes_blank env starts)
+
+set_prints : (env : Env) (starts : Bool) → Prints env (words.accessor_word (codes "set") starts) (word (codes "set"))
+unfolding words.accessor_word
+set_prints env starts = before (prints_keyword env None (codes "set") marks.set_word) (writes_blank env starts)
+
+word_prints : {X : Type 0} (l : Linked X) (n : ClassMethod X) (is_static : Bool) → PrintsAt joining_if_any l.env (λ rest. cond is_static (keyword None (codes "static") (l.items n.function.node.value (StaticHead (l.asks n.key.node.value).starts) rest)) (l.items n.function.node.value MethodHead rest)) (word_if is_static (word (codes "static")) > l.reads n.function.node.value HeadOfMethod)
+unfolding word_if
+word_prints l n true = prints_wider joining_if_any refl (then (prints_keyword l.env None (codes "static") marks.static_word) (l.law n.function.node.value (StaticHead (l.asks n.key.node.value).starts) HeadOfMethod))
+word_prints l n false = then prints_nothing (l.law n.function.node.value Plain HeadOfMethod)
+
+kind_prints : {X : Type 0} (l : Linked X) (n : ClassMethod X) (kind : MethodKind) → PrintsAt joining_if_any l.env (words.method_kind l.asks l.items kind n) (word_if n.is_static (word (codes "static")) > lists.kind_head l.reads kind n.function)
+unfolding words.method_kind words.method_word lists.kind_head
+kind_prints l n Method = word_prints l n n.is_static
+kind_prints l n Getter = prints_wider joining_if_any refl (then (static_prints l.env n.is_static) (get_prints l.env (l.asks n.key.node.value).starts))
+kind_prints l n Setter = prints_wider joining_if_any refl (then (static_prints l.env n.is_static) (set_prints l.env (l.asks n.key.node.value).starts))
+
+tail_prints : {X : Type 0} (l : Linked X) (n : FunctionBox X) (place : Place) (kind : MethodKind) → Prints l.env (l.items n.node.value (behind_key place)) (l.reads n.node.value (lists.tail_role kind))
+unfolding lists.tail_role
+tail_prints l n place Method = l.law n.node.value place TailOfMethod
+tail_prints l n place Getter = l.law n.node.value place TailOfAccessor
+tail_prints l n place Setter = l.law n.node.value place TailOfAccessor
+
+method_prints : {X : Type 0} (l : Linked X) (n : ClassMethod X) → Prints l.env (words.class_method l.asks l.items n) (lists.class_method l.reads n)
+unfolding words.class_method words.class_method_parts lists.class_method lists.method_kind
+method_prints l n = refused_or (is_some n.accessibility || (n.is_abstract || (n.is_optional || n.is_override)))
+    (after (writes_leading l.env n.span.lo)
+    (after (writes_leading l.env (l.asks n.key.node.value).place.lo)
+    (after (writes_position l.env n.span.lo)
+    (then (l.law n.function.node.value Plain DecoratorsOfMethod)
+    (then (kind_prints l n n.kind) (then (prop_name_at l n.key) (tail_prints l n.function MethodTail n.kind)))))))
+
+private_kind_prints : {X : Type 0} (l : Linked X) (n : PrivateMethod X) (kind : MethodKind) → PrintsAt joining_if_any l.env (words.private_kind l.items kind n) (lists.kind_head l.reads kind n.function)
+unfolding words.private_kind lists.kind_head
+private_kind_prints l n Method = l.law n.function.node.value Plain HeadOfMethod
+private_kind_prints l n Getter = prints_wider joining_if_any refl (get_prints l.env true)
+private_kind_prints l n Setter = prints_wider joining_if_any refl (set_prints l.env true)
+
+private_method_prints : {X : Type 0} (l : Linked X) (n : PrivateMethod X) → Prints l.env (words.private_method l.items n) (lists.private_method l.reads n)
+unfolding words.private_method words.private_method_parts lists.private_method lists.method_kind
+private_method_prints l n = refused_or (is_some n.accessibility || (n.is_abstract || (n.is_optional || n.is_override)))
+    (after (writes_leading l.env n.span.lo)
+    (after (writes_position l.env n.span.lo)
+    (then (l.law n.function.node.value Plain DecoratorsOfMethod)
+    (then (then (static_prints l.env n.is_static) (private_kind_prints l n n.kind)) (then (private_name_prints l n.key) (tail_prints l n.function Plain n.kind))))))
+
+value_prints : {X : Type 0} (l : Linked X) (n : Option (ExprBox X)) → PrintsAt open_ l.env (words.prop_value l.items n) (lists.prop_value l.reads n)
+unfolding words.prop_value lists.prop_value
+value_prints l None = prints_nothing
+value_prints l (Some n) =
+    prints_wider open_ refl
+    (after (writes_formatting_space l.env)
+    (then (prints_punct l.env (codes "=") marks.equal)
+    (after (writes_formatting_space l.env) (l.law n.node.value Plain ValueOfField))))
+
+prop_prints : {X : Type 0} (l : Linked X) (n : ClassProp X) → Prints l.env (words.class_prop l.items n) (lists.class_prop l.reads n)
+unfolding words.class_prop words.class_prop_parts lists.class_prop
+prop_prints l n = refused_or (is_typed_prop n)
+    (after (writes_leading l.env n.span.lo)
+    (after (writes_position l.env n.span.lo)
+    (then (decorators_print l n.decorators.items)
+    (then (static_prints l.env n.is_static)
+    (then (prop_name_at l n.key)
+    (then (value_prints l n.value) (before (prints_semi l.env) (writes_position l.env n.span.hi))))))))
+
+private_prop_prints : {X : Type 0} (l : Linked X) (n : PrivateProp X) → PrintsAt closed l.env (words.private_prop l.items n) (lists.private_prop l.reads n)
+unfolding words.private_prop words.private_prop_parts words.private_prop_tail lists.private_prop lists.decorators
+private_prop_prints l n = refused_or (is_typed_private n)
+    (after (writes_leading l.env n.span.lo)
+    (after (writes_position l.env n.span.lo)
+    (then (prints_in_order l.env decorators_format n.span decorator_place (decorator l.items) (function_lists.decorator l.reads) (λ d. prints_wider loose refl (decorator_prints l d)) undelimited refl n.decorators.items)
+    (then (static_prints l.env n.is_static)
+    (then (private_name_prints l n.key)
+    (then (value_prints l n.value) (before (prints_semi l.env) (writes_position l.env n.span.hi))))))))
+
+key_prints : {X : Type 0} (l : Linked X) (n : Key X) → Prints l.env (words.accessor_key l.items n) (lists.accessor_key l.reads n)
+unfolding words.accessor_key lists.accessor_key
+key_prints l (keys.Public n) = prop_name_at l n
+key_prints l (keys.Private n) = private_name_prints l n
+
+accessor_prints : {X : Type 0} (l : Linked X) (n : AutoAccessor X) → PrintsAt closed l.env (words.auto_accessor l.items n) (lists.auto_accessor l.reads n)
+unfolding words.auto_accessor words.auto_accessor_parts words.accessor_tail lists.auto_accessor lists.decorators
+accessor_prints l n = refused_or (is_typed_accessor n)
+    (then (prints_in_order l.env decorators_format n.span decorator_place (decorator l.items) (function_lists.decorator l.reads) (λ d. prints_wider loose refl (decorator_prints l d)) undelimited refl n.decorators.items)
+    (then (static_prints l.env n.is_static)
+    (joined_then l.env None (codes "accessor") marks.accessor_word
+    (after (writes_space l.env) (then (key_prints l n.key) (then (initializer_prints l n.value) (prints_semi l.env)))))))
+
+static_block_prints : {X : Type 0} (l : Linked X) (n : StaticBlock X) → Prints l.env (words.static_block l.items n) (lists.static_block l.reads n)
+unfolding words.static_block lists.static_block
+static_block_prints l n =
+    after (writes_leading l.env n.span.lo)
+    (after (writes_position l.env n.span.lo)
+    (then (prints_keyword l.env None (codes "static") marks.static_word) (before (block_at l n.body Plain) (writes_position l.env n.span.hi))))
+
+empty_prints : (env : Env) (n : EmptyStmt) → Prints env (words.empty_member n) (mark (codes ";"))
+unfolding words.empty_member
+empty_prints env n = after (writes_leading env n.span.lo) (prints_punct env (codes ";") marks.semicolon)
+
+pub class_member_prints : {X : Type 0} (l : Linked X) (n : class_members.ClassMember X) → PrintsAt closed l.env (words.class_member l.asks l.items n) (lists.class_member l.reads n)
+unfolding words.class_member lists.class_member
+class_member_prints l (members.Constructor n) = prints_wider closed refl (constructor_prints l n)
+class_member_prints l (members.Method n) = prints_wider closed refl (method_prints l n)
+class_member_prints l (members.PrivateMethod n) = prints_wider closed refl (private_method_prints l n)
+class_member_prints l (members.ClassProp n) = prints_wider closed refl (prop_prints l n)
+class_member_prints l (members.PrivateProp n) = private_prop_prints l n
+class_member_prints l (members.Empty n) = prints_wider closed refl (empty_prints l.env n)
+class_member_prints l (members.StaticBlock n) = prints_wider closed refl (static_block_prints l n)
+class_member_prints l (members.AutoAccessor n) = accessor_prints l n
+class_member_prints l n = prints_never

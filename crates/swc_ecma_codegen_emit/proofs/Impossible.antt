@@ -1,0 +1,74 @@
+-- Phrases that no tree has, and what is said where a phrase is possible.
+use Rattle.std.proofs.Common.{◌≡◌, ◌∙◌, sym, refl, ap, ℕ, Bool, true, false, cond, ◌&&◌, ◌||◌, List, ◌++◌, append-nil, subst}
+use Rattle.std.proofs.lemmas.Bool.{true≢false}
+use Rattle.swc_ecma_codegen_grammar.specs.Tokens as lexical
+use Rattle.swc_ecma_codegen_util.specs.declared.config.Config.{Config}
+use Rattle.swc_ecma_codegen_grammar.specs.Phrases.{Phrase, Never, Nothing, ◌>◌, mark, Generates, is_possible, names_in}
+use Rattle.swc_ecma_codegen_grammar.specs.FunctionPhrases.{is_never}
+use Rattle.swc_ecma_codegen_tokens.specs.Escapes.{is_spelled_anew, may_make_text}
+use Rattle.swc_ecma_codegen_tokens.specs.Named.{EachName, AllStand}
+use Rattle.swc_ecma_codegen_tokens.specs.Run.{Env, Part}
+use Rattle.swc_ecma_codegen_tokens.specs.Targets.{is_out}
+use Rattle.swc_ecma_codegen_tokens.proofs.Choices.{IsAmong, prints_among}
+use Rattle.swc_ecma_codegen_tokens.proofs.Phrased.{prints_never, PrintsAt}
+use Rattle.swc_ecma_codegen_emit.specs.Lists.{unsupported}
+use Rattle.swc_ecma_codegen_tokens.proofs.Shapes.{Shape}
+
+-- one that isn't printed yet is refused, and has no list of tokens
+pub refused_or : {i : Shape} {env : Env} {p : Part} {f : Phrase} (refused : Bool) → PrintsAt i env p f → PrintsAt i env (λ rest. cond refused (unsupported rest) (p rest)) (cond refused Never f)
+refused_or true h = prints_never
+refused_or false h = h
+
+-- whatever is written, no tree is written so
+pub prints_impossible : {i : Shape} {env : Env} {p : Part} {f : Phrase} → is_possible f ≡ false → PrintsAt i env p f
+prints_impossible none = record {
+  where_possible = λ w o. absurd (true≢false (sym w ∙ none));
+  where_out = λ w o. absurd (true≢false (sym w ∙ none));
+}
+
+-- only of a phrase that is possible is anything said
+pub if_possible : {i : Shape} {env : Env} {p : Part} {f : Phrase} → (is_possible f ≡ true → PrintsAt i env p f) → PrintsAt i env p f
+if_possible h = record { where_possible = λ w o. (h w).where_possible w o; where_out = λ w o rest. (h w).where_out w o rest }
+
+pub never_impossible : (f : Phrase) → is_never f ≡ true → is_possible f ≡ false
+unfolding is_never is_possible
+never_impossible Never h = refl
+never_impossible f h = absurd (true≢false (sym h))
+
+or_false : (b : Bool) → (b || false) ≡ b
+or_false true = refl
+or_false false = refl
+
+and_true : (b : Bool) → (b && true) ≡ b
+and_true true = refl
+and_true false = refl
+
+-- a list of one phrase is that phrase
+alone_among : (config : Config) (f : Phrase) → IsAmong config (f > Nothing) f
+unfolding Generates EachName is_possible is_out may_make_text names_in
+alone_among config f = record {
+  generates = λ ts g. subst (λ z. Generates _ f z) (sym (g.4 ∙ ap (λ z. g.0 ++ z) g.3 ∙ append-nil g.0)) g.2;
+  possible = and_true (is_possible f);
+  out = or_false (is_out config f);
+  makes = λ e. sym (or_false (may_make_text config f)) ∙ e;
+  names = append-nil (names_in f);
+  stands = λ a b us ts g. subst (λ z. AllStand config a b us f z) (sym (g.4 ∙ ap (λ z. g.0 ++ z) g.3 ∙ append-nil g.0)) g.2;
+}
+
+pub prints_alone : {i : Shape} {env : Env} {p : Part} {f : Phrase} → PrintsAt i env p (f > Nothing) → PrintsAt i env p f
+prints_alone {env = env} {f = f} h = prints_among (alone_among env.config f) h
+
+-- so is one behind a mark
+last_among : (config : Config) (t : List ℕ) (f : Phrase) → IsAmong config (mark t > f > Nothing) (mark t > f)
+unfolding Generates EachName is_possible is_out may_make_text names_in is_spelled_anew lexical.punctuator
+last_among config t f = record {
+  generates = λ ts g. (g.0, g.1, g.2, subst (λ z. Generates _ f z) (sym (g.3.4 ∙ ap (λ z. g.3.0 ++ z) g.3.3 ∙ append-nil g.3.0)) g.3.2, g.4);
+  possible = and_true (is_possible f);
+  out = or_false (is_out config f);
+  makes = λ e. sym (or_false (may_make_text config f)) ∙ e;
+  names = append-nil (names_in f);
+  stands = λ a b us ts g. (g.0, g.1, g.2, subst (λ z. AllStand config a b (us ++ g.0) f z) (sym (g.3.4 ∙ ap (λ z. g.3.0 ++ z) g.3.3 ∙ append-nil g.3.0)) g.3.2, g.4);
+}
+
+pub prints_last : {i : Shape} {env : Env} {p : Part} (t : List ℕ) {f : Phrase} → PrintsAt i env p (mark t > f > Nothing) → PrintsAt i env p (mark t > f)
+prints_last {env = env} t {f} h = prints_among (last_among env.config t f) h

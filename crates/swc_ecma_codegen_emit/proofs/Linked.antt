@@ -1,0 +1,74 @@
+-- What a law of one node takes: what is known of whatever its links hold.
+use Rattle.std.proofs.Common.{◌≡◌, false, cond}
+use Rattle.swc_ecma_codegen_grammar.specs.Phrases.{Phrase, Never}
+use Rattle.swc_ecma_codegen_grammar.specs.declared.roles.Role.{Role}
+use Rattle.swc_ecma_codegen_grammar.specs.declared.roles.Role.TheVariants.{Expression, Statement, Pattern, PlainParameter, PropertyName, Block, VariableDeclaration, MethodHead, ClassHead, MethodDecorators, Member, ExportedHead, ModuleDeclaration, Element, Child, TagObject, TypeArguments}
+use Rattle.swc_ecma_codegen_tree.specs.Links.{BlockStmtBox, ExprBox, PatBox, PropNameBox, StmtBox, VarDeclBox}
+use Rattle.swc_ecma_codegen_tokens.specs.Run.{Env, Part}
+use Rattle.swc_ecma_codegen_tokens.specs.Written.{Spot, Anything, Between, InText, InName}
+use Rattle.swc_ecma_codegen_tokens.proofs.Phrased.{Prints, PrintsAt, PrintsOn}
+use Rattle.swc_ecma_codegen_emit.specs.declared.nodes.Place.{Place}
+use Rattle.swc_ecma_codegen_emit.specs.declared.nodes.Place.TheVariants.{Plain}
+use Rattle.swc_ecma_codegen_emit.specs.Answers.{Answers}
+use Rattle.swc_ecma_codegen_emit.specs.FunctionExprs.{is_plain}
+use Rattle.swc_ecma_codegen_emit.specs.Places.{placed}
+use Rattle.swc_ecma_codegen_tokens.proofs.Shapes.{Shape, whole, closed, ended, ended_if_any, joining_if_any}
+
+-- A statement may end with the end of its line, as a declaration of a module does, and declarations of variables with a list; decorators
+-- stand on lines of their own, where there are some; of a method there may be `async` before its name, on the line of that name, or
+-- nothing. All else begins and ends with a token.
+abbrev pub role_shape : Role → Shape
+role_shape Statement = ended
+role_shape VariableDeclaration = ended
+role_shape ModuleDeclaration = ended
+role_shape ClassHead = ended_if_any
+role_shape ExportedHead = ended_if_any
+role_shape MethodDecorators = ended_if_any
+role_shape MethodHead = joining_if_any
+role_shape Member = closed
+role_shape role = whole
+
+-- What may come before it, and behind it: a child of an element stands right behind a tag or text, and behind an element another child may;
+-- behind the object of a name in a tag no dash, and type arguments stand behind such a name.
+abbrev pub role_before : Role → Spot
+role_before Child = InText
+role_before TypeArguments = InName
+role_before role = Anything
+
+abbrev pub role_behind : Role → Spot
+role_behind Element = Between
+role_behind Child = Between
+role_behind TagObject = InName
+role_behind role = Anything
+
+abbrev pub PrintsIn : Role → Env → Part → Phrase → Type 0
+PrintsIn role env part phrase = PrintsOn (role_before role) (role_behind role) (role_shape role) env part phrase
+
+-- What it answers, what is written of it, and what it reads as, in each role; that it is said to be a name alone where it may stand
+-- without parentheses; and that what is written is what it reads as.
+pub record Linked (X : Type 0) : Type 0 where
+  pub env : Env
+  pub leaves_out : env.keeps_invalid ≡ false
+  pub asks : X → Answers
+  pub items : X → Place → Part
+  pub reads : X → Role → Phrase
+  pub plain : (x : X) → reads x PlainParameter ≡ cond (is_plain (asks x).pattern) (reads x Pattern) Never
+  pub law : (x : X) (place : Place) (role : Role) → PrintsIn role env (items x (placed role place)) (reads x role)
+
+pub expr_at : {X : Type 0} (l : Linked X) (n : ExprBox X) (place : Place) → Prints l.env (l.items n.node.value (placed Expression place)) (l.reads n.node.value Expression)
+expr_at l n place = l.law n.node.value place Expression
+
+pub stmt_at : {X : Type 0} (l : Linked X) (n : StmtBox X) → PrintsAt ended l.env (l.items n.node.value Plain) (l.reads n.node.value Statement)
+stmt_at l n = l.law n.node.value Plain Statement
+
+pub pat_at : {X : Type 0} (l : Linked X) (n : PatBox X) → Prints l.env (l.items n.node.value Plain) (l.reads n.node.value Pattern)
+pat_at l n = l.law n.node.value Plain Pattern
+
+pub prop_name_at : {X : Type 0} (l : Linked X) (n : PropNameBox X) → Prints l.env (l.items n.node.value Plain) (l.reads n.node.value PropertyName)
+prop_name_at l n = l.law n.node.value Plain PropertyName
+
+pub block_at : {X : Type 0} (l : Linked X) (n : BlockStmtBox X) (place : Place) → Prints l.env (l.items n.node.value place) (l.reads n.node.value Block)
+block_at l n place = l.law n.node.value place Block
+
+pub var_decl_at : {X : Type 0} (l : Linked X) (n : VarDeclBox X) → PrintsAt ended l.env (l.items n.node.value Plain) (l.reads n.node.value VariableDeclaration)
+var_decl_at l n = l.law n.node.value Plain VariableDeclaration

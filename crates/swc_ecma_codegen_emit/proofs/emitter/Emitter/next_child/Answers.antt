@@ -1,0 +1,21 @@
+use Rattle.std.proofs.Common.{Bool, subst, sym, ◌∙◌}
+use Rattle.swc_ecma_codegen_grammar.specs.ListFormats.{separating_line}
+use Rattle.swc_ecma_codegen_emit.specs.Standing.{Makes, standing_of}
+use Rattle.swc_ecma_codegen_tokens.specs.Lists as lists
+use Rattle.swc_ecma_codegen_emit.proofs.ListPlaces.{parts_asked}
+use Rattle.swc_ecma_codegen_emit.proofs.Standings.{asked, same_settings}
+use Rattle.swc_ecma_codegen_emit.specs.Lists.{child_of}
+use Rattle.swc_ecma_codegen_emit.proofs.emitter.Emitter.next_child.Goals as goal
+
+pub returns-clause-items : goal.returns-clause-items
+returns-clause-items g c =
+    let x = child_of g.T.Child.stands g.T.EmitAt.items c.args.child.now in
+    let lines = g.S.SourceMapper.lines c.args.self.now.cm.now in
+    let a = standing_of g.S.SourceMapper.lines g.C.Comments.maps g.W.WriteJs.sheet c.args.self.now in
+    let b = standing_of g.S.SourceMapper.lines g.C.Comments.maps g.W.WriteJs.sheet c.next_child_after.new.self in
+    let P : Bool → Type 0 = λ line. Makes (lists.next_child_after c.args.format.0 line x) a b in
+    let same = c.separating_line-line.ensures ∙ parts_asked lines c.args.format.0 c.args.previous c.args.place x.place c.requires in
+    asked (λ l. lists.next_child_after c.args.format.0 (separating_line l c.args.format.0 c.args.previous x.place) x) a b (subst P same c.next_child_after.ensures.items)
+
+pub returns-clause-settings : goal.returns-clause-settings
+returns-clause-settings g c = same_settings _ _ _ (returns-clause-items g c)

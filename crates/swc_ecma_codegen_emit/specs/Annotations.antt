@@ -1,0 +1,27 @@
+-- What is written of what types add to other nodes.
+use Rattle.std.specs.Prelude.{Option, Some, None, codes}
+use Rattle.swc_ecma_codegen_tree.specs.Links.{TsTypeAnnBox, TsTypeParamDeclBox, TsTypeParamInstantiationBox}
+use Rattle.swc_ecma_codegen_tokens.specs.Run.{Part}
+use Rattle.swc_ecma_codegen_tokens.specs.Words.{punct, space, formatting_space}
+use Rattle.swc_ecma_codegen_emit.specs.declared.nodes.Place.{Place}
+use Rattle.swc_ecma_codegen_emit.specs.declared.nodes.Place.TheVariants.{Plain}
+
+-- `: A` of `a: A`
+unfoldable pub annotation : {X : Type 0} → (X → Place → Part) → Option (TsTypeAnnBox X) → Part
+annotation items None rest = rest
+annotation items (Some n) rest = punct (codes ":") (formatting_space (items n.node.value Plain rest))
+
+-- `: A` of `[a]: A`, with a blank always
+unfoldable pub spaced_annotation : {X : Type 0} → (X → Place → Part) → Option (TsTypeAnnBox X) → Part
+spaced_annotation items None rest = rest
+spaced_annotation items (Some n) rest = punct (codes ":") (space (items n.node.value Plain rest))
+
+-- `<A>` of `f<A>()`, by where it stands
+unfoldable pub type_args : {X : Type 0} → (X → Place → Part) → Place → Option (TsTypeParamInstantiationBox X) → Part
+type_args items place None rest = rest
+type_args items place (Some n) rest = items n.node.value place rest
+
+-- `<A>` of `function f<A>() {}`
+unfoldable pub type_params : {X : Type 0} → (X → Place → Part) → Option (TsTypeParamDeclBox X) → Part
+type_params items None rest = rest
+type_params items (Some n) rest = items n.node.value Plain rest

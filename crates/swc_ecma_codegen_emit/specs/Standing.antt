@@ -1,0 +1,66 @@
+-- Where an emitter stands while it prints, and what it makes of plans.
+use Rattle.std.specs.Prelude.{◌≡◌, ◌+◌, ◌≤◌, ℕ, Option, Some, None, Result, Ok, Err}
+use Rattle.swc_ecma_codegen_common.specs.declared.errors.Refusal.{Refusal}
+use Rattle.swc_ecma_codegen_grammar.specs.SourceLines.{Lines}
+use Rattle.swc_ecma_codegen_grammar.specs.CommentMaps.{Maps}
+use Rattle.swc_ecma_codegen_text_writer.specs.Sheet.{Sheet}
+use Rattle.swc_ecma_codegen_tokens.specs.Run.{Plan, Part, State, Follows}
+use Rattle.swc_ecma_codegen_emit.specs.declared.emitter.Emitter.{Emitter}
+use Rattle.swc_ecma_codegen_emit.specs.View.{state_of}
+
+-- where an emission stands, and why a call was refused, if one was
+pub record Standing : Type 0 where
+  pub state : State
+  pub refusal : Option Refusal
+
+abbrev pub standing_of : {W S C : Type 0} → (S → Lines) → (C → Maps) → (W → Sheet) → Emitter W S C → Standing
+standing_of lines maps sheet e = record { state = state_of lines maps sheet e; refusal = e.refusal }
+
+-- what is answered in the end
+unfoldable pub outcome : Option Refusal → Result (Unit {0}) Refusal
+outcome None = Ok tt
+outcome (Some e) = Err e
+
+-- why a call was refused, after one more, where none was before
+unfoldable pub refusal_after : Option Refusal → Result (Unit {0}) Refusal → Option Refusal
+refusal_after old (Ok u) = old
+refusal_after old (Err e) = Some e
+
+-- nothing is done after a refusal
+unfoldable pub LeadsAfter : Option Refusal → Plan → Standing → Standing → Type 0
+LeadsAfter None p a b = Follows p a.state b.state (outcome b.refusal)
+LeadsAfter (Some e) p a b = b ≡ a
+
+-- a plan is followed, unless a call was refused before
+unfoldable pub Leads : Plan → Standing → Standing → Type 0
+Leads p a b = LeadsAfter a.refusal p a b
+
+-- A part of a plan is made, or refused: what goes on after it goes on from b.
+abbrev pub Makes : Part → Standing → Standing → Type 0
+Makes part a b = (rest : Plan) (c : Standing) → Leads rest b c → Leads (part rest) a c
+
+-- What goes on after a rest, now, goes on after the whole, from the start: a loop has come so far.
+abbrev pub Continues : Part → Standing → Part → Standing → Type 0
+Continues remaining now whole start = (rest : Plan) (c : Standing) → Leads (remaining rest) now c → Leads (whole rest) start c
+
+-- ---- where no call is refused
+
+-- the indentation is what it was
+abbrev pub Stays : Standing → Standing → Type 0
+Stays a b = b.refusal ≡ None → (a.refusal ≡ None) × (b.state.sheet.indentation ≡ a.state.sheet.indentation)
+
+-- it is so many levels deeper
+abbrev pub Deepens : ℕ → Standing → Standing → Type 0
+Deepens n a b = b.refusal ≡ None → (a.refusal ≡ None) × (b.state.sheet.indentation ≡ a.state.sheet.indentation + n)
+
+-- it is so many levels less deep
+abbrev pub Rises : ℕ → Standing → Standing → Type 0
+Rises n a b = b.refusal ≡ None → (a.refusal ≡ None) × (b.state.sheet.indentation + n ≡ a.state.sheet.indentation)
+
+-- it is so many levels deep at least
+abbrev pub HasLevels : ℕ → Standing → Type 0
+HasLevels n a = a.refusal ≡ None → n ≤ a.state.sheet.indentation
+
+-- the settings are what they were
+abbrev pub KeepsSettings : Standing → Standing → Type 0
+KeepsSettings a b = b.refusal ≡ None → b.state.env.config ≡ a.state.env.config

@@ -1,0 +1,86 @@
+//! What types add to other nodes.
+
+ghost use Rattle.swc_ecma_codegen_emit.specs.Annotations.{annotation, spaced_annotation, type_args, type_params};
+ghost use Rattle.swc_ecma_codegen_tokens.specs.Words.{question};
+ghost use Rattle.swc_ecma_codegen_emit.specs.Standing.{Makes, Stays, standing_of};
+
+use crate::emitter::Emitter;
+use crate::nodes::{EmitAt, Held, Place};
+use swc_ecma_codegen_grammar::comments::Comments;
+use swc_ecma_codegen_grammar::mapper::SourceMapper;
+use swc_ecma_codegen_literals::Punctuator;
+use swc_ecma_codegen_text_writer::WriteJs;
+use swc_ecma_codegen_tree::{TsTypeAnnBox, TsTypeParamDeclBox, TsTypeParamInstantiationBox};
+
+impl<W: WriteJs, S: SourceMapper, C: Comments> Emitter<'_, W, S, C> {
+    /// Writes `: A` of `a: A`, where there is a type.
+    #[tactic(auto, unfolding(crate::specs::Annotations::annotation))]
+    pub(crate) fn annotation<N: Held>(&mut self, ty: &Option<TsTypeAnnBox<N>>)
+        ensures items { Makes (annotation N.items ty.now) (standing_of S.lines C.maps W.sheet self.old) (standing_of S.lines C.maps W.sheet self.new) }
+        ensures level { Stays (standing_of S.lines C.maps W.sheet self.old) (standing_of S.lines C.maps W.sheet self.new) }
+    {
+        match ty {
+            Some(node) => {
+                self.punct(Punctuator::Colon);
+                self.formatting_space();
+                node.held().emit_at(self, Place::Plain)
+            }
+            None => {}
+        }
+    }
+
+    /// Writes `?`, where it is so.
+    #[tactic(auto, unfolding(swc_ecma_codegen_tokens::specs::Words::question))]
+    pub(crate) fn question(&mut self, optional: bool)
+        ensures items { Makes (question optional) (standing_of S.lines C.maps W.sheet self.old) (standing_of S.lines C.maps W.sheet self.new) }
+        ensures level { Stays (standing_of S.lines C.maps W.sheet self.old) (standing_of S.lines C.maps W.sheet self.new) }
+    {
+        if optional {
+            self.punct(Punctuator::Question);
+        }
+    }
+
+    /// Writes `: A` of `[a]: A`, where there is a type, with a blank always.
+    #[tactic(auto, unfolding(crate::specs::Annotations::spaced_annotation))]
+    pub(crate) fn spaced_annotation<N: Held>(&mut self, ty: &Option<TsTypeAnnBox<N>>)
+        ensures items { Makes (spaced_annotation N.items ty.now) (standing_of S.lines C.maps W.sheet self.old) (standing_of S.lines C.maps W.sheet self.new) }
+        ensures level { Stays (standing_of S.lines C.maps W.sheet self.old) (standing_of S.lines C.maps W.sheet self.new) }
+    {
+        match ty {
+            Some(node) => {
+                self.punct(Punctuator::Colon);
+                self.space();
+                node.held().emit_at(self, Place::Plain)
+            }
+            None => {}
+        }
+    }
+
+    /// Writes type arguments, where there are some.
+    #[tactic(auto, unfolding(crate::specs::Annotations::type_args))]
+    pub(crate) fn type_args<N: Held>(
+        &mut self,
+        place: Place,
+        args: &Option<TsTypeParamInstantiationBox<N>>,
+    )
+        ensures items { Makes (type_args N.items place args.now) (standing_of S.lines C.maps W.sheet self.old) (standing_of S.lines C.maps W.sheet self.new) }
+        ensures level { Stays (standing_of S.lines C.maps W.sheet self.old) (standing_of S.lines C.maps W.sheet self.new) }
+    {
+        match args {
+            Some(node) => node.held().emit_at(self, place),
+            None => {}
+        }
+    }
+
+    /// Writes type parameters, where there are some.
+    #[tactic(auto, unfolding(crate::specs::Annotations::type_params))]
+    pub(crate) fn type_params<N: Held>(&mut self, params: &Option<TsTypeParamDeclBox<N>>)
+        ensures items { Makes (type_params N.items params.now) (standing_of S.lines C.maps W.sheet self.old) (standing_of S.lines C.maps W.sheet self.new) }
+        ensures level { Stays (standing_of S.lines C.maps W.sheet self.old) (standing_of S.lines C.maps W.sheet self.new) }
+    {
+        match params {
+            Some(node) => node.held().emit_at(self, Place::Plain),
+            None => {}
+        }
+    }
+}

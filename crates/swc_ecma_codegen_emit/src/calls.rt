@@ -1,0 +1,344 @@
+//! Arrays, calls and `new`.
+
+ghost use Rattle.std.specs.Prelude.{◌≡◌};
+ghost use Rattle.swc_ecma_codegen_grammar.specs.ElementPhrases.{last_is_hole};
+ghost use Rattle.swc_ecma_codegen_tokens.specs.Choices.{empty_arguments};
+ghost use Rattle.swc_ecma_codegen_emit.specs.Standing.{Makes, Stays, standing_of};
+ghost use Rattle.swc_ecma_codegen_emit.specs.Calls.{spread_mark, argument_place, argument_items, array_format, array_elements, array_lit, call_format, new_format, arguments, import_phase, import_callee, super_keyword, callee, call_expr, keeps_arguments, listed_arguments, new_arguments, new_gap, parentheses, new_expr, call_mark, chain_call, is_optional};
+
+use crate::emitter::Emitter;
+use crate::nodes::{Asked, Child, EmitAt, Held, Place};
+use crate::places::expr_or_spread_place;
+use bitflags::Flags;
+use swc_ecma_codegen_common::Span;
+use swc_ecma_codegen_grammar::ListFormat;
+use swc_ecma_codegen_grammar::comments::Comments;
+use swc_ecma_codegen_grammar::mapper::SourceMapper;
+use swc_ecma_codegen_literals::Punctuator;
+use swc_ecma_codegen_text_writer::WriteJs;
+use swc_ecma_codegen_tree::{
+    ArrayLit, CallExpr, Callee, ExprOrSpread, Import, ImportPhase, NewExpr, OptCall, Super,
+};
+
+/// Whether the last element is a hole, `[a, ,]`.
+#[tactic(auto, unfolding(swc_ecma_codegen_grammar::specs::ElementPhrases::last_is_hole))]
+pub(crate) fn ends_with_hole<T>(elems: &[Option<T>]) -> bool
+    ensures { result ≡ last_is_hole elems.now }
+{
+    match elems {
+        [] => false,
+        [.., last] => last.is_none(),
+    }
+}
+
+/// The format of an array, which ends with a comma where its last element is a hole.
+fn array_format(hole: bool) -> ListFormat
+    ensures { result.0 ≡ array_format hole }
+{
+    if hole {
+        ListFormat::ArrayLiteralExpressionElements.union(ListFormat::ForceTrailingComma)
+    } else {
+        ListFormat::ArrayLiteralExpressionElements
+    }
+}
+
+/// The format of a call's arguments.
+fn call_format() -> ListFormat
+    ensures { result.0 ≡ call_format }
+{
+    ListFormat::CallExpressionArguments
+}
+
+/// The format of the arguments of `new`.
+fn new_format() -> ListFormat
+    ensures { result.0 ≡ new_format }
+{
+    ListFormat::NewExpressionArguments
+}
+
+/// Whether `new A()` keeps its parentheses there: where it is called, or has a property.
+fn keeps_arguments(place: Place) -> bool
+    ensures { result ≡ keeps_arguments place }
+{
+    match place {
+        Place::Object | Place::DottedObject(_) | Place::Callee => true,
+        _ => false,
+    }
+}
+
+/// Whether `?.` stands before the arguments of a call in an optional chain, by its place.
+fn is_optional(place: Place) -> bool
+    ensures { result ≡ is_optional place }
+{
+    match place {
+        Place::Chain(optional) => optional,
+        _ => false,
+    }
+}
+
+impl<N: Held> EmitAt for Callee<N> {
+    ghost items = { λ n _. callee N.items n };
+
+    #[tactic(auto, unfolding(crate::specs::Calls::callee))]
+    fn emit_at<W: WriteJs, S: SourceMapper, C: Comments>(
+        &self,
+        e: &mut Emitter<'_, W, S, C>,
+        place: Place,
+    ) {
+        match self {
+            Callee::Super(node) => node.emit_at(e, Place::Plain),
+            Callee::Import(node) => node.emit_at(e, Place::Plain),
+            Callee::Expr(node) => node.held().emit_at(e, Place::Callee),
+        }
+    }
+}
+
+impl EmitAt for Super {
+    ghost items = { λ n _. super_keyword n };
+
+    #[tactic(auto, unfolding(crate::specs::Calls::super_keyword))]
+    fn emit_at<W: WriteJs, S: SourceMapper, C: Comments>(
+        &self,
+        e: &mut Emitter<'_, W, S, C>,
+        place: Place,
+    ) {
+        e.keyword(Some(self.span), "super")
+    }
+}
+
+impl EmitAt for Import {
+    ghost items = { λ n _. import_callee n };
+
+    #[tactic(auto, unfolding(crate::specs::Calls::import_callee))]
+    fn emit_at<W: WriteJs, S: SourceMapper, C: Comments>(
+        &self,
+        e: &mut Emitter<'_, W, S, C>,
+        place: Place,
+    ) {
+        e.keyword(Some(self.span), "import");
+        e.import_phase(self.phase);
+    }
+}
+
+impl<N: Held> EmitAt for OptCall<N> {
+    ghost items = { λ n place. chain_call N.answers N.items (is_optional place) n };
+
+    #[tactic(auto, unfolding(crate::specs::Calls::chain_call))]
+    fn emit_at<W: WriteJs, S: SourceMapper, C: Comments>(
+        &self,
+        e: &mut Emitter<'_, W, S, C>,
+        place: Place,
+    ) {
+        self.callee.held().emit_at(e, Place::Callee);
+        e.call_mark(is_optional(place));
+        e.type_args(Place::Plain, &self.type_args);
+        e.arguments(call_format(), self.span, &self.args);
+    }
+}
+
+impl<N: Held> EmitAt for CallExpr<N> {
+    ghost items = { λ n _. call_expr N.answers N.items n };
+
+    #[tactic(auto, unfolding(crate::specs::Calls::call_expr))]
+    fn emit_at<W: WriteJs, S: SourceMapper, C: Comments>(
+        &self,
+        e: &mut Emitter<'_, W, S, C>,
+        place: Place,
+    ) {
+        e.commit_pending_semi();
+        e.leading_comments(self.span.lo);
+        e.start_of(self.span);
+        self.callee.emit_at(e, Place::Plain);
+        e.type_args(Place::Plain, &self.type_args);
+        e.arguments(call_format(), self.span, &self.args);
+    }
+}
+
+impl<N: Held> EmitAt for NewExpr<N> {
+    ghost items = { λ n place. new_expr N.answers N.items (keeps_arguments place) n };
+
+    #[tactic(auto, unfolding(crate::specs::Calls::new_expr))]
+    fn emit_at<W: WriteJs, S: SourceMapper, C: Comments>(
+        &self,
+        e: &mut Emitter<'_, W, S, C>,
+        place: Place,
+    ) {
+        e.commit_pending_semi();
+        e.leading_comments(self.span.lo);
+        e.start_of(self.span);
+        e.keyword(None, "new");
+        e.new_gap(self.callee.held().starts());
+        self.callee.held().emit_at(e, Place::Plain);
+        e.type_args(Place::Plain, &self.type_args);
+        e.new_arguments(self.span, keeps_arguments(place), &self.args);
+    }
+}
+
+impl<N: Held> EmitAt for ExprOrSpread<N> {
+    ghost items = { argument_items N.answers N.items };
+
+    #[tactic(auto, unfolding(crate::specs::Calls::expr_or_spread))]
+    fn emit_at<W: WriteJs, S: SourceMapper, C: Comments>(
+        &self,
+        e: &mut Emitter<'_, W, S, C>,
+        place: Place,
+    ) {
+        e.leading_comments(expr_or_spread_place(self).lo);
+        e.spread_mark(self.spread);
+        self.expr.held().emit_at(e, Place::Plain);
+    }
+}
+
+impl<N: Held> Child for ExprOrSpread<N> {
+    ghost stands = { argument_place N.answers };
+
+    fn place(&self) -> Span {
+        expr_or_spread_place(self)
+    }
+}
+
+impl<N: Held> EmitAt for ArrayLit<N> {
+    ghost items = { λ n _. array_lit N.answers N.items n };
+
+    #[tactic(auto, unfolding(crate::specs::Calls::array_lit))]
+    fn emit_at<W: WriteJs, S: SourceMapper, C: Comments>(
+        &self,
+        e: &mut Emitter<'_, W, S, C>,
+        place: Place,
+    ) {
+        e.leading_comments(self.span.lo);
+        e.start_of(self.span);
+        e.punct(Punctuator::LeftBracket);
+        e.array_elements(self);
+        e.punct(Punctuator::RightBracket);
+        e.end_of(self.span);
+    }
+}
+
+impl<W: WriteJs, S: SourceMapper, C: Comments> Emitter<'_, W, S, C> {
+    /// Writes the elements of an array.
+    fn array_elements<N: Held>(&mut self, node: &ArrayLit<N>)
+        ensures items { Makes (array_elements N.answers N.items node.now) (standing_of S.lines C.maps W.sheet self.old) (standing_of S.lines C.maps W.sheet self.new) }
+        ensures level { Stays (standing_of S.lines C.maps W.sheet self.old) (standing_of S.lines C.maps W.sheet self.new) }
+    {
+        let format = array_format(ends_with_hole(&node.elems));
+        self.list(format, node.span, &node.elems)
+    }
+
+    /// Writes `...` before what is spread.
+    #[tactic(auto, unfolding(crate::specs::Calls::spread_mark))]
+    fn spread_mark(&mut self, spread: Option<Span>)
+        ensures items { Makes (spread_mark spread) (standing_of S.lines C.maps W.sheet self.old) (standing_of S.lines C.maps W.sheet self.new) }
+        ensures level { Stays (standing_of S.lines C.maps W.sheet self.old) (standing_of S.lines C.maps W.sheet self.new) }
+    {
+        match spread {
+            Some(_) => self.punct(Punctuator::Ellipsis),
+            None => {}
+        }
+    }
+
+    /// Writes arguments in parentheses.
+    #[tactic(auto, unfolding(crate::specs::Calls::arguments))]
+    fn arguments<N: Held>(&mut self, format: ListFormat, parent: Span, args: &[ExprOrSpread<N>])
+        ensures items { Makes (arguments N.answers N.items format.0 parent args.now) (standing_of S.lines C.maps W.sheet self.old) (standing_of S.lines C.maps W.sheet self.new) }
+        ensures level { Stays (standing_of S.lines C.maps W.sheet self.old) (standing_of S.lines C.maps W.sheet self.new) }
+    {
+        self.punct(Punctuator::LeftParenthesis);
+        self.list(format, parent, args);
+        self.punct(Punctuator::RightParenthesis);
+    }
+
+    /// Writes `.source` or `.defer` of `import.source(a)`.
+    #[tactic(auto, unfolding(crate::specs::Calls::import_phase))]
+    fn import_phase(&mut self, phase: ImportPhase)
+        ensures items { Makes (import_phase phase) (standing_of S.lines C.maps W.sheet self.old) (standing_of S.lines C.maps W.sheet self.new) }
+        ensures level { Stays (standing_of S.lines C.maps W.sheet self.old) (standing_of S.lines C.maps W.sheet self.new) }
+    {
+        match phase {
+            ImportPhase::Evaluation => {}
+            ImportPhase::Source => {
+                self.punct(Punctuator::Dot);
+                self.keyword(None, "source")
+            }
+            ImportPhase::Defer => {
+                self.punct(Punctuator::Dot);
+                self.keyword(None, "defer")
+            }
+        }
+    }
+
+    /// Writes the blank after `new`.
+    #[tactic(auto, unfolding(crate::specs::Calls::new_gap))]
+    fn new_gap(&mut self, starts: bool)
+        ensures items { Makes (new_gap starts) (standing_of S.lines C.maps W.sheet self.old) (standing_of S.lines C.maps W.sheet self.new) }
+        ensures level { Stays (standing_of S.lines C.maps W.sheet self.old) (standing_of S.lines C.maps W.sheet self.new) }
+    {
+        if starts {
+            self.space()
+        } else {
+            self.formatting_space()
+        }
+    }
+
+    /// Writes `()` after `new A`, unless the settings are to minify.
+    #[tactic(auto, using(crate::proofs::Asked::arguments_left_out, crate::proofs::Asked::arguments_written))]
+    fn empty_arguments(&mut self)
+        ensures items { Makes (empty_arguments) (standing_of S.lines C.maps W.sheet self.old) (standing_of S.lines C.maps W.sheet self.new) }
+        ensures level { Stays (standing_of S.lines C.maps W.sheet self.old) (standing_of S.lines C.maps W.sheet self.new) }
+    {
+        if self.cfg.minify {
+            return;
+        }
+        self.parentheses()
+    }
+
+    /// Writes `()`.
+    #[tactic(auto, unfolding(crate::specs::Calls::parentheses))]
+    fn parentheses(&mut self)
+        ensures items { Makes (parentheses) (standing_of S.lines C.maps W.sheet self.old) (standing_of S.lines C.maps W.sheet self.new) }
+        ensures level { Stays (standing_of S.lines C.maps W.sheet self.old) (standing_of S.lines C.maps W.sheet self.new) }
+    {
+        self.punct(Punctuator::LeftParenthesis);
+        self.punct(Punctuator::RightParenthesis);
+    }
+
+    /// Writes the arguments of `new`, where they are in parentheses.
+    #[tactic(auto, unfolding(crate::specs::Calls::listed_arguments))]
+    fn listed_arguments<N: Held>(&mut self, parent: Span, keeps: bool, args: &[ExprOrSpread<N>])
+        ensures items { Makes (listed_arguments N.answers N.items parent keeps args.now) (standing_of S.lines C.maps W.sheet self.old) (standing_of S.lines C.maps W.sheet self.new) }
+        ensures level { Stays (standing_of S.lines C.maps W.sheet self.old) (standing_of S.lines C.maps W.sheet self.new) }
+    {
+        match (keeps, args) {
+            (false, []) => self.empty_arguments(),
+            _ => self.arguments(new_format(), parent, args),
+        }
+    }
+
+    /// Writes the arguments of `new`.
+    #[tactic(auto, unfolding(crate::specs::Calls::new_arguments))]
+    fn new_arguments<N: Held>(
+        &mut self,
+        parent: Span,
+        keeps: bool,
+        args: &Option<Vec<ExprOrSpread<N>>>,
+    )
+        ensures items { Makes (new_arguments N.answers N.items parent keeps args.now) (standing_of S.lines C.maps W.sheet self.old) (standing_of S.lines C.maps W.sheet self.new) }
+        ensures level { Stays (standing_of S.lines C.maps W.sheet self.old) (standing_of S.lines C.maps W.sheet self.new) }
+    {
+        match args {
+            Some(args) => self.listed_arguments(parent, keeps, args),
+            None => {}
+        }
+    }
+
+    /// Writes `?.` before the arguments of a call in an optional chain.
+    #[tactic(auto, unfolding(crate::specs::Calls::call_mark))]
+    fn call_mark(&mut self, optional: bool)
+        ensures items { Makes (call_mark optional) (standing_of S.lines C.maps W.sheet self.old) (standing_of S.lines C.maps W.sheet self.new) }
+        ensures level { Stays (standing_of S.lines C.maps W.sheet self.old) (standing_of S.lines C.maps W.sheet self.new) }
+    {
+        if optional {
+            return self.punct(Punctuator::QuestionDot);
+        }
+    }
+}

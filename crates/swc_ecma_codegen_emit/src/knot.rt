@@ -1,0 +1,69 @@
+//! The whole tree. Only these functions go from what a link holds to the function for its sort, so only these see that
+//! the tree refers to itself, and only these use the laws of the fold.
+
+ghost use Rattle.swc_ecma_codegen_emit.specs.Answers.{any_answers};
+ghost use Rattle.swc_ecma_codegen_emit.specs.Tree.{any_items};
+
+use crate::branches::is_block;
+use crate::commented::BreaksBefore;
+use crate::emitter::Emitter;
+use crate::expr::placed_expr;
+use crate::nodes::{Asked, EmitAt, Held, Known, Place, Question, Reply};
+use crate::operands::{Operand, SpaceBefore};
+use crate::patterns::{PatternKind, kind_of_part};
+use swc_ecma_codegen_grammar::comments::Comments;
+use swc_ecma_codegen_grammar::mapper::SourceMapper;
+use swc_ecma_codegen_spans::Spanned;
+use swc_ecma_codegen_text_writer::WriteJs;
+use swc_ecma_codegen_tree::AnyNode;
+use swc_ecma_codegen_util::util::{EndsWithAlphaNum, StartsWithAlphaNum};
+
+impl Known for AnyNode {
+    ghost answers = { any_answers };
+}
+
+impl Asked for AnyNode {
+    #[inline(always)]
+    #[tactic(auto, using(crate::proofs::PatternLaws::any_pattern_of, crate::proofs::PatternLaws::any_pattern_part, crate::proofs::BranchLaws::any_block_of, crate::proofs::BranchLaws::any_block_stmt), unfolding(crate::specs::Answers::reply_of, crate::specs::Answers::any_answers, crate::specs::Patterns::node_pattern, crate::specs::Branches::node_block))]
+    fn reply(&self, question: Question) -> Reply {
+        match (question, self) {
+            (Question::Place, _) => Reply::Place(self.span()),
+            (Question::Starts, _) => Reply::Truth(self.starts_with_alpha_num()),
+            (Question::Ends, _) => Reply::Truth(self.ends_with_alpha_num()),
+            (Question::Kind, _) => Reply::Kind(self.operand_kind()),
+            (Question::Space(op), _) => Reply::Truth(self.require_space_before(op)),
+            (Question::Pattern, AnyNode::ExprPart(part)) => Reply::Pattern(kind_of_part(part)),
+            (Question::Pattern, _) => Reply::Pattern(PatternKind::Other),
+            (Question::Block, AnyNode::Stmt(node)) => Reply::Truth(is_block(node)),
+            (Question::Block, _) => Reply::Truth(false),
+        }
+    }
+
+    #[tactic(auto, unfolding(crate::specs::Answers::any_answers), using(crate::proofs::Unbroken::unbroken))]
+    fn breaks<C: Comments>(&self, comments: &Option<C>) -> bool {
+        comments.is_some() && self.breaks_before(comments)
+    }
+}
+
+impl EmitAt for AnyNode {
+    ghost items = { any_items };
+
+    #[tactic(auto, using(crate::proofs::Knots::any_items_of, crate::proofs::Knots::any_items_expr, crate::proofs::Knots::any_items_stmt, crate::proofs::Knots::any_items_member_expr, crate::proofs::Knots::any_items_expr_part, crate::proofs::Knots::any_items_stmt_part, crate::proofs::Knots::any_items_jsx_part, crate::proofs::Knots::any_items_ts_part), unfolding(crate::specs::Tree::node_items))]
+    fn emit_at<W: WriteJs, S: SourceMapper, C: Comments>(
+        &self,
+        e: &mut Emitter<'_, W, S, C>,
+        place: Place,
+    ) {
+        match self {
+            AnyNode::Expr(node) => placed_expr(node, e, place),
+            AnyNode::Stmt(node) => node.emit_at(e, place),
+            AnyNode::MemberExpr(node) => node.emit_at(e, place),
+            AnyNode::ExprPart(node) => node.emit_at(e, place),
+            AnyNode::StmtPart(node) => node.emit_at(e, place),
+            AnyNode::JSXPart(node) => node.emit_at(e, place),
+            AnyNode::TsPart(node) => node.emit_at(e, place),
+        }
+    }
+}
+
+impl Held for AnyNode {}

@@ -1,0 +1,237 @@
+//! Modules: their items, and what imports and exports share.
+
+ghost use Rattle.std.specs.Prelude.{◌≡◌};
+ghost use Rattle.swc_ecma_codegen_emit.specs.Standing.{Makes, Stays, standing_of};
+ghost use Rattle.swc_ecma_codegen_tokens.specs.Choices.{attributes_word};
+ghost use Rattle.swc_ecma_codegen_emit.specs.Modules.{named_format, module_export_name, type_word, from_word, as_word, star_as, module_decl_by, module_decl, module_item_by, module_item, attributes, source_end};
+ghost use Rattle.swc_ecma_codegen_spans.specs.Spans.{module_item_span};
+ghost use Rattle.swc_ecma_codegen_emit.specs.Answers.{place_of};
+ghost use Rattle.swc_ecma_codegen_emit.specs.Lists.{in_order};
+ghost use Rattle.swc_ecma_codegen_emit.specs.Programs.{whole_module};
+
+use crate::emitter::Emitter;
+use crate::nodes::{Child, EmitAt, Held, Place};
+use crate::places::module_item_place;
+use swc_ecma_codegen_common::Span;
+use swc_ecma_codegen_grammar::ListFormat;
+use swc_ecma_codegen_grammar::comments::Comments;
+use swc_ecma_codegen_grammar::mapper::SourceMapper;
+use swc_ecma_codegen_literals::Punctuator;
+use swc_ecma_codegen_spans::Spanned;
+use swc_ecma_codegen_text_writer::WriteJs;
+use swc_ecma_codegen_tree::{
+    ExportAll, ExportDecl, ExportDefaultDecl, ExportDefaultExpr, Module, ModuleDecl,
+    ModuleExportName, ModuleItem, ObjectLitBox, Str,
+};
+
+/// The format of the names of imports and exports.
+pub(crate) fn named_format() -> ListFormat
+    ensures { result.0 ≡ named_format }
+{
+    ListFormat::NamedImportsOrExportsElements
+}
+
+impl EmitAt for ModuleExportName {
+    ghost items = { λ n _. module_export_name n };
+
+    #[tactic(auto, unfolding(crate::specs::Modules::module_export_name))]
+    fn emit_at<W: WriteJs, S: SourceMapper, C: Comments>(
+        &self,
+        e: &mut Emitter<'_, W, S, C>,
+        place: Place,
+    ) {
+        match self {
+            ModuleExportName::Ident(node) => node.emit_at(e, Place::Plain),
+            ModuleExportName::Str(node) => node.emit_at(e, Place::Plain),
+        }
+    }
+}
+
+impl<N: Held> EmitAt for ModuleDecl<N> {
+    ghost items = { λ n _. module_decl N.answers N.items n };
+
+    #[tactic(auto, unfolding(crate::specs::Modules::module_decl))]
+    fn emit_at<W: WriteJs, S: SourceMapper, C: Comments>(
+        &self,
+        e: &mut Emitter<'_, W, S, C>,
+        place: Place,
+    ) {
+        let span = self.span();
+        e.leading_comments(span.lo);
+        e.module_decl_by(self);
+        e.trailing_comments(span.hi, true);
+        e.formatting_line();
+    }
+}
+
+impl<N: Held> EmitAt for ModuleItem<N> {
+    ghost items = { λ n _. module_item N.answers N.items n };
+
+    #[tactic(auto, unfolding(crate::specs::Modules::module_item))]
+    fn emit_at<W: WriteJs, S: SourceMapper, C: Comments>(
+        &self,
+        e: &mut Emitter<'_, W, S, C>,
+        place: Place,
+    ) {
+        let span = module_item_place(self);
+        e.leading_comments(span.lo);
+        e.module_item_by(self);
+        e.trailing_comments(span.hi, true);
+    }
+}
+
+impl<N: Held> Child for ModuleItem<N> {
+    ghost stands = { module_item_span (place_of N.answers) };
+
+    fn place(&self) -> Span {
+        module_item_place(self)
+    }
+}
+
+impl<N: Held> EmitAt for Module<N> {
+    ghost items = { λ n _. whole_module N.answers N.items n };
+
+    #[tactic(auto, unfolding(crate::specs::Programs::whole_module))]
+    fn emit_at<W: WriteJs, S: SourceMapper, C: Comments>(
+        &self,
+        e: &mut Emitter<'_, W, S, C>,
+        place: Place,
+    ) {
+        e.program_start(&self.shebang, &self.body, self.span);
+        e.module_items(&self.body);
+        e.trailing_comments(self.span.hi, true);
+        e.last_semi();
+    }
+}
+
+impl<W: WriteJs, S: SourceMapper, C: Comments> Emitter<'_, W, S, C> {
+    /// Writes items, one after another.
+    fn module_items<N: Held>(&mut self, nodes: &[ModuleItem<N>])
+        ensures items { Makes (in_order (module_item N.answers N.items) nodes.now) (standing_of S.lines C.maps W.sheet self.old) (standing_of S.lines C.maps W.sheet self.new) }
+        ensures level { Stays (standing_of S.lines C.maps W.sheet self.old) (standing_of S.lines C.maps W.sheet self.new) }
+    {
+        self.in_order(nodes)
+    }
+
+    /// Writes `type` behind a blank, where it is so.
+    #[tactic(auto, unfolding(crate::specs::Modules::type_word))]
+    pub(crate) fn type_word(&mut self, type_only: bool)
+        ensures items { Makes (type_word type_only) (standing_of S.lines C.maps W.sheet self.old) (standing_of S.lines C.maps W.sheet self.new) }
+        ensures level { Stays (standing_of S.lines C.maps W.sheet self.old) (standing_of S.lines C.maps W.sheet self.new) }
+    {
+        if type_only {
+            self.space();
+            self.keyword(None, "type");
+        }
+    }
+
+    /// Writes `from` and a blank.
+    #[tactic(auto, unfolding(crate::specs::Modules::from_word))]
+    pub(crate) fn from_word(&mut self)
+        ensures items { Makes (from_word) (standing_of S.lines C.maps W.sheet self.old) (standing_of S.lines C.maps W.sheet self.new) }
+        ensures level { Stays (standing_of S.lines C.maps W.sheet self.old) (standing_of S.lines C.maps W.sheet self.new) }
+    {
+        self.keyword(None, "from");
+        self.formatting_space();
+    }
+
+    /// Writes `as` between blanks.
+    #[tactic(auto, unfolding(crate::specs::Modules::as_word))]
+    pub(crate) fn as_word(&mut self)
+        ensures items { Makes (as_word) (standing_of S.lines C.maps W.sheet self.old) (standing_of S.lines C.maps W.sheet self.new) }
+        ensures level { Stays (standing_of S.lines C.maps W.sheet self.old) (standing_of S.lines C.maps W.sheet self.new) }
+    {
+        self.space();
+        self.keyword(None, "as");
+        self.space();
+    }
+
+    /// Writes `* as` and a blank.
+    #[tactic(auto, unfolding(crate::specs::Modules::star_as))]
+    pub(crate) fn star_as(&mut self)
+        ensures items { Makes (star_as) (standing_of S.lines C.maps W.sheet self.old) (standing_of S.lines C.maps W.sheet self.new) }
+        ensures level { Stays (standing_of S.lines C.maps W.sheet self.old) (standing_of S.lines C.maps W.sheet self.new) }
+    {
+        self.punct(Punctuator::Star);
+        self.formatting_space();
+        self.keyword(None, "as");
+        self.space();
+    }
+
+    /// Writes the word before import attributes, by the settings.
+    #[tactic(auto, using(crate::proofs::Asked::attributes_by_assert, crate::proofs::Asked::attributes_by_with))]
+    fn attributes_word(&mut self)
+        ensures items { Makes (attributes_word) (standing_of S.lines C.maps W.sheet self.old) (standing_of S.lines C.maps W.sheet self.new) }
+        ensures level { Stays (standing_of S.lines C.maps W.sheet self.old) (standing_of S.lines C.maps W.sheet self.new) }
+    {
+        if self.cfg.emit_assert_for_import_attributes {
+            return self.keyword(None, "assert");
+        }
+        self.keyword(None, "with")
+    }
+
+    /// Writes `with { type: 'json' }` behind a blank, where there is such.
+    #[tactic(auto, unfolding(crate::specs::Modules::attributes))]
+    pub(crate) fn attributes<N: Held>(&mut self, with_: &Option<ObjectLitBox<N>>)
+        ensures items { Makes (attributes N.items with_.now) (standing_of S.lines C.maps W.sheet self.old) (standing_of S.lines C.maps W.sheet self.new) }
+        ensures level { Stays (standing_of S.lines C.maps W.sheet self.old) (standing_of S.lines C.maps W.sheet self.new) }
+    {
+        match with_ {
+            Some(with_) => {
+                self.formatting_space();
+                self.attributes_word();
+                self.formatting_space();
+                with_.held().emit_at(self, Place::Plain)
+            }
+            None => {}
+        }
+    }
+
+    /// Writes `'b' with { type: 'json' };`, the end of an import or an export.
+    #[tactic(auto, unfolding(crate::specs::Modules::source_end))]
+    pub(crate) fn source_end<N: Held>(
+        &mut self,
+        src: &Str,
+        with_: &Option<ObjectLitBox<N>>,
+        span: Span,
+    )
+        ensures items { Makes (source_end N.items src.now with_.now span) (standing_of S.lines C.maps W.sheet self.old) (standing_of S.lines C.maps W.sheet self.new) }
+        ensures level { Stays (standing_of S.lines C.maps W.sheet self.old) (standing_of S.lines C.maps W.sheet self.new) }
+    {
+        src.emit_at(self, Place::Plain);
+        self.attributes(with_);
+        self.semi();
+        self.end_of(span);
+    }
+
+    /// Writes an import or an export by its variant.
+    #[tactic(auto, unfolding(crate::specs::Modules::module_decl_by))]
+    fn module_decl_by<N: Held>(&mut self, node: &ModuleDecl<N>)
+        ensures items { Makes (module_decl_by N.answers N.items node.now) (standing_of S.lines C.maps W.sheet self.old) (standing_of S.lines C.maps W.sheet self.new) }
+        ensures level { Stays (standing_of S.lines C.maps W.sheet self.old) (standing_of S.lines C.maps W.sheet self.new) }
+    {
+        match node {
+            ModuleDecl::Import(node) => node.emit_at(self, Place::Plain),
+            ModuleDecl::ExportDecl(node) => node.emit_at(self, Place::Plain),
+            ModuleDecl::ExportNamed(node) => node.emit_at(self, Place::Plain),
+            ModuleDecl::ExportDefaultDecl(node) => node.emit_at(self, Place::Plain),
+            ModuleDecl::ExportDefaultExpr(node) => node.emit_at(self, Place::Plain),
+            ModuleDecl::ExportAll(node) => node.emit_at(self, Place::Plain),
+            ModuleDecl::TsImportEquals(node) => node.emit_at(self, Place::Plain),
+            ModuleDecl::TsExportAssignment(node) => node.emit_at(self, Place::Plain),
+            ModuleDecl::TsNamespaceExport(node) => node.emit_at(self, Place::Plain),
+        }
+    }
+
+    /// Writes an item by its variant.
+    #[tactic(auto, unfolding(crate::specs::Modules::module_item_by))]
+    fn module_item_by<N: Held>(&mut self, node: &ModuleItem<N>)
+        ensures items { Makes (module_item_by N.answers N.items node.now) (standing_of S.lines C.maps W.sheet self.old) (standing_of S.lines C.maps W.sheet self.new) }
+        ensures level { Stays (standing_of S.lines C.maps W.sheet self.old) (standing_of S.lines C.maps W.sheet self.new) }
+    {
+        match node {
+            ModuleItem::ModuleDecl(node) => node.held().emit_at(self, Place::Plain),
+            ModuleItem::Stmt(node) => node.emit_at(self, Place::Plain),
+        }
+    }
+}

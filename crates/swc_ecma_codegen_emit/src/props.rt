@@ -1,0 +1,343 @@
+//! Objects and their properties.
+
+ghost use Rattle.std.specs.Prelude.{◌≡◌, true};
+ghost use Rattle.swc_ecma_codegen_grammar.specs.FunctionPhrases.{is_some_listed};
+ghost use Rattle.swc_ecma_codegen_spans.specs.Spans.{prop_or_spread_span};
+ghost use Rattle.swc_ecma_codegen_tokens.specs.Lists.{list};
+ghost use Rattle.swc_ecma_codegen_emit.specs.Standing.{Makes, Stays, standing_of};
+ghost use Rattle.swc_ecma_codegen_tokens.specs.Starts.{begins_letter};
+ghost use Rattle.swc_ecma_codegen_emit.specs.Answers.{place_of};
+ghost use Rattle.swc_ecma_codegen_emit.specs.Names.{prop_name};
+ghost use Rattle.swc_ecma_codegen_emit.specs.Props.{key_end, value_start, key_value_prop, assign_prop, accessor, optional_body, getter_prop, setter_prop, method_prop, prop, prop_or_spread, object_format, flat_object_format, object_children, lined_object_list, object_lines, object_list, object_by_maps, object_lit};
+
+use crate::blocks::is_some_listed;
+use crate::commented::wants_lines;
+use crate::emitter::Emitter;
+use crate::nodes::{Child, EmitAt, Held, Place};
+use crate::places::{prop_place, spread_element_place};
+use bitflags::Flags;
+use swc_ecma_codegen_common::Span;
+use swc_ecma_codegen_grammar::ListFormat;
+use swc_ecma_codegen_grammar::comments::Comments;
+use swc_ecma_codegen_grammar::mapper::SourceMapper;
+use swc_ecma_codegen_literals::Punctuator;
+use swc_ecma_codegen_spans::Spanned;
+use swc_ecma_codegen_text_writer::WriteJs;
+use swc_ecma_codegen_tree::{
+    AssignProp, BlockStmtBox, GetterProp, KeyValueProp, MethodProp, ObjectLit, Prop, PropName,
+    PropNameBox, PropOrSpread, SetterProp,
+};
+
+/// The format of an object over several lines.
+fn object_format() -> ListFormat
+    ensures { result.0 ≡ object_format }
+{
+    ListFormat::ObjectLiteralExpressionProperties.union(ListFormat::CanSkipTrailingComma)
+}
+
+/// The format of an object on one line.
+fn flat_object_format() -> ListFormat
+    ensures { result.0 ≡ flat_object_format }
+{
+    object_format()
+        .difference(ListFormat::MultiLine)
+        .difference(ListFormat::Indented)
+}
+
+impl<N: Held> EmitAt for PropName<N> {
+    ghost items = { λ n _. prop_name N.items n };
+
+    #[tactic(auto, unfolding(crate::specs::Names::prop_name))]
+    fn emit_at<W: WriteJs, S: SourceMapper, C: Comments>(
+        &self,
+        e: &mut Emitter<'_, W, S, C>,
+        place: Place,
+    ) {
+        match self {
+            PropName::Ident(name) => e.key(name.span, &name.sym),
+            PropName::Str(node) => (**node).emit_at(e, Place::Plain),
+            PropName::Num(node) => (**node).emit_at(e, Place::Plain),
+            PropName::BigInt(node) => (**node).emit_at(e, Place::Plain),
+            PropName::Computed(node) => node.emit_at(e, Place::Plain),
+        }
+    }
+}
+
+impl<N: Held> EmitAt for ObjectLit<N> {
+    ghost items = { λ n _. object_lit N.answers N.items n };
+
+    #[tactic(auto, unfolding(crate::specs::Props::object_lit))]
+    fn emit_at<W: WriteJs, S: SourceMapper, C: Comments>(
+        &self,
+        e: &mut Emitter<'_, W, S, C>,
+        place: Place,
+    ) {
+        e.opened(self.span);
+        e.punct(Punctuator::LeftBrace);
+        e.object_by_maps(self);
+        e.last_of(self.span);
+        e.punct(Punctuator::RightBrace);
+    }
+}
+
+impl<N: Held> EmitAt for Prop<N> {
+    ghost items = { λ n _. prop N.answers N.items n };
+
+    #[tactic(auto, unfolding(crate::specs::Props::prop))]
+    fn emit_at<W: WriteJs, S: SourceMapper, C: Comments>(
+        &self,
+        e: &mut Emitter<'_, W, S, C>,
+        place: Place,
+    ) {
+        match self {
+            Prop::Shorthand(node) => node.emit_at(e, Place::Plain),
+            Prop::KeyValue(node) => node.emit_at(e, Place::Plain),
+            Prop::Assign(node) => node.emit_at(e, Place::Plain),
+            Prop::Getter(node) => node.emit_at(e, Place::Plain),
+            Prop::Setter(node) => node.emit_at(e, Place::Plain),
+            Prop::Method(node) => node.emit_at(e, Place::Plain),
+        }
+    }
+}
+
+impl<N: Held> EmitAt for KeyValueProp<N> {
+    ghost items = { λ n _. key_value_prop N.answers N.items n };
+
+    #[tactic(auto, unfolding(crate::specs::Props::key_value_prop))]
+    fn emit_at<W: WriteJs, S: SourceMapper, C: Comments>(
+        &self,
+        e: &mut Emitter<'_, W, S, C>,
+        place: Place,
+    ) {
+        let name = self.key.span();
+        let value = self.value.held().place();
+        e.opened(name);
+        self.key.emit_at(e, Place::Plain);
+        e.key_end(name, value);
+        e.punct(Punctuator::Colon);
+        e.formatting_space();
+        e.value_start(name, value);
+        self.value.held().emit_at(e, Place::Plain);
+    }
+}
+
+impl<N: Held> EmitAt for AssignProp<N> {
+    ghost items = { λ n _. assign_prop N.items n };
+
+    #[tactic(auto, unfolding(crate::specs::Props::assign_prop))]
+    fn emit_at<W: WriteJs, S: SourceMapper, C: Comments>(
+        &self,
+        e: &mut Emitter<'_, W, S, C>,
+        place: Place,
+    ) {
+        e.opened(self.key.span);
+        self.key.emit_at(e, Place::Plain);
+        e.punct(Punctuator::Equal);
+        self.value.held().emit_at(e, Place::Plain);
+    }
+}
+
+impl<N: Held> EmitAt for GetterProp<N> {
+    ghost items = { λ n _. getter_prop N.answers N.items n };
+
+    #[tactic(auto, unfolding(crate::specs::Props::getter_prop, crate::specs::Props::getter_parts))]
+    fn emit_at<W: WriteJs, S: SourceMapper, C: Comments>(
+        &self,
+        e: &mut Emitter<'_, W, S, C>,
+        place: Place,
+    ) {
+        if self.type_ann.is_some() {
+            return e.unsupported();
+        }
+        e.opened(self.span);
+        e.accessor("get", &self.key);
+        e.punct(Punctuator::LeftParenthesis);
+        e.punct(Punctuator::RightParenthesis);
+        e.formatting_space();
+        e.optional_body(&self.body);
+    }
+}
+
+impl<N: Held> EmitAt for SetterProp<N> {
+    ghost items = { λ n _. setter_prop N.answers N.items n };
+
+    #[tactic(auto, unfolding(crate::specs::Props::setter_prop, crate::specs::Props::setter_parts))]
+    fn emit_at<W: WriteJs, S: SourceMapper, C: Comments>(
+        &self,
+        e: &mut Emitter<'_, W, S, C>,
+        place: Place,
+    ) {
+        if self.this_param.is_some() {
+            return e.unsupported();
+        }
+        e.opened(self.span);
+        e.accessor("set", &self.key);
+        e.punct(Punctuator::LeftParenthesis);
+        self.param.held().emit_at(e, Place::Plain);
+        e.punct(Punctuator::RightParenthesis);
+        e.optional_body(&self.body);
+    }
+}
+
+impl<N: Held> EmitAt for MethodProp<N> {
+    ghost items = { λ n _. method_prop N.answers N.items n };
+
+    #[tactic(auto, unfolding(crate::specs::Props::method_prop))]
+    fn emit_at<W: WriteJs, S: SourceMapper, C: Comments>(
+        &self,
+        e: &mut Emitter<'_, W, S, C>,
+        place: Place,
+    ) {
+        e.opened(self.key.span());
+        self.function.held().emit_at(e, Place::MethodHead);
+        self.key.emit_at(e, Place::Plain);
+        e.formatting_space();
+        self.function.held().emit_at(e, Place::Plain);
+    }
+}
+
+impl<N: Held> EmitAt for PropOrSpread<N> {
+    ghost items = { λ n _. prop_or_spread N.answers N.items n };
+
+    #[tactic(auto, unfolding(crate::specs::Props::prop_or_spread))]
+    fn emit_at<W: WriteJs, S: SourceMapper, C: Comments>(
+        &self,
+        e: &mut Emitter<'_, W, S, C>,
+        place: Place,
+    ) {
+        match self {
+            PropOrSpread::Spread(node) => node.emit_at(e, Place::Plain),
+            PropOrSpread::Prop(node) => node.emit_at(e, Place::Plain),
+        }
+    }
+}
+
+impl<N: Held> Child for PropOrSpread<N> {
+    ghost stands = { prop_or_spread_span (place_of N.answers) };
+
+    #[tactic(auto, unfolding(swc_ecma_codegen_spans::specs::Spans::prop_or_spread_span))]
+    fn place(&self) -> Span {
+        match self {
+            PropOrSpread::Spread(node) => spread_element_place(node),
+            PropOrSpread::Prop(node) => prop_place(node),
+        }
+    }
+}
+
+impl<W: WriteJs, S: SourceMapper, C: Comments> Emitter<'_, W, S, C> {
+    /// Records where a name ends, before a value that stands nowhere.
+    #[tactic(auto, unfolding(crate::specs::Props::key_end))]
+    fn key_end(&mut self, name: Span, value: Span)
+        ensures items { Makes (key_end name value) (standing_of S.lines C.maps W.sheet self.old) (standing_of S.lines C.maps W.sheet self.new) }
+        ensures level { Stays (standing_of S.lines C.maps W.sheet self.old) (standing_of S.lines C.maps W.sheet self.new) }
+    {
+        if name.lo.0 != 0 && value.lo.0 == 0 {
+            self.position(name.hi);
+        }
+    }
+
+    /// Records where a value begins, after a name that stands nowhere.
+    #[tactic(auto, unfolding(crate::specs::Props::value_start))]
+    fn value_start(&mut self, name: Span, value: Span)
+        ensures items { Makes (value_start name value) (standing_of S.lines C.maps W.sheet self.old) (standing_of S.lines C.maps W.sheet self.new) }
+        ensures level { Stays (standing_of S.lines C.maps W.sheet self.old) (standing_of S.lines C.maps W.sheet self.new) }
+    {
+        if name.lo.0 == 0 {
+            self.position(value.lo);
+        }
+    }
+
+    /// Writes `get` or `set` and a name.
+    #[tactic(auto, unfolding(crate::specs::Props::accessor))]
+    fn accessor<N: Held>(&mut self, word: &'static str, name: &PropNameBox<N>)
+        requires { begins_letter word.now ≡ true }
+        ensures items { Makes (accessor N.answers N.items word.now name.now.node.value) (standing_of S.lines C.maps W.sheet self.old) (standing_of S.lines C.maps W.sheet self.new) }
+        ensures level { Stays (standing_of S.lines C.maps W.sheet self.old) (standing_of S.lines C.maps W.sheet self.new) }
+    {
+        self.keyword(None, word);
+        self.blank(name.held().starts());
+        name.held().emit_at(self, Place::Plain);
+        self.formatting_space();
+    }
+
+    /// Writes a body, where there is one.
+    #[tactic(auto, unfolding(crate::specs::Props::optional_body))]
+    fn optional_body<N: Held>(&mut self, body: &Option<BlockStmtBox<N>>)
+        ensures items { Makes (optional_body N.items body.now) (standing_of S.lines C.maps W.sheet self.old) (standing_of S.lines C.maps W.sheet self.new) }
+        ensures level { Stays (standing_of S.lines C.maps W.sheet self.old) (standing_of S.lines C.maps W.sheet self.new) }
+    {
+        match body {
+            Some(body) => body.held().emit_at(self, Place::Plain),
+            None => {}
+        }
+    }
+
+    /// Writes the properties on one line.
+    fn flat_object_props<N: Held>(&mut self, node: &ObjectLit<N>)
+        ensures items { Makes (list flat_object_format node.now.span (object_children N.answers N.items node.now)) (standing_of S.lines C.maps W.sheet self.old) (standing_of S.lines C.maps W.sheet self.new) }
+        ensures level { Stays (standing_of S.lines C.maps W.sheet self.old) (standing_of S.lines C.maps W.sheet self.new) }
+    {
+        self.list(flat_object_format(), node.span, &node.props)
+    }
+
+    /// Writes the properties, each on a line of its own.
+    fn object_props<N: Held>(&mut self, node: &ObjectLit<N>)
+        ensures items { Makes (list object_format node.now.span (object_children N.answers N.items node.now)) (standing_of S.lines C.maps W.sheet self.old) (standing_of S.lines C.maps W.sheet self.new) }
+        ensures level { Stays (standing_of S.lines C.maps W.sheet self.old) (standing_of S.lines C.maps W.sheet self.new) }
+    {
+        self.list(object_format(), node.span, &node.props)
+    }
+
+    /// Writes the properties and the ends of their lines.
+    #[tactic(auto, unfolding(crate::specs::Props::lined_object_list))]
+    fn lined_object_list<N: Held>(&mut self, node: &ObjectLit<N>)
+        ensures items { Makes (lined_object_list node.now.span (object_children N.answers N.items node.now)) (standing_of S.lines C.maps W.sheet self.old) (standing_of S.lines C.maps W.sheet self.new) }
+        ensures level { Stays (standing_of S.lines C.maps W.sheet self.old) (standing_of S.lines C.maps W.sheet self.new) }
+    {
+        self.line();
+        self.object_props(node);
+        self.line();
+    }
+
+    /// Writes the properties, each on a line of its own where there are some.
+    #[tactic(auto, unfolding(crate::specs::Props::object_lines))]
+    fn object_lines<N: Held>(&mut self, some: bool, node: &ObjectLit<N>)
+        ensures items { Makes (object_lines some node.now.span (object_children N.answers N.items node.now)) (standing_of S.lines C.maps W.sheet self.old) (standing_of S.lines C.maps W.sheet self.new) }
+        ensures level { Stays (standing_of S.lines C.maps W.sheet self.old) (standing_of S.lines C.maps W.sheet self.new) }
+    {
+        if some {
+            self.lined_object_list(node);
+        } else {
+            self.flat_object_props(node);
+        }
+    }
+
+    /// Writes the properties, where the settings aren't to minify.
+    fn pretty_object_list<N: Held>(&mut self, some: bool, node: &ObjectLit<N>)
+        ensures items { Makes (object_lines some node.now.span (object_children N.answers N.items node.now)) (standing_of S.lines C.maps W.sheet self.old) (standing_of S.lines C.maps W.sheet self.new) }
+        ensures level { Stays (standing_of S.lines C.maps W.sheet self.old) (standing_of S.lines C.maps W.sheet self.new) }
+    {
+        self.object_lines(some, node)
+    }
+
+    /// Writes the properties; on one line where the settings are to minify.
+    #[tactic(auto, using(crate::proofs::Asked::minified_part, crate::proofs::Asked::pretty_part), unfolding(crate::specs::Props::object_list))]
+    fn object_list<N: Held>(&mut self, some: bool, node: &ObjectLit<N>)
+        ensures items { Makes (object_list some node.now.span (object_children N.answers N.items node.now)) (standing_of S.lines C.maps W.sheet self.old) (standing_of S.lines C.maps W.sheet self.new) }
+        ensures level { Stays (standing_of S.lines C.maps W.sheet self.old) (standing_of S.lines C.maps W.sheet self.new) }
+    {
+        if self.cfg.minify {
+            return self.flat_object_props(node);
+        }
+        self.pretty_object_list(some, node)
+    }
+
+    /// Writes the properties, each on a line of its own too where there is a comment before `}`.
+    fn object_by_maps<N: Held>(&mut self, node: &ObjectLit<N>)
+        ensures items { Makes (object_by_maps (is_some_listed node.now.props.items) node.now.span (object_children N.answers N.items node.now)) (standing_of S.lines C.maps W.sheet self.old) (standing_of S.lines C.maps W.sheet self.new) }
+        ensures level { Stays (standing_of S.lines C.maps W.sheet self.old) (standing_of S.lines C.maps W.sheet self.new) }
+    {
+        let some = wants_lines(&self.comments, is_some_listed(&node.props), node.span);
+        self.object_list(some, node)
+    }
+}

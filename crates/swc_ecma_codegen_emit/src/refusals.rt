@@ -1,0 +1,17 @@
+//! Why calls were refused.
+
+ghost use Rattle.std.specs.Prelude.{◌≡◌};
+ghost use Rattle.swc_ecma_codegen_emit.specs.Standing.{refusal_after};
+
+use swc_ecma_codegen_common::{Answer, Refusal};
+
+/// Keeps why a call was refused, if it was.
+#[inline(always)]
+#[tactic(auto, unfolding(crate::specs::Standing::refusal_after))]
+pub(crate) fn keep(kept: &mut Option<Refusal>, answer: Answer)
+    ensures { kept.new ≡ refusal_after kept.old answer }
+{
+    if let Err(refusal) = answer {
+        *kept = Some(refusal);
+    }
+}

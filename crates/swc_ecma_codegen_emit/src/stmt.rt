@@ -1,0 +1,543 @@
+//! Statements and programs.
+
+ghost use Rattle.std.specs.Prelude.{◌≡◌, true};
+ghost use Rattle.swc_ecma_codegen_tokens.specs.Lists.{blank_if};
+ghost use Rattle.swc_ecma_codegen_spans.specs.Spans.{stmt_span};
+ghost use Rattle.swc_ecma_codegen_emit.specs.Answers.{place_of};
+ghost use Rattle.swc_ecma_codegen_emit.specs.Branches.{is_block};
+ghost use Rattle.swc_ecma_codegen_emit.specs.Lists.{in_order};
+ghost use Rattle.swc_ecma_codegen_emit.specs.Standing.{Makes, Stays, standing_of};
+ghost use Rattle.swc_ecma_codegen_tokens.specs.Starts.{begins_letter};
+ghost use Rattle.swc_ecma_codegen_tokens.specs.Words.{trailing_comments};
+ghost use Rattle.swc_ecma_codegen_emit.specs.Stmts.{enclosed, spaced, argument, argument_in, stmt_word, spaced_word, jump, empty_stmt, expr_stmt, debugger_stmt, with_stmt, return_arg, return_stmt, labeled_stmt, break_stmt, continue_stmt, else_branch, if_stmt, catch_param, catch_clause, handler, finalizer, try_stmt, throw_stmt, stmt_parts, stmt_closed, stmt};
+ghost use Rattle.swc_ecma_codegen_emit.specs.Programs.{start_if_empty, program_start, script, program};
+
+use crate::branches::is_block;
+use crate::emitter::Emitter;
+use crate::nodes::{Child, EmitAt, Held, Place};
+use crate::places::stmt_place;
+use swc_ecma_codegen_common::Span;
+use swc_ecma_codegen_grammar::comments::Comments;
+use swc_ecma_codegen_grammar::mapper::SourceMapper;
+use swc_ecma_codegen_literals::Punctuator;
+use swc_ecma_codegen_text_writer::WriteJs;
+use swc_ecma_codegen_tree::{
+    BlockStmtBox, BreakStmt, CatchClause, ContinueStmt, DebuggerStmt, EmptyStmt, ExprBox, ExprStmt,
+    Ident, IfStmt, LabeledStmt, PatBox, Program, ReturnStmt, Script, Stmt, StmtBox, ThrowStmt,
+    TryStmt, WithStmt,
+};
+
+/// Writes a statement by its variant, without the comments after it and the end of its line.
+#[inline(always)]
+#[tactic(auto, unfolding(crate::specs::Stmts::stmt_parts))]
+fn stmt_parts<N: Held, W: WriteJs, S: SourceMapper, C: Comments>(
+    node: &Stmt<N>,
+    e: &mut Emitter<'_, W, S, C>,
+)
+    ensures items { Makes (stmt_parts N.answers N.items node.now) (standing_of S.lines C.maps W.sheet e.old) (standing_of S.lines C.maps W.sheet e.new) }
+    ensures level { Stays (standing_of S.lines C.maps W.sheet e.old) (standing_of S.lines C.maps W.sheet e.new) }
+{
+    match node {
+        Stmt::Expr(node) => node.emit_at(e, Place::Plain),
+        Stmt::Block(node) => node.held().emit_at(e, Place::Plain),
+        Stmt::Empty(node) => node.emit_at(e, Place::Plain),
+        Stmt::Debugger(node) => node.emit_at(e, Place::Plain),
+        Stmt::With(node) => node.emit_at(e, Place::Plain),
+        Stmt::Return(node) => node.emit_at(e, Place::Plain),
+        Stmt::Labeled(node) => node.emit_at(e, Place::Plain),
+        Stmt::Break(node) => node.emit_at(e, Place::Plain),
+        Stmt::Continue(node) => node.emit_at(e, Place::Plain),
+        Stmt::If(node) => node.emit_at(e, Place::Plain),
+        Stmt::Switch(node) => node.emit_at(e, Place::Plain),
+        Stmt::Throw(node) => node.emit_at(e, Place::Plain),
+        Stmt::Try(node) => node.emit_at(e, Place::Plain),
+        Stmt::While(node) => node.emit_at(e, Place::Plain),
+        Stmt::DoWhile(node) => node.emit_at(e, Place::Plain),
+        Stmt::For(node) => node.emit_at(e, Place::Plain),
+        Stmt::ForIn(node) => node.emit_at(e, Place::Plain),
+        Stmt::ForOf(node) => node.emit_at(e, Place::Plain),
+        Stmt::Decl(node) => node.emit_at(e, Place::Statement),
+    }
+}
+
+impl<N: Held> EmitAt for Stmt<N> {
+    ghost items = { λ n _. stmt N.answers N.items n };
+
+    #[inline(never)]
+    #[tactic(auto, unfolding(crate::specs::Stmts::stmt))]
+    fn emit_at<W: WriteJs, S: SourceMapper, C: Comments>(
+        &self,
+        e: &mut Emitter<'_, W, S, C>,
+        place: Place,
+    ) {
+        stmt_parts(self, e);
+        e.stmt_closed(self);
+    }
+}
+
+impl<N: Held> Child for Stmt<N> {
+    ghost stands = { stmt_span (place_of N.answers) };
+
+    fn place(&self) -> Span {
+        stmt_place(self)
+    }
+}
+
+impl<N: Held> EmitAt for ExprStmt<N> {
+    ghost items = { λ n _. expr_stmt N.items n };
+
+    #[tactic(auto, unfolding(crate::specs::Stmts::expr_stmt))]
+    fn emit_at<W: WriteJs, S: SourceMapper, C: Comments>(
+        &self,
+        e: &mut Emitter<'_, W, S, C>,
+        place: Place,
+    ) {
+        e.leading_comments(self.span.lo);
+        self.expr.held().emit_at(e, Place::Plain);
+        e.semi();
+    }
+}
+
+impl EmitAt for EmptyStmt {
+    ghost items = { λ n _. empty_stmt n };
+
+    #[tactic(auto, unfolding(crate::specs::Stmts::empty_stmt))]
+    fn emit_at<W: WriteJs, S: SourceMapper, C: Comments>(
+        &self,
+        e: &mut Emitter<'_, W, S, C>,
+        place: Place,
+    ) {
+        e.leading_comments(self.span.lo);
+        e.punct(Punctuator::Semicolon);
+    }
+}
+
+impl EmitAt for DebuggerStmt {
+    ghost items = { λ n _. debugger_stmt n };
+
+    #[tactic(auto, unfolding(crate::specs::Stmts::debugger_stmt))]
+    fn emit_at<W: WriteJs, S: SourceMapper, C: Comments>(
+        &self,
+        e: &mut Emitter<'_, W, S, C>,
+        place: Place,
+    ) {
+        e.commit_pending_semi();
+        e.leading_comments(self.span.lo);
+        e.keyword(Some(self.span), "debugger");
+        e.semi();
+    }
+}
+
+impl<N: Held> EmitAt for WithStmt<N> {
+    ghost items = { λ n _. with_stmt N.items n };
+
+    #[tactic(auto, unfolding(crate::specs::Stmts::with_stmt))]
+    fn emit_at<W: WriteJs, S: SourceMapper, C: Comments>(
+        &self,
+        e: &mut Emitter<'_, W, S, C>,
+        place: Place,
+    ) {
+        e.commit_pending_semi();
+        e.start_of(self.span);
+        e.keyword(None, "with");
+        e.formatting_space();
+        e.enclosed(&self.obj);
+        self.body.held().emit_at(e, Place::Plain);
+    }
+}
+
+impl<N: Held> EmitAt for ReturnStmt<N> {
+    ghost items = { λ n _. return_stmt N.answers N.items n };
+
+    #[tactic(auto, unfolding(crate::specs::Stmts::return_stmt))]
+    fn emit_at<W: WriteJs, S: SourceMapper, C: Comments>(
+        &self,
+        e: &mut Emitter<'_, W, S, C>,
+        place: Place,
+    ) {
+        e.stmt_word(self.span, "return");
+        e.return_arg(&self.arg);
+        e.semi();
+    }
+}
+
+impl<N: Held> EmitAt for LabeledStmt<N> {
+    ghost items = { λ n _. labeled_stmt N.items n };
+
+    #[tactic(auto, unfolding(crate::specs::Stmts::labeled_stmt))]
+    fn emit_at<W: WriteJs, S: SourceMapper, C: Comments>(
+        &self,
+        e: &mut Emitter<'_, W, S, C>,
+        place: Place,
+    ) {
+        e.commit_pending_semi();
+        self.label.emit_at(e, Place::Plain);
+        e.punct(Punctuator::Colon);
+        e.formatting_space();
+        self.body.held().emit_at(e, Place::Plain);
+    }
+}
+
+impl EmitAt for BreakStmt {
+    ghost items = { λ n _. break_stmt n };
+
+    #[tactic(auto, unfolding(crate::specs::Stmts::break_stmt))]
+    fn emit_at<W: WriteJs, S: SourceMapper, C: Comments>(
+        &self,
+        e: &mut Emitter<'_, W, S, C>,
+        place: Place,
+    ) {
+        e.jump(self.span, "break", &self.label);
+    }
+}
+
+impl EmitAt for ContinueStmt {
+    ghost items = { λ n _. continue_stmt n };
+
+    #[tactic(auto, unfolding(crate::specs::Stmts::continue_stmt))]
+    fn emit_at<W: WriteJs, S: SourceMapper, C: Comments>(
+        &self,
+        e: &mut Emitter<'_, W, S, C>,
+        place: Place,
+    ) {
+        e.jump(self.span, "continue", &self.label);
+    }
+}
+
+impl<N: Held> EmitAt for IfStmt<N> {
+    ghost items = { λ n _. if_stmt N.answers N.items n };
+
+    #[tactic(auto, unfolding(crate::specs::Stmts::if_stmt))]
+    fn emit_at<W: WriteJs, S: SourceMapper, C: Comments>(
+        &self,
+        e: &mut Emitter<'_, W, S, C>,
+        place: Place,
+    ) {
+        e.spaced_word(self.span, "if");
+        e.enclosed(&self.test);
+        e.formatting_space();
+        self.cons.held().emit_at(e, Place::Plain);
+        e.else_branch(self.cons.held().block(), &self.alt);
+    }
+}
+
+impl<N: Held> EmitAt for CatchClause<N> {
+    ghost items = { λ n _. catch_clause N.items n };
+
+    #[tactic(auto, unfolding(crate::specs::Stmts::catch_clause))]
+    fn emit_at<W: WriteJs, S: SourceMapper, C: Comments>(
+        &self,
+        e: &mut Emitter<'_, W, S, C>,
+        place: Place,
+    ) {
+        e.opened(self.span);
+        e.keyword(None, "catch");
+        e.formatting_space();
+        e.catch_param(&self.param);
+        e.formatting_space();
+        self.body.held().emit_at(e, Place::Plain);
+    }
+}
+
+impl<N: Held> EmitAt for ThrowStmt<N> {
+    ghost items = { λ n _. throw_stmt N.answers N.items n };
+
+    #[tactic(auto, unfolding(crate::specs::Stmts::throw_stmt))]
+    fn emit_at<W: WriteJs, S: SourceMapper, C: Comments>(
+        &self,
+        e: &mut Emitter<'_, W, S, C>,
+        place: Place,
+    ) {
+        e.opened(self.span);
+        e.keyword(None, "throw");
+        e.argument(self.arg.held());
+        e.semi();
+    }
+}
+
+impl<N: Held> EmitAt for TryStmt<N> {
+    ghost items = { λ n _. try_stmt N.items n };
+
+    #[tactic(auto, unfolding(crate::specs::Stmts::try_stmt))]
+    fn emit_at<W: WriteJs, S: SourceMapper, C: Comments>(
+        &self,
+        e: &mut Emitter<'_, W, S, C>,
+        place: Place,
+    ) {
+        e.spaced_word(self.span, "try");
+        self.block.held().emit_at(e, Place::Plain);
+        e.handler(&self.handler);
+        e.finalizer(&self.finalizer);
+    }
+}
+
+impl<N: Held> EmitAt for Script<N> {
+    ghost items = { λ n _. script N.answers N.items n };
+
+    #[tactic(auto, unfolding(crate::specs::Programs::script))]
+    fn emit_at<W: WriteJs, S: SourceMapper, C: Comments>(
+        &self,
+        e: &mut Emitter<'_, W, S, C>,
+        place: Place,
+    ) {
+        e.program_start(&self.shebang, &self.body, self.span);
+        e.stmts(&self.body);
+        e.trailing_comments(self.span.hi, true);
+        e.last_semi();
+    }
+}
+
+impl<N: Held> EmitAt for Program<N> {
+    ghost items = { λ n _. program N.answers N.items n };
+
+    #[tactic(auto, unfolding(crate::specs::Programs::program))]
+    fn emit_at<W: WriteJs, S: SourceMapper, C: Comments>(
+        &self,
+        e: &mut Emitter<'_, W, S, C>,
+        place: Place,
+    ) {
+        match self {
+            Program::Module(node) => node.emit_at(e, Place::Plain),
+            Program::Script(node) => node.emit_at(e, Place::Plain),
+        }
+    }
+}
+
+impl<W: WriteJs, S: SourceMapper, C: Comments> Emitter<'_, W, S, C> {
+    /// Writes statements, one after another.
+    fn stmts<N: Held>(&mut self, nodes: &[Stmt<N>])
+        ensures items { Makes (in_order (stmt N.answers N.items) nodes.now) (standing_of S.lines C.maps W.sheet self.old) (standing_of S.lines C.maps W.sheet self.new) }
+        ensures level { Stays (standing_of S.lines C.maps W.sheet self.old) (standing_of S.lines C.maps W.sheet self.new) }
+    {
+        self.in_order(nodes)
+    }
+
+    /// Writes the comments after a statement and the end of its line, but for a block.
+    #[tactic(auto, unfolding(crate::specs::Stmts::stmt_closed))]
+    fn stmt_closed<N: Held>(&mut self, node: &Stmt<N>)
+        ensures items { Makes (stmt_closed (is_block node.now) (stmt_span (place_of N.answers) node.now)) (standing_of S.lines C.maps W.sheet self.old) (standing_of S.lines C.maps W.sheet self.new) }
+        ensures level { Stays (standing_of S.lines C.maps W.sheet self.old) (standing_of S.lines C.maps W.sheet self.new) }
+    {
+        if is_block(node) {
+            return;
+        }
+        self.stmt_comments(node);
+        self.formatting_line()
+    }
+
+    /// Writes the comments after a statement. Where it stands is asked only where there are comments.
+    #[inline(always)]
+    #[tactic(auto, using(crate::proofs::Without::none_there, crate::proofs::Without::no_trailing))]
+    fn stmt_comments<N: Held>(&mut self, node: &Stmt<N>)
+        ensures items { Makes (trailing_comments true (stmt_span (place_of N.answers) node.now).hi) (standing_of S.lines C.maps W.sheet self.old) (standing_of S.lines C.maps W.sheet self.new) }
+        ensures level { Stays (standing_of S.lines C.maps W.sheet self.old) (standing_of S.lines C.maps W.sheet self.new) }
+    {
+        if self.comments.is_none() {
+            return;
+        }
+        self.trailing_comments(stmt_place(node).hi, true)
+    }
+
+    /// Writes an expression in parentheses.
+    #[tactic(auto, unfolding(crate::specs::Stmts::enclosed))]
+    pub(crate) fn enclosed<N: Held>(&mut self, node: &ExprBox<N>)
+        ensures items { Makes (enclosed N.items node.now) (standing_of S.lines C.maps W.sheet self.old) (standing_of S.lines C.maps W.sheet self.new) }
+        ensures level { Stays (standing_of S.lines C.maps W.sheet self.old) (standing_of S.lines C.maps W.sheet self.new) }
+    {
+        self.punct(Punctuator::LeftParenthesis);
+        node.held().emit_at(self, Place::Plain);
+        self.punct(Punctuator::RightParenthesis);
+    }
+
+    /// Writes a node behind a word, and the blank between the two.
+    #[tactic(auto, unfolding(crate::specs::Stmts::spaced))]
+    pub(crate) fn spaced<N: Held>(&mut self, node: &N)
+        ensures items { Makes (spaced N.answers N.items node.now) (standing_of S.lines C.maps W.sheet self.old) (standing_of S.lines C.maps W.sheet self.new) }
+        ensures level { Stays (standing_of S.lines C.maps W.sheet self.old) (standing_of S.lines C.maps W.sheet self.new) }
+    {
+        self.blank(node.starts());
+        node.emit_at(self, Place::Plain);
+    }
+
+    /// Writes an argument behind a word.
+    #[tactic(auto, using(crate::proofs::Asked::argument_asked))]
+    fn argument<N: Held>(&mut self, node: &N)
+        ensures items { Makes (argument N.answers N.items node.now) (standing_of S.lines C.maps W.sheet self.old) (standing_of S.lines C.maps W.sheet self.new) }
+        ensures level { Stays (standing_of S.lines C.maps W.sheet self.old) (standing_of S.lines C.maps W.sheet self.new) }
+    {
+        let breaks = node.breaks(&self.comments);
+        self.argument_in(breaks, node)
+    }
+
+    /// Writes such an argument, in parentheses where a line ends in or after a comment before it.
+    #[tactic(auto, unfolding(crate::specs::Stmts::argument_in, swc_ecma_codegen_tokens::specs::Choices::optional_parentheses))]
+    fn argument_in<N: Held>(&mut self, breaks: bool, node: &N)
+        ensures items { Makes (argument_in N.answers N.items node.now breaks) (standing_of S.lines C.maps W.sheet self.old) (standing_of S.lines C.maps W.sheet self.new) }
+        ensures level { Stays (standing_of S.lines C.maps W.sheet self.old) (standing_of S.lines C.maps W.sheet self.new) }
+    {
+        if breaks {
+            self.punct(Punctuator::LeftParenthesis);
+            node.emit_at(self, Place::Plain);
+            self.punct(Punctuator::RightParenthesis);
+        } else {
+            self.spaced(node);
+        }
+    }
+
+    /// Writes the word that a statement begins with.
+    #[tactic(auto, unfolding(crate::specs::Stmts::stmt_word))]
+    pub(crate) fn stmt_word(&mut self, span: Span, text: &'static str)
+        requires { begins_letter text.now ≡ true }
+        ensures items { Makes (stmt_word span text.now) (standing_of S.lines C.maps W.sheet self.old) (standing_of S.lines C.maps W.sheet self.new) }
+        ensures level { Stays (standing_of S.lines C.maps W.sheet self.old) (standing_of S.lines C.maps W.sheet self.new) }
+    {
+        self.commit_pending_semi();
+        self.opened(span);
+        self.keyword(None, text);
+    }
+
+    /// Writes such a word and a blank, after the comments before it.
+    #[tactic(auto, unfolding(crate::specs::Stmts::spaced_word))]
+    fn spaced_word(&mut self, span: Span, text: &'static str)
+        requires { begins_letter text.now ≡ true }
+        ensures items { Makes (spaced_word span text.now) (standing_of S.lines C.maps W.sheet self.old) (standing_of S.lines C.maps W.sheet self.new) }
+        ensures level { Stays (standing_of S.lines C.maps W.sheet self.old) (standing_of S.lines C.maps W.sheet self.new) }
+    {
+        self.leading_comments(span.lo);
+        self.commit_pending_semi();
+        self.start_of(span);
+        self.keyword(None, text);
+        self.formatting_space();
+    }
+
+    /// Writes `break a;` or `continue a;`.
+    #[tactic(auto, unfolding(crate::specs::Stmts::jump))]
+    fn jump(&mut self, span: Span, text: &'static str, label: &Option<Ident>)
+        requires { begins_letter text.now ≡ true }
+        ensures items { Makes (jump span text.now label.now) (standing_of S.lines C.maps W.sheet self.old) (standing_of S.lines C.maps W.sheet self.new) }
+        ensures level { Stays (standing_of S.lines C.maps W.sheet self.old) (standing_of S.lines C.maps W.sheet self.new) }
+    {
+        self.commit_pending_semi();
+        self.start_of(span);
+        self.keyword(None, text);
+        self.optional_name(label);
+        self.semi();
+    }
+
+    /// Writes the argument of `return`, where there is one.
+    #[tactic(auto, unfolding(crate::specs::Stmts::return_arg))]
+    fn return_arg<N: Held>(&mut self, arg: &Option<ExprBox<N>>)
+        ensures items { Makes (return_arg N.answers N.items arg.now) (standing_of S.lines C.maps W.sheet self.old) (standing_of S.lines C.maps W.sheet self.new) }
+        ensures level { Stays (standing_of S.lines C.maps W.sheet self.old) (standing_of S.lines C.maps W.sheet self.new) }
+    {
+        match arg {
+            Some(node) => self.argument(node.held()),
+            None => {}
+        }
+    }
+
+    /// Writes `else` and a statement, where there is one.
+    #[tactic(auto, unfolding(crate::specs::Stmts::else_branch))]
+    fn else_branch<N: Held>(&mut self, block: bool, alt: &Option<StmtBox<N>>)
+        ensures items { Makes (else_branch N.answers N.items block alt.now) (standing_of S.lines C.maps W.sheet self.old) (standing_of S.lines C.maps W.sheet self.new) }
+        ensures level { Stays (standing_of S.lines C.maps W.sheet self.old) (standing_of S.lines C.maps W.sheet self.new) }
+    {
+        match alt {
+            Some(node) => {
+                self.blank_if(block);
+                self.keyword(None, "else");
+                self.spaced(node.held())
+            }
+            None => {}
+        }
+    }
+
+    /// Writes a blank where one is wanted, unless the settings are to minify.
+    #[tactic(auto, unfolding(swc_ecma_codegen_tokens::specs::Lists::blank_if))]
+    fn blank_if(&mut self, wanted: bool)
+        ensures items { Makes (blank_if wanted) (standing_of S.lines C.maps W.sheet self.old) (standing_of S.lines C.maps W.sheet self.new) }
+        ensures level { Stays (standing_of S.lines C.maps W.sheet self.old) (standing_of S.lines C.maps W.sheet self.new) }
+    {
+        if wanted {
+            self.formatting_space();
+        }
+    }
+
+    /// Writes what is caught in parentheses, where there is such.
+    #[tactic(auto, unfolding(crate::specs::Stmts::catch_param))]
+    fn catch_param<N: Held>(&mut self, param: &Option<PatBox<N>>)
+        ensures items { Makes (catch_param N.items param.now) (standing_of S.lines C.maps W.sheet self.old) (standing_of S.lines C.maps W.sheet self.new) }
+        ensures level { Stays (standing_of S.lines C.maps W.sheet self.old) (standing_of S.lines C.maps W.sheet self.new) }
+    {
+        match param {
+            Some(node) => {
+                self.punct(Punctuator::LeftParenthesis);
+                node.held().emit_at(self, Place::Plain);
+                self.punct(Punctuator::RightParenthesis)
+            }
+            None => {}
+        }
+    }
+
+    /// Writes a blank and `catch { a; }`, where there is such.
+    #[tactic(auto, unfolding(crate::specs::Stmts::handler))]
+    fn handler<N: Held>(&mut self, node: &Option<CatchClause<N>>)
+        ensures items { Makes (handler N.items node.now) (standing_of S.lines C.maps W.sheet self.old) (standing_of S.lines C.maps W.sheet self.new) }
+        ensures level { Stays (standing_of S.lines C.maps W.sheet self.old) (standing_of S.lines C.maps W.sheet self.new) }
+    {
+        match node {
+            Some(node) => {
+                self.formatting_space();
+                node.emit_at(self, Place::Plain)
+            }
+            None => {}
+        }
+    }
+
+    /// Writes a blank and `finally{ a; }`, where there is such.
+    #[tactic(auto, unfolding(crate::specs::Stmts::finalizer))]
+    fn finalizer<N: Held>(&mut self, node: &Option<BlockStmtBox<N>>)
+        ensures items { Makes (finalizer N.items node.now) (standing_of S.lines C.maps W.sheet self.old) (standing_of S.lines C.maps W.sheet self.new) }
+        ensures level { Stays (standing_of S.lines C.maps W.sheet self.old) (standing_of S.lines C.maps W.sheet self.new) }
+    {
+        match node {
+            Some(node) => {
+                self.formatting_space();
+                self.keyword(None, "finally");
+                node.held().emit_at(self, Place::Plain)
+            }
+            None => {}
+        }
+    }
+
+    /// Writes what stands before the statements of a program.
+    #[tactic(auto, unfolding(crate::specs::Programs::program_start))]
+    pub(crate) fn program_start<T>(&mut self, shebang: &Option<String>, body: &[T], span: Span)
+        ensures items { Makes (program_start shebang.now body.now span) (standing_of S.lines C.maps W.sheet self.old) (standing_of S.lines C.maps W.sheet self.new) }
+        ensures level { Stays (standing_of S.lines C.maps W.sheet self.old) (standing_of S.lines C.maps W.sheet self.new) }
+    {
+        match shebang {
+            Some(text) => {
+                self.start_if_empty(body, span);
+                self.hashbang(text.as_str());
+                self.leading_comments(span.lo)
+            }
+            None => {
+                self.leading_comments(span.lo);
+                self.start_if_empty(body, span)
+            }
+        }
+    }
+
+    /// Records the start of a program without statements.
+    #[tactic(auto, unfolding(crate::specs::Programs::start_if_empty))]
+    fn start_if_empty<T>(&mut self, body: &[T], span: Span)
+        ensures items { Makes (start_if_empty body.now span) (standing_of S.lines C.maps W.sheet self.old) (standing_of S.lines C.maps W.sheet self.new) }
+        ensures level { Stays (standing_of S.lines C.maps W.sheet self.old) (standing_of S.lines C.maps W.sheet self.new) }
+    {
+        match body {
+            [] => self.start_of(span),
+            [_, ..] => {}
+        }
+    }
+}

@@ -1,0 +1,61 @@
+//! What is assigned to, and names that are bound.
+
+ghost use Rattle.swc_ecma_codegen_emit.specs.Names.{binding_ident};
+ghost use Rattle.swc_ecma_codegen_emit.specs.Targets.{simple_assign_target, assign_target};
+
+use crate::emitter::Emitter;
+use crate::nodes::{EmitAt, Held, Place};
+use swc_ecma_codegen_grammar::comments::Comments;
+use swc_ecma_codegen_grammar::mapper::SourceMapper;
+use swc_ecma_codegen_text_writer::WriteJs;
+use swc_ecma_codegen_tree::{AssignTarget, BindingIdent, SimpleAssignTarget};
+
+impl<N: Held> EmitAt for BindingIdent<N> {
+    ghost items = { λ n _. binding_ident N.items n };
+
+    #[tactic(auto, unfolding(crate::specs::Names::binding_ident))]
+    fn emit_at<W: WriteJs, S: SourceMapper, C: Comments>(
+        &self,
+        e: &mut Emitter<'_, W, S, C>,
+        place: Place,
+    ) {
+        self.id.emit_at(e, place);
+        e.annotation(&self.type_ann);
+    }
+}
+
+impl<N: Held> EmitAt for AssignTarget<N> {
+    ghost items = { λ n _. assign_target N.answers N.items n };
+
+    #[tactic(auto, unfolding(crate::specs::Targets::assign_target))]
+    fn emit_at<W: WriteJs, S: SourceMapper, C: Comments>(
+        &self,
+        e: &mut Emitter<'_, W, S, C>,
+        place: Place,
+    ) {
+        match self {
+            AssignTarget::Simple(node) => node.emit_at(e, place),
+            AssignTarget::Pat(node) => node.emit_at(e, place),
+        }
+    }
+}
+
+impl<N: Held> EmitAt for SimpleAssignTarget<N> {
+    ghost items = { λ n _. simple_assign_target N.items n };
+
+    #[tactic(auto, unfolding(crate::specs::Targets::simple_assign_target, crate::specs::Exprs::member_at))]
+    fn emit_at<W: WriteJs, S: SourceMapper, C: Comments>(
+        &self,
+        e: &mut Emitter<'_, W, S, C>,
+        place: Place,
+    ) {
+        match self {
+            SimpleAssignTarget::Ident(node) => node.emit_at(e, place),
+            SimpleAssignTarget::Member(node) => node.emit_at(e, Place::Plain),
+            SimpleAssignTarget::SuperProp(node) => node.emit_at(e, place),
+            SimpleAssignTarget::Paren(node) => node.emit_at(e, place),
+            SimpleAssignTarget::OptChain(node) => node.emit_at(e, place),
+            _ => e.unsupported(),
+        }
+    }
+}

@@ -1,0 +1,573 @@
+//! Calls of the lower emitter.
+
+ghost use Rattle.std.specs.Prelude.{◌≡◌, ◌<◌, Option, true};
+ghost use Rattle.swc_ecma_codegen_literals.specs.Punctuators.{spelling};
+ghost use Rattle.swc_ecma_codegen_tokens.specs.Starts.{begins_letter};
+ghost use Rattle.swc_ecma_codegen_tokens.specs.PrivateNames.{private_name};
+ghost use Rattle.swc_ecma_codegen_emit.specs.Standing.{Makes, Stays, Deepens, Rises, HasLevels, standing_of};
+ghost use Rattle.swc_ecma_codegen_tokens.specs.Words.{keyword, operator, operator_between, punct_between, word_operator, punct, placed_punct, semi, space, formatting_space, formatting_line, line_end, commit_pending_semi, position, position_before, start_of, end_of, last_of, leading_comments, trailing_comments, comments_before_end, name};
+ghost use Rattle.swc_ecma_codegen_tokens.specs.Keys.{key};
+ghost use Rattle.swc_ecma_codegen_tokens.specs.Literals.{hashbang};
+ghost use Rattle.swc_ecma_codegen_tokens.specs.Lists.{deeper, shallower};
+ghost use Rattle.swc_ecma_codegen_emit.specs.Exprs.{blank, space_if, spaced_punct, formatted_operator, opened, comments_before};
+ghost use Rattle.swc_ecma_codegen_emit.specs.Lists.{unsupported};
+ghost use Rattle.swc_ecma_codegen_emit.specs.Programs.{last_semi};
+
+use crate::emitter::Emitter;
+use crate::refusals::keep;
+use swc_ecma_codegen_common::{BytePos, Span};
+use swc_ecma_codegen_grammar::comments::Comments;
+use swc_ecma_codegen_grammar::mapper::SourceMapper;
+use swc_ecma_codegen_literals::Punctuator;
+use swc_ecma_codegen_text_writer::WriteJs;
+use swc_ecma_codegen_tokens::Unprintable;
+
+impl<W: WriteJs, S: SourceMapper, C: Comments> Emitter<'_, W, S, C> {
+    /// Refuses a node that has no text here, as `Invalid`, or none yet, as what TypeScript adds.
+    #[tactic(auto, using(crate::proofs::Standings::refused_makes), unfolding(crate::specs::Lists::unsupported))]
+    pub(crate) fn unsupported(&mut self)
+        ensures items { Makes unsupported (standing_of S.lines C.maps W.sheet self.old) (standing_of S.lines C.maps W.sheet self.new) }
+        ensures level { Stays (standing_of S.lines C.maps W.sheet self.old) (standing_of S.lines C.maps W.sheet self.new) }
+    {
+        if self.refusal.is_some() {
+            return;
+        }
+        keep(
+            &mut self.refusal,
+            self.lower
+                .refuse(&self.cfg, &self.wr, Unprintable::UnsupportedNode),
+        );
+    }
+
+    /// Writes a keyword.
+    #[inline(never)]
+    #[tactic(auto, using(crate::proofs::Standings::refused_makes))]
+    pub(crate) fn keyword(&mut self, span: Option<Span>, text: &'static str)
+        requires { begins_letter text.now ≡ true }
+        ensures items { Makes (keyword span text.now) (standing_of S.lines C.maps W.sheet self.old) (standing_of S.lines C.maps W.sheet self.new) }
+        ensures level { Stays (standing_of S.lines C.maps W.sheet self.old) (standing_of S.lines C.maps W.sheet self.new) }
+    {
+        if self.refusal.is_some() {
+            return;
+        }
+        keep(
+            &mut self.refusal,
+            self.lower.keyword(&self.cfg, &mut self.wr, span, text),
+        );
+    }
+
+    /// Writes an operator that is a punctuator.
+    #[inline(never)]
+    #[tactic(auto, using(crate::proofs::Standings::refused_makes))]
+    pub(crate) fn operator(&mut self, mark: Punctuator)
+        ensures items { Makes (operator (spelling mark)) (standing_of S.lines C.maps W.sheet self.old) (standing_of S.lines C.maps W.sheet self.new) }
+        ensures level { Stays (standing_of S.lines C.maps W.sheet self.old) (standing_of S.lines C.maps W.sheet self.new) }
+    {
+        if self.refusal.is_some() {
+            return;
+        }
+        keep(
+            &mut self.refusal,
+            self.lower.operator(&self.cfg, &mut self.wr, mark),
+        );
+    }
+
+    /// Writes an operator that is a word.
+    #[inline(never)]
+    #[tactic(auto, using(crate::proofs::Standings::refused_makes))]
+    pub(crate) fn word_operator(&mut self, text: &'static str)
+        requires { begins_letter text.now ≡ true }
+        ensures items { Makes (word_operator text.now) (standing_of S.lines C.maps W.sheet self.old) (standing_of S.lines C.maps W.sheet self.new) }
+        ensures level { Stays (standing_of S.lines C.maps W.sheet self.old) (standing_of S.lines C.maps W.sheet self.new) }
+    {
+        if self.refusal.is_some() {
+            return;
+        }
+        keep(
+            &mut self.refusal,
+            self.lower.word_operator(&self.cfg, &mut self.wr, text),
+        );
+    }
+
+    /// Writes a punctuator.
+    #[inline(never)]
+    #[tactic(auto, using(crate::proofs::Standings::refused_makes))]
+    pub(crate) fn punct(&mut self, mark: Punctuator)
+        ensures items { Makes (punct (spelling mark)) (standing_of S.lines C.maps W.sheet self.old) (standing_of S.lines C.maps W.sheet self.new) }
+        ensures level { Stays (standing_of S.lines C.maps W.sheet self.old) (standing_of S.lines C.maps W.sheet self.new) }
+    {
+        if self.refusal.is_some() {
+            return;
+        }
+        keep(
+            &mut self.refusal,
+            self.lower.punct(&self.cfg, &mut self.wr, mark),
+        );
+    }
+
+    /// Writes a punctuator, and records where it stands.
+    #[inline(never)]
+    #[tactic(auto, using(crate::proofs::Standings::refused_makes))]
+    pub(crate) fn placed_punct(&mut self, span: Span, mark: Punctuator)
+        ensures items { Makes (placed_punct span (spelling mark)) (standing_of S.lines C.maps W.sheet self.old) (standing_of S.lines C.maps W.sheet self.new) }
+        ensures level { Stays (standing_of S.lines C.maps W.sheet self.old) (standing_of S.lines C.maps W.sheet self.new) }
+    {
+        if self.refusal.is_some() {
+            return;
+        }
+        keep(
+            &mut self.refusal,
+            self.lower.placed_punct(&self.cfg, &mut self.wr, span, mark),
+        );
+    }
+
+    /// Writes a name that is the key of a property, with its comments. Never inlined: what spells it needs more of the stack than others,
+    /// which would be part of the frames that are there once for each level of a tree.
+    #[inline(never)]
+    #[tactic(auto, using(crate::proofs::Standings::refused_makes))]
+    pub(crate) fn key(&mut self, span: Span, sym: &str)
+        ensures items { Makes (key span sym.now) (standing_of S.lines C.maps W.sheet self.old) (standing_of S.lines C.maps W.sheet self.new) }
+        ensures level { Stays (standing_of S.lines C.maps W.sheet self.old) (standing_of S.lines C.maps W.sheet self.new) }
+    {
+        if self.refusal.is_some() {
+            return;
+        }
+        keep(
+            &mut self.refusal,
+            self.lower
+                .key(&self.cfg, &mut self.comments, &mut self.wr, span, sym),
+        );
+    }
+
+    /// Writes a hashbang by what stands behind `#!`, and ends its line.
+    #[tactic(auto, using(crate::proofs::Standings::refused_makes))]
+    pub(crate) fn hashbang(&mut self, text: &str)
+        ensures items { Makes (hashbang text.now) (standing_of S.lines C.maps W.sheet self.old) (standing_of S.lines C.maps W.sheet self.new) }
+        ensures level { Stays (standing_of S.lines C.maps W.sheet self.old) (standing_of S.lines C.maps W.sheet self.new) }
+    {
+        if self.refusal.is_some() {
+            return;
+        }
+        keep(
+            &mut self.refusal,
+            self.lower.hashbang(&self.cfg, &mut self.wr, text),
+        );
+    }
+
+    /// Ends the line.
+    #[tactic(auto, using(crate::proofs::Standings::refused_makes))]
+    pub(crate) fn line(&mut self)
+        ensures items { Makes line_end (standing_of S.lines C.maps W.sheet self.old) (standing_of S.lines C.maps W.sheet self.new) }
+        ensures level { Stays (standing_of S.lines C.maps W.sheet self.old) (standing_of S.lines C.maps W.sheet self.new) }
+    {
+        if self.refusal.is_some() {
+            return;
+        }
+        keep(&mut self.refusal, self.lower.line(&self.cfg, &mut self.wr));
+    }
+
+    /// One level of indentation more.
+    #[tactic(auto, using(crate::proofs::Standings::refused_makes))]
+    pub(crate) fn deeper(&mut self)
+        ensures items { Makes deeper (standing_of S.lines C.maps W.sheet self.old) (standing_of S.lines C.maps W.sheet self.new) }
+        ensures level { Deepens 1 (standing_of S.lines C.maps W.sheet self.old) (standing_of S.lines C.maps W.sheet self.new) }
+    {
+        if self.refusal.is_some() {
+            return;
+        }
+        keep(
+            &mut self.refusal,
+            self.lower.deeper(&self.cfg, &mut self.wr),
+        );
+    }
+
+    /// One level of indentation less.
+    #[tactic(auto, using(crate::proofs::Standings::refused_makes))]
+    pub(crate) fn shallower(&mut self)
+        requires { HasLevels 1 (standing_of S.lines C.maps W.sheet self.old) }
+        ensures items { Makes shallower (standing_of S.lines C.maps W.sheet self.old) (standing_of S.lines C.maps W.sheet self.new) }
+        ensures level { Rises 1 (standing_of S.lines C.maps W.sheet self.old) (standing_of S.lines C.maps W.sheet self.new) }
+    {
+        if self.refusal.is_some() {
+            return;
+        }
+        keep(
+            &mut self.refusal,
+            self.lower.shallower(&self.cfg, &mut self.wr),
+        );
+    }
+
+    /// Writes a semicolon that may be left out where it isn't needed.
+    #[inline(never)]
+    #[tactic(auto, using(crate::proofs::Standings::refused_makes))]
+    pub(crate) fn semi(&mut self)
+        ensures items { Makes (semi) (standing_of S.lines C.maps W.sheet self.old) (standing_of S.lines C.maps W.sheet self.new) }
+        ensures level { Stays (standing_of S.lines C.maps W.sheet self.old) (standing_of S.lines C.maps W.sheet self.new) }
+    {
+        if self.refusal.is_some() {
+            return;
+        }
+        keep(&mut self.refusal, self.lower.semi(&self.cfg, &mut self.wr));
+    }
+
+    /// Writes a blank.
+    #[tactic(auto, using(crate::proofs::Standings::refused_makes))]
+    pub(crate) fn space(&mut self)
+        ensures items { Makes (space) (standing_of S.lines C.maps W.sheet self.old) (standing_of S.lines C.maps W.sheet self.new) }
+        ensures level { Stays (standing_of S.lines C.maps W.sheet self.old) (standing_of S.lines C.maps W.sheet self.new) }
+    {
+        if self.refusal.is_some() {
+            return;
+        }
+        keep(&mut self.refusal, self.lower.space(&self.cfg, &mut self.wr));
+    }
+
+    /// Writes a blank, unless the settings are to minify.
+    #[tactic(auto, using(crate::proofs::Standings::refused_makes))]
+    pub(crate) fn formatting_space(&mut self)
+        ensures items { Makes (formatting_space) (standing_of S.lines C.maps W.sheet self.old) (standing_of S.lines C.maps W.sheet self.new) }
+        ensures level { Stays (standing_of S.lines C.maps W.sheet self.old) (standing_of S.lines C.maps W.sheet self.new) }
+    {
+        if self.refusal.is_some() {
+            return;
+        }
+        keep(
+            &mut self.refusal,
+            self.lower.formatting_space(&self.cfg, &mut self.wr),
+        );
+    }
+
+    /// Ends the line, unless the settings are to minify.
+    #[tactic(auto, using(crate::proofs::Standings::refused_makes))]
+    pub(crate) fn formatting_line(&mut self)
+        ensures items { Makes (formatting_line) (standing_of S.lines C.maps W.sheet self.old) (standing_of S.lines C.maps W.sheet self.new) }
+        ensures level { Stays (standing_of S.lines C.maps W.sheet self.old) (standing_of S.lines C.maps W.sheet self.new) }
+    {
+        if self.refusal.is_some() {
+            return;
+        }
+        keep(
+            &mut self.refusal,
+            self.lower.formatting_line(&self.cfg, &mut self.wr),
+        );
+    }
+
+    /// Writes a semicolon that is held back.
+    #[tactic(auto, using(crate::proofs::Standings::refused_makes))]
+    pub(crate) fn commit_pending_semi(&mut self)
+        ensures items { Makes (commit_pending_semi) (standing_of S.lines C.maps W.sheet self.old) (standing_of S.lines C.maps W.sheet self.new) }
+        ensures level { Stays (standing_of S.lines C.maps W.sheet self.old) (standing_of S.lines C.maps W.sheet self.new) }
+    {
+        if self.refusal.is_some() {
+            return;
+        }
+        keep(
+            &mut self.refusal,
+            self.lower.commit_pending_semi(&self.cfg, &mut self.wr),
+        );
+    }
+
+    /// Records a position, unless it is none.
+    #[tactic(auto, using(crate::proofs::Standings::refused_makes))]
+    pub(crate) fn position(&mut self, pos: BytePos)
+        ensures items { Makes (position pos) (standing_of S.lines C.maps W.sheet self.old) (standing_of S.lines C.maps W.sheet self.new) }
+        ensures level { Stays (standing_of S.lines C.maps W.sheet self.old) (standing_of S.lines C.maps W.sheet self.new) }
+    {
+        if self.refusal.is_some() {
+            return;
+        }
+        keep(
+            &mut self.refusal,
+            self.lower.position(&self.cfg, &mut self.wr, pos),
+        );
+    }
+
+    /// Records the position before one, unless that one is none.
+    #[tactic(auto, using(crate::proofs::Standings::refused_makes))]
+    pub(crate) fn position_before(&mut self, pos: BytePos)
+        ensures items { Makes (position_before pos) (standing_of S.lines C.maps W.sheet self.old) (standing_of S.lines C.maps W.sheet self.new) }
+        ensures level { Stays (standing_of S.lines C.maps W.sheet self.old) (standing_of S.lines C.maps W.sheet self.new) }
+    {
+        if self.refusal.is_some() {
+            return;
+        }
+        keep(
+            &mut self.refusal,
+            self.lower.position_before(&self.cfg, &mut self.wr, pos),
+        );
+    }
+
+    /// Records where a node begins.
+    pub(crate) fn start_of(&mut self, span: Span)
+        ensures items { Makes (start_of span) (standing_of S.lines C.maps W.sheet self.old) (standing_of S.lines C.maps W.sheet self.new) }
+        ensures level { Stays (standing_of S.lines C.maps W.sheet self.old) (standing_of S.lines C.maps W.sheet self.new) }
+    {
+        self.position(span.lo)
+    }
+
+    /// Records where a node ends.
+    pub(crate) fn end_of(&mut self, span: Span)
+        ensures items { Makes (end_of span) (standing_of S.lines C.maps W.sheet self.old) (standing_of S.lines C.maps W.sheet self.new) }
+        ensures level { Stays (standing_of S.lines C.maps W.sheet self.old) (standing_of S.lines C.maps W.sheet self.new) }
+    {
+        self.position(span.hi)
+    }
+
+    /// Records where a node's last character stands.
+    pub(crate) fn last_of(&mut self, span: Span)
+        ensures items { Makes (last_of span) (standing_of S.lines C.maps W.sheet self.old) (standing_of S.lines C.maps W.sheet self.new) }
+        ensures level { Stays (standing_of S.lines C.maps W.sheet self.old) (standing_of S.lines C.maps W.sheet self.new) }
+    {
+        self.position_before(span.hi)
+    }
+
+    /// Writes the comments that stand before a position. Where there are none, that takes no call.
+    #[inline(always)]
+    #[tactic(auto, using(crate::proofs::Without::none_there, crate::proofs::Without::no_leading))]
+    pub(crate) fn leading_comments(&mut self, pos: BytePos)
+        ensures items { Makes (leading_comments pos) (standing_of S.lines C.maps W.sheet self.old) (standing_of S.lines C.maps W.sheet self.new) }
+        ensures level { Stays (standing_of S.lines C.maps W.sheet self.old) (standing_of S.lines C.maps W.sheet self.new) }
+    {
+        if self.comments.is_none() {
+            return;
+        }
+        self.leading_taken(pos)
+    }
+
+    /// The same where there are some.
+    #[inline(never)]
+    #[tactic(auto, using(crate::proofs::Standings::refused_makes))]
+    fn leading_taken(&mut self, pos: BytePos)
+        ensures items { Makes (leading_comments pos) (standing_of S.lines C.maps W.sheet self.old) (standing_of S.lines C.maps W.sheet self.new) }
+        ensures level { Stays (standing_of S.lines C.maps W.sheet self.old) (standing_of S.lines C.maps W.sheet self.new) }
+    {
+        if self.refusal.is_some() {
+            return;
+        }
+        keep(
+            &mut self.refusal,
+            self.lower
+                .leading_comments(&self.cfg, &mut self.comments, &mut self.wr, pos),
+        );
+    }
+
+    /// Writes the comments that stand after a position. Where there are none, that takes no call.
+    #[inline(always)]
+    #[tactic(auto, using(crate::proofs::Without::none_there, crate::proofs::Without::no_trailing))]
+    pub(crate) fn trailing_comments(&mut self, pos: BytePos, prefix_space: bool)
+        ensures items { Makes (trailing_comments prefix_space pos) (standing_of S.lines C.maps W.sheet self.old) (standing_of S.lines C.maps W.sheet self.new) }
+        ensures level { Stays (standing_of S.lines C.maps W.sheet self.old) (standing_of S.lines C.maps W.sheet self.new) }
+    {
+        if self.comments.is_none() {
+            return;
+        }
+        self.trailing_taken(pos, prefix_space)
+    }
+
+    /// The same where there are some.
+    #[inline(never)]
+    #[tactic(auto, using(crate::proofs::Standings::refused_makes))]
+    fn trailing_taken(&mut self, pos: BytePos, prefix_space: bool)
+        ensures items { Makes (trailing_comments prefix_space pos) (standing_of S.lines C.maps W.sheet self.old) (standing_of S.lines C.maps W.sheet self.new) }
+        ensures level { Stays (standing_of S.lines C.maps W.sheet self.old) (standing_of S.lines C.maps W.sheet self.new) }
+    {
+        if self.refusal.is_some() {
+            return;
+        }
+        keep(
+            &mut self.refusal,
+            self.lower.trailing_comments(
+                &self.cfg,
+                &mut self.comments,
+                &mut self.wr,
+                pos,
+                prefix_space,
+            ),
+        );
+    }
+
+    /// Writes a name with its comments. Never inlined, since what it calls is: so a name takes one call.
+    #[inline(never)]
+    #[tactic(auto, using(crate::proofs::Standings::refused_makes))]
+    pub(crate) fn name(&mut self, span: Span, sym: &str, optional: bool)
+        ensures items { Makes (name span sym.now optional) (standing_of S.lines C.maps W.sheet self.old) (standing_of S.lines C.maps W.sheet self.new) }
+        ensures level { Stays (standing_of S.lines C.maps W.sheet self.old) (standing_of S.lines C.maps W.sheet self.new) }
+    {
+        if self.refusal.is_some() {
+            return;
+        }
+        keep(
+            &mut self.refusal,
+            self.lower.name(
+                &self.cfg,
+                &mut self.comments,
+                &mut self.wr,
+                span,
+                sym,
+                optional,
+            ),
+        );
+    }
+
+    /// Writes a private name with its comments.
+    #[tactic(auto, using(crate::proofs::Standings::refused_makes))]
+    pub(crate) fn private_name(&mut self, span: Span, name: &str)
+        ensures items { Makes (private_name span name.now) (standing_of S.lines C.maps W.sheet self.old) (standing_of S.lines C.maps W.sheet self.new) }
+        ensures level { Stays (standing_of S.lines C.maps W.sheet self.old) (standing_of S.lines C.maps W.sheet self.new) }
+    {
+        if self.refusal.is_some() {
+            return;
+        }
+        keep(
+            &mut self.refusal,
+            self.lower
+                .private_name(&self.cfg, &mut self.comments, &mut self.wr, span, name),
+        );
+    }
+
+    /// Writes a blank where one is needed, else what the settings want.
+    #[tactic(auto, unfolding(crate::specs::Exprs::blank))]
+    pub(crate) fn blank(&mut self, needed: bool)
+        ensures items { Makes (blank needed) (standing_of S.lines C.maps W.sheet self.old) (standing_of S.lines C.maps W.sheet self.new) }
+        ensures level { Stays (standing_of S.lines C.maps W.sheet self.old) (standing_of S.lines C.maps W.sheet self.new) }
+    {
+        if needed {
+            self.space()
+        } else {
+            self.formatting_space()
+        }
+    }
+
+    /// Writes a blank where one is needed.
+    #[tactic(auto, unfolding(crate::specs::Exprs::space_if))]
+    pub(crate) fn space_if(&mut self, needed: bool)
+        ensures items { Makes (space_if needed) (standing_of S.lines C.maps W.sheet self.old) (standing_of S.lines C.maps W.sheet self.new) }
+        ensures level { Stays (standing_of S.lines C.maps W.sheet self.old) (standing_of S.lines C.maps W.sheet self.new) }
+    {
+        if needed {
+            self.space();
+        }
+    }
+
+    /// Writes a punctuator between two blanks, as ` ? `; the blanks aren't written where the settings are to minify.
+    #[tactic(auto, using(crate::proofs::Between::spaced_tight, crate::proofs::Between::spaced_between))]
+    pub(crate) fn spaced_punct(&mut self, mark: Punctuator)
+        ensures items { Makes (spaced_punct (spelling mark)) (standing_of S.lines C.maps W.sheet self.old) (standing_of S.lines C.maps W.sheet self.new) }
+        ensures level { Stays (standing_of S.lines C.maps W.sheet self.old) (standing_of S.lines C.maps W.sheet self.new) }
+    {
+        if self.cfg.minify {
+            self.punct(mark)
+        } else {
+            self.punct_between(mark)
+        }
+    }
+
+    /// The same of an operator, as ` = `.
+    #[tactic(auto, using(crate::proofs::Between::formatted_tight, crate::proofs::Between::formatted_between))]
+    pub(crate) fn formatted_operator(&mut self, mark: Punctuator)
+        ensures items { Makes (formatted_operator (spelling mark)) (standing_of S.lines C.maps W.sheet self.old) (standing_of S.lines C.maps W.sheet self.new) }
+        ensures level { Stays (standing_of S.lines C.maps W.sheet self.old) (standing_of S.lines C.maps W.sheet self.new) }
+    {
+        if self.cfg.minify {
+            self.operator(mark)
+        } else {
+            self.operator_between(mark)
+        }
+    }
+
+    /// Writes a punctuator between two blanks.
+    #[inline(never)]
+    #[tactic(auto, using(crate::proofs::Standings::refused_makes))]
+    pub(crate) fn punct_between(&mut self, mark: Punctuator)
+        ensures items { Makes (punct_between (spelling mark)) (standing_of S.lines C.maps W.sheet self.old) (standing_of S.lines C.maps W.sheet self.new) }
+        ensures level { Stays (standing_of S.lines C.maps W.sheet self.old) (standing_of S.lines C.maps W.sheet self.new) }
+    {
+        if self.refusal.is_some() {
+            return;
+        }
+        keep(
+            &mut self.refusal,
+            self.lower.punct_between(&self.cfg, &mut self.wr, mark),
+        );
+    }
+
+    /// Writes an operator that is a punctuator, between two blanks.
+    #[inline(never)]
+    #[tactic(auto, using(crate::proofs::Standings::refused_makes))]
+    pub(crate) fn operator_between(&mut self, mark: Punctuator)
+        ensures items { Makes (operator_between (spelling mark)) (standing_of S.lines C.maps W.sheet self.old) (standing_of S.lines C.maps W.sheet self.new) }
+        ensures level { Stays (standing_of S.lines C.maps W.sheet self.old) (standing_of S.lines C.maps W.sheet self.new) }
+    {
+        if self.refusal.is_some() {
+            return;
+        }
+        keep(
+            &mut self.refusal,
+            self.lower.operator_between(&self.cfg, &mut self.wr, mark),
+        );
+    }
+
+    /// Writes the comments before a node, and records its start.
+    #[tactic(auto, unfolding(crate::specs::Exprs::opened))]
+    pub(crate) fn opened(&mut self, span: Span)
+        ensures items { Makes (opened span) (standing_of S.lines C.maps W.sheet self.old) (standing_of S.lines C.maps W.sheet self.new) }
+        ensures level { Stays (standing_of S.lines C.maps W.sheet self.old) (standing_of S.lines C.maps W.sheet self.new) }
+    {
+        self.leading_comments(span.lo);
+        self.start_of(span);
+    }
+
+    /// Writes the comments at the position before one.
+    #[tactic(auto, unfolding(crate::specs::Exprs::comments_before))]
+    pub(crate) fn comments_before(&mut self, pos: BytePos)
+        ensures items { Makes (comments_before pos) (standing_of S.lines C.maps W.sheet self.old) (standing_of S.lines C.maps W.sheet self.new) }
+        ensures level { Stays (standing_of S.lines C.maps W.sheet self.old) (standing_of S.lines C.maps W.sheet self.new) }
+    {
+        if pos.0 == 0 {
+            return;
+        }
+        self.leading_comments(BytePos(pos.0 - 1))
+    }
+
+    /// Writes the comments before the last character of what ends at a position. Where there are none, that takes no call.
+    #[inline(always)]
+    #[tactic(auto, using(crate::proofs::Without::none_there, crate::proofs::Without::none_before_end))]
+    pub(crate) fn comments_before_end(&mut self, pos: BytePos)
+        ensures items { Makes (comments_before_end pos) (standing_of S.lines C.maps W.sheet self.old) (standing_of S.lines C.maps W.sheet self.new) }
+        ensures level { Stays (standing_of S.lines C.maps W.sheet self.old) (standing_of S.lines C.maps W.sheet self.new) }
+    {
+        if self.comments.is_none() {
+            return;
+        }
+        self.taken_before_end(pos)
+    }
+
+    /// The same where there are some.
+    #[inline(never)]
+    #[tactic(auto, using(crate::proofs::Standings::refused_makes))]
+    fn taken_before_end(&mut self, pos: BytePos)
+        ensures items { Makes (comments_before_end pos) (standing_of S.lines C.maps W.sheet self.old) (standing_of S.lines C.maps W.sheet self.new) }
+        ensures level { Stays (standing_of S.lines C.maps W.sheet self.old) (standing_of S.lines C.maps W.sheet self.new) }
+    {
+        if self.refusal.is_some() {
+            return;
+        }
+        keep(
+            &mut self.refusal,
+            self.lower
+                .comments_before_end(&self.cfg, &mut self.comments, &mut self.wr, pos),
+        );
+    }
+
+    /// Writes a semicolon that is held back at the end, unless the settings leave it out.
+    #[tactic(auto, unfolding(crate::specs::Programs::last_semi), using(crate::proofs::Asked::kept_back, crate::proofs::Asked::committed))]
+    pub(crate) fn last_semi(&mut self)
+        ensures items { Makes (last_semi) (standing_of S.lines C.maps W.sheet self.old) (standing_of S.lines C.maps W.sheet self.new) }
+        ensures level { Stays (standing_of S.lines C.maps W.sheet self.old) (standing_of S.lines C.maps W.sheet self.new) }
+    {
+        if self.cfg.omit_last_semi {
+            return;
+        }
+        self.commit_pending_semi()
+    }
+}

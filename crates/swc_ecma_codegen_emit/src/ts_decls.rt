@@ -1,0 +1,487 @@
+//! Declarations of TypeScript.
+
+ghost use Rattle.std.specs.Prelude.{◌≡◌};
+ghost use Rattle.swc_ecma_codegen_emit.specs.Standing.{Makes, Stays, standing_of};
+ghost use Rattle.swc_ecma_codegen_emit.specs.TsDecls.{declare_word, ts_expr_with_type_args, extended_format, extended_list, some_extends, extends_clause, ts_interface_decl, ts_type_alias_decl, ts_enum_member_id, ts_enum_member, enum_format, enum_members, enum_body, ts_enum_decl, ts_module_name, module_head, module_tail, ts_module_decl, ts_external_module_ref, ts_module_ref, ts_import_equals_decl, ts_export_assignment, ts_namespace_export_decl};
+ghost use Rattle.swc_ecma_codegen_emit.specs.Namespaces.{module_block_format, block_items, ts_module_block, ts_namespace_decl, namespace_inside, braced_body, dotted_body, ts_namespace_body};
+
+use crate::emitter::Emitter;
+use crate::nodes::{Child, EmitAt, Held, Place};
+use swc_ecma_codegen_common::Span;
+use swc_ecma_codegen_grammar::ListFormat;
+use swc_ecma_codegen_grammar::comments::Comments;
+use swc_ecma_codegen_grammar::mapper::SourceMapper;
+use swc_ecma_codegen_literals::Punctuator;
+use swc_ecma_codegen_spans::Spanned;
+use swc_ecma_codegen_text_writer::WriteJs;
+use swc_ecma_codegen_tree::{
+    TsEnumDecl, TsEnumMember, TsEnumMemberId, TsExportAssignment, TsExprWithTypeArgs,
+    TsExternalModuleRef, TsImportEqualsDecl, TsInterfaceDecl, TsModuleBlock, TsModuleDecl,
+    TsModuleName, TsModuleRef, TsNamespaceBody, TsNamespaceBodyBox, TsNamespaceDecl,
+    TsNamespaceExportDecl, TsTypeAliasDecl,
+};
+
+/// The format of what an interface extends.
+fn extended_format() -> ListFormat
+    ensures { result.0 ≡ extended_format }
+{
+    ListFormat::HeritageClauseTypes
+}
+
+/// The format of the members of an enum.
+fn enum_format() -> ListFormat
+    ensures { result.0 ≡ enum_format }
+{
+    ListFormat::EnumMembers
+}
+
+/// The format of the items of a namespace.
+fn module_block_format() -> ListFormat
+    ensures { result.0 ≡ module_block_format }
+{
+    ListFormat::SourceFileStatements
+}
+
+impl<N: Held> EmitAt for TsExprWithTypeArgs<N> {
+    ghost items = { λ n _. ts_expr_with_type_args N.items n };
+
+    #[tactic(auto, unfolding(crate::specs::TsDecls::ts_expr_with_type_args))]
+    fn emit_at<W: WriteJs, S: SourceMapper, C: Comments>(
+        &self,
+        e: &mut Emitter<'_, W, S, C>,
+        place: Place,
+    ) {
+        e.leading_comments(self.span.lo);
+        self.expr.held().emit_at(e, Place::Plain);
+        e.type_args(Place::Plain, &self.type_args);
+    }
+}
+
+impl<N: Held> Child for TsExprWithTypeArgs<N> {
+    ghost stands = { λ n. n.span };
+
+    fn place(&self) -> Span {
+        self.span
+    }
+}
+
+impl<N: Held> EmitAt for TsInterfaceDecl<N> {
+    ghost items = { λ n _. ts_interface_decl N.answers N.items n };
+
+    #[tactic(auto, unfolding(crate::specs::TsDecls::ts_interface_decl))]
+    fn emit_at<W: WriteJs, S: SourceMapper, C: Comments>(
+        &self,
+        e: &mut Emitter<'_, W, S, C>,
+        place: Place,
+    ) {
+        e.leading_comments(self.span.lo);
+        e.declare_word(self.declare);
+        e.keyword(None, "interface");
+        e.space();
+        self.id.emit_at(e, Place::Plain);
+        e.type_params(&self.type_params);
+        e.extends_clause(self.span, &self.extends);
+        e.formatting_space();
+        self.body.emit_at(e, Place::Plain);
+    }
+}
+
+impl<N: Held> EmitAt for TsTypeAliasDecl<N> {
+    ghost items = { λ n _. ts_type_alias_decl N.items n };
+
+    #[tactic(auto, unfolding(crate::specs::TsDecls::ts_type_alias_decl))]
+    fn emit_at<W: WriteJs, S: SourceMapper, C: Comments>(
+        &self,
+        e: &mut Emitter<'_, W, S, C>,
+        place: Place,
+    ) {
+        e.leading_comments(self.span.lo);
+        e.declare_word(self.declare);
+        e.keyword(None, "type");
+        e.space();
+        self.id.emit_at(e, Place::Plain);
+        e.type_params(&self.type_params);
+        e.spaced_punct(Punctuator::Equal);
+        self.type_ann.held().emit_at(e, Place::Plain);
+        e.semi();
+    }
+}
+
+impl EmitAt for TsEnumMemberId {
+    ghost items = { λ n _. ts_enum_member_id n };
+
+    #[tactic(auto, unfolding(crate::specs::TsDecls::ts_enum_member_id))]
+    fn emit_at<W: WriteJs, S: SourceMapper, C: Comments>(
+        &self,
+        e: &mut Emitter<'_, W, S, C>,
+        place: Place,
+    ) {
+        match self {
+            TsEnumMemberId::Ident(node) => node.emit_at(e, Place::Plain),
+            TsEnumMemberId::Str(node) => node.emit_at(e, Place::Plain),
+        }
+    }
+}
+
+impl<N: Held> EmitAt for TsEnumMember<N> {
+    ghost items = { λ n _. ts_enum_member N.items n };
+
+    #[tactic(auto, unfolding(crate::specs::TsDecls::ts_enum_member))]
+    fn emit_at<W: WriteJs, S: SourceMapper, C: Comments>(
+        &self,
+        e: &mut Emitter<'_, W, S, C>,
+        place: Place,
+    ) {
+        e.leading_comments(self.span.lo);
+        self.id.emit_at(e, Place::Plain);
+        e.initializer(&self.init);
+    }
+}
+
+impl<N: Held> Child for TsEnumMember<N> {
+    ghost stands = { λ n. n.span };
+
+    fn place(&self) -> Span {
+        self.span
+    }
+}
+
+impl<N: Held> EmitAt for TsEnumDecl<N> {
+    ghost items = { λ n _. ts_enum_decl N.items n };
+
+    #[tactic(auto, unfolding(crate::specs::TsDecls::ts_enum_decl))]
+    fn emit_at<W: WriteJs, S: SourceMapper, C: Comments>(
+        &self,
+        e: &mut Emitter<'_, W, S, C>,
+        place: Place,
+    ) {
+        e.leading_comments(self.span.lo);
+        e.declare_word(self.declare);
+        e.word_before(self.is_const, "const");
+        e.keyword(None, "enum");
+        e.space();
+        self.id.emit_at(e, Place::Plain);
+        e.formatting_space();
+        e.enum_body(self);
+    }
+}
+
+impl EmitAt for TsModuleName {
+    ghost items = { λ n _. ts_module_name n };
+
+    #[tactic(auto, unfolding(crate::specs::TsDecls::ts_module_name))]
+    fn emit_at<W: WriteJs, S: SourceMapper, C: Comments>(
+        &self,
+        e: &mut Emitter<'_, W, S, C>,
+        place: Place,
+    ) {
+        match self {
+            TsModuleName::Ident(node) => {
+                e.keyword(None, "namespace");
+                e.space();
+                node.emit_at(e, Place::Plain)
+            }
+            TsModuleName::Str(node) => {
+                e.keyword(None, "module");
+                e.space();
+                node.emit_at(e, Place::Plain)
+            }
+        }
+    }
+}
+
+impl<N: Held> EmitAt for TsModuleDecl<N> {
+    ghost items = { λ n _. ts_module_decl N.items n };
+
+    #[tactic(auto, unfolding(crate::specs::TsDecls::ts_module_decl))]
+    fn emit_at<W: WriteJs, S: SourceMapper, C: Comments>(
+        &self,
+        e: &mut Emitter<'_, W, S, C>,
+        place: Place,
+    ) {
+        e.leading_comments(self.span.lo);
+        e.declare_word(self.declare);
+        e.module_head(self.global, &self.id);
+        e.module_tail(&self.body);
+    }
+}
+
+impl<N: Held> EmitAt for TsModuleBlock<N> {
+    ghost items = { λ n _. ts_module_block N.answers N.items n };
+
+    #[tactic(auto, unfolding(crate::specs::Namespaces::ts_module_block))]
+    fn emit_at<W: WriteJs, S: SourceMapper, C: Comments>(
+        &self,
+        e: &mut Emitter<'_, W, S, C>,
+        place: Place,
+    ) {
+        e.block_items(self);
+        e.leading_comments(self.span.lo);
+    }
+}
+
+impl<N: Held> EmitAt for TsNamespaceDecl<N> {
+    ghost items = { λ n _. ts_namespace_decl N.items n };
+
+    #[tactic(auto, unfolding(crate::specs::Namespaces::ts_namespace_decl))]
+    fn emit_at<W: WriteJs, S: SourceMapper, C: Comments>(
+        &self,
+        e: &mut Emitter<'_, W, S, C>,
+        place: Place,
+    ) {
+        e.leading_comments(self.span.lo);
+        e.declare_word(self.declare);
+        e.keyword(None, "namespace");
+        e.space();
+        self.id.emit_at(e, Place::Plain);
+        e.formatting_space();
+        self.body.held().emit_at(e, Place::Plain);
+    }
+}
+
+impl<N: Held> EmitAt for TsNamespaceBody<N> {
+    ghost items = { ts_namespace_body N.answers N.items };
+
+    #[tactic(auto, unfolding(crate::specs::Namespaces::ts_namespace_body))]
+    fn emit_at<W: WriteJs, S: SourceMapper, C: Comments>(
+        &self,
+        e: &mut Emitter<'_, W, S, C>,
+        place: Place,
+    ) {
+        match place {
+            Place::Dotted => e.dotted_body(self),
+            _ => e.braced_body(self),
+        }
+    }
+}
+
+impl EmitAt for TsExternalModuleRef {
+    ghost items = { λ n _. ts_external_module_ref n };
+
+    #[tactic(auto, unfolding(crate::specs::TsDecls::ts_external_module_ref))]
+    fn emit_at<W: WriteJs, S: SourceMapper, C: Comments>(
+        &self,
+        e: &mut Emitter<'_, W, S, C>,
+        place: Place,
+    ) {
+        e.leading_comments(self.span.lo);
+        e.keyword(None, "require");
+        e.punct(Punctuator::LeftParenthesis);
+        self.expr.emit_at(e, Place::Plain);
+        e.punct(Punctuator::RightParenthesis);
+    }
+}
+
+impl<N: Held> EmitAt for TsModuleRef<N> {
+    ghost items = { λ n _. ts_module_ref N.items n };
+
+    #[tactic(auto, unfolding(crate::specs::TsDecls::ts_module_ref))]
+    fn emit_at<W: WriteJs, S: SourceMapper, C: Comments>(
+        &self,
+        e: &mut Emitter<'_, W, S, C>,
+        place: Place,
+    ) {
+        match self {
+            TsModuleRef::TsEntityName(node) => node.held().emit_at(e, Place::Plain),
+            TsModuleRef::TsExternalModuleRef(node) => node.emit_at(e, Place::Plain),
+        }
+    }
+}
+
+impl<N: Held> EmitAt for TsImportEqualsDecl<N> {
+    ghost items = { λ n _. ts_import_equals_decl N.items n };
+
+    #[tactic(auto, unfolding(crate::specs::TsDecls::ts_import_equals_decl))]
+    fn emit_at<W: WriteJs, S: SourceMapper, C: Comments>(
+        &self,
+        e: &mut Emitter<'_, W, S, C>,
+        place: Place,
+    ) {
+        e.leading_comments(self.span.lo);
+        e.word_before(self.is_export, "export");
+        e.keyword(None, "import");
+        e.space();
+        e.word_before(self.is_type_only, "type");
+        self.id.emit_at(e, Place::Plain);
+        e.spaced_punct(Punctuator::Equal);
+        self.module_ref.emit_at(e, Place::Plain);
+        e.semi();
+    }
+}
+
+impl<N: Held> EmitAt for TsExportAssignment<N> {
+    ghost items = { λ n _. ts_export_assignment N.items n };
+
+    #[tactic(auto, unfolding(crate::specs::TsDecls::ts_export_assignment))]
+    fn emit_at<W: WriteJs, S: SourceMapper, C: Comments>(
+        &self,
+        e: &mut Emitter<'_, W, S, C>,
+        place: Place,
+    ) {
+        e.leading_comments(self.span.lo);
+        e.keyword(None, "export");
+        e.spaced_punct(Punctuator::Equal);
+        self.expr.held().emit_at(e, Place::Plain);
+        e.semi();
+    }
+}
+
+impl EmitAt for TsNamespaceExportDecl {
+    ghost items = { λ n _. ts_namespace_export_decl n };
+
+    #[tactic(auto, unfolding(crate::specs::TsDecls::ts_namespace_export_decl))]
+    fn emit_at<W: WriteJs, S: SourceMapper, C: Comments>(
+        &self,
+        e: &mut Emitter<'_, W, S, C>,
+        place: Place,
+    ) {
+        e.leading_comments(self.span.lo);
+        e.keyword(None, "export");
+        e.space();
+        e.keyword(None, "as");
+        e.space();
+        e.keyword(None, "namespace");
+        e.space();
+        self.id.emit_at(e, Place::Plain);
+        e.semi();
+    }
+}
+
+impl<W: WriteJs, S: SourceMapper, C: Comments> Emitter<'_, W, S, C> {
+    /// Writes `declare` and a blank, where it is so.
+    #[tactic(auto, unfolding(crate::specs::TsDecls::declare_word))]
+    pub(crate) fn declare_word(&mut self, declared: bool)
+        ensures items { Makes (declare_word declared) (standing_of S.lines C.maps W.sheet self.old) (standing_of S.lines C.maps W.sheet self.new) }
+        ensures level { Stays (standing_of S.lines C.maps W.sheet self.old) (standing_of S.lines C.maps W.sheet self.new) }
+    {
+        self.word_before(declared, "declare")
+    }
+
+    /// Writes what an interface extends, with commas between.
+    fn extended_list<N: Held>(&mut self, span: Span, nodes: &[TsExprWithTypeArgs<N>])
+        ensures items { Makes (extended_list N.items span nodes.now) (standing_of S.lines C.maps W.sheet self.old) (standing_of S.lines C.maps W.sheet self.new) }
+        ensures level { Stays (standing_of S.lines C.maps W.sheet self.old) (standing_of S.lines C.maps W.sheet self.new) }
+    {
+        self.list(extended_format(), span, nodes)
+    }
+
+    /// Writes ` extends A<B>, C`.
+    #[tactic(auto, unfolding(crate::specs::TsDecls::some_extends))]
+    fn some_extends<N: Held>(&mut self, span: Span, nodes: &[TsExprWithTypeArgs<N>])
+        ensures items { Makes (some_extends N.items span nodes.now) (standing_of S.lines C.maps W.sheet self.old) (standing_of S.lines C.maps W.sheet self.new) }
+        ensures level { Stays (standing_of S.lines C.maps W.sheet self.old) (standing_of S.lines C.maps W.sheet self.new) }
+    {
+        self.space();
+        self.keyword(None, "extends");
+        self.space();
+        self.extended_list(span, nodes);
+    }
+
+    /// Writes the same, where something is extended.
+    #[tactic(auto, unfolding(crate::specs::TsDecls::extends_clause))]
+    fn extends_clause<N: Held>(&mut self, span: Span, nodes: &[TsExprWithTypeArgs<N>])
+        ensures items { Makes (extends_clause N.items span nodes.now) (standing_of S.lines C.maps W.sheet self.old) (standing_of S.lines C.maps W.sheet self.new) }
+        ensures level { Stays (standing_of S.lines C.maps W.sheet self.old) (standing_of S.lines C.maps W.sheet self.new) }
+    {
+        if nodes.is_empty() {
+            return;
+        }
+        self.some_extends(span, nodes)
+    }
+
+    /// Writes the members of an enum, with commas between.
+    fn enum_members<N: Held>(&mut self, node: &TsEnumDecl<N>)
+        ensures items { Makes (enum_members N.items node.now) (standing_of S.lines C.maps W.sheet self.old) (standing_of S.lines C.maps W.sheet self.new) }
+        ensures level { Stays (standing_of S.lines C.maps W.sheet self.old) (standing_of S.lines C.maps W.sheet self.new) }
+    {
+        self.list(enum_format(), node.span, &node.members)
+    }
+
+    /// Writes `{ B, C = 1 }`.
+    #[tactic(auto, unfolding(crate::specs::TsDecls::enum_body))]
+    fn enum_body<N: Held>(&mut self, node: &TsEnumDecl<N>)
+        ensures items { Makes (enum_body N.items node.now) (standing_of S.lines C.maps W.sheet self.old) (standing_of S.lines C.maps W.sheet self.new) }
+        ensures level { Stays (standing_of S.lines C.maps W.sheet self.old) (standing_of S.lines C.maps W.sheet self.new) }
+    {
+        self.punct(Punctuator::LeftBrace);
+        self.enum_members(node);
+        self.punct(Punctuator::RightBrace);
+    }
+
+    /// Writes `namespace a`, `module "a"` or `global`.
+    #[tactic(auto, unfolding(crate::specs::TsDecls::module_head))]
+    fn module_head(&mut self, global: bool, name: &TsModuleName)
+        ensures items { Makes (module_head global name.now) (standing_of S.lines C.maps W.sheet self.old) (standing_of S.lines C.maps W.sheet self.new) }
+        ensures level { Stays (standing_of S.lines C.maps W.sheet self.old) (standing_of S.lines C.maps W.sheet self.new) }
+    {
+        if global {
+            return self.keyword(None, "global");
+        }
+        name.emit_at(self, Place::Plain)
+    }
+
+    /// Writes the body behind the name, or the semicolon in its place.
+    #[tactic(auto, unfolding(crate::specs::TsDecls::module_tail))]
+    fn module_tail<N: Held>(&mut self, body: &Option<TsNamespaceBodyBox<N>>)
+        ensures items { Makes (module_tail N.items body.now) (standing_of S.lines C.maps W.sheet self.old) (standing_of S.lines C.maps W.sheet self.new) }
+        ensures level { Stays (standing_of S.lines C.maps W.sheet self.old) (standing_of S.lines C.maps W.sheet self.new) }
+    {
+        match body {
+            Some(node) => node.held().emit_at(self, Place::Dotted),
+            None => self.semi(),
+        }
+    }
+
+    /// Writes the items of a namespace.
+    fn block_items<N: Held>(&mut self, node: &TsModuleBlock<N>)
+        ensures items { Makes (block_items N.answers N.items node.now) (standing_of S.lines C.maps W.sheet self.old) (standing_of S.lines C.maps W.sheet self.new) }
+        ensures level { Stays (standing_of S.lines C.maps W.sheet self.old) (standing_of S.lines C.maps W.sheet self.new) }
+    {
+        self.list(module_block_format(), node.span, &node.body)
+    }
+
+    /// Writes what stands between the braces of a body.
+    #[tactic(auto, unfolding(crate::specs::Namespaces::namespace_inside))]
+    fn namespace_inside<N: Held>(&mut self, node: &TsNamespaceBody<N>)
+        ensures items { Makes (namespace_inside N.answers N.items node.now) (standing_of S.lines C.maps W.sheet self.old) (standing_of S.lines C.maps W.sheet self.new) }
+        ensures level { Stays (standing_of S.lines C.maps W.sheet self.old) (standing_of S.lines C.maps W.sheet self.new) }
+    {
+        match node {
+            TsNamespaceBody::TsModuleBlock(node) => node.emit_at(self, Place::Plain),
+            TsNamespaceBody::TsNamespaceDecl(node) => node.emit_at(self, Place::Plain),
+        }
+    }
+
+    /// Writes `{ b; }`.
+    #[tactic(auto, unfolding(crate::specs::Namespaces::braced_body))]
+    fn braced_body<N: Held>(&mut self, node: &TsNamespaceBody<N>)
+        ensures items { Makes (braced_body N.answers N.items node.now) (standing_of S.lines C.maps W.sheet self.old) (standing_of S.lines C.maps W.sheet self.new) }
+        ensures level { Stays (standing_of S.lines C.maps W.sheet self.old) (standing_of S.lines C.maps W.sheet self.new) }
+    {
+        self.leading_comments(node.span().lo);
+        self.punct(Punctuator::LeftBrace);
+        self.deeper();
+        self.namespace_inside(node);
+        self.shallower();
+        self.punct(Punctuator::RightBrace);
+    }
+
+    /// Writes ` { b; }` or `.b { c; }`.
+    #[tactic(auto, unfolding(crate::specs::Namespaces::dotted_body))]
+    fn dotted_body<N: Held>(&mut self, node: &TsNamespaceBody<N>)
+        ensures items { Makes (dotted_body N.answers N.items node.now) (standing_of S.lines C.maps W.sheet self.old) (standing_of S.lines C.maps W.sheet self.new) }
+        ensures level { Stays (standing_of S.lines C.maps W.sheet self.old) (standing_of S.lines C.maps W.sheet self.new) }
+    {
+        match node {
+            TsNamespaceBody::TsModuleBlock(_) => {
+                self.formatting_space();
+                self.braced_body(node)
+            }
+            TsNamespaceBody::TsNamespaceDecl(node) => {
+                self.punct(Punctuator::Dot);
+                node.id.emit_at(self, Place::Plain);
+                node.body.held().emit_at(self, Place::Dotted)
+            }
+        }
+    }
+}

@@ -1,0 +1,297 @@
+//! Members of object types and of interfaces.
+
+ghost use Rattle.std.specs.Prelude.{◌≡◌};
+ghost use Rattle.swc_ecma_codegen_emit.specs.Standing.{Makes, Stays, standing_of};
+ghost use Rattle.swc_ecma_codegen_emit.specs.TsMembers.{signature_key, signature_params, annotation_between, ts_call_signature_decl, params_behind_new, ts_construct_signature_decl, ts_property_signature, getter_annotation, ts_getter_signature, ts_setter_signature, ts_method_signature, readonly_index, index_params, ts_index_signature, ts_signature, ts_type_element, interface_format, interface_members, ts_interface_body};
+
+use crate::emitter::Emitter;
+use crate::nodes::{EmitAt, Held, Place};
+use swc_ecma_codegen_common::Span;
+use swc_ecma_codegen_grammar::ListFormat;
+use swc_ecma_codegen_grammar::comments::Comments;
+use swc_ecma_codegen_grammar::mapper::SourceMapper;
+use swc_ecma_codegen_literals::Punctuator;
+use swc_ecma_codegen_text_writer::WriteJs;
+use swc_ecma_codegen_tree::{
+    ExprBox, TsCallSignatureDecl, TsConstructSignatureDecl, TsFnParamBox, TsGetterSignature,
+    TsIndexSignature, TsInterfaceBody, TsMethodSignature, TsPropertySignature, TsSetterSignature,
+    TsTypeAnnBox, TsTypeElement, TsTypeParamDeclBox,
+};
+
+/// The format of the members of an interface.
+fn interface_format() -> ListFormat
+    ensures { result.0 ≡ interface_format }
+{
+    ListFormat::InterfaceMembers
+}
+
+impl<N: Held> EmitAt for TsCallSignatureDecl<N> {
+    ghost items = { λ n _. ts_call_signature_decl N.answers N.items n };
+
+    #[tactic(auto, unfolding(crate::specs::TsMembers::ts_call_signature_decl))]
+    fn emit_at<W: WriteJs, S: SourceMapper, C: Comments>(
+        &self,
+        e: &mut Emitter<'_, W, S, C>,
+        place: Place,
+    ) {
+        e.leading_comments(self.span.lo);
+        e.type_params(&self.type_params);
+        e.signature_params(self.span, &self.params);
+        e.annotation_between(&self.type_ann);
+    }
+}
+
+impl<N: Held> EmitAt for TsConstructSignatureDecl<N> {
+    ghost items = { λ n _. ts_construct_signature_decl N.answers N.items n };
+
+    #[tactic(auto, unfolding(crate::specs::TsMembers::ts_construct_signature_decl))]
+    fn emit_at<W: WriteJs, S: SourceMapper, C: Comments>(
+        &self,
+        e: &mut Emitter<'_, W, S, C>,
+        place: Place,
+    ) {
+        e.leading_comments(self.span.lo);
+        e.keyword(None, "new");
+        e.params_behind_new(&self.type_params);
+        e.signature_params(self.span, &self.params);
+        e.spaced_annotation(&self.type_ann);
+    }
+}
+
+impl<N: Held> EmitAt for TsPropertySignature<N> {
+    ghost items = { λ n _. ts_property_signature N.items n };
+
+    #[tactic(auto, unfolding(crate::specs::TsMembers::ts_property_signature))]
+    fn emit_at<W: WriteJs, S: SourceMapper, C: Comments>(
+        &self,
+        e: &mut Emitter<'_, W, S, C>,
+        place: Place,
+    ) {
+        e.leading_comments(self.span.lo);
+        e.word_before(self.readonly, "readonly");
+        e.signature_key(self.computed, &self.key);
+        e.question(self.optional);
+        e.annotation(&self.type_ann);
+    }
+}
+
+impl<N: Held> EmitAt for TsGetterSignature<N> {
+    ghost items = { λ n _. ts_getter_signature N.items n };
+
+    #[tactic(auto, unfolding(crate::specs::TsMembers::ts_getter_signature))]
+    fn emit_at<W: WriteJs, S: SourceMapper, C: Comments>(
+        &self,
+        e: &mut Emitter<'_, W, S, C>,
+        place: Place,
+    ) {
+        e.keyword(None, "get");
+        e.space();
+        e.signature_key(self.computed, &self.key);
+        e.punct(Punctuator::LeftParenthesis);
+        e.punct(Punctuator::RightParenthesis);
+        e.getter_annotation(&self.type_ann);
+    }
+}
+
+impl<N: Held> EmitAt for TsSetterSignature<N> {
+    ghost items = { λ n _. ts_setter_signature N.items n };
+
+    #[tactic(auto, unfolding(crate::specs::TsMembers::ts_setter_signature))]
+    fn emit_at<W: WriteJs, S: SourceMapper, C: Comments>(
+        &self,
+        e: &mut Emitter<'_, W, S, C>,
+        place: Place,
+    ) {
+        e.keyword(None, "set");
+        e.space();
+        e.signature_key(self.computed, &self.key);
+        e.punct(Punctuator::LeftParenthesis);
+        self.param.held().emit_at(e, Place::Plain);
+        e.punct(Punctuator::RightParenthesis);
+    }
+}
+
+impl<N: Held> EmitAt for TsMethodSignature<N> {
+    ghost items = { λ n _. ts_method_signature N.answers N.items n };
+
+    #[tactic(auto, unfolding(crate::specs::TsMembers::ts_method_signature))]
+    fn emit_at<W: WriteJs, S: SourceMapper, C: Comments>(
+        &self,
+        e: &mut Emitter<'_, W, S, C>,
+        place: Place,
+    ) {
+        e.leading_comments(self.span.lo);
+        e.signature_key(self.computed, &self.key);
+        e.question(self.optional);
+        e.type_params(&self.type_params);
+        e.signature_params(self.span, &self.params);
+        e.annotation(&self.type_ann);
+    }
+}
+
+impl<N: Held> EmitAt for TsIndexSignature<N> {
+    ghost items = { λ n _. ts_index_signature N.answers N.items n };
+
+    #[tactic(auto, unfolding(crate::specs::TsMembers::ts_index_signature))]
+    fn emit_at<W: WriteJs, S: SourceMapper, C: Comments>(
+        &self,
+        e: &mut Emitter<'_, W, S, C>,
+        place: Place,
+    ) {
+        e.leading_comments(self.span.lo);
+        e.word_before(self.is_static, "static");
+        e.readonly_index(self.readonly);
+        e.index_params(self.span, &self.params);
+        e.annotation(&self.type_ann);
+    }
+}
+
+impl<N: Held> EmitAt for TsTypeElement<N> {
+    ghost items = { λ n _. ts_type_element N.answers N.items n };
+
+    #[tactic(auto, unfolding(crate::specs::TsMembers::ts_type_element))]
+    fn emit_at<W: WriteJs, S: SourceMapper, C: Comments>(
+        &self,
+        e: &mut Emitter<'_, W, S, C>,
+        place: Place,
+    ) {
+        e.ts_signature(self);
+        e.semi();
+    }
+}
+
+impl<N: Held> EmitAt for TsInterfaceBody<N> {
+    ghost items = { λ n _. ts_interface_body N.answers N.items n };
+
+    #[tactic(auto, unfolding(crate::specs::TsMembers::ts_interface_body))]
+    fn emit_at<W: WriteJs, S: SourceMapper, C: Comments>(
+        &self,
+        e: &mut Emitter<'_, W, S, C>,
+        place: Place,
+    ) {
+        e.leading_comments(self.span.lo);
+        e.punct(Punctuator::LeftBrace);
+        e.interface_members(self);
+        e.punct(Punctuator::RightBrace);
+    }
+}
+
+impl<W: WriteJs, S: SourceMapper, C: Comments> Emitter<'_, W, S, C> {
+    /// Writes `a` or `[a]`.
+    #[tactic(auto, unfolding(crate::specs::TsMembers::signature_key))]
+    fn signature_key<N: Held>(&mut self, computed: bool, key: &ExprBox<N>)
+        ensures items { Makes (signature_key N.items computed key.now) (standing_of S.lines C.maps W.sheet self.old) (standing_of S.lines C.maps W.sheet self.new) }
+        ensures level { Stays (standing_of S.lines C.maps W.sheet self.old) (standing_of S.lines C.maps W.sheet self.new) }
+    {
+        if !computed {
+            return key.held().emit_at(self, Place::Plain);
+        }
+        self.punct(Punctuator::LeftBracket);
+        key.held().emit_at(self, Place::Plain);
+        self.punct(Punctuator::RightBracket);
+    }
+
+    /// Writes `(a: A, b: B)`.
+    #[tactic(auto, unfolding(crate::specs::TsMembers::signature_params))]
+    fn signature_params<N: Held>(&mut self, span: Span, params: &[TsFnParamBox<N>])
+        ensures items { Makes (signature_params N.answers N.items span params.now) (standing_of S.lines C.maps W.sheet self.old) (standing_of S.lines C.maps W.sheet self.new) }
+        ensures level { Stays (standing_of S.lines C.maps W.sheet self.old) (standing_of S.lines C.maps W.sheet self.new) }
+    {
+        self.punct(Punctuator::LeftParenthesis);
+        self.fn_params_list(span, params);
+        self.punct(Punctuator::RightParenthesis);
+    }
+
+    /// Writes ` : A`, where there is a type, with two blanks always.
+    #[tactic(auto, unfolding(crate::specs::TsMembers::annotation_between))]
+    fn annotation_between<N: Held>(&mut self, ty: &Option<TsTypeAnnBox<N>>)
+        ensures items { Makes (annotation_between N.items ty.now) (standing_of S.lines C.maps W.sheet self.old) (standing_of S.lines C.maps W.sheet self.new) }
+        ensures level { Stays (standing_of S.lines C.maps W.sheet self.old) (standing_of S.lines C.maps W.sheet self.new) }
+    {
+        match ty {
+            Some(node) => {
+                self.punct_between(Punctuator::Colon);
+                node.held().emit_at(self, Place::Plain)
+            }
+            None => {}
+        }
+    }
+
+    /// Writes a blank and type parameters, where there are some.
+    #[tactic(auto, unfolding(crate::specs::TsMembers::params_behind_new))]
+    fn params_behind_new<N: Held>(&mut self, params: &Option<TsTypeParamDeclBox<N>>)
+        ensures items { Makes (params_behind_new N.items params.now) (standing_of S.lines C.maps W.sheet self.old) (standing_of S.lines C.maps W.sheet self.new) }
+        ensures level { Stays (standing_of S.lines C.maps W.sheet self.old) (standing_of S.lines C.maps W.sheet self.new) }
+    {
+        match params {
+            Some(node) => {
+                self.space();
+                node.held().emit_at(self, Place::Plain)
+            }
+            None => {}
+        }
+    }
+
+    /// Writes `: A`, where there is a type, without the comments before it.
+    #[tactic(auto, unfolding(crate::specs::TsMembers::getter_annotation))]
+    fn getter_annotation<N: Held>(&mut self, ty: &Option<TsTypeAnnBox<N>>)
+        ensures items { Makes (getter_annotation N.items ty.now) (standing_of S.lines C.maps W.sheet self.old) (standing_of S.lines C.maps W.sheet self.new) }
+        ensures level { Stays (standing_of S.lines C.maps W.sheet self.old) (standing_of S.lines C.maps W.sheet self.new) }
+    {
+        match ty {
+            Some(node) => {
+                self.punct(Punctuator::Colon);
+                self.formatting_space();
+                node.held().emit_at(self, Place::Reference)
+            }
+            None => {}
+        }
+    }
+
+    /// Writes `[a: A]`.
+    fn index_params<N: Held>(&mut self, span: Span, params: &[TsFnParamBox<N>])
+        ensures items { Makes (index_params N.answers N.items span params.now) (standing_of S.lines C.maps W.sheet self.old) (standing_of S.lines C.maps W.sheet self.new) }
+        ensures level { Stays (standing_of S.lines C.maps W.sheet self.old) (standing_of S.lines C.maps W.sheet self.new) }
+    {
+        self.punct(Punctuator::LeftBracket);
+        self.fn_params_list(span, params);
+        self.punct(Punctuator::RightBracket);
+    }
+
+    /// Writes `readonly` and a blank, unless minified, where it is so.
+    #[tactic(auto, unfolding(crate::specs::TsMembers::readonly_index))]
+    fn readonly_index(&mut self, wanted: bool)
+        ensures items { Makes (readonly_index wanted) (standing_of S.lines C.maps W.sheet self.old) (standing_of S.lines C.maps W.sheet self.new) }
+        ensures level { Stays (standing_of S.lines C.maps W.sheet self.old) (standing_of S.lines C.maps W.sheet self.new) }
+    {
+        if wanted {
+            self.keyword(None, "readonly");
+            self.formatting_space();
+        }
+    }
+
+    /// Writes a member by its variant.
+    #[tactic(auto, unfolding(crate::specs::TsMembers::ts_signature))]
+    fn ts_signature<N: Held>(&mut self, node: &TsTypeElement<N>)
+        ensures items { Makes (ts_signature N.answers N.items node.now) (standing_of S.lines C.maps W.sheet self.old) (standing_of S.lines C.maps W.sheet self.new) }
+        ensures level { Stays (standing_of S.lines C.maps W.sheet self.old) (standing_of S.lines C.maps W.sheet self.new) }
+    {
+        match node {
+            TsTypeElement::TsCallSignatureDecl(node) => node.emit_at(self, Place::Plain),
+            TsTypeElement::TsConstructSignatureDecl(node) => node.emit_at(self, Place::Plain),
+            TsTypeElement::TsPropertySignature(node) => node.emit_at(self, Place::Plain),
+            TsTypeElement::TsGetterSignature(node) => node.emit_at(self, Place::Plain),
+            TsTypeElement::TsSetterSignature(node) => node.emit_at(self, Place::Plain),
+            TsTypeElement::TsMethodSignature(node) => node.emit_at(self, Place::Plain),
+            TsTypeElement::TsIndexSignature(node) => node.emit_at(self, Place::Plain),
+        }
+    }
+
+    /// Writes the members of an interface.
+    fn interface_members<N: Held>(&mut self, node: &TsInterfaceBody<N>)
+        ensures items { Makes (interface_members N.answers N.items node.now) (standing_of S.lines C.maps W.sheet self.old) (standing_of S.lines C.maps W.sheet self.new) }
+        ensures level { Stays (standing_of S.lines C.maps W.sheet self.old) (standing_of S.lines C.maps W.sheet self.new) }
+    {
+        self.list(interface_format(), node.span, &node.body)
+    }
+}

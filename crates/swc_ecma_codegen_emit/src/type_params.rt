@@ -1,0 +1,197 @@
+//! Names of types, type arguments and type parameters.
+
+ghost use Rattle.std.specs.Prelude.{◌≡◌, true};
+ghost use Rattle.swc_ecma_codegen_tokens.specs.Starts.{begins_letter};
+ghost use Rattle.swc_ecma_codegen_emit.specs.Standing.{Makes, Stays, standing_of};
+ghost use Rattle.swc_ecma_codegen_emit.specs.Types.{types_format, type_behind, default_type, ts_qualified_name, ts_entity_name, ts_type_ref, listed_types, type_arguments, ts_type_param_instantiation, ts_type_param, listed_params, ts_type_param_decl};
+
+use crate::emitter::Emitter;
+use crate::nodes::{Child, EmitAt, Held, Place};
+use swc_ecma_codegen_common::Span;
+use swc_ecma_codegen_grammar::ListFormat;
+use swc_ecma_codegen_grammar::comments::Comments;
+use swc_ecma_codegen_grammar::mapper::SourceMapper;
+use swc_ecma_codegen_literals::Punctuator;
+use swc_ecma_codegen_text_writer::WriteJs;
+use swc_ecma_codegen_tree::{
+    TsEntityName, TsQualifiedName, TsTypeBox, TsTypeParam, TsTypeParamDecl,
+    TsTypeParamInstantiation, TsTypeRef,
+};
+
+/// The format of type arguments, type parameters, parameters of a type, and elements of a tuple.
+pub(crate) fn types_format() -> ListFormat
+    ensures { result.0 ≡ types_format }
+{
+    ListFormat::TypeArguments
+}
+
+impl<N: Held> EmitAt for TsQualifiedName<N> {
+    ghost items = { λ n _. ts_qualified_name N.items n };
+
+    #[tactic(auto, unfolding(crate::specs::Types::ts_qualified_name))]
+    fn emit_at<W: WriteJs, S: SourceMapper, C: Comments>(
+        &self,
+        e: &mut Emitter<'_, W, S, C>,
+        place: Place,
+    ) {
+        e.leading_comments(self.span.lo);
+        self.left.held().emit_at(e, Place::Plain);
+        e.punct(Punctuator::Dot);
+        self.right.emit_at(e, Place::Plain);
+    }
+}
+
+impl<N: Held> EmitAt for TsEntityName<N> {
+    ghost items = { λ n _. ts_entity_name N.items n };
+
+    #[tactic(auto, unfolding(crate::specs::Types::ts_entity_name))]
+    fn emit_at<W: WriteJs, S: SourceMapper, C: Comments>(
+        &self,
+        e: &mut Emitter<'_, W, S, C>,
+        place: Place,
+    ) {
+        match self {
+            TsEntityName::TsQualifiedName(node) => node.emit_at(e, Place::Plain),
+            TsEntityName::Ident(node) => node.emit_at(e, Place::Plain),
+        }
+    }
+}
+
+impl<N: Held> EmitAt for TsTypeRef<N> {
+    ghost items = { λ n _. ts_type_ref N.items n };
+
+    #[tactic(auto, unfolding(crate::specs::Types::ts_type_ref))]
+    fn emit_at<W: WriteJs, S: SourceMapper, C: Comments>(
+        &self,
+        e: &mut Emitter<'_, W, S, C>,
+        place: Place,
+    ) {
+        e.leading_comments(self.span.lo);
+        self.type_name.held().emit_at(e, Place::Plain);
+        e.type_args(Place::Reference, &self.type_params);
+    }
+}
+
+impl<N: Held> EmitAt for TsTypeParamInstantiation<N> {
+    ghost items = { ts_type_param_instantiation N.answers N.items };
+
+    #[tactic(auto, unfolding(crate::specs::Types::ts_type_param_instantiation))]
+    fn emit_at<W: WriteJs, S: SourceMapper, C: Comments>(
+        &self,
+        e: &mut Emitter<'_, W, S, C>,
+        place: Place,
+    ) {
+        match place {
+            Place::Reference => e.type_arguments(self),
+            _ => {
+                e.leading_comments(self.span.lo);
+                e.type_arguments(self)
+            }
+        }
+    }
+}
+
+impl<N: Held> EmitAt for TsTypeParam<N> {
+    ghost items = { λ n _. ts_type_param N.items n };
+
+    #[tactic(auto, unfolding(crate::specs::Types::ts_type_param))]
+    fn emit_at<W: WriteJs, S: SourceMapper, C: Comments>(
+        &self,
+        e: &mut Emitter<'_, W, S, C>,
+        place: Place,
+    ) {
+        e.leading_comments(self.span.lo);
+        e.word_before(self.is_const, "const");
+        e.word_before(self.is_in, "in");
+        e.word_before(self.is_out, "out");
+        self.name.emit_at(e, Place::Plain);
+        e.type_behind("extends", &self.constraint);
+        e.default_type(&self.default_);
+    }
+}
+
+impl<N: Held> Child for TsTypeParam<N> {
+    ghost stands = { λ n. n.span };
+
+    fn place(&self) -> Span {
+        self.span
+    }
+}
+
+impl<N: Held> EmitAt for TsTypeParamDecl<N> {
+    ghost items = { λ n _. ts_type_param_decl N.items n };
+
+    #[tactic(auto, unfolding(crate::specs::Types::ts_type_param_decl))]
+    fn emit_at<W: WriteJs, S: SourceMapper, C: Comments>(
+        &self,
+        e: &mut Emitter<'_, W, S, C>,
+        place: Place,
+    ) {
+        e.leading_comments(self.span.lo);
+        e.punct(Punctuator::Less);
+        e.listed_params(self);
+        e.close();
+    }
+}
+
+impl<W: WriteJs, S: SourceMapper, C: Comments> Emitter<'_, W, S, C> {
+    /// Writes a type, where there is one, behind a word between two blanks.
+    #[tactic(auto, unfolding(crate::specs::Types::type_behind))]
+    pub(crate) fn type_behind<N: Held>(&mut self, text: &'static str, ty: &Option<TsTypeBox<N>>)
+        requires { begins_letter text.now ≡ true }
+        ensures items { Makes (type_behind N.items text.now ty.now) (standing_of S.lines C.maps W.sheet self.old) (standing_of S.lines C.maps W.sheet self.new) }
+        ensures level { Stays (standing_of S.lines C.maps W.sheet self.old) (standing_of S.lines C.maps W.sheet self.new) }
+    {
+        match ty {
+            Some(node) => {
+                self.space();
+                self.keyword(None, text);
+                self.space();
+                node.held().emit_at(self, Place::Plain)
+            }
+            None => {}
+        }
+    }
+
+    /// Writes ` = A`, where there is a type.
+    #[tactic(auto, unfolding(crate::specs::Types::default_type))]
+    pub(crate) fn default_type<N: Held>(&mut self, ty: &Option<TsTypeBox<N>>)
+        ensures items { Makes (default_type N.items ty.now) (standing_of S.lines C.maps W.sheet self.old) (standing_of S.lines C.maps W.sheet self.new) }
+        ensures level { Stays (standing_of S.lines C.maps W.sheet self.old) (standing_of S.lines C.maps W.sheet self.new) }
+    {
+        match ty {
+            Some(node) => {
+                self.spaced_punct(Punctuator::Equal);
+                node.held().emit_at(self, Place::Plain)
+            }
+            None => {}
+        }
+    }
+
+    /// Writes types, with commas between.
+    fn listed_types<N: Held>(&mut self, node: &TsTypeParamInstantiation<N>)
+        ensures items { Makes (listed_types N.answers N.items node.now) (standing_of S.lines C.maps W.sheet self.old) (standing_of S.lines C.maps W.sheet self.new) }
+        ensures level { Stays (standing_of S.lines C.maps W.sheet self.old) (standing_of S.lines C.maps W.sheet self.new) }
+    {
+        self.list(types_format(), node.span, &node.params)
+    }
+
+    /// Writes `<A, B>`.
+    #[tactic(auto, unfolding(crate::specs::Types::type_arguments))]
+    fn type_arguments<N: Held>(&mut self, node: &TsTypeParamInstantiation<N>)
+        ensures items { Makes (type_arguments N.answers N.items node.now) (standing_of S.lines C.maps W.sheet self.old) (standing_of S.lines C.maps W.sheet self.new) }
+        ensures level { Stays (standing_of S.lines C.maps W.sheet self.old) (standing_of S.lines C.maps W.sheet self.new) }
+    {
+        self.punct(Punctuator::Less);
+        self.listed_types(node);
+        self.close();
+    }
+
+    /// Writes type parameters, with commas between.
+    fn listed_params<N: Held>(&mut self, node: &TsTypeParamDecl<N>)
+        ensures items { Makes (listed_params N.items node.now) (standing_of S.lines C.maps W.sheet self.old) (standing_of S.lines C.maps W.sheet self.new) }
+        ensures level { Stays (standing_of S.lines C.maps W.sheet self.old) (standing_of S.lines C.maps W.sheet self.new) }
+    {
+        self.list(types_format(), node.span, &node.params)
+    }
+}

@@ -1,0 +1,694 @@
+//! Types of TypeScript.
+
+ghost use Rattle.std.specs.Prelude.{◌≡◌, false, true};
+ghost use Rattle.swc_ecma_codegen_grammar.specs.TypePhrases.{keyword_of, type_operator};
+ghost use Rattle.swc_ecma_codegen_tokens.specs.Starts.{begins_letter};
+ghost use Rattle.swc_ecma_codegen_emit.specs.Standing.{Makes, Stays, standing_of};
+ghost use Rattle.swc_ecma_codegen_emit.specs.Templates.{tpl_parts};
+ghost use Rattle.swc_ecma_codegen_emit.specs.Types.{type_at, word_before, ts_keyword_type, ts_this_type, ts_tpl_lit_type, ts_lit, ts_lit_type, qualifier, ts_import_type, ts_type_query_expr, ts_type_query, members_format, listed_members, ts_type_lit, ts_array_type, label, ts_tuple_element, listed_elements, ts_tuple_type, ts_optional_type, ts_rest_type, sign, signed_readonly, signed_question, mapped_param, mapped_type_ann, mapped_parts, ts_mapped_type, union_format, intersection_format, joined_list, union_types, intersection_types, ts_union_type, ts_intersection_type, ts_union_or_intersection_type, ts_parenthesized_type, ts_type_operator, ts_indexed_access_type, ts_conditional_type, ts_infer_type, ts_type, ts_type_ann};
+
+use crate::emitter::Emitter;
+use crate::nodes::{Child, EmitAt, Held, Place};
+use crate::templates::is_counted;
+use crate::type_params::types_format;
+use swc_ecma_codegen_common::Span;
+use swc_ecma_codegen_grammar::ListFormat;
+use swc_ecma_codegen_grammar::comments::Comments;
+use swc_ecma_codegen_grammar::mapper::SourceMapper;
+use swc_ecma_codegen_literals::Punctuator;
+use swc_ecma_codegen_text_writer::WriteJs;
+use swc_ecma_codegen_tree::{
+    PatBox, TplElement, TruePlusMinus, TsArrayType, TsConditionalType, TsEntityNameBox,
+    TsImportType, TsIndexedAccessType, TsInferType, TsIntersectionType, TsKeywordType,
+    TsKeywordTypeKind, TsLit, TsLitType, TsMappedType, TsOptionalType, TsParenthesizedType,
+    TsRestType, TsThisType, TsTplLitType, TsTupleElement, TsTupleType, TsType, TsTypeAnn,
+    TsTypeBox, TsTypeLit, TsTypeOperator, TsTypeOperatorOp, TsTypeParam, TsTypeQuery,
+    TsTypeQueryExpr, TsUnionOrIntersectionType, TsUnionType,
+};
+
+/// The format of the members of a type.
+fn members_format() -> ListFormat
+    ensures { result.0 ≡ members_format }
+{
+    ListFormat::MultiLineTypeLiteralMembers
+}
+
+/// The format of `A | B`.
+fn union_format() -> ListFormat
+    ensures { result.0 ≡ union_format }
+{
+    ListFormat::UnionTypeConstituents
+}
+
+/// The format of `A & B`.
+fn intersection_format() -> ListFormat
+    ensures { result.0 ≡ intersection_format }
+{
+    ListFormat::IntersectionTypeConstituents
+}
+
+/// The word of a type that is a keyword.
+#[tactic(auto, unfolding(swc_ecma_codegen_grammar::specs::TypePhrases::keyword_of))]
+fn keyword_of(kind: TsKeywordTypeKind) -> &'static str
+    ensures word { result.now ≡ keyword_of kind }
+    ensures letter { begins_letter result.now ≡ true }
+{
+    match kind {
+        TsKeywordTypeKind::TsAnyKeyword => "any",
+        TsKeywordTypeKind::TsUnknownKeyword => "unknown",
+        TsKeywordTypeKind::TsNumberKeyword => "number",
+        TsKeywordTypeKind::TsObjectKeyword => "object",
+        TsKeywordTypeKind::TsBooleanKeyword => "boolean",
+        TsKeywordTypeKind::TsBigIntKeyword => "bigint",
+        TsKeywordTypeKind::TsStringKeyword => "string",
+        TsKeywordTypeKind::TsSymbolKeyword => "symbol",
+        TsKeywordTypeKind::TsVoidKeyword => "void",
+        TsKeywordTypeKind::TsUndefinedKeyword => "undefined",
+        TsKeywordTypeKind::TsNullKeyword => "null",
+        TsKeywordTypeKind::TsNeverKeyword => "never",
+        TsKeywordTypeKind::TsIntrinsicKeyword => "intrinsic",
+    }
+}
+
+/// The word of an operator of types.
+#[tactic(auto, unfolding(swc_ecma_codegen_grammar::specs::TypePhrases::type_operator))]
+fn type_operator(op: TsTypeOperatorOp) -> &'static str
+    ensures word { result.now ≡ type_operator op }
+    ensures letter { begins_letter result.now ≡ true }
+{
+    match op {
+        TsTypeOperatorOp::KeyOf => "keyof",
+        TsTypeOperatorOp::Unique => "unique",
+        TsTypeOperatorOp::ReadOnly => "readonly",
+    }
+}
+
+impl EmitAt for TsKeywordType {
+    ghost items = { λ n _. ts_keyword_type n };
+
+    #[tactic(auto, unfolding(crate::specs::Types::ts_keyword_type))]
+    fn emit_at<W: WriteJs, S: SourceMapper, C: Comments>(
+        &self,
+        e: &mut Emitter<'_, W, S, C>,
+        place: Place,
+    ) {
+        e.leading_comments(self.span.lo);
+        e.keyword(Some(self.span), keyword_of(self.kind));
+    }
+}
+
+impl EmitAt for TsThisType {
+    ghost items = { λ n _. ts_this_type n };
+
+    #[tactic(auto, unfolding(crate::specs::Types::ts_this_type))]
+    fn emit_at<W: WriteJs, S: SourceMapper, C: Comments>(
+        &self,
+        e: &mut Emitter<'_, W, S, C>,
+        place: Place,
+    ) {
+        e.leading_comments(self.span.lo);
+        e.keyword(Some(self.span), "this");
+    }
+}
+
+impl<N: Held> EmitAt for TsTplLitType<N> {
+    ghost items = { λ n _. ts_tpl_lit_type N.items n };
+
+    #[tactic(auto, unfolding(crate::specs::Types::ts_tpl_lit_type, crate::specs::Types::ts_tpl_parts))]
+    fn emit_at<W: WriteJs, S: SourceMapper, C: Comments>(
+        &self,
+        e: &mut Emitter<'_, W, S, C>,
+        place: Place,
+    ) {
+        if !is_counted(&self.types, &self.quasis) {
+            return e.bad_shape();
+        }
+        e.leading_comments(self.span.lo);
+        e.tpl_types(&self.types, &self.quasis);
+    }
+}
+
+impl<N: Held> EmitAt for TsLit<N> {
+    ghost items = { λ n _. ts_lit N.items n };
+
+    #[tactic(auto, unfolding(crate::specs::Types::ts_lit))]
+    fn emit_at<W: WriteJs, S: SourceMapper, C: Comments>(
+        &self,
+        e: &mut Emitter<'_, W, S, C>,
+        place: Place,
+    ) {
+        match self {
+            TsLit::Number(node) => node.emit_at(e, Place::Plain),
+            TsLit::Str(node) => node.emit_at(e, Place::Plain),
+            TsLit::Bool(node) => node.emit_at(e, Place::Plain),
+            TsLit::BigInt(node) => node.emit_at(e, Place::Plain),
+            TsLit::Tpl(node) => node.emit_at(e, Place::Plain),
+        }
+    }
+}
+
+impl<N: Held> EmitAt for TsLitType<N> {
+    ghost items = { λ n _. ts_lit_type N.items n };
+
+    #[tactic(auto, unfolding(crate::specs::Types::ts_lit_type))]
+    fn emit_at<W: WriteJs, S: SourceMapper, C: Comments>(
+        &self,
+        e: &mut Emitter<'_, W, S, C>,
+        place: Place,
+    ) {
+        e.leading_comments(self.span.lo);
+        self.lit.emit_at(e, Place::Plain);
+    }
+}
+
+impl<N: Held> EmitAt for TsImportType<N> {
+    ghost items = { λ n _. ts_import_type N.items n };
+
+    #[tactic(auto, unfolding(crate::specs::Types::ts_import_type))]
+    fn emit_at<W: WriteJs, S: SourceMapper, C: Comments>(
+        &self,
+        e: &mut Emitter<'_, W, S, C>,
+        place: Place,
+    ) {
+        e.leading_comments(self.span.lo);
+        e.keyword(None, "import");
+        e.punct(Punctuator::LeftParenthesis);
+        self.arg.emit_at(e, Place::Plain);
+        e.punct(Punctuator::RightParenthesis);
+        e.qualifier(&self.qualifier);
+        e.type_args(Place::Plain, &self.type_args);
+    }
+}
+
+impl<N: Held> EmitAt for TsTypeQueryExpr<N> {
+    ghost items = { λ n _. ts_type_query_expr N.items n };
+
+    #[tactic(auto, unfolding(crate::specs::Types::ts_type_query_expr))]
+    fn emit_at<W: WriteJs, S: SourceMapper, C: Comments>(
+        &self,
+        e: &mut Emitter<'_, W, S, C>,
+        place: Place,
+    ) {
+        match self {
+            TsTypeQueryExpr::TsEntityName(node) => node.held().emit_at(e, Place::Plain),
+            TsTypeQueryExpr::Import(node) => node.emit_at(e, Place::Plain),
+        }
+    }
+}
+
+impl<N: Held> EmitAt for TsTypeQuery<N> {
+    ghost items = { λ n _. ts_type_query N.items n };
+
+    #[tactic(auto, unfolding(crate::specs::Types::ts_type_query))]
+    fn emit_at<W: WriteJs, S: SourceMapper, C: Comments>(
+        &self,
+        e: &mut Emitter<'_, W, S, C>,
+        place: Place,
+    ) {
+        e.leading_comments(self.span.lo);
+        e.keyword(None, "typeof");
+        e.space();
+        self.expr_name.emit_at(e, Place::Plain);
+        e.type_args(Place::Plain, &self.type_args);
+    }
+}
+
+impl<N: Held> EmitAt for TsTypeLit<N> {
+    ghost items = { λ n _. ts_type_lit N.answers N.items n };
+
+    #[tactic(auto, unfolding(crate::specs::Types::ts_type_lit))]
+    fn emit_at<W: WriteJs, S: SourceMapper, C: Comments>(
+        &self,
+        e: &mut Emitter<'_, W, S, C>,
+        place: Place,
+    ) {
+        e.leading_comments(self.span.lo);
+        e.punct(Punctuator::LeftBrace);
+        e.listed_members(self);
+        e.punct(Punctuator::RightBrace);
+    }
+}
+
+impl<N: Held> EmitAt for TsArrayType<N> {
+    ghost items = { λ n _. ts_array_type N.items n };
+
+    #[tactic(auto, unfolding(crate::specs::Types::ts_array_type))]
+    fn emit_at<W: WriteJs, S: SourceMapper, C: Comments>(
+        &self,
+        e: &mut Emitter<'_, W, S, C>,
+        place: Place,
+    ) {
+        e.leading_comments(self.span.lo);
+        self.elem_type.held().emit_at(e, Place::Plain);
+        e.punct(Punctuator::LeftBracket);
+        e.punct(Punctuator::RightBracket);
+    }
+}
+
+impl<N: Held> EmitAt for TsTupleElement<N> {
+    ghost items = { λ n _. ts_tuple_element N.items n };
+
+    #[tactic(auto, unfolding(crate::specs::Types::ts_tuple_element))]
+    fn emit_at<W: WriteJs, S: SourceMapper, C: Comments>(
+        &self,
+        e: &mut Emitter<'_, W, S, C>,
+        place: Place,
+    ) {
+        e.leading_comments(self.span.lo);
+        e.label(&self.label);
+        self.ty.held().emit_at(e, Place::Plain);
+    }
+}
+
+impl<N: Held> Child for TsTupleElement<N> {
+    ghost stands = { λ n. n.span };
+
+    fn place(&self) -> Span {
+        self.span
+    }
+}
+
+impl<N: Held> EmitAt for TsTupleType<N> {
+    ghost items = { λ n _. ts_tuple_type N.items n };
+
+    #[tactic(auto, unfolding(crate::specs::Types::ts_tuple_type))]
+    fn emit_at<W: WriteJs, S: SourceMapper, C: Comments>(
+        &self,
+        e: &mut Emitter<'_, W, S, C>,
+        place: Place,
+    ) {
+        e.leading_comments(self.span.lo);
+        e.punct(Punctuator::LeftBracket);
+        e.listed_elements(self);
+        e.punct(Punctuator::RightBracket);
+    }
+}
+
+impl<N: Held> EmitAt for TsOptionalType<N> {
+    ghost items = { λ n _. ts_optional_type N.items n };
+
+    #[tactic(auto, unfolding(crate::specs::Types::ts_optional_type))]
+    fn emit_at<W: WriteJs, S: SourceMapper, C: Comments>(
+        &self,
+        e: &mut Emitter<'_, W, S, C>,
+        place: Place,
+    ) {
+        e.leading_comments(self.span.lo);
+        self.type_ann.held().emit_at(e, Place::Plain);
+        e.punct(Punctuator::Question);
+    }
+}
+
+impl<N: Held> EmitAt for TsRestType<N> {
+    ghost items = { λ n _. ts_rest_type N.items n };
+
+    #[tactic(auto, unfolding(crate::specs::Types::ts_rest_type))]
+    fn emit_at<W: WriteJs, S: SourceMapper, C: Comments>(
+        &self,
+        e: &mut Emitter<'_, W, S, C>,
+        place: Place,
+    ) {
+        e.leading_comments(self.span.lo);
+        e.punct(Punctuator::Ellipsis);
+        self.type_ann.held().emit_at(e, Place::Plain);
+    }
+}
+
+impl<N: Held> EmitAt for TsMappedType<N> {
+    ghost items = { λ n _. ts_mapped_type N.items n };
+
+    #[tactic(auto, unfolding(crate::specs::Types::ts_mapped_type))]
+    fn emit_at<W: WriteJs, S: SourceMapper, C: Comments>(
+        &self,
+        e: &mut Emitter<'_, W, S, C>,
+        place: Place,
+    ) {
+        e.leading_comments(self.span.lo);
+        e.punct(Punctuator::LeftBrace);
+        e.line();
+        e.deeper();
+        e.mapped_parts(self);
+        e.line();
+        e.shallower();
+        e.punct(Punctuator::RightBrace);
+    }
+}
+
+impl<N: Held> EmitAt for TsUnionType<N> {
+    ghost items = { λ n _. ts_union_type N.answers N.items n };
+
+    #[tactic(auto, unfolding(crate::specs::Types::ts_union_type))]
+    fn emit_at<W: WriteJs, S: SourceMapper, C: Comments>(
+        &self,
+        e: &mut Emitter<'_, W, S, C>,
+        place: Place,
+    ) {
+        e.leading_comments(self.span.lo);
+        e.union_types(self);
+    }
+}
+
+impl<N: Held> EmitAt for TsIntersectionType<N> {
+    ghost items = { λ n _. ts_intersection_type N.answers N.items n };
+
+    #[tactic(auto, unfolding(crate::specs::Types::ts_intersection_type))]
+    fn emit_at<W: WriteJs, S: SourceMapper, C: Comments>(
+        &self,
+        e: &mut Emitter<'_, W, S, C>,
+        place: Place,
+    ) {
+        e.leading_comments(self.span.lo);
+        e.intersection_types(self);
+    }
+}
+
+impl<N: Held> EmitAt for TsUnionOrIntersectionType<N> {
+    ghost items = { λ n _. ts_union_or_intersection_type N.answers N.items n };
+
+    #[tactic(auto, unfolding(crate::specs::Types::ts_union_or_intersection_type))]
+    fn emit_at<W: WriteJs, S: SourceMapper, C: Comments>(
+        &self,
+        e: &mut Emitter<'_, W, S, C>,
+        place: Place,
+    ) {
+        match self {
+            TsUnionOrIntersectionType::TsUnionType(node) => node.emit_at(e, Place::Plain),
+            TsUnionOrIntersectionType::TsIntersectionType(node) => node.emit_at(e, Place::Plain),
+        }
+    }
+}
+
+impl<N: Held> EmitAt for TsParenthesizedType<N> {
+    ghost items = { λ n _. ts_parenthesized_type N.items n };
+
+    #[tactic(auto, unfolding(crate::specs::Types::ts_parenthesized_type))]
+    fn emit_at<W: WriteJs, S: SourceMapper, C: Comments>(
+        &self,
+        e: &mut Emitter<'_, W, S, C>,
+        place: Place,
+    ) {
+        e.leading_comments(self.span.lo);
+        e.punct(Punctuator::LeftParenthesis);
+        self.type_ann.held().emit_at(e, Place::Plain);
+        e.punct(Punctuator::RightParenthesis);
+    }
+}
+
+impl<N: Held> EmitAt for TsTypeOperator<N> {
+    ghost items = { λ n _. ts_type_operator N.items n };
+
+    #[tactic(auto, unfolding(crate::specs::Types::ts_type_operator))]
+    fn emit_at<W: WriteJs, S: SourceMapper, C: Comments>(
+        &self,
+        e: &mut Emitter<'_, W, S, C>,
+        place: Place,
+    ) {
+        e.leading_comments(self.span.lo);
+        e.keyword(None, type_operator(self.op));
+        e.space();
+        self.type_ann.held().emit_at(e, Place::Plain);
+    }
+}
+
+impl<N: Held> EmitAt for TsIndexedAccessType<N> {
+    ghost items = { λ n _. ts_indexed_access_type N.items n };
+
+    #[tactic(auto, unfolding(crate::specs::Types::ts_indexed_access_type))]
+    fn emit_at<W: WriteJs, S: SourceMapper, C: Comments>(
+        &self,
+        e: &mut Emitter<'_, W, S, C>,
+        place: Place,
+    ) {
+        e.leading_comments(self.span.lo);
+        self.obj_type.held().emit_at(e, Place::Plain);
+        e.punct(Punctuator::LeftBracket);
+        self.index_type.held().emit_at(e, Place::Plain);
+        e.punct(Punctuator::RightBracket);
+    }
+}
+
+impl<N: Held> EmitAt for TsConditionalType<N> {
+    ghost items = { λ n _. ts_conditional_type N.items n };
+
+    #[tactic(auto, unfolding(crate::specs::Types::ts_conditional_type))]
+    fn emit_at<W: WriteJs, S: SourceMapper, C: Comments>(
+        &self,
+        e: &mut Emitter<'_, W, S, C>,
+        place: Place,
+    ) {
+        e.leading_comments(self.span.lo);
+        self.check_type.held().emit_at(e, Place::Plain);
+        e.space();
+        e.keyword(None, "extends");
+        e.space();
+        self.extends_type.held().emit_at(e, Place::Plain);
+        e.punct_between(Punctuator::Question);
+        self.true_type.held().emit_at(e, Place::Plain);
+        e.punct_between(Punctuator::Colon);
+        self.false_type.held().emit_at(e, Place::Plain);
+    }
+}
+
+impl<N: Held> EmitAt for TsInferType<N> {
+    ghost items = { λ n _. ts_infer_type N.items n };
+
+    #[tactic(auto, unfolding(crate::specs::Types::ts_infer_type))]
+    fn emit_at<W: WriteJs, S: SourceMapper, C: Comments>(
+        &self,
+        e: &mut Emitter<'_, W, S, C>,
+        place: Place,
+    ) {
+        e.leading_comments(self.span.lo);
+        e.keyword(None, "infer");
+        e.space();
+        self.type_param.emit_at(e, Place::Plain);
+    }
+}
+
+impl<N: Held> EmitAt for TsType<N> {
+    ghost items = { λ n _. ts_type N.answers N.items n };
+
+    #[tactic(auto, unfolding(crate::specs::Types::ts_type))]
+    fn emit_at<W: WriteJs, S: SourceMapper, C: Comments>(
+        &self,
+        e: &mut Emitter<'_, W, S, C>,
+        place: Place,
+    ) {
+        match self {
+            TsType::TsKeywordType(node) => node.emit_at(e, Place::Plain),
+            TsType::TsThisType(node) => node.emit_at(e, Place::Plain),
+            TsType::TsFnOrConstructorType(node) => node.emit_at(e, Place::Plain),
+            TsType::TsTypeRef(node) => node.emit_at(e, Place::Plain),
+            TsType::TsTypeQuery(node) => node.emit_at(e, Place::Plain),
+            TsType::TsTypeLit(node) => node.emit_at(e, Place::Plain),
+            TsType::TsArrayType(node) => node.emit_at(e, Place::Plain),
+            TsType::TsTupleType(node) => node.emit_at(e, Place::Plain),
+            TsType::TsOptionalType(node) => node.emit_at(e, Place::Plain),
+            TsType::TsRestType(node) => node.emit_at(e, Place::Plain),
+            TsType::TsUnionOrIntersectionType(node) => node.emit_at(e, Place::Plain),
+            TsType::TsConditionalType(node) => node.emit_at(e, Place::Plain),
+            TsType::TsInferType(node) => node.emit_at(e, Place::Plain),
+            TsType::TsParenthesizedType(node) => node.emit_at(e, Place::Plain),
+            TsType::TsTypeOperator(node) => node.emit_at(e, Place::Plain),
+            TsType::TsIndexedAccessType(node) => node.emit_at(e, Place::Plain),
+            TsType::TsMappedType(node) => node.emit_at(e, Place::Plain),
+            TsType::TsLitType(node) => node.emit_at(e, Place::Plain),
+            TsType::TsTypePredicate(node) => node.emit_at(e, Place::Plain),
+            TsType::TsImportType(node) => node.emit_at(e, Place::Plain),
+        }
+    }
+}
+
+impl<N: Held> EmitAt for TsTypeAnn<N> {
+    ghost items = { ts_type_ann N.items };
+
+    #[tactic(auto, unfolding(crate::specs::Types::ts_type_ann))]
+    fn emit_at<W: WriteJs, S: SourceMapper, C: Comments>(
+        &self,
+        e: &mut Emitter<'_, W, S, C>,
+        place: Place,
+    ) {
+        match place {
+            Place::Reference => self.type_ann.held().emit_at(e, Place::Plain),
+            _ => {
+                e.leading_comments(self.span.lo);
+                self.type_ann.held().emit_at(e, Place::Plain)
+            }
+        }
+    }
+}
+
+impl<W: WriteJs, S: SourceMapper, C: Comments> Emitter<'_, W, S, C> {
+    /// Writes a word and a blank, where it is so.
+    #[tactic(auto, unfolding(crate::specs::Types::word_before))]
+    pub(crate) fn word_before(&mut self, wanted: bool, text: &'static str)
+        requires { begins_letter text.now ≡ true }
+        ensures items { Makes (word_before wanted text.now) (standing_of S.lines C.maps W.sheet self.old) (standing_of S.lines C.maps W.sheet self.new) }
+        ensures level { Stays (standing_of S.lines C.maps W.sheet self.old) (standing_of S.lines C.maps W.sheet self.new) }
+    {
+        if wanted {
+            self.keyword(None, text);
+            self.space();
+        }
+    }
+
+    /// Writes the parts of a template, with types between.
+    fn tpl_types<N: Held>(&mut self, types: &[TsTypeBox<N>], quasis: &[TplElement])
+        ensures items { Makes (tpl_parts (type_at N.items) false types.now quasis.now) (standing_of S.lines C.maps W.sheet self.old) (standing_of S.lines C.maps W.sheet self.new) }
+        ensures level { Stays (standing_of S.lines C.maps W.sheet self.old) (standing_of S.lines C.maps W.sheet self.new) }
+    {
+        self.tpl_parts(false, types, quasis)
+    }
+
+    /// Writes `.B` of `import("a").B`.
+    #[tactic(auto, unfolding(crate::specs::Types::qualifier))]
+    fn qualifier<N: Held>(&mut self, name: &Option<TsEntityNameBox<N>>)
+        ensures items { Makes (qualifier N.items name.now) (standing_of S.lines C.maps W.sheet self.old) (standing_of S.lines C.maps W.sheet self.new) }
+        ensures level { Stays (standing_of S.lines C.maps W.sheet self.old) (standing_of S.lines C.maps W.sheet self.new) }
+    {
+        match name {
+            Some(node) => {
+                self.punct(Punctuator::Dot);
+                node.held().emit_at(self, Place::Plain)
+            }
+            None => {}
+        }
+    }
+
+    /// Writes the members of a type.
+    fn listed_members<N: Held>(&mut self, node: &TsTypeLit<N>)
+        ensures items { Makes (listed_members N.answers N.items node.now) (standing_of S.lines C.maps W.sheet self.old) (standing_of S.lines C.maps W.sheet self.new) }
+        ensures level { Stays (standing_of S.lines C.maps W.sheet self.old) (standing_of S.lines C.maps W.sheet self.new) }
+    {
+        self.list(members_format(), node.span, &node.members)
+    }
+
+    /// Writes `b: ` of `[b: B]`.
+    #[tactic(auto, unfolding(crate::specs::Types::label))]
+    fn label<N: Held>(&mut self, pat: &Option<PatBox<N>>)
+        ensures items { Makes (label N.items pat.now) (standing_of S.lines C.maps W.sheet self.old) (standing_of S.lines C.maps W.sheet self.new) }
+        ensures level { Stays (standing_of S.lines C.maps W.sheet self.old) (standing_of S.lines C.maps W.sheet self.new) }
+    {
+        match pat {
+            Some(node) => {
+                node.held().emit_at(self, Place::Plain);
+                self.punct(Punctuator::Colon);
+                self.formatting_space()
+            }
+            None => {}
+        }
+    }
+
+    /// Writes the elements of a tuple.
+    fn listed_elements<N: Held>(&mut self, node: &TsTupleType<N>)
+        ensures items { Makes (listed_elements N.items node.now) (standing_of S.lines C.maps W.sheet self.old) (standing_of S.lines C.maps W.sheet self.new) }
+        ensures level { Stays (standing_of S.lines C.maps W.sheet self.old) (standing_of S.lines C.maps W.sheet self.new) }
+    {
+        self.list(types_format(), node.span, &node.elem_types)
+    }
+
+    /// Writes a sign, where there is one.
+    #[tactic(auto, unfolding(crate::specs::Types::sign))]
+    fn sign(&mut self, written: TruePlusMinus)
+        ensures items { Makes (sign written) (standing_of S.lines C.maps W.sheet self.old) (standing_of S.lines C.maps W.sheet self.new) }
+        ensures level { Stays (standing_of S.lines C.maps W.sheet self.old) (standing_of S.lines C.maps W.sheet self.new) }
+    {
+        match written {
+            TruePlusMinus::True => {}
+            TruePlusMinus::Plus => self.punct(Punctuator::Plus),
+            TruePlusMinus::Minus => self.punct(Punctuator::Minus),
+        }
+    }
+
+    /// Writes `+readonly `.
+    #[tactic(auto, unfolding(crate::specs::Types::signed_readonly))]
+    fn signed_readonly(&mut self, readonly: Option<TruePlusMinus>)
+        ensures items { Makes (signed_readonly readonly) (standing_of S.lines C.maps W.sheet self.old) (standing_of S.lines C.maps W.sheet self.new) }
+        ensures level { Stays (standing_of S.lines C.maps W.sheet self.old) (standing_of S.lines C.maps W.sheet self.new) }
+    {
+        if let Some(sign) = readonly {
+            self.sign(sign);
+            self.keyword(None, "readonly");
+            self.space();
+        }
+    }
+
+    /// Writes `+?`.
+    #[tactic(auto, unfolding(crate::specs::Types::signed_question))]
+    fn signed_question(&mut self, optional: Option<TruePlusMinus>)
+        ensures items { Makes (signed_question optional) (standing_of S.lines C.maps W.sheet self.old) (standing_of S.lines C.maps W.sheet self.new) }
+        ensures level { Stays (standing_of S.lines C.maps W.sheet self.old) (standing_of S.lines C.maps W.sheet self.new) }
+    {
+        if let Some(sign) = optional {
+            self.sign(sign);
+            self.punct(Punctuator::Question);
+        }
+    }
+
+    /// Writes `A in B = C as D`.
+    #[tactic(auto, unfolding(crate::specs::Types::mapped_param))]
+    fn mapped_param<N: Held>(&mut self, node: &TsTypeParam<N>, name_type: &Option<TsTypeBox<N>>)
+        ensures items { Makes (mapped_param N.items node.now name_type.now) (standing_of S.lines C.maps W.sheet self.old) (standing_of S.lines C.maps W.sheet self.new) }
+        ensures level { Stays (standing_of S.lines C.maps W.sheet self.old) (standing_of S.lines C.maps W.sheet self.new) }
+    {
+        node.name.emit_at(self, Place::Plain);
+        self.type_behind("in", &node.constraint);
+        self.default_type(&node.default_);
+        self.type_behind("as", name_type);
+    }
+
+    /// Writes `: A`, with a blank always.
+    #[tactic(auto, unfolding(crate::specs::Types::mapped_type_ann))]
+    fn mapped_type_ann<N: Held>(&mut self, ty: &Option<TsTypeBox<N>>)
+        ensures items { Makes (mapped_type_ann N.items ty.now) (standing_of S.lines C.maps W.sheet self.old) (standing_of S.lines C.maps W.sheet self.new) }
+        ensures level { Stays (standing_of S.lines C.maps W.sheet self.old) (standing_of S.lines C.maps W.sheet self.new) }
+    {
+        match ty {
+            Some(node) => {
+                self.punct(Punctuator::Colon);
+                self.space();
+                node.held().emit_at(self, Place::Plain)
+            }
+            None => {}
+        }
+    }
+
+    /// Writes `readonly [A in B as C]?: D;`.
+    #[tactic(auto, unfolding(crate::specs::Types::mapped_parts))]
+    fn mapped_parts<N: Held>(&mut self, node: &TsMappedType<N>)
+        ensures items { Makes (mapped_parts N.items node.now) (standing_of S.lines C.maps W.sheet self.old) (standing_of S.lines C.maps W.sheet self.new) }
+        ensures level { Stays (standing_of S.lines C.maps W.sheet self.old) (standing_of S.lines C.maps W.sheet self.new) }
+    {
+        self.signed_readonly(node.readonly);
+        self.punct(Punctuator::LeftBracket);
+        self.mapped_param(&node.type_param, &node.name_type);
+        self.punct(Punctuator::RightBracket);
+        self.signed_question(node.optional);
+        self.mapped_type_ann(&node.type_ann);
+        self.semi();
+    }
+
+    /// Writes types with `|` or `&` between.
+    fn joined_list<N: Held>(&mut self, format: ListFormat, span: Span, nodes: &[TsTypeBox<N>])
+        ensures items { Makes (joined_list N.answers N.items format.0 span nodes.now) (standing_of S.lines C.maps W.sheet self.old) (standing_of S.lines C.maps W.sheet self.new) }
+        ensures level { Stays (standing_of S.lines C.maps W.sheet self.old) (standing_of S.lines C.maps W.sheet self.new) }
+    {
+        self.list(format, span, nodes)
+    }
+
+    /// Writes the types of a union, with `|` between.
+    fn union_types<N: Held>(&mut self, node: &TsUnionType<N>)
+        ensures items { Makes (union_types N.answers N.items node.now) (standing_of S.lines C.maps W.sheet self.old) (standing_of S.lines C.maps W.sheet self.new) }
+        ensures level { Stays (standing_of S.lines C.maps W.sheet self.old) (standing_of S.lines C.maps W.sheet self.new) }
+    {
+        self.joined_list(union_format(), node.span, &node.types)
+    }
+
+    /// Writes the types of an intersection, with `&` between.
+    fn intersection_types<N: Held>(&mut self, node: &TsIntersectionType<N>)
+        ensures items { Makes (intersection_types N.answers N.items node.now) (standing_of S.lines C.maps W.sheet self.old) (standing_of S.lines C.maps W.sheet self.new) }
+        ensures level { Stays (standing_of S.lines C.maps W.sheet self.old) (standing_of S.lines C.maps W.sheet self.new) }
+    {
+        self.joined_list(intersection_format(), node.span, &node.types)
+    }
+}
