@@ -11,16 +11,12 @@ TOGETHER = 200  # statements in a script that is made
 NOWHERE = {"lo": 0, "hi": 0}
 A = {"span": NOWHERE, "sym": "a", "optional": False}
 BINDING = {"id": A, "type_ann": None}
-OTHER_EXPRS = {"TsTypeAssertion", "TsConstAssertion", "TsNonNull", "TsAs", "TsInstantiation", "TsSatisfies", "Invalid"}
+OTHER_EXPRS = {"TsTypeAssertion", "TsConstAssertion", "TsNonNull", "TsAs", "TsInstantiation", "TsSatisfies"}
 JSX = {"JSXMember", "JSXNamespacedName", "JSXEmpty", "JSXElement", "JSXFragment"}
 OTHER_DECLS = {"TsInterface", "TsTypeAlias", "TsEnum", "TsModule"}
 OTHER_MODULE_DECLS = {"TsImportEquals", "TsExportAssignment", "TsNamespaceExport"}
 TYPES = ("type_ann", "type_args", "type_params", "return_type", "super_type_params", "accessibility", "with")
 FLAGS = ("declare", "definite", "is_abstract", "is_optional", "is_override", "readonly", "type_only", "is_type_only")
-# what of TypeScript isn't printed yet: modifiers of members of classes, and types of fields and getters
-MEMBERS = ("Constructor", "Method", "PrivateMethod", "ClassProp", "PrivateProp", "AutoAccessor")
-MODIFIERS = ("is_abstract", "is_optional", "is_override", "readonly", "declare", "definite")
-UNTYPED = ("ClassProp", "PrivateProp", "AutoAccessor", "Getter")
 OF_CLASS = "member of a class"
 # what the reference changes in a part of a template
 ESCAPES = ("\\x24", "\\x5c", "\\x60", "\\x7b", "\\\n", "\\\r")
@@ -48,7 +44,7 @@ def is_number(expr):
 
 
 def is_other_module_decl(node):
-    """Whether an import or an export isn't printed yet."""
+    """Whether an import or an export is one of TypeScript."""
     ((name, value),) = node.items()
     return (
         name in OTHER_MODULE_DECLS
@@ -65,24 +61,13 @@ def without_types(made):
     for name in FLAGS:
         if name in made:
             made[name] = False
+    for name in {"implements", "this_param"} & set(made):
+        made[name] = [] if name == "implements" else None
     if made.get("optional") is True and "base" not in made:
         made["optional"] = False
     # (the reference forgets the semicolon of a function without a body before most punctuators)
     if "body" in made and made["body"] is None:
         made["body"] = {"span": NOWHERE, "stmts": []}
-
-
-def unprinted(node, under):
-    """What of a node isn't printed yet: the names of its members, with what would stand there if nothing did."""
-    absent = {"type_ann": None} if under in UNTYPED else {}
-    if under in MEMBERS:
-        absent.update({name: False for name in MODIFIERS}, accessibility=None)
-    if "super_class" in node:
-        absent.update(is_abstract=False, implements=[])
-    if "init" in node:
-        absent.update(definite=False)
-    absent.update(this_param=None)
-    return {name: it for name, it in absent.items() if name in node and node[name] != it}
 
 
 def restricted(node, under=None, departs=False):
@@ -111,15 +96,15 @@ def restricted(node, under=None, departs=False):
             return {"Var": {"span": NOWHERE, "kind": "Const", "declare": False, "decls": restricted(value["decls"], "decls", departs)}}
         if name == "ModuleDecl" and is_other_module_decl(value) and not departs:
             return {"Stmt": {"Empty": {"span": NOWHERE}}}
-        if name == "TsIndexSignature" and under == OF_CLASS:
+        if name == "TsIndexSignature" and under == OF_CLASS and not departs:
             return {"Empty": {"span": NOWHERE}}
-        if name == "TsParamProp":
+        if name == "TsParamProp" and not departs:
             decorators = restricted(value["decorators"], "decorators", departs)
             return {"Param": {"span": NOWHERE, "decorators": decorators, "pat": {"Ident": BINDING}}}
         if name == "PrivateMethod" and value["function"]["decorators"] and not departs:
             # (the reference loses them)
             return restricted({name: {**value, "function": {**value["function"], "decorators": []}}}, under)
-        if name in OTHER_EXPRS:
+        if name == "Invalid" or (name in OTHER_EXPRS and not departs):
             # (a target or a pattern holds another sort of name)
             is_pattern = under in ("Simple", "pat", "params", "elems", "left", "param", "this_param", "value") and name == "Invalid"
             return {"Ident": BINDING} if under == "Simple" or is_pattern else {"Ident": A}
@@ -133,7 +118,6 @@ def restricted(node, under=None, departs=False):
     made = {name: restricted(value, inside.get(name, name), departs) for name, value in node.items()}
     if not departs:
         without_types(made)
-    made.update(unprinted(made, under))
     if "shebang" in made:
         made["shebang"] = None
     return made

@@ -130,7 +130,7 @@ const members = {
       case 0: return { TsTypeAlias: this.alias(declare) };
       case 1: return { TsEnum: this.enum(declare) };
       case 2: return { TsModule: this.namespace(declare, isExported) };
-      case 3: return { Class: { ident: this.fresh(), declare, class: this.class() } };
+      case 3: return { Class: { ident: this.fresh(), declare, class: this.class(true) } };
       case 4: return { Fn: { ident: this.fresh(), declare, function: this.function(chance(declare || isAmbient ? 0.8 : 0.2)) } };
       case 5: return { Var: this.variables(declare) };
       default: return { TsInterface: this.interface(declare) };
@@ -143,7 +143,9 @@ const members = {
       const isPattern = chance(0.2) && this.mayHold();
       const name = isPattern ? this.pattern() : { Ident: this.typedName(!options.plain && chance(0.1)) };
       const isInitialized = this.mayHold() && (kind === 'Const' || isPattern || chance(0.4));
-      return { span: span(), name, init: isInitialized ? this.expression() : null, definite: false };
+      const isTyped = 'Ident' in name && name.Ident.type_ann !== null && !name.Ident.id.optional;
+      const definite = (!options.plain || (isTyped && !isInitialized && kind !== 'Const' && !declare && this.mayHold())) && chance(0.2);
+      return { span: span(), name, init: isInitialized ? this.expression() : null, definite };
     };
     return { span: span(), kind, declare, decls: [declarator(), ...(chance(0.2) ? [declarator()] : [])] };
   },

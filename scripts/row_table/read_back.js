@@ -14,7 +14,7 @@ try {
 // Inside of a class, so that each of `super`, `#a`, `await`, `yield` and `new.target` has a meaning.
 const OPEN = 'class A extends B { #a; #\u00e9; #\u{1d4ab}; async *a() {';
 const CLOSE = '\n}}';
-const PLUGINS = ['jsx', 'decorators', 'importReflection', ['optionalChainingAssign', { version: '2023-07' }], 'sourcePhaseImports', 'deferredImportEvaluation', 'createImportExpressions'];
+const PLUGINS = ['jsx', 'decorators', 'decoratorAutoAccessors', 'importReflection', ['optionalChainingAssign', { version: '2023-07' }], 'sourcePhaseImports', 'deferredImportEvaluation', 'createImportExpressions'];
 
 const ESCAPE = /\\u(?:\{([0-9a-fA-F]+)\}|([0-9a-fA-F]{4}))/g;
 const unescaped = (name) => name.replace(ESCAPE, (_, braces, four) => String.fromCodePoint(parseInt(braces || four, 16)));

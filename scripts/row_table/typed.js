@@ -10,7 +10,7 @@ function holdsTypes(node) {
   if (Array.isArray(node)) return node.some(holdsTypes);
   if (node === null || typeof node !== 'object') return false;
   if (TYPES.some((name) => node[name]) || FLAGS.some((name) => node[name] === true) || (node.optional === true && !('base' in node))) return true;
-  if ('params' in node && node.body === null) return true;
+  if (('params' in node && node.body === null) || (node.implements || []).length > 0 || node.this_param) return true;
   return Object.entries(node).some(([name, held]) => name.startsWith('Ts') || holdsTypes(held));
 }
 

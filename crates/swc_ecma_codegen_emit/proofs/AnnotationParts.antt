@@ -1,12 +1,12 @@
 -- What is written of what types add to other nodes is what it reads as.
-use Rattle.std.proofs.Common.{Bool, true, false, codes, refl, Option, Some, None}
+use Rattle.std.proofs.Common.{Bool, true, false, not, codes, refl, Option, Some, None}
 use Rattle.swc_ecma_codegen_tree.specs.Links.{TsTypeAnnBox, TsTypeParamDeclBox, TsTypeParamInstantiationBox}
 use Rattle.swc_ecma_codegen_grammar.specs.AnnotationPhrases as lists
 use Rattle.swc_ecma_codegen_grammar.specs.declared.roles.Role.TheVariants.{Annotation, TypeArguments, TypeParameters}
 use Rattle.swc_ecma_codegen_tokens.specs.Run.{Env}
 use Rattle.swc_ecma_codegen_tokens.specs.Words as parts
 use Rattle.swc_ecma_codegen_tokens.specs.Written.{Anything, InName}
-use Rattle.swc_ecma_codegen_tokens.proofs.Phrased.{then, before, prints_nothing, prints_punct, PrintsOn, PrintsAt, prints_wider}
+use Rattle.swc_ecma_codegen_tokens.proofs.Phrased.{then, before, prints_nothing, prints_where, prints_punct, PrintsOn, PrintsAt, prints_wider}
 use Rattle.swc_ecma_codegen_tokens.proofs.Printed.{writes_space, writes_formatting_space}
 use Rattle.swc_ecma_codegen_tokens.proofs.Shapes.{open_}
 use Rattle.swc_ecma_codegen_tokens.proofs.TagPrints.{prints_spots, prints_none, wider_on}
@@ -15,6 +15,7 @@ use Rattle.swc_ecma_codegen_emit.specs.declared.nodes.Place.TheVariants.{Plain}
 use Rattle.swc_ecma_codegen_emit.specs.Annotations as words
 use Rattle.swc_ecma_codegen_emit.proofs.Linked.{Linked}
 use Rattle.swc_ecma_codegen_emit.proofs.MarkWords as marks
+use Rattle.swc_ecma_codegen_emit.proofs.TsExprWords as expr_words
 use Rattle.swc_ecma_codegen_emit.proofs.TypeWords as type_words
 
 pub annotation_prints : {X : Type 0} (l : Linked X) (n : Option (TsTypeAnnBox X)) → PrintsAt open_ l.env (words.annotation l.items n) (lists.annotation l.reads n)
@@ -31,6 +32,18 @@ pub question_prints : (env : Env) (optional : Bool) → PrintsAt open_ env (part
 unfolding parts.question lists.question
 question_prints env true = prints_wider open_ refl (prints_punct env (codes "?") type_words.question)
 question_prints env false = prints_nothing
+
+bang_prints : (env : Env) (definite : Bool) → PrintsAt open_ env (words.bang definite) (lists.bang definite)
+unfolding words.bang lists.bang
+bang_prints env true = prints_wider open_ refl (prints_punct env (codes "!") expr_words.bang)
+bang_prints env false = prints_nothing
+
+pub field_annotation_prints : {X : Type 0} (l : Linked X) (definite : Bool) (n : Option (TsTypeAnnBox X)) → PrintsAt open_ l.env (words.field_annotation l.items definite n) (lists.field_annotation l.reads definite n)
+unfolding words.field_annotation lists.field_annotation
+field_annotation_prints l definite None = prints_where (not definite) (λ h. prints_nothing)
+field_annotation_prints l definite (Some n) =
+    prints_wider open_ refl
+    (then (bang_prints l.env definite) (then (before (prints_punct l.env (codes ":") marks.colon) (writes_space l.env)) (l.law n.node.value Plain Annotation)))
 
 pub type_args_print : {X : Type 0} (l : Linked X) (place : Place) (n : Option (TsTypeParamInstantiationBox X)) → PrintsAt open_ l.env (words.type_args l.items place n) (lists.type_args l.reads n)
 unfolding words.type_args lists.type_args

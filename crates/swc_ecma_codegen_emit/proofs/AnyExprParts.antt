@@ -28,6 +28,7 @@ use Rattle.swc_ecma_codegen_emit.proofs.PropParts.{object_lit_prints}
 use Rattle.swc_ecma_codegen_emit.proofs.ExprParts.{this_prints, unary_prints, update_prints, bin_prints, assign_prints, member_prints, super_prop_expr_prints, cond_prints, seq_prints, ident_prints, lit_prints, yield_prints, meta_prop_expr_prints, await_prints, paren_prints, private_name_prints, opt_chain_prints}
 use Rattle.swc_ecma_codegen_emit.proofs.Linked.{Linked}
 use Rattle.swc_ecma_codegen_emit.proofs.MarkWords as marks
+use Rattle.swc_ecma_codegen_emit.proofs.TsExprParts.{as_prints, const_assertion_prints, satisfies_prints, non_null_prints, type_assertion_prints, instantiation_prints}
 
 writes_closed : (env : Env) (left : Bool) (span : Span) → Fills env (words.expr_closed left span)
 unfolding words.expr_closed
@@ -63,6 +64,12 @@ parts_print l (exprs.PrivateName n) place = private_name_prints l n
 parts_print l (exprs.OptChain n) place = opt_chain_prints l n
 parts_print l (exprs.JSXElement n) place = prints_spots Anything Anything refl refl (l.law n.node.value Plain Element)
 parts_print l (exprs.JSXFragment n) place = prints_spots Anything Anything refl refl (l.law n.node.value Plain Element)
+parts_print l (exprs.TsAs n) place = as_prints l n
+parts_print l (exprs.TsConstAssertion n) place = const_assertion_prints l n
+parts_print l (exprs.TsSatisfies n) place = satisfies_prints l n
+parts_print l (exprs.TsNonNull n) place = non_null_prints l n
+parts_print l (exprs.TsTypeAssertion n) place = type_assertion_prints l n
+parts_print l (exprs.TsInstantiation n) place = instantiation_prints l n
 parts_print l n place = prints_never
 
 -- the comments after it

@@ -1,9 +1,11 @@
 -- The words of classes see what links hold through `asks` and `items` alone.
-use Rattle.std.proofs.Common.{◌≡◌, refl, ap, ◌||◌, List, map, codes, Bool, cond, Option, Some, None, Box, Global}
+use Rattle.std.proofs.Common.{◌≡◌, refl, ap, ◌∙◌, List, [], ◌∷◌, map, codes, Bool, Option, Some, None, Box, Global}
+use Rattle.swc_ecma_codegen_common.specs.declared.positions.Span.{Span}
 use Rattle.swc_ecma_codegen_tree.specs.declared.links.AnyNode.{AnyNode-F, map-AnyNode}
 use Rattle.swc_ecma_codegen_tree.specs.declared.links.AnyNode.TheOpen as nodes
-use Rattle.swc_ecma_codegen_tree.specs.Links.{BlockStmtBox, ClassMemberBox, ExprBox, TsTypeAnnBox, TsTypeParamDeclBox, TsTypeParamInstantiationBox}
+use Rattle.swc_ecma_codegen_tree.specs.Links.{BlockStmtBox, ClassMemberBox, ExprBox, TsFnParamBox, TsTypeAnnBox, TsTypeParamDeclBox, TsTypeParamInstantiationBox}
 use Rattle.swc_ecma_codegen_tree.specs.declared.parts.StmtPart.TheVariants as stmt_parts
+use Rattle.swc_ecma_codegen_tree.specs.declared.classes.Accessibility.{Accessibility}
 use Rattle.swc_ecma_codegen_tree.specs.declared.classes.Class as classes
 use Rattle.swc_ecma_codegen_tree.specs.declared.classes.ClassMember as class_members
 use Rattle.swc_ecma_codegen_tree.specs.declared.classes.ClassMember.TheVariants as members
@@ -19,25 +21,31 @@ use Rattle.swc_ecma_codegen_tree.specs.declared.classes.AutoAccessor.{AutoAccess
 use Rattle.swc_ecma_codegen_tree.specs.declared.classes.Key.{Key}
 use Rattle.swc_ecma_codegen_tree.specs.declared.classes.Key.TheVariants as keys
 use Rattle.swc_ecma_codegen_tree.specs.declared.decls.Decorator.{Decorator}
+use Rattle.swc_ecma_codegen_tree.specs.declared.ts_decls.TsExprWithTypeArgs.{TsExprWithTypeArgs}
+use Rattle.swc_ecma_codegen_tree.specs.declared.ts_members.TsIndexSignature.{TsIndexSignature}
 use Rattle.swc_ecma_codegen_grammar.proofs.Mapped.{list_mapped}
-use Rattle.swc_ecma_codegen_grammar.proofs.MappedFunctions.{some_mapped}
-use Rattle.swc_ecma_codegen_grammar.proofs.MappedClasses.{each_param}
+use Rattle.swc_ecma_codegen_grammar.proofs.MappedClasses.{each_param, by_param_prop}
+use Rattle.swc_ecma_codegen_grammar.proofs.MappedTsDecls.{by_args}
 use Rattle.swc_ecma_codegen_tokens.specs.Lists.{ListChild, list}
-use Rattle.swc_ecma_codegen_tokens.specs.Run.{Plan, Part, refuse}
+use Rattle.swc_ecma_codegen_tokens.specs.Run.{Plan, Part}
 use Rattle.swc_ecma_codegen_tokens.specs.Words.{keyword, punct, space, formatting_space, start_of, last_of, leading_comments}
 use Rattle.swc_ecma_codegen_emit.specs.declared.nodes.Place.{Place}
-use Rattle.swc_ecma_codegen_emit.specs.declared.nodes.Place.TheVariants.{Plain, ClassHead}
-use Rattle.swc_ecma_codegen_emit.specs.Annotations.{type_args, type_params}
+use Rattle.swc_ecma_codegen_emit.specs.declared.nodes.Place.TheVariants.{Plain, ClassHead, ClassWord}
+use Rattle.swc_ecma_codegen_emit.specs.Annotations.{annotation, field_annotation, type_args, type_params}
 use Rattle.swc_ecma_codegen_emit.specs.Answers.{Answers}
-use Rattle.swc_ecma_codegen_emit.specs.Classes.{class_members_format, heritage, class_trailing, class_tail, class, constructor_param, constructor_param_place, constructor_body, constructor_tail, constructor_word, constructor_parts, class_constructor, method_word, method_kind, class_method_parts, class_method, private_kind, private_method_parts, private_method, prop_value, class_prop_parts, class_prop, private_prop_tail, private_prop_parts, private_prop, accessor_key, accessor_tail, auto_accessor_parts, auto_accessor, static_block, class_member}
+use Rattle.swc_ecma_codegen_emit.specs.Classes.{class_members_format, heritage, implemented_format, some_implements, implements_clause, class_body, class_tail, class_word, class, accessibility_word, ts_param_prop_param, ts_param_prop, constructor_param, constructor_param_place, constructor_body, constructor_tail, constructor_word, class_constructor, static_method, method_word, accessor_words, method_kind, method_rest, class_method, private_kind, private_words, private_rest, private_method, prop_value, prop_modifiers, prop_tail, class_prop, private_modifiers, private_prop_tail, private_prop, accessor_key, accessor_modifiers, accessor_tail, auto_accessor, static_block, index_member, class_member}
 use Rattle.swc_ecma_codegen_emit.specs.Exprs.{blank}
 use Rattle.swc_ecma_codegen_emit.specs.FunctionExprs.{comma_list_format}
 use Rattle.swc_ecma_codegen_emit.specs.Functions.{decorator, decorator_lines, decorators_format, decorator_place, param}
-use Rattle.swc_ecma_codegen_emit.specs.Lists.{child_of, unsupported}
+use Rattle.swc_ecma_codegen_emit.specs.Lists.{child_at, child_of}
+use Rattle.swc_ecma_codegen_emit.specs.Names.{binding_ident}
 use Rattle.swc_ecma_codegen_emit.specs.Parts.{expr_part, stmt_part}
-use Rattle.swc_ecma_codegen_emit.specs.Pats.{initializer}
+use Rattle.swc_ecma_codegen_emit.specs.Pats.{assign_pat, initializer}
 use Rattle.swc_ecma_codegen_emit.specs.Tree.{node_items}
-use Rattle.swc_ecma_codegen_emit.proofs.FunctionKnots.{decorators_mapped, either_same, param_same}
+use Rattle.swc_ecma_codegen_emit.specs.TsDecls.{extended_place, ts_expr_with_type_args}
+use Rattle.swc_ecma_codegen_emit.specs.TsMembers.{readonly_index, ts_index_signature}
+use Rattle.swc_ecma_codegen_emit.specs.Types.{types_format, word_before, fn_param_place, fn_param_items}
+use Rattle.swc_ecma_codegen_emit.proofs.FunctionKnots.{decorators_mapped, param_same}
 use Rattle.swc_ecma_codegen_emit.proofs.PatKnots.{children_mapped, pat_mapped}
 
 -- ---- classes
@@ -51,27 +59,40 @@ braced n cs rest = formatting_space (punct (codes "{") (list class_members_forma
 abbrev member_child : {X : Type 0} → (X → Answers) → (X → Place → Part) → ClassMemberBox X → ListChild
 member_child asks items = child_of (λ m. (asks m.node.value).place) (λ m place. items m.node.value place)
 
-class_same : {X Y : Type 0} (g : ClassMemberBox X → ClassMemberBox Y) (asks : Y → Answers) (items : Y → Place → Part) (known : X → Answers) (put : X → Place → Part) → ((m : ClassMemberBox X) → member_child asks items (g m) ≡ member_child known put m) → (n : classes.Class X) (typed other : Bool) (head : Plan → Plan) (ms : List (ClassMemberBox X)) (rest : Plan) → typed ≡ other → cond typed (unsupported rest) (head (braced n (map (member_child asks items) (map g ms)) rest)) ≡ cond other (unsupported rest) (head (braced n (map (member_child known put) ms) rest))
-class_same g asks items known put same n typed other head ms rest e = either_same typed other _ _ _ e (ap (λ cs. head (braced n cs rest)) (list_mapped g (member_child asks items) (member_child known put) same ms))
+abbrev implemented_child : {X : Type 0} → (X → Place → Part) → TsExprWithTypeArgs X → ListChild
+implemented_child items = child_of extended_place (λ n place. ts_expr_with_type_args items n)
+
+implements_mapped : {X Y : Type 0} (e : TsExprWithTypeArgs X → TsExprWithTypeArgs Y) (items : Y → Place → Part) (d : X → Place → Part) → ((n : TsExprWithTypeArgs X) → implemented_child items (e n) ≡ implemented_child d n) → (span : Span) (ns : List (TsExprWithTypeArgs X)) (after : Plan) → implements_clause items span (map e ns) after ≡ implements_clause d span ns after
+unfolding implements_clause some_implements
+implements_mapped e items d child span [] after = refl
+implements_mapped e items d child span (n ∷ ns) after =
+    ap (λ z. space (keyword None (codes "implements") (space z))) (children_mapped e (implemented_child items) (implemented_child d) child implemented_format span (n ∷ ns) after)
+
+-- what is implemented, and then the members
+class_same : {X Y : Type 0} (e : TsExprWithTypeArgs X → TsExprWithTypeArgs Y) (g : ClassMemberBox X → ClassMemberBox Y) (asks : Y → Answers) (items : Y → Place → Part) (known : X → Answers) (put : X → Place → Part) → ((n : TsExprWithTypeArgs X) → implemented_child items (e n) ≡ implemented_child put n) → ((m : ClassMemberBox X) → member_child asks items (g m) ≡ member_child known put m) → (n : classes.Class X) (head : Plan → Plan) (ns : List (TsExprWithTypeArgs X)) (ms : List (ClassMemberBox X)) (rest : Plan) → head (implements_clause items n.span (map e ns) (braced n (map (member_child asks items) (map g ms)) rest)) ≡ head (implements_clause put n.span ns (braced n (map (member_child known put) ms) rest))
+class_same e g asks items known put implemented same n head ns ms rest =
+    ap head (implements_mapped e items put implemented n.span ns (braced n (map (member_child asks items) (map g ms)) rest))
+    ∙ ap (λ cs. head (implements_clause put n.span ns (braced n cs rest))) (list_mapped g (member_child asks items) (member_child known put) same ms)
 
 class_by : {X Y : Type 0} (g : X → Y) (asks : Y → Answers) (items : Y → Place → Part) (b : Box (classes.Class X) Global) (n : classes.Class X) (super_class : Option (ExprBox X)) (type_params : Option (TsTypeParamDeclBox X)) (super_type_params : Option (TsTypeParamInstantiationBox X)) (rest : Plan) → node_items asks items (map-AnyNode X Y g (nodes.StmtPart (stmt_parts.Class (record b { value = with_class_parts n super_class type_params super_type_params })))) Plain rest ≡ class_tail (λ x. asks (g x)) (λ x. items (g x)) (with_class_parts n super_class type_params super_type_params) rest
-unfolding node_items stmt_part class class_tail class_trailing heritage type_args type_params
-class_by {X} {Y} g asks items b n None None None rest = class_same {X = X} {Y = Y} _ asks items (λ x. asks (g x)) (λ x. items (g x)) (λ m. refl) n _ _ (λ z. z) n.body.items rest (ap (λ z. n.is_abstract || z) (some_mapped _ n.implements.items))
-class_by {X} {Y} g asks items b n None None (Some t) rest = class_same {X = X} {Y = Y} _ asks items (λ x. asks (g x)) (λ x. items (g x)) (λ m. refl) n _ _ (λ z. z) n.body.items rest (ap (λ z. n.is_abstract || z) (some_mapped _ n.implements.items))
-class_by {X} {Y} g asks items b n None (Some q) None rest = class_same {X = X} {Y = Y} _ asks items (λ x. asks (g x)) (λ x. items (g x)) (λ m. refl) n _ _ (λ z. items (g q.node.value) Plain (z)) n.body.items rest (ap (λ z. n.is_abstract || z) (some_mapped _ n.implements.items))
-class_by {X} {Y} g asks items b n None (Some q) (Some t) rest = class_same {X = X} {Y = Y} _ asks items (λ x. asks (g x)) (λ x. items (g x)) (λ m. refl) n _ _ (λ z. items (g q.node.value) Plain (z)) n.body.items rest (ap (λ z. n.is_abstract || z) (some_mapped _ n.implements.items))
-class_by {X} {Y} g asks items b n (Some s) None None rest = class_same {X = X} {Y = Y} _ asks items (λ x. asks (g x)) (λ x. items (g x)) (λ m. refl) n _ _ (λ z. space (keyword None (codes "extends") (blank (asks (g s.node.value)).starts (items (g s.node.value) Plain (z))))) n.body.items rest (ap (λ z. n.is_abstract || z) (some_mapped _ n.implements.items))
-class_by {X} {Y} g asks items b n (Some s) None (Some t) rest = class_same {X = X} {Y = Y} _ asks items (λ x. asks (g x)) (λ x. items (g x)) (λ m. refl) n _ _ (λ z. space (keyword None (codes "extends") (blank (asks (g s.node.value)).starts (items (g s.node.value) Plain (items (g t.node.value) Plain z))))) n.body.items rest (ap (λ z. n.is_abstract || z) (some_mapped _ n.implements.items))
-class_by {X} {Y} g asks items b n (Some s) (Some q) None rest = class_same {X = X} {Y = Y} _ asks items (λ x. asks (g x)) (λ x. items (g x)) (λ m. refl) n _ _ (λ z. items (g q.node.value) Plain (space (keyword None (codes "extends") (blank (asks (g s.node.value)).starts (items (g s.node.value) Plain (z)))))) n.body.items rest (ap (λ z. n.is_abstract || z) (some_mapped _ n.implements.items))
-class_by {X} {Y} g asks items b n (Some s) (Some q) (Some t) rest = class_same {X = X} {Y = Y} _ asks items (λ x. asks (g x)) (λ x. items (g x)) (λ m. refl) n _ _ (λ z. items (g q.node.value) Plain (space (keyword None (codes "extends") (blank (asks (g s.node.value)).starts (items (g s.node.value) Plain (items (g t.node.value) Plain z)))))) n.body.items rest (ap (λ z. n.is_abstract || z) (some_mapped _ n.implements.items))
+unfolding node_items stmt_part class class_tail class_body heritage ts_expr_with_type_args type_args type_params
+class_by {X} {Y} g asks items b n None None None rest = class_same {X = X} {Y = Y} _ _ asks items (λ x. asks (g x)) (λ x. items (g x)) (by_args {X = X} _ (λ e. refl) (λ e a. refl)) (λ m. refl) n (λ z. z) n.implements.items n.body.items rest
+class_by {X} {Y} g asks items b n None None (Some t) rest = class_same {X = X} {Y = Y} _ _ asks items (λ x. asks (g x)) (λ x. items (g x)) (by_args {X = X} _ (λ e. refl) (λ e a. refl)) (λ m. refl) n (λ z. z) n.implements.items n.body.items rest
+class_by {X} {Y} g asks items b n None (Some q) None rest = class_same {X = X} {Y = Y} _ _ asks items (λ x. asks (g x)) (λ x. items (g x)) (by_args {X = X} _ (λ e. refl) (λ e a. refl)) (λ m. refl) n (λ z. items (g q.node.value) Plain (z)) n.implements.items n.body.items rest
+class_by {X} {Y} g asks items b n None (Some q) (Some t) rest = class_same {X = X} {Y = Y} _ _ asks items (λ x. asks (g x)) (λ x. items (g x)) (by_args {X = X} _ (λ e. refl) (λ e a. refl)) (λ m. refl) n (λ z. items (g q.node.value) Plain (z)) n.implements.items n.body.items rest
+class_by {X} {Y} g asks items b n (Some s) None None rest = class_same {X = X} {Y = Y} _ _ asks items (λ x. asks (g x)) (λ x. items (g x)) (by_args {X = X} _ (λ e. refl) (λ e a. refl)) (λ m. refl) n (λ z. space (keyword None (codes "extends") (blank (asks (g s.node.value)).starts (items (g s.node.value) Plain (z))))) n.implements.items n.body.items rest
+class_by {X} {Y} g asks items b n (Some s) None (Some t) rest = class_same {X = X} {Y = Y} _ _ asks items (λ x. asks (g x)) (λ x. items (g x)) (by_args {X = X} _ (λ e. refl) (λ e a. refl)) (λ m. refl) n (λ z. space (keyword None (codes "extends") (blank (asks (g s.node.value)).starts (items (g s.node.value) Plain (items (g t.node.value) Plain z))))) n.implements.items n.body.items rest
+class_by {X} {Y} g asks items b n (Some s) (Some q) None rest = class_same {X = X} {Y = Y} _ _ asks items (λ x. asks (g x)) (λ x. items (g x)) (by_args {X = X} _ (λ e. refl) (λ e a. refl)) (λ m. refl) n (λ z. items (g q.node.value) Plain (space (keyword None (codes "extends") (blank (asks (g s.node.value)).starts (items (g s.node.value) Plain (z)))))) n.implements.items n.body.items rest
+class_by {X} {Y} g asks items b n (Some s) (Some q) (Some t) rest = class_same {X = X} {Y = Y} _ _ asks items (λ x. asks (g x)) (λ x. items (g x)) (by_args {X = X} _ (λ e. refl) (λ e a. refl)) (λ m. refl) n (λ z. items (g q.node.value) Plain (space (keyword None (codes "extends") (blank (asks (g s.node.value)).starts (items (g s.node.value) Plain (items (g t.node.value) Plain z)))))) n.implements.items n.body.items rest
 
 head_mapped : {X Y : Type 0} (g : X → Y) (asks : Y → Answers) (items : Y → Place → Part) (b : Box (classes.Class X) Global) (rest : Plan) → node_items asks items (map-AnyNode X Y g (nodes.StmtPart (stmt_parts.Class b))) ClassHead rest ≡ decorator_lines (λ x. items (g x)) b.value.decorators.items rest
 unfolding node_items stmt_part class decorator
 head_mapped g asks items b rest = decorators_mapped _ items (λ x. items (g x)) (λ d. refl) b.value.decorators.items rest
 
 pub class_mapped : {X Y : Type 0} (g : X → Y) (asks : Y → Answers) (items : Y → Place → Part) (b : Box (classes.Class X) Global) (place : Place) (rest : Plan) → node_items asks items (map-AnyNode X Y g (nodes.StmtPart (stmt_parts.Class b))) place rest ≡ class (λ x. asks (g x)) (λ x. items (g x)) b.value place rest
-unfolding node_items stmt_part class
+unfolding node_items stmt_part class class_word
 class_mapped g asks items b ClassHead rest = head_mapped g asks items b rest
+class_mapped g asks items b ClassWord rest = refl
 class_mapped g asks items b place rest = class_by g asks items b b.value b.value.super_class b.value.type_params b.value.super_type_params rest
 
 -- ---- members
@@ -79,68 +100,82 @@ class_mapped g asks items b place rest = class_by g asks items b b.value b.value
 abbrev as_member : {X : Type 0} → Box (class_members.ClassMember X) Global → class_members.ClassMember X → AnyNode-F X
 as_member b n = nodes.StmtPart (stmt_parts.ClassMember (record b { value = n }))
 
-constructor_same : {X : Type 0} (n : Constructor X) (typed : Bool) (before after : Plan) (rest : Plan) → before ≡ after → cond typed (unsupported rest) (leading_comments n.span.lo (start_of n.span (keyword None (codes "constructor") (punct (codes "(") before)))) ≡ cond typed (unsupported rest) (leading_comments n.span.lo (start_of n.span (keyword None (codes "constructor") (punct (codes "(") after))))
-constructor_same n typed before after rest e = ap (λ z. cond typed (unsupported rest) (leading_comments n.span.lo (start_of n.span (keyword None (codes "constructor") (punct (codes "(") z))))) e
+-- a parameter that is a field too, by its decorators
+param_prop_same : (span : Span) (a : Option Accessibility) (is_override readonly : Bool) (c d p : Part) → ((rest : Plan) → c rest ≡ d rest) → child_at span (λ rest. leading_comments span.lo (accessibility_word a (c (word_before is_override (codes "override") (word_before readonly (codes "readonly") (p rest)))))) ≡ child_at span (λ rest. leading_comments span.lo (accessibility_word a (d (word_before is_override (codes "override") (word_before readonly (codes "readonly") (p rest))))))
+param_prop_same span a is_override readonly c d p e = λ i. child_at span (λ rest. leading_comments span.lo (accessibility_word a (e (word_before is_override (codes "override") (word_before readonly (codes "readonly") (p rest))) i)))
+
+constructor_same : {X : Type 0} (n : Constructor X) (before after : Plan) → before ≡ after → leading_comments n.span.lo (start_of n.span (accessibility_word n.accessibility (keyword None (codes "constructor") (punct (codes "(") before)))) ≡ leading_comments n.span.lo (start_of n.span (accessibility_word n.accessibility (keyword None (codes "constructor") (punct (codes "(") after))))
+constructor_same n before after e = ap (λ z. leading_comments n.span.lo (start_of n.span (accessibility_word n.accessibility (keyword None (codes "constructor") (punct (codes "(") z))))) e
 
 constructor_by : {X Y : Type 0} (g : X → Y) (asks : Y → Answers) (items : Y → Place → Part) (b : Box (class_members.ClassMember X) Global) (n : Constructor X) (body : Option (BlockStmtBox X)) (place : Place) (rest : Plan) → node_items asks items (map-AnyNode X Y g (as_member b (members.Constructor (record n { body = body })))) place rest ≡ class_constructor (λ x. asks (g x)) (λ x. items (g x)) (record n { body = body }) rest
-unfolding node_items expr_part stmt_part class_member class_constructor constructor_parts constructor_word constructor_tail constructor_param constructor_param_place constructor_body param decorator
-constructor_by {X} {Y} g asks items b n None place rest = constructor_same n _ _ _ rest (children_mapped {A = ParamOrTsParamProp X} _ _ _ (each_param {X = X} _ (λ m. refl) (λ p. param_same p.span _ _ _ _ (list_mapped {A = Decorator X} _ _ (child_of decorator_place (λ d place. decorator (λ x. items (g x)) d)) (λ d. refl) p.decorators.items) (pat_mapped g asks items p.pat Plain))) comma_list_format n.span n.params.items _)
-constructor_by {X} {Y} g asks items b n (Some body) place rest = constructor_same n _ _ _ rest (children_mapped {A = ParamOrTsParamProp X} _ _ _ (each_param {X = X} _ (λ m. refl) (λ p. param_same p.span _ _ _ _ (list_mapped {A = Decorator X} _ _ (child_of decorator_place (λ d place. decorator (λ x. items (g x)) d)) (λ d. refl) p.decorators.items) (pat_mapped g asks items p.pat Plain))) comma_list_format n.span n.params.items _)
+unfolding node_items expr_part stmt_part class_member class_constructor constructor_word constructor_tail constructor_param constructor_param_place ts_param_prop ts_param_prop_param binding_ident annotation assign_pat constructor_body param decorator
+constructor_by {X} {Y} g asks items b n None place rest = constructor_same n _ _ (children_mapped {A = ParamOrTsParamProp X} _ _ _ (each_param {X = X} _
+    (by_param_prop {X = X} _ (λ m id. param_prop_same m.span m.accessibility m.is_override m.readonly _ _ _ (decorators_mapped _ items (λ x. items (g x)) (λ d. refl) m.decorators.items)) (λ m id t. param_prop_same m.span m.accessibility m.is_override m.readonly _ _ _ (decorators_mapped _ items (λ x. items (g x)) (λ d. refl) m.decorators.items)) (λ m a. param_prop_same m.span m.accessibility m.is_override m.readonly _ _ _ (decorators_mapped _ items (λ x. items (g x)) (λ d. refl) m.decorators.items)))
+    (λ p. param_same p.span _ _ _ _ (list_mapped {A = Decorator X} _ _ (child_of decorator_place (λ d place. decorator (λ x. items (g x)) d)) (λ d. refl) p.decorators.items) (pat_mapped g asks items p.pat Plain))) comma_list_format n.span n.params.items _)
+constructor_by {X} {Y} g asks items b n (Some body) place rest = constructor_same n _ _ (children_mapped {A = ParamOrTsParamProp X} _ _ _ (each_param {X = X} _
+    (by_param_prop {X = X} _ (λ m id. param_prop_same m.span m.accessibility m.is_override m.readonly _ _ _ (decorators_mapped _ items (λ x. items (g x)) (λ d. refl) m.decorators.items)) (λ m id t. param_prop_same m.span m.accessibility m.is_override m.readonly _ _ _ (decorators_mapped _ items (λ x. items (g x)) (λ d. refl) m.decorators.items)) (λ m a. param_prop_same m.span m.accessibility m.is_override m.readonly _ _ _ (decorators_mapped _ items (λ x. items (g x)) (λ d. refl) m.decorators.items)))
+    (λ p. param_same p.span _ _ _ _ (list_mapped {A = Decorator X} _ _ (child_of decorator_place (λ d place. decorator (λ x. items (g x)) d)) (λ d. refl) p.decorators.items) (pat_mapped g asks items p.pat Plain))) comma_list_format n.span n.params.items _)
 
 method_by : {X Y : Type 0} (g : X → Y) (asks : Y → Answers) (items : Y → Place → Part) (b : Box (class_members.ClassMember X) Global) (n : ClassMethod X) (kind : MethodKind) (place : Place) (rest : Plan) → node_items asks items (map-AnyNode X Y g (as_member b (members.Method (record n { kind = kind })))) place rest ≡ class_method (λ x. asks (g x)) (λ x. items (g x)) (record n { kind = kind }) rest
-unfolding node_items stmt_part class_member class_method class_method_parts method_kind method_word
+unfolding node_items stmt_part class_member class_method method_rest method_kind accessor_words method_word static_method
 method_by g asks items b n Method place rest = refl
 method_by g asks items b n Getter place rest = refl
 method_by g asks items b n Setter place rest = refl
 
 private_method_by : {X Y : Type 0} (g : X → Y) (asks : Y → Answers) (items : Y → Place → Part) (b : Box (class_members.ClassMember X) Global) (n : PrivateMethod X) (kind : MethodKind) (place : Place) (rest : Plan) → node_items asks items (map-AnyNode X Y g (as_member b (members.PrivateMethod (record n { kind = kind })))) place rest ≡ private_method (λ x. items (g x)) (record n { kind = kind }) rest
-unfolding node_items stmt_part class_member private_method private_method_parts private_kind
+unfolding node_items stmt_part class_member private_method private_words private_kind private_rest
 private_method_by g asks items b n Method place rest = refl
 private_method_by g asks items b n Getter place rest = refl
 private_method_by g asks items b n Setter place rest = refl
 
-prop_same : {X Y : Type 0} (g : Decorator X → Decorator Y) (items : Y → Place → Part) (put : X → Place → Part) → ((d : Decorator X) → decorator items (g d) ≡ decorator put d) → (n : ClassProp X) (typed : Bool) (after rest : Plan) → cond typed (unsupported rest) (leading_comments n.span.lo (start_of n.span (decorator_lines items (map g n.decorators.items) after))) ≡ cond typed (unsupported rest) (leading_comments n.span.lo (start_of n.span (decorator_lines put n.decorators.items after)))
-prop_same g items put same n typed after rest = ap (λ z. cond typed (unsupported rest) (leading_comments n.span.lo (start_of n.span z))) (decorators_mapped g items put same n.decorators.items after)
+prop_same : {X Y : Type 0} (g : Decorator X → Decorator Y) (items : Y → Place → Part) (put : X → Place → Part) → ((d : Decorator X) → decorator items (g d) ≡ decorator put d) → (n : ClassProp X) (after : Plan) → leading_comments n.span.lo (start_of n.span (decorator_lines items (map g n.decorators.items) after)) ≡ leading_comments n.span.lo (start_of n.span (decorator_lines put n.decorators.items after))
+prop_same g items put same n after = ap (λ z. leading_comments n.span.lo (start_of n.span z)) (decorators_mapped g items put same n.decorators.items after)
 
 prop_by : {X Y : Type 0} (g : X → Y) (asks : Y → Answers) (items : Y → Place → Part) (b : Box (class_members.ClassMember X) Global) (n : ClassProp X) (type_ann : Option (TsTypeAnnBox X)) (value : Option (ExprBox X)) (place : Place) (rest : Plan) → node_items asks items (map-AnyNode X Y g (as_member b (members.ClassProp (record n { type_ann = type_ann; value = value })))) place rest ≡ class_prop (λ x. items (g x)) (record n { type_ann = type_ann; value = value }) rest
-unfolding node_items stmt_part class_member class_prop class_prop_parts prop_value decorator
-prop_by g asks items b n None None place rest = prop_same _ items (λ x. items (g x)) (λ d. refl) n _ _ rest
-prop_by g asks items b n None (Some v) place rest = prop_same _ items (λ x. items (g x)) (λ d. refl) n _ _ rest
-prop_by g asks items b n (Some t) None place rest = refl
-prop_by g asks items b n (Some t) (Some v) place rest = refl
+unfolding node_items stmt_part class_member class_prop prop_modifiers prop_tail field_annotation prop_value decorator
+prop_by g asks items b n None None place rest = prop_same _ items (λ x. items (g x)) (λ d. refl) n _
+prop_by g asks items b n None (Some v) place rest = prop_same _ items (λ x. items (g x)) (λ d. refl) n _
+prop_by g asks items b n (Some t) None place rest = prop_same _ items (λ x. items (g x)) (λ d. refl) n _
+prop_by g asks items b n (Some t) (Some v) place rest = prop_same _ items (λ x. items (g x)) (λ d. refl) n _
 
-private_prop_same : {X : Type 0} (n : PrivateProp X) (typed : Bool) (cs ds : List ListChild) (after rest : Plan) → cs ≡ ds → cond typed (unsupported rest) (leading_comments n.span.lo (start_of n.span (list decorators_format n.span cs after))) ≡ cond typed (unsupported rest) (leading_comments n.span.lo (start_of n.span (list decorators_format n.span ds after)))
-private_prop_same n typed cs ds after rest e = ap (λ z. cond typed (unsupported rest) (leading_comments n.span.lo (start_of n.span (list decorators_format n.span z after)))) e
+private_prop_same : {X : Type 0} (n : PrivateProp X) (cs ds : List ListChild) (after : Plan) → cs ≡ ds → leading_comments n.span.lo (start_of n.span (list decorators_format n.span cs after)) ≡ leading_comments n.span.lo (start_of n.span (list decorators_format n.span ds after))
+private_prop_same n cs ds after e = ap (λ z. leading_comments n.span.lo (start_of n.span (list decorators_format n.span z after))) e
 
 private_prop_by : {X Y : Type 0} (g : X → Y) (asks : Y → Answers) (items : Y → Place → Part) (b : Box (class_members.ClassMember X) Global) (n : PrivateProp X) (type_ann : Option (TsTypeAnnBox X)) (value : Option (ExprBox X)) (place : Place) (rest : Plan) → node_items asks items (map-AnyNode X Y g (as_member b (members.PrivateProp (record n { type_ann = type_ann; value = value })))) place rest ≡ private_prop (λ x. items (g x)) (record n { type_ann = type_ann; value = value }) rest
-unfolding node_items stmt_part class_member private_prop private_prop_parts private_prop_tail prop_value decorator
-private_prop_by {X} g asks items b n None None place rest = private_prop_same n _ _ _ _ rest (list_mapped {A = Decorator X} _ _ (child_of decorator_place (λ d place. decorator (λ x. items (g x)) d)) (λ d. refl) n.decorators.items)
-private_prop_by {X} g asks items b n None (Some v) place rest = private_prop_same n _ _ _ _ rest (list_mapped {A = Decorator X} _ _ (child_of decorator_place (λ d place. decorator (λ x. items (g x)) d)) (λ d. refl) n.decorators.items)
-private_prop_by g asks items b n (Some t) None place rest = refl
-private_prop_by g asks items b n (Some t) (Some v) place rest = refl
+unfolding node_items stmt_part class_member private_prop private_modifiers private_prop_tail field_annotation prop_value decorator
+private_prop_by {X} g asks items b n None None place rest = private_prop_same n _ _ _ (list_mapped {A = Decorator X} _ _ (child_of decorator_place (λ d place. decorator (λ x. items (g x)) d)) (λ d. refl) n.decorators.items)
+private_prop_by {X} g asks items b n None (Some v) place rest = private_prop_same n _ _ _ (list_mapped {A = Decorator X} _ _ (child_of decorator_place (λ d place. decorator (λ x. items (g x)) d)) (λ d. refl) n.decorators.items)
+private_prop_by {X} g asks items b n (Some t) None place rest = private_prop_same n _ _ _ (list_mapped {A = Decorator X} _ _ (child_of decorator_place (λ d place. decorator (λ x. items (g x)) d)) (λ d. refl) n.decorators.items)
+private_prop_by {X} g asks items b n (Some t) (Some v) place rest = private_prop_same n _ _ _ (list_mapped {A = Decorator X} _ _ (child_of decorator_place (λ d place. decorator (λ x. items (g x)) d)) (λ d. refl) n.decorators.items)
 
-accessor_same : {X : Type 0} (n : AutoAccessor X) (typed : Bool) (cs ds : List ListChild) (after rest : Plan) → cs ≡ ds → cond typed (unsupported rest) (list decorators_format n.span cs after) ≡ cond typed (unsupported rest) (list decorators_format n.span ds after)
-accessor_same n typed cs ds after rest e = ap (λ z. cond typed (unsupported rest) (list decorators_format n.span z after)) e
+accessor_same : {X : Type 0} (n : AutoAccessor X) (cs ds : List ListChild) (after : Plan) → cs ≡ ds → list decorators_format n.span cs after ≡ list decorators_format n.span ds after
+accessor_same n cs ds after e = ap (λ z. list decorators_format n.span z after) e
 
 accessor_by : {X Y : Type 0} (g : X → Y) (asks : Y → Answers) (items : Y → Place → Part) (b : Box (class_members.ClassMember X) Global) (n : AutoAccessor X) (key : Key X) (type_ann : Option (TsTypeAnnBox X)) (value : Option (ExprBox X)) (place : Place) (rest : Plan) → node_items asks items (map-AnyNode X Y g (as_member b (members.AutoAccessor (record n { key = key; type_ann = type_ann; value = value })))) place rest ≡ auto_accessor (λ x. items (g x)) (record n { key = key; type_ann = type_ann; value = value }) rest
-unfolding node_items stmt_part class_member auto_accessor auto_accessor_parts accessor_tail accessor_key initializer decorator
-accessor_by {X} g asks items b n (keys.Public k) None None place rest = accessor_same n _ _ _ _ rest (list_mapped {A = Decorator X} _ _ (child_of decorator_place (λ d place. decorator (λ x. items (g x)) d)) (λ d. refl) n.decorators.items)
-accessor_by {X} g asks items b n (keys.Public k) None (Some v) place rest = accessor_same n _ _ _ _ rest (list_mapped {A = Decorator X} _ _ (child_of decorator_place (λ d place. decorator (λ x. items (g x)) d)) (λ d. refl) n.decorators.items)
-accessor_by {X} g asks items b n (keys.Private k) None None place rest = accessor_same n _ _ _ _ rest (list_mapped {A = Decorator X} _ _ (child_of decorator_place (λ d place. decorator (λ x. items (g x)) d)) (λ d. refl) n.decorators.items)
-accessor_by {X} g asks items b n (keys.Private k) None (Some v) place rest = accessor_same n _ _ _ _ rest (list_mapped {A = Decorator X} _ _ (child_of decorator_place (λ d place. decorator (λ x. items (g x)) d)) (λ d. refl) n.decorators.items)
-accessor_by g asks items b n (keys.Public k) (Some t) None place rest = refl
-accessor_by g asks items b n (keys.Public k) (Some t) (Some v) place rest = refl
-accessor_by g asks items b n (keys.Private k) (Some t) None place rest = refl
-accessor_by g asks items b n (keys.Private k) (Some t) (Some v) place rest = refl
+unfolding node_items stmt_part class_member auto_accessor accessor_modifiers accessor_tail accessor_key field_annotation initializer decorator
+accessor_by {X} g asks items b n (keys.Public k) None None place rest = accessor_same n _ _ _ (list_mapped {A = Decorator X} _ _ (child_of decorator_place (λ d place. decorator (λ x. items (g x)) d)) (λ d. refl) n.decorators.items)
+accessor_by {X} g asks items b n (keys.Public k) None (Some v) place rest = accessor_same n _ _ _ (list_mapped {A = Decorator X} _ _ (child_of decorator_place (λ d place. decorator (λ x. items (g x)) d)) (λ d. refl) n.decorators.items)
+accessor_by {X} g asks items b n (keys.Public k) (Some t) None place rest = accessor_same n _ _ _ (list_mapped {A = Decorator X} _ _ (child_of decorator_place (λ d place. decorator (λ x. items (g x)) d)) (λ d. refl) n.decorators.items)
+accessor_by {X} g asks items b n (keys.Public k) (Some t) (Some v) place rest = accessor_same n _ _ _ (list_mapped {A = Decorator X} _ _ (child_of decorator_place (λ d place. decorator (λ x. items (g x)) d)) (λ d. refl) n.decorators.items)
+accessor_by {X} g asks items b n (keys.Private k) None None place rest = accessor_same n _ _ _ (list_mapped {A = Decorator X} _ _ (child_of decorator_place (λ d place. decorator (λ x. items (g x)) d)) (λ d. refl) n.decorators.items)
+accessor_by {X} g asks items b n (keys.Private k) None (Some v) place rest = accessor_same n _ _ _ (list_mapped {A = Decorator X} _ _ (child_of decorator_place (λ d place. decorator (λ x. items (g x)) d)) (λ d. refl) n.decorators.items)
+accessor_by {X} g asks items b n (keys.Private k) (Some t) None place rest = accessor_same n _ _ _ (list_mapped {A = Decorator X} _ _ (child_of decorator_place (λ d place. decorator (λ x. items (g x)) d)) (λ d. refl) n.decorators.items)
+accessor_by {X} g asks items b n (keys.Private k) (Some t) (Some v) place rest = accessor_same n _ _ _ (list_mapped {A = Decorator X} _ _ (child_of decorator_place (λ d place. decorator (λ x. items (g x)) d)) (λ d. refl) n.decorators.items)
+
+index_by : {X Y : Type 0} (g : X → Y) (asks : Y → Answers) (items : Y → Place → Part) (b : Box (class_members.ClassMember X) Global) (n : TsIndexSignature X) (type_ann : Option (TsTypeAnnBox X)) (place : Place) (rest : Plan) → node_items asks items (map-AnyNode X Y g (as_member b (members.TsIndexSignature (record n { type_ann = type_ann })))) place rest ≡ index_member (λ x. asks (g x)) (λ x. items (g x)) (record n { type_ann = type_ann }) rest
+unfolding node_items stmt_part class_member index_member ts_index_signature annotation
+index_by {X} g asks items b n None place rest = ap (λ z. leading_comments n.span.lo (word_before n.is_static (codes "static") (readonly_index n.readonly (punct (codes "[") z)))) (children_mapped {A = TsFnParamBox X} _ (child_of (fn_param_place asks) (fn_param_items items)) (child_of (fn_param_place (λ x. asks (g x))) (fn_param_items (λ x. items (g x)))) (λ p. refl) types_format n.span n.params.items _)
+index_by {X} g asks items b n (Some t) place rest = ap (λ z. leading_comments n.span.lo (word_before n.is_static (codes "static") (readonly_index n.readonly (punct (codes "[") z)))) (children_mapped {A = TsFnParamBox X} _ (child_of (fn_param_place asks) (fn_param_items items)) (child_of (fn_param_place (λ x. asks (g x))) (fn_param_items (λ x. items (g x)))) (λ p. refl) types_format n.span n.params.items _)
 
 member_by : {X Y : Type 0} (g : X → Y) (asks : Y → Answers) (items : Y → Place → Part) (b : Box (class_members.ClassMember X) Global) (n : class_members.ClassMember X) (place : Place) (rest : Plan) → node_items asks items (map-AnyNode X Y g (as_member b n)) place rest ≡ class_member (λ x. asks (g x)) (λ x. items (g x)) n rest
-unfolding node_items stmt_part class_member static_block unsupported refuse
+unfolding node_items stmt_part class_member static_block
 member_by g asks items b (members.Constructor n) place rest = constructor_by g asks items b n n.body place rest
 member_by g asks items b (members.Method n) place rest = method_by g asks items b n n.kind place rest
 member_by g asks items b (members.PrivateMethod n) place rest = private_method_by g asks items b n n.kind place rest
 member_by g asks items b (members.ClassProp n) place rest = prop_by g asks items b n n.type_ann n.value place rest
 member_by g asks items b (members.PrivateProp n) place rest = private_prop_by g asks items b n n.type_ann n.value place rest
 member_by g asks items b (members.AutoAccessor n) place rest = accessor_by g asks items b n n.key n.type_ann n.value place rest
+member_by g asks items b (members.TsIndexSignature n) place rest = index_by g asks items b n n.type_ann place rest
 member_by g asks items b n place rest = refl
 
 pub class_member_mapped : {X Y : Type 0} (g : X → Y) (asks : Y → Answers) (items : Y → Place → Part) (b : Box (class_members.ClassMember X) Global) (place : Place) (rest : Plan) → node_items asks items (map-AnyNode X Y g (nodes.StmtPart (stmt_parts.ClassMember b))) place rest ≡ class_member (λ x. asks (g x)) (λ x. items (g x)) b.value rest

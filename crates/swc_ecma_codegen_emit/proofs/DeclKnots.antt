@@ -1,9 +1,14 @@
 -- What is written of declarations sees what links hold through `asks` and `items` alone.
-use Rattle.std.proofs.Common.{◌≡◌, refl, ◌∙◌, ap, List, [], ◌∷◌, map, codes, Bool, cond, Some, None}
+use Rattle.std.proofs.Common.{◌≡◌, refl, ◌∙◌, ap, List, [], ◌∷◌, map, codes, Bool, true, false, Option, Some, None}
 use Rattle.swc_ecma_codegen_common.specs.declared.positions.Span.{Span}
-use Rattle.swc_ecma_codegen_tree.specs.declared.links.AnyNode.{map-AnyNode}
+use Rattle.swc_ecma_codegen_tree.specs.declared.links.AnyNode.{AnyNode-F, map-AnyNode}
 use Rattle.swc_ecma_codegen_tree.specs.declared.links.AnyNode.TheOpen as nodes
+use Rattle.swc_ecma_codegen_tree.specs.Links.{TsTypeAnnBox}
+use Rattle.swc_ecma_codegen_tree.specs.declared.idents.Ident.{Ident}
+use Rattle.swc_ecma_codegen_tree.specs.declared.parts.ExprPart.TheVariants as expr_parts
 use Rattle.swc_ecma_codegen_tree.specs.declared.parts.StmtPart.TheVariants as stmt_parts
+use Rattle.swc_ecma_codegen_tree.specs.declared.pats.Pat.{Pat}
+use Rattle.swc_ecma_codegen_tree.specs.declared.pats.Pat.TheVariants as pats
 use Rattle.swc_ecma_codegen_tree.specs.declared.decls.Decl.{Decl}
 use Rattle.swc_ecma_codegen_tree.specs.declared.decls.Decl.TheVariants as decls
 use Rattle.swc_ecma_codegen_tree.specs.declared.decls.VarDecl.{VarDecl}
@@ -11,19 +16,20 @@ use Rattle.swc_ecma_codegen_tree.specs.declared.decls.VarDeclarator.{VarDeclarat
 use Rattle.swc_ecma_codegen_spans.specs.Spans.{class_decl_span, fn_decl_span, decl_span, stmt_part_span, node_span}
 use Rattle.swc_ecma_codegen_grammar.proofs.MappedStmts.{by_init}
 use Rattle.swc_ecma_codegen_tokens.specs.Lists.{ListChild, list}
-use Rattle.swc_ecma_codegen_tokens.specs.Run.{Plan, Part, refuse}
+use Rattle.swc_ecma_codegen_tokens.specs.Run.{Plan, Part}
 use Rattle.swc_ecma_codegen_tokens.specs.Words.{keyword, semi, space, commit_pending_semi, start_of, leading_comments}
 use Rattle.swc_ecma_codegen_emit.specs.declared.nodes.Place.{Place}
 use Rattle.swc_ecma_codegen_emit.specs.declared.nodes.Place.TheVariants.{Plain}
 use Rattle.swc_ecma_codegen_emit.specs.Answers.{Answers, place_of}
-use Rattle.swc_ecma_codegen_emit.specs.Decls.{declarators_format, fn_decl, var_declarator_parts, var_declarator, declarator_place, var_kind, is_unmarked, first_is_unmarked, var_decl, await_word, using_decl, decl_end, by_export, without_head, exported_class, variables, resources, decl}
+use Rattle.swc_ecma_codegen_emit.specs.Decls.{declarators_format, fn_decl, var_declarator, declarator_place, var_kind, is_unmarked, first_is_unmarked, var_decl, await_word, using_decl, decl_end, by_export, without_head, exported_class, variables, resources, decl}
 use Rattle.swc_ecma_codegen_emit.specs.Classes.{class_decl}
 use Rattle.swc_ecma_codegen_emit.specs.TsDecls.{declare_word}
 use Rattle.swc_ecma_codegen_emit.proofs.TsDeclKnots.{interface_mapped, alias_mapped, enum_mapped, module_mapped}
 use Rattle.swc_ecma_codegen_emit.specs.Exprs.{blank, opened}
-use Rattle.swc_ecma_codegen_emit.specs.Lists.{child_at, child_of, unsupported}
+use Rattle.swc_ecma_codegen_emit.specs.Lists.{child_at, child_of}
 use Rattle.swc_ecma_codegen_emit.specs.Parts.{expr_part, stmt_part}
-use Rattle.swc_ecma_codegen_emit.specs.Pats.{initializer, pat}
+use Rattle.swc_ecma_codegen_emit.specs.Annotations.{annotation}
+use Rattle.swc_ecma_codegen_emit.specs.Pats.{initializer, definite_ident, definite_pat, declared_pat}
 use Rattle.swc_ecma_codegen_emit.specs.Patterns.{pat_kind, part_pattern, node_pattern}
 use Rattle.swc_ecma_codegen_emit.specs.Tree.{node_items}
 use Rattle.swc_ecma_codegen_emit.proofs.PatKnots.{children_mapped, pat_mapped, pat_kind_mapped}
@@ -33,8 +39,24 @@ abbrev pub declarator_child : {X : Type 0} → (X → Answers) → (X → Place 
 declarator_child asks items = child_of declarator_place (λ n place. var_declarator asks items n)
 
 -- the same, by its parts
-pub declarator_same : (span : Span) (definite : Bool) (p q : Part) (after : Part) → ((rest : Plan) → p rest ≡ q rest) → child_at span (λ rest. cond definite (unsupported rest) (opened span (p (after rest)))) ≡ child_at span (λ rest. cond definite (unsupported rest) (opened span (q (after rest))))
-declarator_same span definite p q after h = λ i. child_at span (λ rest. cond definite (unsupported rest) (opened span (h (after rest) i)))
+pub declarator_same : (span : Span) (p q : Part) (after : Part) → ((rest : Plan) → p rest ≡ q rest) → child_at span (λ rest. opened span (p (after rest))) ≡ child_at span (λ rest. opened span (q (after rest)))
+declarator_same span p q after h = λ i. child_at span (λ rest. opened span (h (after rest) i))
+
+-- what is declared, as a part that a link holds
+abbrev declared_in : {X : Type 0} → (X → Answers) → (X → Place → Part) → Bool → AnyNode-F X → Part
+declared_in asks items definite (nodes.ExprPart (expr_parts.Pat n)) rest = declared_pat asks items definite n rest
+declared_in asks items definite n rest = rest
+
+definite_mapped : {X Y : Type 0} (g : X → Y) (asks : Y → Answers) (items : Y → Place → Part) (id : Ident) (type_ann : Option (TsTypeAnnBox X)) (rest : Plan) → declared_in asks items true (map-AnyNode X Y g (nodes.ExprPart (expr_parts.Pat (pats.Ident (record { id = id; type_ann = type_ann }))))) rest ≡ definite_pat (λ x. asks (g x)) (λ x. items (g x)) (pats.Ident (record { id = id; type_ann = type_ann })) rest
+unfolding declared_pat definite_pat definite_ident annotation
+definite_mapped g asks items id None rest = refl
+definite_mapped g asks items id (Some t) rest = refl
+
+pub declared_pat_mapped : {X Y : Type 0} (g : X → Y) (asks : Y → Answers) (items : Y → Place → Part) (definite : Bool) (n : Pat X) (rest : Plan) → declared_in asks items definite (map-AnyNode X Y g (nodes.ExprPart (expr_parts.Pat n))) rest ≡ declared_pat (λ x. asks (g x)) (λ x. items (g x)) definite n rest
+unfolding node_items expr_part declared_pat definite_pat
+declared_pat_mapped g asks items false n rest = pat_mapped g asks items n Plain rest
+declared_pat_mapped g asks items true (pats.Ident n) rest = definite_mapped g asks items n.id n.type_ann rest
+declared_pat_mapped g asks items true n rest = pat_mapped g asks items n Plain rest
 
 first_mapped : {X Y : Type 0} (g : VarDeclarator X → VarDeclarator Y) → ((n : VarDeclarator X) → pat_kind (g n).name ≡ pat_kind n.name) → (ns : List (VarDeclarator X)) → first_is_unmarked (map g ns) ≡ first_is_unmarked ns
 unfolding first_is_unmarked
@@ -48,19 +70,19 @@ declared_mapped g e d same child span ns after =
     ∙ ap (blank (first_is_unmarked ns)) (children_mapped g e d child declarators_format span ns after)
 
 pub var_decl_mapped : {X Y : Type 0} (g : X → Y) (asks : Y → Answers) (items : Y → Place → Part) (n : VarDecl X) (place : Place) (rest : Plan) → node_items asks items (map-AnyNode X Y g (nodes.StmtPart (stmt_parts.VarDecl n))) place rest ≡ var_decl (λ x. asks (g x)) (λ x. items (g x)) n rest
-unfolding node_items expr_part node_pattern part_pattern stmt_part var_decl var_declarator var_declarator_parts initializer unsupported refuse
+unfolding node_items expr_part node_pattern part_pattern stmt_part var_decl var_declarator initializer
 var_decl_mapped {X} {Y} g asks items n place rest = ap (λ z. leading_comments n.span.lo (commit_pending_semi (start_of n.span (declare_word n.declare (var_kind n.kind z)))))
-    (declared_mapped {X = X} {Y = Y} _ _ _ (λ d. pat_kind_mapped g d.name) (by_init {X = X} _ (λ span name definite. declarator_same span definite _ (pat (λ x. asks (g x)) (λ x. items (g x)) name) (λ after. after) (pat_mapped g asks items name Plain)) (λ span name init definite. declarator_same span definite _ (pat (λ x. asks (g x)) (λ x. items (g x)) name) (initializer (λ x. items (g x)) (Some init)) (pat_mapped g asks items name Plain))) n.span n.decls.items rest)
+    (declared_mapped {X = X} {Y = Y} _ _ _ (λ d. pat_kind_mapped g d.name) (by_init {X = X} _ (λ span name definite. declarator_same span _ (declared_pat (λ x. asks (g x)) (λ x. items (g x)) definite name) (λ after. after) (declared_pat_mapped g asks items definite name)) (λ span name init definite. declarator_same span _ (declared_pat (λ x. asks (g x)) (λ x. items (g x)) definite name) (initializer (λ x. items (g x)) (Some init)) (declared_pat_mapped g asks items definite name))) n.span n.decls.items rest)
 
 without_head_same : (place : Place) (p q : Part) → ((rest : Plan) → p rest ≡ q rest) → (rest : Plan) → without_head place p rest ≡ without_head place q rest
 without_head_same place p q h rest = ap (λ z. without_head place z rest) (λ i. λ after. h after i)
 
 pub decl_mapped : {X Y : Type 0} (g : X → Y) (asks : Y → Answers) (items : Y → Place → Part) (n : Decl X) (place : Place) (rest : Plan) → node_items asks items (map-AnyNode X Y g (nodes.StmtPart (stmt_parts.Decl n))) place rest ≡ decl (λ x. asks (g x)) (λ x. items (g x)) n place rest
-unfolding node_items expr_part stmt_part decl without_head by_export variables resources exported_class class_decl fn_decl using_decl var_declarator var_declarator_parts initializer unsupported refuse
+unfolding node_items expr_part stmt_part decl without_head by_export variables resources exported_class class_decl fn_decl using_decl var_declarator initializer
 decl_mapped g asks items (decls.Fn n) place rest = refl
 decl_mapped g asks items (decls.Var n) place rest = without_head_same place _ _ (λ after. var_decl_mapped g asks items n place (semi (decl_end place n.span after))) rest
 decl_mapped {X} g asks items (decls.Using n) place rest = without_head_same place _ _ (λ after. ap (λ z. leading_comments n.span.lo (await_word n.is_await (keyword None (codes "using") (space z))))
-    (children_mapped {A = VarDeclarator X} _ _ _ (by_init {X = X} _ (λ span name definite. declarator_same span definite _ (pat (λ x. asks (g x)) (λ x. items (g x)) name) (λ after. after) (pat_mapped g asks items name Plain)) (λ span name init definite. declarator_same span definite _ (pat (λ x. asks (g x)) (λ x. items (g x)) name) (initializer (λ x. items (g x)) (Some init)) (pat_mapped g asks items name Plain))) declarators_format n.span n.decls.items (semi after))) rest
+    (children_mapped {A = VarDeclarator X} _ _ _ (by_init {X = X} _ (λ span name definite. declarator_same span _ (declared_pat (λ x. asks (g x)) (λ x. items (g x)) definite name) (λ after. after) (declared_pat_mapped g asks items definite name)) (λ span name init definite. declarator_same span _ (declared_pat (λ x. asks (g x)) (λ x. items (g x)) definite name) (initializer (λ x. items (g x)) (Some init)) (declared_pat_mapped g asks items definite name))) declarators_format n.span n.decls.items (semi after))) rest
 decl_mapped g asks items (decls.TsInterface n) place rest = without_head_same place _ _ (λ after. interface_mapped g asks items n after) rest
 decl_mapped g asks items (decls.TsTypeAlias n) place rest = without_head_same place _ _ (λ after. alias_mapped g asks items n after) rest
 decl_mapped g asks items (decls.TsEnum n) place rest = without_head_same place _ _ (λ after. enum_mapped g asks items n after) rest

@@ -10,7 +10,7 @@ use Rattle.swc_ecma_codegen_tree.specs.declared.decls.VarDecl.{VarDecl}
 use Rattle.swc_ecma_codegen_tree.specs.declared.decls.VarDeclKind.{VarDeclKind}
 use Rattle.swc_ecma_codegen_tree.specs.declared.decls.VarDeclKind.TheVariants.{Var, Let, Const}
 use Rattle.swc_ecma_codegen_tree.specs.declared.decls.VarDeclarator.{VarDeclarator}
-use Rattle.swc_ecma_codegen_grammar.specs.declared.roles.Role.TheVariants.{Function, FunctionHead, ClassHead as HeadOfClass, ClassTail}
+use Rattle.swc_ecma_codegen_grammar.specs.declared.roles.Role.TheVariants.{Function, FunctionHead, ClassHead as HeadOfClass, ClassWord, ClassTail}
 use Rattle.swc_ecma_codegen_grammar.specs.Phrases as phrases
 use Rattle.swc_ecma_codegen_grammar.specs.Phrases.{◌>◌}
 use Rattle.swc_ecma_codegen_grammar.specs.NamePhrases.{ident as ident_list}
@@ -27,12 +27,11 @@ use Rattle.swc_ecma_codegen_emit.specs.Decls as words
 use Rattle.swc_ecma_codegen_emit.specs.Decls.{declarators_format, declarator_place}
 use Rattle.swc_ecma_codegen_emit.proofs.ExprParts.{writes_blank, writes_opened, ident_prints}
 use Rattle.swc_ecma_codegen_emit.proofs.ClassParts.{class_decl_prints}
-use Rattle.swc_ecma_codegen_emit.proofs.Impossible.{refused_or}
 use Rattle.swc_ecma_codegen_emit.proofs.TsDeclParts.{declare_prints, interface_prints, alias_prints, enum_prints, module_prints}
 use Rattle.swc_ecma_codegen_grammar.specs.TsDeclPhrases.{declare_word}
 use Rattle.swc_ecma_codegen_emit.proofs.Linked.{Linked}
 use Rattle.swc_ecma_codegen_emit.proofs.MarkWords as marks
-use Rattle.swc_ecma_codegen_emit.proofs.PatParts.{initializer_prints, pat_prints}
+use Rattle.swc_ecma_codegen_emit.proofs.PatParts.{declared_prints, initializer_prints}
 use Rattle.swc_ecma_codegen_tokens.proofs.Shapes.{ended, ended_if_any}
 
 fn_decl_prints : {X : Type 0} (l : Linked X) (n : FnDecl X) → Prints l.env (words.fn_decl l.asks l.items n) (lists.fn_decl l.reads n)
@@ -48,8 +47,8 @@ fn_decl_prints l n =
 -- ---- variables
 
 declarator_prints : {X : Type 0} (l : Linked X) (n : VarDeclarator X) → Prints l.env (words.var_declarator l.asks l.items n) (lists.var_declarator l.reads n)
-unfolding words.var_declarator words.var_declarator_parts lists.var_declarator
-declarator_prints l n = refused_or n.definite (after (writes_opened l.env n.span) (then (pat_prints l n.name) (initializer_prints l n.init)))
+unfolding words.var_declarator lists.var_declarator
+declarator_prints l n = after (writes_opened l.env n.span) (then (declared_prints l n.definite n.name) (initializer_prints l n.init))
 
 -- They begin on the line before them, since no line ends before the first.
 declarators_print : {X : Type 0} (l : Linked X) (span : Span) (ns : List (VarDeclarator X)) → PrintsAt ended l.env (words.declarators l.asks l.items span ns) (phrases.some_listed (codes ",") (map (lists.var_declarator l.reads) ns))
@@ -118,13 +117,13 @@ unfolding words.decl words.without_head words.by_export module_lists.exported_he
 exported_head_prints l (decls.Class n) = l.law n.class.node.value Plain HeadOfClass
 exported_head_prints l n = prints_wider ended_if_any refl prints_nothing
 
-exported_class_prints : {X : Type 0} (l : Linked X) (n : ClassDecl X) → Prints l.env (words.exported_class l.asks l.items n) (declare_word n.declare > phrases.word (codes "class") > ident_list n.ident > l.reads n.class.node.value ClassTail)
+exported_class_prints : {X : Type 0} (l : Linked X) (n : ClassDecl X) → Prints l.env (words.exported_class l.asks l.items n) (declare_word n.declare > l.reads n.class.node.value ClassWord > ident_list n.ident > l.reads n.class.node.value ClassTail)
 unfolding words.exported_class
 exported_class_prints l n =
     after (writes_leading l.env (l.asks n.class.node.value).place.lo)
     (after (writes_position l.env (l.asks n.class.node.value).place.lo)
     (then (declare_prints l.env n.declare)
-    (then (prints_keyword l.env None (codes "class") marks.class_word)
+    (then (l.law n.class.node.value Plain ClassWord)
     (after (writes_space l.env) (then (ident_prints l n.ident) (l.law n.class.node.value Plain ClassTail))))))
 
 pub exported_tail_prints : {X : Type 0} (l : Linked X) (n : Decl X) → Prints l.env (words.decl l.asks l.items n ExportedTail) (module_lists.exported_tail l.reads n)

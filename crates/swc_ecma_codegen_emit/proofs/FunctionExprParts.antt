@@ -10,7 +10,7 @@ use Rattle.swc_ecma_codegen_tree.specs.declared.exprs.BlockStmtOrExpr.{BlockStmt
 use Rattle.swc_ecma_codegen_tree.specs.declared.exprs.BlockStmtOrExpr.TheVariants as bodies
 use Rattle.swc_ecma_codegen_tree.specs.declared.idents.Ident.{Ident}
 use Rattle.swc_ecma_codegen_grammar.specs.declared.kinds.Kind.TheVariants.{Punctuator}
-use Rattle.swc_ecma_codegen_grammar.specs.declared.roles.Role.TheVariants.{Annotation, Pattern, PlainParameter, Function, FunctionHead, ClassHead, ClassTail}
+use Rattle.swc_ecma_codegen_grammar.specs.declared.roles.Role.TheVariants.{Annotation, Pattern, PlainParameter, Function, FunctionHead, ClassHead, ClassWord, ClassTail}
 use Rattle.swc_ecma_codegen_grammar.specs.Tokens as lexical
 use Rattle.swc_ecma_codegen_grammar.specs.Tokens.{token_of}
 use Rattle.swc_ecma_codegen_grammar.specs.Phrases.{Phrase, Never, OptionalParentheses, ◌>◌, mark, is_possible}
@@ -28,7 +28,7 @@ use Rattle.swc_ecma_codegen_tokens.specs.Written.{IsMark}
 use Rattle.swc_ecma_codegen_tokens.proofs.Choices.{prints_bare, prints_parentheses}
 use Rattle.swc_ecma_codegen_tokens.proofs.Emitting.{minified_same, pretty_same}
 use Rattle.swc_ecma_codegen_tokens.proofs.ListLaws.{children_of, prints_list, prints_one_child}
-use Rattle.swc_ecma_codegen_tokens.proofs.Phrased.{Prints, prints_by_maps, then, after, before, prints_nothing, prints_same, prints_keyword, prints_punct, prints_ident, mark_spelled, PrintsAt, prints_wider, loosened, joined_then, joined_mark, prints_joined_punct, prints_regrouped}
+use Rattle.swc_ecma_codegen_tokens.proofs.Phrased.{Prints, prints_by_maps, then, after, before, prints_nothing, prints_same, prints_punct, prints_ident, mark_spelled, PrintsAt, prints_wider, loosened, joined_then, joined_mark, prints_joined_punct, prints_regrouped}
 use Rattle.swc_ecma_codegen_tokens.proofs.Printed.{with_room, within_then, deeper_within, writes_same, writes_if, writes_nothing, writes_space, writes_formatting_space, writes_commit, writes_position, writes_leading, writes_shallower, Fills, joined_punct_within}
 use Rattle.swc_ecma_codegen_emit.specs.declared.nodes.Place.TheVariants.{Plain, Body}
 use Rattle.swc_ecma_codegen_emit.specs.ClassExprs as class_words
@@ -187,4 +187,4 @@ class_expr_prints l n =
     after (writes_leading l.env (l.asks n.class.node.value).place.lo)
     (after (writes_position l.env (l.asks n.class.node.value).place.lo)
     (then (l.law n.class.node.value Plain ClassHead)
-    (then (prints_keyword l.env None (codes "class") marks.class_word) (then (name_prints l n.ident) (l.law n.class.node.value Plain ClassTail)))))
+    (then (l.law n.class.node.value Plain ClassWord) (then (name_prints l n.ident) (l.law n.class.node.value Plain ClassTail)))))

@@ -1,5 +1,5 @@
 -- Phrases that no tree has, and what is said where a phrase is possible.
-use Rattle.std.proofs.Common.{◌≡◌, ◌∙◌, sym, refl, ap, ℕ, Bool, true, false, cond, ◌&&◌, ◌||◌, List, ◌++◌, append-nil, subst}
+use Rattle.std.proofs.Common.{◌≡◌, ◌∙◌, sym, refl, ap, ℕ, Bool, true, false, ◌&&◌, ◌||◌, List, ◌++◌, append-nil, subst}
 use Rattle.std.proofs.lemmas.Bool.{true≢false}
 use Rattle.swc_ecma_codegen_grammar.specs.Tokens as lexical
 use Rattle.swc_ecma_codegen_util.specs.declared.config.Config.{Config}
@@ -10,14 +10,8 @@ use Rattle.swc_ecma_codegen_tokens.specs.Named.{EachName, AllStand}
 use Rattle.swc_ecma_codegen_tokens.specs.Run.{Env, Part}
 use Rattle.swc_ecma_codegen_tokens.specs.Targets.{is_out}
 use Rattle.swc_ecma_codegen_tokens.proofs.Choices.{IsAmong, prints_among}
-use Rattle.swc_ecma_codegen_tokens.proofs.Phrased.{prints_never, PrintsAt}
-use Rattle.swc_ecma_codegen_emit.specs.Lists.{unsupported}
+use Rattle.swc_ecma_codegen_tokens.proofs.Phrased.{PrintsAt}
 use Rattle.swc_ecma_codegen_tokens.proofs.Shapes.{Shape}
-
--- one that isn't printed yet is refused, and has no list of tokens
-pub refused_or : {i : Shape} {env : Env} {p : Part} {f : Phrase} (refused : Bool) → PrintsAt i env p f → PrintsAt i env (λ rest. cond refused (unsupported rest) (p rest)) (cond refused Never f)
-refused_or true h = prints_never
-refused_or false h = h
 
 -- whatever is written, no tree is written so
 pub prints_impossible : {i : Shape} {env : Env} {p : Part} {f : Phrase} → is_possible f ≡ false → PrintsAt i env p f

@@ -50,6 +50,7 @@ use Rattle.swc_ecma_codegen_emit.proofs.TypeKnots.{ts_part_mapped}
 use Rattle.swc_ecma_codegen_emit.specs.Targets.{simple_assign_target, assign_target}
 use Rattle.swc_ecma_codegen_emit.specs.Parts.{expr_part, stmt_part, ts_part}
 use Rattle.swc_ecma_codegen_emit.specs.Stmts.{stmt}
+use Rattle.swc_ecma_codegen_emit.specs.TsExprs.{ts_as_expr, ts_const_assertion, ts_satisfies_expr, ts_non_null_expr, ts_type_assertion, ts_instantiation}
 use Rattle.swc_ecma_codegen_emit.specs.Jsx.{jsx_member_expr, jsx_part}
 use Rattle.swc_ecma_codegen_emit.specs.Tree.{node_items, any_items}
 use Rattle.swc_ecma_codegen_emit.proofs.DeclKnots.{decl_mapped, var_decl_mapped}
@@ -102,7 +103,7 @@ unfolding node_items expr expr_parts expr_closed expr_span leaves_comments place
 seq_mapped {X} g asks items n rest = ap (opened n.span) (listed_mapped {A = ExprBox X} _ (held items) (held (λ x. items (g x))) (λ x. refl) true n.exprs.items (trailing_comments true n.span.hi rest))
 
 expr_mapped : {X Y : Type 0} (g : X → Y) (asks : Y → Answers) (items : Y → Place → Part) (n : Expr X) (place : Place) (rest : Plan) → node_items asks items (map-AnyNode X Y g (nodes.Expr n)) place rest ≡ placed_expr (λ x. asks (g x)) (λ x. items (g x)) n place rest
-unfolding node_items expr expr_parts expr_closed expr_span fn_expr_span class_expr_span leaves_comments placed_expr wrapped is_wrapped is_field_value is_sequence member_at unsupported refuse fn_expr class_expr optional_name this unary update update_parts bin bin_operator bin_trailing assign meta_prop_expr await_expr choice seq paren ident expr_part jsx_member_expr jsx_member_expr_span
+unfolding node_items expr expr_parts expr_closed expr_span fn_expr_span class_expr_span leaves_comments placed_expr wrapped is_wrapped is_field_value is_sequence member_at unsupported refuse fn_expr class_expr optional_name this unary update update_parts bin bin_operator bin_trailing assign meta_prop_expr await_expr choice seq paren ident ts_as_expr ts_const_assertion ts_satisfies_expr ts_non_null_expr ts_type_assertion ts_instantiation expr_part jsx_member_expr jsx_member_expr_span
 expr_mapped g asks items (exprs.Seq n) FieldValue rest = ap (punct (codes "(")) (seq_mapped g asks items n (punct (codes ")") rest))
 expr_mapped g asks items (exprs.Seq n) place rest = seq_mapped g asks items n rest
 expr_mapped g asks items (exprs.Array n) place rest = array_lit_mapped g asks items n place rest
@@ -137,7 +138,7 @@ chain_target_mapped g asks items n (chain_bases.Member b) place rest = refl
 chain_target_mapped g asks items n (chain_bases.Call b) place rest = refl
 
 simple_target_mapped : {X Y : Type 0} (g : X → Y) (asks : Y → Answers) (items : Y → Place → Part) (n : SimpleAssignTarget X) (place : Place) (rest : Plan) → node_items asks items (map-AnyNode X Y g (as_target n)) place rest ≡ simple_assign_target (λ x. items (g x)) n rest
-unfolding node_items expr_part assign_target simple_assign_target member_at paren unsupported refuse
+unfolding node_items expr_part assign_target simple_assign_target member_at paren ts_as_expr ts_satisfies_expr ts_non_null_expr ts_type_assertion ts_instantiation unsupported refuse
 simple_target_mapped g asks items (simple_targets.Ident n) place rest = binding_target_mapped g asks items n.id n.type_ann place rest
 simple_target_mapped g asks items (simple_targets.Member n) place rest = member_mapped g asks items n.span n.obj n.prop Plain rest
 simple_target_mapped g asks items (simple_targets.SuperProp n) place rest = super_target_mapped g asks items n n.prop place rest

@@ -55,9 +55,11 @@ pub mod TypeKnots
 pub mod TypeParts
 pub mod TypeWords
 pub mod TsDeclWords
+pub mod TsExprWords
 pub mod TsMemberParts
 pub mod TsMemberKnots
 pub mod TsDeclParts
+pub mod TsExprParts
 pub mod TsDeclKnots
 pub mod NamespaceParts
 pub mod NamespaceKnots

@@ -5,7 +5,7 @@ use Rattle.swc_ecma_codegen_tree.specs.declared.parts.ExprPart.TheVariants as ex
 use Rattle.swc_ecma_codegen_tree.specs.declared.parts.StmtPart.{StmtPart}
 use Rattle.swc_ecma_codegen_tree.specs.declared.parts.StmtPart.TheVariants as stmt_parts
 use Rattle.swc_ecma_codegen_grammar.specs.declared.roles.Role.{Role}
-use Rattle.swc_ecma_codegen_grammar.specs.declared.roles.Role.TheVariants.{AssignmentTarget, Pattern, PlainParameter, PropertyName, ObjectLiteral, Function, FunctionHead, MethodHead, Block, Declaration, VariableDeclaration, ChainCall, Template, TaggedTemplate, ClassHead, ClassTail, Member, MethodDecorators, MethodTail, AccessorTail, ModuleDeclaration, ExportedHead, ExportedTail, AnyType, Annotation, TypeArguments, TypeParameters, EntityName, SignatureParameter, TypeMember, NamespaceBody, DottedBody}
+use Rattle.swc_ecma_codegen_grammar.specs.declared.roles.Role.TheVariants.{AssignmentTarget, Pattern, PlainParameter, PropertyName, ObjectLiteral, Function, FunctionHead, MethodHead, Block, Declaration, VariableDeclaration, ChainCall, Template, TaggedTemplate, ClassHead, ClassWord, ClassTail, Member, MethodDecorators, MethodTail, AccessorTail, ModuleDeclaration, ExportedHead, ExportedTail, AnyType, Annotation, TypeArguments, TypeParameters, EntityName, SignatureParameter, TypeMember, NamespaceBody, DottedBody}
 use Rattle.swc_ecma_codegen_grammar.specs.PartPhrases as lists
 use Rattle.swc_ecma_codegen_tokens.proofs.TagPrints.{prints_never_on}
 use Rattle.swc_ecma_codegen_emit.specs.declared.nodes.Place.{Place}
@@ -16,7 +16,7 @@ use Rattle.swc_ecma_codegen_emit.specs.Classes.{class}
 use Rattle.swc_ecma_codegen_emit.specs.Functions.{function}
 use Rattle.swc_ecma_codegen_emit.proofs.BlockParts.{block_stmt_prints}
 use Rattle.swc_ecma_codegen_emit.proofs.DeclParts.{decl_prints, exported_head_prints, exported_tail_prints, var_decl_prints}
-use Rattle.swc_ecma_codegen_emit.proofs.ClassParts.{class_head_prints, class_tail_prints, class_member_prints}
+use Rattle.swc_ecma_codegen_emit.proofs.ClassParts.{class_head_prints, class_word_prints, class_tail_prints, class_member_prints}
 use Rattle.swc_ecma_codegen_emit.proofs.FunctionParts.{fn_trailing_prints, head_prints, before_method_prints, method_decorators_print, method_tail_prints, accessor_tail_prints}
 use Rattle.swc_ecma_codegen_emit.proofs.Linked.{Linked, PrintsIn}
 use Rattle.swc_ecma_codegen_emit.proofs.ModuleParts.{module_decl_prints}
@@ -53,6 +53,7 @@ stmt_part_prints l (stmt_parts.Function n) place MethodDecorators = method_decor
 stmt_part_prints l (stmt_parts.Function n) place MethodTail = method_tail_prints l n.value place
 stmt_part_prints l (stmt_parts.Function n) place AccessorTail = accessor_tail_prints l n.value place
 stmt_part_prints l (stmt_parts.Class n) place ClassHead = class_head_prints l n.value
+stmt_part_prints l (stmt_parts.Class n) place ClassWord = class_word_prints l n.value
 stmt_part_prints l (stmt_parts.Class n) place ClassTail = class_tail_prints l n.value
 stmt_part_prints l (stmt_parts.ClassMember n) place Member = class_member_prints l n.value
 stmt_part_prints l (stmt_parts.BlockStmt n) place Block = block_stmt_prints l n place

@@ -19,6 +19,7 @@ use Rattle.swc_ecma_codegen_grammar.specs.Phrases.{Phrase, CommaBefore, RightBra
 use Rattle.swc_ecma_codegen_grammar.specs.Phrases as phrases
 use Rattle.swc_ecma_codegen_grammar.specs.ElementPhrases.{element, last_is_hole, elements_end, closing_of}
 use Rattle.swc_ecma_codegen_grammar.specs.AnnotationPhrases as annotations
+use Rattle.swc_ecma_codegen_grammar.specs.DeclPhrases as decl_lists
 use Rattle.swc_ecma_codegen_grammar.specs.PatPhrases as lists
 use Rattle.swc_ecma_codegen_tokens.specs.Run.{Env, Part}
 use Rattle.swc_ecma_codegen_tokens.specs.Lists.{list, list_closing}
@@ -32,11 +33,12 @@ use Rattle.swc_ecma_codegen_emit.specs.Answers.{place_of}
 use Rattle.swc_ecma_codegen_emit.specs.Lists.{if_some_at}
 use Rattle.swc_ecma_codegen_emit.specs.Pats as words
 use Rattle.swc_ecma_codegen_emit.specs.Pats.{pat_place, pat_items, array_pat_format, object_pat_format}
-use Rattle.swc_ecma_codegen_emit.proofs.ExprParts.{spaced_prints, writes_opened}
+use Rattle.swc_ecma_codegen_emit.proofs.ExprParts.{ident_prints, spaced_prints, writes_opened}
 use Rattle.swc_ecma_codegen_emit.proofs.AnnotationParts.{annotation_prints, spaced_annotation_prints, question_prints}
 use Rattle.swc_ecma_codegen_emit.proofs.Linked.{Linked, expr_at, pat_at}
 use Rattle.swc_ecma_codegen_emit.proofs.MarkWords as marks
 use Rattle.swc_ecma_codegen_emit.proofs.NameParts.{binding_ident_prints, prop_name_prints}
+use Rattle.swc_ecma_codegen_emit.proofs.TsExprWords as expr_words
 use Rattle.swc_ecma_codegen_tokens.proofs.Shapes.{open_, loose, closed}
 
 pub initializer_prints : {X : Type 0} (l : Linked X) (n : Option (ExprBox X)) → PrintsAt open_ l.env (words.initializer l.items n) (lists.initializer l.reads n)
@@ -97,7 +99,7 @@ pub rest_pat_prints : {X : Type 0} (l : Linked X) (n : RestPat X) → Prints l.e
 unfolding words.rest_pat lists.rest_pat
 rest_pat_prints l n = after (writes_leading l.env n.span.lo) (then (prints_placed_punct l.env n.dot3_token (codes "...") marks.ellipsis) (then (pat_at l n.arg) (annotation_prints l n.type_ann)))
 
-assign_pat_prints : {X : Type 0} (l : Linked X) (n : AssignPat X) → Prints l.env (words.assign_pat l.items n) (lists.assign_pat l.reads n)
+pub assign_pat_prints : {X : Type 0} (l : Linked X) (n : AssignPat X) → Prints l.env (words.assign_pat l.items n) (lists.assign_pat l.reads n)
 unfolding words.assign_pat lists.assign_pat
 assign_pat_prints l n =
     after (writes_opened l.env n.span)
@@ -158,6 +160,17 @@ parts_print l (variants.Expr n) = expr_at l n Plain
 pub pat_prints : {X : Type 0} (l : Linked X) (n : Pat X) → Prints l.env (words.pat l.asks l.items n) (lists.pat l.reads n)
 unfolding words.pat
 pat_prints l n = before (parts_print l n) (writes_trailing l.env true (pat_span (place_of l.asks) n).hi)
+
+-- what is declared: a name may be said to have a value
+definite_prints : {X : Type 0} (l : Linked X) (n : Pat X) → Prints l.env (words.definite_pat l.asks l.items n) (decl_lists.definite_pat l.reads n)
+unfolding words.definite_pat words.definite_ident decl_lists.definite_pat
+definite_prints l (variants.Ident n) = then (ident_prints l n.id) (then (prints_punct l.env (codes "!") expr_words.bang) (before (annotation_prints l n.type_ann) (writes_trailing l.env true n.id.span.hi)))
+definite_prints l n = prints_never
+
+pub declared_prints : {X : Type 0} (l : Linked X) (definite : Bool) (n : Pat X) → Prints l.env (words.declared_pat l.asks l.items definite n) (decl_lists.declared_pat l.reads definite n)
+unfolding words.declared_pat decl_lists.declared_pat
+declared_prints l true n = definite_prints l n
+declared_prints l false n = pat_prints l n
 
 -- the same as the only parameter that is a name alone: in that role other patterns have no list of tokens
 plain_case : {env : Env} {p : Part} {f : Phrase} (typed : Bool) → Prints env p f → Prints env p (cond typed phrases.Never f)

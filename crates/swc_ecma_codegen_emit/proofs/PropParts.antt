@@ -1,8 +1,8 @@
 -- What is written of objects and their properties is what it reads as.
-use Rattle.std.proofs.Common.{refl, ℕ, Bool, ◌||◌, true, false, cond, ◌==◌, is_some, List, [], map, codes, Option, Some, None, inl, inr}
+use Rattle.std.proofs.Common.{refl, ℕ, Bool, ◌||◌, true, false, cond, ◌==◌, List, [], map, codes, Option, Some, None, inl, inr}
 use Rattle.std.proofs.lemmas.Bool.{cases_Bool}
 use Rattle.swc_ecma_codegen_common.specs.declared.positions.Span.{Span}
-use Rattle.swc_ecma_codegen_tree.specs.Links.{BlockStmtBox, PropNameBox}
+use Rattle.swc_ecma_codegen_tree.specs.Links.{BlockStmtBox, PatBox, PropNameBox, TsTypeAnnBox}
 use Rattle.swc_ecma_codegen_tree.specs.declared.exprs.ObjectLit.{ObjectLit}
 use Rattle.swc_ecma_codegen_tree.specs.declared.exprs.PropOrSpread.{PropOrSpread}
 use Rattle.swc_ecma_codegen_tree.specs.declared.exprs.PropOrSpread.TheVariants as prop_or_spreads
@@ -17,9 +17,10 @@ use Rattle.swc_ecma_codegen_spans.specs.Spans.{prop_name_span, prop_or_spread_sp
 use Rattle.swc_ecma_codegen_grammar.specs.FunctionPhrases.{is_some_listed}
 use Rattle.swc_ecma_codegen_grammar.specs.Phrases.{Phrase, ◌>◌, mark, word}
 use Rattle.swc_ecma_codegen_grammar.specs.Phrases as phrases
+use Rattle.swc_ecma_codegen_grammar.specs.AnnotationPhrases.{annotation}
 use Rattle.swc_ecma_codegen_grammar.specs.PropPhrases as lists
 use Rattle.swc_ecma_codegen_grammar.specs.PatPhrases as heads
-use Rattle.swc_ecma_codegen_grammar.specs.declared.roles.Role.TheVariants.{Function, MethodHead}
+use Rattle.swc_ecma_codegen_grammar.specs.declared.roles.Role.TheVariants.{Annotation, Function, MethodHead}
 use Rattle.swc_ecma_codegen_grammar.specs.CommentMaps.{Maps}
 use Rattle.swc_ecma_codegen_emit.specs.Commented.{has_comment_inside}
 use Rattle.swc_ecma_codegen_tokens.specs.Run.{Env, Part, step, after_step, at_maps, when_minified}
@@ -36,7 +37,6 @@ use Rattle.swc_ecma_codegen_emit.specs.Props as words
 use Rattle.swc_ecma_codegen_emit.specs.Props.{object_format, flat_object_format}
 use Rattle.swc_ecma_codegen_emit.proofs.BlockParts.{behind_bracket}
 use Rattle.swc_ecma_codegen_emit.proofs.ExprParts.{ident_prints, spread_element_prints, writes_blank, writes_opened}
-use Rattle.swc_ecma_codegen_emit.proofs.Impossible.{refused_or}
 use Rattle.swc_ecma_codegen_emit.proofs.Linked.{Linked, expr_at, pat_at, prop_name_at, block_at}
 use Rattle.swc_ecma_codegen_emit.proofs.MarkWords as marks
 use Rattle.swc_ecma_codegen_emit.proofs.NameParts.{prop_name_prints}
@@ -76,31 +76,35 @@ unfolding words.optional_body lists.optional_body
 body_prints l None = prints_nothing
 body_prints l (Some n) = prints_wider open_ refl (block_at l n Plain)
 
-getter_parts_prints : {X : Type 0} (l : Linked X) (n : GetterProp X) → Prints l.env (words.getter_parts l.asks l.items n) (word (codes "get") > heads.prop_name_at l.reads n.key > mark (codes "(") > mark (codes ")") > lists.optional_body l.reads n.body)
-unfolding words.getter_parts words.accessor
-getter_parts_prints l n =
+tight_annotation_prints : {X : Type 0} (l : Linked X) (n : Option (TsTypeAnnBox X)) → PrintsAt open_ l.env (words.tight_annotation l.items n) (annotation l.reads n)
+unfolding words.tight_annotation annotation
+tight_annotation_prints l None = prints_nothing
+tight_annotation_prints l (Some n) = prints_wider open_ refl (then (prints_punct l.env (codes ":") marks.colon) (l.law n.node.value Plain Annotation))
+
+getter_prints : {X : Type 0} (l : Linked X) (n : GetterProp X) → Prints l.env (words.getter_prop l.asks l.items n) (lists.getter_prop l.reads n)
+unfolding words.getter_prop words.accessor lists.getter_prop
+getter_prints l n =
     after (writes_opened l.env n.span)
     (then (before (prints_keyword l.env None (codes "get") marks.get_word) (writes_blank l.env (l.asks n.key.node.value).starts))
     (then (before (prop_name_at l n.key) (writes_formatting_space l.env))
     (then (prints_punct l.env (codes "(") marks.left_parenthesis)
-    (then (before (prints_punct l.env (codes ")") marks.right_parenthesis) (writes_formatting_space l.env)) (body_prints l n.body)))))
+    (then (prints_punct l.env (codes ")") marks.right_parenthesis)
+    (then (before (tight_annotation_prints l n.type_ann) (writes_formatting_space l.env)) (body_prints l n.body))))))
 
-setter_parts_prints : {X : Type 0} (l : Linked X) (n : SetterProp X) → Prints l.env (words.setter_parts l.asks l.items n) (word (codes "set") > heads.prop_name_at l.reads n.key > mark (codes "(") > heads.pat_at l.reads n.param > mark (codes ")") > lists.optional_body l.reads n.body)
-unfolding words.setter_parts words.accessor
-setter_parts_prints l n =
+this_prints : {X : Type 0} (l : Linked X) (n : Option (PatBox X)) → PrintsAt open_ l.env (words.this_param l.items n) (lists.this_param l.reads n)
+unfolding words.this_param lists.this_param
+this_prints l None = prints_nothing
+this_prints l (Some n) = prints_wider open_ refl (then (pat_at l n) (before (prints_punct l.env (codes ",") marks.comma) (writes_formatting_space l.env)))
+
+setter_prints : {X : Type 0} (l : Linked X) (n : SetterProp X) → Prints l.env (words.setter_prop l.asks l.items n) (lists.setter_prop l.reads n)
+unfolding words.setter_prop words.accessor lists.setter_prop
+setter_prints l n =
     after (writes_opened l.env n.span)
     (then (before (prints_keyword l.env None (codes "set") marks.set_word) (writes_blank l.env (l.asks n.key.node.value).starts))
     (then (before (prop_name_at l n.key) (writes_formatting_space l.env))
     (then (prints_punct l.env (codes "(") marks.left_parenthesis)
-    (then (pat_at l n.param) (then (prints_punct l.env (codes ")") marks.right_parenthesis) (body_prints l n.body))))))
-
-getter_prints : {X : Type 0} (l : Linked X) (n : GetterProp X) → Prints l.env (words.getter_prop l.asks l.items n) (lists.getter_prop l.reads n)
-unfolding words.getter_prop lists.getter_prop
-getter_prints l n = refused_or (is_some n.type_ann) (getter_parts_prints l n)
-
-setter_prints : {X : Type 0} (l : Linked X) (n : SetterProp X) → Prints l.env (words.setter_prop l.asks l.items n) (lists.setter_prop l.reads n)
-unfolding words.setter_prop lists.setter_prop
-setter_prints l n = refused_or (is_some n.this_param) (setter_parts_prints l n)
+    (then (this_prints l n.this_param)
+    (then (pat_at l n.param) (then (prints_punct l.env (codes ")") marks.right_parenthesis) (body_prints l n.body)))))))
 
 method_prints : {X : Type 0} (l : Linked X) (n : MethodProp X) → Prints l.env (words.method_prop l.asks l.items n) (lists.method_prop l.reads n)
 unfolding words.method_prop lists.method_prop

@@ -31,21 +31,21 @@ use Rattle.swc_ecma_codegen_grammar.proofs.MappedStmts.{by_init, by_test}
 use Rattle.swc_ecma_codegen_util.specs.Ends.{init_ends, declarator_ends, head_ends, expr_part_ends, node_ends}
 use Rattle.swc_ecma_codegen_util.proofs.Finishes.{declarators_mapped as ends_mapped, pat_mapped as pat_ends_mapped}
 use Rattle.swc_ecma_codegen_tokens.specs.Lists.{ListChild, by_lines, list}
-use Rattle.swc_ecma_codegen_tokens.specs.Run.{Plan, Part, refuse}
+use Rattle.swc_ecma_codegen_tokens.specs.Run.{Plan, Part}
 use Rattle.swc_ecma_codegen_tokens.specs.Words.{keyword, punct, space, formatting_space, last_of, leading_comments, trailing_comments, formatting_line}
 use Rattle.swc_ecma_codegen_emit.specs.declared.nodes.Place.{Place}
 use Rattle.swc_ecma_codegen_emit.specs.declared.nodes.Place.TheVariants.{Plain, Statement}
 use Rattle.swc_ecma_codegen_emit.specs.Answers.{Answers, place_of}
 use Rattle.swc_ecma_codegen_emit.specs.Branches.{is_block}
-use Rattle.swc_ecma_codegen_emit.specs.Decls.{declarators_format, var_declarator_parts, var_declarator, await_word, using_decl}
+use Rattle.swc_ecma_codegen_emit.specs.Decls.{declarators_format, var_declarator, await_word, using_decl}
 use Rattle.swc_ecma_codegen_emit.specs.Exprs.{opened}
-use Rattle.swc_ecma_codegen_emit.specs.Lists.{child_at, unsupported}
+use Rattle.swc_ecma_codegen_emit.specs.Lists.{child_at}
 use Rattle.swc_ecma_codegen_emit.specs.Parts.{expr_part, stmt_part}
-use Rattle.swc_ecma_codegen_emit.specs.Pats.{initializer, pat}
+use Rattle.swc_ecma_codegen_emit.specs.Pats.{initializer, declared_pat}
 use Rattle.swc_ecma_codegen_emit.specs.Stmts.{enclosed, argument, argument_in, spaced, stmt_word, empty_stmt, expr_stmt, debugger_stmt, with_stmt, return_arg, return_stmt, labeled_stmt, break_stmt, continue_stmt, else_branch, if_stmt, catch_param, catch_clause, handler, finalizer, try_stmt, throw_stmt, lines_format, cases_format, case_test, is_single, case_list, switch_case, switch_cases, switch_stmt, while_stmt, loop_test, do_while_stmt, var_decl_or_expr, for_init, for_value, for_clause, for_control, for_stmt, for_head, for_right, for_each, for_in_stmt, for_await, for_of_stmt, stmt_parts, stmt_closed, stmt}
 use Rattle.swc_ecma_codegen_emit.specs.Tree.{node_items}
-use Rattle.swc_ecma_codegen_emit.proofs.DeclKnots.{declarator_child, declarator_same, decl_mapped, decl_placed}
-use Rattle.swc_ecma_codegen_emit.proofs.PatKnots.{child_same, children_mapped, pat_mapped}
+use Rattle.swc_ecma_codegen_emit.proofs.DeclKnots.{declarator_child, declarator_same, declared_pat_mapped, decl_mapped, decl_placed}
+use Rattle.swc_ecma_codegen_emit.proofs.PatKnots.{child_same, children_mapped}
 
 -- the end of a statement that is no block
 abbrev ended : Span → Plan → Plan
@@ -127,20 +127,20 @@ both_same : (f : List ListChild → Bool → Plan) (cs ds : List ListChild) (b c
 both_same f cs ds b c e h = ap (λ z. f z b) e ∙ ap (f ds) h
 
 for_in_by : {X Y : Type 0} (g : X → Y) (asks : Y → Answers) (items : Y → Place → Part) (n : ForInStmt X) (left : ForHead X) (place : Place) (rest : Plan) → node_items asks items (map-AnyNode X Y g (nodes.Stmt (stmts.ForIn (record n { left = left })))) place rest ≡ stmt (λ x. asks (g x)) (λ x. items (g x)) (stmts.ForIn (record n { left = left })) rest
-unfolding node_items expr_part stmt stmt_parts stmt_closed is_block stmt_span for_in_stmt for_each for_head head_ends for_right spaced using_decl var_declarator var_declarator_parts initializer unsupported refuse declarator_ends init_ends expr_part_ends node_ends
+unfolding node_items expr_part stmt stmt_parts stmt_closed is_block stmt_span for_in_stmt for_each for_head head_ends for_right spaced using_decl var_declarator initializer declarator_ends init_ends expr_part_ends node_ends
 for_in_by g asks items n (heads.VarDecl h) place rest = refl
 for_in_by {X} g asks items n (heads.UsingDecl h) place rest = both_same
     (λ cs ends. stmt_word n.span (codes "for") (punct (codes "(") (using_head h.value cs (for_right (λ x. asks (g x)) (λ x. items (g x)) (codes "in") ends n.right (punct (codes ")") (items (g n.body.node.value) Plain (ended n.span rest)))))))
-    _ _ _ _ (list_mapped {A = VarDeclarator X} _ (declarator_child asks items) (declarator_child (λ x. asks (g x)) (λ x. items (g x))) (by_init {X = X} _ (λ span name definite. declarator_same span definite _ (pat (λ x. asks (g x)) (λ x. items (g x)) name) (λ after. after) (pat_mapped g asks items name Plain)) (λ span name init definite. declarator_same span definite _ (pat (λ x. asks (g x)) (λ x. items (g x)) name) (initializer (λ x. items (g x)) (Some init)) (pat_mapped g asks items name Plain))) h.value.decls.items)
+    _ _ _ _ (list_mapped {A = VarDeclarator X} _ (declarator_child asks items) (declarator_child (λ x. asks (g x)) (λ x. items (g x))) (by_init {X = X} _ (λ span name definite. declarator_same span _ (declared_pat (λ x. asks (g x)) (λ x. items (g x)) definite name) (λ after. after) (declared_pat_mapped g asks items definite name)) (λ span name init definite. declarator_same span _ (declared_pat (λ x. asks (g x)) (λ x. items (g x)) definite name) (initializer (λ x. items (g x)) (Some init)) (declared_pat_mapped g asks items definite name))) h.value.decls.items)
     (ends_mapped _ (λ y. (asks y).ends) (λ x. (asks (g x)).ends) (λ x y. refl) (λ x. pat_ends_mapped g (λ y. (asks y).ends) x.name) h.value.decls.items)
 for_in_by g asks items n (heads.Pat h) place rest = refl
 
 for_of_by : {X Y : Type 0} (g : X → Y) (asks : Y → Answers) (items : Y → Place → Part) (n : ForOfStmt X) (left : ForHead X) (place : Place) (rest : Plan) → node_items asks items (map-AnyNode X Y g (nodes.Stmt (stmts.ForOf (record n { left = left })))) place rest ≡ stmt (λ x. asks (g x)) (λ x. items (g x)) (stmts.ForOf (record n { left = left })) rest
-unfolding node_items expr_part stmt stmt_parts stmt_closed is_block stmt_span for_of_stmt for_each for_head head_ends for_right spaced using_decl var_declarator var_declarator_parts initializer unsupported refuse declarator_ends init_ends expr_part_ends node_ends
+unfolding node_items expr_part stmt stmt_parts stmt_closed is_block stmt_span for_of_stmt for_each for_head head_ends for_right spaced using_decl var_declarator initializer declarator_ends init_ends expr_part_ends node_ends
 for_of_by g asks items n (heads.VarDecl h) place rest = refl
 for_of_by {X} g asks items n (heads.UsingDecl h) place rest = both_same
     (λ cs ends. stmt_word n.span (codes "for") (for_await n.is_await (formatting_space (punct (codes "(") (using_head h.value cs (for_right (λ x. asks (g x)) (λ x. items (g x)) (codes "of") ends n.right (punct (codes ")") (items (g n.body.node.value) Plain (ended n.span rest)))))))))
-    _ _ _ _ (list_mapped {A = VarDeclarator X} _ (declarator_child asks items) (declarator_child (λ x. asks (g x)) (λ x. items (g x))) (by_init {X = X} _ (λ span name definite. declarator_same span definite _ (pat (λ x. asks (g x)) (λ x. items (g x)) name) (λ after. after) (pat_mapped g asks items name Plain)) (λ span name init definite. declarator_same span definite _ (pat (λ x. asks (g x)) (λ x. items (g x)) name) (initializer (λ x. items (g x)) (Some init)) (pat_mapped g asks items name Plain))) h.value.decls.items)
+    _ _ _ _ (list_mapped {A = VarDeclarator X} _ (declarator_child asks items) (declarator_child (λ x. asks (g x)) (λ x. items (g x))) (by_init {X = X} _ (λ span name definite. declarator_same span _ (declared_pat (λ x. asks (g x)) (λ x. items (g x)) definite name) (λ after. after) (declared_pat_mapped g asks items definite name)) (λ span name init definite. declarator_same span _ (declared_pat (λ x. asks (g x)) (λ x. items (g x)) definite name) (initializer (λ x. items (g x)) (Some init)) (declared_pat_mapped g asks items definite name))) h.value.decls.items)
     (ends_mapped _ (λ y. (asks y).ends) (λ x. (asks (g x)).ends) (λ x y. refl) (λ x. pat_ends_mapped g (λ y. (asks y).ends) x.name) h.value.decls.items)
 for_of_by g asks items n (heads.Pat h) place rest = refl
 

@@ -9,6 +9,7 @@ use Rattle.swc_ecma_codegen_emit.specs.Targets as words
 use Rattle.swc_ecma_codegen_emit.proofs.Linked.{Linked}
 use Rattle.swc_ecma_codegen_emit.proofs.NameParts.{binding_ident_prints}
 use Rattle.swc_ecma_codegen_emit.proofs.PatParts.{assign_target_pat_prints}
+use Rattle.swc_ecma_codegen_emit.proofs.TsExprParts.{as_prints, satisfies_prints, non_null_prints, type_assertion_prints, instantiation_prints}
 use Rattle.swc_ecma_codegen_emit.proofs.ExprParts.{member_prints, super_prop_expr_prints, paren_prints, opt_chain_prints}
 
 simple_prints : {X : Type 0} (l : Linked X) (n : SimpleAssignTarget X) → Prints l.env (words.simple_assign_target l.items n) (lists.simple_assign_target l.reads n)
@@ -18,7 +19,12 @@ simple_prints l (simple_targets.Member n) = member_prints l n
 simple_prints l (simple_targets.SuperProp n) = super_prop_expr_prints l n
 simple_prints l (simple_targets.Paren n) = paren_prints l n
 simple_prints l (simple_targets.OptChain n) = opt_chain_prints l n
-simple_prints l n = prints_never
+simple_prints l (simple_targets.TsAs n) = as_prints l n
+simple_prints l (simple_targets.TsSatisfies n) = satisfies_prints l n
+simple_prints l (simple_targets.TsNonNull n) = non_null_prints l n
+simple_prints l (simple_targets.TsTypeAssertion n) = type_assertion_prints l n
+simple_prints l (simple_targets.TsInstantiation n) = instantiation_prints l n
+simple_prints l (simple_targets.Invalid n) = prints_never
 
 pub assign_target_prints : {X : Type 0} (l : Linked X) (n : AssignTarget X) → Prints l.env (words.assign_target l.asks l.items n) (lists.assign_target l.reads n)
 unfolding words.assign_target lists.assign_target

@@ -1,5 +1,5 @@
 -- What is written of what types add to other nodes.
-use Rattle.std.specs.Prelude.{Option, Some, None, codes}
+use Rattle.std.specs.Prelude.{Bool, if◌then◌else◌, Option, Some, None, codes}
 use Rattle.swc_ecma_codegen_tree.specs.Links.{TsTypeAnnBox, TsTypeParamDeclBox, TsTypeParamInstantiationBox}
 use Rattle.swc_ecma_codegen_tokens.specs.Run.{Part}
 use Rattle.swc_ecma_codegen_tokens.specs.Words.{punct, space, formatting_space}
@@ -15,6 +15,15 @@ annotation items (Some n) rest = punct (codes ":") (formatting_space (items n.no
 unfoldable pub spaced_annotation : {X : Type 0} → (X → Place → Part) → Option (TsTypeAnnBox X) → Part
 spaced_annotation items None rest = rest
 spaced_annotation items (Some n) rest = punct (codes ":") (space (items n.node.value Plain rest))
+
+-- `!`, where it is so
+unfoldable pub bang : Bool → Part
+bang definite rest = if definite then punct (codes "!") rest else rest
+
+-- `!: A` of a field, with a blank always; without a type nothing
+unfoldable pub field_annotation : {X : Type 0} → (X → Place → Part) → Bool → Option (TsTypeAnnBox X) → Part
+field_annotation items definite None rest = rest
+field_annotation items definite (Some n) rest = bang definite (punct (codes ":") (space (items n.node.value Plain rest)))
 
 -- `<A>` of `f<A>()`, by where it stands
 unfoldable pub type_args : {X : Type 0} → (X → Place → Part) → Place → Option (TsTypeParamInstantiationBox X) → Part

@@ -19,6 +19,7 @@ use Rattle.swc_ecma_codegen_emit.specs.Exprs.{this, unary, update, bin, assign, 
 use Rattle.swc_ecma_codegen_emit.specs.Jsx.{jsx_member_expr, jsx_namespaced_name}
 use Rattle.swc_ecma_codegen_emit.specs.Lists.{unsupported}
 use Rattle.swc_ecma_codegen_emit.specs.Lits.{lit_at, is_number_object}
+use Rattle.swc_ecma_codegen_emit.specs.TsExprs.{ts_as_expr, ts_const_assertion, ts_satisfies_expr, ts_non_null_expr, ts_type_assertion, ts_instantiation}
 
 unfoldable pub expr_parts : {X : Type 0} → (X → Answers) → (X → Place → Part) → Expr X → Place → Part
 expr_parts asks items (exprs.This n) place rest = this n rest
@@ -52,7 +53,13 @@ expr_parts asks items (exprs.JSXNamespacedName n) place rest = jsx_namespaced_na
 expr_parts asks items (exprs.JSXEmpty n) place rest = rest
 expr_parts asks items (exprs.JSXElement n) place rest = items n.node.value Plain rest
 expr_parts asks items (exprs.JSXFragment n) place rest = items n.node.value Plain rest
-expr_parts asks items n place rest = unsupported rest
+expr_parts asks items (exprs.TsAs n) place rest = ts_as_expr items n rest
+expr_parts asks items (exprs.TsConstAssertion n) place rest = ts_const_assertion items n rest
+expr_parts asks items (exprs.TsSatisfies n) place rest = ts_satisfies_expr items n rest
+expr_parts asks items (exprs.TsNonNull n) place rest = ts_non_null_expr items n rest
+expr_parts asks items (exprs.TsTypeAssertion n) place rest = ts_type_assertion items n rest
+expr_parts asks items (exprs.TsInstantiation n) place rest = ts_instantiation items n rest
+expr_parts asks items (exprs.Invalid n) place rest = unsupported rest
 
 unfoldable pub is_left_operand : Place → Bool
 is_left_operand LeftOperand = true

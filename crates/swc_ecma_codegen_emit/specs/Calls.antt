@@ -1,4 +1,4 @@
--- What is written of arrays, calls and `new`. What TypeScript adds, arguments that are types, isn't printed yet.
+-- What is written of arrays, calls and `new`.
 use Rattle.std.specs.Prelude.{ℕ, Bool, true, false, if◌then◌else◌, List, [], ◌∷◌, map, codes, Option, Some, None}
 use Rattle.std.specs.declared.vec.Vec.{Vec}
 use Rattle.swc_ecma_codegen_common.specs.declared.positions.Span.{Span}

@@ -1,4 +1,4 @@
--- What is written of declarations. `!` after a name, which TypeScript adds, isn't printed yet.
+-- What is written of declarations.
 use Rattle.std.specs.Prelude.{ℕ, Bool, true, false, if◌then◌else◌, List, [], ◌∷◌, map, codes, None}
 use Rattle.swc_ecma_codegen_common.specs.declared.positions.Span.{Span}
 use Rattle.swc_ecma_codegen_tree.specs.declared.decls.ClassDecl.{ClassDecl}
@@ -14,14 +14,14 @@ use Rattle.swc_ecma_codegen_tokens.specs.Run.{Part}
 use Rattle.swc_ecma_codegen_tokens.specs.Lists.{list}
 use Rattle.swc_ecma_codegen_tokens.specs.Words.{keyword, semi, space, commit_pending_semi, start_of, end_of, leading_comments}
 use Rattle.swc_ecma_codegen_emit.specs.declared.nodes.Place.{Place}
-use Rattle.swc_ecma_codegen_emit.specs.declared.nodes.Place.TheVariants.{Plain, ClassHead, DeclarationHead, ExportedHead, ExportedTail, Statement}
+use Rattle.swc_ecma_codegen_emit.specs.declared.nodes.Place.TheVariants.{Plain, ClassHead, ClassWord, DeclarationHead, ExportedHead, ExportedTail, Statement}
 use Rattle.swc_ecma_codegen_emit.specs.declared.patterns.PatternKind.{PatternKind}
 use Rattle.swc_ecma_codegen_emit.specs.declared.patterns.PatternKind.TheVariants.{Marked}
 use Rattle.swc_ecma_codegen_emit.specs.Answers.{Answers}
 use Rattle.swc_ecma_codegen_emit.specs.Classes.{class_decl}
 use Rattle.swc_ecma_codegen_emit.specs.Exprs.{blank, opened, ident}
-use Rattle.swc_ecma_codegen_emit.specs.Lists.{child_of, unsupported}
-use Rattle.swc_ecma_codegen_emit.specs.Pats.{initializer, pat}
+use Rattle.swc_ecma_codegen_emit.specs.Lists.{child_of}
+use Rattle.swc_ecma_codegen_emit.specs.Pats.{declared_pat, initializer}
 use Rattle.swc_ecma_codegen_emit.specs.Patterns.{pat_kind}
 use Rattle.swc_ecma_codegen_emit.specs.TsDecls.{declare_word, ts_interface_decl, ts_type_alias_decl, ts_enum_decl, ts_module_decl}
 
@@ -38,12 +38,9 @@ fn_decl asks items n rest =
     (start_of (asks function).place
     (declare_word n.declare (items function DeclarationHead (ident n.ident (items function Plain rest))))))
 
--- `a`, `a = b`
-unfoldable pub var_declarator_parts : {X : Type 0} → (X → Answers) → (X → Place → Part) → VarDeclarator X → Part
-var_declarator_parts asks items n rest = opened n.span (pat asks items n.name (initializer items n.init rest))
-
+-- `a`, `a = b`, `a!: A`
 unfoldable pub var_declarator : {X : Type 0} → (X → Answers) → (X → Place → Part) → VarDeclarator X → Part
-var_declarator asks items n rest = if n.definite then unsupported rest else var_declarator_parts asks items n rest
+var_declarator asks items n rest = opened n.span (declared_pat asks items n.definite n.name (initializer items n.init rest))
 
 abbrev pub declarator_place : {X : Type 0} → VarDeclarator X → Span
 declarator_place n = n.span
@@ -100,7 +97,7 @@ exported_class asks items n rest =
     let class = n.class.node.value in
     leading_comments (asks class).place.lo
     (start_of (asks class).place
-    (declare_word n.declare (keyword None (codes "class") (space (ident n.ident (items class Plain rest))))))
+    (declare_word n.declare (items class ClassWord (space (ident n.ident (items class Plain rest))))))
 
 -- one that has no head
 unfoldable pub without_head : Place → Part → Part

@@ -33,6 +33,7 @@ pub mod Tree
 pub mod Types
 pub mod TsMembers
 pub mod TsDecls
+pub mod TsExprs
 pub mod Namespaces
 pub mod Texts
 pub mod Roots

@@ -1,7 +1,8 @@
 -- What is written of patterns.
-use Rattle.std.specs.Prelude.{ℕ, Bool, true, if◌then◌else◌, List, map, codes, Option, Some, None}
+use Rattle.std.specs.Prelude.{ℕ, Bool, true, if◌then◌else◌, map, codes, Option, Some, None}
 use Rattle.swc_ecma_codegen_common.specs.declared.positions.Span.{Span}
 use Rattle.swc_ecma_codegen_tree.specs.Links.{ExprBox, PatBox}
+use Rattle.swc_ecma_codegen_tree.specs.declared.idents.BindingIdent.{BindingIdent}
 use Rattle.swc_ecma_codegen_tree.specs.declared.pats.Pat.{Pat}
 use Rattle.swc_ecma_codegen_tree.specs.declared.pats.Pat.TheVariants as pats
 use Rattle.swc_ecma_codegen_tree.specs.declared.pats.ArrayPat.{ArrayPat}
@@ -23,7 +24,7 @@ use Rattle.swc_ecma_codegen_emit.specs.declared.nodes.Place.{Place}
 use Rattle.swc_ecma_codegen_emit.specs.declared.nodes.Place.TheVariants.{Plain}
 use Rattle.swc_ecma_codegen_emit.specs.Annotations.{annotation, spaced_annotation}
 use Rattle.swc_ecma_codegen_emit.specs.Answers.{Answers, place_of}
-use Rattle.swc_ecma_codegen_emit.specs.Exprs.{opened, spaced_punct}
+use Rattle.swc_ecma_codegen_emit.specs.Exprs.{opened, ident, spaced_punct}
 use Rattle.swc_ecma_codegen_emit.specs.Lists.{child_of, if_some_at, unsupported}
 use Rattle.swc_ecma_codegen_emit.specs.Names.{binding_ident, prop_name}
 
@@ -107,6 +108,19 @@ pat_parts asks items (pats.Expr n) rest = items n.node.value Plain rest
 -- the comments after it
 unfoldable pub pat : {X : Type 0} → (X → Answers) → (X → Place → Part) → Pat X → Part
 pat asks items n rest = pat_parts asks items n (trailing_comments true (pat_span (place_of asks) n).hi rest)
+
+-- `!` between a name and its type: `a!: A`
+unfoldable pub definite_ident : {X : Type 0} → (X → Place → Part) → BindingIdent X → Part
+definite_ident items n rest = ident n.id (punct (codes "!") (annotation items n.type_ann (trailing_comments true n.id.span.hi rest)))
+
+-- any other pattern stands without that mark
+unfoldable pub definite_pat : {X : Type 0} → (X → Answers) → (X → Place → Part) → Pat X → Part
+definite_pat asks items (pats.Ident n) rest = definite_ident items n rest
+definite_pat asks items n rest = pat asks items n rest
+
+-- what is declared, which may be said to have a value
+unfoldable pub declared_pat : {X : Type 0} → (X → Answers) → (X → Place → Part) → Bool → Pat X → Part
+declared_pat asks items definite n rest = if definite then definite_pat asks items n rest else pat asks items n rest
 
 unfoldable pub assign_target_pat : {X : Type 0} → (X → Answers) → (X → Place → Part) → AssignTargetPat X → Part
 assign_target_pat asks items (target_pats.Array n) rest = array_pat asks items n rest

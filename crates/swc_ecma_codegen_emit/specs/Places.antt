@@ -1,8 +1,8 @@
 -- Where a node may stand in its role.
 use Rattle.swc_ecma_codegen_grammar.specs.declared.roles.Role.{Role}
-use Rattle.swc_ecma_codegen_grammar.specs.declared.roles.Role.TheVariants.{MemberExpression, ChainMember, Function, FunctionHead as HeadOfFunction, MethodHead as HeadOfMethod, Expression, Callee as IsCallee, ChainCall, Template, TaggedTemplate, ClassHead as HeadOfClass, ClassTail, MethodDecorators as DecoratorsOfMethod, MethodTail as TailOfMethod, AccessorTail as TailOfAccessor, FieldValue as ValueOfField, ModuleDeclaration, Declaration, ExportedHead as HeadOfExported, ExportedTail as TailOfExported, Element, Child as IsChild, NamespaceBody, DottedBody}
+use Rattle.swc_ecma_codegen_grammar.specs.declared.roles.Role.TheVariants.{MemberExpression, ChainMember, Function, FunctionHead as HeadOfFunction, MethodHead as HeadOfMethod, Expression, Callee as IsCallee, ChainCall, Template, TaggedTemplate, ClassHead as HeadOfClass, ClassWord as WordOfClass, ClassTail, MethodDecorators as DecoratorsOfMethod, MethodTail as TailOfMethod, AccessorTail as TailOfAccessor, FieldValue as ValueOfField, ModuleDeclaration, Declaration, ExportedHead as HeadOfExported, ExportedTail as TailOfExported, Element, Child as IsChild, NamespaceBody, DottedBody}
 use Rattle.swc_ecma_codegen_emit.specs.declared.nodes.Place.{Place}
-use Rattle.swc_ecma_codegen_emit.specs.declared.nodes.Place.TheVariants.{Plain, Chain, FunctionHead, MethodHead, DeclarationHead, Object, DottedObject, Callee, Tagged, ClassHead, StaticHead, MethodDecorators, MethodTail, FieldValue, ExportedHead, ExportedTail, Child, Dotted}
+use Rattle.swc_ecma_codegen_emit.specs.declared.nodes.Place.TheVariants.{Plain, Chain, FunctionHead, MethodHead, DeclarationHead, Object, DottedObject, Callee, Tagged, ClassHead, ClassWord, StaticHead, MethodDecorators, MethodTail, FieldValue, ExportedHead, ExportedTail, Child, Dotted}
 
 -- a place where nothing is asked of an expression, and one inside of a callee
 abbrev pub outside : Place → Place
@@ -51,6 +51,7 @@ placed Function place = Plain
 placed HeadOfFunction place = before_name place
 placed HeadOfMethod place = before_method place
 placed HeadOfClass place = ClassHead
+placed WordOfClass place = ClassWord
 placed ClassTail place = Plain
 placed DecoratorsOfMethod place = MethodDecorators
 placed TailOfMethod place = behind_key place

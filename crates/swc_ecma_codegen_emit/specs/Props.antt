@@ -1,8 +1,7 @@
--- What is written of objects and their properties. What TypeScript adds, the type of a getter and `this` before the parameter of a
--- setter, isn't printed yet.
-use Rattle.std.specs.Prelude.{ℕ, ◌==◌, Bool, ◌||◌, true, if◌then◌else◌, is_some, List, map, codes, Option, Some, None}
+-- What is written of objects and their properties.
+use Rattle.std.specs.Prelude.{ℕ, ◌==◌, Bool, ◌||◌, if◌then◌else◌, List, map, codes, Option, Some, None}
 use Rattle.swc_ecma_codegen_common.specs.declared.positions.Span.{Span}
-use Rattle.swc_ecma_codegen_tree.specs.Links.{BlockStmtBox}
+use Rattle.swc_ecma_codegen_tree.specs.Links.{BlockStmtBox, PatBox, TsTypeAnnBox}
 use Rattle.swc_ecma_codegen_tree.specs.declared.exprs.ObjectLit.{ObjectLit}
 use Rattle.swc_ecma_codegen_tree.specs.declared.exprs.PropOrSpread.{PropOrSpread}
 use Rattle.swc_ecma_codegen_tree.specs.declared.exprs.PropOrSpread.TheVariants as prop_or_spreads
@@ -23,7 +22,7 @@ use Rattle.swc_ecma_codegen_emit.specs.declared.nodes.Place.{Place}
 use Rattle.swc_ecma_codegen_emit.specs.declared.nodes.Place.TheVariants.{Plain, MethodHead}
 use Rattle.swc_ecma_codegen_emit.specs.Answers.{Answers, place_of}
 use Rattle.swc_ecma_codegen_emit.specs.Exprs.{blank, opened, ident, spread_element}
-use Rattle.swc_ecma_codegen_emit.specs.Lists.{child_of, unsupported}
+use Rattle.swc_ecma_codegen_emit.specs.Lists.{child_of}
 use Rattle.swc_ecma_codegen_emit.specs.Names.{prop_name}
 
 -- The end of a name is recorded where the value stands nowhere, and the start of the value where the name does.
@@ -53,25 +52,29 @@ unfoldable pub optional_body : {X : Type 0} → (X → Place → Part) → Optio
 optional_body items None rest = rest
 optional_body items (Some n) rest = items n.node.value Plain rest
 
--- `get a() { b; }`
-unfoldable pub getter_parts : {X : Type 0} → (X → Answers) → (X → Place → Part) → GetterProp X → Part
-getter_parts asks items n rest =
+-- `:T` of `get a():T { b; }`, without a blank
+unfoldable pub tight_annotation : {X : Type 0} → (X → Place → Part) → Option (TsTypeAnnBox X) → Part
+tight_annotation items None rest = rest
+tight_annotation items (Some n) rest = punct (codes ":") (items n.node.value Plain rest)
+
+-- `get a () { b; }`
+unfoldable pub getter_prop : {X : Type 0} → (X → Answers) → (X → Place → Part) → GetterProp X → Part
+getter_prop asks items n rest =
     opened n.span
     (accessor asks items (codes "get") n.key.node.value
-    (punct (codes "(") (punct (codes ")") (formatting_space (optional_body items n.body rest)))))
+    (punct (codes "(") (punct (codes ")") (tight_annotation items n.type_ann (formatting_space (optional_body items n.body rest))))))
 
-unfoldable pub getter_prop : {X : Type 0} → (X → Answers) → (X → Place → Part) → GetterProp X → Part
-getter_prop asks items n rest = if is_some n.type_ann then unsupported rest else getter_parts asks items n rest
+-- `this: T, ` of `set a (this: T, b){ c; }`
+unfoldable pub this_param : {X : Type 0} → (X → Place → Part) → Option (PatBox X) → Part
+this_param items None rest = rest
+this_param items (Some n) rest = items n.node.value Plain (punct (codes ",") (formatting_space rest))
 
--- `set a(b){ c; }`
-unfoldable pub setter_parts : {X : Type 0} → (X → Answers) → (X → Place → Part) → SetterProp X → Part
-setter_parts asks items n rest =
+-- `set a (b){ c; }`
+unfoldable pub setter_prop : {X : Type 0} → (X → Answers) → (X → Place → Part) → SetterProp X → Part
+setter_prop asks items n rest =
     opened n.span
     (accessor asks items (codes "set") n.key.node.value
-    (punct (codes "(") (items n.param.node.value Plain (punct (codes ")") (optional_body items n.body rest)))))
-
-unfoldable pub setter_prop : {X : Type 0} → (X → Answers) → (X → Place → Part) → SetterProp X → Part
-setter_prop asks items n rest = if is_some n.this_param then unsupported rest else setter_parts asks items n rest
+    (punct (codes "(") (this_param items n.this_param (items n.param.node.value Plain (punct (codes ")") (optional_body items n.body rest))))))
 
 -- `async *a() { b; }`
 unfoldable pub method_prop : {X : Type 0} → (X → Answers) → (X → Place → Part) → MethodProp X → Part

@@ -1,6 +1,6 @@
 //! What types add to other nodes.
 
-ghost use Rattle.swc_ecma_codegen_emit.specs.Annotations.{annotation, spaced_annotation, type_args, type_params};
+ghost use Rattle.swc_ecma_codegen_emit.specs.Annotations.{annotation, spaced_annotation, bang, field_annotation, type_args, type_params};
 ghost use Rattle.swc_ecma_codegen_tokens.specs.Words.{question};
 ghost use Rattle.swc_ecma_codegen_emit.specs.Standing.{Makes, Stays, standing_of};
 
@@ -48,6 +48,34 @@ impl<W: WriteJs, S: SourceMapper, C: Comments> Emitter<'_, W, S, C> {
     {
         match ty {
             Some(node) => {
+                self.punct(Punctuator::Colon);
+                self.space();
+                node.held().emit_at(self, Place::Plain)
+            }
+            None => {}
+        }
+    }
+
+    /// Writes `!`, where it is so.
+    #[tactic(auto, unfolding(crate::specs::Annotations::bang))]
+    fn bang(&mut self, definite: bool)
+        ensures items { Makes (bang definite) (standing_of S.lines C.maps W.sheet self.old) (standing_of S.lines C.maps W.sheet self.new) }
+        ensures level { Stays (standing_of S.lines C.maps W.sheet self.old) (standing_of S.lines C.maps W.sheet self.new) }
+    {
+        if definite {
+            self.punct(Punctuator::Bang);
+        }
+    }
+
+    /// Writes `!: A` of a field, where there is a type, with a blank always.
+    #[tactic(auto, unfolding(crate::specs::Annotations::field_annotation))]
+    pub(crate) fn field_annotation<N: Held>(&mut self, definite: bool, ty: &Option<TsTypeAnnBox<N>>)
+        ensures items { Makes (field_annotation N.items definite ty.now) (standing_of S.lines C.maps W.sheet self.old) (standing_of S.lines C.maps W.sheet self.new) }
+        ensures level { Stays (standing_of S.lines C.maps W.sheet self.old) (standing_of S.lines C.maps W.sheet self.new) }
+    {
+        match ty {
+            Some(node) => {
+                self.bang(definite);
                 self.punct(Punctuator::Colon);
                 self.space();
                 node.held().emit_at(self, Place::Plain)

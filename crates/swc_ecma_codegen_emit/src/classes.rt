@@ -1,14 +1,14 @@
 //! Classes and their members.
 
-ghost use Rattle.std.specs.Prelude.{◌≡◌, codes};
+ghost use Rattle.std.specs.Prelude.{◌≡◌, codes, true};
 ghost use Rattle.swc_ecma_codegen_emit.specs.Standing.{Makes, Stays, standing_of};
-ghost use Rattle.swc_ecma_codegen_grammar.specs.ClassPhrases.{is_typed_class, is_typed_prop, is_typed_private, is_typed_accessor};
+ghost use Rattle.swc_ecma_codegen_grammar.specs.ClassPhrases.{accessibility_of};
+ghost use Rattle.swc_ecma_codegen_tokens.specs.Starts.{begins_letter};
 ghost use Rattle.swc_ecma_codegen_emit.specs.ClassExprs.{class_expr};
-ghost use Rattle.swc_ecma_codegen_emit.specs.Classes.{class_members_format, heritage, member_list, class, class_tail, class_decl, constructor_param, constructor_param_place, constructor_params, constructor_body, constructor_tail, constructor_word, class_constructor, static_word, accessor_word, method_word, method_kind, class_method, private_kind, private_method, prop_value, class_prop, private_decorators, private_prop_tail, private_prop, accessor_key, accessor_decorators, accessor_tail, auto_accessor, static_block, empty_member, class_member};
+ghost use Rattle.swc_ecma_codegen_emit.specs.Classes.{class_members_format, heritage, member_list, implemented_format, implemented_list, some_implements, implements_clause, class_body, class_word, class, class_tail, class_decl, accessibility_word, ts_param_prop_param, ts_param_prop, constructor_param, constructor_param_place, constructor_params, constructor_body, constructor_tail, constructor_word, class_constructor, static_word, accessor_word, method_modifiers, static_method, method_word, accessor_words, method_kind, method_rest, class_method, private_kind, private_words, private_rest, private_method, static_block, empty_member, index_member, class_member};
 
-use crate::blocks::is_some_listed;
 use crate::emitter::Emitter;
-use crate::functions::{comma_list_format, decorators_format};
+use crate::functions::comma_list_format;
 use crate::nodes::{Asked, Child, EmitAt, Held, Place};
 use swc_ecma_codegen_common::Span;
 use swc_ecma_codegen_grammar::ListFormat;
@@ -17,9 +17,10 @@ use swc_ecma_codegen_grammar::mapper::SourceMapper;
 use swc_ecma_codegen_literals::Punctuator;
 use swc_ecma_codegen_text_writer::WriteJs;
 use swc_ecma_codegen_tree::{
-    AutoAccessor, BlockStmtBox, Class, ClassDecl, ClassExpr, ClassMember, ClassMethod, ClassProp,
-    Constructor, EmptyStmt, ExprBox, Key, MethodKind, ParamOrTsParamProp, PrivateMethod,
-    PrivateProp, StaticBlock, TsTypeParamInstantiationBox,
+    Accessibility, BlockStmtBox, Class, ClassDecl, ClassExpr, ClassMember, ClassMethod,
+    Constructor, EmptyStmt, ExprBox, MethodKind, ParamOrTsParamProp, PrivateMethod, StaticBlock,
+    TsExprWithTypeArgs, TsIndexSignature, TsParamProp, TsParamPropParam,
+    TsTypeParamInstantiationBox,
 };
 
 /// The format of members.
@@ -29,48 +30,24 @@ fn class_members_format() -> ListFormat
     ListFormat::ClassMembers
 }
 
-/// Whether TypeScript adds to a class what isn't printed yet.
-fn is_typed_class<N>(node: &Class<N>) -> bool
-    ensures { result ≡ is_typed_class node.now }
+/// The format of what a class implements.
+fn implemented_format() -> ListFormat
+    ensures { result.0 ≡ implemented_format }
 {
-    node.is_abstract || is_some_listed(&node.implements)
+    ListFormat::ClassHeritageClauses
 }
 
-/// Whether TypeScript adds to a field.
-fn is_typed_prop<N>(node: &ClassProp<N>) -> bool
-    ensures { result ≡ is_typed_prop node.now }
+/// The word of an accessibility.
+#[tactic(auto, unfolding(swc_ecma_codegen_grammar::specs::ClassPhrases::accessibility_of))]
+fn accessibility_of(accessibility: Accessibility) -> &'static str
+    ensures word { result.now ≡ accessibility_of accessibility }
+    ensures letter { begins_letter result.now ≡ true }
 {
-    node.type_ann.is_some()
-        || node.accessibility.is_some()
-        || node.is_abstract
-        || node.is_optional
-        || node.is_override
-        || node.readonly
-        || node.declare
-        || node.definite
-}
-
-/// Whether TypeScript adds to a private field.
-fn is_typed_private<N>(node: &PrivateProp<N>) -> bool
-    ensures { result ≡ is_typed_private node.now }
-{
-    node.type_ann.is_some()
-        || node.accessibility.is_some()
-        || node.is_optional
-        || node.is_override
-        || node.readonly
-        || node.definite
-}
-
-/// Whether TypeScript adds to a field with `accessor`.
-fn is_typed_accessor<N>(node: &AutoAccessor<N>) -> bool
-    ensures { result ≡ is_typed_accessor node.now }
-{
-    node.type_ann.is_some()
-        || node.accessibility.is_some()
-        || node.is_abstract
-        || node.is_override
-        || node.definite
+    match accessibility {
+        Accessibility::Public => "public",
+        Accessibility::Protected => "protected",
+        Accessibility::Private => "private",
+    }
 }
 
 impl<N: Held> EmitAt for ClassDecl<N> {
@@ -87,7 +64,7 @@ impl<N: Held> EmitAt for ClassDecl<N> {
         e.start_of(span);
         e.declare_word(self.declare);
         self.class.held().emit_at(e, Place::ClassHead);
-        e.keyword(None, "class");
+        self.class.held().emit_at(e, Place::ClassWord);
         e.space();
         self.ident.emit_at(e, Place::Plain);
         self.class.held().emit_at(e, Place::Plain);
@@ -107,7 +84,7 @@ impl<N: Held> EmitAt for ClassExpr<N> {
         e.leading_comments(span.lo);
         e.start_of(span);
         self.class.held().emit_at(e, Place::ClassHead);
-        e.keyword(None, "class");
+        self.class.held().emit_at(e, Place::ClassWord);
         e.optional_name(&self.ident);
         self.class.held().emit_at(e, Place::Plain);
     }
@@ -124,6 +101,7 @@ impl<N: Held> EmitAt for Class<N> {
     ) {
         match place {
             Place::ClassHead => e.decorator_lines(&self.decorators),
+            Place::ClassWord => e.class_word(self),
             _ => e.class_trailing(self),
         }
     }
@@ -147,43 +125,7 @@ impl<N: Held> EmitAt for ClassMember<N> {
             ClassMember::Empty(node) => e.empty_member(node),
             ClassMember::StaticBlock(node) => node.emit_at(e, Place::Plain),
             ClassMember::AutoAccessor(node) => node.emit_at(e, Place::Plain),
-            _ => e.unsupported(),
-        }
-    }
-}
-
-impl<N: Held> EmitAt for AutoAccessor<N> {
-    ghost items = { λ n _. auto_accessor N.items n };
-
-    #[tactic(auto, unfolding(crate::specs::Classes::auto_accessor, crate::specs::Classes::auto_accessor_parts))]
-    fn emit_at<W: WriteJs, S: SourceMapper, C: Comments>(
-        &self,
-        e: &mut Emitter<'_, W, S, C>,
-        place: Place,
-    ) {
-        if is_typed_accessor(self) {
-            return e.unsupported();
-        }
-        e.accessor_decorators(self);
-        e.static_word(self.is_static);
-        e.keyword(None, "accessor");
-        e.space();
-        e.accessor_tail(self);
-    }
-}
-
-impl<N: Held> EmitAt for Key<N> {
-    ghost items = { λ n _. accessor_key N.items n };
-
-    #[tactic(auto, unfolding(crate::specs::Classes::accessor_key))]
-    fn emit_at<W: WriteJs, S: SourceMapper, C: Comments>(
-        &self,
-        e: &mut Emitter<'_, W, S, C>,
-        place: Place,
-    ) {
-        match self {
-            Key::Public(node) => node.held().emit_at(e, Place::Plain),
-            Key::Private(node) => node.emit_at(e, Place::Plain),
+            ClassMember::TsIndexSignature(node) => e.index_member(node),
         }
     }
 }
@@ -191,112 +133,53 @@ impl<N: Held> EmitAt for Key<N> {
 impl<N: Held> EmitAt for PrivateMethod<N> {
     ghost items = { λ n _. private_method N.items n };
 
-    #[tactic(auto, unfolding(crate::specs::Classes::private_method, crate::specs::Classes::private_method_parts))]
+    #[tactic(auto, unfolding(crate::specs::Classes::private_method))]
     fn emit_at<W: WriteJs, S: SourceMapper, C: Comments>(
         &self,
         e: &mut Emitter<'_, W, S, C>,
         place: Place,
     ) {
-        if self.accessibility.is_some()
-            || self.is_abstract
-            || self.is_optional
-            || self.is_override
-        {
-            return e.unsupported();
-        }
         e.leading_comments(self.span.lo);
         e.start_of(self.span);
         self.function.held().emit_at(e, Place::MethodDecorators);
-        e.static_word(self.is_static);
+        e.accessibility_word(self.accessibility);
+        e.private_words(self);
         e.private_kind(self);
-        self.key.emit_at(e, Place::Plain);
-        self.function.held().emit_at(e, Place::Plain);
+        e.private_rest(self);
     }
 }
 
 impl<N: Held> EmitAt for ClassMethod<N> {
     ghost items = { λ n _. class_method N.answers N.items n };
 
-    #[tactic(auto, unfolding(crate::specs::Classes::class_method, crate::specs::Classes::class_method_parts))]
+    #[tactic(auto, unfolding(crate::specs::Classes::class_method))]
     fn emit_at<W: WriteJs, S: SourceMapper, C: Comments>(
         &self,
         e: &mut Emitter<'_, W, S, C>,
         place: Place,
     ) {
-        if self.accessibility.is_some()
-            || self.is_abstract
-            || self.is_optional
-            || self.is_override
-        {
-            return e.unsupported();
-        }
         e.leading_comments(self.span.lo);
         e.leading_comments(self.key.held().place().lo);
         e.start_of(self.span);
         self.function.held().emit_at(e, Place::MethodDecorators);
+        e.accessibility_word(self.accessibility);
         e.method_kind(self);
-        self.key.held().emit_at(e, Place::Plain);
-        self.function.held().emit_at(e, Place::MethodTail);
-    }
-}
-
-impl<N: Held> EmitAt for PrivateProp<N> {
-    ghost items = { λ n _. private_prop N.items n };
-
-    #[tactic(auto, unfolding(crate::specs::Classes::private_prop, crate::specs::Classes::private_prop_parts))]
-    fn emit_at<W: WriteJs, S: SourceMapper, C: Comments>(
-        &self,
-        e: &mut Emitter<'_, W, S, C>,
-        place: Place,
-    ) {
-        if is_typed_private(self) {
-            return e.unsupported();
-        }
-        e.leading_comments(self.span.lo);
-        e.start_of(self.span);
-        e.private_decorators(self);
-        e.static_word(self.is_static);
-        e.private_prop_tail(self);
-    }
-}
-
-impl<N: Held> EmitAt for ClassProp<N> {
-    ghost items = { λ n _. class_prop N.items n };
-
-    #[tactic(auto, unfolding(crate::specs::Classes::class_prop, crate::specs::Classes::class_prop_parts))]
-    fn emit_at<W: WriteJs, S: SourceMapper, C: Comments>(
-        &self,
-        e: &mut Emitter<'_, W, S, C>,
-        place: Place,
-    ) {
-        if is_typed_prop(self) {
-            return e.unsupported();
-        }
-        e.leading_comments(self.span.lo);
-        e.start_of(self.span);
-        e.decorator_lines(&self.decorators);
-        e.static_word(self.is_static);
-        self.key.held().emit_at(e, Place::Plain);
-        e.prop_value(&self.value);
-        e.semi();
-        e.end_of(self.span);
+        e.method_rest(self);
     }
 }
 
 impl<N: Held> EmitAt for Constructor<N> {
     ghost items = { λ n _. class_constructor N.answers N.items n };
 
-    #[tactic(auto, unfolding(crate::specs::Classes::class_constructor, crate::specs::Classes::constructor_parts))]
+    #[tactic(auto, unfolding(crate::specs::Classes::class_constructor))]
     fn emit_at<W: WriteJs, S: SourceMapper, C: Comments>(
         &self,
         e: &mut Emitter<'_, W, S, C>,
         place: Place,
     ) {
-        if self.accessibility.is_some() {
-            return e.unsupported();
-        }
         e.leading_comments(self.span.lo);
         e.start_of(self.span);
+        e.accessibility_word(self.accessibility);
         e.constructor_word();
         e.constructor_tail(self);
     }
@@ -313,7 +196,47 @@ impl<N: Held> EmitAt for ParamOrTsParamProp<N> {
     ) {
         match self {
             ParamOrTsParamProp::Param(node) => node.emit_at(e, Place::Plain),
-            ParamOrTsParamProp::TsParamProp(_) => e.unsupported(),
+            ParamOrTsParamProp::TsParamProp(node) => node.emit_at(e, Place::Plain),
+        }
+    }
+}
+
+impl<N: Held> EmitAt for TsParamProp<N> {
+    ghost items = { λ n _. ts_param_prop N.items n };
+
+    #[tactic(auto, unfolding(crate::specs::Classes::ts_param_prop))]
+    fn emit_at<W: WriteJs, S: SourceMapper, C: Comments>(
+        &self,
+        e: &mut Emitter<'_, W, S, C>,
+        place: Place,
+    ) {
+        e.leading_comments(self.span.lo);
+        e.accessibility_word(self.accessibility);
+        e.decorator_lines(&self.decorators);
+        e.word_before(self.is_override, "override");
+        e.word_before(self.readonly, "readonly");
+        self.param.emit_at(e, Place::Plain);
+    }
+}
+
+impl<N: Held> EmitAt for TsParamPropParam<N> {
+    ghost items = { λ n _. ts_param_prop_param N.items n };
+
+    #[tactic(auto, unfolding(crate::specs::Classes::ts_param_prop_param))]
+    fn emit_at<W: WriteJs, S: SourceMapper, C: Comments>(
+        &self,
+        e: &mut Emitter<'_, W, S, C>,
+        place: Place,
+    ) {
+        match self {
+            TsParamPropParam::Ident(node) => {
+                e.leading_comments(node.id.span.lo);
+                node.emit_at(e, Place::Plain)
+            }
+            TsParamPropParam::Assign(node) => {
+                e.leading_comments(node.span.lo);
+                node.emit_at(e, Place::Plain)
+            }
         }
     }
 }
@@ -348,22 +271,71 @@ impl<N: Held> EmitAt for StaticBlock<N> {
 }
 
 impl<W: WriteJs, S: SourceMapper, C: Comments> Emitter<'_, W, S, C> {
-    /// Writes `<A> extends B<C> { d; }`. swc's `emit_class_trailing`.
-    #[tactic(auto, unfolding(crate::specs::Classes::class_tail, crate::specs::Classes::class_trailing))]
+    /// Writes `abstract class`, or the last word alone.
+    #[tactic(auto, unfolding(crate::specs::Classes::class_word))]
+    fn class_word<N: Held>(&mut self, node: &Class<N>)
+        ensures items { Makes (class_word node.now) (standing_of S.lines C.maps W.sheet self.old) (standing_of S.lines C.maps W.sheet self.new) }
+        ensures level { Stays (standing_of S.lines C.maps W.sheet self.old) (standing_of S.lines C.maps W.sheet self.new) }
+    {
+        self.word_before(node.is_abstract, "abstract");
+        self.keyword(None, "class");
+    }
+
+    /// Writes `<A> extends B<C> implements D { e; }`. swc's `emit_class_trailing`.
+    #[tactic(auto, unfolding(crate::specs::Classes::class_tail))]
     fn class_trailing<N: Held>(&mut self, node: &Class<N>)
         ensures items { Makes (class_tail N.answers N.items node.now) (standing_of S.lines C.maps W.sheet self.old) (standing_of S.lines C.maps W.sheet self.new) }
         ensures level { Stays (standing_of S.lines C.maps W.sheet self.old) (standing_of S.lines C.maps W.sheet self.new) }
     {
-        if is_typed_class(node) {
-            return self.unsupported();
-        }
         self.type_params(&node.type_params);
         self.heritage(&node.super_class, &node.super_type_params);
+        self.implements_clause(node.span, &node.implements);
         self.formatting_space();
+        self.class_body(node);
+    }
+
+    /// Writes `{ a; }` of a class.
+    #[tactic(auto, unfolding(crate::specs::Classes::class_body))]
+    fn class_body<N: Held>(&mut self, node: &Class<N>)
+        ensures items { Makes (class_body N.answers N.items node.now) (standing_of S.lines C.maps W.sheet self.old) (standing_of S.lines C.maps W.sheet self.new) }
+        ensures level { Stays (standing_of S.lines C.maps W.sheet self.old) (standing_of S.lines C.maps W.sheet self.new) }
+    {
         self.punct(Punctuator::LeftBrace);
         self.member_list(node);
         self.last_of(node.span);
         self.punct(Punctuator::RightBrace);
+    }
+
+    /// Writes what a class implements, with commas between.
+    fn implemented_list<N: Held>(&mut self, span: Span, nodes: &[TsExprWithTypeArgs<N>])
+        ensures items { Makes (implemented_list N.items span nodes.now) (standing_of S.lines C.maps W.sheet self.old) (standing_of S.lines C.maps W.sheet self.new) }
+        ensures level { Stays (standing_of S.lines C.maps W.sheet self.old) (standing_of S.lines C.maps W.sheet self.new) }
+    {
+        self.list(implemented_format(), span, nodes)
+    }
+
+    /// Writes ` implements A<B>, C`.
+    #[tactic(auto, unfolding(crate::specs::Classes::some_implements))]
+    fn some_implements<N: Held>(&mut self, span: Span, nodes: &[TsExprWithTypeArgs<N>])
+        ensures items { Makes (some_implements N.items span nodes.now) (standing_of S.lines C.maps W.sheet self.old) (standing_of S.lines C.maps W.sheet self.new) }
+        ensures level { Stays (standing_of S.lines C.maps W.sheet self.old) (standing_of S.lines C.maps W.sheet self.new) }
+    {
+        self.space();
+        self.keyword(None, "implements");
+        self.space();
+        self.implemented_list(span, nodes);
+    }
+
+    /// Writes the same, where something is implemented.
+    #[tactic(auto, unfolding(crate::specs::Classes::implements_clause))]
+    fn implements_clause<N: Held>(&mut self, span: Span, nodes: &[TsExprWithTypeArgs<N>])
+        ensures items { Makes (implements_clause N.items span nodes.now) (standing_of S.lines C.maps W.sheet self.old) (standing_of S.lines C.maps W.sheet self.new) }
+        ensures level { Stays (standing_of S.lines C.maps W.sheet self.old) (standing_of S.lines C.maps W.sheet self.new) }
+    {
+        if nodes.is_empty() {
+            return;
+        }
+        self.some_implements(span, nodes)
     }
 
     /// Writes `extends A<B>`, where it is so.
@@ -425,43 +397,29 @@ impl<W: WriteJs, S: SourceMapper, C: Comments> Emitter<'_, W, S, C> {
         self.constructor_body(&node.body);
     }
 
-    /// Writes the decorators of a field with `accessor`.
-    fn accessor_decorators<N: Held>(&mut self, node: &AutoAccessor<N>)
-        ensures items { Makes (accessor_decorators N.items node.now) (standing_of S.lines C.maps W.sheet self.old) (standing_of S.lines C.maps W.sheet self.new) }
+    /// Writes `private` and a blank, where it is so. swc's `emit_accessibility`.
+    #[tactic(auto, unfolding(crate::specs::Classes::accessibility_word))]
+    pub(crate) fn accessibility_word(&mut self, accessibility: Option<Accessibility>)
+        ensures items { Makes (accessibility_word accessibility) (standing_of S.lines C.maps W.sheet self.old) (standing_of S.lines C.maps W.sheet self.new) }
         ensures level { Stays (standing_of S.lines C.maps W.sheet self.old) (standing_of S.lines C.maps W.sheet self.new) }
     {
-        self.list(decorators_format(), node.span, &node.decorators)
+        match accessibility {
+            Some(accessibility) => {
+                self.keyword(None, accessibility_of(accessibility));
+                self.space();
+            }
+            None => {}
+        }
     }
 
-    /// Writes `b = c;` of a field with `accessor`.
-    #[tactic(auto, unfolding(crate::specs::Classes::accessor_tail))]
-    fn accessor_tail<N: Held>(&mut self, node: &AutoAccessor<N>)
-        ensures items { Makes (accessor_tail N.items node.now) (standing_of S.lines C.maps W.sheet self.old) (standing_of S.lines C.maps W.sheet self.new) }
+    /// Writes an index signature as a member.
+    #[tactic(auto, unfolding(crate::specs::Classes::index_member))]
+    fn index_member<N: Held>(&mut self, node: &TsIndexSignature<N>)
+        ensures items { Makes (index_member N.answers N.items node.now) (standing_of S.lines C.maps W.sheet self.old) (standing_of S.lines C.maps W.sheet self.new) }
         ensures level { Stays (standing_of S.lines C.maps W.sheet self.old) (standing_of S.lines C.maps W.sheet self.new) }
     {
-        node.key.emit_at(self, Place::Plain);
-        self.initializer(&node.value);
+        node.emit_at(self, Place::Plain);
         self.semi();
-    }
-
-    /// Writes the decorators of a private field.
-    fn private_decorators<N: Held>(&mut self, node: &PrivateProp<N>)
-        ensures items { Makes (private_decorators N.items node.now) (standing_of S.lines C.maps W.sheet self.old) (standing_of S.lines C.maps W.sheet self.new) }
-        ensures level { Stays (standing_of S.lines C.maps W.sheet self.old) (standing_of S.lines C.maps W.sheet self.new) }
-    {
-        self.list(decorators_format(), node.span, &node.decorators)
-    }
-
-    /// Writes `#b = c;`
-    #[tactic(auto, unfolding(crate::specs::Classes::private_prop_tail))]
-    fn private_prop_tail<N: Held>(&mut self, node: &PrivateProp<N>)
-        ensures items { Makes (private_prop_tail N.items node.now) (standing_of S.lines C.maps W.sheet self.old) (standing_of S.lines C.maps W.sheet self.new) }
-        ensures level { Stays (standing_of S.lines C.maps W.sheet self.old) (standing_of S.lines C.maps W.sheet self.new) }
-    {
-        node.key.emit_at(self, Place::Plain);
-        self.prop_value(&node.value);
-        self.semi();
-        self.end_of(node.span);
     }
 
     /// Writes `;` as a member.
@@ -476,7 +434,7 @@ impl<W: WriteJs, S: SourceMapper, C: Comments> Emitter<'_, W, S, C> {
 
     /// Writes `static` and a blank, where it is so.
     #[tactic(auto, unfolding(crate::specs::Classes::static_word))]
-    fn static_word(&mut self, wanted: bool)
+    pub(crate) fn static_word(&mut self, wanted: bool)
         ensures items { Makes (static_word wanted) (standing_of S.lines C.maps W.sheet self.old) (standing_of S.lines C.maps W.sheet self.new) }
         ensures level { Stays (standing_of S.lines C.maps W.sheet self.old) (standing_of S.lines C.maps W.sheet self.new) }
     {
@@ -506,23 +464,69 @@ impl<W: WriteJs, S: SourceMapper, C: Comments> Emitter<'_, W, S, C> {
         self.blank(starts);
     }
 
-    /// Writes `async *` of a method, behind `static` where it is so.
-    #[tactic(auto, unfolding(crate::specs::Classes::method_word))]
-    fn method_word<N: Held>(&mut self, node: &ClassMethod<N>)
-        ensures items { Makes (method_word N.answers N.items node.now) (standing_of S.lines C.maps W.sheet self.old) (standing_of S.lines C.maps W.sheet self.new) }
+    /// Writes `abstract override `, where it is so.
+    #[tactic(auto, unfolding(crate::specs::Classes::method_modifiers))]
+    fn method_modifiers(&mut self, is_abstract: bool, is_override: bool)
+        ensures items { Makes (method_modifiers is_abstract is_override) (standing_of S.lines C.maps W.sheet self.old) (standing_of S.lines C.maps W.sheet self.new) }
         ensures level { Stays (standing_of S.lines C.maps W.sheet self.old) (standing_of S.lines C.maps W.sheet self.new) }
     {
-        if !node.is_static {
+        self.word_before(is_abstract, "abstract");
+        self.word_before(is_override, "override");
+    }
+
+    /// Writes `async *` of a static method, behind that word: where another stands between, that has a blank before it.
+    #[tactic(auto, unfolding(crate::specs::Classes::static_method))]
+    fn static_method<N: Held>(&mut self, node: &ClassMethod<N>)
+        ensures items { Makes (static_method N.answers N.items node.now) (standing_of S.lines C.maps W.sheet self.old) (standing_of S.lines C.maps W.sheet self.new) }
+        ensures level { Stays (standing_of S.lines C.maps W.sheet self.old) (standing_of S.lines C.maps W.sheet self.new) }
+    {
+        if node.is_abstract || node.is_override {
+            self.space();
+            self.method_modifiers(node.is_abstract, node.is_override);
             return node.function.held().emit_at(self, Place::MethodHead);
         }
-        self.keyword(None, "static");
         let starts = node.key.held().starts();
         node.function
             .held()
             .emit_at(self, Place::StaticHead(starts));
     }
 
-    /// Writes what stands between the decorators of a method and its key.
+    /// Writes `static abstract override async *` of a method.
+    #[tactic(auto, unfolding(crate::specs::Classes::method_word))]
+    fn method_word<N: Held>(&mut self, node: &ClassMethod<N>)
+        ensures items { Makes (method_word N.answers N.items node.now) (standing_of S.lines C.maps W.sheet self.old) (standing_of S.lines C.maps W.sheet self.new) }
+        ensures level { Stays (standing_of S.lines C.maps W.sheet self.old) (standing_of S.lines C.maps W.sheet self.new) }
+    {
+        if node.is_static {
+            self.keyword(None, "static");
+            return self.static_method(node);
+        }
+        self.method_modifiers(node.is_abstract, node.is_override);
+        node.function.held().emit_at(self, Place::MethodHead);
+    }
+
+    /// Writes `static abstract override ` of a getter or a setter.
+    #[tactic(auto, unfolding(crate::specs::Classes::accessor_words))]
+    fn accessor_words<N: Held>(&mut self, node: &ClassMethod<N>)
+        ensures items { Makes (accessor_words node.now) (standing_of S.lines C.maps W.sheet self.old) (standing_of S.lines C.maps W.sheet self.new) }
+        ensures level { Stays (standing_of S.lines C.maps W.sheet self.old) (standing_of S.lines C.maps W.sheet self.new) }
+    {
+        self.static_word(node.is_static);
+        self.method_modifiers(node.is_abstract, node.is_override);
+    }
+
+    /// Writes `b?(c) { d; }` of a method.
+    #[tactic(auto, unfolding(crate::specs::Classes::method_rest))]
+    fn method_rest<N: Held>(&mut self, node: &ClassMethod<N>)
+        ensures items { Makes (method_rest N.items node.now) (standing_of S.lines C.maps W.sheet self.old) (standing_of S.lines C.maps W.sheet self.new) }
+        ensures level { Stays (standing_of S.lines C.maps W.sheet self.old) (standing_of S.lines C.maps W.sheet self.new) }
+    {
+        node.key.held().emit_at(self, Place::Plain);
+        self.question(node.is_optional);
+        node.function.held().emit_at(self, Place::MethodTail);
+    }
+
+    /// Writes what stands between the accessibility of a method and its key.
     #[tactic(auto, unfolding(crate::specs::Classes::method_kind))]
     fn method_kind<N: Held>(&mut self, node: &ClassMethod<N>)
         ensures items { Makes (method_kind N.answers N.items node.now.kind node.now) (standing_of S.lines C.maps W.sheet self.old) (standing_of S.lines C.maps W.sheet self.new) }
@@ -531,17 +535,38 @@ impl<W: WriteJs, S: SourceMapper, C: Comments> Emitter<'_, W, S, C> {
         match node.kind {
             MethodKind::Method => self.method_word(node),
             MethodKind::Getter => {
-                self.static_word(node.is_static);
+                self.accessor_words(node);
                 self.getter_word(node.key.held().starts())
             }
             MethodKind::Setter => {
-                self.static_word(node.is_static);
+                self.accessor_words(node);
                 self.setter_word(node.key.held().starts())
             }
         }
     }
 
-    /// Writes what stands between `static` of a private method and its name.
+    /// Writes `static abstract override ` of a private method.
+    #[tactic(auto, unfolding(crate::specs::Classes::private_words))]
+    fn private_words<N: Held>(&mut self, node: &PrivateMethod<N>)
+        ensures items { Makes (private_words node.now) (standing_of S.lines C.maps W.sheet self.old) (standing_of S.lines C.maps W.sheet self.new) }
+        ensures level { Stays (standing_of S.lines C.maps W.sheet self.old) (standing_of S.lines C.maps W.sheet self.new) }
+    {
+        self.static_word(node.is_static);
+        self.method_modifiers(node.is_abstract, node.is_override);
+    }
+
+    /// Writes `#b?(c) { d; }` of a private method.
+    #[tactic(auto, unfolding(crate::specs::Classes::private_rest))]
+    fn private_rest<N: Held>(&mut self, node: &PrivateMethod<N>)
+        ensures items { Makes (private_rest N.items node.now) (standing_of S.lines C.maps W.sheet self.old) (standing_of S.lines C.maps W.sheet self.new) }
+        ensures level { Stays (standing_of S.lines C.maps W.sheet self.old) (standing_of S.lines C.maps W.sheet self.new) }
+    {
+        node.key.emit_at(self, Place::Plain);
+        self.question(node.is_optional);
+        node.function.held().emit_at(self, Place::Plain);
+    }
+
+    /// Writes what stands between the modifiers of a private method and its name.
     #[tactic(auto, unfolding(crate::specs::Classes::private_kind))]
     fn private_kind<N: Held>(&mut self, node: &PrivateMethod<N>)
         ensures items { Makes (private_kind N.items node.now.kind node.now) (standing_of S.lines C.maps W.sheet self.old) (standing_of S.lines C.maps W.sheet self.new) }
@@ -551,23 +576,6 @@ impl<W: WriteJs, S: SourceMapper, C: Comments> Emitter<'_, W, S, C> {
             MethodKind::Method => node.function.held().emit_at(self, Place::MethodHead),
             MethodKind::Getter => self.getter_word(true),
             MethodKind::Setter => self.setter_word(true),
-        }
-    }
-
-    /// Writes `= a` of a field, where it is so.
-    #[tactic(auto, unfolding(crate::specs::Classes::prop_value))]
-    fn prop_value<N: Held>(&mut self, value: &Option<ExprBox<N>>)
-        ensures items { Makes (prop_value N.items value.now) (standing_of S.lines C.maps W.sheet self.old) (standing_of S.lines C.maps W.sheet self.new) }
-        ensures level { Stays (standing_of S.lines C.maps W.sheet self.old) (standing_of S.lines C.maps W.sheet self.new) }
-    {
-        match value {
-            Some(value) => {
-                self.formatting_space();
-                self.punct(Punctuator::Equal);
-                self.formatting_space();
-                value.held().emit_at(self, Place::FieldValue)
-            }
-            None => {}
         }
     }
 

@@ -130,17 +130,14 @@ impl<N: Held> EmitAt for VarDecl<N> {
 impl<N: Held> EmitAt for VarDeclarator<N> {
     ghost items = { λ n _. var_declarator N.answers N.items n };
 
-    #[tactic(auto, unfolding(crate::specs::Decls::var_declarator, crate::specs::Decls::var_declarator_parts))]
+    #[tactic(auto, unfolding(crate::specs::Decls::var_declarator))]
     fn emit_at<W: WriteJs, S: SourceMapper, C: Comments>(
         &self,
         e: &mut Emitter<'_, W, S, C>,
         place: Place,
     ) {
-        if self.definite {
-            return e.unsupported();
-        }
         e.opened(self.span);
-        self.name.emit_at(e, Place::Plain);
+        e.declared_pat(self.definite, &self.name);
         e.initializer(&self.init);
     }
 }
@@ -210,7 +207,7 @@ impl<W: WriteJs, S: SourceMapper, C: Comments> Emitter<'_, W, S, C> {
         self.leading_comments(span.lo);
         self.start_of(span);
         self.declare_word(node.declare);
-        self.keyword(None, "class");
+        node.class.held().emit_at(self, Place::ClassWord);
         self.space();
         node.ident.emit_at(self, Place::Plain);
         node.class.held().emit_at(self, Place::Plain);

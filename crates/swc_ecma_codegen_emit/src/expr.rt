@@ -105,13 +105,13 @@ fn expr_parts<N: Held, W: WriteJs, S: SourceMapper, C: Comments>(
         Expr::JSXEmpty(node) => node.emit_at(e, place),
         Expr::JSXElement(node) => plainly(node.held(), e),
         Expr::JSXFragment(node) => plainly(node.held(), e),
-        Expr::TsTypeAssertion(_)
-        | Expr::TsConstAssertion(_)
-        | Expr::TsNonNull(_)
-        | Expr::TsAs(_)
-        | Expr::TsInstantiation(_)
-        | Expr::TsSatisfies(_)
-        | Expr::Invalid(_) => e.unsupported(),
+        Expr::TsTypeAssertion(node) => node.emit_at(e, place),
+        Expr::TsConstAssertion(node) => node.emit_at(e, place),
+        Expr::TsNonNull(node) => node.emit_at(e, place),
+        Expr::TsAs(node) => node.emit_at(e, place),
+        Expr::TsInstantiation(node) => node.emit_at(e, place),
+        Expr::TsSatisfies(node) => node.emit_at(e, place),
+        Expr::Invalid(_) => e.unsupported(),
     }
 }
 

@@ -47,6 +47,8 @@ pub enum Place {
     Tagged,
     /// What of a class stands before the word: `@a` of `@a class B {}`
     ClassHead,
+    /// The word of a class, and what stands right before it: `abstract class`
+    ClassWord,
     /// What of a static method stands before its name, and whether that begins with a character of a name: ` async *`
     StaticHead(bool),
     /// What of a method stands before its modifiers: `@a` of `@a b() {}`

@@ -4,7 +4,7 @@ ghost use Rattle.std.specs.Prelude.{◌≡◌};
 ghost use Rattle.swc_ecma_codegen_spans.specs.Spans.{pat_span, object_pat_prop_span};
 ghost use Rattle.swc_ecma_codegen_emit.specs.Standing.{Makes, Stays, standing_of};
 ghost use Rattle.swc_ecma_codegen_emit.specs.Answers.{place_of};
-ghost use Rattle.swc_ecma_codegen_emit.specs.Pats.{initializer, array_pat_format, array_pat_elements, array_pat, rest_pat, assign_pat, key_value_pat_prop, assign_pat_prop, object_pat_prop, object_pat_format, object_pat_props, object_pat, pat, assign_target_pat};
+ghost use Rattle.swc_ecma_codegen_emit.specs.Pats.{initializer, array_pat_format, array_pat_elements, array_pat, rest_pat, assign_pat, key_value_pat_prop, assign_pat_prop, object_pat_prop, object_pat_format, object_pat_props, object_pat, pat, definite_ident, definite_pat, declared_pat, assign_target_pat};
 
 use crate::calls::ends_with_hole;
 use crate::emitter::Emitter;
@@ -18,8 +18,8 @@ use swc_ecma_codegen_literals::Punctuator;
 use swc_ecma_codegen_spans::Spanned;
 use swc_ecma_codegen_text_writer::WriteJs;
 use swc_ecma_codegen_tree::{
-    ArrayPat, AssignPat, AssignPatProp, AssignTargetPat, ExprBox, KeyValuePatProp, ObjectPat,
-    ObjectPatProp, Pat, RestPat,
+    ArrayPat, AssignPat, AssignPatProp, AssignTargetPat, BindingIdent, ExprBox, KeyValuePatProp,
+    ObjectPat, ObjectPatProp, Pat, RestPat,
 };
 
 /// The format of an array pattern, which ends with a comma where its last element is a hole.
@@ -249,6 +249,42 @@ impl<W: WriteJs, S: SourceMapper, C: Comments> Emitter<'_, W, S, C> {
         ensures level { Stays (standing_of S.lines C.maps W.sheet self.old) (standing_of S.lines C.maps W.sheet self.new) }
     {
         self.list(object_pat_format(), node.span, &node.props)
+    }
+
+    /// Writes `a!: A` and the comments after it.
+    #[tactic(auto, unfolding(crate::specs::Pats::definite_ident))]
+    fn definite_ident<N: Held>(&mut self, node: &BindingIdent<N>)
+        ensures items { Makes (definite_ident N.items node.now) (standing_of S.lines C.maps W.sheet self.old) (standing_of S.lines C.maps W.sheet self.new) }
+        ensures level { Stays (standing_of S.lines C.maps W.sheet self.old) (standing_of S.lines C.maps W.sheet self.new) }
+    {
+        node.id.emit_at(self, Place::Plain);
+        self.punct(Punctuator::Bang);
+        self.annotation(&node.type_ann);
+        self.trailing_comments(node.id.span.hi, true);
+    }
+
+    /// Writes the same, or a pattern that is no name, without the mark.
+    #[tactic(auto, unfolding(crate::specs::Pats::definite_pat))]
+    fn definite_pat<N: Held>(&mut self, node: &Pat<N>)
+        ensures items { Makes (definite_pat N.answers N.items node.now) (standing_of S.lines C.maps W.sheet self.old) (standing_of S.lines C.maps W.sheet self.new) }
+        ensures level { Stays (standing_of S.lines C.maps W.sheet self.old) (standing_of S.lines C.maps W.sheet self.new) }
+    {
+        match node {
+            Pat::Ident(node) => self.definite_ident(node),
+            _ => node.emit_at(self, Place::Plain),
+        }
+    }
+
+    /// Writes what is declared, which may be said to have a value.
+    #[tactic(auto, unfolding(crate::specs::Pats::declared_pat))]
+    pub(crate) fn declared_pat<N: Held>(&mut self, definite: bool, node: &Pat<N>)
+        ensures items { Makes (declared_pat N.answers N.items definite node.now) (standing_of S.lines C.maps W.sheet self.old) (standing_of S.lines C.maps W.sheet self.new) }
+        ensures level { Stays (standing_of S.lines C.maps W.sheet self.old) (standing_of S.lines C.maps W.sheet self.new) }
+    {
+        if definite {
+            return self.definite_pat(node);
+        }
+        node.emit_at(self, Place::Plain);
     }
 
     /// Writes `= b` of `a = b`.

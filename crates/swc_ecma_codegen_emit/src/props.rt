@@ -8,7 +8,7 @@ ghost use Rattle.swc_ecma_codegen_emit.specs.Standing.{Makes, Stays, standing_of
 ghost use Rattle.swc_ecma_codegen_tokens.specs.Starts.{begins_letter};
 ghost use Rattle.swc_ecma_codegen_emit.specs.Answers.{place_of};
 ghost use Rattle.swc_ecma_codegen_emit.specs.Names.{prop_name};
-ghost use Rattle.swc_ecma_codegen_emit.specs.Props.{key_end, value_start, key_value_prop, assign_prop, accessor, optional_body, getter_prop, setter_prop, method_prop, prop, prop_or_spread, object_format, flat_object_format, object_children, lined_object_list, object_lines, object_list, object_by_maps, object_lit};
+ghost use Rattle.swc_ecma_codegen_emit.specs.Props.{key_end, value_start, key_value_prop, assign_prop, accessor, optional_body, tight_annotation, getter_prop, this_param, setter_prop, method_prop, prop, prop_or_spread, object_format, flat_object_format, object_children, lined_object_list, object_lines, object_list, object_by_maps, object_lit};
 
 use crate::blocks::is_some_listed;
 use crate::commented::wants_lines;
@@ -24,8 +24,8 @@ use swc_ecma_codegen_literals::Punctuator;
 use swc_ecma_codegen_spans::Spanned;
 use swc_ecma_codegen_text_writer::WriteJs;
 use swc_ecma_codegen_tree::{
-    AssignProp, BlockStmtBox, GetterProp, KeyValueProp, MethodProp, ObjectLit, Prop, PropName,
-    PropNameBox, PropOrSpread, SetterProp,
+    AssignProp, BlockStmtBox, GetterProp, KeyValueProp, MethodProp, ObjectLit, PatBox, Prop,
+    PropName, PropNameBox, PropOrSpread, SetterProp, TsTypeAnnBox,
 };
 
 /// The format of an object over several lines.
@@ -140,19 +140,17 @@ impl<N: Held> EmitAt for AssignProp<N> {
 impl<N: Held> EmitAt for GetterProp<N> {
     ghost items = { λ n _. getter_prop N.answers N.items n };
 
-    #[tactic(auto, unfolding(crate::specs::Props::getter_prop, crate::specs::Props::getter_parts))]
+    #[tactic(auto, unfolding(crate::specs::Props::getter_prop))]
     fn emit_at<W: WriteJs, S: SourceMapper, C: Comments>(
         &self,
         e: &mut Emitter<'_, W, S, C>,
         place: Place,
     ) {
-        if self.type_ann.is_some() {
-            return e.unsupported();
-        }
         e.opened(self.span);
         e.accessor("get", &self.key);
         e.punct(Punctuator::LeftParenthesis);
         e.punct(Punctuator::RightParenthesis);
+        e.tight_annotation(&self.type_ann);
         e.formatting_space();
         e.optional_body(&self.body);
     }
@@ -161,18 +159,16 @@ impl<N: Held> EmitAt for GetterProp<N> {
 impl<N: Held> EmitAt for SetterProp<N> {
     ghost items = { λ n _. setter_prop N.answers N.items n };
 
-    #[tactic(auto, unfolding(crate::specs::Props::setter_prop, crate::specs::Props::setter_parts))]
+    #[tactic(auto, unfolding(crate::specs::Props::setter_prop))]
     fn emit_at<W: WriteJs, S: SourceMapper, C: Comments>(
         &self,
         e: &mut Emitter<'_, W, S, C>,
         place: Place,
     ) {
-        if self.this_param.is_some() {
-            return e.unsupported();
-        }
         e.opened(self.span);
         e.accessor("set", &self.key);
         e.punct(Punctuator::LeftParenthesis);
+        e.this_param(&self.this_param);
         self.param.held().emit_at(e, Place::Plain);
         e.punct(Punctuator::RightParenthesis);
         e.optional_body(&self.body);
@@ -258,6 +254,37 @@ impl<W: WriteJs, S: SourceMapper, C: Comments> Emitter<'_, W, S, C> {
         self.blank(name.held().starts());
         name.held().emit_at(self, Place::Plain);
         self.formatting_space();
+    }
+
+    /// Writes `:T` of a getter, where there is a type, without a blank.
+    #[tactic(auto, unfolding(crate::specs::Props::tight_annotation))]
+    fn tight_annotation<N: Held>(&mut self, ty: &Option<TsTypeAnnBox<N>>)
+        ensures items { Makes (tight_annotation N.items ty.now) (standing_of S.lines C.maps W.sheet self.old) (standing_of S.lines C.maps W.sheet self.new) }
+        ensures level { Stays (standing_of S.lines C.maps W.sheet self.old) (standing_of S.lines C.maps W.sheet self.new) }
+    {
+        match ty {
+            Some(node) => {
+                self.punct(Punctuator::Colon);
+                node.held().emit_at(self, Place::Plain)
+            }
+            None => {}
+        }
+    }
+
+    /// Writes `this: T, ` of a setter, where it is so.
+    #[tactic(auto, unfolding(crate::specs::Props::this_param))]
+    fn this_param<N: Held>(&mut self, param: &Option<PatBox<N>>)
+        ensures items { Makes (this_param N.items param.now) (standing_of S.lines C.maps W.sheet self.old) (standing_of S.lines C.maps W.sheet self.new) }
+        ensures level { Stays (standing_of S.lines C.maps W.sheet self.old) (standing_of S.lines C.maps W.sheet self.new) }
+    {
+        match param {
+            Some(node) => {
+                node.held().emit_at(self, Place::Plain);
+                self.punct(Punctuator::Comma);
+                self.formatting_space();
+            }
+            None => {}
+        }
     }
 
     /// Writes a body, where there is one.

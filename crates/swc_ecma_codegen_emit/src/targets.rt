@@ -55,7 +55,12 @@ impl<N: Held> EmitAt for SimpleAssignTarget<N> {
             SimpleAssignTarget::SuperProp(node) => node.emit_at(e, place),
             SimpleAssignTarget::Paren(node) => node.emit_at(e, place),
             SimpleAssignTarget::OptChain(node) => node.emit_at(e, place),
-            _ => e.unsupported(),
+            SimpleAssignTarget::TsAs(node) => node.emit_at(e, place),
+            SimpleAssignTarget::TsSatisfies(node) => node.emit_at(e, place),
+            SimpleAssignTarget::TsNonNull(node) => node.emit_at(e, place),
+            SimpleAssignTarget::TsTypeAssertion(node) => node.emit_at(e, place),
+            SimpleAssignTarget::TsInstantiation(node) => node.emit_at(e, place),
+            SimpleAssignTarget::Invalid(_) => e.unsupported(),
         }
     }
 }

@@ -1,8 +1,8 @@
 -- The productions of classes see what links hold through f alone.
-use Rattle.std.proofs.Common.{◌≡◌, refl, ◌∙◌, ap, ◌||◌, is_some, List, map, codes, Bool, cond, Option, Some, None, Box, Global}
+use Rattle.std.proofs.Common.{◌≡◌, refl, ◌∙◌, ap, ◌||◌, List, [], ◌∷◌, map, codes, cond, Option, Some, None, Box, Global}
 use Rattle.swc_ecma_codegen_tree.specs.declared.links.AnyNode.{AnyNode-F, map-AnyNode}
 use Rattle.swc_ecma_codegen_tree.specs.declared.links.AnyNode.TheOpen as nodes
-use Rattle.swc_ecma_codegen_tree.specs.Links.{BlockStmtBox, ClassMemberBox, ExprBox, TsTypeAnnBox, TsTypeParamDeclBox, TsTypeParamInstantiationBox}
+use Rattle.swc_ecma_codegen_tree.specs.Links.{BlockStmtBox, ClassMemberBox, ExprBox, TsFnParamBox, TsTypeAnnBox, TsTypeParamDeclBox, TsTypeParamInstantiationBox}
 use Rattle.swc_ecma_codegen_tree.specs.declared.parts.StmtPart.TheVariants as stmt_parts
 use Rattle.swc_ecma_codegen_tree.specs.declared.classes.Class as classes
 use Rattle.swc_ecma_codegen_tree.specs.declared.classes.ClassMember as class_members
@@ -11,6 +11,8 @@ use Rattle.swc_ecma_codegen_tree.specs.declared.classes.Constructor.{Constructor
 use Rattle.swc_ecma_codegen_tree.specs.declared.classes.ParamOrTsParamProp.{ParamOrTsParamProp}
 use Rattle.swc_ecma_codegen_tree.specs.declared.classes.ParamOrTsParamProp.TheVariants as params
 use Rattle.swc_ecma_codegen_tree.specs.declared.classes.TsParamProp.{TsParamProp}
+use Rattle.swc_ecma_codegen_tree.specs.declared.classes.TsParamPropParam.{TsParamPropParam}
+use Rattle.swc_ecma_codegen_tree.specs.declared.classes.TsParamPropParam.TheVariants as param_props
 use Rattle.swc_ecma_codegen_tree.specs.declared.classes.ClassMethod.{ClassMethod}
 use Rattle.swc_ecma_codegen_tree.specs.declared.classes.MethodKind.{MethodKind}
 use Rattle.swc_ecma_codegen_tree.specs.declared.classes.MethodKind.TheVariants.{Method, Getter, Setter}
@@ -23,25 +25,34 @@ use Rattle.swc_ecma_codegen_tree.specs.declared.classes.PrivateProp.{PrivateProp
 use Rattle.swc_ecma_codegen_tree.specs.declared.decls.Decorator.{Decorator}
 use Rattle.swc_ecma_codegen_tree.specs.declared.decls.Param.{Param}
 use Rattle.swc_ecma_codegen_tree.specs.declared.decls.Function as functions
-use Rattle.swc_ecma_codegen_grammar.specs.AnnotationPhrases.{annotation, type_args, type_params}
-use Rattle.swc_ecma_codegen_grammar.specs.Phrases.{Phrase, Never, ◌>◌, mark, word, listed, in_order, where_}
+use Rattle.swc_ecma_codegen_tree.specs.declared.idents.Ident.{Ident}
+use Rattle.swc_ecma_codegen_tree.specs.declared.pats.AssignPat.{AssignPat}
+use Rattle.swc_ecma_codegen_tree.specs.declared.ts_decls.TsExprWithTypeArgs.{TsExprWithTypeArgs}
+use Rattle.swc_ecma_codegen_tree.specs.declared.ts_members.TsIndexSignature.{TsIndexSignature}
+use Rattle.swc_ecma_codegen_grammar.specs.AnnotationPhrases.{annotation, field_annotation, type_args, type_params}
+use Rattle.swc_ecma_codegen_grammar.specs.Phrases.{Phrase, Never, ◌>◌, mark, word, ending, listed, in_order, where_}
 use Rattle.swc_ecma_codegen_grammar.specs.declared.roles.Role.{Role}
 use Rattle.swc_ecma_codegen_grammar.specs.declared.roles.Role.TheVariants.{ClassHead, ClassTail, Member, MethodDecorators, MethodTail, AccessorTail}
-use Rattle.swc_ecma_codegen_grammar.specs.PatPhrases.{initializer}
-use Rattle.swc_ecma_codegen_grammar.specs.FunctionPhrases.{decorator, param, function_body}
-use Rattle.swc_ecma_codegen_grammar.specs.ClassPhrases.{member_at, decorators, class_head, heritage, class_tail, constructor_param, class_constructor, method_decorators, method_tail, accessor_tail, tail_role, kind_head, method_kind, class_method, private_method, prop_value, class_prop, private_prop, accessor_key, auto_accessor, static_block, class_member}
+use Rattle.swc_ecma_codegen_grammar.specs.PatPhrases.{assign_pat, initializer}
+use Rattle.swc_ecma_codegen_grammar.specs.FunctionPhrases.{decorator, param, function_body, word_if}
+use Rattle.swc_ecma_codegen_grammar.specs.ClassPhrases.{member_at, decorators, class_head, heritage, implements_clause, class_tail, accessibility, ts_param_prop_param, ts_param_prop, constructor_param, class_constructor, method_decorators, method_tail, accessor_tail, tail_role, kind_head, method_kind, class_method, private_method, prop_value, prop_modifiers, class_prop, private_modifiers, private_prop, accessor_key, accessor_modifiers, auto_accessor, static_block, class_member}
+use Rattle.swc_ecma_codegen_grammar.specs.MemberPhrases.{ts_index_signature}
+use Rattle.swc_ecma_codegen_grammar.specs.NamePhrases.{binding_ident}
 use Rattle.swc_ecma_codegen_grammar.specs.PartPhrases.{expr_part, stmt_part}
+use Rattle.swc_ecma_codegen_grammar.specs.TsDeclPhrases.{ts_expr_with_type_args}
+use Rattle.swc_ecma_codegen_grammar.specs.TypePhrases.{signature_param_at}
 use Rattle.swc_ecma_codegen_grammar.specs.TreePhrases.{node_phrase}
 use Rattle.swc_ecma_codegen_grammar.proofs.Mapped.{list_mapped}
-use Rattle.swc_ecma_codegen_grammar.proofs.MappedFunctions.{some_mapped, param_mapped, with_parts}
+use Rattle.swc_ecma_codegen_grammar.proofs.MappedFunctions.{param_mapped, with_parts}
+use Rattle.swc_ecma_codegen_grammar.proofs.MappedTsDecls.{by_args}
 use Rattle.swc_ecma_codegen_grammar.proofs.MappedPats.{pat_mapped}
 
 pub decorators_mapped : {X Y : Type 0} (g : Decorator X → Decorator Y) (f : Y → Role → Phrase) (d : X → Role → Phrase) → ((n : Decorator X) → decorator f (g n) ≡ decorator d n) → (ns : List (Decorator X)) → decorators f (map g ns) ≡ decorators d ns
 unfolding decorators
 decorators_mapped g f d same ns = ap in_order (list_mapped g (decorator f) (decorator d) same ns)
 
-decorated : {X Y : Type 0} (g : Decorator X → Decorator Y) (f : Y → Role → Phrase) (d : X → Role → Phrase) → ((n : Decorator X) → decorator f (g n) ≡ decorator d n) → (typed : Bool) (rest : Phrase) (ns : List (Decorator X)) → cond typed Never (decorators f (map g ns) > rest) ≡ cond typed Never (decorators d ns > rest)
-decorated g f d same typed rest ns = ap (λ p. cond typed Never (p > rest)) (decorators_mapped g f d same ns)
+decorated : {X Y : Type 0} (g : Decorator X → Decorator Y) (f : Y → Role → Phrase) (d : X → Role → Phrase) → ((n : Decorator X) → decorator f (g n) ≡ decorator d n) → (rest : Phrase) (ns : List (Decorator X)) → (decorators f (map g ns) > rest) ≡ (decorators d ns > rest)
+decorated g f d same rest ns = ap (λ p. p > rest) (decorators_mapped g f d same ns)
 
 -- ---- functions of methods
 
@@ -73,25 +84,30 @@ pub class_head_mapped : {X Y : Type 0} (g : X → Y) (f : Y → Role → Phrase)
 unfolding node_phrase stmt_part class_head decorator
 class_head_mapped g f b = decorators_mapped _ f (λ x. f (g x)) (λ n. refl) b.value.decorators.items
 
-typed_same : (a b : Bool) (p q : Phrase) → a ≡ b → p ≡ q → cond a Never p ≡ cond b Never q
-typed_same a b p q e h = ap (λ z. cond z Never p) e ∙ ap (λ z. cond b Never z) h
-
 abbrev with_class_parts : {X : Type 0} → classes.Class X → Option (ExprBox X) → Option (TsTypeParamDeclBox X) → Option (TsTypeParamInstantiationBox X) → classes.Class X
 with_class_parts n super_class type_params super_type_params = record n { super_class = super_class; type_params = type_params; super_type_params = super_type_params }
 
-members_same : {X Y : Type 0} (g : ClassMemberBox X → ClassMemberBox Y) (f : Y → Role → Phrase) (d : X → Role → Phrase) → ((n : ClassMemberBox X) → member_at f (g n) ≡ member_at d n) → (before head : Phrase) (ns : List (ClassMemberBox X)) → (before > head > mark (codes "{") > in_order (map (member_at f) (map g ns)) > mark (codes "}")) ≡ (before > head > mark (codes "{") > in_order (map (member_at d) ns) > mark (codes "}"))
-members_same g f d same before head ns = ap (λ ps. before > head > mark (codes "{") > in_order ps > mark (codes "}")) (list_mapped g (member_at f) (member_at d) same ns)
+implements_mapped : {X Y : Type 0} (g : TsExprWithTypeArgs X → TsExprWithTypeArgs Y) (f : Y → Role → Phrase) (d : X → Role → Phrase) → ((n : TsExprWithTypeArgs X) → ts_expr_with_type_args f (g n) ≡ ts_expr_with_type_args d n) → (ns : List (TsExprWithTypeArgs X)) → implements_clause f (map g ns) ≡ implements_clause d ns
+unfolding implements_clause
+implements_mapped g f d same [] = refl
+implements_mapped g f d same (n ∷ ns) = ap (λ ps. word (codes "implements") > listed (codes ",") ps) (list_mapped g (ts_expr_with_type_args f) (ts_expr_with_type_args d) same (n ∷ ns))
+
+-- what is implemented, and then the members
+class_same : {X Y : Type 0} (e : TsExprWithTypeArgs X → TsExprWithTypeArgs Y) (m : ClassMemberBox X → ClassMemberBox Y) (f : Y → Role → Phrase) (d : X → Role → Phrase) → ((n : TsExprWithTypeArgs X) → ts_expr_with_type_args f (e n) ≡ ts_expr_with_type_args d n) → ((n : ClassMemberBox X) → member_at f (m n) ≡ member_at d n) → (before head : Phrase) (ns : List (TsExprWithTypeArgs X)) (ms : List (ClassMemberBox X)) → (before > head > implements_clause f (map e ns) > mark (codes "{") > in_order (map (member_at f) (map m ms)) > mark (codes "}")) ≡ (before > head > implements_clause d ns > mark (codes "{") > in_order (map (member_at d) ms) > mark (codes "}"))
+class_same e m f d implemented member before head ns ms =
+    ap (λ z. before > head > z > mark (codes "{") > in_order (map (member_at f) (map m ms)) > mark (codes "}")) (implements_mapped e f d implemented ns)
+    ∙ ap (λ ps. before > head > implements_clause d ns > mark (codes "{") > in_order ps > mark (codes "}")) (list_mapped m (member_at f) (member_at d) member ms)
 
 class_by : {X Y : Type 0} (g : X → Y) (f : Y → Role → Phrase) (b : Box (classes.Class X) Global) (n : classes.Class X) (super_class : Option (ExprBox X)) (type_params : Option (TsTypeParamDeclBox X)) (super_type_params : Option (TsTypeParamInstantiationBox X)) → node_phrase f (map-AnyNode X Y g (nodes.StmtPart (stmt_parts.Class (record b { value = with_class_parts n super_class type_params super_type_params })))) ClassTail ≡ class_tail (λ x. f (g x)) (with_class_parts n super_class type_params super_type_params)
-unfolding node_phrase stmt_part class_tail heritage type_args type_params where_
-class_by {X} {Y} g f b n None None None = typed_same _ _ _ _ (ap (λ z. n.is_abstract || z) (some_mapped _ n.implements.items)) (members_same {X = X} {Y = Y} _ f (λ x. f (g x)) (λ m. refl) _ _ n.body.items)
-class_by {X} {Y} g f b n None None (Some t) = typed_same _ _ _ _ (ap (λ z. n.is_abstract || z) (some_mapped _ n.implements.items)) (members_same {X = X} {Y = Y} _ f (λ x. f (g x)) (λ m. refl) _ _ n.body.items)
-class_by {X} {Y} g f b n None (Some p) None = typed_same _ _ _ _ (ap (λ z. n.is_abstract || z) (some_mapped _ n.implements.items)) (members_same {X = X} {Y = Y} _ f (λ x. f (g x)) (λ m. refl) _ _ n.body.items)
-class_by {X} {Y} g f b n None (Some p) (Some t) = typed_same _ _ _ _ (ap (λ z. n.is_abstract || z) (some_mapped _ n.implements.items)) (members_same {X = X} {Y = Y} _ f (λ x. f (g x)) (λ m. refl) _ _ n.body.items)
-class_by {X} {Y} g f b n (Some s) None None = typed_same _ _ _ _ (ap (λ z. n.is_abstract || z) (some_mapped _ n.implements.items)) (members_same {X = X} {Y = Y} _ f (λ x. f (g x)) (λ m. refl) _ _ n.body.items)
-class_by {X} {Y} g f b n (Some s) None (Some t) = typed_same _ _ _ _ (ap (λ z. n.is_abstract || z) (some_mapped _ n.implements.items)) (members_same {X = X} {Y = Y} _ f (λ x. f (g x)) (λ m. refl) _ _ n.body.items)
-class_by {X} {Y} g f b n (Some s) (Some p) None = typed_same _ _ _ _ (ap (λ z. n.is_abstract || z) (some_mapped _ n.implements.items)) (members_same {X = X} {Y = Y} _ f (λ x. f (g x)) (λ m. refl) _ _ n.body.items)
-class_by {X} {Y} g f b n (Some s) (Some p) (Some t) = typed_same _ _ _ _ (ap (λ z. n.is_abstract || z) (some_mapped _ n.implements.items)) (members_same {X = X} {Y = Y} _ f (λ x. f (g x)) (λ m. refl) _ _ n.body.items)
+unfolding node_phrase stmt_part class_tail heritage ts_expr_with_type_args type_args type_params where_
+class_by {X} {Y} g f b n None None None = class_same {X = X} {Y = Y} _ _ f (λ x. f (g x)) (by_args {X = X} _ (λ e. refl) (λ e a. refl)) (λ m. refl) _ _ n.implements.items n.body.items
+class_by {X} {Y} g f b n None None (Some t) = class_same {X = X} {Y = Y} _ _ f (λ x. f (g x)) (by_args {X = X} _ (λ e. refl) (λ e a. refl)) (λ m. refl) _ _ n.implements.items n.body.items
+class_by {X} {Y} g f b n None (Some p) None = class_same {X = X} {Y = Y} _ _ f (λ x. f (g x)) (by_args {X = X} _ (λ e. refl) (λ e a. refl)) (λ m. refl) _ _ n.implements.items n.body.items
+class_by {X} {Y} g f b n None (Some p) (Some t) = class_same {X = X} {Y = Y} _ _ f (λ x. f (g x)) (by_args {X = X} _ (λ e. refl) (λ e a. refl)) (λ m. refl) _ _ n.implements.items n.body.items
+class_by {X} {Y} g f b n (Some s) None None = class_same {X = X} {Y = Y} _ _ f (λ x. f (g x)) (by_args {X = X} _ (λ e. refl) (λ e a. refl)) (λ m. refl) _ _ n.implements.items n.body.items
+class_by {X} {Y} g f b n (Some s) None (Some t) = class_same {X = X} {Y = Y} _ _ f (λ x. f (g x)) (by_args {X = X} _ (λ e. refl) (λ e a. refl)) (λ m. refl) _ _ n.implements.items n.body.items
+class_by {X} {Y} g f b n (Some s) (Some p) None = class_same {X = X} {Y = Y} _ _ f (λ x. f (g x)) (by_args {X = X} _ (λ e. refl) (λ e a. refl)) (λ m. refl) _ _ n.implements.items n.body.items
+class_by {X} {Y} g f b n (Some s) (Some p) (Some t) = class_same {X = X} {Y = Y} _ _ f (λ x. f (g x)) (by_args {X = X} _ (λ e. refl) (λ e a. refl)) (λ m. refl) _ _ n.implements.items n.body.items
 
 pub class_tail_mapped : {X Y : Type 0} (g : X → Y) (f : Y → Role → Phrase) (b : Box (classes.Class X) Global) → node_phrase f (map-AnyNode X Y g (nodes.StmtPart (stmt_parts.Class b))) ClassTail ≡ class_tail (λ x. f (g x)) b.value
 class_tail_mapped g f b = class_by g f b b.value b.value.super_class b.value.type_params b.value.super_type_params
@@ -106,10 +122,34 @@ pub each_param : {X : Type 0} (P : ParamOrTsParamProp X → Type 0) → ((n : Ts
 each_param P typed plain (params.TsParamProp n) = typed n
 each_param P typed plain (params.Param n) = plain n
 
+-- what holds of each that is a field too, by what is there
+by_param : {X : Type 0} (P : TsParamProp X → Type 0) (n : TsParamProp X) → ((id : Ident) → P (record n { param = param_props.Ident (record { id = id; type_ann = None }) })) → ((id : Ident) (t : TsTypeAnnBox X) → P (record n { param = param_props.Ident (record { id = id; type_ann = Some t }) })) → ((a : AssignPat X) → P (record n { param = param_props.Assign a })) → (id : Ident) (type_ann : Option (TsTypeAnnBox X)) → P (record n { param = param_props.Ident (record { id = id; type_ann = type_ann }) })
+by_param P n plain typed assigned id None = plain id
+by_param P n plain typed assigned id (Some t) = typed id t
+
+by_variant : {X : Type 0} (P : TsParamProp X → Type 0) (n : TsParamProp X) → ((id : Ident) → P (record n { param = param_props.Ident (record { id = id; type_ann = None }) })) → ((id : Ident) (t : TsTypeAnnBox X) → P (record n { param = param_props.Ident (record { id = id; type_ann = Some t }) })) → ((a : AssignPat X) → P (record n { param = param_props.Assign a })) → (param : TsParamPropParam X) → P (record n { param = param })
+by_variant P n plain typed assigned (param_props.Ident m) = by_param P n plain typed assigned m.id m.type_ann
+by_variant P n plain typed assigned (param_props.Assign a) = assigned a
+
+pub by_param_prop : {X : Type 0} (P : TsParamProp X → Type 0) → ((n : TsParamProp X) (id : Ident) → P (record n { param = param_props.Ident (record { id = id; type_ann = None }) })) → ((n : TsParamProp X) (id : Ident) (t : TsTypeAnnBox X) → P (record n { param = param_props.Ident (record { id = id; type_ann = Some t }) })) → ((n : TsParamProp X) (a : AssignPat X) → P (record n { param = param_props.Assign a })) → (n : TsParamProp X) → P n
+by_param_prop P plain typed assigned n = by_variant P n (plain n) (typed n) (assigned n) n.param
+
+-- its decorators, and the rest
+param_prop_same : {X Y : Type 0} (g : Decorator X → Decorator Y) (f : Y → Role → Phrase) (d : X → Role → Phrase) → ((n : Decorator X) → decorator f (g n) ≡ decorator d n) → (before rest : Phrase) (ns : List (Decorator X)) → (before > decorators f (map g ns) > rest) ≡ (before > decorators d ns > rest)
+param_prop_same g f d same before rest ns = ap (λ p. before > p > rest) (decorators_mapped g f d same ns)
+
 constructor_by : {X Y : Type 0} (g : X → Y) (f : Y → Role → Phrase) (b : Box (class_members.ClassMember X) Global) (n : Constructor X) (body : Option (BlockStmtBox X)) → node_phrase f (map-AnyNode X Y g (as_member b (members.Constructor (record n { body = body })))) Member ≡ class_constructor (λ x. f (g x)) (record n { body = body })
-unfolding node_phrase expr_part stmt_part class_member class_constructor constructor_param function_body decorator
-constructor_by {X} {Y} g f b n None = ap (λ ps. cond (is_some n.accessibility) Never (word (codes "constructor") > mark (codes "(") > listed (codes ",") ps > mark (codes ")") > function_body (λ x. f (g x)) None)) (list_mapped {A = ParamOrTsParamProp X} _ (constructor_param f) (constructor_param (λ x. f (g x))) (each_param {X = X} _ (λ m. refl) (param_mapped {X = X} {Y = Y} _ _ f (λ x. f (g x)) (λ x. refl) (λ x. pat_mapped g f x.pat) (λ x. refl))) n.params.items)
-constructor_by {X} {Y} g f b n (Some body) = ap (λ ps. cond (is_some n.accessibility) Never (word (codes "constructor") > mark (codes "(") > listed (codes ",") ps > mark (codes ")") > function_body (λ x. f (g x)) (Some body))) (list_mapped {A = ParamOrTsParamProp X} _ (constructor_param f) (constructor_param (λ x. f (g x))) (each_param {X = X} _ (λ m. refl) (param_mapped {X = X} {Y = Y} _ _ f (λ x. f (g x)) (λ x. refl) (λ x. pat_mapped g f x.pat) (λ x. refl))) n.params.items)
+unfolding node_phrase expr_part stmt_part class_member class_constructor constructor_param ts_param_prop ts_param_prop_param binding_ident annotation assign_pat function_body decorator
+constructor_by {X} {Y} g f b n None =
+    ap (λ ps. accessibility n.accessibility > word (codes "constructor") > mark (codes "(") > listed (codes ",") ps > mark (codes ")") > function_body (λ x. f (g x)) None)
+    (list_mapped {A = ParamOrTsParamProp X} _ (constructor_param f) (constructor_param (λ x. f (g x)))
+    (each_param {X = X} _ (by_param_prop {X = X} _ (λ m id. param_prop_same {X = X} {Y = Y} _ f (λ x. f (g x)) (λ x. refl) _ _ m.decorators.items) (λ m id t. param_prop_same {X = X} {Y = Y} _ f (λ x. f (g x)) (λ x. refl) _ _ m.decorators.items) (λ m a. param_prop_same {X = X} {Y = Y} _ f (λ x. f (g x)) (λ x. refl) _ _ m.decorators.items))
+    (param_mapped {X = X} {Y = Y} _ _ f (λ x. f (g x)) (λ x. refl) (λ x. pat_mapped g f x.pat) (λ x. refl))) n.params.items)
+constructor_by {X} {Y} g f b n (Some body) =
+    ap (λ ps. accessibility n.accessibility > word (codes "constructor") > mark (codes "(") > listed (codes ",") ps > mark (codes ")") > function_body (λ x. f (g x)) (Some body))
+    (list_mapped {A = ParamOrTsParamProp X} _ (constructor_param f) (constructor_param (λ x. f (g x)))
+    (each_param {X = X} _ (by_param_prop {X = X} _ (λ m id. param_prop_same {X = X} {Y = Y} _ f (λ x. f (g x)) (λ x. refl) _ _ m.decorators.items) (λ m id t. param_prop_same {X = X} {Y = Y} _ f (λ x. f (g x)) (λ x. refl) _ _ m.decorators.items) (λ m a. param_prop_same {X = X} {Y = Y} _ f (λ x. f (g x)) (λ x. refl) _ _ m.decorators.items))
+    (param_mapped {X = X} {Y = Y} _ _ f (λ x. f (g x)) (λ x. refl) (λ x. pat_mapped g f x.pat) (λ x. refl))) n.params.items)
 
 method_by : {X Y : Type 0} (g : X → Y) (f : Y → Role → Phrase) (b : Box (class_members.ClassMember X) Global) (n : ClassMethod X) (kind : MethodKind) → node_phrase f (map-AnyNode X Y g (as_member b (members.Method (record n { kind = kind })))) Member ≡ class_method (λ x. f (g x)) (record n { kind = kind })
 unfolding node_phrase stmt_part class_member class_method method_kind kind_head tail_role
@@ -124,29 +164,34 @@ private_method_by g f b n Getter = refl
 private_method_by g f b n Setter = refl
 
 prop_by : {X Y : Type 0} (g : X → Y) (f : Y → Role → Phrase) (b : Box (class_members.ClassMember X) Global) (n : ClassProp X) (type_ann : Option (TsTypeAnnBox X)) (value : Option (ExprBox X)) → node_phrase f (map-AnyNode X Y g (as_member b (members.ClassProp (record n { type_ann = type_ann; value = value })))) Member ≡ class_prop (λ x. f (g x)) (record n { type_ann = type_ann; value = value })
-unfolding node_phrase stmt_part class_member class_prop prop_value decorator
-prop_by g f b n None None = decorated _ f (λ x. f (g x)) (λ m. refl) _ _ n.decorators.items
-prop_by g f b n None (Some v) = decorated _ f (λ x. f (g x)) (λ m. refl) _ _ n.decorators.items
-prop_by g f b n (Some t) None = refl
-prop_by g f b n (Some t) (Some v) = refl
+unfolding node_phrase stmt_part class_member class_prop prop_modifiers field_annotation prop_value decorator
+prop_by g f b n None None = decorated _ f (λ x. f (g x)) (λ m. refl) _ n.decorators.items
+prop_by g f b n None (Some v) = decorated _ f (λ x. f (g x)) (λ m. refl) _ n.decorators.items
+prop_by g f b n (Some t) None = decorated _ f (λ x. f (g x)) (λ m. refl) _ n.decorators.items
+prop_by g f b n (Some t) (Some v) = decorated _ f (λ x. f (g x)) (λ m. refl) _ n.decorators.items
 
 private_prop_by : {X Y : Type 0} (g : X → Y) (f : Y → Role → Phrase) (b : Box (class_members.ClassMember X) Global) (n : PrivateProp X) (type_ann : Option (TsTypeAnnBox X)) (value : Option (ExprBox X)) → node_phrase f (map-AnyNode X Y g (as_member b (members.PrivateProp (record n { type_ann = type_ann; value = value })))) Member ≡ private_prop (λ x. f (g x)) (record n { type_ann = type_ann; value = value })
-unfolding node_phrase stmt_part class_member private_prop prop_value decorator
-private_prop_by g f b n None None = decorated _ f (λ x. f (g x)) (λ m. refl) _ _ n.decorators.items
-private_prop_by g f b n None (Some v) = decorated _ f (λ x. f (g x)) (λ m. refl) _ _ n.decorators.items
-private_prop_by g f b n (Some t) None = refl
-private_prop_by g f b n (Some t) (Some v) = refl
+unfolding node_phrase stmt_part class_member private_prop private_modifiers field_annotation prop_value decorator
+private_prop_by g f b n None None = decorated _ f (λ x. f (g x)) (λ m. refl) _ n.decorators.items
+private_prop_by g f b n None (Some v) = decorated _ f (λ x. f (g x)) (λ m. refl) _ n.decorators.items
+private_prop_by g f b n (Some t) None = decorated _ f (λ x. f (g x)) (λ m. refl) _ n.decorators.items
+private_prop_by g f b n (Some t) (Some v) = decorated _ f (λ x. f (g x)) (λ m. refl) _ n.decorators.items
 
 accessor_by : {X Y : Type 0} (g : X → Y) (f : Y → Role → Phrase) (b : Box (class_members.ClassMember X) Global) (n : AutoAccessor X) (key : Key X) (type_ann : Option (TsTypeAnnBox X)) (value : Option (ExprBox X)) → node_phrase f (map-AnyNode X Y g (as_member b (members.AutoAccessor (record n { key = key; type_ann = type_ann; value = value })))) Member ≡ auto_accessor (λ x. f (g x)) (record n { key = key; type_ann = type_ann; value = value })
-unfolding node_phrase stmt_part class_member auto_accessor accessor_key initializer decorator
-accessor_by g f b n (keys.Public k) None None = decorated _ f (λ x. f (g x)) (λ m. refl) _ _ n.decorators.items
-accessor_by g f b n (keys.Public k) None (Some v) = decorated _ f (λ x. f (g x)) (λ m. refl) _ _ n.decorators.items
-accessor_by g f b n (keys.Private k) None None = decorated _ f (λ x. f (g x)) (λ m. refl) _ _ n.decorators.items
-accessor_by g f b n (keys.Private k) None (Some v) = decorated _ f (λ x. f (g x)) (λ m. refl) _ _ n.decorators.items
-accessor_by g f b n (keys.Public k) (Some t) None = refl
-accessor_by g f b n (keys.Public k) (Some t) (Some v) = refl
-accessor_by g f b n (keys.Private k) (Some t) None = refl
-accessor_by g f b n (keys.Private k) (Some t) (Some v) = refl
+unfolding node_phrase stmt_part class_member auto_accessor accessor_modifiers accessor_key field_annotation initializer decorator
+accessor_by g f b n (keys.Public k) None None = decorated _ f (λ x. f (g x)) (λ m. refl) _ n.decorators.items
+accessor_by g f b n (keys.Public k) None (Some v) = decorated _ f (λ x. f (g x)) (λ m. refl) _ n.decorators.items
+accessor_by g f b n (keys.Public k) (Some t) None = decorated _ f (λ x. f (g x)) (λ m. refl) _ n.decorators.items
+accessor_by g f b n (keys.Public k) (Some t) (Some v) = decorated _ f (λ x. f (g x)) (λ m. refl) _ n.decorators.items
+accessor_by g f b n (keys.Private k) None None = decorated _ f (λ x. f (g x)) (λ m. refl) _ n.decorators.items
+accessor_by g f b n (keys.Private k) None (Some v) = decorated _ f (λ x. f (g x)) (λ m. refl) _ n.decorators.items
+accessor_by g f b n (keys.Private k) (Some t) None = decorated _ f (λ x. f (g x)) (λ m. refl) _ n.decorators.items
+accessor_by g f b n (keys.Private k) (Some t) (Some v) = decorated _ f (λ x. f (g x)) (λ m. refl) _ n.decorators.items
+
+index_by : {X Y : Type 0} (g : X → Y) (f : Y → Role → Phrase) (b : Box (class_members.ClassMember X) Global) (n : TsIndexSignature X) (type_ann : Option (TsTypeAnnBox X)) → node_phrase f (map-AnyNode X Y g (as_member b (members.TsIndexSignature (record n { type_ann = type_ann })))) Member ≡ (ts_index_signature (λ x. f (g x)) (record n { type_ann = type_ann }) > ending)
+unfolding node_phrase stmt_part class_member ts_index_signature annotation
+index_by {X} g f b n None = ap (λ ps. (word_if n.is_static (word (codes "static")) > word_if n.readonly (word (codes "readonly")) > mark (codes "[") > listed (codes ",") ps > mark (codes "]") > annotation (λ x. f (g x)) None) > ending) (list_mapped {A = TsFnParamBox X} _ (signature_param_at f) (signature_param_at (λ x. f (g x))) (λ p. refl) n.params.items)
+index_by {X} g f b n (Some t) = ap (λ ps. (word_if n.is_static (word (codes "static")) > word_if n.readonly (word (codes "readonly")) > mark (codes "[") > listed (codes ",") ps > mark (codes "]") > annotation (λ x. f (g x)) (Some t)) > ending) (list_mapped {A = TsFnParamBox X} _ (signature_param_at f) (signature_param_at (λ x. f (g x))) (λ p. refl) n.params.items)
 
 member_by : {X Y : Type 0} (g : X → Y) (f : Y → Role → Phrase) (b : Box (class_members.ClassMember X) Global) (n : class_members.ClassMember X) → node_phrase f (map-AnyNode X Y g (as_member b n)) Member ≡ class_member (λ x. f (g x)) n
 unfolding node_phrase stmt_part class_member static_block
@@ -156,6 +201,7 @@ member_by g f b (members.PrivateMethod n) = private_method_by g f b n n.kind
 member_by g f b (members.ClassProp n) = prop_by g f b n n.type_ann n.value
 member_by g f b (members.PrivateProp n) = private_prop_by g f b n n.type_ann n.value
 member_by g f b (members.AutoAccessor n) = accessor_by g f b n n.key n.type_ann n.value
+member_by g f b (members.TsIndexSignature n) = index_by g f b n n.type_ann
 member_by g f b n = refl
 
 pub class_member_mapped : {X Y : Type 0} (g : X → Y) (f : Y → Role → Phrase) (b : Box (class_members.ClassMember X) Global) → node_phrase f (map-AnyNode X Y g (nodes.StmtPart (stmt_parts.ClassMember b))) Member ≡ class_member (λ x. f (g x)) b.value

@@ -1,15 +1,18 @@
 -- The productions of statements and declarations see what links hold through f alone.
-use Rattle.std.proofs.Common.{◌≡◌, refl, ap, List, map, codes, Bool, cond, Option, Some, None, Vec, Global}
+use Rattle.std.proofs.Common.{◌≡◌, refl, ap, List, map, codes, Bool, true, false, Option, Some, None, Vec, Global}
 use Rattle.swc_ecma_codegen_common.specs.declared.positions.Span.{Span}
-use Rattle.swc_ecma_codegen_tree.specs.declared.links.AnyNode.{map-AnyNode}
+use Rattle.swc_ecma_codegen_tree.specs.declared.links.AnyNode.{AnyNode-F, map-AnyNode}
 use Rattle.swc_ecma_codegen_tree.specs.declared.links.AnyNode.TheOpen as nodes
-use Rattle.swc_ecma_codegen_tree.specs.Links.{BlockStmtBox, ExprBox, PatBox, StmtBox}
+use Rattle.swc_ecma_codegen_tree.specs.Links.{BlockStmtBox, ExprBox, PatBox, StmtBox, TsTypeAnnBox}
+use Rattle.swc_ecma_codegen_tree.specs.declared.idents.Ident.{Ident}
+use Rattle.swc_ecma_codegen_tree.specs.declared.parts.ExprPart.TheVariants as expr_parts
 use Rattle.swc_ecma_codegen_tree.specs.declared.parts.StmtPart.TheVariants as stmt_parts
 use Rattle.swc_ecma_codegen_tree.specs.declared.decls.Decl.{Decl}
 use Rattle.swc_ecma_codegen_tree.specs.declared.decls.Decl.TheVariants as decls
 use Rattle.swc_ecma_codegen_tree.specs.declared.decls.VarDecl.{VarDecl}
 use Rattle.swc_ecma_codegen_tree.specs.declared.decls.VarDeclarator.{VarDeclarator}
 use Rattle.swc_ecma_codegen_tree.specs.declared.pats.Pat.{Pat}
+use Rattle.swc_ecma_codegen_tree.specs.declared.pats.Pat.TheVariants as pats
 use Rattle.swc_ecma_codegen_tree.specs.declared.stmts.CatchClause.{CatchClause}
 use Rattle.swc_ecma_codegen_tree.specs.declared.stmts.ForHead.{ForHead}
 use Rattle.swc_ecma_codegen_tree.specs.declared.stmts.ForHead.TheVariants as heads
@@ -28,9 +31,10 @@ use Rattle.swc_ecma_codegen_tree.specs.declared.stmts.VarDeclOrExpr.TheVariants 
 use Rattle.swc_ecma_codegen_grammar.specs.Phrases.{Phrase, Never, ◌>◌, mark, word, same_line, ending, in_order, some_listed}
 use Rattle.swc_ecma_codegen_grammar.specs.declared.roles.Role.{Role}
 use Rattle.swc_ecma_codegen_grammar.specs.declared.roles.Role.TheVariants.{Statement, Declaration, VariableDeclaration}
+use Rattle.swc_ecma_codegen_grammar.specs.AnnotationPhrases.{annotation}
 use Rattle.swc_ecma_codegen_grammar.specs.PatPhrases.{value_at, initializer}
 use Rattle.swc_ecma_codegen_grammar.specs.FunctionPhrases.{word_if}
-use Rattle.swc_ecma_codegen_grammar.specs.DeclPhrases.{after_await, fn_decl, var_declarator, var_kind, var_decl, using_decl, decl}
+use Rattle.swc_ecma_codegen_grammar.specs.DeclPhrases.{after_await, fn_decl, definite_pat, declared_pat, var_declarator, var_kind, var_decl, using_decl, decl}
 use Rattle.swc_ecma_codegen_grammar.specs.ClassPhrases.{class_decl}
 use Rattle.swc_ecma_codegen_grammar.specs.TsDeclPhrases.{declare_word}
 use Rattle.swc_ecma_codegen_grammar.specs.StmtPhrases.{stmt_at, optional_value, empty_stmt, expr_stmt, debugger_stmt, with_stmt, return_stmt, labeled_stmt, break_stmt, continue_stmt, else_branch, if_stmt, case_test, switch_case, switch_stmt, throw_stmt, catch_param, catch_clause, handler, finalizer, try_stmt, while_stmt, do_while_stmt, var_decl_or_expr, for_init, for_stmt, for_head, for_in_stmt, for_of_stmt, stmt, return_rest}
@@ -50,19 +54,35 @@ pub by_init : {X : Type 0} (P : VarDeclarator X → Type 0)
 by_init P none some n = each_option (λ init. P (record { span = n.span; name = n.name; init = init; definite = n.definite })) (none n.span n.name n.definite) (λ init. some n.span n.name init n.definite) n.init
 
 -- a declarator with its pattern
-named : (definite : Bool) (p q init : Phrase) → p ≡ q → cond definite Never (p > init) ≡ cond definite Never (q > init)
-named definite p q init e = ap (λ z. cond definite Never (z > init)) e
+named : (p q init : Phrase) → p ≡ q → (p > init) ≡ (q > init)
+named p q init e = ap (λ z. z > init) e
+
+-- what is declared, as a part that a link holds
+abbrev declared_in : {X : Type 0} → (X → Role → Phrase) → Bool → AnyNode-F X → Phrase
+declared_in f definite (nodes.ExprPart (expr_parts.Pat n)) = declared_pat f definite n
+declared_in f definite n = Never
+
+definite_mapped : {X Y : Type 0} (g : X → Y) (f : Y → Role → Phrase) (id : Ident) (type_ann : Option (TsTypeAnnBox X)) → declared_in f true (map-AnyNode X Y g (nodes.ExprPart (expr_parts.Pat (pats.Ident (record { id = id; type_ann = type_ann }))))) ≡ definite_pat (λ x. f (g x)) (pats.Ident (record { id = id; type_ann = type_ann }))
+unfolding declared_pat definite_pat annotation
+definite_mapped g f id None = refl
+definite_mapped g f id (Some t) = refl
+
+declared_mapped : {X Y : Type 0} (g : X → Y) (f : Y → Role → Phrase) (definite : Bool) (n : Pat X) → declared_in f definite (map-AnyNode X Y g (nodes.ExprPart (expr_parts.Pat n))) ≡ declared_pat (λ x. f (g x)) definite n
+unfolding node_phrase expr_part declared_pat definite_pat
+declared_mapped g f false n = pat_mapped g f n
+declared_mapped g f true (pats.Ident n) = definite_mapped g f n.id n.type_ann
+declared_mapped g f true n = refl
 
 declarators_mapped : {X Y : Type 0} (g : VarDeclarator X → VarDeclarator Y) (f : Y → Role → Phrase) (d : X → Role → Phrase) → ((n : VarDeclarator X) → var_declarator f (g n) ≡ var_declarator d n) → (xs : List (VarDeclarator X)) → some_listed (codes ",") (map (var_declarator f) (map g xs)) ≡ some_listed (codes ",") (map (var_declarator d) xs)
 declarators_mapped g f d same xs = ap (some_listed (codes ",")) (list_mapped g (var_declarator f) (var_declarator d) same xs)
 
 pub var_decl_mapped : {X Y : Type 0} (g : X → Y) (f : Y → Role → Phrase) (n : VarDecl X) → node_phrase f (map-AnyNode X Y g (nodes.StmtPart (stmt_parts.VarDecl n))) VariableDeclaration ≡ var_decl (λ x. f (g x)) n
 unfolding node_phrase expr_part stmt_part var_decl var_declarator initializer
-var_decl_mapped {X} {Y} g f n = ap (λ p. declare_word n.declare > var_kind n.kind > p) (declarators_mapped {X = X} {Y = Y} _ f (λ x. f (g x)) (by_init {X = X} _ (λ span name definite. named definite _ _ _ (pat_mapped g f name)) (λ span name init definite. named definite _ _ _ (pat_mapped g f name))) n.decls.items)
+var_decl_mapped {X} {Y} g f n = ap (λ p. declare_word n.declare > var_kind n.kind > p) (declarators_mapped {X = X} {Y = Y} _ f (λ x. f (g x)) (by_init {X = X} _ (λ span name definite. named _ _ _ (declared_mapped g f definite name)) (λ span name init definite. named _ _ _ (declared_mapped g f definite name))) n.decls.items)
 
 pub decl_mapped : {X Y : Type 0} (g : X → Y) (f : Y → Role → Phrase) (n : Decl X) → node_phrase f (map-AnyNode X Y g (nodes.StmtPart (stmt_parts.Decl n))) Declaration ≡ decl (λ x. f (g x)) n
 unfolding node_phrase expr_part stmt_part decl fn_decl using_decl var_declarator initializer class_decl
-decl_mapped {X} {Y} g f (decls.Using n) = ap (λ p. after_await n.is_await (word (codes "using") > same_line > p) > ending) (declarators_mapped {X = X} {Y = Y} _ f (λ x. f (g x)) (by_init {X = X} _ (λ span name definite. named definite _ _ _ (pat_mapped g f name)) (λ span name init definite. named definite _ _ _ (pat_mapped g f name))) n.decls.items)
+decl_mapped {X} {Y} g f (decls.Using n) = ap (λ p. after_await n.is_await (word (codes "using") > same_line > p) > ending) (declarators_mapped {X = X} {Y = Y} _ f (λ x. f (g x)) (by_init {X = X} _ (λ span name definite. named _ _ _ (declared_mapped g f definite name)) (λ span name init definite. named _ _ _ (declared_mapped g f definite name))) n.decls.items)
 decl_mapped g f (decls.Fn n) = refl
 decl_mapped g f (decls.Var n) = ap (λ p. p > ending) (var_decl_mapped g f n)
 decl_mapped g f (decls.TsInterface n) = interface_mapped g f n
@@ -136,14 +156,14 @@ for_in_by : {X Y : Type 0} (g : X → Y) (f : Y → Role → Phrase) (n : ForInS
 unfolding node_phrase expr_part stmt for_in_stmt for_head using_decl var_declarator initializer
 for_in_by g f n (heads.VarDecl h) = refl
 for_in_by {X} {Y} g f n (heads.UsingDecl h) = ap (λ p. word (codes "for") > mark (codes "(") > using_head h.value.is_await p > word (codes "in") > value_at (λ x. f (g x)) n.right > mark (codes ")") > stmt_at (λ x. f (g x)) n.body)
-    (declarators_mapped {X = X} {Y = Y} _ f (λ x. f (g x)) (by_init {X = X} _ (λ span name definite. named definite _ _ _ (pat_mapped g f name)) (λ span name init definite. named definite _ _ _ (pat_mapped g f name))) h.value.decls.items)
+    (declarators_mapped {X = X} {Y = Y} _ f (λ x. f (g x)) (by_init {X = X} _ (λ span name definite. named _ _ _ (declared_mapped g f definite name)) (λ span name init definite. named _ _ _ (declared_mapped g f definite name))) h.value.decls.items)
 for_in_by g f n (heads.Pat h) = refl
 
 for_of_by : {X Y : Type 0} (g : X → Y) (f : Y → Role → Phrase) (n : ForOfStmt X) (left : ForHead X) → node_phrase f (map-AnyNode X Y g (nodes.Stmt (stmts.ForOf (record n { left = left })))) Statement ≡ for_of_stmt (λ x. f (g x)) (record n { left = left })
 unfolding node_phrase expr_part stmt for_of_stmt for_head using_decl var_declarator initializer
 for_of_by g f n (heads.VarDecl h) = refl
 for_of_by {X} {Y} g f n (heads.UsingDecl h) = ap (λ p. word (codes "for") > word_if n.is_await (word (codes "await")) > mark (codes "(") > using_head h.value.is_await p > word (codes "of") > value_at (λ x. f (g x)) n.right > mark (codes ")") > stmt_at (λ x. f (g x)) n.body)
-    (declarators_mapped {X = X} {Y = Y} _ f (λ x. f (g x)) (by_init {X = X} _ (λ span name definite. named definite _ _ _ (pat_mapped g f name)) (λ span name init definite. named definite _ _ _ (pat_mapped g f name))) h.value.decls.items)
+    (declarators_mapped {X = X} {Y = Y} _ f (λ x. f (g x)) (by_init {X = X} _ (λ span name definite. named _ _ _ (declared_mapped g f definite name)) (λ span name init definite. named _ _ _ (declared_mapped g f definite name))) h.value.decls.items)
 for_of_by g f n (heads.Pat h) = refl
 
 pub stmt_mapped : {X Y : Type 0} (g : X → Y) (f : Y → Role → Phrase) (n : Stmt X) → node_phrase f (map-AnyNode X Y g (nodes.Stmt n)) Statement ≡ stmt (λ x. f (g x)) n

@@ -40,7 +40,8 @@ use Rattle.swc_ecma_codegen_grammar.specs.AnnotationPhrases.{annotation}
 use Rattle.swc_ecma_codegen_grammar.specs.NamePhrases.{binding_ident}
 use Rattle.swc_ecma_codegen_grammar.specs.AssignPhrases.{assign_target, simple_assign_target}
 use Rattle.swc_ecma_codegen_grammar.specs.PartPhrases.{expr_part, stmt_part}
-use Rattle.swc_ecma_codegen_grammar.specs.ClassPhrases.{class_expr}
+use Rattle.swc_ecma_codegen_grammar.specs.ClassPhrases.{class_expr, class_word}
+use Rattle.swc_ecma_codegen_grammar.specs.TsExprPhrases.{ts_as_expr, ts_const_assertion, ts_satisfies_expr, ts_non_null_expr, ts_type_assertion, ts_instantiation}
 use Rattle.swc_ecma_codegen_grammar.specs.FunctionPhrases.{function_head, method_head, fn_expr}
 use Rattle.swc_ecma_codegen_grammar.specs.TreePhrases.{is_sequence, field_value, node_phrase, phrase}
 use Rattle.swc_ecma_codegen_grammar.proofs.Mapped.{list_mapped}
@@ -82,7 +83,7 @@ member_mapped g f span obj (member_props.Computed n) = refl
 member_mapped g f span obj (member_props.PrivateName n) = refl
 
 expr_mapped : {X Y : Type 0} (g : X → Y) (f : Y → Role → Phrase) (n : Expr X) → node_phrase f (map-AnyNode X Y g (nodes.Expr n)) Expression ≡ expr (λ x. f (g x)) n
-unfolding node_phrase expr this_expr unary_expr update_expr bin_expr assign_expr meta_prop_expr await_expr cond_expr seq_expr paren_expr fn_expr class_expr expr_in expr_part
+unfolding node_phrase expr this_expr unary_expr update_expr bin_expr assign_expr meta_prop_expr await_expr cond_expr seq_expr paren_expr fn_expr class_expr ts_as_expr ts_const_assertion ts_satisfies_expr ts_non_null_expr ts_type_assertion ts_instantiation expr_in expr_part
 expr_mapped {X} g f (exprs.Seq n) = ap (some_listed (codes ",")) (list_mapped {A = ExprBox X} _ (expr_at f) (expr_at (λ x. f (g x))) (λ x. refl) n.exprs.items)
 expr_mapped g f (exprs.Member n) = member_mapped g f n.span n.obj n.prop
 expr_mapped g f (exprs.SuperProp n) = super_mapped g f n n.prop
@@ -137,7 +138,7 @@ chain_target_mapped g f n (chain_bases.Member b) = refl
 chain_target_mapped g f n (chain_bases.Call b) = refl
 
 simple_target_mapped : {X Y : Type 0} (g : X → Y) (f : Y → Role → Phrase) (n : SimpleAssignTarget X) → node_phrase f (map-AnyNode X Y g (as_target n)) AssignmentTarget ≡ simple_assign_target (λ x. f (g x)) n
-unfolding node_phrase expr_part assign_target simple_assign_target paren_expr
+unfolding node_phrase expr_part assign_target simple_assign_target paren_expr ts_as_expr ts_satisfies_expr ts_non_null_expr ts_type_assertion ts_instantiation
 simple_target_mapped g f (simple_targets.Ident n) = binding_target_mapped g f n.id n.type_ann
 simple_target_mapped g f (simple_targets.Member n) = member_mapped g f n.span n.obj n.prop
 simple_target_mapped g f (simple_targets.SuperProp n) = super_target_mapped g f n n.prop
@@ -162,7 +163,7 @@ part_mapped g f (expr_parts.Tpl n) TaggedTemplate = tagged_mapped g f n
 part_mapped g f n role = refl
 
 stmt_part_mapped : {X Y : Type 0} (g : X → Y) (f : Y → Role → Phrase) (n : StmtPart X) (role : Role) → node_phrase f (map-AnyNode X Y g (nodes.StmtPart n)) role ≡ stmt_part (λ x. f (g x)) n role
-unfolding node_phrase stmt_part function_head method_head
+unfolding node_phrase stmt_part function_head method_head class_word
 stmt_part_mapped g f (stmt_parts.Function n) Function = function_part_mapped g f n
 stmt_part_mapped g f (stmt_parts.Function n) MethodDecorators = method_decorators_mapped g f n
 stmt_part_mapped g f (stmt_parts.Function n) MethodTail = method_tail_mapped g f n

@@ -1,5 +1,4 @@
--- Arrays, calls and `new`: one production a node. `f` says what is read of what a link holds, in its role. What TypeScript adds,
--- arguments that are types, isn't printed yet.
+-- Arrays, calls and `new`: one production a node. `f` says what is read of what a link holds, in its role.
 use Rattle.std.specs.Prelude.{Bool, true, false, List, [], map, codes, Option, Some, None}
 use Rattle.std.specs.declared.vec.Vec.{Vec}
 use Rattle.swc_ecma_codegen_common.specs.declared.positions.Span.{Span}

@@ -1,6 +1,5 @@
--- Declarations: one production a node. `f` says what is read of what a link holds, in its role. `!` after a name, which TypeScript adds,
--- isn't printed yet.
-use Rattle.std.specs.Prelude.{Bool, true, false, if◌then◌else◌, map, codes}
+-- Declarations: one production a node. `f` says what is read of what a link holds, in its role.
+use Rattle.std.specs.Prelude.{Bool, true, false, map, codes}
 use Rattle.swc_ecma_codegen_tree.specs.Links.{VarDeclBox}
 use Rattle.swc_ecma_codegen_tree.specs.declared.decls.Decl.{Decl}
 use Rattle.swc_ecma_codegen_tree.specs.declared.decls.Decl.TheVariants as decls
@@ -10,7 +9,10 @@ use Rattle.swc_ecma_codegen_tree.specs.declared.decls.VarDecl.{VarDecl}
 use Rattle.swc_ecma_codegen_tree.specs.declared.decls.VarDeclKind.{VarDeclKind}
 use Rattle.swc_ecma_codegen_tree.specs.declared.decls.VarDeclKind.TheVariants.{Var, Let, Const}
 use Rattle.swc_ecma_codegen_tree.specs.declared.decls.VarDeclarator.{VarDeclarator}
-use Rattle.swc_ecma_codegen_grammar.specs.Phrases.{Phrase, Never, ◌>◌, word, same_line, ending, some_listed}
+use Rattle.swc_ecma_codegen_tree.specs.declared.pats.Pat.{Pat}
+use Rattle.swc_ecma_codegen_tree.specs.declared.pats.Pat.TheVariants as pats
+use Rattle.swc_ecma_codegen_grammar.specs.Phrases.{Phrase, Never, ◌>◌, word, mark, same_line, ending, some_listed}
+use Rattle.swc_ecma_codegen_grammar.specs.AnnotationPhrases.{annotation}
 use Rattle.swc_ecma_codegen_grammar.specs.NamePhrases.{ident}
 use Rattle.swc_ecma_codegen_grammar.specs.PatPhrases.{pat, initializer}
 use Rattle.swc_ecma_codegen_grammar.specs.ClassPhrases.{class_decl}
@@ -27,9 +29,19 @@ var_decl_at f n = f n.node.value VariableDeclaration
 unfoldable pub fn_decl : {X : Type 0} → (X → Role → Phrase) → FnDecl X → Phrase
 fn_decl f n = declare_word n.declare > f n.function.node.value FunctionHead > ident n.ident > function_at f n.function
 
--- section 14.3: `a`, `a = b`
+-- `a!: A`: a name alone is said to have a value
+unfoldable pub definite_pat : {X : Type 0} → (X → Role → Phrase) → Pat X → Phrase
+definite_pat f (pats.Ident n) = ident n.id > mark (codes "!") > annotation f n.type_ann
+definite_pat f n = Never
+
+-- what is declared, which may be said to have a value
+unfoldable pub declared_pat : {X : Type 0} → (X → Role → Phrase) → Bool → Pat X → Phrase
+declared_pat f true n = definite_pat f n
+declared_pat f false n = pat f n
+
+-- section 14.3: `a`, `a = b`, in TypeScript `a!: A` too
 unfoldable pub var_declarator : {X : Type 0} → (X → Role → Phrase) → VarDeclarator X → Phrase
-var_declarator f n = if n.definite then Never else (pat f n.name > initializer f n.init)
+var_declarator f n = declared_pat f n.definite n.name > initializer f n.init
 
 unfoldable pub var_kind : VarDeclKind → Phrase
 var_kind Var = word (codes "var")

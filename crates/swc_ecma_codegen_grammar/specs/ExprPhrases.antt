@@ -45,6 +45,7 @@ use Rattle.swc_ecma_codegen_grammar.specs.CallPhrases.{callee_at, array_lit, cal
 use Rattle.swc_ecma_codegen_grammar.specs.KeyPhrases.{computed_prop_name}
 use Rattle.swc_ecma_codegen_grammar.specs.LitPhrases.{lit}
 use Rattle.swc_ecma_codegen_grammar.specs.NamePhrases.{ident, ident_name, private_name}
+use Rattle.swc_ecma_codegen_grammar.specs.TsExprPhrases.{ts_as_expr, ts_const_assertion, ts_satisfies_expr, ts_non_null_expr, ts_type_assertion, ts_instantiation}
 
 -- an expression that a link holds
 abbrev pub expr_at : {X : Type 0} → (X → Role → Phrase) → ExprBox X → Phrase
@@ -193,7 +194,13 @@ expr f (exprs.PrivateName n) = private_name n
 expr f (exprs.OptChain n) = opt_chain_expr f n
 expr f (exprs.JSXElement n) = f n.node.value Element
 expr f (exprs.JSXFragment n) = f n.node.value Element
--- what isn't printed yet; and a name and a part of JSX are no expressions
+expr f (exprs.TsAs n) = ts_as_expr f n
+expr f (exprs.TsConstAssertion n) = ts_const_assertion f n
+expr f (exprs.TsSatisfies n) = ts_satisfies_expr f n
+expr f (exprs.TsNonNull n) = ts_non_null_expr f n
+expr f (exprs.TsTypeAssertion n) = ts_type_assertion f n
+expr f (exprs.TsInstantiation n) = ts_instantiation f n
+-- a name and a part of JSX are no expressions
 expr f n = Never
 
 -- the same where `new A()` keeps its parentheses, as it does as a callee, or doesn't

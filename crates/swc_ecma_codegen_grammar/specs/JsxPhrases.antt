@@ -1,5 +1,4 @@
--- JSX: one production a node. `f` says what is read of what a link holds, in its role. What TypeScript adds, arguments of a tag that are
--- types, isn't printed yet. JSX specification, sections "JSX Elements", "JSX Attributes", "JSX Children" and "JSX Strings".
+-- JSX: one production a node. `f` says what is read of what a link holds, in its role. JSX specification, sections "JSX Elements", "JSX Attributes", "JSX Children" and "JSX Strings".
 use Rattle.std.specs.Prelude.{ℕ, Bool, true, false, not, ◌&&◌, ◌==◌, if◌then◌else◌, List, [], ◌∷◌, ◌++◌, map, codes, string_bytes, Option, Some, None}
 use Rattle.std.specs.List.{list_any}
 use Rattle.std.specs.Str.{chars}

@@ -56,6 +56,7 @@ pub mod Trivia
 pub mod Turns
 pub mod TypePhrases
 pub mod TsDeclPhrases
+pub mod TsExprPhrases
 pub mod NamespacePhrases
 pub mod ValidNames
 pub mod WrittenUnits

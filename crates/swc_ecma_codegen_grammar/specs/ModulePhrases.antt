@@ -36,7 +36,7 @@ use Rattle.swc_ecma_codegen_grammar.specs.NamePhrases.{ident}
 use Rattle.swc_ecma_codegen_grammar.specs.PatPhrases.{value_at}
 use Rattle.swc_ecma_codegen_grammar.specs.TsDeclPhrases.{declare_word, ts_interface_decl, ts_import_equals_decl, ts_export_assignment, ts_namespace_export_decl}
 use Rattle.swc_ecma_codegen_grammar.specs.declared.roles.Role.{Role}
-use Rattle.swc_ecma_codegen_grammar.specs.declared.roles.Role.TheVariants.{ObjectLiteral, ClassHead, ClassTail, ExportedHead, ExportedTail}
+use Rattle.swc_ecma_codegen_grammar.specs.declared.roles.Role.TheVariants.{ObjectLiteral, ClassHead, ClassWord, ClassTail, ExportedHead, ExportedTail}
 
 -- `a` or `'b c'`
 unfoldable pub module_export_name : ModuleExportName → Phrase
@@ -147,7 +147,7 @@ exported_head f n = Nothing
 
 -- and what stands after it
 unfoldable pub exported_tail : {X : Type 0} → (X → Role → Phrase) → Decl X → Phrase
-exported_tail f (decls.Class n) = declare_word n.declare > word (codes "class") > ident n.ident > f n.class.node.value ClassTail
+exported_tail f (decls.Class n) = declare_word n.declare > f n.class.node.value ClassWord > ident n.ident > f n.class.node.value ClassTail
 exported_tail f n = decl f n
 
 -- `export let a = b;`

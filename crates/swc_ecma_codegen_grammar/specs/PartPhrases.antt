@@ -8,7 +8,7 @@ use Rattle.swc_ecma_codegen_tree.specs.declared.parts.TsPart.{TsPart}
 use Rattle.swc_ecma_codegen_tree.specs.declared.parts.TsPart.TheVariants as ts_parts
 use Rattle.swc_ecma_codegen_grammar.specs.Phrases.{Phrase, Never}
 use Rattle.swc_ecma_codegen_grammar.specs.declared.roles.Role.{Role}
-use Rattle.swc_ecma_codegen_grammar.specs.declared.roles.Role.TheVariants.{AssignmentTarget, Pattern, PlainParameter, PropertyName, ObjectLiteral, Function, FunctionHead, MethodHead, Block, Declaration, VariableDeclaration, ChainCall, Template, TaggedTemplate, ClassHead, ClassTail, Member, MethodDecorators, MethodTail, AccessorTail, ModuleDeclaration, ExportedHead, ExportedTail, AnyType, Annotation, TypeArguments, TypeParameters, EntityName, SignatureParameter, TypeMember, NamespaceBody, DottedBody}
+use Rattle.swc_ecma_codegen_grammar.specs.declared.roles.Role.TheVariants.{AssignmentTarget, Pattern, PlainParameter, PropertyName, ObjectLiteral, Function, FunctionHead, MethodHead, Block, Declaration, VariableDeclaration, ChainCall, Template, TaggedTemplate, ClassHead, ClassWord, ClassTail, Member, MethodDecorators, MethodTail, AccessorTail, ModuleDeclaration, ExportedHead, ExportedTail, AnyType, Annotation, TypeArguments, TypeParameters, EntityName, SignatureParameter, TypeMember, NamespaceBody, DottedBody}
 use Rattle.swc_ecma_codegen_grammar.specs.AssignPhrases.{assign_target}
 use Rattle.swc_ecma_codegen_grammar.specs.CallPhrases.{chain_call}
 use Rattle.swc_ecma_codegen_grammar.specs.KeyPhrases.{prop_name}
@@ -19,7 +19,7 @@ use Rattle.swc_ecma_codegen_grammar.specs.PatPhrases.{pat, plain_parameter}
 use Rattle.swc_ecma_codegen_grammar.specs.PropPhrases.{object_lit}
 use Rattle.swc_ecma_codegen_grammar.specs.FunctionPhrases.{function, function_head, method_head}
 use Rattle.swc_ecma_codegen_grammar.specs.TemplatePhrases.{tpl}
-use Rattle.swc_ecma_codegen_grammar.specs.ClassPhrases.{class_head, class_tail, class_member, method_decorators, method_tail, accessor_tail}
+use Rattle.swc_ecma_codegen_grammar.specs.ClassPhrases.{class_head, class_word, class_tail, class_member, method_decorators, method_tail, accessor_tail}
 use Rattle.swc_ecma_codegen_grammar.specs.DeclPhrases.{decl, var_decl}
 use Rattle.swc_ecma_codegen_grammar.specs.StmtPhrases.{block_stmt}
 use Rattle.swc_ecma_codegen_grammar.specs.TypePhrases.{ts_type, ts_type_ann, ts_type_param_decl, ts_type_param_instantiation, ts_fn_param, ts_entity_name}
@@ -43,6 +43,7 @@ stmt_part f (stmt_parts.Function n) MethodDecorators = method_decorators f n.val
 stmt_part f (stmt_parts.Function n) MethodTail = method_tail f n.value
 stmt_part f (stmt_parts.Function n) AccessorTail = accessor_tail f n.value
 stmt_part f (stmt_parts.Class n) ClassHead = class_head f n.value
+stmt_part f (stmt_parts.Class n) ClassWord = class_word n.value
 stmt_part f (stmt_parts.Class n) ClassTail = class_tail f n.value
 stmt_part f (stmt_parts.ClassMember n) Member = class_member f n.value
 stmt_part f (stmt_parts.BlockStmt n) Block = block_stmt f n

@@ -1,6 +1,5 @@
--- Objects and their properties: one production a node. `f` says what is read of what a link holds, in its role. What TypeScript
--- adds, the type of a getter and `this` before the parameter of a setter, isn't printed yet.
-use Rattle.std.specs.Prelude.{is_some, if◌then◌else◌, map, codes, Option, Some, None}
+-- Objects and their properties: one production a node. `f` says what is read of what a link holds, in its role.
+use Rattle.std.specs.Prelude.{map, codes, Option, Some, None}
 use Rattle.swc_ecma_codegen_tree.specs.declared.exprs.ObjectLit.{ObjectLit}
 use Rattle.swc_ecma_codegen_tree.specs.declared.exprs.SpreadElement.{SpreadElement}
 use Rattle.swc_ecma_codegen_tree.specs.declared.exprs.PropOrSpread.{PropOrSpread}
@@ -12,8 +11,9 @@ use Rattle.swc_ecma_codegen_tree.specs.declared.exprs.AssignProp.{AssignProp}
 use Rattle.swc_ecma_codegen_tree.specs.declared.exprs.GetterProp.{GetterProp}
 use Rattle.swc_ecma_codegen_tree.specs.declared.exprs.SetterProp.{SetterProp}
 use Rattle.swc_ecma_codegen_tree.specs.declared.exprs.MethodProp.{MethodProp}
-use Rattle.swc_ecma_codegen_tree.specs.Links.{BlockStmtBox}
-use Rattle.swc_ecma_codegen_grammar.specs.Phrases.{Phrase, Never, Nothing, ◌>◌, word, mark, listed}
+use Rattle.swc_ecma_codegen_tree.specs.Links.{BlockStmtBox, PatBox}
+use Rattle.swc_ecma_codegen_grammar.specs.Phrases.{Phrase, Nothing, ◌>◌, word, mark, listed}
+use Rattle.swc_ecma_codegen_grammar.specs.AnnotationPhrases.{annotation}
 use Rattle.swc_ecma_codegen_grammar.specs.NamePhrases.{ident}
 use Rattle.swc_ecma_codegen_grammar.specs.KeyPhrases.{prop_name}
 use Rattle.swc_ecma_codegen_grammar.specs.PatPhrases.{value_at, pat_at, prop_name_at}
@@ -34,17 +34,19 @@ unfoldable pub optional_body : {X : Type 0} → (X → Role → Phrase) → Opti
 optional_body f None = Nothing
 optional_body f (Some n) = block_at f n
 
--- section 15.4: `get a() { b; }`
+-- section 15.4: `get a(): T { b; }`
 unfoldable pub getter_prop : {X : Type 0} → (X → Role → Phrase) → GetterProp X → Phrase
-getter_prop f n =
-    if is_some n.type_ann then Never
-    else (word (codes "get") > prop_name_at f n.key > mark (codes "(") > mark (codes ")") > optional_body f n.body)
+getter_prop f n = word (codes "get") > prop_name_at f n.key > mark (codes "(") > mark (codes ")") > annotation f n.type_ann > optional_body f n.body
 
--- `set a(b) { c; }`
+-- `this: T,` of `set a(this: T, b) {}`
+unfoldable pub this_param : {X : Type 0} → (X → Role → Phrase) → Option (PatBox X) → Phrase
+this_param f None = Nothing
+this_param f (Some n) = pat_at f n > mark (codes ",")
+
+-- `set a(this: T, b) { c; }`
 unfoldable pub setter_prop : {X : Type 0} → (X → Role → Phrase) → SetterProp X → Phrase
 setter_prop f n =
-    if is_some n.this_param then Never
-    else (word (codes "set") > prop_name_at f n.key > mark (codes "(") > pat_at f n.param > mark (codes ")") > optional_body f n.body)
+    word (codes "set") > prop_name_at f n.key > mark (codes "(") > this_param f n.this_param > pat_at f n.param > mark (codes ")") > optional_body f n.body
 
 -- `async *a() { b; }`
 unfoldable pub method_prop : {X : Type 0} → (X → Role → Phrase) → MethodProp X → Phrase

@@ -1,5 +1,4 @@
--- Templates: one production a node. `f` says what is read of what a link holds, in its role. What TypeScript adds, types after a tag,
--- isn't printed yet. ECMA-262, sections 12.9.6, 13.2.8 and 13.3.11.
+-- Templates: one production a node. `f` says what is read of what a link holds, in its role. ECMA-262, sections 12.9.6, 13.2.8 and 13.3.11.
 use Rattle.std.specs.Prelude.{ℕ, ◌+◌, ◌==◌, Bool, true, false, if◌then◌else◌, List, [], ◌∷◌, ◌++◌, codes, length}
 use Rattle.swc_ecma_codegen_tree.specs.declared.exprs.Tpl.{Tpl}
 use Rattle.swc_ecma_codegen_tree.specs.declared.exprs.TplElement.{TplElement}

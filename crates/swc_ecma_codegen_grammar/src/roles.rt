@@ -41,7 +41,9 @@ pub enum Role {
     TaggedTemplate,
     /// `@a` of `@a class B {}`.
     ClassHead,
-    /// `extends B { c; }` of `class A extends B { c; }`, all but the word before it and the name.
+    /// `abstract class` of `@a abstract class B {}`.
+    ClassWord,
+    /// `extends B { c; }` of `class A extends B { c; }`, all but the words before it and the name.
     ClassTail,
     /// `a;` of `class B { a; }`.
     Member,

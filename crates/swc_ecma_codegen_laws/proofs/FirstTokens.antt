@@ -23,6 +23,7 @@ use Rattle.swc_ecma_codegen_tree.specs.declared.exprs.MetaPropKind.TheVariants a
 use Rattle.swc_ecma_codegen_tree.specs.declared.exprs.TplElement.{TplElement}
 use Rattle.swc_ecma_codegen_tree.specs.declared.exprs.PropName.{PropName}
 use Rattle.swc_ecma_codegen_tree.specs.declared.exprs.PropName.TheVariants as prop_names
+use Rattle.swc_ecma_codegen_tree.specs.declared.classes.Class as classes
 use Rattle.swc_ecma_codegen_tree.specs.declared.decls.Function as functions
 use Rattle.swc_ecma_codegen_tree.specs.declared.parts.ExprPart.{ExprPart}
 use Rattle.swc_ecma_codegen_tree.specs.declared.parts.ExprPart.TheVariants as expr_parts
@@ -63,7 +64,7 @@ use Rattle.swc_ecma_codegen_grammar.specs.Phrases.{Phrase, Never, Nothing, One, 
 use Rattle.swc_ecma_codegen_grammar.specs.Phrases as phrases
 use Rattle.swc_ecma_codegen_grammar.specs.Settings.{Settings}
 use Rattle.swc_ecma_codegen_grammar.specs.declared.roles.Role.{Role}
-use Rattle.swc_ecma_codegen_grammar.specs.declared.roles.Role.TheVariants.{Expression, Statement, MemberExpression, ChainMember, AssignmentTarget, Pattern, PlainParameter, PropertyName, ObjectLiteral, Function, FunctionHead, MethodHead, Block, Declaration, VariableDeclaration, Callee as IsCallee, ChainCall, Template, TaggedTemplate, ClassHead, ClassTail, Member, MethodDecorators, MethodTail, AccessorTail, FieldValue, ModuleDeclaration, ExportedHead, ExportedTail, Element, Child, TagObject, AnyType, Annotation, TypeArguments, TypeParameters, EntityName, SignatureParameter, TypeMember, NamespaceBody, DottedBody}
+use Rattle.swc_ecma_codegen_grammar.specs.declared.roles.Role.TheVariants.{Expression, Statement, MemberExpression, ChainMember, AssignmentTarget, Pattern, PlainParameter, PropertyName, ObjectLiteral, Function, FunctionHead, MethodHead, Block, Declaration, VariableDeclaration, Callee as IsCallee, ChainCall, Template, TaggedTemplate, ClassHead, ClassWord, ClassTail, Member, MethodDecorators, MethodTail, AccessorTail, FieldValue, ModuleDeclaration, ExportedHead, ExportedTail, Element, Child, TagObject, AnyType, Annotation, TypeArguments, TypeParameters, EntityName, SignatureParameter, TypeMember, NamespaceBody, DottedBody}
 use Rattle.swc_ecma_codegen_grammar.specs.NamePhrases as names
 use Rattle.swc_ecma_codegen_grammar.specs.ExprPhrases as lists
 use Rattle.swc_ecma_codegen_grammar.specs.LitPhrases as lit_lists
@@ -72,6 +73,7 @@ use Rattle.swc_ecma_codegen_grammar.specs.CallPhrases as call_lists
 use Rattle.swc_ecma_codegen_grammar.specs.PartPhrases as part_lists
 use Rattle.swc_ecma_codegen_grammar.specs.DeclPhrases as decl_lists
 use Rattle.swc_ecma_codegen_grammar.specs.TsDeclPhrases as ts_decl_lists
+use Rattle.swc_ecma_codegen_grammar.specs.TsExprPhrases as ts_expr_lists
 use Rattle.swc_ecma_codegen_tree.specs.declared.ts_decls.TsModuleName.{TsModuleName}
 use Rattle.swc_ecma_codegen_tree.specs.declared.ts_decls.TsModuleName.TheVariants as module_names
 use Rattle.swc_ecma_codegen_grammar.specs.FunctionPhrases as function_lists
@@ -237,10 +239,11 @@ leads NamespaceBody = false
 leads DottedBody = false
 leads role = true
 
--- `function` is a word, and so is `let`; a block and an object begin with a brace, a template with a back quote, and an
+-- `function` is a word, and so are `class` and `let`; a block and an object begin with a brace, a template with a back quote, and an
 -- element with `<`
 begins_as : Role → Bool → Bool
 begins_as FunctionHead b = true
+begins_as ClassWord b = true
 begins_as VariableDeclaration b = true
 begins_as Block b = false
 begins_as ObjectLiteral b = false
@@ -365,7 +368,7 @@ tpl_begins each true tagged es (q ∷ qs) = begins_then _ _ _ (begins_where _ _ 
 tpl_begins each false tagged es qs = begins_never false
 
 expr_begins : {X : Type 0} (reads : X → Role → Phrase) (starts : X → Bool) → Begin reads starts → (n : Expr X) → Begins (lists.expr reads n) (expr_starts starts n)
-unfolding expr_starts update_starts arrow_starts template_lists.tagged_tpl class_lists.class_expr function_lists.fn_expr function_lists.arrow_expr lists.expr lists.member_expr lists.this_expr lists.unary_expr lists.update_expr lists.update_op lists.bin_expr lists.assign_expr lists.super_prop_expr lists.yield_expr lists.meta_prop_expr lists.await_expr lists.opt_chain_expr lists.cond_expr lists.seq_expr lists.paren_expr names.ident names.private_name call_lists.array_lit call_lists.call_expr prop_lists.object_lit leads begins_as
+unfolding expr_starts update_starts arrow_starts template_lists.tagged_tpl class_lists.class_expr function_lists.fn_expr function_lists.arrow_expr lists.expr lists.member_expr lists.this_expr lists.unary_expr lists.update_expr lists.update_op lists.bin_expr lists.assign_expr lists.super_prop_expr lists.yield_expr lists.meta_prop_expr lists.await_expr lists.opt_chain_expr lists.cond_expr lists.seq_expr lists.paren_expr names.ident names.private_name call_lists.array_lit call_lists.call_expr prop_lists.object_lit ts_expr_lists.ts_as_expr ts_expr_lists.ts_const_assertion ts_expr_lists.ts_satisfies_expr ts_expr_lists.ts_non_null_expr ts_expr_lists.ts_type_assertion ts_expr_lists.ts_instantiation leads begins_as
 expr_begins reads starts law (exprs.This n) = begins_true _
 expr_begins reads starts law (exprs.Object n) = begins_then _ _ _ (begins_mark _ false)
 expr_begins reads starts law (exprs.Fn n) = begins_then _ _ _ (law n.function.node.value FunctionHead refl)
@@ -385,7 +388,7 @@ expr_begins reads starts law (exprs.Lit n) = begins_lit n
 expr_begins reads starts law (exprs.Tpl n) = law n.node.value Template refl
 expr_begins reads starts law (exprs.TaggedTpl n) = begins_then _ _ _ (law n.tag.node.value IsCallee refl)
 expr_begins reads starts law (exprs.Arrow n) = arrow_begins reads starts law n.value.type_params (function_lists.is_typed_arrow n.value) n.value.is_async n.value.is_generator n.value.params.items _
-expr_begins reads starts law (exprs.Class n) = begins_before _ _ (begins_then _ _ _ (begins_true _))
+expr_begins reads starts law (exprs.Class n) = begins_before _ _ (begins_then _ _ _ (law n.class.node.value ClassWord refl))
 expr_begins reads starts law (exprs.Yield n) = begins_then _ _ _ (begins_true _)
 expr_begins reads starts law (exprs.MetaProp n) = meta_prop_begins n.kind
 expr_begins reads starts law (exprs.Await n) = begins_then _ _ _ (begins_true _)
@@ -394,6 +397,12 @@ expr_begins reads starts law (exprs.PrivateName n) = begins_private _ _
 expr_begins reads starts law (exprs.OptChain n) = chain_begins reads starts law n.optional n.base
 expr_begins reads starts law (exprs.JSXElement n) = law n.node.value Element refl
 expr_begins reads starts law (exprs.JSXFragment n) = law n.node.value Element refl
+expr_begins reads starts law (exprs.TsAs n) = begins_then _ _ _ (law n.expr.node.value Expression refl)
+expr_begins reads starts law (exprs.TsConstAssertion n) = begins_then _ _ _ (law n.expr.node.value Expression refl)
+expr_begins reads starts law (exprs.TsSatisfies n) = begins_then _ _ _ (law n.expr.node.value Expression refl)
+expr_begins reads starts law (exprs.TsNonNull n) = begins_then _ _ _ (law n.expr.node.value Expression refl)
+expr_begins reads starts law (exprs.TsTypeAssertion n) = begins_then _ _ _ (begins_mark _ false)
+expr_begins reads starts law (exprs.TsInstantiation n) = begins_then _ _ _ (law n.expr.node.value Expression refl)
 expr_begins reads starts law n = begins_never _
 
 callee_expr_begins : {X : Type 0} (reads : X → Role → Phrase) (starts : X → Bool) → Begin reads starts → (n : Expr X) → Begins (lists.expr_in reads true n) (expr_starts starts n)
@@ -417,6 +426,10 @@ declare_first : (declared : Bool) (f : Phrase) → Begins f true → Begins (ts_
 unfolding ts_decl_lists.declare_word
 declare_first declared f h = word_first declared (codes "declare") f h
 
+class_word_begins : {X : Type 0} (n : classes.Class X) → Begins (class_lists.class_word n) true
+unfolding class_lists.class_word
+class_word_begins n = word_first n.is_abstract (codes "abstract") _ (begins_true _)
+
 module_head_begins : (global : Bool) (n : TsModuleName) → Begins (ts_decl_lists.module_head global n) true
 unfolding ts_decl_lists.module_head ts_decl_lists.ts_module_name
 module_head_begins true n = begins_true _
@@ -434,7 +447,7 @@ using_begins false rest = begins_then _ _ _ (begins_true _)
 
 decl_begins : {X : Type 0} (reads : X → Role → Phrase) (starts : X → Bool) → Begin reads starts → (n : Decl X) → Begins (decl_lists.decl reads n) true
 unfolding leads begins_as decl_lists.decl class_lists.class_decl decl_lists.fn_decl decl_lists.using_decl ts_decl_lists.ts_interface_decl ts_decl_lists.ts_type_alias_decl ts_decl_lists.ts_enum_decl ts_decl_lists.ts_module_decl
-decl_begins reads starts law (decls.Class n) = declare_first n.declare _ (begins_before _ _ (begins_then _ _ _ (begins_true _)))
+decl_begins reads starts law (decls.Class n) = declare_first n.declare _ (begins_before _ _ (begins_then _ _ _ (law n.class.node.value ClassWord refl)))
 decl_begins reads starts law (decls.Fn n) = declare_first n.declare _ (begins_then _ _ _ (law n.function.node.value FunctionHead refl))
 decl_begins reads starts law (decls.Var n) = begins_then _ _ _ (var_decl_begins reads n)
 decl_begins reads starts law (decls.Using n) = begins_then _ _ _ (using_begins n.is_await _)
@@ -457,13 +470,18 @@ unfolding names.ident names.binding_ident
 binding_begins reads n = begins_then _ _ _ (begins_then _ _ _ (begins_name _ _))
 
 simple_target_begins : {X : Type 0} (reads : X → Role → Phrase) (starts : X → Bool) → Begin reads starts → (n : SimpleAssignTarget X) → Begins (target_lists.simple_assign_target reads n) (simple_target_starts starts n)
-unfolding simple_target_starts target_lists.simple_assign_target lists.member_expr lists.super_prop_expr lists.paren_expr lists.opt_chain_expr leads begins_as
+unfolding simple_target_starts target_lists.simple_assign_target lists.member_expr lists.super_prop_expr lists.paren_expr lists.opt_chain_expr ts_expr_lists.ts_as_expr ts_expr_lists.ts_satisfies_expr ts_expr_lists.ts_non_null_expr ts_expr_lists.ts_type_assertion ts_expr_lists.ts_instantiation leads begins_as
 simple_target_begins reads starts law (simple_targets.Ident n) = binding_begins reads n
 simple_target_begins reads starts law (simple_targets.Member n) = begins_then _ _ _ (law n.obj.node.value IsCallee refl)
 simple_target_begins reads starts law (simple_targets.SuperProp n) = begins_then _ _ _ (begins_true _)
 simple_target_begins reads starts law (simple_targets.Paren n) = begins_then _ _ _ (begins_mark _ false)
 simple_target_begins reads starts law (simple_targets.OptChain n) = chain_begins reads starts law n.optional n.base
-simple_target_begins reads starts law n = begins_never _
+simple_target_begins reads starts law (simple_targets.TsAs n) = begins_then _ _ _ (law n.expr.node.value Expression refl)
+simple_target_begins reads starts law (simple_targets.TsSatisfies n) = begins_then _ _ _ (law n.expr.node.value Expression refl)
+simple_target_begins reads starts law (simple_targets.TsNonNull n) = begins_then _ _ _ (law n.expr.node.value Expression refl)
+simple_target_begins reads starts law (simple_targets.TsTypeAssertion n) = begins_then _ _ _ (begins_mark _ true)
+simple_target_begins reads starts law (simple_targets.TsInstantiation n) = begins_then _ _ _ (law n.expr.node.value Expression refl)
+simple_target_begins reads starts law (simple_targets.Invalid n) = begins_never _
 
 target_pat_begins : {X : Type 0} (reads : X → Role → Phrase) (n : AssignTargetPat X) → Begins (pat_lists.assign_target_pat reads n) false
 unfolding pat_lists.assign_target_pat pat_lists.array_pat pat_lists.object_pat
@@ -527,6 +545,7 @@ stmt_part_begins reads starts law (stmt_parts.Decl n) ExportedHead h = absurd (t
 stmt_part_begins reads starts law (stmt_parts.Decl n) ExportedTail h = absurd (true≢false (sym h))
 stmt_part_begins reads starts law (stmt_parts.ModuleDecl n) ModuleDeclaration h = absurd (true≢false (sym h))
 stmt_part_begins reads starts law (stmt_parts.Class n) ClassHead h = absurd (true≢false (sym h))
+stmt_part_begins reads starts law (stmt_parts.Class n) ClassWord h = class_word_begins n.value
 stmt_part_begins reads starts law (stmt_parts.Class n) ClassTail h = absurd (true≢false (sym h))
 stmt_part_begins reads starts law (stmt_parts.ClassMember n) Member h = absurd (true≢false (sym h))
 stmt_part_begins reads starts law (stmt_parts.BlockStmt n) Block h = begins_then _ _ _ (begins_mark _ false)

@@ -24,5 +24,6 @@ pub mod Turned
 pub mod TypesPossible
 pub mod MembersPossible
 pub mod TsDeclsPossible
+pub mod TsExprsPossible
 pub mod UnitsLeft
 pub mod WholeSizes

@@ -28,7 +28,7 @@ unfolding is_possible word_if
 past_word true t rest = refl
 past_word false t rest = refl
 
-past_question : (optional : Bool) (rest : Bool) → (is_possible (question optional) && rest) ≡ rest
+pub past_question : (optional : Bool) (rest : Bool) → (is_possible (question optional) && rest) ≡ rest
 unfolding is_possible question
 past_question true rest = refl
 past_question false rest = refl

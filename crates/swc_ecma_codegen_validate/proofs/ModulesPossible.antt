@@ -21,7 +21,7 @@ use Rattle.swc_ecma_codegen_grammar.specs.LitPhrases.{str_lit}
 use Rattle.swc_ecma_codegen_grammar.specs.ModulePhrases.{type_word, attributes, module_export_name, imported_as, import_named, import_specifier, import_bindings, after_default, import_clause, import_phase, import_decl, exported_as, export_named_specifier, export_specifier, export_namespace, export_braces, export_clause, from_clause, export_named, export_all, exported_tail}
 use Rattle.swc_ecma_codegen_grammar.specs.NamePhrases.{ident}
 use Rattle.swc_ecma_codegen_grammar.specs.declared.roles.Role.{Role}
-use Rattle.swc_ecma_codegen_grammar.specs.declared.roles.Role.TheVariants.{ClassTail}
+use Rattle.swc_ecma_codegen_grammar.specs.declared.roles.Role.TheVariants.{ClassWord, ClassTail}
 use Rattle.swc_ecma_codegen_validate.specs.ModuleForms.{bindings_fit, others_fit, imports_fit, exports_fit}
 use Rattle.swc_ecma_codegen_validate.specs.Possible.{all_possible}
 use Rattle.swc_ecma_codegen_validate.proofs.Lists.{listed_possible, and_true}
@@ -120,6 +120,6 @@ pub export_all_possible : {X : Type 0} (f : X → Role → Phrase) (n : ExportAl
 unfolding is_possible export_all
 export_all_possible f n = past_type n.type_only _ ∙ ap (λ b. is_possible (str_lit n.src) && b) (and_true (is_possible (attributes f n.with_)))
 
-pub exported_class_possible : {X : Type 0} (f : X → Role → Phrase) (n : ClassDecl X) → is_possible (exported_tail f (decls.Class n)) ≡ (is_possible (ident n.ident) && is_possible (f n.class.node.value ClassTail))
+pub exported_class_possible : {X : Type 0} (f : X → Role → Phrase) (n : ClassDecl X) → is_possible (exported_tail f (decls.Class n)) ≡ (is_possible (f n.class.node.value ClassWord) && (is_possible (ident n.ident) && is_possible (f n.class.node.value ClassTail)))
 unfolding is_possible exported_tail
 exported_class_possible f n = past_declare n.declare _

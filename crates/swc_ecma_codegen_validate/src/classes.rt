@@ -2,7 +2,8 @@
 
 ghost use Rattle.std.specs.Prelude.{◌≡◌};
 ghost use Rattle.swc_ecma_codegen_grammar.specs.Phrases.{is_possible};
-ghost use Rattle.swc_ecma_codegen_grammar.specs.ClassPhrases.{class_head, heritage, is_typed_class, class_tail, class_decl, class_expr, constructor_param, class_constructor, method_decorators, method_tail, accessor_tail, tail_role, kind_head, class_method, private_method, prop_value, is_typed_prop, class_prop, is_typed_private, private_prop, accessor_key, is_typed_accessor, auto_accessor, static_block, class_member};
+ghost use Rattle.swc_ecma_codegen_grammar.specs.AnnotationPhrases.{field_annotation};
+ghost use Rattle.swc_ecma_codegen_grammar.specs.ClassPhrases.{class_head, heritage, class_tail, class_decl, class_expr, ts_param_prop_param, ts_param_prop, constructor_param, class_constructor, method_decorators, method_tail, accessor_tail, tail_role, kind_head, class_method, private_method, prop_value, class_prop, private_prop, accessor_key, auto_accessor, static_block, class_member};
 
 use crate::forms::{Fits, WellFormed, all_well_formed};
 use crate::functions::{is_body, is_optional_name};
@@ -11,7 +12,8 @@ use swc_ecma_codegen_grammar::roles::Role;
 use swc_ecma_codegen_tree::{
     AutoAccessor, Class, ClassDecl, ClassExpr, ClassMember, ClassMethod, ClassProp, Constructor,
     ExprBox, Function, FunctionBox, Key, MethodKind, ParamOrTsParamProp, PrivateMethod,
-    PrivateProp, StaticBlock, TsTypeParamInstantiationBox,
+    PrivateProp, StaticBlock, TsParamProp, TsParamPropParam, TsTypeAnnBox,
+    TsTypeParamInstantiationBox,
 };
 
 /// Whether what stands before the word of a class is well-formed.
@@ -36,22 +38,14 @@ fn is_heritage<N: Fits>(
     }
 }
 
-/// Whether TypeScript adds to a class what isn't printed yet.
-#[tactic(auto, using(crate::proofs::ClassesPossible::some_listed))]
-fn is_typed_class<N>(node: &Class<N>) -> bool
-    ensures { result ≡ is_typed_class node.now }
-{
-    node.is_abstract || !node.implements.is_empty()
-}
-
 impl<N: Fits> WellFormed for Class<N> {
     ghost phrase = { class_tail N.reads };
 
     #[tactic(auto, using(crate::proofs::ClassesPossible::class_tail_possible))]
     fn is_well_formed(&self) -> bool {
-        !is_typed_class(self)
-            && self.type_params.is_well_formed()
+        self.type_params.is_well_formed()
             && is_heritage(&self.super_class, &self.super_type_params)
+            && all_well_formed(&self.implements)
             && all_well_formed(&self.body)
     }
 }
@@ -62,6 +56,7 @@ impl<N: Fits> WellFormed for ClassDecl<N> {
     #[tactic(auto, using(crate::proofs::ClassesPossible::class_decl_possible))]
     fn is_well_formed(&self) -> bool {
         self.class.held().fits(Role::ClassHead)
+            && self.class.held().fits(Role::ClassWord)
             && self.ident.is_well_formed()
             && self.class.held().fits(Role::ClassTail)
     }
@@ -73,6 +68,7 @@ impl<N: Fits> WellFormed for ClassExpr<N> {
     #[tactic(auto, unfolding(swc_ecma_codegen_grammar::specs::ClassPhrases::class_expr, swc_ecma_codegen_grammar::specs::Phrases::is_possible))]
     fn is_well_formed(&self) -> bool {
         self.class.held().fits(Role::ClassHead)
+            && self.class.held().fits(Role::ClassWord)
             && is_optional_name(&self.ident)
             && self.class.held().fits(Role::ClassTail)
     }
@@ -85,8 +81,29 @@ impl<N: Fits> WellFormed for ParamOrTsParamProp<N> {
     fn is_well_formed(&self) -> bool {
         match self {
             ParamOrTsParamProp::Param(node) => node.is_well_formed(),
-            ParamOrTsParamProp::TsParamProp(_) => false,
+            ParamOrTsParamProp::TsParamProp(node) => node.is_well_formed(),
         }
+    }
+}
+
+impl<N: Fits> WellFormed for TsParamPropParam<N> {
+    ghost phrase = { ts_param_prop_param N.reads };
+
+    #[tactic(auto, unfolding(swc_ecma_codegen_grammar::specs::ClassPhrases::ts_param_prop_param))]
+    fn is_well_formed(&self) -> bool {
+        match self {
+            TsParamPropParam::Ident(node) => node.is_well_formed(),
+            TsParamPropParam::Assign(node) => node.is_well_formed(),
+        }
+    }
+}
+
+impl<N: Fits> WellFormed for TsParamProp<N> {
+    ghost phrase = { ts_param_prop N.reads };
+
+    #[tactic(auto, using(crate::proofs::ClassesPossible::param_prop_possible))]
+    fn is_well_formed(&self) -> bool {
+        all_well_formed(&self.decorators) && self.param.is_well_formed()
     }
 }
 
@@ -95,7 +112,7 @@ impl<N: Fits> WellFormed for Constructor<N> {
 
     #[tactic(auto, using(crate::proofs::ClassesPossible::constructor_possible))]
     fn is_well_formed(&self) -> bool {
-        self.accessibility.is_none() && all_well_formed(&self.params) && is_body(&self.body)
+        all_well_formed(&self.params) && is_body(&self.body)
     }
 }
 
@@ -153,11 +170,7 @@ impl<N: Fits> WellFormed for ClassMethod<N> {
 
     #[tactic(auto, using(crate::proofs::ClassesPossible::method_possible))]
     fn is_well_formed(&self) -> bool {
-        self.accessibility.is_none()
-            && !self.is_abstract
-            && !self.is_optional
-            && !self.is_override
-            && self.function.held().fits(Role::MethodDecorators)
+        self.function.held().fits(Role::MethodDecorators)
             && is_kind_head(self.kind, &self.function)
             && self.key.is_well_formed()
             && is_tail(self.kind, &self.function)
@@ -169,11 +182,7 @@ impl<N: Fits> WellFormed for PrivateMethod<N> {
 
     #[tactic(auto, using(crate::proofs::ClassesPossible::private_method_possible))]
     fn is_well_formed(&self) -> bool {
-        self.accessibility.is_none()
-            && !self.is_abstract
-            && !self.is_optional
-            && !self.is_override
-            && self.function.held().fits(Role::MethodDecorators)
+        self.function.held().fits(Role::MethodDecorators)
             && is_kind_head(self.kind, &self.function)
             && self.key.is_well_formed()
             && is_tail(self.kind, &self.function)
@@ -191,18 +200,15 @@ fn is_prop_value<N: Fits>(value: &Option<ExprBox<N>>) -> bool
     }
 }
 
-/// Whether TypeScript adds to a field.
-fn is_typed_prop<N>(node: &ClassProp<N>) -> bool
-    ensures { result ≡ is_typed_prop node.now }
+/// Whether the type of a field is well-formed, or there is none: one that is said to have a value has a type.
+#[tactic(auto, using(crate::proofs::Annotations::field_none_possible, crate::proofs::Annotations::field_some_possible))]
+fn is_field_annotation<N: Fits>(definite: bool, ty: &Option<TsTypeAnnBox<N>>) -> bool
+    ensures { result ≡ is_possible (field_annotation N.reads definite ty.now) }
 {
-    node.type_ann.is_some()
-        || node.accessibility.is_some()
-        || node.is_abstract
-        || node.is_optional
-        || node.is_override
-        || node.readonly
-        || node.declare
-        || node.definite
+    match ty {
+        Some(node) => node.is_well_formed(),
+        None => !definite,
+    }
 }
 
 impl<N: Fits> WellFormed for ClassProp<N> {
@@ -210,23 +216,11 @@ impl<N: Fits> WellFormed for ClassProp<N> {
 
     #[tactic(auto, using(crate::proofs::ClassesPossible::prop_possible))]
     fn is_well_formed(&self) -> bool {
-        !is_typed_prop(self)
-            && all_well_formed(&self.decorators)
+        all_well_formed(&self.decorators)
             && self.key.is_well_formed()
+            && is_field_annotation(self.definite, &self.type_ann)
             && is_prop_value(&self.value)
     }
-}
-
-/// Whether TypeScript adds to a private field.
-fn is_typed_private<N>(node: &PrivateProp<N>) -> bool
-    ensures { result ≡ is_typed_private node.now }
-{
-    node.type_ann.is_some()
-        || node.accessibility.is_some()
-        || node.is_optional
-        || node.is_override
-        || node.readonly
-        || node.definite
 }
 
 impl<N: Fits> WellFormed for PrivateProp<N> {
@@ -234,9 +228,9 @@ impl<N: Fits> WellFormed for PrivateProp<N> {
 
     #[tactic(auto, using(crate::proofs::ClassesPossible::private_prop_possible))]
     fn is_well_formed(&self) -> bool {
-        !is_typed_private(self)
-            && all_well_formed(&self.decorators)
+        all_well_formed(&self.decorators)
             && self.key.is_well_formed()
+            && is_field_annotation(self.definite, &self.type_ann)
             && is_prop_value(&self.value)
     }
 }
@@ -253,25 +247,14 @@ impl<N: Fits> WellFormed for Key<N> {
     }
 }
 
-/// Whether TypeScript adds to a field with `accessor`.
-fn is_typed_accessor<N>(node: &AutoAccessor<N>) -> bool
-    ensures { result ≡ is_typed_accessor node.now }
-{
-    node.type_ann.is_some()
-        || node.accessibility.is_some()
-        || node.is_abstract
-        || node.is_override
-        || node.definite
-}
-
 impl<N: Fits> WellFormed for AutoAccessor<N> {
     ghost phrase = { auto_accessor N.reads };
 
     #[tactic(auto, using(crate::proofs::ClassesPossible::accessor_possible))]
     fn is_well_formed(&self) -> bool {
-        !is_typed_accessor(self)
-            && all_well_formed(&self.decorators)
+        all_well_formed(&self.decorators)
             && self.key.is_well_formed()
+            && is_field_annotation(self.definite, &self.type_ann)
             && is_initializer(&self.value)
     }
 }
@@ -288,7 +271,7 @@ impl<N: Fits> WellFormed for StaticBlock<N> {
 impl<N: Fits> WellFormed for ClassMember<N> {
     ghost phrase = { class_member N.reads };
 
-    #[tactic(auto, unfolding(swc_ecma_codegen_grammar::specs::ClassPhrases::class_member, swc_ecma_codegen_grammar::specs::Phrases::is_possible))]
+    #[tactic(auto, using(crate::proofs::ClassesPossible::index_member_possible), unfolding(swc_ecma_codegen_grammar::specs::ClassPhrases::class_member, swc_ecma_codegen_grammar::specs::Phrases::is_possible))]
     fn is_well_formed(&self) -> bool {
         match self {
             ClassMember::Constructor(node) => node.is_well_formed(),
@@ -299,7 +282,7 @@ impl<N: Fits> WellFormed for ClassMember<N> {
             ClassMember::Empty(_) => true,
             ClassMember::StaticBlock(node) => node.is_well_formed(),
             ClassMember::AutoAccessor(node) => node.is_well_formed(),
-            ClassMember::TsIndexSignature(_) => false,
+            ClassMember::TsIndexSignature(node) => node.is_well_formed(),
         }
     }
 }

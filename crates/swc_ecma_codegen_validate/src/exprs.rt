@@ -222,15 +222,15 @@ impl<N: Fits> WellFormed for Expr<N> {
             Expr::OptChain(node) => node.is_well_formed(),
             Expr::JSXElement(node) => node.is_well_formed(),
             Expr::JSXFragment(node) => node.is_well_formed(),
+            Expr::TsTypeAssertion(node) => node.is_well_formed(),
+            Expr::TsConstAssertion(node) => node.is_well_formed(),
+            Expr::TsNonNull(node) => node.is_well_formed(),
+            Expr::TsAs(node) => node.is_well_formed(),
+            Expr::TsInstantiation(node) => node.is_well_formed(),
+            Expr::TsSatisfies(node) => node.is_well_formed(),
             Expr::JSXMember(_)
             | Expr::JSXNamespacedName(_)
             | Expr::JSXEmpty(_)
-            | Expr::TsTypeAssertion(_)
-            | Expr::TsConstAssertion(_)
-            | Expr::TsNonNull(_)
-            | Expr::TsAs(_)
-            | Expr::TsInstantiation(_)
-            | Expr::TsSatisfies(_)
             | Expr::Invalid(_) => false,
         }
     }

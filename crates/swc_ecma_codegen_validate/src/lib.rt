@@ -27,6 +27,7 @@ mod targets;
 mod templates;
 mod texts;
 mod ts_decls;
+mod ts_exprs;
 mod ts_members;
 mod types;
 

@@ -208,7 +208,9 @@ pub(crate) fn is_exported_tail<N: Fits>(node: &Decl<N>) -> bool
 {
     match node {
         Decl::Class(class) => {
-            class.ident.is_well_formed() && class.class.held().fits(Role::ClassTail)
+            class.class.held().fits(Role::ClassWord)
+                && class.ident.is_well_formed()
+                && class.class.held().fits(Role::ClassTail)
         }
         _ => node.is_well_formed(),
     }

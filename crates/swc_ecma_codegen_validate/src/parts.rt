@@ -33,7 +33,7 @@ pub(crate) fn expr_part_fits<N: Fits>(part: &ExprPart<N>, role: Role) -> bool
 }
 
 /// Whether a part of a statement may stand in this role, and is well-formed.
-#[tactic(auto, using(crate::proofs::FunctionsPossible::function_head_possible, crate::proofs::FunctionsPossible::method_head_possible), unfolding(swc_ecma_codegen_grammar::specs::PartPhrases::stmt_part, swc_ecma_codegen_grammar::specs::Phrases::is_possible))]
+#[tactic(auto, using(crate::proofs::FunctionsPossible::function_head_possible, crate::proofs::FunctionsPossible::method_head_possible, crate::proofs::ClassesPossible::class_word_possible), unfolding(swc_ecma_codegen_grammar::specs::PartPhrases::stmt_part, swc_ecma_codegen_grammar::specs::Phrases::is_possible))]
 pub(crate) fn stmt_part_fits<N: Fits>(part: &StmtPart<N>, role: Role) -> bool
     ensures { result ≡ is_possible (stmt_part N.reads part.now role) }
 {
@@ -44,6 +44,7 @@ pub(crate) fn stmt_part_fits<N: Fits>(part: &StmtPart<N>, role: Role) -> bool
         (StmtPart::Function(node), Role::MethodTail) => is_method_tail(node),
         (StmtPart::Function(node), Role::AccessorTail) => is_accessor_tail(node),
         (StmtPart::Class(node), Role::ClassHead) => is_class_head(node),
+        (StmtPart::Class(_), Role::ClassWord) => true,
         (StmtPart::Class(node), Role::ClassTail) => node.is_well_formed(),
         (StmtPart::ClassMember(node), Role::Member) => node.is_well_formed(),
         (StmtPart::BlockStmt(node), Role::Block) => node.is_well_formed(),

@@ -61,7 +61,7 @@ impl<N: Fits> WellFormed for GetterProp<N> {
 
     #[tactic(auto, using(crate::proofs::PropsPossible::getter_possible))]
     fn is_well_formed(&self) -> bool {
-        self.type_ann.is_none() && self.key.is_well_formed() && is_optional_body(&self.body)
+        self.key.is_well_formed() && self.type_ann.is_well_formed() && is_optional_body(&self.body)
     }
 }
 
@@ -70,8 +70,8 @@ impl<N: Fits> WellFormed for SetterProp<N> {
 
     #[tactic(auto, using(crate::proofs::PropsPossible::setter_possible))]
     fn is_well_formed(&self) -> bool {
-        self.this_param.is_none()
-            && self.key.is_well_formed()
+        self.key.is_well_formed()
+            && self.this_param.is_well_formed()
             && self.param.is_well_formed()
             && is_optional_body(&self.body)
     }

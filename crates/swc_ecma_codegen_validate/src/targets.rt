@@ -17,7 +17,12 @@ impl<N: Fits> WellFormed for SimpleAssignTarget<N> {
             SimpleAssignTarget::SuperProp(node) => node.is_well_formed(),
             SimpleAssignTarget::Paren(node) => node.is_well_formed(),
             SimpleAssignTarget::OptChain(node) => node.is_well_formed(),
-            _ => false,
+            SimpleAssignTarget::TsAs(node) => node.is_well_formed(),
+            SimpleAssignTarget::TsSatisfies(node) => node.is_well_formed(),
+            SimpleAssignTarget::TsNonNull(node) => node.is_well_formed(),
+            SimpleAssignTarget::TsTypeAssertion(node) => node.is_well_formed(),
+            SimpleAssignTarget::TsInstantiation(node) => node.is_well_formed(),
+            SimpleAssignTarget::Invalid(_) => false,
         }
     }
 }
