@@ -1,7 +1,7 @@
 //! Where a blank is due between two tokens.
 
 use swc_ecma_codegen_literals::{Punctuator, TokenClass, number_class};
-use swc_ecma_codegen_tokens::{Last, StartClass, blank_due};
+use swc_ecma_codegen_tokens::{PreviousToken, StartClass, blank_due};
 
 /// The punctuators of the rows.
 const MARKS: &[Punctuator] = &[
@@ -75,7 +75,7 @@ fn is_due(last: Option<TokenClass>, next: &str, due: &str) -> bool {
 
 /// The class of a punctuator right after a token of a class.
 fn class_after(last: &str, mark: &str) -> Option<TokenClass> {
-    Some(Last::after(class_of(last)?, mark_of(mark)?).class())
+    Some(PreviousToken::after(class_of(last)?, mark_of(mark)?).class())
 }
 
 /// Whether a punctuator begins as its spelling.

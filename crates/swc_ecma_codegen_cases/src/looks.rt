@@ -6,7 +6,7 @@ use crate::writers::told_by;
 use std::alloc::Global;
 use swc_ecma_codegen::{Config, Emitter, Node, to_code, to_code_default, to_code_with_comments};
 use swc_ecma_codegen_common::{BytePos, Error, LineCol};
-use swc_ecma_codegen_emit::nodes::Held;
+use swc_ecma_codegen_emit::nodes::LinkTarget;
 use swc_ecma_codegen_grammar::comments::CommentMaps;
 use swc_ecma_codegen_json::{ReadError, Tree, program_from_slice};
 use swc_ecma_codegen_spans::Spanned;
@@ -16,7 +16,7 @@ use swc_ecma_codegen_validate::{Fits, WellFormed};
 
 /// What links hold. All but [`look`] and what looks at depths is made for any of it, which costs a check less than to make it
 /// for `AnyNode`.
-pub trait Printed: Holds<Expr<Self>> + Held + Fits + Spanned + Drop {}
+pub trait Printed: Holds<Expr<Self>> + LinkTarget + Fits + Spanned + Drop {}
 
 impl Printed for AnyNode {}
 

@@ -20,8 +20,10 @@ impl Decimal {
     /// digits are 1 to 800 ASCII digits without a leading or trailing zero, or `0` with the exponent 0, and the
     /// exponent is from -1100 to 1100: so each number has one form. Takes no memory.
     pub fn new(negative: bool, digits: String, exponent: i32) -> Option<Decimal>
-        ensures exactly { MatchOption result (is_decimal (string_bytes digits) exponent ≡ false) (λ _. is_decimal (string_bytes digits) exponent ≡ true) }
-        ensures parts { IfSome result (λ number. (number.negative ≡ negative) × (number.digits ≡ digits) × (number.exponent ≡ exponent)) }
+        ensures exactly { MatchOption result (is_decimal (string_bytes digits) exponent ≡ false)
+            (λ _. is_decimal (string_bytes digits) exponent ≡ true) }
+        ensures parts { IfSome result (λ number. (number.negative ≡ negative)
+            × (number.digits ≡ digits) × (number.exponent ≡ exponent)) }
     {
         if is_normal(digits.as_bytes(), exponent) {
             Some(Decimal {

@@ -98,7 +98,8 @@ impl Refusal {
     pub fn with_fault(self, fault: Option<io::Error>) -> Error
         ensures reason { reason_of result ≡ self }
         // An error is made again of its two parts.
-        ensures whole { (error : AnError) → reason_of error ≡ self → fault_of error ≡ fault → result ≡ error }
+        ensures whole { (error : AnError) → reason_of error ≡ self → fault_of error ≡ fault →
+            result ≡ error }
     {
         match self {
             Refusal::Writer => match fault {

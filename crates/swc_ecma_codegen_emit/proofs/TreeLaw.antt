@@ -20,7 +20,7 @@ use Rattle.swc_ecma_codegen_emit.specs.AnyExpr.{is_field_value}
 use Rattle.swc_ecma_codegen_emit.specs.Calls.{keeps_arguments}
 use Rattle.swc_ecma_codegen_emit.specs.Places.{placed, outside, inside}
 use Rattle.swc_ecma_codegen_emit.specs.Tree.{node_items, any_items}
-use Rattle.swc_ecma_codegen_emit.proofs.Knots.{items_of}
+use Rattle.swc_ecma_codegen_emit.proofs.MappedNodes.{items_of}
 use Rattle.swc_ecma_codegen_emit.proofs.Linked.{Linked, PrintsIn}
 use Rattle.swc_ecma_codegen_emit.proofs.ExprParts.{member_prints, chain_member_prints}
 use Rattle.swc_ecma_codegen_emit.proofs.AnyExprParts.{plain_expr_prints, callee_expr_prints, unwrapped_prints, field_value_prints}

@@ -39,6 +39,10 @@ Leads p a b = LeadsAfter a.refusal p a b
 abbrev pub Makes : Part → Standing → Standing → Type 0
 Makes part a b = (rest : Plan) (c : Standing) → Leads rest b c → Leads (part rest) a c
 
+-- A call that leads an emitter from here to there makes a part.
+abbrev pub Performs : {W S C : Type 0} → Part → (S → Lines) → (C → Maps) → (W → Sheet) → Emitter W S C → Emitter W S C → Type 0
+Performs part lines maps sheet a b = Makes part (standing_of lines maps sheet a) (standing_of lines maps sheet b)
+
 -- What goes on after a rest, now, goes on after the whole, from the start: a loop has come so far.
 abbrev pub Continues : Part → Standing → Part → Standing → Type 0
 Continues remaining now whole start = (rest : Plan) (c : Standing) → Leads (remaining rest) now c → Leads (whole rest) start c
@@ -48,6 +52,10 @@ Continues remaining now whole start = (rest : Plan) (c : Standing) → Leads (re
 -- the indentation is what it was
 abbrev pub Stays : Standing → Standing → Type 0
 Stays a b = b.refusal ≡ None → (a.refusal ≡ None) × (b.state.sheet.indentation ≡ a.state.sheet.indentation)
+
+-- a call leaves it what it was
+abbrev pub KeepsLevel : {W S C : Type 0} → (S → Lines) → (C → Maps) → (W → Sheet) → Emitter W S C → Emitter W S C → Type 0
+KeepsLevel lines maps sheet a b = Stays (standing_of lines maps sheet a) (standing_of lines maps sheet b)
 
 -- it is so many levels deeper
 abbrev pub Deepens : ℕ → Standing → Standing → Type 0

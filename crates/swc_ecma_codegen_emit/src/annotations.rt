@@ -2,10 +2,10 @@
 
 ghost use Rattle.swc_ecma_codegen_emit.specs.Annotations.{annotation, spaced_annotation, bang, field_annotation, type_args, type_params};
 ghost use Rattle.swc_ecma_codegen_tokens.specs.Words.{question};
-ghost use Rattle.swc_ecma_codegen_emit.specs.Standing.{Makes, Stays, standing_of};
+ghost use Rattle.swc_ecma_codegen_emit.specs.Standing.{Performs, KeepsLevel};
 
 use crate::emitter::Emitter;
-use crate::nodes::{EmitAt, Held, Place};
+use crate::nodes::{EmitAt, LinkTarget, Place};
 use swc_ecma_codegen_grammar::comments::Comments;
 use swc_ecma_codegen_grammar::mapper::SourceMapper;
 use swc_ecma_codegen_literals::Punctuator;
@@ -15,15 +15,16 @@ use swc_ecma_codegen_tree::{TsTypeAnnBox, TsTypeParamDeclBox, TsTypeParamInstant
 impl<W: WriteJs, S: SourceMapper, C: Comments> Emitter<'_, W, S, C> {
     /// Writes `: A` of `a: A`, where there is a type.
     #[tactic(auto, unfolding(crate::specs::Annotations::annotation))]
-    pub(crate) fn annotation<N: Held>(&mut self, ty: &Option<TsTypeAnnBox<N>>)
-        ensures items { Makes (annotation N.items ty.now) (standing_of S.lines C.maps W.sheet self.old) (standing_of S.lines C.maps W.sheet self.new) }
-        ensures level { Stays (standing_of S.lines C.maps W.sheet self.old) (standing_of S.lines C.maps W.sheet self.new) }
+    pub(crate) fn annotation<N: LinkTarget>(&mut self, ty: &Option<TsTypeAnnBox<N>>)
+        ensures items { Performs (annotation N.items ty.now)
+            S.lines C.maps W.sheet self.old self.new }
+        ensures level { KeepsLevel S.lines C.maps W.sheet self.old self.new }
     {
         match ty {
             Some(node) => {
                 self.punct(Punctuator::Colon);
                 self.formatting_space();
-                node.held().emit_at(self, Place::Plain)
+                node.target().emit_at(self, Place::Plain)
             }
             None => {}
         }
@@ -32,8 +33,8 @@ impl<W: WriteJs, S: SourceMapper, C: Comments> Emitter<'_, W, S, C> {
     /// Writes `?`, where it is so.
     #[tactic(auto, unfolding(swc_ecma_codegen_tokens::specs::Words::question))]
     pub(crate) fn question(&mut self, optional: bool)
-        ensures items { Makes (question optional) (standing_of S.lines C.maps W.sheet self.old) (standing_of S.lines C.maps W.sheet self.new) }
-        ensures level { Stays (standing_of S.lines C.maps W.sheet self.old) (standing_of S.lines C.maps W.sheet self.new) }
+        ensures items { Performs (question optional) S.lines C.maps W.sheet self.old self.new }
+        ensures level { KeepsLevel S.lines C.maps W.sheet self.old self.new }
     {
         if optional {
             self.punct(Punctuator::Question);
@@ -42,15 +43,16 @@ impl<W: WriteJs, S: SourceMapper, C: Comments> Emitter<'_, W, S, C> {
 
     /// Writes `: A` of `[a]: A`, where there is a type, with a blank always.
     #[tactic(auto, unfolding(crate::specs::Annotations::spaced_annotation))]
-    pub(crate) fn spaced_annotation<N: Held>(&mut self, ty: &Option<TsTypeAnnBox<N>>)
-        ensures items { Makes (spaced_annotation N.items ty.now) (standing_of S.lines C.maps W.sheet self.old) (standing_of S.lines C.maps W.sheet self.new) }
-        ensures level { Stays (standing_of S.lines C.maps W.sheet self.old) (standing_of S.lines C.maps W.sheet self.new) }
+    pub(crate) fn spaced_annotation<N: LinkTarget>(&mut self, ty: &Option<TsTypeAnnBox<N>>)
+        ensures items { Performs (spaced_annotation N.items ty.now)
+            S.lines C.maps W.sheet self.old self.new }
+        ensures level { KeepsLevel S.lines C.maps W.sheet self.old self.new }
     {
         match ty {
             Some(node) => {
                 self.punct(Punctuator::Colon);
                 self.space();
-                node.held().emit_at(self, Place::Plain)
+                node.target().emit_at(self, Place::Plain)
             }
             None => {}
         }
@@ -59,8 +61,8 @@ impl<W: WriteJs, S: SourceMapper, C: Comments> Emitter<'_, W, S, C> {
     /// Writes `!`, where it is so.
     #[tactic(auto, unfolding(crate::specs::Annotations::bang))]
     fn bang(&mut self, definite: bool)
-        ensures items { Makes (bang definite) (standing_of S.lines C.maps W.sheet self.old) (standing_of S.lines C.maps W.sheet self.new) }
-        ensures level { Stays (standing_of S.lines C.maps W.sheet self.old) (standing_of S.lines C.maps W.sheet self.new) }
+        ensures items { Performs (bang definite) S.lines C.maps W.sheet self.old self.new }
+        ensures level { KeepsLevel S.lines C.maps W.sheet self.old self.new }
     {
         if definite {
             self.punct(Punctuator::Bang);
@@ -69,16 +71,21 @@ impl<W: WriteJs, S: SourceMapper, C: Comments> Emitter<'_, W, S, C> {
 
     /// Writes `!: A` of a field, where there is a type, with a blank always.
     #[tactic(auto, unfolding(crate::specs::Annotations::field_annotation))]
-    pub(crate) fn field_annotation<N: Held>(&mut self, definite: bool, ty: &Option<TsTypeAnnBox<N>>)
-        ensures items { Makes (field_annotation N.items definite ty.now) (standing_of S.lines C.maps W.sheet self.old) (standing_of S.lines C.maps W.sheet self.new) }
-        ensures level { Stays (standing_of S.lines C.maps W.sheet self.old) (standing_of S.lines C.maps W.sheet self.new) }
+    pub(crate) fn field_annotation<N: LinkTarget>(
+        &mut self,
+        definite: bool,
+        ty: &Option<TsTypeAnnBox<N>>,
+    )
+        ensures items { Performs (field_annotation N.items definite ty.now)
+            S.lines C.maps W.sheet self.old self.new }
+        ensures level { KeepsLevel S.lines C.maps W.sheet self.old self.new }
     {
         match ty {
             Some(node) => {
                 self.bang(definite);
                 self.punct(Punctuator::Colon);
                 self.space();
-                node.held().emit_at(self, Place::Plain)
+                node.target().emit_at(self, Place::Plain)
             }
             None => {}
         }
@@ -86,28 +93,30 @@ impl<W: WriteJs, S: SourceMapper, C: Comments> Emitter<'_, W, S, C> {
 
     /// Writes type arguments, where there are some.
     #[tactic(auto, unfolding(crate::specs::Annotations::type_args))]
-    pub(crate) fn type_args<N: Held>(
+    pub(crate) fn type_args<N: LinkTarget>(
         &mut self,
         place: Place,
         args: &Option<TsTypeParamInstantiationBox<N>>,
     )
-        ensures items { Makes (type_args N.items place args.now) (standing_of S.lines C.maps W.sheet self.old) (standing_of S.lines C.maps W.sheet self.new) }
-        ensures level { Stays (standing_of S.lines C.maps W.sheet self.old) (standing_of S.lines C.maps W.sheet self.new) }
+        ensures items { Performs (type_args N.items place args.now)
+            S.lines C.maps W.sheet self.old self.new }
+        ensures level { KeepsLevel S.lines C.maps W.sheet self.old self.new }
     {
         match args {
-            Some(node) => node.held().emit_at(self, place),
+            Some(node) => node.target().emit_at(self, place),
             None => {}
         }
     }
 
     /// Writes type parameters, where there are some.
     #[tactic(auto, unfolding(crate::specs::Annotations::type_params))]
-    pub(crate) fn type_params<N: Held>(&mut self, params: &Option<TsTypeParamDeclBox<N>>)
-        ensures items { Makes (type_params N.items params.now) (standing_of S.lines C.maps W.sheet self.old) (standing_of S.lines C.maps W.sheet self.new) }
-        ensures level { Stays (standing_of S.lines C.maps W.sheet self.old) (standing_of S.lines C.maps W.sheet self.new) }
+    pub(crate) fn type_params<N: LinkTarget>(&mut self, params: &Option<TsTypeParamDeclBox<N>>)
+        ensures items { Performs (type_params N.items params.now)
+            S.lines C.maps W.sheet self.old self.new }
+        ensures level { KeepsLevel S.lines C.maps W.sheet self.old self.new }
     {
         match params {
-            Some(node) => node.held().emit_at(self, Place::Plain),
+            Some(node) => node.target().emit_at(self, Place::Plain),
             None => {}
         }
     }

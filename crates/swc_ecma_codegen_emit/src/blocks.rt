@@ -3,12 +3,12 @@
 ghost use Rattle.std.specs.Prelude.{◌≡◌, if◌then◌else◌};
 ghost use Rattle.swc_ecma_codegen_grammar.specs.FunctionPhrases.{is_some_listed};
 ghost use Rattle.swc_ecma_codegen_tokens.specs.Lists.{list};
-ghost use Rattle.swc_ecma_codegen_emit.specs.Standing.{Makes, Stays, standing_of};
+ghost use Rattle.swc_ecma_codegen_emit.specs.Standing.{Performs, KeepsLevel};
 ghost use Rattle.swc_ecma_codegen_emit.specs.Blocks.{block_format, flat_block_format, block_children, block_list, block_lines, block_start, block_stmt};
 
 use crate::commented::wants_lines;
 use crate::emitter::Emitter;
-use crate::nodes::{EmitAt, Held, Place};
+use crate::nodes::{EmitAt, LinkTarget, Place};
 use bitflags::Flags;
 use swc_ecma_codegen_common::Span;
 use swc_ecma_codegen_grammar::ListFormat;
@@ -56,7 +56,7 @@ pub(crate) fn is_some_listed<T>(nodes: &[T]) -> bool
     }
 }
 
-impl<N: Held> EmitAt for BlockStmt<N> {
+impl<N: LinkTarget> EmitAt for BlockStmt<N> {
     ghost items = { block_stmt N.answers N.items };
 
     #[tactic(auto, unfolding(crate::specs::Blocks::block_stmt))]
@@ -79,8 +79,8 @@ impl<W: WriteJs, S: SourceMapper, C: Comments> Emitter<'_, W, S, C> {
     /// Records the start of a block, unless it is a body.
     #[tactic(auto, unfolding(crate::specs::Blocks::block_start))]
     fn block_start(&mut self, place: Place, span: Span)
-        ensures items { Makes (block_start place span) (standing_of S.lines C.maps W.sheet self.old) (standing_of S.lines C.maps W.sheet self.new) }
-        ensures level { Stays (standing_of S.lines C.maps W.sheet self.old) (standing_of S.lines C.maps W.sheet self.new) }
+        ensures items { Performs (block_start place span) S.lines C.maps W.sheet self.old self.new }
+        ensures level { KeepsLevel S.lines C.maps W.sheet self.old self.new }
     {
         match place {
             Place::Body => {}
@@ -89,26 +89,30 @@ impl<W: WriteJs, S: SourceMapper, C: Comments> Emitter<'_, W, S, C> {
     }
 
     /// Writes the statements on one line.
-    fn flat_block_list<N: Held>(&mut self, node: &BlockStmt<N>)
-        ensures items { Makes (list flat_block_format node.now.span (block_children N.answers N.items node.now)) (standing_of S.lines C.maps W.sheet self.old) (standing_of S.lines C.maps W.sheet self.new) }
-        ensures level { Stays (standing_of S.lines C.maps W.sheet self.old) (standing_of S.lines C.maps W.sheet self.new) }
+    fn flat_block_list<N: LinkTarget>(&mut self, node: &BlockStmt<N>)
+        ensures items { Performs (list flat_block_format node.now.span
+            (block_children N.answers N.items node.now)) S.lines C.maps W.sheet self.old self.new }
+        ensures level { KeepsLevel S.lines C.maps W.sheet self.old self.new }
     {
         self.list(flat_block_format(), node.span, &node.stmts)
     }
 
     /// Writes the statements, each on a line of its own where that is wanted.
-    fn lined_block_list<N: Held>(&mut self, some: bool, node: &BlockStmt<N>)
-        ensures items { Makes (list (if some then block_format else flat_block_format) node.now.span (block_children N.answers N.items node.now)) (standing_of S.lines C.maps W.sheet self.old) (standing_of S.lines C.maps W.sheet self.new) }
-        ensures level { Stays (standing_of S.lines C.maps W.sheet self.old) (standing_of S.lines C.maps W.sheet self.new) }
+    fn lined_block_list<N: LinkTarget>(&mut self, some: bool, node: &BlockStmt<N>)
+        ensures items { Performs (list (if some then block_format else flat_block_format)
+            node.now.span (block_children N.answers N.items node.now))
+            S.lines C.maps W.sheet self.old self.new }
+        ensures level { KeepsLevel S.lines C.maps W.sheet self.old self.new }
     {
         self.list(format_by(some), node.span, &node.stmts)
     }
 
     /// Writes the statements, by lines unless the settings are to minify.
     #[tactic(auto, using(crate::proofs::Asked::minified_part, crate::proofs::Asked::pretty_part), unfolding(crate::specs::Blocks::block_list))]
-    fn block_list<N: Held>(&mut self, some: bool, node: &BlockStmt<N>)
-        ensures items { Makes (block_list some node.now.span (block_children N.answers N.items node.now)) (standing_of S.lines C.maps W.sheet self.old) (standing_of S.lines C.maps W.sheet self.new) }
-        ensures level { Stays (standing_of S.lines C.maps W.sheet self.old) (standing_of S.lines C.maps W.sheet self.new) }
+    fn block_list<N: LinkTarget>(&mut self, some: bool, node: &BlockStmt<N>)
+        ensures items { Performs (block_list some node.now.span
+            (block_children N.answers N.items node.now)) S.lines C.maps W.sheet self.old self.new }
+        ensures level { KeepsLevel S.lines C.maps W.sheet self.old self.new }
     {
         if self.cfg.minify {
             return self.flat_block_list(node);
@@ -117,9 +121,10 @@ impl<W: WriteJs, S: SourceMapper, C: Comments> Emitter<'_, W, S, C> {
     }
 
     /// Writes the statements, each on a line of its own too where there is a comment before `}`.
-    fn block_lines<N: Held>(&mut self, node: &BlockStmt<N>)
-        ensures items { Makes (block_lines (is_some_listed node.now.stmts.items) node.now.span (block_children N.answers N.items node.now)) (standing_of S.lines C.maps W.sheet self.old) (standing_of S.lines C.maps W.sheet self.new) }
-        ensures level { Stays (standing_of S.lines C.maps W.sheet self.old) (standing_of S.lines C.maps W.sheet self.new) }
+    fn block_lines<N: LinkTarget>(&mut self, node: &BlockStmt<N>)
+        ensures items { Performs (block_lines (is_some_listed node.now.stmts.items) node.now.span
+            (block_children N.answers N.items node.now)) S.lines C.maps W.sheet self.old self.new }
+        ensures level { KeepsLevel S.lines C.maps W.sheet self.old self.new }
     {
         let some = wants_lines(&self.comments, is_some_listed(&node.stmts), node.span);
         self.block_list(some, node)

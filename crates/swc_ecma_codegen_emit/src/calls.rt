@@ -3,11 +3,11 @@
 ghost use Rattle.std.specs.Prelude.{◌≡◌};
 ghost use Rattle.swc_ecma_codegen_grammar.specs.ElementPhrases.{last_is_hole};
 ghost use Rattle.swc_ecma_codegen_tokens.specs.Choices.{empty_arguments};
-ghost use Rattle.swc_ecma_codegen_emit.specs.Standing.{Makes, Stays, standing_of};
+ghost use Rattle.swc_ecma_codegen_emit.specs.Standing.{Performs, KeepsLevel};
 ghost use Rattle.swc_ecma_codegen_emit.specs.Calls.{spread_mark, argument_place, argument_items, array_format, array_elements, array_lit, call_format, new_format, arguments, import_phase, import_callee, super_keyword, callee, call_expr, keeps_arguments, listed_arguments, new_arguments, new_gap, parentheses, new_expr, call_mark, chain_call, is_optional};
 
 use crate::emitter::Emitter;
-use crate::nodes::{Asked, Child, EmitAt, Held, Place};
+use crate::nodes::{Asked, Child, EmitAt, LinkTarget, Place};
 use crate::places::expr_or_spread_place;
 use bitflags::Flags;
 use swc_ecma_codegen_common::Span;
@@ -76,7 +76,7 @@ fn is_optional(place: Place) -> bool
     }
 }
 
-impl<N: Held> EmitAt for Callee<N> {
+impl<N: LinkTarget> EmitAt for Callee<N> {
     ghost items = { λ n _. callee N.items n };
 
     #[tactic(auto, unfolding(crate::specs::Calls::callee))]
@@ -88,7 +88,7 @@ impl<N: Held> EmitAt for Callee<N> {
         match self {
             Callee::Super(node) => node.emit_at(e, Place::Plain),
             Callee::Import(node) => node.emit_at(e, Place::Plain),
-            Callee::Expr(node) => node.held().emit_at(e, Place::Callee),
+            Callee::Expr(node) => node.target().emit_at(e, Place::Callee),
         }
     }
 }
@@ -120,7 +120,7 @@ impl EmitAt for Import {
     }
 }
 
-impl<N: Held> EmitAt for OptCall<N> {
+impl<N: LinkTarget> EmitAt for OptCall<N> {
     ghost items = { λ n place. chain_call N.answers N.items (is_optional place) n };
 
     #[tactic(auto, unfolding(crate::specs::Calls::chain_call))]
@@ -129,14 +129,14 @@ impl<N: Held> EmitAt for OptCall<N> {
         e: &mut Emitter<'_, W, S, C>,
         place: Place,
     ) {
-        self.callee.held().emit_at(e, Place::Callee);
+        self.callee.target().emit_at(e, Place::Callee);
         e.call_mark(is_optional(place));
         e.type_args(Place::Plain, &self.type_args);
         e.arguments(call_format(), self.span, &self.args);
     }
 }
 
-impl<N: Held> EmitAt for CallExpr<N> {
+impl<N: LinkTarget> EmitAt for CallExpr<N> {
     ghost items = { λ n _. call_expr N.answers N.items n };
 
     #[tactic(auto, unfolding(crate::specs::Calls::call_expr))]
@@ -154,7 +154,7 @@ impl<N: Held> EmitAt for CallExpr<N> {
     }
 }
 
-impl<N: Held> EmitAt for NewExpr<N> {
+impl<N: LinkTarget> EmitAt for NewExpr<N> {
     ghost items = { λ n place. new_expr N.answers N.items (keeps_arguments place) n };
 
     #[tactic(auto, unfolding(crate::specs::Calls::new_expr))]
@@ -167,14 +167,14 @@ impl<N: Held> EmitAt for NewExpr<N> {
         e.leading_comments(self.span.lo);
         e.start_of(self.span);
         e.keyword(None, "new");
-        e.new_gap(self.callee.held().starts());
-        self.callee.held().emit_at(e, Place::Plain);
+        e.new_gap(self.callee.target().starts());
+        self.callee.target().emit_at(e, Place::Plain);
         e.type_args(Place::Plain, &self.type_args);
         e.new_arguments(self.span, keeps_arguments(place), &self.args);
     }
 }
 
-impl<N: Held> EmitAt for ExprOrSpread<N> {
+impl<N: LinkTarget> EmitAt for ExprOrSpread<N> {
     ghost items = { argument_items N.answers N.items };
 
     #[tactic(auto, unfolding(crate::specs::Calls::expr_or_spread))]
@@ -185,11 +185,11 @@ impl<N: Held> EmitAt for ExprOrSpread<N> {
     ) {
         e.leading_comments(expr_or_spread_place(self).lo);
         e.spread_mark(self.spread);
-        self.expr.held().emit_at(e, Place::Plain);
+        self.expr.target().emit_at(e, Place::Plain);
     }
 }
 
-impl<N: Held> Child for ExprOrSpread<N> {
+impl<N: LinkTarget> Child for ExprOrSpread<N> {
     ghost stands = { argument_place N.answers };
 
     fn place(&self) -> Span {
@@ -197,7 +197,7 @@ impl<N: Held> Child for ExprOrSpread<N> {
     }
 }
 
-impl<N: Held> EmitAt for ArrayLit<N> {
+impl<N: LinkTarget> EmitAt for ArrayLit<N> {
     ghost items = { λ n _. array_lit N.answers N.items n };
 
     #[tactic(auto, unfolding(crate::specs::Calls::array_lit))]
@@ -217,9 +217,10 @@ impl<N: Held> EmitAt for ArrayLit<N> {
 
 impl<W: WriteJs, S: SourceMapper, C: Comments> Emitter<'_, W, S, C> {
     /// Writes the elements of an array.
-    fn array_elements<N: Held>(&mut self, node: &ArrayLit<N>)
-        ensures items { Makes (array_elements N.answers N.items node.now) (standing_of S.lines C.maps W.sheet self.old) (standing_of S.lines C.maps W.sheet self.new) }
-        ensures level { Stays (standing_of S.lines C.maps W.sheet self.old) (standing_of S.lines C.maps W.sheet self.new) }
+    fn array_elements<N: LinkTarget>(&mut self, node: &ArrayLit<N>)
+        ensures items { Performs (array_elements N.answers N.items node.now)
+            S.lines C.maps W.sheet self.old self.new }
+        ensures level { KeepsLevel S.lines C.maps W.sheet self.old self.new }
     {
         let format = array_format(ends_with_hole(&node.elems));
         self.list(format, node.span, &node.elems)
@@ -228,8 +229,8 @@ impl<W: WriteJs, S: SourceMapper, C: Comments> Emitter<'_, W, S, C> {
     /// Writes `...` before what is spread.
     #[tactic(auto, unfolding(crate::specs::Calls::spread_mark))]
     fn spread_mark(&mut self, spread: Option<Span>)
-        ensures items { Makes (spread_mark spread) (standing_of S.lines C.maps W.sheet self.old) (standing_of S.lines C.maps W.sheet self.new) }
-        ensures level { Stays (standing_of S.lines C.maps W.sheet self.old) (standing_of S.lines C.maps W.sheet self.new) }
+        ensures items { Performs (spread_mark spread) S.lines C.maps W.sheet self.old self.new }
+        ensures level { KeepsLevel S.lines C.maps W.sheet self.old self.new }
     {
         match spread {
             Some(_) => self.punct(Punctuator::Ellipsis),
@@ -239,9 +240,15 @@ impl<W: WriteJs, S: SourceMapper, C: Comments> Emitter<'_, W, S, C> {
 
     /// Writes arguments in parentheses.
     #[tactic(auto, unfolding(crate::specs::Calls::arguments))]
-    fn arguments<N: Held>(&mut self, format: ListFormat, parent: Span, args: &[ExprOrSpread<N>])
-        ensures items { Makes (arguments N.answers N.items format.0 parent args.now) (standing_of S.lines C.maps W.sheet self.old) (standing_of S.lines C.maps W.sheet self.new) }
-        ensures level { Stays (standing_of S.lines C.maps W.sheet self.old) (standing_of S.lines C.maps W.sheet self.new) }
+    fn arguments<N: LinkTarget>(
+        &mut self,
+        format: ListFormat,
+        parent: Span,
+        args: &[ExprOrSpread<N>],
+    )
+        ensures items { Performs (arguments N.answers N.items format.0 parent args.now)
+            S.lines C.maps W.sheet self.old self.new }
+        ensures level { KeepsLevel S.lines C.maps W.sheet self.old self.new }
     {
         self.punct(Punctuator::LeftParenthesis);
         self.list(format, parent, args);
@@ -251,8 +258,8 @@ impl<W: WriteJs, S: SourceMapper, C: Comments> Emitter<'_, W, S, C> {
     /// Writes `.source` or `.defer` of `import.source(a)`.
     #[tactic(auto, unfolding(crate::specs::Calls::import_phase))]
     fn import_phase(&mut self, phase: ImportPhase)
-        ensures items { Makes (import_phase phase) (standing_of S.lines C.maps W.sheet self.old) (standing_of S.lines C.maps W.sheet self.new) }
-        ensures level { Stays (standing_of S.lines C.maps W.sheet self.old) (standing_of S.lines C.maps W.sheet self.new) }
+        ensures items { Performs (import_phase phase) S.lines C.maps W.sheet self.old self.new }
+        ensures level { KeepsLevel S.lines C.maps W.sheet self.old self.new }
     {
         match phase {
             ImportPhase::Evaluation => {}
@@ -270,8 +277,8 @@ impl<W: WriteJs, S: SourceMapper, C: Comments> Emitter<'_, W, S, C> {
     /// Writes the blank after `new`.
     #[tactic(auto, unfolding(crate::specs::Calls::new_gap))]
     fn new_gap(&mut self, starts: bool)
-        ensures items { Makes (new_gap starts) (standing_of S.lines C.maps W.sheet self.old) (standing_of S.lines C.maps W.sheet self.new) }
-        ensures level { Stays (standing_of S.lines C.maps W.sheet self.old) (standing_of S.lines C.maps W.sheet self.new) }
+        ensures items { Performs (new_gap starts) S.lines C.maps W.sheet self.old self.new }
+        ensures level { KeepsLevel S.lines C.maps W.sheet self.old self.new }
     {
         if starts {
             self.space()
@@ -283,8 +290,8 @@ impl<W: WriteJs, S: SourceMapper, C: Comments> Emitter<'_, W, S, C> {
     /// Writes `()` after `new A`, unless the settings are to minify.
     #[tactic(auto, using(crate::proofs::Asked::arguments_left_out, crate::proofs::Asked::arguments_written))]
     fn empty_arguments(&mut self)
-        ensures items { Makes (empty_arguments) (standing_of S.lines C.maps W.sheet self.old) (standing_of S.lines C.maps W.sheet self.new) }
-        ensures level { Stays (standing_of S.lines C.maps W.sheet self.old) (standing_of S.lines C.maps W.sheet self.new) }
+        ensures items { Performs (empty_arguments) S.lines C.maps W.sheet self.old self.new }
+        ensures level { KeepsLevel S.lines C.maps W.sheet self.old self.new }
     {
         if self.cfg.minify {
             return;
@@ -295,8 +302,8 @@ impl<W: WriteJs, S: SourceMapper, C: Comments> Emitter<'_, W, S, C> {
     /// Writes `()`.
     #[tactic(auto, unfolding(crate::specs::Calls::parentheses))]
     fn parentheses(&mut self)
-        ensures items { Makes (parentheses) (standing_of S.lines C.maps W.sheet self.old) (standing_of S.lines C.maps W.sheet self.new) }
-        ensures level { Stays (standing_of S.lines C.maps W.sheet self.old) (standing_of S.lines C.maps W.sheet self.new) }
+        ensures items { Performs (parentheses) S.lines C.maps W.sheet self.old self.new }
+        ensures level { KeepsLevel S.lines C.maps W.sheet self.old self.new }
     {
         self.punct(Punctuator::LeftParenthesis);
         self.punct(Punctuator::RightParenthesis);
@@ -304,9 +311,15 @@ impl<W: WriteJs, S: SourceMapper, C: Comments> Emitter<'_, W, S, C> {
 
     /// Writes the arguments of `new`, where they are in parentheses.
     #[tactic(auto, unfolding(crate::specs::Calls::listed_arguments))]
-    fn listed_arguments<N: Held>(&mut self, parent: Span, keeps: bool, args: &[ExprOrSpread<N>])
-        ensures items { Makes (listed_arguments N.answers N.items parent keeps args.now) (standing_of S.lines C.maps W.sheet self.old) (standing_of S.lines C.maps W.sheet self.new) }
-        ensures level { Stays (standing_of S.lines C.maps W.sheet self.old) (standing_of S.lines C.maps W.sheet self.new) }
+    fn listed_arguments<N: LinkTarget>(
+        &mut self,
+        parent: Span,
+        keeps: bool,
+        args: &[ExprOrSpread<N>],
+    )
+        ensures items { Performs (listed_arguments N.answers N.items parent keeps args.now)
+            S.lines C.maps W.sheet self.old self.new }
+        ensures level { KeepsLevel S.lines C.maps W.sheet self.old self.new }
     {
         match (keeps, args) {
             (false, []) => self.empty_arguments(),
@@ -316,14 +329,15 @@ impl<W: WriteJs, S: SourceMapper, C: Comments> Emitter<'_, W, S, C> {
 
     /// Writes the arguments of `new`.
     #[tactic(auto, unfolding(crate::specs::Calls::new_arguments))]
-    fn new_arguments<N: Held>(
+    fn new_arguments<N: LinkTarget>(
         &mut self,
         parent: Span,
         keeps: bool,
         args: &Option<Vec<ExprOrSpread<N>>>,
     )
-        ensures items { Makes (new_arguments N.answers N.items parent keeps args.now) (standing_of S.lines C.maps W.sheet self.old) (standing_of S.lines C.maps W.sheet self.new) }
-        ensures level { Stays (standing_of S.lines C.maps W.sheet self.old) (standing_of S.lines C.maps W.sheet self.new) }
+        ensures items { Performs (new_arguments N.answers N.items parent keeps args.now)
+            S.lines C.maps W.sheet self.old self.new }
+        ensures level { KeepsLevel S.lines C.maps W.sheet self.old self.new }
     {
         match args {
             Some(args) => self.listed_arguments(parent, keeps, args),
@@ -334,8 +348,8 @@ impl<W: WriteJs, S: SourceMapper, C: Comments> Emitter<'_, W, S, C> {
     /// Writes `?.` before the arguments of a call in an optional chain.
     #[tactic(auto, unfolding(crate::specs::Calls::call_mark))]
     fn call_mark(&mut self, optional: bool)
-        ensures items { Makes (call_mark optional) (standing_of S.lines C.maps W.sheet self.old) (standing_of S.lines C.maps W.sheet self.new) }
-        ensures level { Stays (standing_of S.lines C.maps W.sheet self.old) (standing_of S.lines C.maps W.sheet self.new) }
+        ensures items { Performs (call_mark optional) S.lines C.maps W.sheet self.old self.new }
+        ensures level { KeepsLevel S.lines C.maps W.sheet self.old self.new }
     {
         if optional {
             return self.punct(Punctuator::QuestionDot);

@@ -1,11 +1,11 @@
 //! Members, optional chains, and properties of `super`.
 
 ghost use Rattle.std.specs.Prelude.{◌≡◌};
-ghost use Rattle.swc_ecma_codegen_emit.specs.Standing.{Makes, Stays, standing_of};
+ghost use Rattle.swc_ecma_codegen_emit.specs.Standing.{Performs, KeepsLevel};
 ghost use Rattle.swc_ecma_codegen_emit.specs.Exprs.{member, member_prop, member_at, object_place, chain_mark, chain_prop, chain_member, opt_chain, super_prop, super_prop_expr};
 
 use crate::emitter::Emitter;
-use crate::nodes::{EmitAt, Held, Place};
+use crate::nodes::{EmitAt, LinkTarget, Place};
 use swc_ecma_codegen_grammar::comments::Comments;
 use swc_ecma_codegen_grammar::mapper::SourceMapper;
 use swc_ecma_codegen_literals::Punctuator;
@@ -26,7 +26,7 @@ fn object_place<N>(prop: &MemberProp<N>) -> Place
     }
 }
 
-impl<N: Held> EmitAt for OptChainExpr<N> {
+impl<N: LinkTarget> EmitAt for OptChainExpr<N> {
     ghost items = { λ n _. opt_chain N.items n };
 
     #[tactic(auto, unfolding(crate::specs::Exprs::opt_chain, crate::specs::Exprs::chain_base))]
@@ -37,13 +37,13 @@ impl<N: Held> EmitAt for OptChainExpr<N> {
     ) {
         e.leading_comments(self.span.lo);
         match &self.base {
-            OptChainBase::Member(node) => node.held().emit_at(e, Place::Chain(self.optional)),
-            OptChainBase::Call(node) => node.held().emit_at(e, Place::Chain(self.optional)),
+            OptChainBase::Member(node) => node.target().emit_at(e, Place::Chain(self.optional)),
+            OptChainBase::Call(node) => node.target().emit_at(e, Place::Chain(self.optional)),
         }
     }
 }
 
-impl<N: Held> EmitAt for MemberExpr<N> {
+impl<N: LinkTarget> EmitAt for MemberExpr<N> {
     ghost items = { member_at N.items };
 
     #[inline(never)]
@@ -57,13 +57,13 @@ impl<N: Held> EmitAt for MemberExpr<N> {
             return e.chain_member(self, optional);
         }
         e.opened(self.span);
-        self.obj.held().emit_at(e, object_place(&self.prop));
+        self.obj.target().emit_at(e, object_place(&self.prop));
         e.member_prop(&self.prop);
         e.end_of(self.span);
     }
 }
 
-impl<N: Held> EmitAt for SuperPropExpr<N> {
+impl<N: LinkTarget> EmitAt for SuperPropExpr<N> {
     ghost items = { λ n _. super_prop_expr N.items n };
 
     #[tactic(auto, unfolding(crate::specs::Exprs::super_prop_expr))]
@@ -81,9 +81,10 @@ impl<N: Held> EmitAt for SuperPropExpr<N> {
 impl<W: WriteJs, S: SourceMapper, C: Comments> Emitter<'_, W, S, C> {
     /// Writes `.b` or `[b]`.
     #[tactic(auto, unfolding(crate::specs::Exprs::member_prop))]
-    fn member_prop<N: Held>(&mut self, prop: &MemberProp<N>)
-        ensures items { Makes (member_prop N.items prop.now) (standing_of S.lines C.maps W.sheet self.old) (standing_of S.lines C.maps W.sheet self.new) }
-        ensures level { Stays (standing_of S.lines C.maps W.sheet self.old) (standing_of S.lines C.maps W.sheet self.new) }
+    fn member_prop<N: LinkTarget>(&mut self, prop: &MemberProp<N>)
+        ensures items { Performs (member_prop N.items prop.now)
+            S.lines C.maps W.sheet self.old self.new }
+        ensures level { KeepsLevel S.lines C.maps W.sheet self.old self.new }
     {
         match prop {
             MemberProp::Ident(name) => {
@@ -102,9 +103,10 @@ impl<W: WriteJs, S: SourceMapper, C: Comments> Emitter<'_, W, S, C> {
 
     /// Writes `.a` or `[a]` after `super`.
     #[tactic(auto, unfolding(crate::specs::Exprs::super_prop))]
-    fn super_prop<N: Held>(&mut self, prop: &SuperProp<N>)
-        ensures items { Makes (super_prop N.items prop.now) (standing_of S.lines C.maps W.sheet self.old) (standing_of S.lines C.maps W.sheet self.new) }
-        ensures level { Stays (standing_of S.lines C.maps W.sheet self.old) (standing_of S.lines C.maps W.sheet self.new) }
+    fn super_prop<N: LinkTarget>(&mut self, prop: &SuperProp<N>)
+        ensures items { Performs (super_prop N.items prop.now)
+            S.lines C.maps W.sheet self.old self.new }
+        ensures level { KeepsLevel S.lines C.maps W.sheet self.old self.new }
     {
         match prop {
             SuperProp::Ident(name) => {
@@ -118,11 +120,12 @@ impl<W: WriteJs, S: SourceMapper, C: Comments> Emitter<'_, W, S, C> {
 
     /// Writes `a?.b` or `a?.[b]`; `a.b` or `a[b]` where `?.` stands further to the left.
     #[tactic(auto, unfolding(crate::specs::Exprs::chain_member))]
-    fn chain_member<N: Held>(&mut self, node: &MemberExpr<N>, optional: bool)
-        ensures items { Makes (chain_member N.items optional node.now) (standing_of S.lines C.maps W.sheet self.old) (standing_of S.lines C.maps W.sheet self.new) }
-        ensures level { Stays (standing_of S.lines C.maps W.sheet self.old) (standing_of S.lines C.maps W.sheet self.new) }
+    fn chain_member<N: LinkTarget>(&mut self, node: &MemberExpr<N>, optional: bool)
+        ensures items { Performs (chain_member N.items optional node.now)
+            S.lines C.maps W.sheet self.old self.new }
+        ensures level { KeepsLevel S.lines C.maps W.sheet self.old self.new }
     {
-        node.obj.held().emit_at(self, Place::Callee);
+        node.obj.target().emit_at(self, Place::Callee);
         self.chain_mark(optional, &node.prop);
         self.chain_prop(&node.prop);
     }
@@ -130,8 +133,9 @@ impl<W: WriteJs, S: SourceMapper, C: Comments> Emitter<'_, W, S, C> {
     /// Writes `?.` or `.` before a property, or nothing before brackets.
     #[tactic(auto, unfolding(crate::specs::Exprs::chain_mark))]
     fn chain_mark<N>(&mut self, optional: bool, prop: &MemberProp<N>)
-        ensures items { Makes (chain_mark optional prop.now) (standing_of S.lines C.maps W.sheet self.old) (standing_of S.lines C.maps W.sheet self.new) }
-        ensures level { Stays (standing_of S.lines C.maps W.sheet self.old) (standing_of S.lines C.maps W.sheet self.new) }
+        ensures items { Performs (chain_mark optional prop.now)
+            S.lines C.maps W.sheet self.old self.new }
+        ensures level { KeepsLevel S.lines C.maps W.sheet self.old self.new }
     {
         match (optional, prop) {
             (true, _) => self.punct(Punctuator::QuestionDot),
@@ -142,9 +146,10 @@ impl<W: WriteJs, S: SourceMapper, C: Comments> Emitter<'_, W, S, C> {
 
     /// Writes a property of an optional chain.
     #[tactic(auto, unfolding(crate::specs::Exprs::chain_prop))]
-    fn chain_prop<N: Held>(&mut self, prop: &MemberProp<N>)
-        ensures items { Makes (chain_prop N.items prop.now) (standing_of S.lines C.maps W.sheet self.old) (standing_of S.lines C.maps W.sheet self.new) }
-        ensures level { Stays (standing_of S.lines C.maps W.sheet self.old) (standing_of S.lines C.maps W.sheet self.new) }
+    fn chain_prop<N: LinkTarget>(&mut self, prop: &MemberProp<N>)
+        ensures items { Performs (chain_prop N.items prop.now)
+            S.lines C.maps W.sheet self.old self.new }
+        ensures level { KeepsLevel S.lines C.maps W.sheet self.old self.new }
     {
         match prop {
             MemberProp::Ident(name) => name.emit_at(self, Place::Plain),

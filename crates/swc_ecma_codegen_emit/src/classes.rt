@@ -1,7 +1,7 @@
 //! Classes and their members.
 
 ghost use Rattle.std.specs.Prelude.{◌≡◌, codes, true};
-ghost use Rattle.swc_ecma_codegen_emit.specs.Standing.{Makes, Stays, standing_of};
+ghost use Rattle.swc_ecma_codegen_emit.specs.Standing.{Performs, KeepsLevel};
 ghost use Rattle.swc_ecma_codegen_grammar.specs.ClassPhrases.{accessibility_of};
 ghost use Rattle.swc_ecma_codegen_tokens.specs.Starts.{begins_letter};
 ghost use Rattle.swc_ecma_codegen_emit.specs.ClassExprs.{class_expr};
@@ -9,7 +9,7 @@ ghost use Rattle.swc_ecma_codegen_emit.specs.Classes.{class_members_format, heri
 
 use crate::emitter::Emitter;
 use crate::functions::comma_list_format;
-use crate::nodes::{Asked, Child, EmitAt, Held, Place};
+use crate::nodes::{Asked, Child, EmitAt, LinkTarget, Place};
 use swc_ecma_codegen_common::Span;
 use swc_ecma_codegen_grammar::ListFormat;
 use swc_ecma_codegen_grammar::comments::Comments;
@@ -50,7 +50,7 @@ fn accessibility_of(accessibility: Accessibility) -> &'static str
     }
 }
 
-impl<N: Held> EmitAt for ClassDecl<N> {
+impl<N: LinkTarget> EmitAt for ClassDecl<N> {
     ghost items = { λ n _. class_decl N.answers N.items n };
 
     #[tactic(auto, unfolding(crate::specs::Classes::class_decl))]
@@ -59,19 +59,19 @@ impl<N: Held> EmitAt for ClassDecl<N> {
         e: &mut Emitter<'_, W, S, C>,
         place: Place,
     ) {
-        let span = self.class.held().place();
+        let span = self.class.target().place();
         e.leading_comments(span.lo);
         e.start_of(span);
         e.declare_word(self.declare);
-        self.class.held().emit_at(e, Place::ClassHead);
-        self.class.held().emit_at(e, Place::ClassWord);
+        self.class.target().emit_at(e, Place::ClassHead);
+        self.class.target().emit_at(e, Place::ClassWord);
         e.space();
         self.ident.emit_at(e, Place::Plain);
-        self.class.held().emit_at(e, Place::Plain);
+        self.class.target().emit_at(e, Place::Plain);
     }
 }
 
-impl<N: Held> EmitAt for ClassExpr<N> {
+impl<N: LinkTarget> EmitAt for ClassExpr<N> {
     ghost items = { λ n _. class_expr N.answers N.items n };
 
     #[tactic(auto, unfolding(crate::specs::ClassExprs::class_expr))]
@@ -80,17 +80,17 @@ impl<N: Held> EmitAt for ClassExpr<N> {
         e: &mut Emitter<'_, W, S, C>,
         place: Place,
     ) {
-        let span = self.class.held().place();
+        let span = self.class.target().place();
         e.leading_comments(span.lo);
         e.start_of(span);
-        self.class.held().emit_at(e, Place::ClassHead);
-        self.class.held().emit_at(e, Place::ClassWord);
+        self.class.target().emit_at(e, Place::ClassHead);
+        self.class.target().emit_at(e, Place::ClassWord);
         e.optional_name(&self.ident);
-        self.class.held().emit_at(e, Place::Plain);
+        self.class.target().emit_at(e, Place::Plain);
     }
 }
 
-impl<N: Held> EmitAt for Class<N> {
+impl<N: LinkTarget> EmitAt for Class<N> {
     ghost items = { class N.answers N.items };
 
     #[tactic(auto, unfolding(crate::specs::Classes::class))]
@@ -107,7 +107,7 @@ impl<N: Held> EmitAt for Class<N> {
     }
 }
 
-impl<N: Held> EmitAt for ClassMember<N> {
+impl<N: LinkTarget> EmitAt for ClassMember<N> {
     ghost items = { λ n _. class_member N.answers N.items n };
 
     #[tactic(auto, unfolding(crate::specs::Classes::class_member))]
@@ -130,7 +130,7 @@ impl<N: Held> EmitAt for ClassMember<N> {
     }
 }
 
-impl<N: Held> EmitAt for PrivateMethod<N> {
+impl<N: LinkTarget> EmitAt for PrivateMethod<N> {
     ghost items = { λ n _. private_method N.items n };
 
     #[tactic(auto, unfolding(crate::specs::Classes::private_method))]
@@ -141,7 +141,7 @@ impl<N: Held> EmitAt for PrivateMethod<N> {
     ) {
         e.leading_comments(self.span.lo);
         e.start_of(self.span);
-        self.function.held().emit_at(e, Place::MethodDecorators);
+        self.function.target().emit_at(e, Place::MethodDecorators);
         e.accessibility_word(self.accessibility);
         e.private_words(self);
         e.private_kind(self);
@@ -149,7 +149,7 @@ impl<N: Held> EmitAt for PrivateMethod<N> {
     }
 }
 
-impl<N: Held> EmitAt for ClassMethod<N> {
+impl<N: LinkTarget> EmitAt for ClassMethod<N> {
     ghost items = { λ n _. class_method N.answers N.items n };
 
     #[tactic(auto, unfolding(crate::specs::Classes::class_method))]
@@ -159,16 +159,16 @@ impl<N: Held> EmitAt for ClassMethod<N> {
         place: Place,
     ) {
         e.leading_comments(self.span.lo);
-        e.leading_comments(self.key.held().place().lo);
+        e.leading_comments(self.key.target().place().lo);
         e.start_of(self.span);
-        self.function.held().emit_at(e, Place::MethodDecorators);
+        self.function.target().emit_at(e, Place::MethodDecorators);
         e.accessibility_word(self.accessibility);
         e.method_kind(self);
         e.method_rest(self);
     }
 }
 
-impl<N: Held> EmitAt for Constructor<N> {
+impl<N: LinkTarget> EmitAt for Constructor<N> {
     ghost items = { λ n _. class_constructor N.answers N.items n };
 
     #[tactic(auto, unfolding(crate::specs::Classes::class_constructor))]
@@ -185,7 +185,7 @@ impl<N: Held> EmitAt for Constructor<N> {
     }
 }
 
-impl<N: Held> EmitAt for ParamOrTsParamProp<N> {
+impl<N: LinkTarget> EmitAt for ParamOrTsParamProp<N> {
     ghost items = { λ n _. constructor_param N.answers N.items n };
 
     #[tactic(auto, unfolding(crate::specs::Classes::constructor_param))]
@@ -201,7 +201,7 @@ impl<N: Held> EmitAt for ParamOrTsParamProp<N> {
     }
 }
 
-impl<N: Held> EmitAt for TsParamProp<N> {
+impl<N: LinkTarget> EmitAt for TsParamProp<N> {
     ghost items = { λ n _. ts_param_prop N.items n };
 
     #[tactic(auto, unfolding(crate::specs::Classes::ts_param_prop))]
@@ -219,7 +219,7 @@ impl<N: Held> EmitAt for TsParamProp<N> {
     }
 }
 
-impl<N: Held> EmitAt for TsParamPropParam<N> {
+impl<N: LinkTarget> EmitAt for TsParamPropParam<N> {
     ghost items = { λ n _. ts_param_prop_param N.items n };
 
     #[tactic(auto, unfolding(crate::specs::Classes::ts_param_prop_param))]
@@ -241,7 +241,7 @@ impl<N: Held> EmitAt for TsParamPropParam<N> {
     }
 }
 
-impl<N: Held> Child for ParamOrTsParamProp<N> {
+impl<N: LinkTarget> Child for ParamOrTsParamProp<N> {
     ghost stands = { constructor_param_place };
 
     #[tactic(auto, unfolding(crate::specs::Classes::constructor_param_place))]
@@ -253,7 +253,7 @@ impl<N: Held> Child for ParamOrTsParamProp<N> {
     }
 }
 
-impl<N: Held> EmitAt for StaticBlock<N> {
+impl<N: LinkTarget> EmitAt for StaticBlock<N> {
     ghost items = { λ n _. static_block N.items n };
 
     #[tactic(auto, unfolding(crate::specs::Classes::static_block))]
@@ -265,7 +265,7 @@ impl<N: Held> EmitAt for StaticBlock<N> {
         e.leading_comments(self.span.lo);
         e.start_of(self.span);
         e.keyword(None, "static");
-        self.body.held().emit_at(e, Place::Plain);
+        self.body.target().emit_at(e, Place::Plain);
         e.end_of(self.span);
     }
 }
@@ -273,9 +273,9 @@ impl<N: Held> EmitAt for StaticBlock<N> {
 impl<W: WriteJs, S: SourceMapper, C: Comments> Emitter<'_, W, S, C> {
     /// Writes `abstract class`, or the last word alone.
     #[tactic(auto, unfolding(crate::specs::Classes::class_word))]
-    fn class_word<N: Held>(&mut self, node: &Class<N>)
-        ensures items { Makes (class_word node.now) (standing_of S.lines C.maps W.sheet self.old) (standing_of S.lines C.maps W.sheet self.new) }
-        ensures level { Stays (standing_of S.lines C.maps W.sheet self.old) (standing_of S.lines C.maps W.sheet self.new) }
+    fn class_word<N: LinkTarget>(&mut self, node: &Class<N>)
+        ensures items { Performs (class_word node.now) S.lines C.maps W.sheet self.old self.new }
+        ensures level { KeepsLevel S.lines C.maps W.sheet self.old self.new }
     {
         self.word_before(node.is_abstract, "abstract");
         self.keyword(None, "class");
@@ -283,9 +283,10 @@ impl<W: WriteJs, S: SourceMapper, C: Comments> Emitter<'_, W, S, C> {
 
     /// Writes `<A> extends B<C> implements D { e; }`. swc's `emit_class_trailing`.
     #[tactic(auto, unfolding(crate::specs::Classes::class_tail))]
-    fn class_trailing<N: Held>(&mut self, node: &Class<N>)
-        ensures items { Makes (class_tail N.answers N.items node.now) (standing_of S.lines C.maps W.sheet self.old) (standing_of S.lines C.maps W.sheet self.new) }
-        ensures level { Stays (standing_of S.lines C.maps W.sheet self.old) (standing_of S.lines C.maps W.sheet self.new) }
+    fn class_trailing<N: LinkTarget>(&mut self, node: &Class<N>)
+        ensures items { Performs (class_tail N.answers N.items node.now)
+            S.lines C.maps W.sheet self.old self.new }
+        ensures level { KeepsLevel S.lines C.maps W.sheet self.old self.new }
     {
         self.type_params(&node.type_params);
         self.heritage(&node.super_class, &node.super_type_params);
@@ -296,9 +297,10 @@ impl<W: WriteJs, S: SourceMapper, C: Comments> Emitter<'_, W, S, C> {
 
     /// Writes `{ a; }` of a class.
     #[tactic(auto, unfolding(crate::specs::Classes::class_body))]
-    fn class_body<N: Held>(&mut self, node: &Class<N>)
-        ensures items { Makes (class_body N.answers N.items node.now) (standing_of S.lines C.maps W.sheet self.old) (standing_of S.lines C.maps W.sheet self.new) }
-        ensures level { Stays (standing_of S.lines C.maps W.sheet self.old) (standing_of S.lines C.maps W.sheet self.new) }
+    fn class_body<N: LinkTarget>(&mut self, node: &Class<N>)
+        ensures items { Performs (class_body N.answers N.items node.now)
+            S.lines C.maps W.sheet self.old self.new }
+        ensures level { KeepsLevel S.lines C.maps W.sheet self.old self.new }
     {
         self.punct(Punctuator::LeftBrace);
         self.member_list(node);
@@ -307,18 +309,20 @@ impl<W: WriteJs, S: SourceMapper, C: Comments> Emitter<'_, W, S, C> {
     }
 
     /// Writes what a class implements, with commas between.
-    fn implemented_list<N: Held>(&mut self, span: Span, nodes: &[TsExprWithTypeArgs<N>])
-        ensures items { Makes (implemented_list N.items span nodes.now) (standing_of S.lines C.maps W.sheet self.old) (standing_of S.lines C.maps W.sheet self.new) }
-        ensures level { Stays (standing_of S.lines C.maps W.sheet self.old) (standing_of S.lines C.maps W.sheet self.new) }
+    fn implemented_list<N: LinkTarget>(&mut self, span: Span, nodes: &[TsExprWithTypeArgs<N>])
+        ensures items { Performs (implemented_list N.items span nodes.now)
+            S.lines C.maps W.sheet self.old self.new }
+        ensures level { KeepsLevel S.lines C.maps W.sheet self.old self.new }
     {
         self.list(implemented_format(), span, nodes)
     }
 
     /// Writes ` implements A<B>, C`.
     #[tactic(auto, unfolding(crate::specs::Classes::some_implements))]
-    fn some_implements<N: Held>(&mut self, span: Span, nodes: &[TsExprWithTypeArgs<N>])
-        ensures items { Makes (some_implements N.items span nodes.now) (standing_of S.lines C.maps W.sheet self.old) (standing_of S.lines C.maps W.sheet self.new) }
-        ensures level { Stays (standing_of S.lines C.maps W.sheet self.old) (standing_of S.lines C.maps W.sheet self.new) }
+    fn some_implements<N: LinkTarget>(&mut self, span: Span, nodes: &[TsExprWithTypeArgs<N>])
+        ensures items { Performs (some_implements N.items span nodes.now)
+            S.lines C.maps W.sheet self.old self.new }
+        ensures level { KeepsLevel S.lines C.maps W.sheet self.old self.new }
     {
         self.space();
         self.keyword(None, "implements");
@@ -328,9 +332,10 @@ impl<W: WriteJs, S: SourceMapper, C: Comments> Emitter<'_, W, S, C> {
 
     /// Writes the same, where something is implemented.
     #[tactic(auto, unfolding(crate::specs::Classes::implements_clause))]
-    fn implements_clause<N: Held>(&mut self, span: Span, nodes: &[TsExprWithTypeArgs<N>])
-        ensures items { Makes (implements_clause N.items span nodes.now) (standing_of S.lines C.maps W.sheet self.old) (standing_of S.lines C.maps W.sheet self.new) }
-        ensures level { Stays (standing_of S.lines C.maps W.sheet self.old) (standing_of S.lines C.maps W.sheet self.new) }
+    fn implements_clause<N: LinkTarget>(&mut self, span: Span, nodes: &[TsExprWithTypeArgs<N>])
+        ensures items { Performs (implements_clause N.items span nodes.now)
+            S.lines C.maps W.sheet self.old self.new }
+        ensures level { KeepsLevel S.lines C.maps W.sheet self.old self.new }
     {
         if nodes.is_empty() {
             return;
@@ -340,20 +345,21 @@ impl<W: WriteJs, S: SourceMapper, C: Comments> Emitter<'_, W, S, C> {
 
     /// Writes `extends A<B>`, where it is so.
     #[tactic(auto, unfolding(crate::specs::Classes::heritage))]
-    fn heritage<N: Held>(
+    fn heritage<N: LinkTarget>(
         &mut self,
         super_class: &Option<ExprBox<N>>,
         args: &Option<TsTypeParamInstantiationBox<N>>,
     )
-        ensures items { Makes (heritage N.answers N.items super_class.now args.now) (standing_of S.lines C.maps W.sheet self.old) (standing_of S.lines C.maps W.sheet self.new) }
-        ensures level { Stays (standing_of S.lines C.maps W.sheet self.old) (standing_of S.lines C.maps W.sheet self.new) }
+        ensures items { Performs (heritage N.answers N.items super_class.now args.now)
+            S.lines C.maps W.sheet self.old self.new }
+        ensures level { KeepsLevel S.lines C.maps W.sheet self.old self.new }
     {
         match super_class {
             Some(super_class) => {
                 self.space();
                 self.keyword(None, "extends");
-                self.blank(super_class.held().starts());
-                super_class.held().emit_at(self, Place::Plain);
+                self.blank(super_class.target().starts());
+                super_class.target().emit_at(self, Place::Plain);
                 self.type_args(Place::Plain, args)
             }
             None => {}
@@ -361,17 +367,19 @@ impl<W: WriteJs, S: SourceMapper, C: Comments> Emitter<'_, W, S, C> {
     }
 
     /// Writes the members of a class.
-    fn member_list<N: Held>(&mut self, node: &Class<N>)
-        ensures items { Makes (member_list N.answers N.items node.now) (standing_of S.lines C.maps W.sheet self.old) (standing_of S.lines C.maps W.sheet self.new) }
-        ensures level { Stays (standing_of S.lines C.maps W.sheet self.old) (standing_of S.lines C.maps W.sheet self.new) }
+    fn member_list<N: LinkTarget>(&mut self, node: &Class<N>)
+        ensures items { Performs (member_list N.answers N.items node.now)
+            S.lines C.maps W.sheet self.old self.new }
+        ensures level { KeepsLevel S.lines C.maps W.sheet self.old self.new }
     {
         self.list(class_members_format(), node.span, &node.body)
     }
 
     /// Writes the parameters of a constructor, with commas between.
-    fn constructor_params<N: Held>(&mut self, node: &Constructor<N>)
-        ensures items { Makes (constructor_params N.answers N.items node.now) (standing_of S.lines C.maps W.sheet self.old) (standing_of S.lines C.maps W.sheet self.new) }
-        ensures level { Stays (standing_of S.lines C.maps W.sheet self.old) (standing_of S.lines C.maps W.sheet self.new) }
+    fn constructor_params<N: LinkTarget>(&mut self, node: &Constructor<N>)
+        ensures items { Performs (constructor_params N.answers N.items node.now)
+            S.lines C.maps W.sheet self.old self.new }
+        ensures level { KeepsLevel S.lines C.maps W.sheet self.old self.new }
     {
         self.list(comma_list_format(), node.span, &node.params)
     }
@@ -379,17 +387,18 @@ impl<W: WriteJs, S: SourceMapper, C: Comments> Emitter<'_, W, S, C> {
     /// Writes `constructor`.
     #[tactic(auto, unfolding(crate::specs::Classes::constructor_word))]
     fn constructor_word(&mut self)
-        ensures items { Makes constructor_word (standing_of S.lines C.maps W.sheet self.old) (standing_of S.lines C.maps W.sheet self.new) }
-        ensures level { Stays (standing_of S.lines C.maps W.sheet self.old) (standing_of S.lines C.maps W.sheet self.new) }
+        ensures items { Performs constructor_word S.lines C.maps W.sheet self.old self.new }
+        ensures level { KeepsLevel S.lines C.maps W.sheet self.old self.new }
     {
         self.keyword(None, "constructor")
     }
 
     /// Writes `(a){ b; }` of a constructor.
     #[tactic(auto, unfolding(crate::specs::Classes::constructor_tail))]
-    fn constructor_tail<N: Held>(&mut self, node: &Constructor<N>)
-        ensures items { Makes (constructor_tail N.answers N.items node.now) (standing_of S.lines C.maps W.sheet self.old) (standing_of S.lines C.maps W.sheet self.new) }
-        ensures level { Stays (standing_of S.lines C.maps W.sheet self.old) (standing_of S.lines C.maps W.sheet self.new) }
+    fn constructor_tail<N: LinkTarget>(&mut self, node: &Constructor<N>)
+        ensures items { Performs (constructor_tail N.answers N.items node.now)
+            S.lines C.maps W.sheet self.old self.new }
+        ensures level { KeepsLevel S.lines C.maps W.sheet self.old self.new }
     {
         self.punct(Punctuator::LeftParenthesis);
         self.constructor_params(node);
@@ -400,8 +409,9 @@ impl<W: WriteJs, S: SourceMapper, C: Comments> Emitter<'_, W, S, C> {
     /// Writes `private` and a blank, where it is so. swc's `emit_accessibility`.
     #[tactic(auto, unfolding(crate::specs::Classes::accessibility_word))]
     pub(crate) fn accessibility_word(&mut self, accessibility: Option<Accessibility>)
-        ensures items { Makes (accessibility_word accessibility) (standing_of S.lines C.maps W.sheet self.old) (standing_of S.lines C.maps W.sheet self.new) }
-        ensures level { Stays (standing_of S.lines C.maps W.sheet self.old) (standing_of S.lines C.maps W.sheet self.new) }
+        ensures items { Performs (accessibility_word accessibility)
+            S.lines C.maps W.sheet self.old self.new }
+        ensures level { KeepsLevel S.lines C.maps W.sheet self.old self.new }
     {
         match accessibility {
             Some(accessibility) => {
@@ -414,9 +424,10 @@ impl<W: WriteJs, S: SourceMapper, C: Comments> Emitter<'_, W, S, C> {
 
     /// Writes an index signature as a member.
     #[tactic(auto, unfolding(crate::specs::Classes::index_member))]
-    fn index_member<N: Held>(&mut self, node: &TsIndexSignature<N>)
-        ensures items { Makes (index_member N.answers N.items node.now) (standing_of S.lines C.maps W.sheet self.old) (standing_of S.lines C.maps W.sheet self.new) }
-        ensures level { Stays (standing_of S.lines C.maps W.sheet self.old) (standing_of S.lines C.maps W.sheet self.new) }
+    fn index_member<N: LinkTarget>(&mut self, node: &TsIndexSignature<N>)
+        ensures items { Performs (index_member N.answers N.items node.now)
+            S.lines C.maps W.sheet self.old self.new }
+        ensures level { KeepsLevel S.lines C.maps W.sheet self.old self.new }
     {
         node.emit_at(self, Place::Plain);
         self.semi();
@@ -425,8 +436,8 @@ impl<W: WriteJs, S: SourceMapper, C: Comments> Emitter<'_, W, S, C> {
     /// Writes `;` as a member.
     #[tactic(auto, unfolding(crate::specs::Classes::empty_member))]
     fn empty_member(&mut self, node: &EmptyStmt)
-        ensures items { Makes (empty_member node.now) (standing_of S.lines C.maps W.sheet self.old) (standing_of S.lines C.maps W.sheet self.new) }
-        ensures level { Stays (standing_of S.lines C.maps W.sheet self.old) (standing_of S.lines C.maps W.sheet self.new) }
+        ensures items { Performs (empty_member node.now) S.lines C.maps W.sheet self.old self.new }
+        ensures level { KeepsLevel S.lines C.maps W.sheet self.old self.new }
     {
         self.leading_comments(node.span.lo);
         self.punct(Punctuator::Semicolon);
@@ -435,8 +446,8 @@ impl<W: WriteJs, S: SourceMapper, C: Comments> Emitter<'_, W, S, C> {
     /// Writes `static` and a blank, where it is so.
     #[tactic(auto, unfolding(crate::specs::Classes::static_word))]
     pub(crate) fn static_word(&mut self, wanted: bool)
-        ensures items { Makes (static_word wanted) (standing_of S.lines C.maps W.sheet self.old) (standing_of S.lines C.maps W.sheet self.new) }
-        ensures level { Stays (standing_of S.lines C.maps W.sheet self.old) (standing_of S.lines C.maps W.sheet self.new) }
+        ensures items { Performs (static_word wanted) S.lines C.maps W.sheet self.old self.new }
+        ensures level { KeepsLevel S.lines C.maps W.sheet self.old self.new }
     {
         if wanted {
             self.keyword(None, "static");
@@ -447,8 +458,9 @@ impl<W: WriteJs, S: SourceMapper, C: Comments> Emitter<'_, W, S, C> {
     /// Writes `get` and the blank after it.
     #[tactic(auto, unfolding(crate::specs::Classes::accessor_word))]
     fn getter_word(&mut self, starts: bool)
-        ensures items { Makes (accessor_word (codes "get") starts) (standing_of S.lines C.maps W.sheet self.old) (standing_of S.lines C.maps W.sheet self.new) }
-        ensures level { Stays (standing_of S.lines C.maps W.sheet self.old) (standing_of S.lines C.maps W.sheet self.new) }
+        ensures items { Performs (accessor_word (codes "get") starts)
+            S.lines C.maps W.sheet self.old self.new }
+        ensures level { KeepsLevel S.lines C.maps W.sheet self.old self.new }
     {
         self.keyword(None, "get");
         self.blank(starts);
@@ -457,8 +469,9 @@ impl<W: WriteJs, S: SourceMapper, C: Comments> Emitter<'_, W, S, C> {
     /// Writes `set` and the blank after it.
     #[tactic(auto, unfolding(crate::specs::Classes::accessor_word))]
     fn setter_word(&mut self, starts: bool)
-        ensures items { Makes (accessor_word (codes "set") starts) (standing_of S.lines C.maps W.sheet self.old) (standing_of S.lines C.maps W.sheet self.new) }
-        ensures level { Stays (standing_of S.lines C.maps W.sheet self.old) (standing_of S.lines C.maps W.sheet self.new) }
+        ensures items { Performs (accessor_word (codes "set") starts)
+            S.lines C.maps W.sheet self.old self.new }
+        ensures level { KeepsLevel S.lines C.maps W.sheet self.old self.new }
     {
         self.keyword(None, "set");
         self.blank(starts);
@@ -467,8 +480,9 @@ impl<W: WriteJs, S: SourceMapper, C: Comments> Emitter<'_, W, S, C> {
     /// Writes `abstract override `, where it is so.
     #[tactic(auto, unfolding(crate::specs::Classes::method_modifiers))]
     fn method_modifiers(&mut self, is_abstract: bool, is_override: bool)
-        ensures items { Makes (method_modifiers is_abstract is_override) (standing_of S.lines C.maps W.sheet self.old) (standing_of S.lines C.maps W.sheet self.new) }
-        ensures level { Stays (standing_of S.lines C.maps W.sheet self.old) (standing_of S.lines C.maps W.sheet self.new) }
+        ensures items { Performs (method_modifiers is_abstract is_override)
+            S.lines C.maps W.sheet self.old self.new }
+        ensures level { KeepsLevel S.lines C.maps W.sheet self.old self.new }
     {
         self.word_before(is_abstract, "abstract");
         self.word_before(is_override, "override");
@@ -476,40 +490,43 @@ impl<W: WriteJs, S: SourceMapper, C: Comments> Emitter<'_, W, S, C> {
 
     /// Writes `async *` of a static method, behind that word: where another stands between, that has a blank before it.
     #[tactic(auto, unfolding(crate::specs::Classes::static_method))]
-    fn static_method<N: Held>(&mut self, node: &ClassMethod<N>)
-        ensures items { Makes (static_method N.answers N.items node.now) (standing_of S.lines C.maps W.sheet self.old) (standing_of S.lines C.maps W.sheet self.new) }
-        ensures level { Stays (standing_of S.lines C.maps W.sheet self.old) (standing_of S.lines C.maps W.sheet self.new) }
+    fn static_method<N: LinkTarget>(&mut self, node: &ClassMethod<N>)
+        ensures items { Performs (static_method N.answers N.items node.now)
+            S.lines C.maps W.sheet self.old self.new }
+        ensures level { KeepsLevel S.lines C.maps W.sheet self.old self.new }
     {
         if node.is_abstract || node.is_override {
             self.space();
             self.method_modifiers(node.is_abstract, node.is_override);
-            return node.function.held().emit_at(self, Place::MethodHead);
+            return node.function.target().emit_at(self, Place::MethodHead);
         }
-        let starts = node.key.held().starts();
+        let starts = node.key.target().starts();
         node.function
-            .held()
+            .target()
             .emit_at(self, Place::StaticHead(starts));
     }
 
     /// Writes `static abstract override async *` of a method.
     #[tactic(auto, unfolding(crate::specs::Classes::method_word))]
-    fn method_word<N: Held>(&mut self, node: &ClassMethod<N>)
-        ensures items { Makes (method_word N.answers N.items node.now) (standing_of S.lines C.maps W.sheet self.old) (standing_of S.lines C.maps W.sheet self.new) }
-        ensures level { Stays (standing_of S.lines C.maps W.sheet self.old) (standing_of S.lines C.maps W.sheet self.new) }
+    fn method_word<N: LinkTarget>(&mut self, node: &ClassMethod<N>)
+        ensures items { Performs (method_word N.answers N.items node.now)
+            S.lines C.maps W.sheet self.old self.new }
+        ensures level { KeepsLevel S.lines C.maps W.sheet self.old self.new }
     {
         if node.is_static {
             self.keyword(None, "static");
             return self.static_method(node);
         }
         self.method_modifiers(node.is_abstract, node.is_override);
-        node.function.held().emit_at(self, Place::MethodHead);
+        node.function.target().emit_at(self, Place::MethodHead);
     }
 
     /// Writes `static abstract override ` of a getter or a setter.
     #[tactic(auto, unfolding(crate::specs::Classes::accessor_words))]
-    fn accessor_words<N: Held>(&mut self, node: &ClassMethod<N>)
-        ensures items { Makes (accessor_words node.now) (standing_of S.lines C.maps W.sheet self.old) (standing_of S.lines C.maps W.sheet self.new) }
-        ensures level { Stays (standing_of S.lines C.maps W.sheet self.old) (standing_of S.lines C.maps W.sheet self.new) }
+    fn accessor_words<N: LinkTarget>(&mut self, node: &ClassMethod<N>)
+        ensures items { Performs (accessor_words node.now)
+            S.lines C.maps W.sheet self.old self.new }
+        ensures level { KeepsLevel S.lines C.maps W.sheet self.old self.new }
     {
         self.static_word(node.is_static);
         self.method_modifiers(node.is_abstract, node.is_override);
@@ -517,39 +534,41 @@ impl<W: WriteJs, S: SourceMapper, C: Comments> Emitter<'_, W, S, C> {
 
     /// Writes `b?(c) { d; }` of a method.
     #[tactic(auto, unfolding(crate::specs::Classes::method_rest))]
-    fn method_rest<N: Held>(&mut self, node: &ClassMethod<N>)
-        ensures items { Makes (method_rest N.items node.now) (standing_of S.lines C.maps W.sheet self.old) (standing_of S.lines C.maps W.sheet self.new) }
-        ensures level { Stays (standing_of S.lines C.maps W.sheet self.old) (standing_of S.lines C.maps W.sheet self.new) }
+    fn method_rest<N: LinkTarget>(&mut self, node: &ClassMethod<N>)
+        ensures items { Performs (method_rest N.items node.now)
+            S.lines C.maps W.sheet self.old self.new }
+        ensures level { KeepsLevel S.lines C.maps W.sheet self.old self.new }
     {
-        node.key.held().emit_at(self, Place::Plain);
+        node.key.target().emit_at(self, Place::Plain);
         self.question(node.is_optional);
-        node.function.held().emit_at(self, Place::MethodTail);
+        node.function.target().emit_at(self, Place::MethodTail);
     }
 
     /// Writes what stands between the accessibility of a method and its key.
     #[tactic(auto, unfolding(crate::specs::Classes::method_kind))]
-    fn method_kind<N: Held>(&mut self, node: &ClassMethod<N>)
-        ensures items { Makes (method_kind N.answers N.items node.now.kind node.now) (standing_of S.lines C.maps W.sheet self.old) (standing_of S.lines C.maps W.sheet self.new) }
-        ensures level { Stays (standing_of S.lines C.maps W.sheet self.old) (standing_of S.lines C.maps W.sheet self.new) }
+    fn method_kind<N: LinkTarget>(&mut self, node: &ClassMethod<N>)
+        ensures items { Performs (method_kind N.answers N.items node.now.kind node.now)
+            S.lines C.maps W.sheet self.old self.new }
+        ensures level { KeepsLevel S.lines C.maps W.sheet self.old self.new }
     {
         match node.kind {
             MethodKind::Method => self.method_word(node),
             MethodKind::Getter => {
                 self.accessor_words(node);
-                self.getter_word(node.key.held().starts())
+                self.getter_word(node.key.target().starts())
             }
             MethodKind::Setter => {
                 self.accessor_words(node);
-                self.setter_word(node.key.held().starts())
+                self.setter_word(node.key.target().starts())
             }
         }
     }
 
     /// Writes `static abstract override ` of a private method.
     #[tactic(auto, unfolding(crate::specs::Classes::private_words))]
-    fn private_words<N: Held>(&mut self, node: &PrivateMethod<N>)
-        ensures items { Makes (private_words node.now) (standing_of S.lines C.maps W.sheet self.old) (standing_of S.lines C.maps W.sheet self.new) }
-        ensures level { Stays (standing_of S.lines C.maps W.sheet self.old) (standing_of S.lines C.maps W.sheet self.new) }
+    fn private_words<N: LinkTarget>(&mut self, node: &PrivateMethod<N>)
+        ensures items { Performs (private_words node.now) S.lines C.maps W.sheet self.old self.new }
+        ensures level { KeepsLevel S.lines C.maps W.sheet self.old self.new }
     {
         self.static_word(node.is_static);
         self.method_modifiers(node.is_abstract, node.is_override);
@@ -557,23 +576,25 @@ impl<W: WriteJs, S: SourceMapper, C: Comments> Emitter<'_, W, S, C> {
 
     /// Writes `#b?(c) { d; }` of a private method.
     #[tactic(auto, unfolding(crate::specs::Classes::private_rest))]
-    fn private_rest<N: Held>(&mut self, node: &PrivateMethod<N>)
-        ensures items { Makes (private_rest N.items node.now) (standing_of S.lines C.maps W.sheet self.old) (standing_of S.lines C.maps W.sheet self.new) }
-        ensures level { Stays (standing_of S.lines C.maps W.sheet self.old) (standing_of S.lines C.maps W.sheet self.new) }
+    fn private_rest<N: LinkTarget>(&mut self, node: &PrivateMethod<N>)
+        ensures items { Performs (private_rest N.items node.now)
+            S.lines C.maps W.sheet self.old self.new }
+        ensures level { KeepsLevel S.lines C.maps W.sheet self.old self.new }
     {
         node.key.emit_at(self, Place::Plain);
         self.question(node.is_optional);
-        node.function.held().emit_at(self, Place::Plain);
+        node.function.target().emit_at(self, Place::Plain);
     }
 
     /// Writes what stands between the modifiers of a private method and its name.
     #[tactic(auto, unfolding(crate::specs::Classes::private_kind))]
-    fn private_kind<N: Held>(&mut self, node: &PrivateMethod<N>)
-        ensures items { Makes (private_kind N.items node.now.kind node.now) (standing_of S.lines C.maps W.sheet self.old) (standing_of S.lines C.maps W.sheet self.new) }
-        ensures level { Stays (standing_of S.lines C.maps W.sheet self.old) (standing_of S.lines C.maps W.sheet self.new) }
+    fn private_kind<N: LinkTarget>(&mut self, node: &PrivateMethod<N>)
+        ensures items { Performs (private_kind N.items node.now.kind node.now)
+            S.lines C.maps W.sheet self.old self.new }
+        ensures level { KeepsLevel S.lines C.maps W.sheet self.old self.new }
     {
         match node.kind {
-            MethodKind::Method => node.function.held().emit_at(self, Place::MethodHead),
+            MethodKind::Method => node.function.target().emit_at(self, Place::MethodHead),
             MethodKind::Getter => self.getter_word(true),
             MethodKind::Setter => self.setter_word(true),
         }
@@ -581,12 +602,13 @@ impl<W: WriteJs, S: SourceMapper, C: Comments> Emitter<'_, W, S, C> {
 
     /// Writes the body of a constructor, without a blank before it, or a semicolon.
     #[tactic(auto, unfolding(crate::specs::Classes::constructor_body))]
-    fn constructor_body<N: Held>(&mut self, body: &Option<BlockStmtBox<N>>)
-        ensures items { Makes (constructor_body N.items body.now) (standing_of S.lines C.maps W.sheet self.old) (standing_of S.lines C.maps W.sheet self.new) }
-        ensures level { Stays (standing_of S.lines C.maps W.sheet self.old) (standing_of S.lines C.maps W.sheet self.new) }
+    fn constructor_body<N: LinkTarget>(&mut self, body: &Option<BlockStmtBox<N>>)
+        ensures items { Performs (constructor_body N.items body.now)
+            S.lines C.maps W.sheet self.old self.new }
+        ensures level { KeepsLevel S.lines C.maps W.sheet self.old self.new }
     {
         match body {
-            Some(body) => body.held().emit_at(self, Place::Plain),
+            Some(body) => body.target().emit_at(self, Place::Plain),
             None => self.semi(),
         }
     }

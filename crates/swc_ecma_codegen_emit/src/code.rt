@@ -28,8 +28,11 @@ fn print_to<N: Node, S: SourceMapper, C: Comments + Drop, W: WriteJs + Drop>(
     node: &N,
     wr: W,
 ) -> std::result::Result<W, Error>
-    ensures sheet { IfOk result (λ w. W.sheet w ≡ (printed (N.part node.now) (start (S.lines cm.now) (maps_in C.maps comments) default_config (W.sheet wr))).sheet) }
-    ensures cause { IfErr result (GivesCause (N.part node.now) (start (S.lines cm.now) (maps_in C.maps comments) default_config (W.sheet wr))) }
+    ensures sheet { IfOk result (λ w. W.sheet w
+        ≡ (printed (N.part node.now) (start (S.lines cm.now) (maps_in C.maps comments)
+        default_config (W.sheet wr))).sheet) }
+    ensures cause { IfErr result (GivesCause (N.part node.now)
+        (start (S.lines cm.now) (maps_in C.maps comments) default_config (W.sheet wr))) }
 {
     let mut emitter = Emitter::new(alloc, Config::default(), cm, comments, wr);
     node.emit_with(&mut emitter)?;
@@ -45,14 +48,24 @@ pub fn to_code_default<N: Node, S: SourceMapper, C: Comments + Drop>(
     comments: Option<C>,
     node: &N,
 ) -> std::result::Result<String, Error>
-    ensures text { IfOk result (λ text. string_bytes text ≡ text_over (S.lines cm.now) (maps_in C.maps comments) (N.part node.now)) }
+    ensures text { IfOk result (λ text. string_bytes text
+        ≡ text_over (S.lines cm.now) (maps_in C.maps comments) (N.part node.now)) }
     // Where each comment can be read back, the text of a well-formed tree is UTF-8, and reads as one of the tree's token lists
     // with the comments that were taken between the tokens, in order.
-    ensures reads { (root : Root) → N.part node.now ≡ root_items root → is_well_formed_root root ≡ true → AreClosed (maps_in C.maps comments) → IfOk result (λ text. ReadsAs default_config false (root_phrase root) (taken_remarks (N.part node.now) (start (S.lines cm.now) (maps_in C.maps comments) default_config blank_sheet).env) (string_bytes text)) }
+    ensures reads { (root : Root) → N.part node.now ≡ root_items root →
+        is_well_formed_root root ≡ true → AreClosed (maps_in C.maps comments) →
+        IfOk result (λ text.
+        ReadsAs default_config false (root_phrase root)
+        (taken_remarks (N.part node.now) (start (S.lines cm.now) (maps_in C.maps comments)
+        default_config blank_sheet).env) (string_bytes text)) }
     // A well-formed tree is refused for want of memory alone.
-    ensures made { (root : Root) → N.part node.now ≡ root_items root → is_well_formed_root root ≡ true → token_count (root_phrase root) < 2 ^ 32 → IfErr result (λ error. error ≡ OutOfMemory) }
+    ensures made { (root : Root) → N.part node.now ≡ root_items root →
+        is_well_formed_root root ≡ true → token_count (root_phrase root) < 2 ^ 32 →
+        IfErr result (λ error. error ≡ OutOfMemory) }
     // It is refused for want of memory, or for the cause that the error names.
-    ensures cause { IfErr result (λ error. (error ≡ OutOfMemory) ⊎ GivesCause (N.part node.now) (start (S.lines cm.now) (maps_in C.maps comments) default_config blank_sheet) error) }
+    ensures cause { IfErr result (λ error. (error ≡ OutOfMemory)
+        ⊎ GivesCause (N.part node.now) (start (S.lines cm.now) (maps_in C.maps comments)
+        default_config blank_sheet) error) }
     ensures not_writer { IfErr result (λ error. IsOfWriter error → ⊥) }
 {
     let writer = JsWriter::new(alloc, cm, "\n", Vec::new(alloc), None);
@@ -69,12 +82,22 @@ pub fn to_code_with_comments<N: Node, C: Comments + Drop>(
     comments: Option<C>,
     node: &N,
 ) -> std::result::Result<String, Error>
-    ensures text { IfOk result (λ text. string_bytes text ≡ text_over no_lines (maps_in C.maps comments) (N.part node.now)) }
+    ensures text { IfOk result (λ text. string_bytes text
+        ≡ text_over no_lines (maps_in C.maps comments) (N.part node.now)) }
     // Where each comment can be read back, the text of a well-formed tree reads as one of the tree's token lists with the
     // comments that were taken between the tokens, in order.
-    ensures reads { (root : Root) → N.part node.now ≡ root_items root → is_well_formed_root root ≡ true → AreClosed (maps_in C.maps comments) → IfOk result (λ text. ReadsAs default_config false (root_phrase root) (taken_remarks (N.part node.now) (start no_lines (maps_in C.maps comments) default_config blank_sheet).env) (string_bytes text)) }
-    ensures made { (root : Root) → N.part node.now ≡ root_items root → is_well_formed_root root ≡ true → token_count (root_phrase root) < 2 ^ 32 → IfErr result (λ error. error ≡ OutOfMemory) }
-    ensures cause { IfErr result (λ error. (error ≡ OutOfMemory) ⊎ GivesCause (N.part node.now) (start no_lines (maps_in C.maps comments) default_config blank_sheet) error) }
+    ensures reads { (root : Root) → N.part node.now ≡ root_items root →
+        is_well_formed_root root ≡ true → AreClosed (maps_in C.maps comments) →
+        IfOk result (λ text.
+        ReadsAs default_config false (root_phrase root)
+        (taken_remarks (N.part node.now) (start no_lines (maps_in C.maps comments) default_config
+        blank_sheet).env) (string_bytes text)) }
+    ensures made { (root : Root) → N.part node.now ≡ root_items root →
+        is_well_formed_root root ≡ true → token_count (root_phrase root) < 2 ^ 32 →
+        IfErr result (λ error. error ≡ OutOfMemory) }
+    ensures cause { IfErr result (λ error. (error ≡ OutOfMemory)
+        ⊎ GivesCause (N.part node.now) (start no_lines (maps_in C.maps comments) default_config
+        blank_sheet) error) }
     ensures not_writer { IfErr result (λ error. IsOfWriter error → ⊥) }
 {
     to_code_default(alloc, &NoSource, comments, node)
@@ -85,11 +108,17 @@ pub fn to_code_with_comments<N: Node, C: Comments + Drop>(
 pub fn to_code<N: Node>(alloc: Global, node: &N) -> std::result::Result<String, Error>
     ensures text { IfOk result (λ text. string_bytes text ≡ text_of (N.part node.now)) }
     // The text of a well-formed tree is UTF-8, and reads as one of the tree's token lists, with no comments.
-    ensures reads { (root : Root) → N.part node.now ≡ root_items root → is_well_formed_root root ≡ true → IfOk result (λ text. ReadsAs default_config false (root_phrase root) [] (string_bytes text)) }
+    ensures reads { (root : Root) → N.part node.now ≡ root_items root →
+        is_well_formed_root root ≡ true →
+        IfOk result (λ text.
+        ReadsAs default_config false (root_phrase root) [] (string_bytes text)) }
     // A well-formed tree is refused for want of memory alone.
-    ensures made { (root : Root) → N.part node.now ≡ root_items root → is_well_formed_root root ≡ true → token_count (root_phrase root) < 2 ^ 32 → IfErr result (λ error. error ≡ OutOfMemory) }
+    ensures made { (root : Root) → N.part node.now ≡ root_items root →
+        is_well_formed_root root ≡ true → token_count (root_phrase root) < 2 ^ 32 →
+        IfErr result (λ error. error ≡ OutOfMemory) }
     // It is refused for want of memory, or for the cause that the error names.
-    ensures cause { IfErr result (λ error. (error ≡ OutOfMemory) ⊎ GivesCause (N.part node.now) (start no_lines no_maps default_config blank_sheet) error) }
+    ensures cause { IfErr result (λ error. (error ≡ OutOfMemory)
+        ⊎ GivesCause (N.part node.now) (start no_lines no_maps default_config blank_sheet) error) }
     ensures not_writer { IfErr result (λ error. IsOfWriter error → ⊥) }
 {
     to_code_with_comments(alloc, None::<CommentMaps>, node)

@@ -142,7 +142,7 @@ fn callee_breaks<N: BreaksBefore, C: Comments>(node: &Callee<N>, comments: &Opti
     match node {
         Callee::Super(node) => breaks_at(comments, node.span),
         Callee::Import(node) => breaks_at(comments, node.span),
-        Callee::Expr(node) => node.held().breaks_before(comments),
+        Callee::Expr(node) => node.target().breaks_before(comments),
     }
 }
 
@@ -151,8 +151,8 @@ fn chain_breaks<N: BreaksBefore, C: Comments>(node: &OptChainBase<N>, comments: 
     ensures { result ≡ chain_breaks N.breaking node.now (maps_in C.maps comments.now) }
 {
     match node {
-        OptChainBase::Member(node) => node.held().breaks_before(comments),
-        OptChainBase::Call(node) => node.held().breaks_before(comments),
+        OptChainBase::Member(node) => node.target().breaks_before(comments),
+        OptChainBase::Call(node) => node.target().breaks_before(comments),
     }
 }
 
@@ -162,7 +162,7 @@ fn first_breaks<N: BreaksBefore, C: Comments>(nodes: &[ExprBox<N>], comments: &O
 {
     match nodes {
         [] => false,
-        [node, ..] => node.held().breaks_before(comments),
+        [node, ..] => node.target().breaks_before(comments),
     }
 }
 
@@ -175,7 +175,7 @@ fn simple_target_breaks<N: BreaksBefore, C: Comments>(
 {
     match node {
         SimpleAssignTarget::Ident(node) => breaks_at(comments, node.id.span),
-        SimpleAssignTarget::Member(node) => node.obj.held().breaks_before(comments),
+        SimpleAssignTarget::Member(node) => node.obj.target().breaks_before(comments),
         SimpleAssignTarget::SuperProp(node) => breaks_at(comments, node.span),
         _ => false,
     }
@@ -209,13 +209,13 @@ fn leftmost_breaks<N: BreaksBefore, C: Comments>(node: &Expr<N>, comments: &Opti
 {
     match node {
         Expr::Call(node) => callee_breaks(&node.callee, comments),
-        Expr::Member(node) => node.obj.held().breaks_before(comments),
+        Expr::Member(node) => node.obj.target().breaks_before(comments),
         Expr::SuperProp(node) => breaks_at(comments, node.span),
-        Expr::Bin(node) => node.left.held().breaks_before(comments),
-        Expr::Cond(node) => node.test.held().breaks_before(comments),
+        Expr::Bin(node) => node.left.target().breaks_before(comments),
+        Expr::Cond(node) => node.test.target().breaks_before(comments),
         Expr::Seq(node) => first_breaks(&node.exprs, comments),
         Expr::Assign(node) => {
-            has_comment_at(comments, node.span) || node.left.held().breaks_before(comments)
+            has_comment_at(comments, node.span) || node.left.target().breaks_before(comments)
         }
         Expr::OptChain(node) => chain_breaks(&node.base, comments),
         _ => false,
@@ -228,7 +228,8 @@ fn expr_breaks<N: BreaksBefore, C: Comments>(
     node: &Expr<N>,
     comments: &Option<C>,
 ) -> bool
-    ensures { result ≡ (breaks_at span (maps_in C.maps comments.now) || leftmost_breaks N.breaking node.now (maps_in C.maps comments.now)) }
+    ensures { result ≡ (breaks_at span (maps_in C.maps comments.now)
+        || leftmost_breaks N.breaking node.now (maps_in C.maps comments.now)) }
 {
     breaks_at(comments, span) || leftmost_breaks(node, comments)
 }
@@ -236,7 +237,7 @@ fn expr_breaks<N: BreaksBefore, C: Comments>(
 fn member_breaks<N: BreaksBefore, C: Comments>(node: &MemberExpr<N>, comments: &Option<C>) -> bool
     ensures { result ≡ N.breaking node.now.obj.node.value (maps_in C.maps comments.now) }
 {
-    node.obj.held().breaks_before(comments)
+    node.obj.target().breaks_before(comments)
 }
 
 #[tactic(auto, unfolding(crate::specs::Commented::part_breaks))]
@@ -244,7 +245,7 @@ fn part_breaks<N: BreaksBefore, C: Comments>(node: &ExprPart<N>, comments: &Opti
     ensures { result ≡ part_breaks N.breaking node.now (maps_in C.maps comments.now) }
 {
     match node {
-        ExprPart::OptCall(node) => node.callee.held().breaks_before(comments),
+        ExprPart::OptCall(node) => node.callee.target().breaks_before(comments),
         ExprPart::AssignTarget(node) => target_breaks(node, comments),
         _ => false,
     }

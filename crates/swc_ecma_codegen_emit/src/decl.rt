@@ -1,14 +1,14 @@
 //! Declarations.
 
 ghost use Rattle.std.specs.Prelude.{◌≡◌};
-ghost use Rattle.swc_ecma_codegen_emit.specs.Standing.{Makes, Stays, standing_of};
+ghost use Rattle.swc_ecma_codegen_emit.specs.Standing.{Performs, KeepsLevel};
 ghost use Rattle.swc_ecma_codegen_emit.specs.Decls.{declarators_format, fn_decl, var_declarator, declarators, var_kind, is_unmarked, first_is_unmarked, var_decl, await_word, using_decl, decl_end, by_export, without_head, exported_class, variables, resources, decl};
 ghost use Rattle.swc_ecma_codegen_emit.specs.declared.nodes.Place.TheVariants.{ClassHead};
 ghost use Rattle.swc_ecma_codegen_emit.specs.Classes.{class_decl};
 ghost use Rattle.swc_ecma_codegen_emit.specs.TsDecls.{ts_interface_decl, ts_type_alias_decl, ts_enum_decl, ts_module_decl};
 
 use crate::emitter::Emitter;
-use crate::nodes::{Child, EmitAt, Held, Place};
+use crate::nodes::{Child, EmitAt, LinkTarget, Place};
 use crate::patterns::{PatternKind, kind_of_pat};
 use swc_ecma_codegen_common::Span;
 use swc_ecma_codegen_grammar::ListFormat;
@@ -49,7 +49,7 @@ fn first_is_unmarked<N>(declarators: &[VarDeclarator<N>]) -> bool
     }
 }
 
-impl<N: Held> EmitAt for Decl<N> {
+impl<N: LinkTarget> EmitAt for Decl<N> {
     ghost items = { decl N.answers N.items };
 
     #[tactic(auto, unfolding(crate::specs::Decls::decl))]
@@ -71,7 +71,7 @@ impl<N: Held> EmitAt for Decl<N> {
     }
 }
 
-impl<N: Held> EmitAt for UsingDecl<N> {
+impl<N: LinkTarget> EmitAt for UsingDecl<N> {
     ghost items = { λ n _. using_decl N.answers N.items n };
 
     #[tactic(auto, unfolding(crate::specs::Decls::using_decl))]
@@ -88,7 +88,7 @@ impl<N: Held> EmitAt for UsingDecl<N> {
     }
 }
 
-impl<N: Held> EmitAt for FnDecl<N> {
+impl<N: LinkTarget> EmitAt for FnDecl<N> {
     ghost items = { λ n _. fn_decl N.answers N.items n };
 
     #[tactic(auto, unfolding(crate::specs::Decls::fn_decl))]
@@ -97,18 +97,18 @@ impl<N: Held> EmitAt for FnDecl<N> {
         e: &mut Emitter<'_, W, S, C>,
         place: Place,
     ) {
-        let span = self.function.held().place();
+        let span = self.function.target().place();
         e.leading_comments(span.lo);
         e.commit_pending_semi();
         e.start_of(span);
         e.declare_word(self.declare);
-        self.function.held().emit_at(e, Place::DeclarationHead);
+        self.function.target().emit_at(e, Place::DeclarationHead);
         self.ident.emit_at(e, Place::Plain);
-        self.function.held().emit_at(e, Place::Plain);
+        self.function.target().emit_at(e, Place::Plain);
     }
 }
 
-impl<N: Held> EmitAt for VarDecl<N> {
+impl<N: LinkTarget> EmitAt for VarDecl<N> {
     ghost items = { λ n _. var_decl N.answers N.items n };
 
     #[tactic(auto, unfolding(crate::specs::Decls::var_decl))]
@@ -127,7 +127,7 @@ impl<N: Held> EmitAt for VarDecl<N> {
     }
 }
 
-impl<N: Held> EmitAt for VarDeclarator<N> {
+impl<N: LinkTarget> EmitAt for VarDeclarator<N> {
     ghost items = { λ n _. var_declarator N.answers N.items n };
 
     #[tactic(auto, unfolding(crate::specs::Decls::var_declarator))]
@@ -142,7 +142,7 @@ impl<N: Held> EmitAt for VarDeclarator<N> {
     }
 }
 
-impl<N: Held> Child for VarDeclarator<N> {
+impl<N: LinkTarget> Child for VarDeclarator<N> {
     ghost stands = { λ n. n.span };
 
     fn place(&self) -> Span {
@@ -152,9 +152,10 @@ impl<N: Held> Child for VarDeclarator<N> {
 
 impl<W: WriteJs, S: SourceMapper, C: Comments> Emitter<'_, W, S, C> {
     /// Writes declarators, with commas between.
-    fn declarators<N: Held>(&mut self, span: Span, nodes: &Vec<VarDeclarator<N>>)
-        ensures items { Makes (declarators N.answers N.items span nodes.now.items) (standing_of S.lines C.maps W.sheet self.old) (standing_of S.lines C.maps W.sheet self.new) }
-        ensures level { Stays (standing_of S.lines C.maps W.sheet self.old) (standing_of S.lines C.maps W.sheet self.new) }
+    fn declarators<N: LinkTarget>(&mut self, span: Span, nodes: &Vec<VarDeclarator<N>>)
+        ensures items { Performs (declarators N.answers N.items span nodes.now.items)
+            S.lines C.maps W.sheet self.old self.new }
+        ensures level { KeepsLevel S.lines C.maps W.sheet self.old self.new }
     {
         self.list(declarators_format(), span, nodes)
     }
@@ -162,8 +163,8 @@ impl<W: WriteJs, S: SourceMapper, C: Comments> Emitter<'_, W, S, C> {
     /// Writes `var`, `let` or `const`.
     #[tactic(auto, unfolding(crate::specs::Decls::var_kind))]
     fn var_kind(&mut self, kind: VarDeclKind)
-        ensures items { Makes (var_kind kind) (standing_of S.lines C.maps W.sheet self.old) (standing_of S.lines C.maps W.sheet self.new) }
-        ensures level { Stays (standing_of S.lines C.maps W.sheet self.old) (standing_of S.lines C.maps W.sheet self.new) }
+        ensures items { Performs (var_kind kind) S.lines C.maps W.sheet self.old self.new }
+        ensures level { KeepsLevel S.lines C.maps W.sheet self.old self.new }
     {
         match kind {
             VarDeclKind::Var => self.keyword(None, "var"),
@@ -175,8 +176,8 @@ impl<W: WriteJs, S: SourceMapper, C: Comments> Emitter<'_, W, S, C> {
     /// Writes `await` and a blank, where it is so.
     #[tactic(auto, unfolding(crate::specs::Decls::await_word))]
     fn await_word(&mut self, wanted: bool)
-        ensures items { Makes (await_word wanted) (standing_of S.lines C.maps W.sheet self.old) (standing_of S.lines C.maps W.sheet self.new) }
-        ensures level { Stays (standing_of S.lines C.maps W.sheet self.old) (standing_of S.lines C.maps W.sheet self.new) }
+        ensures items { Performs (await_word wanted) S.lines C.maps W.sheet self.old self.new }
+        ensures level { KeepsLevel S.lines C.maps W.sheet self.old self.new }
     {
         if wanted {
             self.keyword(None, "await");
@@ -186,12 +187,14 @@ impl<W: WriteJs, S: SourceMapper, C: Comments> Emitter<'_, W, S, C> {
 
     /// Writes a class, or what of it stands before or after `export`.
     #[tactic(auto, unfolding(crate::specs::Decls::by_export))]
-    fn class_by_place<N: Held>(&mut self, node: &ClassDecl<N>, place: Place)
-        ensures items { Makes (by_export place (N.items node.now.class.node.value ClassHead) (exported_class N.answers N.items node.now) (class_decl N.answers N.items node.now)) (standing_of S.lines C.maps W.sheet self.old) (standing_of S.lines C.maps W.sheet self.new) }
-        ensures level { Stays (standing_of S.lines C.maps W.sheet self.old) (standing_of S.lines C.maps W.sheet self.new) }
+    fn class_by_place<N: LinkTarget>(&mut self, node: &ClassDecl<N>, place: Place)
+        ensures items { Performs (by_export place (N.items node.now.class.node.value ClassHead)
+            (exported_class N.answers N.items node.now) (class_decl N.answers N.items node.now))
+            S.lines C.maps W.sheet self.old self.new }
+        ensures level { KeepsLevel S.lines C.maps W.sheet self.old self.new }
     {
         match place {
-            Place::ExportedHead => node.class.held().emit_at(self, Place::ClassHead),
+            Place::ExportedHead => node.class.target().emit_at(self, Place::ClassHead),
             Place::ExportedTail => self.exported_class(node),
             _ => node.emit_at(self, Place::Plain),
         }
@@ -199,25 +202,27 @@ impl<W: WriteJs, S: SourceMapper, C: Comments> Emitter<'_, W, S, C> {
 
     /// Writes what of a class stands after `export`.
     #[tactic(auto, unfolding(crate::specs::Decls::exported_class))]
-    fn exported_class<N: Held>(&mut self, node: &ClassDecl<N>)
-        ensures items { Makes (exported_class N.answers N.items node.now) (standing_of S.lines C.maps W.sheet self.old) (standing_of S.lines C.maps W.sheet self.new) }
-        ensures level { Stays (standing_of S.lines C.maps W.sheet self.old) (standing_of S.lines C.maps W.sheet self.new) }
+    fn exported_class<N: LinkTarget>(&mut self, node: &ClassDecl<N>)
+        ensures items { Performs (exported_class N.answers N.items node.now)
+            S.lines C.maps W.sheet self.old self.new }
+        ensures level { KeepsLevel S.lines C.maps W.sheet self.old self.new }
     {
-        let span = node.class.held().place();
+        let span = node.class.target().place();
         self.leading_comments(span.lo);
         self.start_of(span);
         self.declare_word(node.declare);
-        node.class.held().emit_at(self, Place::ClassWord);
+        node.class.target().emit_at(self, Place::ClassWord);
         self.space();
         node.ident.emit_at(self, Place::Plain);
-        node.class.held().emit_at(self, Place::Plain);
+        node.class.target().emit_at(self, Place::Plain);
     }
 
     /// Writes a function, before `export` nothing.
     #[tactic(auto, unfolding(crate::specs::Decls::without_head, crate::specs::Decls::by_export))]
-    fn fn_by_place<N: Held>(&mut self, node: &FnDecl<N>, place: Place)
-        ensures items { Makes (without_head place (fn_decl N.answers N.items node.now)) (standing_of S.lines C.maps W.sheet self.old) (standing_of S.lines C.maps W.sheet self.new) }
-        ensures level { Stays (standing_of S.lines C.maps W.sheet self.old) (standing_of S.lines C.maps W.sheet self.new) }
+    fn fn_by_place<N: LinkTarget>(&mut self, node: &FnDecl<N>, place: Place)
+        ensures items { Performs (without_head place (fn_decl N.answers N.items node.now))
+            S.lines C.maps W.sheet self.old self.new }
+        ensures level { KeepsLevel S.lines C.maps W.sheet self.old self.new }
     {
         match place {
             Place::ExportedHead => {}
@@ -227,9 +232,10 @@ impl<W: WriteJs, S: SourceMapper, C: Comments> Emitter<'_, W, S, C> {
 
     /// Writes variables, before `export` nothing.
     #[tactic(auto, unfolding(crate::specs::Decls::without_head, crate::specs::Decls::by_export, crate::specs::Decls::variables))]
-    fn var_by_place<N: Held>(&mut self, node: &VarDecl<N>, place: Place)
-        ensures items { Makes (without_head place (variables N.answers N.items node.now place)) (standing_of S.lines C.maps W.sheet self.old) (standing_of S.lines C.maps W.sheet self.new) }
-        ensures level { Stays (standing_of S.lines C.maps W.sheet self.old) (standing_of S.lines C.maps W.sheet self.new) }
+    fn var_by_place<N: LinkTarget>(&mut self, node: &VarDecl<N>, place: Place)
+        ensures items { Performs (without_head place (variables N.answers N.items node.now place))
+            S.lines C.maps W.sheet self.old self.new }
+        ensures level { KeepsLevel S.lines C.maps W.sheet self.old self.new }
     {
         match place {
             Place::ExportedHead => {}
@@ -243,9 +249,10 @@ impl<W: WriteJs, S: SourceMapper, C: Comments> Emitter<'_, W, S, C> {
 
     /// Writes resources, before `export` nothing.
     #[tactic(auto, unfolding(crate::specs::Decls::without_head, crate::specs::Decls::by_export, crate::specs::Decls::resources))]
-    fn using_by_place<N: Held>(&mut self, node: &UsingDecl<N>, place: Place)
-        ensures items { Makes (without_head place (resources N.answers N.items node.now)) (standing_of S.lines C.maps W.sheet self.old) (standing_of S.lines C.maps W.sheet self.new) }
-        ensures level { Stays (standing_of S.lines C.maps W.sheet self.old) (standing_of S.lines C.maps W.sheet self.new) }
+    fn using_by_place<N: LinkTarget>(&mut self, node: &UsingDecl<N>, place: Place)
+        ensures items { Performs (without_head place (resources N.answers N.items node.now))
+            S.lines C.maps W.sheet self.old self.new }
+        ensures level { KeepsLevel S.lines C.maps W.sheet self.old self.new }
     {
         match place {
             Place::ExportedHead => {}
@@ -258,9 +265,10 @@ impl<W: WriteJs, S: SourceMapper, C: Comments> Emitter<'_, W, S, C> {
 
     /// Writes an interface, before `export` nothing.
     #[tactic(auto, unfolding(crate::specs::Decls::without_head, crate::specs::Decls::by_export))]
-    fn interface_by_place<N: Held>(&mut self, node: &TsInterfaceDecl<N>, place: Place)
-        ensures items { Makes (without_head place (ts_interface_decl N.answers N.items node.now)) (standing_of S.lines C.maps W.sheet self.old) (standing_of S.lines C.maps W.sheet self.new) }
-        ensures level { Stays (standing_of S.lines C.maps W.sheet self.old) (standing_of S.lines C.maps W.sheet self.new) }
+    fn interface_by_place<N: LinkTarget>(&mut self, node: &TsInterfaceDecl<N>, place: Place)
+        ensures items { Performs (without_head place (ts_interface_decl N.answers N.items node.now))
+            S.lines C.maps W.sheet self.old self.new }
+        ensures level { KeepsLevel S.lines C.maps W.sheet self.old self.new }
     {
         match place {
             Place::ExportedHead => {}
@@ -270,9 +278,10 @@ impl<W: WriteJs, S: SourceMapper, C: Comments> Emitter<'_, W, S, C> {
 
     /// Writes an alias of a type, before `export` nothing.
     #[tactic(auto, unfolding(crate::specs::Decls::without_head, crate::specs::Decls::by_export))]
-    fn alias_by_place<N: Held>(&mut self, node: &TsTypeAliasDecl<N>, place: Place)
-        ensures items { Makes (without_head place (ts_type_alias_decl N.items node.now)) (standing_of S.lines C.maps W.sheet self.old) (standing_of S.lines C.maps W.sheet self.new) }
-        ensures level { Stays (standing_of S.lines C.maps W.sheet self.old) (standing_of S.lines C.maps W.sheet self.new) }
+    fn alias_by_place<N: LinkTarget>(&mut self, node: &TsTypeAliasDecl<N>, place: Place)
+        ensures items { Performs (without_head place (ts_type_alias_decl N.items node.now))
+            S.lines C.maps W.sheet self.old self.new }
+        ensures level { KeepsLevel S.lines C.maps W.sheet self.old self.new }
     {
         match place {
             Place::ExportedHead => {}
@@ -282,9 +291,10 @@ impl<W: WriteJs, S: SourceMapper, C: Comments> Emitter<'_, W, S, C> {
 
     /// Writes an enum, before `export` nothing.
     #[tactic(auto, unfolding(crate::specs::Decls::without_head, crate::specs::Decls::by_export))]
-    fn enum_by_place<N: Held>(&mut self, node: &TsEnumDecl<N>, place: Place)
-        ensures items { Makes (without_head place (ts_enum_decl N.items node.now)) (standing_of S.lines C.maps W.sheet self.old) (standing_of S.lines C.maps W.sheet self.new) }
-        ensures level { Stays (standing_of S.lines C.maps W.sheet self.old) (standing_of S.lines C.maps W.sheet self.new) }
+    fn enum_by_place<N: LinkTarget>(&mut self, node: &TsEnumDecl<N>, place: Place)
+        ensures items { Performs (without_head place (ts_enum_decl N.items node.now))
+            S.lines C.maps W.sheet self.old self.new }
+        ensures level { KeepsLevel S.lines C.maps W.sheet self.old self.new }
     {
         match place {
             Place::ExportedHead => {}
@@ -294,9 +304,10 @@ impl<W: WriteJs, S: SourceMapper, C: Comments> Emitter<'_, W, S, C> {
 
     /// Writes a namespace or a module, before `export` nothing.
     #[tactic(auto, unfolding(crate::specs::Decls::without_head, crate::specs::Decls::by_export))]
-    fn module_by_place<N: Held>(&mut self, node: &TsModuleDecl<N>, place: Place)
-        ensures items { Makes (without_head place (ts_module_decl N.items node.now)) (standing_of S.lines C.maps W.sheet self.old) (standing_of S.lines C.maps W.sheet self.new) }
-        ensures level { Stays (standing_of S.lines C.maps W.sheet self.old) (standing_of S.lines C.maps W.sheet self.new) }
+    fn module_by_place<N: LinkTarget>(&mut self, node: &TsModuleDecl<N>, place: Place)
+        ensures items { Performs (without_head place (ts_module_decl N.items node.now))
+            S.lines C.maps W.sheet self.old self.new }
+        ensures level { KeepsLevel S.lines C.maps W.sheet self.old self.new }
     {
         match place {
             Place::ExportedHead => {}
@@ -307,8 +318,8 @@ impl<W: WriteJs, S: SourceMapper, C: Comments> Emitter<'_, W, S, C> {
     /// Records the end of a declaration of variables, unless it is a statement.
     #[tactic(auto, unfolding(crate::specs::Decls::decl_end))]
     fn decl_end(&mut self, place: Place, span: Span)
-        ensures items { Makes (decl_end place span) (standing_of S.lines C.maps W.sheet self.old) (standing_of S.lines C.maps W.sheet self.new) }
-        ensures level { Stays (standing_of S.lines C.maps W.sheet self.old) (standing_of S.lines C.maps W.sheet self.new) }
+        ensures items { Performs (decl_end place span) S.lines C.maps W.sheet self.old self.new }
+        ensures level { KeepsLevel S.lines C.maps W.sheet self.old self.new }
     {
         match place {
             Place::Statement => {}

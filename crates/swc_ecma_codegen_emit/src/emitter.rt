@@ -2,7 +2,7 @@
 
 ghost use Rattle.std.specs.Prelude.{◌≡◌, ◌≢◌, false, true, IsTrue, is_none, IfErr, OnErr, OnOk, Err, IsOk};
 ghost use Rattle.swc_ecma_codegen_common.specs.Refusals.{in_short, reason_of};
-ghost use Rattle.swc_ecma_codegen_text_writer.specs.Told.{IsFront};
+ghost use Rattle.swc_ecma_codegen_text_writer.specs.Told.{IsPrefix};
 ghost use Rattle.swc_ecma_codegen_tokens.specs.Run.{Follows, HasCause, IsUnhindered, maps_after, nothing, printed, makes_text, spoken, steps_in, steps_of, start, taken_in};
 
 use crate::nodes::{EmitAt, Place};
@@ -54,7 +54,8 @@ impl<'a, W: WriteJs, S: SourceMapper, C: Comments> Emitter<'a, W, S, C> {
 
     /// An emitter that has written nothing. Takes no memory.
     pub fn new(alloc: Global, cfg: Config, cm: &'a S, comments: Option<C>, wr: W) -> Self
-        ensures state { state_of S.lines C.maps W.sheet result ≡ start (S.lines cm.now) (maps_in C.maps comments) cfg (W.sheet wr) }
+        ensures state { state_of S.lines C.maps W.sheet result
+            ≡ start (S.lines cm.now) (maps_in C.maps comments) cfg (W.sheet wr) }
         ensures wr { result.wr ≡ wr }
     {
         Emitter {
@@ -71,17 +72,28 @@ impl<'a, W: WriteJs, S: SourceMapper, C: Comments> Emitter<'a, W, S, C> {
     #[tactic(auto, using(swc_ecma_codegen_tokens::proofs::Emitting::emits_nothing, swc_ecma_codegen_tokens::proofs::Fronts::follows_failed, swc_ecma_codegen_tokens::proofs::Fronts::follows_front, swc_ecma_codegen_tokens::proofs::Fronts::follows_marked, swc_ecma_codegen_tokens::proofs::Fronts::follows_cause, swc_ecma_codegen_tokens::proofs::Fronts::follows_succeeds))]
     pub(crate) fn emit<T: EmitAt>(&mut self, node: &T) -> Result
         // The steps of the tree are made, and it comes to no node that can't be printed; or it halts.
-        ensures items { Follows (T.items node.now Plain nothing) (state_of S.lines C.maps W.sheet self.old) (state_of S.lines C.maps W.sheet self.new) (in_short result) }
+        ensures items { Follows (T.items node.now Plain nothing)
+            (state_of S.lines C.maps W.sheet self.old)
+            (state_of S.lines C.maps W.sheet self.new) (in_short result) }
         // What is out is a beginning of the text of these steps.
-        ensures front { IsFront (W.sheet self.new.wr).text (printed (T.items node.now Plain) (state_of S.lines C.maps W.sheet self.old)).sheet.text }
+        ensures front { IsPrefix (W.sheet self.new.wr).text
+            (printed (T.items node.now Plain) (state_of
+            S.lines C.maps W.sheet self.old)).sheet.text }
         // It is refused only for the cause that the error names.
-        ensures cause { IfErr result (λ error. HasCause (steps_in (T.items node.now Plain) (state_of S.lines C.maps W.sheet self.old)) (reason_of error) (state_of S.lines C.maps W.sheet self.old) (state_of S.lines C.maps W.sheet self.new)) }
+        ensures cause { IfErr result (λ error.
+            HasCause (steps_in (T.items node.now Plain) (state_of S.lines C.maps W.sheet self.old))
+            (reason_of error) (state_of S.lines C.maps W.sheet self.old)
+            (state_of S.lines C.maps W.sheet self.new)) }
         // Where nothing stands in its way, it is made.
-        ensures succeeds { IsUnhindered (steps_in (T.items node.now Plain) (state_of S.lines C.maps W.sheet self.old)) (state_of S.lines C.maps W.sheet self.old) (state_of S.lines C.maps W.sheet self.new) → IsOk result }
+        ensures succeeds { IsUnhindered (steps_in (T.items node.now Plain)
+            (state_of S.lines C.maps W.sheet self.old)) (state_of S.lines C.maps W.sheet self.old)
+            (state_of S.lines C.maps W.sheet self.new) → IsOk result }
         ensures marked { OnErr result ((state_of S.lines C.maps W.sheet self.new).failed ≡ true) }
-        ensures failed { (state_of S.lines C.maps W.sheet self.old).failed ≡ true → result ≡ Err Error.Failed }
+        ensures failed { (state_of S.lines C.maps W.sheet self.old).failed ≡ true →
+            result ≡ Err Error.Failed }
         // The indentation is what it was.
-        ensures level { OnOk result ((W.sheet self.new.wr).indentation ≡ (W.sheet self.old.wr).indentation) }
+        ensures level { OnOk result ((W.sheet self.new.wr).indentation
+            ≡ (W.sheet self.old.wr).indentation) }
     {
         if self.lower.is_failed() {
             return Err(Error::Failed);
@@ -95,7 +107,8 @@ impl<'a, W: WriteJs, S: SourceMapper, C: Comments> Emitter<'a, W, S, C> {
     #[tactic(auto, unfolding(crate::specs::Standing::outcome))]
     fn answer(&mut self) -> Result
         ensures answer { in_short result ≡ outcome self.old.refusal }
-        ensures state { state_of S.lines C.maps W.sheet self.new ≡ state_of S.lines C.maps W.sheet self.old }
+        ensures state { state_of S.lines C.maps W.sheet self.new ≡ state_of
+            S.lines C.maps W.sheet self.old }
         ensures wr { self.new.wr ≡ self.old.wr }
     {
         match self.refusal {
@@ -108,45 +121,103 @@ impl<'a, W: WriteJs, S: SourceMapper, C: Comments> Emitter<'a, W, S, C> {
     #[tactic(auto, using(crate::proofs::TreeReads::program_reads, crate::proofs::TreeReads::steps_recorded, crate::proofs::TreeReads::steps_taken, crate::proofs::TreeReads::program_told, crate::proofs::ItemsTaken::program_leaves, crate::proofs::TreeReads::program_names, crate::proofs::TreeReads::program_places, crate::proofs::TreeReads::program_ascii, crate::proofs::TreeReads::program_safe, crate::proofs::TreeMade::program_made, swc_ecma_codegen_tokens::proofs::Made::ready_after, swc_ecma_codegen_tokens::proofs::Phrased::never_out_of_memory))]
     pub fn emit_program(&mut self, node: &Program) -> Result
         // The steps of the tree are made, and it comes to no node that can't be printed; or it halts.
-        ensures items { Follows (program any_answers any_items node.now nothing) (state_of S.lines C.maps W.sheet self.old) (state_of S.lines C.maps W.sheet self.new) (in_short result) }
+        ensures items { Follows (program any_answers any_items node.now nothing)
+            (state_of S.lines C.maps W.sheet self.old)
+            (state_of S.lines C.maps W.sheet self.new) (in_short result) }
         // What a new emitter adds to the text, of a well-formed tree, reads as one of the tree's token lists; with a hashbang, where
         // no indentation is due before it.
-        ensures reads { is_well_formed node.now ≡ true → MayBegin (OfProgram node.now) (state_of S.lines C.maps W.sheet self.old) → AreClosed (maps_in C.maps self.old.comments) → OnOk result (AddsReading self.old.cfg (program_phrase node.now) (taken_remarks (program any_answers any_items node.now) (state_of S.lines C.maps W.sheet self.old).env) (W.sheet self.old.wr) (W.sheet self.new.wr)) }
+        ensures reads { is_well_formed node.now ≡ true →
+            MayBegin (OfProgram node.now) (state_of S.lines C.maps W.sheet self.old) →
+            AreClosed (maps_in C.maps self.old.comments) →
+            OnOk result (AddsReading self.old.cfg (program_phrase node.now)
+            (taken_remarks (program any_answers any_items node.now)
+            (state_of S.lines C.maps W.sheet self.old).env) (W.sheet self.old.wr)
+            (W.sheet self.new.wr)) }
         // Each position that is recorded holds the place that the text had reached, and none is recorded twice.
         ensures recorded { OnOk result (RecordsTruly (W.sheet self.old.wr) (W.sheet self.new.wr)) }
         // What is gone from the comments is what was taken.
-        ensures taken { OnOk result ((maps_in C.maps self.new.comments) ≡ maps_after (steps_of (steps_in (program any_answers any_items node.now) (state_of S.lines C.maps W.sheet self.old))) (maps_in C.maps self.old.comments)) }
+        ensures taken { OnOk result ((maps_in C.maps self.new.comments)
+            ≡ maps_after (steps_of
+            (steps_in (program any_answers any_items node.now)
+            (state_of S.lines C.maps W.sheet self.old))) (maps_in C.maps self.old.comments)) }
         // Of a well-formed tree each of these is written, once, in order of taking.
-        ensures told { is_well_formed node.now ≡ true → (W.sheet self.old.wr).keeps_invalid ≡ false → OnOk result (spoken (steps_of (steps_in (program any_answers any_items node.now) (state_of S.lines C.maps W.sheet self.old))) ≡ texts_of (taken_in (steps_of (steps_in (program any_answers any_items node.now) (state_of S.lines C.maps W.sheet self.old))) (maps_in C.maps self.old.comments))) }
+        ensures told { is_well_formed node.now ≡ true →
+            (W.sheet self.old.wr).keeps_invalid ≡ false →
+            OnOk result (spoken
+            (steps_of (steps_in (program any_answers any_items node.now)
+            (state_of S.lines C.maps W.sheet self.old)))
+            ≡ texts_of (taken_in
+            (steps_of (steps_in (program any_answers any_items node.now)
+            (state_of S.lines C.maps W.sheet self.old))) (maps_in C.maps self.old.comments))) }
         // Of a well-formed module no comment is left before an item.
-        ensures left { is_well_formed node.now ≡ true → (W.sheet self.old.wr).keeps_invalid ≡ false → OnOk result (NoneBeforeBody node.now (maps_in C.maps self.new.comments)) }
+        ensures left { is_well_formed node.now ≡ true →
+            (W.sheet self.old.wr).keeps_invalid ≡ false →
+            OnOk result (NoneBeforeBody node.now (maps_in C.maps self.new.comments)) }
         // Where positions are kept, each name of a well-formed tree has its own where it begins, unless that is 0.
-        ensures names { is_well_formed node.now ≡ true → (W.sheet self.old.wr).keeps_positions ≡ true → (W.sheet self.old.wr).keeps_invalid ≡ false → OnOk result (RecordsNames self.old.cfg (names_in (program_phrase node.now)) (W.sheet self.old.wr) (W.sheet self.new.wr)) }
+        ensures names { is_well_formed node.now ≡ true →
+            (W.sheet self.old.wr).keeps_positions ≡ true →
+            (W.sheet self.old.wr).keeps_invalid ≡ false →
+            OnOk result (RecordsNames self.old.cfg (names_in (program_phrase node.now))
+            (W.sheet self.old.wr) (W.sheet self.new.wr)) }
         // Where positions are kept, each of these names stands as its own token behind those before it: what is before it reads as them.
-        ensures places { is_well_formed node.now ≡ true → MayBegin (OfProgram node.now) (state_of S.lines C.maps W.sheet self.old) → AreClosed (maps_in C.maps self.old.comments) → (W.sheet self.old.wr).keeps_positions ≡ true → OnOk result (PlacesNames self.old.cfg (program_phrase node.now) (taken_remarks (program any_answers any_items node.now) (state_of S.lines C.maps W.sheet self.old).env) (W.sheet self.old.wr) (W.sheet self.new.wr)) }
+        ensures places { is_well_formed node.now ≡ true →
+            MayBegin (OfProgram node.now) (state_of S.lines C.maps W.sheet self.old) →
+            AreClosed (maps_in C.maps self.old.comments) →
+            (W.sheet self.old.wr).keeps_positions ≡ true →
+            OnOk result (PlacesNames self.old.cfg (program_phrase node.now)
+            (taken_remarks (program any_answers any_items node.now)
+            (state_of S.lines C.maps W.sheet self.old).env) (W.sheet self.old.wr)
+            (W.sheet self.new.wr)) }
         // Where the settings ask for ASCII, what is added is, but for the texts that stand as they are in the tree and aren't (a
         // regular expression, a template with a tag, a hashbang, a directive with a backslash, names, strings and text of JSX), and those of
         // comments.
-        ensures ascii { is_well_formed node.now ≡ true → WantsAscii (state_of S.lines C.maps W.sheet self.old) → OnOk result (AddsAscii (other_texts (steps_of (steps_in (program any_answers any_items node.now) (state_of S.lines C.maps W.sheet self.old)))) (W.sheet self.old.wr).text (W.sheet self.new.wr).text) }
+        ensures ascii { is_well_formed node.now ≡ true →
+            WantsAscii (state_of S.lines C.maps W.sheet self.old) →
+            OnOk result (AddsAscii
+            (other_texts (steps_of
+            (steps_in (program any_answers any_items node.now)
+            (state_of S.lines C.maps W.sheet self.old)))) (W.sheet self.old.wr).text
+            (W.sheet self.new.wr).text) }
         // Under `inline_script` no string of a well-formed tree that is printed by its value ends a script of an HTML page, or
         // opens or closes a comment there: it holds no `<!--`, no `-->`, and no `</script` before `>` or ASCII whitespace.
-        ensures inline { is_well_formed node.now ≡ true → self.old.cfg.inline_script ≡ true → (W.sheet self.old.wr).keeps_invalid ≡ false → OnOk result (AddsSafe (value_strings (steps_of (steps_in (program any_answers any_items node.now) (state_of S.lines C.maps W.sheet self.old)))) (W.sheet self.old.wr).text (W.sheet self.new.wr).text) }
+        ensures inline { is_well_formed node.now ≡ true → self.old.cfg.inline_script ≡ true →
+            (W.sheet self.old.wr).keeps_invalid ≡ false →
+            OnOk result (AddsSafe
+            (value_strings (steps_of
+            (steps_in (program any_answers any_items node.now)
+            (state_of S.lines C.maps W.sheet self.old)))) (W.sheet self.old.wr).text
+            (W.sheet self.new.wr).text) }
         // What is out is a beginning of the text of these steps.
-        ensures front { IsFront (W.sheet self.new.wr).text (printed (program any_answers any_items node.now) (state_of S.lines C.maps W.sheet self.old)).sheet.text }
+        ensures front { IsPrefix (W.sheet self.new.wr).text
+            (printed (program any_answers any_items node.now)
+            (state_of S.lines C.maps W.sheet self.old)).sheet.text }
         // It is refused only for the cause that the error names.
-        ensures cause { IfErr result (λ error. HasCause (steps_in (program any_answers any_items node.now) (state_of S.lines C.maps W.sheet self.old)) (reason_of error) (state_of S.lines C.maps W.sheet self.old) (state_of S.lines C.maps W.sheet self.new)) }
+        ensures cause { IfErr result (λ error.
+            HasCause (steps_in (program any_answers any_items node.now)
+            (state_of S.lines C.maps W.sheet self.old)) (reason_of error)
+            (state_of S.lines C.maps W.sheet self.old) (state_of S.lines C.maps W.sheet self.new)) }
         // Where no text is made anew, and no call of the writer takes memory, none is wanting.
-        ensures no_memory { makes_text (steps_of (steps_in (program any_answers any_items node.now) (state_of S.lines C.maps W.sheet self.old))) ≡ false → (W.sheet self.old.wr).takes_memory ≡ false → result ≢ Err Error.OutOfMemory }
+        ensures no_memory { makes_text (steps_of
+            (steps_in (program any_answers any_items node.now)
+            (state_of S.lines C.maps W.sheet self.old))) ≡ false →
+            (W.sheet self.old.wr).takes_memory ≡ false → result ≢ Err Error.OutOfMemory }
         // Where nothing stands in its way, it is made.
-        ensures succeeds { IsUnhindered (steps_in (program any_answers any_items node.now) (state_of S.lines C.maps W.sheet self.old)) (state_of S.lines C.maps W.sheet self.old) (state_of S.lines C.maps W.sheet self.new) → IsOk result }
+        ensures succeeds { IsUnhindered (steps_in (program any_answers any_items node.now)
+            (state_of S.lines C.maps W.sheet self.old)) (state_of S.lines C.maps W.sheet self.old)
+            (state_of S.lines C.maps W.sheet self.new) → IsOk result }
         // Where it is ready, and the writer counts no fault, a plain tree is printed.
-        ensures made { IsPlainTree self.old.cfg (program_phrase node.now) (W.sheet self.old.wr).indentation → IsReady (state_of S.lines C.maps W.sheet self.old) → (W.sheet self.new.wr).faults ≡ (W.sheet self.old.wr).faults → IsOk result }
+        ensures made { IsPlainTree self.old.cfg (program_phrase node.now)
+            (W.sheet self.old.wr).indentation → IsReady (state_of S.lines C.maps W.sheet self.old) →
+            (W.sheet self.new.wr).faults ≡ (W.sheet self.old.wr).faults → IsOk result }
         // It is ready again for the next.
-        ensures ready { OnOk result (IsReady (state_of S.lines C.maps W.sheet self.old) → IsReady (state_of S.lines C.maps W.sheet self.new)) }
+        ensures ready { OnOk result (IsReady (state_of S.lines C.maps W.sheet self.old) →
+            IsReady (state_of S.lines C.maps W.sheet self.new)) }
         ensures marked { OnErr result ((state_of S.lines C.maps W.sheet self.new).failed ≡ true) }
-        ensures failed { (state_of S.lines C.maps W.sheet self.old).failed ≡ true → result ≡ Err Error.Failed }
+        ensures failed { (state_of S.lines C.maps W.sheet self.old).failed ≡ true →
+            result ≡ Err Error.Failed }
         // The indentation is what it was.
-        ensures level { OnOk result ((W.sheet self.new.wr).indentation ≡ (W.sheet self.old.wr).indentation) }
+        ensures level { OnOk result ((W.sheet self.new.wr).indentation
+            ≡ (W.sheet self.old.wr).indentation) }
     {
         self.emit(node)
     }
@@ -156,45 +227,104 @@ impl<'a, W: WriteJs, S: SourceMapper, C: Comments> Emitter<'a, W, S, C> {
     #[tactic(auto, using(crate::proofs::TreeReads::module_reads, crate::proofs::TreeReads::steps_recorded, crate::proofs::TreeReads::steps_taken, crate::proofs::TreeReads::module_told, crate::proofs::ItemsTaken::module_leaves, crate::proofs::TreeReads::module_names, crate::proofs::TreeReads::module_places, crate::proofs::TreeReads::module_ascii, crate::proofs::TreeReads::module_safe, crate::proofs::TreeMade::module_made, swc_ecma_codegen_tokens::proofs::Made::ready_after, swc_ecma_codegen_tokens::proofs::Phrased::never_out_of_memory))]
     pub fn emit_module(&mut self, node: &Module) -> Result
         // The steps of the tree are made, and it comes to no node that can't be printed; or it halts.
-        ensures items { Follows (whole_module any_answers any_items node.now nothing) (state_of S.lines C.maps W.sheet self.old) (state_of S.lines C.maps W.sheet self.new) (in_short result) }
+        ensures items { Follows (whole_module any_answers any_items node.now nothing)
+            (state_of S.lines C.maps W.sheet self.old)
+            (state_of S.lines C.maps W.sheet self.new) (in_short result) }
         // What a new emitter adds to the text, of a well-formed tree, reads as one of the tree's token lists; with a hashbang, where
         // no indentation is due before it.
-        ensures reads { is_well_formed (Program.Module node.now) ≡ true → MayBegin (OfModule node.now) (state_of S.lines C.maps W.sheet self.old) → AreClosed (maps_in C.maps self.old.comments) → OnOk result (AddsReading self.old.cfg (program_phrase (Program.Module node.now)) (taken_remarks (whole_module any_answers any_items node.now) (state_of S.lines C.maps W.sheet self.old).env) (W.sheet self.old.wr) (W.sheet self.new.wr)) }
+        ensures reads { is_well_formed (Program.Module node.now) ≡ true →
+            MayBegin (OfModule node.now) (state_of S.lines C.maps W.sheet self.old) →
+            AreClosed (maps_in C.maps self.old.comments) →
+            OnOk result (AddsReading self.old.cfg (program_phrase (Program.Module node.now))
+            (taken_remarks (whole_module any_answers any_items node.now)
+            (state_of S.lines C.maps W.sheet self.old).env) (W.sheet self.old.wr)
+            (W.sheet self.new.wr)) }
         // Each position that is recorded holds the place that the text had reached, and none is recorded twice.
         ensures recorded { OnOk result (RecordsTruly (W.sheet self.old.wr) (W.sheet self.new.wr)) }
         // What is gone from the comments is what was taken.
-        ensures taken { OnOk result ((maps_in C.maps self.new.comments) ≡ maps_after (steps_of (steps_in (whole_module any_answers any_items node.now) (state_of S.lines C.maps W.sheet self.old))) (maps_in C.maps self.old.comments)) }
+        ensures taken { OnOk result ((maps_in C.maps self.new.comments)
+            ≡ maps_after (steps_of
+            (steps_in (whole_module any_answers any_items node.now)
+            (state_of S.lines C.maps W.sheet self.old))) (maps_in C.maps self.old.comments)) }
         // Of a well-formed tree each of these is written, once, in order of taking.
-        ensures told { is_well_formed (Program.Module node.now) ≡ true → (W.sheet self.old.wr).keeps_invalid ≡ false → OnOk result (spoken (steps_of (steps_in (whole_module any_answers any_items node.now) (state_of S.lines C.maps W.sheet self.old))) ≡ texts_of (taken_in (steps_of (steps_in (whole_module any_answers any_items node.now) (state_of S.lines C.maps W.sheet self.old))) (maps_in C.maps self.old.comments))) }
+        ensures told { is_well_formed (Program.Module node.now) ≡ true →
+            (W.sheet self.old.wr).keeps_invalid ≡ false →
+            OnOk result (spoken
+            (steps_of (steps_in (whole_module any_answers any_items node.now)
+            (state_of S.lines C.maps W.sheet self.old)))
+            ≡ texts_of (taken_in
+            (steps_of (steps_in (whole_module any_answers any_items node.now)
+            (state_of S.lines C.maps W.sheet self.old))) (maps_in C.maps self.old.comments))) }
         // No comment is left before an item of a well-formed one.
-        ensures left { is_well_formed (Program.Module node.now) ≡ true → (W.sheet self.old.wr).keeps_invalid ≡ false → OnOk result (NoneBeforeItems node.now (maps_in C.maps self.new.comments)) }
+        ensures left { is_well_formed (Program.Module node.now) ≡ true →
+            (W.sheet self.old.wr).keeps_invalid ≡ false →
+            OnOk result (NoneBeforeItems node.now (maps_in C.maps self.new.comments)) }
         // Where positions are kept, each name of a well-formed tree has its own where it begins, unless that is 0.
-        ensures names { is_well_formed (Program.Module node.now) ≡ true → (W.sheet self.old.wr).keeps_positions ≡ true → (W.sheet self.old.wr).keeps_invalid ≡ false → OnOk result (RecordsNames self.old.cfg (names_in (program_phrase (Program.Module node.now))) (W.sheet self.old.wr) (W.sheet self.new.wr)) }
+        ensures names { is_well_formed (Program.Module node.now) ≡ true →
+            (W.sheet self.old.wr).keeps_positions ≡ true →
+            (W.sheet self.old.wr).keeps_invalid ≡ false →
+            OnOk result (RecordsNames self.old.cfg
+            (names_in (program_phrase (Program.Module node.now))) (W.sheet self.old.wr)
+            (W.sheet self.new.wr)) }
         // Where positions are kept, each of these names stands as its own token behind those before it: what is before it reads as them.
-        ensures places { is_well_formed (Program.Module node.now) ≡ true → MayBegin (OfModule node.now) (state_of S.lines C.maps W.sheet self.old) → AreClosed (maps_in C.maps self.old.comments) → (W.sheet self.old.wr).keeps_positions ≡ true → OnOk result (PlacesNames self.old.cfg (program_phrase (Program.Module node.now)) (taken_remarks (whole_module any_answers any_items node.now) (state_of S.lines C.maps W.sheet self.old).env) (W.sheet self.old.wr) (W.sheet self.new.wr)) }
+        ensures places { is_well_formed (Program.Module node.now) ≡ true →
+            MayBegin (OfModule node.now) (state_of S.lines C.maps W.sheet self.old) →
+            AreClosed (maps_in C.maps self.old.comments) →
+            (W.sheet self.old.wr).keeps_positions ≡ true →
+            OnOk result (PlacesNames self.old.cfg (program_phrase (Program.Module node.now))
+            (taken_remarks (whole_module any_answers any_items node.now)
+            (state_of S.lines C.maps W.sheet self.old).env) (W.sheet self.old.wr)
+            (W.sheet self.new.wr)) }
         // Where the settings ask for ASCII, what is added is, but for the texts that stand as they are in the tree and aren't (a
         // regular expression, a template with a tag, a hashbang, a directive with a backslash, names, strings and text of JSX), and those of
         // comments.
-        ensures ascii { is_well_formed (Program.Module node.now) ≡ true → WantsAscii (state_of S.lines C.maps W.sheet self.old) → OnOk result (AddsAscii (other_texts (steps_of (steps_in (whole_module any_answers any_items node.now) (state_of S.lines C.maps W.sheet self.old)))) (W.sheet self.old.wr).text (W.sheet self.new.wr).text) }
+        ensures ascii { is_well_formed (Program.Module node.now) ≡ true →
+            WantsAscii (state_of S.lines C.maps W.sheet self.old) →
+            OnOk result (AddsAscii
+            (other_texts (steps_of
+            (steps_in (whole_module any_answers any_items node.now)
+            (state_of S.lines C.maps W.sheet self.old)))) (W.sheet self.old.wr).text
+            (W.sheet self.new.wr).text) }
         // Under `inline_script` no string of a well-formed tree that is printed by its value ends a script of an HTML page, or
         // opens or closes a comment there: it holds no `<!--`, no `-->`, and no `</script` before `>` or ASCII whitespace.
-        ensures inline { is_well_formed (Program.Module node.now) ≡ true → self.old.cfg.inline_script ≡ true → (W.sheet self.old.wr).keeps_invalid ≡ false → OnOk result (AddsSafe (value_strings (steps_of (steps_in (whole_module any_answers any_items node.now) (state_of S.lines C.maps W.sheet self.old)))) (W.sheet self.old.wr).text (W.sheet self.new.wr).text) }
+        ensures inline { is_well_formed (Program.Module node.now) ≡ true →
+            self.old.cfg.inline_script ≡ true → (W.sheet self.old.wr).keeps_invalid ≡ false →
+            OnOk result (AddsSafe
+            (value_strings (steps_of
+            (steps_in (whole_module any_answers any_items node.now)
+            (state_of S.lines C.maps W.sheet self.old)))) (W.sheet self.old.wr).text
+            (W.sheet self.new.wr).text) }
         // What is out is a beginning of the text of these steps.
-        ensures front { IsFront (W.sheet self.new.wr).text (printed (whole_module any_answers any_items node.now) (state_of S.lines C.maps W.sheet self.old)).sheet.text }
+        ensures front { IsPrefix (W.sheet self.new.wr).text
+            (printed (whole_module any_answers any_items node.now)
+            (state_of S.lines C.maps W.sheet self.old)).sheet.text }
         // It is refused only for the cause that the error names.
-        ensures cause { IfErr result (λ error. HasCause (steps_in (whole_module any_answers any_items node.now) (state_of S.lines C.maps W.sheet self.old)) (reason_of error) (state_of S.lines C.maps W.sheet self.old) (state_of S.lines C.maps W.sheet self.new)) }
+        ensures cause { IfErr result (λ error.
+            HasCause (steps_in (whole_module any_answers any_items node.now)
+            (state_of S.lines C.maps W.sheet self.old)) (reason_of error)
+            (state_of S.lines C.maps W.sheet self.old) (state_of S.lines C.maps W.sheet self.new)) }
         // Where no text is made anew, and no call of the writer takes memory, none is wanting.
-        ensures no_memory { makes_text (steps_of (steps_in (whole_module any_answers any_items node.now) (state_of S.lines C.maps W.sheet self.old))) ≡ false → (W.sheet self.old.wr).takes_memory ≡ false → result ≢ Err Error.OutOfMemory }
+        ensures no_memory { makes_text (steps_of
+            (steps_in (whole_module any_answers any_items node.now)
+            (state_of S.lines C.maps W.sheet self.old))) ≡ false →
+            (W.sheet self.old.wr).takes_memory ≡ false → result ≢ Err Error.OutOfMemory }
         // Where nothing stands in its way, it is made.
-        ensures succeeds { IsUnhindered (steps_in (whole_module any_answers any_items node.now) (state_of S.lines C.maps W.sheet self.old)) (state_of S.lines C.maps W.sheet self.old) (state_of S.lines C.maps W.sheet self.new) → IsOk result }
+        ensures succeeds { IsUnhindered (steps_in (whole_module any_answers any_items node.now)
+            (state_of S.lines C.maps W.sheet self.old)) (state_of S.lines C.maps W.sheet self.old)
+            (state_of S.lines C.maps W.sheet self.new) → IsOk result }
         // Where it is ready, and the writer counts no fault, a plain tree is printed.
-        ensures made { IsPlainTree self.old.cfg (program_phrase (Program.Module node.now)) (W.sheet self.old.wr).indentation → IsReady (state_of S.lines C.maps W.sheet self.old) → (W.sheet self.new.wr).faults ≡ (W.sheet self.old.wr).faults → IsOk result }
+        ensures made { IsPlainTree self.old.cfg (program_phrase (Program.Module node.now))
+            (W.sheet self.old.wr).indentation → IsReady (state_of S.lines C.maps W.sheet self.old) →
+            (W.sheet self.new.wr).faults ≡ (W.sheet self.old.wr).faults → IsOk result }
         // It is ready again for the next.
-        ensures ready { OnOk result (IsReady (state_of S.lines C.maps W.sheet self.old) → IsReady (state_of S.lines C.maps W.sheet self.new)) }
+        ensures ready { OnOk result (IsReady (state_of S.lines C.maps W.sheet self.old) →
+            IsReady (state_of S.lines C.maps W.sheet self.new)) }
         ensures marked { OnErr result ((state_of S.lines C.maps W.sheet self.new).failed ≡ true) }
-        ensures failed { (state_of S.lines C.maps W.sheet self.old).failed ≡ true → result ≡ Err Error.Failed }
+        ensures failed { (state_of S.lines C.maps W.sheet self.old).failed ≡ true →
+            result ≡ Err Error.Failed }
         // The indentation is what it was.
-        ensures level { OnOk result ((W.sheet self.new.wr).indentation ≡ (W.sheet self.old.wr).indentation) }
+        ensures level { OnOk result ((W.sheet self.new.wr).indentation
+            ≡ (W.sheet self.old.wr).indentation) }
     {
         self.emit(node)
     }
@@ -204,43 +334,100 @@ impl<'a, W: WriteJs, S: SourceMapper, C: Comments> Emitter<'a, W, S, C> {
     #[tactic(auto, using(crate::proofs::TreeReads::script_reads, crate::proofs::TreeReads::steps_recorded, crate::proofs::TreeReads::steps_taken, crate::proofs::TreeReads::script_told, crate::proofs::TreeReads::script_names, crate::proofs::TreeReads::script_places, crate::proofs::TreeReads::script_ascii, crate::proofs::TreeReads::script_safe, crate::proofs::TreeMade::script_made, swc_ecma_codegen_tokens::proofs::Made::ready_after, swc_ecma_codegen_tokens::proofs::Phrased::never_out_of_memory))]
     pub fn emit_script(&mut self, node: &Script) -> Result
         // The steps of the tree are made, and it comes to no node that can't be printed; or it halts.
-        ensures items { Follows (script any_answers any_items node.now nothing) (state_of S.lines C.maps W.sheet self.old) (state_of S.lines C.maps W.sheet self.new) (in_short result) }
+        ensures items { Follows (script any_answers any_items node.now nothing)
+            (state_of S.lines C.maps W.sheet self.old)
+            (state_of S.lines C.maps W.sheet self.new) (in_short result) }
         // What a new emitter adds to the text, of a well-formed tree, reads as one of the tree's token lists; with a hashbang, where
         // no indentation is due before it.
-        ensures reads { is_well_formed (Program.Script node.now) ≡ true → MayBegin (OfScript node.now) (state_of S.lines C.maps W.sheet self.old) → AreClosed (maps_in C.maps self.old.comments) → OnOk result (AddsReading self.old.cfg (program_phrase (Program.Script node.now)) (taken_remarks (script any_answers any_items node.now) (state_of S.lines C.maps W.sheet self.old).env) (W.sheet self.old.wr) (W.sheet self.new.wr)) }
+        ensures reads { is_well_formed (Program.Script node.now) ≡ true →
+            MayBegin (OfScript node.now) (state_of S.lines C.maps W.sheet self.old) →
+            AreClosed (maps_in C.maps self.old.comments) →
+            OnOk result (AddsReading self.old.cfg (program_phrase (Program.Script node.now))
+            (taken_remarks (script any_answers any_items node.now)
+            (state_of S.lines C.maps W.sheet self.old).env) (W.sheet self.old.wr)
+            (W.sheet self.new.wr)) }
         // Each position that is recorded holds the place that the text had reached, and none is recorded twice.
         ensures recorded { OnOk result (RecordsTruly (W.sheet self.old.wr) (W.sheet self.new.wr)) }
         // What is gone from the comments is what was taken.
-        ensures taken { OnOk result ((maps_in C.maps self.new.comments) ≡ maps_after (steps_of (steps_in (script any_answers any_items node.now) (state_of S.lines C.maps W.sheet self.old))) (maps_in C.maps self.old.comments)) }
+        ensures taken { OnOk result ((maps_in C.maps self.new.comments)
+            ≡ maps_after (steps_of
+            (steps_in (script any_answers any_items node.now)
+            (state_of S.lines C.maps W.sheet self.old))) (maps_in C.maps self.old.comments)) }
         // Of a well-formed tree each of these is written, once, in order of taking.
-        ensures told { is_well_formed (Program.Script node.now) ≡ true → (W.sheet self.old.wr).keeps_invalid ≡ false → OnOk result (spoken (steps_of (steps_in (script any_answers any_items node.now) (state_of S.lines C.maps W.sheet self.old))) ≡ texts_of (taken_in (steps_of (steps_in (script any_answers any_items node.now) (state_of S.lines C.maps W.sheet self.old))) (maps_in C.maps self.old.comments))) }
+        ensures told { is_well_formed (Program.Script node.now) ≡ true →
+            (W.sheet self.old.wr).keeps_invalid ≡ false →
+            OnOk result (spoken
+            (steps_of (steps_in (script any_answers any_items node.now)
+            (state_of S.lines C.maps W.sheet self.old)))
+            ≡ texts_of (taken_in
+            (steps_of (steps_in (script any_answers any_items node.now)
+            (state_of S.lines C.maps W.sheet self.old))) (maps_in C.maps self.old.comments))) }
         // Where positions are kept, each name of a well-formed tree has its own where it begins, unless that is 0.
-        ensures names { is_well_formed (Program.Script node.now) ≡ true → (W.sheet self.old.wr).keeps_positions ≡ true → (W.sheet self.old.wr).keeps_invalid ≡ false → OnOk result (RecordsNames self.old.cfg (names_in (program_phrase (Program.Script node.now))) (W.sheet self.old.wr) (W.sheet self.new.wr)) }
+        ensures names { is_well_formed (Program.Script node.now) ≡ true →
+            (W.sheet self.old.wr).keeps_positions ≡ true →
+            (W.sheet self.old.wr).keeps_invalid ≡ false →
+            OnOk result (RecordsNames self.old.cfg
+            (names_in (program_phrase (Program.Script node.now))) (W.sheet self.old.wr)
+            (W.sheet self.new.wr)) }
         // Where positions are kept, each of these names stands as its own token behind those before it: what is before it reads as them.
-        ensures places { is_well_formed (Program.Script node.now) ≡ true → MayBegin (OfScript node.now) (state_of S.lines C.maps W.sheet self.old) → AreClosed (maps_in C.maps self.old.comments) → (W.sheet self.old.wr).keeps_positions ≡ true → OnOk result (PlacesNames self.old.cfg (program_phrase (Program.Script node.now)) (taken_remarks (script any_answers any_items node.now) (state_of S.lines C.maps W.sheet self.old).env) (W.sheet self.old.wr) (W.sheet self.new.wr)) }
+        ensures places { is_well_formed (Program.Script node.now) ≡ true →
+            MayBegin (OfScript node.now) (state_of S.lines C.maps W.sheet self.old) →
+            AreClosed (maps_in C.maps self.old.comments) →
+            (W.sheet self.old.wr).keeps_positions ≡ true →
+            OnOk result (PlacesNames self.old.cfg (program_phrase (Program.Script node.now))
+            (taken_remarks (script any_answers any_items node.now)
+            (state_of S.lines C.maps W.sheet self.old).env) (W.sheet self.old.wr)
+            (W.sheet self.new.wr)) }
         // Where the settings ask for ASCII, what is added is, but for the texts that stand as they are in the tree and aren't (a
         // regular expression, a template with a tag, a hashbang, a directive with a backslash, names, strings and text of JSX), and those of
         // comments.
-        ensures ascii { is_well_formed (Program.Script node.now) ≡ true → WantsAscii (state_of S.lines C.maps W.sheet self.old) → OnOk result (AddsAscii (other_texts (steps_of (steps_in (script any_answers any_items node.now) (state_of S.lines C.maps W.sheet self.old)))) (W.sheet self.old.wr).text (W.sheet self.new.wr).text) }
+        ensures ascii { is_well_formed (Program.Script node.now) ≡ true →
+            WantsAscii (state_of S.lines C.maps W.sheet self.old) →
+            OnOk result (AddsAscii
+            (other_texts (steps_of
+            (steps_in (script any_answers any_items node.now)
+            (state_of S.lines C.maps W.sheet self.old)))) (W.sheet self.old.wr).text
+            (W.sheet self.new.wr).text) }
         // Under `inline_script` no string of a well-formed tree that is printed by its value ends a script of an HTML page, or
         // opens or closes a comment there: it holds no `<!--`, no `-->`, and no `</script` before `>` or ASCII whitespace.
-        ensures inline { is_well_formed (Program.Script node.now) ≡ true → self.old.cfg.inline_script ≡ true → (W.sheet self.old.wr).keeps_invalid ≡ false → OnOk result (AddsSafe (value_strings (steps_of (steps_in (script any_answers any_items node.now) (state_of S.lines C.maps W.sheet self.old)))) (W.sheet self.old.wr).text (W.sheet self.new.wr).text) }
+        ensures inline { is_well_formed (Program.Script node.now) ≡ true →
+            self.old.cfg.inline_script ≡ true → (W.sheet self.old.wr).keeps_invalid ≡ false →
+            OnOk result (AddsSafe
+            (value_strings (steps_of
+            (steps_in (script any_answers any_items node.now)
+            (state_of S.lines C.maps W.sheet self.old)))) (W.sheet self.old.wr).text
+            (W.sheet self.new.wr).text) }
         // What is out is a beginning of the text of these steps.
-        ensures front { IsFront (W.sheet self.new.wr).text (printed (script any_answers any_items node.now) (state_of S.lines C.maps W.sheet self.old)).sheet.text }
+        ensures front { IsPrefix (W.sheet self.new.wr).text
+            (printed (script any_answers any_items node.now)
+            (state_of S.lines C.maps W.sheet self.old)).sheet.text }
         // It is refused only for the cause that the error names.
-        ensures cause { IfErr result (λ error. HasCause (steps_in (script any_answers any_items node.now) (state_of S.lines C.maps W.sheet self.old)) (reason_of error) (state_of S.lines C.maps W.sheet self.old) (state_of S.lines C.maps W.sheet self.new)) }
+        ensures cause { IfErr result (λ error.
+            HasCause (steps_in (script any_answers any_items node.now)
+            (state_of S.lines C.maps W.sheet self.old)) (reason_of error)
+            (state_of S.lines C.maps W.sheet self.old) (state_of S.lines C.maps W.sheet self.new)) }
         // Where no text is made anew, and no call of the writer takes memory, none is wanting.
-        ensures no_memory { makes_text (steps_of (steps_in (script any_answers any_items node.now) (state_of S.lines C.maps W.sheet self.old))) ≡ false → (W.sheet self.old.wr).takes_memory ≡ false → result ≢ Err Error.OutOfMemory }
+        ensures no_memory { makes_text (steps_of
+            (steps_in (script any_answers any_items node.now)
+            (state_of S.lines C.maps W.sheet self.old))) ≡ false →
+            (W.sheet self.old.wr).takes_memory ≡ false → result ≢ Err Error.OutOfMemory }
         // Where nothing stands in its way, it is made.
-        ensures succeeds { IsUnhindered (steps_in (script any_answers any_items node.now) (state_of S.lines C.maps W.sheet self.old)) (state_of S.lines C.maps W.sheet self.old) (state_of S.lines C.maps W.sheet self.new) → IsOk result }
+        ensures succeeds { IsUnhindered (steps_in (script any_answers any_items node.now)
+            (state_of S.lines C.maps W.sheet self.old)) (state_of S.lines C.maps W.sheet self.old)
+            (state_of S.lines C.maps W.sheet self.new) → IsOk result }
         // Where it is ready, and the writer counts no fault, a plain tree is printed.
-        ensures made { IsPlainTree self.old.cfg (program_phrase (Program.Script node.now)) (W.sheet self.old.wr).indentation → IsReady (state_of S.lines C.maps W.sheet self.old) → (W.sheet self.new.wr).faults ≡ (W.sheet self.old.wr).faults → IsOk result }
+        ensures made { IsPlainTree self.old.cfg (program_phrase (Program.Script node.now))
+            (W.sheet self.old.wr).indentation → IsReady (state_of S.lines C.maps W.sheet self.old) →
+            (W.sheet self.new.wr).faults ≡ (W.sheet self.old.wr).faults → IsOk result }
         // It is ready again for the next.
-        ensures ready { OnOk result (IsReady (state_of S.lines C.maps W.sheet self.old) → IsReady (state_of S.lines C.maps W.sheet self.new)) }
+        ensures ready { OnOk result (IsReady (state_of S.lines C.maps W.sheet self.old) →
+            IsReady (state_of S.lines C.maps W.sheet self.new)) }
         ensures marked { OnErr result ((state_of S.lines C.maps W.sheet self.new).failed ≡ true) }
-        ensures failed { (state_of S.lines C.maps W.sheet self.old).failed ≡ true → result ≡ Err Error.Failed }
+        ensures failed { (state_of S.lines C.maps W.sheet self.old).failed ≡ true →
+            result ≡ Err Error.Failed }
         // The indentation is what it was.
-        ensures level { OnOk result ((W.sheet self.new.wr).indentation ≡ (W.sheet self.old.wr).indentation) }
+        ensures level { OnOk result ((W.sheet self.new.wr).indentation
+            ≡ (W.sheet self.old.wr).indentation) }
     {
         self.emit(node)
     }
@@ -249,42 +436,98 @@ impl<'a, W: WriteJs, S: SourceMapper, C: Comments> Emitter<'a, W, S, C> {
     #[tactic(auto, using(crate::proofs::TreeReads::item_reads, crate::proofs::TreeReads::steps_recorded, crate::proofs::TreeReads::steps_taken, crate::proofs::TreeReads::item_told, crate::proofs::TreeReads::item_names, crate::proofs::TreeReads::item_places, crate::proofs::TreeReads::item_ascii, crate::proofs::TreeReads::item_safe, crate::proofs::TreeMade::item_made, swc_ecma_codegen_tokens::proofs::Made::ready_after, swc_ecma_codegen_tokens::proofs::Phrased::never_out_of_memory))]
     pub fn emit_module_item(&mut self, node: &ModuleItem) -> Result
         // The steps of the tree are made, and it comes to no node that can't be printed; or it halts.
-        ensures items { Follows (module_item any_answers any_items node.now nothing) (state_of S.lines C.maps W.sheet self.old) (state_of S.lines C.maps W.sheet self.new) (in_short result) }
+        ensures items { Follows (module_item any_answers any_items node.now nothing)
+            (state_of S.lines C.maps W.sheet self.old)
+            (state_of S.lines C.maps W.sheet self.new) (in_short result) }
         // What a new emitter adds to the text, of a well-formed tree, reads as one of the tree's token lists.
-        ensures reads { is_possible (item_phrase phrase node.now) ≡ true → IsNew (state_of S.lines C.maps W.sheet self.old) → AreClosed (maps_in C.maps self.old.comments) → OnOk result (AddsReading self.old.cfg (item_phrase phrase node.now) (taken_remarks (module_item any_answers any_items node.now) (state_of S.lines C.maps W.sheet self.old).env) (W.sheet self.old.wr) (W.sheet self.new.wr)) }
+        ensures reads { is_possible (item_phrase phrase node.now) ≡ true →
+            IsNew (state_of S.lines C.maps W.sheet self.old) →
+            AreClosed (maps_in C.maps self.old.comments) →
+            OnOk result (AddsReading self.old.cfg (item_phrase phrase node.now)
+            (taken_remarks (module_item any_answers any_items node.now)
+            (state_of S.lines C.maps W.sheet self.old).env) (W.sheet self.old.wr)
+            (W.sheet self.new.wr)) }
         // Each position that is recorded holds the place that the text had reached, and none is recorded twice.
         ensures recorded { OnOk result (RecordsTruly (W.sheet self.old.wr) (W.sheet self.new.wr)) }
         // What is gone from the comments is what was taken.
-        ensures taken { OnOk result ((maps_in C.maps self.new.comments) ≡ maps_after (steps_of (steps_in (module_item any_answers any_items node.now) (state_of S.lines C.maps W.sheet self.old))) (maps_in C.maps self.old.comments)) }
+        ensures taken { OnOk result ((maps_in C.maps self.new.comments)
+            ≡ maps_after (steps_of
+            (steps_in (module_item any_answers any_items node.now)
+            (state_of S.lines C.maps W.sheet self.old))) (maps_in C.maps self.old.comments)) }
         // Of a well-formed tree each of these is written, once, in order of taking.
-        ensures told { is_possible (item_phrase phrase node.now) ≡ true → (W.sheet self.old.wr).keeps_invalid ≡ false → OnOk result (spoken (steps_of (steps_in (module_item any_answers any_items node.now) (state_of S.lines C.maps W.sheet self.old))) ≡ texts_of (taken_in (steps_of (steps_in (module_item any_answers any_items node.now) (state_of S.lines C.maps W.sheet self.old))) (maps_in C.maps self.old.comments))) }
+        ensures told { is_possible (item_phrase phrase node.now) ≡ true →
+            (W.sheet self.old.wr).keeps_invalid ≡ false →
+            OnOk result (spoken
+            (steps_of (steps_in (module_item any_answers any_items node.now)
+            (state_of S.lines C.maps W.sheet self.old)))
+            ≡ texts_of (taken_in
+            (steps_of (steps_in (module_item any_answers any_items node.now)
+            (state_of S.lines C.maps W.sheet self.old))) (maps_in C.maps self.old.comments))) }
         // Where positions are kept, each name of a well-formed tree has its own where it begins, unless that is 0.
-        ensures names { is_possible (item_phrase phrase node.now) ≡ true → (W.sheet self.old.wr).keeps_positions ≡ true → (W.sheet self.old.wr).keeps_invalid ≡ false → OnOk result (RecordsNames self.old.cfg (names_in (item_phrase phrase node.now)) (W.sheet self.old.wr) (W.sheet self.new.wr)) }
+        ensures names { is_possible (item_phrase phrase node.now) ≡ true →
+            (W.sheet self.old.wr).keeps_positions ≡ true →
+            (W.sheet self.old.wr).keeps_invalid ≡ false →
+            OnOk result (RecordsNames self.old.cfg (names_in (item_phrase phrase node.now))
+            (W.sheet self.old.wr) (W.sheet self.new.wr)) }
         // Where positions are kept, each of these names stands as its own token behind those before it: what is before it reads as them.
-        ensures places { is_possible (item_phrase phrase node.now) ≡ true → IsNew (state_of S.lines C.maps W.sheet self.old) → AreClosed (maps_in C.maps self.old.comments) → (W.sheet self.old.wr).keeps_positions ≡ true → OnOk result (PlacesNames self.old.cfg (item_phrase phrase node.now) (taken_remarks (module_item any_answers any_items node.now) (state_of S.lines C.maps W.sheet self.old).env) (W.sheet self.old.wr) (W.sheet self.new.wr)) }
+        ensures places { is_possible (item_phrase phrase node.now) ≡ true →
+            IsNew (state_of S.lines C.maps W.sheet self.old) →
+            AreClosed (maps_in C.maps self.old.comments) →
+            (W.sheet self.old.wr).keeps_positions ≡ true →
+            OnOk result (PlacesNames self.old.cfg (item_phrase phrase node.now)
+            (taken_remarks (module_item any_answers any_items node.now)
+            (state_of S.lines C.maps W.sheet self.old).env) (W.sheet self.old.wr)
+            (W.sheet self.new.wr)) }
         // Where the settings ask for ASCII, what is added is, but for the texts that stand as they are in the tree and aren't (a
         // regular expression, a template with a tag, a hashbang, a directive with a backslash, names, strings and text of JSX), and those of
         // comments.
-        ensures ascii { is_possible (item_phrase phrase node.now) ≡ true → WantsAscii (state_of S.lines C.maps W.sheet self.old) → OnOk result (AddsAscii (other_texts (steps_of (steps_in (module_item any_answers any_items node.now) (state_of S.lines C.maps W.sheet self.old)))) (W.sheet self.old.wr).text (W.sheet self.new.wr).text) }
+        ensures ascii { is_possible (item_phrase phrase node.now) ≡ true →
+            WantsAscii (state_of S.lines C.maps W.sheet self.old) →
+            OnOk result (AddsAscii
+            (other_texts (steps_of
+            (steps_in (module_item any_answers any_items node.now)
+            (state_of S.lines C.maps W.sheet self.old)))) (W.sheet self.old.wr).text
+            (W.sheet self.new.wr).text) }
         // Under `inline_script` no string of a well-formed tree that is printed by its value ends a script of an HTML page, or
         // opens or closes a comment there: it holds no `<!--`, no `-->`, and no `</script` before `>` or ASCII whitespace.
-        ensures inline { is_possible (item_phrase phrase node.now) ≡ true → self.old.cfg.inline_script ≡ true → (W.sheet self.old.wr).keeps_invalid ≡ false → OnOk result (AddsSafe (value_strings (steps_of (steps_in (module_item any_answers any_items node.now) (state_of S.lines C.maps W.sheet self.old)))) (W.sheet self.old.wr).text (W.sheet self.new.wr).text) }
+        ensures inline { is_possible (item_phrase phrase node.now) ≡ true →
+            self.old.cfg.inline_script ≡ true → (W.sheet self.old.wr).keeps_invalid ≡ false →
+            OnOk result (AddsSafe
+            (value_strings (steps_of
+            (steps_in (module_item any_answers any_items node.now)
+            (state_of S.lines C.maps W.sheet self.old)))) (W.sheet self.old.wr).text
+            (W.sheet self.new.wr).text) }
         // What is out is a beginning of the text of these steps.
-        ensures front { IsFront (W.sheet self.new.wr).text (printed (module_item any_answers any_items node.now) (state_of S.lines C.maps W.sheet self.old)).sheet.text }
+        ensures front { IsPrefix (W.sheet self.new.wr).text
+            (printed (module_item any_answers any_items node.now)
+            (state_of S.lines C.maps W.sheet self.old)).sheet.text }
         // It is refused only for the cause that the error names.
-        ensures cause { IfErr result (λ error. HasCause (steps_in (module_item any_answers any_items node.now) (state_of S.lines C.maps W.sheet self.old)) (reason_of error) (state_of S.lines C.maps W.sheet self.old) (state_of S.lines C.maps W.sheet self.new)) }
+        ensures cause { IfErr result (λ error.
+            HasCause (steps_in (module_item any_answers any_items node.now)
+            (state_of S.lines C.maps W.sheet self.old)) (reason_of error)
+            (state_of S.lines C.maps W.sheet self.old) (state_of S.lines C.maps W.sheet self.new)) }
         // Where no text is made anew, and no call of the writer takes memory, none is wanting.
-        ensures no_memory { makes_text (steps_of (steps_in (module_item any_answers any_items node.now) (state_of S.lines C.maps W.sheet self.old))) ≡ false → (W.sheet self.old.wr).takes_memory ≡ false → result ≢ Err Error.OutOfMemory }
+        ensures no_memory { makes_text (steps_of
+            (steps_in (module_item any_answers any_items node.now)
+            (state_of S.lines C.maps W.sheet self.old))) ≡ false →
+            (W.sheet self.old.wr).takes_memory ≡ false → result ≢ Err Error.OutOfMemory }
         // Where nothing stands in its way, it is made.
-        ensures succeeds { IsUnhindered (steps_in (module_item any_answers any_items node.now) (state_of S.lines C.maps W.sheet self.old)) (state_of S.lines C.maps W.sheet self.old) (state_of S.lines C.maps W.sheet self.new) → IsOk result }
+        ensures succeeds { IsUnhindered (steps_in (module_item any_answers any_items node.now)
+            (state_of S.lines C.maps W.sheet self.old)) (state_of S.lines C.maps W.sheet self.old)
+            (state_of S.lines C.maps W.sheet self.new) → IsOk result }
         // Where it is ready, and the writer counts no fault, a plain tree is printed.
-        ensures made { IsPlainTree self.old.cfg (item_phrase phrase node.now) (W.sheet self.old.wr).indentation → IsReady (state_of S.lines C.maps W.sheet self.old) → (W.sheet self.new.wr).faults ≡ (W.sheet self.old.wr).faults → IsOk result }
+        ensures made { IsPlainTree self.old.cfg (item_phrase phrase node.now)
+            (W.sheet self.old.wr).indentation → IsReady (state_of S.lines C.maps W.sheet self.old) →
+            (W.sheet self.new.wr).faults ≡ (W.sheet self.old.wr).faults → IsOk result }
         // It is ready again for the next.
-        ensures ready { OnOk result (IsReady (state_of S.lines C.maps W.sheet self.old) → IsReady (state_of S.lines C.maps W.sheet self.new)) }
+        ensures ready { OnOk result (IsReady (state_of S.lines C.maps W.sheet self.old) →
+            IsReady (state_of S.lines C.maps W.sheet self.new)) }
         ensures marked { OnErr result ((state_of S.lines C.maps W.sheet self.new).failed ≡ true) }
-        ensures failed { (state_of S.lines C.maps W.sheet self.old).failed ≡ true → result ≡ Err Error.Failed }
+        ensures failed { (state_of S.lines C.maps W.sheet self.old).failed ≡ true →
+            result ≡ Err Error.Failed }
         // The indentation is what it was.
-        ensures level { OnOk result ((W.sheet self.new.wr).indentation ≡ (W.sheet self.old.wr).indentation) }
+        ensures level { OnOk result ((W.sheet self.new.wr).indentation
+            ≡ (W.sheet self.old.wr).indentation) }
     {
         self.emit(node)
     }
@@ -295,21 +538,36 @@ impl<'a, W: WriteJs, S: SourceMapper, C: Comments> Emitter<'a, W, S, C> {
         // Each position that is recorded holds the place that the text had reached, and none is recorded twice.
         ensures recorded { OnOk result (RecordsTruly (W.sheet self.old.wr) (W.sheet self.new.wr)) }
         // What is gone from the comments is what was taken.
-        ensures taken { OnOk result ((maps_in C.maps self.new.comments) ≡ maps_after (steps_of (steps_in (module_export_name node.now) (state_of S.lines C.maps W.sheet self.old))) (maps_in C.maps self.old.comments)) }
+        ensures taken { OnOk result ((maps_in C.maps self.new.comments)
+            ≡ maps_after (steps_of
+            (steps_in (module_export_name node.now) (state_of S.lines C.maps W.sheet self.old)))
+            (maps_in C.maps self.old.comments)) }
         // Its steps are made, or it halts.
-        ensures items { Follows (module_export_name node.now nothing) (state_of S.lines C.maps W.sheet self.old) (state_of S.lines C.maps W.sheet self.new) (in_short result) }
+        ensures items { Follows (module_export_name node.now nothing)
+            (state_of S.lines C.maps W.sheet self.old)
+            (state_of S.lines C.maps W.sheet self.new) (in_short result) }
         // What is out is a beginning of the text of these steps.
-        ensures front { IsFront (W.sheet self.new.wr).text (printed (module_export_name node.now) (state_of S.lines C.maps W.sheet self.old)).sheet.text }
+        ensures front { IsPrefix (W.sheet self.new.wr).text
+            (printed (module_export_name node.now) (state_of
+            S.lines C.maps W.sheet self.old)).sheet.text }
         // It is refused only for the cause that the error names.
-        ensures cause { IfErr result (λ error. HasCause (steps_in (module_export_name node.now) (state_of S.lines C.maps W.sheet self.old)) (reason_of error) (state_of S.lines C.maps W.sheet self.old) (state_of S.lines C.maps W.sheet self.new)) }
+        ensures cause { IfErr result (λ error.
+            HasCause (steps_in (module_export_name node.now)
+            (state_of S.lines C.maps W.sheet self.old)) (reason_of error)
+            (state_of S.lines C.maps W.sheet self.old) (state_of S.lines C.maps W.sheet self.new)) }
         // Where nothing stands in its way, it is made.
-        ensures succeeds { IsUnhindered (steps_in (module_export_name node.now) (state_of S.lines C.maps W.sheet self.old)) (state_of S.lines C.maps W.sheet self.old) (state_of S.lines C.maps W.sheet self.new) → IsOk result }
+        ensures succeeds { IsUnhindered (steps_in (module_export_name node.now)
+            (state_of S.lines C.maps W.sheet self.old)) (state_of S.lines C.maps W.sheet self.old)
+            (state_of S.lines C.maps W.sheet self.new) → IsOk result }
         // It is ready again for the next.
-        ensures ready { OnOk result (IsReady (state_of S.lines C.maps W.sheet self.old) → IsReady (state_of S.lines C.maps W.sheet self.new)) }
+        ensures ready { OnOk result (IsReady (state_of S.lines C.maps W.sheet self.old) →
+            IsReady (state_of S.lines C.maps W.sheet self.new)) }
         ensures marked { OnErr result ((state_of S.lines C.maps W.sheet self.new).failed ≡ true) }
-        ensures failed { (state_of S.lines C.maps W.sheet self.old).failed ≡ true → result ≡ Err Error.Failed }
+        ensures failed { (state_of S.lines C.maps W.sheet self.old).failed ≡ true →
+            result ≡ Err Error.Failed }
         // The indentation is what it was.
-        ensures level { OnOk result ((W.sheet self.new.wr).indentation ≡ (W.sheet self.old.wr).indentation) }
+        ensures level { OnOk result ((W.sheet self.new.wr).indentation
+            ≡ (W.sheet self.old.wr).indentation) }
     {
         self.emit(node)
     }

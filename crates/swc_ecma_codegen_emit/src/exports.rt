@@ -1,13 +1,13 @@
 //! Exports.
 
 ghost use Rattle.std.specs.Prelude.{◌≡◌};
-ghost use Rattle.swc_ecma_codegen_emit.specs.Standing.{Makes, Stays, standing_of};
+ghost use Rattle.swc_ecma_codegen_emit.specs.Standing.{Performs, KeepsLevel};
 ghost use Rattle.swc_ecma_codegen_spans.specs.Spans.{export_specifier_span};
 ghost use Rattle.swc_ecma_codegen_emit.specs.Modules.{named_format, exported_as, export_named_specifier, export_specifier, is_braced, is_namespace, export_list, export_braces, export_namespace, star_export, more_exports, star_exports, export_clause, ends_with_name, from_clause, export_tail, export_named, all_word, all_tail, export_all, export_decl, default_decl, export_default, export_default_decl, export_default_expr, attributes};
 
 use crate::emitter::Emitter;
 use crate::modules::named_format;
-use crate::nodes::{Child, EmitAt, Held, Place};
+use crate::nodes::{Child, EmitAt, LinkTarget, Place};
 use crate::specifiers::{Specifier, has_braced, has_star};
 use swc_ecma_codegen_common::Span;
 use swc_ecma_codegen_grammar::comments::Comments;
@@ -108,7 +108,7 @@ impl EmitAt for ExportNamespaceSpecifier {
     }
 }
 
-impl<N: Held> EmitAt for NamedExport<N> {
+impl<N: LinkTarget> EmitAt for NamedExport<N> {
     ghost items = { λ n _. export_named N.items n };
 
     #[tactic(auto, unfolding(crate::specs::Modules::export_named))]
@@ -126,7 +126,7 @@ impl<N: Held> EmitAt for NamedExport<N> {
     }
 }
 
-impl<N: Held> EmitAt for ExportAll<N> {
+impl<N: LinkTarget> EmitAt for ExportAll<N> {
     ghost items = { λ n _. export_all N.items n };
 
     #[tactic(auto, unfolding(crate::specs::Modules::export_all))]
@@ -143,7 +143,7 @@ impl<N: Held> EmitAt for ExportAll<N> {
     }
 }
 
-impl<N: Held> EmitAt for ExportDecl<N> {
+impl<N: LinkTarget> EmitAt for ExportDecl<N> {
     ghost items = { λ n _. export_decl N.items n };
 
     #[tactic(auto, unfolding(crate::specs::Modules::export_decl))]
@@ -153,14 +153,14 @@ impl<N: Held> EmitAt for ExportDecl<N> {
         place: Place,
     ) {
         e.start_of(self.span);
-        self.decl.held().emit_at(e, Place::ExportedHead);
+        self.decl.target().emit_at(e, Place::ExportedHead);
         e.keyword(None, "export");
         e.space();
-        self.decl.held().emit_at(e, Place::ExportedTail);
+        self.decl.target().emit_at(e, Place::ExportedTail);
     }
 }
 
-impl<N: Held> EmitAt for DefaultDecl<N> {
+impl<N: LinkTarget> EmitAt for DefaultDecl<N> {
     ghost items = { λ n _. default_decl N.answers N.items n };
 
     #[tactic(auto, unfolding(crate::specs::Modules::default_decl))]
@@ -177,7 +177,7 @@ impl<N: Held> EmitAt for DefaultDecl<N> {
     }
 }
 
-impl<N: Held> EmitAt for ExportDefaultDecl<N> {
+impl<N: LinkTarget> EmitAt for ExportDefaultDecl<N> {
     ghost items = { λ n _. export_default_decl N.answers N.items n };
 
     #[tactic(auto, unfolding(crate::specs::Modules::export_default_decl))]
@@ -194,7 +194,7 @@ impl<N: Held> EmitAt for ExportDefaultDecl<N> {
     }
 }
 
-impl<N: Held> EmitAt for ExportDefaultExpr<N> {
+impl<N: LinkTarget> EmitAt for ExportDefaultExpr<N> {
     ghost items = { λ n _. export_default_expr N.answers N.items n };
 
     #[tactic(auto, unfolding(crate::specs::Modules::export_default_expr))]
@@ -205,8 +205,8 @@ impl<N: Held> EmitAt for ExportDefaultExpr<N> {
     ) {
         e.start_of(self.span);
         e.export_default();
-        e.blank(self.expr.held().starts());
-        self.expr.held().emit_at(e, Place::Plain);
+        e.blank(self.expr.target().starts());
+        self.expr.target().emit_at(e, Place::Plain);
         e.semi();
         e.end_of(self.span);
     }
@@ -216,8 +216,8 @@ impl<W: WriteJs, S: SourceMapper, C: Comments> Emitter<'_, W, S, C> {
     /// Writes `as b` behind a blank, where it is so.
     #[tactic(auto, unfolding(crate::specs::Modules::exported_as))]
     fn exported_as(&mut self, name: &Option<ModuleExportName>)
-        ensures items { Makes (exported_as name.now) (standing_of S.lines C.maps W.sheet self.old) (standing_of S.lines C.maps W.sheet self.new) }
-        ensures level { Stays (standing_of S.lines C.maps W.sheet self.old) (standing_of S.lines C.maps W.sheet self.new) }
+        ensures items { Performs (exported_as name.now) S.lines C.maps W.sheet self.old self.new }
+        ensures level { KeepsLevel S.lines C.maps W.sheet self.old self.new }
     {
         match name {
             Some(name) => {
@@ -230,8 +230,9 @@ impl<W: WriteJs, S: SourceMapper, C: Comments> Emitter<'_, W, S, C> {
 
     /// Writes what is exported among braces.
     fn export_list(&mut self, parent: Span, specifiers: &[ExportSpecifier])
-        ensures items { Makes (export_list parent specifiers.now) (standing_of S.lines C.maps W.sheet self.old) (standing_of S.lines C.maps W.sheet self.new) }
-        ensures level { Stays (standing_of S.lines C.maps W.sheet self.old) (standing_of S.lines C.maps W.sheet self.new) }
+        ensures items { Performs (export_list parent specifiers.now)
+            S.lines C.maps W.sheet self.old self.new }
+        ensures level { KeepsLevel S.lines C.maps W.sheet self.old self.new }
     {
         self.braced_list(named_format(), parent, specifiers)
     }
@@ -239,8 +240,9 @@ impl<W: WriteJs, S: SourceMapper, C: Comments> Emitter<'_, W, S, C> {
     /// Writes `{ a, b as c }`.
     #[tactic(auto, unfolding(crate::specs::Modules::export_braces))]
     fn export_braces(&mut self, parent: Span, specifiers: &[ExportSpecifier])
-        ensures items { Makes (export_braces parent specifiers.now) (standing_of S.lines C.maps W.sheet self.old) (standing_of S.lines C.maps W.sheet self.new) }
-        ensures level { Stays (standing_of S.lines C.maps W.sheet self.old) (standing_of S.lines C.maps W.sheet self.new) }
+        ensures items { Performs (export_braces parent specifiers.now)
+            S.lines C.maps W.sheet self.old self.new }
+        ensures level { KeepsLevel S.lines C.maps W.sheet self.old self.new }
     {
         self.punct(Punctuator::LeftBrace);
         self.export_list(parent, specifiers);
@@ -250,8 +252,9 @@ impl<W: WriteJs, S: SourceMapper, C: Comments> Emitter<'_, W, S, C> {
     /// Writes `* as a`, of the first of a namespace.
     #[tactic(auto, unfolding(crate::specs::Modules::star_export))]
     fn star_export(&mut self, specifiers: &[ExportSpecifier])
-        ensures items { Makes (star_export specifiers.now) (standing_of S.lines C.maps W.sheet self.old) (standing_of S.lines C.maps W.sheet self.new) }
-        ensures level { Stays (standing_of S.lines C.maps W.sheet self.old) (standing_of S.lines C.maps W.sheet self.new) }
+        ensures items { Performs (star_export specifiers.now)
+            S.lines C.maps W.sheet self.old self.new }
+        ensures level { KeepsLevel S.lines C.maps W.sheet self.old self.new }
     {
         for specifier in specifiers {
             if let ExportSpecifier::Namespace(node) = specifier {
@@ -263,8 +266,9 @@ impl<W: WriteJs, S: SourceMapper, C: Comments> Emitter<'_, W, S, C> {
     /// Writes what stands after it.
     #[tactic(auto, unfolding(crate::specs::Modules::more_exports))]
     fn more_exports(&mut self, parent: Span, specifiers: &[ExportSpecifier])
-        ensures items { Makes (more_exports parent specifiers.now) (standing_of S.lines C.maps W.sheet self.old) (standing_of S.lines C.maps W.sheet self.new) }
-        ensures level { Stays (standing_of S.lines C.maps W.sheet self.old) (standing_of S.lines C.maps W.sheet self.new) }
+        ensures items { Performs (more_exports parent specifiers.now)
+            S.lines C.maps W.sheet self.old self.new }
+        ensures level { KeepsLevel S.lines C.maps W.sheet self.old self.new }
     {
         if !has_braced(specifiers) {
             return;
@@ -277,8 +281,9 @@ impl<W: WriteJs, S: SourceMapper, C: Comments> Emitter<'_, W, S, C> {
     /// Writes `* as a, { b }`.
     #[tactic(auto, unfolding(crate::specs::Modules::star_exports))]
     fn star_exports(&mut self, parent: Span, specifiers: &[ExportSpecifier])
-        ensures items { Makes (star_exports parent specifiers.now) (standing_of S.lines C.maps W.sheet self.old) (standing_of S.lines C.maps W.sheet self.new) }
-        ensures level { Stays (standing_of S.lines C.maps W.sheet self.old) (standing_of S.lines C.maps W.sheet self.new) }
+        ensures items { Performs (star_exports parent specifiers.now)
+            S.lines C.maps W.sheet self.old self.new }
+        ensures level { KeepsLevel S.lines C.maps W.sheet self.old self.new }
     {
         self.star_export(specifiers);
         self.more_exports(parent, specifiers)
@@ -287,8 +292,9 @@ impl<W: WriteJs, S: SourceMapper, C: Comments> Emitter<'_, W, S, C> {
     /// Writes `{ a }` or `* as a`, or both.
     #[tactic(auto, unfolding(crate::specs::Modules::export_clause))]
     fn export_clause(&mut self, parent: Span, specifiers: &[ExportSpecifier])
-        ensures items { Makes (export_clause parent specifiers.now) (standing_of S.lines C.maps W.sheet self.old) (standing_of S.lines C.maps W.sheet self.new) }
-        ensures level { Stays (standing_of S.lines C.maps W.sheet self.old) (standing_of S.lines C.maps W.sheet self.new) }
+        ensures items { Performs (export_clause parent specifiers.now)
+            S.lines C.maps W.sheet self.old self.new }
+        ensures level { KeepsLevel S.lines C.maps W.sheet self.old self.new }
     {
         if has_star(specifiers) {
             return self.star_exports(parent, specifiers);
@@ -298,14 +304,15 @@ impl<W: WriteJs, S: SourceMapper, C: Comments> Emitter<'_, W, S, C> {
 
     /// Writes `from 'a'` with its attributes behind a blank, where it is so.
     #[tactic(auto, unfolding(crate::specs::Modules::from_clause))]
-    fn from_clause<N: Held>(
+    fn from_clause<N: LinkTarget>(
         &mut self,
         with_: &Option<ObjectLitBox<N>>,
         needed: bool,
         src: &Option<Str>,
     )
-        ensures items { Makes (from_clause N.items with_.now needed src.now) (standing_of S.lines C.maps W.sheet self.old) (standing_of S.lines C.maps W.sheet self.new) }
-        ensures level { Stays (standing_of S.lines C.maps W.sheet self.old) (standing_of S.lines C.maps W.sheet self.new) }
+        ensures items { Performs (from_clause N.items with_.now needed src.now)
+            S.lines C.maps W.sheet self.old self.new }
+        ensures level { KeepsLevel S.lines C.maps W.sheet self.old self.new }
     {
         match src {
             Some(src) => {
@@ -320,9 +327,10 @@ impl<W: WriteJs, S: SourceMapper, C: Comments> Emitter<'_, W, S, C> {
 
     /// Writes `{ a } from 'b';`
     #[tactic(auto, unfolding(crate::specs::Modules::export_tail))]
-    fn export_tail<N: Held>(&mut self, node: &NamedExport<N>)
-        ensures items { Makes (export_tail N.items node.now) (standing_of S.lines C.maps W.sheet self.old) (standing_of S.lines C.maps W.sheet self.new) }
-        ensures level { Stays (standing_of S.lines C.maps W.sheet self.old) (standing_of S.lines C.maps W.sheet self.new) }
+    fn export_tail<N: LinkTarget>(&mut self, node: &NamedExport<N>)
+        ensures items { Performs (export_tail N.items node.now)
+            S.lines C.maps W.sheet self.old self.new }
+        ensures level { KeepsLevel S.lines C.maps W.sheet self.old self.new }
     {
         self.export_clause(node.span, &node.specifiers);
         self.from_clause(&node.with_, ends_with_name(&node.specifiers), &node.src);
@@ -333,8 +341,8 @@ impl<W: WriteJs, S: SourceMapper, C: Comments> Emitter<'_, W, S, C> {
     /// Writes `type` between two blanks, or the blank in its place.
     #[tactic(auto, unfolding(crate::specs::Modules::all_word))]
     fn all_word(&mut self, type_only: bool)
-        ensures items { Makes (all_word type_only) (standing_of S.lines C.maps W.sheet self.old) (standing_of S.lines C.maps W.sheet self.new) }
-        ensures level { Stays (standing_of S.lines C.maps W.sheet self.old) (standing_of S.lines C.maps W.sheet self.new) }
+        ensures items { Performs (all_word type_only) S.lines C.maps W.sheet self.old self.new }
+        ensures level { KeepsLevel S.lines C.maps W.sheet self.old self.new }
     {
         if !type_only {
             return self.formatting_space();
@@ -346,9 +354,10 @@ impl<W: WriteJs, S: SourceMapper, C: Comments> Emitter<'_, W, S, C> {
 
     /// Writes `* from 'a';`
     #[tactic(auto, unfolding(crate::specs::Modules::all_tail))]
-    fn all_tail<N: Held>(&mut self, node: &ExportAll<N>)
-        ensures items { Makes (all_tail N.items node.now) (standing_of S.lines C.maps W.sheet self.old) (standing_of S.lines C.maps W.sheet self.new) }
-        ensures level { Stays (standing_of S.lines C.maps W.sheet self.old) (standing_of S.lines C.maps W.sheet self.new) }
+    fn all_tail<N: LinkTarget>(&mut self, node: &ExportAll<N>)
+        ensures items { Performs (all_tail N.items node.now)
+            S.lines C.maps W.sheet self.old self.new }
+        ensures level { KeepsLevel S.lines C.maps W.sheet self.old self.new }
     {
         self.punct(Punctuator::Star);
         self.formatting_space();
@@ -359,8 +368,8 @@ impl<W: WriteJs, S: SourceMapper, C: Comments> Emitter<'_, W, S, C> {
     /// Writes `export default`.
     #[tactic(auto, unfolding(crate::specs::Modules::export_default))]
     fn export_default(&mut self)
-        ensures items { Makes (export_default) (standing_of S.lines C.maps W.sheet self.old) (standing_of S.lines C.maps W.sheet self.new) }
-        ensures level { Stays (standing_of S.lines C.maps W.sheet self.old) (standing_of S.lines C.maps W.sheet self.new) }
+        ensures items { Performs (export_default) S.lines C.maps W.sheet self.old self.new }
+        ensures level { KeepsLevel S.lines C.maps W.sheet self.old self.new }
     {
         self.keyword(None, "export");
         self.space();

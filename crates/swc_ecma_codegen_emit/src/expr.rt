@@ -2,7 +2,7 @@
 
 ghost use Rattle.std.specs.Prelude.{◌≡◌, Some, None, true};
 ghost use Rattle.swc_ecma_codegen_tokens.specs.Starts.{begins_letter};
-ghost use Rattle.swc_ecma_codegen_emit.specs.Standing.{Makes, Stays, standing_of};
+ghost use Rattle.swc_ecma_codegen_emit.specs.Standing.{Performs, KeepsLevel};
 ghost use Rattle.swc_ecma_codegen_emit.specs.Exprs.{ident, ident_name, private_name, this, unary_op, unary_gap, unary, update_parts, update, binary_op, before_op, after_op, bin_operator, tight_operator, spaced_operator, word_between, bin_trailing, bin_opened, bin, computed_prop_name, choice, meta_prop_expr, assign, yield_star, yield_arg, yield_argument, yield_argument_in, yield_expr, spread_element, await_expr, seq, paren};
 ghost use Rattle.swc_ecma_codegen_emit.specs.AnyExpr.{expr_parts, is_left_operand, leaves_comments, expr_closed, expr, wrapped, placed_expr};
 ghost use Rattle.swc_ecma_codegen_spans.specs.Spans.{expr_span};
@@ -15,7 +15,7 @@ use crate::branches::is_wrapped;
 use crate::emitter::Emitter;
 use crate::lits::is_number_object;
 use crate::marks::{assign_mark, binary_mark, unary_mark, update_mark};
-use crate::nodes::{Asked, EmitAt, Held, Place};
+use crate::nodes::{Asked, EmitAt, LinkTarget, Place};
 use crate::operands::{begins_greater, is_word_op, operand_space, space_after};
 use crate::places::{expr_place, spread_element_place};
 use swc_ecma_codegen_common::{BinaryOp, Span, UnaryOp};
@@ -52,12 +52,12 @@ fn leaves_comments<N>(node: &Expr<N>, place: Place) -> bool
 
 /// Writes a template, an element or a fragment. The place that it is told would be part of the frame that is there at each level of a tree.
 #[inline(never)]
-fn plainly<N: Held, W: WriteJs, S: SourceMapper, C: Comments>(
+fn plainly<N: LinkTarget, W: WriteJs, S: SourceMapper, C: Comments>(
     node: &N,
     e: &mut Emitter<'_, W, S, C>,
 )
-    ensures items { Makes (N.items node.now Plain) (standing_of S.lines C.maps W.sheet e.old) (standing_of S.lines C.maps W.sheet e.new) }
-    ensures level { Stays (standing_of S.lines C.maps W.sheet e.old) (standing_of S.lines C.maps W.sheet e.new) }
+    ensures items { Performs (N.items node.now Plain) S.lines C.maps W.sheet e.old e.new }
+    ensures level { KeepsLevel S.lines C.maps W.sheet e.old e.new }
 {
     node.emit_at(e, Place::Plain);
 }
@@ -65,13 +65,14 @@ fn plainly<N: Held, W: WriteJs, S: SourceMapper, C: Comments>(
 /// Writes an expression by its variant, without the comments after it.
 #[inline(always)]
 #[tactic(auto, unfolding(crate::specs::AnyExpr::expr_parts, crate::specs::Exprs::member_at))]
-fn expr_parts<N: Held, W: WriteJs, S: SourceMapper, C: Comments>(
+fn expr_parts<N: LinkTarget, W: WriteJs, S: SourceMapper, C: Comments>(
     node: &Expr<N>,
     e: &mut Emitter<'_, W, S, C>,
     place: Place,
 )
-    ensures items { Makes (expr_parts N.answers N.items node.now place) (standing_of S.lines C.maps W.sheet e.old) (standing_of S.lines C.maps W.sheet e.new) }
-    ensures level { Stays (standing_of S.lines C.maps W.sheet e.old) (standing_of S.lines C.maps W.sheet e.new) }
+    ensures items { Performs (expr_parts N.answers N.items node.now place)
+        S.lines C.maps W.sheet e.old e.new }
+    ensures level { KeepsLevel S.lines C.maps W.sheet e.old e.new }
 {
     match node {
         Expr::This(node) => node.emit_at(e, place),
@@ -90,7 +91,7 @@ fn expr_parts<N: Held, W: WriteJs, S: SourceMapper, C: Comments>(
         Expr::Seq(node) => node.emit_at(e, place),
         Expr::Ident(node) => node.emit_at(e, place),
         Expr::Lit(node) => node.emit_at(e, place),
-        Expr::Tpl(node) => plainly(node.held(), e),
+        Expr::Tpl(node) => plainly(node.target(), e),
         Expr::TaggedTpl(node) => node.emit_at(e, place),
         Expr::Arrow(node) => (**node).emit_at(e, place),
         Expr::Class(node) => node.emit_at(e, place),
@@ -103,8 +104,8 @@ fn expr_parts<N: Held, W: WriteJs, S: SourceMapper, C: Comments>(
         Expr::JSXMember(node) => node.emit_at(e, place),
         Expr::JSXNamespacedName(node) => node.emit_at(e, place),
         Expr::JSXEmpty(node) => node.emit_at(e, place),
-        Expr::JSXElement(node) => plainly(node.held(), e),
-        Expr::JSXFragment(node) => plainly(node.held(), e),
+        Expr::JSXElement(node) => plainly(node.target(), e),
+        Expr::JSXFragment(node) => plainly(node.target(), e),
         Expr::TsTypeAssertion(node) => node.emit_at(e, place),
         Expr::TsConstAssertion(node) => node.emit_at(e, place),
         Expr::TsNonNull(node) => node.emit_at(e, place),
@@ -115,7 +116,7 @@ fn expr_parts<N: Held, W: WriteJs, S: SourceMapper, C: Comments>(
     }
 }
 
-impl<N: Held> EmitAt for Expr<N> {
+impl<N: LinkTarget> EmitAt for Expr<N> {
     ghost items = { expr N.answers N.items };
 
     #[inline(always)]
@@ -136,13 +137,14 @@ impl<N: Held> EmitAt for Expr<N> {
 /// Writes an expression and the comments after it.
 #[inline(never)]
 #[tactic(auto, unfolding(crate::specs::AnyExpr::expr))]
-fn commented<N: Held, W: WriteJs, S: SourceMapper, C: Comments>(
+fn commented<N: LinkTarget, W: WriteJs, S: SourceMapper, C: Comments>(
     node: &Expr<N>,
     e: &mut Emitter<'_, W, S, C>,
     place: Place,
 )
-    ensures items { Makes (expr N.answers N.items node.now place) (standing_of S.lines C.maps W.sheet e.old) (standing_of S.lines C.maps W.sheet e.new) }
-    ensures level { Stays (standing_of S.lines C.maps W.sheet e.old) (standing_of S.lines C.maps W.sheet e.new) }
+    ensures items { Performs (expr N.answers N.items node.now place)
+        S.lines C.maps W.sheet e.old e.new }
+    ensures level { KeepsLevel S.lines C.maps W.sheet e.old e.new }
 {
     expr_parts(node, e, place);
     e.expr_closed(node, place);
@@ -151,12 +153,13 @@ fn commented<N: Held, W: WriteJs, S: SourceMapper, C: Comments>(
 /// Writes an expression in parentheses.
 #[inline(never)]
 #[tactic(auto, unfolding(crate::specs::AnyExpr::wrapped))]
-fn wrapped<N: Held, W: WriteJs, S: SourceMapper, C: Comments>(
+fn wrapped<N: LinkTarget, W: WriteJs, S: SourceMapper, C: Comments>(
     node: &Expr<N>,
     e: &mut Emitter<'_, W, S, C>,
 )
-    ensures items { Makes (wrapped N.answers N.items node.now) (standing_of S.lines C.maps W.sheet e.old) (standing_of S.lines C.maps W.sheet e.new) }
-    ensures level { Stays (standing_of S.lines C.maps W.sheet e.old) (standing_of S.lines C.maps W.sheet e.new) }
+    ensures items { Performs (wrapped N.answers N.items node.now)
+        S.lines C.maps W.sheet e.old e.new }
+    ensures level { KeepsLevel S.lines C.maps W.sheet e.old e.new }
 {
     e.punct(Punctuator::LeftParenthesis);
     commented(node, e, Place::Plain);
@@ -166,13 +169,14 @@ fn wrapped<N: Held, W: WriteJs, S: SourceMapper, C: Comments>(
 /// Writes an expression where it stands: a sequence that is the value of a field stands in parentheses.
 #[inline(always)]
 #[tactic(auto, unfolding(crate::specs::AnyExpr::placed_expr))]
-pub(crate) fn placed_expr<N: Held, W: WriteJs, S: SourceMapper, C: Comments>(
+pub(crate) fn placed_expr<N: LinkTarget, W: WriteJs, S: SourceMapper, C: Comments>(
     node: &Expr<N>,
     e: &mut Emitter<'_, W, S, C>,
     place: Place,
 )
-    ensures items { Makes (placed_expr N.answers N.items node.now place) (standing_of S.lines C.maps W.sheet e.old) (standing_of S.lines C.maps W.sheet e.new) }
-    ensures level { Stays (standing_of S.lines C.maps W.sheet e.old) (standing_of S.lines C.maps W.sheet e.new) }
+    ensures items { Performs (placed_expr N.answers N.items node.now place)
+        S.lines C.maps W.sheet e.old e.new }
+    ensures level { KeepsLevel S.lines C.maps W.sheet e.old e.new }
 {
     if is_wrapped(node, place) {
         return wrapped(node, e);
@@ -205,7 +209,7 @@ impl EmitAt for MetaPropExpr {
     }
 }
 
-impl<N: Held> EmitAt for AssignExpr<N> {
+impl<N: LinkTarget> EmitAt for AssignExpr<N> {
     ghost items = { λ n _. assign N.items n };
 
     #[tactic(auto, unfolding(crate::specs::Exprs::assign, crate::specs::Exprs::formatted_operator))]
@@ -215,13 +219,13 @@ impl<N: Held> EmitAt for AssignExpr<N> {
         place: Place,
     ) {
         e.leading_comments(self.span.lo);
-        self.left.held().emit_at(e, Place::Plain);
+        self.left.target().emit_at(e, Place::Plain);
         e.formatted_operator(assign_mark(self.op));
-        self.right.held().emit_at(e, Place::Plain)
+        self.right.target().emit_at(e, Place::Plain)
     }
 }
 
-impl<N: Held> EmitAt for BinExpr<N> {
+impl<N: LinkTarget> EmitAt for BinExpr<N> {
     ghost items = { bin N.answers N.items };
 
     #[tactic(auto, unfolding(crate::specs::Exprs::bin))]
@@ -231,12 +235,12 @@ impl<N: Held> EmitAt for BinExpr<N> {
         place: Place,
     ) {
         e.bin_opened(place, self.span);
-        self.left.held().emit_at(e, Place::LeftOperand);
+        self.left.target().emit_at(e, Place::LeftOperand);
         e.bin_trailing(self);
     }
 }
 
-impl<N: Held> EmitAt for SeqExpr<N> {
+impl<N: LinkTarget> EmitAt for SeqExpr<N> {
     ghost items = { λ n _. seq N.items n };
 
     #[tactic(auto, unfolding(crate::specs::Exprs::seq))]
@@ -250,7 +254,7 @@ impl<N: Held> EmitAt for SeqExpr<N> {
     }
 }
 
-impl<N: Held> EmitAt for ComputedPropName<N> {
+impl<N: LinkTarget> EmitAt for ComputedPropName<N> {
     ghost items = { λ n _. computed_prop_name N.items n };
 
     #[tactic(auto, unfolding(crate::specs::Exprs::computed_prop_name))]
@@ -261,13 +265,13 @@ impl<N: Held> EmitAt for ComputedPropName<N> {
     ) {
         e.start_of(self.span);
         e.punct(Punctuator::LeftBracket);
-        self.expr.held().emit_at(e, Place::Plain);
+        self.expr.target().emit_at(e, Place::Plain);
         e.punct(Punctuator::RightBracket);
         e.end_of(self.span);
     }
 }
 
-impl<N: Held> EmitAt for CondExpr<N> {
+impl<N: LinkTarget> EmitAt for CondExpr<N> {
     ghost items = { λ n _. choice N.items n };
 
     #[tactic(auto, unfolding(crate::specs::Exprs::choice))]
@@ -277,11 +281,11 @@ impl<N: Held> EmitAt for CondExpr<N> {
         place: Place,
     ) {
         e.opened(self.span);
-        self.test.held().emit_at(e, Place::Plain);
+        self.test.target().emit_at(e, Place::Plain);
         e.spaced_punct(Punctuator::Question);
-        self.cons.held().emit_at(e, Place::Plain);
+        self.cons.target().emit_at(e, Place::Plain);
         e.spaced_punct(Punctuator::Colon);
-        self.alt.held().emit_at(e, Place::Plain)
+        self.alt.target().emit_at(e, Place::Plain)
     }
 }
 
@@ -299,7 +303,7 @@ impl EmitAt for ThisExpr {
     }
 }
 
-impl<N: Held> EmitAt for UnaryExpr<N> {
+impl<N: LinkTarget> EmitAt for UnaryExpr<N> {
     ghost items = { λ n _. unary N.answers N.items n };
 
     #[tactic(auto, unfolding(crate::specs::Exprs::unary))]
@@ -310,12 +314,12 @@ impl<N: Held> EmitAt for UnaryExpr<N> {
     ) {
         e.opened(self.span);
         e.unary_op(self.op);
-        e.unary_gap(self.op, self.arg.held());
-        self.arg.held().emit_at(e, Place::Plain);
+        e.unary_gap(self.op, self.arg.target());
+        self.arg.target().emit_at(e, Place::Plain);
     }
 }
 
-impl<N: Held> EmitAt for UpdateExpr<N> {
+impl<N: LinkTarget> EmitAt for UpdateExpr<N> {
     ghost items = { λ n _. update N.items n };
 
     #[tactic(auto, unfolding(crate::specs::Exprs::update, crate::specs::Exprs::update_parts))]
@@ -327,15 +331,15 @@ impl<N: Held> EmitAt for UpdateExpr<N> {
         e.opened(self.span);
         if self.prefix {
             e.operator(update_mark(self.op));
-            self.arg.held().emit_at(e, Place::Plain);
+            self.arg.target().emit_at(e, Place::Plain);
         } else {
-            self.arg.held().emit_at(e, Place::Plain);
+            self.arg.target().emit_at(e, Place::Plain);
             e.operator(update_mark(self.op));
         }
     }
 }
 
-impl<N: Held> EmitAt for YieldExpr<N> {
+impl<N: LinkTarget> EmitAt for YieldExpr<N> {
     ghost items = { λ n _. yield_expr N.answers N.items n };
 
     #[tactic(auto, unfolding(crate::specs::Exprs::yield_expr))]
@@ -351,7 +355,7 @@ impl<N: Held> EmitAt for YieldExpr<N> {
     }
 }
 
-impl<N: Held> EmitAt for AwaitExpr<N> {
+impl<N: LinkTarget> EmitAt for AwaitExpr<N> {
     ghost items = { λ n _. await_expr N.items n };
 
     #[tactic(auto, unfolding(crate::specs::Exprs::await_expr))]
@@ -363,11 +367,11 @@ impl<N: Held> EmitAt for AwaitExpr<N> {
         e.opened(self.span);
         e.keyword(None, "await");
         e.space();
-        self.arg.held().emit_at(e, Place::Plain);
+        self.arg.target().emit_at(e, Place::Plain);
     }
 }
 
-impl<N: Held> EmitAt for ParenExpr<N> {
+impl<N: LinkTarget> EmitAt for ParenExpr<N> {
     ghost items = { λ n _. paren N.items n };
 
     #[tactic(auto, unfolding(crate::specs::Exprs::paren))]
@@ -379,7 +383,7 @@ impl<N: Held> EmitAt for ParenExpr<N> {
         e.commit_pending_semi();
         e.opened(self.span);
         e.punct(Punctuator::LeftParenthesis);
-        self.expr.held().emit_at(e, Place::Plain);
+        self.expr.target().emit_at(e, Place::Plain);
         e.last_of(self.span);
         e.punct(Punctuator::RightParenthesis);
     }
@@ -424,7 +428,7 @@ impl EmitAt for IdentName {
     }
 }
 
-impl<N: Held> EmitAt for SpreadElement<N> {
+impl<N: LinkTarget> EmitAt for SpreadElement<N> {
     ghost items = { λ n _. spread_element N.answers N.items n };
 
     #[tactic(auto, unfolding(crate::specs::Exprs::spread_element))]
@@ -436,7 +440,7 @@ impl<N: Held> EmitAt for SpreadElement<N> {
         let span = spread_element_place(self);
         e.opened(span);
         e.punct(Punctuator::Ellipsis);
-        self.expr.held().emit_at(e, Place::Plain);
+        self.expr.target().emit_at(e, Place::Plain);
         e.end_of(span);
     }
 }
@@ -444,9 +448,10 @@ impl<N: Held> EmitAt for SpreadElement<N> {
 impl<W: WriteJs, S: SourceMapper, C: Comments> Emitter<'_, W, S, C> {
     /// Writes the comments after an expression, unless they are left where they are.
     #[tactic(auto, using(crate::proofs::Asked::closed_left, crate::proofs::Asked::closed_commented))]
-    fn expr_closed<N: Held>(&mut self, node: &Expr<N>, place: Place)
-        ensures items { Makes (expr_closed (leaves_comments node.now place) (expr_span (place_of N.answers) node.now)) (standing_of S.lines C.maps W.sheet self.old) (standing_of S.lines C.maps W.sheet self.new) }
-        ensures level { Stays (standing_of S.lines C.maps W.sheet self.old) (standing_of S.lines C.maps W.sheet self.new) }
+    fn expr_closed<N: LinkTarget>(&mut self, node: &Expr<N>, place: Place)
+        ensures items { Performs (expr_closed (leaves_comments node.now place)
+            (expr_span (place_of N.answers) node.now)) S.lines C.maps W.sheet self.old self.new }
+        ensures level { KeepsLevel S.lines C.maps W.sheet self.old self.new }
     {
         if leaves_comments(node, place) {
             return;
@@ -457,8 +462,8 @@ impl<W: WriteJs, S: SourceMapper, C: Comments> Emitter<'_, W, S, C> {
     /// Writes the comments before a binary expression and its start, unless it is an inner left operand.
     #[tactic(auto, unfolding(crate::specs::Exprs::bin_opened))]
     fn bin_opened(&mut self, place: Place, span: Span)
-        ensures items { Makes (bin_opened place span) (standing_of S.lines C.maps W.sheet self.old) (standing_of S.lines C.maps W.sheet self.new) }
-        ensures level { Stays (standing_of S.lines C.maps W.sheet self.old) (standing_of S.lines C.maps W.sheet self.new) }
+        ensures items { Performs (bin_opened place span) S.lines C.maps W.sheet self.old self.new }
+        ensures level { KeepsLevel S.lines C.maps W.sheet self.old self.new }
     {
         match place {
             Place::LeftOperand => {}
@@ -469,8 +474,8 @@ impl<W: WriteJs, S: SourceMapper, C: Comments> Emitter<'_, W, S, C> {
     /// Writes a binary operator.
     #[tactic(auto, using(crate::proofs::OperatorLaws::marked_binary, crate::proofs::OperatorLaws::worded_binary))]
     fn binary_op(&mut self, op: BinaryOp)
-        ensures items { Makes (binary_op op) (standing_of S.lines C.maps W.sheet self.old) (standing_of S.lines C.maps W.sheet self.new) }
-        ensures level { Stays (standing_of S.lines C.maps W.sheet self.old) (standing_of S.lines C.maps W.sheet self.new) }
+        ensures items { Performs (binary_op op) S.lines C.maps W.sheet self.old self.new }
+        ensures level { KeepsLevel S.lines C.maps W.sheet self.old self.new }
     {
         match binary_mark(op) {
             Some(mark) => self.operator(mark),
@@ -480,12 +485,13 @@ impl<W: WriteJs, S: SourceMapper, C: Comments> Emitter<'_, W, S, C> {
 
     /// Writes the operator and the right operand. swc's `emit_bin_expr_trailing`.
     #[tactic(auto, unfolding(crate::specs::Exprs::bin_trailing))]
-    fn bin_trailing<N: Held>(&mut self, node: &BinExpr<N>)
-        ensures items { Makes (bin_trailing N.answers N.items node.now) (standing_of S.lines C.maps W.sheet self.old) (standing_of S.lines C.maps W.sheet self.new) }
-        ensures level { Stays (standing_of S.lines C.maps W.sheet self.old) (standing_of S.lines C.maps W.sheet self.new) }
+    fn bin_trailing<N: LinkTarget>(&mut self, node: &BinExpr<N>)
+        ensures items { Performs (bin_trailing N.answers N.items node.now)
+            S.lines C.maps W.sheet self.old self.new }
+        ensures level { KeepsLevel S.lines C.maps W.sheet self.old self.new }
     {
         self.bin_operator(node);
-        node.right.held().emit_at(self, Place::Plain);
+        node.right.target().emit_at(self, Place::Plain);
     }
 
     /// Writes the operator with what stands beside it. Unless the settings are to minify these are blanks, whatever the operands are:
@@ -493,8 +499,9 @@ impl<W: WriteJs, S: SourceMapper, C: Comments> Emitter<'_, W, S, C> {
     #[inline(always)]
     #[tactic(auto, unfolding(crate::specs::Exprs::bin_operator, crate::specs::Exprs::tight_operator), using(crate::proofs::Between::binary_tight, crate::proofs::Between::binary_between))]
     fn bin_operator<N: Asked>(&mut self, node: &BinExpr<N>)
-        ensures items { Makes (bin_operator N.answers node.now) (standing_of S.lines C.maps W.sheet self.old) (standing_of S.lines C.maps W.sheet self.new) }
-        ensures level { Stays (standing_of S.lines C.maps W.sheet self.old) (standing_of S.lines C.maps W.sheet self.new) }
+        ensures items { Performs (bin_operator N.answers node.now)
+            S.lines C.maps W.sheet self.old self.new }
+        ensures level { KeepsLevel S.lines C.maps W.sheet self.old self.new }
     {
         if self.cfg.minify {
             self.tight_operator(node)
@@ -506,19 +513,20 @@ impl<W: WriteJs, S: SourceMapper, C: Comments> Emitter<'_, W, S, C> {
     /// Writes the operator, with blanks where they are needed: `a in b`, `a+b`, `a+ +b`.
     #[tactic(auto, unfolding(crate::specs::Exprs::tight_operator))]
     fn tight_operator<N: Asked>(&mut self, node: &BinExpr<N>)
-        ensures items { Makes (tight_operator N.answers node.now) (standing_of S.lines C.maps W.sheet self.old) (standing_of S.lines C.maps W.sheet self.new) }
-        ensures level { Stays (standing_of S.lines C.maps W.sheet self.old) (standing_of S.lines C.maps W.sheet self.new) }
+        ensures items { Performs (tight_operator N.answers node.now)
+            S.lines C.maps W.sheet self.old self.new }
+        ensures level { KeepsLevel S.lines C.maps W.sheet self.old self.new }
     {
-        self.space_if(before_op(node.op, node.left.held()));
+        self.space_if(before_op(node.op, node.left.target()));
         self.binary_op(node.op);
-        self.space_if(after_op(node.op, node.right.held()));
+        self.space_if(after_op(node.op, node.right.target()));
     }
 
     /// Writes a binary operator between two blanks.
     #[tactic(auto, using(crate::proofs::OperatorLaws::marked_between, crate::proofs::OperatorLaws::worded_between))]
     fn spaced_operator(&mut self, op: BinaryOp)
-        ensures items { Makes (spaced_operator op) (standing_of S.lines C.maps W.sheet self.old) (standing_of S.lines C.maps W.sheet self.new) }
-        ensures level { Stays (standing_of S.lines C.maps W.sheet self.old) (standing_of S.lines C.maps W.sheet self.new) }
+        ensures items { Performs (spaced_operator op) S.lines C.maps W.sheet self.old self.new }
+        ensures level { KeepsLevel S.lines C.maps W.sheet self.old self.new }
     {
         match binary_mark(op) {
             Some(mark) => self.operator_between(mark),
@@ -530,8 +538,8 @@ impl<W: WriteJs, S: SourceMapper, C: Comments> Emitter<'_, W, S, C> {
     #[tactic(auto, unfolding(crate::specs::Exprs::word_between))]
     fn word_between(&mut self, text: &'static str)
         requires { begins_letter text.now ≡ true }
-        ensures items { Makes (word_between text.now) (standing_of S.lines C.maps W.sheet self.old) (standing_of S.lines C.maps W.sheet self.new) }
-        ensures level { Stays (standing_of S.lines C.maps W.sheet self.old) (standing_of S.lines C.maps W.sheet self.new) }
+        ensures items { Performs (word_between text.now) S.lines C.maps W.sheet self.old self.new }
+        ensures level { KeepsLevel S.lines C.maps W.sheet self.old self.new }
     {
         self.space();
         self.word_operator(text);
@@ -541,8 +549,8 @@ impl<W: WriteJs, S: SourceMapper, C: Comments> Emitter<'_, W, S, C> {
     /// Writes a unary operator.
     #[tactic(auto, using(crate::proofs::OperatorLaws::marked_unary, crate::proofs::OperatorLaws::worded_unary))]
     fn unary_op(&mut self, op: UnaryOp)
-        ensures items { Makes (unary_op op) (standing_of S.lines C.maps W.sheet self.old) (standing_of S.lines C.maps W.sheet self.new) }
-        ensures level { Stays (standing_of S.lines C.maps W.sheet self.old) (standing_of S.lines C.maps W.sheet self.new) }
+        ensures items { Performs (unary_op op) S.lines C.maps W.sheet self.old self.new }
+        ensures level { KeepsLevel S.lines C.maps W.sheet self.old self.new }
     {
         match unary_mark(op) {
             Some(mark) => self.punct(mark),
@@ -554,8 +562,9 @@ impl<W: WriteJs, S: SourceMapper, C: Comments> Emitter<'_, W, S, C> {
     #[inline(always)]
     #[tactic(auto, unfolding(crate::specs::Exprs::unary_gap))]
     fn unary_gap<N: Asked>(&mut self, op: UnaryOp, arg: &N)
-        ensures items { Makes (unary_gap op (N.answers arg.now)) (standing_of S.lines C.maps W.sheet self.old) (standing_of S.lines C.maps W.sheet self.new) }
-        ensures level { Stays (standing_of S.lines C.maps W.sheet self.old) (standing_of S.lines C.maps W.sheet self.new) }
+        ensures items { Performs (unary_gap op (N.answers arg.now))
+            S.lines C.maps W.sheet self.old self.new }
+        ensures level { KeepsLevel S.lines C.maps W.sheet self.old self.new }
     {
         if is_word_unary(op) {
             self.blank(arg.starts())
@@ -567,8 +576,8 @@ impl<W: WriteJs, S: SourceMapper, C: Comments> Emitter<'_, W, S, C> {
     /// Writes `*` after `yield`.
     #[tactic(auto, unfolding(crate::specs::Exprs::yield_star))]
     fn yield_star(&mut self, delegate: bool)
-        ensures items { Makes (yield_star delegate) (standing_of S.lines C.maps W.sheet self.old) (standing_of S.lines C.maps W.sheet self.new) }
-        ensures level { Stays (standing_of S.lines C.maps W.sheet self.old) (standing_of S.lines C.maps W.sheet self.new) }
+        ensures items { Performs (yield_star delegate) S.lines C.maps W.sheet self.old self.new }
+        ensures level { KeepsLevel S.lines C.maps W.sheet self.old self.new }
     {
         if delegate {
             return self.operator(Punctuator::Star);
@@ -577,21 +586,23 @@ impl<W: WriteJs, S: SourceMapper, C: Comments> Emitter<'_, W, S, C> {
 
     /// Writes the argument of `yield`, and the blank before it.
     #[tactic(auto, unfolding(crate::specs::Exprs::yield_arg))]
-    fn yield_arg<N: Held>(&mut self, delegate: bool, arg: &Option<ExprBox<N>>)
-        ensures items { Makes (yield_arg N.answers N.items delegate arg.now) (standing_of S.lines C.maps W.sheet self.old) (standing_of S.lines C.maps W.sheet self.new) }
-        ensures level { Stays (standing_of S.lines C.maps W.sheet self.old) (standing_of S.lines C.maps W.sheet self.new) }
+    fn yield_arg<N: LinkTarget>(&mut self, delegate: bool, arg: &Option<ExprBox<N>>)
+        ensures items { Performs (yield_arg N.answers N.items delegate arg.now)
+            S.lines C.maps W.sheet self.old self.new }
+        ensures level { KeepsLevel S.lines C.maps W.sheet self.old self.new }
     {
         match arg {
-            Some(node) => self.yield_argument(delegate, node.held()),
+            Some(node) => self.yield_argument(delegate, node.target()),
             None => {}
         }
     }
 
     /// Writes it, where there is one.
     #[tactic(auto, using(crate::proofs::Asked::yield_asked))]
-    fn yield_argument<N: Held>(&mut self, delegate: bool, node: &N)
-        ensures items { Makes (yield_argument N.answers N.items delegate node.now) (standing_of S.lines C.maps W.sheet self.old) (standing_of S.lines C.maps W.sheet self.new) }
-        ensures level { Stays (standing_of S.lines C.maps W.sheet self.old) (standing_of S.lines C.maps W.sheet self.new) }
+    fn yield_argument<N: LinkTarget>(&mut self, delegate: bool, node: &N)
+        ensures items { Performs (yield_argument N.answers N.items delegate node.now)
+            S.lines C.maps W.sheet self.old self.new }
+        ensures level { KeepsLevel S.lines C.maps W.sheet self.old self.new }
     {
         let breaks = node.breaks(&self.comments);
         self.yield_argument_in(delegate, breaks, node)
@@ -599,9 +610,10 @@ impl<W: WriteJs, S: SourceMapper, C: Comments> Emitter<'_, W, S, C> {
 
     /// Writes it in parentheses where a line ends in or after a comment before it.
     #[tactic(auto, unfolding(crate::specs::Exprs::yield_argument_in, swc_ecma_codegen_tokens::specs::Choices::optional_parentheses))]
-    fn yield_argument_in<N: Held>(&mut self, delegate: bool, breaks: bool, node: &N)
-        ensures items { Makes (yield_argument_in N.answers N.items delegate node.now breaks) (standing_of S.lines C.maps W.sheet self.old) (standing_of S.lines C.maps W.sheet self.new) }
-        ensures level { Stays (standing_of S.lines C.maps W.sheet self.old) (standing_of S.lines C.maps W.sheet self.new) }
+    fn yield_argument_in<N: LinkTarget>(&mut self, delegate: bool, breaks: bool, node: &N)
+        ensures items { Performs (yield_argument_in N.answers N.items delegate node.now breaks)
+            S.lines C.maps W.sheet self.old self.new }
+        ensures level { KeepsLevel S.lines C.maps W.sheet self.old self.new }
     {
         if breaks {
             self.punct(Punctuator::LeftParenthesis);

@@ -1,18 +1,18 @@
 //! Fields of classes.
 
-ghost use Rattle.swc_ecma_codegen_emit.specs.Standing.{Makes, Stays, standing_of};
+ghost use Rattle.swc_ecma_codegen_emit.specs.Standing.{Performs, KeepsLevel};
 ghost use Rattle.swc_ecma_codegen_emit.specs.Classes.{prop_value, prop_modifiers, prop_tail, class_prop, private_decorators, private_modifiers, private_prop_tail, private_prop, accessor_key, accessor_decorators, accessor_modifiers, accessor_tail, auto_accessor};
 
 use crate::emitter::Emitter;
 use crate::functions::decorators_format;
-use crate::nodes::{EmitAt, Held, Place};
+use crate::nodes::{EmitAt, LinkTarget, Place};
 use swc_ecma_codegen_grammar::comments::Comments;
 use swc_ecma_codegen_grammar::mapper::SourceMapper;
 use swc_ecma_codegen_literals::Punctuator;
 use swc_ecma_codegen_text_writer::WriteJs;
 use swc_ecma_codegen_tree::{AutoAccessor, ClassProp, ExprBox, Key, PrivateProp};
 
-impl<N: Held> EmitAt for ClassProp<N> {
+impl<N: LinkTarget> EmitAt for ClassProp<N> {
     ghost items = { λ n _. class_prop N.items n };
 
     #[tactic(auto, unfolding(crate::specs::Classes::class_prop))]
@@ -29,7 +29,7 @@ impl<N: Held> EmitAt for ClassProp<N> {
     }
 }
 
-impl<N: Held> EmitAt for PrivateProp<N> {
+impl<N: LinkTarget> EmitAt for PrivateProp<N> {
     ghost items = { λ n _. private_prop N.items n };
 
     #[tactic(auto, unfolding(crate::specs::Classes::private_prop))]
@@ -46,7 +46,7 @@ impl<N: Held> EmitAt for PrivateProp<N> {
     }
 }
 
-impl<N: Held> EmitAt for AutoAccessor<N> {
+impl<N: LinkTarget> EmitAt for AutoAccessor<N> {
     ghost items = { λ n _. auto_accessor N.items n };
 
     #[tactic(auto, unfolding(crate::specs::Classes::auto_accessor))]
@@ -63,7 +63,7 @@ impl<N: Held> EmitAt for AutoAccessor<N> {
     }
 }
 
-impl<N: Held> EmitAt for Key<N> {
+impl<N: LinkTarget> EmitAt for Key<N> {
     ghost items = { λ n _. accessor_key N.items n };
 
     #[tactic(auto, unfolding(crate::specs::Classes::accessor_key))]
@@ -73,7 +73,7 @@ impl<N: Held> EmitAt for Key<N> {
         place: Place,
     ) {
         match self {
-            Key::Public(node) => node.held().emit_at(e, Place::Plain),
+            Key::Public(node) => node.target().emit_at(e, Place::Plain),
             Key::Private(node) => node.emit_at(e, Place::Plain),
         }
     }
@@ -82,9 +82,10 @@ impl<N: Held> EmitAt for Key<N> {
 impl<W: WriteJs, S: SourceMapper, C: Comments> Emitter<'_, W, S, C> {
     /// Writes `declare private static abstract override readonly ` of a field.
     #[tactic(auto, unfolding(crate::specs::Classes::prop_modifiers))]
-    fn prop_modifiers<N: Held>(&mut self, node: &ClassProp<N>)
-        ensures items { Makes (prop_modifiers node.now) (standing_of S.lines C.maps W.sheet self.old) (standing_of S.lines C.maps W.sheet self.new) }
-        ensures level { Stays (standing_of S.lines C.maps W.sheet self.old) (standing_of S.lines C.maps W.sheet self.new) }
+    fn prop_modifiers<N: LinkTarget>(&mut self, node: &ClassProp<N>)
+        ensures items { Performs (prop_modifiers node.now)
+            S.lines C.maps W.sheet self.old self.new }
+        ensures level { KeepsLevel S.lines C.maps W.sheet self.old self.new }
     {
         self.declare_word(node.declare);
         self.accessibility_word(node.accessibility);
@@ -96,11 +97,12 @@ impl<W: WriteJs, S: SourceMapper, C: Comments> Emitter<'_, W, S, C> {
 
     /// Writes `b!: A = c;`
     #[tactic(auto, unfolding(crate::specs::Classes::prop_tail))]
-    fn prop_tail<N: Held>(&mut self, node: &ClassProp<N>)
-        ensures items { Makes (prop_tail N.items node.now) (standing_of S.lines C.maps W.sheet self.old) (standing_of S.lines C.maps W.sheet self.new) }
-        ensures level { Stays (standing_of S.lines C.maps W.sheet self.old) (standing_of S.lines C.maps W.sheet self.new) }
+    fn prop_tail<N: LinkTarget>(&mut self, node: &ClassProp<N>)
+        ensures items { Performs (prop_tail N.items node.now)
+            S.lines C.maps W.sheet self.old self.new }
+        ensures level { KeepsLevel S.lines C.maps W.sheet self.old self.new }
     {
-        node.key.held().emit_at(self, Place::Plain);
+        node.key.target().emit_at(self, Place::Plain);
         self.question(node.is_optional);
         self.field_annotation(node.definite, &node.type_ann);
         self.prop_value(&node.value);
@@ -109,18 +111,20 @@ impl<W: WriteJs, S: SourceMapper, C: Comments> Emitter<'_, W, S, C> {
     }
 
     /// Writes the decorators of a private field.
-    fn private_decorators<N: Held>(&mut self, node: &PrivateProp<N>)
-        ensures items { Makes (private_decorators N.items node.now) (standing_of S.lines C.maps W.sheet self.old) (standing_of S.lines C.maps W.sheet self.new) }
-        ensures level { Stays (standing_of S.lines C.maps W.sheet self.old) (standing_of S.lines C.maps W.sheet self.new) }
+    fn private_decorators<N: LinkTarget>(&mut self, node: &PrivateProp<N>)
+        ensures items { Performs (private_decorators N.items node.now)
+            S.lines C.maps W.sheet self.old self.new }
+        ensures level { KeepsLevel S.lines C.maps W.sheet self.old self.new }
     {
         self.list(decorators_format(), node.span, &node.decorators)
     }
 
     /// Writes `private static override readonly ` of a private field.
     #[tactic(auto, unfolding(crate::specs::Classes::private_modifiers))]
-    fn private_modifiers<N: Held>(&mut self, node: &PrivateProp<N>)
-        ensures items { Makes (private_modifiers node.now) (standing_of S.lines C.maps W.sheet self.old) (standing_of S.lines C.maps W.sheet self.new) }
-        ensures level { Stays (standing_of S.lines C.maps W.sheet self.old) (standing_of S.lines C.maps W.sheet self.new) }
+    fn private_modifiers<N: LinkTarget>(&mut self, node: &PrivateProp<N>)
+        ensures items { Performs (private_modifiers node.now)
+            S.lines C.maps W.sheet self.old self.new }
+        ensures level { KeepsLevel S.lines C.maps W.sheet self.old self.new }
     {
         self.accessibility_word(node.accessibility);
         self.static_word(node.is_static);
@@ -130,9 +134,10 @@ impl<W: WriteJs, S: SourceMapper, C: Comments> Emitter<'_, W, S, C> {
 
     /// Writes `#b!: A = c;`
     #[tactic(auto, unfolding(crate::specs::Classes::private_prop_tail))]
-    fn private_prop_tail<N: Held>(&mut self, node: &PrivateProp<N>)
-        ensures items { Makes (private_prop_tail N.items node.now) (standing_of S.lines C.maps W.sheet self.old) (standing_of S.lines C.maps W.sheet self.new) }
-        ensures level { Stays (standing_of S.lines C.maps W.sheet self.old) (standing_of S.lines C.maps W.sheet self.new) }
+    fn private_prop_tail<N: LinkTarget>(&mut self, node: &PrivateProp<N>)
+        ensures items { Performs (private_prop_tail N.items node.now)
+            S.lines C.maps W.sheet self.old self.new }
+        ensures level { KeepsLevel S.lines C.maps W.sheet self.old self.new }
     {
         node.key.emit_at(self, Place::Plain);
         self.question(node.is_optional);
@@ -143,18 +148,20 @@ impl<W: WriteJs, S: SourceMapper, C: Comments> Emitter<'_, W, S, C> {
     }
 
     /// Writes the decorators of a field with `accessor`.
-    fn accessor_decorators<N: Held>(&mut self, node: &AutoAccessor<N>)
-        ensures items { Makes (accessor_decorators N.items node.now) (standing_of S.lines C.maps W.sheet self.old) (standing_of S.lines C.maps W.sheet self.new) }
-        ensures level { Stays (standing_of S.lines C.maps W.sheet self.old) (standing_of S.lines C.maps W.sheet self.new) }
+    fn accessor_decorators<N: LinkTarget>(&mut self, node: &AutoAccessor<N>)
+        ensures items { Performs (accessor_decorators N.items node.now)
+            S.lines C.maps W.sheet self.old self.new }
+        ensures level { KeepsLevel S.lines C.maps W.sheet self.old self.new }
     {
         self.list(decorators_format(), node.span, &node.decorators)
     }
 
     /// Writes `private static abstract override ` of a field with `accessor`.
     #[tactic(auto, unfolding(crate::specs::Classes::accessor_modifiers))]
-    fn accessor_modifiers<N: Held>(&mut self, node: &AutoAccessor<N>)
-        ensures items { Makes (accessor_modifiers node.now) (standing_of S.lines C.maps W.sheet self.old) (standing_of S.lines C.maps W.sheet self.new) }
-        ensures level { Stays (standing_of S.lines C.maps W.sheet self.old) (standing_of S.lines C.maps W.sheet self.new) }
+    fn accessor_modifiers<N: LinkTarget>(&mut self, node: &AutoAccessor<N>)
+        ensures items { Performs (accessor_modifiers node.now)
+            S.lines C.maps W.sheet self.old self.new }
+        ensures level { KeepsLevel S.lines C.maps W.sheet self.old self.new }
     {
         self.accessibility_word(node.accessibility);
         self.static_word(node.is_static);
@@ -164,9 +171,10 @@ impl<W: WriteJs, S: SourceMapper, C: Comments> Emitter<'_, W, S, C> {
 
     /// Writes `b!: A = c;` of a field with `accessor`.
     #[tactic(auto, unfolding(crate::specs::Classes::accessor_tail))]
-    fn accessor_tail<N: Held>(&mut self, node: &AutoAccessor<N>)
-        ensures items { Makes (accessor_tail N.items node.now) (standing_of S.lines C.maps W.sheet self.old) (standing_of S.lines C.maps W.sheet self.new) }
-        ensures level { Stays (standing_of S.lines C.maps W.sheet self.old) (standing_of S.lines C.maps W.sheet self.new) }
+    fn accessor_tail<N: LinkTarget>(&mut self, node: &AutoAccessor<N>)
+        ensures items { Performs (accessor_tail N.items node.now)
+            S.lines C.maps W.sheet self.old self.new }
+        ensures level { KeepsLevel S.lines C.maps W.sheet self.old self.new }
     {
         node.key.emit_at(self, Place::Plain);
         self.field_annotation(node.definite, &node.type_ann);
@@ -176,16 +184,17 @@ impl<W: WriteJs, S: SourceMapper, C: Comments> Emitter<'_, W, S, C> {
 
     /// Writes `= a` of a field, where it is so.
     #[tactic(auto, unfolding(crate::specs::Classes::prop_value))]
-    fn prop_value<N: Held>(&mut self, value: &Option<ExprBox<N>>)
-        ensures items { Makes (prop_value N.items value.now) (standing_of S.lines C.maps W.sheet self.old) (standing_of S.lines C.maps W.sheet self.new) }
-        ensures level { Stays (standing_of S.lines C.maps W.sheet self.old) (standing_of S.lines C.maps W.sheet self.new) }
+    fn prop_value<N: LinkTarget>(&mut self, value: &Option<ExprBox<N>>)
+        ensures items { Performs (prop_value N.items value.now)
+            S.lines C.maps W.sheet self.old self.new }
+        ensures level { KeepsLevel S.lines C.maps W.sheet self.old self.new }
     {
         match value {
             Some(value) => {
                 self.formatting_space();
                 self.punct(Punctuator::Equal);
                 self.formatting_space();
-                value.held().emit_at(self, Place::FieldValue)
+                value.target().emit_at(self, Place::FieldValue)
             }
             None => {}
         }

@@ -1,10 +1,10 @@
 //! Types of functions, and what types say of their parameters and results.
 
-ghost use Rattle.swc_ecma_codegen_emit.specs.Standing.{Makes, Stays, standing_of};
+ghost use Rattle.swc_ecma_codegen_emit.specs.Standing.{Performs, KeepsLevel};
 ghost use Rattle.swc_ecma_codegen_emit.specs.Types.{ts_fn_param, fn_params_list, signature_type, ts_fn_type, spaced_params, ts_constructor_type, ts_fn_or_constructor_type, ts_this_type_or_ident, is_behind, ts_type_predicate};
 
 use crate::emitter::Emitter;
-use crate::nodes::{EmitAt, Held, Place};
+use crate::nodes::{EmitAt, LinkTarget, Place};
 use crate::type_params::types_format;
 use swc_ecma_codegen_common::Span;
 use swc_ecma_codegen_grammar::comments::Comments;
@@ -16,7 +16,7 @@ use swc_ecma_codegen_tree::{
     TsTypeAnnBox, TsTypePredicate,
 };
 
-impl<N: Held> EmitAt for TsFnParam<N> {
+impl<N: LinkTarget> EmitAt for TsFnParam<N> {
     ghost items = { λ n _. ts_fn_param N.answers N.items n };
 
     #[tactic(auto, unfolding(crate::specs::Types::ts_fn_param))]
@@ -34,7 +34,7 @@ impl<N: Held> EmitAt for TsFnParam<N> {
     }
 }
 
-impl<N: Held> EmitAt for TsFnType<N> {
+impl<N: LinkTarget> EmitAt for TsFnType<N> {
     ghost items = { λ n _. ts_fn_type N.answers N.items n };
 
     #[tactic(auto, unfolding(crate::specs::Types::ts_fn_type))]
@@ -49,7 +49,7 @@ impl<N: Held> EmitAt for TsFnType<N> {
     }
 }
 
-impl<N: Held> EmitAt for TsConstructorType<N> {
+impl<N: LinkTarget> EmitAt for TsConstructorType<N> {
     ghost items = { λ n _. ts_constructor_type N.answers N.items n };
 
     #[tactic(auto, unfolding(crate::specs::Types::ts_constructor_type))]
@@ -66,7 +66,7 @@ impl<N: Held> EmitAt for TsConstructorType<N> {
     }
 }
 
-impl<N: Held> EmitAt for TsFnOrConstructorType<N> {
+impl<N: LinkTarget> EmitAt for TsFnOrConstructorType<N> {
     ghost items = { λ n _. ts_fn_or_constructor_type N.answers N.items n };
 
     #[tactic(auto, unfolding(crate::specs::Types::ts_fn_or_constructor_type))]
@@ -98,7 +98,7 @@ impl EmitAt for TsThisTypeOrIdent {
     }
 }
 
-impl<N: Held> EmitAt for TsTypePredicate<N> {
+impl<N: LinkTarget> EmitAt for TsTypePredicate<N> {
     ghost items = { λ n _. ts_type_predicate N.items n };
 
     #[tactic(auto, unfolding(crate::specs::Types::ts_type_predicate))]
@@ -116,36 +116,39 @@ impl<N: Held> EmitAt for TsTypePredicate<N> {
 
 impl<W: WriteJs, S: SourceMapper, C: Comments> Emitter<'_, W, S, C> {
     /// Writes parameters of a type, with commas between.
-    pub(crate) fn fn_params_list<N: Held>(&mut self, span: Span, nodes: &[TsFnParamBox<N>])
-        ensures items { Makes (fn_params_list N.answers N.items span nodes.now) (standing_of S.lines C.maps W.sheet self.old) (standing_of S.lines C.maps W.sheet self.new) }
-        ensures level { Stays (standing_of S.lines C.maps W.sheet self.old) (standing_of S.lines C.maps W.sheet self.new) }
+    pub(crate) fn fn_params_list<N: LinkTarget>(&mut self, span: Span, nodes: &[TsFnParamBox<N>])
+        ensures items { Performs (fn_params_list N.answers N.items span nodes.now)
+            S.lines C.maps W.sheet self.old self.new }
+        ensures level { KeepsLevel S.lines C.maps W.sheet self.old self.new }
     {
         self.list(types_format(), span, nodes)
     }
 
     /// Writes `(a: A) => B`.
     #[tactic(auto, unfolding(crate::specs::Types::signature_type))]
-    fn signature_type<N: Held>(
+    fn signature_type<N: LinkTarget>(
         &mut self,
         span: Span,
         params: &[TsFnParamBox<N>],
         result_type: &TsTypeAnnBox<N>,
     )
-        ensures items { Makes (signature_type N.answers N.items span params.now result_type.now) (standing_of S.lines C.maps W.sheet self.old) (standing_of S.lines C.maps W.sheet self.new) }
-        ensures level { Stays (standing_of S.lines C.maps W.sheet self.old) (standing_of S.lines C.maps W.sheet self.new) }
+        ensures items { Performs (signature_type N.answers N.items span params.now result_type.now)
+            S.lines C.maps W.sheet self.old self.new }
+        ensures level { KeepsLevel S.lines C.maps W.sheet self.old self.new }
     {
         self.punct(Punctuator::LeftParenthesis);
         self.fn_params_list(span, params);
         self.punct(Punctuator::RightParenthesis);
         self.spaced_punct(Punctuator::Arrow);
-        result_type.held().emit_at(self, Place::Plain);
+        result_type.target().emit_at(self, Place::Plain);
     }
 
     /// Writes a blank and type parameters, where there are some.
     #[tactic(auto, unfolding(crate::specs::Types::spaced_params))]
-    fn spaced_params<N: Held>(&mut self, node: &TsConstructorType<N>)
-        ensures items { Makes (spaced_params N.items node.now) (standing_of S.lines C.maps W.sheet self.old) (standing_of S.lines C.maps W.sheet self.new) }
-        ensures level { Stays (standing_of S.lines C.maps W.sheet self.old) (standing_of S.lines C.maps W.sheet self.new) }
+    fn spaced_params<N: LinkTarget>(&mut self, node: &TsConstructorType<N>)
+        ensures items { Performs (spaced_params N.items node.now)
+            S.lines C.maps W.sheet self.old self.new }
+        ensures level { KeepsLevel S.lines C.maps W.sheet self.old self.new }
     {
         if node.type_params.is_some() {
             self.space();
@@ -155,16 +158,17 @@ impl<W: WriteJs, S: SourceMapper, C: Comments> Emitter<'_, W, S, C> {
 
     /// Writes ` is B` of `a is B`.
     #[tactic(auto, unfolding(crate::specs::Types::is_behind))]
-    fn is_behind<N: Held>(&mut self, ty: &Option<TsTypeAnnBox<N>>)
-        ensures items { Makes (is_behind N.items ty.now) (standing_of S.lines C.maps W.sheet self.old) (standing_of S.lines C.maps W.sheet self.new) }
-        ensures level { Stays (standing_of S.lines C.maps W.sheet self.old) (standing_of S.lines C.maps W.sheet self.new) }
+    fn is_behind<N: LinkTarget>(&mut self, ty: &Option<TsTypeAnnBox<N>>)
+        ensures items { Performs (is_behind N.items ty.now)
+            S.lines C.maps W.sheet self.old self.new }
+        ensures level { KeepsLevel S.lines C.maps W.sheet self.old self.new }
     {
         match ty {
             Some(node) => {
                 self.space();
                 self.keyword(None, "is");
                 self.space();
-                node.held().emit_at(self, Place::Plain)
+                node.target().emit_at(self, Place::Plain)
             }
             None => {}
         }

@@ -4,13 +4,13 @@ ghost use Rattle.std.specs.Prelude.{◌≡◌, ◌&&◌, not};
 ghost use Rattle.swc_ecma_codegen_grammar.specs.Comments.{maps_in};
 ghost use Rattle.swc_ecma_codegen_grammar.specs.FunctionPhrases.{is_typed_arrow};
 ghost use Rattle.swc_ecma_codegen_literals.specs.Punctuators.{spelling};
-ghost use Rattle.swc_ecma_codegen_emit.specs.Standing.{Makes, Stays, standing_of};
+ghost use Rattle.swc_ecma_codegen_emit.specs.Standing.{Performs, KeepsLevel};
 ghost use Rattle.swc_ecma_codegen_emit.specs.FunctionExprs.{comma_list_format, star, optional_name, fn_expr, is_plain, is_name, is_only, async_arrow, parenthesis, has_comment_behind, arrow_children, arrow_list, arrow_within, arrow_parameters, arrow_body, arrow_result, arrow_expr};
 ghost use Rattle.swc_ecma_codegen_emit.specs.Functions.{decorators_format, decorator, decorators, decorator_lines, param, function_body, parameters, fn_trailing, static_gap, static_head, method_body, method_tail, async_word, function_head, star_or_space, declaration_head, method_head, function};
 
 use crate::commented::has_comment_after;
 use crate::emitter::Emitter;
-use crate::nodes::{Asked, Child, EmitAt, Held, Place};
+use crate::nodes::{Asked, Child, EmitAt, LinkTarget, Place};
 use crate::patterns::PatternKind;
 use swc_ecma_codegen_common::Span;
 use swc_ecma_codegen_grammar::ListFormat;
@@ -43,7 +43,7 @@ fn is_only_plain<N: Asked>(params: &[PatBox<N>]) -> bool
     ensures { result ≡ is_only is_plain N.answers params.now }
 {
     match params {
-        [param] => matches!(param.held().pattern(), PatternKind::PlainName),
+        [param] => matches!(param.target().pattern(), PatternKind::PlainName),
         _ => false,
     }
 }
@@ -57,14 +57,15 @@ fn has_comment_behind<N: Asked, C: Comments>(params: &[PatBox<N>], comments: &Op
         return false;
     }
     match params {
-        [param] => has_comment_after(comments, param.held().place()),
+        [param] => has_comment_after(comments, param.target().place()),
         _ => false,
     }
 }
 
 /// Whether the only parameter is a name alone, without a comment after it.
 fn is_bare<N: Asked, C: Comments>(params: &[PatBox<N>], comments: &Option<C>) -> bool
-    ensures { result ≡ (is_only is_plain N.answers params.now && not (has_comment_behind N.answers params.now (maps_in C.maps comments.now))) }
+    ensures { result ≡ (is_only is_plain N.answers params.now
+        && not (has_comment_behind N.answers params.now (maps_in C.maps comments.now))) }
 {
     is_only_plain(params) && !has_comment_behind(params, comments)
 }
@@ -78,7 +79,10 @@ fn is_typed_arrow<N>(node: &ArrowExpr<N>) -> bool
 
 /// Whether the parameters of an arrow function are a name alone, without a comment after it or types around it.
 fn is_bare_arrow<N: Asked, C: Comments>(node: &ArrowExpr<N>, comments: &Option<C>) -> bool
-    ensures { result ≡ (not (is_typed_arrow node.now) && (is_only is_plain N.answers node.now.params.items && not (has_comment_behind N.answers node.now.params.items (maps_in C.maps comments.now)))) }
+    ensures { result ≡ (not (is_typed_arrow node.now)
+        && (is_only is_plain N.answers node.now.params.items
+        && not (has_comment_behind N.answers node.now.params.items
+        (maps_in C.maps comments.now)))) }
 {
     !is_typed_arrow(node) && is_bare(&node.params, comments)
 }
@@ -90,14 +94,14 @@ fn is_only_name<N: Asked>(params: &[PatBox<N>]) -> bool
 {
     match params {
         [param] => matches!(
-            param.held().pattern(),
+            param.target().pattern(),
             PatternKind::PlainName | PatternKind::Name
         ),
         _ => false,
     }
 }
 
-impl<N: Held> EmitAt for ArrowExpr<N> {
+impl<N: LinkTarget> EmitAt for ArrowExpr<N> {
     ghost items = { λ n _. arrow_expr N.answers N.items n };
 
     #[tactic(auto, unfolding(crate::specs::FunctionExprs::arrow_expr))]
@@ -118,7 +122,7 @@ impl<N: Held> EmitAt for ArrowExpr<N> {
     }
 }
 
-impl<N: Held> EmitAt for Decorator<N> {
+impl<N: LinkTarget> EmitAt for Decorator<N> {
     ghost items = { λ n _. decorator N.items n };
 
     #[tactic(auto, unfolding(crate::specs::Functions::decorator))]
@@ -130,13 +134,13 @@ impl<N: Held> EmitAt for Decorator<N> {
         e.leading_comments(self.span.lo);
         e.start_of(self.span);
         e.punct(Punctuator::At);
-        self.expr.held().emit_at(e, Place::Plain);
+        self.expr.target().emit_at(e, Place::Plain);
         e.line();
         e.end_of(self.span);
     }
 }
 
-impl<N: Held> Child for Decorator<N> {
+impl<N: LinkTarget> Child for Decorator<N> {
     ghost stands = { λ n. n.span };
 
     fn place(&self) -> Span {
@@ -144,7 +148,7 @@ impl<N: Held> Child for Decorator<N> {
     }
 }
 
-impl<N: Held> EmitAt for FnExpr<N> {
+impl<N: LinkTarget> EmitAt for FnExpr<N> {
     ghost items = { λ n _. fn_expr N.answers N.items n };
 
     #[tactic(auto, unfolding(crate::specs::FunctionExprs::fn_expr))]
@@ -153,17 +157,17 @@ impl<N: Held> EmitAt for FnExpr<N> {
         e: &mut Emitter<'_, W, S, C>,
         place: Place,
     ) {
-        let span = self.function.held().place();
+        let span = self.function.target().place();
         e.leading_comments(span.lo);
         e.commit_pending_semi();
         e.start_of(span);
-        self.function.held().emit_at(e, Place::FunctionHead);
+        self.function.target().emit_at(e, Place::FunctionHead);
         e.optional_name(&self.ident);
-        self.function.held().emit_at(e, Place::Plain);
+        self.function.target().emit_at(e, Place::Plain);
     }
 }
 
-impl<N: Held> EmitAt for Function<N> {
+impl<N: LinkTarget> EmitAt for Function<N> {
     ghost items = { function N.answers N.items };
 
     #[tactic(auto, unfolding(crate::specs::Functions::function))]
@@ -184,7 +188,7 @@ impl<N: Held> EmitAt for Function<N> {
     }
 }
 
-impl<N: Held> EmitAt for BlockStmtOrExpr<N> {
+impl<N: LinkTarget> EmitAt for BlockStmtOrExpr<N> {
     ghost items = { λ n _. arrow_body N.items n };
 
     #[tactic(auto, unfolding(crate::specs::FunctionExprs::arrow_body))]
@@ -194,17 +198,17 @@ impl<N: Held> EmitAt for BlockStmtOrExpr<N> {
         place: Place,
     ) {
         match self {
-            BlockStmtOrExpr::BlockStmt(node) => node.held().emit_at(e, Place::Body),
+            BlockStmtOrExpr::BlockStmt(node) => node.target().emit_at(e, Place::Body),
             BlockStmtOrExpr::Expr(node) => {
                 e.deeper();
-                node.held().emit_at(e, Place::Plain);
+                node.target().emit_at(e, Place::Plain);
                 e.shallower()
             }
         }
     }
 }
 
-impl<N: Held> EmitAt for Param<N> {
+impl<N: LinkTarget> EmitAt for Param<N> {
     ghost items = { λ n _. param N.answers N.items n };
 
     #[tactic(auto, unfolding(crate::specs::Functions::param))]
@@ -221,7 +225,7 @@ impl<N: Held> EmitAt for Param<N> {
     }
 }
 
-impl<N: Held> Child for Param<N> {
+impl<N: LinkTarget> Child for Param<N> {
     ghost stands = { λ n. n.span };
 
     fn place(&self) -> Span {
@@ -231,9 +235,10 @@ impl<N: Held> Child for Param<N> {
 
 impl<W: WriteJs, S: SourceMapper, C: Comments> Emitter<'_, W, S, C> {
     /// Writes decorators, one after another.
-    pub(crate) fn decorator_lines<N: Held>(&mut self, nodes: &[Decorator<N>])
-        ensures items { Makes (decorator_lines N.items nodes.now) (standing_of S.lines C.maps W.sheet self.old) (standing_of S.lines C.maps W.sheet self.new) }
-        ensures level { Stays (standing_of S.lines C.maps W.sheet self.old) (standing_of S.lines C.maps W.sheet self.new) }
+    pub(crate) fn decorator_lines<N: LinkTarget>(&mut self, nodes: &[Decorator<N>])
+        ensures items { Performs (decorator_lines N.items nodes.now)
+            S.lines C.maps W.sheet self.old self.new }
+        ensures level { KeepsLevel S.lines C.maps W.sheet self.old self.new }
     {
         self.in_order(nodes)
     }
@@ -241,8 +246,8 @@ impl<W: WriteJs, S: SourceMapper, C: Comments> Emitter<'_, W, S, C> {
     /// Writes `async` and a blank, where it is so.
     #[tactic(auto, unfolding(crate::specs::Functions::async_word))]
     fn async_word(&mut self, wanted: bool)
-        ensures items { Makes (async_word wanted) (standing_of S.lines C.maps W.sheet self.old) (standing_of S.lines C.maps W.sheet self.new) }
-        ensures level { Stays (standing_of S.lines C.maps W.sheet self.old) (standing_of S.lines C.maps W.sheet self.new) }
+        ensures items { Performs (async_word wanted) S.lines C.maps W.sheet self.old self.new }
+        ensures level { KeepsLevel S.lines C.maps W.sheet self.old self.new }
     {
         if wanted {
             self.keyword(None, "async");
@@ -253,8 +258,8 @@ impl<W: WriteJs, S: SourceMapper, C: Comments> Emitter<'_, W, S, C> {
     /// Writes `*`, where it is so.
     #[tactic(auto, unfolding(crate::specs::FunctionExprs::star))]
     fn star(&mut self, wanted: bool)
-        ensures items { Makes (star wanted) (standing_of S.lines C.maps W.sheet self.old) (standing_of S.lines C.maps W.sheet self.new) }
-        ensures level { Stays (standing_of S.lines C.maps W.sheet self.old) (standing_of S.lines C.maps W.sheet self.new) }
+        ensures items { Performs (star wanted) S.lines C.maps W.sheet self.old self.new }
+        ensures level { KeepsLevel S.lines C.maps W.sheet self.old self.new }
     {
         if wanted {
             self.punct(Punctuator::Star);
@@ -264,8 +269,8 @@ impl<W: WriteJs, S: SourceMapper, C: Comments> Emitter<'_, W, S, C> {
     /// Writes `async function*` or a part of it.
     #[tactic(auto, unfolding(crate::specs::Functions::function_head))]
     fn function_head<N>(&mut self, node: &Function<N>)
-        ensures items { Makes (function_head node.now) (standing_of S.lines C.maps W.sheet self.old) (standing_of S.lines C.maps W.sheet self.new) }
-        ensures level { Stays (standing_of S.lines C.maps W.sheet self.old) (standing_of S.lines C.maps W.sheet self.new) }
+        ensures items { Performs (function_head node.now) S.lines C.maps W.sheet self.old self.new }
+        ensures level { KeepsLevel S.lines C.maps W.sheet self.old self.new }
     {
         self.async_word(node.is_async);
         self.keyword(None, "function");
@@ -275,8 +280,8 @@ impl<W: WriteJs, S: SourceMapper, C: Comments> Emitter<'_, W, S, C> {
     /// Writes a blank, or `*` and one unless the settings are to minify.
     #[tactic(auto, unfolding(crate::specs::Functions::star_or_space))]
     fn star_or_space(&mut self, wanted: bool)
-        ensures items { Makes (star_or_space wanted) (standing_of S.lines C.maps W.sheet self.old) (standing_of S.lines C.maps W.sheet self.new) }
-        ensures level { Stays (standing_of S.lines C.maps W.sheet self.old) (standing_of S.lines C.maps W.sheet self.new) }
+        ensures items { Performs (star_or_space wanted) S.lines C.maps W.sheet self.old self.new }
+        ensures level { KeepsLevel S.lines C.maps W.sheet self.old self.new }
     {
         if !wanted {
             return self.space();
@@ -288,8 +293,9 @@ impl<W: WriteJs, S: SourceMapper, C: Comments> Emitter<'_, W, S, C> {
     /// Writes `async function*` or a part of it, and a blank.
     #[tactic(auto, unfolding(crate::specs::Functions::declaration_head))]
     fn declaration_head<N>(&mut self, node: &Function<N>)
-        ensures items { Makes (declaration_head node.now) (standing_of S.lines C.maps W.sheet self.old) (standing_of S.lines C.maps W.sheet self.new) }
-        ensures level { Stays (standing_of S.lines C.maps W.sheet self.old) (standing_of S.lines C.maps W.sheet self.new) }
+        ensures items { Performs (declaration_head node.now)
+            S.lines C.maps W.sheet self.old self.new }
+        ensures level { KeepsLevel S.lines C.maps W.sheet self.old self.new }
     {
         self.async_word(node.is_async);
         self.keyword(None, "function");
@@ -299,8 +305,8 @@ impl<W: WriteJs, S: SourceMapper, C: Comments> Emitter<'_, W, S, C> {
     /// Writes `async *` or a part of it.
     #[tactic(auto, unfolding(crate::specs::Functions::method_head))]
     fn method_head<N>(&mut self, node: &Function<N>)
-        ensures items { Makes (method_head node.now) (standing_of S.lines C.maps W.sheet self.old) (standing_of S.lines C.maps W.sheet self.new) }
-        ensures level { Stays (standing_of S.lines C.maps W.sheet self.old) (standing_of S.lines C.maps W.sheet self.new) }
+        ensures items { Performs (method_head node.now) S.lines C.maps W.sheet self.old self.new }
+        ensures level { KeepsLevel S.lines C.maps W.sheet self.old self.new }
     {
         self.async_word(node.is_async);
         self.star(node.is_generator);
@@ -308,9 +314,10 @@ impl<W: WriteJs, S: SourceMapper, C: Comments> Emitter<'_, W, S, C> {
 
     /// Writes `<A>(a): B { c; }` of a function, and of a private method, without decorators. swc's `emit_fn_trailing`.
     #[tactic(auto, unfolding(crate::specs::Functions::fn_trailing))]
-    fn fn_trailing<N: Held>(&mut self, node: &Function<N>)
-        ensures items { Makes (fn_trailing N.answers N.items node.now) (standing_of S.lines C.maps W.sheet self.old) (standing_of S.lines C.maps W.sheet self.new) }
-        ensures level { Stays (standing_of S.lines C.maps W.sheet self.old) (standing_of S.lines C.maps W.sheet self.new) }
+    fn fn_trailing<N: LinkTarget>(&mut self, node: &Function<N>)
+        ensures items { Performs (fn_trailing N.answers N.items node.now)
+            S.lines C.maps W.sheet self.old self.new }
+        ensures level { KeepsLevel S.lines C.maps W.sheet self.old self.new }
     {
         self.type_params(&node.type_params);
         self.punct(Punctuator::LeftParenthesis);
@@ -322,14 +329,15 @@ impl<W: WriteJs, S: SourceMapper, C: Comments> Emitter<'_, W, S, C> {
 
     /// Writes the body of a method, or a semicolon in its place.
     #[tactic(auto, unfolding(crate::specs::Functions::method_body))]
-    fn method_body<N: Held>(&mut self, body: &Option<BlockStmtBox<N>>)
-        ensures items { Makes (method_body N.items body.now) (standing_of S.lines C.maps W.sheet self.old) (standing_of S.lines C.maps W.sheet self.new) }
-        ensures level { Stays (standing_of S.lines C.maps W.sheet self.old) (standing_of S.lines C.maps W.sheet self.new) }
+    fn method_body<N: LinkTarget>(&mut self, body: &Option<BlockStmtBox<N>>)
+        ensures items { Performs (method_body N.items body.now)
+            S.lines C.maps W.sheet self.old self.new }
+        ensures level { KeepsLevel S.lines C.maps W.sheet self.old self.new }
     {
         match body {
             Some(body) => {
                 self.formatting_space();
-                body.held().emit_at(self, Place::Plain)
+                body.target().emit_at(self, Place::Plain)
             }
             None => self.semi(),
         }
@@ -337,9 +345,10 @@ impl<W: WriteJs, S: SourceMapper, C: Comments> Emitter<'_, W, S, C> {
 
     /// Writes `<A>(a): B { c; }` of a method, whose decorators stand elsewhere.
     #[tactic(auto, unfolding(crate::specs::Functions::method_tail))]
-    fn method_tail<N: Held>(&mut self, node: &Function<N>)
-        ensures items { Makes (method_tail N.answers N.items node.now) (standing_of S.lines C.maps W.sheet self.old) (standing_of S.lines C.maps W.sheet self.new) }
-        ensures level { Stays (standing_of S.lines C.maps W.sheet self.old) (standing_of S.lines C.maps W.sheet self.new) }
+    fn method_tail<N: LinkTarget>(&mut self, node: &Function<N>)
+        ensures items { Performs (method_tail N.answers N.items node.now)
+            S.lines C.maps W.sheet self.old self.new }
+        ensures level { KeepsLevel S.lines C.maps W.sheet self.old self.new }
     {
         self.type_params(&node.type_params);
         self.punct(Punctuator::LeftParenthesis);
@@ -352,8 +361,8 @@ impl<W: WriteJs, S: SourceMapper, C: Comments> Emitter<'_, W, S, C> {
     /// Writes the blank after `static`.
     #[tactic(auto, unfolding(crate::specs::Functions::static_gap))]
     fn static_gap(&mut self, needed: bool)
-        ensures items { Makes (static_gap needed) (standing_of S.lines C.maps W.sheet self.old) (standing_of S.lines C.maps W.sheet self.new) }
-        ensures level { Stays (standing_of S.lines C.maps W.sheet self.old) (standing_of S.lines C.maps W.sheet self.new) }
+        ensures items { Performs (static_gap needed) S.lines C.maps W.sheet self.old self.new }
+        ensures level { KeepsLevel S.lines C.maps W.sheet self.old self.new }
     {
         if needed {
             self.space()
@@ -366,39 +375,43 @@ impl<W: WriteJs, S: SourceMapper, C: Comments> Emitter<'_, W, S, C> {
     /// a character of a name.
     #[tactic(auto, unfolding(crate::specs::Functions::static_head))]
     fn static_head<N>(&mut self, starts: bool, node: &Function<N>)
-        ensures items { Makes (static_head starts node.now) (standing_of S.lines C.maps W.sheet self.old) (standing_of S.lines C.maps W.sheet self.new) }
-        ensures level { Stays (standing_of S.lines C.maps W.sheet self.old) (standing_of S.lines C.maps W.sheet self.new) }
+        ensures items { Performs (static_head starts node.now)
+            S.lines C.maps W.sheet self.old self.new }
+        ensures level { KeepsLevel S.lines C.maps W.sheet self.old self.new }
     {
         self.static_gap(node.is_async || (!node.is_generator && starts));
         self.method_head(node);
     }
 
     /// Writes the parameters of a function, with commas between.
-    fn parameters<N: Held>(&mut self, node: &Function<N>)
-        ensures items { Makes (parameters N.answers N.items node.now) (standing_of S.lines C.maps W.sheet self.old) (standing_of S.lines C.maps W.sheet self.new) }
-        ensures level { Stays (standing_of S.lines C.maps W.sheet self.old) (standing_of S.lines C.maps W.sheet self.new) }
+    fn parameters<N: LinkTarget>(&mut self, node: &Function<N>)
+        ensures items { Performs (parameters N.answers N.items node.now)
+            S.lines C.maps W.sheet self.old self.new }
+        ensures level { KeepsLevel S.lines C.maps W.sheet self.old self.new }
     {
         self.list(comma_list_format(), node.span, &node.params)
     }
 
     /// Writes the decorators of a parameter.
-    fn decorators<N: Held>(&mut self, node: &Param<N>)
-        ensures items { Makes (decorators N.items node.now) (standing_of S.lines C.maps W.sheet self.old) (standing_of S.lines C.maps W.sheet self.new) }
-        ensures level { Stays (standing_of S.lines C.maps W.sheet self.old) (standing_of S.lines C.maps W.sheet self.new) }
+    fn decorators<N: LinkTarget>(&mut self, node: &Param<N>)
+        ensures items { Performs (decorators N.items node.now)
+            S.lines C.maps W.sheet self.old self.new }
+        ensures level { KeepsLevel S.lines C.maps W.sheet self.old self.new }
     {
         self.list(decorators_format(), node.span, &node.decorators)
     }
 
     /// Writes a blank and a body, or a semicolon.
     #[tactic(auto, unfolding(crate::specs::Functions::function_body))]
-    fn function_body<N: Held>(&mut self, body: &Option<BlockStmtBox<N>>)
-        ensures items { Makes (function_body N.items body.now) (standing_of S.lines C.maps W.sheet self.old) (standing_of S.lines C.maps W.sheet self.new) }
-        ensures level { Stays (standing_of S.lines C.maps W.sheet self.old) (standing_of S.lines C.maps W.sheet self.new) }
+    fn function_body<N: LinkTarget>(&mut self, body: &Option<BlockStmtBox<N>>)
+        ensures items { Performs (function_body N.items body.now)
+            S.lines C.maps W.sheet self.old self.new }
+        ensures level { KeepsLevel S.lines C.maps W.sheet self.old self.new }
     {
         match body {
             Some(body) => {
                 self.formatting_space();
-                body.held().emit_at(self, Place::Body)
+                body.target().emit_at(self, Place::Body)
             }
             None => self.semi(),
         }
@@ -407,8 +420,8 @@ impl<W: WriteJs, S: SourceMapper, C: Comments> Emitter<'_, W, S, C> {
     /// Writes a blank and a name, where there is one.
     #[tactic(auto, unfolding(crate::specs::FunctionExprs::optional_name))]
     pub(crate) fn optional_name(&mut self, name: &Option<Ident>)
-        ensures items { Makes (optional_name name.now) (standing_of S.lines C.maps W.sheet self.old) (standing_of S.lines C.maps W.sheet self.new) }
-        ensures level { Stays (standing_of S.lines C.maps W.sheet self.old) (standing_of S.lines C.maps W.sheet self.new) }
+        ensures items { Performs (optional_name name.now) S.lines C.maps W.sheet self.old self.new }
+        ensures level { KeepsLevel S.lines C.maps W.sheet self.old self.new }
     {
         match name {
             Some(name) => {
@@ -422,8 +435,9 @@ impl<W: WriteJs, S: SourceMapper, C: Comments> Emitter<'_, W, S, C> {
     /// Writes `async`, and a blank before a name.
     #[tactic(auto, unfolding(crate::specs::FunctionExprs::async_arrow))]
     fn async_arrow(&mut self, wanted: bool, named: bool)
-        ensures items { Makes (async_arrow wanted named) (standing_of S.lines C.maps W.sheet self.old) (standing_of S.lines C.maps W.sheet self.new) }
-        ensures level { Stays (standing_of S.lines C.maps W.sheet self.old) (standing_of S.lines C.maps W.sheet self.new) }
+        ensures items { Performs (async_arrow wanted named)
+            S.lines C.maps W.sheet self.old self.new }
+        ensures level { KeepsLevel S.lines C.maps W.sheet self.old self.new }
     {
         if wanted {
             self.keyword(None, "async");
@@ -438,8 +452,9 @@ impl<W: WriteJs, S: SourceMapper, C: Comments> Emitter<'_, W, S, C> {
     /// Writes a parenthesis, unless it stands beside a name alone and the settings are to minify.
     #[tactic(auto, using(crate::proofs::Asked::bare, crate::proofs::Asked::parenthesized))]
     fn parenthesis(&mut self, plain: bool, mark: Punctuator)
-        ensures items { Makes (parenthesis plain (spelling mark)) (standing_of S.lines C.maps W.sheet self.old) (standing_of S.lines C.maps W.sheet self.new) }
-        ensures level { Stays (standing_of S.lines C.maps W.sheet self.old) (standing_of S.lines C.maps W.sheet self.new) }
+        ensures items { Performs (parenthesis plain (spelling mark))
+            S.lines C.maps W.sheet self.old self.new }
+        ensures level { KeepsLevel S.lines C.maps W.sheet self.old self.new }
     {
         if plain && self.cfg.minify {
             return;
@@ -449,15 +464,16 @@ impl<W: WriteJs, S: SourceMapper, C: Comments> Emitter<'_, W, S, C> {
 
     /// Writes `: A ` of `(a): A => b`, where there is a type.
     #[tactic(auto, unfolding(crate::specs::FunctionExprs::arrow_result))]
-    fn arrow_result<N: Held>(&mut self, ty: &Option<TsTypeAnnBox<N>>)
-        ensures items { Makes (arrow_result N.items ty.now) (standing_of S.lines C.maps W.sheet self.old) (standing_of S.lines C.maps W.sheet self.new) }
-        ensures level { Stays (standing_of S.lines C.maps W.sheet self.old) (standing_of S.lines C.maps W.sheet self.new) }
+    fn arrow_result<N: LinkTarget>(&mut self, ty: &Option<TsTypeAnnBox<N>>)
+        ensures items { Performs (arrow_result N.items ty.now)
+            S.lines C.maps W.sheet self.old self.new }
+        ensures level { KeepsLevel S.lines C.maps W.sheet self.old self.new }
     {
         match ty {
             Some(node) => {
                 self.punct(Punctuator::Colon);
                 self.formatting_space();
-                node.held().emit_at(self, Place::Plain);
+                node.target().emit_at(self, Place::Plain);
                 self.formatting_space()
             }
             None => {}
@@ -465,18 +481,20 @@ impl<W: WriteJs, S: SourceMapper, C: Comments> Emitter<'_, W, S, C> {
     }
 
     /// Writes the parameters of an arrow function, with commas between.
-    fn arrow_list<N: Held>(&mut self, node: &ArrowExpr<N>)
-        ensures items { Makes (arrow_list N.answers N.items node.now) (standing_of S.lines C.maps W.sheet self.old) (standing_of S.lines C.maps W.sheet self.new) }
-        ensures level { Stays (standing_of S.lines C.maps W.sheet self.old) (standing_of S.lines C.maps W.sheet self.new) }
+    fn arrow_list<N: LinkTarget>(&mut self, node: &ArrowExpr<N>)
+        ensures items { Performs (arrow_list N.answers N.items node.now)
+            S.lines C.maps W.sheet self.old self.new }
+        ensures level { KeepsLevel S.lines C.maps W.sheet self.old self.new }
     {
         self.list(comma_list_format(), node.span, &node.params)
     }
 
     /// Writes the parameters of an arrow function, in parentheses unless there is one name alone and the settings are to minify.
     #[tactic(auto, unfolding(crate::specs::FunctionExprs::arrow_within))]
-    fn arrow_within<N: Held>(&mut self, plain: bool, node: &ArrowExpr<N>)
-        ensures items { Makes (arrow_within plain node.now.span (arrow_children N.answers N.items node.now)) (standing_of S.lines C.maps W.sheet self.old) (standing_of S.lines C.maps W.sheet self.new) }
-        ensures level { Stays (standing_of S.lines C.maps W.sheet self.old) (standing_of S.lines C.maps W.sheet self.new) }
+    fn arrow_within<N: LinkTarget>(&mut self, plain: bool, node: &ArrowExpr<N>)
+        ensures items { Performs (arrow_within plain node.now.span
+            (arrow_children N.answers N.items node.now)) S.lines C.maps W.sheet self.old self.new }
+        ensures level { KeepsLevel S.lines C.maps W.sheet self.old self.new }
     {
         self.parenthesis(plain, Punctuator::LeftParenthesis);
         self.arrow_list(node);
@@ -485,9 +503,10 @@ impl<W: WriteJs, S: SourceMapper, C: Comments> Emitter<'_, W, S, C> {
 
     /// Writes the parameters of an arrow function.
     #[tactic(auto, using(crate::proofs::Asked::arrow_asked))]
-    fn arrow_parameters<N: Held>(&mut self, node: &ArrowExpr<N>)
-        ensures items { Makes (arrow_parameters N.answers N.items node.now) (standing_of S.lines C.maps W.sheet self.old) (standing_of S.lines C.maps W.sheet self.new) }
-        ensures level { Stays (standing_of S.lines C.maps W.sheet self.old) (standing_of S.lines C.maps W.sheet self.new) }
+    fn arrow_parameters<N: LinkTarget>(&mut self, node: &ArrowExpr<N>)
+        ensures items { Performs (arrow_parameters N.answers N.items node.now)
+            S.lines C.maps W.sheet self.old self.new }
+        ensures level { KeepsLevel S.lines C.maps W.sheet self.old self.new }
     {
         let plain = is_bare_arrow(node, &self.comments);
         self.arrow_within(plain, node)

@@ -2,14 +2,14 @@
 
 ghost use Rattle.std.specs.Prelude.{◌≡◌, true};
 ghost use Rattle.std.specs.List.{list_any};
-ghost use Rattle.swc_ecma_codegen_emit.specs.Standing.{Makes, Stays, standing_of};
+ghost use Rattle.swc_ecma_codegen_emit.specs.Standing.{Performs, KeepsLevel};
 ghost use Rattle.swc_ecma_codegen_spans.specs.Spans.{import_specifier_span};
 ghost use Rattle.swc_ecma_codegen_emit.specs.Lists.{comma};
 ghost use Rattle.swc_ecma_codegen_emit.specs.Modules.{named_format, imported_as, import_named, import_specifier, is_named, is_default, is_star, is_crowded, import_list, before_brace, before_braces, some_named, import_braces, begins_default, some_imports, import_clause, phase_word, import_tail, import_decl};
 
 use crate::emitter::Emitter;
 use crate::modules::named_format;
-use crate::nodes::{Child, EmitAt, Held, Place};
+use crate::nodes::{Child, EmitAt, LinkTarget, Place};
 use crate::specifiers::{Specifier, has_braced, has_star};
 use swc_ecma_codegen_common::Span;
 use swc_ecma_codegen_grammar::comments::Comments;
@@ -113,7 +113,7 @@ impl Specifier for ImportSpecifier {
     }
 }
 
-impl<N: Held> EmitAt for ImportDecl<N> {
+impl<N: LinkTarget> EmitAt for ImportDecl<N> {
     ghost items = { λ n _. import_decl N.items n };
 
     #[tactic(auto, unfolding(crate::specs::Modules::import_decl, crate::specs::Modules::import_parts))]
@@ -139,8 +139,8 @@ impl<W: WriteJs, S: SourceMapper, C: Comments> Emitter<'_, W, S, C> {
     /// Writes `a as` and a blank, where it is so.
     #[tactic(auto, unfolding(crate::specs::Modules::imported_as))]
     fn imported_as(&mut self, name: &Option<ModuleExportName>)
-        ensures items { Makes (imported_as name.now) (standing_of S.lines C.maps W.sheet self.old) (standing_of S.lines C.maps W.sheet self.new) }
-        ensures level { Stays (standing_of S.lines C.maps W.sheet self.old) (standing_of S.lines C.maps W.sheet self.new) }
+        ensures items { Performs (imported_as name.now) S.lines C.maps W.sheet self.old self.new }
+        ensures level { KeepsLevel S.lines C.maps W.sheet self.old self.new }
     {
         match name {
             Some(name) => {
@@ -153,8 +153,9 @@ impl<W: WriteJs, S: SourceMapper, C: Comments> Emitter<'_, W, S, C> {
 
     /// Writes what is imported among braces.
     fn import_list(&mut self, parent: Span, specifiers: &[ImportSpecifier])
-        ensures items { Makes (import_list parent specifiers.now) (standing_of S.lines C.maps W.sheet self.old) (standing_of S.lines C.maps W.sheet self.new) }
-        ensures level { Stays (standing_of S.lines C.maps W.sheet self.old) (standing_of S.lines C.maps W.sheet self.new) }
+        ensures items { Performs (import_list parent specifiers.now)
+            S.lines C.maps W.sheet self.old self.new }
+        ensures level { KeepsLevel S.lines C.maps W.sheet self.old self.new }
     {
         self.braced_list(named_format(), parent, specifiers)
     }
@@ -162,8 +163,9 @@ impl<W: WriteJs, S: SourceMapper, C: Comments> Emitter<'_, W, S, C> {
     /// Writes what of a specifier stands before the braces.
     #[tactic(auto, unfolding(crate::specs::Modules::before_brace))]
     fn before_brace(&mut self, first: bool, specifier: &ImportSpecifier)
-        ensures items { Makes (before_brace first specifier.now) (standing_of S.lines C.maps W.sheet self.old) (standing_of S.lines C.maps W.sheet self.new) }
-        ensures level { Stays (standing_of S.lines C.maps W.sheet self.old) (standing_of S.lines C.maps W.sheet self.new) }
+        ensures items { Performs (before_brace first specifier.now)
+            S.lines C.maps W.sheet self.old self.new }
+        ensures level { KeepsLevel S.lines C.maps W.sheet self.old self.new }
     {
         match specifier {
             ImportSpecifier::Named(_) => {}
@@ -179,8 +181,9 @@ impl<W: WriteJs, S: SourceMapper, C: Comments> Emitter<'_, W, S, C> {
     /// Writes `a, * as b`, as they stand in the list.
     #[tactic(auto, using(crate::proofs::Steps::before_next), unfolding(crate::specs::Modules::before_braces))]
     fn before_braces(&mut self, specifiers: &[ImportSpecifier])
-        ensures items { Makes (before_braces true specifiers.now) (standing_of S.lines C.maps W.sheet self.old) (standing_of S.lines C.maps W.sheet self.new) }
-        ensures level { Stays (standing_of S.lines C.maps W.sheet self.old) (standing_of S.lines C.maps W.sheet self.new) }
+        ensures items { Performs (before_braces true specifiers.now)
+            S.lines C.maps W.sheet self.old self.new }
+        ensures level { KeepsLevel S.lines C.maps W.sheet self.old self.new }
     {
         let mut first = true;
         for specifier in specifiers {
@@ -192,8 +195,9 @@ impl<W: WriteJs, S: SourceMapper, C: Comments> Emitter<'_, W, S, C> {
     /// Writes `{ a, b as c }` and a blank, behind a comma where a default name is written.
     #[tactic(auto, unfolding(crate::specs::Modules::some_named))]
     fn some_named(&mut self, parent: Span, specifiers: &[ImportSpecifier])
-        ensures items { Makes (some_named parent specifiers.now) (standing_of S.lines C.maps W.sheet self.old) (standing_of S.lines C.maps W.sheet self.new) }
-        ensures level { Stays (standing_of S.lines C.maps W.sheet self.old) (standing_of S.lines C.maps W.sheet self.new) }
+        ensures items { Performs (some_named parent specifiers.now)
+            S.lines C.maps W.sheet self.old self.new }
+        ensures level { KeepsLevel S.lines C.maps W.sheet self.old self.new }
     {
         self.comma(!has_default(specifiers));
         self.punct(Punctuator::LeftBrace);
@@ -205,8 +209,9 @@ impl<W: WriteJs, S: SourceMapper, C: Comments> Emitter<'_, W, S, C> {
     /// Writes that, or the blank that stands there without braces.
     #[tactic(auto, unfolding(crate::specs::Modules::import_braces))]
     fn import_braces(&mut self, parent: Span, specifiers: &[ImportSpecifier])
-        ensures items { Makes (import_braces parent specifiers.now) (standing_of S.lines C.maps W.sheet self.old) (standing_of S.lines C.maps W.sheet self.new) }
-        ensures level { Stays (standing_of S.lines C.maps W.sheet self.old) (standing_of S.lines C.maps W.sheet self.new) }
+        ensures items { Performs (import_braces parent specifiers.now)
+            S.lines C.maps W.sheet self.old self.new }
+        ensures level { KeepsLevel S.lines C.maps W.sheet self.old self.new }
     {
         if has_braced(specifiers) {
             return self.some_named(parent, specifiers);
@@ -217,8 +222,9 @@ impl<W: WriteJs, S: SourceMapper, C: Comments> Emitter<'_, W, S, C> {
     /// Writes `a, { b } from` and a blank.
     #[tactic(auto, unfolding(crate::specs::Modules::some_imports))]
     fn some_imports(&mut self, parent: Span, specifiers: &[ImportSpecifier])
-        ensures items { Makes (some_imports parent specifiers.now) (standing_of S.lines C.maps W.sheet self.old) (standing_of S.lines C.maps W.sheet self.new) }
-        ensures level { Stays (standing_of S.lines C.maps W.sheet self.old) (standing_of S.lines C.maps W.sheet self.new) }
+        ensures items { Performs (some_imports parent specifiers.now)
+            S.lines C.maps W.sheet self.old self.new }
+        ensures level { KeepsLevel S.lines C.maps W.sheet self.old self.new }
     {
         self.before_braces(specifiers);
         self.import_braces(parent, specifiers);
@@ -228,8 +234,9 @@ impl<W: WriteJs, S: SourceMapper, C: Comments> Emitter<'_, W, S, C> {
     /// Writes what is imported, then `from` and a blank.
     #[tactic(auto, unfolding(crate::specs::Modules::import_clause))]
     fn import_clause(&mut self, parent: Span, specifiers: &[ImportSpecifier])
-        ensures items { Makes (import_clause parent specifiers.now) (standing_of S.lines C.maps W.sheet self.old) (standing_of S.lines C.maps W.sheet self.new) }
-        ensures level { Stays (standing_of S.lines C.maps W.sheet self.old) (standing_of S.lines C.maps W.sheet self.new) }
+        ensures items { Performs (import_clause parent specifiers.now)
+            S.lines C.maps W.sheet self.old self.new }
+        ensures level { KeepsLevel S.lines C.maps W.sheet self.old self.new }
     {
         if specifiers.is_empty() {
             return;
@@ -240,8 +247,8 @@ impl<W: WriteJs, S: SourceMapper, C: Comments> Emitter<'_, W, S, C> {
     /// Writes `source` or `defer` behind a blank, where it is so.
     #[tactic(auto, unfolding(crate::specs::Modules::phase_word))]
     fn phase_word(&mut self, phase: ImportPhase)
-        ensures items { Makes (phase_word phase) (standing_of S.lines C.maps W.sheet self.old) (standing_of S.lines C.maps W.sheet self.new) }
-        ensures level { Stays (standing_of S.lines C.maps W.sheet self.old) (standing_of S.lines C.maps W.sheet self.new) }
+        ensures items { Performs (phase_word phase) S.lines C.maps W.sheet self.old self.new }
+        ensures level { KeepsLevel S.lines C.maps W.sheet self.old self.new }
     {
         match phase {
             ImportPhase::Evaluation => {}
@@ -258,9 +265,10 @@ impl<W: WriteJs, S: SourceMapper, C: Comments> Emitter<'_, W, S, C> {
 
     /// Writes `{ a } from 'b';`
     #[tactic(auto, unfolding(crate::specs::Modules::import_tail))]
-    fn import_tail<N: Held>(&mut self, node: &ImportDecl<N>)
-        ensures items { Makes (import_tail N.items node.now) (standing_of S.lines C.maps W.sheet self.old) (standing_of S.lines C.maps W.sheet self.new) }
-        ensures level { Stays (standing_of S.lines C.maps W.sheet self.old) (standing_of S.lines C.maps W.sheet self.new) }
+    fn import_tail<N: LinkTarget>(&mut self, node: &ImportDecl<N>)
+        ensures items { Performs (import_tail N.items node.now)
+            S.lines C.maps W.sheet self.old self.new }
+        ensures level { KeepsLevel S.lines C.maps W.sheet self.old self.new }
     {
         self.import_clause(node.span, &node.specifiers);
         self.source_end(&node.src, &node.with_, node.span)

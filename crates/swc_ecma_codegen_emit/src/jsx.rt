@@ -5,10 +5,10 @@ ghost use Rattle.swc_ecma_codegen_literals.specs.Punctuators.{spelling};
 ghost use Rattle.swc_ecma_codegen_tokens.specs.Attributes.{attribute_string, jsx_text_node, jsx_text_lit};
 ghost use Rattle.swc_ecma_codegen_tokens.specs.Tags.{tag_name, child_open, close};
 ghost use Rattle.swc_ecma_codegen_emit.specs.Jsx.{tag_ident, tag_ident_name, jsx_member_expr, jsx_namespaced_name, jsx_object, jsx_element_name, jsx_attr_name, open_at, jsx_expr, jsx_expr_container, jsx_spread_child, jsx_attr_lit, jsx_attr_value, attr_initializer, jsx_attr, jsx_attr_or_spread, jsx_attributes, self_closing, jsx_opening_element, jsx_closing_element, jsx_element_child, jsx_children, optional_closing, jsx_element, opening_fragment, closing_fragment, jsx_fragment, jsx_part};
-ghost use Rattle.swc_ecma_codegen_emit.specs.Standing.{Makes, Stays, standing_of};
+ghost use Rattle.swc_ecma_codegen_emit.specs.Standing.{Performs, KeepsLevel};
 
 use crate::emitter::Emitter;
-use crate::nodes::{EmitAt, Held, Place};
+use crate::nodes::{EmitAt, LinkTarget, Place};
 use crate::refusals::keep;
 use swc_ecma_codegen_common::Span;
 use swc_ecma_codegen_grammar::comments::Comments;
@@ -22,7 +22,7 @@ use swc_ecma_codegen_tree::{
     JSXOpeningFragment, JSXPart, JSXSpreadChild, JSXText, Lit, Str,
 };
 
-impl<N: Held> EmitAt for JSXElement<N> {
+impl<N: LinkTarget> EmitAt for JSXElement<N> {
     ghost items = { jsx_element N.answers N.items };
 
     #[tactic(auto, unfolding(crate::specs::Jsx::jsx_element, crate::specs::Jsx::optional_closing))]
@@ -39,7 +39,7 @@ impl<N: Held> EmitAt for JSXElement<N> {
     }
 }
 
-impl<N: Held> EmitAt for JSXOpeningElement<N> {
+impl<N: LinkTarget> EmitAt for JSXOpeningElement<N> {
     ghost items = { jsx_opening_element N.answers N.items };
 
     #[tactic(auto, unfolding(crate::specs::Jsx::jsx_opening_element))]
@@ -57,7 +57,7 @@ impl<N: Held> EmitAt for JSXOpeningElement<N> {
     }
 }
 
-impl<N: Held> EmitAt for JSXElementName<N> {
+impl<N: LinkTarget> EmitAt for JSXElementName<N> {
     ghost items = { λ n _. jsx_element_name N.items n };
 
     #[tactic(auto, unfolding(crate::specs::Jsx::jsx_element_name))]
@@ -74,7 +74,7 @@ impl<N: Held> EmitAt for JSXElementName<N> {
     }
 }
 
-impl<N: Held> EmitAt for JSXAttr<N> {
+impl<N: LinkTarget> EmitAt for JSXAttr<N> {
     ghost items = { λ n _. jsx_attr N.items n };
 
     #[tactic(auto, unfolding(crate::specs::Jsx::jsx_attr, crate::specs::Jsx::attr_initializer))]
@@ -91,7 +91,7 @@ impl<N: Held> EmitAt for JSXAttr<N> {
     }
 }
 
-impl<N: Held> EmitAt for JSXAttrValue<N> {
+impl<N: LinkTarget> EmitAt for JSXAttrValue<N> {
     ghost items = { λ n _. jsx_attr_value N.items n };
 
     #[tactic(auto, unfolding(crate::specs::Jsx::jsx_attr_value))]
@@ -103,8 +103,8 @@ impl<N: Held> EmitAt for JSXAttrValue<N> {
         match self {
             JSXAttrValue::Lit(node) => e.jsx_attr_lit(node),
             JSXAttrValue::JSXExprContainer(node) => node.emit_at(e, Place::Plain),
-            JSXAttrValue::JSXElement(node) => node.held().emit_at(e, Place::Plain),
-            JSXAttrValue::JSXFragment(node) => node.held().emit_at(e, Place::Plain),
+            JSXAttrValue::JSXElement(node) => node.target().emit_at(e, Place::Plain),
+            JSXAttrValue::JSXFragment(node) => node.target().emit_at(e, Place::Plain),
         }
     }
 }
@@ -125,7 +125,7 @@ impl EmitAt for JSXAttrName {
     }
 }
 
-impl<N: Held> EmitAt for JSXAttrOrSpread<N> {
+impl<N: LinkTarget> EmitAt for JSXAttrOrSpread<N> {
     ghost items = { λ n _. jsx_attr_or_spread N.answers N.items n };
 
     #[tactic(auto, unfolding(crate::specs::Jsx::jsx_attr_or_spread))]
@@ -145,7 +145,7 @@ impl<N: Held> EmitAt for JSXAttrOrSpread<N> {
     }
 }
 
-impl<N: Held> EmitAt for JSXElementChild<N> {
+impl<N: LinkTarget> EmitAt for JSXElementChild<N> {
     ghost items = { λ n _. jsx_element_child N.items n };
 
     #[tactic(auto, unfolding(crate::specs::Jsx::jsx_element_child))]
@@ -155,16 +155,16 @@ impl<N: Held> EmitAt for JSXElementChild<N> {
         place: Place,
     ) {
         match self {
-            JSXElementChild::JSXElement(node) => node.held().emit_at(e, Place::Child),
+            JSXElementChild::JSXElement(node) => node.target().emit_at(e, Place::Child),
             JSXElementChild::JSXExprContainer(node) => node.emit_at(e, Place::Child),
-            JSXElementChild::JSXFragment(node) => node.held().emit_at(e, Place::Child),
+            JSXElementChild::JSXFragment(node) => node.target().emit_at(e, Place::Child),
             JSXElementChild::JSXSpreadChild(node) => node.emit_at(e, Place::Child),
             JSXElementChild::JSXText(node) => node.emit_at(e, Place::Child),
         }
     }
 }
 
-impl<N: Held> EmitAt for JSXSpreadChild<N> {
+impl<N: LinkTarget> EmitAt for JSXSpreadChild<N> {
     ghost items = { λ n _. jsx_spread_child N.items n };
 
     #[tactic(auto, unfolding(crate::specs::Jsx::jsx_spread_child))]
@@ -175,12 +175,12 @@ impl<N: Held> EmitAt for JSXSpreadChild<N> {
     ) {
         e.child_open(Punctuator::LeftBrace);
         e.punct(Punctuator::Ellipsis);
-        self.expr.held().emit_at(e, Place::Plain);
+        self.expr.target().emit_at(e, Place::Plain);
         e.punct(Punctuator::RightBrace);
     }
 }
 
-impl<N: Held> EmitAt for JSXExprContainer<N> {
+impl<N: LinkTarget> EmitAt for JSXExprContainer<N> {
     ghost items = { jsx_expr_container N.items };
 
     #[tactic(auto, unfolding(crate::specs::Jsx::jsx_expr_container))]
@@ -195,7 +195,7 @@ impl<N: Held> EmitAt for JSXExprContainer<N> {
     }
 }
 
-impl<N: Held> EmitAt for JSXExpr<N> {
+impl<N: LinkTarget> EmitAt for JSXExpr<N> {
     ghost items = { λ n _. jsx_expr N.items n };
 
     #[tactic(auto, unfolding(crate::specs::Jsx::jsx_expr))]
@@ -205,13 +205,13 @@ impl<N: Held> EmitAt for JSXExpr<N> {
         place: Place,
     ) {
         match self {
-            JSXExpr::Expr(node) => node.held().emit_at(e, Place::Plain),
+            JSXExpr::Expr(node) => node.target().emit_at(e, Place::Plain),
             JSXExpr::JSXEmptyExpr(node) => node.emit_at(e, Place::Plain),
         }
     }
 }
 
-impl<N: Held> EmitAt for JSXClosingElement<N> {
+impl<N: LinkTarget> EmitAt for JSXClosingElement<N> {
     ghost items = { λ n _. jsx_closing_element N.items n };
 
     #[tactic(auto, unfolding(crate::specs::Jsx::jsx_closing_element))]
@@ -227,7 +227,7 @@ impl<N: Held> EmitAt for JSXClosingElement<N> {
     }
 }
 
-impl<N: Held> EmitAt for JSXFragment<N> {
+impl<N: LinkTarget> EmitAt for JSXFragment<N> {
     ghost items = { jsx_fragment N.items };
 
     #[tactic(auto, unfolding(crate::specs::Jsx::jsx_fragment))]
@@ -315,7 +315,7 @@ impl EmitAt for JSXText {
     }
 }
 
-impl<N: Held> EmitAt for JSXMemberExpr<N> {
+impl<N: LinkTarget> EmitAt for JSXMemberExpr<N> {
     ghost items = { λ n _. jsx_member_expr N.items n };
 
     #[tactic(auto, unfolding(crate::specs::Jsx::jsx_member_expr))]
@@ -324,13 +324,13 @@ impl<N: Held> EmitAt for JSXMemberExpr<N> {
         e: &mut Emitter<'_, W, S, C>,
         place: Place,
     ) {
-        self.obj.held().emit_at(e, Place::Plain);
+        self.obj.target().emit_at(e, Place::Plain);
         e.punct(Punctuator::Dot);
         e.tag_ident_name(&self.prop);
     }
 }
 
-impl<N: Held> EmitAt for JSXObject<N> {
+impl<N: LinkTarget> EmitAt for JSXObject<N> {
     ghost items = { λ n _. jsx_object N.items n };
 
     #[tactic(auto, unfolding(crate::specs::Jsx::jsx_object))]
@@ -346,7 +346,7 @@ impl<N: Held> EmitAt for JSXObject<N> {
     }
 }
 
-impl<N: Held> EmitAt for JSXPart<N> {
+impl<N: LinkTarget> EmitAt for JSXPart<N> {
     ghost items = { jsx_part N.answers N.items };
 
     #[inline(never)]
@@ -369,8 +369,8 @@ impl<W: WriteJs, S: SourceMapper, C: Comments> Emitter<'_, W, S, C> {
     #[inline(never)]
     #[tactic(auto, using(crate::proofs::Standings::refused_makes))]
     fn tag_name(&mut self, span: Span, sym: &str)
-        ensures items { Makes (tag_name span sym.now) (standing_of S.lines C.maps W.sheet self.old) (standing_of S.lines C.maps W.sheet self.new) }
-        ensures level { Stays (standing_of S.lines C.maps W.sheet self.old) (standing_of S.lines C.maps W.sheet self.new) }
+        ensures items { Performs (tag_name span sym.now) S.lines C.maps W.sheet self.old self.new }
+        ensures level { KeepsLevel S.lines C.maps W.sheet self.old self.new }
     {
         if self.refusal.is_some() {
             return;
@@ -385,8 +385,8 @@ impl<W: WriteJs, S: SourceMapper, C: Comments> Emitter<'_, W, S, C> {
     /// Writes a name in a tag.
     #[tactic(auto, unfolding(crate::specs::Jsx::tag_ident))]
     fn tag_ident(&mut self, node: &Ident)
-        ensures items { Makes (tag_ident node.now) (standing_of S.lines C.maps W.sheet self.old) (standing_of S.lines C.maps W.sheet self.new) }
-        ensures level { Stays (standing_of S.lines C.maps W.sheet self.old) (standing_of S.lines C.maps W.sheet self.new) }
+        ensures items { Performs (tag_ident node.now) S.lines C.maps W.sheet self.old self.new }
+        ensures level { KeepsLevel S.lines C.maps W.sheet self.old self.new }
     {
         self.tag_name(node.span, &node.sym)
     }
@@ -394,8 +394,9 @@ impl<W: WriteJs, S: SourceMapper, C: Comments> Emitter<'_, W, S, C> {
     /// The same of a name that is no reference: of an attribute, or behind a dot.
     #[tactic(auto, unfolding(crate::specs::Jsx::tag_ident_name))]
     fn tag_ident_name(&mut self, node: &IdentName)
-        ensures items { Makes (tag_ident_name node.now) (standing_of S.lines C.maps W.sheet self.old) (standing_of S.lines C.maps W.sheet self.new) }
-        ensures level { Stays (standing_of S.lines C.maps W.sheet self.old) (standing_of S.lines C.maps W.sheet self.new) }
+        ensures items { Performs (tag_ident_name node.now)
+            S.lines C.maps W.sheet self.old self.new }
+        ensures level { KeepsLevel S.lines C.maps W.sheet self.old self.new }
     {
         self.tag_name(node.span, &node.sym)
     }
@@ -403,8 +404,9 @@ impl<W: WriteJs, S: SourceMapper, C: Comments> Emitter<'_, W, S, C> {
     /// Writes the `<` or `{` that begins a child, or a closing tag.
     #[tactic(auto, using(crate::proofs::Standings::refused_makes))]
     fn child_open(&mut self, mark: Punctuator)
-        ensures items { Makes (child_open (spelling mark)) (standing_of S.lines C.maps W.sheet self.old) (standing_of S.lines C.maps W.sheet self.new) }
-        ensures level { Stays (standing_of S.lines C.maps W.sheet self.old) (standing_of S.lines C.maps W.sheet self.new) }
+        ensures items { Performs (child_open (spelling mark))
+            S.lines C.maps W.sheet self.old self.new }
+        ensures level { KeepsLevel S.lines C.maps W.sheet self.old self.new }
     {
         if self.refusal.is_some() {
             return;
@@ -418,8 +420,9 @@ impl<W: WriteJs, S: SourceMapper, C: Comments> Emitter<'_, W, S, C> {
     /// Writes the `<` or `{` of what may be a child.
     #[tactic(auto, unfolding(crate::specs::Jsx::open_at))]
     fn open_at(&mut self, place: Place, mark: Punctuator)
-        ensures items { Makes (open_at place (spelling mark)) (standing_of S.lines C.maps W.sheet self.old) (standing_of S.lines C.maps W.sheet self.new) }
-        ensures level { Stays (standing_of S.lines C.maps W.sheet self.old) (standing_of S.lines C.maps W.sheet self.new) }
+        ensures items { Performs (open_at place (spelling mark))
+            S.lines C.maps W.sheet self.old self.new }
+        ensures level { KeepsLevel S.lines C.maps W.sheet self.old self.new }
     {
         match place {
             Place::Child => self.child_open(mark),
@@ -430,8 +433,8 @@ impl<W: WriteJs, S: SourceMapper, C: Comments> Emitter<'_, W, S, C> {
     /// Writes the `>` of a tag, or of a list of types.
     #[tactic(auto, using(crate::proofs::Standings::refused_makes))]
     pub(crate) fn close(&mut self)
-        ensures items { Makes close (standing_of S.lines C.maps W.sheet self.old) (standing_of S.lines C.maps W.sheet self.new) }
-        ensures level { Stays (standing_of S.lines C.maps W.sheet self.old) (standing_of S.lines C.maps W.sheet self.new) }
+        ensures items { Performs close S.lines C.maps W.sheet self.old self.new }
+        ensures level { KeepsLevel S.lines C.maps W.sheet self.old self.new }
     {
         if self.refusal.is_some() {
             return;
@@ -442,8 +445,8 @@ impl<W: WriteJs, S: SourceMapper, C: Comments> Emitter<'_, W, S, C> {
     /// Writes the `/` of a tag that closes itself.
     #[tactic(auto, unfolding(crate::specs::Jsx::self_closing))]
     fn self_closing(&mut self, closes: bool)
-        ensures items { Makes (self_closing closes) (standing_of S.lines C.maps W.sheet self.old) (standing_of S.lines C.maps W.sheet self.new) }
-        ensures level { Stays (standing_of S.lines C.maps W.sheet self.old) (standing_of S.lines C.maps W.sheet self.new) }
+        ensures items { Performs (self_closing closes) S.lines C.maps W.sheet self.old self.new }
+        ensures level { KeepsLevel S.lines C.maps W.sheet self.old self.new }
     {
         if closes {
             self.punct(Punctuator::Slash)
@@ -453,8 +456,9 @@ impl<W: WriteJs, S: SourceMapper, C: Comments> Emitter<'_, W, S, C> {
     /// Writes a string that is the value of an attribute.
     #[tactic(auto, using(crate::proofs::Standings::refused_makes))]
     fn attribute_string(&mut self, node: &Str)
-        ensures items { Makes (attribute_string node.now) (standing_of S.lines C.maps W.sheet self.old) (standing_of S.lines C.maps W.sheet self.new) }
-        ensures level { Stays (standing_of S.lines C.maps W.sheet self.old) (standing_of S.lines C.maps W.sheet self.new) }
+        ensures items { Performs (attribute_string node.now)
+            S.lines C.maps W.sheet self.old self.new }
+        ensures level { KeepsLevel S.lines C.maps W.sheet self.old self.new }
     {
         if self.refusal.is_some() {
             return;
@@ -469,8 +473,8 @@ impl<W: WriteJs, S: SourceMapper, C: Comments> Emitter<'_, W, S, C> {
     /// Writes a literal that is the value of an attribute.
     #[tactic(auto, unfolding(crate::specs::Jsx::jsx_attr_lit))]
     fn jsx_attr_lit(&mut self, node: &Lit)
-        ensures items { Makes (jsx_attr_lit node.now) (standing_of S.lines C.maps W.sheet self.old) (standing_of S.lines C.maps W.sheet self.new) }
-        ensures level { Stays (standing_of S.lines C.maps W.sheet self.old) (standing_of S.lines C.maps W.sheet self.new) }
+        ensures items { Performs (jsx_attr_lit node.now) S.lines C.maps W.sheet self.old self.new }
+        ensures level { KeepsLevel S.lines C.maps W.sheet self.old self.new }
     {
         match node {
             Lit::Str(text) => self.attribute_string(text),
@@ -482,8 +486,8 @@ impl<W: WriteJs, S: SourceMapper, C: Comments> Emitter<'_, W, S, C> {
     #[inline(never)]
     #[tactic(auto, using(crate::proofs::Standings::refused_makes))]
     pub(crate) fn jsx_text_lit(&mut self, node: &JSXText)
-        ensures items { Makes (jsx_text_lit node.now) (standing_of S.lines C.maps W.sheet self.old) (standing_of S.lines C.maps W.sheet self.new) }
-        ensures level { Stays (standing_of S.lines C.maps W.sheet self.old) (standing_of S.lines C.maps W.sheet self.new) }
+        ensures items { Performs (jsx_text_lit node.now) S.lines C.maps W.sheet self.old self.new }
+        ensures level { KeepsLevel S.lines C.maps W.sheet self.old self.new }
     {
         if self.refusal.is_some() {
             return;
@@ -497,9 +501,10 @@ impl<W: WriteJs, S: SourceMapper, C: Comments> Emitter<'_, W, S, C> {
 
     /// Writes the attributes of a tag, with a blank before the first.
     #[tactic(auto, using(crate::proofs::Steps::attributes_next), unfolding(crate::specs::Jsx::jsx_attributes))]
-    fn jsx_attributes<N: Held>(&mut self, nodes: &[JSXAttrOrSpread<N>])
-        ensures items { Makes (jsx_attributes (jsx_attr_or_spread N.answers N.items) true nodes.now) (standing_of S.lines C.maps W.sheet self.old) (standing_of S.lines C.maps W.sheet self.new) }
-        ensures level { Stays (standing_of S.lines C.maps W.sheet self.old) (standing_of S.lines C.maps W.sheet self.new) }
+    fn jsx_attributes<N: LinkTarget>(&mut self, nodes: &[JSXAttrOrSpread<N>])
+        ensures items { Performs (jsx_attributes (jsx_attr_or_spread N.answers N.items) true
+            nodes.now) S.lines C.maps W.sheet self.old self.new }
+        ensures level { KeepsLevel S.lines C.maps W.sheet self.old self.new }
     {
         let mut first = true;
         for node in nodes {
@@ -511,9 +516,10 @@ impl<W: WriteJs, S: SourceMapper, C: Comments> Emitter<'_, W, S, C> {
 
     /// Writes what stands between two tags.
     #[tactic(auto, unfolding(crate::specs::Jsx::jsx_children))]
-    fn jsx_children<N: Held>(&mut self, nodes: &[JSXElementChild<N>])
-        ensures items { Makes (jsx_children N.items nodes.now) (standing_of S.lines C.maps W.sheet self.old) (standing_of S.lines C.maps W.sheet self.new) }
-        ensures level { Stays (standing_of S.lines C.maps W.sheet self.old) (standing_of S.lines C.maps W.sheet self.new) }
+    fn jsx_children<N: LinkTarget>(&mut self, nodes: &[JSXElementChild<N>])
+        ensures items { Performs (jsx_children N.items nodes.now)
+            S.lines C.maps W.sheet self.old self.new }
+        ensures level { KeepsLevel S.lines C.maps W.sheet self.old self.new }
     {
         self.in_order(nodes)
     }

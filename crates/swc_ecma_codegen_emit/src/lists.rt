@@ -1,7 +1,7 @@
 //! Lists of nodes.
 
 ghost use Rattle.std.specs.Prelude.{◌≡◌, true, [], ◌∷◌, map, option_map};
-ghost use Rattle.swc_ecma_codegen_emit.specs.Standing.{Makes, Stays, KeepsSettings, Deepens, Rises, HasLevels, standing_of};
+ghost use Rattle.swc_ecma_codegen_emit.specs.Standing.{KeepsSettings, Deepens, Rises, HasLevels, standing_of, Performs, KeepsLevel};
 ghost use Rattle.swc_ecma_codegen_tokens.specs.Lists.{list_levels, opening, separator, child_comments, trailing_comma, closing, list_end, empty_list, first_child_after, first_child, next_child_after, next_child, list_closing, list_after, list, optional_list};
 ghost use Rattle.swc_ecma_codegen_emit.specs.Lists.{comma, listed, plainly, in_order, child_of, as_asked};
 ghost use Rattle.swc_ecma_codegen_emit.specs.declared.nodes.Place.TheVariants.{Plain};
@@ -36,8 +36,8 @@ impl<W: WriteJs, S: SourceMapper, C: Comments> Emitter<'_, W, S, C> {
     /// Writes a comma and a blank, except before the first.
     #[tactic(auto, unfolding(crate::specs::Lists::comma))]
     pub(crate) fn comma(&mut self, first: bool)
-        ensures items { Makes (comma first) (standing_of S.lines C.maps W.sheet self.old) (standing_of S.lines C.maps W.sheet self.new) }
-        ensures level { Stays (standing_of S.lines C.maps W.sheet self.old) (standing_of S.lines C.maps W.sheet self.new) }
+        ensures items { Performs (comma first) S.lines C.maps W.sheet self.old self.new }
+        ensures level { KeepsLevel S.lines C.maps W.sheet self.old self.new }
     {
         if !first {
             self.punct(Punctuator::Comma);
@@ -48,13 +48,14 @@ impl<W: WriteJs, S: SourceMapper, C: Comments> Emitter<'_, W, S, C> {
     /// Writes expressions, with commas between.
     #[tactic(auto, using(crate::proofs::Steps::listed_next), unfolding(crate::specs::Lists::listed))]
     pub(crate) fn exprs<N: EmitAt>(&mut self, nodes: &[ExprBox<N>])
-        ensures items { Makes (listed (held N.items) true nodes.now) (standing_of S.lines C.maps W.sheet self.old) (standing_of S.lines C.maps W.sheet self.new) }
-        ensures level { Stays (standing_of S.lines C.maps W.sheet self.old) (standing_of S.lines C.maps W.sheet self.new) }
+        ensures items { Performs (listed (held N.items) true nodes.now)
+            S.lines C.maps W.sheet self.old self.new }
+        ensures level { KeepsLevel S.lines C.maps W.sheet self.old self.new }
     {
         let mut first = true;
         for node in nodes {
             self.comma(first);
-            node.held().emit_at(self, Place::Plain);
+            node.target().emit_at(self, Place::Plain);
             first = false;
         }
     }
@@ -62,8 +63,9 @@ impl<W: WriteJs, S: SourceMapper, C: Comments> Emitter<'_, W, S, C> {
     /// Writes nodes, one after another.
     #[tactic(auto, using(crate::proofs::Steps::in_order_next), unfolding(crate::specs::Lists::in_order))]
     pub(crate) fn in_order<T: EmitAt>(&mut self, nodes: &[T])
-        ensures items { Makes (in_order (plainly T.items) nodes.now) (standing_of S.lines C.maps W.sheet self.old) (standing_of S.lines C.maps W.sheet self.new) }
-        ensures level { Stays (standing_of S.lines C.maps W.sheet self.old) (standing_of S.lines C.maps W.sheet self.new) }
+        ensures items { Performs (in_order (plainly T.items) nodes.now)
+            S.lines C.maps W.sheet self.old self.new }
+        ensures level { KeepsLevel S.lines C.maps W.sheet self.old self.new }
     {
         for node in nodes {
             node.emit_at(self, Place::Plain);
@@ -76,8 +78,10 @@ impl<W: WriteJs, S: SourceMapper, C: Comments> Emitter<'_, W, S, C> {
     /// Writes what stands before the first child.
     #[tactic(auto, using(crate::proofs::Standings::refused_makes))]
     fn opening(&mut self, format: ListFormat, line: bool)
-        ensures items { Makes (opening format.0 line) (standing_of S.lines C.maps W.sheet self.old) (standing_of S.lines C.maps W.sheet self.new) }
-        ensures level { Deepens (list_levels format.0 self.old.cfg) (standing_of S.lines C.maps W.sheet self.old) (standing_of S.lines C.maps W.sheet self.new) }
+        ensures items { Performs (opening format.0 line) S.lines C.maps W.sheet self.old self.new }
+        ensures level { Deepens (list_levels format.0 self.old.cfg)
+            (standing_of S.lines C.maps W.sheet self.old)
+            (standing_of S.lines C.maps W.sheet self.new) }
     {
         if self.refusal.is_some() {
             return;
@@ -92,8 +96,9 @@ impl<W: WriteJs, S: SourceMapper, C: Comments> Emitter<'_, W, S, C> {
     /// Writes what stands between two children.
     #[tactic(auto, using(crate::proofs::Standings::refused_makes))]
     fn separator(&mut self, format: ListFormat, line: bool)
-        ensures items { Makes (separator format.0 line) (standing_of S.lines C.maps W.sheet self.old) (standing_of S.lines C.maps W.sheet self.new) }
-        ensures level { Stays (standing_of S.lines C.maps W.sheet self.old) (standing_of S.lines C.maps W.sheet self.new) }
+        ensures items { Performs (separator format.0 line)
+            S.lines C.maps W.sheet self.old self.new }
+        ensures level { KeepsLevel S.lines C.maps W.sheet self.old self.new }
     {
         if self.refusal.is_some() {
             return;
@@ -109,8 +114,9 @@ impl<W: WriteJs, S: SourceMapper, C: Comments> Emitter<'_, W, S, C> {
     #[inline(always)]
     #[tactic(auto, using(crate::proofs::Without::none_there, crate::proofs::Without::none_behind_child))]
     fn child_comments<T: Child>(&mut self, format: ListFormat, line: bool, child: &T)
-        ensures items { Makes (child_comments format.0 line (T.stands child.now)) (standing_of S.lines C.maps W.sheet self.old) (standing_of S.lines C.maps W.sheet self.new) }
-        ensures level { Stays (standing_of S.lines C.maps W.sheet self.old) (standing_of S.lines C.maps W.sheet self.new) }
+        ensures items { Performs (child_comments format.0 line (T.stands child.now))
+            S.lines C.maps W.sheet self.old self.new }
+        ensures level { KeepsLevel S.lines C.maps W.sheet self.old self.new }
     {
         if self.comments.is_none() {
             return;
@@ -122,8 +128,9 @@ impl<W: WriteJs, S: SourceMapper, C: Comments> Emitter<'_, W, S, C> {
     #[inline(never)]
     #[tactic(auto, using(crate::proofs::Standings::refused_makes))]
     fn child_taken<T: Child>(&mut self, format: ListFormat, line: bool, child: &T)
-        ensures items { Makes (child_comments format.0 line (T.stands child.now)) (standing_of S.lines C.maps W.sheet self.old) (standing_of S.lines C.maps W.sheet self.new) }
-        ensures level { Stays (standing_of S.lines C.maps W.sheet self.old) (standing_of S.lines C.maps W.sheet self.new) }
+        ensures items { Performs (child_comments format.0 line (T.stands child.now))
+            S.lines C.maps W.sheet self.old self.new }
+        ensures level { KeepsLevel S.lines C.maps W.sheet self.old self.new }
     {
         if self.refusal.is_some() {
             return;
@@ -145,8 +152,9 @@ impl<W: WriteJs, S: SourceMapper, C: Comments> Emitter<'_, W, S, C> {
     /// Writes the trailing comma of a list, where it has one.
     #[tactic(auto, using(crate::proofs::Standings::refused_makes))]
     fn trailing_comma(&mut self, format: ListFormat, parent: Span)
-        ensures items { Makes (trailing_comma format.0 parent) (standing_of S.lines C.maps W.sheet self.old) (standing_of S.lines C.maps W.sheet self.new) }
-        ensures level { Stays (standing_of S.lines C.maps W.sheet self.old) (standing_of S.lines C.maps W.sheet self.new) }
+        ensures items { Performs (trailing_comma format.0 parent)
+            S.lines C.maps W.sheet self.old self.new }
+        ensures level { KeepsLevel S.lines C.maps W.sheet self.old self.new }
         ensures settings { self.new.cfg ≡ self.old.cfg }
     {
         if self.refusal.is_some() {
@@ -162,9 +170,13 @@ impl<W: WriteJs, S: SourceMapper, C: Comments> Emitter<'_, W, S, C> {
     /// Writes what stands after the last child, behind a trailing comma.
     #[tactic(auto, using(crate::proofs::Standings::refused_makes))]
     fn closing(&mut self, format: ListFormat, parent: Span, last: Span)
-        requires { HasLevels (list_levels format.0 self.old.cfg) (standing_of S.lines C.maps W.sheet self.old) }
-        ensures items { Makes (list_end format.0 parent last) (standing_of S.lines C.maps W.sheet self.old) (standing_of S.lines C.maps W.sheet self.new) }
-        ensures level { Rises (list_levels format.0 self.old.cfg) (standing_of S.lines C.maps W.sheet self.old) (standing_of S.lines C.maps W.sheet self.new) }
+        requires { HasLevels (list_levels format.0 self.old.cfg)
+            (standing_of S.lines C.maps W.sheet self.old) }
+        ensures items { Performs (list_end format.0 parent last)
+            S.lines C.maps W.sheet self.old self.new }
+        ensures level { Rises (list_levels format.0 self.old.cfg)
+            (standing_of S.lines C.maps W.sheet self.old)
+            (standing_of S.lines C.maps W.sheet self.new) }
     {
         if self.refusal.is_some() {
             return;
@@ -180,8 +192,8 @@ impl<W: WriteJs, S: SourceMapper, C: Comments> Emitter<'_, W, S, C> {
     /// Writes what stands for a list without children.
     #[tactic(auto, using(crate::proofs::Standings::refused_makes))]
     fn empty_list(&mut self, format: ListFormat)
-        ensures items { Makes (empty_list format.0) (standing_of S.lines C.maps W.sheet self.old) (standing_of S.lines C.maps W.sheet self.new) }
-        ensures level { Stays (standing_of S.lines C.maps W.sheet self.old) (standing_of S.lines C.maps W.sheet self.new) }
+        ensures items { Performs (empty_list format.0) S.lines C.maps W.sheet self.old self.new }
+        ensures level { KeepsLevel S.lines C.maps W.sheet self.old self.new }
     {
         if self.refusal.is_some() {
             return;
@@ -195,8 +207,11 @@ impl<W: WriteJs, S: SourceMapper, C: Comments> Emitter<'_, W, S, C> {
     /// Writes the first child, where a line ends before it or doesn't.
     #[tactic(auto, unfolding(swc_ecma_codegen_tokens::specs::Lists::first_child_after))]
     fn first_child_after<T: Child>(&mut self, format: ListFormat, line: bool, child: &T)
-        ensures items { Makes (first_child_after format.0 line (child_of T.stands T.items child.now)) (standing_of S.lines C.maps W.sheet self.old) (standing_of S.lines C.maps W.sheet self.new) }
-        ensures level { Deepens (list_levels format.0 self.old.cfg) (standing_of S.lines C.maps W.sheet self.old) (standing_of S.lines C.maps W.sheet self.new) }
+        ensures items { Performs (first_child_after format.0 line
+            (child_of T.stands T.items child.now)) S.lines C.maps W.sheet self.old self.new }
+        ensures level { Deepens (list_levels format.0 self.old.cfg)
+            (standing_of S.lines C.maps W.sheet self.old)
+            (standing_of S.lines C.maps W.sheet self.new) }
     {
         self.opening(format, line);
         child.emit_at(self, Place::Plain);
@@ -212,9 +227,13 @@ impl<W: WriteJs, S: SourceMapper, C: Comments> Emitter<'_, W, S, C> {
         place: Span,
     )
         requires { as_asked format.0 place ≡ as_asked format.0 (T.stands child.now) }
-        ensures items { Makes (first_child format.0 parent (child_of T.stands T.items child.now)) (standing_of S.lines C.maps W.sheet self.old) (standing_of S.lines C.maps W.sheet self.new) }
-        ensures level { Deepens (list_levels format.0 self.old.cfg) (standing_of S.lines C.maps W.sheet self.old) (standing_of S.lines C.maps W.sheet self.new) }
-        ensures settings { KeepsSettings (standing_of S.lines C.maps W.sheet self.old) (standing_of S.lines C.maps W.sheet self.new) }
+        ensures items { Performs (first_child format.0 parent (child_of T.stands T.items child.now))
+            S.lines C.maps W.sheet self.old self.new }
+        ensures level { Deepens (list_levels format.0 self.old.cfg)
+            (standing_of S.lines C.maps W.sheet self.old)
+            (standing_of S.lines C.maps W.sheet self.new) }
+        ensures settings { KeepsSettings (standing_of S.lines C.maps W.sheet self.old)
+            (standing_of S.lines C.maps W.sheet self.new) }
     {
         let line = format.leading_line(self.cm, parent, place);
         self.first_child_after(format, line, child)
@@ -223,8 +242,9 @@ impl<W: WriteJs, S: SourceMapper, C: Comments> Emitter<'_, W, S, C> {
     /// Writes a child after another, where a line ends between them or doesn't.
     #[tactic(auto, unfolding(swc_ecma_codegen_tokens::specs::Lists::next_child_after))]
     fn next_child_after<T: Child>(&mut self, format: ListFormat, line: bool, child: &T)
-        ensures items { Makes (next_child_after format.0 line (child_of T.stands T.items child.now)) (standing_of S.lines C.maps W.sheet self.old) (standing_of S.lines C.maps W.sheet self.new) }
-        ensures level { Stays (standing_of S.lines C.maps W.sheet self.old) (standing_of S.lines C.maps W.sheet self.new) }
+        ensures items { Performs (next_child_after format.0 line
+            (child_of T.stands T.items child.now)) S.lines C.maps W.sheet self.old self.new }
+        ensures level { KeepsLevel S.lines C.maps W.sheet self.old self.new }
     {
         self.separator(format, line);
         child.emit_at(self, Place::Plain);
@@ -241,9 +261,11 @@ impl<W: WriteJs, S: SourceMapper, C: Comments> Emitter<'_, W, S, C> {
         place: Span,
     )
         requires { as_asked format.0 place ≡ as_asked format.0 (T.stands child.now) }
-        ensures items { Makes (next_child format.0 previous (child_of T.stands T.items child.now)) (standing_of S.lines C.maps W.sheet self.old) (standing_of S.lines C.maps W.sheet self.new) }
-        ensures level { Stays (standing_of S.lines C.maps W.sheet self.old) (standing_of S.lines C.maps W.sheet self.new) }
-        ensures settings { KeepsSettings (standing_of S.lines C.maps W.sheet self.old) (standing_of S.lines C.maps W.sheet self.new) }
+        ensures items { Performs (next_child format.0 previous
+            (child_of T.stands T.items child.now)) S.lines C.maps W.sheet self.old self.new }
+        ensures level { KeepsLevel S.lines C.maps W.sheet self.old self.new }
+        ensures settings { KeepsSettings (standing_of S.lines C.maps W.sheet self.old)
+            (standing_of S.lines C.maps W.sheet self.new) }
     {
         let line = format.separating_line(self.cm, previous, place);
         self.next_child_after(format, line, child)
@@ -252,9 +274,13 @@ impl<W: WriteJs, S: SourceMapper, C: Comments> Emitter<'_, W, S, C> {
     /// Writes what stands after the last child.
     #[tactic(auto, unfolding(swc_ecma_codegen_tokens::specs::Lists::list_closing))]
     pub(crate) fn list_closing(&mut self, format: ListFormat, parent: Span, last: Span)
-        requires { HasLevels (list_levels format.0 self.old.cfg) (standing_of S.lines C.maps W.sheet self.old) }
-        ensures items { Makes (list_closing format.0 parent last) (standing_of S.lines C.maps W.sheet self.old) (standing_of S.lines C.maps W.sheet self.new) }
-        ensures level { Rises (list_levels format.0 self.old.cfg) (standing_of S.lines C.maps W.sheet self.old) (standing_of S.lines C.maps W.sheet self.new) }
+        requires { HasLevels (list_levels format.0 self.old.cfg)
+            (standing_of S.lines C.maps W.sheet self.old) }
+        ensures items { Performs (list_closing format.0 parent last)
+            S.lines C.maps W.sheet self.old self.new }
+        ensures level { Rises (list_levels format.0 self.old.cfg)
+            (standing_of S.lines C.maps W.sheet self.old)
+            (standing_of S.lines C.maps W.sheet self.new) }
     {
         self.trailing_comma(format, parent);
         self.closing(format, parent, last);
@@ -264,9 +290,13 @@ impl<W: WriteJs, S: SourceMapper, C: Comments> Emitter<'_, W, S, C> {
     #[inline(always)]
     fn child_of_list<T: Child>(&mut self, format: ListFormat, parent: Span, child: &T) -> Span
         ensures place { as_asked format.0 result ≡ as_asked format.0 (T.stands child.now) }
-        ensures items { Makes (first_child format.0 parent (child_of T.stands T.items child.now)) (standing_of S.lines C.maps W.sheet self.old) (standing_of S.lines C.maps W.sheet self.new) }
-        ensures level { Deepens (list_levels format.0 self.old.cfg) (standing_of S.lines C.maps W.sheet self.old) (standing_of S.lines C.maps W.sheet self.new) }
-        ensures settings { KeepsSettings (standing_of S.lines C.maps W.sheet self.old) (standing_of S.lines C.maps W.sheet self.new) }
+        ensures items { Performs (first_child format.0 parent (child_of T.stands T.items child.now))
+            S.lines C.maps W.sheet self.old self.new }
+        ensures level { Deepens (list_levels format.0 self.old.cfg)
+            (standing_of S.lines C.maps W.sheet self.old)
+            (standing_of S.lines C.maps W.sheet self.new) }
+        ensures settings { KeepsSettings (standing_of S.lines C.maps W.sheet self.old)
+            (standing_of S.lines C.maps W.sheet self.new) }
     {
         let place = asked_place(format, child);
         self.first_child(format, parent, child, place);
@@ -277,9 +307,11 @@ impl<W: WriteJs, S: SourceMapper, C: Comments> Emitter<'_, W, S, C> {
     #[inline(always)]
     fn child_after<T: Child>(&mut self, format: ListFormat, previous: Span, child: &T) -> Span
         ensures place { as_asked format.0 result ≡ as_asked format.0 (T.stands child.now) }
-        ensures items { Makes (next_child format.0 previous (child_of T.stands T.items child.now)) (standing_of S.lines C.maps W.sheet self.old) (standing_of S.lines C.maps W.sheet self.new) }
-        ensures level { Stays (standing_of S.lines C.maps W.sheet self.old) (standing_of S.lines C.maps W.sheet self.new) }
-        ensures settings { KeepsSettings (standing_of S.lines C.maps W.sheet self.old) (standing_of S.lines C.maps W.sheet self.new) }
+        ensures items { Performs (next_child format.0 previous
+            (child_of T.stands T.items child.now)) S.lines C.maps W.sheet self.old self.new }
+        ensures level { KeepsLevel S.lines C.maps W.sheet self.old self.new }
+        ensures settings { KeepsSettings (standing_of S.lines C.maps W.sheet self.old)
+            (standing_of S.lines C.maps W.sheet self.new) }
     {
         let place = asked_place(format, child);
         self.next_child(format, previous, child, place);
@@ -295,9 +327,14 @@ impl<W: WriteJs, S: SourceMapper, C: Comments> Emitter<'_, W, S, C> {
         previous: Span,
         children: &[T],
     )
-        requires { HasLevels (list_levels format.0 self.old.cfg) (standing_of S.lines C.maps W.sheet self.old) }
-        ensures items { Makes (list_after format.0 parent previous (map (child_of T.stands T.items) children.now)) (standing_of S.lines C.maps W.sheet self.old) (standing_of S.lines C.maps W.sheet self.new) }
-        ensures level { Rises (list_levels format.0 self.old.cfg) (standing_of S.lines C.maps W.sheet self.old) (standing_of S.lines C.maps W.sheet self.new) }
+        requires { HasLevels (list_levels format.0 self.old.cfg)
+            (standing_of S.lines C.maps W.sheet self.old) }
+        ensures items { Performs (list_after format.0 parent previous
+            (map (child_of T.stands T.items) children.now))
+            S.lines C.maps W.sheet self.old self.new }
+        ensures level { Rises (list_levels format.0 self.old.cfg)
+            (standing_of S.lines C.maps W.sheet self.old)
+            (standing_of S.lines C.maps W.sheet self.new) }
     {
         let mut last = previous;
         for child in children {
@@ -309,8 +346,10 @@ impl<W: WriteJs, S: SourceMapper, C: Comments> Emitter<'_, W, S, C> {
     /// Writes a list that has a first child.
     #[tactic(auto, unfolding(swc_ecma_codegen_tokens::specs::Lists::list))]
     fn some_list<T: Child>(&mut self, format: ListFormat, parent: Span, first: &T, others: &[T])
-        ensures items { Makes (list format.0 parent (map (child_of T.stands T.items) (first.now ∷ others.now))) (standing_of S.lines C.maps W.sheet self.old) (standing_of S.lines C.maps W.sheet self.new) }
-        ensures level { Stays (standing_of S.lines C.maps W.sheet self.old) (standing_of S.lines C.maps W.sheet self.new) }
+        ensures items { Performs (list format.0 parent
+            (map (child_of T.stands T.items) (first.now ∷ others.now)))
+            S.lines C.maps W.sheet self.old self.new }
+        ensures level { KeepsLevel S.lines C.maps W.sheet self.old self.new }
     {
         let place = self.child_of_list(format, parent, first);
         self.list_after(format, parent, place, others);
@@ -319,8 +358,9 @@ impl<W: WriteJs, S: SourceMapper, C: Comments> Emitter<'_, W, S, C> {
     /// Writes a list without children.
     #[tactic(auto, unfolding(swc_ecma_codegen_tokens::specs::Lists::list))]
     pub(crate) fn no_list(&mut self, format: ListFormat, parent: Span)
-        ensures items { Makes (list format.0 parent []) (standing_of S.lines C.maps W.sheet self.old) (standing_of S.lines C.maps W.sheet self.new) }
-        ensures level { Stays (standing_of S.lines C.maps W.sheet self.old) (standing_of S.lines C.maps W.sheet self.new) }
+        ensures items { Performs (list format.0 parent [])
+            S.lines C.maps W.sheet self.old self.new }
+        ensures level { KeepsLevel S.lines C.maps W.sheet self.old self.new }
     {
         let _ = parent;
         if format.contains(ListFormat::OptionalIfEmpty) {
@@ -331,8 +371,10 @@ impl<W: WriteJs, S: SourceMapper, C: Comments> Emitter<'_, W, S, C> {
 
     /// Writes the children of a list that stands at `parent`. Its brackets aren't its own.
     pub(crate) fn list<T: Child>(&mut self, format: ListFormat, parent: Span, children: &[T])
-        ensures items { Makes (list format.0 parent (map (child_of T.stands T.items) children.now)) (standing_of S.lines C.maps W.sheet self.old) (standing_of S.lines C.maps W.sheet self.new) }
-        ensures level { Stays (standing_of S.lines C.maps W.sheet self.old) (standing_of S.lines C.maps W.sheet self.new) }
+        ensures items { Performs (list format.0 parent
+            (map (child_of T.stands T.items) children.now))
+            S.lines C.maps W.sheet self.old self.new }
+        ensures level { KeepsLevel S.lines C.maps W.sheet self.old self.new }
     {
         match children.split_first() {
             Some((first, others)) => self.some_list(format, parent, first, others),
@@ -348,8 +390,10 @@ impl<W: WriteJs, S: SourceMapper, C: Comments> Emitter<'_, W, S, C> {
         parent: Span,
         children: Option<&[T]>,
     )
-        ensures items { Makes (optional_list format.0 parent (option_map (λ xs. map (child_of T.stands T.items) xs.now) children.entry)) (standing_of S.lines C.maps W.sheet self.old) (standing_of S.lines C.maps W.sheet self.new) }
-        ensures level { Stays (standing_of S.lines C.maps W.sheet self.old) (standing_of S.lines C.maps W.sheet self.new) }
+        ensures items { Performs (optional_list format.0 parent
+            (option_map (λ xs. map (child_of T.stands T.items) xs.now) children.entry))
+            S.lines C.maps W.sheet self.old self.new }
+        ensures level { KeepsLevel S.lines C.maps W.sheet self.old self.new }
     {
         match children {
             Some(children) => self.list(format, parent, children),

@@ -4,12 +4,12 @@ ghost use Rattle.std.specs.Prelude.{◌≡◌, true};
 ghost use Rattle.swc_ecma_codegen_grammar.specs.Settings.{is_up_to_es5};
 ghost use Rattle.swc_ecma_codegen_util.specs.Ends.{pat_ends, declarator_ends, declarators_end, head_ends};
 ghost use Rattle.swc_ecma_codegen_tokens.specs.Choices.{loop_ending};
-ghost use Rattle.swc_ecma_codegen_emit.specs.Standing.{Makes, Stays, standing_of};
+ghost use Rattle.swc_ecma_codegen_emit.specs.Standing.{Performs, KeepsLevel};
 ghost use Rattle.swc_ecma_codegen_tokens.specs.Starts.{begins_letter};
 ghost use Rattle.swc_ecma_codegen_emit.specs.Stmts.{case_body, cases_format, lines_format, case_format, case_test, is_single, case_list, case_children, case_stmts, switch_case, cases, switch_cases, switch_stmt, while_stmt, loop_test, do_while_stmt, var_decl_or_expr, for_init, for_value, for_clause, for_control, for_stmt, for_head, for_right, for_each, for_in_stmt, for_await, for_of_stmt};
 
 use crate::emitter::Emitter;
-use crate::nodes::{Asked, Child, EmitAt, Held, Place};
+use crate::nodes::{Asked, Child, EmitAt, LinkTarget, Place};
 use bitflags::Flags;
 use swc_ecma_codegen_common::{EsVersion, Span};
 use swc_ecma_codegen_grammar::ListFormat;
@@ -63,7 +63,7 @@ fn is_single<S: SourceMapper, N: Asked>(cm: &S, span: Span, nodes: &[StmtBox<N>]
     ensures { result ≡ is_single N.answers (S.lines cm.now) span nodes.now }
 {
     match nodes {
-        [node] => !lines_format().leading_line(cm, span, node.held().place()),
+        [node] => !lines_format().leading_line(cm, span, node.target().place()),
         _ => false,
     }
 }
@@ -75,9 +75,9 @@ fn pat_ends<N: Asked>(pat: &Pat<N>) -> bool
 {
     match pat {
         Pat::Array(_) | Pat::Object(_) => false,
-        Pat::Rest(node) => node.arg.held().ends(),
-        Pat::Assign(node) => node.right.held().ends(),
-        Pat::Expr(node) => node.held().ends(),
+        Pat::Rest(node) => node.arg.target().ends(),
+        Pat::Assign(node) => node.right.target().ends(),
+        Pat::Expr(node) => node.target().ends(),
         Pat::Ident(_) | Pat::Invalid(_) => true,
     }
 }
@@ -88,7 +88,7 @@ fn declarator_ends<N: Asked>(declarator: &VarDeclarator<N>) -> bool
     ensures { result ≡ declarator_ends (λ x. (N.answers x).ends) declarator.now }
 {
     match &declarator.init {
-        Some(init) => init.held().ends(),
+        Some(init) => init.target().ends(),
         None => pat_ends(&declarator.name),
     }
 }
@@ -110,13 +110,13 @@ fn head_ends<N: Asked>(head: &ForHead<N>) -> bool
     ensures { result ≡ head_ends (λ x. (N.answers x).ends) head.now }
 {
     match head {
-        ForHead::VarDecl(node) => node.held().ends(),
+        ForHead::VarDecl(node) => node.target().ends(),
         ForHead::UsingDecl(node) => declarators_end(&node.decls),
-        ForHead::Pat(node) => node.held().ends(),
+        ForHead::Pat(node) => node.target().ends(),
     }
 }
 
-impl<N: Held> EmitAt for ForHead<N> {
+impl<N: LinkTarget> EmitAt for ForHead<N> {
     ghost items = { λ n _. for_head N.answers N.items n };
 
     #[tactic(auto, unfolding(crate::specs::Stmts::for_head))]
@@ -126,14 +126,14 @@ impl<N: Held> EmitAt for ForHead<N> {
         place: Place,
     ) {
         match self {
-            ForHead::Pat(node) => node.held().emit_at(e, Place::Plain),
-            ForHead::VarDecl(node) => node.held().emit_at(e, Place::Plain),
+            ForHead::Pat(node) => node.target().emit_at(e, Place::Plain),
+            ForHead::VarDecl(node) => node.target().emit_at(e, Place::Plain),
             ForHead::UsingDecl(node) => (**node).emit_at(e, Place::Plain),
         }
     }
 }
 
-impl<N: Held> EmitAt for SwitchStmt<N> {
+impl<N: LinkTarget> EmitAt for SwitchStmt<N> {
     ghost items = { λ n _. switch_stmt N.answers N.items n };
 
     #[tactic(auto, unfolding(crate::specs::Stmts::switch_stmt))]
@@ -148,7 +148,7 @@ impl<N: Held> EmitAt for SwitchStmt<N> {
     }
 }
 
-impl<N: Held> EmitAt for SwitchCase<N> {
+impl<N: LinkTarget> EmitAt for SwitchCase<N> {
     ghost items = { λ n _. switch_case N.answers N.items n };
 
     #[tactic(auto, unfolding(crate::specs::Stmts::switch_case))]
@@ -163,7 +163,7 @@ impl<N: Held> EmitAt for SwitchCase<N> {
     }
 }
 
-impl<N: Held> Child for SwitchCase<N> {
+impl<N: LinkTarget> Child for SwitchCase<N> {
     ghost stands = { λ n. n.span };
 
     fn place(&self) -> Span {
@@ -171,7 +171,7 @@ impl<N: Held> Child for SwitchCase<N> {
     }
 }
 
-impl<N: Held> EmitAt for WhileStmt<N> {
+impl<N: LinkTarget> EmitAt for WhileStmt<N> {
     ghost items = { λ n _. while_stmt N.items n };
 
     #[tactic(auto, unfolding(crate::specs::Stmts::while_stmt))]
@@ -182,11 +182,11 @@ impl<N: Held> EmitAt for WhileStmt<N> {
     ) {
         e.stmt_word(self.span, "while");
         e.enclosed(&self.test);
-        self.body.held().emit_at(e, Place::Plain);
+        self.body.target().emit_at(e, Place::Plain);
     }
 }
 
-impl<N: Held> EmitAt for DoWhileStmt<N> {
+impl<N: LinkTarget> EmitAt for DoWhileStmt<N> {
     ghost items = { λ n _. do_while_stmt N.answers N.items n };
 
     #[tactic(auto, unfolding(crate::specs::Stmts::do_while_stmt))]
@@ -196,14 +196,14 @@ impl<N: Held> EmitAt for DoWhileStmt<N> {
         place: Place,
     ) {
         e.stmt_word(self.span, "do");
-        e.spaced(self.body.held());
+        e.spaced(self.body.target());
         e.loop_test(&self.test);
         e.loop_ending();
         e.end_of(self.span);
     }
 }
 
-impl<N: Held> EmitAt for ForStmt<N> {
+impl<N: LinkTarget> EmitAt for ForStmt<N> {
     ghost items = { λ n _. for_stmt N.items n };
 
     #[tactic(auto, unfolding(crate::specs::Stmts::for_stmt))]
@@ -214,11 +214,11 @@ impl<N: Held> EmitAt for ForStmt<N> {
     ) {
         e.stmt_word(self.span, "for");
         e.for_control(self);
-        self.body.held().emit_at(e, Place::Plain);
+        self.body.target().emit_at(e, Place::Plain);
     }
 }
 
-impl<N: Held> EmitAt for ForInStmt<N> {
+impl<N: LinkTarget> EmitAt for ForInStmt<N> {
     ghost items = { λ n _. for_in_stmt N.answers N.items n };
 
     #[tactic(auto, unfolding(crate::specs::Stmts::for_in_stmt))]
@@ -229,11 +229,11 @@ impl<N: Held> EmitAt for ForInStmt<N> {
     ) {
         e.stmt_word(self.span, "for");
         e.for_each("in", &self.left, &self.right);
-        self.body.held().emit_at(e, Place::Plain);
+        self.body.target().emit_at(e, Place::Plain);
     }
 }
 
-impl<N: Held> EmitAt for ForOfStmt<N> {
+impl<N: LinkTarget> EmitAt for ForOfStmt<N> {
     ghost items = { λ n _. for_of_stmt N.answers N.items n };
 
     #[tactic(auto, unfolding(crate::specs::Stmts::for_of_stmt))]
@@ -246,11 +246,11 @@ impl<N: Held> EmitAt for ForOfStmt<N> {
         e.for_await(self.is_await);
         e.formatting_space();
         e.for_each("of", &self.left, &self.right);
-        self.body.held().emit_at(e, Place::Plain);
+        self.body.target().emit_at(e, Place::Plain);
     }
 }
 
-impl<N: Held> EmitAt for VarDeclOrExpr<N> {
+impl<N: LinkTarget> EmitAt for VarDeclOrExpr<N> {
     ghost items = { λ n _. var_decl_or_expr N.items n };
 
     #[tactic(auto, unfolding(crate::specs::Stmts::var_decl_or_expr))]
@@ -260,26 +260,28 @@ impl<N: Held> EmitAt for VarDeclOrExpr<N> {
         place: Place,
     ) {
         match self {
-            VarDeclOrExpr::Expr(node) => node.held().emit_at(e, Place::Plain),
-            VarDeclOrExpr::VarDecl(node) => node.held().emit_at(e, Place::Plain),
+            VarDeclOrExpr::Expr(node) => node.target().emit_at(e, Place::Plain),
+            VarDeclOrExpr::VarDecl(node) => node.target().emit_at(e, Place::Plain),
         }
     }
 }
 
 impl<W: WriteJs, S: SourceMapper, C: Comments> Emitter<'_, W, S, C> {
     /// Writes the cases, each on a line of its own.
-    fn cases<N: Held>(&mut self, node: &SwitchStmt<N>)
-        ensures items { Makes (cases N.answers N.items node.now) (standing_of S.lines C.maps W.sheet self.old) (standing_of S.lines C.maps W.sheet self.new) }
-        ensures level { Stays (standing_of S.lines C.maps W.sheet self.old) (standing_of S.lines C.maps W.sheet self.new) }
+    fn cases<N: LinkTarget>(&mut self, node: &SwitchStmt<N>)
+        ensures items { Performs (cases N.answers N.items node.now)
+            S.lines C.maps W.sheet self.old self.new }
+        ensures level { KeepsLevel S.lines C.maps W.sheet self.old self.new }
     {
         self.list(cases_format(), node.span, &node.cases)
     }
 
     /// Writes `{ case a: b; }`.
     #[tactic(auto, unfolding(crate::specs::Stmts::switch_cases))]
-    fn switch_cases<N: Held>(&mut self, node: &SwitchStmt<N>)
-        ensures items { Makes (switch_cases N.answers N.items node.now) (standing_of S.lines C.maps W.sheet self.old) (standing_of S.lines C.maps W.sheet self.new) }
-        ensures level { Stays (standing_of S.lines C.maps W.sheet self.old) (standing_of S.lines C.maps W.sheet self.new) }
+    fn switch_cases<N: LinkTarget>(&mut self, node: &SwitchStmt<N>)
+        ensures items { Performs (switch_cases N.answers N.items node.now)
+            S.lines C.maps W.sheet self.old self.new }
+        ensures level { KeepsLevel S.lines C.maps W.sheet self.old self.new }
     {
         self.punct(Punctuator::LeftBrace);
         self.cases(node);
@@ -289,32 +291,37 @@ impl<W: WriteJs, S: SourceMapper, C: Comments> Emitter<'_, W, S, C> {
 
     /// Writes `case a` or `default`.
     #[tactic(auto, unfolding(crate::specs::Stmts::case_test))]
-    fn case_test<N: Held>(&mut self, test: &Option<ExprBox<N>>)
-        ensures items { Makes (case_test N.answers N.items test.now) (standing_of S.lines C.maps W.sheet self.old) (standing_of S.lines C.maps W.sheet self.new) }
-        ensures level { Stays (standing_of S.lines C.maps W.sheet self.old) (standing_of S.lines C.maps W.sheet self.new) }
+    fn case_test<N: LinkTarget>(&mut self, test: &Option<ExprBox<N>>)
+        ensures items { Performs (case_test N.answers N.items test.now)
+            S.lines C.maps W.sheet self.old self.new }
+        ensures level { KeepsLevel S.lines C.maps W.sheet self.old self.new }
     {
         match test {
             Some(node) => {
                 self.keyword(None, "case");
-                self.spaced(node.held())
+                self.spaced(node.target())
             }
             None => self.keyword(None, "default"),
         }
     }
 
     /// Writes the statements of a case.
-    fn case_children<N: Held>(&mut self, single: bool, node: &SwitchCase<N>)
-        ensures items { Makes (case_body single node.now.span (case_children N.answers N.items node.now.cons.items)) (standing_of S.lines C.maps W.sheet self.old) (standing_of S.lines C.maps W.sheet self.new) }
-        ensures level { Stays (standing_of S.lines C.maps W.sheet self.old) (standing_of S.lines C.maps W.sheet self.new) }
+    fn case_children<N: LinkTarget>(&mut self, single: bool, node: &SwitchCase<N>)
+        ensures items { Performs (case_body single node.now.span
+            (case_children N.answers N.items node.now.cons.items))
+            S.lines C.maps W.sheet self.old self.new }
+        ensures level { KeepsLevel S.lines C.maps W.sheet self.old self.new }
     {
         self.list(case_format(single), node.span, &node.cons)
     }
 
     /// Writes the colon and the statements of a case, on the same line where there is a single one.
     #[tactic(auto, unfolding(crate::specs::Stmts::case_list))]
-    fn case_list<N: Held>(&mut self, single: bool, node: &SwitchCase<N>)
-        ensures items { Makes (case_list single node.now.span (case_children N.answers N.items node.now.cons.items)) (standing_of S.lines C.maps W.sheet self.old) (standing_of S.lines C.maps W.sheet self.new) }
-        ensures level { Stays (standing_of S.lines C.maps W.sheet self.old) (standing_of S.lines C.maps W.sheet self.new) }
+    fn case_list<N: LinkTarget>(&mut self, single: bool, node: &SwitchCase<N>)
+        ensures items { Performs (case_list single node.now.span
+            (case_children N.answers N.items node.now.cons.items))
+            S.lines C.maps W.sheet self.old self.new }
+        ensures level { KeepsLevel S.lines C.maps W.sheet self.old self.new }
     {
         self.punct(Punctuator::Colon);
         self.space_if(single);
@@ -322,9 +329,10 @@ impl<W: WriteJs, S: SourceMapper, C: Comments> Emitter<'_, W, S, C> {
     }
 
     /// Writes the colon and the statements of a case.
-    fn case_stmts<N: Held>(&mut self, node: &SwitchCase<N>)
-        ensures items { Makes (case_stmts N.answers N.items node.now) (standing_of S.lines C.maps W.sheet self.old) (standing_of S.lines C.maps W.sheet self.new) }
-        ensures level { Stays (standing_of S.lines C.maps W.sheet self.old) (standing_of S.lines C.maps W.sheet self.new) }
+    fn case_stmts<N: LinkTarget>(&mut self, node: &SwitchCase<N>)
+        ensures items { Performs (case_stmts N.answers N.items node.now)
+            S.lines C.maps W.sheet self.old self.new }
+        ensures level { KeepsLevel S.lines C.maps W.sheet self.old self.new }
     {
         let single = is_single(self.cm, node.span, &node.cons);
         self.case_list(single, node)
@@ -332,9 +340,10 @@ impl<W: WriteJs, S: SourceMapper, C: Comments> Emitter<'_, W, S, C> {
 
     /// Writes `while (a)` at the end of a loop.
     #[tactic(auto, unfolding(crate::specs::Stmts::loop_test))]
-    fn loop_test<N: Held>(&mut self, test: &ExprBox<N>)
-        ensures items { Makes (loop_test N.items test.now) (standing_of S.lines C.maps W.sheet self.old) (standing_of S.lines C.maps W.sheet self.new) }
-        ensures level { Stays (standing_of S.lines C.maps W.sheet self.old) (standing_of S.lines C.maps W.sheet self.new) }
+    fn loop_test<N: LinkTarget>(&mut self, test: &ExprBox<N>)
+        ensures items { Performs (loop_test N.items test.now)
+            S.lines C.maps W.sheet self.old self.new }
+        ensures level { KeepsLevel S.lines C.maps W.sheet self.old self.new }
     {
         self.keyword(None, "while");
         self.formatting_space();
@@ -344,8 +353,8 @@ impl<W: WriteJs, S: SourceMapper, C: Comments> Emitter<'_, W, S, C> {
     /// Writes the semicolon after a loop, for a version before 2015.
     #[tactic(auto, using(crate::proofs::Asked::loop_ended, crate::proofs::Asked::loop_not_ended))]
     fn loop_ending(&mut self)
-        ensures items { Makes (loop_ending) (standing_of S.lines C.maps W.sheet self.old) (standing_of S.lines C.maps W.sheet self.new) }
-        ensures level { Stays (standing_of S.lines C.maps W.sheet self.old) (standing_of S.lines C.maps W.sheet self.new) }
+        ensures items { Performs (loop_ending) S.lines C.maps W.sheet self.old self.new }
+        ensures level { KeepsLevel S.lines C.maps W.sheet self.old self.new }
     {
         if is_up_to_es5(self.cfg.target) {
             return self.semi();
@@ -354,9 +363,10 @@ impl<W: WriteJs, S: SourceMapper, C: Comments> Emitter<'_, W, S, C> {
 
     /// Writes what the head of a `for` begins with, where there is such.
     #[tactic(auto, unfolding(crate::specs::Stmts::for_init))]
-    fn for_init<N: Held>(&mut self, init: &Option<VarDeclOrExpr<N>>)
-        ensures items { Makes (for_init N.items init.now) (standing_of S.lines C.maps W.sheet self.old) (standing_of S.lines C.maps W.sheet self.new) }
-        ensures level { Stays (standing_of S.lines C.maps W.sheet self.old) (standing_of S.lines C.maps W.sheet self.new) }
+    fn for_init<N: LinkTarget>(&mut self, init: &Option<VarDeclOrExpr<N>>)
+        ensures items { Performs (for_init N.items init.now)
+            S.lines C.maps W.sheet self.old self.new }
+        ensures level { KeepsLevel S.lines C.maps W.sheet self.old self.new }
     {
         match init {
             Some(node) => node.emit_at(self, Place::Plain),
@@ -366,14 +376,15 @@ impl<W: WriteJs, S: SourceMapper, C: Comments> Emitter<'_, W, S, C> {
 
     /// Writes a blank and an expression, where there is one.
     #[tactic(auto, unfolding(crate::specs::Stmts::for_value))]
-    fn for_value<N: Held>(&mut self, value: &Option<ExprBox<N>>)
-        ensures items { Makes (for_value N.items value.now) (standing_of S.lines C.maps W.sheet self.old) (standing_of S.lines C.maps W.sheet self.new) }
-        ensures level { Stays (standing_of S.lines C.maps W.sheet self.old) (standing_of S.lines C.maps W.sheet self.new) }
+    fn for_value<N: LinkTarget>(&mut self, value: &Option<ExprBox<N>>)
+        ensures items { Performs (for_value N.items value.now)
+            S.lines C.maps W.sheet self.old self.new }
+        ensures level { KeepsLevel S.lines C.maps W.sheet self.old self.new }
     {
         match value {
             Some(node) => {
                 self.formatting_space();
-                node.held().emit_at(self, Place::Plain)
+                node.target().emit_at(self, Place::Plain)
             }
             None => {}
         }
@@ -381,9 +392,10 @@ impl<W: WriteJs, S: SourceMapper, C: Comments> Emitter<'_, W, S, C> {
 
     /// Writes `; a` or `;`.
     #[tactic(auto, unfolding(crate::specs::Stmts::for_clause))]
-    fn for_clause<N: Held>(&mut self, value: &Option<ExprBox<N>>)
-        ensures items { Makes (for_clause N.items value.now) (standing_of S.lines C.maps W.sheet self.old) (standing_of S.lines C.maps W.sheet self.new) }
-        ensures level { Stays (standing_of S.lines C.maps W.sheet self.old) (standing_of S.lines C.maps W.sheet self.new) }
+    fn for_clause<N: LinkTarget>(&mut self, value: &Option<ExprBox<N>>)
+        ensures items { Performs (for_clause N.items value.now)
+            S.lines C.maps W.sheet self.old self.new }
+        ensures level { KeepsLevel S.lines C.maps W.sheet self.old self.new }
     {
         self.punct(Punctuator::Semicolon);
         self.for_value(value);
@@ -391,9 +403,10 @@ impl<W: WriteJs, S: SourceMapper, C: Comments> Emitter<'_, W, S, C> {
 
     /// Writes `(a; b; c)`.
     #[tactic(auto, unfolding(crate::specs::Stmts::for_control))]
-    fn for_control<N: Held>(&mut self, node: &ForStmt<N>)
-        ensures items { Makes (for_control N.items node.now) (standing_of S.lines C.maps W.sheet self.old) (standing_of S.lines C.maps W.sheet self.new) }
-        ensures level { Stays (standing_of S.lines C.maps W.sheet self.old) (standing_of S.lines C.maps W.sheet self.new) }
+    fn for_control<N: LinkTarget>(&mut self, node: &ForStmt<N>)
+        ensures items { Performs (for_control N.items node.now)
+            S.lines C.maps W.sheet self.old self.new }
+        ensures level { KeepsLevel S.lines C.maps W.sheet self.old self.new }
     {
         self.punct(Punctuator::LeftParenthesis);
         self.for_init(&node.init);
@@ -404,22 +417,24 @@ impl<W: WriteJs, S: SourceMapper, C: Comments> Emitter<'_, W, S, C> {
 
     /// Writes the word and the expression after what is gone over.
     #[tactic(auto, unfolding(crate::specs::Stmts::for_right))]
-    fn for_right<N: Held>(&mut self, text: &'static str, ends: bool, right: &ExprBox<N>)
+    fn for_right<N: LinkTarget>(&mut self, text: &'static str, ends: bool, right: &ExprBox<N>)
         requires { begins_letter text.now ≡ true }
-        ensures items { Makes (for_right N.answers N.items text.now ends right.now) (standing_of S.lines C.maps W.sheet self.old) (standing_of S.lines C.maps W.sheet self.new) }
-        ensures level { Stays (standing_of S.lines C.maps W.sheet self.old) (standing_of S.lines C.maps W.sheet self.new) }
+        ensures items { Performs (for_right N.answers N.items text.now ends right.now)
+            S.lines C.maps W.sheet self.old self.new }
+        ensures level { KeepsLevel S.lines C.maps W.sheet self.old self.new }
     {
         self.blank(ends);
         self.keyword(None, text);
-        self.spaced(right.held());
+        self.spaced(right.target());
     }
 
     /// Writes `(a of b)`.
     #[tactic(auto, unfolding(crate::specs::Stmts::for_each))]
-    fn for_each<N: Held>(&mut self, text: &'static str, left: &ForHead<N>, right: &ExprBox<N>)
+    fn for_each<N: LinkTarget>(&mut self, text: &'static str, left: &ForHead<N>, right: &ExprBox<N>)
         requires { begins_letter text.now ≡ true }
-        ensures items { Makes (for_each N.answers N.items text.now left.now right.now) (standing_of S.lines C.maps W.sheet self.old) (standing_of S.lines C.maps W.sheet self.new) }
-        ensures level { Stays (standing_of S.lines C.maps W.sheet self.old) (standing_of S.lines C.maps W.sheet self.new) }
+        ensures items { Performs (for_each N.answers N.items text.now left.now right.now)
+            S.lines C.maps W.sheet self.old self.new }
+        ensures level { KeepsLevel S.lines C.maps W.sheet self.old self.new }
     {
         self.punct(Punctuator::LeftParenthesis);
         left.emit_at(self, Place::Plain);
@@ -430,8 +445,8 @@ impl<W: WriteJs, S: SourceMapper, C: Comments> Emitter<'_, W, S, C> {
     /// Writes `await` after `for`, where it is so.
     #[tactic(auto, unfolding(crate::specs::Stmts::for_await))]
     fn for_await(&mut self, wanted: bool)
-        ensures items { Makes (for_await wanted) (standing_of S.lines C.maps W.sheet self.old) (standing_of S.lines C.maps W.sheet self.new) }
-        ensures level { Stays (standing_of S.lines C.maps W.sheet self.old) (standing_of S.lines C.maps W.sheet self.new) }
+        ensures items { Performs (for_await wanted) S.lines C.maps W.sheet self.old self.new }
+        ensures level { KeepsLevel S.lines C.maps W.sheet self.old self.new }
     {
         if wanted {
             self.space();

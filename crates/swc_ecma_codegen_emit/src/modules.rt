@@ -1,7 +1,7 @@
 //! Modules: their items, and what imports and exports share.
 
 ghost use Rattle.std.specs.Prelude.{◌≡◌};
-ghost use Rattle.swc_ecma_codegen_emit.specs.Standing.{Makes, Stays, standing_of};
+ghost use Rattle.swc_ecma_codegen_emit.specs.Standing.{Performs, KeepsLevel};
 ghost use Rattle.swc_ecma_codegen_tokens.specs.Choices.{attributes_word};
 ghost use Rattle.swc_ecma_codegen_emit.specs.Modules.{named_format, module_export_name, type_word, from_word, as_word, star_as, module_decl_by, module_decl, module_item_by, module_item, attributes, source_end};
 ghost use Rattle.swc_ecma_codegen_spans.specs.Spans.{module_item_span};
@@ -10,7 +10,7 @@ ghost use Rattle.swc_ecma_codegen_emit.specs.Lists.{in_order};
 ghost use Rattle.swc_ecma_codegen_emit.specs.Programs.{whole_module};
 
 use crate::emitter::Emitter;
-use crate::nodes::{Child, EmitAt, Held, Place};
+use crate::nodes::{Child, EmitAt, LinkTarget, Place};
 use crate::places::module_item_place;
 use swc_ecma_codegen_common::Span;
 use swc_ecma_codegen_grammar::ListFormat;
@@ -47,7 +47,7 @@ impl EmitAt for ModuleExportName {
     }
 }
 
-impl<N: Held> EmitAt for ModuleDecl<N> {
+impl<N: LinkTarget> EmitAt for ModuleDecl<N> {
     ghost items = { λ n _. module_decl N.answers N.items n };
 
     #[tactic(auto, unfolding(crate::specs::Modules::module_decl))]
@@ -64,7 +64,7 @@ impl<N: Held> EmitAt for ModuleDecl<N> {
     }
 }
 
-impl<N: Held> EmitAt for ModuleItem<N> {
+impl<N: LinkTarget> EmitAt for ModuleItem<N> {
     ghost items = { λ n _. module_item N.answers N.items n };
 
     #[tactic(auto, unfolding(crate::specs::Modules::module_item))]
@@ -80,7 +80,7 @@ impl<N: Held> EmitAt for ModuleItem<N> {
     }
 }
 
-impl<N: Held> Child for ModuleItem<N> {
+impl<N: LinkTarget> Child for ModuleItem<N> {
     ghost stands = { module_item_span (place_of N.answers) };
 
     fn place(&self) -> Span {
@@ -88,7 +88,7 @@ impl<N: Held> Child for ModuleItem<N> {
     }
 }
 
-impl<N: Held> EmitAt for Module<N> {
+impl<N: LinkTarget> EmitAt for Module<N> {
     ghost items = { λ n _. whole_module N.answers N.items n };
 
     #[tactic(auto, unfolding(crate::specs::Programs::whole_module))]
@@ -106,9 +106,10 @@ impl<N: Held> EmitAt for Module<N> {
 
 impl<W: WriteJs, S: SourceMapper, C: Comments> Emitter<'_, W, S, C> {
     /// Writes items, one after another.
-    fn module_items<N: Held>(&mut self, nodes: &[ModuleItem<N>])
-        ensures items { Makes (in_order (module_item N.answers N.items) nodes.now) (standing_of S.lines C.maps W.sheet self.old) (standing_of S.lines C.maps W.sheet self.new) }
-        ensures level { Stays (standing_of S.lines C.maps W.sheet self.old) (standing_of S.lines C.maps W.sheet self.new) }
+    fn module_items<N: LinkTarget>(&mut self, nodes: &[ModuleItem<N>])
+        ensures items { Performs (in_order (module_item N.answers N.items) nodes.now)
+            S.lines C.maps W.sheet self.old self.new }
+        ensures level { KeepsLevel S.lines C.maps W.sheet self.old self.new }
     {
         self.in_order(nodes)
     }
@@ -116,8 +117,8 @@ impl<W: WriteJs, S: SourceMapper, C: Comments> Emitter<'_, W, S, C> {
     /// Writes `type` behind a blank, where it is so.
     #[tactic(auto, unfolding(crate::specs::Modules::type_word))]
     pub(crate) fn type_word(&mut self, type_only: bool)
-        ensures items { Makes (type_word type_only) (standing_of S.lines C.maps W.sheet self.old) (standing_of S.lines C.maps W.sheet self.new) }
-        ensures level { Stays (standing_of S.lines C.maps W.sheet self.old) (standing_of S.lines C.maps W.sheet self.new) }
+        ensures items { Performs (type_word type_only) S.lines C.maps W.sheet self.old self.new }
+        ensures level { KeepsLevel S.lines C.maps W.sheet self.old self.new }
     {
         if type_only {
             self.space();
@@ -128,8 +129,8 @@ impl<W: WriteJs, S: SourceMapper, C: Comments> Emitter<'_, W, S, C> {
     /// Writes `from` and a blank.
     #[tactic(auto, unfolding(crate::specs::Modules::from_word))]
     pub(crate) fn from_word(&mut self)
-        ensures items { Makes (from_word) (standing_of S.lines C.maps W.sheet self.old) (standing_of S.lines C.maps W.sheet self.new) }
-        ensures level { Stays (standing_of S.lines C.maps W.sheet self.old) (standing_of S.lines C.maps W.sheet self.new) }
+        ensures items { Performs (from_word) S.lines C.maps W.sheet self.old self.new }
+        ensures level { KeepsLevel S.lines C.maps W.sheet self.old self.new }
     {
         self.keyword(None, "from");
         self.formatting_space();
@@ -138,8 +139,8 @@ impl<W: WriteJs, S: SourceMapper, C: Comments> Emitter<'_, W, S, C> {
     /// Writes `as` between blanks.
     #[tactic(auto, unfolding(crate::specs::Modules::as_word))]
     pub(crate) fn as_word(&mut self)
-        ensures items { Makes (as_word) (standing_of S.lines C.maps W.sheet self.old) (standing_of S.lines C.maps W.sheet self.new) }
-        ensures level { Stays (standing_of S.lines C.maps W.sheet self.old) (standing_of S.lines C.maps W.sheet self.new) }
+        ensures items { Performs (as_word) S.lines C.maps W.sheet self.old self.new }
+        ensures level { KeepsLevel S.lines C.maps W.sheet self.old self.new }
     {
         self.space();
         self.keyword(None, "as");
@@ -149,8 +150,8 @@ impl<W: WriteJs, S: SourceMapper, C: Comments> Emitter<'_, W, S, C> {
     /// Writes `* as` and a blank.
     #[tactic(auto, unfolding(crate::specs::Modules::star_as))]
     pub(crate) fn star_as(&mut self)
-        ensures items { Makes (star_as) (standing_of S.lines C.maps W.sheet self.old) (standing_of S.lines C.maps W.sheet self.new) }
-        ensures level { Stays (standing_of S.lines C.maps W.sheet self.old) (standing_of S.lines C.maps W.sheet self.new) }
+        ensures items { Performs (star_as) S.lines C.maps W.sheet self.old self.new }
+        ensures level { KeepsLevel S.lines C.maps W.sheet self.old self.new }
     {
         self.punct(Punctuator::Star);
         self.formatting_space();
@@ -161,8 +162,8 @@ impl<W: WriteJs, S: SourceMapper, C: Comments> Emitter<'_, W, S, C> {
     /// Writes the word before import attributes, by the settings.
     #[tactic(auto, using(crate::proofs::Asked::attributes_by_assert, crate::proofs::Asked::attributes_by_with))]
     fn attributes_word(&mut self)
-        ensures items { Makes (attributes_word) (standing_of S.lines C.maps W.sheet self.old) (standing_of S.lines C.maps W.sheet self.new) }
-        ensures level { Stays (standing_of S.lines C.maps W.sheet self.old) (standing_of S.lines C.maps W.sheet self.new) }
+        ensures items { Performs (attributes_word) S.lines C.maps W.sheet self.old self.new }
+        ensures level { KeepsLevel S.lines C.maps W.sheet self.old self.new }
     {
         if self.cfg.emit_assert_for_import_attributes {
             return self.keyword(None, "assert");
@@ -172,16 +173,17 @@ impl<W: WriteJs, S: SourceMapper, C: Comments> Emitter<'_, W, S, C> {
 
     /// Writes `with { type: 'json' }` behind a blank, where there is such.
     #[tactic(auto, unfolding(crate::specs::Modules::attributes))]
-    pub(crate) fn attributes<N: Held>(&mut self, with_: &Option<ObjectLitBox<N>>)
-        ensures items { Makes (attributes N.items with_.now) (standing_of S.lines C.maps W.sheet self.old) (standing_of S.lines C.maps W.sheet self.new) }
-        ensures level { Stays (standing_of S.lines C.maps W.sheet self.old) (standing_of S.lines C.maps W.sheet self.new) }
+    pub(crate) fn attributes<N: LinkTarget>(&mut self, with_: &Option<ObjectLitBox<N>>)
+        ensures items { Performs (attributes N.items with_.now)
+            S.lines C.maps W.sheet self.old self.new }
+        ensures level { KeepsLevel S.lines C.maps W.sheet self.old self.new }
     {
         match with_ {
             Some(with_) => {
                 self.formatting_space();
                 self.attributes_word();
                 self.formatting_space();
-                with_.held().emit_at(self, Place::Plain)
+                with_.target().emit_at(self, Place::Plain)
             }
             None => {}
         }
@@ -189,14 +191,15 @@ impl<W: WriteJs, S: SourceMapper, C: Comments> Emitter<'_, W, S, C> {
 
     /// Writes `'b' with { type: 'json' };`, the end of an import or an export.
     #[tactic(auto, unfolding(crate::specs::Modules::source_end))]
-    pub(crate) fn source_end<N: Held>(
+    pub(crate) fn source_end<N: LinkTarget>(
         &mut self,
         src: &Str,
         with_: &Option<ObjectLitBox<N>>,
         span: Span,
     )
-        ensures items { Makes (source_end N.items src.now with_.now span) (standing_of S.lines C.maps W.sheet self.old) (standing_of S.lines C.maps W.sheet self.new) }
-        ensures level { Stays (standing_of S.lines C.maps W.sheet self.old) (standing_of S.lines C.maps W.sheet self.new) }
+        ensures items { Performs (source_end N.items src.now with_.now span)
+            S.lines C.maps W.sheet self.old self.new }
+        ensures level { KeepsLevel S.lines C.maps W.sheet self.old self.new }
     {
         src.emit_at(self, Place::Plain);
         self.attributes(with_);
@@ -206,9 +209,10 @@ impl<W: WriteJs, S: SourceMapper, C: Comments> Emitter<'_, W, S, C> {
 
     /// Writes an import or an export by its variant.
     #[tactic(auto, unfolding(crate::specs::Modules::module_decl_by))]
-    fn module_decl_by<N: Held>(&mut self, node: &ModuleDecl<N>)
-        ensures items { Makes (module_decl_by N.answers N.items node.now) (standing_of S.lines C.maps W.sheet self.old) (standing_of S.lines C.maps W.sheet self.new) }
-        ensures level { Stays (standing_of S.lines C.maps W.sheet self.old) (standing_of S.lines C.maps W.sheet self.new) }
+    fn module_decl_by<N: LinkTarget>(&mut self, node: &ModuleDecl<N>)
+        ensures items { Performs (module_decl_by N.answers N.items node.now)
+            S.lines C.maps W.sheet self.old self.new }
+        ensures level { KeepsLevel S.lines C.maps W.sheet self.old self.new }
     {
         match node {
             ModuleDecl::Import(node) => node.emit_at(self, Place::Plain),
@@ -225,12 +229,13 @@ impl<W: WriteJs, S: SourceMapper, C: Comments> Emitter<'_, W, S, C> {
 
     /// Writes an item by its variant.
     #[tactic(auto, unfolding(crate::specs::Modules::module_item_by))]
-    fn module_item_by<N: Held>(&mut self, node: &ModuleItem<N>)
-        ensures items { Makes (module_item_by N.answers N.items node.now) (standing_of S.lines C.maps W.sheet self.old) (standing_of S.lines C.maps W.sheet self.new) }
-        ensures level { Stays (standing_of S.lines C.maps W.sheet self.old) (standing_of S.lines C.maps W.sheet self.new) }
+    fn module_item_by<N: LinkTarget>(&mut self, node: &ModuleItem<N>)
+        ensures items { Performs (module_item_by N.answers N.items node.now)
+            S.lines C.maps W.sheet self.old self.new }
+        ensures level { KeepsLevel S.lines C.maps W.sheet self.old self.new }
     {
         match node {
-            ModuleItem::ModuleDecl(node) => node.held().emit_at(self, Place::Plain),
+            ModuleItem::ModuleDecl(node) => node.target().emit_at(self, Place::Plain),
             ModuleItem::Stmt(node) => node.emit_at(self, Place::Plain),
         }
     }

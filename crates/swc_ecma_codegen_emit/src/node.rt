@@ -2,7 +2,7 @@
 
 ghost use Rattle.std.specs.Prelude.{◌≡◌, ◌≢◌, true, false, IfErr, OnErr, OnOk, Err, IsOk};
 ghost use Rattle.swc_ecma_codegen_common.specs.Refusals.{in_short, reason_of};
-ghost use Rattle.swc_ecma_codegen_text_writer.specs.Told.{IsFront};
+ghost use Rattle.swc_ecma_codegen_text_writer.specs.Told.{IsPrefix};
 ghost use Rattle.swc_ecma_codegen_tokens.specs.Run.{Part, Follows, HasCause, IsUnhindered, maps_after, nothing, printed, makes_text, spoken, steps_in, steps_of, taken_in};
 ghost use Rattle.swc_ecma_codegen_grammar.specs.Phrases.{names_in};
 ghost use Rattle.swc_ecma_codegen_text_writer.specs.Recorded.{RecordsTruly};
@@ -36,43 +36,94 @@ pub trait Node: Spanned {
         e: &mut Emitter<'_, W, S, C>,
     ) -> Result
         // The steps of the tree are made, and it comes to no node that can't be printed; or it halts.
-        ensures items { Follows (part self.now nothing) (state_of S.lines C.maps W.sheet e.old) (state_of S.lines C.maps W.sheet e.new) (in_short result) }
+        ensures items { Follows (part self.now nothing) (state_of S.lines C.maps W.sheet e.old)
+            (state_of S.lines C.maps W.sheet e.new) (in_short result) }
         // What a new emitter adds to the text, of a well-formed tree, reads as one of the tree's token lists; with a hashbang, where
         // no indentation is due before it.
-        ensures reads { (root : Root) → part self.now ≡ root_items root → is_well_formed_root root ≡ true → MayBegin root (state_of S.lines C.maps W.sheet e.old) → AreClosed (maps_in C.maps e.old.comments) → OnOk result (AddsReading e.old.cfg (root_phrase root) (taken_remarks (part self.now) (state_of S.lines C.maps W.sheet e.old).env) (W.sheet e.old.wr) (W.sheet e.new.wr)) }
+        ensures reads { (root : Root) → part self.now ≡ root_items root →
+            is_well_formed_root root ≡ true →
+            MayBegin root (state_of S.lines C.maps W.sheet e.old) →
+            AreClosed (maps_in C.maps e.old.comments) →
+            OnOk result (AddsReading e.old.cfg (root_phrase root)
+            (taken_remarks (part self.now) (state_of S.lines C.maps W.sheet e.old).env)
+            (W.sheet e.old.wr) (W.sheet e.new.wr)) }
         // Each position that is recorded holds the place that the text had reached, and none is recorded twice.
         ensures recorded { OnOk result (RecordsTruly (W.sheet e.old.wr) (W.sheet e.new.wr)) }
         // What is gone from the comments is what was taken.
-        ensures taken { OnOk result ((maps_in C.maps e.new.comments) ≡ maps_after (steps_of (steps_in (part self.now) (state_of S.lines C.maps W.sheet e.old))) (maps_in C.maps e.old.comments)) }
+        ensures taken { OnOk result ((maps_in C.maps e.new.comments)
+            ≡ maps_after (steps_of
+            (steps_in (part self.now) (state_of S.lines C.maps W.sheet e.old)))
+            (maps_in C.maps e.old.comments)) }
         // Of a well-formed tree each of these is written, once, in order of taking.
-        ensures told { (root : Root) → part self.now ≡ root_items root → is_well_formed_root root ≡ true → (W.sheet e.old.wr).keeps_invalid ≡ false → OnOk result (spoken (steps_of (steps_in (part self.now) (state_of S.lines C.maps W.sheet e.old))) ≡ texts_of (taken_in (steps_of (steps_in (part self.now) (state_of S.lines C.maps W.sheet e.old))) (maps_in C.maps e.old.comments))) }
+        ensures told { (root : Root) → part self.now ≡ root_items root →
+            is_well_formed_root root ≡ true → (W.sheet e.old.wr).keeps_invalid ≡ false →
+            OnOk result (spoken
+            (steps_of (steps_in (part self.now) (state_of S.lines C.maps W.sheet e.old)))
+            ≡ texts_of (taken_in
+            (steps_of (steps_in (part self.now) (state_of S.lines C.maps W.sheet e.old)))
+            (maps_in C.maps e.old.comments))) }
         // Where positions are kept, each name of a well-formed tree has its own where it begins, unless that is 0.
-        ensures names { (root : Root) → part self.now ≡ root_items root → is_well_formed_root root ≡ true → (W.sheet e.old.wr).keeps_positions ≡ true → (W.sheet e.old.wr).keeps_invalid ≡ false → OnOk result (RecordsNames e.old.cfg (names_in (root_phrase root)) (W.sheet e.old.wr) (W.sheet e.new.wr)) }
+        ensures names { (root : Root) → part self.now ≡ root_items root →
+            is_well_formed_root root ≡ true → (W.sheet e.old.wr).keeps_positions ≡ true →
+            (W.sheet e.old.wr).keeps_invalid ≡ false →
+            OnOk result (RecordsNames e.old.cfg (names_in (root_phrase root)) (W.sheet e.old.wr)
+            (W.sheet e.new.wr)) }
         // Where positions are kept, each of these names stands as its own token behind those before it: what is before it reads as them.
-        ensures places { (root : Root) → part self.now ≡ root_items root → is_well_formed_root root ≡ true → MayBegin root (state_of S.lines C.maps W.sheet e.old) → AreClosed (maps_in C.maps e.old.comments) → (W.sheet e.old.wr).keeps_positions ≡ true → OnOk result (PlacesNames e.old.cfg (root_phrase root) (taken_remarks (part self.now) (state_of S.lines C.maps W.sheet e.old).env) (W.sheet e.old.wr) (W.sheet e.new.wr)) }
+        ensures places { (root : Root) → part self.now ≡ root_items root →
+            is_well_formed_root root ≡ true →
+            MayBegin root (state_of S.lines C.maps W.sheet e.old) →
+            AreClosed (maps_in C.maps e.old.comments) → (W.sheet e.old.wr).keeps_positions ≡ true →
+            OnOk result (PlacesNames e.old.cfg (root_phrase root)
+            (taken_remarks (part self.now) (state_of S.lines C.maps W.sheet e.old).env)
+            (W.sheet e.old.wr) (W.sheet e.new.wr)) }
         // Where the settings ask for ASCII, what is added is, but for the texts that stand as they are in the tree and aren't (a
         // regular expression, a template with a tag, a hashbang, a directive with a backslash, names, strings and text of JSX), and those of
         // comments.
-        ensures ascii { (root : Root) → part self.now ≡ root_items root → is_well_formed_root root ≡ true → WantsAscii (state_of S.lines C.maps W.sheet e.old) → OnOk result (AddsAscii (other_texts (steps_of (steps_in (part self.now) (state_of S.lines C.maps W.sheet e.old)))) (W.sheet e.old.wr).text (W.sheet e.new.wr).text) }
+        ensures ascii { (root : Root) → part self.now ≡ root_items root →
+            is_well_formed_root root ≡ true → WantsAscii (state_of S.lines C.maps W.sheet e.old) →
+            OnOk result (AddsAscii
+            (other_texts (steps_of
+            (steps_in (part self.now) (state_of S.lines C.maps W.sheet e.old))))
+            (W.sheet e.old.wr).text (W.sheet e.new.wr).text) }
         // Under `inline_script` no string of a well-formed tree that is printed by its value ends a script of an HTML page, or
         // opens or closes a comment there: it holds no `<!--`, no `-->`, and no `</script` before `>` or ASCII whitespace.
-        ensures inline { (root : Root) → part self.now ≡ root_items root → is_well_formed_root root ≡ true → e.old.cfg.inline_script ≡ true → (W.sheet e.old.wr).keeps_invalid ≡ false → OnOk result (AddsSafe (value_strings (steps_of (steps_in (part self.now) (state_of S.lines C.maps W.sheet e.old)))) (W.sheet e.old.wr).text (W.sheet e.new.wr).text) }
+        ensures inline { (root : Root) → part self.now ≡ root_items root →
+            is_well_formed_root root ≡ true → e.old.cfg.inline_script ≡ true →
+            (W.sheet e.old.wr).keeps_invalid ≡ false →
+            OnOk result (AddsSafe
+            (value_strings (steps_of
+            (steps_in (part self.now) (state_of S.lines C.maps W.sheet e.old))))
+            (W.sheet e.old.wr).text (W.sheet e.new.wr).text) }
         // What is out is a beginning of the text of these steps.
-        ensures front { IsFront (W.sheet e.new.wr).text (printed (part self.now) (state_of S.lines C.maps W.sheet e.old)).sheet.text }
+        ensures front { IsPrefix (W.sheet e.new.wr).text
+            (printed (part self.now) (state_of S.lines C.maps W.sheet e.old)).sheet.text }
         // It is refused only for the cause that the error names.
-        ensures cause { IfErr result (λ error. HasCause (steps_in (part self.now) (state_of S.lines C.maps W.sheet e.old)) (reason_of error) (state_of S.lines C.maps W.sheet e.old) (state_of S.lines C.maps W.sheet e.new)) }
+        ensures cause { IfErr result (λ error.
+            HasCause (steps_in (part self.now) (state_of S.lines C.maps W.sheet e.old))
+            (reason_of error) (state_of S.lines C.maps W.sheet e.old)
+            (state_of S.lines C.maps W.sheet e.new)) }
         // Where no text is made anew, and no call of the writer takes memory, none is wanting.
-        ensures no_memory { makes_text (steps_of (steps_in (part self.now) (state_of S.lines C.maps W.sheet e.old))) ≡ false → (W.sheet e.old.wr).takes_memory ≡ false → result ≢ Err Error.OutOfMemory }
+        ensures no_memory { makes_text (steps_of
+            (steps_in (part self.now) (state_of S.lines C.maps W.sheet e.old))) ≡ false →
+            (W.sheet e.old.wr).takes_memory ≡ false → result ≢ Err Error.OutOfMemory }
         // Where nothing stands in its way, it is made.
-        ensures succeeds { IsUnhindered (steps_in (part self.now) (state_of S.lines C.maps W.sheet e.old)) (state_of S.lines C.maps W.sheet e.old) (state_of S.lines C.maps W.sheet e.new) → IsOk result }
+        ensures succeeds { IsUnhindered (steps_in (part self.now)
+            (state_of S.lines C.maps W.sheet e.old)) (state_of S.lines C.maps W.sheet e.old)
+            (state_of S.lines C.maps W.sheet e.new) → IsOk result }
         // Where it is ready, and the writer counts no fault, a plain tree is printed.
-        ensures made { (root : Root) → part self.now ≡ root_items root → IsPlainTree e.old.cfg (root_phrase root) (W.sheet e.old.wr).indentation → IsReady (state_of S.lines C.maps W.sheet e.old) → (W.sheet e.new.wr).faults ≡ (W.sheet e.old.wr).faults → IsOk result }
+        ensures made { (root : Root) → part self.now ≡ root_items root →
+            IsPlainTree e.old.cfg (root_phrase root) (W.sheet e.old.wr).indentation →
+            IsReady (state_of S.lines C.maps W.sheet e.old) →
+            (W.sheet e.new.wr).faults ≡ (W.sheet e.old.wr).faults → IsOk result }
         // It is ready again for the next.
-        ensures ready { OnOk result (IsReady (state_of S.lines C.maps W.sheet e.old) → IsReady (state_of S.lines C.maps W.sheet e.new)) }
+        ensures ready { OnOk result (IsReady (state_of S.lines C.maps W.sheet e.old) →
+            IsReady (state_of S.lines C.maps W.sheet e.new)) }
         ensures marked { OnErr result ((state_of S.lines C.maps W.sheet e.new).failed ≡ true) }
-        ensures failed { (state_of S.lines C.maps W.sheet e.old).failed ≡ true → result ≡ Err Error.Failed }
+        ensures failed { (state_of S.lines C.maps W.sheet e.old).failed ≡ true →
+            result ≡ Err Error.Failed }
         // The indentation is what it was.
-        ensures level { OnOk result ((W.sheet e.new.wr).indentation ≡ (W.sheet e.old.wr).indentation) };
+        ensures level { OnOk result ((W.sheet e.new.wr).indentation
+            ≡ (W.sheet e.old.wr).indentation) };
 }
 
 impl<T: EmitAt + Spanned> Node for T {
@@ -135,6 +186,6 @@ impl<K, N: EmitAt> EmitAt for Link<K, N> {
         e: &mut Emitter<'_, W, S, C>,
         place: Place,
     ) {
-        self.held().emit_at(e, place)
+        self.target().emit_at(e, place)
     }
 }

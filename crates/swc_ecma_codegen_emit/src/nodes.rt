@@ -2,7 +2,7 @@
 
 ghost use Rattle.std.specs.Prelude.{◌≡◌};
 ghost use Rattle.swc_ecma_codegen_tokens.specs.Run.{Part};
-ghost use Rattle.swc_ecma_codegen_emit.specs.Standing.{Makes, Stays, standing_of};
+ghost use Rattle.swc_ecma_codegen_emit.specs.Standing.{Performs, KeepsLevel};
 ghost use Rattle.swc_ecma_codegen_emit.specs.declared.nodes.Place.{Place as At};
 ghost use Rattle.swc_ecma_codegen_emit.specs.Answers.{Answers, reply_of};
 ghost use Rattle.swc_ecma_codegen_common.specs.declared.positions.Span.{Span as Stretch};
@@ -199,8 +199,8 @@ pub trait EmitAt {
         e: &mut Emitter<'_, W, S, C>,
         place: Place,
     )
-        ensures items { Makes (items self.now place) (standing_of S.lines C.maps W.sheet e.old) (standing_of S.lines C.maps W.sheet e.new) }
-        ensures level { Stays (standing_of S.lines C.maps W.sheet e.old) (standing_of S.lines C.maps W.sheet e.new) };
+        ensures items { Performs (items self.now place) S.lines C.maps W.sheet e.old e.new }
+        ensures level { KeepsLevel S.lines C.maps W.sheet e.old e.new };
 }
 
 /// What a list has to know of a child, besides how it is printed.
@@ -224,13 +224,13 @@ impl<T: Child> Child for Option<T> {
     }
 }
 
-impl<K, N: Held> Child for Link<K, N> {
+impl<K, N: LinkTarget> Child for Link<K, N> {
     ghost stands = { λ n. (N.answers n.node.value).place };
 
     fn place(&self) -> Span {
-        self.held().place()
+        self.target().place()
     }
 }
 
 /// All that a link may hold.
-pub trait Held: EmitAt + Asked {}
+pub trait LinkTarget: EmitAt + Asked {}

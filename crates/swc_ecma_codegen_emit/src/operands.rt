@@ -185,7 +185,7 @@ fn bang_space<N: Operand>(node: &UnaryExpr<N>, op: BinaryOp) -> bool
     ensures { result ≡ bang_space (N.kind node.now.arg.node.value) op node.now.op }
 {
     match node.op {
-        UnaryOp::Bang if is_less(op) => is_decrement(node.arg.held().operand_kind()),
+        UnaryOp::Bang if is_less(op) => is_decrement(node.arg.target().operand_kind()),
         _ => sign_repeats(op, node.op),
     }
 }
@@ -209,7 +209,7 @@ impl<N: SpaceBefore> SpaceBefore for Expr<N> {
         match self {
             Expr::Unary(node) => bang_space(node, op),
             Expr::Update(node) => node.prefix && update_repeats(op, node.op),
-            Expr::Bin(node) => node.left.held().require_space_before(op),
+            Expr::Bin(node) => node.left.target().require_space_before(op),
             Expr::Lit(node) => negative_space(kind_of_lit(node), op),
             _ => false,
         }

@@ -3,13 +3,13 @@
 ghost use Rattle.swc_ecma_codegen_emit.specs.Parts.{expr_part, stmt_part, ts_part};
 
 use crate::emitter::Emitter;
-use crate::nodes::{EmitAt, Held, Place};
+use crate::nodes::{EmitAt, LinkTarget, Place};
 use swc_ecma_codegen_grammar::comments::Comments;
 use swc_ecma_codegen_grammar::mapper::SourceMapper;
 use swc_ecma_codegen_text_writer::WriteJs;
 use swc_ecma_codegen_tree::{ExprPart, StmtPart, TsPart};
 
-impl<N: Held> EmitAt for ExprPart<N> {
+impl<N: LinkTarget> EmitAt for ExprPart<N> {
     ghost items = { expr_part N.answers N.items };
 
     #[inline(never)]
@@ -30,7 +30,7 @@ impl<N: Held> EmitAt for ExprPart<N> {
     }
 }
 
-impl<N: Held> EmitAt for StmtPart<N> {
+impl<N: LinkTarget> EmitAt for StmtPart<N> {
     ghost items = { stmt_part N.answers N.items };
 
     #[inline(never)]
@@ -52,7 +52,7 @@ impl<N: Held> EmitAt for StmtPart<N> {
     }
 }
 
-impl<N: Held> EmitAt for TsPart<N> {
+impl<N: LinkTarget> EmitAt for TsPart<N> {
     ghost items = { ts_part N.answers N.items };
 
     #[inline(never)]

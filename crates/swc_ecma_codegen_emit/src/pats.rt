@@ -2,13 +2,13 @@
 
 ghost use Rattle.std.specs.Prelude.{◌≡◌};
 ghost use Rattle.swc_ecma_codegen_spans.specs.Spans.{pat_span, object_pat_prop_span};
-ghost use Rattle.swc_ecma_codegen_emit.specs.Standing.{Makes, Stays, standing_of};
+ghost use Rattle.swc_ecma_codegen_emit.specs.Standing.{Performs, KeepsLevel};
 ghost use Rattle.swc_ecma_codegen_emit.specs.Answers.{place_of};
 ghost use Rattle.swc_ecma_codegen_emit.specs.Pats.{initializer, array_pat_format, array_pat_elements, array_pat, rest_pat, assign_pat, key_value_pat_prop, assign_pat_prop, object_pat_prop, object_pat_format, object_pat_props, object_pat, pat, definite_ident, definite_pat, declared_pat, assign_target_pat};
 
 use crate::calls::ends_with_hole;
 use crate::emitter::Emitter;
-use crate::nodes::{Asked, Child, EmitAt, Held, Place};
+use crate::nodes::{Asked, Child, EmitAt, LinkTarget, Place};
 use bitflags::Flags;
 use swc_ecma_codegen_common::Span;
 use swc_ecma_codegen_grammar::ListFormat;
@@ -40,7 +40,7 @@ fn object_pat_format() -> ListFormat
     ListFormat::ObjectBindingPatternElements.union(ListFormat::CanSkipTrailingComma)
 }
 
-impl<N: Held> EmitAt for Pat<N> {
+impl<N: LinkTarget> EmitAt for Pat<N> {
     ghost items = { λ n _. pat N.answers N.items n };
 
     #[tactic(auto, unfolding(crate::specs::Pats::pat, crate::specs::Pats::pat_parts))]
@@ -56,13 +56,13 @@ impl<N: Held> EmitAt for Pat<N> {
             Pat::Object(node) => node.emit_at(e, Place::Plain),
             Pat::Assign(node) => node.emit_at(e, Place::Plain),
             Pat::Invalid(_) => e.unsupported(),
-            Pat::Expr(node) => node.held().emit_at(e, Place::Plain),
+            Pat::Expr(node) => node.target().emit_at(e, Place::Plain),
         }
         e.trailing_comments(pat_place(self).hi, true);
     }
 }
 
-impl<N: Held> EmitAt for RestPat<N> {
+impl<N: LinkTarget> EmitAt for RestPat<N> {
     ghost items = { λ n _. rest_pat N.items n };
 
     #[tactic(auto, unfolding(crate::specs::Pats::rest_pat))]
@@ -73,12 +73,12 @@ impl<N: Held> EmitAt for RestPat<N> {
     ) {
         e.leading_comments(self.span.lo);
         e.placed_punct(self.dot3_token, Punctuator::Ellipsis);
-        self.arg.held().emit_at(e, Place::Plain);
+        self.arg.target().emit_at(e, Place::Plain);
         e.annotation(&self.type_ann);
     }
 }
 
-impl<N: Held> EmitAt for AssignTargetPat<N> {
+impl<N: LinkTarget> EmitAt for AssignTargetPat<N> {
     ghost items = { λ n _. assign_target_pat N.answers N.items n };
 
     #[tactic(auto, unfolding(crate::specs::Pats::assign_target_pat))]
@@ -95,7 +95,7 @@ impl<N: Held> EmitAt for AssignTargetPat<N> {
     }
 }
 
-impl<N: Held> EmitAt for ArrayPat<N> {
+impl<N: LinkTarget> EmitAt for ArrayPat<N> {
     ghost items = { λ n _. array_pat N.answers N.items n };
 
     #[tactic(auto, unfolding(crate::specs::Pats::array_pat))]
@@ -114,7 +114,7 @@ impl<N: Held> EmitAt for ArrayPat<N> {
     }
 }
 
-impl<N: Held> EmitAt for AssignPat<N> {
+impl<N: LinkTarget> EmitAt for AssignPat<N> {
     ghost items = { λ n _. assign_pat N.items n };
 
     #[tactic(auto, unfolding(crate::specs::Pats::assign_pat))]
@@ -124,14 +124,14 @@ impl<N: Held> EmitAt for AssignPat<N> {
         place: Place,
     ) {
         e.opened(self.span);
-        self.left.held().emit_at(e, Place::Plain);
+        self.left.target().emit_at(e, Place::Plain);
         e.spaced_punct(Punctuator::Equal);
-        self.right.held().emit_at(e, Place::Plain);
+        self.right.target().emit_at(e, Place::Plain);
         e.end_of(self.span);
     }
 }
 
-impl<N: Held> EmitAt for ObjectPat<N> {
+impl<N: LinkTarget> EmitAt for ObjectPat<N> {
     ghost items = { λ n _. object_pat N.answers N.items n };
 
     #[tactic(auto, unfolding(crate::specs::Pats::object_pat))]
@@ -150,7 +150,7 @@ impl<N: Held> EmitAt for ObjectPat<N> {
     }
 }
 
-impl<N: Held> EmitAt for ObjectPatProp<N> {
+impl<N: LinkTarget> EmitAt for ObjectPatProp<N> {
     ghost items = { λ n _. object_pat_prop N.answers N.items n };
 
     #[tactic(auto, unfolding(crate::specs::Pats::object_pat_prop))]
@@ -167,7 +167,7 @@ impl<N: Held> EmitAt for ObjectPatProp<N> {
     }
 }
 
-impl<N: Held> Child for ObjectPatProp<N> {
+impl<N: LinkTarget> Child for ObjectPatProp<N> {
     ghost stands = { object_pat_prop_span (place_of N.answers) };
 
     #[tactic(auto, unfolding(swc_ecma_codegen_spans::specs::Spans::object_pat_prop_span, swc_ecma_codegen_spans::specs::Spans::key_value_pat_prop_span))]
@@ -175,7 +175,7 @@ impl<N: Held> Child for ObjectPatProp<N> {
         match self {
             ObjectPatProp::KeyValue(node) => Span {
                 lo: node.key.span().lo,
-                hi: node.value.held().place().hi,
+                hi: node.value.target().place().hi,
             },
             ObjectPatProp::Assign(node) => node.span,
             ObjectPatProp::Rest(node) => node.span,
@@ -183,7 +183,7 @@ impl<N: Held> Child for ObjectPatProp<N> {
     }
 }
 
-impl<N: Held> EmitAt for KeyValuePatProp<N> {
+impl<N: LinkTarget> EmitAt for KeyValuePatProp<N> {
     ghost items = { λ n _. key_value_pat_prop N.answers N.items n };
 
     #[tactic(auto, unfolding(crate::specs::Pats::key_value_pat_prop))]
@@ -196,12 +196,12 @@ impl<N: Held> EmitAt for KeyValuePatProp<N> {
         self.key.emit_at(e, Place::Plain);
         e.punct(Punctuator::Colon);
         e.formatting_space();
-        self.value.held().emit_at(e, Place::Plain);
-        e.end_of(self.value.held().place());
+        self.value.target().emit_at(e, Place::Plain);
+        e.end_of(self.value.target().place());
     }
 }
 
-impl<N: Held> EmitAt for AssignPatProp<N> {
+impl<N: LinkTarget> EmitAt for AssignPatProp<N> {
     ghost items = { λ n _. assign_pat_prop N.items n };
 
     #[tactic(auto, unfolding(crate::specs::Pats::assign_pat_prop))]
@@ -229,33 +229,36 @@ fn pat_place<N: Asked>(node: &Pat<N>) -> Span
         Pat::Object(node) => node.span,
         Pat::Assign(node) => node.span,
         Pat::Invalid(node) => node.span,
-        Pat::Expr(node) => node.held().place(),
+        Pat::Expr(node) => node.target().place(),
     }
 }
 
 impl<W: WriteJs, S: SourceMapper, C: Comments> Emitter<'_, W, S, C> {
     /// Writes the elements of an array.
-    fn array_pat_elements<N: Held>(&mut self, node: &ArrayPat<N>)
-        ensures items { Makes (array_pat_elements N.answers N.items node.now) (standing_of S.lines C.maps W.sheet self.old) (standing_of S.lines C.maps W.sheet self.new) }
-        ensures level { Stays (standing_of S.lines C.maps W.sheet self.old) (standing_of S.lines C.maps W.sheet self.new) }
+    fn array_pat_elements<N: LinkTarget>(&mut self, node: &ArrayPat<N>)
+        ensures items { Performs (array_pat_elements N.answers N.items node.now)
+            S.lines C.maps W.sheet self.old self.new }
+        ensures level { KeepsLevel S.lines C.maps W.sheet self.old self.new }
     {
         let format = array_pat_format(ends_with_hole(&node.elems));
         self.list(format, node.span, &node.elems)
     }
 
     /// Writes the properties of an object.
-    fn object_pat_props<N: Held>(&mut self, node: &ObjectPat<N>)
-        ensures items { Makes (object_pat_props N.answers N.items node.now) (standing_of S.lines C.maps W.sheet self.old) (standing_of S.lines C.maps W.sheet self.new) }
-        ensures level { Stays (standing_of S.lines C.maps W.sheet self.old) (standing_of S.lines C.maps W.sheet self.new) }
+    fn object_pat_props<N: LinkTarget>(&mut self, node: &ObjectPat<N>)
+        ensures items { Performs (object_pat_props N.answers N.items node.now)
+            S.lines C.maps W.sheet self.old self.new }
+        ensures level { KeepsLevel S.lines C.maps W.sheet self.old self.new }
     {
         self.list(object_pat_format(), node.span, &node.props)
     }
 
     /// Writes `a!: A` and the comments after it.
     #[tactic(auto, unfolding(crate::specs::Pats::definite_ident))]
-    fn definite_ident<N: Held>(&mut self, node: &BindingIdent<N>)
-        ensures items { Makes (definite_ident N.items node.now) (standing_of S.lines C.maps W.sheet self.old) (standing_of S.lines C.maps W.sheet self.new) }
-        ensures level { Stays (standing_of S.lines C.maps W.sheet self.old) (standing_of S.lines C.maps W.sheet self.new) }
+    fn definite_ident<N: LinkTarget>(&mut self, node: &BindingIdent<N>)
+        ensures items { Performs (definite_ident N.items node.now)
+            S.lines C.maps W.sheet self.old self.new }
+        ensures level { KeepsLevel S.lines C.maps W.sheet self.old self.new }
     {
         node.id.emit_at(self, Place::Plain);
         self.punct(Punctuator::Bang);
@@ -265,9 +268,10 @@ impl<W: WriteJs, S: SourceMapper, C: Comments> Emitter<'_, W, S, C> {
 
     /// Writes the same, or a pattern that is no name, without the mark.
     #[tactic(auto, unfolding(crate::specs::Pats::definite_pat))]
-    fn definite_pat<N: Held>(&mut self, node: &Pat<N>)
-        ensures items { Makes (definite_pat N.answers N.items node.now) (standing_of S.lines C.maps W.sheet self.old) (standing_of S.lines C.maps W.sheet self.new) }
-        ensures level { Stays (standing_of S.lines C.maps W.sheet self.old) (standing_of S.lines C.maps W.sheet self.new) }
+    fn definite_pat<N: LinkTarget>(&mut self, node: &Pat<N>)
+        ensures items { Performs (definite_pat N.answers N.items node.now)
+            S.lines C.maps W.sheet self.old self.new }
+        ensures level { KeepsLevel S.lines C.maps W.sheet self.old self.new }
     {
         match node {
             Pat::Ident(node) => self.definite_ident(node),
@@ -277,9 +281,10 @@ impl<W: WriteJs, S: SourceMapper, C: Comments> Emitter<'_, W, S, C> {
 
     /// Writes what is declared, which may be said to have a value.
     #[tactic(auto, unfolding(crate::specs::Pats::declared_pat))]
-    pub(crate) fn declared_pat<N: Held>(&mut self, definite: bool, node: &Pat<N>)
-        ensures items { Makes (declared_pat N.answers N.items definite node.now) (standing_of S.lines C.maps W.sheet self.old) (standing_of S.lines C.maps W.sheet self.new) }
-        ensures level { Stays (standing_of S.lines C.maps W.sheet self.old) (standing_of S.lines C.maps W.sheet self.new) }
+    pub(crate) fn declared_pat<N: LinkTarget>(&mut self, definite: bool, node: &Pat<N>)
+        ensures items { Performs (declared_pat N.answers N.items definite node.now)
+            S.lines C.maps W.sheet self.old self.new }
+        ensures level { KeepsLevel S.lines C.maps W.sheet self.old self.new }
     {
         if definite {
             return self.definite_pat(node);
@@ -289,14 +294,15 @@ impl<W: WriteJs, S: SourceMapper, C: Comments> Emitter<'_, W, S, C> {
 
     /// Writes `= b` of `a = b`.
     #[tactic(auto, unfolding(crate::specs::Pats::initializer))]
-    pub(crate) fn initializer<N: Held>(&mut self, value: &Option<ExprBox<N>>)
-        ensures items { Makes (initializer N.items value.now) (standing_of S.lines C.maps W.sheet self.old) (standing_of S.lines C.maps W.sheet self.new) }
-        ensures level { Stays (standing_of S.lines C.maps W.sheet self.old) (standing_of S.lines C.maps W.sheet self.new) }
+    pub(crate) fn initializer<N: LinkTarget>(&mut self, value: &Option<ExprBox<N>>)
+        ensures items { Performs (initializer N.items value.now)
+            S.lines C.maps W.sheet self.old self.new }
+        ensures level { KeepsLevel S.lines C.maps W.sheet self.old self.new }
     {
         match value {
             Some(value) => {
                 self.spaced_punct(Punctuator::Equal);
-                value.held().emit_at(self, Place::Plain)
+                value.target().emit_at(self, Place::Plain)
             }
             None => {}
         }

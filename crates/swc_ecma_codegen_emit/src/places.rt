@@ -18,7 +18,7 @@ pub(crate) fn expr_place<N: Asked>(node: &Expr<N>) -> Span
         Expr::This(node) => node.span,
         Expr::Array(node) => node.span,
         Expr::Object(node) => node.span,
-        Expr::Fn(node) => node.function.held().place(),
+        Expr::Fn(node) => node.function.target().place(),
         Expr::Unary(node) => node.span,
         Expr::Update(node) => node.span,
         Expr::Bin(node) => node.span,
@@ -31,22 +31,22 @@ pub(crate) fn expr_place<N: Asked>(node: &Expr<N>) -> Span
         Expr::Seq(node) => node.span,
         Expr::Ident(node) => node.span,
         Expr::Lit(node) => node.span(),
-        Expr::Tpl(node) => node.held().place(),
+        Expr::Tpl(node) => node.target().place(),
         Expr::TaggedTpl(node) => node.span,
         Expr::Arrow(node) => node.span,
-        Expr::Class(node) => node.class.held().place(),
+        Expr::Class(node) => node.class.target().place(),
         Expr::Yield(node) => node.span,
         Expr::MetaProp(node) => node.span,
         Expr::Await(node) => node.span,
         Expr::Paren(node) => node.span,
         Expr::JSXMember(node) => Span {
-            lo: node.obj.held().place().lo,
+            lo: node.obj.target().place().lo,
             hi: node.prop.span.hi,
         },
         Expr::JSXNamespacedName(node) => node.span(),
         Expr::JSXEmpty(node) => node.span,
-        Expr::JSXElement(node) => node.held().place(),
-        Expr::JSXFragment(node) => node.held().place(),
+        Expr::JSXElement(node) => node.target().place(),
+        Expr::JSXFragment(node) => node.target().place(),
         Expr::TsTypeAssertion(node) => node.span,
         Expr::TsConstAssertion(node) => node.span,
         Expr::TsNonNull(node) => node.span,
@@ -65,7 +65,7 @@ pub(crate) fn stmt_place<N: Asked>(node: &Stmt<N>) -> Span
     ensures { result ≡ stmt_span (place_of N.answers) node.now }
 {
     match node {
-        Stmt::Block(node) => node.held().place(),
+        Stmt::Block(node) => node.target().place(),
         Stmt::Empty(node) => node.span,
         Stmt::Debugger(node) => node.span,
         Stmt::With(node) => node.span,
@@ -93,8 +93,8 @@ fn decl_place<N: Asked>(node: &Decl<N>) -> Span
     ensures { result ≡ decl_span (place_of N.answers) node.now }
 {
     match node {
-        Decl::Class(node) => node.class.held().place(),
-        Decl::Fn(node) => node.function.held().place(),
+        Decl::Class(node) => node.class.target().place(),
+        Decl::Fn(node) => node.function.target().place(),
         Decl::Var(node) => node.span,
         Decl::Using(node) => node.span,
         Decl::TsInterface(node) => node.span,
@@ -110,7 +110,7 @@ pub(crate) fn module_item_place<N: Asked>(node: &ModuleItem<N>) -> Span
     ensures { result ≡ module_item_span (place_of N.answers) node.now }
 {
     match node {
-        ModuleItem::ModuleDecl(node) => node.held().place(),
+        ModuleItem::ModuleDecl(node) => node.target().place(),
         ModuleItem::Stmt(node) => stmt_place(node),
     }
 }
@@ -120,7 +120,7 @@ pub(crate) fn module_item_place<N: Asked>(node: &ModuleItem<N>) -> Span
 pub(crate) fn expr_or_spread_place<N: Asked>(node: &ExprOrSpread<N>) -> Span
     ensures { result ≡ expr_or_spread_span (place_of N.answers) node.now }
 {
-    let span = node.expr.held().place();
+    let span = node.expr.target().place();
     match node.spread {
         Some(dots) => Span {
             lo: dots.lo,
@@ -137,7 +137,7 @@ pub(crate) fn spread_element_place<N: Asked>(node: &SpreadElement<N>) -> Span
 {
     Span {
         lo: node.dot3_token.lo,
-        hi: node.expr.held().place().hi,
+        hi: node.expr.target().place().hi,
     }
 }
 
@@ -150,17 +150,17 @@ pub(crate) fn prop_place<N: Asked>(node: &Prop<N>) -> Span
         Prop::Shorthand(node) => node.span,
         Prop::KeyValue(node) => Span {
             lo: node.key.span().lo,
-            hi: node.value.held().place().hi,
+            hi: node.value.target().place().hi,
         },
         Prop::Assign(node) => Span {
             lo: node.key.span.lo,
-            hi: node.value.held().place().hi,
+            hi: node.value.target().place().hi,
         },
         Prop::Getter(node) => node.span,
         Prop::Setter(node) => node.span,
         Prop::Method(node) => Span {
             lo: node.key.span().lo,
-            hi: node.function.held().place().hi,
+            hi: node.function.target().place().hi,
         },
     }
 }

@@ -4,7 +4,7 @@ ghost use Rattle.std.specs.Prelude.{◌≡◌, true};
 ghost use Rattle.swc_ecma_codegen_grammar.specs.FunctionPhrases.{is_some_listed};
 ghost use Rattle.swc_ecma_codegen_spans.specs.Spans.{prop_or_spread_span};
 ghost use Rattle.swc_ecma_codegen_tokens.specs.Lists.{list};
-ghost use Rattle.swc_ecma_codegen_emit.specs.Standing.{Makes, Stays, standing_of};
+ghost use Rattle.swc_ecma_codegen_emit.specs.Standing.{Performs, KeepsLevel};
 ghost use Rattle.swc_ecma_codegen_tokens.specs.Starts.{begins_letter};
 ghost use Rattle.swc_ecma_codegen_emit.specs.Answers.{place_of};
 ghost use Rattle.swc_ecma_codegen_emit.specs.Names.{prop_name};
@@ -13,7 +13,7 @@ ghost use Rattle.swc_ecma_codegen_emit.specs.Props.{key_end, value_start, key_va
 use crate::blocks::is_some_listed;
 use crate::commented::wants_lines;
 use crate::emitter::Emitter;
-use crate::nodes::{Child, EmitAt, Held, Place};
+use crate::nodes::{Child, EmitAt, LinkTarget, Place};
 use crate::places::{prop_place, spread_element_place};
 use bitflags::Flags;
 use swc_ecma_codegen_common::Span;
@@ -44,7 +44,7 @@ fn flat_object_format() -> ListFormat
         .difference(ListFormat::Indented)
 }
 
-impl<N: Held> EmitAt for PropName<N> {
+impl<N: LinkTarget> EmitAt for PropName<N> {
     ghost items = { λ n _. prop_name N.items n };
 
     #[tactic(auto, unfolding(crate::specs::Names::prop_name))]
@@ -63,7 +63,7 @@ impl<N: Held> EmitAt for PropName<N> {
     }
 }
 
-impl<N: Held> EmitAt for ObjectLit<N> {
+impl<N: LinkTarget> EmitAt for ObjectLit<N> {
     ghost items = { λ n _. object_lit N.answers N.items n };
 
     #[tactic(auto, unfolding(crate::specs::Props::object_lit))]
@@ -80,7 +80,7 @@ impl<N: Held> EmitAt for ObjectLit<N> {
     }
 }
 
-impl<N: Held> EmitAt for Prop<N> {
+impl<N: LinkTarget> EmitAt for Prop<N> {
     ghost items = { λ n _. prop N.answers N.items n };
 
     #[tactic(auto, unfolding(crate::specs::Props::prop))]
@@ -100,7 +100,7 @@ impl<N: Held> EmitAt for Prop<N> {
     }
 }
 
-impl<N: Held> EmitAt for KeyValueProp<N> {
+impl<N: LinkTarget> EmitAt for KeyValueProp<N> {
     ghost items = { λ n _. key_value_prop N.answers N.items n };
 
     #[tactic(auto, unfolding(crate::specs::Props::key_value_prop))]
@@ -110,18 +110,18 @@ impl<N: Held> EmitAt for KeyValueProp<N> {
         place: Place,
     ) {
         let name = self.key.span();
-        let value = self.value.held().place();
+        let value = self.value.target().place();
         e.opened(name);
         self.key.emit_at(e, Place::Plain);
         e.key_end(name, value);
         e.punct(Punctuator::Colon);
         e.formatting_space();
         e.value_start(name, value);
-        self.value.held().emit_at(e, Place::Plain);
+        self.value.target().emit_at(e, Place::Plain);
     }
 }
 
-impl<N: Held> EmitAt for AssignProp<N> {
+impl<N: LinkTarget> EmitAt for AssignProp<N> {
     ghost items = { λ n _. assign_prop N.items n };
 
     #[tactic(auto, unfolding(crate::specs::Props::assign_prop))]
@@ -133,11 +133,11 @@ impl<N: Held> EmitAt for AssignProp<N> {
         e.opened(self.key.span);
         self.key.emit_at(e, Place::Plain);
         e.punct(Punctuator::Equal);
-        self.value.held().emit_at(e, Place::Plain);
+        self.value.target().emit_at(e, Place::Plain);
     }
 }
 
-impl<N: Held> EmitAt for GetterProp<N> {
+impl<N: LinkTarget> EmitAt for GetterProp<N> {
     ghost items = { λ n _. getter_prop N.answers N.items n };
 
     #[tactic(auto, unfolding(crate::specs::Props::getter_prop))]
@@ -156,7 +156,7 @@ impl<N: Held> EmitAt for GetterProp<N> {
     }
 }
 
-impl<N: Held> EmitAt for SetterProp<N> {
+impl<N: LinkTarget> EmitAt for SetterProp<N> {
     ghost items = { λ n _. setter_prop N.answers N.items n };
 
     #[tactic(auto, unfolding(crate::specs::Props::setter_prop))]
@@ -169,13 +169,13 @@ impl<N: Held> EmitAt for SetterProp<N> {
         e.accessor("set", &self.key);
         e.punct(Punctuator::LeftParenthesis);
         e.this_param(&self.this_param);
-        self.param.held().emit_at(e, Place::Plain);
+        self.param.target().emit_at(e, Place::Plain);
         e.punct(Punctuator::RightParenthesis);
         e.optional_body(&self.body);
     }
 }
 
-impl<N: Held> EmitAt for MethodProp<N> {
+impl<N: LinkTarget> EmitAt for MethodProp<N> {
     ghost items = { λ n _. method_prop N.answers N.items n };
 
     #[tactic(auto, unfolding(crate::specs::Props::method_prop))]
@@ -185,14 +185,14 @@ impl<N: Held> EmitAt for MethodProp<N> {
         place: Place,
     ) {
         e.opened(self.key.span());
-        self.function.held().emit_at(e, Place::MethodHead);
+        self.function.target().emit_at(e, Place::MethodHead);
         self.key.emit_at(e, Place::Plain);
         e.formatting_space();
-        self.function.held().emit_at(e, Place::Plain);
+        self.function.target().emit_at(e, Place::Plain);
     }
 }
 
-impl<N: Held> EmitAt for PropOrSpread<N> {
+impl<N: LinkTarget> EmitAt for PropOrSpread<N> {
     ghost items = { λ n _. prop_or_spread N.answers N.items n };
 
     #[tactic(auto, unfolding(crate::specs::Props::prop_or_spread))]
@@ -208,7 +208,7 @@ impl<N: Held> EmitAt for PropOrSpread<N> {
     }
 }
 
-impl<N: Held> Child for PropOrSpread<N> {
+impl<N: LinkTarget> Child for PropOrSpread<N> {
     ghost stands = { prop_or_spread_span (place_of N.answers) };
 
     #[tactic(auto, unfolding(swc_ecma_codegen_spans::specs::Spans::prop_or_spread_span))]
@@ -224,8 +224,8 @@ impl<W: WriteJs, S: SourceMapper, C: Comments> Emitter<'_, W, S, C> {
     /// Records where a name ends, before a value that stands nowhere.
     #[tactic(auto, unfolding(crate::specs::Props::key_end))]
     fn key_end(&mut self, name: Span, value: Span)
-        ensures items { Makes (key_end name value) (standing_of S.lines C.maps W.sheet self.old) (standing_of S.lines C.maps W.sheet self.new) }
-        ensures level { Stays (standing_of S.lines C.maps W.sheet self.old) (standing_of S.lines C.maps W.sheet self.new) }
+        ensures items { Performs (key_end name value) S.lines C.maps W.sheet self.old self.new }
+        ensures level { KeepsLevel S.lines C.maps W.sheet self.old self.new }
     {
         if name.lo.0 != 0 && value.lo.0 == 0 {
             self.position(name.hi);
@@ -235,8 +235,8 @@ impl<W: WriteJs, S: SourceMapper, C: Comments> Emitter<'_, W, S, C> {
     /// Records where a value begins, after a name that stands nowhere.
     #[tactic(auto, unfolding(crate::specs::Props::value_start))]
     fn value_start(&mut self, name: Span, value: Span)
-        ensures items { Makes (value_start name value) (standing_of S.lines C.maps W.sheet self.old) (standing_of S.lines C.maps W.sheet self.new) }
-        ensures level { Stays (standing_of S.lines C.maps W.sheet self.old) (standing_of S.lines C.maps W.sheet self.new) }
+        ensures items { Performs (value_start name value) S.lines C.maps W.sheet self.old self.new }
+        ensures level { KeepsLevel S.lines C.maps W.sheet self.old self.new }
     {
         if name.lo.0 == 0 {
             self.position(value.lo);
@@ -245,27 +245,29 @@ impl<W: WriteJs, S: SourceMapper, C: Comments> Emitter<'_, W, S, C> {
 
     /// Writes `get` or `set` and a name.
     #[tactic(auto, unfolding(crate::specs::Props::accessor))]
-    fn accessor<N: Held>(&mut self, word: &'static str, name: &PropNameBox<N>)
+    fn accessor<N: LinkTarget>(&mut self, word: &'static str, name: &PropNameBox<N>)
         requires { begins_letter word.now ≡ true }
-        ensures items { Makes (accessor N.answers N.items word.now name.now.node.value) (standing_of S.lines C.maps W.sheet self.old) (standing_of S.lines C.maps W.sheet self.new) }
-        ensures level { Stays (standing_of S.lines C.maps W.sheet self.old) (standing_of S.lines C.maps W.sheet self.new) }
+        ensures items { Performs (accessor N.answers N.items word.now name.now.node.value)
+            S.lines C.maps W.sheet self.old self.new }
+        ensures level { KeepsLevel S.lines C.maps W.sheet self.old self.new }
     {
         self.keyword(None, word);
-        self.blank(name.held().starts());
-        name.held().emit_at(self, Place::Plain);
+        self.blank(name.target().starts());
+        name.target().emit_at(self, Place::Plain);
         self.formatting_space();
     }
 
     /// Writes `:T` of a getter, where there is a type, without a blank.
     #[tactic(auto, unfolding(crate::specs::Props::tight_annotation))]
-    fn tight_annotation<N: Held>(&mut self, ty: &Option<TsTypeAnnBox<N>>)
-        ensures items { Makes (tight_annotation N.items ty.now) (standing_of S.lines C.maps W.sheet self.old) (standing_of S.lines C.maps W.sheet self.new) }
-        ensures level { Stays (standing_of S.lines C.maps W.sheet self.old) (standing_of S.lines C.maps W.sheet self.new) }
+    fn tight_annotation<N: LinkTarget>(&mut self, ty: &Option<TsTypeAnnBox<N>>)
+        ensures items { Performs (tight_annotation N.items ty.now)
+            S.lines C.maps W.sheet self.old self.new }
+        ensures level { KeepsLevel S.lines C.maps W.sheet self.old self.new }
     {
         match ty {
             Some(node) => {
                 self.punct(Punctuator::Colon);
-                node.held().emit_at(self, Place::Plain)
+                node.target().emit_at(self, Place::Plain)
             }
             None => {}
         }
@@ -273,13 +275,14 @@ impl<W: WriteJs, S: SourceMapper, C: Comments> Emitter<'_, W, S, C> {
 
     /// Writes `this: T, ` of a setter, where it is so.
     #[tactic(auto, unfolding(crate::specs::Props::this_param))]
-    fn this_param<N: Held>(&mut self, param: &Option<PatBox<N>>)
-        ensures items { Makes (this_param N.items param.now) (standing_of S.lines C.maps W.sheet self.old) (standing_of S.lines C.maps W.sheet self.new) }
-        ensures level { Stays (standing_of S.lines C.maps W.sheet self.old) (standing_of S.lines C.maps W.sheet self.new) }
+    fn this_param<N: LinkTarget>(&mut self, param: &Option<PatBox<N>>)
+        ensures items { Performs (this_param N.items param.now)
+            S.lines C.maps W.sheet self.old self.new }
+        ensures level { KeepsLevel S.lines C.maps W.sheet self.old self.new }
     {
         match param {
             Some(node) => {
-                node.held().emit_at(self, Place::Plain);
+                node.target().emit_at(self, Place::Plain);
                 self.punct(Punctuator::Comma);
                 self.formatting_space();
             }
@@ -289,37 +292,41 @@ impl<W: WriteJs, S: SourceMapper, C: Comments> Emitter<'_, W, S, C> {
 
     /// Writes a body, where there is one.
     #[tactic(auto, unfolding(crate::specs::Props::optional_body))]
-    fn optional_body<N: Held>(&mut self, body: &Option<BlockStmtBox<N>>)
-        ensures items { Makes (optional_body N.items body.now) (standing_of S.lines C.maps W.sheet self.old) (standing_of S.lines C.maps W.sheet self.new) }
-        ensures level { Stays (standing_of S.lines C.maps W.sheet self.old) (standing_of S.lines C.maps W.sheet self.new) }
+    fn optional_body<N: LinkTarget>(&mut self, body: &Option<BlockStmtBox<N>>)
+        ensures items { Performs (optional_body N.items body.now)
+            S.lines C.maps W.sheet self.old self.new }
+        ensures level { KeepsLevel S.lines C.maps W.sheet self.old self.new }
     {
         match body {
-            Some(body) => body.held().emit_at(self, Place::Plain),
+            Some(body) => body.target().emit_at(self, Place::Plain),
             None => {}
         }
     }
 
     /// Writes the properties on one line.
-    fn flat_object_props<N: Held>(&mut self, node: &ObjectLit<N>)
-        ensures items { Makes (list flat_object_format node.now.span (object_children N.answers N.items node.now)) (standing_of S.lines C.maps W.sheet self.old) (standing_of S.lines C.maps W.sheet self.new) }
-        ensures level { Stays (standing_of S.lines C.maps W.sheet self.old) (standing_of S.lines C.maps W.sheet self.new) }
+    fn flat_object_props<N: LinkTarget>(&mut self, node: &ObjectLit<N>)
+        ensures items { Performs (list flat_object_format node.now.span
+            (object_children N.answers N.items node.now)) S.lines C.maps W.sheet self.old self.new }
+        ensures level { KeepsLevel S.lines C.maps W.sheet self.old self.new }
     {
         self.list(flat_object_format(), node.span, &node.props)
     }
 
     /// Writes the properties, each on a line of its own.
-    fn object_props<N: Held>(&mut self, node: &ObjectLit<N>)
-        ensures items { Makes (list object_format node.now.span (object_children N.answers N.items node.now)) (standing_of S.lines C.maps W.sheet self.old) (standing_of S.lines C.maps W.sheet self.new) }
-        ensures level { Stays (standing_of S.lines C.maps W.sheet self.old) (standing_of S.lines C.maps W.sheet self.new) }
+    fn object_props<N: LinkTarget>(&mut self, node: &ObjectLit<N>)
+        ensures items { Performs (list object_format node.now.span
+            (object_children N.answers N.items node.now)) S.lines C.maps W.sheet self.old self.new }
+        ensures level { KeepsLevel S.lines C.maps W.sheet self.old self.new }
     {
         self.list(object_format(), node.span, &node.props)
     }
 
     /// Writes the properties and the ends of their lines.
     #[tactic(auto, unfolding(crate::specs::Props::lined_object_list))]
-    fn lined_object_list<N: Held>(&mut self, node: &ObjectLit<N>)
-        ensures items { Makes (lined_object_list node.now.span (object_children N.answers N.items node.now)) (standing_of S.lines C.maps W.sheet self.old) (standing_of S.lines C.maps W.sheet self.new) }
-        ensures level { Stays (standing_of S.lines C.maps W.sheet self.old) (standing_of S.lines C.maps W.sheet self.new) }
+    fn lined_object_list<N: LinkTarget>(&mut self, node: &ObjectLit<N>)
+        ensures items { Performs (lined_object_list node.now.span
+            (object_children N.answers N.items node.now)) S.lines C.maps W.sheet self.old self.new }
+        ensures level { KeepsLevel S.lines C.maps W.sheet self.old self.new }
     {
         self.line();
         self.object_props(node);
@@ -328,9 +335,10 @@ impl<W: WriteJs, S: SourceMapper, C: Comments> Emitter<'_, W, S, C> {
 
     /// Writes the properties, each on a line of its own where there are some.
     #[tactic(auto, unfolding(crate::specs::Props::object_lines))]
-    fn object_lines<N: Held>(&mut self, some: bool, node: &ObjectLit<N>)
-        ensures items { Makes (object_lines some node.now.span (object_children N.answers N.items node.now)) (standing_of S.lines C.maps W.sheet self.old) (standing_of S.lines C.maps W.sheet self.new) }
-        ensures level { Stays (standing_of S.lines C.maps W.sheet self.old) (standing_of S.lines C.maps W.sheet self.new) }
+    fn object_lines<N: LinkTarget>(&mut self, some: bool, node: &ObjectLit<N>)
+        ensures items { Performs (object_lines some node.now.span
+            (object_children N.answers N.items node.now)) S.lines C.maps W.sheet self.old self.new }
+        ensures level { KeepsLevel S.lines C.maps W.sheet self.old self.new }
     {
         if some {
             self.lined_object_list(node);
@@ -340,18 +348,20 @@ impl<W: WriteJs, S: SourceMapper, C: Comments> Emitter<'_, W, S, C> {
     }
 
     /// Writes the properties, where the settings aren't to minify.
-    fn pretty_object_list<N: Held>(&mut self, some: bool, node: &ObjectLit<N>)
-        ensures items { Makes (object_lines some node.now.span (object_children N.answers N.items node.now)) (standing_of S.lines C.maps W.sheet self.old) (standing_of S.lines C.maps W.sheet self.new) }
-        ensures level { Stays (standing_of S.lines C.maps W.sheet self.old) (standing_of S.lines C.maps W.sheet self.new) }
+    fn pretty_object_list<N: LinkTarget>(&mut self, some: bool, node: &ObjectLit<N>)
+        ensures items { Performs (object_lines some node.now.span
+            (object_children N.answers N.items node.now)) S.lines C.maps W.sheet self.old self.new }
+        ensures level { KeepsLevel S.lines C.maps W.sheet self.old self.new }
     {
         self.object_lines(some, node)
     }
 
     /// Writes the properties; on one line where the settings are to minify.
     #[tactic(auto, using(crate::proofs::Asked::minified_part, crate::proofs::Asked::pretty_part), unfolding(crate::specs::Props::object_list))]
-    fn object_list<N: Held>(&mut self, some: bool, node: &ObjectLit<N>)
-        ensures items { Makes (object_list some node.now.span (object_children N.answers N.items node.now)) (standing_of S.lines C.maps W.sheet self.old) (standing_of S.lines C.maps W.sheet self.new) }
-        ensures level { Stays (standing_of S.lines C.maps W.sheet self.old) (standing_of S.lines C.maps W.sheet self.new) }
+    fn object_list<N: LinkTarget>(&mut self, some: bool, node: &ObjectLit<N>)
+        ensures items { Performs (object_list some node.now.span
+            (object_children N.answers N.items node.now)) S.lines C.maps W.sheet self.old self.new }
+        ensures level { KeepsLevel S.lines C.maps W.sheet self.old self.new }
     {
         if self.cfg.minify {
             return self.flat_object_props(node);
@@ -360,9 +370,10 @@ impl<W: WriteJs, S: SourceMapper, C: Comments> Emitter<'_, W, S, C> {
     }
 
     /// Writes the properties, each on a line of its own too where there is a comment before `}`.
-    fn object_by_maps<N: Held>(&mut self, node: &ObjectLit<N>)
-        ensures items { Makes (object_by_maps (is_some_listed node.now.props.items) node.now.span (object_children N.answers N.items node.now)) (standing_of S.lines C.maps W.sheet self.old) (standing_of S.lines C.maps W.sheet self.new) }
-        ensures level { Stays (standing_of S.lines C.maps W.sheet self.old) (standing_of S.lines C.maps W.sheet self.new) }
+    fn object_by_maps<N: LinkTarget>(&mut self, node: &ObjectLit<N>)
+        ensures items { Performs (object_by_maps (is_some_listed node.now.props.items) node.now.span
+            (object_children N.answers N.items node.now)) S.lines C.maps W.sheet self.old self.new }
+        ensures level { KeepsLevel S.lines C.maps W.sheet self.old self.new }
     {
         let some = wants_lines(&self.comments, is_some_listed(&node.props), node.span);
         self.object_list(some, node)

@@ -3,7 +3,7 @@
 ghost use Rattle.std.specs.Prelude.{◌≡◌, Bool, false, [], map, filter};
 ghost use Rattle.std.specs.List.{list_any};
 ghost use Rattle.swc_ecma_codegen_grammar.specs.ListFormats.{indented};
-ghost use Rattle.swc_ecma_codegen_emit.specs.Standing.{Makes, Stays, standing_of};
+ghost use Rattle.swc_ecma_codegen_emit.specs.Standing.{Performs, KeepsLevel};
 ghost use Rattle.swc_ecma_codegen_tokens.specs.Lists.{list};
 ghost use Rattle.swc_ecma_codegen_emit.specs.Lists.{child_of, braced_child, braced_rest};
 
@@ -55,8 +55,9 @@ impl<W: WriteJs, S: SourceMapper, C: Comments> Emitter<'_, W, S, C> {
         child: &T,
     )
         requires { indented format.0 ≡ false }
-        ensures items { Makes (braced_child format.0 parent previous (child_of T.stands T.items child.now)) (standing_of S.lines C.maps W.sheet self.old) (standing_of S.lines C.maps W.sheet self.new) }
-        ensures level { Stays (standing_of S.lines C.maps W.sheet self.old) (standing_of S.lines C.maps W.sheet self.new) }
+        ensures items { Performs (braced_child format.0 parent previous
+            (child_of T.stands T.items child.now)) S.lines C.maps W.sheet self.old self.new }
+        ensures level { KeepsLevel S.lines C.maps W.sheet self.old self.new }
     {
         match previous {
             None => {
@@ -72,8 +73,9 @@ impl<W: WriteJs, S: SourceMapper, C: Comments> Emitter<'_, W, S, C> {
     #[tactic(auto, using(crate::proofs::Steps::no_levels), unfolding(crate::specs::Lists::braced_rest, swc_ecma_codegen_tokens::specs::Lists::more_children, swc_ecma_codegen_tokens::specs::Lists::last_place))]
     fn braced_end(&mut self, format: ListFormat, parent: Span, previous: Option<Span>)
         requires { indented format.0 ≡ false }
-        ensures items { Makes (braced_rest format.0 parent previous []) (standing_of S.lines C.maps W.sheet self.old) (standing_of S.lines C.maps W.sheet self.new) }
-        ensures level { Stays (standing_of S.lines C.maps W.sheet self.old) (standing_of S.lines C.maps W.sheet self.new) }
+        ensures items { Performs (braced_rest format.0 parent previous [])
+            S.lines C.maps W.sheet self.old self.new }
+        ensures level { KeepsLevel S.lines C.maps W.sheet self.old self.new }
     {
         match previous {
             None => {
@@ -94,8 +96,10 @@ impl<W: WriteJs, S: SourceMapper, C: Comments> Emitter<'_, W, S, C> {
         specifiers: &[T],
     )
         requires { indented format.0 ≡ false }
-        ensures items { Makes (list format.0 parent (map (child_of T.stands T.items) (filter T.braced specifiers.now))) (standing_of S.lines C.maps W.sheet self.old) (standing_of S.lines C.maps W.sheet self.new) }
-        ensures level { Stays (standing_of S.lines C.maps W.sheet self.old) (standing_of S.lines C.maps W.sheet self.new) }
+        ensures items { Performs (list format.0 parent
+            (map (child_of T.stands T.items) (filter T.braced specifiers.now)))
+            S.lines C.maps W.sheet self.old self.new }
+        ensures level { KeepsLevel S.lines C.maps W.sheet self.old self.new }
     {
         let mut previous = None;
         for specifier in specifiers {

@@ -6,7 +6,7 @@ ghost use Rattle.swc_ecma_codegen_spans.specs.Spans.{stmt_span};
 ghost use Rattle.swc_ecma_codegen_emit.specs.Answers.{place_of};
 ghost use Rattle.swc_ecma_codegen_emit.specs.Branches.{is_block};
 ghost use Rattle.swc_ecma_codegen_emit.specs.Lists.{in_order};
-ghost use Rattle.swc_ecma_codegen_emit.specs.Standing.{Makes, Stays, standing_of};
+ghost use Rattle.swc_ecma_codegen_emit.specs.Standing.{Performs, KeepsLevel};
 ghost use Rattle.swc_ecma_codegen_tokens.specs.Starts.{begins_letter};
 ghost use Rattle.swc_ecma_codegen_tokens.specs.Words.{trailing_comments};
 ghost use Rattle.swc_ecma_codegen_emit.specs.Stmts.{enclosed, spaced, argument, argument_in, stmt_word, spaced_word, jump, empty_stmt, expr_stmt, debugger_stmt, with_stmt, return_arg, return_stmt, labeled_stmt, break_stmt, continue_stmt, else_branch, if_stmt, catch_param, catch_clause, handler, finalizer, try_stmt, throw_stmt, stmt_parts, stmt_closed, stmt};
@@ -14,7 +14,7 @@ ghost use Rattle.swc_ecma_codegen_emit.specs.Programs.{start_if_empty, program_s
 
 use crate::branches::is_block;
 use crate::emitter::Emitter;
-use crate::nodes::{Child, EmitAt, Held, Place};
+use crate::nodes::{Child, EmitAt, LinkTarget, Place};
 use crate::places::stmt_place;
 use swc_ecma_codegen_common::Span;
 use swc_ecma_codegen_grammar::comments::Comments;
@@ -30,16 +30,17 @@ use swc_ecma_codegen_tree::{
 /// Writes a statement by its variant, without the comments after it and the end of its line.
 #[inline(always)]
 #[tactic(auto, unfolding(crate::specs::Stmts::stmt_parts))]
-fn stmt_parts<N: Held, W: WriteJs, S: SourceMapper, C: Comments>(
+fn stmt_parts<N: LinkTarget, W: WriteJs, S: SourceMapper, C: Comments>(
     node: &Stmt<N>,
     e: &mut Emitter<'_, W, S, C>,
 )
-    ensures items { Makes (stmt_parts N.answers N.items node.now) (standing_of S.lines C.maps W.sheet e.old) (standing_of S.lines C.maps W.sheet e.new) }
-    ensures level { Stays (standing_of S.lines C.maps W.sheet e.old) (standing_of S.lines C.maps W.sheet e.new) }
+    ensures items { Performs (stmt_parts N.answers N.items node.now)
+        S.lines C.maps W.sheet e.old e.new }
+    ensures level { KeepsLevel S.lines C.maps W.sheet e.old e.new }
 {
     match node {
         Stmt::Expr(node) => node.emit_at(e, Place::Plain),
-        Stmt::Block(node) => node.held().emit_at(e, Place::Plain),
+        Stmt::Block(node) => node.target().emit_at(e, Place::Plain),
         Stmt::Empty(node) => node.emit_at(e, Place::Plain),
         Stmt::Debugger(node) => node.emit_at(e, Place::Plain),
         Stmt::With(node) => node.emit_at(e, Place::Plain),
@@ -60,7 +61,7 @@ fn stmt_parts<N: Held, W: WriteJs, S: SourceMapper, C: Comments>(
     }
 }
 
-impl<N: Held> EmitAt for Stmt<N> {
+impl<N: LinkTarget> EmitAt for Stmt<N> {
     ghost items = { λ n _. stmt N.answers N.items n };
 
     #[inline(never)]
@@ -75,7 +76,7 @@ impl<N: Held> EmitAt for Stmt<N> {
     }
 }
 
-impl<N: Held> Child for Stmt<N> {
+impl<N: LinkTarget> Child for Stmt<N> {
     ghost stands = { stmt_span (place_of N.answers) };
 
     fn place(&self) -> Span {
@@ -83,7 +84,7 @@ impl<N: Held> Child for Stmt<N> {
     }
 }
 
-impl<N: Held> EmitAt for ExprStmt<N> {
+impl<N: LinkTarget> EmitAt for ExprStmt<N> {
     ghost items = { λ n _. expr_stmt N.items n };
 
     #[tactic(auto, unfolding(crate::specs::Stmts::expr_stmt))]
@@ -93,7 +94,7 @@ impl<N: Held> EmitAt for ExprStmt<N> {
         place: Place,
     ) {
         e.leading_comments(self.span.lo);
-        self.expr.held().emit_at(e, Place::Plain);
+        self.expr.target().emit_at(e, Place::Plain);
         e.semi();
     }
 }
@@ -128,7 +129,7 @@ impl EmitAt for DebuggerStmt {
     }
 }
 
-impl<N: Held> EmitAt for WithStmt<N> {
+impl<N: LinkTarget> EmitAt for WithStmt<N> {
     ghost items = { λ n _. with_stmt N.items n };
 
     #[tactic(auto, unfolding(crate::specs::Stmts::with_stmt))]
@@ -142,11 +143,11 @@ impl<N: Held> EmitAt for WithStmt<N> {
         e.keyword(None, "with");
         e.formatting_space();
         e.enclosed(&self.obj);
-        self.body.held().emit_at(e, Place::Plain);
+        self.body.target().emit_at(e, Place::Plain);
     }
 }
 
-impl<N: Held> EmitAt for ReturnStmt<N> {
+impl<N: LinkTarget> EmitAt for ReturnStmt<N> {
     ghost items = { λ n _. return_stmt N.answers N.items n };
 
     #[tactic(auto, unfolding(crate::specs::Stmts::return_stmt))]
@@ -161,7 +162,7 @@ impl<N: Held> EmitAt for ReturnStmt<N> {
     }
 }
 
-impl<N: Held> EmitAt for LabeledStmt<N> {
+impl<N: LinkTarget> EmitAt for LabeledStmt<N> {
     ghost items = { λ n _. labeled_stmt N.items n };
 
     #[tactic(auto, unfolding(crate::specs::Stmts::labeled_stmt))]
@@ -174,7 +175,7 @@ impl<N: Held> EmitAt for LabeledStmt<N> {
         self.label.emit_at(e, Place::Plain);
         e.punct(Punctuator::Colon);
         e.formatting_space();
-        self.body.held().emit_at(e, Place::Plain);
+        self.body.target().emit_at(e, Place::Plain);
     }
 }
 
@@ -204,7 +205,7 @@ impl EmitAt for ContinueStmt {
     }
 }
 
-impl<N: Held> EmitAt for IfStmt<N> {
+impl<N: LinkTarget> EmitAt for IfStmt<N> {
     ghost items = { λ n _. if_stmt N.answers N.items n };
 
     #[tactic(auto, unfolding(crate::specs::Stmts::if_stmt))]
@@ -216,12 +217,12 @@ impl<N: Held> EmitAt for IfStmt<N> {
         e.spaced_word(self.span, "if");
         e.enclosed(&self.test);
         e.formatting_space();
-        self.cons.held().emit_at(e, Place::Plain);
-        e.else_branch(self.cons.held().block(), &self.alt);
+        self.cons.target().emit_at(e, Place::Plain);
+        e.else_branch(self.cons.target().block(), &self.alt);
     }
 }
 
-impl<N: Held> EmitAt for CatchClause<N> {
+impl<N: LinkTarget> EmitAt for CatchClause<N> {
     ghost items = { λ n _. catch_clause N.items n };
 
     #[tactic(auto, unfolding(crate::specs::Stmts::catch_clause))]
@@ -235,11 +236,11 @@ impl<N: Held> EmitAt for CatchClause<N> {
         e.formatting_space();
         e.catch_param(&self.param);
         e.formatting_space();
-        self.body.held().emit_at(e, Place::Plain);
+        self.body.target().emit_at(e, Place::Plain);
     }
 }
 
-impl<N: Held> EmitAt for ThrowStmt<N> {
+impl<N: LinkTarget> EmitAt for ThrowStmt<N> {
     ghost items = { λ n _. throw_stmt N.answers N.items n };
 
     #[tactic(auto, unfolding(crate::specs::Stmts::throw_stmt))]
@@ -250,12 +251,12 @@ impl<N: Held> EmitAt for ThrowStmt<N> {
     ) {
         e.opened(self.span);
         e.keyword(None, "throw");
-        e.argument(self.arg.held());
+        e.argument(self.arg.target());
         e.semi();
     }
 }
 
-impl<N: Held> EmitAt for TryStmt<N> {
+impl<N: LinkTarget> EmitAt for TryStmt<N> {
     ghost items = { λ n _. try_stmt N.items n };
 
     #[tactic(auto, unfolding(crate::specs::Stmts::try_stmt))]
@@ -265,13 +266,13 @@ impl<N: Held> EmitAt for TryStmt<N> {
         place: Place,
     ) {
         e.spaced_word(self.span, "try");
-        self.block.held().emit_at(e, Place::Plain);
+        self.block.target().emit_at(e, Place::Plain);
         e.handler(&self.handler);
         e.finalizer(&self.finalizer);
     }
 }
 
-impl<N: Held> EmitAt for Script<N> {
+impl<N: LinkTarget> EmitAt for Script<N> {
     ghost items = { λ n _. script N.answers N.items n };
 
     #[tactic(auto, unfolding(crate::specs::Programs::script))]
@@ -287,7 +288,7 @@ impl<N: Held> EmitAt for Script<N> {
     }
 }
 
-impl<N: Held> EmitAt for Program<N> {
+impl<N: LinkTarget> EmitAt for Program<N> {
     ghost items = { λ n _. program N.answers N.items n };
 
     #[tactic(auto, unfolding(crate::specs::Programs::program))]
@@ -305,18 +306,20 @@ impl<N: Held> EmitAt for Program<N> {
 
 impl<W: WriteJs, S: SourceMapper, C: Comments> Emitter<'_, W, S, C> {
     /// Writes statements, one after another.
-    fn stmts<N: Held>(&mut self, nodes: &[Stmt<N>])
-        ensures items { Makes (in_order (stmt N.answers N.items) nodes.now) (standing_of S.lines C.maps W.sheet self.old) (standing_of S.lines C.maps W.sheet self.new) }
-        ensures level { Stays (standing_of S.lines C.maps W.sheet self.old) (standing_of S.lines C.maps W.sheet self.new) }
+    fn stmts<N: LinkTarget>(&mut self, nodes: &[Stmt<N>])
+        ensures items { Performs (in_order (stmt N.answers N.items) nodes.now)
+            S.lines C.maps W.sheet self.old self.new }
+        ensures level { KeepsLevel S.lines C.maps W.sheet self.old self.new }
     {
         self.in_order(nodes)
     }
 
     /// Writes the comments after a statement and the end of its line, but for a block.
     #[tactic(auto, unfolding(crate::specs::Stmts::stmt_closed))]
-    fn stmt_closed<N: Held>(&mut self, node: &Stmt<N>)
-        ensures items { Makes (stmt_closed (is_block node.now) (stmt_span (place_of N.answers) node.now)) (standing_of S.lines C.maps W.sheet self.old) (standing_of S.lines C.maps W.sheet self.new) }
-        ensures level { Stays (standing_of S.lines C.maps W.sheet self.old) (standing_of S.lines C.maps W.sheet self.new) }
+    fn stmt_closed<N: LinkTarget>(&mut self, node: &Stmt<N>)
+        ensures items { Performs (stmt_closed (is_block node.now)
+            (stmt_span (place_of N.answers) node.now)) S.lines C.maps W.sheet self.old self.new }
+        ensures level { KeepsLevel S.lines C.maps W.sheet self.old self.new }
     {
         if is_block(node) {
             return;
@@ -328,9 +331,10 @@ impl<W: WriteJs, S: SourceMapper, C: Comments> Emitter<'_, W, S, C> {
     /// Writes the comments after a statement. Where it stands is asked only where there are comments.
     #[inline(always)]
     #[tactic(auto, using(crate::proofs::Without::none_there, crate::proofs::Without::no_trailing))]
-    fn stmt_comments<N: Held>(&mut self, node: &Stmt<N>)
-        ensures items { Makes (trailing_comments true (stmt_span (place_of N.answers) node.now).hi) (standing_of S.lines C.maps W.sheet self.old) (standing_of S.lines C.maps W.sheet self.new) }
-        ensures level { Stays (standing_of S.lines C.maps W.sheet self.old) (standing_of S.lines C.maps W.sheet self.new) }
+    fn stmt_comments<N: LinkTarget>(&mut self, node: &Stmt<N>)
+        ensures items { Performs (trailing_comments true
+            (stmt_span (place_of N.answers) node.now).hi) S.lines C.maps W.sheet self.old self.new }
+        ensures level { KeepsLevel S.lines C.maps W.sheet self.old self.new }
     {
         if self.comments.is_none() {
             return;
@@ -340,20 +344,22 @@ impl<W: WriteJs, S: SourceMapper, C: Comments> Emitter<'_, W, S, C> {
 
     /// Writes an expression in parentheses.
     #[tactic(auto, unfolding(crate::specs::Stmts::enclosed))]
-    pub(crate) fn enclosed<N: Held>(&mut self, node: &ExprBox<N>)
-        ensures items { Makes (enclosed N.items node.now) (standing_of S.lines C.maps W.sheet self.old) (standing_of S.lines C.maps W.sheet self.new) }
-        ensures level { Stays (standing_of S.lines C.maps W.sheet self.old) (standing_of S.lines C.maps W.sheet self.new) }
+    pub(crate) fn enclosed<N: LinkTarget>(&mut self, node: &ExprBox<N>)
+        ensures items { Performs (enclosed N.items node.now)
+            S.lines C.maps W.sheet self.old self.new }
+        ensures level { KeepsLevel S.lines C.maps W.sheet self.old self.new }
     {
         self.punct(Punctuator::LeftParenthesis);
-        node.held().emit_at(self, Place::Plain);
+        node.target().emit_at(self, Place::Plain);
         self.punct(Punctuator::RightParenthesis);
     }
 
     /// Writes a node behind a word, and the blank between the two.
     #[tactic(auto, unfolding(crate::specs::Stmts::spaced))]
-    pub(crate) fn spaced<N: Held>(&mut self, node: &N)
-        ensures items { Makes (spaced N.answers N.items node.now) (standing_of S.lines C.maps W.sheet self.old) (standing_of S.lines C.maps W.sheet self.new) }
-        ensures level { Stays (standing_of S.lines C.maps W.sheet self.old) (standing_of S.lines C.maps W.sheet self.new) }
+    pub(crate) fn spaced<N: LinkTarget>(&mut self, node: &N)
+        ensures items { Performs (spaced N.answers N.items node.now)
+            S.lines C.maps W.sheet self.old self.new }
+        ensures level { KeepsLevel S.lines C.maps W.sheet self.old self.new }
     {
         self.blank(node.starts());
         node.emit_at(self, Place::Plain);
@@ -361,9 +367,10 @@ impl<W: WriteJs, S: SourceMapper, C: Comments> Emitter<'_, W, S, C> {
 
     /// Writes an argument behind a word.
     #[tactic(auto, using(crate::proofs::Asked::argument_asked))]
-    fn argument<N: Held>(&mut self, node: &N)
-        ensures items { Makes (argument N.answers N.items node.now) (standing_of S.lines C.maps W.sheet self.old) (standing_of S.lines C.maps W.sheet self.new) }
-        ensures level { Stays (standing_of S.lines C.maps W.sheet self.old) (standing_of S.lines C.maps W.sheet self.new) }
+    fn argument<N: LinkTarget>(&mut self, node: &N)
+        ensures items { Performs (argument N.answers N.items node.now)
+            S.lines C.maps W.sheet self.old self.new }
+        ensures level { KeepsLevel S.lines C.maps W.sheet self.old self.new }
     {
         let breaks = node.breaks(&self.comments);
         self.argument_in(breaks, node)
@@ -371,9 +378,10 @@ impl<W: WriteJs, S: SourceMapper, C: Comments> Emitter<'_, W, S, C> {
 
     /// Writes such an argument, in parentheses where a line ends in or after a comment before it.
     #[tactic(auto, unfolding(crate::specs::Stmts::argument_in, swc_ecma_codegen_tokens::specs::Choices::optional_parentheses))]
-    fn argument_in<N: Held>(&mut self, breaks: bool, node: &N)
-        ensures items { Makes (argument_in N.answers N.items node.now breaks) (standing_of S.lines C.maps W.sheet self.old) (standing_of S.lines C.maps W.sheet self.new) }
-        ensures level { Stays (standing_of S.lines C.maps W.sheet self.old) (standing_of S.lines C.maps W.sheet self.new) }
+    fn argument_in<N: LinkTarget>(&mut self, breaks: bool, node: &N)
+        ensures items { Performs (argument_in N.answers N.items node.now breaks)
+            S.lines C.maps W.sheet self.old self.new }
+        ensures level { KeepsLevel S.lines C.maps W.sheet self.old self.new }
     {
         if breaks {
             self.punct(Punctuator::LeftParenthesis);
@@ -388,8 +396,9 @@ impl<W: WriteJs, S: SourceMapper, C: Comments> Emitter<'_, W, S, C> {
     #[tactic(auto, unfolding(crate::specs::Stmts::stmt_word))]
     pub(crate) fn stmt_word(&mut self, span: Span, text: &'static str)
         requires { begins_letter text.now ≡ true }
-        ensures items { Makes (stmt_word span text.now) (standing_of S.lines C.maps W.sheet self.old) (standing_of S.lines C.maps W.sheet self.new) }
-        ensures level { Stays (standing_of S.lines C.maps W.sheet self.old) (standing_of S.lines C.maps W.sheet self.new) }
+        ensures items { Performs (stmt_word span text.now)
+            S.lines C.maps W.sheet self.old self.new }
+        ensures level { KeepsLevel S.lines C.maps W.sheet self.old self.new }
     {
         self.commit_pending_semi();
         self.opened(span);
@@ -400,8 +409,9 @@ impl<W: WriteJs, S: SourceMapper, C: Comments> Emitter<'_, W, S, C> {
     #[tactic(auto, unfolding(crate::specs::Stmts::spaced_word))]
     fn spaced_word(&mut self, span: Span, text: &'static str)
         requires { begins_letter text.now ≡ true }
-        ensures items { Makes (spaced_word span text.now) (standing_of S.lines C.maps W.sheet self.old) (standing_of S.lines C.maps W.sheet self.new) }
-        ensures level { Stays (standing_of S.lines C.maps W.sheet self.old) (standing_of S.lines C.maps W.sheet self.new) }
+        ensures items { Performs (spaced_word span text.now)
+            S.lines C.maps W.sheet self.old self.new }
+        ensures level { KeepsLevel S.lines C.maps W.sheet self.old self.new }
     {
         self.leading_comments(span.lo);
         self.commit_pending_semi();
@@ -414,8 +424,9 @@ impl<W: WriteJs, S: SourceMapper, C: Comments> Emitter<'_, W, S, C> {
     #[tactic(auto, unfolding(crate::specs::Stmts::jump))]
     fn jump(&mut self, span: Span, text: &'static str, label: &Option<Ident>)
         requires { begins_letter text.now ≡ true }
-        ensures items { Makes (jump span text.now label.now) (standing_of S.lines C.maps W.sheet self.old) (standing_of S.lines C.maps W.sheet self.new) }
-        ensures level { Stays (standing_of S.lines C.maps W.sheet self.old) (standing_of S.lines C.maps W.sheet self.new) }
+        ensures items { Performs (jump span text.now label.now)
+            S.lines C.maps W.sheet self.old self.new }
+        ensures level { KeepsLevel S.lines C.maps W.sheet self.old self.new }
     {
         self.commit_pending_semi();
         self.start_of(span);
@@ -426,27 +437,29 @@ impl<W: WriteJs, S: SourceMapper, C: Comments> Emitter<'_, W, S, C> {
 
     /// Writes the argument of `return`, where there is one.
     #[tactic(auto, unfolding(crate::specs::Stmts::return_arg))]
-    fn return_arg<N: Held>(&mut self, arg: &Option<ExprBox<N>>)
-        ensures items { Makes (return_arg N.answers N.items arg.now) (standing_of S.lines C.maps W.sheet self.old) (standing_of S.lines C.maps W.sheet self.new) }
-        ensures level { Stays (standing_of S.lines C.maps W.sheet self.old) (standing_of S.lines C.maps W.sheet self.new) }
+    fn return_arg<N: LinkTarget>(&mut self, arg: &Option<ExprBox<N>>)
+        ensures items { Performs (return_arg N.answers N.items arg.now)
+            S.lines C.maps W.sheet self.old self.new }
+        ensures level { KeepsLevel S.lines C.maps W.sheet self.old self.new }
     {
         match arg {
-            Some(node) => self.argument(node.held()),
+            Some(node) => self.argument(node.target()),
             None => {}
         }
     }
 
     /// Writes `else` and a statement, where there is one.
     #[tactic(auto, unfolding(crate::specs::Stmts::else_branch))]
-    fn else_branch<N: Held>(&mut self, block: bool, alt: &Option<StmtBox<N>>)
-        ensures items { Makes (else_branch N.answers N.items block alt.now) (standing_of S.lines C.maps W.sheet self.old) (standing_of S.lines C.maps W.sheet self.new) }
-        ensures level { Stays (standing_of S.lines C.maps W.sheet self.old) (standing_of S.lines C.maps W.sheet self.new) }
+    fn else_branch<N: LinkTarget>(&mut self, block: bool, alt: &Option<StmtBox<N>>)
+        ensures items { Performs (else_branch N.answers N.items block alt.now)
+            S.lines C.maps W.sheet self.old self.new }
+        ensures level { KeepsLevel S.lines C.maps W.sheet self.old self.new }
     {
         match alt {
             Some(node) => {
                 self.blank_if(block);
                 self.keyword(None, "else");
-                self.spaced(node.held())
+                self.spaced(node.target())
             }
             None => {}
         }
@@ -455,8 +468,8 @@ impl<W: WriteJs, S: SourceMapper, C: Comments> Emitter<'_, W, S, C> {
     /// Writes a blank where one is wanted, unless the settings are to minify.
     #[tactic(auto, unfolding(swc_ecma_codegen_tokens::specs::Lists::blank_if))]
     fn blank_if(&mut self, wanted: bool)
-        ensures items { Makes (blank_if wanted) (standing_of S.lines C.maps W.sheet self.old) (standing_of S.lines C.maps W.sheet self.new) }
-        ensures level { Stays (standing_of S.lines C.maps W.sheet self.old) (standing_of S.lines C.maps W.sheet self.new) }
+        ensures items { Performs (blank_if wanted) S.lines C.maps W.sheet self.old self.new }
+        ensures level { KeepsLevel S.lines C.maps W.sheet self.old self.new }
     {
         if wanted {
             self.formatting_space();
@@ -465,14 +478,15 @@ impl<W: WriteJs, S: SourceMapper, C: Comments> Emitter<'_, W, S, C> {
 
     /// Writes what is caught in parentheses, where there is such.
     #[tactic(auto, unfolding(crate::specs::Stmts::catch_param))]
-    fn catch_param<N: Held>(&mut self, param: &Option<PatBox<N>>)
-        ensures items { Makes (catch_param N.items param.now) (standing_of S.lines C.maps W.sheet self.old) (standing_of S.lines C.maps W.sheet self.new) }
-        ensures level { Stays (standing_of S.lines C.maps W.sheet self.old) (standing_of S.lines C.maps W.sheet self.new) }
+    fn catch_param<N: LinkTarget>(&mut self, param: &Option<PatBox<N>>)
+        ensures items { Performs (catch_param N.items param.now)
+            S.lines C.maps W.sheet self.old self.new }
+        ensures level { KeepsLevel S.lines C.maps W.sheet self.old self.new }
     {
         match param {
             Some(node) => {
                 self.punct(Punctuator::LeftParenthesis);
-                node.held().emit_at(self, Place::Plain);
+                node.target().emit_at(self, Place::Plain);
                 self.punct(Punctuator::RightParenthesis)
             }
             None => {}
@@ -481,9 +495,10 @@ impl<W: WriteJs, S: SourceMapper, C: Comments> Emitter<'_, W, S, C> {
 
     /// Writes a blank and `catch { a; }`, where there is such.
     #[tactic(auto, unfolding(crate::specs::Stmts::handler))]
-    fn handler<N: Held>(&mut self, node: &Option<CatchClause<N>>)
-        ensures items { Makes (handler N.items node.now) (standing_of S.lines C.maps W.sheet self.old) (standing_of S.lines C.maps W.sheet self.new) }
-        ensures level { Stays (standing_of S.lines C.maps W.sheet self.old) (standing_of S.lines C.maps W.sheet self.new) }
+    fn handler<N: LinkTarget>(&mut self, node: &Option<CatchClause<N>>)
+        ensures items { Performs (handler N.items node.now)
+            S.lines C.maps W.sheet self.old self.new }
+        ensures level { KeepsLevel S.lines C.maps W.sheet self.old self.new }
     {
         match node {
             Some(node) => {
@@ -496,15 +511,16 @@ impl<W: WriteJs, S: SourceMapper, C: Comments> Emitter<'_, W, S, C> {
 
     /// Writes a blank and `finally{ a; }`, where there is such.
     #[tactic(auto, unfolding(crate::specs::Stmts::finalizer))]
-    fn finalizer<N: Held>(&mut self, node: &Option<BlockStmtBox<N>>)
-        ensures items { Makes (finalizer N.items node.now) (standing_of S.lines C.maps W.sheet self.old) (standing_of S.lines C.maps W.sheet self.new) }
-        ensures level { Stays (standing_of S.lines C.maps W.sheet self.old) (standing_of S.lines C.maps W.sheet self.new) }
+    fn finalizer<N: LinkTarget>(&mut self, node: &Option<BlockStmtBox<N>>)
+        ensures items { Performs (finalizer N.items node.now)
+            S.lines C.maps W.sheet self.old self.new }
+        ensures level { KeepsLevel S.lines C.maps W.sheet self.old self.new }
     {
         match node {
             Some(node) => {
                 self.formatting_space();
                 self.keyword(None, "finally");
-                node.held().emit_at(self, Place::Plain)
+                node.target().emit_at(self, Place::Plain)
             }
             None => {}
         }
@@ -513,8 +529,9 @@ impl<W: WriteJs, S: SourceMapper, C: Comments> Emitter<'_, W, S, C> {
     /// Writes what stands before the statements of a program.
     #[tactic(auto, unfolding(crate::specs::Programs::program_start))]
     pub(crate) fn program_start<T>(&mut self, shebang: &Option<String>, body: &[T], span: Span)
-        ensures items { Makes (program_start shebang.now body.now span) (standing_of S.lines C.maps W.sheet self.old) (standing_of S.lines C.maps W.sheet self.new) }
-        ensures level { Stays (standing_of S.lines C.maps W.sheet self.old) (standing_of S.lines C.maps W.sheet self.new) }
+        ensures items { Performs (program_start shebang.now body.now span)
+            S.lines C.maps W.sheet self.old self.new }
+        ensures level { KeepsLevel S.lines C.maps W.sheet self.old self.new }
     {
         match shebang {
             Some(text) => {
@@ -532,8 +549,9 @@ impl<W: WriteJs, S: SourceMapper, C: Comments> Emitter<'_, W, S, C> {
     /// Records the start of a program without statements.
     #[tactic(auto, unfolding(crate::specs::Programs::start_if_empty))]
     fn start_if_empty<T>(&mut self, body: &[T], span: Span)
-        ensures items { Makes (start_if_empty body.now span) (standing_of S.lines C.maps W.sheet self.old) (standing_of S.lines C.maps W.sheet self.new) }
-        ensures level { Stays (standing_of S.lines C.maps W.sheet self.old) (standing_of S.lines C.maps W.sheet self.new) }
+        ensures items { Performs (start_if_empty body.now span)
+            S.lines C.maps W.sheet self.old self.new }
+        ensures level { KeepsLevel S.lines C.maps W.sheet self.old self.new }
     {
         match body {
             [] => self.start_of(span),

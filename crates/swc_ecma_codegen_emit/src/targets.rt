@@ -4,13 +4,13 @@ ghost use Rattle.swc_ecma_codegen_emit.specs.Names.{binding_ident};
 ghost use Rattle.swc_ecma_codegen_emit.specs.Targets.{simple_assign_target, assign_target};
 
 use crate::emitter::Emitter;
-use crate::nodes::{EmitAt, Held, Place};
+use crate::nodes::{EmitAt, LinkTarget, Place};
 use swc_ecma_codegen_grammar::comments::Comments;
 use swc_ecma_codegen_grammar::mapper::SourceMapper;
 use swc_ecma_codegen_text_writer::WriteJs;
 use swc_ecma_codegen_tree::{AssignTarget, BindingIdent, SimpleAssignTarget};
 
-impl<N: Held> EmitAt for BindingIdent<N> {
+impl<N: LinkTarget> EmitAt for BindingIdent<N> {
     ghost items = { λ n _. binding_ident N.items n };
 
     #[tactic(auto, unfolding(crate::specs::Names::binding_ident))]
@@ -24,7 +24,7 @@ impl<N: Held> EmitAt for BindingIdent<N> {
     }
 }
 
-impl<N: Held> EmitAt for AssignTarget<N> {
+impl<N: LinkTarget> EmitAt for AssignTarget<N> {
     ghost items = { λ n _. assign_target N.answers N.items n };
 
     #[tactic(auto, unfolding(crate::specs::Targets::assign_target))]
@@ -40,7 +40,7 @@ impl<N: Held> EmitAt for AssignTarget<N> {
     }
 }
 
-impl<N: Held> EmitAt for SimpleAssignTarget<N> {
+impl<N: LinkTarget> EmitAt for SimpleAssignTarget<N> {
     ghost items = { λ n _. simple_assign_target N.items n };
 
     #[tactic(auto, unfolding(crate::specs::Targets::simple_assign_target, crate::specs::Exprs::member_at))]

@@ -2,14 +2,14 @@
 
 ghost use Rattle.std.specs.Prelude.{◌≡◌, true};
 ghost use Rattle.swc_ecma_codegen_grammar.specs.TemplatePhrases.{is_counted, part_before};
-ghost use Rattle.swc_ecma_codegen_emit.specs.Standing.{Makes, Stays, standing_of};
+ghost use Rattle.swc_ecma_codegen_emit.specs.Standing.{Performs, KeepsLevel};
 ghost use Rattle.swc_ecma_codegen_tokens.specs.Templates.{tpl_element};
 ghost use Rattle.swc_ecma_codegen_emit.specs.Lists.{plainly};
 ghost use Rattle.swc_ecma_codegen_emit.specs.Exprs.{held};
 ghost use Rattle.swc_ecma_codegen_emit.specs.Templates.{tpl_rest, tpl_parts, bad_shape, tpl, is_tagged, tagged_tpl};
 
 use crate::emitter::Emitter;
-use crate::nodes::{EmitAt, Held, Place};
+use crate::nodes::{EmitAt, LinkTarget, Place};
 use crate::refusals::keep;
 use swc_ecma_codegen_grammar::comments::Comments;
 use swc_ecma_codegen_grammar::kinds::TemplatePart;
@@ -46,7 +46,7 @@ pub(crate) fn is_counted<T>(nodes: &[T], quasis: &[TplElement]) -> bool
     !quasis.is_empty() && quasis.len() - 1 == nodes.len()
 }
 
-impl<N: Held> EmitAt for Tpl<N> {
+impl<N: LinkTarget> EmitAt for Tpl<N> {
     ghost items = { λ n place. tpl N.items (is_tagged place) n };
 
     #[tactic(auto, unfolding(crate::specs::Templates::tpl, crate::specs::Templates::tpl_placed))]
@@ -65,7 +65,7 @@ impl<N: Held> EmitAt for Tpl<N> {
     }
 }
 
-impl<N: Held> EmitAt for TaggedTpl<N> {
+impl<N: LinkTarget> EmitAt for TaggedTpl<N> {
     ghost items = { λ n _. tagged_tpl N.items n };
 
     #[tactic(auto, unfolding(crate::specs::Templates::tagged_tpl))]
@@ -76,9 +76,9 @@ impl<N: Held> EmitAt for TaggedTpl<N> {
     ) {
         e.leading_comments(self.span.lo);
         e.start_of(self.span);
-        self.tag.held().emit_at(e, Place::Callee);
+        self.tag.target().emit_at(e, Place::Callee);
         e.type_args(Place::Plain, &self.type_params);
-        self.tpl.held().emit_at(e, Place::Tagged);
+        self.tpl.target().emit_at(e, Place::Tagged);
         e.end_of(self.span);
     }
 }
@@ -87,8 +87,8 @@ impl<W: WriteJs, S: SourceMapper, C: Comments> Emitter<'_, W, S, C> {
     /// Comes to a node whose shape has no text.
     #[tactic(auto, using(crate::proofs::Standings::refused_makes), unfolding(crate::specs::Templates::bad_shape))]
     pub(crate) fn bad_shape(&mut self)
-        ensures items { Makes bad_shape (standing_of S.lines C.maps W.sheet self.old) (standing_of S.lines C.maps W.sheet self.new) }
-        ensures level { Stays (standing_of S.lines C.maps W.sheet self.old) (standing_of S.lines C.maps W.sheet self.new) }
+        ensures items { Performs bad_shape S.lines C.maps W.sheet self.old self.new }
+        ensures level { KeepsLevel S.lines C.maps W.sheet self.old self.new }
     {
         if self.refusal.is_some() {
             return;
@@ -104,8 +104,9 @@ impl<W: WriteJs, S: SourceMapper, C: Comments> Emitter<'_, W, S, C> {
     #[inline(never)]
     #[tactic(auto, using(crate::proofs::Standings::refused_makes))]
     fn tpl_element(&mut self, first: bool, part: TemplatePart, node: &TplElement)
-        ensures items { Makes (tpl_element first part node.now) (standing_of S.lines C.maps W.sheet self.old) (standing_of S.lines C.maps W.sheet self.new) }
-        ensures level { Stays (standing_of S.lines C.maps W.sheet self.old) (standing_of S.lines C.maps W.sheet self.new) }
+        ensures items { Performs (tpl_element first part node.now)
+            S.lines C.maps W.sheet self.old self.new }
+        ensures level { KeepsLevel S.lines C.maps W.sheet self.old self.new }
     {
         if self.refusal.is_some() {
             return;
@@ -120,8 +121,9 @@ impl<W: WriteJs, S: SourceMapper, C: Comments> Emitter<'_, W, S, C> {
     /// Writes the parts of a template after the first, each behind an expression, or a type.
     #[tactic(auto, using(crate::proofs::Steps::tpl_next), unfolding(crate::specs::Templates::tpl_rest))]
     fn tpl_rest<T: EmitAt>(&mut self, tagged: bool, nodes: &[T], quasis: &[TplElement])
-        ensures items { Makes (tpl_rest (plainly T.items) tagged nodes.now quasis.now) (standing_of S.lines C.maps W.sheet self.old) (standing_of S.lines C.maps W.sheet self.new) }
-        ensures level { Stays (standing_of S.lines C.maps W.sheet self.old) (standing_of S.lines C.maps W.sheet self.new) }
+        ensures items { Performs (tpl_rest (plainly T.items) tagged nodes.now quasis.now)
+            S.lines C.maps W.sheet self.old self.new }
+        ensures level { KeepsLevel S.lines C.maps W.sheet self.old self.new }
     {
         let mut left = quasis;
         for node in nodes {
@@ -137,8 +139,9 @@ impl<W: WriteJs, S: SourceMapper, C: Comments> Emitter<'_, W, S, C> {
     /// Writes the parts of a template.
     #[tactic(auto, unfolding(crate::specs::Templates::tpl_parts))]
     pub(crate) fn tpl_parts<T: EmitAt>(&mut self, tagged: bool, nodes: &[T], quasis: &[TplElement])
-        ensures items { Makes (tpl_parts (plainly T.items) tagged nodes.now quasis.now) (standing_of S.lines C.maps W.sheet self.old) (standing_of S.lines C.maps W.sheet self.new) }
-        ensures level { Stays (standing_of S.lines C.maps W.sheet self.old) (standing_of S.lines C.maps W.sheet self.new) }
+        ensures items { Performs (tpl_parts (plainly T.items) tagged nodes.now quasis.now)
+            S.lines C.maps W.sheet self.old self.new }
+        ensures level { KeepsLevel S.lines C.maps W.sheet self.old self.new }
     {
         match quasis {
             [quasi, quasis @ ..] => {
@@ -150,9 +153,15 @@ impl<W: WriteJs, S: SourceMapper, C: Comments> Emitter<'_, W, S, C> {
     }
 
     /// Writes the parts of a template, with expressions between.
-    fn tpl_exprs<N: Held>(&mut self, tagged: bool, exprs: &[ExprBox<N>], quasis: &[TplElement])
-        ensures items { Makes (tpl_parts (held N.items) tagged exprs.now quasis.now) (standing_of S.lines C.maps W.sheet self.old) (standing_of S.lines C.maps W.sheet self.new) }
-        ensures level { Stays (standing_of S.lines C.maps W.sheet self.old) (standing_of S.lines C.maps W.sheet self.new) }
+    fn tpl_exprs<N: LinkTarget>(
+        &mut self,
+        tagged: bool,
+        exprs: &[ExprBox<N>],
+        quasis: &[TplElement],
+    )
+        ensures items { Performs (tpl_parts (held N.items) tagged exprs.now quasis.now)
+            S.lines C.maps W.sheet self.old self.new }
+        ensures level { KeepsLevel S.lines C.maps W.sheet self.old self.new }
     {
         self.tpl_parts(tagged, exprs, quasis)
     }

@@ -1,12 +1,12 @@
 //! Declarations of TypeScript.
 
 ghost use Rattle.std.specs.Prelude.{◌≡◌};
-ghost use Rattle.swc_ecma_codegen_emit.specs.Standing.{Makes, Stays, standing_of};
+ghost use Rattle.swc_ecma_codegen_emit.specs.Standing.{Performs, KeepsLevel};
 ghost use Rattle.swc_ecma_codegen_emit.specs.TsDecls.{declare_word, ts_expr_with_type_args, extended_format, extended_list, some_extends, extends_clause, ts_interface_decl, ts_type_alias_decl, ts_enum_member_id, ts_enum_member, enum_format, enum_members, enum_body, ts_enum_decl, ts_module_name, module_head, module_tail, ts_module_decl, ts_external_module_ref, ts_module_ref, ts_import_equals_decl, ts_export_assignment, ts_namespace_export_decl};
 ghost use Rattle.swc_ecma_codegen_emit.specs.Namespaces.{module_block_format, block_items, ts_module_block, ts_namespace_decl, namespace_inside, braced_body, dotted_body, ts_namespace_body};
 
 use crate::emitter::Emitter;
-use crate::nodes::{Child, EmitAt, Held, Place};
+use crate::nodes::{Child, EmitAt, LinkTarget, Place};
 use swc_ecma_codegen_common::Span;
 use swc_ecma_codegen_grammar::ListFormat;
 use swc_ecma_codegen_grammar::comments::Comments;
@@ -42,7 +42,7 @@ fn module_block_format() -> ListFormat
     ListFormat::SourceFileStatements
 }
 
-impl<N: Held> EmitAt for TsExprWithTypeArgs<N> {
+impl<N: LinkTarget> EmitAt for TsExprWithTypeArgs<N> {
     ghost items = { λ n _. ts_expr_with_type_args N.items n };
 
     #[tactic(auto, unfolding(crate::specs::TsDecls::ts_expr_with_type_args))]
@@ -52,12 +52,12 @@ impl<N: Held> EmitAt for TsExprWithTypeArgs<N> {
         place: Place,
     ) {
         e.leading_comments(self.span.lo);
-        self.expr.held().emit_at(e, Place::Plain);
+        self.expr.target().emit_at(e, Place::Plain);
         e.type_args(Place::Plain, &self.type_args);
     }
 }
 
-impl<N: Held> Child for TsExprWithTypeArgs<N> {
+impl<N: LinkTarget> Child for TsExprWithTypeArgs<N> {
     ghost stands = { λ n. n.span };
 
     fn place(&self) -> Span {
@@ -65,7 +65,7 @@ impl<N: Held> Child for TsExprWithTypeArgs<N> {
     }
 }
 
-impl<N: Held> EmitAt for TsInterfaceDecl<N> {
+impl<N: LinkTarget> EmitAt for TsInterfaceDecl<N> {
     ghost items = { λ n _. ts_interface_decl N.answers N.items n };
 
     #[tactic(auto, unfolding(crate::specs::TsDecls::ts_interface_decl))]
@@ -86,7 +86,7 @@ impl<N: Held> EmitAt for TsInterfaceDecl<N> {
     }
 }
 
-impl<N: Held> EmitAt for TsTypeAliasDecl<N> {
+impl<N: LinkTarget> EmitAt for TsTypeAliasDecl<N> {
     ghost items = { λ n _. ts_type_alias_decl N.items n };
 
     #[tactic(auto, unfolding(crate::specs::TsDecls::ts_type_alias_decl))]
@@ -102,7 +102,7 @@ impl<N: Held> EmitAt for TsTypeAliasDecl<N> {
         self.id.emit_at(e, Place::Plain);
         e.type_params(&self.type_params);
         e.spaced_punct(Punctuator::Equal);
-        self.type_ann.held().emit_at(e, Place::Plain);
+        self.type_ann.target().emit_at(e, Place::Plain);
         e.semi();
     }
 }
@@ -123,7 +123,7 @@ impl EmitAt for TsEnumMemberId {
     }
 }
 
-impl<N: Held> EmitAt for TsEnumMember<N> {
+impl<N: LinkTarget> EmitAt for TsEnumMember<N> {
     ghost items = { λ n _. ts_enum_member N.items n };
 
     #[tactic(auto, unfolding(crate::specs::TsDecls::ts_enum_member))]
@@ -138,7 +138,7 @@ impl<N: Held> EmitAt for TsEnumMember<N> {
     }
 }
 
-impl<N: Held> Child for TsEnumMember<N> {
+impl<N: LinkTarget> Child for TsEnumMember<N> {
     ghost stands = { λ n. n.span };
 
     fn place(&self) -> Span {
@@ -146,7 +146,7 @@ impl<N: Held> Child for TsEnumMember<N> {
     }
 }
 
-impl<N: Held> EmitAt for TsEnumDecl<N> {
+impl<N: LinkTarget> EmitAt for TsEnumDecl<N> {
     ghost items = { λ n _. ts_enum_decl N.items n };
 
     #[tactic(auto, unfolding(crate::specs::TsDecls::ts_enum_decl))]
@@ -190,7 +190,7 @@ impl EmitAt for TsModuleName {
     }
 }
 
-impl<N: Held> EmitAt for TsModuleDecl<N> {
+impl<N: LinkTarget> EmitAt for TsModuleDecl<N> {
     ghost items = { λ n _. ts_module_decl N.items n };
 
     #[tactic(auto, unfolding(crate::specs::TsDecls::ts_module_decl))]
@@ -206,7 +206,7 @@ impl<N: Held> EmitAt for TsModuleDecl<N> {
     }
 }
 
-impl<N: Held> EmitAt for TsModuleBlock<N> {
+impl<N: LinkTarget> EmitAt for TsModuleBlock<N> {
     ghost items = { λ n _. ts_module_block N.answers N.items n };
 
     #[tactic(auto, unfolding(crate::specs::Namespaces::ts_module_block))]
@@ -220,7 +220,7 @@ impl<N: Held> EmitAt for TsModuleBlock<N> {
     }
 }
 
-impl<N: Held> EmitAt for TsNamespaceDecl<N> {
+impl<N: LinkTarget> EmitAt for TsNamespaceDecl<N> {
     ghost items = { λ n _. ts_namespace_decl N.items n };
 
     #[tactic(auto, unfolding(crate::specs::Namespaces::ts_namespace_decl))]
@@ -235,11 +235,11 @@ impl<N: Held> EmitAt for TsNamespaceDecl<N> {
         e.space();
         self.id.emit_at(e, Place::Plain);
         e.formatting_space();
-        self.body.held().emit_at(e, Place::Plain);
+        self.body.target().emit_at(e, Place::Plain);
     }
 }
 
-impl<N: Held> EmitAt for TsNamespaceBody<N> {
+impl<N: LinkTarget> EmitAt for TsNamespaceBody<N> {
     ghost items = { ts_namespace_body N.answers N.items };
 
     #[tactic(auto, unfolding(crate::specs::Namespaces::ts_namespace_body))]
@@ -272,7 +272,7 @@ impl EmitAt for TsExternalModuleRef {
     }
 }
 
-impl<N: Held> EmitAt for TsModuleRef<N> {
+impl<N: LinkTarget> EmitAt for TsModuleRef<N> {
     ghost items = { λ n _. ts_module_ref N.items n };
 
     #[tactic(auto, unfolding(crate::specs::TsDecls::ts_module_ref))]
@@ -282,13 +282,13 @@ impl<N: Held> EmitAt for TsModuleRef<N> {
         place: Place,
     ) {
         match self {
-            TsModuleRef::TsEntityName(node) => node.held().emit_at(e, Place::Plain),
+            TsModuleRef::TsEntityName(node) => node.target().emit_at(e, Place::Plain),
             TsModuleRef::TsExternalModuleRef(node) => node.emit_at(e, Place::Plain),
         }
     }
 }
 
-impl<N: Held> EmitAt for TsImportEqualsDecl<N> {
+impl<N: LinkTarget> EmitAt for TsImportEqualsDecl<N> {
     ghost items = { λ n _. ts_import_equals_decl N.items n };
 
     #[tactic(auto, unfolding(crate::specs::TsDecls::ts_import_equals_decl))]
@@ -309,7 +309,7 @@ impl<N: Held> EmitAt for TsImportEqualsDecl<N> {
     }
 }
 
-impl<N: Held> EmitAt for TsExportAssignment<N> {
+impl<N: LinkTarget> EmitAt for TsExportAssignment<N> {
     ghost items = { λ n _. ts_export_assignment N.items n };
 
     #[tactic(auto, unfolding(crate::specs::TsDecls::ts_export_assignment))]
@@ -321,7 +321,7 @@ impl<N: Held> EmitAt for TsExportAssignment<N> {
         e.leading_comments(self.span.lo);
         e.keyword(None, "export");
         e.spaced_punct(Punctuator::Equal);
-        self.expr.held().emit_at(e, Place::Plain);
+        self.expr.target().emit_at(e, Place::Plain);
         e.semi();
     }
 }
@@ -351,25 +351,27 @@ impl<W: WriteJs, S: SourceMapper, C: Comments> Emitter<'_, W, S, C> {
     /// Writes `declare` and a blank, where it is so.
     #[tactic(auto, unfolding(crate::specs::TsDecls::declare_word))]
     pub(crate) fn declare_word(&mut self, declared: bool)
-        ensures items { Makes (declare_word declared) (standing_of S.lines C.maps W.sheet self.old) (standing_of S.lines C.maps W.sheet self.new) }
-        ensures level { Stays (standing_of S.lines C.maps W.sheet self.old) (standing_of S.lines C.maps W.sheet self.new) }
+        ensures items { Performs (declare_word declared) S.lines C.maps W.sheet self.old self.new }
+        ensures level { KeepsLevel S.lines C.maps W.sheet self.old self.new }
     {
         self.word_before(declared, "declare")
     }
 
     /// Writes what an interface extends, with commas between.
-    fn extended_list<N: Held>(&mut self, span: Span, nodes: &[TsExprWithTypeArgs<N>])
-        ensures items { Makes (extended_list N.items span nodes.now) (standing_of S.lines C.maps W.sheet self.old) (standing_of S.lines C.maps W.sheet self.new) }
-        ensures level { Stays (standing_of S.lines C.maps W.sheet self.old) (standing_of S.lines C.maps W.sheet self.new) }
+    fn extended_list<N: LinkTarget>(&mut self, span: Span, nodes: &[TsExprWithTypeArgs<N>])
+        ensures items { Performs (extended_list N.items span nodes.now)
+            S.lines C.maps W.sheet self.old self.new }
+        ensures level { KeepsLevel S.lines C.maps W.sheet self.old self.new }
     {
         self.list(extended_format(), span, nodes)
     }
 
     /// Writes ` extends A<B>, C`.
     #[tactic(auto, unfolding(crate::specs::TsDecls::some_extends))]
-    fn some_extends<N: Held>(&mut self, span: Span, nodes: &[TsExprWithTypeArgs<N>])
-        ensures items { Makes (some_extends N.items span nodes.now) (standing_of S.lines C.maps W.sheet self.old) (standing_of S.lines C.maps W.sheet self.new) }
-        ensures level { Stays (standing_of S.lines C.maps W.sheet self.old) (standing_of S.lines C.maps W.sheet self.new) }
+    fn some_extends<N: LinkTarget>(&mut self, span: Span, nodes: &[TsExprWithTypeArgs<N>])
+        ensures items { Performs (some_extends N.items span nodes.now)
+            S.lines C.maps W.sheet self.old self.new }
+        ensures level { KeepsLevel S.lines C.maps W.sheet self.old self.new }
     {
         self.space();
         self.keyword(None, "extends");
@@ -379,9 +381,10 @@ impl<W: WriteJs, S: SourceMapper, C: Comments> Emitter<'_, W, S, C> {
 
     /// Writes the same, where something is extended.
     #[tactic(auto, unfolding(crate::specs::TsDecls::extends_clause))]
-    fn extends_clause<N: Held>(&mut self, span: Span, nodes: &[TsExprWithTypeArgs<N>])
-        ensures items { Makes (extends_clause N.items span nodes.now) (standing_of S.lines C.maps W.sheet self.old) (standing_of S.lines C.maps W.sheet self.new) }
-        ensures level { Stays (standing_of S.lines C.maps W.sheet self.old) (standing_of S.lines C.maps W.sheet self.new) }
+    fn extends_clause<N: LinkTarget>(&mut self, span: Span, nodes: &[TsExprWithTypeArgs<N>])
+        ensures items { Performs (extends_clause N.items span nodes.now)
+            S.lines C.maps W.sheet self.old self.new }
+        ensures level { KeepsLevel S.lines C.maps W.sheet self.old self.new }
     {
         if nodes.is_empty() {
             return;
@@ -390,18 +393,20 @@ impl<W: WriteJs, S: SourceMapper, C: Comments> Emitter<'_, W, S, C> {
     }
 
     /// Writes the members of an enum, with commas between.
-    fn enum_members<N: Held>(&mut self, node: &TsEnumDecl<N>)
-        ensures items { Makes (enum_members N.items node.now) (standing_of S.lines C.maps W.sheet self.old) (standing_of S.lines C.maps W.sheet self.new) }
-        ensures level { Stays (standing_of S.lines C.maps W.sheet self.old) (standing_of S.lines C.maps W.sheet self.new) }
+    fn enum_members<N: LinkTarget>(&mut self, node: &TsEnumDecl<N>)
+        ensures items { Performs (enum_members N.items node.now)
+            S.lines C.maps W.sheet self.old self.new }
+        ensures level { KeepsLevel S.lines C.maps W.sheet self.old self.new }
     {
         self.list(enum_format(), node.span, &node.members)
     }
 
     /// Writes `{ B, C = 1 }`.
     #[tactic(auto, unfolding(crate::specs::TsDecls::enum_body))]
-    fn enum_body<N: Held>(&mut self, node: &TsEnumDecl<N>)
-        ensures items { Makes (enum_body N.items node.now) (standing_of S.lines C.maps W.sheet self.old) (standing_of S.lines C.maps W.sheet self.new) }
-        ensures level { Stays (standing_of S.lines C.maps W.sheet self.old) (standing_of S.lines C.maps W.sheet self.new) }
+    fn enum_body<N: LinkTarget>(&mut self, node: &TsEnumDecl<N>)
+        ensures items { Performs (enum_body N.items node.now)
+            S.lines C.maps W.sheet self.old self.new }
+        ensures level { KeepsLevel S.lines C.maps W.sheet self.old self.new }
     {
         self.punct(Punctuator::LeftBrace);
         self.enum_members(node);
@@ -411,8 +416,9 @@ impl<W: WriteJs, S: SourceMapper, C: Comments> Emitter<'_, W, S, C> {
     /// Writes `namespace a`, `module "a"` or `global`.
     #[tactic(auto, unfolding(crate::specs::TsDecls::module_head))]
     fn module_head(&mut self, global: bool, name: &TsModuleName)
-        ensures items { Makes (module_head global name.now) (standing_of S.lines C.maps W.sheet self.old) (standing_of S.lines C.maps W.sheet self.new) }
-        ensures level { Stays (standing_of S.lines C.maps W.sheet self.old) (standing_of S.lines C.maps W.sheet self.new) }
+        ensures items { Performs (module_head global name.now)
+            S.lines C.maps W.sheet self.old self.new }
+        ensures level { KeepsLevel S.lines C.maps W.sheet self.old self.new }
     {
         if global {
             return self.keyword(None, "global");
@@ -422,29 +428,32 @@ impl<W: WriteJs, S: SourceMapper, C: Comments> Emitter<'_, W, S, C> {
 
     /// Writes the body behind the name, or the semicolon in its place.
     #[tactic(auto, unfolding(crate::specs::TsDecls::module_tail))]
-    fn module_tail<N: Held>(&mut self, body: &Option<TsNamespaceBodyBox<N>>)
-        ensures items { Makes (module_tail N.items body.now) (standing_of S.lines C.maps W.sheet self.old) (standing_of S.lines C.maps W.sheet self.new) }
-        ensures level { Stays (standing_of S.lines C.maps W.sheet self.old) (standing_of S.lines C.maps W.sheet self.new) }
+    fn module_tail<N: LinkTarget>(&mut self, body: &Option<TsNamespaceBodyBox<N>>)
+        ensures items { Performs (module_tail N.items body.now)
+            S.lines C.maps W.sheet self.old self.new }
+        ensures level { KeepsLevel S.lines C.maps W.sheet self.old self.new }
     {
         match body {
-            Some(node) => node.held().emit_at(self, Place::Dotted),
+            Some(node) => node.target().emit_at(self, Place::Dotted),
             None => self.semi(),
         }
     }
 
     /// Writes the items of a namespace.
-    fn block_items<N: Held>(&mut self, node: &TsModuleBlock<N>)
-        ensures items { Makes (block_items N.answers N.items node.now) (standing_of S.lines C.maps W.sheet self.old) (standing_of S.lines C.maps W.sheet self.new) }
-        ensures level { Stays (standing_of S.lines C.maps W.sheet self.old) (standing_of S.lines C.maps W.sheet self.new) }
+    fn block_items<N: LinkTarget>(&mut self, node: &TsModuleBlock<N>)
+        ensures items { Performs (block_items N.answers N.items node.now)
+            S.lines C.maps W.sheet self.old self.new }
+        ensures level { KeepsLevel S.lines C.maps W.sheet self.old self.new }
     {
         self.list(module_block_format(), node.span, &node.body)
     }
 
     /// Writes what stands between the braces of a body.
     #[tactic(auto, unfolding(crate::specs::Namespaces::namespace_inside))]
-    fn namespace_inside<N: Held>(&mut self, node: &TsNamespaceBody<N>)
-        ensures items { Makes (namespace_inside N.answers N.items node.now) (standing_of S.lines C.maps W.sheet self.old) (standing_of S.lines C.maps W.sheet self.new) }
-        ensures level { Stays (standing_of S.lines C.maps W.sheet self.old) (standing_of S.lines C.maps W.sheet self.new) }
+    fn namespace_inside<N: LinkTarget>(&mut self, node: &TsNamespaceBody<N>)
+        ensures items { Performs (namespace_inside N.answers N.items node.now)
+            S.lines C.maps W.sheet self.old self.new }
+        ensures level { KeepsLevel S.lines C.maps W.sheet self.old self.new }
     {
         match node {
             TsNamespaceBody::TsModuleBlock(node) => node.emit_at(self, Place::Plain),
@@ -454,9 +463,10 @@ impl<W: WriteJs, S: SourceMapper, C: Comments> Emitter<'_, W, S, C> {
 
     /// Writes `{ b; }`.
     #[tactic(auto, unfolding(crate::specs::Namespaces::braced_body))]
-    fn braced_body<N: Held>(&mut self, node: &TsNamespaceBody<N>)
-        ensures items { Makes (braced_body N.answers N.items node.now) (standing_of S.lines C.maps W.sheet self.old) (standing_of S.lines C.maps W.sheet self.new) }
-        ensures level { Stays (standing_of S.lines C.maps W.sheet self.old) (standing_of S.lines C.maps W.sheet self.new) }
+    fn braced_body<N: LinkTarget>(&mut self, node: &TsNamespaceBody<N>)
+        ensures items { Performs (braced_body N.answers N.items node.now)
+            S.lines C.maps W.sheet self.old self.new }
+        ensures level { KeepsLevel S.lines C.maps W.sheet self.old self.new }
     {
         self.leading_comments(node.span().lo);
         self.punct(Punctuator::LeftBrace);
@@ -468,9 +478,10 @@ impl<W: WriteJs, S: SourceMapper, C: Comments> Emitter<'_, W, S, C> {
 
     /// Writes ` { b; }` or `.b { c; }`.
     #[tactic(auto, unfolding(crate::specs::Namespaces::dotted_body))]
-    fn dotted_body<N: Held>(&mut self, node: &TsNamespaceBody<N>)
-        ensures items { Makes (dotted_body N.answers N.items node.now) (standing_of S.lines C.maps W.sheet self.old) (standing_of S.lines C.maps W.sheet self.new) }
-        ensures level { Stays (standing_of S.lines C.maps W.sheet self.old) (standing_of S.lines C.maps W.sheet self.new) }
+    fn dotted_body<N: LinkTarget>(&mut self, node: &TsNamespaceBody<N>)
+        ensures items { Performs (dotted_body N.answers N.items node.now)
+            S.lines C.maps W.sheet self.old self.new }
+        ensures level { KeepsLevel S.lines C.maps W.sheet self.old self.new }
     {
         match node {
             TsNamespaceBody::TsModuleBlock(_) => {
@@ -480,7 +491,7 @@ impl<W: WriteJs, S: SourceMapper, C: Comments> Emitter<'_, W, S, C> {
             TsNamespaceBody::TsNamespaceDecl(node) => {
                 self.punct(Punctuator::Dot);
                 node.id.emit_at(self, Place::Plain);
-                node.body.held().emit_at(self, Place::Dotted)
+                node.body.target().emit_at(self, Place::Dotted)
             }
         }
     }

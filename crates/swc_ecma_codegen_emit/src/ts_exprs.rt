@@ -3,7 +3,7 @@
 ghost use Rattle.swc_ecma_codegen_emit.specs.TsExprs.{ts_as_expr, ts_const_assertion, ts_satisfies_expr, ts_non_null_expr, ts_type_assertion, ts_instantiation};
 
 use crate::emitter::Emitter;
-use crate::nodes::{EmitAt, Held, Place};
+use crate::nodes::{EmitAt, LinkTarget, Place};
 use swc_ecma_codegen_grammar::comments::Comments;
 use swc_ecma_codegen_grammar::mapper::SourceMapper;
 use swc_ecma_codegen_literals::Punctuator;
@@ -12,7 +12,7 @@ use swc_ecma_codegen_tree::{
     TsAsExpr, TsConstAssertion, TsInstantiation, TsNonNullExpr, TsSatisfiesExpr, TsTypeAssertion,
 };
 
-impl<N: Held> EmitAt for TsAsExpr<N> {
+impl<N: LinkTarget> EmitAt for TsAsExpr<N> {
     ghost items = { λ n _. ts_as_expr N.items n };
 
     #[tactic(auto, unfolding(crate::specs::TsExprs::ts_as_expr))]
@@ -22,15 +22,15 @@ impl<N: Held> EmitAt for TsAsExpr<N> {
         place: Place,
     ) {
         e.leading_comments(self.span.lo);
-        self.expr.held().emit_at(e, Place::Plain);
+        self.expr.target().emit_at(e, Place::Plain);
         e.space();
         e.keyword(None, "as");
         e.space();
-        self.type_ann.held().emit_at(e, Place::Plain);
+        self.type_ann.target().emit_at(e, Place::Plain);
     }
 }
 
-impl<N: Held> EmitAt for TsConstAssertion<N> {
+impl<N: LinkTarget> EmitAt for TsConstAssertion<N> {
     ghost items = { λ n _. ts_const_assertion N.items n };
 
     #[tactic(auto, unfolding(crate::specs::TsExprs::ts_const_assertion))]
@@ -40,7 +40,7 @@ impl<N: Held> EmitAt for TsConstAssertion<N> {
         place: Place,
     ) {
         e.leading_comments(self.span.lo);
-        self.expr.held().emit_at(e, Place::Plain);
+        self.expr.target().emit_at(e, Place::Plain);
         e.space();
         e.keyword(None, "as");
         e.space();
@@ -48,7 +48,7 @@ impl<N: Held> EmitAt for TsConstAssertion<N> {
     }
 }
 
-impl<N: Held> EmitAt for TsSatisfiesExpr<N> {
+impl<N: LinkTarget> EmitAt for TsSatisfiesExpr<N> {
     ghost items = { λ n _. ts_satisfies_expr N.items n };
 
     #[tactic(auto, unfolding(crate::specs::TsExprs::ts_satisfies_expr))]
@@ -58,15 +58,15 @@ impl<N: Held> EmitAt for TsSatisfiesExpr<N> {
         place: Place,
     ) {
         e.leading_comments(self.span.lo);
-        self.expr.held().emit_at(e, Place::Plain);
+        self.expr.target().emit_at(e, Place::Plain);
         e.space();
         e.keyword(None, "satisfies");
         e.space();
-        self.type_ann.held().emit_at(e, Place::Plain);
+        self.type_ann.target().emit_at(e, Place::Plain);
     }
 }
 
-impl<N: Held> EmitAt for TsNonNullExpr<N> {
+impl<N: LinkTarget> EmitAt for TsNonNullExpr<N> {
     ghost items = { λ n _. ts_non_null_expr N.items n };
 
     #[tactic(auto, unfolding(crate::specs::TsExprs::ts_non_null_expr))]
@@ -76,12 +76,12 @@ impl<N: Held> EmitAt for TsNonNullExpr<N> {
         place: Place,
     ) {
         e.leading_comments(self.span.lo);
-        self.expr.held().emit_at(e, Place::Plain);
+        self.expr.target().emit_at(e, Place::Plain);
         e.punct(Punctuator::Bang);
     }
 }
 
-impl<N: Held> EmitAt for TsTypeAssertion<N> {
+impl<N: LinkTarget> EmitAt for TsTypeAssertion<N> {
     ghost items = { λ n _. ts_type_assertion N.items n };
 
     #[tactic(auto, unfolding(crate::specs::TsExprs::ts_type_assertion))]
@@ -92,13 +92,13 @@ impl<N: Held> EmitAt for TsTypeAssertion<N> {
     ) {
         e.leading_comments(self.span.lo);
         e.punct(Punctuator::Less);
-        self.type_ann.held().emit_at(e, Place::Plain);
+        self.type_ann.target().emit_at(e, Place::Plain);
         e.close();
-        self.expr.held().emit_at(e, Place::Plain);
+        self.expr.target().emit_at(e, Place::Plain);
     }
 }
 
-impl<N: Held> EmitAt for TsInstantiation<N> {
+impl<N: LinkTarget> EmitAt for TsInstantiation<N> {
     ghost items = { λ n _. ts_instantiation N.items n };
 
     #[tactic(auto, unfolding(crate::specs::TsExprs::ts_instantiation))]
@@ -108,7 +108,7 @@ impl<N: Held> EmitAt for TsInstantiation<N> {
         place: Place,
     ) {
         e.leading_comments(self.span.lo);
-        self.expr.held().emit_at(e, Place::Plain);
-        self.type_args.held().emit_at(e, Place::Plain);
+        self.expr.target().emit_at(e, Place::Plain);
+        self.type_args.target().emit_at(e, Place::Plain);
     }
 }

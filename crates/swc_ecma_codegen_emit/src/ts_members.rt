@@ -1,11 +1,11 @@
 //! Members of object types and of interfaces.
 
 ghost use Rattle.std.specs.Prelude.{◌≡◌};
-ghost use Rattle.swc_ecma_codegen_emit.specs.Standing.{Makes, Stays, standing_of};
+ghost use Rattle.swc_ecma_codegen_emit.specs.Standing.{Performs, KeepsLevel};
 ghost use Rattle.swc_ecma_codegen_emit.specs.TsMembers.{signature_key, signature_params, annotation_between, ts_call_signature_decl, params_behind_new, ts_construct_signature_decl, ts_property_signature, getter_annotation, ts_getter_signature, ts_setter_signature, ts_method_signature, readonly_index, index_params, ts_index_signature, ts_signature, ts_type_element, interface_format, interface_members, ts_interface_body};
 
 use crate::emitter::Emitter;
-use crate::nodes::{EmitAt, Held, Place};
+use crate::nodes::{EmitAt, LinkTarget, Place};
 use swc_ecma_codegen_common::Span;
 use swc_ecma_codegen_grammar::ListFormat;
 use swc_ecma_codegen_grammar::comments::Comments;
@@ -25,7 +25,7 @@ fn interface_format() -> ListFormat
     ListFormat::InterfaceMembers
 }
 
-impl<N: Held> EmitAt for TsCallSignatureDecl<N> {
+impl<N: LinkTarget> EmitAt for TsCallSignatureDecl<N> {
     ghost items = { λ n _. ts_call_signature_decl N.answers N.items n };
 
     #[tactic(auto, unfolding(crate::specs::TsMembers::ts_call_signature_decl))]
@@ -41,7 +41,7 @@ impl<N: Held> EmitAt for TsCallSignatureDecl<N> {
     }
 }
 
-impl<N: Held> EmitAt for TsConstructSignatureDecl<N> {
+impl<N: LinkTarget> EmitAt for TsConstructSignatureDecl<N> {
     ghost items = { λ n _. ts_construct_signature_decl N.answers N.items n };
 
     #[tactic(auto, unfolding(crate::specs::TsMembers::ts_construct_signature_decl))]
@@ -58,7 +58,7 @@ impl<N: Held> EmitAt for TsConstructSignatureDecl<N> {
     }
 }
 
-impl<N: Held> EmitAt for TsPropertySignature<N> {
+impl<N: LinkTarget> EmitAt for TsPropertySignature<N> {
     ghost items = { λ n _. ts_property_signature N.items n };
 
     #[tactic(auto, unfolding(crate::specs::TsMembers::ts_property_signature))]
@@ -75,7 +75,7 @@ impl<N: Held> EmitAt for TsPropertySignature<N> {
     }
 }
 
-impl<N: Held> EmitAt for TsGetterSignature<N> {
+impl<N: LinkTarget> EmitAt for TsGetterSignature<N> {
     ghost items = { λ n _. ts_getter_signature N.items n };
 
     #[tactic(auto, unfolding(crate::specs::TsMembers::ts_getter_signature))]
@@ -93,7 +93,7 @@ impl<N: Held> EmitAt for TsGetterSignature<N> {
     }
 }
 
-impl<N: Held> EmitAt for TsSetterSignature<N> {
+impl<N: LinkTarget> EmitAt for TsSetterSignature<N> {
     ghost items = { λ n _. ts_setter_signature N.items n };
 
     #[tactic(auto, unfolding(crate::specs::TsMembers::ts_setter_signature))]
@@ -106,12 +106,12 @@ impl<N: Held> EmitAt for TsSetterSignature<N> {
         e.space();
         e.signature_key(self.computed, &self.key);
         e.punct(Punctuator::LeftParenthesis);
-        self.param.held().emit_at(e, Place::Plain);
+        self.param.target().emit_at(e, Place::Plain);
         e.punct(Punctuator::RightParenthesis);
     }
 }
 
-impl<N: Held> EmitAt for TsMethodSignature<N> {
+impl<N: LinkTarget> EmitAt for TsMethodSignature<N> {
     ghost items = { λ n _. ts_method_signature N.answers N.items n };
 
     #[tactic(auto, unfolding(crate::specs::TsMembers::ts_method_signature))]
@@ -129,7 +129,7 @@ impl<N: Held> EmitAt for TsMethodSignature<N> {
     }
 }
 
-impl<N: Held> EmitAt for TsIndexSignature<N> {
+impl<N: LinkTarget> EmitAt for TsIndexSignature<N> {
     ghost items = { λ n _. ts_index_signature N.answers N.items n };
 
     #[tactic(auto, unfolding(crate::specs::TsMembers::ts_index_signature))]
@@ -146,7 +146,7 @@ impl<N: Held> EmitAt for TsIndexSignature<N> {
     }
 }
 
-impl<N: Held> EmitAt for TsTypeElement<N> {
+impl<N: LinkTarget> EmitAt for TsTypeElement<N> {
     ghost items = { λ n _. ts_type_element N.answers N.items n };
 
     #[tactic(auto, unfolding(crate::specs::TsMembers::ts_type_element))]
@@ -160,7 +160,7 @@ impl<N: Held> EmitAt for TsTypeElement<N> {
     }
 }
 
-impl<N: Held> EmitAt for TsInterfaceBody<N> {
+impl<N: LinkTarget> EmitAt for TsInterfaceBody<N> {
     ghost items = { λ n _. ts_interface_body N.answers N.items n };
 
     #[tactic(auto, unfolding(crate::specs::TsMembers::ts_interface_body))]
@@ -179,23 +179,25 @@ impl<N: Held> EmitAt for TsInterfaceBody<N> {
 impl<W: WriteJs, S: SourceMapper, C: Comments> Emitter<'_, W, S, C> {
     /// Writes `a` or `[a]`.
     #[tactic(auto, unfolding(crate::specs::TsMembers::signature_key))]
-    fn signature_key<N: Held>(&mut self, computed: bool, key: &ExprBox<N>)
-        ensures items { Makes (signature_key N.items computed key.now) (standing_of S.lines C.maps W.sheet self.old) (standing_of S.lines C.maps W.sheet self.new) }
-        ensures level { Stays (standing_of S.lines C.maps W.sheet self.old) (standing_of S.lines C.maps W.sheet self.new) }
+    fn signature_key<N: LinkTarget>(&mut self, computed: bool, key: &ExprBox<N>)
+        ensures items { Performs (signature_key N.items computed key.now)
+            S.lines C.maps W.sheet self.old self.new }
+        ensures level { KeepsLevel S.lines C.maps W.sheet self.old self.new }
     {
         if !computed {
-            return key.held().emit_at(self, Place::Plain);
+            return key.target().emit_at(self, Place::Plain);
         }
         self.punct(Punctuator::LeftBracket);
-        key.held().emit_at(self, Place::Plain);
+        key.target().emit_at(self, Place::Plain);
         self.punct(Punctuator::RightBracket);
     }
 
     /// Writes `(a: A, b: B)`.
     #[tactic(auto, unfolding(crate::specs::TsMembers::signature_params))]
-    fn signature_params<N: Held>(&mut self, span: Span, params: &[TsFnParamBox<N>])
-        ensures items { Makes (signature_params N.answers N.items span params.now) (standing_of S.lines C.maps W.sheet self.old) (standing_of S.lines C.maps W.sheet self.new) }
-        ensures level { Stays (standing_of S.lines C.maps W.sheet self.old) (standing_of S.lines C.maps W.sheet self.new) }
+    fn signature_params<N: LinkTarget>(&mut self, span: Span, params: &[TsFnParamBox<N>])
+        ensures items { Performs (signature_params N.answers N.items span params.now)
+            S.lines C.maps W.sheet self.old self.new }
+        ensures level { KeepsLevel S.lines C.maps W.sheet self.old self.new }
     {
         self.punct(Punctuator::LeftParenthesis);
         self.fn_params_list(span, params);
@@ -204,14 +206,15 @@ impl<W: WriteJs, S: SourceMapper, C: Comments> Emitter<'_, W, S, C> {
 
     /// Writes ` : A`, where there is a type, with two blanks always.
     #[tactic(auto, unfolding(crate::specs::TsMembers::annotation_between))]
-    fn annotation_between<N: Held>(&mut self, ty: &Option<TsTypeAnnBox<N>>)
-        ensures items { Makes (annotation_between N.items ty.now) (standing_of S.lines C.maps W.sheet self.old) (standing_of S.lines C.maps W.sheet self.new) }
-        ensures level { Stays (standing_of S.lines C.maps W.sheet self.old) (standing_of S.lines C.maps W.sheet self.new) }
+    fn annotation_between<N: LinkTarget>(&mut self, ty: &Option<TsTypeAnnBox<N>>)
+        ensures items { Performs (annotation_between N.items ty.now)
+            S.lines C.maps W.sheet self.old self.new }
+        ensures level { KeepsLevel S.lines C.maps W.sheet self.old self.new }
     {
         match ty {
             Some(node) => {
                 self.punct_between(Punctuator::Colon);
-                node.held().emit_at(self, Place::Plain)
+                node.target().emit_at(self, Place::Plain)
             }
             None => {}
         }
@@ -219,14 +222,15 @@ impl<W: WriteJs, S: SourceMapper, C: Comments> Emitter<'_, W, S, C> {
 
     /// Writes a blank and type parameters, where there are some.
     #[tactic(auto, unfolding(crate::specs::TsMembers::params_behind_new))]
-    fn params_behind_new<N: Held>(&mut self, params: &Option<TsTypeParamDeclBox<N>>)
-        ensures items { Makes (params_behind_new N.items params.now) (standing_of S.lines C.maps W.sheet self.old) (standing_of S.lines C.maps W.sheet self.new) }
-        ensures level { Stays (standing_of S.lines C.maps W.sheet self.old) (standing_of S.lines C.maps W.sheet self.new) }
+    fn params_behind_new<N: LinkTarget>(&mut self, params: &Option<TsTypeParamDeclBox<N>>)
+        ensures items { Performs (params_behind_new N.items params.now)
+            S.lines C.maps W.sheet self.old self.new }
+        ensures level { KeepsLevel S.lines C.maps W.sheet self.old self.new }
     {
         match params {
             Some(node) => {
                 self.space();
-                node.held().emit_at(self, Place::Plain)
+                node.target().emit_at(self, Place::Plain)
             }
             None => {}
         }
@@ -234,24 +238,26 @@ impl<W: WriteJs, S: SourceMapper, C: Comments> Emitter<'_, W, S, C> {
 
     /// Writes `: A`, where there is a type, without the comments before it.
     #[tactic(auto, unfolding(crate::specs::TsMembers::getter_annotation))]
-    fn getter_annotation<N: Held>(&mut self, ty: &Option<TsTypeAnnBox<N>>)
-        ensures items { Makes (getter_annotation N.items ty.now) (standing_of S.lines C.maps W.sheet self.old) (standing_of S.lines C.maps W.sheet self.new) }
-        ensures level { Stays (standing_of S.lines C.maps W.sheet self.old) (standing_of S.lines C.maps W.sheet self.new) }
+    fn getter_annotation<N: LinkTarget>(&mut self, ty: &Option<TsTypeAnnBox<N>>)
+        ensures items { Performs (getter_annotation N.items ty.now)
+            S.lines C.maps W.sheet self.old self.new }
+        ensures level { KeepsLevel S.lines C.maps W.sheet self.old self.new }
     {
         match ty {
             Some(node) => {
                 self.punct(Punctuator::Colon);
                 self.formatting_space();
-                node.held().emit_at(self, Place::Reference)
+                node.target().emit_at(self, Place::Reference)
             }
             None => {}
         }
     }
 
     /// Writes `[a: A]`.
-    fn index_params<N: Held>(&mut self, span: Span, params: &[TsFnParamBox<N>])
-        ensures items { Makes (index_params N.answers N.items span params.now) (standing_of S.lines C.maps W.sheet self.old) (standing_of S.lines C.maps W.sheet self.new) }
-        ensures level { Stays (standing_of S.lines C.maps W.sheet self.old) (standing_of S.lines C.maps W.sheet self.new) }
+    fn index_params<N: LinkTarget>(&mut self, span: Span, params: &[TsFnParamBox<N>])
+        ensures items { Performs (index_params N.answers N.items span params.now)
+            S.lines C.maps W.sheet self.old self.new }
+        ensures level { KeepsLevel S.lines C.maps W.sheet self.old self.new }
     {
         self.punct(Punctuator::LeftBracket);
         self.fn_params_list(span, params);
@@ -261,8 +267,8 @@ impl<W: WriteJs, S: SourceMapper, C: Comments> Emitter<'_, W, S, C> {
     /// Writes `readonly` and a blank, unless minified, where it is so.
     #[tactic(auto, unfolding(crate::specs::TsMembers::readonly_index))]
     fn readonly_index(&mut self, wanted: bool)
-        ensures items { Makes (readonly_index wanted) (standing_of S.lines C.maps W.sheet self.old) (standing_of S.lines C.maps W.sheet self.new) }
-        ensures level { Stays (standing_of S.lines C.maps W.sheet self.old) (standing_of S.lines C.maps W.sheet self.new) }
+        ensures items { Performs (readonly_index wanted) S.lines C.maps W.sheet self.old self.new }
+        ensures level { KeepsLevel S.lines C.maps W.sheet self.old self.new }
     {
         if wanted {
             self.keyword(None, "readonly");
@@ -272,9 +278,10 @@ impl<W: WriteJs, S: SourceMapper, C: Comments> Emitter<'_, W, S, C> {
 
     /// Writes a member by its variant.
     #[tactic(auto, unfolding(crate::specs::TsMembers::ts_signature))]
-    fn ts_signature<N: Held>(&mut self, node: &TsTypeElement<N>)
-        ensures items { Makes (ts_signature N.answers N.items node.now) (standing_of S.lines C.maps W.sheet self.old) (standing_of S.lines C.maps W.sheet self.new) }
-        ensures level { Stays (standing_of S.lines C.maps W.sheet self.old) (standing_of S.lines C.maps W.sheet self.new) }
+    fn ts_signature<N: LinkTarget>(&mut self, node: &TsTypeElement<N>)
+        ensures items { Performs (ts_signature N.answers N.items node.now)
+            S.lines C.maps W.sheet self.old self.new }
+        ensures level { KeepsLevel S.lines C.maps W.sheet self.old self.new }
     {
         match node {
             TsTypeElement::TsCallSignatureDecl(node) => node.emit_at(self, Place::Plain),
@@ -288,9 +295,10 @@ impl<W: WriteJs, S: SourceMapper, C: Comments> Emitter<'_, W, S, C> {
     }
 
     /// Writes the members of an interface.
-    fn interface_members<N: Held>(&mut self, node: &TsInterfaceBody<N>)
-        ensures items { Makes (interface_members N.answers N.items node.now) (standing_of S.lines C.maps W.sheet self.old) (standing_of S.lines C.maps W.sheet self.new) }
-        ensures level { Stays (standing_of S.lines C.maps W.sheet self.old) (standing_of S.lines C.maps W.sheet self.new) }
+    fn interface_members<N: LinkTarget>(&mut self, node: &TsInterfaceBody<N>)
+        ensures items { Performs (interface_members N.answers N.items node.now)
+            S.lines C.maps W.sheet self.old self.new }
+        ensures level { KeepsLevel S.lines C.maps W.sheet self.old self.new }
     {
         self.list(interface_format(), node.span, &node.body)
     }

@@ -2,11 +2,11 @@
 
 ghost use Rattle.std.specs.Prelude.{◌≡◌, true};
 ghost use Rattle.swc_ecma_codegen_tokens.specs.Starts.{begins_letter};
-ghost use Rattle.swc_ecma_codegen_emit.specs.Standing.{Makes, Stays, standing_of};
+ghost use Rattle.swc_ecma_codegen_emit.specs.Standing.{Performs, KeepsLevel};
 ghost use Rattle.swc_ecma_codegen_emit.specs.Types.{types_format, type_behind, default_type, ts_qualified_name, ts_entity_name, ts_type_ref, listed_types, type_arguments, ts_type_param_instantiation, ts_type_param, listed_params, ts_type_param_decl};
 
 use crate::emitter::Emitter;
-use crate::nodes::{Child, EmitAt, Held, Place};
+use crate::nodes::{Child, EmitAt, LinkTarget, Place};
 use swc_ecma_codegen_common::Span;
 use swc_ecma_codegen_grammar::ListFormat;
 use swc_ecma_codegen_grammar::comments::Comments;
@@ -25,7 +25,7 @@ pub(crate) fn types_format() -> ListFormat
     ListFormat::TypeArguments
 }
 
-impl<N: Held> EmitAt for TsQualifiedName<N> {
+impl<N: LinkTarget> EmitAt for TsQualifiedName<N> {
     ghost items = { λ n _. ts_qualified_name N.items n };
 
     #[tactic(auto, unfolding(crate::specs::Types::ts_qualified_name))]
@@ -35,13 +35,13 @@ impl<N: Held> EmitAt for TsQualifiedName<N> {
         place: Place,
     ) {
         e.leading_comments(self.span.lo);
-        self.left.held().emit_at(e, Place::Plain);
+        self.left.target().emit_at(e, Place::Plain);
         e.punct(Punctuator::Dot);
         self.right.emit_at(e, Place::Plain);
     }
 }
 
-impl<N: Held> EmitAt for TsEntityName<N> {
+impl<N: LinkTarget> EmitAt for TsEntityName<N> {
     ghost items = { λ n _. ts_entity_name N.items n };
 
     #[tactic(auto, unfolding(crate::specs::Types::ts_entity_name))]
@@ -57,7 +57,7 @@ impl<N: Held> EmitAt for TsEntityName<N> {
     }
 }
 
-impl<N: Held> EmitAt for TsTypeRef<N> {
+impl<N: LinkTarget> EmitAt for TsTypeRef<N> {
     ghost items = { λ n _. ts_type_ref N.items n };
 
     #[tactic(auto, unfolding(crate::specs::Types::ts_type_ref))]
@@ -67,12 +67,12 @@ impl<N: Held> EmitAt for TsTypeRef<N> {
         place: Place,
     ) {
         e.leading_comments(self.span.lo);
-        self.type_name.held().emit_at(e, Place::Plain);
+        self.type_name.target().emit_at(e, Place::Plain);
         e.type_args(Place::Reference, &self.type_params);
     }
 }
 
-impl<N: Held> EmitAt for TsTypeParamInstantiation<N> {
+impl<N: LinkTarget> EmitAt for TsTypeParamInstantiation<N> {
     ghost items = { ts_type_param_instantiation N.answers N.items };
 
     #[tactic(auto, unfolding(crate::specs::Types::ts_type_param_instantiation))]
@@ -91,7 +91,7 @@ impl<N: Held> EmitAt for TsTypeParamInstantiation<N> {
     }
 }
 
-impl<N: Held> EmitAt for TsTypeParam<N> {
+impl<N: LinkTarget> EmitAt for TsTypeParam<N> {
     ghost items = { λ n _. ts_type_param N.items n };
 
     #[tactic(auto, unfolding(crate::specs::Types::ts_type_param))]
@@ -110,7 +110,7 @@ impl<N: Held> EmitAt for TsTypeParam<N> {
     }
 }
 
-impl<N: Held> Child for TsTypeParam<N> {
+impl<N: LinkTarget> Child for TsTypeParam<N> {
     ghost stands = { λ n. n.span };
 
     fn place(&self) -> Span {
@@ -118,7 +118,7 @@ impl<N: Held> Child for TsTypeParam<N> {
     }
 }
 
-impl<N: Held> EmitAt for TsTypeParamDecl<N> {
+impl<N: LinkTarget> EmitAt for TsTypeParamDecl<N> {
     ghost items = { λ n _. ts_type_param_decl N.items n };
 
     #[tactic(auto, unfolding(crate::specs::Types::ts_type_param_decl))]
@@ -137,17 +137,22 @@ impl<N: Held> EmitAt for TsTypeParamDecl<N> {
 impl<W: WriteJs, S: SourceMapper, C: Comments> Emitter<'_, W, S, C> {
     /// Writes a type, where there is one, behind a word between two blanks.
     #[tactic(auto, unfolding(crate::specs::Types::type_behind))]
-    pub(crate) fn type_behind<N: Held>(&mut self, text: &'static str, ty: &Option<TsTypeBox<N>>)
+    pub(crate) fn type_behind<N: LinkTarget>(
+        &mut self,
+        text: &'static str,
+        ty: &Option<TsTypeBox<N>>,
+    )
         requires { begins_letter text.now ≡ true }
-        ensures items { Makes (type_behind N.items text.now ty.now) (standing_of S.lines C.maps W.sheet self.old) (standing_of S.lines C.maps W.sheet self.new) }
-        ensures level { Stays (standing_of S.lines C.maps W.sheet self.old) (standing_of S.lines C.maps W.sheet self.new) }
+        ensures items { Performs (type_behind N.items text.now ty.now)
+            S.lines C.maps W.sheet self.old self.new }
+        ensures level { KeepsLevel S.lines C.maps W.sheet self.old self.new }
     {
         match ty {
             Some(node) => {
                 self.space();
                 self.keyword(None, text);
                 self.space();
-                node.held().emit_at(self, Place::Plain)
+                node.target().emit_at(self, Place::Plain)
             }
             None => {}
         }
@@ -155,32 +160,35 @@ impl<W: WriteJs, S: SourceMapper, C: Comments> Emitter<'_, W, S, C> {
 
     /// Writes ` = A`, where there is a type.
     #[tactic(auto, unfolding(crate::specs::Types::default_type))]
-    pub(crate) fn default_type<N: Held>(&mut self, ty: &Option<TsTypeBox<N>>)
-        ensures items { Makes (default_type N.items ty.now) (standing_of S.lines C.maps W.sheet self.old) (standing_of S.lines C.maps W.sheet self.new) }
-        ensures level { Stays (standing_of S.lines C.maps W.sheet self.old) (standing_of S.lines C.maps W.sheet self.new) }
+    pub(crate) fn default_type<N: LinkTarget>(&mut self, ty: &Option<TsTypeBox<N>>)
+        ensures items { Performs (default_type N.items ty.now)
+            S.lines C.maps W.sheet self.old self.new }
+        ensures level { KeepsLevel S.lines C.maps W.sheet self.old self.new }
     {
         match ty {
             Some(node) => {
                 self.spaced_punct(Punctuator::Equal);
-                node.held().emit_at(self, Place::Plain)
+                node.target().emit_at(self, Place::Plain)
             }
             None => {}
         }
     }
 
     /// Writes types, with commas between.
-    fn listed_types<N: Held>(&mut self, node: &TsTypeParamInstantiation<N>)
-        ensures items { Makes (listed_types N.answers N.items node.now) (standing_of S.lines C.maps W.sheet self.old) (standing_of S.lines C.maps W.sheet self.new) }
-        ensures level { Stays (standing_of S.lines C.maps W.sheet self.old) (standing_of S.lines C.maps W.sheet self.new) }
+    fn listed_types<N: LinkTarget>(&mut self, node: &TsTypeParamInstantiation<N>)
+        ensures items { Performs (listed_types N.answers N.items node.now)
+            S.lines C.maps W.sheet self.old self.new }
+        ensures level { KeepsLevel S.lines C.maps W.sheet self.old self.new }
     {
         self.list(types_format(), node.span, &node.params)
     }
 
     /// Writes `<A, B>`.
     #[tactic(auto, unfolding(crate::specs::Types::type_arguments))]
-    fn type_arguments<N: Held>(&mut self, node: &TsTypeParamInstantiation<N>)
-        ensures items { Makes (type_arguments N.answers N.items node.now) (standing_of S.lines C.maps W.sheet self.old) (standing_of S.lines C.maps W.sheet self.new) }
-        ensures level { Stays (standing_of S.lines C.maps W.sheet self.old) (standing_of S.lines C.maps W.sheet self.new) }
+    fn type_arguments<N: LinkTarget>(&mut self, node: &TsTypeParamInstantiation<N>)
+        ensures items { Performs (type_arguments N.answers N.items node.now)
+            S.lines C.maps W.sheet self.old self.new }
+        ensures level { KeepsLevel S.lines C.maps W.sheet self.old self.new }
     {
         self.punct(Punctuator::Less);
         self.listed_types(node);
@@ -188,9 +196,10 @@ impl<W: WriteJs, S: SourceMapper, C: Comments> Emitter<'_, W, S, C> {
     }
 
     /// Writes type parameters, with commas between.
-    fn listed_params<N: Held>(&mut self, node: &TsTypeParamDecl<N>)
-        ensures items { Makes (listed_params N.items node.now) (standing_of S.lines C.maps W.sheet self.old) (standing_of S.lines C.maps W.sheet self.new) }
-        ensures level { Stays (standing_of S.lines C.maps W.sheet self.old) (standing_of S.lines C.maps W.sheet self.new) }
+    fn listed_params<N: LinkTarget>(&mut self, node: &TsTypeParamDecl<N>)
+        ensures items { Performs (listed_params N.items node.now)
+            S.lines C.maps W.sheet self.old self.new }
+        ensures level { KeepsLevel S.lines C.maps W.sheet self.old self.new }
     {
         self.list(types_format(), node.span, &node.params)
     }

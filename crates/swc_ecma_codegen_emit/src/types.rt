@@ -3,12 +3,12 @@
 ghost use Rattle.std.specs.Prelude.{◌≡◌, false, true};
 ghost use Rattle.swc_ecma_codegen_grammar.specs.TypePhrases.{keyword_of, type_operator};
 ghost use Rattle.swc_ecma_codegen_tokens.specs.Starts.{begins_letter};
-ghost use Rattle.swc_ecma_codegen_emit.specs.Standing.{Makes, Stays, standing_of};
+ghost use Rattle.swc_ecma_codegen_emit.specs.Standing.{Performs, KeepsLevel};
 ghost use Rattle.swc_ecma_codegen_emit.specs.Templates.{tpl_parts};
 ghost use Rattle.swc_ecma_codegen_emit.specs.Types.{type_at, word_before, ts_keyword_type, ts_this_type, ts_tpl_lit_type, ts_lit, ts_lit_type, qualifier, ts_import_type, ts_type_query_expr, ts_type_query, members_format, listed_members, ts_type_lit, ts_array_type, label, ts_tuple_element, listed_elements, ts_tuple_type, ts_optional_type, ts_rest_type, sign, signed_readonly, signed_question, mapped_param, mapped_type_ann, mapped_parts, ts_mapped_type, union_format, intersection_format, joined_list, union_types, intersection_types, ts_union_type, ts_intersection_type, ts_union_or_intersection_type, ts_parenthesized_type, ts_type_operator, ts_indexed_access_type, ts_conditional_type, ts_infer_type, ts_type, ts_type_ann};
 
 use crate::emitter::Emitter;
-use crate::nodes::{Child, EmitAt, Held, Place};
+use crate::nodes::{Child, EmitAt, LinkTarget, Place};
 use crate::templates::is_counted;
 use crate::type_params::types_format;
 use swc_ecma_codegen_common::Span;
@@ -111,7 +111,7 @@ impl EmitAt for TsThisType {
     }
 }
 
-impl<N: Held> EmitAt for TsTplLitType<N> {
+impl<N: LinkTarget> EmitAt for TsTplLitType<N> {
     ghost items = { λ n _. ts_tpl_lit_type N.items n };
 
     #[tactic(auto, unfolding(crate::specs::Types::ts_tpl_lit_type, crate::specs::Types::ts_tpl_parts))]
@@ -128,7 +128,7 @@ impl<N: Held> EmitAt for TsTplLitType<N> {
     }
 }
 
-impl<N: Held> EmitAt for TsLit<N> {
+impl<N: LinkTarget> EmitAt for TsLit<N> {
     ghost items = { λ n _. ts_lit N.items n };
 
     #[tactic(auto, unfolding(crate::specs::Types::ts_lit))]
@@ -147,7 +147,7 @@ impl<N: Held> EmitAt for TsLit<N> {
     }
 }
 
-impl<N: Held> EmitAt for TsLitType<N> {
+impl<N: LinkTarget> EmitAt for TsLitType<N> {
     ghost items = { λ n _. ts_lit_type N.items n };
 
     #[tactic(auto, unfolding(crate::specs::Types::ts_lit_type))]
@@ -161,7 +161,7 @@ impl<N: Held> EmitAt for TsLitType<N> {
     }
 }
 
-impl<N: Held> EmitAt for TsImportType<N> {
+impl<N: LinkTarget> EmitAt for TsImportType<N> {
     ghost items = { λ n _. ts_import_type N.items n };
 
     #[tactic(auto, unfolding(crate::specs::Types::ts_import_type))]
@@ -180,7 +180,7 @@ impl<N: Held> EmitAt for TsImportType<N> {
     }
 }
 
-impl<N: Held> EmitAt for TsTypeQueryExpr<N> {
+impl<N: LinkTarget> EmitAt for TsTypeQueryExpr<N> {
     ghost items = { λ n _. ts_type_query_expr N.items n };
 
     #[tactic(auto, unfolding(crate::specs::Types::ts_type_query_expr))]
@@ -190,13 +190,13 @@ impl<N: Held> EmitAt for TsTypeQueryExpr<N> {
         place: Place,
     ) {
         match self {
-            TsTypeQueryExpr::TsEntityName(node) => node.held().emit_at(e, Place::Plain),
+            TsTypeQueryExpr::TsEntityName(node) => node.target().emit_at(e, Place::Plain),
             TsTypeQueryExpr::Import(node) => node.emit_at(e, Place::Plain),
         }
     }
 }
 
-impl<N: Held> EmitAt for TsTypeQuery<N> {
+impl<N: LinkTarget> EmitAt for TsTypeQuery<N> {
     ghost items = { λ n _. ts_type_query N.items n };
 
     #[tactic(auto, unfolding(crate::specs::Types::ts_type_query))]
@@ -213,7 +213,7 @@ impl<N: Held> EmitAt for TsTypeQuery<N> {
     }
 }
 
-impl<N: Held> EmitAt for TsTypeLit<N> {
+impl<N: LinkTarget> EmitAt for TsTypeLit<N> {
     ghost items = { λ n _. ts_type_lit N.answers N.items n };
 
     #[tactic(auto, unfolding(crate::specs::Types::ts_type_lit))]
@@ -229,7 +229,7 @@ impl<N: Held> EmitAt for TsTypeLit<N> {
     }
 }
 
-impl<N: Held> EmitAt for TsArrayType<N> {
+impl<N: LinkTarget> EmitAt for TsArrayType<N> {
     ghost items = { λ n _. ts_array_type N.items n };
 
     #[tactic(auto, unfolding(crate::specs::Types::ts_array_type))]
@@ -239,13 +239,13 @@ impl<N: Held> EmitAt for TsArrayType<N> {
         place: Place,
     ) {
         e.leading_comments(self.span.lo);
-        self.elem_type.held().emit_at(e, Place::Plain);
+        self.elem_type.target().emit_at(e, Place::Plain);
         e.punct(Punctuator::LeftBracket);
         e.punct(Punctuator::RightBracket);
     }
 }
 
-impl<N: Held> EmitAt for TsTupleElement<N> {
+impl<N: LinkTarget> EmitAt for TsTupleElement<N> {
     ghost items = { λ n _. ts_tuple_element N.items n };
 
     #[tactic(auto, unfolding(crate::specs::Types::ts_tuple_element))]
@@ -256,11 +256,11 @@ impl<N: Held> EmitAt for TsTupleElement<N> {
     ) {
         e.leading_comments(self.span.lo);
         e.label(&self.label);
-        self.ty.held().emit_at(e, Place::Plain);
+        self.ty.target().emit_at(e, Place::Plain);
     }
 }
 
-impl<N: Held> Child for TsTupleElement<N> {
+impl<N: LinkTarget> Child for TsTupleElement<N> {
     ghost stands = { λ n. n.span };
 
     fn place(&self) -> Span {
@@ -268,7 +268,7 @@ impl<N: Held> Child for TsTupleElement<N> {
     }
 }
 
-impl<N: Held> EmitAt for TsTupleType<N> {
+impl<N: LinkTarget> EmitAt for TsTupleType<N> {
     ghost items = { λ n _. ts_tuple_type N.items n };
 
     #[tactic(auto, unfolding(crate::specs::Types::ts_tuple_type))]
@@ -284,7 +284,7 @@ impl<N: Held> EmitAt for TsTupleType<N> {
     }
 }
 
-impl<N: Held> EmitAt for TsOptionalType<N> {
+impl<N: LinkTarget> EmitAt for TsOptionalType<N> {
     ghost items = { λ n _. ts_optional_type N.items n };
 
     #[tactic(auto, unfolding(crate::specs::Types::ts_optional_type))]
@@ -294,12 +294,12 @@ impl<N: Held> EmitAt for TsOptionalType<N> {
         place: Place,
     ) {
         e.leading_comments(self.span.lo);
-        self.type_ann.held().emit_at(e, Place::Plain);
+        self.type_ann.target().emit_at(e, Place::Plain);
         e.punct(Punctuator::Question);
     }
 }
 
-impl<N: Held> EmitAt for TsRestType<N> {
+impl<N: LinkTarget> EmitAt for TsRestType<N> {
     ghost items = { λ n _. ts_rest_type N.items n };
 
     #[tactic(auto, unfolding(crate::specs::Types::ts_rest_type))]
@@ -310,11 +310,11 @@ impl<N: Held> EmitAt for TsRestType<N> {
     ) {
         e.leading_comments(self.span.lo);
         e.punct(Punctuator::Ellipsis);
-        self.type_ann.held().emit_at(e, Place::Plain);
+        self.type_ann.target().emit_at(e, Place::Plain);
     }
 }
 
-impl<N: Held> EmitAt for TsMappedType<N> {
+impl<N: LinkTarget> EmitAt for TsMappedType<N> {
     ghost items = { λ n _. ts_mapped_type N.items n };
 
     #[tactic(auto, unfolding(crate::specs::Types::ts_mapped_type))]
@@ -334,7 +334,7 @@ impl<N: Held> EmitAt for TsMappedType<N> {
     }
 }
 
-impl<N: Held> EmitAt for TsUnionType<N> {
+impl<N: LinkTarget> EmitAt for TsUnionType<N> {
     ghost items = { λ n _. ts_union_type N.answers N.items n };
 
     #[tactic(auto, unfolding(crate::specs::Types::ts_union_type))]
@@ -348,7 +348,7 @@ impl<N: Held> EmitAt for TsUnionType<N> {
     }
 }
 
-impl<N: Held> EmitAt for TsIntersectionType<N> {
+impl<N: LinkTarget> EmitAt for TsIntersectionType<N> {
     ghost items = { λ n _. ts_intersection_type N.answers N.items n };
 
     #[tactic(auto, unfolding(crate::specs::Types::ts_intersection_type))]
@@ -362,7 +362,7 @@ impl<N: Held> EmitAt for TsIntersectionType<N> {
     }
 }
 
-impl<N: Held> EmitAt for TsUnionOrIntersectionType<N> {
+impl<N: LinkTarget> EmitAt for TsUnionOrIntersectionType<N> {
     ghost items = { λ n _. ts_union_or_intersection_type N.answers N.items n };
 
     #[tactic(auto, unfolding(crate::specs::Types::ts_union_or_intersection_type))]
@@ -378,7 +378,7 @@ impl<N: Held> EmitAt for TsUnionOrIntersectionType<N> {
     }
 }
 
-impl<N: Held> EmitAt for TsParenthesizedType<N> {
+impl<N: LinkTarget> EmitAt for TsParenthesizedType<N> {
     ghost items = { λ n _. ts_parenthesized_type N.items n };
 
     #[tactic(auto, unfolding(crate::specs::Types::ts_parenthesized_type))]
@@ -389,12 +389,12 @@ impl<N: Held> EmitAt for TsParenthesizedType<N> {
     ) {
         e.leading_comments(self.span.lo);
         e.punct(Punctuator::LeftParenthesis);
-        self.type_ann.held().emit_at(e, Place::Plain);
+        self.type_ann.target().emit_at(e, Place::Plain);
         e.punct(Punctuator::RightParenthesis);
     }
 }
 
-impl<N: Held> EmitAt for TsTypeOperator<N> {
+impl<N: LinkTarget> EmitAt for TsTypeOperator<N> {
     ghost items = { λ n _. ts_type_operator N.items n };
 
     #[tactic(auto, unfolding(crate::specs::Types::ts_type_operator))]
@@ -406,11 +406,11 @@ impl<N: Held> EmitAt for TsTypeOperator<N> {
         e.leading_comments(self.span.lo);
         e.keyword(None, type_operator(self.op));
         e.space();
-        self.type_ann.held().emit_at(e, Place::Plain);
+        self.type_ann.target().emit_at(e, Place::Plain);
     }
 }
 
-impl<N: Held> EmitAt for TsIndexedAccessType<N> {
+impl<N: LinkTarget> EmitAt for TsIndexedAccessType<N> {
     ghost items = { λ n _. ts_indexed_access_type N.items n };
 
     #[tactic(auto, unfolding(crate::specs::Types::ts_indexed_access_type))]
@@ -420,14 +420,14 @@ impl<N: Held> EmitAt for TsIndexedAccessType<N> {
         place: Place,
     ) {
         e.leading_comments(self.span.lo);
-        self.obj_type.held().emit_at(e, Place::Plain);
+        self.obj_type.target().emit_at(e, Place::Plain);
         e.punct(Punctuator::LeftBracket);
-        self.index_type.held().emit_at(e, Place::Plain);
+        self.index_type.target().emit_at(e, Place::Plain);
         e.punct(Punctuator::RightBracket);
     }
 }
 
-impl<N: Held> EmitAt for TsConditionalType<N> {
+impl<N: LinkTarget> EmitAt for TsConditionalType<N> {
     ghost items = { λ n _. ts_conditional_type N.items n };
 
     #[tactic(auto, unfolding(crate::specs::Types::ts_conditional_type))]
@@ -437,19 +437,19 @@ impl<N: Held> EmitAt for TsConditionalType<N> {
         place: Place,
     ) {
         e.leading_comments(self.span.lo);
-        self.check_type.held().emit_at(e, Place::Plain);
+        self.check_type.target().emit_at(e, Place::Plain);
         e.space();
         e.keyword(None, "extends");
         e.space();
-        self.extends_type.held().emit_at(e, Place::Plain);
+        self.extends_type.target().emit_at(e, Place::Plain);
         e.punct_between(Punctuator::Question);
-        self.true_type.held().emit_at(e, Place::Plain);
+        self.true_type.target().emit_at(e, Place::Plain);
         e.punct_between(Punctuator::Colon);
-        self.false_type.held().emit_at(e, Place::Plain);
+        self.false_type.target().emit_at(e, Place::Plain);
     }
 }
 
-impl<N: Held> EmitAt for TsInferType<N> {
+impl<N: LinkTarget> EmitAt for TsInferType<N> {
     ghost items = { λ n _. ts_infer_type N.items n };
 
     #[tactic(auto, unfolding(crate::specs::Types::ts_infer_type))]
@@ -465,7 +465,7 @@ impl<N: Held> EmitAt for TsInferType<N> {
     }
 }
 
-impl<N: Held> EmitAt for TsType<N> {
+impl<N: LinkTarget> EmitAt for TsType<N> {
     ghost items = { λ n _. ts_type N.answers N.items n };
 
     #[tactic(auto, unfolding(crate::specs::Types::ts_type))]
@@ -499,7 +499,7 @@ impl<N: Held> EmitAt for TsType<N> {
     }
 }
 
-impl<N: Held> EmitAt for TsTypeAnn<N> {
+impl<N: LinkTarget> EmitAt for TsTypeAnn<N> {
     ghost items = { ts_type_ann N.items };
 
     #[tactic(auto, unfolding(crate::specs::Types::ts_type_ann))]
@@ -509,10 +509,10 @@ impl<N: Held> EmitAt for TsTypeAnn<N> {
         place: Place,
     ) {
         match place {
-            Place::Reference => self.type_ann.held().emit_at(e, Place::Plain),
+            Place::Reference => self.type_ann.target().emit_at(e, Place::Plain),
             _ => {
                 e.leading_comments(self.span.lo);
-                self.type_ann.held().emit_at(e, Place::Plain)
+                self.type_ann.target().emit_at(e, Place::Plain)
             }
         }
     }
@@ -523,8 +523,9 @@ impl<W: WriteJs, S: SourceMapper, C: Comments> Emitter<'_, W, S, C> {
     #[tactic(auto, unfolding(crate::specs::Types::word_before))]
     pub(crate) fn word_before(&mut self, wanted: bool, text: &'static str)
         requires { begins_letter text.now ≡ true }
-        ensures items { Makes (word_before wanted text.now) (standing_of S.lines C.maps W.sheet self.old) (standing_of S.lines C.maps W.sheet self.new) }
-        ensures level { Stays (standing_of S.lines C.maps W.sheet self.old) (standing_of S.lines C.maps W.sheet self.new) }
+        ensures items { Performs (word_before wanted text.now)
+            S.lines C.maps W.sheet self.old self.new }
+        ensures level { KeepsLevel S.lines C.maps W.sheet self.old self.new }
     {
         if wanted {
             self.keyword(None, text);
@@ -533,45 +534,48 @@ impl<W: WriteJs, S: SourceMapper, C: Comments> Emitter<'_, W, S, C> {
     }
 
     /// Writes the parts of a template, with types between.
-    fn tpl_types<N: Held>(&mut self, types: &[TsTypeBox<N>], quasis: &[TplElement])
-        ensures items { Makes (tpl_parts (type_at N.items) false types.now quasis.now) (standing_of S.lines C.maps W.sheet self.old) (standing_of S.lines C.maps W.sheet self.new) }
-        ensures level { Stays (standing_of S.lines C.maps W.sheet self.old) (standing_of S.lines C.maps W.sheet self.new) }
+    fn tpl_types<N: LinkTarget>(&mut self, types: &[TsTypeBox<N>], quasis: &[TplElement])
+        ensures items { Performs (tpl_parts (type_at N.items) false types.now quasis.now)
+            S.lines C.maps W.sheet self.old self.new }
+        ensures level { KeepsLevel S.lines C.maps W.sheet self.old self.new }
     {
         self.tpl_parts(false, types, quasis)
     }
 
     /// Writes `.B` of `import("a").B`.
     #[tactic(auto, unfolding(crate::specs::Types::qualifier))]
-    fn qualifier<N: Held>(&mut self, name: &Option<TsEntityNameBox<N>>)
-        ensures items { Makes (qualifier N.items name.now) (standing_of S.lines C.maps W.sheet self.old) (standing_of S.lines C.maps W.sheet self.new) }
-        ensures level { Stays (standing_of S.lines C.maps W.sheet self.old) (standing_of S.lines C.maps W.sheet self.new) }
+    fn qualifier<N: LinkTarget>(&mut self, name: &Option<TsEntityNameBox<N>>)
+        ensures items { Performs (qualifier N.items name.now)
+            S.lines C.maps W.sheet self.old self.new }
+        ensures level { KeepsLevel S.lines C.maps W.sheet self.old self.new }
     {
         match name {
             Some(node) => {
                 self.punct(Punctuator::Dot);
-                node.held().emit_at(self, Place::Plain)
+                node.target().emit_at(self, Place::Plain)
             }
             None => {}
         }
     }
 
     /// Writes the members of a type.
-    fn listed_members<N: Held>(&mut self, node: &TsTypeLit<N>)
-        ensures items { Makes (listed_members N.answers N.items node.now) (standing_of S.lines C.maps W.sheet self.old) (standing_of S.lines C.maps W.sheet self.new) }
-        ensures level { Stays (standing_of S.lines C.maps W.sheet self.old) (standing_of S.lines C.maps W.sheet self.new) }
+    fn listed_members<N: LinkTarget>(&mut self, node: &TsTypeLit<N>)
+        ensures items { Performs (listed_members N.answers N.items node.now)
+            S.lines C.maps W.sheet self.old self.new }
+        ensures level { KeepsLevel S.lines C.maps W.sheet self.old self.new }
     {
         self.list(members_format(), node.span, &node.members)
     }
 
     /// Writes `b: ` of `[b: B]`.
     #[tactic(auto, unfolding(crate::specs::Types::label))]
-    fn label<N: Held>(&mut self, pat: &Option<PatBox<N>>)
-        ensures items { Makes (label N.items pat.now) (standing_of S.lines C.maps W.sheet self.old) (standing_of S.lines C.maps W.sheet self.new) }
-        ensures level { Stays (standing_of S.lines C.maps W.sheet self.old) (standing_of S.lines C.maps W.sheet self.new) }
+    fn label<N: LinkTarget>(&mut self, pat: &Option<PatBox<N>>)
+        ensures items { Performs (label N.items pat.now) S.lines C.maps W.sheet self.old self.new }
+        ensures level { KeepsLevel S.lines C.maps W.sheet self.old self.new }
     {
         match pat {
             Some(node) => {
-                node.held().emit_at(self, Place::Plain);
+                node.target().emit_at(self, Place::Plain);
                 self.punct(Punctuator::Colon);
                 self.formatting_space()
             }
@@ -580,9 +584,10 @@ impl<W: WriteJs, S: SourceMapper, C: Comments> Emitter<'_, W, S, C> {
     }
 
     /// Writes the elements of a tuple.
-    fn listed_elements<N: Held>(&mut self, node: &TsTupleType<N>)
-        ensures items { Makes (listed_elements N.items node.now) (standing_of S.lines C.maps W.sheet self.old) (standing_of S.lines C.maps W.sheet self.new) }
-        ensures level { Stays (standing_of S.lines C.maps W.sheet self.old) (standing_of S.lines C.maps W.sheet self.new) }
+    fn listed_elements<N: LinkTarget>(&mut self, node: &TsTupleType<N>)
+        ensures items { Performs (listed_elements N.items node.now)
+            S.lines C.maps W.sheet self.old self.new }
+        ensures level { KeepsLevel S.lines C.maps W.sheet self.old self.new }
     {
         self.list(types_format(), node.span, &node.elem_types)
     }
@@ -590,8 +595,8 @@ impl<W: WriteJs, S: SourceMapper, C: Comments> Emitter<'_, W, S, C> {
     /// Writes a sign, where there is one.
     #[tactic(auto, unfolding(crate::specs::Types::sign))]
     fn sign(&mut self, written: TruePlusMinus)
-        ensures items { Makes (sign written) (standing_of S.lines C.maps W.sheet self.old) (standing_of S.lines C.maps W.sheet self.new) }
-        ensures level { Stays (standing_of S.lines C.maps W.sheet self.old) (standing_of S.lines C.maps W.sheet self.new) }
+        ensures items { Performs (sign written) S.lines C.maps W.sheet self.old self.new }
+        ensures level { KeepsLevel S.lines C.maps W.sheet self.old self.new }
     {
         match written {
             TruePlusMinus::True => {}
@@ -603,8 +608,9 @@ impl<W: WriteJs, S: SourceMapper, C: Comments> Emitter<'_, W, S, C> {
     /// Writes `+readonly `.
     #[tactic(auto, unfolding(crate::specs::Types::signed_readonly))]
     fn signed_readonly(&mut self, readonly: Option<TruePlusMinus>)
-        ensures items { Makes (signed_readonly readonly) (standing_of S.lines C.maps W.sheet self.old) (standing_of S.lines C.maps W.sheet self.new) }
-        ensures level { Stays (standing_of S.lines C.maps W.sheet self.old) (standing_of S.lines C.maps W.sheet self.new) }
+        ensures items { Performs (signed_readonly readonly)
+            S.lines C.maps W.sheet self.old self.new }
+        ensures level { KeepsLevel S.lines C.maps W.sheet self.old self.new }
     {
         if let Some(sign) = readonly {
             self.sign(sign);
@@ -616,8 +622,9 @@ impl<W: WriteJs, S: SourceMapper, C: Comments> Emitter<'_, W, S, C> {
     /// Writes `+?`.
     #[tactic(auto, unfolding(crate::specs::Types::signed_question))]
     fn signed_question(&mut self, optional: Option<TruePlusMinus>)
-        ensures items { Makes (signed_question optional) (standing_of S.lines C.maps W.sheet self.old) (standing_of S.lines C.maps W.sheet self.new) }
-        ensures level { Stays (standing_of S.lines C.maps W.sheet self.old) (standing_of S.lines C.maps W.sheet self.new) }
+        ensures items { Performs (signed_question optional)
+            S.lines C.maps W.sheet self.old self.new }
+        ensures level { KeepsLevel S.lines C.maps W.sheet self.old self.new }
     {
         if let Some(sign) = optional {
             self.sign(sign);
@@ -627,9 +634,14 @@ impl<W: WriteJs, S: SourceMapper, C: Comments> Emitter<'_, W, S, C> {
 
     /// Writes `A in B = C as D`.
     #[tactic(auto, unfolding(crate::specs::Types::mapped_param))]
-    fn mapped_param<N: Held>(&mut self, node: &TsTypeParam<N>, name_type: &Option<TsTypeBox<N>>)
-        ensures items { Makes (mapped_param N.items node.now name_type.now) (standing_of S.lines C.maps W.sheet self.old) (standing_of S.lines C.maps W.sheet self.new) }
-        ensures level { Stays (standing_of S.lines C.maps W.sheet self.old) (standing_of S.lines C.maps W.sheet self.new) }
+    fn mapped_param<N: LinkTarget>(
+        &mut self,
+        node: &TsTypeParam<N>,
+        name_type: &Option<TsTypeBox<N>>,
+    )
+        ensures items { Performs (mapped_param N.items node.now name_type.now)
+            S.lines C.maps W.sheet self.old self.new }
+        ensures level { KeepsLevel S.lines C.maps W.sheet self.old self.new }
     {
         node.name.emit_at(self, Place::Plain);
         self.type_behind("in", &node.constraint);
@@ -639,15 +651,16 @@ impl<W: WriteJs, S: SourceMapper, C: Comments> Emitter<'_, W, S, C> {
 
     /// Writes `: A`, with a blank always.
     #[tactic(auto, unfolding(crate::specs::Types::mapped_type_ann))]
-    fn mapped_type_ann<N: Held>(&mut self, ty: &Option<TsTypeBox<N>>)
-        ensures items { Makes (mapped_type_ann N.items ty.now) (standing_of S.lines C.maps W.sheet self.old) (standing_of S.lines C.maps W.sheet self.new) }
-        ensures level { Stays (standing_of S.lines C.maps W.sheet self.old) (standing_of S.lines C.maps W.sheet self.new) }
+    fn mapped_type_ann<N: LinkTarget>(&mut self, ty: &Option<TsTypeBox<N>>)
+        ensures items { Performs (mapped_type_ann N.items ty.now)
+            S.lines C.maps W.sheet self.old self.new }
+        ensures level { KeepsLevel S.lines C.maps W.sheet self.old self.new }
     {
         match ty {
             Some(node) => {
                 self.punct(Punctuator::Colon);
                 self.space();
-                node.held().emit_at(self, Place::Plain)
+                node.target().emit_at(self, Place::Plain)
             }
             None => {}
         }
@@ -655,9 +668,10 @@ impl<W: WriteJs, S: SourceMapper, C: Comments> Emitter<'_, W, S, C> {
 
     /// Writes `readonly [A in B as C]?: D;`.
     #[tactic(auto, unfolding(crate::specs::Types::mapped_parts))]
-    fn mapped_parts<N: Held>(&mut self, node: &TsMappedType<N>)
-        ensures items { Makes (mapped_parts N.items node.now) (standing_of S.lines C.maps W.sheet self.old) (standing_of S.lines C.maps W.sheet self.new) }
-        ensures level { Stays (standing_of S.lines C.maps W.sheet self.old) (standing_of S.lines C.maps W.sheet self.new) }
+    fn mapped_parts<N: LinkTarget>(&mut self, node: &TsMappedType<N>)
+        ensures items { Performs (mapped_parts N.items node.now)
+            S.lines C.maps W.sheet self.old self.new }
+        ensures level { KeepsLevel S.lines C.maps W.sheet self.old self.new }
     {
         self.signed_readonly(node.readonly);
         self.punct(Punctuator::LeftBracket);
@@ -669,25 +683,28 @@ impl<W: WriteJs, S: SourceMapper, C: Comments> Emitter<'_, W, S, C> {
     }
 
     /// Writes types with `|` or `&` between.
-    fn joined_list<N: Held>(&mut self, format: ListFormat, span: Span, nodes: &[TsTypeBox<N>])
-        ensures items { Makes (joined_list N.answers N.items format.0 span nodes.now) (standing_of S.lines C.maps W.sheet self.old) (standing_of S.lines C.maps W.sheet self.new) }
-        ensures level { Stays (standing_of S.lines C.maps W.sheet self.old) (standing_of S.lines C.maps W.sheet self.new) }
+    fn joined_list<N: LinkTarget>(&mut self, format: ListFormat, span: Span, nodes: &[TsTypeBox<N>])
+        ensures items { Performs (joined_list N.answers N.items format.0 span nodes.now)
+            S.lines C.maps W.sheet self.old self.new }
+        ensures level { KeepsLevel S.lines C.maps W.sheet self.old self.new }
     {
         self.list(format, span, nodes)
     }
 
     /// Writes the types of a union, with `|` between.
-    fn union_types<N: Held>(&mut self, node: &TsUnionType<N>)
-        ensures items { Makes (union_types N.answers N.items node.now) (standing_of S.lines C.maps W.sheet self.old) (standing_of S.lines C.maps W.sheet self.new) }
-        ensures level { Stays (standing_of S.lines C.maps W.sheet self.old) (standing_of S.lines C.maps W.sheet self.new) }
+    fn union_types<N: LinkTarget>(&mut self, node: &TsUnionType<N>)
+        ensures items { Performs (union_types N.answers N.items node.now)
+            S.lines C.maps W.sheet self.old self.new }
+        ensures level { KeepsLevel S.lines C.maps W.sheet self.old self.new }
     {
         self.joined_list(union_format(), node.span, &node.types)
     }
 
     /// Writes the types of an intersection, with `&` between.
-    fn intersection_types<N: Held>(&mut self, node: &TsIntersectionType<N>)
-        ensures items { Makes (intersection_types N.answers N.items node.now) (standing_of S.lines C.maps W.sheet self.old) (standing_of S.lines C.maps W.sheet self.new) }
-        ensures level { Stays (standing_of S.lines C.maps W.sheet self.old) (standing_of S.lines C.maps W.sheet self.new) }
+    fn intersection_types<N: LinkTarget>(&mut self, node: &TsIntersectionType<N>)
+        ensures items { Performs (intersection_types N.answers N.items node.now)
+            S.lines C.maps W.sheet self.old self.new }
+        ensures level { KeepsLevel S.lines C.maps W.sheet self.old self.new }
     {
         self.joined_list(intersection_format(), node.span, &node.types)
     }

@@ -10,7 +10,7 @@ use Rattle.swc_ecma_codegen_tree.specs.declared.exprs.Expr.{Expr}
 use Rattle.swc_ecma_codegen_tree.specs.declared.exprs.Expr.TheVariants as exprs
 use Rattle.swc_ecma_codegen_tree.specs.declared.stmts.Stmt.TheVariants as stmts
 use Rattle.swc_ecma_codegen_tree.specs.declared.stmts.ExprStmt.{ExprStmt}
-use Rattle.swc_ecma_codegen_tree.specs.Held.{sorted_at, sorted_in}
+use Rattle.swc_ecma_codegen_tree.specs.LinkTargets.{sorted_at, sorted_in}
 use Rattle.swc_ecma_codegen_tree.specs.SortedNodes.{expr_at}
 use Rattle.swc_ecma_codegen_grammar.specs.Comments.{all_tame}
 use Rattle.swc_ecma_codegen_grammar.specs.ExprPhrases.{expr, unary_expr, unary_op}

@@ -69,8 +69,10 @@ fn negation<N: Holds<Expr<N>> + Drop>(alloc: Global, name: &str) -> Result<ExprS
 
 /// The text of `-a;`, a tree made by hand: it reads as a minus, the name and a semicolon, where the name is one.
 pub fn negation_text(alloc: Global, name: &str) -> Result<String, Error>
-    ensures reads { is_well_formed_name name.now ≡ true → IfOk result (λ text. Reads (chars (string_bytes text)) (negation_tokens name.now) []) }
-    ensures made { is_well_formed_name name.now ≡ true → IfErr result (λ error. error ≡ Error.OutOfMemory) }
+    ensures reads { is_well_formed_name name.now ≡ true →
+        IfOk result (λ text. Reads (chars (string_bytes text)) (negation_tokens name.now) []) }
+    ensures made { is_well_formed_name name.now ≡ true →
+        IfErr result (λ error. error ≡ Error.OutOfMemory) }
 {
     let statement: Stmt = Stmt::Expr(negation(alloc, name)?);
     to_code(alloc, &statement)
@@ -78,10 +80,14 @@ pub fn negation_text(alloc: Global, name: &str) -> Result<String, Error>
 
 /// The text of a program, where it is well-formed: UTF-8 that reads, by longest match, as one of the program's token lists.
 pub fn checked_text(alloc: Global, program: &Program) -> Result<String, NoText>
-    ensures reads { IfOk result (λ text. ReadsAs default_config false (program_phrase program.now) [] (string_bytes text)) }
-    ensures not_well_formed { is_well_formed program.now ≡ false → IsErrOf result NoText.NotWellFormed }
+    ensures reads { IfOk result (λ text.
+        ReadsAs default_config false (program_phrase program.now) [] (string_bytes text)) }
+    ensures not_well_formed { is_well_formed program.now ≡ false →
+        IsErrOf result NoText.NotWellFormed }
     // A well-formed program of fewer than 2 ^ 32 tokens is refused for want of memory alone.
-    ensures made { is_well_formed program.now ≡ true → token_count (program_phrase program.now) < 2 ^ 32 → IfErr result (λ error. error ≡ NoText.Refused Error.OutOfMemory) }
+    ensures made { is_well_formed program.now ≡ true →
+        token_count (program_phrase program.now) < 2 ^ 32 →
+        IfErr result (λ error. error ≡ NoText.Refused Error.OutOfMemory) }
 {
     if !is_well_formed(program) {
         return Err(NoText::NotWellFormed);
@@ -95,10 +101,14 @@ pub fn checked_text(alloc: Global, program: &Program) -> Result<String, NoText>
 /// Prints a program to any writer of bytes by way of memory, so that nothing is out unless the whole text was made. A writer that
 /// tells its bytes, as a `Vec` does, tells more by a text that reads as the program.
 pub fn append_checked<W: Write>(alloc: Global, program: &Program, out: &mut W) -> Result<(), NoText>
-    ensures reads { OnOk result ((text : List ℕ) × ReadsAs default_config false (program_phrase program.now) [] text × Appends (W.contents out.old) (W.contents out.new) text) }
-    ensures not_well_formed { is_well_formed program.now ≡ false → IsErrOf result NoText.NotWellFormed × (out.new ≡ out.old) }
+    ensures reads { OnOk result ((text : List ℕ)
+        × ReadsAs default_config false (program_phrase program.now) [] text
+        × Appends (W.contents out.old) (W.contents out.new) text) }
+    ensures not_well_formed { is_well_formed program.now ≡ false →
+        IsErrOf result NoText.NotWellFormed × (out.new ≡ out.old) }
     // A well-formed program of fewer than 2 ^ 32 tokens is refused for want of memory alone, or since `out` failed.
-    ensures made { is_well_formed program.now ≡ true → token_count (program_phrase program.now) < 2 ^ 32 → IfErr result IsOfMachine }
+    ensures made { is_well_formed program.now ≡ true →
+        token_count (program_phrase program.now) < 2 ^ 32 → IfErr result IsOfMachine }
     ensures kept { result ≡ Err (NoText.Refused Error.OutOfMemory) → out.new ≡ out.old }
 {
     let text = checked_text(alloc, program)?;
@@ -117,11 +127,15 @@ fn printed_on<P: Node, W: WriteJs + Drop>(
     wr: W,
 ) -> Result<W, Error>
     // What it adds to the text reads as the root that `node` prints, where that is well-formed.
-    ensures reads { (root : Root) → P.part node.now ≡ root_items root → is_well_formed_root root ≡ true → MayBegin root (start no_lines no_maps config (W.sheet wr)) → IfOk result (λ w. AddsReading config (root_phrase root) [] (W.sheet wr) (W.sheet w)) }
+    ensures reads { (root : Root) → P.part node.now ≡ root_items root →
+        is_well_formed_root root ≡ true →
+        MayBegin root (start no_lines no_maps config (W.sheet wr)) →
+        IfOk result (λ w. AddsReading config (root_phrase root) [] (W.sheet wr) (W.sheet w)) }
     // Each position that it records holds the line and column that the text had reached.
     ensures recorded { IfOk result (λ w. RecordsTruly (W.sheet wr) (W.sheet w)) }
     // It is refused for the cause that the error names.
-    ensures cause { IfErr result (GivesCause (P.part node.now) (start no_lines no_maps config (W.sheet wr))) }
+    ensures cause { IfErr result (GivesCause (P.part node.now)
+        (start no_lines no_maps config (W.sheet wr))) }
 {
     let mut emitter = Emitter::new(alloc, config, &NoSource, None::<CommentMaps>, wr);
     node.emit_with(&mut emitter)?;
@@ -131,8 +145,13 @@ fn printed_on<P: Node, W: WriteJs + Drop>(
 /// Prints a node to any writer of bytes, as a file, and gives that back. A `&mut` of one is one too.
 pub fn print_into<P: Node, W: Write + Drop>(alloc: Global, node: &P, out: W) -> Result<W, Error>
     // Where all writers of this type tell their bytes, as each `Vec` does, it tells more by a text that reads as the root that `node` prints.
-    ensures reads { (root : Root) → P.part node.now ≡ root_items root → is_well_formed_root root ≡ true → ((w : W) → IsSome (W.contents w)) → IfOk result (λ w. AddsText default_config false (root_phrase root) [] (told (W.contents out)) (told (W.contents w))) }
-    ensures cause { IfErr result (GivesCause (P.part node.now) (start no_lines no_maps default_config (new_sheet (told (W.contents out)) (codes "\n")))) }
+    ensures reads { (root : Root) → P.part node.now ≡ root_items root →
+        is_well_formed_root root ≡ true → ((w : W) → IsSome (W.contents w)) →
+        IfOk result (λ w.
+        AddsText default_config false (root_phrase root) [] (told (W.contents out))
+        (told (W.contents w))) }
+    ensures cause { IfErr result (GivesCause (P.part node.now)
+        (start no_lines no_maps default_config (new_sheet (told (W.contents out)) (codes "\n")))) }
 {
     let writer = JsWriter::new(alloc, &NoSource, "\n", out, None);
     let printed = printed_on(alloc, Config::default(), node, writer)?;
@@ -146,9 +165,14 @@ pub fn print_with_positions<'a, P: Node>(
     node: &P,
     pairs: &'a mut Vec<(BytePos, LineCol)>,
 ) -> Result<JsWriter<'a, Vec<u8>>, Error>
-    ensures reads { (root : Root) → P.part node.now ≡ root_items root → is_well_formed_root root ≡ true → IfOk result (λ writer. ReadsAs default_config false (root_phrase root) [] (sheet_of writer).text) }
-    ensures recorded { IfOk result (λ writer. RecordsTruly (keeping pairs.old.items blank_sheet) (sheet_of writer)) }
-    ensures cause { IfErr result (GivesCause (P.part node.now) (start no_lines no_maps default_config (keeping pairs.old.items blank_sheet))) }
+    ensures reads { (root : Root) → P.part node.now ≡ root_items root →
+        is_well_formed_root root ≡ true →
+        IfOk result (λ writer.
+        ReadsAs default_config false (root_phrase root) [] (sheet_of writer).text) }
+    ensures recorded { IfOk result (λ writer.
+        RecordsTruly (keeping pairs.old.items blank_sheet) (sheet_of writer)) }
+    ensures cause { IfErr result (GivesCause (P.part node.now)
+        (start no_lines no_maps default_config (keeping pairs.old.items blank_sheet))) }
 {
     let writer = JsWriter::new(alloc, &NoSource, "\n", Vec::new(alloc), Some(pairs));
     printed_on(alloc, Config::default(), node, writer)
@@ -162,10 +186,17 @@ pub fn print_with_comments<P: Node, C: Comments + Drop>(
 ) -> Result<(Vec<u8>, Option<C>), Error>
     // Where each comment can be read back, the text reads as the root that `node` prints, and between its tokens stand exactly the
     // comments that were taken, in order.
-    ensures reads { (root : Root) → P.part node.now ≡ root_items root → is_well_formed_root root ≡ true → AreClosed (C.maps comments) → IfOk result (λ printed. ReadsAs default_config false (root_phrase root) (taken_remarks (P.part node.now) (commented_start (C.maps comments)).env) printed.0.items) }
+    ensures reads { (root : Root) → P.part node.now ≡ root_items root →
+        is_well_formed_root root ≡ true → AreClosed (C.maps comments) →
+        IfOk result (λ printed.
+        ReadsAs default_config false (root_phrase root)
+        (taken_remarks (P.part node.now) (commented_start (C.maps comments)).env) printed.0.items) }
     // Those that are left are those before without what was taken.
-    ensures left { IfOk result (λ printed. maps_in C.maps printed.1 ≡ maps_after (steps_of (steps_in (P.part node.now) (commented_start (C.maps comments)))) (C.maps comments)) }
-    ensures cause { IfErr result (GivesCause (P.part node.now) (commented_start (C.maps comments))) }
+    ensures left { IfOk result (λ printed. maps_in C.maps printed.1
+        ≡ maps_after (steps_of (steps_in (P.part node.now) (commented_start (C.maps comments))))
+        (C.maps comments)) }
+    ensures cause { IfErr result (GivesCause (P.part node.now)
+        (commented_start (C.maps comments))) }
 {
     let writer = JsWriter::new(alloc, &NoSource, "\n", Vec::new(alloc), None);
     let mut emitter = Emitter::new(alloc, Config::default(), &NoSource, Some(comments), writer);
@@ -175,7 +206,9 @@ pub fn print_with_comments<P: Node, C: Comments + Drop>(
 
 /// The text of a node, minified, without semicolons that aren't needed: `{a;}` is `{a}`.
 pub fn minified<P: Node>(alloc: Global, node: &P) -> Result<Vec<u8>, Error>
-    ensures reads { (root : Root) → P.part node.now ≡ root_items root → is_well_formed_root root ≡ true → IfOk result (λ text. ReadsAs minified_config true (root_phrase root) [] text.items) }
+    ensures reads { (root : Root) → P.part node.now ≡ root_items root →
+        is_well_formed_root root ≡ true →
+        IfOk result (λ text. ReadsAs minified_config true (root_phrase root) [] text.items) }
     ensures cause { IfErr result (GivesCause (P.part node.now) minified_start) }
 {
     let config = Config::default().with_minify(true);
@@ -187,7 +220,8 @@ pub fn minified<P: Node>(alloc: Global, node: &P) -> Result<Vec<u8>, Error>
 
 /// The same of a program, where it is well-formed.
 fn checked_minified(alloc: Global, program: &Program) -> Result<Vec<u8>, NoText>
-    ensures reads { IfOk result (λ text. (is_well_formed program.now ≡ true) × ReadsAs minified_config true (program_phrase program.now) [] text.items) }
+    ensures reads { IfOk result (λ text. (is_well_formed program.now ≡ true)
+        × ReadsAs minified_config true (program_phrase program.now) [] text.items) }
     ensures cause { IfErr result (LacksText minified_start program.now) }
 {
     if !is_well_formed(program) {
@@ -201,11 +235,14 @@ fn checked_minified(alloc: Global, program: &Program) -> Result<Vec<u8>, NoText>
 
 /// The minified text of a program in JSON: it reads as some well-formed program.
 pub fn minified_json(alloc: Global, json: &[u8]) -> Result<Vec<u8>, NoText>
-    ensures reads { IfOk result (λ text. (program : ProgramOf AnyNode) × (is_well_formed program ≡ true) × ReadsAs minified_config true (program_phrase program) [] text.items) }
+    ensures reads { IfOk result (λ text. (program : ProgramOf AnyNode)
+        × (is_well_formed program ≡ true) × ReadsAs minified_config true (program_phrase program) []
+        text.items) }
     ensures not_utf8 { (IsUtf8 json.now → ⊥) → IsErrOf result (NoText.Unread ReadError.CannotRead) }
     ensures utf8 { IsUtf8 json.now → result ≢ Err (NoText.Unread ReadError.CannotRead) }
     // Else nothing is read of it, or some program that is read of it lacks a text.
-    ensures cause { IfErr result (λ error. IsUnread error ⊎ (program : ProgramOf AnyNode) × LacksText minified_start program error) }
+    ensures cause { IfErr result (λ error. IsUnread error ⊎ (program : ProgramOf AnyNode)
+        × LacksText minified_start program error) }
 {
     match program_from_slice(alloc, json) {
         Ok(program) => {

@@ -15,7 +15,7 @@ use Rattle.swc_ecma_codegen_grammar.proofs.Tables.{blank_ne, each, each_at, each
 use Rattle.swc_ecma_codegen_grammar.proofs.TemplateShapes.{template_head}
 use Rattle.swc_ecma_codegen_grammar.specs.Chars.{begins_digit, is_blank, is_digit, is_letter, is_line_end, is_part, is_quote, is_start, is_one_line}
 use Rattle.swc_ecma_codegen_grammar.specs.Endings.{IsAtEnd, IsReduced, ends, is_end}
-use Rattle.swc_ecma_codegen_grammar.specs.GapRules.{Apart, IntegerEnd, Last, LessBang, LineEnd, Mark, MayBegin, Start, TagNameEnd, TextEnd, Whole, WordEnd, allows, ends_line, ends_text, fuses, grows, holds_child, last_after, last_after_gap, mark_after, mark_fuses}
+use Rattle.swc_ecma_codegen_grammar.specs.GapRules.{Separated, IntegerEnd, PreviousToken, LessBang, LineEnd, Mark, MayBegin, Start, TagNameEnd, TextEnd, Whole, WordEnd, allows, ends_line, ends_text, fuses, grows, holds_child, last_after, last_after_gap, mark_after, mark_fuses}
 use Rattle.swc_ecma_codegen_grammar.specs.Jsx.{is_jsx_open}
 use Rattle.swc_ecma_codegen_grammar.specs.Numbers.{takes_dot}
 use Rattle.swc_ecma_codegen_grammar.specs.Parts.{Gap, IsEnding, NoneFuse, Own, Part, Reduced, remarks_in, text_of, tokens_of, Joint, OfLine, OnLine, PastLine, AtJoint, Broken, walk, over_own, over_gap, over_joint, is_broken, KeepsLines}
@@ -70,10 +70,10 @@ mark_quiet a m c n h =
     (and_right (is_same (a ∷ m) (codes "/")) ((c == 47) || (c == 42)) (ending_ne (λ c. (c == 47) || (c == 42)) c h refl refl))))
 
 -- a punctuator that was written last is some text
-unfoldable IsReal : Last → Type 0
+unfoldable IsReal : PreviousToken → Type 0
 IsReal (Mark m) = m ≡ [] → ⊥
 IsReal Start = Unit {0}
-IsReal Apart = Unit {0}
+IsReal Separated = Unit {0}
 IsReal WordEnd = Unit {0}
 IsReal IntegerEnd = Unit {0}
 IsReal LessBang = Unit {0}
@@ -82,10 +82,10 @@ IsReal TextEnd = Unit {0}
 IsReal TagNameEnd = Unit {0}
 IsReal LineEnd = Unit {0}
 
-quiet : (k : Last) (c : ℕ) (n : List ℕ) → IsReal k → ((c == 125) || (c == 59)) ≡ true → fuses k (c ∷ n) ≡ false
+quiet : (k : PreviousToken) (c : ℕ) (n : List ℕ) → IsReal k → ((c == 125) || (c == 59)) ≡ true → fuses k (c ∷ n) ≡ false
 unfolding fuses IsReal begins is_part is_letter is_digit
 quiet Start c n r h = refl
-quiet Apart c n r h = refl
+quiet Separated c n r h = refl
 quiet WordEnd c n r h = ending_ne (λ c. is_part c || (c == 92)) c h refl refl
 quiet IntegerEnd c n r h = ending_ne (λ c. (is_part c || (c == 92)) || (c == 46)) c h refl refl
 quiet (Mark []) c n r h = absurd (r refl)
@@ -97,10 +97,10 @@ quiet TagNameEnd c n r h = ending_ne (λ c. is_part c || (c == 92)) c h refl ref
 quiet LineEnd c n r h = refl
 
 -- where a semicolon may follow, an ending may
-ending_allowed : (k : Last) (c : ℕ) (n : List ℕ) → allows k (codes ";") ≡ true → ((c == 125) || (c == 59)) ≡ true → allows k (c ∷ n) ≡ true
+ending_allowed : (k : PreviousToken) (c : ℕ) (n : List ℕ) → allows k (codes ";") ≡ true → ((c == 125) || (c == 59)) ≡ true → allows k (c ∷ n) ≡ true
 unfolding allows ends_text ends_line begins is_line_end
 ending_allowed Start c n a h = refl
-ending_allowed Apart c n a h = refl
+ending_allowed Separated c n a h = refl
 ending_allowed WordEnd c n a h = refl
 ending_allowed IntegerEnd c n a h = refl
 ending_allowed (Mark m) c n a h = refl
@@ -110,10 +110,10 @@ ending_allowed TextEnd c n a h = absurd (true≢false (sym a))
 ending_allowed TagNameEnd c n a h = ap not (ending_ne (λ c. begins (codes "-") (c ∷ n)) c h refl refl)
 ending_allowed LineEnd c n a h = absurd (true≢false (sym a))
 
-end_allowed : (k : Last) → allows k (codes ";") ≡ true → allows k [] ≡ true
+end_allowed : (k : PreviousToken) → allows k (codes ";") ≡ true → allows k [] ≡ true
 unfolding allows ends_text ends_line begins is_line_end
 end_allowed Start a = refl
-end_allowed Apart a = refl
+end_allowed Separated a = refl
 end_allowed WordEnd a = refl
 end_allowed IntegerEnd a = refl
 end_allowed (Mark m) a = refl
@@ -124,10 +124,10 @@ end_allowed TagNameEnd a = refl
 end_allowed LineEnd a = absurd (true≢false (sym a))
 
 -- an ending is the same last token, whatever came before
-mark_ending : (k : Last) (c : ℕ) (n : List ℕ) → ((c == 125) || (c == 59)) ≡ true → mark_after k (c ∷ n) ≡ Mark (c ∷ n)
+mark_ending : (k : PreviousToken) (c : ℕ) (n : List ℕ) → ((c == 125) || (c == 59)) ≡ true → mark_after k (c ∷ n) ≡ Mark (c ∷ n)
 unfolding mark_after is_same
 mark_ending Start c n h = refl
-mark_ending Apart c n h = refl
+mark_ending Separated c n h = refl
 mark_ending WordEnd c n h = refl
 mark_ending IntegerEnd c n h = refl
 mark_ending LessBang c n h = refl
@@ -137,7 +137,7 @@ mark_ending TagNameEnd c n h = refl
 mark_ending LineEnd c n h = refl
 mark_ending (Mark m) c n h = cond-false (is_same m (codes "<") && ((c == 33) && is_same n [])) LessBang (Mark (c ∷ n)) (and_right (is_same m (codes "<")) _ (and_left (c == 33) (is_same n []) (ending_ne (λ c. c == 33) c h refl refl)))
 
-last_ending : (k l : Last) (y : Kind) (c : ℕ) (n : List ℕ) → ((c == 125) || (c == 59)) ≡ true → last_after l y (c ∷ n) ≡ last_after k y (c ∷ n)
+last_ending : (k l : PreviousToken) (y : Kind) (c : ℕ) (n : List ℕ) → ((c == 125) || (c == 59)) ≡ true → last_after l y (c ∷ n) ≡ last_after k y (c ∷ n)
 unfolding last_after
 last_ending k l Punctuator c n h = mark_ending l c n h ∙ sym (mark_ending k c n h)
 last_ending k l Ending c n h = mark_ending l c n h ∙ sym (mark_ending k c n h)
@@ -168,10 +168,10 @@ real_some : (c : ℕ) (n : List ℕ) → IsReal (Mark (c ∷ n))
 unfolding IsReal
 real_some c n = λ e. cc
 
-real_mark : (k : Last) (c : ℕ) (n : List ℕ) → IsReal (mark_after k (c ∷ n))
+real_mark : (k : PreviousToken) (c : ℕ) (n : List ℕ) → IsReal (mark_after k (c ∷ n))
 unfolding mark_after
 real_mark Start c n = real_some c n
-real_mark Apart c n = real_some c n
+real_mark Separated c n = real_some c n
 real_mark WordEnd c n = real_some c n
 real_mark IntegerEnd c n = real_some c n
 real_mark LessBang c n = real_some c n
@@ -186,7 +186,7 @@ unfolding IsReal
 real_number true = tt
 real_number false = tt
 
-real_own : (k : Last) (x : Kind) (t : List ℕ) → has_shape x t ≡ true → IsReal (last_after k x t)
+real_own : (k : PreviousToken) (x : Kind) (t : List ℕ) → has_shape x t ≡ true → IsReal (last_after k x t)
 unfolding last_after IsReal
 real_own k Punctuator [] h = absurd (some_text Punctuator h)
 real_own k Punctuator (c ∷ n) h = real_mark k c n
@@ -210,7 +210,7 @@ real_own k JsxText t h = tt
 real_own k Hashbang t h = tt
 real_own k SameLine t h = tt
 
-real_gap : (k : Last) (ps : List Piece) → IsReal k → IsReal (last_after_gap k ps)
+real_gap : (k : PreviousToken) (ps : List Piece) → IsReal k → IsReal (last_after_gap k ps)
 unfolding last_after_gap IsReal
 real_gap k [] r = r
 real_gap k (p ∷ ps) r = tt
@@ -223,7 +223,7 @@ semi_is_no_start : Mark (codes ";") ≡ Start → ⊥
 semi_is_no_start e = cc
 
 -- what may begin after a semicolon may begin anywhere
-begins_anywhere : (k : Last) (y : Kind) → MayBegin (Mark (codes ";")) y → MayBegin k y
+begins_anywhere : (k : PreviousToken) (y : Kind) → MayBegin (Mark (codes ";")) y → MayBegin k y
 begins_anywhere k y b = record {
   child = λ c. absurd (true≢false (sym (b.child c) ∙ semi_holds_none));
   first = λ c. absurd (semi_is_no_start (b.first c));
@@ -237,7 +237,7 @@ ending_char c n h =
       | inr x ↦ subst (λ z. ((z == 125) || (z == 59)) ≡ true) (eqb-true 59 c (and_parts (59 == c) true x).0) refl
     ]
 
-drop_semi : (k : Last) (xs : List Part) → IsReal k → allows k (codes ";") ≡ true → NoneFuse (mark_after k (codes ";")) xs → IsEnding xs → NoneFuse k xs
+drop_semi : (k : PreviousToken) (xs : List Part) → IsReal k → allows k (codes ";") ≡ true → NoneFuse (mark_after k (codes ";")) xs → IsEnding xs → NoneFuse k xs
 unfolding NoneFuse IsEnding
 drop_semi k [] r a h e = end_allowed k a
 drop_semi k (Gap ps ∷ xs) r a h e = absurd e
@@ -252,14 +252,14 @@ drop_semi k (Own y (c ∷ n) ∷ xs) r a h e =
       subst (λ z. NoneFuse z xs) (last_ending k (mark_after k (codes ";")) y c n i) h.4,
     )
 
-semi_parts : (k : Last) (x : Kind) (t : List ℕ) (xs : List Part) → Own x t ≡ Own Ending (codes ";") → (allows k t ≡ true) → NoneFuse (last_after k x t) xs → (allows k (codes ";") ≡ true) × NoneFuse (mark_after k (codes ";")) xs
+semi_parts : (k : PreviousToken) (x : Kind) (t : List ℕ) (xs : List Part) → Own x t ≡ Own Ending (codes ";") → (allows k t ≡ true) → NoneFuse (last_after k x t) xs → (allows k (codes ";") ≡ true) × NoneFuse (mark_after k (codes ";")) xs
 unfolding last_after
 semi_parts k x t xs e a h =
     let f : x ≡ Ending = cc e in
     let g : t ≡ codes ";" = cc e in
     (subst (λ z. allows k z ≡ true) g a, subst (λ z. NoneFuse (last_after k Ending z) xs) g (subst (λ z. NoneFuse (last_after k z t) xs) f h))
 
-reduced_fuses : (xs ys : List Part) (k : Last) → IsReal k → NoneFuse k xs → Reduced xs ys → NoneFuse k ys
+reduced_fuses : (xs ys : List Part) (k : PreviousToken) → IsReal k → NoneFuse k xs → Reduced xs ys → NoneFuse k ys
 unfolding NoneFuse Reduced
 reduced_fuses [] ys k r h e = let P : List Part → Type 0 = λ z. NoneFuse k z in subst P (sym e) h
 reduced_fuses (Gap ps ∷ xs) ys k r h (inl e) =
@@ -377,7 +377,7 @@ semi_token x t e =
     let g : t ≡ codes ";" = cc e in
     ap₂ token_of f g
 
-ends_after : (k : Last) (xs : List Part) → NoneFuse (mark_after k (codes ";")) xs → IsEnding xs → IsAtEnd (tokens_of xs)
+ends_after : (k : PreviousToken) (xs : List Part) → NoneFuse (mark_after k (codes ";")) xs → IsEnding xs → IsAtEnd (tokens_of xs)
 unfolding NoneFuse IsEnding IsAtEnd tokens_of
 ends_after k [] h e = tt
 ends_after k (Gap ps ∷ xs) h e = absurd e
@@ -385,7 +385,7 @@ ends_after k (Joint ∷ xs) h e = absurd e
 ends_after k (Own y [] ∷ xs) h e = absurd (some_text y h.0)
 ends_after k (Own y (c ∷ n) ∷ xs) h e = token_ends y c n h.0 (subst (λ z. MayBegin z y) (mark_ending k 59 [] refl) h.2) e
 
-reduced_tokens : (xs ys : List Part) (k : Last) → NoneFuse k xs → Reduced xs ys → IsReduced (tokens_of xs) (tokens_of ys)
+reduced_tokens : (xs ys : List Part) (k : PreviousToken) → NoneFuse k xs → Reduced xs ys → IsReduced (tokens_of xs) (tokens_of ys)
 unfolding NoneFuse Reduced IsReduced tokens_of
 reduced_tokens [] ys k h e = ap tokens_of e
 reduced_tokens (Gap ps ∷ xs) ys k h (inl e) = subst (λ z. IsReduced (tokens_of xs) z) (sym (ap tokens_of e.1)) (reduced_tokens xs e.0 (last_after_gap k ps) h.3 e.2)
@@ -421,10 +421,10 @@ text_goes_on (BlockOf t ∷ ps) h = refl
 text_goes_on (LineOf t c ∷ ps) h = refl
 
 -- where a gap may stand, nothing may
-end_for_gap : (k : Last) (ps : List Piece) → all_pieces ps ≡ true → allows k (pieces_text ps) ≡ true → allows k [] ≡ true
+end_for_gap : (k : PreviousToken) (ps : List Piece) → all_pieces ps ≡ true → allows k (pieces_text ps) ≡ true → allows k [] ≡ true
 unfolding allows ends_line begins
 end_for_gap Start ps h a = refl
-end_for_gap Apart ps h a = refl
+end_for_gap Separated ps h a = refl
 end_for_gap WordEnd ps h a = refl
 end_for_gap IntegerEnd ps h a = refl
 end_for_gap (Mark m) ps h a = refl
@@ -435,7 +435,7 @@ end_for_gap TagNameEnd ps h a = refl
 end_for_gap LineEnd ps h a = refl
 
 -- a gap at the end may go
-pub without_last_gap : (k : Last) (xs : List Part) (ps : List Piece) → NoneFuse k (xs ++ Gap ps ∷ []) → NoneFuse k xs
+pub without_last_gap : (k : PreviousToken) (xs : List Part) (ps : List Piece) → NoneFuse k (xs ++ Gap ps ∷ []) → NoneFuse k xs
 unfolding NoneFuse
 without_last_gap k [] ps h = end_for_gap k ps h.0 h.2
 without_last_gap k (Gap qs ∷ xs) ps h = (h.0, h.1, h.2, without_last_gap (last_after_gap k qs) xs ps h.3)

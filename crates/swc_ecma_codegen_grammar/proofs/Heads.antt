@@ -12,7 +12,7 @@ use Rattle.swc_ecma_codegen_grammar.proofs.StringShapes.{some_string, string_hea
 use Rattle.swc_ecma_codegen_grammar.proofs.Tables.{blank_ne, eq_of_same}
 use Rattle.swc_ecma_codegen_grammar.proofs.TemplateShapes.{some_template, some_template_rest, template_head, template_rest_head}
 use Rattle.swc_ecma_codegen_grammar.specs.Chars.{begins_digit, is_blank, is_digit, is_letter, is_quote, is_start}
-use Rattle.swc_ecma_codegen_grammar.specs.GapRules.{Last, last_after, mark_after}
+use Rattle.swc_ecma_codegen_grammar.specs.GapRules.{PreviousToken, last_after, mark_after}
 use Rattle.swc_ecma_codegen_grammar.specs.Hashbangs.{is_hashbang}
 use Rattle.swc_ecma_codegen_grammar.specs.Jsx.{is_jsx_name, is_jsx_string}
 use Rattle.swc_ecma_codegen_grammar.specs.Names.{is_name, is_private_name}
@@ -112,7 +112,7 @@ hashbang_plain (c ∷ n) h = has_head c n refl (at_eq (λ z. is_plain z ≡ true
 -- how a token begins: as said, as a punctuator, as a regular expression or as text between tags
 pub data Head (x : Kind) (t : List ℕ) : Type 0 where
   Plain : HasHead t → Head x t
-  AsMark : is_among t punctuators ≡ true → ((k : Last) → last_after k x t ≡ mark_after k t) → Head x t
+  AsMark : is_among t punctuators ≡ true → ((k : PreviousToken) → last_after k x t ≡ mark_after k t) → Head x t
   AsRegex : is_regex t ≡ true → Head x t
   AsText : x ≡ JsxText → Head x t
   AsClose : t ≡ codes ">" → Head x t

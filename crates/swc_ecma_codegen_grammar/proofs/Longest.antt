@@ -15,7 +15,7 @@ use Rattle.swc_ecma_codegen_grammar.proofs.StringShapes.{string_head, string_onc
 use Rattle.swc_ecma_codegen_grammar.proofs.Tables.{eq_of_same}
 use Rattle.swc_ecma_codegen_grammar.proofs.TemplateShapes.{first_template_once, later_template_once, template_head}
 use Rattle.swc_ecma_codegen_grammar.specs.Chars.{begins_digit, is_digit, is_letter, is_line_end, is_part, is_quote, is_start}
-use Rattle.swc_ecma_codegen_grammar.specs.GapRules.{IntegerEnd, Last, LineEnd, Mark, Ready, TagNameEnd, WordEnd, allows, ends_line, ends_text, fuses, last_after, mark_fuses}
+use Rattle.swc_ecma_codegen_grammar.specs.GapRules.{IntegerEnd, PreviousToken, LineEnd, Mark, Ready, TagNameEnd, WordEnd, allows, ends_line, ends_text, fuses, last_after, mark_fuses}
 use Rattle.swc_ecma_codegen_grammar.specs.Hashbangs.{is_hashbang}
 use Rattle.swc_ecma_codegen_grammar.specs.Jsx.{is_bare, is_jsx_name, is_jsx_string, is_jsx_text}
 use Rattle.swc_ecma_codegen_grammar.specs.LongestMatch.{IsLongest, Stands, goes_on, is_numeric_kind, openers}
@@ -368,7 +368,7 @@ longest_hashbang x t rest g s n a =
     (λ k. absurd (n k))
 
 -- the longest match of each kind of token
-pub longest : (k : Last) (x : Kind) (t rest : List ℕ) → has_shape x t ≡ true → Ready (last_after k x t) rest → IsLongest (token_of x t) t rest
+pub longest : (k : PreviousToken) (x : Kind) (t rest : List ℕ) → has_shape x t ≡ true → Ready (last_after k x t) rest → IsLongest (token_of x t) t rest
 unfolding last_after goal sort is_numeric_kind allows
 longest k Word t rest s r = longest_name Word t rest refl refl s r.apart
 longest k Name t rest s r = longest_name Name t rest refl refl s r.apart

@@ -5,7 +5,7 @@ use Rattle.swc_ecma_codegen_grammar.proofs.Conditions.{at_eq}
 use Rattle.swc_ecma_codegen_grammar.proofs.Marks.{choice_alone, opener_cases}
 use Rattle.swc_ecma_codegen_grammar.proofs.Tables.{among_begins, eq_of_same}
 use Rattle.swc_ecma_codegen_grammar.specs.Chars.{begins_digit}
-use Rattle.swc_ecma_codegen_grammar.specs.GapRules.{Apart, IntegerEnd, Last, LessBang, LineEnd, Mark, Ready, Start, TagNameEnd, TextEnd, Whole, WordEnd, allows, fuses, grows, is_choice, mark_after, mark_fuses}
+use Rattle.swc_ecma_codegen_grammar.specs.GapRules.{Separated, IntegerEnd, PreviousToken, LessBang, LineEnd, Mark, Ready, Start, TagNameEnd, TextEnd, Whole, WordEnd, allows, fuses, grows, is_choice, mark_after, mark_fuses}
 use Rattle.swc_ecma_codegen_grammar.specs.LongestMatch.{openers}
 use Rattle.swc_ecma_codegen_grammar.specs.Punctuators.{punctuators}
 use Rattle.swc_ecma_codegen_grammar.specs.Texts.{begins, is_among, is_same, some_begins}
@@ -104,9 +104,9 @@ mark_case : (b : Bool) (p rest : List ℕ) → (b ≡ true → p ≡ codes "!") 
 mark_case false p rest e r = r
 mark_case true p rest e r = subst (λ z. Ready (Mark z) rest) (sym (e refl)) (mark_bang rest r)
 
-pub mark_ready : (k : Last) (p rest : List ℕ) → Ready (mark_after k p) rest → Ready (Mark p) rest
+pub mark_ready : (k : PreviousToken) (p rest : List ℕ) → Ready (mark_after k p) rest → Ready (Mark p) rest
 unfolding mark_after
-mark_ready Apart p rest r = r
+mark_ready Separated p rest r = r
 mark_ready Start p rest r = r
 mark_ready WordEnd p rest r = r
 mark_ready IntegerEnd p rest r = r

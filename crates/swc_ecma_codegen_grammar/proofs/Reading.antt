@@ -10,7 +10,7 @@ use Rattle.swc_ecma_codegen_grammar.proofs.NameShapes.{starts_name}
 use Rattle.swc_ecma_codegen_grammar.proofs.RegexShapes.{regex_head}
 use Rattle.swc_ecma_codegen_grammar.proofs.Tables.{blank_ne}
 use Rattle.swc_ecma_codegen_grammar.specs.Chars.{begins_digit, is_blank, is_digit, is_letter, is_part, is_quote, is_start, is_one_line, is_line_end}
-use Rattle.swc_ecma_codegen_grammar.specs.GapRules.{Apart, IntegerEnd, Last, LessBang, LineEnd, Mark, MayBegin, Ready, Start, TagNameEnd, TextEnd, Whole, WordEnd, allows, ends_line, ends_text, fuses, grows, holds_child, is_choice, last_after, last_after_gap, mark_after, mark_fuses}
+use Rattle.swc_ecma_codegen_grammar.specs.GapRules.{Separated, IntegerEnd, PreviousToken, LessBang, LineEnd, Mark, MayBegin, Ready, Start, TagNameEnd, TextEnd, Whole, WordEnd, allows, ends_line, ends_text, fuses, grows, holds_child, is_choice, last_after, last_after_gap, mark_after, mark_fuses}
 use Rattle.swc_ecma_codegen_grammar.specs.Numbers.{takes_dot}
 use Rattle.swc_ecma_codegen_grammar.specs.Parts.{Gap, NoneFuse, Own, Part, remarks_in, text_of, tokens_of, Joint, OfLine, OnLine, PastLine, AtJoint, Broken, walk, over_own, over_gap, over_joint, is_broken, KeepsLines}
 use Rattle.swc_ecma_codegen_grammar.specs.Punctuators.{punctuators}
@@ -96,15 +96,15 @@ reads_gap first joined f ps text (x ∷ xs) cs h n o (inr r) = inr (
   ap (λ z. remarks_of ps ++ z) r.12 ∙ sym (append_assoc (remarks_of ps) r.3 r.4),
 )
 
-apart_stays : (ps : List Piece) → last_after_gap Apart ps ≡ Apart
+apart_stays : (ps : List Piece) → last_after_gap Separated ps ≡ Separated
 unfolding last_after_gap
 apart_stays [] = refl
 apart_stays (p ∷ ps) = refl
 
-apart_is_no_start : Apart ≡ Start → ⊥
+apart_is_no_start : Separated ≡ Start → ⊥
 apart_is_no_start e = cc
 
-none_apart : (x : Kind) → MayBegin Apart x → is_close_by x ≡ true → ⊥
+none_apart : (x : Kind) → MayBegin Separated x → is_close_by x ≡ true → ⊥
 unfolding is_close_by holds_child
 none_apart x b e =
     elim (or_cases (is_child x) (is_hashbang_kind x) e) [
@@ -120,7 +120,7 @@ kind_same : (x : Token) → x ≡ same_line → x.kind ≡ SameLine
 unfolding same_line
 kind_same x e = ap (λ (z : Token). z.kind) e
 
-none_close_by : (xs : List Part) → NoneFuse Apart xs → NoneCloseBy (tokens_of xs)
+none_close_by : (xs : List Part) → NoneFuse Separated xs → NoneCloseBy (tokens_of xs)
 unfolding NoneCloseBy tokens_of NoneFuse token_of
 none_close_by [] h = tt
 none_close_by (Joint ∷ xs) h = (joint_apart, λ e. none_close_by xs h)
@@ -139,10 +139,10 @@ blank_mark t c n h =
     (or_from _ _ (and_right _ _ (blank_ne (λ c. c == 62) c h refl refl refl refl))
     (and_right _ _ (blank_ne (λ c. (c == 47) || (c == 42)) c h refl refl refl refl))))
 
-pub blank_fuses : (k : Last) (c : ℕ) (n : List ℕ) → is_blank c ≡ true → fuses k (c ∷ n) ≡ false
+pub blank_fuses : (k : PreviousToken) (c : ℕ) (n : List ℕ) → is_blank c ≡ true → fuses k (c ∷ n) ≡ false
 unfolding fuses begins is_part is_letter is_digit
 blank_fuses Start c n h = refl
-blank_fuses Apart c n h = refl
+blank_fuses Separated c n h = refl
 blank_fuses WordEnd c n h = blank_ne (λ c. is_part c || (c == 92)) c h refl refl refl refl
 blank_fuses IntegerEnd c n h = blank_ne (λ c. (is_part c || (c == 92)) || (c == 46)) c h refl refl refl refl
 blank_fuses (Mark t) c n h = blank_mark t c n h
@@ -210,7 +210,7 @@ close_apart : (c : ℕ) (cs t rest : List ℕ) → (c == 62) ≡ false → t ≡
 close_apart c cs t rest f e = subst (λ z. begins (c ∷ cs) (z ++ rest) ≡ false) (sym e) (dashes_ne c 62 cs rest f)
 
 -- what is said of a token is said of what it begins
-token_apart : (c : ℕ) (cs : List ℕ) (x : Kind) (t rest : List ℕ) → is_plain c ≡ false → (c == 47) ≡ false → (c == 62) ≡ false → Head x t → (x ≡ JsxText → ⊥) → (is_among t punctuators ≡ true → ((k : Last) → last_after k x t ≡ mark_after k t) → begins (c ∷ cs) (t ++ rest) ≡ false) → begins (c ∷ cs) (t ++ rest) ≡ false
+token_apart : (c : ℕ) (cs : List ℕ) (x : Kind) (t rest : List ℕ) → is_plain c ≡ false → (c == 47) ≡ false → (c == 62) ≡ false → Head x t → (x ≡ JsxText → ⊥) → (is_among t punctuators ≡ true → ((k : PreviousToken) → last_after k x t ≡ mark_after k t) → begins (c ∷ cs) (t ++ rest) ≡ false) → begins (c ∷ cs) (t ++ rest) ≡ false
 token_apart c cs x t rest f a b (Plain h) n m = plain_apart c cs t rest f h
 token_apart c cs x t rest f a b (AsMark h e) n m = m h e
 token_apart c cs x t rest f a b (AsRegex h) n m = regex_apart c cs t rest a h
@@ -226,7 +226,7 @@ unfolding is_plain starts_name is_start is_letter is_digit is_quote
 plain_33 = refl
 
 -- text between tags begins nowhere else
-no_text : (k : Last) (x : Kind) → holds_child k ≡ false → MayBegin k x → x ≡ JsxText → ⊥
+no_text : (k : PreviousToken) (x : Kind) → holds_child k ≡ false → MayBegin k x → x ≡ JsxText → ⊥
 unfolding is_child
 no_text k x h b e = true≢false (sym (b.child (ap is_child e)) ∙ h)
 
@@ -254,10 +254,10 @@ bangs x t rest h b r =
     (λ p e. false_from_ne_true _ (bang_mark t rest p (less_bang rest t (subst (λ k. Ready k rest) (e (Mark (codes "<"))) r))))
 
 -- nothing more becomes one where the beginning doesn't
-more_fuses : (k : Last) (c : ℕ) (n rest : List ℕ) → fuses k (c ∷ n) ≡ false → (k ≡ LessBang → begins (codes "--") (c ∷ (n ++ rest)) ≡ false) → fuses k (c ∷ (n ++ rest)) ≡ false
+more_fuses : (k : PreviousToken) (c : ℕ) (n rest : List ℕ) → fuses k (c ∷ n) ≡ false → (k ≡ LessBang → begins (codes "--") (c ∷ (n ++ rest)) ≡ false) → fuses k (c ∷ (n ++ rest)) ≡ false
 unfolding fuses
 more_fuses Start c n rest f h = refl
-more_fuses Apart c n rest f h = refl
+more_fuses Separated c n rest f h = refl
 more_fuses WordEnd c n rest f h = f
 more_fuses IntegerEnd c n rest f h = f
 more_fuses (Mark m) c n rest f h = more_mark m c n rest f
@@ -271,10 +271,10 @@ not_dashes : (c : ℕ) (n : List ℕ) → fuses LessBang (c ∷ n) ≡ false →
 unfolding fuses
 not_dashes c n f = (or_parts (mark_fuses (codes "!") c n) _ f).1
 
-allows_more : (k : Last) (c : ℕ) (n rest : List ℕ) → allows k (c ∷ n) ≡ true → allows k (c ∷ (n ++ rest)) ≡ true
+allows_more : (k : PreviousToken) (c : ℕ) (n rest : List ℕ) → allows k (c ∷ n) ≡ true → allows k (c ∷ (n ++ rest)) ≡ true
 unfolding allows ends_text ends_line begins
 allows_more Start c n rest h = refl
-allows_more Apart c n rest h = refl
+allows_more Separated c n rest h = refl
 allows_more WordEnd c n rest h = refl
 allows_more IntegerEnd c n rest h = refl
 allows_more (Mark m) c n rest h = refl
@@ -284,7 +284,7 @@ allows_more TextEnd c n rest h = h
 allows_more TagNameEnd c n rest h = h
 allows_more LineEnd c n rest h = h
 
-own_ready : (k : Last) (x : Kind) (t rest : List ℕ) → has_shape x t ≡ true → fuses k t ≡ false → MayBegin k x → allows k t ≡ true → Ready (last_after k x t) rest → Ready k (t ++ rest)
+own_ready : (k : PreviousToken) (x : Kind) (t rest : List ℕ) → has_shape x t ≡ true → fuses k t ≡ false → MayBegin k x → allows k t ≡ true → Ready (last_after k x t) rest → Ready k (t ++ rest)
 own_ready k x [] rest s f b g r = absurd (some_text x s)
 own_ready k x (c ∷ n) rest s f b g r = record {
   apart = more_fuses k c n rest f (λ e. dashes x (c ∷ n) rest s (subst (λ z. MayBegin z x) e b) (not_dashes c n (subst (λ z. fuses z (c ∷ n) ≡ false) e f)) (subst (λ z. Ready (last_after z x (c ∷ n)) rest) e r));
@@ -302,7 +302,7 @@ gap_begins (Blank c) ps h = gap_head c (pieces_text ps) refl (blank_ne (λ c. 45
 gap_begins (BlockOf t) ps h = gap_head 47 (42 ∷ ((t ++ codes "*/") ++ pieces_text ps)) refl refl refl
 gap_begins (LineOf t c) ps h = gap_head 47 (47 ∷ ((t ++ c ∷ []) ++ pieces_text ps)) refl refl refl
 
-gap_ready_at : (k : Last) (t rest : List ℕ) → GapHead t → fuses k t ≡ false → allows k t ≡ true → Ready k (t ++ rest)
+gap_ready_at : (k : PreviousToken) (t rest : List ℕ) → GapHead t → fuses k t ≡ false → allows k t ≡ true → Ready k (t ++ rest)
 gap_ready_at k t rest (gap_head c n e a b) f g =
     subst (λ z. Ready k (z ++ rest)) (sym e) (record {
       apart = more_fuses k c n rest (subst (λ z. fuses k z ≡ false) e f) (λ x. dashes_ne 45 c (codes "-") (n ++ rest) a);
@@ -314,15 +314,15 @@ nothing_begins : (c : ℕ) (cs : List ℕ) → begins (c ∷ cs) [] ≡ false
 unfolding begins
 nothing_begins c cs = refl
 
-nothing_fuses : (k : Last) → fuses k [] ≡ false
+nothing_fuses : (k : PreviousToken) → fuses k [] ≡ false
 unfolding fuses
 nothing_fuses k = refl
 
-no_gap : (k : Last) (xs : List Part) → NoneFuse (last_after_gap k []) xs → NoneFuse k xs
+no_gap : (k : PreviousToken) (xs : List Part) → NoneFuse (last_after_gap k []) xs → NoneFuse k xs
 unfolding last_after_gap
 no_gap k xs h = h
 
-after_gap : (k : Last) (p : Piece) (ps : List Piece) (xs : List Part) → NoneFuse (last_after_gap k (p ∷ ps)) xs → NoneFuse Apart xs
+after_gap : (k : PreviousToken) (p : Piece) (ps : List Piece) (xs : List Part) → NoneFuse (last_after_gap k (p ∷ ps)) xs → NoneFuse Separated xs
 unfolding last_after_gap
 after_gap k p ps xs h = h
 
@@ -330,7 +330,7 @@ no_line : (w : OfLine) (xs : List Part) → is_broken (walk w (Gap [] ∷ xs)) �
 unfolding walk over_gap is_one_line pieces_text
 no_line w xs h = h
 
-ready_past : (k : Last) (t : List ℕ) → Ready k t → Ready k (pieces_text [] ++ t)
+ready_past : (k : PreviousToken) (t : List ℕ) → Ready k t → Ready k (pieces_text [] ++ t)
 unfolding pieces_text
 ready_past k t h = h
 
@@ -343,7 +343,7 @@ unfolding all_pieces
 piece_first p ps h = (and_parts (is_piece p) (all_pieces ps) h).0
 
 -- the text of parts doesn't become one with what comes before
-pub ready : (k : Last) (xs : List Part) → NoneFuse k xs → Ready k (text_of xs)
+pub ready : (k : PreviousToken) (xs : List Part) → NoneFuse k xs → Ready k (text_of xs)
 unfolding NoneFuse text_of
 ready k [] h = record { apart = nothing_fuses k; no_html = λ e. nothing_begins 33 (codes "--"); allowed = h }
 ready k (Gap [] ∷ xs) h = ready_past k (text_of xs) (ready k xs (no_gap k xs h.3))
@@ -352,14 +352,14 @@ ready k (Joint ∷ xs) h = ready k xs h
 ready k (Own x t ∷ xs) h = own_ready k x t (text_of xs) h.0 h.1 h.2 h.3 (ready (last_after k x t) xs h.4)
 
 -- nothing was written yet
-unfoldable pub is_start_of : Last → Bool
+unfoldable pub is_start_of : PreviousToken → Bool
 is_start_of Start = true
 is_start_of k = false
 
-mark_no_start : (k : Last) (t : List ℕ) → is_start_of (mark_after k t) ≡ false
+mark_no_start : (k : PreviousToken) (t : List ℕ) → is_start_of (mark_after k t) ≡ false
 unfolding mark_after is_start_of
 mark_no_start Start t = refl
-mark_no_start Apart t = refl
+mark_no_start Separated t = refl
 mark_no_start WordEnd t = refl
 mark_no_start IntegerEnd t = refl
 mark_no_start LessBang t = refl
@@ -378,7 +378,7 @@ unfolding is_start_of
 number_no_start true = refl
 number_no_start false = refl
 
-no_start : (k : Last) (x : Kind) (t : List ℕ) → is_start_of (last_after k x t) ≡ false
+no_start : (k : PreviousToken) (x : Kind) (t : List ℕ) → is_start_of (last_after k x t) ≡ false
 unfolding last_after is_start_of
 no_start k Punctuator t = mark_no_start k t
 no_start k Ending t = mark_no_start k t
@@ -399,7 +399,7 @@ no_start k JsxText t = refl
 no_start k Hashbang t = refl
 no_start k SameLine t = refl
 
-first_start : (k : Last) → k ≡ Start → is_start_of k ≡ true
+first_start : (k : PreviousToken) → k ≡ Start → is_start_of k ≡ true
 unfolding is_start_of
 first_start k e = subst (λ z. is_start_of z ≡ true) (sym e) refl
 
@@ -453,7 +453,7 @@ own_leads SameLine t l s = same_line_unspelled t s
 own_leads x t l s = true≢false (sym l)
 
 -- past the end of a line nothing is joined
-past_leads : (k : Last) (xs : List Part) → NoneFuse k xs → leads_same (tokens_of xs) ≡ true → is_broken (walk PastLine xs) ≡ true
+past_leads : (k : PreviousToken) (xs : List Part) → NoneFuse k xs → leads_same (tokens_of xs) ≡ true → is_broken (walk PastLine xs) ≡ true
 unfolding NoneFuse leads_same tokens_of walk over_joint token_of
 past_leads k [] h l = absurd (true≢false (sym l))
 past_leads k (Gap ps ∷ xs) h l = subst (λ w. is_broken (walk w xs) ≡ true) (sym (past_gap (is_one_line (pieces_text ps)))) (past_leads (last_after_gap k ps) xs h.3 l)
@@ -461,7 +461,7 @@ past_leads k (Own x t ∷ xs) h l = absurd (own_leads x t l h.0)
 past_leads k (Joint ∷ xs) h l = broken_stays xs
 
 -- so a gap before what is joined holds no line terminator
-one_line_due : (o : Bool) (w : OfLine) (k : Last) (xs : List Part) → NoneFuse k xs → is_broken (walk (over_gap o w) xs) ≡ false → (is_joint w || leads_same (tokens_of xs)) ≡ true → o ≡ true
+one_line_due : (o : Bool) (w : OfLine) (k : PreviousToken) (xs : List Part) → NoneFuse k xs → is_broken (walk (over_gap o w) xs) ≡ false → (is_joint w || leads_same (tokens_of xs)) ≡ true → o ≡ true
 unfolding is_joint over_gap
 one_line_due true w k xs n h l = refl
 one_line_due false OnLine k xs n h l = absurd (true≢false (sym (past_leads k xs n l) ∙ h))
@@ -470,15 +470,15 @@ one_line_due false AtJoint k xs n h l = absurd (true≢false (sym (broken_stays 
 one_line_due false Broken k xs n h l = absurd (true≢false (sym (broken_stays xs) ∙ h))
 
 -- a text in which no two tokens become one, and no line ends where none may, reads as its tokens
-pub reads_on : (k : Last) (w : OfLine) (xs : List Part) → NoneFuse k xs → is_broken (walk w xs) ≡ false → ReadsOn (is_start_of k) (is_joint w) (text_of xs) (tokens_of xs) (remarks_in xs)
+pub reads_on : (k : PreviousToken) (w : OfLine) (xs : List Part) → NoneFuse k xs → is_broken (walk w xs) ≡ false → ReadsOn (is_start_of k) (is_joint w) (text_of xs) (tokens_of xs) (remarks_in xs)
 unfolding ReadsOn NoneFuse text_of tokens_of remarks_in token_of walk over_gap is_one_line
 reads_on k w [] h b = no_trivia
 reads_on k w (Gap [] ∷ xs) h b = reads_past (is_start_of k) (is_joint w) (text_of xs) (tokens_of xs) (remarks_in xs) (reads_on k w xs (no_gap k xs h.3) (no_line w xs b))
 reads_on k w (Gap (p ∷ ps) ∷ xs) h b =
     let n = after_gap k p ps xs h.3 in
     let o : Bool = is_one_line (pieces_text (p ∷ ps)) in
-    reads_gap (is_start_of k) (is_joint w) (is_start_of Apart) (p ∷ ps) (text_of xs) (tokens_of xs) (remarks_in xs) h.0 (none_close_by xs n) (one_line_due o w Apart xs n b)
-    (subst (λ j. ReadsOn (is_start_of Apart) j (text_of xs) (tokens_of xs) (remarks_in xs)) (gap_joint o w xs b) (reads_on Apart (over_gap o w) xs n b))
+    reads_gap (is_start_of k) (is_joint w) (is_start_of Separated) (p ∷ ps) (text_of xs) (tokens_of xs) (remarks_in xs) h.0 (none_close_by xs n) (one_line_due o w Separated xs n b)
+    (subst (λ j. ReadsOn (is_start_of Separated) j (text_of xs) (tokens_of xs) (remarks_in xs)) (gap_joint o w xs b) (reads_on Separated (over_gap o w) xs n b))
 reads_on k w (Joint ∷ xs) h b = inl (refl, subst (λ j. ReadsOn (is_start_of k) j (text_of xs) (tokens_of xs) (remarks_in xs)) (joint_joint w xs b) (reads_on k (over_joint w) xs h b))
 reads_on k w (Own x t ∷ xs) h b =
     let next = last_after k x t in inr (

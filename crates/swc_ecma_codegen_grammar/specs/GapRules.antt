@@ -10,27 +10,27 @@ use Rattle.swc_ecma_codegen_grammar.specs.Trivia.{Piece}
 use Rattle.swc_ecma_codegen_grammar.specs.Reads.{is_child, is_hashbang_kind}
 
 -- what was written last
-pub data Last : Type 0 where
+pub data PreviousToken : Type 0 where
   -- nothing yet
-  Start : Last
+  Start : PreviousToken
   -- a blank, a line end or a comment
-  Apart : Last
+  Separated : PreviousToken
   -- a word, a name, a number or a regular expression
-  WordEnd : Last
+  WordEnd : PreviousToken
   -- a number that a dot would belong to
-  IntegerEnd : Last
+  IntegerEnd : PreviousToken
   -- a punctuator
-  Mark : (spelling : List ℕ) → Last
+  Mark : (spelling : List ℕ) → PreviousToken
   -- `!` right after `<`
-  LessBang : Last
+  LessBang : PreviousToken
   -- a token that ends by itself
-  Whole : Last
+  Whole : PreviousToken
   -- text between tags
-  TextEnd : Last
+  TextEnd : PreviousToken
   -- a name in a tag
-  TagNameEnd : Last
+  TagNameEnd : PreviousToken
   -- a hashbang
-  LineEnd : Last
+  LineEnd : PreviousToken
 
 -- a longer punctuator begins with t and c
 unfoldable pub grows : List ℕ → ℕ → Bool
@@ -50,10 +50,10 @@ mark_fuses t c n =
     || (is_same t (codes "/") && ((c == 47) || (c == 42)))))
 
 -- The last token and the next text become another token, or a comment.
-unfoldable pub fuses : Last → List ℕ → Bool
+unfoldable pub fuses : PreviousToken → List ℕ → Bool
 fuses last [] = false
 fuses Start (c ∷ n) = false
-fuses Apart (c ∷ n) = false
+fuses Separated (c ∷ n) = false
 fuses WordEnd (c ∷ n) = is_part c || (c == 92)
 fuses IntegerEnd (c ∷ n) = (is_part c || (c == 92)) || (c == 46)
 fuses (Mark t) (c ∷ n) = mark_fuses t c n
@@ -75,19 +75,19 @@ ends_line (c ∷ n) = is_line_end c
 
 -- What must follow, and no blank may help: text between tags is followed by `{` or `<`, a name in a tag by no dash, a
 -- hashbang by a line end.
-unfoldable pub allows : Last → List ℕ → Bool
+unfoldable pub allows : PreviousToken → List ℕ → Bool
 allows TextEnd t = ends_text t
 allows TagNameEnd t = not (begins (codes "-") t)
 allows LineEnd t = ends_line t
 allows last t = true
 
 -- the last token after a punctuator
-unfoldable pub mark_after : Last → List ℕ → Last
+unfoldable pub mark_after : PreviousToken → List ℕ → PreviousToken
 mark_after (Mark t) p = if is_same t (codes "<") && is_same p (codes "!") then LessBang else Mark p
 mark_after last p = Mark p
 
 -- the last token after one that nothing parts from the one before
-unfoldable pub last_after : Last → Kind → List ℕ → Last
+unfoldable pub last_after : PreviousToken → Kind → List ℕ → PreviousToken
 last_after last Word t = WordEnd
 last_after last Name t = WordEnd
 last_after last PrivateName t = WordEnd
@@ -105,27 +105,27 @@ last_after last JsxString t = Whole
 last_after last JsxText t = TextEnd
 last_after last JsxOpen t = mark_after last t
 last_after last Hashbang t = LineEnd
-last_after last SameLine t = Apart
+last_after last SameLine t = Separated
 
-unfoldable pub last_after_gap : Last → List Piece → Last
+unfoldable pub last_after_gap : PreviousToken → List Piece → PreviousToken
 last_after_gap last [] = last
-last_after_gap last (p ∷ ps) = Apart
+last_after_gap last (p ∷ ps) = Separated
 
 -- a child of JSX stands right after the end of a tag or of a container, or after text
-unfoldable pub holds_child : Last → Bool
+unfoldable pub holds_child : PreviousToken → Bool
 holds_child Whole = true
 holds_child TextEnd = true
 holds_child (Mark t) = is_same t (codes "}")
 holds_child last = false
 
 -- where a token of a kind may begin: a child of JSX as said, a hashbang first of all
-pub record MayBegin (last : Last) (kind : Kind) : Type 0 where
+pub record MayBegin (last : PreviousToken) (kind : Kind) : Type 0 where
   pub child : is_child kind ≡ true → holds_child last ≡ true
   pub first : is_hashbang_kind kind ≡ true → last ≡ Start
 
 -- What follows doesn't become one with the last token, an HTML-like comment doesn't begin with `<`, and what must follow
 -- does.
-pub record Ready (last : Last) (rest : List ℕ) : Type 0 where
+pub record Ready (last : PreviousToken) (rest : List ℕ) : Type 0 where
   pub apart : fuses last rest ≡ false
   pub no_html : last ≡ Mark (codes "<") → begins (codes "!--") rest ≡ false
   pub allowed : allows last rest ≡ true

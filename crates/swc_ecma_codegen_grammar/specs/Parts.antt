@@ -7,7 +7,7 @@ use Rattle.swc_ecma_codegen_grammar.specs.Texts.{is_same, begins}
 use Rattle.swc_ecma_codegen_grammar.specs.Tokens.{Token, token_of, has_shape, same_line}
 use Rattle.swc_ecma_codegen_grammar.specs.Trivia.{Remark, Piece, Blank, all_pieces, pieces_text, remarks_of}
 use Rattle.swc_ecma_codegen_grammar.specs.Reads.{is_child, is_hashbang_kind}
-use Rattle.swc_ecma_codegen_grammar.specs.GapRules.{Last, Apart, fuses, allows, ends_text, ends_line, last_after, last_after_gap, MayBegin}
+use Rattle.swc_ecma_codegen_grammar.specs.GapRules.{PreviousToken, Separated, fuses, allows, ends_text, ends_line, last_after, last_after_gap, MayBegin}
 
 -- a token of a kind as it is spelled, what stands between, or `[no LineTerminator here]`, which is no text
 pub data Part : Type 0 where
@@ -34,7 +34,7 @@ remarks_in (Own x t ∷ xs) = remarks_in xs
 remarks_in (Joint ∷ xs) = remarks_in xs
 
 -- Each token has its shape, closed comments and blanks stand between, and no two become one.
-unfoldable pub NoneFuse : Last → List Part → Type 0
+unfoldable pub NoneFuse : PreviousToken → List Part → Type 0
 NoneFuse k [] = allows k [] ≡ true
 NoneFuse k (Gap ps ∷ xs) = (all_pieces ps ≡ true) × (fuses k (pieces_text ps) ≡ false) × (allows k (pieces_text ps) ≡ true) × NoneFuse (last_after_gap k ps) xs
 NoneFuse k (Own x t ∷ xs) = (has_shape x t ≡ true) × (fuses k t ≡ false) × MayBegin k x × (allows k t ≡ true) × NoneFuse (last_after k x t) xs
@@ -120,10 +120,10 @@ AllSpelled b (Own x t ∷ xs) =
 AllSpelled b (Joint ∷ xs) = AllSpelled b xs
 
 -- The second pass: one blank exactly where a token or a comment would become one with what stands before it.
-unfoldable pub spaced : Last → List Part → List Part
+unfoldable pub spaced : PreviousToken → List Part → List Part
 spaced k [] = []
-spaced k (Gap ps ∷ xs) = if fuses k (pieces_text ps) then Gap (Blank 32 ∷ []) ∷ Gap ps ∷ spaced (last_after_gap Apart ps) xs else (Gap ps ∷ spaced (last_after_gap k ps) xs)
-spaced k (Own x t ∷ xs) = if fuses k t then Gap (Blank 32 ∷ []) ∷ Own x t ∷ spaced (last_after Apart x t) xs else (Own x t ∷ spaced (last_after k x t) xs)
+spaced k (Gap ps ∷ xs) = if fuses k (pieces_text ps) then Gap (Blank 32 ∷ []) ∷ Gap ps ∷ spaced (last_after_gap Separated ps) xs else (Gap ps ∷ spaced (last_after_gap k ps) xs)
+spaced k (Own x t ∷ xs) = if fuses k t then Gap (Blank 32 ∷ []) ∷ Own x t ∷ spaced (last_after Separated x t) xs else (Own x t ∷ spaced (last_after k x t) xs)
 spaced k (Joint ∷ xs) = Joint ∷ spaced k xs
 
 -- what a dropped semicolon may stand before: nothing more, or `;`, or a token that begins with `}`

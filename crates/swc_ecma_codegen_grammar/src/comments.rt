@@ -67,7 +67,8 @@ impl CommentMaps {
     #[tactic(auto, unfolding(crate::specs::CommentMaps::lists_in))]
     pub fn new(alloc: Global) -> CommentMaps
         ensures leading { (pos : ℕ) → (⟦<CommentMaps as Comments>⟧.maps result).leading pos ≡ None }
-        ensures trailing { (pos : ℕ) → (⟦<CommentMaps as Comments>⟧.maps result).trailing pos ≡ None }
+        ensures trailing { (pos : ℕ) → (⟦<CommentMaps as Comments>⟧.maps result).trailing pos
+            ≡ None }
     {
         CommentMaps {
             alloc,
@@ -80,8 +81,10 @@ impl CommentMaps {
     /// drops the comment.
     #[tactic(auto, unfolding(crate::specs::CommentMaps::with_leading))]
     pub fn add_leading(&mut self, pos: BytePos, comment: Comment) -> Result
-        ensures added { OnOk result (⟦<CommentMaps as Comments>⟧.maps self.new ≡ with_leading pos.0 comment (⟦<CommentMaps as Comments>⟧.maps self.old)) }
-        ensures unchanged { OnErr result (⟦<CommentMaps as Comments>⟧.maps self.new ≡ ⟦<CommentMaps as Comments>⟧.maps self.old) }
+        ensures added { OnOk result (⟦<CommentMaps as Comments>⟧.maps self.new
+            ≡ with_leading pos.0 comment (⟦<CommentMaps as Comments>⟧.maps self.old)) }
+        ensures unchanged { OnErr result (⟦<CommentMaps as Comments>⟧.maps self.new
+            ≡ ⟦<CommentMaps as Comments>⟧.maps self.old) }
         ensures no_memory { IfErr result (λ error. error ≡ OutOfMemory) }
     {
         match add(self.alloc, &mut self.leading, pos, comment) {
@@ -94,8 +97,10 @@ impl CommentMaps {
     /// drops the comment.
     #[tactic(auto, unfolding(crate::specs::CommentMaps::with_trailing))]
     pub fn add_trailing(&mut self, pos: BytePos, comment: Comment) -> Result
-        ensures added { OnOk result (⟦<CommentMaps as Comments>⟧.maps self.new ≡ with_trailing pos.0 comment (⟦<CommentMaps as Comments>⟧.maps self.old)) }
-        ensures unchanged { OnErr result (⟦<CommentMaps as Comments>⟧.maps self.new ≡ ⟦<CommentMaps as Comments>⟧.maps self.old) }
+        ensures added { OnOk result (⟦<CommentMaps as Comments>⟧.maps self.new
+            ≡ with_trailing pos.0 comment (⟦<CommentMaps as Comments>⟧.maps self.old)) }
+        ensures unchanged { OnErr result (⟦<CommentMaps as Comments>⟧.maps self.new
+            ≡ ⟦<CommentMaps as Comments>⟧.maps self.old) }
         ensures no_memory { IfErr result (λ error. error ≡ OutOfMemory) }
     {
         match add(self.alloc, &mut self.trailing, pos, comment) {
@@ -112,8 +117,10 @@ fn add(
     pos: BytePos,
     comment: Comment,
 ) -> std::result::Result<(), AllocError>
-    ensures added { OnOk result (lists_in ⟦<BytePos as Ord>⟧.cmp lists.new ≡ with pos.0 comment (lists_in ⟦<BytePos as Ord>⟧.cmp lists.old)) }
-    ensures unchanged { OnErr result (lists_in ⟦<BytePos as Ord>⟧.cmp lists.new ≡ lists_in ⟦<BytePos as Ord>⟧.cmp lists.old) }
+    ensures added { OnOk result (lists_in ⟦<BytePos as Ord>⟧.cmp lists.new
+        ≡ with pos.0 comment (lists_in ⟦<BytePos as Ord>⟧.cmp lists.old)) }
+    ensures unchanged { OnErr result (lists_in ⟦<BytePos as Ord>⟧.cmp lists.new
+        ≡ lists_in ⟦<BytePos as Ord>⟧.cmp lists.old) }
 {
     match lists.get_mut(&pos) {
         Some(list) => {
@@ -131,8 +138,10 @@ fn add(
 /// The list at `pos`, taken out.
 #[tactic(auto, unfolding(crate::specs::CommentMaps::lists_in))]
 fn take(lists: &mut BTreeMap<BytePos, Vec<Comment>>, pos: BytePos) -> Option<Vec<Comment>>
-    ensures taken { option_map (λ list. list.items) result ≡ lists_in ⟦<BytePos as Ord>⟧.cmp lists.old pos.0 }
-    ensures removed { lists_in ⟦<BytePos as Ord>⟧.cmp lists.new ≡ without pos.0 (lists_in ⟦<BytePos as Ord>⟧.cmp lists.old) }
+    ensures taken { option_map (λ list. list.items) result
+        ≡ lists_in ⟦<BytePos as Ord>⟧.cmp lists.old pos.0 }
+    ensures removed { lists_in ⟦<BytePos as Ord>⟧.cmp lists.new
+        ≡ without pos.0 (lists_in ⟦<BytePos as Ord>⟧.cmp lists.old) }
 {
     lists.remove(&pos)
 }

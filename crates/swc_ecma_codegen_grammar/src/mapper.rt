@@ -22,7 +22,8 @@ pub trait SourceMapper {
         alloc: Global,
         span: Span,
     ) -> std::result::Result<Option<String>, Error>
-        ensures answer { IfOk result (λ text. option_map string_bytes text ≡ (lines self.now).snippet span) }
+        ensures answer { IfOk result (λ text. option_map string_bytes text
+            ≡ (lines self.now).snippet span) }
         ensures refused { IfErr result (λ error. error ≡ OutOfMemory) };
 }
 

@@ -156,7 +156,8 @@ fn push_rest(
 ) -> Result<bool, AllocError>
     requires { names.IsSmall place }
     ensures name { IfOk result (λ is_rest. is_rest ≡ names.name_rest first place text.now) }
-    ensures found { IfOk result (λ is_rest. is_rest ≡ true → found.new.items ≡ found.old.items ++ names.name_characters place text.now) }
+    ensures found { IfOk result (λ is_rest. is_rest ≡ true →
+        found.new.items ≡ found.old.items ++ names.name_characters place text.now) }
 {
     let [c, rest @ ..] = text else {
         return Ok(matches!(place, Place::Between) && !first);
@@ -176,7 +177,8 @@ fn push_rest(
 #[tactic(auto, unfolding(crate::specs::Names::is_name, crate::specs::Names::name_value, crate::specs::Names::IsSmall))]
 pub fn name_value(alloc: Global, text: &[char]) -> Result<Option<Vec<char>>, AllocError>
     ensures name { IfOk result (λ value. is_some value ≡ names.is_name text.now) }
-    ensures value { IfOk result (λ value. IfSome value (λ characters. characters.items ≡ names.name_value text.now)) }
+    ensures value { IfOk result (λ value.
+        IfSome value (λ characters. characters.items ≡ names.name_value text.now)) }
 {
     let mut found = Vec::new(alloc);
     Ok(push_rest(&mut found, true, Place::Between, text)?.then_some(found))

@@ -23,7 +23,8 @@ pub struct HeldNumber {
 /// The value of a decimal digit.
 #[tactic(auto, unfolding(crate::specs::Chars::is_digit))]
 fn decimal_digit(c: char) -> Option<u128>
-    ensures digit { IfSome result (λ digit. (chars.is_digit c ≡ true) × (digit ≡ digit_value c) × (digit < 10)) }
+    ensures digit { IfSome result (λ digit. (chars.is_digit c ≡ true) × (digit ≡ digit_value c)
+        × (digit < 10)) }
     ensures none { IfNone result (chars.is_digit c ≡ false) }
 {
     Some(c.to_digit(10)? as u128)
@@ -56,8 +57,10 @@ fn digits_after(radix: u128, n: u128, text: &[char]) -> Option<u128>
 /// What stands after `e`, of a number of so many decimal places.
 #[tactic(auto, unfolding(crate::specs::NumberValues::exponent_value, crate::specs::NumberValues::over_ten))]
 fn exponent_value(whole: u128, places: u128, text: &[char]) -> Option<HeldNumber>
-    ensures value { IfSome result (λ value. IsHeld value (values.exponent_value whole places text.now)) }
-    ensures none { IfNone result (2 ^ 128 ≤ largest_part (values.exponent_value whole places text.now)) }
+    ensures value { IfSome result (λ value.
+        IsHeld value (values.exponent_value whole places text.now)) }
+    ensures none { IfNone result (2 ^ 128
+        ≤ largest_part (values.exponent_value whole places text.now)) }
 {
     let (tens, tenths) = match text {
         [] => (0, places),
@@ -74,8 +77,10 @@ fn exponent_value(whole: u128, places: u128, text: &[char]) -> Option<HeldNumber
 /// What stands after the dot: `whole` are the digits so far, `places` of which stand after the dot.
 #[tactic(auto, unfolding(crate::specs::NumberValues::fraction_value, crate::specs::NumberValues::over_ten), using(crate::proofs::NumberGrowth::fraction_whole, crate::proofs::NumberGrowth::fraction_tenths))]
 fn fraction_value(whole: u128, places: u128, text: &[char]) -> Option<HeldNumber>
-    ensures value { IfSome result (λ value. IsHeld value (values.fraction_value whole places text.now)) }
-    ensures none { IfNone result (2 ^ 128 ≤ largest_part (values.fraction_value whole places text.now)) }
+    ensures value { IfSome result (λ value.
+        IsHeld value (values.fraction_value whole places text.now)) }
+    ensures none { IfNone result (2 ^ 128
+        ≤ largest_part (values.fraction_value whole places text.now)) }
 {
     let [c, rest @ ..] = text else {
         return Some(HeldNumber {

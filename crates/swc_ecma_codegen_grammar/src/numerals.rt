@@ -25,7 +25,8 @@ pub fn is_hex(c: char) -> bool
 /// The value of a hexadecimal digit.
 #[tactic(auto, unfolding(crate::specs::Numbers::is_hex, crate::specs::Chars::is_digit))]
 pub fn hex_digit(c: char) -> Option<u32>
-    ensures digit { IfSome result (λ digit. (numbers.is_hex c ≡ true) × (digit ≡ digit_value c) × (digit < 16)) }
+    ensures digit { IfSome result (λ digit. (numbers.is_hex c ≡ true) × (digit ≡ digit_value c)
+        × (digit < 16)) }
     ensures none { IfNone result (numbers.is_hex c ≡ false) }
 {
     c.to_digit(16)

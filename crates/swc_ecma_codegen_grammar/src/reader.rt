@@ -80,7 +80,8 @@ fn is_some_template(text: &[char]) -> bool
 
 #[tactic(auto, unfolding(crate::specs::Reading::some_part, crate::specs::Tokens::has_shape))]
 fn is_some_template_rest(text: &[char]) -> bool
-    ensures { result ≡ reading.some_part (λ part. tokens.has_shape (Kind.TemplateRest part) text.now) }
+    ensures { result ≡ reading.some_part (λ part.
+        tokens.has_shape (Kind.TemplateRest part) text.now) }
 {
     is_template_rest(
         TemplatePart {
@@ -165,7 +166,8 @@ fn stands_at(kind: Kind, text: &[char], n: usize) -> bool
 fn longest(kind: Kind, text: &[char]) -> usize
     ensures within { result ≤ length text.now }
     ensures stands { 0 < result → reading.stands_at kind text.now result ≡ true }
-    ensures longest { (m : ℕ) → result < m → m ≤ length text.now → reading.stands_at kind text.now m ≡ false }
+    ensures longest { (m : ℕ) → result < m → m ≤ length text.now →
+        reading.stands_at kind text.now m ≡ false }
 {
     let mut n = text.len();
     while n > 0 {
@@ -270,7 +272,8 @@ fn start(kind: Kind, text: &[char]) -> &[char]
 /// Whether the trivia before a start hold no line terminator, where they may hold none.
 fn keeps_line(joined: bool, text: &[char], start: &[char]) -> bool
     requires { length start.now ≤ length text.now }
-    ensures { result ≡ (not joined || chars.is_one_line (take (length text.now - length start.now) text.now)) }
+    ensures { result ≡ (not joined
+        || chars.is_one_line (take (length text.now - length start.now) text.now)) }
 {
     !joined || is_one_line(&text[..text.len() - start.len()])
 }
@@ -279,7 +282,9 @@ fn keeps_line(joined: bool, text: &[char], start: &[char]) -> bool
 fn takes(first: bool, joined: bool, kind: Kind, text: &[char], start: &[char], n: usize) -> bool
     requires taken { n ≤ length start.now }
     requires within { length start.now ≤ length text.now }
-    ensures { result ≡ ((not joined || chars.is_one_line (take (length text.now - length start.now) text.now)) && reading.fits first kind start.now n) }
+    ensures { result ≡ ((not joined
+        || chars.is_one_line (take (length text.now - length start.now) text.now))
+        && reading.fits first kind start.now n) }
 {
     keeps_line(joined, text, start) && fits(first, kind, start, n)
 }
@@ -287,8 +292,10 @@ fn takes(first: bool, joined: bool, kind: Kind, text: &[char], start: &[char], n
 /// The next token, where it is of this kind, and what is left. `joined`: no line terminator may stand before it.
 #[tactic(auto, using(crate::proofs::ReadOne::starts_within))]
 fn read_one(first: bool, joined: bool, kind: Kind, text: &[char]) -> Option<(&[char], &[char])>
-    ensures found { IfSome result (λ pair. reading.ReadsOne first joined kind text.now pair.0.now pair.1.now) }
-    ensures none { IfNone result ((own rest : List ℕ) → reading.ReadsOne first joined kind text.now own rest → ⊥) }
+    ensures found { IfSome result (λ pair.
+        reading.ReadsOne first joined kind text.now pair.0.now pair.1.now) }
+    ensures none { IfNone result ((own rest : List ℕ) →
+        reading.ReadsOne first joined kind text.now own rest → ⊥) }
 {
     let begin = start(kind, text);
     let n = longest(kind, begin);
@@ -301,7 +308,8 @@ fn read_one(first: bool, joined: bool, kind: Kind, text: &[char]) -> Option<(&[c
 
 /// The same of `[no LineTerminator here]` too, which is no text.
 fn read_next(first: bool, joined: bool, kind: Kind, text: &[char]) -> Option<(&[char], &[char])>
-    ensures found { IfSome result (λ pair. reading.ReadsNext first joined kind text.now pair.0.now pair.1.now) }
+    ensures found { IfSome result (λ pair.
+        reading.ReadsNext first joined kind text.now pair.0.now pair.1.now) }
     ensures none { IfNone result (reading.ReadsNone first joined kind text.now) }
 {
     if is_same_line(kind) {
@@ -327,7 +335,9 @@ pub fn read_tokens<'a>(
     text: &'a [char],
     kinds: &[Kind],
 ) -> Result<Option<Vec<&'a [char]>>, AllocError>
-    ensures found { IfOk result (λ found. IfSome found (λ own. reading.ReadsAs kinds.now (map (λ text. text.now) own.items) text.now)) }
+    ensures found { IfOk result (λ found.
+        IfSome found (λ own.
+        reading.ReadsAs kinds.now (map (λ text. text.now) own.items) text.now)) }
     ensures none { IfOk result (λ found. IfNone found (reading.ReadsAsNone kinds.now text.now)) }
 {
     let mut found = Vec::new(alloc);

@@ -17,7 +17,8 @@ use std::alloc::{AllocError, Global};
 /// A character that no backslash stands before.
 #[tactic(auto, using(crate::proofs::TurnLaws::empty_ahead), unfolding(crate::specs::StringValues::string_rest, crate::specs::Numbers::is_either, crate::specs::Turns::after, crate::specs::Turns::IsReached, crate::specs::Turns::LeadsOn))]
 fn between_turn(quote: char, c: char, next: Option<char>) -> Turn
-    ensures { (sloppy : Bool) (tail : List ℕ) → IsStringTurn quote sloppy Between c (ahead next tail) result }
+    ensures { (sloppy : Bool) (tail : List ℕ) →
+        IsStringTurn quote sloppy Between c (ahead next tail) result }
 {
     match c {
         _ if c == quote && next.is_none() => Turn::Ends,
@@ -64,7 +65,8 @@ fn digit_turn(sloppy: bool, c: char, next: Option<char>) -> Turn
 fn octal_turn(more: u32, value: u32, c: char, next: Option<char>) -> Turn
     requires due { IsOctalDue more value }
     requires octal { numbers.is_octal c ≡ true }
-    ensures { (q : ℕ) (sloppy : Bool) (tail : List ℕ) → IsStringTurn q sloppy (Octal more value) c (ahead next tail) result }
+    ensures { (q : ℕ) (sloppy : Bool) (tail : List ℕ) →
+        IsStringTurn q sloppy (Octal more value) c (ahead next tail) result }
 {
     let value = value * 8 + (c as u32 - '0' as u32);
     match more {
@@ -139,7 +141,9 @@ fn push_string_rest(
     text: &[char],
 ) -> Result<bool, AllocError>
     requires { IsReached place text.now }
-    ensures { IfOk result (λ whole. values.before units.old.items (values.string_rest quote sloppy place text.now) ≡ (if whole then Some units.new.items else None)) }
+    ensures { IfOk result (λ whole.
+        values.before units.old.items (values.string_rest quote sloppy place text.now)
+        ≡ (if whole then Some units.new.items else None)) }
 {
     let [c, rest @ ..] = text else {
         return Ok(false);
@@ -163,8 +167,10 @@ pub fn string_value(
     sloppy: bool,
     text: &[char],
 ) -> Result<Option<Vec<u16>>, AllocError>
-    ensures some { IfOk result (λ value. IfSome value (λ units. values.string_value sloppy text.now ≡ Some units.items)) }
-    ensures none { IfOk result (λ value. IfNone value (values.string_value sloppy text.now ≡ None)) }
+    ensures some { IfOk result (λ value.
+        IfSome value (λ units. values.string_value sloppy text.now ≡ Some units.items)) }
+    ensures none { IfOk result (λ value.
+        IfNone value (values.string_value sloppy text.now ≡ None)) }
 {
     let mut units = Vec::new(alloc);
     match text {

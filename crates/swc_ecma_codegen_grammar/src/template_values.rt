@@ -86,7 +86,8 @@ pub fn has_cooked_value(text: &[char]) -> bool
 #[tactic(auto, unfolding(crate::specs::TemplateValues::cooked_rest, crate::specs::StringValues::before, crate::specs::Turns::after, crate::specs::Turns::LeadsOn))]
 fn push_cooked_rest(units: &mut Vec<u16>, place: Place, text: &[char]) -> Result<bool, AllocError>
     requires { IsReached place text.now }
-    ensures { IfOk result (λ whole. before units.old.items (values.cooked_rest place text.now) ≡ (if whole then Some units.new.items else None)) }
+    ensures { IfOk result (λ whole. before units.old.items (values.cooked_rest place text.now)
+        ≡ (if whole then Some units.new.items else None)) }
 {
     let [c, rest @ ..] = text else {
         return Ok(matches!(place, Place::Between));
@@ -106,7 +107,8 @@ fn push_cooked_rest(units: &mut Vec<u16>, place: Place, text: &[char]) -> Result
 /// `${`. `AllocError`: a growth was refused.
 #[tactic(auto, unfolding(crate::specs::StringValues::before, crate::specs::Turns::IsReached))]
 pub fn cooked_value(alloc: Global, text: &[char]) -> Result<Option<Vec<u16>>, AllocError>
-    ensures some { IfOk result (λ value. IfSome value (λ units. values.cooked_value text.now ≡ Some units.items)) }
+    ensures some { IfOk result (λ value.
+        IfSome value (λ units. values.cooked_value text.now ≡ Some units.items)) }
     ensures none { IfOk result (λ value. IfNone value (values.cooked_value text.now ≡ None)) }
 {
     let mut units = Vec::new(alloc);

@@ -56,8 +56,11 @@ pub(crate) fn push_utf16(units: &mut Vec<u16>, code: u32) -> Result<(), AllocErr
 /// The value of four hexadecimal digits, where it is from D800 to DFFF.
 #[tactic(auto, unfolding(crate::specs::CodeUnits::begins_like, crate::specs::CodeUnits::is_high_digit, crate::specs::Numbers::is_either))]
 pub fn surrogate_value(a: char, b: char, c: char, d: char) -> Option<u32>
-    ensures some { IfSome result (λ unit. (code_units.begins_like (code_units.four_digits []) (a ∷ b ∷ c ∷ d ∷ []) ≡ true) × (unit ≡ digits_value 16 (a ∷ b ∷ c ∷ d ∷ [])) × (unit < 65536)) }
-    ensures none { IfNone result (code_units.begins_like (code_units.four_digits []) (a ∷ b ∷ c ∷ d ∷ []) ≡ false) }
+    ensures some { IfSome result (λ unit.
+        (code_units.begins_like (code_units.four_digits []) (a ∷ b ∷ c ∷ d ∷ []) ≡ true)
+        × (unit ≡ digits_value 16 (a ∷ b ∷ c ∷ d ∷ [])) × (unit < 65536)) }
+    ensures none { IfNone result (code_units.begins_like (code_units.four_digits [])
+        (a ∷ b ∷ c ∷ d ∷ []) ≡ false) }
 {
     if !(a == 'D' || a == 'd') || b < '8' {
         return None;
@@ -70,7 +73,8 @@ pub fn surrogate_value(a: char, b: char, c: char, d: char) -> Option<u32>
 #[tactic(auto, unfolding(crate::specs::CodeUnits::begins_like))]
 fn surrogate(text: &[char]) -> Option<(u32, &[char])>
     ensures some { IfSome result (λ found. IsSurrogate text.now found.0 found.1.now) }
-    ensures none { IfNone result (code_units.begins_like (code_units.four_digits []) text.now ≡ false) }
+    ensures none { IfNone result (code_units.begins_like (code_units.four_digits []) text.now
+        ≡ false) }
 {
     match text {
         [a, b, c, d, rest @ ..] => Some((surrogate_value(*a, *b, *c, *d)?, rest)),
@@ -81,7 +85,8 @@ fn surrogate(text: &[char]) -> Option<(u32, &[char])>
 /// What follows `u{` of a written surrogate escape, as `d83d}`: its unit, and the rest of the text.
 #[tactic(auto, using(crate::proofs::UnitLaws::long_undigit, crate::proofs::UnitLaws::long_unclosed, crate::proofs::UnitLaws::closed_length))]
 fn braced_unit(text: &[char]) -> Option<(u32, &[char])>
-    ensures some { IfSome result (λ found. IsWrittenUnit (117 ∷ 123 ∷ text.now) found.0 found.1.now) }
+    ensures some { IfSome result (λ found.
+        IsWrittenUnit (117 ∷ 123 ∷ text.now) found.0 found.1.now) }
     ensures none { IfNone result (code_units.escape_length (117 ∷ 123 ∷ text.now) ≡ 0) }
 {
     let (unit, rest) = surrogate(text)?;

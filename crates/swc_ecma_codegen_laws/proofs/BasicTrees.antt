@@ -53,12 +53,12 @@ use Rattle.swc_ecma_codegen_emit.specs.Roots.{Root, OfExpr, OfStmt, OfItem, OfMo
 use Rattle.swc_ecma_codegen_emit.specs.Tree.{node_items, any_items}
 use Rattle.swc_ecma_codegen_emit.proofs.Asked.{kept_same, committed_same}
 use Rattle.swc_ecma_codegen_emit.proofs.ExprParts.{writes_blank, writes_comments_before, writes_opened, writes_space_if}
-use Rattle.swc_ecma_codegen_emit.proofs.Knots.{items_of}
+use Rattle.swc_ecma_codegen_emit.proofs.MappedNodes.{items_of}
 use Rattle.swc_ecma_codegen_laws.specs.Basic.{is_bare, basic_prop, all_basic, basic_expr, basic_stmt, basic_node, any_basic, basic_stmts, is_basic, TakesNoMemory}
 use Rattle.swc_ecma_codegen_laws.proofs.Quiet.{Quiet, then, quiet_same, quiet_made, quiet_if, quiet_nothing, quiet_keyword, quiet_operator, quiet_word_operator, quiet_punct, quiet_semi, quiet_name, takes_none}
 
 -- What is known of whatever links hold: what is written of it takes no memory where it is basic.
-record Held (X : Type 0) : Type 0 where
+record Linked (X : Type 0) : Type 0 where
   env : Env
   no_ascii : env.config.ascii_only ≡ false
   asks : X → Answers
@@ -75,11 +75,11 @@ quiet_this : (env : Env) (n : this_exprs.ThisExpr) → Quiet env (words.this n)
 unfolding words.this
 quiet_this env n = then (quiet_made (writes_leading env n.span.lo)) (quiet_keyword env (Some n.span) (codes "this"))
 
-quiet_ident : {X : Type 0} (l : Held X) (n : Ident) → is_bare (string_bytes n.sym) ≡ true → Quiet l.env (words.ident n)
+quiet_ident : {X : Type 0} (l : Linked X) (n : Ident) → is_bare (string_bytes n.sym) ≡ true → Quiet l.env (words.ident n)
 unfolding words.ident
 quiet_ident l n h = quiet_name l.env n.span (string_bytes n.sym) n.optional l.no_ascii (not-true _ h)
 
-quiet_ident_name : {X : Type 0} (l : Held X) (n : IdentName) → is_bare (string_bytes n.sym) ≡ true → Quiet l.env (words.ident_name n)
+quiet_ident_name : {X : Type 0} (l : Linked X) (n : IdentName) → is_bare (string_bytes n.sym) ≡ true → Quiet l.env (words.ident_name n)
 unfolding words.ident_name
 quiet_ident_name l n h = quiet_name l.env n.span (string_bytes n.sym) false l.no_ascii (not-true _ h)
 
@@ -91,7 +91,7 @@ quiet_unary_gap : (env : Env) (op : UnaryOp) (arg : Answers) → Quiet env (word
 unfolding words.unary_gap
 quiet_unary_gap env op arg = quiet_if env (starts.is_word_op op) (words.blank arg.starts) (words.space_if (operand_space op arg.kind)) (quiet_made (writes_blank env arg.starts)) (quiet_made (writes_space_if env (operand_space op arg.kind)))
 
-quiet_unary : {X : Type 0} (l : Held X) (n : UnaryExpr X) → l.basic n.arg.node.value ≡ true → Quiet l.env (words.unary l.asks l.items n)
+quiet_unary : {X : Type 0} (l : Linked X) (n : UnaryExpr X) → l.basic n.arg.node.value ≡ true → Quiet l.env (words.unary l.asks l.items n)
 unfolding words.unary
 quiet_unary l n h = then (quiet_made (writes_opened l.env n.span)) (then (quiet_unary_op l.env n.op) (then (quiet_unary_gap l.env n.op (l.asks n.arg.node.value)) (l.law n.arg.node.value Plain h)))
 
@@ -99,7 +99,7 @@ update_case : (env : Env) (prefix : Bool) (op : UpdateOp) (p : Part) → Quiet e
 update_case env true op p h = then (quiet_operator env (update_text op)) h
 update_case env false op p h = then h (quiet_operator env (update_text op))
 
-quiet_update : {X : Type 0} (l : Held X) (n : UpdateExpr X) → l.basic n.arg.node.value ≡ true → Quiet l.env (words.update l.items n)
+quiet_update : {X : Type 0} (l : Linked X) (n : UpdateExpr X) → l.basic n.arg.node.value ≡ true → Quiet l.env (words.update l.items n)
 unfolding words.update words.update_parts
 quiet_update l n h = then (quiet_made (writes_opened l.env n.span)) (update_case l.env n.prefix n.op (l.items n.arg.node.value Plain) (l.law n.arg.node.value Plain h))
 
@@ -112,7 +112,7 @@ unfolding words.bin_opened
 quiet_bin_opened env LeftOperand span = quiet_nothing env
 quiet_bin_opened env place span = quiet_made (writes_opened env span)
 
-quiet_bin : {X : Type 0} (l : Held X) (n : BinExpr X) (place : Place) → (l.basic n.left.node.value && l.basic n.right.node.value) ≡ true → Quiet l.env (words.bin l.asks l.items n place)
+quiet_bin : {X : Type 0} (l : Linked X) (n : BinExpr X) (place : Place) → (l.basic n.left.node.value && l.basic n.right.node.value) ≡ true → Quiet l.env (words.bin l.asks l.items n place)
 unfolding words.bin words.bin_trailing words.bin_operator
 quiet_bin l n place h =
     let both = and_parts (l.basic n.left.node.value) (l.basic n.right.node.value) h in
@@ -122,20 +122,20 @@ quiet_bin l n place h =
     (then (quiet_binary_op l.env n.op)
     (then (quiet_made (writes_blank l.env (words.after_op n.op (l.asks n.right.node.value)))) (l.law n.right.node.value Plain both.1)))))
 
-quiet_computed : {X : Type 0} (l : Held X) (n : ComputedPropName X) → l.basic n.expr.node.value ≡ true → Quiet l.env (words.computed_prop_name l.items n)
+quiet_computed : {X : Type 0} (l : Linked X) (n : ComputedPropName X) → l.basic n.expr.node.value ≡ true → Quiet l.env (words.computed_prop_name l.items n)
 unfolding words.computed_prop_name
 quiet_computed l n h =
     then (quiet_made (writes_position l.env n.span.lo))
     (then (quiet_punct l.env (codes "["))
     (then (l.law n.expr.node.value Plain h) (then (quiet_punct l.env (codes "]")) (quiet_made (writes_position l.env n.span.hi)))))
 
-quiet_prop : {X : Type 0} (l : Held X) (n : MemberProp X) → basic_prop l.basic n ≡ true → Quiet l.env (words.member_prop l.items n)
+quiet_prop : {X : Type 0} (l : Linked X) (n : MemberProp X) → basic_prop l.basic n ≡ true → Quiet l.env (words.member_prop l.items n)
 unfolding words.member_prop basic_prop
 quiet_prop l (member_props.Ident n) h = then (quiet_made (writes_comments_before l.env n.span.lo)) (then (quiet_punct l.env (codes ".")) (quiet_ident_name l n h))
 quiet_prop l (member_props.PrivateName n) h = never h
 quiet_prop l (member_props.Computed n) h = quiet_computed l n h
 
-quiet_member : {X : Type 0} (l : Held X) (n : MemberExpr X) → (l.basic n.obj.node.value && basic_prop l.basic n.prop) ≡ true → Quiet l.env (words.member l.items n)
+quiet_member : {X : Type 0} (l : Linked X) (n : MemberExpr X) → (l.basic n.obj.node.value && basic_prop l.basic n.prop) ≡ true → Quiet l.env (words.member l.items n)
 unfolding words.member
 quiet_member l n h =
     let both = and_parts (l.basic n.obj.node.value) (basic_prop l.basic n.prop) h in
@@ -146,7 +146,7 @@ quiet_spaced : (env : Env) (t : List ℕ) → Quiet env (words.spaced_punct t)
 unfolding words.spaced_punct
 quiet_spaced env t = then (quiet_made (writes_formatting_space env)) (then (quiet_punct env t) (quiet_made (writes_formatting_space env)))
 
-quiet_choice : {X : Type 0} (l : Held X) (n : CondExpr X) → (l.basic n.test.node.value && l.basic n.cons.node.value && l.basic n.alt.node.value) ≡ true → Quiet l.env (words.choice l.items n)
+quiet_choice : {X : Type 0} (l : Linked X) (n : CondExpr X) → (l.basic n.test.node.value && l.basic n.cons.node.value && l.basic n.alt.node.value) ≡ true → Quiet l.env (words.choice l.items n)
 unfolding words.choice
 quiet_choice l n h =
     let both = and_parts (l.basic n.test.node.value && l.basic n.cons.node.value) (l.basic n.alt.node.value) h in
@@ -161,18 +161,18 @@ unfolding comma
 quiet_comma env true = quiet_nothing env
 quiet_comma env false = then (quiet_punct env (codes ",")) (quiet_made (writes_formatting_space env))
 
-quiet_listed : {X : Type 0} (l : Held X) (first : Bool) (ns : List (ExprBox X)) → all_basic l.basic ns ≡ true → Quiet l.env (listed (words.held l.items) first ns)
+quiet_listed : {X : Type 0} (l : Linked X) (first : Bool) (ns : List (ExprBox X)) → all_basic l.basic ns ≡ true → Quiet l.env (listed (words.held l.items) first ns)
 unfolding listed all_basic
 quiet_listed l first [] h = quiet_nothing l.env
 quiet_listed l first (n ∷ ns) h =
     let both = and_parts (l.basic n.node.value) (all_basic l.basic ns) h in
     then (quiet_comma l.env first) (then (l.law n.node.value Plain both.0) (quiet_listed l false ns both.1))
 
-quiet_seq : {X : Type 0} (l : Held X) (n : SeqExpr X) → all_basic l.basic n.exprs.items ≡ true → Quiet l.env (words.seq l.items n)
+quiet_seq : {X : Type 0} (l : Linked X) (n : SeqExpr X) → all_basic l.basic n.exprs.items ≡ true → Quiet l.env (words.seq l.items n)
 unfolding words.seq
 quiet_seq l n h = then (quiet_made (writes_opened l.env n.span)) (quiet_listed l true n.exprs.items h)
 
-quiet_paren : {X : Type 0} (l : Held X) (n : ParenExpr X) → l.basic n.expr.node.value ≡ true → Quiet l.env (words.paren l.items n)
+quiet_paren : {X : Type 0} (l : Linked X) (n : ParenExpr X) → l.basic n.expr.node.value ≡ true → Quiet l.env (words.paren l.items n)
 unfolding words.paren
 quiet_paren l n h =
     then (quiet_made (writes_commit l.env))
@@ -180,7 +180,7 @@ quiet_paren l n h =
     (then (quiet_punct l.env (codes "("))
     (then (l.law n.expr.node.value Plain h) (then (quiet_made (writes_position_before l.env n.span.hi)) (quiet_punct l.env (codes ")"))))))
 
-quiet_expr_parts : {X : Type 0} (l : Held X) (n : Expr X) (place : Place) → basic_expr l.basic n ≡ true → Quiet l.env (wholes.expr_parts l.asks l.items n place)
+quiet_expr_parts : {X : Type 0} (l : Linked X) (n : Expr X) (place : Place) → basic_expr l.basic n ≡ true → Quiet l.env (wholes.expr_parts l.asks l.items n place)
 unfolding wholes.expr_parts basic_expr
 quiet_expr_parts l (exprs.This n) place h = quiet_this l.env n
 quiet_expr_parts l (exprs.Unary n) place h = quiet_unary l n h
@@ -198,15 +198,15 @@ quiet_closed : (env : Env) (left : Bool) (span : Span) → Quiet env (wholes.exp
 unfolding wholes.expr_closed
 quiet_closed env left span = quiet_if env left (λ rest. rest) (trailing_comments true span.hi) (quiet_nothing env) (quiet_made (writes_trailing env true span.hi))
 
-quiet_expr : {X : Type 0} (l : Held X) (n : Expr X) (place : Place) → basic_expr l.basic n ≡ true → Quiet l.env (wholes.expr l.asks l.items n place)
+quiet_expr : {X : Type 0} (l : Linked X) (n : Expr X) (place : Place) → basic_expr l.basic n ≡ true → Quiet l.env (wholes.expr l.asks l.items n place)
 unfolding wholes.expr
 quiet_expr l n place h = then (quiet_expr_parts l n place h) (quiet_closed l.env (wholes.leaves_comments n place) (expr_span (place_of l.asks) n))
 
-quiet_wrapped : {X : Type 0} (l : Held X) (n : Expr X) → basic_expr l.basic n ≡ true → Quiet l.env (wholes.wrapped l.asks l.items n)
+quiet_wrapped : {X : Type 0} (l : Linked X) (n : Expr X) → basic_expr l.basic n ≡ true → Quiet l.env (wholes.wrapped l.asks l.items n)
 unfolding wholes.wrapped
 quiet_wrapped l n h = then (quiet_punct l.env (codes "(")) (then (quiet_expr l n Plain h) (quiet_punct l.env (codes ")")))
 
-quiet_placed : {X : Type 0} (l : Held X) (n : Expr X) (place : Place) → basic_expr l.basic n ≡ true → Quiet l.env (wholes.placed_expr l.asks l.items n place)
+quiet_placed : {X : Type 0} (l : Linked X) (n : Expr X) (place : Place) → basic_expr l.basic n ≡ true → Quiet l.env (wholes.placed_expr l.asks l.items n place)
 unfolding wholes.placed_expr
 quiet_placed l n place h = quiet_if l.env (wholes.is_wrapped n place) (wholes.wrapped l.asks l.items n) (wholes.expr l.asks l.items n place) (quiet_wrapped l n h) (quiet_expr l n place h)
 
@@ -216,11 +216,11 @@ quiet_empty : (env : Env) (n : EmptyStmt) → Quiet env (statements.empty_stmt n
 unfolding statements.empty_stmt
 quiet_empty env n = then (quiet_made (writes_leading env n.span.lo)) (quiet_punct env (codes ";"))
 
-quiet_expr_stmt : {X : Type 0} (l : Held X) (n : ExprStmt X) → l.basic n.expr.node.value ≡ true → Quiet l.env (statements.expr_stmt l.items n)
+quiet_expr_stmt : {X : Type 0} (l : Linked X) (n : ExprStmt X) → l.basic n.expr.node.value ≡ true → Quiet l.env (statements.expr_stmt l.items n)
 unfolding statements.expr_stmt
 quiet_expr_stmt l n h = then (quiet_made (writes_leading l.env n.span.lo)) (then (l.law n.expr.node.value Plain h) (quiet_semi l.env))
 
-quiet_stmt_parts : {X : Type 0} (l : Held X) (n : Stmt X) → basic_stmt l.basic n ≡ true → Quiet l.env (statements.stmt_parts l.asks l.items n)
+quiet_stmt_parts : {X : Type 0} (l : Linked X) (n : Stmt X) → basic_stmt l.basic n ≡ true → Quiet l.env (statements.stmt_parts l.asks l.items n)
 unfolding statements.stmt_parts basic_stmt
 quiet_stmt_parts l (stmts.Empty n) h = quiet_empty l.env n
 quiet_stmt_parts l (stmts.Expr n) h = quiet_expr_stmt l n h
@@ -233,7 +233,7 @@ quiet_stmt_closed env block span =
     quiet_if env block (λ rest. rest) (λ rest. trailing_comments true span.hi (formatting_line rest)) (quiet_nothing env)
     (then (quiet_made (writes_trailing env true span.hi)) (quiet_made (writes_formatting_line env)))
 
-quiet_stmt : {X : Type 0} (l : Held X) (n : Stmt X) → basic_stmt l.basic n ≡ true → Quiet l.env (statements.stmt l.asks l.items n)
+quiet_stmt : {X : Type 0} (l : Linked X) (n : Stmt X) → basic_stmt l.basic n ≡ true → Quiet l.env (statements.stmt l.asks l.items n)
 unfolding statements.stmt
 quiet_stmt l n h = then (quiet_stmt_parts l n h) (quiet_stmt_closed l.env (is_block n) (stmt_span (place_of l.asks) n))
 
@@ -278,7 +278,7 @@ basic_of {X} g n = basic_of_layer (map-AnyNode X AnyNode g n) ∙ node_mapped g 
 
 -- ---- whole trees
 
-quiet_node : {X : Type 0} (l : Held X) (n : AnyNode-F X) (place : Place) → basic_node l.basic n ≡ true → Quiet l.env (node_items l.asks l.items n place)
+quiet_node : {X : Type 0} (l : Linked X) (n : AnyNode-F X) (place : Place) → basic_node l.basic n ≡ true → Quiet l.env (node_items l.asks l.items n place)
 unfolding node_items basic_node
 quiet_node l (nodes.Expr n) place h = quiet_placed l n place h
 quiet_node l (nodes.Stmt n) place h = quiet_stmt l n h
@@ -288,7 +288,7 @@ abbrev Law : Env → AnyNode → Type 0
 Law env n = (place : Place) → any_basic n ≡ true → Quiet env (any_items n place)
 
 -- nodes that a link of the tree holds, with the law of each
-abbrev children : (env : Env) → env.config.ascii_only ≡ false → Held (Such the_family (claims (Law env)) member-AnyNode)
+abbrev children : (env : Env) → env.config.ascii_only ≡ false → Linked (Such the_family (claims (Law env)) member-AnyNode)
 children env e = record { env = env; no_ascii = e; asks = λ y. any_answers y.0; items = λ y. any_items y.0; basic = λ y. any_basic y.0; law = λ y. y.1 }
 
 quiet_tree : (env : Env) → env.config.ascii_only ≡ false → (n : AnyNode) → Law env n
@@ -297,12 +297,12 @@ quiet_tree env e = ind-AnyNode (Law env) (λ x y q. subst (λ z. Law env (roll-A
     subst (λ p. Quiet env p) (sym (items_of (λ z. z.0) y place)) here))
 
 -- the nodes of a whole tree
-abbrev known : (env : Env) → env.config.ascii_only ≡ false → Held AnyNode
+abbrev known : (env : Env) → env.config.ascii_only ≡ false → Linked AnyNode
 known env e = record { env = env; no_ascii = e; asks = any_answers; items = any_items; basic = any_basic; law = quiet_tree env e }
 
 -- ---- programs
 
-quiet_stmts : (l : Held AnyNode) → l.basic ≡ any_basic → (ns : List (Stmt AnyNode)) → basic_stmts ns ≡ true → Quiet l.env (in_order (statements.stmt l.asks l.items) ns)
+quiet_stmts : (l : Linked AnyNode) → l.basic ≡ any_basic → (ns : List (Stmt AnyNode)) → basic_stmts ns ≡ true → Quiet l.env (in_order (statements.stmt l.asks l.items) ns)
 unfolding in_order basic_stmts
 quiet_stmts l same [] h = quiet_nothing l.env
 quiet_stmts l same (n ∷ ns) h =

@@ -27,7 +27,7 @@ use Rattle.swc_ecma_codegen_emit.specs.Lists.{if_some_at}
 use Rattle.swc_ecma_codegen_emit.specs.Roots.{Root, OfExpr, OfStmt, OfItem, OfModule, OfScript, OfProgram, OfLink, root_items}
 use Rattle.swc_ecma_codegen_laws.specs.HeldRoots.{IsHeld}
 use Rattle.swc_ecma_codegen_emit.specs.Tree.{any_items}
-use Rattle.swc_ecma_codegen_emit.proofs.Knots.{any_items_plain_expr, any_items_stmt, any_items_member_expr, any_items_expr_part}
+use Rattle.swc_ecma_codegen_emit.proofs.MappedNodes.{any_items_plain_expr, any_items_stmt, any_items_member_expr, any_items_expr_part}
 
 -- ---- what is written
 

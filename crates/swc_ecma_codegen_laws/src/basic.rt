@@ -40,15 +40,25 @@ pub fn basic_trees_take_no_memory()
 pub fn basic_nodes_take_no_memory()
     ensures this { (n : ThisExpr) → TakesNoMemory (this n) }
     ensures ident { (n : Ident) → is_bare (string_bytes n.sym) ≡ true → TakesNoMemory (ident n) }
-    ensures ident_name { (n : IdentName) → is_bare (string_bytes n.sym) ≡ true → TakesNoMemory (ident_name n) }
-    ensures unary { (n : UnaryExpr AnyNode) → is_basic (OfExpr (exprs.Unary n)) ≡ true → TakesNoMemory (unary any_answers any_items n) }
-    ensures update { (n : UpdateExpr AnyNode) → is_basic (OfExpr (exprs.Update n)) ≡ true → TakesNoMemory (update any_items n) }
-    ensures bin { (n : BinExpr AnyNode) → is_basic (OfExpr (exprs.Bin n)) ≡ true → TakesNoMemory (bin any_answers any_items n Plain) }
-    ensures computed { (n : ComputedPropName AnyNode) → any_basic n.expr.node.value ≡ true → TakesNoMemory (computed_prop_name any_items n) }
-    ensures member { (n : MemberExpr AnyNode) → is_basic (OfExpr (exprs.Member n)) ≡ true → TakesNoMemory (member_at any_items n Plain) }
-    ensures cond { (n : CondExpr AnyNode) → is_basic (OfExpr (exprs.Cond n)) ≡ true → TakesNoMemory (choice any_items n) }
-    ensures seq { (n : SeqExpr AnyNode) → is_basic (OfExpr (exprs.Seq n)) ≡ true → TakesNoMemory (seq any_items n) }
-    ensures paren { (n : ParenExpr AnyNode) → is_basic (OfExpr (exprs.Paren n)) ≡ true → TakesNoMemory (paren any_items n) }
+    ensures ident_name { (n : IdentName) → is_bare (string_bytes n.sym) ≡ true →
+        TakesNoMemory (ident_name n) }
+    ensures unary { (n : UnaryExpr AnyNode) → is_basic (OfExpr (exprs.Unary n)) ≡ true →
+        TakesNoMemory (unary any_answers any_items n) }
+    ensures update { (n : UpdateExpr AnyNode) → is_basic (OfExpr (exprs.Update n)) ≡ true →
+        TakesNoMemory (update any_items n) }
+    ensures bin { (n : BinExpr AnyNode) → is_basic (OfExpr (exprs.Bin n)) ≡ true →
+        TakesNoMemory (bin any_answers any_items n Plain) }
+    ensures computed { (n : ComputedPropName AnyNode) → any_basic n.expr.node.value ≡ true →
+        TakesNoMemory (computed_prop_name any_items n) }
+    ensures member { (n : MemberExpr AnyNode) → is_basic (OfExpr (exprs.Member n)) ≡ true →
+        TakesNoMemory (member_at any_items n Plain) }
+    ensures cond { (n : CondExpr AnyNode) → is_basic (OfExpr (exprs.Cond n)) ≡ true →
+        TakesNoMemory (choice any_items n) }
+    ensures seq { (n : SeqExpr AnyNode) → is_basic (OfExpr (exprs.Seq n)) ≡ true →
+        TakesNoMemory (seq any_items n) }
+    ensures paren { (n : ParenExpr AnyNode) → is_basic (OfExpr (exprs.Paren n)) ≡ true →
+        TakesNoMemory (paren any_items n) }
     ensures empty { (n : EmptyStmt) → TakesNoMemory (empty_stmt n) }
-    ensures expr_stmt { (n : ExprStmt AnyNode) → is_basic (OfStmt (stmts.Expr n)) ≡ true → TakesNoMemory (expr_stmt any_items n) }
+    ensures expr_stmt { (n : ExprStmt AnyNode) → is_basic (OfStmt (stmts.Expr n)) ≡ true →
+        TakesNoMemory (expr_stmt any_items n) }
 {}

@@ -70,29 +70,46 @@ use swc_ecma_codegen_util::util::StartsWithAlphaNum;
 /// emission is new. So the clauses of `emit_with` that speak of roots speak of these.
 #[tactic(auto, using(swc_ecma_codegen_emit::proofs::TreeReads::may_begin))]
 pub fn expressions_and_statements_are_roots()
-    ensures expr { (expr : Expr AnyNode) → expr_items any_answers any_items expr Plain ≡ root_items (OfExpr expr) }
-    ensures stmt { (stmt : Stmt AnyNode) → stmt_items any_answers any_items stmt ≡ root_items (OfStmt stmt) }
-    ensures begin { (root : Root) (s : State) → root_hashbang root ≡ false → IsNew s → MayBegin root s }
+    ensures expr { (expr : Expr AnyNode) →
+        expr_items any_answers any_items expr Plain ≡ root_items (OfExpr expr) }
+    ensures stmt { (stmt : Stmt AnyNode) →
+        stmt_items any_answers any_items stmt ≡ root_items (OfStmt stmt) }
+    ensures begin { (root : Root) (s : State) → root_hashbang root ≡ false → IsNew s →
+        MayBegin root s }
 {}
 
 /// A new emitter over a new `JsWriter`, whose lines end with LF or with CR and LF, is one that these laws speak of, whatever
 /// the root, the source text and the comments; and after `set_indent_str` of blanks and tabs, and inside
 /// `omit_trailing_semi`. It is ready, whatever its lines end with. Under `ascii_only` it is one that is to write ASCII.
 pub fn new_emitter_reads()
-    ensures new { (root : Root) (lines : Lines) (maps : Maps) (config : Config) (bytes line_end : List ℕ) → IsLineEnd line_end → MayBegin root (start lines maps config (new_sheet bytes line_end)) }
-    ensures holding { (root : Root) (lines : Lines) (maps : Maps) (config : Config) (bytes line_end : List ℕ) → IsLineEnd line_end → MayBegin root (start lines maps config (record (new_sheet bytes line_end) { semicolons = HoldsNone })) }
-    ensures ready { (lines : Lines) (maps : Maps) (config : Config) (bytes line_end : List ℕ) → IsReady (start lines maps config (new_sheet bytes line_end)) }
-    ensures ascii { (lines : Lines) (maps : Maps) (config : Config) (bytes line_end : List ℕ) → config.ascii_only ≡ true → IsLineEnd line_end → WantsAscii (start lines maps config (new_sheet bytes line_end)) }
-    ensures indented { (root : Root) (lines : Lines) (maps : Maps) (config : Config) (bytes line_end indent : List ℕ) → IsLineEnd line_end → all_indent indent ≡ true → MayBegin root (start lines maps config (record (new_sheet bytes line_end) { indent_text = indent })) }
+    ensures new { (root : Root) (lines : Lines) (maps : Maps) (config : Config)
+        (bytes line_end : List ℕ) → IsLineEnd line_end →
+        MayBegin root (start lines maps config (new_sheet bytes line_end)) }
+    ensures holding { (root : Root) (lines : Lines) (maps : Maps) (config : Config)
+        (bytes line_end : List ℕ) → IsLineEnd line_end →
+        MayBegin root (start lines maps config
+        (record (new_sheet bytes line_end) { semicolons = HoldsNone })) }
+    ensures ready { (lines : Lines) (maps : Maps) (config : Config) (bytes line_end : List ℕ) →
+        IsReady (start lines maps config (new_sheet bytes line_end)) }
+    ensures ascii { (lines : Lines) (maps : Maps) (config : Config) (bytes line_end : List ℕ) →
+        config.ascii_only ≡ true → IsLineEnd line_end →
+        WantsAscii (start lines maps config (new_sheet bytes line_end)) }
+    ensures indented { (root : Root) (lines : Lines) (maps : Maps) (config : Config)
+        (bytes line_end indent : List ℕ) → IsLineEnd line_end → all_indent indent ≡ true →
+        MayBegin root (start lines maps config
+        (record (new_sheet bytes line_end) { indent_text = indent })) }
 {}
 
 /// Comments that are put into maps one by one can be read back, where each of them can: no line terminator stands in one of
 /// a line, and no `*/` in one of a block.
 #[tactic(auto, using(crate::proofs::ClosedMaps::nowhere_closed, crate::proofs::ClosedMaps::leading_closed, crate::proofs::ClosedMaps::trailing_closed))]
 pub fn added_comments_can_be_read_back()
-    ensures none { (maps : Maps) → ((pos : ℕ) → maps.leading pos ≡ None) → ((pos : ℕ) → maps.trailing pos ≡ None) → AreClosed maps }
-    ensures leading { (maps : Maps) (pos : ℕ) (comment : Comment) → AreClosed maps → is_closed (remark_of comment) ≡ true → AreClosed (with_leading pos comment maps) }
-    ensures trailing { (maps : Maps) (pos : ℕ) (comment : Comment) → AreClosed maps → is_closed (remark_of comment) ≡ true → AreClosed (with_trailing pos comment maps) }
+    ensures none { (maps : Maps) → ((pos : ℕ) → maps.leading pos ≡ None) →
+        ((pos : ℕ) → maps.trailing pos ≡ None) → AreClosed maps }
+    ensures leading { (maps : Maps) (pos : ℕ) (comment : Comment) → AreClosed maps →
+        is_closed (remark_of comment) ≡ true → AreClosed (with_leading pos comment maps) }
+    ensures trailing { (maps : Maps) (pos : ℕ) (comment : Comment) → AreClosed maps →
+        is_closed (remark_of comment) ≡ true → AreClosed (with_trailing pos comment maps) }
 {}
 
 /// Where an expression begins with a word, a name or a number, by the first token of a list that
@@ -101,7 +118,9 @@ pub fn added_comments_can_be_read_back()
 pub fn first_token_is_told(expr: &Expr) -> bool
     // It is what `starts_with_alpha_num` answers.
     ensures answer { result ≡ expr_starts any_starts expr.now }
-    ensures told { (settings : Settings) (first : Token) (rest : List Token) → Generates settings (expr_phrase expr.now) (first ∷ rest) → joins_a_word first.kind ≡ true → result ≡ true }
+    ensures told { (settings : Settings) (first : Token) (rest : List Token) →
+        Generates settings (expr_phrase expr.now) (first ∷ rest) → joins_a_word first.kind ≡ true →
+        result ≡ true }
 {
     expr.starts_with_alpha_num()
 }
@@ -112,7 +131,9 @@ pub fn first_token_is_told(expr: &Expr) -> bool
 /// such, these clauses speak of its steps: one takes memory where the text of a literal isn't its raw.
 #[tactic(auto, using(swc_ecma_codegen_emit::proofs::TreeReads::root_remakes))]
 pub fn plain_trees_take_no_memory()
-    ensures { (root : Root) (s : State) → is_well_formed_root root ≡ true → s.env.keeps_invalid ≡ false → may_make_text s.env.config (root_phrase root) ≡ false → makes_text (steps_of (steps_in (root_items root) s)) ≡ false }
+    ensures { (root : Root) (s : State) → is_well_formed_root root ≡ true →
+        s.env.keeps_invalid ≡ false → may_make_text s.env.config (root_phrase root) ≡ false →
+        makes_text (steps_of (steps_in (root_items root) s)) ≡ false }
 {}
 
 /// Only texts of comments aren't ASCII among the steps of an emission of a well-formed tree whose names can all be written,
@@ -120,14 +141,21 @@ pub fn plain_trees_take_no_memory()
 /// these texts the clause `ascii` of `emit_with` speaks. Such a string is another only where it has a backslash and isn't ASCII.
 #[tactic(auto, using(swc_ecma_codegen_emit::proofs::TreeReads::root_keeps))]
 pub fn plain_trees_keep_no_other_text()
-    ensures { (root : Root) (s : State) → is_well_formed_root root ≡ true → s.env.keeps_invalid ≡ false → is_out s.env.config (root_phrase root) ≡ false → may_keep_other (root_phrase root) ≡ false → other_texts (steps_of (steps_in (root_items root) s)) ≡ spoken (steps_of (steps_in (root_items root) s)) }
+    ensures { (root : Root) (s : State) → is_well_formed_root root ≡ true →
+        s.env.keeps_invalid ≡ false → is_out s.env.config (root_phrase root) ≡ false →
+        may_keep_other (root_phrase root) ≡ false →
+        other_texts (steps_of (steps_in (root_items root) s))
+        ≡ spoken (steps_of (steps_in (root_items root) s)) }
 {}
 
 /// A string literal is printed by its value exactly where its raw isn't printed: it is one of the strings that the clause
 /// `inline` of `emit_with` speaks of.
 #[tactic(auto, using(swc_ecma_codegen_tokens::proofs::StringPrints::value_strings_told))]
 pub fn strings_by_value_are_told()
-    ensures { (env : Env) (in_lit : Bool) (n : Str) → value_strings (steps_of (string_at in_lit n nothing env)) ≡ (if prints_raw env.config n then [] else value_text env.config (string_bytes n.value) ∷ []) }
+    ensures { (env : Env) (in_lit : Bool) (n : Str) →
+        value_strings (steps_of (string_at in_lit n nothing env))
+        ≡ (if prints_raw env.config n then [] else value_text env.config (string_bytes n.value)
+        ∷ []) }
 {}
 
 /// An emission of a well-formed tree comes to a node that can't be printed exactly where some name of the tree is to be
@@ -135,17 +163,29 @@ pub fn strings_by_value_are_told()
 /// such a name is never printed as a whole.
 #[tactic(auto, using(swc_ecma_codegen_emit::proofs::TreeReads::root_ends, swc_ecma_codegen_emit::proofs::TreeReads::root_in_target, swc_ecma_codegen_emit::proofs::TreeReads::root_out_of_target))]
 pub fn names_out_of_target_are_refused()
-    ensures steps { (root : Root) (s : State) → is_well_formed_root root ≡ true → s.env.keeps_invalid ≡ false → unprintable_in (steps_in (root_items root) s) ≡ (if is_out s.env.config (root_phrase root) then Some NameOutOfTarget else None) }
-    ensures printed { (root : Root) (a b : State) → is_well_formed_root root ≡ true → a.env.keeps_invalid ≡ false → Follows (root_items root nothing) a b (Ok tt) → is_out a.env.config (root_phrase root) ≡ false }
-    ensures refused { (root : Root) (a b : State) → is_well_formed_root root ≡ true → a.env.keeps_invalid ≡ false → Follows (root_items root nothing) a b (Err refusals.NameOutOfTarget) → is_out a.env.config (root_phrase root) ≡ true }
+    ensures steps { (root : Root) (s : State) → is_well_formed_root root ≡ true →
+        s.env.keeps_invalid ≡ false →
+        unprintable_in (steps_in (root_items root) s)
+        ≡ (if is_out s.env.config (root_phrase root) then Some NameOutOfTarget else None) }
+    ensures printed { (root : Root) (a b : State) → is_well_formed_root root ≡ true →
+        a.env.keeps_invalid ≡ false → Follows (root_items root nothing) a b (Ok tt) →
+        is_out a.env.config (root_phrase root) ≡ false }
+    ensures refused { (root : Root) (a b : State) → is_well_formed_root root ≡ true →
+        a.env.keeps_invalid ≡ false →
+        Follows (root_items root nothing) a b (Err refusals.NameOutOfTarget) →
+        is_out a.env.config (root_phrase root) ≡ true }
 {}
 
 /// An emission of a well-formed tree is refused neither for a shape of which no text is written nor for a node that isn't
 /// supported.
 #[tactic(auto, using(swc_ecma_codegen_emit::proofs::TreeReads::root_shaped, swc_ecma_codegen_emit::proofs::TreeReads::root_supported))]
 pub fn well_formed_trees_are_supported()
-    ensures shape { (root : Root) (a b : State) → is_well_formed_root root ≡ true → a.env.keeps_invalid ≡ false → Follows (root_items root nothing) a b (Err refusals.BadShape) → ⊥ }
-    ensures node { (root : Root) (a b : State) → is_well_formed_root root ≡ true → a.env.keeps_invalid ≡ false → Follows (root_items root nothing) a b (Err refusals.UnsupportedNode) → ⊥ }
+    ensures shape { (root : Root) (a b : State) → is_well_formed_root root ≡ true →
+        a.env.keeps_invalid ≡ false →
+        Follows (root_items root nothing) a b (Err refusals.BadShape) → ⊥ }
+    ensures node { (root : Root) (a b : State) → is_well_formed_root root ≡ true →
+        a.env.keeps_invalid ≡ false →
+        Follows (root_items root nothing) a b (Err refusals.UnsupportedNode) → ⊥ }
 {}
 
 /// The shapes of which no text is written, and no step is made before the refusal: an import of a namespace among more than
@@ -153,12 +193,16 @@ pub fn well_formed_trees_are_supported()
 /// raw whose value holds both quotes. A plan comes to `BadShape` in no other words.
 #[tactic(auto, using(swc_ecma_codegen_emit::proofs::TreeReads::crowded_refused, swc_ecma_codegen_emit::proofs::TreeReads::uncounted_refused, crate::proofs::BadShapes::textless_refused, crate::proofs::BadShapes::type_template_refused))]
 pub fn bad_shapes_are_refused_first()
-    ensures import_ { (n : ImportDecl AnyNode) (rest : Plan) (env : Env) → is_crowded n.specifiers.items ≡ true → import_decl any_items n rest env ≡ refused BadShape }
-    ensures template { (n : Tpl AnyNode) (tagged : Bool) (rest : Plan) (env : Env) → is_counted n.exprs.items n.quasis.items ≡ false → tpl any_items tagged n rest env ≡ refused BadShape }
+    ensures import_ { (n : ImportDecl AnyNode) (rest : Plan) (env : Env) →
+        is_crowded n.specifiers.items ≡ true → import_decl any_items n rest env ≡ refused BadShape }
+    ensures template { (n : Tpl AnyNode) (tagged : Bool) (rest : Plan) (env : Env) →
+        is_counted n.exprs.items n.quasis.items ≡ false →
+        tpl any_items tagged n rest env ≡ refused BadShape }
     ensures type_template { (n : TsTplLitType AnyNode) (rest : Plan) (env : Env) →
         is_counted n.types.items n.quasis.items ≡ false →
         ts_tpl_lit_type any_items n rest env ≡ refused BadShape }
-    ensures attribute { (n : Str) (rest : Plan) (env : Env) → has_no_text n ≡ true → attribute_string n rest env ≡ refused BadShape }
+    ensures attribute { (n : Str) (rest : Plan) (env : Env) → has_no_text n ≡ true →
+        attribute_string n rest env ≡ refused BadShape }
 {}
 
 /// Under settings that differ in whether they minify the lists of a tree are the same part for part, but for what syntax leaves
@@ -167,9 +211,13 @@ pub fn bad_shapes_are_refused_first()
 /// their tokens alone the written lists are the same but for semicolons that end a statement, commas before `]` and `}`,
 /// and pairs of parentheses.
 pub fn layouts_keep_the_tokens()
-    ensures lists { (s t : Settings) (phrase : Phrase) (xs ys : List Token) → AreAlike s t → Generates s phrase xs → Generates t phrase ys → Alongside s t phrase xs ys }
-    ensures reduced { (s t : Settings) (phrase : Phrase) (us vs : List Token) → AreAlike s t → (x : IsWritten s phrase us) → (y : IsWritten t phrase vs) → Alongside s t phrase x.tokens y.tokens }
-    ensures written { (s t : Settings) (phrase : Phrase) (us vs : List Token) → AreAlike s t → IsWritten s phrase us → IsWritten t phrase vs → AreSameBut us vs }
+    ensures lists { (s t : Settings) (phrase : Phrase) (xs ys : List Token) → AreAlike s t →
+        Generates s phrase xs → Generates t phrase ys → Alongside s t phrase xs ys }
+    ensures reduced { (s t : Settings) (phrase : Phrase) (us vs : List Token) → AreAlike s t →
+        (x : IsWritten s phrase us) → (y : IsWritten t phrase vs) →
+        Alongside s t phrase x.tokens y.tokens }
+    ensures written { (s t : Settings) (phrase : Phrase) (us vs : List Token) → AreAlike s t →
+        IsWritten s phrase us → IsWritten t phrase vs → AreSameBut us vs }
 {}
 
 /// Two emissions of one well-formed tree under the same settings write the same tokens with the same values, whatever the map of
@@ -178,14 +226,29 @@ pub fn layouts_keep_the_tokens()
 /// round an argument, which depend on comments. So do two texts that each read as the tree; and where syntax leaves nothing
 /// open, all that is written is the same, over a writer that holds no semicolons back.
 pub fn source_texts_keep_the_tokens()
-    ensures texts { (config : Config) (holds : Bool) (phrase : Phrase) (first second : List Remark) (us vs : List ℕ) → (x : ReadsAs config holds phrase first us) → (y : ReadsAs config holds phrase second vs) → Alongside (settings_of config) (settings_of config) phrase x.tokens y.tokens }
-    ensures same { (config : Config) (phrase : Phrase) (first second : List Remark) (us vs : List ℕ) → leaves_open phrase ≡ false → (x : ReadsAs config false phrase first us) → (y : ReadsAs config false phrase second vs) → x.written ≡ y.written }
-    ensures emissions { (root : Root) (a b c d : State) → is_well_formed_root root ≡ true → MayBegin root a → MayBegin root c → AreClosed a.env.maps → AreClosed c.env.maps → a.env.config ≡ c.env.config → Follows (root_items root nothing) a b (Ok tt) → Follows (root_items root nothing) c d (Ok tt) → AddTokensAlike c.env.config (root_phrase root) (taken_remarks (root_items root) a.env) (taken_remarks (root_items root) c.env) a.sheet b.sheet c.sheet d.sheet }
+    ensures texts { (config : Config) (holds : Bool) (phrase : Phrase) (first second : List Remark)
+        (us vs : List ℕ) → (x : ReadsAs config holds phrase first us) →
+        (y : ReadsAs config holds phrase second vs) →
+        Alongside (settings_of config) (settings_of config) phrase x.tokens y.tokens }
+    ensures same { (config : Config) (phrase : Phrase) (first second : List Remark)
+        (us vs : List ℕ) → leaves_open phrase ≡ false → (x : ReadsAs config false phrase first us) →
+        (y : ReadsAs config false phrase second vs) → x.written ≡ y.written }
+    ensures emissions { (root : Root) (a b c d : State) → is_well_formed_root root ≡ true →
+        MayBegin root a → MayBegin root c → AreClosed a.env.maps → AreClosed c.env.maps →
+        a.env.config ≡ c.env.config → Follows (root_items root nothing) a b (Ok tt) →
+        Follows (root_items root nothing) c d (Ok tt) →
+        AddTokensAlike c.env.config (root_phrase root) (taken_remarks (root_items root) a.env)
+        (taken_remarks (root_items root) c.env) a.sheet b.sheet c.sheet d.sheet }
 {}
 
 /// Two emissions of one well-formed tree that go by the same settings, the same answers of the map of the source text and the
 /// same comments write one list of tokens, with the same comments between, whatever the indentation, the line end, and
 /// what was written before. Where a writer holds semicolons back, some of those that end a statement may be left out of it.
 pub fn indentations_keep_the_tokens()
-    ensures { (root : Root) (a b c d : State) → is_well_formed_root root ≡ true → MayBegin root a → MayBegin root c → AreClosed a.env.maps → a.env ≡ c.env → Follows (root_items root nothing) a b (Ok tt) → Follows (root_items root nothing) c d (Ok tt) → AddOneList a.env.config (root_phrase root) (taken_remarks (root_items root) a.env) a.sheet b.sheet c.sheet d.sheet }
+    ensures { (root : Root) (a b c d : State) → is_well_formed_root root ≡ true → MayBegin root a →
+        MayBegin root c → AreClosed a.env.maps → a.env ≡ c.env →
+        Follows (root_items root nothing) a b (Ok tt) →
+        Follows (root_items root nothing) c d (Ok tt) →
+        AddOneList a.env.config (root_phrase root) (taken_remarks (root_items root) a.env) a.sheet
+        b.sheet c.sheet d.sheet }
 {}

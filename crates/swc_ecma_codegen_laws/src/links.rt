@@ -35,21 +35,29 @@ use swc_ecma_codegen_tree::{AnyNode, ExprPart, Link};
 /// laws here that speak of roots speak of links.
 #[tactic(auto, using(crate::proofs::LinkLaws::held_written))]
 pub fn links_write_their_roots()
-    ensures { (node : AnyNode) (root : Root) → IsHeld node root → any_items node Plain ≡ root_items root }
+    ensures { (node : AnyNode) (root : Root) → IsHeld node root →
+        any_items node Plain ≡ root_items root }
 {}
 
 /// A link that holds a member expression, in the role of one, is written and read as that.
 #[tactic(auto, using(crate::proofs::LinkLaws::member_written, crate::proofs::LinkLaws::member_read))]
 pub fn links_write_members()
-    ensures items { (node : AnyNode) (member : MemberExpr AnyNode) → node ≡ AnyNode.MemberExpr member → any_items node Plain ≡ member_items any_items member }
-    ensures reads { (node : AnyNode) (member : MemberExpr AnyNode) → node ≡ AnyNode.MemberExpr member → phrase node MemberExpression ≡ member_expr phrase member }
+    ensures items { (node : AnyNode) (member : MemberExpr AnyNode) →
+        node ≡ AnyNode.MemberExpr member → any_items node Plain ≡ member_items any_items member }
+    ensures reads { (node : AnyNode) (member : MemberExpr AnyNode) →
+        node ≡ AnyNode.MemberExpr member →
+        phrase node MemberExpression ≡ member_expr phrase member }
 {}
 
 /// A link that holds what is assigned to, in the role of such, is written and read as that.
 #[tactic(auto, using(crate::proofs::LinkLaws::assign_target_written, crate::proofs::LinkLaws::assign_target_read))]
 pub fn links_write_targets()
-    ensures items { (node : AnyNode) (target : AssignTarget AnyNode) → node ≡ AnyNode.ExprPart (ExprPart.AssignTarget target) → any_items node Plain ≡ target_items any_answers any_items target }
-    ensures reads { (node : AnyNode) (target : AssignTarget AnyNode) → node ≡ AnyNode.ExprPart (ExprPart.AssignTarget target) → phrase node AssignmentTarget ≡ assign_target phrase target }
+    ensures items { (node : AnyNode) (target : AssignTarget AnyNode) →
+        node ≡ AnyNode.ExprPart (ExprPart.AssignTarget target) →
+        any_items node Plain ≡ target_items any_answers any_items target }
+    ensures reads { (node : AnyNode) (target : AssignTarget AnyNode) →
+        node ≡ AnyNode.ExprPart (ExprPart.AssignTarget target) →
+        phrase node AssignmentTarget ≡ assign_target phrase target }
 {}
 
 /// A link: what is written of what it holds, which reads as that.
@@ -57,8 +65,15 @@ pub fn emitted_link_reads<K, N: EmitAt + Spanned, W: WriteJs, S: SourceMapper, C
     link: &Link<K, N>,
     e: &mut Emitter<'_, W, S, C>,
 ) -> Result
-    ensures items { Follows (N.items link.now.node.value Plain nothing) (state_of S.lines C.maps W.sheet e.old) (state_of S.lines C.maps W.sheet e.new) (in_short result) }
-    ensures reads { (root : Root) → N.items link.now.node.value Plain ≡ root_items root → is_well_formed_root root ≡ true → MayBegin root (state_of S.lines C.maps W.sheet e.old) → AreClosed (maps_in C.maps e.old.comments) → OnOk result (AddsReading e.old.cfg (root_phrase root) (taken_remarks (N.items link.now.node.value Plain) (state_of S.lines C.maps W.sheet e.old).env) (W.sheet e.old.wr) (W.sheet e.new.wr)) }
+    ensures items { Follows (N.items link.now.node.value Plain nothing)
+        (state_of S.lines C.maps W.sheet e.old) (state_of S.lines C.maps W.sheet e.new)
+        (in_short result) }
+    ensures reads { (root : Root) → N.items link.now.node.value Plain ≡ root_items root →
+        is_well_formed_root root ≡ true → MayBegin root (state_of S.lines C.maps W.sheet e.old) →
+        AreClosed (maps_in C.maps e.old.comments) →
+        OnOk result (AddsReading e.old.cfg (root_phrase root)
+        (taken_remarks (N.items link.now.node.value Plain)
+        (state_of S.lines C.maps W.sheet e.old).env) (W.sheet e.old.wr) (W.sheet e.new.wr)) }
 {
     link.emit_with(e)
 }
@@ -68,8 +83,15 @@ pub fn emitted_ref_reads<T: EmitAt + Spanned, W: WriteJs, S: SourceMapper, C: Co
     node: &&T,
     e: &mut Emitter<'_, W, S, C>,
 ) -> Result
-    ensures items { Follows (T.items node.now.now Plain nothing) (state_of S.lines C.maps W.sheet e.old) (state_of S.lines C.maps W.sheet e.new) (in_short result) }
-    ensures reads { (root : Root) → T.items node.now.now Plain ≡ root_items root → is_well_formed_root root ≡ true → MayBegin root (state_of S.lines C.maps W.sheet e.old) → AreClosed (maps_in C.maps e.old.comments) → OnOk result (AddsReading e.old.cfg (root_phrase root) (taken_remarks (T.items node.now.now Plain) (state_of S.lines C.maps W.sheet e.old).env) (W.sheet e.old.wr) (W.sheet e.new.wr)) }
+    ensures items { Follows (T.items node.now.now Plain nothing)
+        (state_of S.lines C.maps W.sheet e.old) (state_of S.lines C.maps W.sheet e.new)
+        (in_short result) }
+    ensures reads { (root : Root) → T.items node.now.now Plain ≡ root_items root →
+        is_well_formed_root root ≡ true → MayBegin root (state_of S.lines C.maps W.sheet e.old) →
+        AreClosed (maps_in C.maps e.old.comments) →
+        OnOk result (AddsReading e.old.cfg (root_phrase root)
+        (taken_remarks (T.items node.now.now Plain) (state_of S.lines C.maps W.sheet e.old).env)
+        (W.sheet e.old.wr) (W.sheet e.new.wr)) }
 {
     node.emit_with(e)
 }
@@ -79,8 +101,15 @@ pub fn emitted_box_reads<T: EmitAt + Spanned, W: WriteJs, S: SourceMapper, C: Co
     node: &Box<T>,
     e: &mut Emitter<'_, W, S, C>,
 ) -> Result
-    ensures items { Follows (T.items node.now.value Plain nothing) (state_of S.lines C.maps W.sheet e.old) (state_of S.lines C.maps W.sheet e.new) (in_short result) }
-    ensures reads { (root : Root) → T.items node.now.value Plain ≡ root_items root → is_well_formed_root root ≡ true → MayBegin root (state_of S.lines C.maps W.sheet e.old) → AreClosed (maps_in C.maps e.old.comments) → OnOk result (AddsReading e.old.cfg (root_phrase root) (taken_remarks (T.items node.now.value Plain) (state_of S.lines C.maps W.sheet e.old).env) (W.sheet e.old.wr) (W.sheet e.new.wr)) }
+    ensures items { Follows (T.items node.now.value Plain nothing)
+        (state_of S.lines C.maps W.sheet e.old) (state_of S.lines C.maps W.sheet e.new)
+        (in_short result) }
+    ensures reads { (root : Root) → T.items node.now.value Plain ≡ root_items root →
+        is_well_formed_root root ≡ true → MayBegin root (state_of S.lines C.maps W.sheet e.old) →
+        AreClosed (maps_in C.maps e.old.comments) →
+        OnOk result (AddsReading e.old.cfg (root_phrase root)
+        (taken_remarks (T.items node.now.value Plain) (state_of S.lines C.maps W.sheet e.old).env)
+        (W.sheet e.old.wr) (W.sheet e.new.wr)) }
 {
     node.emit_with(e)
 }
@@ -90,10 +119,20 @@ pub fn emitted_option_reads<T: EmitAt + Spanned, W: WriteJs, S: SourceMapper, C:
     node: &Option<T>,
     e: &mut Emitter<'_, W, S, C>,
 ) -> Result
-    ensures items { (some : T) → node.now ≡ Some some → Follows (T.items some Plain nothing) (state_of S.lines C.maps W.sheet e.old) (state_of S.lines C.maps W.sheet e.new) (in_short result) }
-    ensures reads { (some : T) (root : Root) → node.now ≡ Some some → T.items some Plain ≡ root_items root → is_well_formed_root root ≡ true → MayBegin root (state_of S.lines C.maps W.sheet e.old) → AreClosed (maps_in C.maps e.old.comments) → OnOk result (AddsReading e.old.cfg (root_phrase root) (taken_remarks (T.items some Plain) (state_of S.lines C.maps W.sheet e.old).env) (W.sheet e.old.wr) (W.sheet e.new.wr)) }
-    ensures none { node.now ≡ None → state_of S.lines C.maps W.sheet e.new ≡ state_of S.lines C.maps W.sheet e.old }
-    ensures none_made { node.now ≡ None → (state_of S.lines C.maps W.sheet e.old).failed ≡ false → IsOk result }
+    ensures items { (some : T) → node.now ≡ Some some →
+        Follows (T.items some Plain nothing) (state_of S.lines C.maps W.sheet e.old)
+        (state_of S.lines C.maps W.sheet e.new) (in_short result) }
+    ensures reads { (some : T) (root : Root) → node.now ≡ Some some →
+        T.items some Plain ≡ root_items root → is_well_formed_root root ≡ true →
+        MayBegin root (state_of S.lines C.maps W.sheet e.old) →
+        AreClosed (maps_in C.maps e.old.comments) →
+        OnOk result (AddsReading e.old.cfg (root_phrase root)
+        (taken_remarks (T.items some Plain) (state_of S.lines C.maps W.sheet e.old).env)
+        (W.sheet e.old.wr) (W.sheet e.new.wr)) }
+    ensures none { node.now ≡ None →
+        state_of S.lines C.maps W.sheet e.new ≡ state_of S.lines C.maps W.sheet e.old }
+    ensures none_made { node.now ≡ None → (state_of S.lines C.maps W.sheet e.old).failed ≡ false →
+        IsOk result }
 {
     node.emit_with(e)
 }

@@ -19,7 +19,8 @@ use swc_ecma_codegen_tree::{BigInt, Radix};
 #[tactic(auto, unfolding(crate::specs::BigIntegers::big_text))]
 pub fn big_integer_text(alloc: Global, number: &BigInt) -> std::result::Result<String, Error>
     ensures exactly { IfOk result (λ text. string_bytes text ≡ big_text number.now) }
-    ensures ascii { IsAscii (string_bytes number.now.digits) → IfOk result (λ text. IsAscii (string_bytes text)) }
+    ensures ascii { IsAscii (string_bytes number.now.digits) →
+        IfOk result (λ text. IsAscii (string_bytes text)) }
     ensures refused { IfErr result (λ error. error ≡ OutOfMemory) }
 {
     let digits = without_separators(alloc, number.digits.as_str())?;

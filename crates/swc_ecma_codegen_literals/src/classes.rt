@@ -27,7 +27,8 @@ pub enum TokenClass {
 /// The class of a number that is spelled so: `Integer` where a dot after it would belong to it, as after `5` and `08`,
 /// and not after `5.`, `5e3`, `0x5`, `05` or `5n`; else `Word`.
 pub fn number_class(spelling: &str) -> TokenClass
-    ensures { result ≡ (if takes_dot (chars spelling.now) then TokenClass.Integer else TokenClass.Word) }
+    ensures { result ≡ (if takes_dot (chars spelling.now) then TokenClass.Integer
+        else TokenClass.Word) }
 {
     if spelling.is_ascii() && is_integer(spelling.as_bytes()) {
         TokenClass::Integer

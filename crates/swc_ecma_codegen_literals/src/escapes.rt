@@ -69,7 +69,8 @@ pub(crate) fn push_escape(
     rest: &str,
     target: EsVersion,
 ) -> Result<(), AllocError>
-    ensures { OnOk result (string_bytes literal.new ≡ string_bytes literal.old ++ escape_text target c (chars rest.now)) }
+    ensures { OnOk result (string_bytes literal.new
+        ≡ string_bytes literal.old ++ escape_text target c (chars rest.now)) }
 {
     match c {
         '\0' => push_null(literal, rest, target),
@@ -88,7 +89,8 @@ pub(crate) fn push_escape(
 // `\0`, but not before a digit, where it would be an octal escape, nor for ECMAScript 3.
 #[tactic(auto, unfolding(crate::specs::StringTexts::null_escape))]
 fn push_null(literal: &mut String, rest: &str, target: EsVersion) -> Result<(), AllocError>
-    ensures { OnOk result (string_bytes literal.new ≡ string_bytes literal.old ++ null_escape target (chars rest.now)) }
+    ensures { OnOk result (string_bytes literal.new
+        ≡ string_bytes literal.old ++ null_escape target (chars rest.now)) }
 {
     if is_below_es5(target) || begins_digit(rest) {
         literal.push_str("\\x00")
@@ -99,7 +101,8 @@ fn push_null(literal: &mut String, rest: &str, target: EsVersion) -> Result<(), 
 
 #[tactic(auto, unfolding(crate::specs::StringTexts::backslash_escape))]
 fn push_backslash(literal: &mut String, rest: &str) -> Result<(), AllocError>
-    ensures { OnOk result (string_bytes literal.new ≡ string_bytes literal.old ++ backslash_escape (chars rest.now)) }
+    ensures { OnOk result (string_bytes literal.new
+        ≡ string_bytes literal.old ++ backslash_escape (chars rest.now)) }
 {
     if begins_surrogate(rest) {
         literal.push('\\')
@@ -143,7 +146,8 @@ fn is_long_escape(text: &[u8]) -> bool
 }
 
 fn is_surrogate(first: u8, second: u8, third: u8, fourth: u8) -> bool
-    ensures { result ≡ (is_either 68 100 first && (is_high_digit second && (is_hex third && is_hex fourth))) }
+    ensures { result ≡ (is_either 68 100 first
+        && (is_high_digit second && (is_hex third && is_hex fourth))) }
 {
     is_letter_d(first) && is_high_digit(second) && is_hex(third) && is_hex(fourth)
 }
@@ -177,7 +181,8 @@ pub(crate) fn push_code(
     target: EsVersion,
 ) -> Result<(), AllocError>
     requires { code < 1114112 }
-    ensures { OnOk result (string_bytes literal.new ≡ string_bytes literal.old ++ code_escape target code) }
+    ensures { OnOk result (string_bytes literal.new
+        ≡ string_bytes literal.old ++ code_escape target code) }
 {
     if code < 0x100 {
         push_hex_escape(literal, code)
@@ -206,7 +211,8 @@ pub(crate) fn push_hex_escape(literal: &mut String, code: u32) -> Result<(), All
 #[tactic(auto, unfolding(crate::specs::StringTexts::unit_escape))]
 pub(crate) fn push_unit_escape(literal: &mut String, code: u32) -> Result<(), AllocError>
     requires { code < 65536 }
-    ensures { OnOk result (string_bytes literal.new ≡ string_bytes literal.old ++ unit_escape code) }
+    ensures { OnOk result (string_bytes literal.new
+        ≡ string_bytes literal.old ++ unit_escape code) }
 {
     literal.push_str("\\u")?;
     literal.push(upper_digit(code / 4096))?;
@@ -218,7 +224,8 @@ pub(crate) fn push_unit_escape(literal: &mut String, code: u32) -> Result<(), Al
 // `\u{1F600}`
 #[tactic(auto, unfolding(crate::specs::StringTexts::braced_escape))]
 pub(crate) fn push_braced_escape(literal: &mut String, code: u32) -> Result<(), AllocError>
-    ensures { OnOk result (string_bytes literal.new ≡ string_bytes literal.old ++ braced_escape code) }
+    ensures { OnOk result (string_bytes literal.new
+        ≡ string_bytes literal.old ++ braced_escape code) }
 {
     write!(literal, "\\u{{{code:X}}}")
 }

@@ -28,14 +28,25 @@ pub fn ascii_only_ident(
     may_be_quoted: bool,
     target: EsVersion,
 ) -> std::result::Result<String, Error>
-    ensures exactly { IfOk result (λ name. string_bytes name ≡ ascii_name may_be_quoted target (chars text.now)) }
-    ensures name { is_quoted_key may_be_quoted target (chars text.now) ≡ false → IfOk result (λ name. is_name (chars (string_bytes name)) ≡ is_name (chars text.now)) }
-    ensures value { is_quoted_key may_be_quoted target (chars text.now) ≡ false → is_name (chars text.now) ≡ true → IfOk result (λ name. name_value (chars (string_bytes name)) ≡ name_value (chars text.now)) }
-    ensures key { is_quoted_key may_be_quoted target (chars text.now) ≡ true → is_name (chars text.now) ≡ true → IfOk result (λ name. string_value false (chars (string_bytes name)) ≡ Some (all_utf16 (name_value (chars text.now)))) }
-    ensures token { is_quoted_key may_be_quoted target (chars text.now) ≡ true → is_name (chars text.now) ≡ true → IfOk result (λ name. is_string (chars (string_bytes name)) ≡ true) }
+    ensures exactly { IfOk result (λ name. string_bytes name
+        ≡ ascii_name may_be_quoted target (chars text.now)) }
+    ensures name { is_quoted_key may_be_quoted target (chars text.now) ≡ false →
+        IfOk result (λ name. is_name (chars (string_bytes name)) ≡ is_name (chars text.now)) }
+    ensures value { is_quoted_key may_be_quoted target (chars text.now) ≡ false →
+        is_name (chars text.now) ≡ true →
+        IfOk result (λ name. name_value (chars (string_bytes name)) ≡ name_value (chars text.now)) }
+    ensures key { is_quoted_key may_be_quoted target (chars text.now) ≡ true →
+        is_name (chars text.now) ≡ true →
+        IfOk result (λ name. string_value false (chars (string_bytes name))
+        ≡ Some (all_utf16 (name_value (chars text.now)))) }
+    ensures token { is_quoted_key may_be_quoted target (chars text.now) ≡ true →
+        is_name (chars text.now) ≡ true →
+        IfOk result (λ name. is_string (chars (string_bytes name)) ≡ true) }
     ensures ascii { IfOk result (λ name. IsAscii (string_bytes name)) }
-    ensures out_of_target { is_out_of_target may_be_quoted target (chars text.now) ≡ true → IsErrAnd result (λ error. error ≡ NameOutOfTarget) }
-    ensures refused { is_out_of_target may_be_quoted target (chars text.now) ≡ false → IfErr result (λ error. error ≡ OutOfMemory) }
+    ensures out_of_target { is_out_of_target may_be_quoted target (chars text.now) ≡ true →
+        IsErrAnd result (λ error. error ≡ NameOutOfTarget) }
+    ensures refused { is_out_of_target may_be_quoted target (chars text.now) ≡ false →
+        IfErr result (λ error. error ≡ OutOfMemory) }
 {
     if text.is_ascii() {
         return Ok(String::from_str(alloc, text)?);
@@ -51,7 +62,8 @@ pub fn ascii_only_ident(
 
 // `"a\xf3b"`
 fn quoted_key(alloc: Global, text: &str, target: EsVersion) -> Result<String, AllocError>
-    ensures { IfOk result (λ name. string_bytes name ≡ 34 ∷ (name_escapes true target (chars text.now) ++ 34 ∷ [])) }
+    ensures { IfOk result (λ name. string_bytes name
+        ≡ 34 ∷ (name_escapes true target (chars text.now) ++ 34 ∷ [])) }
 {
     let mut name = String::with_capacity(alloc, text.len() + 8)?;
     name.push('"')?;
@@ -118,7 +130,8 @@ fn push_escapes(
     key: bool,
     target: EsVersion,
 ) -> Result<(), AllocError>
-    ensures { OnOk result (string_bytes name.new ≡ string_bytes name.old ++ name_escapes key target (chars text.now)) }
+    ensures { OnOk result (string_bytes name.new
+        ≡ string_bytes name.old ++ name_escapes key target (chars text.now)) }
 {
     let mut rest = text;
     while !rest.is_empty() {
@@ -160,10 +173,12 @@ fn push_first<'a>(
     key: bool,
     target: EsVersion,
 ) -> Result<&'a str, AllocError>
-    ensures name { OnOk result (string_bytes name.new ≡ string_bytes name.old ++ name_escapes key target (take 1 (chars text.now))) }
+    ensures name { OnOk result (string_bytes name.new
+        ≡ string_bytes name.old ++ name_escapes key target (take 1 (chars text.now))) }
     ensures text { IfOk result (λ rest. IsUtf8 rest.now) }
     ensures rest { IfOk result (λ rest. chars rest.now ≡ drop 1 (chars text.now)) }
-    ensures shorter { IfOk result (λ rest. (length rest.now ≤ length text.now) × (0 < length text.now → length rest.now < length text.now)) }
+    ensures shorter { IfOk result (λ rest. (length rest.now ≤ length text.now)
+        × (0 < length text.now → length rest.now < length text.now)) }
 {
     let mut chars = text.chars();
     match chars.next() {
@@ -183,7 +198,8 @@ fn push_character(
     key: bool,
     target: EsVersion,
 ) -> Result<(), AllocError>
-    ensures { OnOk result (string_bytes name.new ≡ string_bytes name.old ++ name_escape key target c) }
+    ensures { OnOk result (string_bytes name.new
+        ≡ string_bytes name.old ++ name_escape key target c) }
 {
     if is_plain(c) {
         name.push(c)
@@ -198,7 +214,8 @@ fn push_character(
 #[tactic(auto, unfolding(crate::specs::AsciiNames::lower_unit_escape))]
 fn push_lower_unit_escape(name: &mut String, code: u32) -> Result<(), AllocError>
     requires { code < 256 }
-    ensures { OnOk result (string_bytes name.new ≡ string_bytes name.old ++ lower_unit_escape code) }
+    ensures { OnOk result (string_bytes name.new
+        ≡ string_bytes name.old ++ lower_unit_escape code) }
 {
     name.push_str("\\u00")?;
     name.push(lower_digit(code / 16))?;

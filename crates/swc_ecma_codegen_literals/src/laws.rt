@@ -26,8 +26,10 @@ ghost use Rattle.swc_ecma_codegen_literals.specs.Separators.{without_underscores
 /// same.
 #[tactic(auto, using(crate::proofs::StringTokens::strict_is_string, crate::proofs::StringTokens::strict_same))]
 pub fn strict_strings_stay()
-    ensures token { (text units : List ℕ) → string_value false text ≡ Some units → is_string text ≡ true }
-    ensures value { (text units : List ℕ) → string_value false text ≡ Some units → string_value true text ≡ Some units }
+    ensures token { (text units : List ℕ) → string_value false text ≡ Some units →
+        is_string text ≡ true }
+    ensures value { (text units : List ℕ) → string_value false text ≡ Some units →
+        string_value true text ≡ Some units }
 {}
 
 /// A string literal begins with a quote, a number with a digit or with a dot and a digit, and a name with a character
@@ -36,23 +38,29 @@ pub fn strict_strings_stay()
 pub fn spellings_begin()
     ensures string { (text : List ℕ) → is_string text ≡ true → begins_quoted text ≡ true }
     ensures number { (text : List ℕ) → is_number text ≡ true → begins_numeric text ≡ true }
-    ensures big_integer { (text : List ℕ) → is_big_integer text ≡ true → begins_numeric text ≡ true }
+    ensures big_integer { (text : List ℕ) → is_big_integer text ≡ true →
+        begins_numeric text ≡ true }
     ensures name { (text : List ℕ) → is_name text ≡ true → begins_name text ≡ true }
-    ensures ascii_name { (key : Bool) (v : EsVersion) (text : List ℕ) → is_name text ≡ true → is_quoted_key key v text ≡ false → begins_name (ascii_name key v text) ≡ true }
-    ensures quoted_key { (key : Bool) (v : EsVersion) (text : List ℕ) → is_quoted_key key v text ≡ true → begins_quoted (ascii_name key v text) ≡ true }
+    ensures ascii_name { (key : Bool) (v : EsVersion) (text : List ℕ) → is_name text ≡ true →
+        is_quoted_key key v text ≡ false → begins_name (ascii_name key v text) ≡ true }
+    ensures quoted_key { (key : Bool) (v : EsVersion) (text : List ℕ) →
+        is_quoted_key key v text ≡ true → begins_quoted (ascii_name key v text) ≡ true }
 {}
 
 /// A name in ASCII stays as it is under `ascii_only`, so that it may be lent.
 #[tactic(auto, using(crate::proofs::BeginningLaws::ascii_name_stays))]
 pub fn ascii_names_stay()
-    ensures { (key : Bool) (v : EsVersion) (text : List ℕ) → IsAscii text → ascii_name key v (chars text) ≡ text }
+    ensures { (key : Bool) (v : EsVersion) (text : List ℕ) → IsAscii text →
+        ascii_name key v (chars text) ≡ text }
 {}
 
 /// The text of a number is `-` where it is below zero, and then one numeric token of its size: `-5` is `-` and `5`.
 #[tactic(auto, using(crate::proofs::NumberTokens::plain_signed, crate::proofs::NumberTokens::minified_signed))]
 pub fn numbers_are_signed_sizes()
-    ensures plain { (number : Decimal) → IsSignedSize number (plain_text number) (plain_part number) }
-    ensures minified { (number : Decimal) → IsSignedSize number (minified_text number) (minified_part number) }
+    ensures plain { (number : Decimal) →
+        IsSignedSize number (plain_text number) (plain_part number) }
+    ensures minified { (number : Decimal) →
+        IsSignedSize number (minified_text number) (minified_part number) }
 {}
 
 /// A number without `_` is one, of the same value, and so is a big integer, of the same radix and digits. That the bytes
@@ -60,22 +68,31 @@ pub fn numbers_are_signed_sizes()
 #[tactic(auto, using(crate::proofs::SeparatedTexts::worth_as_much, crate::proofs::SeparatedTexts::chars_without, crate::proofs::SeparatedTexts::ascii_without))]
 pub fn separators_stand_for_nothing()
     ensures worth { (text : List ℕ) → IsWorthAsMuch text (without_underscores text) }
-    ensures characters { (bytes : List ℕ) → IsUtf8 bytes → chars (without_underscores bytes) ≡ without_underscores (chars bytes) }
+    ensures characters { (bytes : List ℕ) → IsUtf8 bytes →
+        chars (without_underscores bytes) ≡ without_underscores (chars bytes) }
     ensures ascii { (bytes : List ℕ) → IsAscii bytes → IsAscii (without_underscores bytes) }
 {}
 
 /// The text of a big integer is `-` where it is below zero, and then, with its `n`, one token of its radix and digits.
 #[tactic(auto, using(crate::proofs::BigTokens::big_signed))]
 pub fn big_integers_are_signed_sizes()
-    ensures { (n : BigInt) → are_digits n.radix (chars (string_bytes n.digits)) ≡ true → IsSignedInteger n (big_text n) (big_part n) }
+    ensures { (n : BigInt) → are_digits n.radix (chars (string_bytes n.digits)) ≡ true →
+        IsSignedInteger n (big_text n) (big_part n) }
 {}
 
 /// The spellings are tokens: a string literal without octal escapes is one of its units, the size of a number one of its
 /// value, a big integer one of its radix and digits. A number or a big integer stays the same token without `_`.
 pub fn spellings_are_tokens()
-    ensures string { (text units : List ℕ) → string_value false text ≡ Some units → Spells (string_token units) text }
-    ensures number { (number : Decimal) (size : List ℕ) → IsSizeOf number size → Spells (number_token (exact_size number)) (chars size) }
-    ensures big_integer { (radix : Radix) (digits text : List ℕ) → IsBigInteger radix digits text → Spells (big_int_token radix digits) text }
-    ensures number_without { (value : Value) (text : List ℕ) → Spells (record { kind = Number; value = value }) text → Spells (record { kind = Number; value = value }) (without_underscores text) }
-    ensures big_integer_without { (value : Value) (text : List ℕ) → Spells (record { kind = BigIntKind; value = value }) text → Spells (record { kind = BigIntKind; value = value }) (without_underscores text) }
+    ensures string { (text units : List ℕ) → string_value false text ≡ Some units →
+        Spells (string_token units) text }
+    ensures number { (number : Decimal) (size : List ℕ) → IsSizeOf number size →
+        Spells (number_token (exact_size number)) (chars size) }
+    ensures big_integer { (radix : Radix) (digits text : List ℕ) → IsBigInteger radix digits text →
+        Spells (big_int_token radix digits) text }
+    ensures number_without { (value : Value) (text : List ℕ) →
+        Spells (record { kind = Number; value = value }) text →
+        Spells (record { kind = Number; value = value }) (without_underscores text) }
+    ensures big_integer_without { (value : Value) (text : List ℕ) →
+        Spells (record { kind = BigIntKind; value = value }) text →
+        Spells (record { kind = BigIntKind; value = value }) (without_underscores text) }
 {}

@@ -88,7 +88,8 @@ fn push_zeros(text: &mut String, count: usize) -> Result<(), AllocError>
 // `12` with the exponent 1 is `120`, with -1 `1.2` and with -3 `0.012`.
 #[tactic(auto, unfolding(crate::specs::NumberTexts::plain_size))]
 fn push_plain(text: &mut String, number: &Decimal) -> Result<(), AllocError>
-    ensures { OnOk result (string_bytes text.new ≡ string_bytes text.old ++ plain_size (decimal_digits number.now) number.now.exponent) }
+    ensures { OnOk result (string_bytes text.new
+        ≡ string_bytes text.old ++ plain_size (decimal_digits number.now) number.now.exponent) }
 {
     let digits = number.digits();
     let places = number.exponent().unsigned_abs() as usize;
@@ -104,7 +105,8 @@ fn push_plain(text: &mut String, number: &Decimal) -> Result<(), AllocError>
 #[tactic(auto, unfolding(crate::specs::NumberTexts::with_point))]
 fn push_fraction(text: &mut String, digits: &str, places: usize) -> Result<(), AllocError>
     requires { IsAscii digits.now }
-    ensures { OnOk result (string_bytes text.new ≡ string_bytes text.old ++ with_point digits.now places) }
+    ensures { OnOk result (string_bytes text.new
+        ≡ string_bytes text.old ++ with_point digits.now places) }
 {
     if places < digits.len() {
         let point = digits.len() - places;
@@ -121,7 +123,9 @@ fn push_fraction(text: &mut String, digits: &str, places: usize) -> Result<(), A
 // `12e3`, `.012` and `12e-6` in place of `12000`, `0.012` and `0.000012`.
 #[tactic(auto, unfolding(crate::specs::NumberTexts::short_size, crate::specs::NumberTexts::short_whole))]
 fn short_number(alloc: Global, number: &Decimal) -> Result<Option<String>, AllocError>
-    ensures { IfOk result (λ text. option_text text ≡ option_map (λ size. sign_text number.now.negative ++ size) (short_size number.now.negative (decimal_digits number.now) number.now.exponent)) }
+    ensures { IfOk result (λ text. option_text text
+        ≡ option_map (λ size. sign_text number.now.negative ++ size)
+        (short_size number.now.negative (decimal_digits number.now) number.now.exponent)) }
 {
     let places = number.exponent().unsigned_abs() as usize;
     if number.exponent() < 0 {
@@ -141,7 +145,9 @@ fn short_fraction_number(
     number: &Decimal,
     places: usize,
 ) -> Result<Option<String>, AllocError>
-    ensures { IfOk result (λ text. option_text text ≡ option_map (λ size. sign_text number.now.negative ++ size) (short_fraction number.now.negative (decimal_digits number.now) places)) }
+    ensures { IfOk result (λ text. option_text text
+        ≡ option_map (λ size. sign_text number.now.negative ++ size)
+        (short_fraction number.now.negative (decimal_digits number.now) places)) }
 {
     let digits = number.digits();
     if places < digits.len() {
@@ -162,7 +168,9 @@ fn short_fraction_number(
 // `0xff` for 255, and none where a number has a fraction or is above 2 to the 63 in size.
 #[tactic(auto, unfolding(crate::specs::NumberTexts::hexadecimal_size))]
 fn hexadecimal_number(alloc: Global, number: &Decimal) -> Result<Option<String>, AllocError>
-    ensures { IfOk result (λ text. option_text text ≡ option_map (λ size. sign_text number.now.negative ++ size) (hexadecimal_size (decimal_digits number.now) number.now.exponent)) }
+    ensures { IfOk result (λ text. option_text text
+        ≡ option_map (λ size. sign_text number.now.negative ++ size)
+        (hexadecimal_size (decimal_digits number.now) number.now.exponent)) }
 {
     match whole_size(alloc, number)? {
         Some(size) => {
@@ -176,7 +184,8 @@ fn hexadecimal_number(alloc: Global, number: &Decimal) -> Result<Option<String>,
 // The size of a whole number of at most 2 to the 63.
 #[tactic(auto, unfolding(crate::specs::NumberTexts::whole_size))]
 fn whole_size(alloc: Global, number: &Decimal) -> Result<Option<u64>, AllocError>
-    ensures { IfOk result (λ size. size ≡ whole_size (decimal_digits number.now) number.now.exponent) }
+    ensures { IfOk result (λ size. size
+        ≡ whole_size (decimal_digits number.now) number.now.exponent) }
 {
     if number.exponent() < 0 {
         return Ok(None);

@@ -27,8 +27,10 @@ pub fn quoted_for_inline_script(
     ascii_only: bool,
     target: EsVersion,
 ) -> std::result::Result<String, Error>
-    ensures exactly { IfOk result (λ literal. string_bytes literal ≡ encode_utf8_all (inline_text (quoted_text ascii_only target (chars text.now)))) }
-    ensures value { IfOk result (λ literal. string_value false (chars (string_bytes literal)) ≡ Some (units (chars text.now))) }
+    ensures exactly { IfOk result (λ literal. string_bytes literal
+        ≡ encode_utf8_all (inline_text (quoted_text ascii_only target (chars text.now)))) }
+    ensures value { IfOk result (λ literal. string_value false (chars (string_bytes literal))
+        ≡ Some (units (chars text.now))) }
     ensures token { IfOk result (λ literal. is_string (chars (string_bytes literal)) ≡ true) }
     ensures safe { IfOk result (λ literal. IsInlineSafe (chars (string_bytes literal))) }
     ensures ascii { ascii_only ≡ true → IfOk result (λ literal. IsAscii (string_bytes literal)) }
@@ -61,7 +63,8 @@ fn first_mark(literal: &[u8]) -> Option<(usize, &'static str)>
     ensures none { result ≡ None → marked 0 literal.now ≡ literal.now }
     ensures place { IfSome result (λ mark. mark.0 < length literal.now) }
     ensures ascii { IfSome result (λ mark. slice_index literal.now mark.0 < 128) }
-    ensures parts { IfSome result (λ mark. marked 0 literal.now ≡ take mark.0 literal.now ++ (mark.1.now ++ marked 0 (drop (mark.0 + 1) literal.now))) }
+    ensures parts { IfSome result (λ mark. marked 0 literal.now
+        ≡ take mark.0 literal.now ++ (mark.1.now ++ marked 0 (drop (mark.0 + 1) literal.now))) }
 {
     let mut dashes = 0;
     for at in 0..literal.len() {

@@ -18,8 +18,10 @@ use swc_ecma_codegen_common::Error;
 /// Source: `emit_num_lit_internal` and `emit_big_lit` of swc.
 pub fn without_separators(alloc: Global, spelling: &str) -> std::result::Result<CowStr<'_>, Error>
     ensures exactly { IfOk result (λ text. cow_str_bytes text ≡ without_underscores spelling.now) }
-    ensures characters { IfOk result (λ text. chars (cow_str_bytes text) ≡ without_underscores (chars spelling.now)) }
-    ensures worth { IfOk result (λ text. IsWorthAsMuch (chars spelling.now) (chars (cow_str_bytes text))) }
+    ensures characters { IfOk result (λ text. chars (cow_str_bytes text)
+        ≡ without_underscores (chars spelling.now)) }
+    ensures worth { IfOk result (λ text.
+        IsWorthAsMuch (chars spelling.now) (chars (cow_str_bytes text))) }
     ensures ascii { IsAscii spelling.now → IfOk result (λ text. IsAscii (cow_str_bytes text)) }
     ensures lent { has_byte 95 spelling.now ≡ false → IsOkAnd result IsLent }
     ensures refused { IfErr result (λ error. error ≡ OutOfMemory) }
@@ -38,7 +40,8 @@ fn holds_underscore(spelling: &str) -> bool
 }
 
 fn without_underscores(alloc: Global, spelling: &str) -> Result<String, AllocError>
-    ensures { IfOk result (λ text. string_bytes text ≡ encode_utf8_all (without_underscores (chars spelling.now))) }
+    ensures { IfOk result (λ text. string_bytes text
+        ≡ encode_utf8_all (without_underscores (chars spelling.now))) }
 {
     spelling.chars().filter(|c| *c != '_').collect(alloc)
 }

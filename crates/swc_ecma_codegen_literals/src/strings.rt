@@ -26,8 +26,10 @@ pub fn quoted_utf16(
     ascii_only: bool,
     target: EsVersion,
 ) -> std::result::Result<String, Error>
-    ensures exactly { IfOk result (λ literal. string_bytes literal ≡ encode_utf8_all (quoted_text ascii_only target (chars text.now))) }
-    ensures value { IfOk result (λ literal. string_value false (chars (string_bytes literal)) ≡ Some (units (chars text.now))) }
+    ensures exactly { IfOk result (λ literal. string_bytes literal
+        ≡ encode_utf8_all (quoted_text ascii_only target (chars text.now))) }
+    ensures value { IfOk result (λ literal. string_value false (chars (string_bytes literal))
+        ≡ Some (units (chars text.now))) }
     ensures token { IfOk result (λ literal. is_string (chars (string_bytes literal)) ≡ true) }
     ensures ascii { ascii_only ≡ true → IfOk result (λ literal. IsAscii (string_bytes literal)) }
     ensures refused { IfErr result (λ error. error ≡ OutOfMemory) }
@@ -85,7 +87,8 @@ fn spelled_literal(
     ascii_only: bool,
     target: EsVersion,
 ) -> Result<String, AllocError>
-    ensures { IfOk result (λ literal. string_bytes literal ≡ encode_utf8_all (quoted_text ascii_only target (chars text.now))) }
+    ensures { IfOk result (λ literal. string_bytes literal
+        ≡ encode_utf8_all (quoted_text ascii_only target (chars text.now))) }
 {
     let quote = quote_of(text);
     let style = Style {
@@ -119,7 +122,9 @@ fn count(text: &str, quote: char) -> usize
 
 // The characters of a text, each as it is spelled. Those that stand for themselves are copied a run at a time.
 fn push_spelled(literal: &mut String, text: &str, style: Style) -> Result<(), AllocError>
-    ensures { OnOk result (string_bytes literal.new ≡ string_bytes literal.old ++ encode_utf8_all (spelled_all style.quote style.ascii_only style.target (chars text.now))) }
+    ensures { OnOk result (string_bytes literal.new
+        ≡ string_bytes literal.old ++ encode_utf8_all
+        (spelled_all style.quote style.ascii_only style.target (chars text.now))) }
 {
     let mut rest = text;
     while !rest.is_empty() {
@@ -136,10 +141,12 @@ fn push_first_escape<'a>(
     text: &'a str,
     target: EsVersion,
 ) -> Result<&'a str, AllocError>
-    ensures literal { OnOk result (string_bytes literal.new ≡ string_bytes literal.old ++ first_escape target (chars text.now)) }
+    ensures literal { OnOk result (string_bytes literal.new
+        ≡ string_bytes literal.old ++ first_escape target (chars text.now)) }
     ensures text { IfOk result (λ rest. IsUtf8 rest.now) }
     ensures rest { IfOk result (λ rest. chars rest.now ≡ drop 1 (chars text.now)) }
-    ensures shorter { IfOk result (λ rest. (length rest.now ≤ length text.now) × (0 < length text.now → length rest.now < length text.now)) }
+    ensures shorter { IfOk result (λ rest. (length rest.now ≤ length text.now)
+        × (0 < length text.now → length rest.now < length text.now)) }
 {
     let mut chars = text.chars();
     match chars.next() {
@@ -155,8 +162,10 @@ fn push_first_escape<'a>(
 fn split_run(text: &str, style: Style) -> (&str, &str)
     ensures texts { IsUtf8 result.0.now × IsUtf8 result.1.now }
     ensures parts { text.now ≡ result.0.now ++ result.1.now }
-    ensures run { list_all (stands style.quote style.ascii_only style.target) (chars result.0.now) ≡ true }
-    ensures stops { (c : ℕ) → (cs : List ℕ) → chars result.1.now ≡ c ∷ cs → stands style.quote style.ascii_only style.target c ≡ false }
+    ensures run { list_all (stands style.quote style.ascii_only style.target) (chars result.0.now)
+        ≡ true }
+    ensures stops { (c : ℕ) → (cs : List ℕ) → chars result.1.now ≡ c ∷ cs →
+        stands style.quote style.ascii_only style.target c ≡ false }
 {
     let mut rest = text;
     let mut chars = text.chars();

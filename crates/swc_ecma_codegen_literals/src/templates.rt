@@ -41,9 +41,12 @@ pub fn template_from_raw(
     raw: &str,
     ascii_only: bool,
 ) -> std::result::Result<String, Error>
-    ensures exactly { IfOk result (λ text. string_bytes text ≡ encode_utf8_all (template_text ascii_only (chars raw.now))) }
-    ensures cooked { (units : List ℕ) → cooked_value (chars raw.now) ≡ Some units → IfOk result (λ text. cooked_value (chars (string_bytes text)) ≡ Some units) }
-    ensures part { (units : List ℕ) → cooked_value (chars raw.now) ≡ Some units → IfOk result (λ text. IsInsidePart (chars (string_bytes text))) }
+    ensures exactly { IfOk result (λ text. string_bytes text
+        ≡ encode_utf8_all (template_text ascii_only (chars raw.now))) }
+    ensures cooked { (units : List ℕ) → cooked_value (chars raw.now) ≡ Some units →
+        IfOk result (λ text. cooked_value (chars (string_bytes text)) ≡ Some units) }
+    ensures part { (units : List ℕ) → cooked_value (chars raw.now) ≡ Some units →
+        IfOk result (λ text. IsInsidePart (chars (string_bytes text))) }
     ensures ascii { ascii_only ≡ true → IfOk result (λ text. IsAscii (string_bytes text)) }
     ensures refused { IfErr result (λ error. error ≡ OutOfMemory) }
 {
@@ -54,7 +57,8 @@ pub fn template_from_raw(
 
 // The pieces of a raw text, each as it is spelled. Characters that stand for themselves are copied a run at a time.
 fn push_spelled(text: &mut String, raw: &str, ascii_only: bool) -> Result<(), AllocError>
-    ensures { OnOk result (string_bytes text.new ≡ string_bytes text.old ++ spelled_bytes false ascii_only raw.now) }
+    ensures { OnOk result (string_bytes text.new
+        ≡ string_bytes text.old ++ spelled_bytes false ascii_only raw.now) }
 {
     let mut rest = raw;
     let mut dollar = false;
@@ -74,9 +78,12 @@ fn push_first_piece<'a>(
     dollar: bool,
     ascii_only: bool,
 ) -> Result<(&'a str, bool), AllocError>
-    ensures spelled { IfOk result (λ rest. string_bytes text.new ++ spelled_bytes rest.1 ascii_only rest.0.now ≡ string_bytes text.old ++ spelled_bytes dollar ascii_only raw.now) }
+    ensures spelled { IfOk result (λ rest.
+        string_bytes text.new ++ spelled_bytes rest.1 ascii_only rest.0.now
+        ≡ string_bytes text.old ++ spelled_bytes dollar ascii_only raw.now) }
     ensures text { IfOk result (λ rest. IsUtf8 rest.0.now) }
-    ensures shorter { IfOk result (λ rest. (length rest.0.now ≤ length raw.now) × (0 < length raw.now → length rest.0.now < length raw.now)) }
+    ensures shorter { IfOk result (λ rest. (length rest.0.now ≤ length raw.now)
+        × (0 < length raw.now → length rest.0.now < length raw.now)) }
 {
     match split_piece(raw) {
         Some((piece, next)) => {
@@ -145,7 +152,8 @@ fn begins_with(text: &str, c: char) -> bool
 #[tactic(auto, unfolding(crate::specs::TemplateTexts::pieces_after, crate::specs::TemplateTexts::first_piece, crate::specs::TemplateTexts::piece_more))]
 fn split_piece(raw: &str) -> Option<(Piece, &str)>
     ensures none { IfNone result (chars raw.now ≡ []) }
-    ensures pieces { IfSome result (λ first. pieces (chars raw.now) ≡ first.0 ∷ pieces (chars first.1.now)) }
+    ensures pieces { IfSome result (λ first. pieces (chars raw.now)
+        ≡ first.0 ∷ pieces (chars first.1.now)) }
     ensures text { IfSome result (λ first. IsUtf8 first.1.now) }
     ensures shorter { IfSome result (λ first. length first.1.now < length raw.now) }
 {
@@ -162,7 +170,8 @@ fn split_piece(raw: &str) -> Option<(Piece, &str)>
 #[tactic(auto, unfolding(crate::specs::TemplateTexts::pieces_after, crate::specs::TemplateTexts::escape_piece, crate::specs::TemplateTexts::escape_more))]
 fn split_escape(raw: &str) -> (Piece, &str)
     ensures piece { result.0 ≡ escape_piece (chars raw.now) }
-    ensures rest { pieces_after (escape_more (chars raw.now)) (chars raw.now) ≡ pieces (chars result.1.now) }
+    ensures rest { pieces_after (escape_more (chars raw.now)) (chars raw.now)
+        ≡ pieces (chars result.1.now) }
     ensures text { IsUtf8 result.1.now }
     ensures shorter { length result.1.now ≤ length raw.now }
 {
@@ -184,7 +193,8 @@ fn split_escape(raw: &str) -> (Piece, &str)
 // What follows a LF that a text begins with, or else the text.
 #[tactic(auto, unfolding(crate::specs::TemplateTexts::pieces_after, swc_ecma_codegen_grammar::specs::Texts::begins))]
 fn skip_line_feed(raw: &str) -> &str
-    ensures rest { pieces (chars result.now) ≡ pieces_after (if begins (10 ∷ []) (chars raw.now) then 1 else 0) (chars raw.now) }
+    ensures rest { pieces (chars result.now) ≡ pieces_after
+        (if begins (10 ∷ []) (chars raw.now) then 1 else 0) (chars raw.now) }
     ensures text { IsUtf8 result.now }
     ensures shorter { length result.now ≤ length raw.now }
 {
@@ -210,7 +220,8 @@ fn is_kept(c: char, rest: &str) -> bool
 #[tactic(auto, unfolding(crate::specs::TemplateTexts::pieces_after, crate::specs::TemplateTexts::hex_piece, crate::specs::TemplateTexts::hex_more))]
 fn split_hex(raw: &str) -> (Piece, &str)
     ensures piece { result.0 ≡ hex_piece (chars raw.now) }
-    ensures rest { pieces_after (hex_more (hex_piece (chars raw.now))) (chars raw.now) ≡ pieces (chars result.1.now) }
+    ensures rest { pieces_after (hex_more (hex_piece (chars raw.now))) (chars raw.now)
+        ≡ pieces (chars result.1.now) }
     ensures text { IsUtf8 result.1.now }
     ensures shorter { length result.1.now ≤ length raw.now }
 {
@@ -242,7 +253,8 @@ fn hex_digits_piece(first: char, second: char) -> Piece
 #[tactic(auto, using(crate::proofs::TemplatePieces::hex_from_value, crate::proofs::TemplatePieces::not_hex))]
 fn hex_value(c: char) -> Option<u8>
     ensures none { IfNone result (is_hex c ≡ false) }
-    ensures some { IfSome result (λ value. (is_hex c ≡ true) × (value ≡ digit_value c) × (value < 16)) }
+    ensures some { IfSome result (λ value. (is_hex c ≡ true) × (value ≡ digit_value c)
+        × (value < 16)) }
 {
     let value = c.to_digit(16)?;
     Some(value as u8)
@@ -269,7 +281,9 @@ fn push_piece(
     dollar: bool,
     ascii_only: bool,
 ) -> Result<(), AllocError>
-    ensures { OnOk result (string_bytes text.new ≡ string_bytes text.old ++ encode_utf8_all (piece_text dollar ascii_only piece (spelled_pieces (dollar_after dollar piece) ascii_only (pieces (chars next.now))))) }
+    ensures { OnOk result (string_bytes text.new
+        ≡ string_bytes text.old ++ encode_utf8_all (piece_text dollar ascii_only piece
+        (spelled_pieces (dollar_after dollar piece) ascii_only (pieces (chars next.now))))) }
 {
     match piece {
         Piece::Bare(c) => push_bare(text, c, next, dollar, ascii_only),
@@ -291,7 +305,9 @@ fn push_bare(
     dollar: bool,
     ascii_only: bool,
 ) -> Result<(), AllocError>
-    ensures { OnOk result (string_bytes text.new ≡ string_bytes text.old ++ encode_utf8_all (bare_text dollar ascii_only c (spelled_pieces (c == 36) ascii_only (pieces (chars next.now))))) }
+    ensures { OnOk result (string_bytes text.new
+        ≡ string_bytes text.old ++ encode_utf8_all (bare_text dollar ascii_only c
+        (spelled_pieces (c == 36) ascii_only (pieces (chars next.now))))) }
 {
     match c {
         '\0' if writes_digit(next) => text.push_str("\\x00"),
@@ -310,7 +326,8 @@ fn push_bare(
 
 // Whether the first character that is written for a raw text is a digit.
 fn writes_digit(raw: &str) -> bool
-    ensures { (dollar ascii : Bool) → result ≡ begins_digit (spelled_pieces dollar ascii (pieces (chars raw.now))) }
+    ensures { (dollar ascii : Bool) →
+        result ≡ begins_digit (spelled_pieces dollar ascii (pieces (chars raw.now))) }
 {
     let mut rest = raw;
     while let Some((piece, next)) = split_piece(rest) {

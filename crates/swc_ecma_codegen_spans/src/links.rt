@@ -10,7 +10,7 @@ impl<K, N: Spanned> Spanned for Link<K, N> {
     ghost place = { λ n. N.place n.node.value };
 
     fn span(&self) -> Span {
-        self.held().span()
+        self.target().span()
     }
 }
 

@@ -17,7 +17,7 @@ use swc_ecma_codegen_tree::{
 fn expr_comes_back<N: Tree>(alloc: Global) -> Result<bool, AllocError> {
     let span = place(3, 7);
     let link: ExprBox<N> = ExprBox::new(alloc, Expr::This(ThisExpr { span }))?;
-    let seen = matches!(link.get(), Some(Expr::This(_))) && link.held().span() == span;
+    let seen = matches!(link.get(), Some(Expr::This(_))) && link.target().span() == span;
     let seen = seen && link.span() == span;
     match link.into_inner() {
         Some(expr) => {
@@ -33,7 +33,7 @@ fn expr_comes_back<N: Tree>(alloc: Global) -> Result<bool, AllocError> {
 fn stmt_comes_back<N: Tree>(alloc: Global) -> Result<bool, AllocError> {
     let span = place(3, 4);
     let link: StmtBox<N> = StmtBox::new(alloc, Stmt::Empty(EmptyStmt { span }))?;
-    let seen = matches!(link.get(), Some(Stmt::Empty(_))) && link.held().span() == span;
+    let seen = matches!(link.get(), Some(Stmt::Empty(_))) && link.target().span() == span;
     let seen = seen && link.span() == span;
     match link.into_inner() {
         Some(stmt) => {
@@ -59,7 +59,7 @@ fn member_comes_back<N: Tree>(alloc: Global) -> Result<bool, AllocError> {
         Some(node) => node.prop.span() == place(8, 9),
         None => false,
     };
-    let seen = seen && link.held().span() == span && link.span() == span;
+    let seen = seen && link.target().span() == span && link.span() == span;
     match link.into_inner() {
         Some(member) => {
             let same = member.span() == span && member.obj.span() == place(3, 7);
@@ -80,9 +80,9 @@ pub(crate) fn check<N: Tree>(alloc: Global, tally: &mut Tally) -> Result<(), All
 /// Whether links hold a value that is no node.
 fn all_hold<T: PartialEq + Copy>(alloc: Global, value: T) -> Result<bool, AllocError> {
     Ok(
-        *ExprBox::holding(alloc, value)?.held() == value
-            && *StmtBox::holding(alloc, value)?.held() == value
-            && *MemberExprBox::holding(alloc, value)?.held() == value,
+        *ExprBox::holding(alloc, value)?.target() == value
+            && *StmtBox::holding(alloc, value)?.target() == value
+            && *MemberExprBox::holding(alloc, value)?.target() == value,
     )
 }
 

@@ -8,7 +8,7 @@ use swc_ecma_codegen::{
     is_well_formed_stmt,
 };
 use swc_ecma_codegen_common::{DUMMY_SP, Error, EsVersion, Result as Answer};
-use swc_ecma_codegen_emit::nodes::Held;
+use swc_ecma_codegen_emit::nodes::LinkTarget;
 use swc_ecma_codegen_emit::operands::SpaceBefore;
 use swc_ecma_codegen_grammar::comments::{CommentMaps, Comments};
 use swc_ecma_codegen_grammar::mapper::{NoSource, SourceMapper};
@@ -112,7 +112,7 @@ pub(crate) const HASHBANGS: [(&str, &str, bool); 4] = [
 pub(crate) trait Tree: Holds<Expr<Self>>
     + Holds<MemberExpr<Self>>
     + Holds<Stmt<Self>>
-    + Held
+    + LinkTarget
     + Fits
     + SpaceBefore
     + StartsWithAlphaNum
@@ -158,7 +158,7 @@ impl Tree for AnyNode {
 
     fn exported_name(item: &ModuleItem) -> Option<&ModuleExportName> {
         match item {
-            ModuleItem::ModuleDecl(link) => match link.held() {
+            ModuleItem::ModuleDecl(link) => match link.target() {
                 AnyNode::StmtPart(part) => name_in_part(part),
                 _ => None,
             },

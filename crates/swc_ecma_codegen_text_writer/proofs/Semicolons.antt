@@ -6,11 +6,11 @@ use Rattle.swc_ecma_codegen_common.specs.declared.errors.Refusal.{Refusal}
 use Rattle.swc_ecma_codegen_common.specs.declared.errors.Refusal.TheVariants.{Writer, OutOfMemory, UnsupportedNode, BadShape, NameOutOfTarget, PositionTooLarge, Failed}
 use Rattle.swc_ecma_codegen_common.specs.declared.positions.BytePos.{BytePos}
 use Rattle.swc_ecma_codegen_common.specs.declared.positions.Span.{Span}
-use Rattle.swc_ecma_codegen_text_writer.specs.Told.{Rises, IsFront}
+use Rattle.swc_ecma_codegen_text_writer.specs.Told.{Rises, IsPrefix}
 use Rattle.swc_ecma_codegen_text_writer.specs.Places.{Place, after_text}
 use Rattle.swc_ecma_codegen_text_writer.proofs.Sheets.{front_refl, front_append, front_trans, placed_on}
 use Rattle.swc_ecma_codegen_text_writer.specs.Sheet.{Sheet, Item, Semi, Space, Keyword, Operator, Param, Property, Line, Lit, Comment, StrLit, Str, Symbol, Punct, Position, Commit, Deeper, Shallower, Semicolons, AtOnce, HoldsNone, HoldsOne, holds_semicolons, appended, indented, with_pair, has_pair, pair_at, recorded, start_recorded, end_recorded, pending_recorded, started, written, literal_written, ended, pointed, settled_by, settled, semicolon_by, dropped, is_ending, before_punct, effect, Causes, Stopped, Refuses, earlier, stopped, Writes}
-use Rattle.swc_ecma_codegen_text_writer.specs.Held.{semicolons_of, with_held, WritesAtOnce, Settles}
+use Rattle.swc_ecma_codegen_text_writer.specs.PendingSemi.{semicolons_of, with_held, WritesAtOnce, Settles}
 
 -- ---- a sheet but for its semicolons
 
@@ -89,9 +89,9 @@ pointed_moves q pos s =
 
 -- from the first sheet to the second only text was written
 record Way (a b : Sheet) : Type 0 where
-  pub text : IsFront a.text b.text
+  pub text : IsPrefix a.text b.text
   pub place : b.place ≡ after_text text.0 a.place
-  pub pairs : IsFront a.pairs b.pairs
+  pub pairs : IsPrefix a.pairs b.pairs
   pub same : b ≡ record a { text = b.text; at_line_start = b.at_line_start; semicolons = b.semicolons; pairs = b.pairs; pending = b.pending; place = b.place }
 
 way_refl : (a : Sheet) → Way a a
@@ -106,10 +106,10 @@ way_trans a b c h k =
       same = k.same ∙ ap (λ (s : Sheet). record s { text = c.text; at_line_start = c.at_line_start; semicolons = c.semicolons; pairs = c.pairs; pending = c.pending; place = c.place }) h.same;
     }
 
-with_pair_grows : (x : BytePos) (s : Sheet) → IsFront s.pairs (with_pair x s.place s.pairs)
+with_pair_grows : (x : BytePos) (s : Sheet) → IsPrefix s.pairs (with_pair x s.place s.pairs)
 unfolding with_pair
 with_pair_grows x s =
-    elim ((x.0 == 0) || has_pair (pair_at x s.place) s.pairs) as (λ b. IsFront s.pairs (cond b s.pairs (s.pairs ++ (pair_at x s.place ∷ []))))
+    elim ((x.0 == 0) || has_pair (pair_at x s.place) s.pairs) as (λ b. IsPrefix s.pairs (cond b s.pairs (s.pairs ++ (pair_at x s.place ∷ []))))
     [ true ↦ front_refl s.pairs | false ↦ front_append s.pairs _ ]
 
 recorded_way : (pos : BytePos) (s : Sheet) → Way s (recorded pos s)
@@ -204,8 +204,8 @@ unmoved f s h = ap (λ (z : Sheet). z.semicolons) (h s.semicolons)
 pub record Settling (x : Item) : Type 0 where
   pub act : Sheet → Sheet
   pub moves : (q : Semicolons) (s : Sheet) → act (holding q s) ≡ holding q (act s)
-  pub text : (s : Sheet) → IsFront s.text (act s).text
-  pub pairs : (s : Sheet) → IsFront s.pairs (act s).pairs
+  pub text : (s : Sheet) → IsPrefix s.text (act s).text
+  pub pairs : (s : Sheet) → IsPrefix s.pairs (act s).pairs
   pub is : (s : Sheet) → effect x s ≡ act (settled s)
 
 text_settling : (x : Item) (span : Option Span) (t : List ℕ) → ((s : Sheet) → effect x s ≡ written span t (settled s)) → Settling x
@@ -409,8 +409,8 @@ lifted_ok x y p q a b u h l k = (k.0, ap (holding q) k.1 ∙ sym (l h k.0))
 lifted_err : (x y : Item) (p q : Semicolons) (a b : Sheet) (e : Refusal) → (x ≡ Deeper → y ≡ Deeper) → WritesAtOnce a → Lifts x y p q a → Refuses x e a b → Refuses y e (holding p a) (holding p b)
 lifted_err x y p q a b e d h l (earlier i j k) = earlier i j (ap (holding p) k)
 lifted_err x y p q a b e d h l (stopped i j k) =
-    let Text : Sheet → Type 0 = λ z. IsFront b.text z.text in
-    let Pairs : Sheet → Type 0 = λ z. IsFront b.pairs z.pairs in
+    let Text : Sheet → Type 0 = λ z. IsPrefix b.text z.text in
+    let Pairs : Sheet → Type 0 = λ z. IsPrefix b.pairs z.pairs in
     let goal = sym (l h i) in
     stopped i (causes_held x y e p p a b d j) (record {
       grows = k.grows;
@@ -498,9 +498,9 @@ stopped_on : (x : Item) → Settling x → (a b c : Sheet) → b ≡ settled a �
 stopped_on x m a b c e k =
     let way : Way a b = (let P : Sheet → Type 0 = λ z. Way a z in subst P (sym e) (settled_way a)) in
     let goal : effect x b ≡ effect x a = ap (effect x) e ∙ same_goal x m a (settled_twice a) in
-    let Text : Sheet → Type 0 = λ z. IsFront c.text z.text in
-    let Pairs : Sheet → Type 0 = λ z. IsFront c.pairs z.pairs in
-    let Out : Sheet → Type 0 = λ z. IsFront z.text c.text in
+    let Text : Sheet → Type 0 = λ z. IsPrefix c.text z.text in
+    let Pairs : Sheet → Type 0 = λ z. IsPrefix c.pairs z.pairs in
+    let Out : Sheet → Type 0 = λ z. IsPrefix z.text c.text in
     let out : b.semicolons ≡ dropped a.semicolons = ap (λ (z : Sheet). z.semicolons) e ∙ settled_drops a in
     let lost : c.semicolons ≡ dropped a.semicolons = elim k.held [ inl h ↦ h ∙ out | inr h ↦ h.0 ∙ ap dropped out ∙ dropped_twice a.semicolons ] in
     record {
@@ -555,8 +555,8 @@ pub settled_not : (x : Item) → Settling x → (a b : Sheet) (e : Refusal) → 
 unfolding Settles Writes effect
 settled_not x m a b e (earlier i j k) = earlier i j k
 settled_not x m a b e (stopped i j k) =
-    let Text : Sheet → Type 0 = λ z. IsFront b.text z.text in
-    let Pairs : Sheet → Type 0 = λ z. IsFront b.pairs z.pairs in
+    let Text : Sheet → Type 0 = λ z. IsPrefix b.text z.text in
+    let Pairs : Sheet → Type 0 = λ z. IsPrefix b.pairs z.pairs in
     stopped i (commit_causes x e a b j) (record {
       grows = k.grows;
       place = k.place;

@@ -6,18 +6,18 @@ use Rattle.swc_ecma_codegen_common.specs.declared.positions.BytePos.{BytePos}
 use Rattle.swc_ecma_codegen_common.specs.declared.positions.Span.{Span}
 use Rattle.swc_ecma_codegen_text_writer.specs.Places.{Place, after_text}
 use Rattle.swc_ecma_codegen_text_writer.proofs.Pairs.{after_both}
-use Rattle.swc_ecma_codegen_text_writer.specs.Told.{IsFront}
+use Rattle.swc_ecma_codegen_text_writer.specs.Told.{IsPrefix}
 use Rattle.swc_ecma_codegen_text_writer.specs.Sheet.{Sheet, Item, Pair, Semi, Space, Keyword, Operator, Param, Property, Line, Lit, Comment, StrLit, Str, Symbol, Punct, Position, Commit, Deeper, Shallower, Semicolons, AtOnce, HoldsNone, HoldsOne, holds_semicolons, has_pair, pair_at, with_pair, recorded, start_recorded, end_recorded, pending_recorded, appended, indented, started, written, literal_written, ended, pointed, settled_by, settled, semicolon_by, dropped, is_ending, before_punct, effect, effects, Refuses, earlier, stopped, Writes}
 
 -- ---- fronts
 
-abbrev pub front_refl : {A : Type 0} (t : List A) → IsFront t t
+abbrev pub front_refl : {A : Type 0} (t : List A) → IsPrefix t t
 front_refl t = ([], sym (append-nil t))
 
-abbrev pub front_append : {A : Type 0} (t u : List A) → IsFront t (t ++ u)
+abbrev pub front_append : {A : Type 0} (t u : List A) → IsPrefix t (t ++ u)
 front_append t u = (u, refl)
 
-abbrev pub front_trans : {A : Type 0} (t u v : List A) → IsFront t u → IsFront u v → IsFront t v
+abbrev pub front_trans : {A : Type 0} (t u v : List A) → IsPrefix t u → IsPrefix u v → IsPrefix t v
 front_trans t u v h k = (h.0 ++ k.0, k.1 ∙ ap (λ x. x ++ k.0) h.1 ∙ append_assoc t h.0 k.0)
 
 -- ---- from one sheet to another
@@ -28,9 +28,9 @@ placed_on t u p q r h k = k ∙ ap (after_text u) h ∙ sym (after_both t u p)
 
 -- From the first sheet to the second text was written and pairs were recorded.
 pub record Alike (a b : Sheet) : Type 0 where
-  pub grows : IsFront a.text b.text
+  pub grows : IsPrefix a.text b.text
   pub place : b.place ≡ after_text grows.0 a.place
-  pub more_pairs : IsFront a.pairs b.pairs
+  pub more_pairs : IsPrefix a.pairs b.pairs
   pub holds : holds_semicolons b.semicolons ≡ holds_semicolons a.semicolons
   pub same : b ≡ record a { text = b.text; at_line_start = b.at_line_start; indentation = b.indentation; semicolons = b.semicolons; pairs = b.pairs; pending = b.pending; place = b.place }
 
@@ -47,13 +47,13 @@ alike_trans a b c h k = record {
 }
 
 -- another text, another start, another level and so on, of which only a longer text and more pairs matter
-alike_at : (a b : Sheet) (h : IsFront a.text b.text) → b.place ≡ after_text h.0 a.place → IsFront a.pairs b.pairs → holds_semicolons b.semicolons ≡ holds_semicolons a.semicolons → b ≡ record a { text = b.text; at_line_start = b.at_line_start; indentation = b.indentation; semicolons = b.semicolons; pairs = b.pairs; pending = b.pending; place = b.place } → Alike a b
+alike_at : (a b : Sheet) (h : IsPrefix a.text b.text) → b.place ≡ after_text h.0 a.place → IsPrefix a.pairs b.pairs → holds_semicolons b.semicolons ≡ holds_semicolons a.semicolons → b ≡ record a { text = b.text; at_line_start = b.at_line_start; indentation = b.indentation; semicolons = b.semicolons; pairs = b.pairs; pending = b.pending; place = b.place } → Alike a b
 alike_at a b h p k s e = record { grows = h; place = p; more_pairs = k; holds = s; same = e }
 
-with_pair_grows : (pos : BytePos) (p : Place) (pairs : List Pair) → IsFront pairs (with_pair pos p pairs)
+with_pair_grows : (pos : BytePos) (p : Place) (pairs : List Pair) → IsPrefix pairs (with_pair pos p pairs)
 unfolding with_pair
 with_pair_grows pos p pairs =
-    elim ((pos.0 == 0) || has_pair (pair_at pos p) pairs) as (λ b. IsFront pairs (cond b pairs (pairs ++ (pair_at pos p ∷ []))))
+    elim ((pos.0 == 0) || has_pair (pair_at pos p) pairs) as (λ b. IsPrefix pairs (cond b pairs (pairs ++ (pair_at pos p ∷ []))))
     [ true ↦ front_refl pairs | false ↦ front_append pairs (pair_at pos p ∷ []) ]
 
 pub recorded_alike : (pos : BytePos) (s : Sheet) → Alike s (recorded pos s)
@@ -248,10 +248,10 @@ effects_same xs s = alike_same s (effects xs s) (effects_alike xs s)
 
 -- ---- a text grows
 
-pub effect_grows : (x : Item) (s : Sheet) → IsFront s.text (effect x s).text
+pub effect_grows : (x : Item) (s : Sheet) → IsPrefix s.text (effect x s).text
 effect_grows x s = (effect_alike x s).grows
 
-pub effects_grow : (xs : List Item) (s : Sheet) → IsFront s.text (effects xs s).text
+pub effects_grow : (xs : List Item) (s : Sheet) → IsPrefix s.text (effects xs s).text
 effects_grow xs s = (effects_alike xs s).grows
 
 -- ---- the depth
@@ -406,14 +406,14 @@ effects_whole xs s = (effects_same xs s).whole
 -- ---- refused calls
 
 -- what is out stays out
-pub refuses_grows : (x : Item) (e : Refusal) (a b : Sheet) → Refuses x e a b → IsFront a.text b.text
+pub refuses_grows : (x : Item) (e : Refusal) (a b : Sheet) → Refuses x e a b → IsPrefix a.text b.text
 refuses_grows x e a b (earlier h k m) = ([], ap (λ (s : Sheet). s.text) m ∙ sym (append-nil a.text))
 refuses_grows x e a b (stopped h k m) = m.grows
 
 -- what is out is a beginning of what the call would have written
-pub refuses_front : (x : Item) (e : Refusal) (a b : Sheet) → Refuses x e a b → IsFront b.text (effect x a).text
+pub refuses_front : (x : Item) (e : Refusal) (a b : Sheet) → Refuses x e a b → IsPrefix b.text (effect x a).text
 refuses_front x e a b (earlier h k m) =
-    let P : Sheet → Type 0 = λ s. IsFront s.text (effect x a).text in subst P (sym m) (effect_grows x a)
+    let P : Sheet → Type 0 = λ s. IsPrefix s.text (effect x a).text in subst P (sym m) (effect_grows x a)
 refuses_front x e a b (stopped h k m) = m.front
 
 -- the writer has its mark from then on

@@ -9,7 +9,7 @@ use Rattle.swc_ecma_codegen_common.specs.declared.positions.BytePos.{BytePos}
 use Rattle.swc_ecma_codegen_common.specs.declared.positions.Span.{Span}
 use Rattle.swc_ecma_codegen_text_writer.specs.Positions.{Records}
 use Rattle.swc_ecma_codegen_text_writer.specs.Kept.{RecordsIn}
-use Rattle.swc_ecma_codegen_text_writer.specs.Told.{told, IsFront}
+use Rattle.swc_ecma_codegen_text_writer.specs.Told.{told, IsPrefix}
 use Rattle.swc_ecma_codegen_text_writer.specs.Sent.{sent}
 use Rattle.swc_ecma_codegen_text_writer.specs.declared.outlet.Outlet.{Outlet}
 use Rattle.swc_ecma_codegen_text_writer.specs.Places.{Place, origin, after_text}
@@ -216,7 +216,7 @@ pub place_on : (before t after : List ℕ) → after ≡ before ++ t → after_t
 place_on before t after h = ap (λ z. after_text z origin) h ∙ after_append before t origin
 
 -- the place after what an outlet has sent since
-pub place_since : {W : Type 0} {g : io.Ghosts W} (old new : Outlet W g) → new.before ≡ old.before → (h : IsFront (sent old) (sent new)) → after_text new.log.bytes origin ≡ after_text h.0 (after_text old.log.bytes origin)
+pub place_since : {W : Type 0} {g : io.Ghosts W} (old new : Outlet W g) → new.before ≡ old.before → (h : IsPrefix (sent old) (sent new)) → after_text new.log.bytes origin ≡ after_text h.0 (after_text old.log.bytes origin)
 place_since {g = g} old new b h =
     let told_before = told (g.contents old.before.value) in
     let e : told_before ++ new.log.bytes ≡ told_before ++ (old.log.bytes ++ h.0) =
@@ -287,9 +287,9 @@ refused_reason pos false old new e s c h k m = absurd h
 pub refused_here : (e : Refusal) (goal s c : Sheet) → c ≡ record s { refused = true } → Alike s goal → HasReason e s c → Halted e goal s c
 refused_here e goal s c h k r =
     let P : Sheet → Type 0 = λ z. z ≡ record s { text = z.text; whole = z.whole; at_line_start = z.at_line_start; semicolons = z.semicolons; pairs = z.pairs; pending = z.pending; place = z.place; faults = z.faults; refused = true } in
-    let T : Sheet → Type 0 = λ z. IsFront z.text goal.text in
-    let Q : Sheet → Type 0 = λ z. IsFront z.pairs goal.pairs in
-    let V : Sheet → Type 0 = λ z. IsFront s.pairs z.pairs in
+    let T : Sheet → Type 0 = λ z. IsPrefix z.text goal.text in
+    let Q : Sheet → Type 0 = λ z. IsPrefix z.pairs goal.pairs in
+    let V : Sheet → Type 0 = λ z. IsPrefix s.pairs z.pairs in
     record {
       reason = r;
       grows = ([], ap (λ (z : Sheet). z.text) h ∙ sym (append-nil s.text));
@@ -379,7 +379,7 @@ writes_halted x e a b o n h k =
       place = k.place;
       more_pairs = k.more_pairs;
       front_pairs = k.front_pairs;
-      held = inr (n ∙ sym (ap dropped o), subst (λ (z : Sheet). IsFront z.text b.text) (sym (settled_at_once a o)) k.grows);
+      held = inr (n ∙ sym (ap dropped o), subst (λ (z : Sheet). IsPrefix z.text b.text) (sym (settled_at_once a o)) k.grows);
       same = k.same;
     })
 

@@ -1,4 +1,4 @@
-pub mod Held
+pub mod PendingSemi
 pub mod Kept
 pub mod Characters
 pub mod Places

@@ -7,7 +7,7 @@ use Rattle.swc_ecma_codegen_common.specs.declared.positions.BytePos.{BytePos}
 use Rattle.swc_ecma_codegen_common.specs.declared.positions.LineCol.{LineCol}
 use Rattle.swc_ecma_codegen_common.specs.declared.positions.Span.{Span}
 use Rattle.swc_ecma_codegen_text_writer.specs.Places.{Place, after_text}
-use Rattle.swc_ecma_codegen_text_writer.specs.Told.{Rises, IsFront}
+use Rattle.swc_ecma_codegen_text_writer.specs.Told.{Rises, IsPrefix}
 
 -- a call of a writer; texts are UTF-8 bytes
 pub data Item : Type 0 where
@@ -213,12 +213,12 @@ Causes x Failed old new = ⊥
 -- A call was stopped on its way: a beginning of its text is out, and the place is that behind it; a beginning of its pairs is
 -- recorded, a semicolon that was held back still is, or is out and no longer held, and nothing else changed but the count of faults.
 pub record Stopped (goal old new : Sheet) : Type 0 where
-  pub grows : IsFront old.text new.text
-  pub front : IsFront new.text goal.text
+  pub grows : IsPrefix old.text new.text
+  pub front : IsPrefix new.text goal.text
   pub place : new.place ≡ after_text grows.0 old.place
-  pub more_pairs : IsFront old.pairs new.pairs
-  pub front_pairs : IsFront new.pairs goal.pairs
-  pub held : (new.semicolons ≡ old.semicolons) ⊎ ((new.semicolons ≡ dropped old.semicolons) × IsFront (settled old).text new.text)
+  pub more_pairs : IsPrefix old.pairs new.pairs
+  pub front_pairs : IsPrefix new.pairs goal.pairs
+  pub held : (new.semicolons ≡ old.semicolons) ⊎ ((new.semicolons ≡ dropped old.semicolons) × IsPrefix (settled old).text new.text)
   pub same : new ≡ record old { text = new.text; whole = new.whole; at_line_start = new.at_line_start; semicolons = new.semicolons; pairs = new.pairs; pending = new.pending; place = new.place; faults = new.faults; refused = true }
 
 -- A call is refused since an earlier one was, and does nothing; or it is stopped, for the cause that its error names.

@@ -5,7 +5,7 @@ use Rattle.std.specs.declared.io.traits.Write as io
 use Rattle.swc_ecma_codegen_text_writer.specs.declared.kept.KeepsPositions as kept
 use Rattle.swc_ecma_codegen_common.specs.declared.errors.Refusal.{Refusal}
 use Rattle.swc_ecma_codegen_common.specs.declared.errors.Refusal.TheVariants.{Writer, OutOfMemory, UnsupportedNode, BadShape, NameOutOfTarget, PositionTooLarge, Failed}
-use Rattle.swc_ecma_codegen_text_writer.specs.Told.{Rises, IsFront}
+use Rattle.swc_ecma_codegen_text_writer.specs.Told.{Rises, IsPrefix}
 use Rattle.swc_ecma_codegen_text_writer.specs.Sent.{sent}
 use Rattle.swc_ecma_codegen_common.specs.declared.positions.BytePos.{BytePos}
 use Rattle.swc_ecma_codegen_common.specs.declared.positions.Span.{Span}
@@ -76,11 +76,11 @@ HasReason Failed old new = ⊥
 -- On the way to a sheet something was refused: a beginning of its text is out, with the place behind it, and of its pairs recorded.
 pub record Halted (e : Refusal) (goal old new : Sheet) : Type 0 where
   pub reason : HasReason e old new
-  pub grows : IsFront old.text new.text
-  pub front : IsFront new.text goal.text
+  pub grows : IsPrefix old.text new.text
+  pub front : IsPrefix new.text goal.text
   pub place : new.place ≡ after_text grows.0 old.place
-  pub more_pairs : IsFront old.pairs new.pairs
-  pub front_pairs : IsFront new.pairs goal.pairs
+  pub more_pairs : IsPrefix old.pairs new.pairs
+  pub front_pairs : IsPrefix new.pairs goal.pairs
   pub same : new ≡ record old { text = new.text; whole = new.whole; at_line_start = new.at_line_start; semicolons = new.semicolons; pairs = new.pairs; pending = new.pending; place = new.place; faults = new.faults; refused = true }
 
 -- a way to a sheet, which ends there or where something was refused

@@ -96,8 +96,11 @@ impl<'a, W: Write> JsWriter<'a, W> {
         wr: W,
         srcmap: Option<&'a mut Vec<(BytePos, LineCol)>>,
     ) -> JsWriter<'a, W>
-        ensures sheet { srcmap.entry ≡ None → sheet_of result ≡ new_sheet (told (W.contents wr)) new_line.now }
-        ensures positions { (list : _) → srcmap.entry ≡ Some list → sheet_of result ≡ keeping list.now.items (new_sheet (told (W.contents wr)) new_line.now) }
+        ensures sheet { srcmap.entry ≡ None →
+            sheet_of result ≡ new_sheet (told (W.contents wr)) new_line.now }
+        ensures positions { (list : _) → srcmap.entry ≡ Some list →
+            sheet_of result ≡ keeping list.now.items
+            (new_sheet (told (W.contents wr)) new_line.now) }
         ensures tells { IsSome (W.contents wr) → Tells result }
     {
         Lines {
@@ -126,7 +129,8 @@ impl<'a, W: Write, K: KeepsPositions> Lines<'a, W, K> {
     /// What one level of indentation writes: four blanks unless it is called.
     #[tactic(auto, unfolding(crate::specs::View::sheet_of))]
     pub fn set_indent_str(&mut self, indent_str: &'static str)
-        ensures sheet { sheet_of self.new ≡ record (sheet_of self.old) { indent_text = indent_str.now } }
+        ensures sheet { sheet_of self.new ≡ record (sheet_of self.old)
+            { indent_text = indent_str.now } }
         ensures tells { Tells self.old → Tells self.new }
     {
         self.indent_str = indent_str;
@@ -197,7 +201,8 @@ impl<'a, W: Write, K: KeepsPositions> Lines<'a, W, K> {
     #[inline(never)]
     fn send(&mut self, text: &str) -> Answer
         requires { (sheet_of self.old).refused ≡ false }
-        ensures { Reaches (appended text.now (sheet_of self.old)) (sheet_of self.old) (sheet_of self.new) result }
+        ensures { Reaches (appended text.now (sheet_of self.old)) (sheet_of self.old)
+            (sheet_of self.new) result }
     {
         self.hand_on(text)
     }
@@ -206,7 +211,8 @@ impl<'a, W: Write, K: KeepsPositions> Lines<'a, W, K> {
     #[inline(always)]
     fn hand_on(&mut self, text: &str) -> Answer
         requires { (sheet_of self.old).refused ≡ false }
-        ensures { Reaches (appended text.now (sheet_of self.old)) (sheet_of self.old) (sheet_of self.new) result }
+        ensures { Reaches (appended text.now (sheet_of self.old)) (sheet_of self.old)
+            (sheet_of self.new) result }
     {
         match self.outlet.write_text(text) {
             Ok(()) => {
@@ -225,7 +231,8 @@ impl<'a, W: Write, K: KeepsPositions> Lines<'a, W, K> {
     #[inline(always)]
     fn send_plainly(&mut self, text: &str) -> Answer
         requires { self.old.plain ≡ true }
-        ensures { Reaches (appended text.now (sheet_of self.old)) (sheet_of self.old) (sheet_of self.new) result }
+        ensures { Reaches (appended text.now (sheet_of self.old)) (sheet_of self.old)
+            (sheet_of self.new) result }
     {
         match self.outlet.write_text(text) {
             Ok(()) => Ok(()),
@@ -241,7 +248,8 @@ impl<'a, W: Write, K: KeepsPositions> Lines<'a, W, K> {
     #[inline(always)]
     fn indent(&mut self) -> Answer
         requires { (sheet_of self.old).refused ≡ false }
-        ensures { Reaches (indented (sheet_of self.old).indentation (sheet_of self.old)) (sheet_of self.old) (sheet_of self.new) result }
+        ensures { Reaches (indented (sheet_of self.old).indentation (sheet_of self.old))
+            (sheet_of self.old) (sheet_of self.new) result }
     {
         if self.indent == 0 {
             return Ok(());
@@ -253,7 +261,8 @@ impl<'a, W: Write, K: KeepsPositions> Lines<'a, W, K> {
     #[inline(never)]
     fn indent_at_once(&mut self) -> Answer
         requires { (sheet_of self.old).refused ≡ false }
-        ensures { Reaches (indented (sheet_of self.old).indentation (sheet_of self.old)) (sheet_of self.old) (sheet_of self.new) result }
+        ensures { Reaches (indented (sheet_of self.old).indentation (sheet_of self.old))
+            (sheet_of self.old) (sheet_of self.new) result }
     {
         match blanks(self.indent) {
             Some(text) if self.usual_indent => self.send(text),
@@ -264,7 +273,8 @@ impl<'a, W: Write, K: KeepsPositions> Lines<'a, W, K> {
     /// The same, level by level.
     fn indent_by_levels(&mut self) -> Answer
         requires { (sheet_of self.old).refused ≡ false }
-        ensures { Reaches (indented (sheet_of self.old).indentation (sheet_of self.old)) (sheet_of self.old) (sheet_of self.new) result }
+        ensures { Reaches (indented (sheet_of self.old).indentation (sheet_of self.old))
+            (sheet_of self.old) (sheet_of self.new) result }
     {
         let indent_str = self.indent_str;
         for _ in 0..self.indent {
@@ -277,7 +287,8 @@ impl<'a, W: Write, K: KeepsPositions> Lines<'a, W, K> {
     #[inline(always)]
     fn record(&mut self, pos: BytePos) -> Answer
         requires { (sheet_of self.old).refused ≡ false }
-        ensures { Reaches (recorded pos (sheet_of self.old)) (sheet_of self.old) (sheet_of self.new) result }
+        ensures { Reaches (recorded pos (sheet_of self.old)) (sheet_of self.old) (sheet_of self.new)
+            result }
     {
         match self.kept.record(pos) {
             Ok(()) => Ok(()),
@@ -293,7 +304,8 @@ impl<'a, W: Write, K: KeepsPositions> Lines<'a, W, K> {
     #[inline(never)]
     fn record_pending(&mut self) -> Answer
         requires { (sheet_of self.old).refused ≡ false }
-        ensures { Reaches (pending_recorded (sheet_of self.old).pending (sheet_of self.old)) (sheet_of self.old) (sheet_of self.new) result }
+        ensures { Reaches (pending_recorded (sheet_of self.old).pending (sheet_of self.old))
+            (sheet_of self.old) (sheet_of self.new) result }
     {
         match self.kept.take_pending() {
             None => Ok(()),
@@ -314,7 +326,8 @@ impl<'a, W: Write, K: KeepsPositions> Lines<'a, W, K> {
     #[tactic(auto, unfolding(crate::specs::View::Reaches, crate::specs::Sheet::start_recorded))]
     fn record_start(&mut self, span: Option<Span>) -> Answer
         requires { (sheet_of self.old).refused ≡ false }
-        ensures { Reaches (start_recorded span (sheet_of self.old)) (sheet_of self.old) (sheet_of self.new) result }
+        ensures { Reaches (start_recorded span (sheet_of self.old)) (sheet_of self.old)
+            (sheet_of self.new) result }
     {
         match span {
             None => Ok(()),
@@ -327,7 +340,8 @@ impl<'a, W: Write, K: KeepsPositions> Lines<'a, W, K> {
     #[tactic(auto, unfolding(crate::specs::View::Reaches, crate::specs::Sheet::end_recorded))]
     fn record_end(&mut self, span: Option<Span>) -> Answer
         requires { (sheet_of self.old).refused ≡ false }
-        ensures { Reaches (end_recorded span (sheet_of self.old)) (sheet_of self.old) (sheet_of self.new) result }
+        ensures { Reaches (end_recorded span (sheet_of self.old)) (sheet_of self.old)
+            (sheet_of self.new) result }
     {
         match span {
             None => Ok(()),
@@ -339,7 +353,8 @@ impl<'a, W: Write, K: KeepsPositions> Lines<'a, W, K> {
     #[inline(always)]
     fn start_line(&mut self) -> Answer
         requires { (sheet_of self.old).refused ≡ false }
-        ensures { Reaches (started (sheet_of self.old)) (sheet_of self.old) (sheet_of self.new) result }
+        ensures { Reaches (started (sheet_of self.old)) (sheet_of self.old) (sheet_of self.new)
+            result }
     {
         if !self.line_start {
             return Ok(());
@@ -352,7 +367,8 @@ impl<'a, W: Write, K: KeepsPositions> Lines<'a, W, K> {
     fn begin_line(&mut self) -> Answer
         requires fresh { (sheet_of self.old).refused ≡ false }
         requires start { (sheet_of self.old).at_line_start ≡ true }
-        ensures { Reaches (started (sheet_of self.old)) (sheet_of self.old) (sheet_of self.new) result }
+        ensures { Reaches (started (sheet_of self.old)) (sheet_of self.old) (sheet_of self.new)
+            result }
     {
         self.indent()?;
         self.set_in_line();
@@ -363,7 +379,9 @@ impl<'a, W: Write, K: KeepsPositions> Lines<'a, W, K> {
     #[inline(always)]
     fn put_in_line(&mut self, span: Option<Span>, text: &str) -> Answer
         requires { (sheet_of self.old).refused ≡ false }
-        ensures { Reaches (end_recorded span (appended text.now (start_recorded span (sheet_of self.old)))) (sheet_of self.old) (sheet_of self.new) result }
+        ensures { Reaches (end_recorded span
+            (appended text.now (start_recorded span (sheet_of self.old)))) (sheet_of self.old)
+            (sheet_of self.new) result }
     {
         self.record_start(span)?;
         self.hand_on(text)?;
@@ -375,7 +393,8 @@ impl<'a, W: Write, K: KeepsPositions> Lines<'a, W, K> {
     fn put(&mut self, span: Option<Span>, text: &str) -> Answer
         requires fresh { (sheet_of self.old).refused ≡ false }
         requires some { 0 < length text.now }
-        ensures { Reaches (written span text.now (sheet_of self.old)) (sheet_of self.old) (sheet_of self.new) result }
+        ensures { Reaches (written span text.now (sheet_of self.old)) (sheet_of self.old)
+            (sheet_of self.new) result }
     {
         self.start_line()?;
         self.put_in_line(span, text)
@@ -385,7 +404,8 @@ impl<'a, W: Write, K: KeepsPositions> Lines<'a, W, K> {
     fn put_literal(&mut self, span: Span, text: &str) -> Answer
         requires fresh { (sheet_of self.old).refused ≡ false }
         requires some { 0 < length text.now }
-        ensures { Reaches (literal_written span text.now (sheet_of self.old)) (sheet_of self.old) (sheet_of self.new) result }
+        ensures { Reaches (literal_written span text.now (sheet_of self.old)) (sheet_of self.old)
+            (sheet_of self.new) result }
     {
         self.record(span.lo)?;
         self.put(None, text)?;
@@ -597,7 +617,8 @@ impl<'a, W: Write, K: KeepsPositions> Lines<'a, W, K> {
     #[tactic(auto, unfolding(crate::specs::View::sheet_of))]
     fn send_line_end(&mut self) -> Answer
         requires { (sheet_of self.old).refused ≡ false }
-        ensures { Reaches (appended (sheet_of self.old).line_end (sheet_of self.old)) (sheet_of self.old) (sheet_of self.new) result }
+        ensures { Reaches (appended (sheet_of self.old).line_end (sheet_of self.old))
+            (sheet_of self.old) (sheet_of self.new) result }
     {
         let text = self.new_line;
         self.send(text)

@@ -26,15 +26,18 @@ pub trait KeepsPositions: Drop {
 
     /// A text was written.
     fn pass(&mut self, text: &str)
-        ensures counted { (p : Place) → IsCounted (keeps self.old) (reached self.old) p → IsCounted (keeps self.new) (reached self.new) (after_text text.now p) }
+        ensures counted { (p : Place) → IsCounted (keeps self.old) (reached self.old) p →
+            IsCounted (keeps self.new) (reached self.new) (after_text text.now p) }
         ensures keeps { keeps self.new ≡ keeps self.old }
         ensures pairs { pairs self.new ≡ pairs self.old }
         ensures pending { pending self.new ≡ pending self.old };
 
     /// Records a position at the place reached, where positions are kept.
     fn record(&mut self, pos: BytePos) -> Answer
-        ensures pairs { (p : Place) → IsCounted (keeps self.old) (reached self.old) p → RecordsIn pos p (keeps self.old) (pairs self.old) (pairs self.new) result }
-        ensures counted { (p : Place) → IsCounted (keeps self.old) (reached self.old) p → IsCounted (keeps self.new) (reached self.new) p }
+        ensures pairs { (p : Place) → IsCounted (keeps self.old) (reached self.old) p →
+            RecordsIn pos p (keeps self.old) (pairs self.old) (pairs self.new) result }
+        ensures counted { (p : Place) → IsCounted (keeps self.old) (reached self.old) p →
+            IsCounted (keeps self.new) (reached self.new) p }
         ensures keeps { keeps self.new ≡ keeps self.old }
         ensures pending { pending self.new ≡ pending self.old };
 
@@ -42,7 +45,8 @@ pub trait KeepsPositions: Drop {
     fn point(&mut self, pos: BytePos)
         ensures pending { keeps self.old ≡ true → pending self.new ≡ Some pos }
         ensures none { keeps self.old ≡ false → pending self.new ≡ None }
-        ensures counted { (p : Place) → IsCounted (keeps self.old) (reached self.old) p → IsCounted (keeps self.new) (reached self.new) p }
+        ensures counted { (p : Place) → IsCounted (keeps self.old) (reached self.old) p →
+            IsCounted (keeps self.new) (reached self.new) p }
         ensures keeps { keeps self.new ≡ keeps self.old }
         ensures pairs { pairs self.new ≡ pairs self.old };
 
@@ -50,7 +54,8 @@ pub trait KeepsPositions: Drop {
     fn take_pending(&mut self) -> Option<BytePos>
         ensures result { result ≡ pending self.old }
         ensures pending { pending self.new ≡ None }
-        ensures counted { (p : Place) → IsCounted (keeps self.old) (reached self.old) p → IsCounted (keeps self.new) (reached self.new) p }
+        ensures counted { (p : Place) → IsCounted (keeps self.old) (reached self.old) p →
+            IsCounted (keeps self.new) (reached self.new) p }
         ensures keeps { keeps self.new ≡ keeps self.old }
         ensures pairs { pairs self.new ≡ pairs self.old };
 }

@@ -19,15 +19,21 @@ pub fn pairs_are_true()
 /// The place after a text, which is counted by its bytes, is that after its characters.
 #[tactic(auto, using(crate::proofs::Characters::place_of_characters))]
 pub fn places_are_of_characters()
-    ensures { (text : List ℕ) (p : Place) → IsUtf8 text → after_text text p ≡ after_characters (chars text) p }
+    ensures { (text : List ℕ) (p : Place) → IsUtf8 text →
+        after_text text p ≡ after_characters (chars text) p }
 {}
 
 /// A column counts UTF-16 code units since the last line end, and a text in a line leaves the line.
 #[tactic(auto, using(crate::proofs::Characters::line_of_text, crate::proofs::Characters::column_of_text, crate::proofs::Characters::column_of_last_line))]
 pub fn columns_are_code_units()
-    ensures line { (text : List ℕ) (p : Place) → IsUtf8 text → list_any is_line_end (chars text) ≡ false → (after_text text p).line ≡ p.line }
-    ensures column { (text : List ℕ) (p : Place) → IsUtf8 text → list_any is_line_end (chars text) ≡ false → (after_text text p).column ≡ p.column + length (code_units (chars text)) }
-    ensures last_line { (before last : List ℕ) (end : ℕ) → (end ≡ 10) ⊎ (end ≡ 13) → IsUtf8 last → list_any is_line_end (chars last) ≡ false → (after_text (before ++ (end ∷ last)) origin).column ≡ length (code_units (chars last)) }
+    ensures line { (text : List ℕ) (p : Place) → IsUtf8 text →
+        list_any is_line_end (chars text) ≡ false → (after_text text p).line ≡ p.line }
+    ensures column { (text : List ℕ) (p : Place) → IsUtf8 text →
+        list_any is_line_end (chars text) ≡ false →
+        (after_text text p).column ≡ p.column + length (code_units (chars text)) }
+    ensures last_line { (before last : List ℕ) (end : ℕ) → (end ≡ 10) ⊎ (end ≡ 13) → IsUtf8 last →
+        list_any is_line_end (chars last) ≡ false →
+        (after_text (before ++ (end ∷ last)) origin).column ≡ length (code_units (chars last)) }
 {}
 
 /// A line is the count of the line ends before it: LF, CR, and CR LF as one.

@@ -3,7 +3,7 @@
 ghost use Rattle.std.specs.Prelude.{◌≡◌, ◌<◌, ◌≤◌, [], ◌++◌, length, take, IfOk, OnOk, OnErr, IsSome};
 ghost use Rattle.std.specs.Str.{is_utf8};
 ghost use Rattle.std.proofs.Props.{props};
-ghost use Rattle.swc_ecma_codegen_text_writer.specs.Told.{Rises, IsFront, TellsSince};
+ghost use Rattle.swc_ecma_codegen_text_writer.specs.Told.{Rises, IsPrefix, TellsSince};
 
 use crate::logs::{Log, Taken};
 use std::io;
@@ -92,7 +92,8 @@ impl<W: Write> Outlet<W> {
         ensures taken { IfOk result (λ n. (0 < n) × (n ≤ length rest.now)) }
         ensures before { self.new.before ≡ self.old.before }
         ensures sent { IfOk result (λ n. sent self.new ≡ sent self.old ++ take n rest.now) }
-        ensures logged { IfOk result (λ n. self.new.log.bytes ≡ self.old.log.bytes ++ take n rest.now) }
+        ensures logged { IfOk result (λ n. self.new.log.bytes
+            ≡ self.old.log.bytes ++ take n rest.now) }
         ensures faults { OnOk result (self.new.faults ≡ self.old.faults) }
         ensures nothing { OnErr result (sent self.new ≡ sent self.old) }
         ensures counted { OnErr result (Rises self.old.faults self.new.faults) }
@@ -121,8 +122,8 @@ impl<W: Write> Outlet<W> {
         ensures sent { OnOk result (sent self.new ≡ sent self.old ++ text.now) }
         ensures logged { OnOk result (self.new.log.bytes ≡ self.old.log.bytes ++ text.now) }
         ensures faults { OnOk result (self.new.faults ≡ self.old.faults) }
-        ensures grows { OnErr result (IsFront (sent self.old) (sent self.new)) }
-        ensures front { OnErr result (IsFront (sent self.new) (sent self.old ++ text.now)) }
+        ensures grows { OnErr result (IsPrefix (sent self.old) (sent self.new)) }
+        ensures front { OnErr result (IsPrefix (sent self.new) (sent self.old ++ text.now)) }
         ensures counted { OnErr result (Rises self.old.faults self.new.faults) }
         // What was text stays text, and what wasn't doesn't become it.
         ensures whole { OnOk result (is_utf8 (sent self.new) ≡ is_utf8 (sent self.old)) }

@@ -237,7 +237,8 @@ impl<'a> Positions<'a> {
     /// can't grow; the list is then as it was.
     #[inline(always)]
     pub fn record(&mut self, pos: BytePos) -> Answer
-        ensures pairs { (p : Place) → Counts self.old p → Records pos p (pairs self.old) (pairs self.new) result }
+        ensures pairs { (p : Place) → Counts self.old p →
+            Records pos p (pairs self.old) (pairs self.new) result }
         ensures place { (p : Place) → Counts self.old p → Counts self.new p }
         ensures pending { self.new.pending ≡ self.old.pending }
         ensures lent { self.new.list.ghost_name ≡ self.old.list.ghost_name }
@@ -252,7 +253,8 @@ impl<'a> Positions<'a> {
     #[inline(never)]
     fn note(&mut self, pos: BytePos) -> Answer
         requires { 0 < pos.0 }
-        ensures pairs { (p : Place) → Counts self.old p → Records pos p (pairs self.old) (pairs self.new) result }
+        ensures pairs { (p : Place) → Counts self.old p →
+            Records pos p (pairs self.old) (pairs self.new) result }
         ensures place { (p : Place) → Counts self.old p → Counts self.new p }
         ensures pending { self.new.pending ≡ self.old.pending }
         ensures lent { self.new.list.ghost_name ≡ self.old.list.ghost_name }

@@ -4,7 +4,7 @@ ghost use Rattle.std.specs.Prelude.{◌≡◌, false, true, None, OnOk};
 ghost use Rattle.std.proofs.Props.{props};
 ghost use Rattle.swc_ecma_codegen_common.specs.Refusals.{in_short};
 ghost use Rattle.swc_ecma_codegen_text_writer.specs.Sheet.{holds_semicolons, is_ending, HoldsNone};
-ghost use Rattle.swc_ecma_codegen_text_writer.specs.Held.{with_held, Settles, WritesAtOnce};
+ghost use Rattle.swc_ecma_codegen_text_writer.specs.PendingSemi.{with_held, Settles, WritesAtOnce};
 
 use crate::WriteJs;
 use swc_ecma_codegen_common::{BytePos, Result, Span};
@@ -28,10 +28,11 @@ pub struct OmitTrailingSemi<W: WriteJs> {
 
 /// A writer that leaves semicolons out where `}` or `;` follows, over one that writes each at once: `a;}` is written
 /// `a}`. swc's `text_writer::omit_trailing_semi`.
-#[tactic(auto, unfolding(crate::specs::Held::with_held))]
+#[tactic(auto, unfolding(crate::specs::PendingSemi::with_held))]
 pub fn omit_trailing_semi<W: WriteJs>(w: W) -> OmitTrailingSemi<W>
     requires { holds_semicolons (W.sheet w).semicolons ≡ false }
-    ensures { with_held result.pending (W.sheet result.inner) ≡ record (W.sheet w) { semicolons = HoldsNone } }
+    ensures { with_held result.pending (W.sheet result.inner)
+        ≡ record (W.sheet w) { semicolons = HoldsNone } }
 {
     OmitTrailingSemi {
         inner: w,
@@ -50,7 +51,8 @@ fn is_ending(text: &str) -> bool
 impl<W: WriteJs> OmitTrailingSemi<W> {
     /// The writer under it. A semicolon that is held is left out.
     pub fn into_inner(self) -> W
-        ensures sheet { with_held self.pending (W.sheet result) ≡ with_held self.pending (W.sheet self.inner) }
+        ensures sheet { with_held self.pending (W.sheet result)
+            ≡ with_held self.pending (W.sheet self.inner) }
         ensures at_once { WritesAtOnce (W.sheet result) }
     {
         let OmitTrailingSemi { inner, pending: _ } = self;
@@ -59,7 +61,8 @@ impl<W: WriteJs> OmitTrailingSemi<W> {
 
     /// Writes the semicolon that is held.
     fn settle(&mut self) -> Result
-        ensures settles { Settles (with_held self.old.pending (W.sheet self.old.inner)) (with_held self.new.pending (W.sheet self.new.inner)) (in_short result) }
+        ensures settles { Settles (with_held self.old.pending (W.sheet self.old.inner))
+            (with_held self.new.pending (W.sheet self.new.inner)) (in_short result) }
         ensures none { OnOk result (self.new.pending ≡ None) }
     {
         if let Some(span) = self.pending {
@@ -156,7 +159,7 @@ impl<W: WriteJs> WriteJs for OmitTrailingSemi<W> {
         self.inner.write_punct(span, s)
     }
 
-    #[tactic(auto, unfolding(crate::specs::Held::with_held))]
+    #[tactic(auto, unfolding(crate::specs::PendingSemi::with_held))]
     fn care_about_srcmap(&self) -> bool {
         self.inner.care_about_srcmap()
     }
@@ -171,12 +174,12 @@ impl<W: WriteJs> WriteJs for OmitTrailingSemi<W> {
         self.inner.commit_pending_semi()
     }
 
-    #[tactic(auto, unfolding(crate::specs::Held::with_held))]
+    #[tactic(auto, unfolding(crate::specs::PendingSemi::with_held))]
     fn can_ignore_invalid_unicodes(&mut self) -> bool {
         self.inner.can_ignore_invalid_unicodes()
     }
 
-    #[tactic(auto, using(crate::proofs::Semicolons::held_back), unfolding(crate::specs::Held::with_held))]
+    #[tactic(auto, using(crate::proofs::Semicolons::held_back), unfolding(crate::specs::PendingSemi::with_held))]
     fn holds_semi(&self) -> bool {
         true
     }

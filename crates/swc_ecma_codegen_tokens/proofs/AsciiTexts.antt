@@ -6,7 +6,7 @@ use Rattle.std.proofs.lemmas.Bool.{and_from, and_parts, or_parts, false_from_ne_
 use Rattle.std.proofs.lemmas.List.Folds.{list_all-append}
 use Rattle.swc_ecma_codegen_common.specs.declared.errors.Refusal.{Refusal}
 use Rattle.swc_ecma_codegen_common.specs.declared.positions.Span.{Span}
-use Rattle.swc_ecma_codegen_grammar.specs.GapRules.{fuses, Apart}
+use Rattle.swc_ecma_codegen_grammar.specs.GapRules.{fuses, Separated}
 use Rattle.swc_ecma_codegen_grammar.specs.Settings.{Settings, is_up_to_es5}
 use Rattle.swc_ecma_codegen_grammar.specs.Phrases.{Phrase, Never, Nothing, One, NameOf, KeyOf, PrivateOf, TagNameOf, Then, CommaBefore, OptionalParentheses, Chosen, EmptyArguments, LoopEnding, AttributesWord, in_parentheses, close_parenthesis, Generates, chosen, is_possible}
 use Rattle.swc_ecma_codegen_grammar.specs.Tokens as lexical
@@ -18,9 +18,9 @@ use Rattle.swc_ecma_codegen_tokens.specs.Run.{Env, Part, State, Step, Guard, Tok
 use Rattle.swc_ecma_codegen_tokens.specs.Settings.{settings_of}
 use Rattle.swc_ecma_codegen_tokens.specs.Targets.{is_out}
 use Rattle.swc_ecma_codegen_tokens.specs.Written.{Spot}
-use Rattle.swc_ecma_codegen_tokens.proofs.Hands.{tokens_keep}
+use Rattle.swc_ecma_codegen_tokens.proofs.StepAscii.{tokens_keep}
 use Rattle.swc_ecma_codegen_tokens.proofs.KeyTexts.{key_kept}
-use Rattle.swc_ecma_codegen_tokens.proofs.Held.{front, front_of, written_text, pointed_keeps}
+use Rattle.swc_ecma_codegen_tokens.proofs.PendingSemi.{front, front_of, written_text, pointed_keeps}
 use Rattle.swc_ecma_codegen_tokens.proofs.PartSteps.{steps_of_chain}
 use Rattle.swc_ecma_codegen_tokens.proofs.Phrased.{made_not_out, PrintsOn}
 use Rattle.swc_ecma_codegen_tokens.proofs.Texts.{adds_literal}
@@ -145,7 +145,7 @@ call_goes old x s a g = record { lines = effect_lines x s g.lines; adds = effect
 guard_goes : {ts : List (List ℕ)} (old t : List ℕ) (a : State) → Goes ts old a.sheet → Goes ts old (put (Guard t) a).sheet
 unfolding put text_of
 guard_goes {ts} old t a g =
-    elim (fuses a.last (chars t)) as (λ b. Goes ts old (cond b (record a { sheet = effect Space a.sheet; last = Apart }) a).sheet)
+    elim (fuses a.last (chars t)) as (λ b. Goes ts old (cond b (record a { sheet = effect Space a.sheet; last = Separated }) a).sheet)
     [ true ↦ call_goes old Space a.sheet refl g | false ↦ g ]
 
 -- a text more, whatever it is

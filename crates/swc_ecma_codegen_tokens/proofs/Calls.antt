@@ -11,9 +11,9 @@ use Rattle.swc_ecma_codegen_grammar.specs.GapRules.{fuses}
 use Rattle.swc_ecma_codegen_text_writer.specs.Sheet.{Item, Semi, Space, Keyword, Operator, Param, Property, Line, Lit, Comment, StrLit, Str, Symbol, Punct, Position, Commit, Deeper, Shallower, Sheet, effect, Writes, Refuses, earlier, stopped}
 use Rattle.swc_ecma_codegen_text_writer.proofs.Sheets.{depth, effect_indentation, effect_same}
 use Rattle.swc_ecma_codegen_tokens.specs.declared.LowerEmitter.{LowerEmitter}
-use Rattle.swc_ecma_codegen_tokens.specs.declared.last.Last.{Last}
-use Rattle.swc_ecma_codegen_tokens.specs.declared.last.Last.TheVariants as last
-use Rattle.swc_ecma_codegen_tokens.specs.Last.{last_at}
+use Rattle.swc_ecma_codegen_tokens.specs.declared.previous.PreviousToken.{PreviousToken}
+use Rattle.swc_ecma_codegen_tokens.specs.declared.previous.PreviousToken.TheVariants as last
+use Rattle.swc_ecma_codegen_tokens.specs.PreviousToken.{last_at}
 use Rattle.swc_ecma_codegen_tokens.specs.View.{state_of}
 use Rattle.swc_ecma_codegen_tokens.specs.Run.{Part, when_minified, no_part, State, Step, Guard, Token, Plain, Ends, CommentText, IsRefused, Does, with_source, put, step, text_of, after_token, after_tokens, after_plain}
 use Rattle.swc_ecma_codegen_tokens.proofs.Emitting.{is_taking, emits_step, emits_refused, does_step, put_lines, refused_lines, follows_same, minified_same, pretty_same}
@@ -87,11 +87,11 @@ on_err (Ok u) f h = tt
 on_err (Err e) f h = f h
 
 -- the last token was noted ahead of the call
-pub noted_ok : (r : Result (Unit {0}) Refusal) (f n e : LowerEmitter) (l : Last) → n.token.value ≡ l → n.failed ≡ e.failed
+pub noted_ok : (r : Result (Unit {0}) Refusal) (f n e : LowerEmitter) (l : PreviousToken) → n.token.value ≡ l → n.failed ≡ e.failed
     → OnOk r ((f.token.value ≡ n.token.value) × (f.failed ≡ n.failed)) → OnOk r ((f.token.value ≡ l) × (f.failed ≡ e.failed))
 noted_ok r f n e l t q = on_ok r (λ h. (h.0 ∙ t, h.1 ∙ q))
 
-pub noted_err : (r : Result (Unit {0}) Refusal) (f e : LowerEmitter) (before : Last) → before ≡ e.token.value
+pub noted_err : (r : Result (Unit {0}) Refusal) (f e : LowerEmitter) (before : PreviousToken) → before ≡ e.token.value
     → OnErr r ((f.token.value ≡ before) × (f.failed ≡ true)) → OnErr r ((f.token.value ≡ e.token.value) × (f.failed ≡ true))
 noted_err r f e before t = on_err r (λ h. (h.0 ∙ t, h.1))
 
@@ -117,7 +117,7 @@ step_called x item config e f old new (Err er) made refused none fresh w ok err 
     emits_refused x er (with_source lines maps there) (with_source lines maps (state_of config new f)) fresh (ap (with_source lines maps) q) (refused_lines x er there new lines maps (refused er new w))
 
 -- a token, by one call
-pub called : (kind : Kind) (item : Item) (config : Config) (e f : LowerEmitter) (old new : Sheet) (l : Last) (answer r : Result (Unit {0}) Refusal)
+pub called : (kind : Kind) (item : Item) (config : Config) (e f : LowerEmitter) (old new : Sheet) (l : PreviousToken) (answer r : Result (Unit {0}) Refusal)
     → e.failed ≡ false → Writes item old new answer
     → OnOk r ((f.token.value ≡ l) × (f.failed ≡ e.failed)) → OnErr r ((f.token.value ≡ e.token.value) × (f.failed ≡ true)) → r ≡ answer
     → last_at l ≡ after_token kind (text_of item) (last_at e.token.value)
@@ -128,7 +128,7 @@ called kind item config e f old new l answer r fresh w ok err eq last =
     (on_ok r (λ h. (ap last_at h.0 ∙ last, h.1)) ok) (on_err r (λ h. (ap last_at h.0, h.1)) err)
 
 -- a call with which tokens end
-pub called_ends : (tokens : List (Kind × List ℕ)) (item : Item) (config : Config) (e f : LowerEmitter) (old new : Sheet) (l : Last) (answer r : Result (Unit {0}) Refusal)
+pub called_ends : (tokens : List (Kind × List ℕ)) (item : Item) (config : Config) (e f : LowerEmitter) (old new : Sheet) (l : PreviousToken) (answer r : Result (Unit {0}) Refusal)
     → e.failed ≡ false → Writes item old new answer
     → OnOk r ((f.token.value ≡ l) × (f.failed ≡ e.failed)) → OnErr r ((f.token.value ≡ e.token.value) × (f.failed ≡ true)) → r ≡ answer
     → last_at l ≡ after_tokens tokens (last_at e.token.value)
@@ -139,7 +139,7 @@ called_ends tokens item config e f old new l answer r fresh w ok err eq last =
     (on_ok r (λ h. (ap last_at h.0 ∙ last, h.1)) ok) (on_err r (λ h. (ap last_at h.0, h.1)) err)
 
 -- a call that writes no token, after which another is the last one
-pub called_plain : (item : Item) (config : Config) (e f : LowerEmitter) (old new : Sheet) (l : Last) (answer r : Result (Unit {0}) Refusal)
+pub called_plain : (item : Item) (config : Config) (e f : LowerEmitter) (old new : Sheet) (l : PreviousToken) (answer r : Result (Unit {0}) Refusal)
     → e.failed ≡ false → Writes item old new answer
     → OnOk r ((f.token.value ≡ l) × (f.failed ≡ e.failed)) → OnErr r ((f.token.value ≡ e.token.value) × (f.failed ≡ true)) → r ≡ answer
     → last_at l ≡ after_plain item (last_at e.token.value)
@@ -152,7 +152,7 @@ called_plain item config e f old new l answer r fresh w ok err eq last =
 -- the text of a comment, by one call
 pub called_text : (t : List ℕ) (config : Config) (e f : LowerEmitter) (old new : Sheet) (answer r : Result (Unit {0}) Refusal)
     → e.failed ≡ false → Writes (Comment t) old new answer
-    → OnOk r ((f.token.value ≡ last.Apart) × (f.failed ≡ e.failed)) → OnErr r ((f.token.value ≡ e.token.value) × (f.failed ≡ true)) → r ≡ answer
+    → OnOk r ((f.token.value ≡ last.Separated) × (f.failed ≡ e.failed)) → OnErr r ((f.token.value ≡ e.token.value) × (f.failed ≡ true)) → r ≡ answer
     → Does (step (CommentText t)) (state_of config old e) (state_of config new f) r
 unfolding put IsRefused last_at
 called_text t config e f old new answer r fresh w ok err eq =
@@ -177,13 +177,13 @@ pub called_ends_kept : (tokens : List (Kind × List ℕ)) (item : Item) (config 
 called_ends_kept tokens item config e f old new answer r fresh w token ok err eq last =
     called_ends tokens item config e f old new e.token.value answer r fresh w (on_ok r (λ h. (token, h)) ok) (on_err r (λ h. (token, h)) err) eq last
 
-guarded_put : (t : List ℕ) (s : State) → fuses s.last (chars t) ≡ true → put (Guard t) s ≡ record s { sheet = effect Space s.sheet; last = rules.Apart }
+guarded_put : (t : List ℕ) (s : State) → fuses s.last (chars t) ≡ true → put (Guard t) s ≡ record s { sheet = effect Space s.sheet; last = rules.Separated }
 unfolding put
-guarded_put t s h = ap (λ b. cond b (record s { sheet = effect Space s.sheet; last = rules.Apart }) s) h
+guarded_put t s h = ap (λ b. cond b (record s { sheet = effect Space s.sheet; last = rules.Separated }) s) h
 
 passed_put : (t : List ℕ) (s : State) → fuses s.last (chars t) ≡ false → put (Guard t) s ≡ s
 unfolding put
-passed_put t s h = ap (λ b. cond b (record s { sheet = effect Space s.sheet; last = rules.Apart }) s) h
+passed_put t s h = ap (λ b. cond b (record s { sheet = effect Space s.sheet; last = rules.Separated }) s) h
 
 -- the last token and a text don't fuse, and nothing is done
 pub passed : (t : List ℕ) (a : State) → a.failed ≡ false → fuses a.last (chars t) ≡ false → Does (step (Guard t)) a a (Ok tt)
@@ -192,13 +192,13 @@ passed t a fresh h = does_step (Guard t) a a refl fresh (sym (passed_put t a h))
 -- they fuse, and a blank is written
 pub guarded : (t : List ℕ) (config : Config) (e f : LowerEmitter) (old new : Sheet) (answer r : Result (Unit {0}) Refusal)
     → e.failed ≡ false → Writes Space old new answer
-    → OnOk r ((f.token.value ≡ last.Apart) × (f.failed ≡ e.failed)) → OnErr r ((f.token.value ≡ e.token.value) × (f.failed ≡ true)) → r ≡ answer
+    → OnOk r ((f.token.value ≡ last.Separated) × (f.failed ≡ e.failed)) → OnErr r ((f.token.value ≡ e.token.value) × (f.failed ≡ true)) → r ≡ answer
     → fuses (last_at e.token.value) (chars t) ≡ true
     → Does (step (Guard t)) (state_of config old e) (state_of config new f) r
 unfolding IsRefused last_at
 guarded t config e f old new answer r fresh w ok err eq h =
     let there : State = state_of config old e in
-    let q : put (Guard t) there ≡ record there { sheet = effect Space old; last = rules.Apart } = guarded_put t there h in
+    let q : put (Guard t) there ≡ record there { sheet = effect Space old; last = rules.Separated } = guarded_put t there h in
     let P : State → Type 0 = λ s. s ≡ record there { sheet = effect Space old; last = s.last } in
     step_called (Guard t) Space config e f old new r (subst P (sym q) refl) (λ err z k. (h, k)) refl fresh (subst (λ z. Writes Space old new z) (sym eq) w)
     (on_ok r (λ k. (ap last_at k.0 ∙ ap (λ (s : State). s.last) (sym q), k.1)) ok) (on_err r (λ k. (ap last_at k.0, k.1)) err)

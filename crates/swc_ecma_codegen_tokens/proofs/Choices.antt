@@ -21,7 +21,7 @@ use Rattle.swc_ecma_codegen_tokens.specs.Targets.{is_out}
 use Rattle.swc_ecma_codegen_tokens.specs.Words.{keyword, punct, semi}
 use Rattle.swc_ecma_codegen_tokens.specs.Written.{IsMark, IsWord}
 use Rattle.swc_ecma_codegen_tokens.proofs.Emitting.{minified_same, pretty_same}
-use Rattle.swc_ecma_codegen_tokens.proofs.Hands.{holds_string}
+use Rattle.swc_ecma_codegen_tokens.proofs.StepAscii.{holds_string}
 use Rattle.swc_ecma_codegen_text_writer.specs.Sheet.{Sheet}
 use Rattle.swc_ecma_codegen_tokens.specs.Named.{EachName, AllStand}
 use Rattle.swc_ecma_codegen_tokens.proofs.Printed.{from_where, makes_some, MakesAt}

@@ -8,7 +8,7 @@ use Rattle.swc_ecma_codegen_grammar.specs.Chars.{is_blank, is_one_line, is_line_
 use Rattle.swc_ecma_codegen_grammar.specs.Texts.{begins}
 use Rattle.swc_ecma_codegen_grammar.specs.Trivia as trivia
 use Rattle.swc_ecma_codegen_grammar.specs.Trivia.{Remark, Piece, Blank, BlockOf, LineOf, is_open, is_piece, piece_text, pieces_text, all_pieces, remarks_of}
-use Rattle.swc_ecma_codegen_grammar.specs.GapRules.{Last, Start, Apart, WordEnd, IntegerEnd, Mark, LessBang, Whole, TextEnd, TagNameEnd, LineEnd, fuses, mark_fuses, is_choice, allows, last_after_gap}
+use Rattle.swc_ecma_codegen_grammar.specs.GapRules.{PreviousToken, Start, Separated, WordEnd, IntegerEnd, Mark, LessBang, Whole, TextEnd, TagNameEnd, LineEnd, fuses, mark_fuses, is_choice, allows, last_after_gap}
 use Rattle.swc_ecma_codegen_grammar.specs.Parts as parts
 use Rattle.swc_ecma_codegen_grammar.specs.Parts.{Gap, NoneFuse, tokens_of, remarks_in, walk}
 use Rattle.swc_ecma_codegen_grammar.proofs.Reading.{blank_fuses}
@@ -17,7 +17,7 @@ use Rattle.swc_ecma_codegen_text_writer.proofs.Sheets.{written_same, pointed_ali
 use Rattle.swc_ecma_codegen_grammar.specs.Comments.{all_tame, is_tame}
 use Rattle.swc_ecma_codegen_tokens.specs.Run.{State, Guard, Plain, CommentText, put, after_plain}
 use Rattle.swc_ecma_codegen_tokens.specs.Written.{IsLineEnd, all_indent, is_indent, is_free, holds_one, AtRest, RestsAt, Spot, InName}
-use Rattle.swc_ecma_codegen_tokens.proofs.Held.{front_of, front, written_text, in_line, written_semicolons, pointed_keeps, settled_none, unheld_settled}
+use Rattle.swc_ecma_codegen_tokens.proofs.PendingSemi.{front_of, front, written_text, in_line, written_semicolons, pointed_keeps, settled_none, unheld_settled}
 use Rattle.swc_ecma_codegen_tokens.proofs.Shapes.{open_, fits_blank}
 use Rattle.swc_ecma_codegen_tokens.proofs.Indented.{indent_utf8, indent_chars, indent_blank, indent_one_line, blanks, blanks_text, blanks_pieces}
 use Rattle.swc_ecma_codegen_tokens.proofs.Laid.{LaysWith, lays_then, laid_out}
@@ -43,7 +43,7 @@ unfolding blanks remarks_of
 behind_remarks [] ps = refl
 behind_remarks (c ∷ cs) ps = behind_remarks cs ps
 
-behind_last : (k : Last) (u : List ℕ) (p : Piece) (ps : List Piece) → last_after_gap k (blanks u ++ p ∷ ps) ≡ Apart
+behind_last : (k : PreviousToken) (u : List ℕ) (p : Piece) (ps : List Piece) → last_after_gap k (blanks u ++ p ∷ ps) ≡ Separated
 unfolding blanks last_after_gap
 behind_last k [] p ps = refl
 behind_last k (c ∷ cs) p ps = refl
@@ -59,10 +59,10 @@ slash_mark : (t : List ℕ) (m n : List ℕ) → mark_fuses t 47 m ≡ mark_fuse
 unfolding mark_fuses is_choice
 slash_mark t m n = refl
 
-slash_fuses : (k : Last) (m n : List ℕ) → fuses k (47 ∷ m) ≡ fuses k (47 ∷ n)
+slash_fuses : (k : PreviousToken) (m n : List ℕ) → fuses k (47 ∷ m) ≡ fuses k (47 ∷ n)
 unfolding fuses begins
 slash_fuses Start m n = refl
-slash_fuses Apart m n = refl
+slash_fuses Separated m n = refl
 slash_fuses WordEnd m n = refl
 slash_fuses IntegerEnd m n = refl
 slash_fuses (Mark t) m n = slash_mark t m n
@@ -72,7 +72,7 @@ slash_fuses TextEnd m n = refl
 slash_fuses TagNameEnd m n = refl
 slash_fuses LineEnd m n = refl
 
-behind_fuses : (k : Last) (u m n : List ℕ) (ps : List Piece) → all_indent u ≡ true → pieces_text ps ≡ 47 ∷ n → fuses k (47 ∷ m) ≡ false → fuses k (pieces_text (blanks u ++ ps)) ≡ false
+behind_fuses : (k : PreviousToken) (u m n : List ℕ) (ps : List Piece) → all_indent u ≡ true → pieces_text ps ≡ 47 ∷ n → fuses k (47 ∷ m) ≡ false → fuses k (pieces_text (blanks u ++ ps)) ≡ false
 unfolding blanks pieces_text piece_text all_indent
 behind_fuses k [] m n ps h e f = ap (fuses k) e ∙ slash_fuses k n m ∙ f
 behind_fuses k (c ∷ cs) m n ps h e f = blank_fuses k c (pieces_text (blanks cs ++ ps)) (indent_blank c (and_parts (is_indent c) (all_indent cs) h).0)
@@ -97,7 +97,7 @@ pub record Adds (t : List ℕ) (a b : State) : Type 0 where
   pub holds : holds_semicolons b.sheet.semicolons ≡ holds_semicolons a.sheet.semicolons
   pub indent_text : b.sheet.indent_text ≡ a.sheet.indent_text
   pub line_end : b.sheet.line_end ≡ a.sheet.line_end
-  pub last : b.last ≡ Apart
+  pub last : b.last ≡ Separated
 
 adds_then : (t u : List ℕ) (a b c : State) → Adds t a b → Adds u b c → Adds (t ++ u) a c
 adds_then t u a b c h k = record {
@@ -111,7 +111,7 @@ adds_then t u a b c h k = record {
 }
 
 said : List ℕ → State → State
-said t s = record s { sheet = written None t s.sheet; last = Apart }
+said t s = record s { sheet = written None t s.sheet; last = Separated }
 
 -- the first of them, behind the indentation of its line
 adds_first : (c : ℕ) (cs : List ℕ) (s : State) → holds_one s.sheet.semicolons ≡ false → Adds (front s.sheet ++ c ∷ cs) s (said (c ∷ cs) s)
@@ -135,7 +135,7 @@ adds_later (c ∷ cs) s e o = let P : List ℕ → Type 0 = λ z. Adds (z ++ c �
 -- by its call
 call_said : (t : List ℕ) (s : State) → holds_one s.sheet.semicolons ≡ false → said t s ≡ put (CommentText t) s
 unfolding said put effect
-call_said t s o = ap (λ (z : Sheet). record s { sheet = written None t z; last = Apart }) (sym (unheld_settled s.sheet o))
+call_said t s o = ap (λ (z : Sheet). record s { sheet = written None t z; last = Separated }) (sym (unheld_settled s.sheet o))
 
 piece_said : (t : List ℕ) (s : State) → put (Plain (Comment t)) s ≡ put (CommentText t) s
 unfolding put after_plain
@@ -151,7 +151,7 @@ pub adds_opening : (c : ℕ) (cs : List ℕ) (s : State) → holds_one s.sheet.s
 adds_opening c cs s o = subst (λ (z : State). Adds (front s.sheet ++ c ∷ cs) s z) (call_said (c ∷ cs) s o ∙ sym (piece_said (c ∷ cs) s)) (adds_first c cs s o)
 
 -- a position
-pub adds_position : (pos : BytePos) (s : State) → s.sheet.at_line_start ≡ false → holds_one s.sheet.semicolons ≡ false → s.last ≡ Apart → Adds [] s (put (Plain (Position pos)) s)
+pub adds_position : (pos : BytePos) (s : State) → s.sheet.at_line_start ≡ false → holds_one s.sheet.semicolons ≡ false → s.last ≡ Separated → Adds [] s (put (Plain (Position pos)) s)
 unfolding put effect after_plain
 adds_position pos s e o l =
     let p = alike_same s.sheet (pointed pos s.sheet) (pointed_alike pos s.sheet) in
@@ -167,7 +167,7 @@ adds_position pos s e o l =
 
 -- ---- a comment is one gap
 
-comment_gap : (ps : List Piece) (bytes : List ℕ) (rs : List Remark) (s b : State) → b.sheet.text ≡ s.sheet.text ++ bytes → IsUtf8 bytes → chars bytes ≡ pieces_text ps → all_pieces ps ≡ true → remarks_of ps ≡ rs → fuses s.last (pieces_text ps) ≡ false → last_after_gap s.last ps ≡ Apart → b.last ≡ Apart → holds_one s.sheet.semicolons ≡ false → holds_one b.sheet.semicolons ≡ false → holds_semicolons b.sheet.semicolons ≡ holds_semicolons s.sheet.semicolons → allows s.last (pieces_text ps) ≡ true → AtRest b → (all_tame rs ≡ true → is_one_line (pieces_text ps) ≡ true) → LaysWith open_ [] rs s b
+comment_gap : (ps : List Piece) (bytes : List ℕ) (rs : List Remark) (s b : State) → b.sheet.text ≡ s.sheet.text ++ bytes → IsUtf8 bytes → chars bytes ≡ pieces_text ps → all_pieces ps ≡ true → remarks_of ps ≡ rs → fuses s.last (pieces_text ps) ≡ false → last_after_gap s.last ps ≡ Separated → b.last ≡ Separated → holds_one s.sheet.semicolons ≡ false → holds_one b.sheet.semicolons ≡ false → holds_semicolons b.sheet.semicolons ≡ holds_semicolons s.sheet.semicolons → allows s.last (pieces_text ps) ≡ true → AtRest b → (all_tame rs ≡ true → is_one_line (pieces_text ps) ≡ true) → LaysWith open_ [] rs s b
 unfolding parts.text_of tokens_of remarks_in NoneFuse walk
 comment_gap ps bytes rs s b t u c g m f k l o q h a r w = record {
   out = Gap ps ∷ [];
@@ -273,11 +273,11 @@ line_text : List ℕ → List ℕ → List ℕ
 line_text t e = codes "//" ++ (t ++ e)
 
 -- the line ends behind it
-ended_line : (s : State) → s.sheet.at_line_start ≡ false → holds_one s.sheet.semicolons ≡ false → put (Plain Line) s ≡ record s { sheet = record (appended s.sheet.line_end s.sheet) { at_line_start = true }; last = Apart }
+ended_line : (s : State) → s.sheet.at_line_start ≡ false → holds_one s.sheet.semicolons ≡ false → put (Plain Line) s ≡ record s { sheet = record (appended s.sheet.line_end s.sheet) { at_line_start = true }; last = Separated }
 unfolding put effect after_plain ended
 ended_line s e o =
-    ap (λ (z : Sheet). record s { sheet = cond z.at_line_start (record z { pending = None }) (record (appended z.line_end z) { at_line_start = true }); last = Apart }) (unheld_settled s.sheet o)
-    ∙ ap (λ b. record s { sheet = cond b (record s.sheet { pending = None }) (record (appended s.sheet.line_end s.sheet) { at_line_start = true }); last = Apart }) e
+    ap (λ (z : Sheet). record s { sheet = cond z.at_line_start (record z { pending = None }) (record (appended z.line_end z) { at_line_start = true }); last = Separated }) (unheld_settled s.sheet o)
+    ∙ ap (λ b. record s { sheet = cond b (record s.sheet { pending = None }) (record (appended s.sheet.line_end s.sheet) { at_line_start = true }); last = Separated }) e
 
 end_utf8 : (e : List ℕ) → IsLineEnd e → IsUtf8 e
 unfolding chars is_utf8 lib.Utf8.encode
@@ -294,7 +294,7 @@ pub record EndsWell (t e : List ℕ) : Type 0 where
   pub text : pieces_text (end_piece t e) ≡ codes "//" ++ (t ++ e)
   pub each : is_one_line t ≡ true → all_pieces (end_piece t e) ≡ true
   pub remarks : remarks_of (end_piece t e) ≡ trivia.Line t ∷ []
-  pub last : (k : Last) (u : List ℕ) → last_after_gap k (blanks u ++ end_piece t e) ≡ Apart
+  pub last : (k : PreviousToken) (u : List ℕ) → last_after_gap k (blanks u ++ end_piece t e) ≡ Separated
 
 end_well : (t e : List ℕ) → IsLineEnd e → EndsWell t e
 unfolding end_piece blanks pieces_text piece_text all_pieces is_piece is_line_end is_blank remarks_of
@@ -319,7 +319,7 @@ line_spelled u t e h k l =
     ∙ ap (λ z. pieces_text (blanks u) ++ z) (three_chars (codes "//") t e slashes_utf8 k ∙ ap (λ z. z ++ (chars t ++ chars e)) slashes_chars ∙ ap (λ z. codes "//" ++ (chars t ++ z)) (end_chars e l) ∙ sym (end_well (chars t) e l).text)
     ∙ sym (pieces_append (blanks u) (end_piece (chars t) e))
 
-line_rest : {v : Spot} (s b : State) (t : List ℕ) → RestsAt v s → Adds t s b → AtRest (record b { sheet = record (appended b.sheet.line_end b.sheet) { at_line_start = true }; last = Apart })
+line_rest : {v : Spot} (s b : State) (t : List ℕ) → RestsAt v s → Adds t s b → AtRest (record b { sheet = record (appended b.sheet.line_end b.sheet) { at_line_start = true }; last = Separated })
 unfolding appended is_free
 line_rest s b t r h = record {
   indent_text = ap all_indent h.indent_text ∙ r.indent_text;
@@ -328,7 +328,7 @@ line_rest s b t r h = record {
   allowed = apart_open;
 }
 
-line_closed : (t : List ℕ) (s m : State) → IsUtf8 t → is_one_line (chars t) ≡ true → fuses s.last (codes "//") ≡ false → holds_one s.sheet.semicolons ≡ false → RestsAt InName s → Adds (front s.sheet ++ (codes "//" ++ t)) s m → LaysWith open_ [] (trivia.Line (chars t) ∷ []) s (record m { sheet = record (appended m.sheet.line_end m.sheet) { at_line_start = true }; last = Apart })
+line_closed : (t : List ℕ) (s m : State) → IsUtf8 t → is_one_line (chars t) ≡ true → fuses s.last (codes "//") ≡ false → holds_one s.sheet.semicolons ≡ false → RestsAt InName s → Adds (front s.sheet ++ (codes "//" ++ t)) s m → LaysWith open_ [] (trivia.Line (chars t) ∷ []) s (record m { sheet = record (appended m.sheet.line_end m.sheet) { at_line_start = true }; last = Separated })
 unfolding appended line_text line_pieces all_tame is_tame
 line_closed t s m k i f o r h =
     let u : List ℕ = front s.sheet in
@@ -369,7 +369,7 @@ adds_closed u t s b h =
 -- a semicolon that is held back is written before it
 opens_settled : (t : List ℕ) (s : State) → put (Plain (Comment t)) (settle s) ≡ put (Plain (Comment t)) s
 unfolding put effect after_plain
-opens_settled t s = ap (λ (z : Sheet). record s { sheet = written None t z; last = Apart }) (unheld_settled (settled s.sheet) (settled_none s.sheet))
+opens_settled t s = ap (λ (z : Sheet). record s { sheet = written None t z; last = Separated }) (unheld_settled (settled s.sheet) (settled_none s.sheet))
 
 -- behind the blank that is due, where nothing is held back
 guarded : {rs : List Remark} (g : List ℕ) (s b : State) → chars g ≡ g → RestsAt InName s → ((m : State) → m ≡ settle (put (Guard g) s) → RestsAt InName m → holds_one m.sheet.semicolons ≡ false → fuses m.last g ≡ false → LaysWith open_ [] rs m b) → LaysWith open_ [] rs s b

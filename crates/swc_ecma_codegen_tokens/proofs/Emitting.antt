@@ -3,7 +3,7 @@ use Rattle.std.proofs.Common.{◌≡◌, ℕ, Bool, true, false, cond, [], ◌�
 use Rattle.std.specs.Str.{chars}
 use Rattle.swc_ecma_codegen_common.specs.declared.errors.Refusal.{Refusal}
 use Rattle.swc_ecma_codegen_common.specs.declared.errors.Refusal.TheVariants.{Failed}
-use Rattle.swc_ecma_codegen_grammar.specs.GapRules.{fuses, Apart}
+use Rattle.swc_ecma_codegen_grammar.specs.GapRules.{fuses, Separated}
 use Rattle.swc_ecma_codegen_text_writer.specs.Sheet.{Sheet, Space, effect}
 use Rattle.swc_ecma_codegen_grammar.specs.SourceLines.{Lines}
 use Rattle.swc_ecma_codegen_grammar.specs.CommentMaps.{Maps}
@@ -14,7 +14,7 @@ use Rattle.swc_ecma_codegen_tokens.specs.Run.{Env, Plan, Part, State, Step, Guar
 -- an earlier refusal is not forgotten
 pub put_failed : (x : Step) (s : State) → (put x s).failed ≡ s.failed
 unfolding put
-put_failed (Guard t) s = elim (fuses s.last (chars t)) as (λ b. (cond b (record s { sheet = effect Space s.sheet; last = Apart }) s).failed ≡ s.failed) [ true ↦ refl | false ↦ refl ]
+put_failed (Guard t) s = elim (fuses s.last (chars t)) as (λ b. (cond b (record s { sheet = effect Space s.sheet; last = Separated }) s).failed ≡ s.failed) [ true ↦ refl | false ↦ refl ]
 put_failed (Token kind x) s = refl
 put_failed (Plain x) s = refl
 put_failed (Ends tokens x) s = refl
@@ -23,7 +23,7 @@ put_failed x s = refl
 -- only the comments that are still to be taken may change
 pub put_env : (x : Step) (s : State) → (put x s).env ≡ at_maps (after_step x s.env.maps) s.env
 unfolding put after_step
-put_env (Guard t) s = elim (fuses s.last (chars t)) as (λ b. (cond b (record s { sheet = effect Space s.sheet; last = Apart }) s).env ≡ at_maps s.env.maps s.env) [ true ↦ refl | false ↦ refl ]
+put_env (Guard t) s = elim (fuses s.last (chars t)) as (λ b. (cond b (record s { sheet = effect Space s.sheet; last = Separated }) s).env ≡ at_maps s.env.maps s.env) [ true ↦ refl | false ↦ refl ]
 put_env (Token kind x) s = refl
 put_env (Plain x) s = refl
 put_env (Ends tokens x) s = refl
@@ -96,7 +96,7 @@ pretty_same part other rest env h = ap (λ m. cond m (part rest env) (other rest
 -- what a step makes of where an emission stands
 pub put_source : (x : Step) (lines : Lines) (maps : Maps) (s : State) → with_source lines (after_step x maps) (put x s) ≡ put x (with_source lines maps s)
 unfolding put with_source after_step
-put_source (Guard t) lines maps s = elim (fuses s.last (chars t)) as (λ b. with_source lines maps (cond b (record s { sheet = effect Space s.sheet; last = Apart }) s) ≡ cond b (record (with_source lines maps s) { sheet = effect Space s.sheet; last = Apart }) (with_source lines maps s)) [ true ↦ refl | false ↦ refl ]
+put_source (Guard t) lines maps s = elim (fuses s.last (chars t)) as (λ b. with_source lines maps (cond b (record s { sheet = effect Space s.sheet; last = Separated }) s) ≡ cond b (record (with_source lines maps s) { sheet = effect Space s.sheet; last = Separated }) (with_source lines maps s)) [ true ↦ refl | false ↦ refl ]
 put_source (Token kind x) lines maps s = refl
 put_source (Plain x) lines maps s = refl
 put_source (Ends tokens x) lines maps s = refl

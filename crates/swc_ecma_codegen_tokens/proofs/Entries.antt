@@ -7,14 +7,14 @@ use Rattle.swc_ecma_codegen_grammar.specs.Punctuators.{punctuators}
 use Rattle.swc_ecma_codegen_literals.specs.Punctuators.{place, spelling}
 use Rattle.swc_ecma_codegen_tokens.specs.Starts.{order, start_class}
 use Rattle.swc_ecma_codegen_tokens.specs.Classes.{row_of}
-use Rattle.swc_ecma_codegen_tokens.specs.Last.{class_of, last_at}
+use Rattle.swc_ecma_codegen_tokens.specs.PreviousToken.{class_of, last_at}
 use Rattle.swc_ecma_codegen_literals.specs.declared.punctuators.Punctuator.{Punctuator}
-use Rattle.swc_ecma_codegen_tokens.specs.declared.last.Last.{Last}
-use Rattle.swc_ecma_codegen_tokens.specs.declared.last.Last.TheVariants as last
+use Rattle.swc_ecma_codegen_tokens.specs.declared.previous.PreviousToken.{PreviousToken}
+use Rattle.swc_ecma_codegen_tokens.specs.declared.previous.PreviousToken.TheVariants as last
 use Rattle.swc_ecma_codegen_tokens.proofs.Starting.{sample, samples, same_beginning}
 
 -- a token of each class
-unfoldable pub tokens : List rules.Last
+unfoldable pub tokens : List rules.PreviousToken
 tokens = map rules.Mark punctuators ++ (rules.LessBang ∷ rules.WordEnd ∷ rules.IntegerEnd ∷ rules.Whole ∷ rules.Whole ∷ [])
 
 -- a row for each token, a column for each text
@@ -26,12 +26,12 @@ unfolding tokens punctuators place
 at_place p = search all
 
 -- the token of a class stands for all of them
-pub same_token : (l : Last) (t : List ℕ) → fuses (get_or tokens (row_of (class_of l)) rules.Whole) t ≡ fuses (last_at l) t
+pub same_token : (l : PreviousToken) (t : List ℕ) → fuses (get_or tokens (row_of (class_of l)) rules.Whole) t ≡ fuses (last_at l) t
 unfolding tokens punctuators row_of class_of last_at fuses
 same_token last.Start [] = refl
 same_token last.Start (c ∷ n) = refl
-same_token last.Apart [] = refl
-same_token last.Apart (c ∷ n) = refl
+same_token last.Separated [] = refl
+same_token last.Separated (c ∷ n) = refl
 same_token last.WordEnd t = refl
 same_token last.IntegerEnd t = refl
 same_token (last.Mark p) t = ap (λ x. fuses x t) (at_place p)
@@ -54,10 +54,10 @@ unfolding samples
 columns = refl
 
 -- an entry of a table that holds these
-pub entry : (table : List (List Bool)) (i j : ℕ) (l : Last) (text : List ℕ) → table ≡ entries → i < 63 → j < 30 → i ≡ row_of (class_of l) → j ≡ order (start_class text) → get_or (get_or table i []) j false ≡ fuses (last_at l) text
+pub entry : (table : List (List Bool)) (i j : ℕ) (l : PreviousToken) (text : List ℕ) → table ≡ entries → i < 63 → j < 30 → i ≡ row_of (class_of l) → j ≡ order (start_class text) → get_or (get_or table i []) j false ≡ fuses (last_at l) text
 unfolding entries sample
 entry table i j l text same below within row column =
-    let token : rules.Last = get_or tokens i rules.Whole in
+    let token : rules.PreviousToken = get_or tokens i rules.Whole in
     ap (λ x. get_or (get_or x i []) j false) same
     ∙ ap (λ x. get_or x j false) (get_or-map (λ l. map (λ t. fuses l t) samples) tokens i rules.Whole [] (omega (arith, rows)))
     ∙ get_or-map (λ t. fuses token t) samples j [] false (omega (arith, columns))

@@ -3,8 +3,8 @@ use Rattle.std.proofs.Common.{◌≡◌, ℕ, Bool, true, false, ◌||◌, cond,
 use Rattle.std.specs.Str.{chars}
 use Rattle.swc_ecma_codegen_common.specs.declared.errors.Refusal.{Refusal}
 use Rattle.swc_ecma_codegen_common.specs.declared.errors.Refusal.TheVariants.{Writer, OutOfMemory, UnsupportedNode, BadShape, NameOutOfTarget, PositionTooLarge, Failed}
-use Rattle.swc_ecma_codegen_grammar.specs.GapRules.{fuses, Apart}
-use Rattle.swc_ecma_codegen_text_writer.specs.Told.{IsFront, Rises}
+use Rattle.swc_ecma_codegen_grammar.specs.GapRules.{fuses, Separated}
+use Rattle.swc_ecma_codegen_text_writer.specs.Told.{IsPrefix, Rises}
 use Rattle.swc_ecma_codegen_text_writer.specs.Sheet.{Item, Space, Comment, Deeper, Sheet, effect, Causes, Refuses, earlier, stopped}
 use Rattle.swc_ecma_codegen_text_writer.proofs.Sheets.{front_refl, front_trans, effect_grows, effect_refused, effect_faults, effect_takes_memory, effect_keeps_positions, effect_whole}
 use Rattle.swc_ecma_codegen_tokens.specs.declared.refusals.Unprintable.{Unprintable}
@@ -17,7 +17,7 @@ use Rattle.swc_ecma_codegen_tokens.specs.Run.{State, Step, Guard, Token, Plain, 
 -- a fact of the sheet before, which no call changes, holds of the sheet after a step
 put_sheet : {A : Type 0} (f : Sheet → A) → ((x : Item) (s : Sheet) → f (effect x s) ≡ f s) → (x : Step) (a : State) → f (put x a).sheet ≡ f a.sheet
 unfolding put
-put_sheet f k (Guard t) a = elim (fuses a.last (chars t)) as (λ b. f (cond b (record a { sheet = effect Space a.sheet; last = Apart }) a).sheet ≡ f a.sheet) [ true ↦ k Space a.sheet | false ↦ refl ]
+put_sheet f k (Guard t) a = elim (fuses a.last (chars t)) as (λ b. f (cond b (record a { sheet = effect Space a.sheet; last = Separated }) a).sheet ≡ f a.sheet) [ true ↦ k Space a.sheet | false ↦ refl ]
 put_sheet f k (Token kind x) a = k x a.sheet
 put_sheet f k (Plain x) a = k x a.sheet
 put_sheet f k (Ends tokens x) a = k x a.sheet
@@ -33,9 +33,9 @@ run_sheet f k (x ∷ xs) a = run_sheet f k xs (put x a) ∙ put_sheet f k x a
 pub run_whole : (xs : List Step) (a : State) → (run xs a).sheet.whole ≡ a.sheet.whole
 run_whole xs a = run_sheet (λ s. s.whole) effect_whole xs a
 
-put_grows : (x : Step) (a : State) → IsFront a.sheet.text (put x a).sheet.text
+put_grows : (x : Step) (a : State) → IsPrefix a.sheet.text (put x a).sheet.text
 unfolding put
-put_grows (Guard t) a = elim (fuses a.last (chars t)) as (λ b. IsFront a.sheet.text (cond b (record a { sheet = effect Space a.sheet; last = Apart }) a).sheet.text) [ true ↦ effect_grows Space a.sheet | false ↦ front_refl a.sheet.text ]
+put_grows (Guard t) a = elim (fuses a.last (chars t)) as (λ b. IsPrefix a.sheet.text (cond b (record a { sheet = effect Space a.sheet; last = Separated }) a).sheet.text) [ true ↦ effect_grows Space a.sheet | false ↦ front_refl a.sheet.text ]
 put_grows (Token kind x) a = effect_grows x a.sheet
 put_grows (Plain x) a = effect_grows x a.sheet
 put_grows (Ends tokens x) a = effect_grows x a.sheet
@@ -43,7 +43,7 @@ put_grows (Remake due) a = front_refl a.sheet.text
 put_grows (Take side at) a = front_refl a.sheet.text
 put_grows (CommentText t) a = effect_grows (Comment t) a.sheet
 
-run_grows : (xs : List Step) (a : State) → IsFront a.sheet.text (run xs a).sheet.text
+run_grows : (xs : List Step) (a : State) → IsPrefix a.sheet.text (run xs a).sheet.text
 unfolding run
 run_grows [] a = front_refl a.sheet.text
 run_grows (x ∷ xs) a = front_trans _ _ _ (put_grows x a) (run_grows xs (put x a))
@@ -55,35 +55,35 @@ run_append (x ∷ xs) ys a = run_append xs ys (put x a)
 
 -- ---- a refused step
 
-refuses_front : {x : Item} {e : Refusal} (old new : Sheet) → Refuses x e old new → IsFront new.text (effect x old).text
-refuses_front {x = x} old new (earlier h k eq) = let P : Sheet → Type 0 = λ s. IsFront s.text (effect x old).text in subst P (sym eq) (effect_grows x old)
+refuses_front : {x : Item} {e : Refusal} (old new : Sheet) → Refuses x e old new → IsPrefix new.text (effect x old).text
+refuses_front {x = x} old new (earlier h k eq) = let P : Sheet → Type 0 = λ s. IsPrefix s.text (effect x old).text in subst P (sym eq) (effect_grows x old)
 refuses_front old new (stopped h k s) = s.front
 
-refused_front : (x : Step) (e : Refusal) (a : State) (new : Sheet) → IsRefused x e a new → IsFront new.text (put x a).sheet.text
+refused_front : (x : Step) (e : Refusal) (a : State) (new : Sheet) → IsRefused x e a new → IsPrefix new.text (put x a).sheet.text
 unfolding IsRefused put
-refused_front (Guard t) e a new h = let P : Bool → Type 0 = λ b. IsFront new.text (cond b (record a { sheet = effect Space a.sheet; last = Apart }) a).sheet.text in subst P (sym h.0) (refuses_front a.sheet new h.1)
+refused_front (Guard t) e a new h = let P : Bool → Type 0 = λ b. IsPrefix new.text (cond b (record a { sheet = effect Space a.sheet; last = Separated }) a).sheet.text in subst P (sym h.0) (refuses_front a.sheet new h.1)
 refused_front (Token kind x) e a new h = refuses_front a.sheet new h
 refused_front (Plain x) e a new h = refuses_front a.sheet new h
 refused_front (Ends tokens x) e a new h = refuses_front a.sheet new h
 refused_front (Take side at) e a new h = absurd h
 refused_front (CommentText t) e a new h = refuses_front a.sheet new h
-refused_front (Remake due) e a new h = let P : Sheet → Type 0 = λ s. IsFront s.text a.sheet.text in subst P (sym h.2) (front_refl a.sheet.text)
+refused_front (Remake due) e a new h = let P : Sheet → Type 0 = λ s. IsPrefix s.text a.sheet.text in subst P (sym h.2) (front_refl a.sheet.text)
 
-stops_front : (xs : List Step) (e : Refusal) (a b : State) → Stops xs e a b → IsFront b.sheet.text (run xs a).sheet.text
+stops_front : (xs : List Step) (e : Refusal) (a b : State) → Stops xs e a b → IsPrefix b.sheet.text (run xs a).sheet.text
 unfolding run
 stops_front xs e a b h =
     let there : State = run h.front a in
-    let P : State → Type 0 = λ s. IsFront b.sheet.text s.sheet.text in
+    let P : State → Type 0 = λ s. IsPrefix b.sheet.text s.sheet.text in
     subst P (sym (ap (λ zs. run zs a) h.split ∙ run_append h.front (h.step ∷ h.rest) a))
     (front_trans _ _ _ (refused_front h.step e there b.sheet h.refuses) (run_grows h.rest (put h.step there)))
 
 -- what is out is a beginning of the text of the steps
-pub follows_front : (p : Plan) (a b : State) (r : Result (Unit {0}) Refusal) → Follows p a b r → IsFront b.sheet.text (run (steps_of (p a.env)) a).sheet.text
+pub follows_front : (p : Plan) (a b : State) (r : Result (Unit {0}) Refusal) → Follows p a b r → IsPrefix b.sheet.text (run (steps_of (p a.env)) a).sheet.text
 unfolding Follows
-follows_front p a b (Ok u) h = let P : State → Type 0 = λ s. IsFront b.sheet.text s.sheet.text in subst P h.1 (front_refl b.sheet.text)
-follows_front p a b (Err e) (run.earlier h k eq) = let P : State → Type 0 = λ s. IsFront s.sheet.text (run (steps_of (p a.env)) a).sheet.text in subst P (sym eq) (run_grows (steps_of (p a.env)) a)
+follows_front p a b (Ok u) h = let P : State → Type 0 = λ s. IsPrefix b.sheet.text s.sheet.text in subst P h.1 (front_refl b.sheet.text)
+follows_front p a b (Err e) (run.earlier h k eq) = let P : State → Type 0 = λ s. IsPrefix s.sheet.text (run (steps_of (p a.env)) a).sheet.text in subst P (sym eq) (run_grows (steps_of (p a.env)) a)
 follows_front p a b (Err e) (run.stopped h) = stops_front (steps_of (p a.env)) e a b h
-follows_front p a b (Err e) (reached r h k q eq) = let P : State → Type 0 = λ s. IsFront s.sheet.text (run (steps_of (p a.env)) a).sheet.text in subst P (sym eq) (front_refl (run (steps_of (p a.env)) a).sheet.text)
+follows_front p a b (Err e) (reached r h k q eq) = let P : State → Type 0 = λ s. IsPrefix s.sheet.text (run (steps_of (p a.env)) a).sheet.text in subst P (sym eq) (front_refl (run (steps_of (p a.env)) a).sheet.text)
 
 -- a refusal leaves its mark
 halts_marked : (xs : Steps) (e : Refusal) (a b : State) → Halts xs e a b → b.failed ≡ true

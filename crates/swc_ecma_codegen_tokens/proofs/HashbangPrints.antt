@@ -13,7 +13,7 @@ use Rattle.swc_ecma_codegen_grammar.specs.Tokens as lexical
 use Rattle.swc_ecma_codegen_grammar.specs.Tokens.{token_of, value_of, has_shape}
 use Rattle.swc_ecma_codegen_grammar.specs.Reads.{is_child, is_hashbang_kind}
 use Rattle.swc_ecma_codegen_grammar.specs.Trivia.{Remark, Piece, Blank, is_piece, piece_text, all_pieces, pieces_text, remarks_of}
-use Rattle.swc_ecma_codegen_grammar.specs.GapRules.{Last, Start, Apart, LineEnd, fuses, allows, ends_line, last_after, last_after_gap}
+use Rattle.swc_ecma_codegen_grammar.specs.GapRules.{PreviousToken, Start, Separated, LineEnd, fuses, allows, ends_line, last_after, last_after_gap}
 use Rattle.swc_ecma_codegen_grammar.specs.Parts as parts
 use Rattle.swc_ecma_codegen_grammar.specs.Parts.{Gap, Own, tokens_of, remarks_in, NoneFuse, Reduced}
 use Rattle.swc_ecma_codegen_grammar.specs.Phrases.{One, where_}
@@ -26,9 +26,9 @@ use Rattle.swc_ecma_codegen_tokens.specs.Run.{at_maps, maps_after, after_step, t
 use Rattle.swc_ecma_codegen_tokens.specs.Scripts.{is_str, is_string_call}
 use Rattle.swc_ecma_codegen_tokens.specs.Words.{line_end, position}
 use Rattle.swc_ecma_codegen_tokens.specs.Written.{IsLineEnd, AtRest, all_indent, holds_one, is_free}
-use Rattle.swc_ecma_codegen_tokens.proofs.Behind.{start_alone}
-use Rattle.swc_ecma_codegen_tokens.proofs.Hands.{Hands, has_string, hands_ascii, hands_then}
-use Rattle.swc_ecma_codegen_tokens.proofs.Held.{front, pointed_keeps, settled_none}
+use Rattle.swc_ecma_codegen_tokens.proofs.AfterBlanks.{start_alone}
+use Rattle.swc_ecma_codegen_tokens.proofs.StepAscii.{Hands, has_string, hands_ascii, hands_then}
+use Rattle.swc_ecma_codegen_tokens.proofs.PendingSemi.{front, pointed_keeps, settled_none}
 use Rattle.swc_ecma_codegen_tokens.proofs.Indented.{blanks, blanks_text, blanks_remarks, indent_utf8, indent_chars}
 use Rattle.swc_ecma_codegen_tokens.proofs.Levels.{levels, rise}
 use Rattle.swc_ecma_codegen_tokens.proofs.LiteralParts.{still_settled}
@@ -48,7 +48,7 @@ record EndsLine (e : List ℕ) : Type 0 where
   pub closed : all_pieces pieces ≡ true
   pub none_fuse : fuses LineEnd (pieces_text pieces) ≡ false
   pub allowed : allows LineEnd (pieces_text pieces) ≡ true
-  pub after : last_after_gap LineEnd pieces ≡ Apart
+  pub after : last_after_gap LineEnd pieces ≡ Separated
   pub utf8 : IsUtf8 e
   pub same : chars e ≡ pieces_text pieces
   pub no_remarks : remarks_of pieces ≡ []
@@ -86,10 +86,10 @@ laid_line t s u i l =
     ∙ append_assoc (pieces_text (blanks (front s))) (chars t) (pieces_text l.pieces ++ [])
 
 -- nothing stands before it
-line_apart : (t : List ℕ) (s : State) (more : List parts.Part) → has_shape Hashbang (chars t) ≡ true → (l : EndsLine s.sheet.line_end) → IsFirst s → NoneFuse Apart more → NoneFuse s.last (Gap (blanks (front s.sheet)) ∷ Own Hashbang (chars t) ∷ Gap l.pieces ∷ more)
+line_apart : (t : List ℕ) (s : State) (more : List parts.Part) → has_shape Hashbang (chars t) ≡ true → (l : EndsLine s.sheet.line_end) → IsFirst s → NoneFuse Separated more → NoneFuse s.last (Gap (blanks (front s.sheet)) ∷ Own Hashbang (chars t) ∷ Gap l.pieces ∷ more)
 unfolding NoneFuse last_after last_after_gap pieces_text all_pieces fuses allows blanks is_child is_hashbang_kind
 line_apart t s more p l f n =
-    let P : Last → List Piece → Type 0 = λ k u. NoneFuse k (Gap u ∷ Own Hashbang (chars t) ∷ Gap l.pieces ∷ more) in
+    let P : PreviousToken → List Piece → Type 0 = λ k u. NoneFuse k (Gap u ∷ Own Hashbang (chars t) ∷ Gap l.pieces ∷ more) in
     let rest : NoneFuse LineEnd (Gap l.pieces ∷ more) = (l.closed, l.none_fuse, l.allowed, subst (λ k. NoneFuse k more) (sym l.after) n) in
     subst (λ k. P k (blanks (front s.sheet))) (sym f.nothing_written)
     (subst (λ z. P Start (blanks z)) (sym f.at_margin) (refl, refl, refl, (p, start_alone (chars t), record { child = λ e. absurd (true≢false (sym e)); first = λ e. refl }, refl, rest)))
@@ -106,12 +106,12 @@ unfolding ended
 ended_here s h = ap (λ b. cond b (record s { pending = None }) (record (appended s.line_end s) { at_line_start = true })) h
 
 -- a hashbang that was added, and the end of its line, where no semicolon is held back
-line_lays : (t : List ℕ) (s : State) (m : Sheet) → IsUtf8 t → has_shape Hashbang (chars t) ≡ true → holds_one s.sheet.semicolons ≡ false → AtRest s → Adds t s.sheet m → LaysAt first_line (token_of Hashbang (chars t) ∷ []) s (record s { sheet = record (appended m.line_end m) { at_line_start = true }; last = Apart })
+line_lays : (t : List ℕ) (s : State) (m : Sheet) → IsUtf8 t → has_shape Hashbang (chars t) ≡ true → holds_one s.sheet.semicolons ≡ false → AtRest s → Adds t s.sheet m → LaysAt first_line (token_of Hashbang (chars t) ∷ []) s (record s { sheet = record (appended m.line_end m) { at_line_start = true }; last = Separated })
 unfolding appended tokens_of remarks_in parts.text_of is_free
 line_lays t s m u p o r h =
     let i = front_indent s.sheet r.indent_text in
     let l = line_pieces s.sheet.line_end r.line_end in
-    let b : State = record s { sheet = record (appended m.line_end m) { at_line_start = true }; last = Apart } in
+    let b : State = record s { sheet = record (appended m.line_end m) { at_line_start = true }; last = Separated } in
     let out : List parts.Part = Gap (blanks (front s.sheet)) ∷ Own Hashbang (chars t) ∷ Gap l.pieces ∷ [] in
     record {
       out = out;
@@ -164,7 +164,7 @@ calls_lay t s u h r =
     let a : Adds (codes "#!" ++ t) (settled s.sheet) m = calls_add t s.sheet in
     let end : ended (settled m) ≡ record (appended m.line_end m) { at_line_start = true } =
     ap ended (still_settled (codes "#!" ++ t) (settled s.sheet) m (settled_none s.sheet) a) ∙ ended_here m a.in_line in
-    let P : List ℕ → Sheet → Type 0 = λ x z. LaysAt first_line (token_of Hashbang x ∷ []) s (record s { sheet = z; last = Apart }) in
+    let P : List ℕ → Sheet → Type 0 = λ x z. LaysAt first_line (token_of Hashbang x ∷ []) s (record s { sheet = z; last = Separated }) in
     let shape = ap (has_shape Hashbang) (line_chars t) ∙ line_shape (chars t) h in
     subst (λ z. P (codes "#!" ++ chars t) z) (sym end)
     (subst (λ x. P x (record (appended m.line_end m) { at_line_start = true })) (line_chars t)

@@ -9,7 +9,7 @@ use Rattle.swc_ecma_codegen_grammar.specs.Tokens.{Token, token_of, has_shape}
 use Rattle.swc_ecma_codegen_grammar.specs.Trivia.{pieces_text, remarks_of}
 use Rattle.swc_ecma_codegen_grammar.specs.Reads.{Reads, ReadsOn, is_same_line}
 use Rattle.swc_ecma_codegen_grammar.specs.Trivia.{Remark}
-use Rattle.swc_ecma_codegen_grammar.specs.GapRules.{Last, Start, last_after, last_after_gap}
+use Rattle.swc_ecma_codegen_grammar.specs.GapRules.{PreviousToken, Start, last_after, last_after_gap}
 use Rattle.swc_ecma_codegen_grammar.specs.Parts as parts
 use Rattle.swc_ecma_codegen_grammar.specs.Parts.{Gap, Own, Joint, OfLine, OnLine, PastLine, AtJoint, Broken, over_gap, over_own, walk, is_broken, tokens_of, remarks_in, NoneFuse}
 use Rattle.swc_ecma_codegen_grammar.proofs.Reading.{reads}
@@ -36,7 +36,7 @@ stripped_remarks (Gap ps ∷ xs) = ap (λ z. remarks_of ps ++ z) (stripped_remar
 stripped_remarks (Own x t ∷ xs) = stripped_remarks xs
 stripped_remarks (Joint ∷ xs) = stripped_remarks xs
 
-stripped_fuse : (k : Last) (xs : List parts.Part) → NoneFuse k xs → NoneFuse k (stripped xs)
+stripped_fuse : (k : PreviousToken) (xs : List parts.Part) → NoneFuse k xs → NoneFuse k (stripped xs)
 unfolding stripped NoneFuse
 stripped_fuse k [] h = h
 stripped_fuse k (Gap ps ∷ xs) h = (h.0, h.1, h.2, stripped_fuse (last_after_gap k ps) xs h.3)
@@ -57,7 +57,7 @@ joint_left : (ts : List Token) → without_joints (lexical.same_line ∷ ts) ≡
 unfolding without_joints lexical.same_line is_same_line
 joint_left ts = refl
 
-stripped_tokens : (k : Last) (xs : List parts.Part) → NoneFuse k xs → tokens_of (stripped xs) ≡ without_joints (tokens_of xs)
+stripped_tokens : (k : PreviousToken) (xs : List parts.Part) → NoneFuse k xs → tokens_of (stripped xs) ≡ without_joints (tokens_of xs)
 unfolding stripped NoneFuse tokens_of
 stripped_tokens k [] h = unfold without_joints in refl
 stripped_tokens k (Gap ps ∷ xs) h = stripped_tokens (last_after_gap k ps) xs h.3

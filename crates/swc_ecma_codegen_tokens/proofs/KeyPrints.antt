@@ -24,7 +24,7 @@ use Rattle.swc_ecma_codegen_tokens.specs.Scripts.{is_string_call, string_by_valu
 use Rattle.swc_ecma_codegen_tokens.specs.Settings.{settings_of}
 use Rattle.swc_ecma_codegen_tokens.specs.Targets.{wants_escapes, written_key, written_as, written_by, is_out}
 use Rattle.swc_ecma_codegen_tokens.specs.Words.{commit_pending_semi, leading_comments, position, symbol}
-use Rattle.swc_ecma_codegen_tokens.proofs.Hands.{holds_string}
+use Rattle.swc_ecma_codegen_tokens.proofs.StepAscii.{holds_string}
 use Rattle.swc_ecma_codegen_tokens.proofs.KeySteps.{escaped_same, plain_same, symbol_same, bare_same, valid_same}
 use Rattle.swc_ecma_codegen_tokens.proofs.KeyTexts.{SpellsKey, made_key, kept_key}
 use Rattle.swc_ecma_codegen_tokens.proofs.LiteralParts.{writes_guard}

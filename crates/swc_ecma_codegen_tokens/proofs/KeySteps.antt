@@ -14,7 +14,7 @@ use Rattle.swc_ecma_codegen_grammar.specs.CommentMaps.{Maps}
 use Rattle.swc_ecma_codegen_tokens.specs.Run.{Env, Plan, State, Remake, step, has_backslash, Does, DoesTaking}
 use Rattle.swc_ecma_codegen_tokens.specs.Targets.{wants_escapes}
 use Rattle.swc_ecma_codegen_tokens.specs.Words.{symbol}
-use Rattle.swc_ecma_codegen_tokens.proofs.Anew.{does_same, spelled_anew, not_anew, taking_same, taking_anew, does_takes}
+use Rattle.swc_ecma_codegen_tokens.proofs.RewrittenLiterals.{does_same, spelled_anew, not_anew, taking_same, taking_anew, does_takes}
 
 -- ---- a text by the settings
 

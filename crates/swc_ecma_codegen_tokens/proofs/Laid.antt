@@ -16,7 +16,7 @@ use Rattle.swc_ecma_codegen_text_writer.specs.Sheet.{Sheet, holds_semicolons}
 use Rattle.swc_ecma_codegen_tokens.specs.Run.{State, Take, put}
 use Rattle.swc_ecma_codegen_grammar.specs.Comments.{Side}
 use Rattle.swc_ecma_codegen_tokens.specs.Written.{holds_one, AtRest, RestsAt, Spot, Anything, InName}
-use Rattle.swc_ecma_codegen_tokens.proofs.Held.{front}
+use Rattle.swc_ecma_codegen_tokens.proofs.PendingSemi.{front}
 use Rattle.swc_ecma_codegen_tokens.proofs.Appended.{text_append, tokens_append, remarks_append}
 use Rattle.swc_ecma_codegen_tokens.proofs.Shapes.{Shape, whole, open_, joining, join, is_within, within_stands, Fits, fits_then, fits_wider, fits_nothing, fits_joint}
 use Rattle.swc_ecma_codegen_tokens.proofs.Indented.{blanks}

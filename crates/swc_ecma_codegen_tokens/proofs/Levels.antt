@@ -1,7 +1,7 @@
 -- How deep steps may go.
 use Rattle.std.proofs.Common.{◌≡◌, ℕ, ◌+◌, ◌^◌, ◌<◌, ◌≤◌, cond, true, false, List, [], ◌∷◌, ◌++◌, refl, ap, ◌∙◌, arith}
 use Rattle.std.specs.Str.{chars}
-use Rattle.swc_ecma_codegen_grammar.specs.GapRules.{fuses, Apart}
+use Rattle.swc_ecma_codegen_grammar.specs.GapRules.{fuses, Separated}
 use Rattle.swc_ecma_codegen_text_writer.specs.Sheet.{Item, Semi, Space, Keyword, Operator, Param, Property, Line, Lit, Comment, StrLit, Str, Symbol, Punct, Position, Commit, Deeper, Shallower, Sheet, effect}
 use Rattle.swc_ecma_codegen_text_writer.proofs.Sheets.{depth, effect_indentation}
 use Rattle.swc_ecma_codegen_tokens.specs.Run.{State, Step, Guard, Token, Plain, Ends, Remake, Take, CommentText, put, run, deepens, PassesLimit}
@@ -62,7 +62,7 @@ effect_rise x s = let k = depth_rise x s.indentation in omega (arith, k, effect_
 
 guard_same : (t : List ℕ) (a : State) → (put (Guard t) a).sheet.indentation ≡ a.sheet.indentation
 unfolding put
-guard_same t a = elim (fuses a.last (chars t)) as (λ b. (cond b (record a { sheet = effect Space a.sheet; last = Apart }) a).sheet.indentation ≡ a.sheet.indentation) [ true ↦ effect_indentation Space a.sheet | false ↦ refl ]
+guard_same t a = elim (fuses a.last (chars t)) as (λ b. (cond b (record a { sheet = effect Space a.sheet; last = Separated }) a).sheet.indentation ≡ a.sheet.indentation) [ true ↦ effect_indentation Space a.sheet | false ↦ refl ]
 
 pub levels_append : (xs ys : List Step) → levels (xs ++ ys) ≡ levels xs + levels ys
 unfolding levels

@@ -9,7 +9,7 @@ use Rattle.swc_ecma_codegen_grammar.specs.ListFormats.{forces_trailing_comma, al
 use Rattle.swc_ecma_codegen_tokens.specs.Run.{Env, Plan, Part, State, Remake, Emits, Does, at_source, step}
 use Rattle.swc_ecma_codegen_tokens.specs.Lists.{by_lines, comma_if, source_has_comma, source_comma, wanted_comma, may_have_comma, trailing_comma}
 use Rattle.swc_ecma_codegen_tokens.proofs.Emitting.{does_here}
-use Rattle.swc_ecma_codegen_tokens.proofs.Anew.{anew, emits_same, not_here}
+use Rattle.swc_ecma_codegen_tokens.proofs.RewrittenLiterals.{anew, emits_same, not_here}
 
 pub source_same : (parent : Span) (rest : Plan) (env : Env) → (parent.lo.0 == 0) ≡ false → source_comma parent rest env ≡ step (Remake true) (comma_if (source_has_comma (env.lines.snippet parent)) rest) env
 unfolding source_comma by_lines step

@@ -22,7 +22,7 @@ use Rattle.swc_ecma_codegen_tokens.proofs.ListCommas.{written_same, left_out_sam
 use Rattle.swc_ecma_codegen_tokens.proofs.Printed.{writes_remake, MakesWithin, from_both, within_then, with_room, writes_then, writes_same, writes_nothing, writes_if, writes_minified, writes_formatting_space, writes_formatting_line, writes_trailing, writes_shallower, deeper_within, punct_within, writes_punct, Fills, MakesAt, EndsLines, makes_wider}
 use Rattle.swc_ecma_codegen_tokens.specs.Escapes.{may_make_text}
 use Rattle.swc_ecma_codegen_tokens.specs.Targets.{is_out}
-use Rattle.swc_ecma_codegen_tokens.proofs.Hands.{holds_string}
+use Rattle.swc_ecma_codegen_tokens.proofs.StepAscii.{holds_string}
 use Rattle.swc_ecma_codegen_tokens.proofs.Choices.{IsAmong, placed_among, comma_among, no_comma_among, prints_no_comma}
 use Rattle.swc_ecma_codegen_tokens.proofs.Shapes.{Shape, open_, ended, loose, closed, past_line, join}
 use Rattle.swc_ecma_codegen_tokens.proofs.PartSteps.{NamedBy, names_then, no_names, placed_after, safe_then, no_strings}

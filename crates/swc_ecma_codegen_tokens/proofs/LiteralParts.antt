@@ -11,7 +11,7 @@ use Rattle.swc_ecma_codegen_grammar.specs.Tokens as lexical
 use Rattle.swc_ecma_codegen_grammar.specs.Tokens.{token_of, value_of, has_shape}
 use Rattle.swc_ecma_codegen_grammar.specs.Numbers.{is_numeric, is_big_integer, has_suffix}
 use Rattle.swc_ecma_codegen_grammar.specs.StringValues.{string_value}
-use Rattle.swc_ecma_codegen_grammar.specs.GapRules.{Last, fuses}
+use Rattle.swc_ecma_codegen_grammar.specs.GapRules.{PreviousToken, fuses}
 use Rattle.swc_ecma_codegen_grammar.specs.Parts.{tokens_of}
 use Rattle.swc_ecma_codegen_text_writer.specs.Sheet as calls
 use Rattle.swc_ecma_codegen_text_writer.specs.Sheet.{Sheet, Lit, StrLit, Punct, effect, written, literal_written, settled, before_punct, is_ending}
@@ -24,8 +24,8 @@ use Rattle.swc_ecma_codegen_tokens.specs.Starts.{start_class}
 use Rattle.swc_ecma_codegen_tokens.specs.Words.{start_of, leading_comments, commit_pending_semi}
 use Rattle.swc_ecma_codegen_tokens.specs.Literals as words
 use Rattle.swc_ecma_codegen_tokens.specs.Written.{AtRest, holds_one}
-use Rattle.swc_ecma_codegen_tokens.proofs.Held.{settled_none, unheld_settled}
-use Rattle.swc_ecma_codegen_tokens.proofs.Hands.{Hands, has_string, holds_string, hands_ascii}
+use Rattle.swc_ecma_codegen_tokens.proofs.PendingSemi.{settled_none, unheld_settled}
+use Rattle.swc_ecma_codegen_tokens.proofs.StepAscii.{Hands, has_string, holds_string, hands_ascii}
 use Rattle.swc_ecma_codegen_tokens.proofs.Levels.{levels, rise}
 use Rattle.swc_ecma_codegen_tokens.proofs.NumeralTexts.{numeric_ascii, ascii_by_chars}
 use Rattle.swc_ecma_codegen_tokens.proofs.Starting.{same_beginning, sample}
@@ -51,7 +51,7 @@ writes_settled_begun env span t = writes_then env commit_pending_semi (words.beg
 -- ---- a text of tokens, by calls behind a guard
 
 -- what begins alike fuses alike
-pub alike_fuses : (k : Last) (t u : List ℕ) → start_class t ≡ start_class u → fuses k u ≡ false → fuses k t ≡ false
+pub alike_fuses : (k : PreviousToken) (t u : List ℕ) → start_class t ≡ start_class u → fuses k u ≡ false → fuses k t ≡ false
 alike_fuses k t u e f = same_beginning k t ∙ ap (λ z. fuses k (sample z)) e ∙ sym (same_beginning k u) ∙ f
 
 pub lays_guarded : (xs : List (Kind × List ℕ)) (t g : List ℕ) (s b : State) → SpelledAs xs t → start_class (chars t) ≡ start_class (chars g) → AtRest s → Adds t (settled (put (Guard g) s).sheet) b.sheet → b.last ≡ after_tokens xs (put (Guard g) s).last → Lays (tokens_of (owns xs)) s b

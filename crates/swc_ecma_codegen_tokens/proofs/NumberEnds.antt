@@ -6,23 +6,23 @@ use Rattle.std.proofs.lemmas.Str.{chars-nil, chars-append, IsUtf8-past_char}
 use Rattle.swc_ecma_codegen_grammar.specs.declared.kinds.Kind.TheVariants.{Punctuator, Number, BigInt}
 use Rattle.swc_ecma_codegen_grammar.specs.Chars.{is_digit}
 use Rattle.swc_ecma_codegen_grammar.specs.Numbers.{is_octal, takes_dot}
-use Rattle.swc_ecma_codegen_grammar.specs.GapRules.{Last, WordEnd, IntegerEnd, last_after}
+use Rattle.swc_ecma_codegen_grammar.specs.GapRules.{PreviousToken, WordEnd, IntegerEnd, last_after}
 use Rattle.swc_ecma_codegen_literals.specs.Integers.{digits, decimal, after_zero, is_integer}
 use Rattle.swc_ecma_codegen_literals.proofs.Integers.{integer_takes_dot}
 use Rattle.swc_ecma_codegen_tokens.specs.Run.{after_token, after_tokens, spelling}
 use Rattle.swc_ecma_codegen_tokens.specs.Literals.{signed, size_of}
 
 -- a dot would belong to it, or to nothing
-unfoldable pub number_end : List ℕ → Last
+unfoldable pub number_end : List ℕ → PreviousToken
 number_end t = cond (takes_dot (chars t)) IntegerEnd WordEnd
 
-pub after_number : (t : List ℕ) (k : Last) → after_tokens (signed Number t) k ≡ number_end (size_of t)
+pub after_number : (t : List ℕ) (k : PreviousToken) → after_tokens (signed Number t) k ≡ number_end (size_of t)
 unfolding signed size_of after_tokens after_token last_after spelling number_end
 after_number [] k = refl
 after_number (c ∷ cs) k =
     elim (c == 45) as (λ b. after_tokens (cond b ((Punctuator, codes "-") ∷ (Number, cs) ∷ []) ((Number, c ∷ cs) ∷ [])) k ≡ number_end (cond b cs (c ∷ cs))) [ true ↦ refl | false ↦ refl ]
 
-pub after_big : (t : List ℕ) (k : Last) → after_tokens (signed BigInt t) k ≡ number_end (size_of t)
+pub after_big : (t : List ℕ) (k : PreviousToken) → after_tokens (signed BigInt t) k ≡ number_end (size_of t)
 unfolding signed size_of after_tokens after_token last_after spelling number_end
 after_big [] k = refl
 after_big (c ∷ cs) k =

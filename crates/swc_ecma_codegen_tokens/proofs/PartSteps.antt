@@ -11,7 +11,7 @@ use Rattle.swc_ecma_codegen_tokens.specs.Written.{Spot, Anything}
 use Rattle.swc_ecma_codegen_tokens.specs.Named.{EachName, AllStand}
 use Rattle.swc_ecma_codegen_tokens.specs.Scripts.{strings_after, AreSafe}
 use Rattle.swc_ecma_codegen_tokens.proofs.Fronts.{run_append, run_sheet}
-use Rattle.swc_ecma_codegen_tokens.proofs.Hands.{has_string, holds_string}
+use Rattle.swc_ecma_codegen_tokens.proofs.StepAscii.{has_string, holds_string}
 use Rattle.swc_ecma_codegen_tokens.proofs.Positions.{Named, named_none, named_then, run_records}
 use Rattle.swc_ecma_codegen_tokens.proofs.Standing.{ReachedAt, all_more, nameless, reached_as, reached_narrower, reached_then}
 use Rattle.swc_ecma_codegen_tokens.proofs.ValueStrings.{none_by_value, steps_safe}

@@ -50,8 +50,8 @@ use Rattle.swc_ecma_codegen_tokens.specs.Escapes.{may_make_text}
 use Rattle.swc_ecma_codegen_tokens.specs.Named.{RecordsNames, StandsAfter, EachName, AllStand, PlacesNames}
 use Rattle.swc_ecma_codegen_tokens.specs.Scripts.{is_str, strings_after, AreSafe}
 use Rattle.swc_ecma_codegen_tokens.proofs.Fronts.{follows_cause}
-use Rattle.swc_ecma_codegen_tokens.proofs.Hands.{holds_string}
-use Rattle.swc_ecma_codegen_tokens.proofs.Held.{front, front_of}
+use Rattle.swc_ecma_codegen_tokens.proofs.StepAscii.{holds_string}
+use Rattle.swc_ecma_codegen_tokens.proofs.PendingSemi.{front, front_of}
 use Rattle.swc_ecma_codegen_tokens.proofs.Indented.{blanks}
 use Rattle.swc_ecma_codegen_tokens.proofs.Spelled.{valid_same, spelled_same, out_same}
 use Rattle.swc_ecma_codegen_tokens.proofs.Positions.{Named, named_records, name_named, name_steps, name_call, run_records}

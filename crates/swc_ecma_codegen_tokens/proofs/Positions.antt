@@ -6,7 +6,7 @@ use Rattle.std.specs.Str.{chars}
 use Rattle.swc_ecma_codegen_common.specs.declared.positions.BytePos.{BytePos}
 use Rattle.swc_ecma_codegen_spans.specs.Spans.{dummy_span}
 use Rattle.swc_ecma_codegen_grammar.specs.declared.kinds.Kind.{Kind}
-use Rattle.swc_ecma_codegen_grammar.specs.GapRules.{fuses, Apart}
+use Rattle.swc_ecma_codegen_grammar.specs.GapRules.{fuses, Separated}
 use Rattle.swc_ecma_codegen_grammar.specs.Phrases.{PlacedName}
 use Rattle.swc_ecma_codegen_util.specs.declared.config.Config.{Config}
 use Rattle.swc_ecma_codegen_text_writer.specs.Places.{Place, after_text}
@@ -19,13 +19,13 @@ use Rattle.swc_ecma_codegen_tokens.specs.Run.{State, Step, Guard, Token, Plain, 
 use Rattle.swc_ecma_codegen_tokens.specs.Targets.{written_as}
 use Rattle.swc_ecma_codegen_tokens.specs.Written.{holds_one}
 use Rattle.swc_ecma_codegen_tokens.proofs.Fronts.{run_sheet}
-use Rattle.swc_ecma_codegen_tokens.proofs.Held.{begun_sheet, written_semicolons, pointed_keeps, settled_none, unheld_settled}
+use Rattle.swc_ecma_codegen_tokens.proofs.PendingSemi.{begun_sheet, written_semicolons, pointed_keeps, settled_none, unheld_settled}
 
 -- ---- what is recorded is true
 
 pub put_records : (x : Step) (a : State) → RecordsTruly a.sheet (put x a).sheet
 unfolding put
-put_records (Guard t) a = elim (fuses a.last (chars t)) as (λ b. RecordsTruly a.sheet (cond b (record a { sheet = effect Space a.sheet; last = Apart }) a).sheet) [ true ↦ effect_records Space a.sheet | false ↦ records_refl a.sheet ]
+put_records (Guard t) a = elim (fuses a.last (chars t)) as (λ b. RecordsTruly a.sheet (cond b (record a { sheet = effect Space a.sheet; last = Separated }) a).sheet) [ true ↦ effect_records Space a.sheet | false ↦ records_refl a.sheet ]
 put_records (Token kind x) a = effect_records x a.sheet
 put_records (Plain x) a = effect_records x a.sheet
 put_records (Ends tokens x) a = effect_records x a.sheet
@@ -223,7 +223,7 @@ name_steps first second kind b pos t = Plain Commit ∷ Remake first ∷ Remake 
 guard_unheld : (t : List ℕ) (a : State) → holds_one a.sheet.semicolons ≡ false → holds_one (put (Guard t) a).sheet.semicolons ≡ false
 unfolding put effect
 guard_unheld t a h =
-    elim (fuses a.last (chars t)) as (λ b. holds_one (cond b (record a { sheet = effect Space a.sheet; last = Apart }) a).sheet.semicolons ≡ false)
+    elim (fuses a.last (chars t)) as (λ b. holds_one (cond b (record a { sheet = effect Space a.sheet; last = Separated }) a).sheet.semicolons ≡ false)
     [ true ↦ ap holds_one (written_semicolons None (codes " ") (settled a.sheet)) ∙ settled_none a.sheet | false ↦ h ]
 
 pub before_unheld : (first second : Bool) (t : List ℕ) (s : State) → holds_one (run (before_name first second t) s).sheet.semicolons ≡ false

@@ -21,7 +21,7 @@ use Rattle.swc_ecma_codegen_tokens.specs.Targets.{wants_escapes, in_ascii, is_ou
 use Rattle.swc_ecma_codegen_tokens.specs.Written.{AtRest, RestsAt, Spot, Anything, InName}
 use Rattle.swc_ecma_codegen_tokens.proofs.Emitting.{minified_same, pretty_same}
 use Rattle.swc_ecma_codegen_tokens.proofs.Fronts.{run_append}
-use Rattle.swc_ecma_codegen_tokens.proofs.Hands.{Hands, has_string, has_append, ascii_append, hands_ascii, hands_at, hands_from, hands_by_settings, hands_then}
+use Rattle.swc_ecma_codegen_tokens.proofs.StepAscii.{Hands, has_string, has_append, ascii_append, hands_ascii, hands_at, hands_from, hands_by_settings, hands_then}
 use Rattle.swc_ecma_codegen_tokens.proofs.Levels.{levels, rise, levels_append}
 use Rattle.swc_ecma_codegen_tokens.proofs.Spelled.{valid_same, spelled_same}
 use Rattle.swc_ecma_codegen_tokens.proofs.Shapes.{Shape, whole, open_, loose, joining, joined, join, is_within}

@@ -29,8 +29,8 @@ use Rattle.swc_ecma_codegen_tokens.specs.Targets.{is_out, is_out_name, in_ascii,
 use Rattle.swc_ecma_codegen_tokens.specs.Words.{position}
 use Rattle.swc_ecma_codegen_tokens.specs.Written.{AtRest, holds_one}
 use Rattle.swc_ecma_codegen_tokens.proofs.Fronts.{run_append}
-use Rattle.swc_ecma_codegen_tokens.proofs.Hands.{has_string, has_append, keeps_append, ascii_append, hands_by_settings}
-use Rattle.swc_ecma_codegen_tokens.proofs.Held.{settled_none}
+use Rattle.swc_ecma_codegen_tokens.proofs.StepAscii.{has_string, has_append, keeps_append, ascii_append, hands_by_settings}
+use Rattle.swc_ecma_codegen_tokens.proofs.PendingSemi.{settled_none}
 use Rattle.swc_ecma_codegen_tokens.proofs.Levels.{levels, levels_append, rise}
 use Rattle.swc_ecma_codegen_tokens.proofs.LiteralParts.{lays_guarded, still_settled, writes_guard}
 use Rattle.swc_ecma_codegen_tokens.proofs.PartSteps.{no_names, placed_none}

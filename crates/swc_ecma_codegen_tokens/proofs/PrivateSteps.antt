@@ -13,7 +13,7 @@ use Rattle.swc_ecma_codegen_tokens.specs.declared.refusals.Unprintable.TheVarian
 use Rattle.swc_ecma_codegen_tokens.specs.PrivateNames.{private_symbol, spelled_private, valid_private, private_text}
 use Rattle.swc_ecma_codegen_tokens.specs.Run.{Env, Plan, Part, State, Remake, step, refuse, refusal_of, has_backslash, Emits, Does, with_source}
 use Rattle.swc_ecma_codegen_tokens.specs.Targets.{wants_escapes, in_ascii, is_out_name}
-use Rattle.swc_ecma_codegen_tokens.proofs.Anew.{does_same, emits_same, not_here, spelled_anew, not_anew}
+use Rattle.swc_ecma_codegen_tokens.proofs.RewrittenLiterals.{does_same, emits_same, not_here, spelled_anew, not_anew}
 use Rattle.swc_ecma_codegen_tokens.proofs.Emitting.{emits_refusal, follows_remade, does_by}
 use Rattle.swc_ecma_codegen_tokens.proofs.Targets.{kept_is_in, kept_text, escaped_text, out_by_settings}
 

@@ -14,7 +14,7 @@ use Rattle.swc_ecma_codegen_tokens.specs.Scripts.{is_str}
 use Rattle.swc_ecma_codegen_tokens.specs.Targets.{is_out}
 use Rattle.swc_ecma_codegen_tokens.specs.Lits.{begun_in}
 use Rattle.swc_ecma_codegen_tokens.specs.Literals.{begun}
-use Rattle.swc_ecma_codegen_tokens.proofs.Hands.{holds_string}
+use Rattle.swc_ecma_codegen_tokens.proofs.StepAscii.{holds_string}
 use Rattle.swc_ecma_codegen_tokens.proofs.LiteralParts.{writes_begun}
 use Rattle.swc_ecma_codegen_tokens.proofs.LitTexts.{signed_tokens}
 use Rattle.swc_ecma_codegen_tokens.proofs.PartSteps.{IsSafe, no_names, placed_none, no_strings}

@@ -12,7 +12,7 @@ use Rattle.swc_ecma_codegen_tokens.specs.Run.{Part, State, Step, Guard, Token, P
 use Rattle.swc_ecma_codegen_tokens.specs.Scripts.{is_string_call, string_by_value, strings_after, value_strings, AreSafe, StandIn, AddsSafe}
 use Rattle.swc_ecma_codegen_tokens.specs.Targets.{is_out}
 use Rattle.swc_ecma_codegen_tokens.specs.Written.{Spot}
-use Rattle.swc_ecma_codegen_tokens.proofs.Held.{front}
+use Rattle.swc_ecma_codegen_tokens.proofs.PendingSemi.{front}
 use Rattle.swc_ecma_codegen_tokens.proofs.PartSteps.{IsSafe}
 use Rattle.swc_ecma_codegen_tokens.proofs.Phrased.{made_not_out, PrintsOn}
 use Rattle.swc_ecma_codegen_tokens.proofs.Positions.{put_records}

@@ -219,15 +219,15 @@ name_so_far span bytes optional old tokens rs a b v w c e h =
     subst (λ z. ReadsSoFar old (tokens ++ z) (rs ++ taken_remarks (name span bytes optional) a.env) b) (name_list (settings_of a.env.config) span.lo bytes optional p.0 p.1) p.2
 
 -- nothing was written yet: what is written of what comes first
-pub record IsFront (next left : List parts.Part) : Type 0 where
+pub record IsPrefix (next left : List parts.Part) : Type 0 where
   pub apart : NoneFuse Start left
   pub lines : KeepsLines left
   pub tokens : IsReduced (tokens_of next) (tokens_of left)
 
-front_of_reduced : (next left : List parts.Part) → NoneFuse Start next → KeepsLines next → Reduced next left → IsFront next left
+front_of_reduced : (next left : List parts.Part) → NoneFuse Start next → KeepsLines next → Reduced next left → IsPrefix next left
 front_of_reduced next left n k d = record { apart = none_fuse_reduced next left n d; lines = keeps_reduced next left OnLine d k; tokens = tokens_reduced next left n d }
 
-front_of_gap : (next left : List parts.Part) (ps : List Piece) → IsFront next (left ++ Gap ps ∷ []) → IsFront next left
+front_of_gap : (next left : List parts.Part) (ps : List Piece) → IsPrefix next (left ++ Gap ps ∷ []) → IsPrefix next left
 unfolding tokens_of
 front_of_gap next left ps f = record {
   apart = without_last_gap Start left ps f.apart;
@@ -235,11 +235,11 @@ front_of_gap next left ps f = record {
   tokens = subst (λ z. IsReduced (tokens_of next) z) (tokens_append left (Gap ps ∷ []) ∙ append-nil (tokens_of left)) f.tokens;
 }
 
-front_of_left : (next left : List parts.Part) → NoneFuse Start next → KeepsLines next → IsLeft next left → IsFront next left
+front_of_left : (next left : List parts.Part) → NoneFuse Start next → KeepsLines next → IsLeft next left → IsPrefix next left
 front_of_left next left n k (inl d) = front_of_reduced next left n k d
 front_of_left next left n k (inr d) = front_of_gap next left d.0 (front_of_reduced next (left ++ Gap d.0 ∷ []) n k d.1)
 
-goes_first : (s : State) → IsNew s → (next left : List parts.Part) → GoesOn s.last s.sheet next left → IsFront next left
+goes_first : (s : State) → IsNew s → (next left : List parts.Part) → GoesOn s.last s.sheet next left → IsPrefix next left
 goes_first s n next left g =
     let none : pending s.sheet ≡ [] = ap (λ b. cond b (Gap (blanks (indentation_due s.sheet)) ∷ Own Ending (codes ";") ∷ []) []) n.nothing_held in
     front_of_left next left

@@ -5,7 +5,7 @@ use Rattle.std.specs.Str.{chars, IsUtf8}
 use Rattle.std.proofs.lemmas.Str.{chars-append, chars-nil, IsUtf8-nil, IsUtf8-append}
 use Rattle.swc_ecma_codegen_grammar.specs.declared.kinds.Kind.{Kind}
 use Rattle.swc_ecma_codegen_grammar.specs.Endings.{IsReduced}
-use Rattle.swc_ecma_codegen_grammar.specs.GapRules.{Last, Start, fuses, allows, last_after_gap, last_after}
+use Rattle.swc_ecma_codegen_grammar.specs.GapRules.{PreviousToken, Start, fuses, allows, last_after_gap, last_after}
 use Rattle.swc_ecma_codegen_grammar.specs.Parts as parts
 use Rattle.swc_ecma_codegen_grammar.specs.Parts.{Gap, Own, NoneFuse, Reduced, tokens_of, remarks_in}
 use Rattle.swc_ecma_codegen_grammar.specs.Phrases.{Phrase, PlacedName, Never, Nothing, One, NameOf, KeyOf, PrivateOf, TagNameOf, Then, CommaBefore, OptionalParentheses, Chosen, Generates, names_in}
@@ -26,7 +26,7 @@ use Rattle.swc_ecma_codegen_tokens.specs.Targets.{written_as}
 use Rattle.swc_ecma_codegen_tokens.specs.Written.{AtRest, RestsAt, Spot, Anything, IsNew, holds_one, all_indent, without_joints}
 use Rattle.swc_ecma_codegen_tokens.proofs.Appended.{text_append, tokens_append, remarks_append}
 use Rattle.swc_ecma_codegen_tokens.proofs.Fronts.{run_sheet}
-use Rattle.swc_ecma_codegen_tokens.proofs.Held.{front, started_text, pointed_keeps}
+use Rattle.swc_ecma_codegen_tokens.proofs.PendingSemi.{front, started_text, pointed_keeps}
 use Rattle.swc_ecma_codegen_tokens.proofs.Indented.{blanks, blanks_text, indent_chars}
 use Rattle.swc_ecma_codegen_tokens.proofs.Jointless.{reads_without}
 use Rattle.swc_ecma_codegen_tokens.proofs.Positions.{recorded_more, noted_has, is_none, symbol_sheet, before_name, before_unheld, name_steps, name_call, run_records}
@@ -199,16 +199,16 @@ front_tokens us a s r o more n =
     (subst (λ z. IsReduced (tokens_of (r.out ++ more)) z) (tokens_append r.laid more) all)
 
 -- blanks alone, before a token
-gap_open : (k : Last) (ps : List Piece) → allows k [] ≡ true → allows (last_after_gap k ps) [] ≡ true
+gap_open : (k : PreviousToken) (ps : List Piece) → allows k [] ≡ true → allows (last_after_gap k ps) [] ≡ true
 unfolding last_after_gap
 gap_open k [] a = a
 gap_open k (p ∷ ps) a = apart_open []
 
-pub gap_alone : (k : Last) (ps : List Piece) (xs : List parts.Part) → allows k [] ≡ true → NoneFuse k (Gap ps ∷ xs) → NoneFuse k (Gap ps ∷ [])
+pub gap_alone : (k : PreviousToken) (ps : List Piece) (xs : List parts.Part) → allows k [] ≡ true → NoneFuse k (Gap ps ∷ xs) → NoneFuse k (Gap ps ∷ [])
 unfolding NoneFuse
 gap_alone k ps xs a h = (h.0, h.1, h.2, gap_open k ps a)
 
-none_after : (k : Last) (kind : Kind) (t : List ℕ) → Spelled kind t → NoneFuse (last_after k kind (spelling kind t)) []
+none_after : (k : PreviousToken) (kind : Kind) (t : List ℕ) → Spelled kind t → NoneFuse (last_after k kind (spelling kind t)) []
 unfolding NoneFuse
 none_after k kind t p = p.allowed k []
 

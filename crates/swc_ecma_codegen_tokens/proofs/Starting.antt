@@ -5,12 +5,12 @@ use Rattle.std.proofs.lemmas.Bool.{and_parts, eqb-true, leb-true, lt-ltb, ne_eqb
 use Rattle.swc_ecma_codegen_grammar.proofs.CharLaws.{digit_part, part_below}
 use Rattle.swc_ecma_codegen_grammar.specs.Chars.{begins_digit, is_digit, is_part, is_letter}
 use Rattle.swc_ecma_codegen_grammar.specs.Texts.{is_same, begins}
-use Rattle.swc_ecma_codegen_grammar.specs.GapRules.{Last, fuses}
+use Rattle.swc_ecma_codegen_grammar.specs.GapRules.{PreviousToken, fuses}
 use Rattle.swc_ecma_codegen_tokens.specs.Starts as starts
 use Rattle.swc_ecma_codegen_tokens.specs.Starts.{order, class_in, mark_start, char_start, start_class, begins_letter, begins_quote}
 use Rattle.swc_ecma_codegen_tokens.specs.declared.starts.StartClass.{StartClass}
 use Rattle.swc_ecma_codegen_tokens.specs.declared.starts.StartClass.TheVariants as start
-use Rattle.swc_ecma_codegen_tokens.proofs.Strangers.{is_in, all_pass, passes, marks, and_false, stranger_same, stranger_apart, dot_same, dash_same, other_same}
+use Rattle.swc_ecma_codegen_tokens.proofs.NoPunctuator.{is_in, all_pass, passes, marks, and_false, stranger_same, stranger_apart, dot_same, dash_same, other_same}
 
 -- a text of each class
 unfoldable pub samples : List (List ℕ)
@@ -61,18 +61,18 @@ unmarked c h = unmarked_in c starts.marks refl h
 abbrev chosen : Bool → Bool → Bool → Bool → StartClass → StartClass
 chosen dot dash digit name mark = cond dot start.DotDigit (cond dash start.MinusMinus (cond digit start.Digit (cond name start.NameCharacter mark)))
 
-Same : Last → ℕ → List ℕ → Type 0
+Same : PreviousToken → ℕ → List ℕ → Type 0
 Same l c n = fuses l (c ∷ n) ≡ fuses l (sample (start_class (c ∷ n)))
 
 -- by the class, and a text of that class
-by_class : (l : Last) (c : ℕ) (n : List ℕ) (s : StartClass) → start_class (c ∷ n) ≡ s → fuses l (c ∷ n) ≡ fuses l (sample s) → Same l c n
+by_class : (l : PreviousToken) (c : ℕ) (n : List ℕ) (s : StartClass) → start_class (c ∷ n) ≡ s → fuses l (c ∷ n) ≡ fuses l (sample s) → Same l c n
 unfolding Same
 by_class l c n s e h = h ∙ ap (λ x. fuses l (sample x)) (sym e)
 
-at_dot : (l : Last) (c : ℕ) (n m : List ℕ) → (c == 46) ≡ true → begins_digit n ≡ begins_digit m → fuses l (c ∷ n) ≡ fuses l (46 ∷ m)
+at_dot : (l : PreviousToken) (c : ℕ) (n m : List ℕ) → (c == 46) ≡ true → begins_digit n ≡ begins_digit m → fuses l (c ∷ n) ≡ fuses l (46 ∷ m)
 at_dot l c n m e h = ap (λ x. fuses l (x ∷ n)) (eqb-true c 46 e) ∙ dot_same l n m h
 
-at_dash : (l : Last) (c : ℕ) (n m : List ℕ) → (c == 45) ≡ true → begins (codes "-") n ≡ begins (codes "-") m → fuses l (c ∷ n) ≡ fuses l (45 ∷ m)
+at_dash : (l : PreviousToken) (c : ℕ) (n m : List ℕ) → (c == 45) ≡ true → begins (codes "-") n ≡ begins (codes "-") m → fuses l (c ∷ n) ≡ fuses l (45 ∷ m)
 at_dash l c n m e h = ap (λ x. fuses l (x ∷ n)) (eqb-true c 45 e) ∙ dash_same l n m h
 
 and_rest : (a b : Bool) → (a && b) ≡ false → a ≡ true → b ≡ false
@@ -80,7 +80,7 @@ and_rest true b h e = h
 and_rest false b h e = absurd (true≢false (sym e))
 
 -- the first character of a punctuator
-marked_same : (l : Last) (c : ℕ) (n : List ℕ) → ((c == 46) && begins_digit n) ≡ false → ((c == 45) && begins (codes "-") n) ≡ false → is_in c marks ≡ true → fuses l (c ∷ n) ≡ fuses l (sample (mark_start c))
+marked_same : (l : PreviousToken) (c : ℕ) (n : List ℕ) → ((c == 46) && begins_digit n) ≡ false → ((c == 45) && begins (codes "-") n) ≡ false → is_in c marks ≡ true → fuses l (c ∷ n) ≡ fuses l (sample (mark_start c))
 unfolding begins_digit begins
 marked_same l c n h k m =
     (elim (either (c == 46)) [
@@ -93,7 +93,7 @@ marked_same l c n h k m =
     ∙ ap (fuses l) (sym (marked c m))
 
 -- What a text begins with is all that the gap rules look at.
-pub same_beginning : (l : Last) (text : List ℕ) → fuses l text ≡ fuses l (sample (start_class text))
+pub same_beginning : (l : PreviousToken) (text : List ℕ) → fuses l text ≡ fuses l (sample (start_class text))
 unfolding Same start_class char_start fuses sample samples order begins_digit begins is_digit is_part is_letter is_in marks
 same_beginning l [] = refl
 same_beginning l (c ∷ n) =

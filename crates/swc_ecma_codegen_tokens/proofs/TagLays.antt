@@ -16,7 +16,7 @@ use Rattle.swc_ecma_codegen_grammar.specs.Texts.{begins, is_same, some_begins}
 use Rattle.swc_ecma_codegen_grammar.specs.Punctuators.{punctuators}
 use Rattle.swc_ecma_codegen_grammar.specs.Trivia.{Remark, piece_text, pieces_text, all_pieces, remarks_of}
 use Rattle.swc_ecma_codegen_grammar.specs.Reads.{is_child, is_hashbang_kind}
-use Rattle.swc_ecma_codegen_grammar.specs.GapRules.{Last, Start, Apart, Mark, LessBang, Whole, TextEnd, fuses, mark_fuses, grows, allows, ends_text, mark_after, last_after, last_after_gap, holds_child}
+use Rattle.swc_ecma_codegen_grammar.specs.GapRules.{PreviousToken, Start, Separated, Mark, LessBang, Whole, TextEnd, fuses, mark_fuses, grows, allows, ends_text, mark_after, last_after, last_after_gap, holds_child}
 use Rattle.swc_ecma_codegen_grammar.specs.Parts as parts
 use Rattle.swc_ecma_codegen_grammar.specs.Parts.{Gap, Own, tokens_of, remarks_in, NoneFuse}
 use Rattle.swc_ecma_codegen_grammar.proofs.Tables.{eq_of_same}
@@ -25,8 +25,8 @@ use Rattle.swc_ecma_codegen_spans.specs.Spans.{dummy_span}
 use Rattle.swc_ecma_codegen_text_writer.specs.Sheet.{Sheet, Space, StrLit, Punct, holds_semicolons, written, literal_written, pointed, settled, dropped, before_punct, is_ending, effect}
 use Rattle.swc_ecma_codegen_tokens.specs.Run.{State, Guard, Token, put, spelling, text_of, after_token}
 use Rattle.swc_ecma_codegen_tokens.specs.Written.{IsLineEnd, is_indent, all_indent, is_free, holds_one, AtRest, RestsAt, Takes, TakesChild, Spot, Anything, Between, InText, InName}
-use Rattle.swc_ecma_codegen_tokens.proofs.Held.{front, front_of, written_semicolons, in_line, settled_none, unheld_settled, dropped_none}
-use Rattle.swc_ecma_codegen_tokens.proofs.Behind.{apart_alone, after_indent, nothing_fuses}
+use Rattle.swc_ecma_codegen_tokens.proofs.PendingSemi.{front, front_of, written_semicolons, in_line, settled_none, unheld_settled, dropped_none}
+use Rattle.swc_ecma_codegen_tokens.proofs.AfterBlanks.{apart_alone, after_indent, nothing_fuses}
 use Rattle.swc_ecma_codegen_tokens.proofs.Indented.{indent_append, indent_repeat, indent_blank, indent_utf8, indent_chars, blanks, blanks_text, blanks_pieces, blanks_remarks}
 use Rattle.swc_ecma_codegen_tokens.proofs.Shapes.{Shape, whole, open_, fits_own, fits_indent, fits_text}
 use Rattle.swc_ecma_codegen_tokens.proofs.Texts.{Adds, adds_written, adds_literal}
@@ -47,28 +47,28 @@ from_spelled h = record { utf8 = h.utf8; same = h.same; shape = h.shape; no_hash
 
 -- ---- a token, where nothing is held back
 
-free_allows : (k : Last) → is_free k ≡ true → (t : List ℕ) → allows k t ≡ true
+free_allows : (k : PreviousToken) → is_free k ≡ true → (t : List ℕ) → allows k t ≡ true
 unfolding is_free allows
 free_allows Start e t = refl
-free_allows Apart e t = refl
+free_allows Separated e t = refl
 free_allows k e t = absurd (true≢false (sym e))
 
-apart_allows : (t : List ℕ) → allows Apart t ≡ true
+apart_allows : (t : List ℕ) → allows Separated t ≡ true
 unfolding allows
 apart_allows t = refl
 
-token_fits : (kind : Kind) (t : List ℕ) (k : Last) (more : List parts.Part) → IsToken kind t → (is_child kind ≡ true → ⊥) → fuses k (chars t) ≡ false → allows k (spelling kind t) ≡ true → NoneFuse (last_after k kind (spelling kind t)) more → NoneFuse k (Own kind (spelling kind t) ∷ more)
+token_fits : (kind : Kind) (t : List ℕ) (k : PreviousToken) (more : List parts.Part) → IsToken kind t → (is_child kind ≡ true → ⊥) → fuses k (chars t) ≡ false → allows k (spelling kind t) ≡ true → NoneFuse (last_after k kind (spelling kind t)) more → NoneFuse k (Own kind (spelling kind t) ∷ more)
 unfolding NoneFuse
 token_fits kind t k more p c f a n = (p.shape, ap (λ z. fuses k z) (sym p.same) ∙ f, record { child = λ e. absurd (c e); first = λ e. absurd (p.no_hashbang e) }, a, n)
 
-behind_nothing : (k : Last) (xs : List parts.Part) → allows k [] ≡ true → NoneFuse k xs → NoneFuse k (Gap (blanks []) ∷ xs)
+behind_nothing : (k : PreviousToken) (xs : List parts.Part) → allows k [] ≡ true → NoneFuse k xs → NoneFuse k (Gap (blanks []) ∷ xs)
 unfolding NoneFuse blanks last_after_gap pieces_text all_pieces
 behind_nothing k xs a n = (refl, nothing_fuses k, a, n)
 
 pub token_apart : (b : Bool) (kind : Kind) (t : List ℕ) (s : State) (more : List parts.Part) → (b ≡ true → is_free s.last ≡ true) → all_indent s.sheet.indent_text ≡ true → IsToken kind t → (is_child kind ≡ true → ⊥) → fuses s.last (chars t) ≡ false → allows s.last [] ≡ true → allows s.last (spelling kind t) ≡ true → NoneFuse (last_after s.last kind (spelling kind t)) more → NoneFuse s.last (Gap (blanks (front_of b s.sheet)) ∷ Own kind (spelling kind t) ∷ more)
 token_apart true kind t s more free i p c f e a n =
     after_indent s.last (repeat s.sheet.indentation s.sheet.indent_text) (Own kind (spelling kind t) ∷ more) (indent_repeat s.sheet.indentation s.sheet.indent_text i) (free refl) (free_allows s.last (free refl))
-    (token_fits kind t Apart more p c (apart_alone (chars t)) (apart_allows (spelling kind t)) (subst (λ k. NoneFuse k more) (free_last s.last kind (spelling kind t) (free refl)) n))
+    (token_fits kind t Separated more p c (apart_alone (chars t)) (apart_allows (spelling kind t)) (subst (λ k. NoneFuse k more) (free_last s.last kind (spelling kind t) (free refl)) n))
 token_apart false kind t s more free i p c f e a n = behind_nothing s.last (Own kind (spelling kind t) ∷ more) e (token_fits kind t s.last more p c f a n)
 
 rest_added : {w : Spot} (t : List ℕ) (s b : State) → all_indent s.sheet.indent_text ≡ true → IsLineEnd s.sheet.line_end → Adds t s.sheet b.sheet → Takes w b → RestsAt w b
@@ -130,7 +130,7 @@ pub nothing_dashless : begins (codes "-") [] ≡ false
 unfolding begins
 nothing_dashless = refl
 
-blank_named : (k : Last) (u : List ℕ) (xs : List parts.Part) → all_indent (u ++ codes " ") ≡ true → ((t : List ℕ) → begins (codes "-") t ≡ false → allows k t ≡ true) → NoneFuse Apart xs → NoneFuse k (Gap (blanks (u ++ codes " ")) ∷ xs)
+blank_named : (k : PreviousToken) (u : List ℕ) (xs : List parts.Part) → all_indent (u ++ codes " ") ≡ true → ((t : List ℕ) → begins (codes "-") t ≡ false → allows k t ≡ true) → NoneFuse Separated xs → NoneFuse k (Gap (blanks (u ++ codes " ")) ∷ xs)
 unfolding NoneFuse blanks last_after_gap pieces_text piece_text all_indent
 blank_named k [] xs h a n =
     let p = and_parts (is_indent 32) (all_indent []) h in
@@ -139,11 +139,11 @@ blank_named k (c ∷ cs) xs h a n =
     let p = and_parts (is_indent c) (all_indent (cs ++ codes " ")) h in
     (blanks_pieces (c ∷ (cs ++ codes " ")) h, blank_fuses k c (pieces_text (blanks (cs ++ codes " "))) (indent_blank c p.0), a (c ∷ pieces_text (blanks (cs ++ codes " "))) (dashless c (pieces_text (blanks (cs ++ codes " "))) p.0), n)
 
-named_blank_here : (s : State) → holds_one s.sheet.semicolons ≡ false → RestsAt InName s → LaysTo Anything open_ [] [] s (record s { sheet = written None (codes " ") s.sheet; last = Apart })
+named_blank_here : (s : State) → holds_one s.sheet.semicolons ≡ false → RestsAt InName s → LaysTo Anything open_ [] [] s (record s { sheet = written None (codes " ") s.sheet; last = Separated })
 unfolding parts.text_of tokens_of remarks_in all_indent is_indent allows
 named_blank_here s o r =
     let h : all_indent (front s.sheet ++ codes " ") ≡ true = indent_append (front s.sheet) (codes " ") (front_indent s.sheet r.indent_text) refl in
-    let there : State = record s { sheet = written None (codes " ") s.sheet; last = Apart } in
+    let there : State = record s { sheet = written None (codes " ") s.sheet; last = Separated } in
     let w = adds_written None 32 [] s.sheet in
     record {
       out = Gap (blanks (front s.sheet ++ codes " ")) ∷ [];
@@ -158,17 +158,17 @@ named_blank_here s o r =
       reduces = λ more ys d. laid_out s there (Gap (blanks (front s.sheet ++ codes " ")) ∷ []) more ys o (still_none None (codes " ") s.sheet o) d;
       holds = still_holds None (codes " ") s.sheet;
       whole = λ e. refl;
-      rest = at_text None 32 [] s Apart (λ t. refl) r.indent_text r.line_end;
+      rest = at_text None 32 [] s Separated (λ t. refl) r.indent_text r.line_end;
       fits = λ t. fits_indent (front s.sheet ++ codes " ") h;
     }
 
 -- a blank behind a name
-pub lays_named_blank : (s : State) → RestsAt InName s → LaysTo Anything open_ [] [] s (record s { sheet = effect Space s.sheet; last = Apart })
+pub lays_named_blank : (s : State) → RestsAt InName s → LaysTo Anything open_ [] [] s (record s { sheet = effect Space s.sheet; last = Separated })
 unfolding effect
 lays_named_blank s r = lays_settled s _ [] r (named_blank_here (settle s) (settled_none s.sheet) (settle_named s r))
 
 blank_put : Bool → State → State
-blank_put b s = cond b (record s { sheet = effect Space s.sheet; last = Apart }) s
+blank_put b s = cond b (record s { sheet = effect Space s.sheet; last = Separated }) s
 
 named_guard_case : (b : Bool) (s : State) → RestsAt InName s → LaysTo InName open_ [] [] s (blank_put b s)
 unfolding blank_put
@@ -245,7 +245,7 @@ lays_tag_end s r =
 -- ---- children
 
 -- no blank is due before one
-child_alone : (k : Last) → holds_child k ≡ true → (t : List ℕ) → fuses k t ≡ false
+child_alone : (k : PreviousToken) → holds_child k ≡ true → (t : List ℕ) → fuses k t ≡ false
 unfolding holds_child fuses
 child_alone k h [] = refl
 child_alone Whole h (c ∷ n) = refl
@@ -253,7 +253,7 @@ child_alone TextEnd h (c ∷ n) = refl
 child_alone (Mark m) h (c ∷ n) = subst (λ z. mark_fuses z c n ≡ false) (sym (eq_of_same m (codes "}") h)) (unfold mark_fuses grows some_begins begins is_same punctuators in refl)
 child_alone k h (c ∷ n) = absurd (true≢false (sym h))
 
-child_fits : (kind : Kind) (t : List ℕ) (k : Last) (more : List parts.Part) → IsToken kind t → holds_child k ≡ true → allows k (spelling kind t) ≡ true → NoneFuse (last_after k kind (spelling kind t)) more → NoneFuse k (Own kind (spelling kind t) ∷ more)
+child_fits : (kind : Kind) (t : List ℕ) (k : PreviousToken) (more : List parts.Part) → IsToken kind t → holds_child k ≡ true → allows k (spelling kind t) ≡ true → NoneFuse (last_after k kind (spelling kind t)) more → NoneFuse k (Own kind (spelling kind t) ∷ more)
 unfolding NoneFuse
 child_fits kind t k more p c a n = (p.shape, child_alone k c (spelling kind t), record { child = λ e. c; first = λ e. absurd (p.no_hashbang e) }, a, n)
 
@@ -303,7 +303,7 @@ unfolding holds_child is_same
 brace_case true = refl
 brace_case false = refl
 
-brace_holds : (k : Last) → holds_child (mark_after k (codes "}")) ≡ true
+brace_holds : (k : PreviousToken) → holds_child (mark_after k (codes "}")) ≡ true
 unfolding mark_after holds_child is_same
 brace_holds (Mark t) = brace_case (is_same t (codes "<"))
 brace_holds k = refl

@@ -26,7 +26,7 @@ use Rattle.swc_ecma_codegen_tokens.specs.Tags.{closing, close, tag_name_token, t
 use Rattle.swc_ecma_codegen_tokens.specs.Ascii.{is_tag_kind, is_kept, is_kept_piece, is_other, is_other_piece, is_other_value, keeps_other, keeps_tokens, are_ascii, are_ascii_or_kept}
 use Rattle.swc_ecma_codegen_tokens.specs.Scripts.{is_str, is_string_call}
 use Rattle.swc_ecma_codegen_tokens.specs.Written.{IsMark, AtRest, RestsAt, Spot, Anything, Between, InText, InName}
-use Rattle.swc_ecma_codegen_tokens.proofs.Hands.{Hands, has_string, holds_string, hands_ascii}
+use Rattle.swc_ecma_codegen_tokens.proofs.StepAscii.{Hands, has_string, holds_string, hands_ascii}
 use Rattle.swc_ecma_codegen_tokens.specs.Named.{EachName, StandsAfter}
 use Rattle.swc_ecma_codegen_tokens.specs.Targets.{written_as, written_by}
 use Rattle.swc_ecma_codegen_tokens.proofs.NumeralTexts.{ascii_by_chars}

@@ -4,7 +4,7 @@ use Rattle.std.specs.Str.{chars}
 use Rattle.std.proofs.lemmas.Bool.{true≢false}
 use Rattle.swc_ecma_codegen_common.specs.declared.positions.BytePos.{BytePos}
 use Rattle.swc_ecma_codegen_grammar.specs.declared.kinds.Kind.TheVariants.{JsxName}
-use Rattle.swc_ecma_codegen_grammar.specs.GapRules.{Last, fuses, last_after, allows}
+use Rattle.swc_ecma_codegen_grammar.specs.GapRules.{PreviousToken, fuses, last_after, allows}
 use Rattle.swc_ecma_codegen_grammar.specs.Parts as parts
 use Rattle.swc_ecma_codegen_grammar.specs.Parts.{Gap, Own, NoneFuse}
 use Rattle.swc_ecma_codegen_grammar.specs.Phrases.{PlacedName}
@@ -20,7 +20,7 @@ use Rattle.swc_ecma_codegen_tokens.specs.Run.{State, Step, Guard, Plain, put, ru
 use Rattle.swc_ecma_codegen_tokens.specs.Targets.{written_as}
 use Rattle.swc_ecma_codegen_tokens.specs.Written.{InName, RestsAt, holds_one}
 use Rattle.swc_ecma_codegen_tokens.proofs.Fronts.{run_sheet}
-use Rattle.swc_ecma_codegen_tokens.proofs.Held.{front, pointed_keeps}
+use Rattle.swc_ecma_codegen_tokens.proofs.PendingSemi.{front, pointed_keeps}
 use Rattle.swc_ecma_codegen_tokens.proofs.Indented.{blanks}
 use Rattle.swc_ecma_codegen_tokens.proofs.Laid.{lays_then}
 use Rattle.swc_ecma_codegen_tokens.proofs.Positions.{noted_has, is_none, symbol_sheet, before_name, before_unheld, name_steps, name_call, run_records}
@@ -29,7 +29,7 @@ use Rattle.swc_ecma_codegen_tokens.proofs.Standing.{ReachedAt, reached_as, reach
 use Rattle.swc_ecma_codegen_tokens.proofs.TagLays.{IsToken, token_apart, named_guard, nothing_dashless, name_dashless}
 use Rattle.swc_ecma_codegen_tokens.proofs.Written.{settle, lays_named_commit, after_guard}
 
-tag_none : (k : Last) (t : List ℕ) → NoneFuse (last_after k JsxName t) []
+tag_none : (k : PreviousToken) (t : List ℕ) → NoneFuse (last_after k JsxName t) []
 unfolding NoneFuse last_after allows begins
 tag_none k t = refl
 

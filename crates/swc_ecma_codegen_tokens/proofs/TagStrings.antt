@@ -32,7 +32,7 @@ use Rattle.swc_ecma_codegen_tokens.specs.Tags.{text_token}
 use Rattle.swc_ecma_codegen_tokens.specs.Written.{Between, InText}
 use Rattle.swc_ecma_codegen_tokens.specs.declared.LowerEmitter.{LowerEmitter}
 use Rattle.swc_ecma_codegen_tokens.specs.declared.refusals.Unprintable.TheVariants.{BadShape}
-use Rattle.swc_ecma_codegen_tokens.proofs.Hands.{Hands, has_string}
+use Rattle.swc_ecma_codegen_tokens.proofs.StepAscii.{Hands, has_string}
 use Rattle.swc_ecma_codegen_tokens.proofs.LiteralParts.{literal_handed, writes_begun, writes_settled_begun}
 use Rattle.swc_ecma_codegen_tokens.proofs.Phrased.{Prints, PrintsOn, no_string, prints_same, prints_where}
 use Rattle.swc_ecma_codegen_tokens.proofs.Printed.{Writes, writes_then}

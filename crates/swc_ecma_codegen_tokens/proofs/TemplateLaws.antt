@@ -9,7 +9,7 @@ use Rattle.swc_ecma_codegen_common.specs.declared.positions.Span.{Span}
 use Rattle.swc_ecma_codegen_spans.specs.Spans.{dummy_span}
 use Rattle.swc_ecma_codegen_grammar.specs.declared.kinds.Kind.{Kind}
 use Rattle.swc_ecma_codegen_grammar.specs.declared.kinds.TemplatePart.{TemplatePart}
-use Rattle.swc_ecma_codegen_grammar.specs.GapRules.{Last, Whole, allows, fuses, last_after}
+use Rattle.swc_ecma_codegen_grammar.specs.GapRules.{PreviousToken, Whole, allows, fuses, last_after}
 use Rattle.swc_ecma_codegen_grammar.specs.Reads.{is_child, is_hashbang_kind}
 use Rattle.swc_ecma_codegen_grammar.specs.Parts.{IsEnding, tokens_of}
 use Rattle.swc_ecma_codegen_grammar.specs.Parts as parts
@@ -26,8 +26,8 @@ use Rattle.swc_ecma_codegen_tokens.specs.Templates as words
 use Rattle.swc_ecma_codegen_tokens.specs.Words.{position}
 use Rattle.swc_ecma_codegen_tokens.specs.Written.{AtRest, holds_one}
 use Rattle.swc_ecma_codegen_tokens.proofs.Fronts.{run_append}
-use Rattle.swc_ecma_codegen_tokens.proofs.Hands.{Hands, has_string, has_append, keeps_append, ascii_append, ascii_keeps, or_kept_append, kept_of_ascii}
-use Rattle.swc_ecma_codegen_tokens.proofs.Held.{pointed_keeps, settled_none}
+use Rattle.swc_ecma_codegen_tokens.proofs.StepAscii.{Hands, has_string, has_append, keeps_append, ascii_append, ascii_keeps, or_kept_append, kept_of_ascii}
+use Rattle.swc_ecma_codegen_tokens.proofs.PendingSemi.{pointed_keeps, settled_none}
 use Rattle.swc_ecma_codegen_tokens.proofs.NumeralTexts.{ascii_by_chars}
 use Rattle.swc_ecma_codegen_tokens.proofs.Levels.{levels, levels_append, rise}
 use Rattle.swc_ecma_codegen_tokens.proofs.LiteralParts.{alike_fuses, still_settled, more_adds}
@@ -38,7 +38,7 @@ use Rattle.swc_ecma_codegen_tokens.proofs.Laid.{Lays, lays_then}
 use Rattle.swc_ecma_codegen_tokens.proofs.Written.{Spelled, after_guard, lays_guard, lays_settled, settle, settle_rest}
 
 -- a part ends by itself
-pub after_part : (first : Bool) (part : TemplatePart) (t : List ℕ) (k : Last) → after_tokens ((part_kind first part, t) ∷ []) k ≡ Whole
+pub after_part : (first : Bool) (part : TemplatePart) (t : List ℕ) (k : PreviousToken) → after_tokens ((part_kind first part, t) ∷ []) k ≡ Whole
 unfolding after_tokens after_token last_after part_kind
 after_part true part t k = refl
 after_part false part t k = refl

@@ -10,7 +10,7 @@ use Rattle.swc_ecma_codegen_grammar.specs.declared.kinds.Kind.TheVariants.{Punct
 use Rattle.swc_ecma_codegen_grammar.specs.Texts.{begins, is_same, is_among}
 use Rattle.swc_ecma_codegen_grammar.specs.Punctuators.{is_punctuator, punctuators}
 use Rattle.swc_ecma_codegen_grammar.specs.Trivia.{pieces_text, remarks_of}
-use Rattle.swc_ecma_codegen_grammar.specs.GapRules.{Last, Start, Apart, Mark, fuses, allows, last_after, mark_after}
+use Rattle.swc_ecma_codegen_grammar.specs.GapRules.{PreviousToken, Start, Separated, Mark, fuses, allows, last_after, mark_after}
 use Rattle.swc_ecma_codegen_grammar.specs.Parts as parts
 use Rattle.swc_ecma_codegen_grammar.specs.Parts.{Gap, Own, tokens_of, remarks_in, IsEnding, NoneFuse, Reduced}
 use Rattle.swc_ecma_codegen_grammar.proofs.Dropped.{reduced_after}
@@ -18,10 +18,10 @@ use Rattle.swc_ecma_codegen_text_writer.specs.Sheet.{Sheet, Semicolons, HoldsNon
 use Rattle.swc_ecma_codegen_text_writer.proofs.Sheets.{written_same}
 use Rattle.swc_ecma_codegen_tokens.specs.Run.{State, spelling, after_token, after_tokens}
 use Rattle.swc_ecma_codegen_tokens.specs.Written.{IsLineEnd, all_indent, is_free, holds_one, AtRest}
-use Rattle.swc_ecma_codegen_tokens.proofs.Behind.{apart_alone, after_indent, in_a_line}
-use Rattle.swc_ecma_codegen_tokens.proofs.Held.{front, front_of, recorded_keeps, written_text, written_semicolons, in_line}
+use Rattle.swc_ecma_codegen_tokens.proofs.AfterBlanks.{apart_alone, after_indent, in_a_line}
+use Rattle.swc_ecma_codegen_tokens.proofs.PendingSemi.{front, front_of, recorded_keeps, written_text, written_semicolons, in_line}
 use Rattle.swc_ecma_codegen_tokens.proofs.Indented.{indent_repeat, indent_utf8, indent_chars, blanks, blanks_text, blanks_remarks}
-use Rattle.swc_ecma_codegen_tokens.proofs.Strangers.{dash_same}
+use Rattle.swc_ecma_codegen_tokens.proofs.NoPunctuator.{dash_same}
 use Rattle.swc_ecma_codegen_tokens.proofs.Shapes.{whole, Fits, fits_indent, fits_then, fits_own as fits_one_own}
 use Rattle.swc_ecma_codegen_tokens.proofs.Laid.{held_of, Lays, laid_out}
 use Rattle.swc_ecma_codegen_tokens.proofs.Written.{Spelled, spelled_mark, front_indent, apart_open, mark_allows, free_last, own_fits}
@@ -85,9 +85,9 @@ owns_remarks (x ∷ xs) = owns_remarks xs
 pub record SpelledAs (xs : List (Kind × List ℕ)) (t : List ℕ) : Type 0 where
   pub utf8 : IsUtf8 t
   pub same : chars t ≡ parts.text_of (owns xs)
-  pub fits : (k : Last) (more : List parts.Part) → fuses k (chars t) ≡ false → ((u : List ℕ) → allows k u ≡ true) → NoneFuse (after_tokens xs k) more → NoneFuse k (owns xs ++ more)
-  pub free : (k : Last) → is_free k ≡ true → after_tokens xs k ≡ after_tokens xs Apart
-  pub allowed : (k : Last) (u : List ℕ) → allows (after_tokens xs k) u ≡ true
+  pub fits : (k : PreviousToken) (more : List parts.Part) → fuses k (chars t) ≡ false → ((u : List ℕ) → allows k u ≡ true) → NoneFuse (after_tokens xs k) more → NoneFuse k (owns xs ++ more)
+  pub free : (k : PreviousToken) → is_free k ≡ true → after_tokens xs k ≡ after_tokens xs Separated
+  pub allowed : (k : PreviousToken) (u : List ℕ) → allows (after_tokens xs k) u ≡ true
 
 -- one token
 pub spelled_one : (kind : Kind) (t : List ℕ) → Spelled kind t → SpelledAs ((kind, t) ∷ []) t
@@ -108,12 +108,12 @@ pub minus_chars : chars (codes "-") ≡ codes "-"
 unfolding chars lib.Utf8.encode
 minus_chars = refl
 
-no_bang : (b : Bool) (x y : Last) → cond (b && false) x y ≡ y
+no_bang : (b : Bool) (x y : PreviousToken) → cond (b && false) x y ≡ y
 no_bang true x y = refl
 no_bang false x y = refl
 
 -- whatever stands before it, a minus sign is one
-after_minus : (k : Last) → mark_after k (codes "-") ≡ Mark (codes "-")
+after_minus : (k : PreviousToken) → mark_after k (codes "-") ≡ Mark (codes "-")
 unfolding mark_after is_same
 after_minus (Mark l) = no_bang _ _ _
 after_minus k = refl
@@ -130,7 +130,7 @@ spelled_signed kind t p f g =
           let apart : fuses k (chars (codes "-")) ≡ false = ap (fuses k) minus_chars ∙ dash_same k [] (chars t) (sym g) ∙ ap (fuses k) (sym whole) ∙ e in
           own_fits Punctuator (codes "-") k (Own kind (spelling kind t) ∷ more) minus_is_mark apart a
           (own_fits kind t (mark_after k (codes "-")) more p (ap (λ z. fuses z (chars t)) (after_minus k) ∙ f) (λ u. mark_allows k (codes "-") u) n);
-      free = λ k e. ap (λ z. last_after z kind (spelling kind t)) (after_minus k ∙ sym (after_minus Apart));
+      free = λ k e. ap (λ z. last_after z kind (spelling kind t)) (after_minus k ∙ sym (after_minus Separated));
       allowed = λ k u. p.allowed (mark_after k (codes "-")) u;
     }
 
@@ -139,11 +139,11 @@ spelled_signed kind t p f g =
 texts_apart : (b : Bool) (xs : List (Kind × List ℕ)) (t : List ℕ) (s : State) (more : List parts.Part) → s.sheet.at_line_start ≡ b → holds_one s.sheet.semicolons ≡ false → SpelledAs xs t → fuses s.last (chars t) ≡ false → AtRest s → NoneFuse (after_tokens xs s.last) more → NoneFuse s.last (Gap (blanks (front_of b s.sheet)) ∷ (owns xs ++ more))
 texts_apart true xs t s more e o p f r n =
     after_indent s.last (repeat s.sheet.indentation s.sheet.indent_text) (owns xs ++ more) (indent_repeat s.sheet.indentation s.sheet.indent_text r.indent_text) (r.free o e) r.allowed
-    (p.fits Apart more (apart_alone (chars t)) apart_open (subst (λ k. NoneFuse k more) (p.free s.last (r.free o e)) n))
+    (p.fits Separated more (apart_alone (chars t)) apart_open (subst (λ k. NoneFuse k more) (p.free s.last (r.free o e)) n))
 texts_apart false xs t s more e o p f r n = in_a_line s.last (owns xs ++ more) r.allowed (p.fits s.last more f r.allowed n)
 
 -- a text is a token at least
-start_is_not_apart : Start ≡ Apart → ⊥
+start_is_not_apart : Start ≡ Separated → ⊥
 start_is_not_apart e = cc
 
 no_tokens : (t : List ℕ) → SpelledAs [] t → ⊥

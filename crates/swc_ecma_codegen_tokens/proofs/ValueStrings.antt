@@ -5,7 +5,7 @@ use Rattle.swc_ecma_codegen_grammar.specs.declared.kinds.Kind.{Kind}
 use Rattle.swc_ecma_codegen_text_writer.specs.Sheet.{Item}
 use Rattle.swc_ecma_codegen_tokens.specs.Run.{Step, Guard, Token, Plain, Ends, Remake, Take, CommentText, text_of}
 use Rattle.swc_ecma_codegen_tokens.specs.Scripts.{is_string_call, string_by_value, strings_after, AreSafe}
-use Rattle.swc_ecma_codegen_tokens.proofs.Hands.{has_string}
+use Rattle.swc_ecma_codegen_tokens.proofs.StepAscii.{has_string}
 
 -- whether texts are made anew, after some steps
 unfoldable pub anew_after : Bool → List Step → Bool

@@ -14,7 +14,7 @@ use Rattle.swc_ecma_codegen_grammar.specs.Texts.{begins, is_same, is_among}
 use Rattle.swc_ecma_codegen_grammar.specs.Chars.{is_blank}
 use Rattle.swc_ecma_codegen_grammar.specs.Trivia.{Remark, Blank, is_piece, piece_text, pieces_text, all_pieces, remarks_of}
 use Rattle.swc_ecma_codegen_grammar.specs.Reads.{is_child, is_hashbang_kind}
-use Rattle.swc_ecma_codegen_grammar.specs.GapRules.{Last, Start, Apart, Mark, LessBang, fuses, allows, mark_after, last_after, last_after_gap}
+use Rattle.swc_ecma_codegen_grammar.specs.GapRules.{PreviousToken, Start, Separated, Mark, LessBang, fuses, allows, mark_after, last_after, last_after_gap}
 use Rattle.swc_ecma_codegen_grammar.specs.Parts as parts
 use Rattle.swc_ecma_codegen_grammar.specs.Parts.{Gap, Own, tokens_of, remarks_in, NoneFuse}
 use Rattle.swc_ecma_codegen_grammar.proofs.Reading.{blank_fuses}
@@ -26,8 +26,8 @@ use Rattle.swc_ecma_codegen_text_writer.specs.Sheet.{Sheet, Semicolons, AtOnce, 
 use Rattle.swc_ecma_codegen_text_writer.proofs.Sheets.{written_same, pointed_alike, alike_same}
 use Rattle.swc_ecma_codegen_tokens.specs.Run.{State, Guard, put, spelling}
 use Rattle.swc_ecma_codegen_tokens.specs.Written.{IsLineEnd, is_indent, all_indent, is_free, holds_one, AtRest, RestsAt, Takes, Spot, InName}
-use Rattle.swc_ecma_codegen_tokens.proofs.Held.{front_of, front, written_text, in_line, written_semicolons, pointed_keeps, settled_none}
-use Rattle.swc_ecma_codegen_tokens.proofs.Behind.{apart_alone, same_after, free_apart, after_indent, in_a_line, blank_apart}
+use Rattle.swc_ecma_codegen_tokens.proofs.PendingSemi.{front_of, front, written_text, in_line, written_semicolons, pointed_keeps, settled_none}
+use Rattle.swc_ecma_codegen_tokens.proofs.AfterBlanks.{apart_alone, same_after, free_apart, after_indent, in_a_line, blank_apart}
 use Rattle.swc_ecma_codegen_tokens.proofs.Shapes.{Shape, whole, open_, loose, joining, joined, join, fits_wider, fits_nothing, fits_own, fits_indent, fits_text, fits_end}
 use Rattle.swc_ecma_codegen_tokens.proofs.Indented.{indent_append, indent_repeat, indent_utf8, indent_chars, blanks, blanks_text, blanks_remarks}
 use Rattle.swc_ecma_codegen_tokens.proofs.Laid.{held_of, held, Enters, LaysTo, LaysAt, Lays, lays_then, laid_out, lays_same, lays_nothing, lays_joint}
@@ -38,7 +38,7 @@ pub front_indent : (s : Sheet) → all_indent s.indent_text ≡ true → all_ind
 unfolding all_indent
 front_indent s h = elim s.at_line_start as (λ b. all_indent (front_of b s) ≡ true) [ true ↦ indent_repeat s.indentation s.indent_text h | false ↦ refl ]
 
-pub at_text : (span : Option Span) (c : ℕ) (cs : List ℕ) (s : State) (k : Last) → ((t : List ℕ) → allows k t ≡ true) → all_indent s.sheet.indent_text ≡ true → IsLineEnd s.sheet.line_end → AtRest (record s { sheet = written span (c ∷ cs) s.sheet; last = k })
+pub at_text : (span : Option Span) (c : ℕ) (cs : List ℕ) (s : State) (k : PreviousToken) → ((t : List ℕ) → allows k t ≡ true) → all_indent s.sheet.indent_text ≡ true → IsLineEnd s.sheet.line_end → AtRest (record s { sheet = written span (c ∷ cs) s.sheet; last = k })
 at_text span c cs s k h i l = record {
   indent_text = subst (λ z. all_indent z ≡ true) (sym (written_same span (c ∷ cs) s.sheet).indent_text) i;
   line_end = subst (λ z. IsLineEnd z) (sym (written_same span (c ∷ cs) s.sheet).line_end) l;
@@ -199,11 +199,11 @@ lays_named_commit s r = lays_settled s (settle s) [] r (lays_nothing (settle s) 
 -- ---- blanks and line ends, where nothing is held back
 
 -- a blank
-blank_here : (s : State) → holds_one s.sheet.semicolons ≡ false → AtRest s → LaysAt open_ [] s (record s { sheet = written None (codes " ") s.sheet; last = Apart })
+blank_here : (s : State) → holds_one s.sheet.semicolons ≡ false → AtRest s → LaysAt open_ [] s (record s { sheet = written None (codes " ") s.sheet; last = Separated })
 unfolding parts.text_of tokens_of remarks_in NoneFuse all_indent is_indent allows
 blank_here s o r =
     let h : all_indent (front s.sheet ++ codes " ") ≡ true = indent_append (front s.sheet) (codes " ") (front_indent s.sheet r.indent_text) refl in
-    let there : State = record s { sheet = written None (codes " ") s.sheet; last = Apart } in
+    let there : State = record s { sheet = written None (codes " ") s.sheet; last = Separated } in
     record {
       out = Gap (blanks (front s.sheet ++ codes " ")) ∷ [];
       laid = Gap (blanks (front s.sheet ++ codes " ")) ∷ [];
@@ -217,18 +217,18 @@ blank_here s o r =
       reduces = λ more ys d. laid_out s there (Gap (blanks (front s.sheet ++ codes " ")) ∷ []) more ys o (still_none None (codes " ") s.sheet o) d;
       holds = still_holds None (codes " ") s.sheet;
       whole = λ e. refl;
-      rest = at_text None 32 [] s Apart (λ t. refl) r.indent_text r.line_end;
+      rest = at_text None 32 [] s Separated (λ t. refl) r.indent_text r.line_end;
       fits = λ t. fits_indent (front s.sheet ++ codes " ") h;
     }
 
-pub lays_blank : (s : State) → AtRest s → LaysAt open_ [] s (record s { sheet = effect Space s.sheet; last = Apart })
+pub lays_blank : (s : State) → AtRest s → LaysAt open_ [] s (record s { sheet = effect Space s.sheet; last = Separated })
 unfolding effect
 lays_blank s r = lays_settled s _ [] r (blank_here (settle s) (settled_none s.sheet) (settle_rest s r))
 
 line_put : Bool → State → State
-line_put b s = record s { sheet = cond b (record s.sheet { pending = None }) (record (appended s.sheet.line_end s.sheet) { at_line_start = true }); last = Apart }
+line_put b s = record s { sheet = cond b (record s.sheet { pending = None }) (record (appended s.sheet.line_end s.sheet) { at_line_start = true }); last = Separated }
 
-pub apart_open : (t : List ℕ) → allows Apart t ≡ true
+pub apart_open : (t : List ℕ) → allows Separated t ≡ true
 unfolding allows
 apart_open t = refl
 
@@ -292,12 +292,12 @@ line_case true s e o r = record {
 }
 line_case false s e o r = lays_end s o r r.line_end
 
-line_here : (s : State) → holds_one s.sheet.semicolons ≡ false → AtRest s → LaysAt loose [] s (record s { sheet = ended s.sheet; last = Apart })
+line_here : (s : State) → holds_one s.sheet.semicolons ≡ false → AtRest s → LaysAt loose [] s (record s { sheet = ended s.sheet; last = Separated })
 unfolding ended line_put
 line_here s o r = line_case s.sheet.at_line_start s refl o r
 
 -- the line ends, unless at a line's start
-pub lays_line : (s : State) → AtRest s → LaysAt loose [] s (record s { sheet = effect Line s.sheet; last = Apart })
+pub lays_line : (s : State) → AtRest s → LaysAt loose [] s (record s { sheet = effect Line s.sheet; last = Separated })
 unfolding effect
 lays_line s r = lays_settled s _ [] r (line_here (settle s) (settled_none s.sheet) (settle_rest s r))
 
@@ -310,7 +310,7 @@ pub record Spelled (kind : Kind) (t : List ℕ) : Type 0 where
   pub shape : has_shape kind (spelling kind t) ≡ true
   pub no_child : is_child kind ≡ true → ⊥
   pub no_hashbang : is_hashbang_kind kind ≡ true → ⊥
-  pub allowed : (k : Last) (u : List ℕ) → allows (last_after k kind (spelling kind t)) u ≡ true
+  pub allowed : (k : PreviousToken) (u : List ℕ) → allows (last_after k kind (spelling kind t)) u ≡ true
   pub some : t ≡ [] → ⊥
 
 pub spelled_word : (t : List ℕ) → is_utf8 t ≡ true → is_word (chars t) ≡ true → Spelled Word t
@@ -342,7 +342,7 @@ unfolding allows
 less_bang_allows true m t = refl
 less_bang_allows false m t = refl
 
-pub mark_allows : (k : Last) (m t : List ℕ) → allows (mark_after k m) t ≡ true
+pub mark_allows : (k : PreviousToken) (m t : List ℕ) → allows (mark_after k m) t ≡ true
 unfolding mark_after allows is_same
 mark_allows (Mark l) m t = less_bang_allows _ m t
 mark_allows k m t = refl
@@ -388,7 +388,7 @@ spelled_close = record {
 }
 
 -- the last token after one of a kind
-abbrev pub after : Kind → List ℕ → State → Last
+abbrev pub after : Kind → List ℕ → State → PreviousToken
 after kind t s = last_after s.last kind (spelling kind t)
 
 -- a token by one call, where nothing is held back
@@ -407,14 +407,14 @@ punct_put span t s = record s { sheet = written span t (before_punct t s.sheet);
 unfoldable pub semi_put : Option Span → State → State
 semi_put span s = record s { sheet = semicolon_by s.sheet.semicolons span s.sheet; last = after Ending (codes ";") s }
 
-pub free_last : (k : Last) (kind : Kind) (t : List ℕ) → is_free k ≡ true → last_after k kind t ≡ last_after Apart kind t
+pub free_last : (k : PreviousToken) (kind : Kind) (t : List ℕ) → is_free k ≡ true → last_after k kind t ≡ last_after Separated kind t
 unfolding is_free
 free_last Start kind t e = sym (same_after kind t)
-free_last Apart kind t e = refl
+free_last Separated kind t e = refl
 free_last k kind t e = absurd (true≢false (sym e))
 
 -- a token, which may stand after what is there
-pub own_fits : (kind : Kind) (t : List ℕ) (k : Last) (more : List parts.Part) → Spelled kind t → fuses k (chars t) ≡ false → ((u : List ℕ) → allows k u ≡ true) → NoneFuse (last_after k kind (spelling kind t)) more → NoneFuse k (Own kind (spelling kind t) ∷ more)
+pub own_fits : (kind : Kind) (t : List ℕ) (k : PreviousToken) (more : List parts.Part) → Spelled kind t → fuses k (chars t) ≡ false → ((u : List ℕ) → allows k u ≡ true) → NoneFuse (last_after k kind (spelling kind t)) more → NoneFuse k (Own kind (spelling kind t) ∷ more)
 unfolding NoneFuse
 own_fits kind t k more p f a n = (p.shape, ap (λ z. fuses k z) (sym p.same) ∙ f, record { child = λ e. absurd (p.no_child e); first = λ e. absurd (p.no_hashbang e) }, a (spelling kind t), n)
 
@@ -422,7 +422,7 @@ pub own_apart : (b : Bool) (kind : Kind) (t : List ℕ) (s : State) (more : List
 own_apart true kind t s more e o p f r n =
     let u = repeat s.sheet.indentation s.sheet.indent_text in
     after_indent s.last u (Own kind (spelling kind t) ∷ more) (indent_repeat s.sheet.indentation s.sheet.indent_text r.indent_text) (r.free o e) r.allowed
-    (own_fits kind t Apart more p (apart_alone (chars t)) apart_open (subst (λ k. NoneFuse k more) (free_last s.last kind (spelling kind t) (r.free o e)) n))
+    (own_fits kind t Separated more p (apart_alone (chars t)) apart_open (subst (λ k. NoneFuse k more) (free_last s.last kind (spelling kind t) (r.free o e)) n))
 own_apart false kind t s more e o p f r n = in_a_line s.last (Own kind (spelling kind t) ∷ more) r.allowed (own_fits kind t s.last more p f r.allowed n)
 
 -- a text after the indentation of its line
@@ -598,7 +598,7 @@ lays_semi_own span s f r = semi_case s.sheet.semicolons span s refl f r
 
 -- the blank that is due before a text
 guard_put : Bool → State → State
-guard_put b s = cond b (record s { sheet = effect Space s.sheet; last = Apart }) s
+guard_put b s = cond b (record s { sheet = effect Space s.sheet; last = Separated }) s
 
 guard_case : (b : Bool) (s : State) → AtRest s → LaysAt open_ [] s (guard_put b s)
 unfolding guard_put

@@ -12,7 +12,7 @@ pub mod Attributes
 pub mod Templates
 pub mod PrivateNames
 pub mod Lists
-pub mod Last
+pub mod PreviousToken
 pub mod View
 pub mod Written
 pub mod Escapes

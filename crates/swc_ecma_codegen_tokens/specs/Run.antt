@@ -7,7 +7,7 @@ use Rattle.swc_ecma_codegen_util.specs.declared.config.Config.{Config}
 use Rattle.swc_ecma_codegen_grammar.specs.declared.kinds.Kind.{Kind}
 use Rattle.swc_ecma_codegen_grammar.specs.declared.kinds.Kind.TheVariants.{Punctuator, Ending}
 use Rattle.swc_ecma_codegen_grammar.specs.SourceLines.{Lines}
-use Rattle.swc_ecma_codegen_grammar.specs.GapRules.{Last, Start, Apart, fuses, last_after}
+use Rattle.swc_ecma_codegen_grammar.specs.GapRules.{PreviousToken, Start, Separated, fuses, last_after}
 use Rattle.swc_ecma_codegen_text_writer.specs.Sheet.{Item, Semi, Space, Keyword, Operator, Param, Property, Line, Lit, Comment, StrLit, Str, Symbol, Punct, Position, Commit, Deeper, Shallower, Sheet, effect, IsFar, Refuses}
 use Rattle.swc_ecma_codegen_text_writer.specs.Told.{Rises}
 use Rattle.swc_ecma_codegen_literals.specs.ValidNames.{has_byte}
@@ -62,19 +62,19 @@ spelling Ending t = t
 spelling kind t = chars t
 
 -- the last token after one of a kind, spelled so
-unfoldable pub after_token : Kind → List ℕ → Last → Last
+unfoldable pub after_token : Kind → List ℕ → PreviousToken → PreviousToken
 after_token kind t last = last_after last kind (spelling kind t)
 
 -- the last token after some
-unfoldable pub after_tokens : List (Kind × List ℕ) → Last → Last
+unfoldable pub after_tokens : List (Kind × List ℕ) → PreviousToken → PreviousToken
 after_tokens [] last = last
 after_tokens (x ∷ xs) last = after_tokens xs (after_token x.0 x.1 last)
 
 -- a blank, a line end and a piece of a comment part the last token from the next one
-unfoldable pub after_plain : Item → Last → Last
-after_plain Space last = Apart
-after_plain Line last = Apart
-after_plain (Comment t) last = Apart
+unfoldable pub after_plain : Item → PreviousToken → PreviousToken
+after_plain Space last = Separated
+after_plain Line last = Separated
+after_plain (Comment t) last = Separated
 after_plain x last = last
 
 -- what an emission goes by, whatever it has written
@@ -125,18 +125,18 @@ spoken (CommentText t ∷ xs) = t ∷ spoken xs
 pub record State : Type 0 where
   pub env : Env
   pub sheet : Sheet
-  pub last : Last
+  pub last : PreviousToken
   pub failed : Bool
 
 -- a step that is made
 unfoldable pub put : Step → State → State
-put (Guard t) s = if fuses s.last (chars t) then record s { sheet = effect Space s.sheet; last = Apart } else s
+put (Guard t) s = if fuses s.last (chars t) then record s { sheet = effect Space s.sheet; last = Separated } else s
 put (Token kind x) s = record s { sheet = effect x s.sheet; last = after_token kind (text_of x) s.last }
 put (Plain x) s = record s { sheet = effect x s.sheet; last = after_plain x s.last }
 put (Ends tokens x) s = record s { sheet = effect x s.sheet; last = after_tokens tokens s.last }
 put (Remake due) s = s
 put (Take side at) s = record s { env = at_maps (taken_out side at s.env.maps) s.env }
-put (CommentText t) s = record s { sheet = effect (Comment t) s.sheet; last = Apart }
+put (CommentText t) s = record s { sheet = effect (Comment t) s.sheet; last = Separated }
 
 -- steps that are made, in order
 unfoldable pub run : List Step → State → State

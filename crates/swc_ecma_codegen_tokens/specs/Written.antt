@@ -13,7 +13,7 @@ use Rattle.swc_ecma_codegen_grammar.specs.Trivia.{Remark, Piece, Blank}
 use Rattle.swc_ecma_codegen_grammar.specs.Comments.{all_tame, remarks_of}
 use Rattle.swc_ecma_codegen_grammar.specs.Endings.{IsReduced}
 use Rattle.swc_ecma_codegen_grammar.specs.Phrases.{Phrase, Generates}
-use Rattle.swc_ecma_codegen_grammar.specs.GapRules.{Last, Start, Apart, allows, ends_text, holds_child}
+use Rattle.swc_ecma_codegen_grammar.specs.GapRules.{PreviousToken, Start, Separated, allows, ends_text, holds_child}
 use Rattle.swc_ecma_codegen_grammar.specs.Parts.{Part, Gap, Own, PastLine, walk, is_broken, text_of, tokens_of, remarks_in, NoneFuse, Reduced}
 use Rattle.swc_ecma_codegen_text_writer.specs.Sheet.{Sheet, Semicolons, AtOnce, HoldsNone, HoldsOne, holds_semicolons}
 use Rattle.swc_ecma_codegen_literals.specs.AsciiNames.{is_ascii_text}
@@ -35,9 +35,9 @@ all_indent [] = true
 all_indent (c ∷ cs) = is_indent c && all_indent cs
 
 -- no token stands before: nothing does, or a blank or a line end
-unfoldable pub is_free : Last → Bool
+unfoldable pub is_free : PreviousToken → Bool
 is_free Start = true
-is_free Apart = true
+is_free Separated = true
 is_free last = false
 
 -- a semicolon is held back
@@ -149,7 +149,7 @@ IsLeft parts left = Reduced parts left ⊎ ((pieces : List Piece) × Reduced par
 
 -- These parts may come next: none fuses, and they don't begin with `[no LineTerminator here]`. Of a semicolon that is held back, and of
 -- them, those are written. So `;` goes out before `b` of `a;b`, and is left out before `}` of `{a;}`.
-pub record GoesOn (last : Last) (sheet : Sheet) (next left : List Part) : Type 0 where
+pub record GoesOn (last : PreviousToken) (sheet : Sheet) (next left : List Part) : Type 0 where
   pub apart : NoneFuse last next
   pub keeps_lines : is_broken (walk PastLine next) ≡ false
   pub is_left : IsLeft (pending sheet ++ next) left

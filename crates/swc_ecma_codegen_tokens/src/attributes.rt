@@ -18,7 +18,7 @@ ghost use Rattle.swc_ecma_codegen_tokens.specs.View.{state_of};
 ghost use Rattle.swc_ecma_codegen_tokens.specs.Written.{Between, InText};
 
 use crate::LowerEmitter;
-use crate::last::Last;
+use crate::previous::PreviousToken;
 use crate::raws::raw_text;
 use crate::refusals::Unprintable;
 use crate::starts::StartClass;
@@ -80,7 +80,8 @@ fn has_no_text(n: &Str) -> bool
 /// A string of an attribute as it is spelled. `Error::OutOfMemory` where there is no room for its text; a raw is lent.
 #[tactic(auto, unfolding(swc_ecma_codegen_grammar::specs::JsxPhrases::jsx_spelling))]
 fn string_text(alloc: Global, n: &Str) -> std::result::Result<CowStr<'_>, Error>
-    ensures exactly { IfOk result (λ text. cow_str_bytes text ≡ jsx_spelling n.now.value n.now.raw) }
+    ensures exactly { IfOk result (λ text. cow_str_bytes text
+        ≡ jsx_spelling n.now.value n.now.raw) }
     ensures refused { IfErr result (λ error. error ≡ OutOfMemory) }
     ensures due { IfErr result (λ error. is_none n.now.raw ≡ true) }
 {
@@ -95,18 +96,21 @@ impl LowerEmitter {
     #[inline(never)]
     fn put_attribute<W: WriteJs>(&mut self, cfg: &Config, wr: &mut W, text: &str) -> Answer
         requires { self.old.failed ≡ false }
-        ensures items { Does (step (Token kind.JsxString (StrLit dummy_span text.now))) (state_of cfg.now (W.sheet wr.old) self.old) (state_of cfg.now (W.sheet wr.new) self.new) result }
+        ensures items { Does (step (Token kind.JsxString (StrLit dummy_span text.now)))
+            (state_of cfg.now (W.sheet wr.old) self.old)
+            (state_of cfg.now (W.sheet wr.new) self.new) result }
         ensures level { OnOk result ((W.sheet wr.new).indentation ≡ (W.sheet wr.old).indentation) }
     {
         let _ = cfg;
         let answer = wr.write_str_lit(DUMMY_SP, text);
-        self.settle(answer, Last::Whole)
+        self.settle(answer, PreviousToken::Whole)
     }
 
     /// Writes a string of an attribute as it is spelled.
     #[tactic(auto, unfolding(crate::specs::Attributes::attribute_token))]
     fn attribute_token<W: WriteJs>(&mut self, cfg: &Config, wr: &mut W, text: &str) -> Answer
-        ensures items { Does (attribute_token text.now) (state_of cfg.now (W.sheet wr.old) self.old) (state_of cfg.now (W.sheet wr.new) self.new) result }
+        ensures items { Does (attribute_token text.now) (state_of cfg.now (W.sheet wr.old) self.old)
+            (state_of cfg.now (W.sheet wr.new) self.new) result }
         ensures level { OnOk result ((W.sheet wr.new).indentation ≡ (W.sheet wr.old).indentation) }
     {
         self.guard(cfg, wr, text, StartClass::of_literal(text))?;
@@ -124,7 +128,9 @@ impl LowerEmitter {
         span: Span,
         text: &str,
     ) -> Answer
-        ensures items { DoesTaking (attribute_by span text.now) (maps_in C.maps comments.old) (maps_in C.maps comments.new) (state_of cfg.now (W.sheet wr.old) self.old) (state_of cfg.now (W.sheet wr.new) self.new) result }
+        ensures items { DoesTaking (attribute_by span text.now) (maps_in C.maps comments.old)
+            (maps_in C.maps comments.new) (state_of cfg.now (W.sheet wr.old) self.old)
+            (state_of cfg.now (W.sheet wr.new) self.new) result }
         ensures level { OnOk result ((W.sheet wr.new).indentation ≡ (W.sheet wr.old).indentation) }
     {
         self.begun(cfg, comments, wr, span, text)?;
@@ -141,7 +147,9 @@ impl LowerEmitter {
         wr: &mut W,
         n: &Str,
     ) -> Answer
-        ensures items { DoesTaking (spelled_string n.now) (maps_in C.maps comments.old) (maps_in C.maps comments.new) (state_of cfg.now (W.sheet wr.old) self.old) (state_of cfg.now (W.sheet wr.new) self.new) result }
+        ensures items { DoesTaking (spelled_string n.now) (maps_in C.maps comments.old)
+            (maps_in C.maps comments.new) (state_of cfg.now (W.sheet wr.old) self.old)
+            (state_of cfg.now (W.sheet wr.new) self.new) result }
         ensures level { OnOk result ((W.sheet wr.new).indentation ≡ (W.sheet wr.old).indentation) }
     {
         if self.failed {
@@ -165,7 +173,9 @@ impl LowerEmitter {
         wr: &mut W,
         n: &Str,
     ) -> Answer
-        ensures items { DoesTaking (attribute_string n.now) (maps_in C.maps comments.old) (maps_in C.maps comments.new) (state_of cfg.now (W.sheet wr.old) self.old) (state_of cfg.now (W.sheet wr.new) self.new) result }
+        ensures items { DoesTaking (attribute_string n.now) (maps_in C.maps comments.old)
+            (maps_in C.maps comments.new) (state_of cfg.now (W.sheet wr.old) self.old)
+            (state_of cfg.now (W.sheet wr.new) self.new) result }
         ensures level { OnOk result ((W.sheet wr.new).indentation ≡ (W.sheet wr.old).indentation) }
     {
         if has_no_text(n) {
@@ -182,8 +192,11 @@ impl LowerEmitter {
         wr: &mut W,
         n: &Str,
     ) -> Answer
-        ensures items { DoesTaking (attribute_string n.now) (maps_in C.maps comments.old) (maps_in C.maps comments.new) (state_of cfg.now (W.sheet wr.old) self.old) (state_of cfg.now (W.sheet wr.new) self.new) result }
-        ensures reads { AddsTaking (jsx_string n.now) (attribute_string n.now) (maps_in C.maps comments.old)
+        ensures items { DoesTaking (attribute_string n.now) (maps_in C.maps comments.old)
+            (maps_in C.maps comments.new) (state_of cfg.now (W.sheet wr.old) self.old)
+            (state_of cfg.now (W.sheet wr.new) self.new) result }
+        ensures reads { AddsTaking (jsx_string n.now) (attribute_string n.now)
+            (maps_in C.maps comments.old)
             cfg.now (W.sheet wr.old) self.old (W.sheet wr.new) self.new result }
         ensures level { OnOk result ((W.sheet wr.new).indentation ≡ (W.sheet wr.old).indentation) }
     {
@@ -192,7 +205,8 @@ impl LowerEmitter {
 
     /// Writes text between tags: its value, or its raw where that has no place there. swc's `emit_jsx_text`.
     pub fn jsx_text_node<W: WriteJs>(&mut self, cfg: &Config, wr: &mut W, n: &JSXText) -> Answer
-        ensures items { Does (jsx_text_node n.now) (state_of cfg.now (W.sheet wr.old) self.old) (state_of cfg.now (W.sheet wr.new) self.new) result }
+        ensures items { Does (jsx_text_node n.now) (state_of cfg.now (W.sheet wr.old) self.old)
+            (state_of cfg.now (W.sheet wr.new) self.new) result }
         // Right behind the end of a tag or of a container, as `jsx_text`.
         ensures reads { lexical.is_jsx_text (chars (text_spelling n.now)) ≡ true →
             AddsOn Between InText (text_token (text_spelling n.now) ∷ [])
@@ -211,7 +225,9 @@ impl LowerEmitter {
         wr: &mut W,
         n: &JSXText,
     ) -> Answer
-        ensures items { DoesTaking (jsx_text_lit n.now) (maps_in C.maps comments.old) (maps_in C.maps comments.new) (state_of cfg.now (W.sheet wr.old) self.old) (state_of cfg.now (W.sheet wr.new) self.new) result }
+        ensures items { DoesTaking (jsx_text_lit n.now) (maps_in C.maps comments.old)
+            (maps_in C.maps comments.new) (state_of cfg.now (W.sheet wr.old) self.old)
+            (state_of cfg.now (W.sheet wr.new) self.new) result }
         ensures level { OnOk result ((W.sheet wr.new).indentation ≡ (W.sheet wr.old).indentation) }
     {
         self.begun(cfg, comments, wr, n.span, printed_text(n))?;

@@ -10,7 +10,7 @@ ghost use Rattle.swc_ecma_codegen_tokens.specs.Words.{comment_blank, before_clos
 ghost use Rattle.swc_ecma_codegen_tokens.specs.View.{state_of};
 
 use crate::LowerEmitter;
-use crate::last::Last;
+use crate::previous::PreviousToken;
 use crate::starts::StartClass;
 use swc_ecma_codegen_common::{Answer, BytePos, Refusal};
 use swc_ecma_codegen_grammar::comments::{Comment, CommentKind, Comments};
@@ -22,14 +22,16 @@ impl LowerEmitter {
     /// The call of a piece of a comment: what opens or closes it, or the blank before it.
     #[inline(never)]
     fn comment_piece<W: WriteJs>(&mut self, cfg: &Config, wr: &mut W, text: &str) -> Answer
-        ensures items { Does (step (Plain (Piece text.now))) (state_of cfg.now (W.sheet wr.old) self.old) (state_of cfg.now (W.sheet wr.new) self.new) result }
+        ensures items { Does (step (Plain (Piece text.now)))
+            (state_of cfg.now (W.sheet wr.old) self.old)
+            (state_of cfg.now (W.sheet wr.new) self.new) result }
         ensures level { OnOk result ((W.sheet wr.new).indentation ≡ (W.sheet wr.old).indentation) }
     {
         let _ = cfg;
         if self.failed {
             return Err(Refusal::Failed);
         }
-        let before = self.note(Last::Apart);
+        let before = self.note(PreviousToken::Separated);
         let answer = wr.write_comment(text);
         self.settle_noted(answer, before)
     }
@@ -37,14 +39,16 @@ impl LowerEmitter {
     /// The call of the text of a comment.
     #[inline(never)]
     fn comment_text<W: WriteJs>(&mut self, cfg: &Config, wr: &mut W, text: &str) -> Answer
-        ensures items { Does (step (CommentText text.now)) (state_of cfg.now (W.sheet wr.old) self.old) (state_of cfg.now (W.sheet wr.new) self.new) result }
+        ensures items { Does (step (CommentText text.now))
+            (state_of cfg.now (W.sheet wr.old) self.old)
+            (state_of cfg.now (W.sheet wr.new) self.new) result }
         ensures level { OnOk result ((W.sheet wr.new).indentation ≡ (W.sheet wr.old).indentation) }
     {
         let _ = cfg;
         if self.failed {
             return Err(Refusal::Failed);
         }
-        let before = self.note(Last::Apart);
+        let before = self.note(PreviousToken::Separated);
         let answer = wr.write_comment(text);
         self.settle_noted(answer, before)
     }
@@ -52,7 +56,9 @@ impl LowerEmitter {
     /// The blank that is due before a comment up to the end of its line.
     #[tactic(auto, using(crate::proofs::CommentStarts::line_start))]
     fn guard_line_comment<W: WriteJs>(&mut self, cfg: &Config, wr: &mut W) -> Answer
-        ensures items { Does (step (Guard (codes "//"))) (state_of cfg.now (W.sheet wr.old) self.old) (state_of cfg.now (W.sheet wr.new) self.new) result }
+        ensures items { Does (step (Guard (codes "//")))
+            (state_of cfg.now (W.sheet wr.old) self.old)
+            (state_of cfg.now (W.sheet wr.new) self.new) result }
         ensures level { OnOk result ((W.sheet wr.new).indentation ≡ (W.sheet wr.old).indentation) }
     {
         self.guard(cfg, wr, "//", StartClass::of_mark(Punctuator::Slash))
@@ -61,7 +67,9 @@ impl LowerEmitter {
     /// The blank that is due before a comment in a line.
     #[tactic(auto, using(crate::proofs::CommentStarts::block_start))]
     fn guard_block_comment<W: WriteJs>(&mut self, cfg: &Config, wr: &mut W) -> Answer
-        ensures items { Does (step (Guard (codes "/*"))) (state_of cfg.now (W.sheet wr.old) self.old) (state_of cfg.now (W.sheet wr.new) self.new) result }
+        ensures items { Does (step (Guard (codes "/*")))
+            (state_of cfg.now (W.sheet wr.old) self.old)
+            (state_of cfg.now (W.sheet wr.new) self.new) result }
         ensures level { OnOk result ((W.sheet wr.new).indentation ≡ (W.sheet wr.old).indentation) }
     {
         self.guard(cfg, wr, "/*", StartClass::of_mark(Punctuator::Slash))
@@ -70,7 +78,8 @@ impl LowerEmitter {
     /// The position before what closes a comment, where there is room for one.
     #[tactic(auto, unfolding(crate::specs::Words::before_closing))]
     fn before_closing<W: WriteJs>(&mut self, cfg: &Config, wr: &mut W, pos: BytePos) -> Answer
-        ensures items { Does (before_closing pos) (state_of cfg.now (W.sheet wr.old) self.old) (state_of cfg.now (W.sheet wr.new) self.new) result }
+        ensures items { Does (before_closing pos) (state_of cfg.now (W.sheet wr.old) self.old)
+            (state_of cfg.now (W.sheet wr.new) self.new) result }
         ensures level { OnOk result ((W.sheet wr.new).indentation ≡ (W.sheet wr.old).indentation) }
     {
         if 2 < pos.0 {
@@ -82,7 +91,9 @@ impl LowerEmitter {
     /// `// a`, and the end of its line.
     #[tactic(auto, unfolding(crate::specs::Words::comment_by))]
     fn line_comment<W: WriteJs>(&mut self, cfg: &Config, wr: &mut W, node: &Comment) -> Answer
-        ensures items { Does (comment_by OfLine node.now.span (string_bytes node.now.text)) (state_of cfg.now (W.sheet wr.old) self.old) (state_of cfg.now (W.sheet wr.new) self.new) result }
+        ensures items { Does (comment_by OfLine node.now.span (string_bytes node.now.text))
+            (state_of cfg.now (W.sheet wr.old) self.old)
+            (state_of cfg.now (W.sheet wr.new) self.new) result }
         ensures level { OnOk result ((W.sheet wr.new).indentation ≡ (W.sheet wr.old).indentation) }
     {
         self.position(cfg, wr, node.span.lo)?;
@@ -96,7 +107,9 @@ impl LowerEmitter {
     /// `/* a */`, and a blank unless the settings are to minify.
     #[tactic(auto, unfolding(crate::specs::Words::comment_by))]
     fn block_comment<W: WriteJs>(&mut self, cfg: &Config, wr: &mut W, node: &Comment) -> Answer
-        ensures items { Does (comment_by OfBlock node.now.span (string_bytes node.now.text)) (state_of cfg.now (W.sheet wr.old) self.old) (state_of cfg.now (W.sheet wr.new) self.new) result }
+        ensures items { Does (comment_by OfBlock node.now.span (string_bytes node.now.text))
+            (state_of cfg.now (W.sheet wr.old) self.old)
+            (state_of cfg.now (W.sheet wr.new) self.new) result }
         ensures level { OnOk result ((W.sheet wr.new).indentation ≡ (W.sheet wr.old).indentation) }
     {
         self.position(cfg, wr, node.span.lo)?;
@@ -111,7 +124,8 @@ impl LowerEmitter {
     /// The blank before a comment, unless the settings are to minify.
     #[tactic(auto, using(crate::proofs::CommentSteps::no_blank, crate::proofs::CommentSteps::skipped_blank, crate::proofs::CommentSteps::blank_written))]
     fn comment_blank<W: WriteJs>(&mut self, cfg: &Config, wr: &mut W, wanted: bool) -> Answer
-        ensures items { Does (comment_blank wanted) (state_of cfg.now (W.sheet wr.old) self.old) (state_of cfg.now (W.sheet wr.new) self.new) result }
+        ensures items { Does (comment_blank wanted) (state_of cfg.now (W.sheet wr.old) self.old)
+            (state_of cfg.now (W.sheet wr.new) self.new) result }
         ensures level { OnOk result ((W.sheet wr.new).indentation ≡ (W.sheet wr.old).indentation) }
     {
         if !wanted {
@@ -132,7 +146,9 @@ impl LowerEmitter {
         node: &Comment,
         prefix_space: bool,
     ) -> Answer
-        ensures items { Does (comment prefix_space node.now) (state_of cfg.now (W.sheet wr.old) self.old) (state_of cfg.now (W.sheet wr.new) self.new) result }
+        ensures items { Does (comment prefix_space node.now)
+            (state_of cfg.now (W.sheet wr.old) self.old)
+            (state_of cfg.now (W.sheet wr.new) self.new) result }
         ensures level { OnOk result ((W.sheet wr.new).indentation ≡ (W.sheet wr.old).indentation) }
     {
         self.comment_blank(cfg, wr, prefix_space)?;
@@ -150,7 +166,9 @@ impl LowerEmitter {
         nodes: &[Comment],
         prefix_space: bool,
     ) -> Answer
-        ensures items { Does (comments prefix_space nodes.now) (state_of cfg.now (W.sheet wr.old) self.old) (state_of cfg.now (W.sheet wr.new) self.new) result }
+        ensures items { Does (comments prefix_space nodes.now)
+            (state_of cfg.now (W.sheet wr.old) self.old)
+            (state_of cfg.now (W.sheet wr.new) self.new) result }
         ensures level { OnOk result ((W.sheet wr.new).indentation ≡ (W.sheet wr.old).indentation) }
     {
         for node in nodes {
@@ -172,7 +190,9 @@ impl LowerEmitter {
         wr: &mut W,
         pos: BytePos,
     ) -> Answer
-        ensures items { DoesTaking (leading_comments pos) (maps_in C.maps comments.old) (maps_in C.maps comments.new) (state_of cfg.now (W.sheet wr.old) self.old) (state_of cfg.now (W.sheet wr.new) self.new) result }
+        ensures items { DoesTaking (leading_comments pos) (maps_in C.maps comments.old)
+            (maps_in C.maps comments.new) (state_of cfg.now (W.sheet wr.old) self.old)
+            (state_of cfg.now (W.sheet wr.new) self.new) result }
         ensures level { OnOk result ((W.sheet wr.new).indentation ≡ (W.sheet wr.old).indentation) }
     {
         if comments.is_none() {
@@ -190,7 +210,9 @@ impl LowerEmitter {
         wr: &mut W,
         pos: BytePos,
     ) -> Answer
-        ensures items { DoesTaking (leading_comments pos) (maps_in C.maps comments.old) (maps_in C.maps comments.new) (state_of cfg.now (W.sheet wr.old) self.old) (state_of cfg.now (W.sheet wr.new) self.new) result }
+        ensures items { DoesTaking (leading_comments pos) (maps_in C.maps comments.old)
+            (maps_in C.maps comments.new) (state_of cfg.now (W.sheet wr.old) self.old)
+            (state_of cfg.now (W.sheet wr.new) self.new) result }
         ensures level { OnOk result ((W.sheet wr.new).indentation ≡ (W.sheet wr.old).indentation) }
     {
         if self.failed {
@@ -216,7 +238,9 @@ impl LowerEmitter {
         wr: &mut W,
         pos: BytePos,
     ) -> Answer
-        ensures items { DoesTaking (comments_before_end pos) (maps_in C.maps comments.old) (maps_in C.maps comments.new) (state_of cfg.now (W.sheet wr.old) self.old) (state_of cfg.now (W.sheet wr.new) self.new) result }
+        ensures items { DoesTaking (comments_before_end pos) (maps_in C.maps comments.old)
+            (maps_in C.maps comments.new) (state_of cfg.now (W.sheet wr.old) self.old)
+            (state_of cfg.now (W.sheet wr.new) self.new) result }
         ensures level { OnOk result ((W.sheet wr.new).indentation ≡ (W.sheet wr.old).indentation) }
     {
         if self.failed {
@@ -243,7 +267,10 @@ impl LowerEmitter {
         pos: BytePos,
         prefix_space: bool,
     ) -> Answer
-        ensures items { DoesTaking (trailing_comments prefix_space pos) (maps_in C.maps comments.old) (maps_in C.maps comments.new) (state_of cfg.now (W.sheet wr.old) self.old) (state_of cfg.now (W.sheet wr.new) self.new) result }
+        ensures items { DoesTaking (trailing_comments prefix_space pos)
+            (maps_in C.maps comments.old) (maps_in C.maps comments.new)
+            (state_of cfg.now (W.sheet wr.old) self.old)
+            (state_of cfg.now (W.sheet wr.new) self.new) result }
         ensures level { OnOk result ((W.sheet wr.new).indentation ≡ (W.sheet wr.old).indentation) }
     {
         if self.failed {

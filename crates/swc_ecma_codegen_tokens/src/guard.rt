@@ -5,8 +5,8 @@ ghost use Rattle.std.specs.Prelude.{◌≡◌, ◌<◌, ℕ, List};
 ghost use Rattle.swc_ecma_codegen_grammar.specs.GapRules.{fuses};
 ghost use Rattle.swc_ecma_codegen_tokens.specs.Starts.{start_class};
 ghost use Rattle.swc_ecma_codegen_tokens.specs.Classes.{row_of};
-ghost use Rattle.swc_ecma_codegen_tokens.specs.Last.{class_of, last_at};
-ghost use Rattle.swc_ecma_codegen_tokens.specs.declared.last.Last.{Last};
+ghost use Rattle.swc_ecma_codegen_tokens.specs.PreviousToken.{class_of, last_at};
+ghost use Rattle.swc_ecma_codegen_tokens.specs.declared.previous.PreviousToken.{PreviousToken};
 
 use crate::starts::StartClass;
 use swc_ecma_codegen_literals::{Punctuator, TokenClass};
@@ -14,7 +14,8 @@ use swc_ecma_codegen_literals::{Punctuator, TokenClass};
 /// Whether a blank is due between a token and a text, by their classes.
 pub fn blank_due(last: TokenClass, next: StartClass) -> bool
     // It is what the gap rules say of each token of the one class and each text of the other.
-    ensures { (token : Last) (text : List ℕ) → class_of token ≡ last → start_class text ≡ next → result ≡ fuses (last_at token) text }
+    ensures { (token : PreviousToken) (text : List ℕ) → class_of token ≡ last → start_class text ≡ next →
+        result ≡ fuses (last_at token) text }
 {
     blank_due_after(row(last), next)
 }
@@ -23,7 +24,8 @@ pub fn blank_due(last: TokenClass, next: StartClass) -> bool
 #[inline(always)]
 pub(crate) fn blank_due_after(row: usize, next: StartClass) -> bool
     requires { row < 63 }
-    ensures { (token : Last) (text : List ℕ) → row ≡ row_of (class_of token) → start_class text ≡ next → result ≡ fuses (last_at token) text }
+    ensures { (token : PreviousToken) (text : List ℕ) → row ≡ row_of (class_of token) →
+        start_class text ≡ next → result ≡ fuses (last_at token) text }
 {
     BLANKS[row][next.place()]
 }

@@ -15,8 +15,8 @@ ghost use Rattle.swc_ecma_codegen_tokens.specs.Adds.{AddsTaking};
 ghost use Rattle.swc_ecma_codegen_tokens.specs.View.{state_of};
 
 use crate::LowerEmitter;
-use crate::last::Last;
 use crate::names::wants_escapes;
+use crate::previous::PreviousToken;
 use crate::starts::StartClass;
 use swc_ecma_codegen_common::{Answer, DUMMY_SP, Refusal, Span};
 use swc_ecma_codegen_grammar::comments::Comments;
@@ -29,18 +29,21 @@ impl LowerEmitter {
     #[inline(never)]
     fn put_quoted_key<W: WriteJs>(&mut self, cfg: &Config, wr: &mut W, text: &str) -> Answer
         requires { self.old.failed ≡ false }
-        ensures items { Does (step (Token kinds.Str (Symbol dummy_span text.now))) (state_of cfg.now (W.sheet wr.old) self.old) (state_of cfg.now (W.sheet wr.new) self.new) result }
+        ensures items { Does (step (Token kinds.Str (Symbol dummy_span text.now)))
+            (state_of cfg.now (W.sheet wr.old) self.old)
+            (state_of cfg.now (W.sheet wr.new) self.new) result }
         ensures level { OnOk result ((W.sheet wr.new).indentation ≡ (W.sheet wr.old).indentation) }
     {
         let _ = cfg;
         let answer = wr.write_symbol(DUMMY_SP, text);
-        self.settle(answer, Last::Whole)
+        self.settle(answer, PreviousToken::Whole)
     }
 
     /// Writes a key in quotes, and records its position.
     #[tactic(auto, unfolding(crate::specs::Keys::quoted_key))]
     fn quoted_key<W: WriteJs>(&mut self, cfg: &Config, wr: &mut W, span: Span, text: &str) -> Answer
-        ensures items { Does (quoted_key span text.now) (state_of cfg.now (W.sheet wr.old) self.old) (state_of cfg.now (W.sheet wr.new) self.new) result }
+        ensures items { Does (quoted_key span text.now) (state_of cfg.now (W.sheet wr.old) self.old)
+            (state_of cfg.now (W.sheet wr.new) self.new) result }
         ensures level { OnOk result ((W.sheet wr.new).indentation ≡ (W.sheet wr.old).indentation) }
     {
         self.guard(cfg, wr, text, StartClass::of_text(text))?;
@@ -59,7 +62,9 @@ impl LowerEmitter {
         span: Span,
         text: &str,
     ) -> Answer
-        ensures items { Does (ascii_key quoted span text.now) (state_of cfg.now (W.sheet wr.old) self.old) (state_of cfg.now (W.sheet wr.new) self.new) result }
+        ensures items { Does (ascii_key quoted span text.now)
+            (state_of cfg.now (W.sheet wr.old) self.old)
+            (state_of cfg.now (W.sheet wr.new) self.new) result }
         ensures level { OnOk result ((W.sheet wr.new).indentation ≡ (W.sheet wr.old).indentation) }
     {
         if quoted {
@@ -79,7 +84,9 @@ impl LowerEmitter {
         text: &str,
     ) -> Answer
         requires { wants_escapes cfg.now text.now ≡ true }
-        ensures items { Does (spelled_key span text.now) (state_of cfg.now (W.sheet wr.old) self.old) (state_of cfg.now (W.sheet wr.new) self.new) result }
+        ensures items { Does (spelled_key span text.now)
+            (state_of cfg.now (W.sheet wr.old) self.old)
+            (state_of cfg.now (W.sheet wr.new) self.new) result }
         ensures level { OnOk result ((W.sheet wr.new).indentation ≡ (W.sheet wr.old).indentation) }
     {
         if self.failed {
@@ -105,7 +112,9 @@ impl LowerEmitter {
         span: Span,
         text: &str,
     ) -> Answer
-        ensures items { DoesTaking (bare_key span text.now) (maps_in C.maps comments.old) (maps_in C.maps comments.new) (state_of cfg.now (W.sheet wr.old) self.old) (state_of cfg.now (W.sheet wr.new) self.new) result }
+        ensures items { DoesTaking (bare_key span text.now) (maps_in C.maps comments.old)
+            (maps_in C.maps comments.new) (state_of cfg.now (W.sheet wr.old) self.old)
+            (state_of cfg.now (W.sheet wr.new) self.new) result }
         ensures level { OnOk result ((W.sheet wr.new).indentation ≡ (W.sheet wr.old).indentation) }
     {
         self.guard(cfg, wr, text, StartClass::of_text(text))?;
@@ -125,7 +134,9 @@ impl LowerEmitter {
         span: Span,
         text: &str,
     ) -> Answer
-        ensures items { DoesTaking (plain_key span text.now) (maps_in C.maps comments.old) (maps_in C.maps comments.new) (state_of cfg.now (W.sheet wr.old) self.old) (state_of cfg.now (W.sheet wr.new) self.new) result }
+        ensures items { DoesTaking (plain_key span text.now) (maps_in C.maps comments.old)
+            (maps_in C.maps comments.new) (state_of cfg.now (W.sheet wr.old) self.old)
+            (state_of cfg.now (W.sheet wr.new) self.new) result }
         ensures level { OnOk result ((W.sheet wr.new).indentation ≡ (W.sheet wr.old).indentation) }
     {
         if cfg.ascii_only {
@@ -143,7 +154,9 @@ impl LowerEmitter {
         span: Span,
         text: &str,
     ) -> Answer
-        ensures items { DoesTaking (spelled_key span text.now) (maps_in C.maps comments.old) (maps_in C.maps comments.new) (state_of cfg.now (W.sheet wr.old) self.old) (state_of cfg.now (W.sheet wr.new) self.new) result }
+        ensures items { DoesTaking (spelled_key span text.now) (maps_in C.maps comments.old)
+            (maps_in C.maps comments.new) (state_of cfg.now (W.sheet wr.old) self.old)
+            (state_of cfg.now (W.sheet wr.new) self.new) result }
         ensures level { OnOk result ((W.sheet wr.new).indentation ≡ (W.sheet wr.old).indentation) }
     {
         if wants_escapes(cfg, text) {
@@ -162,7 +175,9 @@ impl LowerEmitter {
         span: Span,
         name: &str,
     ) -> Answer
-        ensures items { DoesTaking (valid_key span name.now) (maps_in C.maps comments.old) (maps_in C.maps comments.new) (state_of cfg.now (W.sheet wr.old) self.old) (state_of cfg.now (W.sheet wr.new) self.new) result }
+        ensures items { DoesTaking (valid_key span name.now) (maps_in C.maps comments.old)
+            (maps_in C.maps comments.new) (state_of cfg.now (W.sheet wr.old) self.old)
+            (state_of cfg.now (W.sheet wr.new) self.new) result }
         ensures level { OnOk result ((W.sheet wr.new).indentation ≡ (W.sheet wr.old).indentation) }
     {
         if self.failed {
@@ -190,7 +205,9 @@ impl LowerEmitter {
         span: Span,
         sym: &str,
     ) -> Answer
-        ensures items { DoesTaking (key_text span sym.now) (maps_in C.maps comments.old) (maps_in C.maps comments.new) (state_of cfg.now (W.sheet wr.old) self.old) (state_of cfg.now (W.sheet wr.new) self.new) result }
+        ensures items { DoesTaking (key_text span sym.now) (maps_in C.maps comments.old)
+            (maps_in C.maps comments.new) (state_of cfg.now (W.sheet wr.old) self.old)
+            (state_of cfg.now (W.sheet wr.new) self.new) result }
         ensures level { OnOk result ((W.sheet wr.new).indentation ≡ (W.sheet wr.old).indentation) }
     {
         if wr.can_ignore_invalid_unicodes() {
@@ -209,7 +226,9 @@ impl LowerEmitter {
         span: Span,
         sym: &str,
     ) -> Answer
-        ensures items { DoesTaking (key span sym.now) (maps_in C.maps comments.old) (maps_in C.maps comments.new) (state_of cfg.now (W.sheet wr.old) self.old) (state_of cfg.now (W.sheet wr.new) self.new) result }
+        ensures items { DoesTaking (key span sym.now) (maps_in C.maps comments.old)
+            (maps_in C.maps comments.new) (state_of cfg.now (W.sheet wr.old) self.old)
+            (state_of cfg.now (W.sheet wr.new) self.new) result }
         ensures reads { (W.sheet wr.old).keeps_invalid ≡ false →
             AddsTaking (KeyOf span.lo sym.now) (key span sym.now) (maps_in C.maps comments.old)
             cfg.now (W.sheet wr.old) self.old (W.sheet wr.new) self.new result }

@@ -23,18 +23,43 @@ pub fn nothing_so_far()
 /// Where nothing follows, what was added reads as the tokens so far.
 #[tactic(auto, using(crate::proofs::SoFar::so_far_reads))]
 pub fn so_far_reads()
-    ensures { (config : Config) (phrase : Phrase) (text_before : List ℕ) (tokens : List Token) (remarks : List Remark) (s : State) → Generates (settings_of config) phrase tokens → ReadsSoFar text_before tokens remarks s → AddsText config (holds_semicolons s.sheet.semicolons) phrase remarks text_before s.sheet.text }
+    ensures { (config : Config) (phrase : Phrase) (text_before : List ℕ) (tokens : List Token)
+        (remarks : List Remark) (s : State) → Generates (settings_of config) phrase tokens →
+        ReadsSoFar text_before tokens remarks s →
+        AddsText config (holds_semicolons s.sheet.semicolons) phrase remarks text_before
+        s.sheet.text }
 {}
 
 /// Blanks, line ends, a semicolon that was held back and positions leave the tokens so far; comments that are taken stand behind those so far.
 pub fn gaps_leave_the_tokens()
-    ensures space { (text_before : List ℕ) (tokens : List Token) (remarks : List Remark) (a b : State) → Emits space a b (Ok tt) → ReadsSoFar text_before tokens remarks a → ReadsSoFar text_before tokens remarks b }
-    ensures formatting_space { (text_before : List ℕ) (tokens : List Token) (remarks : List Remark) (a b : State) → Emits formatting_space a b (Ok tt) → ReadsSoFar text_before tokens remarks a → ReadsSoFar text_before tokens remarks b }
-    ensures line { (text_before : List ℕ) (tokens : List Token) (remarks : List Remark) (a b : State) → Emits line_end a b (Ok tt) → ReadsSoFar text_before tokens remarks a → ReadsSoFar text_before tokens remarks b }
-    ensures formatting_line { (text_before : List ℕ) (tokens : List Token) (remarks : List Remark) (a b : State) → Emits formatting_line a b (Ok tt) → ReadsSoFar text_before tokens remarks a → ReadsSoFar text_before tokens remarks b }
-    ensures commit { (text_before : List ℕ) (tokens : List Token) (remarks : List Remark) (a b : State) → Emits commit_pending_semi a b (Ok tt) → ReadsSoFar text_before tokens remarks a → ReadsSoFar text_before tokens remarks b }
-    ensures position { (pos : BytePos) (text_before : List ℕ) (tokens : List Token) (remarks : List Remark) (a b : State) → Emits (position pos) a b (Ok tt) → ReadsSoFar text_before tokens remarks a → ReadsSoFar text_before tokens remarks b }
-    ensures position_before { (pos : BytePos) (text_before : List ℕ) (tokens : List Token) (remarks : List Remark) (a b : State) → Emits (position_before pos) a b (Ok tt) → ReadsSoFar text_before tokens remarks a → ReadsSoFar text_before tokens remarks b }
-    ensures leading { (pos : BytePos) (text_before : List ℕ) (tokens : List Token) (remarks : List Remark) (a b : State) → AreClosed a.env.maps → Emits (leading_comments pos) a b (Ok tt) → ReadsSoFar text_before tokens remarks a → ReadsSoFar text_before tokens (remarks ++ taken_remarks (leading_comments pos) a.env) b }
-    ensures trailing { (prefix : Bool) (pos : BytePos) (text_before : List ℕ) (tokens : List Token) (remarks : List Remark) (a b : State) → AreClosed a.env.maps → Emits (trailing_comments prefix pos) a b (Ok tt) → ReadsSoFar text_before tokens remarks a → ReadsSoFar text_before tokens (remarks ++ taken_remarks (trailing_comments prefix pos) a.env) b }
+    ensures space { (text_before : List ℕ) (tokens : List Token) (remarks : List Remark)
+        (a b : State) → Emits space a b (Ok tt) → ReadsSoFar text_before tokens remarks a →
+        ReadsSoFar text_before tokens remarks b }
+    ensures formatting_space { (text_before : List ℕ) (tokens : List Token) (remarks : List Remark)
+        (a b : State) → Emits formatting_space a b (Ok tt) →
+        ReadsSoFar text_before tokens remarks a → ReadsSoFar text_before tokens remarks b }
+    ensures line { (text_before : List ℕ) (tokens : List Token) (remarks : List Remark)
+        (a b : State) → Emits line_end a b (Ok tt) → ReadsSoFar text_before tokens remarks a →
+        ReadsSoFar text_before tokens remarks b }
+    ensures formatting_line { (text_before : List ℕ) (tokens : List Token) (remarks : List Remark)
+        (a b : State) → Emits formatting_line a b (Ok tt) →
+        ReadsSoFar text_before tokens remarks a → ReadsSoFar text_before tokens remarks b }
+    ensures commit { (text_before : List ℕ) (tokens : List Token) (remarks : List Remark)
+        (a b : State) → Emits commit_pending_semi a b (Ok tt) →
+        ReadsSoFar text_before tokens remarks a → ReadsSoFar text_before tokens remarks b }
+    ensures position { (pos : BytePos) (text_before : List ℕ) (tokens : List Token)
+        (remarks : List Remark) (a b : State) → Emits (position pos) a b (Ok tt) →
+        ReadsSoFar text_before tokens remarks a → ReadsSoFar text_before tokens remarks b }
+    ensures position_before { (pos : BytePos) (text_before : List ℕ) (tokens : List Token)
+        (remarks : List Remark) (a b : State) → Emits (position_before pos) a b (Ok tt) →
+        ReadsSoFar text_before tokens remarks a → ReadsSoFar text_before tokens remarks b }
+    ensures leading { (pos : BytePos) (text_before : List ℕ) (tokens : List Token)
+        (remarks : List Remark) (a b : State) → AreClosed a.env.maps →
+        Emits (leading_comments pos) a b (Ok tt) → ReadsSoFar text_before tokens remarks a →
+        ReadsSoFar text_before tokens (remarks ++ taken_remarks (leading_comments pos) a.env) b }
+    ensures trailing { (prefix : Bool) (pos : BytePos) (text_before : List ℕ) (tokens : List Token)
+        (remarks : List Remark) (a b : State) → AreClosed a.env.maps →
+        Emits (trailing_comments prefix pos) a b (Ok tt) → ReadsSoFar text_before tokens remarks a →
+        ReadsSoFar text_before tokens (remarks
+        ++ taken_remarks (trailing_comments prefix pos) a.env) b }
 {}

@@ -4,13 +4,12 @@
 ghost use Rattle.std.specs.Prelude.{◌≡◌, ◌<◌, false};
 ghost use Rattle.swc_ecma_codegen_common.specs.Refusals.{reason_of};
 ghost use Rattle.swc_ecma_codegen_tokens.specs.Classes.{row_of};
-ghost use Rattle.swc_ecma_codegen_tokens.specs.Last.{class_of};
+ghost use Rattle.swc_ecma_codegen_tokens.specs.PreviousToken.{class_of};
 
 mod attributes;
 mod comments;
 mod guard;
 mod keys;
-mod last;
 pub mod laws;
 mod list_commas;
 mod lists;
@@ -18,6 +17,7 @@ mod literals;
 mod lits;
 mod names;
 mod numbers;
+mod previous;
 mod private_names;
 mod raws;
 mod refusals;
@@ -28,7 +28,7 @@ mod tokens;
 
 pub use crate::guard::blank_due;
 use crate::guard::row;
-pub use crate::last::Last;
+pub use crate::previous::PreviousToken;
 pub use crate::refusals::Unprintable;
 pub use crate::starts::StartClass;
 use std::alloc::Global;
@@ -45,7 +45,7 @@ pub struct LowerEmitter {
     alloc: Global,
     last: TokenClass,
     row: usize,
-    token: Snapshot<Last>,
+    token: Snapshot<PreviousToken>,
     failed: bool,
     fault: Option<io::Error>,
     ghost class: { failed ≡ false → class_of token.value ≡ last },
@@ -55,16 +55,16 @@ pub struct LowerEmitter {
 
 impl LowerEmitter {
     /// One that has written nothing.
-    #[tactic(auto, unfolding(crate::specs::Last::class_of))]
+    #[tactic(auto, unfolding(crate::specs::PreviousToken::class_of))]
     pub fn new(alloc: Global) -> LowerEmitter
-        ensures token { result.token.value ≡ Last.Start }
+        ensures token { result.token.value ≡ PreviousToken.Start }
         ensures failed { result.failed ≡ false }
     {
         LowerEmitter {
             alloc,
             last: TokenClass::Rest,
             row: row(TokenClass::Rest),
-            token: Snapshot::of(&Last::Start),
+            token: Snapshot::of(&PreviousToken::Start),
             failed: false,
             fault: None,
         }

@@ -55,7 +55,8 @@ fn source_has_comma<S: SourceMapper>(
     cm: &S,
     span: Span,
 ) -> std::result::Result<bool, Error>
-    ensures exactly { IfOk result (λ answer. answer ≡ source_has_comma ((S.lines cm.now).snippet span)) }
+    ensures exactly { IfOk result (λ answer. answer
+        ≡ source_has_comma ((S.lines cm.now).snippet span)) }
     ensures refused { IfErr result (λ error. error ≡ OutOfMemory) }
 {
     match cm.span_to_snippet(alloc, span) {
@@ -77,7 +78,8 @@ impl LowerEmitter {
     /// Writes a comma and a blank, where they are wanted.
     #[tactic(auto, unfolding(crate::specs::Lists::comma_if))]
     fn comma_if<W: WriteJs>(&mut self, cfg: &Config, wr: &mut W, wanted: bool) -> Answer
-        ensures items { Does (comma_if wanted) (state_of cfg.now (W.sheet wr.old) self.old) (state_of cfg.now (W.sheet wr.new) self.new) result }
+        ensures items { Does (comma_if wanted) (state_of cfg.now (W.sheet wr.old) self.old)
+            (state_of cfg.now (W.sheet wr.new) self.new) result }
         ensures reads { Adds (comma_tokens wanted)
             cfg.now (W.sheet wr.old) self.old (W.sheet wr.new) self.new result }
         ensures level { OnOk result ((W.sheet wr.new).indentation ≡ (W.sheet wr.old).indentation) }
@@ -98,7 +100,10 @@ impl LowerEmitter {
         wr: &mut W,
         parent: Span,
     ) -> Answer
-        ensures items { (maps : Maps) → Emits (source_comma parent) (at_source (S.lines cm.now) maps (state_of cfg.now (W.sheet wr.old) self.old)) (at_source (S.lines cm.now) maps (state_of cfg.now (W.sheet wr.new) self.new)) result }
+        ensures items { (maps : Maps) →
+            Emits (source_comma parent) (at_source (S.lines cm.now) maps
+            (state_of cfg.now (W.sheet wr.old) self.old))
+            (at_source (S.lines cm.now) maps (state_of cfg.now (W.sheet wr.new) self.new)) result }
         ensures reads { Adds (comma_tokens (stands_with_comma (S.lines cm.now) parent))
             cfg.now (W.sheet wr.old) self.old (W.sheet wr.new) self.new result }
         ensures level { OnOk result ((W.sheet wr.new).indentation ≡ (W.sheet wr.old).indentation) }
@@ -128,7 +133,10 @@ impl LowerEmitter {
         format: ListFormat,
         parent: Span,
     ) -> Answer
-        ensures items { (maps : Maps) → Emits (wanted_comma format.0 parent) (at_source (S.lines cm.now) maps (state_of cfg.now (W.sheet wr.old) self.old)) (at_source (S.lines cm.now) maps (state_of cfg.now (W.sheet wr.new) self.new)) result }
+        ensures items { (maps : Maps) →
+            Emits (wanted_comma format.0 parent) (at_source (S.lines cm.now) maps
+            (state_of cfg.now (W.sheet wr.old) self.old))
+            (at_source (S.lines cm.now) maps (state_of cfg.now (W.sheet wr.new) self.new)) result }
         ensures reads { Adds (comma_tokens (wants_comma (S.lines cm.now) format.0 parent))
             cfg.now (W.sheet wr.old) self.old (W.sheet wr.new) self.new result }
         ensures level { OnOk result ((W.sheet wr.new).indentation ≡ (W.sheet wr.old).indentation) }
@@ -152,8 +160,12 @@ impl LowerEmitter {
         format: ListFormat,
         parent: Span,
     ) -> Answer
-        ensures items { (maps : Maps) → Emits (trailing_comma format.0 parent) (at_source (S.lines cm.now) maps (state_of cfg.now (W.sheet wr.old) self.old)) (at_source (S.lines cm.now) maps (state_of cfg.now (W.sheet wr.new) self.new)) result }
-        ensures reads { Adds (comma_tokens (ends_with_comma (S.lines cm.now) cfg.now format.0 parent))
+        ensures items { (maps : Maps) →
+            Emits (trailing_comma format.0 parent) (at_source (S.lines cm.now) maps
+            (state_of cfg.now (W.sheet wr.old) self.old))
+            (at_source (S.lines cm.now) maps (state_of cfg.now (W.sheet wr.new) self.new)) result }
+        ensures reads { Adds (comma_tokens
+            (ends_with_comma (S.lines cm.now) cfg.now format.0 parent))
             cfg.now (W.sheet wr.old) self.old (W.sheet wr.new) self.new result }
         ensures level { OnOk result ((W.sheet wr.new).indentation ≡ (W.sheet wr.old).indentation) }
     {

@@ -20,7 +20,8 @@ impl LowerEmitter {
     /// Writes a blank where one is wanted, unless the settings are to minify.
     #[tactic(auto, unfolding(crate::specs::Lists::blank_if))]
     fn blank_if<W: WriteJs>(&mut self, cfg: &Config, wr: &mut W, wanted: bool) -> Answer
-        ensures items { Does (blank_if wanted) (state_of cfg.now (W.sheet wr.old) self.old) (state_of cfg.now (W.sheet wr.new) self.new) result }
+        ensures items { Does (blank_if wanted) (state_of cfg.now (W.sheet wr.old) self.old)
+            (state_of cfg.now (W.sheet wr.new) self.new) result }
         ensures level { OnOk result ((W.sheet wr.new).indentation ≡ (W.sheet wr.old).indentation) }
     {
         if wanted {
@@ -38,7 +39,9 @@ impl LowerEmitter {
         line: bool,
         wanted: bool,
     ) -> Answer
-        ensures items { Does (line_or_blank line wanted) (state_of cfg.now (W.sheet wr.old) self.old) (state_of cfg.now (W.sheet wr.new) self.new) result }
+        ensures items { Does (line_or_blank line wanted)
+            (state_of cfg.now (W.sheet wr.old) self.old)
+            (state_of cfg.now (W.sheet wr.new) self.new) result }
         ensures level { OnOk result ((W.sheet wr.new).indentation ≡ (W.sheet wr.old).indentation) }
     {
         if line {
@@ -51,8 +54,10 @@ impl LowerEmitter {
     /// One level of indentation more.
     #[inline(never)]
     pub fn deeper<W: WriteJs>(&mut self, cfg: &Config, wr: &mut W) -> Answer
-        ensures items { Does deeper (state_of cfg.now (W.sheet wr.old) self.old) (state_of cfg.now (W.sheet wr.new) self.new) result }
-        ensures level { OnOk result ((W.sheet wr.new).indentation ≡ (W.sheet wr.old).indentation + 1) }
+        ensures items { Does deeper (state_of cfg.now (W.sheet wr.old) self.old)
+            (state_of cfg.now (W.sheet wr.new) self.new) result }
+        ensures level { OnOk result ((W.sheet wr.new).indentation
+            ≡ (W.sheet wr.old).indentation + 1) }
     {
         let _ = cfg;
         if self.failed {
@@ -66,8 +71,10 @@ impl LowerEmitter {
     #[inline(never)]
     pub fn shallower<W: WriteJs>(&mut self, cfg: &Config, wr: &mut W) -> Answer
         requires { 0 < (W.sheet wr.old).indentation }
-        ensures items { Does shallower (state_of cfg.now (W.sheet wr.old) self.old) (state_of cfg.now (W.sheet wr.new) self.new) result }
-        ensures level { OnOk result ((W.sheet wr.new).indentation + 1 ≡ (W.sheet wr.old).indentation) }
+        ensures items { Does shallower (state_of cfg.now (W.sheet wr.old) self.old)
+            (state_of cfg.now (W.sheet wr.new) self.new) result }
+        ensures level { OnOk result ((W.sheet wr.new).indentation + 1
+            ≡ (W.sheet wr.old).indentation) }
     {
         let _ = cfg;
         if self.failed {
@@ -80,8 +87,10 @@ impl LowerEmitter {
     /// One level of indentation more, unless the settings are to minify.
     #[tactic(auto, unfolding(crate::specs::Lists::formatting_deeper), using(crate::proofs::Calls::skipped, crate::proofs::Calls::not_skipped))]
     fn formatting_deeper<W: WriteJs>(&mut self, cfg: &Config, wr: &mut W) -> Answer
-        ensures items { Does formatting_deeper (state_of cfg.now (W.sheet wr.old) self.old) (state_of cfg.now (W.sheet wr.new) self.new) result }
-        ensures level { OnOk result ((W.sheet wr.new).indentation ≡ (W.sheet wr.old).indentation + level_if true cfg.now) }
+        ensures items { Does formatting_deeper (state_of cfg.now (W.sheet wr.old) self.old)
+            (state_of cfg.now (W.sheet wr.new) self.new) result }
+        ensures level { OnOk result ((W.sheet wr.new).indentation
+            ≡ (W.sheet wr.old).indentation + level_if true cfg.now) }
     {
         if cfg.minify {
             return Ok(());
@@ -93,8 +102,10 @@ impl LowerEmitter {
     #[tactic(auto, unfolding(crate::specs::Lists::formatting_shallower), using(crate::proofs::Calls::skipped, crate::proofs::Calls::not_skipped))]
     fn formatting_shallower<W: WriteJs>(&mut self, cfg: &Config, wr: &mut W) -> Answer
         requires { level_if true cfg.now ≤ (W.sheet wr.old).indentation }
-        ensures items { Does formatting_shallower (state_of cfg.now (W.sheet wr.old) self.old) (state_of cfg.now (W.sheet wr.new) self.new) result }
-        ensures level { OnOk result ((W.sheet wr.new).indentation + level_if true cfg.now ≡ (W.sheet wr.old).indentation) }
+        ensures items { Does formatting_shallower (state_of cfg.now (W.sheet wr.old) self.old)
+            (state_of cfg.now (W.sheet wr.new) self.new) result }
+        ensures level { OnOk result ((W.sheet wr.new).indentation + level_if true
+            cfg.now ≡ (W.sheet wr.old).indentation) }
     {
         if cfg.minify {
             return Ok(());
@@ -105,8 +116,10 @@ impl LowerEmitter {
     /// One level of indentation more where it is wanted, unless the settings are to minify.
     #[tactic(auto, unfolding(crate::specs::Lists::deeper_if))]
     fn deeper_if<W: WriteJs>(&mut self, cfg: &Config, wr: &mut W, wanted: bool) -> Answer
-        ensures items { Does (deeper_if wanted) (state_of cfg.now (W.sheet wr.old) self.old) (state_of cfg.now (W.sheet wr.new) self.new) result }
-        ensures level { OnOk result ((W.sheet wr.new).indentation ≡ (W.sheet wr.old).indentation + level_if wanted cfg.now) }
+        ensures items { Does (deeper_if wanted) (state_of cfg.now (W.sheet wr.old) self.old)
+            (state_of cfg.now (W.sheet wr.new) self.new) result }
+        ensures level { OnOk result ((W.sheet wr.new).indentation
+            ≡ (W.sheet wr.old).indentation + level_if wanted cfg.now) }
     {
         if wanted {
             self.formatting_deeper(cfg, wr)?;
@@ -118,8 +131,10 @@ impl LowerEmitter {
     #[tactic(auto, unfolding(crate::specs::Lists::shallower_if))]
     fn shallower_if<W: WriteJs>(&mut self, cfg: &Config, wr: &mut W, wanted: bool) -> Answer
         requires { level_if wanted cfg.now ≤ (W.sheet wr.old).indentation }
-        ensures items { Does (shallower_if wanted) (state_of cfg.now (W.sheet wr.old) self.old) (state_of cfg.now (W.sheet wr.new) self.new) result }
-        ensures level { OnOk result ((W.sheet wr.new).indentation + level_if wanted cfg.now ≡ (W.sheet wr.old).indentation) }
+        ensures items { Does (shallower_if wanted) (state_of cfg.now (W.sheet wr.old) self.old)
+            (state_of cfg.now (W.sheet wr.new) self.new) result }
+        ensures level { OnOk result ((W.sheet wr.new).indentation + level_if wanted
+            cfg.now ≡ (W.sheet wr.old).indentation) }
     {
         if wanted {
             self.formatting_shallower(cfg, wr)?;
@@ -136,8 +151,10 @@ impl LowerEmitter {
         format: ListFormat,
         line: bool,
     ) -> Answer
-        ensures items { Does (opening format.0 line) (state_of cfg.now (W.sheet wr.old) self.old) (state_of cfg.now (W.sheet wr.new) self.new) result }
-        ensures level { OnOk result ((W.sheet wr.new).indentation ≡ (W.sheet wr.old).indentation + list_levels format.0 cfg.now) }
+        ensures items { Does (opening format.0 line) (state_of cfg.now (W.sheet wr.old) self.old)
+            (state_of cfg.now (W.sheet wr.new) self.new) result }
+        ensures level { OnOk result ((W.sheet wr.new).indentation
+            ≡ (W.sheet wr.old).indentation + list_levels format.0 cfg.now) }
     {
         self.line_or_blank(
             cfg,
@@ -152,7 +169,8 @@ impl LowerEmitter {
     /// Writes the delimiter of a list.
     #[tactic(auto, unfolding(crate::specs::Lists::delimiter))]
     fn delimiter<W: WriteJs>(&mut self, cfg: &Config, wr: &mut W, format: ListFormat) -> Answer
-        ensures items { Does (delimiter format.0) (state_of cfg.now (W.sheet wr.old) self.old) (state_of cfg.now (W.sheet wr.new) self.new) result }
+        ensures items { Does (delimiter format.0) (state_of cfg.now (W.sheet wr.old) self.old)
+            (state_of cfg.now (W.sheet wr.new) self.new) result }
         ensures reads { Adds (tokens_between format.0)
             cfg.now (W.sheet wr.old) self.old (W.sheet wr.new) self.new result }
         ensures level { OnOk result ((W.sheet wr.new).indentation ≡ (W.sheet wr.old).indentation) }
@@ -178,7 +196,8 @@ impl LowerEmitter {
         format: ListFormat,
         line: bool,
     ) -> Answer
-        ensures items { Does (separator format.0 line) (state_of cfg.now (W.sheet wr.old) self.old) (state_of cfg.now (W.sheet wr.new) self.new) result }
+        ensures items { Does (separator format.0 line) (state_of cfg.now (W.sheet wr.old) self.old)
+            (state_of cfg.now (W.sheet wr.new) self.new) result }
         ensures reads { Adds (tokens_between format.0)
             cfg.now (W.sheet wr.old) self.old (W.sheet wr.new) self.new result }
         ensures level { OnOk result ((W.sheet wr.new).indentation ≡ (W.sheet wr.old).indentation) }
@@ -204,7 +223,10 @@ impl LowerEmitter {
         line: bool,
         place: Span,
     ) -> Answer
-        ensures items { DoesTaking (child_comments format.0 line place) (maps_in C.maps comments.old) (maps_in C.maps comments.new) (state_of cfg.now (W.sheet wr.old) self.old) (state_of cfg.now (W.sheet wr.new) self.new) result }
+        ensures items { DoesTaking (child_comments format.0 line place)
+            (maps_in C.maps comments.old) (maps_in C.maps comments.new)
+            (state_of cfg.now (W.sheet wr.old) self.old)
+            (state_of cfg.now (W.sheet wr.new) self.new) result }
         ensures level { OnOk result ((W.sheet wr.new).indentation ≡ (W.sheet wr.old).indentation) }
     {
         if format.contains(ListFormat::NoInterveningComments) {
@@ -226,8 +248,10 @@ impl LowerEmitter {
         line: bool,
     ) -> Answer
         requires { list_levels format.0 cfg.now ≤ (W.sheet wr.old).indentation }
-        ensures items { Does (closing format.0 line) (state_of cfg.now (W.sheet wr.old) self.old) (state_of cfg.now (W.sheet wr.new) self.new) result }
-        ensures level { OnOk result ((W.sheet wr.new).indentation + list_levels format.0 cfg.now ≡ (W.sheet wr.old).indentation) }
+        ensures items { Does (closing format.0 line) (state_of cfg.now (W.sheet wr.old) self.old)
+            (state_of cfg.now (W.sheet wr.new) self.new) result }
+        ensures level { OnOk result ((W.sheet wr.new).indentation + list_levels format.0
+            cfg.now ≡ (W.sheet wr.old).indentation) }
     {
         self.shallower_if(cfg, wr, format.contains(ListFormat::Indented))?;
         self.line_or_blank(
@@ -242,7 +266,8 @@ impl LowerEmitter {
     /// Writes what stands for a list without children.
     #[tactic(auto, unfolding(crate::specs::Lists::empty_list))]
     pub fn empty_list<W: WriteJs>(&mut self, cfg: &Config, wr: &mut W, format: ListFormat) -> Answer
-        ensures items { Does (empty_list format.0) (state_of cfg.now (W.sheet wr.old) self.old) (state_of cfg.now (W.sheet wr.new) self.new) result }
+        ensures items { Does (empty_list format.0) (state_of cfg.now (W.sheet wr.old) self.old)
+            (state_of cfg.now (W.sheet wr.new) self.new) result }
         ensures level { OnOk result ((W.sheet wr.new).indentation ≡ (W.sheet wr.old).indentation) }
     {
         if format.contains(ListFormat::MultiLine) {

@@ -14,7 +14,7 @@ ghost use Rattle.swc_ecma_codegen_grammar.specs.Strings.{is_string};
 ghost use Rattle.swc_ecma_codegen_grammar.specs.Tokens.{token_of};
 ghost use Rattle.swc_ecma_codegen_text_writer.specs.Sheet as calls;
 ghost use Rattle.swc_ecma_codegen_text_writer.specs.Sheet.{Lit, StrLit, Punct};
-ghost use Rattle.swc_ecma_codegen_tokens.specs.Last.{last_at};
+ghost use Rattle.swc_ecma_codegen_tokens.specs.PreviousToken.{last_at};
 ghost use Rattle.swc_ecma_codegen_tokens.specs.Run.{Does, step, Token, Plain, Ends};
 ghost use Rattle.swc_ecma_codegen_tokens.specs.Literals.{size_of, signed, string, number, dotted_number, sign, number_name, big_digits, big_integer, regex_text, regex, hashbang};
 ghost use Rattle.swc_ecma_codegen_tokens.specs.Written.{IsNew, IsAtMargin, ReadsSoFar};
@@ -22,7 +22,7 @@ ghost use Rattle.swc_ecma_codegen_tokens.specs.Adds.{Adds, sign_tokens, tokens_o
 ghost use Rattle.swc_ecma_codegen_tokens.specs.View.{state_of};
 
 use crate::LowerEmitter;
-use crate::last::Last;
+use crate::previous::PreviousToken;
 use crate::starts::StartClass;
 use swc_ecma_codegen_common::{Answer, DUMMY_SP, Refusal, Span};
 use swc_ecma_codegen_literals::{Punctuator, TokenClass, number_class};
@@ -47,14 +47,15 @@ pub(crate) fn takes_dot(text: &str) -> bool
 }
 
 /// The last token after a number that is spelled so.
-#[tactic(auto, unfolding(crate::specs::Last::last_at))]
-fn number_end(text: &str) -> Last
-    ensures { last_at result ≡ (if takes_dot (chars text.now) then rules.IntegerEnd else rules.WordEnd) }
+#[tactic(auto, unfolding(crate::specs::PreviousToken::last_at))]
+fn number_end(text: &str) -> PreviousToken
+    ensures { last_at result ≡ (if takes_dot (chars text.now) then rules.IntegerEnd
+        else rules.WordEnd) }
 {
     if takes_dot(text) {
-        Last::IntegerEnd
+        PreviousToken::IntegerEnd
     } else {
-        Last::WordEnd
+        PreviousToken::WordEnd
     }
 }
 
@@ -63,19 +64,23 @@ impl LowerEmitter {
     #[inline(never)]
     fn put_string<W: WriteJs>(&mut self, cfg: &Config, wr: &mut W, text: &str) -> Answer
         requires { self.old.failed ≡ false }
-        ensures items { Does (step (Token kind.Str (StrLit dummy_span text.now))) (state_of cfg.now (W.sheet wr.old) self.old) (state_of cfg.now (W.sheet wr.new) self.new) result }
+        ensures items { Does (step (Token kind.Str (StrLit dummy_span text.now)))
+            (state_of cfg.now (W.sheet wr.old) self.old)
+            (state_of cfg.now (W.sheet wr.new) self.new) result }
         ensures level { OnOk result ((W.sheet wr.new).indentation ≡ (W.sheet wr.old).indentation) }
     {
         let _ = cfg;
         let answer = wr.write_str_lit(DUMMY_SP, text);
-        self.settle(answer, Last::Whole)
+        self.settle(answer, PreviousToken::Whole)
     }
 
     /// The call of a number, which may have a sign.
     #[inline(never)]
     fn put_number<W: WriteJs>(&mut self, cfg: &Config, wr: &mut W, text: &str) -> Answer
         requires { self.old.failed ≡ false }
-        ensures items { Does (step (Ends (signed kind.Number text.now) (StrLit dummy_span text.now))) (state_of cfg.now (W.sheet wr.old) self.old) (state_of cfg.now (W.sheet wr.new) self.new) result }
+        ensures items { Does (step (Ends (signed kind.Number text.now)
+            (StrLit dummy_span text.now))) (state_of cfg.now (W.sheet wr.old) self.old)
+            (state_of cfg.now (W.sheet wr.new) self.new) result }
         ensures level { OnOk result ((W.sheet wr.new).indentation ≡ (W.sheet wr.old).indentation) }
     {
         let _ = cfg;
@@ -88,7 +93,9 @@ impl LowerEmitter {
     #[inline(never)]
     fn put_before_dot<W: WriteJs>(&mut self, cfg: &Config, wr: &mut W, text: &str) -> Answer
         requires { self.old.failed ≡ false }
-        ensures items { Does (step (Plain (StrLit dummy_span text.now))) (state_of cfg.now (W.sheet wr.old) self.old) (state_of cfg.now (W.sheet wr.new) self.new) result }
+        ensures items { Does (step (Plain (StrLit dummy_span text.now)))
+            (state_of cfg.now (W.sheet wr.old) self.old)
+            (state_of cfg.now (W.sheet wr.new) self.new) result }
         ensures level { OnOk result ((W.sheet wr.new).indentation ≡ (W.sheet wr.old).indentation) }
         ensures fresh { OnOk result (self.new.failed ≡ false) }
     {
@@ -102,24 +109,28 @@ impl LowerEmitter {
     fn put_dot<W: WriteJs>(&mut self, cfg: &Config, wr: &mut W, text: &str) -> Answer
         requires fresh { self.old.failed ≡ false }
         requires integer { takes_dot (chars (size_of text.now)) ≡ true }
-        ensures items { Does (step (Ends (signed kind.Number (text.now ++ codes ".")) (Punct None (codes ".")))) (state_of cfg.now (W.sheet wr.old) self.old) (state_of cfg.now (W.sheet wr.new) self.new) result }
+        ensures items { Does (step (Ends (signed kind.Number (text.now ++ codes "."))
+            (Punct None (codes ".")))) (state_of cfg.now (W.sheet wr.old) self.old)
+            (state_of cfg.now (W.sheet wr.new) self.new) result }
         ensures level { OnOk result ((W.sheet wr.new).indentation ≡ (W.sheet wr.old).indentation) }
     {
         let _ = cfg;
         let _ = text;
         let answer = wr.write_punct(None, ".");
-        self.settle(answer, Last::WordEnd)
+        self.settle(answer, PreviousToken::WordEnd)
     }
 
     /// The call of the sign before `Infinity`.
     #[inline(never)]
     fn put_sign<W: WriteJs>(&mut self, cfg: &Config, wr: &mut W, span: Span) -> Answer
         requires { self.old.failed ≡ false }
-        ensures items { Does (step (Token kind.Punctuator (StrLit span (codes "-")))) (state_of cfg.now (W.sheet wr.old) self.old) (state_of cfg.now (W.sheet wr.new) self.new) result }
+        ensures items { Does (step (Token kind.Punctuator (StrLit span (codes "-"))))
+            (state_of cfg.now (W.sheet wr.old) self.old)
+            (state_of cfg.now (W.sheet wr.new) self.new) result }
         ensures level { OnOk result ((W.sheet wr.new).indentation ≡ (W.sheet wr.old).indentation) }
     {
         let _ = cfg;
-        let last = Last::after(self.last, Punctuator::Minus);
+        let last = PreviousToken::after(self.last, Punctuator::Minus);
         let answer = wr.write_str_lit(span, "-");
         self.settle(answer, last)
     }
@@ -134,19 +145,23 @@ impl LowerEmitter {
         text: &str,
     ) -> Answer
         requires { self.old.failed ≡ false }
-        ensures items { Does (step (Token kind.Name (StrLit span text.now))) (state_of cfg.now (W.sheet wr.old) self.old) (state_of cfg.now (W.sheet wr.new) self.new) result }
+        ensures items { Does (step (Token kind.Name (StrLit span text.now)))
+            (state_of cfg.now (W.sheet wr.old) self.old)
+            (state_of cfg.now (W.sheet wr.new) self.new) result }
         ensures level { OnOk result ((W.sheet wr.new).indentation ≡ (W.sheet wr.old).indentation) }
     {
         let _ = cfg;
         let answer = wr.write_str_lit(span, text);
-        self.settle(answer, Last::WordEnd)
+        self.settle(answer, PreviousToken::WordEnd)
     }
 
     /// The call of the digits of a big integer, before its `n`.
     #[inline(never)]
     fn put_digits<W: WriteJs>(&mut self, cfg: &Config, wr: &mut W, span: Span, text: &str) -> Answer
         requires { self.old.failed ≡ false }
-        ensures items { Does (step (Plain (Lit span text.now))) (state_of cfg.now (W.sheet wr.old) self.old) (state_of cfg.now (W.sheet wr.new) self.new) result }
+        ensures items { Does (step (Plain (Lit span text.now)))
+            (state_of cfg.now (W.sheet wr.old) self.old)
+            (state_of cfg.now (W.sheet wr.new) self.new) result }
         ensures level { OnOk result ((W.sheet wr.new).indentation ≡ (W.sheet wr.old).indentation) }
         ensures fresh { OnOk result (self.new.failed ≡ false) }
     {
@@ -159,13 +174,15 @@ impl LowerEmitter {
     #[inline(never)]
     fn put_suffix<W: WriteJs>(&mut self, cfg: &Config, wr: &mut W, span: Span, text: &str) -> Answer
         requires { self.old.failed ≡ false }
-        ensures items { Does (step (Ends (signed kind.BigInt (text.now ++ codes "n")) (Lit span (codes "n")))) (state_of cfg.now (W.sheet wr.old) self.old) (state_of cfg.now (W.sheet wr.new) self.new) result }
+        ensures items { Does (step (Ends (signed kind.BigInt (text.now ++ codes "n"))
+            (Lit span (codes "n")))) (state_of cfg.now (W.sheet wr.old) self.old)
+            (state_of cfg.now (W.sheet wr.new) self.new) result }
         ensures level { OnOk result ((W.sheet wr.new).indentation ≡ (W.sheet wr.old).indentation) }
     {
         let _ = cfg;
         let _ = text;
         let answer = wr.write_lit(span, "n");
-        self.settle(answer, Last::WordEnd)
+        self.settle(answer, PreviousToken::WordEnd)
     }
 
     /// The call of a big integer by its raw.
@@ -178,7 +195,9 @@ impl LowerEmitter {
         text: &str,
     ) -> Answer
         requires { self.old.failed ≡ false }
-        ensures items { Does (step (Token kind.BigInt (StrLit span text.now))) (state_of cfg.now (W.sheet wr.old) self.old) (state_of cfg.now (W.sheet wr.new) self.new) result }
+        ensures items { Does (step (Token kind.BigInt (StrLit span text.now)))
+            (state_of cfg.now (W.sheet wr.old) self.old)
+            (state_of cfg.now (W.sheet wr.new) self.new) result }
         ensures level { OnOk result ((W.sheet wr.new).indentation ≡ (W.sheet wr.old).indentation) }
     {
         let _ = cfg;
@@ -191,7 +210,9 @@ impl LowerEmitter {
     #[inline(never)]
     fn put_slash<W: WriteJs>(&mut self, cfg: &Config, wr: &mut W) -> Answer
         requires { self.old.failed ≡ false }
-        ensures items { Does (step (Plain (Punct None (codes "/")))) (state_of cfg.now (W.sheet wr.old) self.old) (state_of cfg.now (W.sheet wr.new) self.new) result }
+        ensures items { Does (step (Plain (Punct None (codes "/"))))
+            (state_of cfg.now (W.sheet wr.old) self.old)
+            (state_of cfg.now (W.sheet wr.new) self.new) result }
         ensures level { OnOk result ((W.sheet wr.new).indentation ≡ (W.sheet wr.old).indentation) }
         ensures fresh { OnOk result (self.new.failed ≡ false) }
     {
@@ -204,7 +225,9 @@ impl LowerEmitter {
     #[inline(never)]
     fn put_pattern<W: WriteJs>(&mut self, cfg: &Config, wr: &mut W, text: &str) -> Answer
         requires { self.old.failed ≡ false }
-        ensures items { Does (step (Plain (calls.Str text.now))) (state_of cfg.now (W.sheet wr.old) self.old) (state_of cfg.now (W.sheet wr.new) self.new) result }
+        ensures items { Does (step (Plain (calls.Str text.now)))
+            (state_of cfg.now (W.sheet wr.old) self.old)
+            (state_of cfg.now (W.sheet wr.new) self.new) result }
         ensures level { OnOk result ((W.sheet wr.new).indentation ≡ (W.sheet wr.old).indentation) }
         ensures fresh { OnOk result (self.new.failed ≡ false) }
     {
@@ -217,19 +240,23 @@ impl LowerEmitter {
     #[inline(never)]
     fn put_flags<W: WriteJs>(&mut self, cfg: &Config, wr: &mut W, exp: &str, flags: &str) -> Answer
         requires { self.old.failed ≡ false }
-        ensures items { Does (step (Ends ((kind.Regex, regex_text exp.now flags.now) ∷ []) (calls.Str flags.now))) (state_of cfg.now (W.sheet wr.old) self.old) (state_of cfg.now (W.sheet wr.new) self.new) result }
+        ensures items { Does (step (Ends ((kind.Regex, regex_text exp.now flags.now) ∷ [])
+            (calls.Str flags.now))) (state_of cfg.now (W.sheet wr.old) self.old)
+            (state_of cfg.now (W.sheet wr.new) self.new) result }
         ensures level { OnOk result ((W.sheet wr.new).indentation ≡ (W.sheet wr.old).indentation) }
     {
         let _ = cfg;
         let _ = exp;
         let answer = wr.write_str(flags);
-        self.settle(answer, Last::WordEnd)
+        self.settle(answer, PreviousToken::WordEnd)
     }
 
     /// The call of the mark of a hashbang, unless a call was refused before.
     #[inline(never)]
     fn put_hashbang_mark<W: WriteJs>(&mut self, cfg: &Config, wr: &mut W) -> Answer
-        ensures items { Does (step (Plain (Punct None (codes "#!")))) (state_of cfg.now (W.sheet wr.old) self.old) (state_of cfg.now (W.sheet wr.new) self.new) result }
+        ensures items { Does (step (Plain (Punct None (codes "#!"))))
+            (state_of cfg.now (W.sheet wr.old) self.old)
+            (state_of cfg.now (W.sheet wr.new) self.new) result }
         ensures level { OnOk result ((W.sheet wr.new).indentation ≡ (W.sheet wr.old).indentation) }
         ensures fresh { OnOk result (self.new.failed ≡ false) }
     {
@@ -245,18 +272,21 @@ impl LowerEmitter {
     #[inline(never)]
     fn put_hashbang_text<W: WriteJs>(&mut self, cfg: &Config, wr: &mut W, text: &str) -> Answer
         requires { self.old.failed ≡ false }
-        ensures items { Does (step (Ends ((kind.Hashbang, codes "#!" ++ text.now) ∷ []) (StrLit dummy_span text.now))) (state_of cfg.now (W.sheet wr.old) self.old) (state_of cfg.now (W.sheet wr.new) self.new) result }
+        ensures items { Does (step (Ends ((kind.Hashbang, codes "#!" ++ text.now) ∷ [])
+            (StrLit dummy_span text.now))) (state_of cfg.now (W.sheet wr.old) self.old)
+            (state_of cfg.now (W.sheet wr.new) self.new) result }
         ensures level { OnOk result ((W.sheet wr.new).indentation ≡ (W.sheet wr.old).indentation) }
     {
         let _ = cfg;
         let answer = wr.write_str_lit(DUMMY_SP, text);
-        self.settle(answer, Last::LineEnd)
+        self.settle(answer, PreviousToken::LineEnd)
     }
 
     /// Writes a string as it is spelled.
     #[tactic(auto, unfolding(crate::specs::Literals::string))]
     pub fn string<W: WriteJs>(&mut self, cfg: &Config, wr: &mut W, text: &str) -> Answer
-        ensures items { Does (string text.now) (state_of cfg.now (W.sheet wr.old) self.old) (state_of cfg.now (W.sheet wr.new) self.new) result }
+        ensures items { Does (string text.now) (state_of cfg.now (W.sheet wr.old) self.old)
+            (state_of cfg.now (W.sheet wr.new) self.new) result }
         // The text reads as the tokens so far and this one, whatever follows that doesn't fuse.
         ensures reads { is_utf8 text.now ≡ true → is_string (chars text.now) ≡ true →
             Adds (token_of kind.Str (chars text.now) ∷ [])
@@ -271,8 +301,10 @@ impl LowerEmitter {
     /// Writes a number as it is spelled; it may have a sign.
     #[tactic(auto, unfolding(crate::specs::Literals::number))]
     pub fn number<W: WriteJs>(&mut self, cfg: &Config, wr: &mut W, text: &str) -> Answer
-        ensures items { Does (number text.now) (state_of cfg.now (W.sheet wr.old) self.old) (state_of cfg.now (W.sheet wr.new) self.new) result }
-        ensures reads { is_utf8 (size_of text.now) ≡ true → is_number (chars (size_of text.now)) ≡ true →
+        ensures items { Does (number text.now) (state_of cfg.now (W.sheet wr.old) self.old)
+            (state_of cfg.now (W.sheet wr.new) self.new) result }
+        ensures reads { is_utf8 (size_of text.now) ≡ true →
+            is_number (chars (size_of text.now)) ≡ true →
             Adds (tokens_of_number text.now)
             cfg.now (W.sheet wr.old) self.old (W.sheet wr.new) self.new result }
         ensures level { OnOk result ((W.sheet wr.new).indentation ≡ (W.sheet wr.old).indentation) }
@@ -286,9 +318,11 @@ impl LowerEmitter {
     #[tactic(auto, unfolding(crate::specs::Literals::dotted_number))]
     pub fn dotted_number<W: WriteJs>(&mut self, cfg: &Config, wr: &mut W, text: &str) -> Answer
         requires { takes_dot (chars (size_of text.now)) ≡ true }
-        ensures items { Does (dotted_number text.now) (state_of cfg.now (W.sheet wr.old) self.old) (state_of cfg.now (W.sheet wr.new) self.new) result }
+        ensures items { Does (dotted_number text.now) (state_of cfg.now (W.sheet wr.old) self.old)
+            (state_of cfg.now (W.sheet wr.new) self.new) result }
         // The number that it is without the dot: `1.` reads as 1.
-        ensures reads { is_utf8 (size_of text.now) ≡ true → is_number (chars (size_of text.now)) ≡ true →
+        ensures reads { is_utf8 (size_of text.now) ≡ true →
+            is_number (chars (size_of text.now)) ≡ true →
             Adds (tokens_of_number text.now)
             cfg.now (W.sheet wr.old) self.old (W.sheet wr.new) self.new result }
         ensures level { OnOk result ((W.sheet wr.new).indentation ≡ (W.sheet wr.old).indentation) }
@@ -308,7 +342,8 @@ impl LowerEmitter {
         negative: bool,
         span: Span,
     ) -> Answer
-        ensures items { Does (sign negative span) (state_of cfg.now (W.sheet wr.old) self.old) (state_of cfg.now (W.sheet wr.new) self.new) result }
+        ensures items { Does (sign negative span) (state_of cfg.now (W.sheet wr.old) self.old)
+            (state_of cfg.now (W.sheet wr.new) self.new) result }
         ensures reads { Adds (sign_tokens negative)
             cfg.now (W.sheet wr.old) self.old (W.sheet wr.new) self.new result }
         ensures level { OnOk result ((W.sheet wr.new).indentation ≡ (W.sheet wr.old).indentation) }
@@ -329,7 +364,9 @@ impl LowerEmitter {
         span: Span,
         text: &str,
     ) -> Answer
-        ensures items { Does (number_name span text.now) (state_of cfg.now (W.sheet wr.old) self.old) (state_of cfg.now (W.sheet wr.new) self.new) result }
+        ensures items { Does (number_name span text.now)
+            (state_of cfg.now (W.sheet wr.old) self.old)
+            (state_of cfg.now (W.sheet wr.new) self.new) result }
         ensures reads { is_utf8 text.now ≡ true → is_name (chars text.now) ≡ true →
             Adds (token_of kind.Name (chars text.now) ∷ [])
             cfg.now (W.sheet wr.old) self.old (W.sheet wr.new) self.new result }
@@ -349,7 +386,8 @@ impl LowerEmitter {
         span: Span,
         text: &str,
     ) -> Answer
-        ensures items { Does (big_digits span text.now) (state_of cfg.now (W.sheet wr.old) self.old) (state_of cfg.now (W.sheet wr.new) self.new) result }
+        ensures items { Does (big_digits span text.now) (state_of cfg.now (W.sheet wr.old) self.old)
+            (state_of cfg.now (W.sheet wr.new) self.new) result }
         ensures reads { is_utf8 (size_of text.now) ≡ true →
             begins_digit (chars (size_of text.now)) ≡ true →
             is_big_integer (chars (size_of text.now) ++ codes "n") ≡ true →
@@ -372,7 +410,9 @@ impl LowerEmitter {
         span: Span,
         text: &str,
     ) -> Answer
-        ensures items { Does (big_integer span text.now) (state_of cfg.now (W.sheet wr.old) self.old) (state_of cfg.now (W.sheet wr.new) self.new) result }
+        ensures items { Does (big_integer span text.now)
+            (state_of cfg.now (W.sheet wr.old) self.old)
+            (state_of cfg.now (W.sheet wr.new) self.new) result }
         ensures reads { is_utf8 text.now ≡ true → is_big_integer (chars text.now) ≡ true →
             Adds (token_of kind.BigInt (chars text.now) ∷ [])
             cfg.now (W.sheet wr.old) self.old (W.sheet wr.new) self.new result }
@@ -386,7 +426,8 @@ impl LowerEmitter {
     /// Writes a regular expression.
     #[tactic(auto, unfolding(crate::specs::Literals::regex))]
     pub fn regex<W: WriteJs>(&mut self, cfg: &Config, wr: &mut W, exp: &str, flags: &str) -> Answer
-        ensures items { Does (regex exp.now flags.now) (state_of cfg.now (W.sheet wr.old) self.old) (state_of cfg.now (W.sheet wr.new) self.new) result }
+        ensures items { Does (regex exp.now flags.now) (state_of cfg.now (W.sheet wr.old) self.old)
+            (state_of cfg.now (W.sheet wr.new) self.new) result }
         // `a/` before `/b/` takes a blank between.
         ensures reads { is_utf8 exp.now ≡ true → is_utf8 flags.now ≡ true →
             is_regex (regex_characters (chars exp.now) (chars flags.now)) ≡ true →
@@ -405,7 +446,8 @@ impl LowerEmitter {
     /// Writes a hashbang by what stands behind `#!`, and ends its line.
     #[tactic(auto, unfolding(crate::specs::Literals::hashbang))]
     pub fn hashbang<W: WriteJs>(&mut self, cfg: &Config, wr: &mut W, text: &str) -> Answer
-        ensures items { Does (hashbang text.now) (state_of cfg.now (W.sheet wr.old) self.old) (state_of cfg.now (W.sheet wr.new) self.new) result }
+        ensures items { Does (hashbang text.now) (state_of cfg.now (W.sheet wr.old) self.old)
+            (state_of cfg.now (W.sheet wr.new) self.new) result }
         // It stands first of all in a text.
         ensures reads { IsNew (state_of cfg.now (W.sheet wr.old) self.old) →
             IsAtMargin (state_of cfg.now (W.sheet wr.old) self.old) →

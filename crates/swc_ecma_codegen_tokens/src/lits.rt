@@ -100,7 +100,9 @@ impl LowerEmitter {
         span: Span,
         text: &str,
     ) -> Answer
-        ensures items { DoesTaking (begun span text.now) (maps_in C.maps comments.old) (maps_in C.maps comments.new) (state_of cfg.now (W.sheet wr.old) self.old) (state_of cfg.now (W.sheet wr.new) self.new) result }
+        ensures items { DoesTaking (begun span text.now) (maps_in C.maps comments.old)
+            (maps_in C.maps comments.new) (state_of cfg.now (W.sheet wr.old) self.old)
+            (state_of cfg.now (W.sheet wr.new) self.new) result }
         ensures level { OnOk result ((W.sheet wr.new).indentation ≡ (W.sheet wr.old).indentation) }
     {
         self.leading_comments(cfg, comments, wr, span.lo)?;
@@ -119,7 +121,9 @@ impl LowerEmitter {
         span: Span,
         text: &str,
     ) -> Answer
-        ensures items { DoesTaking (settled_begun span text.now) (maps_in C.maps comments.old) (maps_in C.maps comments.new) (state_of cfg.now (W.sheet wr.old) self.old) (state_of cfg.now (W.sheet wr.new) self.new) result }
+        ensures items { DoesTaking (settled_begun span text.now) (maps_in C.maps comments.old)
+            (maps_in C.maps comments.new) (state_of cfg.now (W.sheet wr.old) self.old)
+            (state_of cfg.now (W.sheet wr.new) self.new) result }
         ensures level { OnOk result ((W.sheet wr.new).indentation ≡ (W.sheet wr.old).indentation) }
     {
         self.commit_pending_semi(cfg, wr)?;
@@ -138,7 +142,9 @@ impl LowerEmitter {
         text: &str,
         in_lit: bool,
     ) -> Answer
-        ensures items { DoesTaking (begun_in in_lit span text.now) (maps_in C.maps comments.old) (maps_in C.maps comments.new) (state_of cfg.now (W.sheet wr.old) self.old) (state_of cfg.now (W.sheet wr.new) self.new) result }
+        ensures items { DoesTaking (begun_in in_lit span text.now) (maps_in C.maps comments.old)
+            (maps_in C.maps comments.new) (state_of cfg.now (W.sheet wr.old) self.old)
+            (state_of cfg.now (W.sheet wr.new) self.new) result }
         ensures level { OnOk result ((W.sheet wr.new).indentation ≡ (W.sheet wr.old).indentation) }
     {
         if in_lit {
@@ -150,7 +156,8 @@ impl LowerEmitter {
     /// The end of a directive is recorded.
     #[tactic(auto, unfolding(crate::specs::Lits::directive_end))]
     fn directive_end<W: WriteJs>(&mut self, cfg: &Config, wr: &mut W, n: &Str) -> Answer
-        ensures items { Does (directive_end n.now) (state_of cfg.now (W.sheet wr.old) self.old) (state_of cfg.now (W.sheet wr.new) self.new) result }
+        ensures items { Does (directive_end n.now) (state_of cfg.now (W.sheet wr.old) self.old)
+            (state_of cfg.now (W.sheet wr.new) self.new) result }
         ensures level { OnOk result ((W.sheet wr.new).indentation ≡ (W.sheet wr.old).indentation) }
     {
         if is_directive(n) {
@@ -170,7 +177,9 @@ impl LowerEmitter {
         text: &str,
         in_lit: bool,
     ) -> Answer
-        ensures items { DoesTaking (string_by in_lit n.now text.now) (maps_in C.maps comments.old) (maps_in C.maps comments.new) (state_of cfg.now (W.sheet wr.old) self.old) (state_of cfg.now (W.sheet wr.new) self.new) result }
+        ensures items { DoesTaking (string_by in_lit n.now text.now) (maps_in C.maps comments.old)
+            (maps_in C.maps comments.new) (state_of cfg.now (W.sheet wr.old) self.old)
+            (state_of cfg.now (W.sheet wr.new) self.new) result }
         ensures level { OnOk result ((W.sheet wr.new).indentation ≡ (W.sheet wr.old).indentation) }
     {
         self.begun_in(cfg, comments, wr, n.span, text, in_lit)?;
@@ -189,7 +198,9 @@ impl LowerEmitter {
         n: &Str,
         in_lit: bool,
     ) -> Answer
-        ensures items { DoesTaking (string_at in_lit n.now) (maps_in C.maps comments.old) (maps_in C.maps comments.new) (state_of cfg.now (W.sheet wr.old) self.old) (state_of cfg.now (W.sheet wr.new) self.new) result }
+        ensures items { DoesTaking (string_at in_lit n.now) (maps_in C.maps comments.old)
+            (maps_in C.maps comments.new) (state_of cfg.now (W.sheet wr.old) self.old)
+            (state_of cfg.now (W.sheet wr.new) self.new) result }
         ensures level { OnOk result ((W.sheet wr.new).indentation ≡ (W.sheet wr.old).indentation) }
     {
         if self.failed {
@@ -212,8 +223,11 @@ impl LowerEmitter {
         wr: &mut W,
         n: &Str,
     ) -> Answer
-        ensures items { DoesTaking (str_lit n.now) (maps_in C.maps comments.old) (maps_in C.maps comments.new) (state_of cfg.now (W.sheet wr.old) self.old) (state_of cfg.now (W.sheet wr.new) self.new) result }
-        ensures reads { AddsTaking (phrases.str_lit n.now) (str_lit n.now) (maps_in C.maps comments.old)
+        ensures items { DoesTaking (str_lit n.now) (maps_in C.maps comments.old)
+            (maps_in C.maps comments.new) (state_of cfg.now (W.sheet wr.old) self.old)
+            (state_of cfg.now (W.sheet wr.new) self.new) result }
+        ensures reads { AddsTaking (phrases.str_lit n.now) (str_lit n.now)
+            (maps_in C.maps comments.old)
             cfg.now (W.sheet wr.old) self.old (W.sheet wr.new) self.new result }
         ensures level { OnOk result ((W.sheet wr.new).indentation ≡ (W.sheet wr.old).indentation) }
     {
@@ -223,7 +237,8 @@ impl LowerEmitter {
     /// Writes `true` or `false`.
     #[tactic(auto, unfolding(crate::specs::Lits::bool_lit))]
     pub fn bool_lit<W: WriteJs>(&mut self, cfg: &Config, wr: &mut W, n: &Bool) -> Answer
-        ensures items { Does (bool_lit n.now) (state_of cfg.now (W.sheet wr.old) self.old) (state_of cfg.now (W.sheet wr.new) self.new) result }
+        ensures items { Does (bool_lit n.now) (state_of cfg.now (W.sheet wr.old) self.old)
+            (state_of cfg.now (W.sheet wr.new) self.new) result }
         ensures reads { AddsList (phrases.bool_lit n.now)
             cfg.now (W.sheet wr.old) self.old (W.sheet wr.new) self.new result }
         ensures level { OnOk result ((W.sheet wr.new).indentation ≡ (W.sheet wr.old).indentation) }
@@ -241,8 +256,11 @@ impl LowerEmitter {
         wr: &mut W,
         n: &Bool,
     ) -> Answer
-        ensures items { DoesTaking (bool_node n.now) (maps_in C.maps comments.old) (maps_in C.maps comments.new) (state_of cfg.now (W.sheet wr.old) self.old) (state_of cfg.now (W.sheet wr.new) self.new) result }
-        ensures reads { AddsTaking (phrases.bool_lit n.now) (bool_node n.now) (maps_in C.maps comments.old)
+        ensures items { DoesTaking (bool_node n.now) (maps_in C.maps comments.old)
+            (maps_in C.maps comments.new) (state_of cfg.now (W.sheet wr.old) self.old)
+            (state_of cfg.now (W.sheet wr.new) self.new) result }
+        ensures reads { AddsTaking (phrases.bool_lit n.now) (bool_node n.now)
+            (maps_in C.maps comments.old)
             cfg.now (W.sheet wr.old) self.old (W.sheet wr.new) self.new result }
         ensures level { OnOk result ((W.sheet wr.new).indentation ≡ (W.sheet wr.old).indentation) }
     {
@@ -254,7 +272,8 @@ impl LowerEmitter {
     /// Writes `null`.
     #[tactic(auto, unfolding(crate::specs::Lits::null_lit))]
     pub fn null_lit<W: WriteJs>(&mut self, cfg: &Config, wr: &mut W, n: &Null) -> Answer
-        ensures items { Does (null_lit n.now) (state_of cfg.now (W.sheet wr.old) self.old) (state_of cfg.now (W.sheet wr.new) self.new) result }
+        ensures items { Does (null_lit n.now) (state_of cfg.now (W.sheet wr.old) self.old)
+            (state_of cfg.now (W.sheet wr.new) self.new) result }
         ensures reads { AddsList (phrases.null_lit n.now)
             cfg.now (W.sheet wr.old) self.old (W.sheet wr.new) self.new result }
         ensures level { OnOk result ((W.sheet wr.new).indentation ≡ (W.sheet wr.old).indentation) }
@@ -267,7 +286,8 @@ impl LowerEmitter {
     /// Writes a regular expression.
     #[tactic(auto, unfolding(crate::specs::Lits::regex_lit))]
     pub fn regex_lit<W: WriteJs>(&mut self, cfg: &Config, wr: &mut W, n: &Regex) -> Answer
-        ensures items { Does (regex_lit n.now) (state_of cfg.now (W.sheet wr.old) self.old) (state_of cfg.now (W.sheet wr.new) self.new) result }
+        ensures items { Does (regex_lit n.now) (state_of cfg.now (W.sheet wr.old) self.old)
+            (state_of cfg.now (W.sheet wr.new) self.new) result }
         ensures reads { AddsList (phrases.regex n.now)
             cfg.now (W.sheet wr.old) self.old (W.sheet wr.new) self.new result }
         ensures level { OnOk result ((W.sheet wr.new).indentation ≡ (W.sheet wr.old).indentation) }
@@ -285,7 +305,9 @@ impl LowerEmitter {
         wr: &mut W,
         n: &Lit,
     ) -> Answer
-        ensures items { DoesTaking (lit n.now) (maps_in C.maps comments.old) (maps_in C.maps comments.new) (state_of cfg.now (W.sheet wr.old) self.old) (state_of cfg.now (W.sheet wr.new) self.new) result }
+        ensures items { DoesTaking (lit n.now) (maps_in C.maps comments.old)
+            (maps_in C.maps comments.new) (state_of cfg.now (W.sheet wr.old) self.old)
+            (state_of cfg.now (W.sheet wr.new) self.new) result }
         ensures level { OnOk result ((W.sheet wr.new).indentation ≡ (W.sheet wr.old).indentation) }
     {
         match n {
@@ -317,7 +339,9 @@ impl LowerEmitter {
         wr: &mut W,
         n: &Lit,
     ) -> Answer
-        ensures items { DoesTaking (lit n.now) (maps_in C.maps comments.old) (maps_in C.maps comments.new) (state_of cfg.now (W.sheet wr.old) self.old) (state_of cfg.now (W.sheet wr.new) self.new) result }
+        ensures items { DoesTaking (lit n.now) (maps_in C.maps comments.old)
+            (maps_in C.maps comments.new) (state_of cfg.now (W.sheet wr.old) self.old)
+            (state_of cfg.now (W.sheet wr.new) self.new) result }
         ensures reads { AddsTaking (phrases.lit n.now) (lit n.now) (maps_in C.maps comments.old)
             cfg.now (W.sheet wr.old) self.old (W.sheet wr.new) self.new result }
         ensures level { OnOk result ((W.sheet wr.new).indentation ≡ (W.sheet wr.old).indentation) }

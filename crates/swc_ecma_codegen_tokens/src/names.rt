@@ -42,7 +42,8 @@ impl LowerEmitter {
         span: Span,
         text: &str,
     ) -> Answer
-        ensures items { Does (symbol span text.now) (state_of cfg.now (W.sheet wr.old) self.old) (state_of cfg.now (W.sheet wr.new) self.new) result }
+        ensures items { Does (symbol span text.now) (state_of cfg.now (W.sheet wr.old) self.old)
+            (state_of cfg.now (W.sheet wr.new) self.new) result }
         ensures level { OnOk result ((W.sheet wr.new).indentation ≡ (W.sheet wr.old).indentation) }
     {
         let next = StartClass::of_text(text);
@@ -63,7 +64,8 @@ impl LowerEmitter {
         next: StartClass,
     ) -> Answer
         requires { start_class (chars text.now) ≡ next }
-        ensures items { Does (symbol span text.now) (state_of cfg.now (W.sheet wr.old) self.old) (state_of cfg.now (W.sheet wr.new) self.new) result }
+        ensures items { Does (symbol span text.now) (state_of cfg.now (W.sheet wr.old) self.old)
+            (state_of cfg.now (W.sheet wr.new) self.new) result }
         ensures level { OnOk result ((W.sheet wr.new).indentation ≡ (W.sheet wr.old).indentation) }
     {
         self.symbol_here(cfg, wr, span, text, next)
@@ -81,7 +83,8 @@ impl LowerEmitter {
         next: StartClass,
     ) -> Answer
         requires { start_class (chars text.now) ≡ next }
-        ensures items { Does (symbol span text.now) (state_of cfg.now (W.sheet wr.old) self.old) (state_of cfg.now (W.sheet wr.new) self.new) result }
+        ensures items { Does (symbol span text.now) (state_of cfg.now (W.sheet wr.old) self.old)
+            (state_of cfg.now (W.sheet wr.new) self.new) result }
         ensures level { OnOk result ((W.sheet wr.new).indentation ≡ (W.sheet wr.old).indentation) }
     {
         self.guard(cfg, wr, text, next)?;
@@ -100,7 +103,9 @@ impl LowerEmitter {
         text: &str,
     ) -> Answer
         requires { wants_escapes cfg.now text.now ≡ true }
-        ensures items { Does (spelled_symbol span text.now) (state_of cfg.now (W.sheet wr.old) self.old) (state_of cfg.now (W.sheet wr.new) self.new) result }
+        ensures items { Does (spelled_symbol span text.now)
+            (state_of cfg.now (W.sheet wr.old) self.old)
+            (state_of cfg.now (W.sheet wr.new) self.new) result }
         ensures level { OnOk result ((W.sheet wr.new).indentation ≡ (W.sheet wr.old).indentation) }
     {
         if self.failed {
@@ -124,7 +129,9 @@ impl LowerEmitter {
         span: Span,
         text: &str,
     ) -> Answer
-        ensures items { Does (spelled_symbol span text.now) (state_of cfg.now (W.sheet wr.old) self.old) (state_of cfg.now (W.sheet wr.new) self.new) result }
+        ensures items { Does (spelled_symbol span text.now)
+            (state_of cfg.now (W.sheet wr.old) self.old)
+            (state_of cfg.now (W.sheet wr.new) self.new) result }
         ensures level { OnOk result ((W.sheet wr.new).indentation ≡ (W.sheet wr.old).indentation) }
     {
         if wants_escapes(cfg, text) {
@@ -143,7 +150,9 @@ impl LowerEmitter {
         span: Span,
         name: &str,
     ) -> Answer
-        ensures items { Does (valid_symbol span name.now) (state_of cfg.now (W.sheet wr.old) self.old) (state_of cfg.now (W.sheet wr.new) self.new) result }
+        ensures items { Does (valid_symbol span name.now)
+            (state_of cfg.now (W.sheet wr.old) self.old)
+            (state_of cfg.now (W.sheet wr.new) self.new) result }
         ensures level { OnOk result ((W.sheet wr.new).indentation ≡ (W.sheet wr.old).indentation) }
     {
         if !holds_backslash(name) {
@@ -162,7 +171,9 @@ impl LowerEmitter {
         span: Span,
         name: &str,
     ) -> Answer
-        ensures items { Does (valid_symbol span name.now) (state_of cfg.now (W.sheet wr.old) self.old) (state_of cfg.now (W.sheet wr.new) self.new) result }
+        ensures items { Does (valid_symbol span name.now)
+            (state_of cfg.now (W.sheet wr.old) self.old)
+            (state_of cfg.now (W.sheet wr.new) self.new) result }
         ensures level { OnOk result ((W.sheet wr.new).indentation ≡ (W.sheet wr.old).indentation) }
     {
         if self.failed {
@@ -187,7 +198,8 @@ impl LowerEmitter {
         span: Span,
         sym: &str,
     ) -> Answer
-        ensures items { Does (name_text span sym.now) (state_of cfg.now (W.sheet wr.old) self.old) (state_of cfg.now (W.sheet wr.new) self.new) result }
+        ensures items { Does (name_text span sym.now) (state_of cfg.now (W.sheet wr.old) self.old)
+            (state_of cfg.now (W.sheet wr.new) self.new) result }
         ensures level { OnOk result ((W.sheet wr.new).indentation ≡ (W.sheet wr.old).indentation) }
     {
         if wr.can_ignore_invalid_unicodes() {
@@ -204,7 +216,8 @@ impl LowerEmitter {
         wr: &mut W,
         optional: bool,
     ) -> Answer
-        ensures items { Does (question optional) (state_of cfg.now (W.sheet wr.old) self.old) (state_of cfg.now (W.sheet wr.new) self.new) result }
+        ensures items { Does (question optional) (state_of cfg.now (W.sheet wr.old) self.old)
+            (state_of cfg.now (W.sheet wr.new) self.new) result }
         ensures level { OnOk result ((W.sheet wr.new).indentation ≡ (W.sheet wr.old).indentation) }
     {
         if optional {
@@ -225,7 +238,9 @@ impl LowerEmitter {
         sym: &str,
         optional: bool,
     ) -> Answer
-        ensures items { DoesTaking (name span sym.now optional) (maps_in C.maps comments.old) (maps_in C.maps comments.new) (state_of cfg.now (W.sheet wr.old) self.old) (state_of cfg.now (W.sheet wr.new) self.new) result }
+        ensures items { DoesTaking (name span sym.now optional) (maps_in C.maps comments.old)
+            (maps_in C.maps comments.new) (state_of cfg.now (W.sheet wr.old) self.old)
+            (state_of cfg.now (W.sheet wr.new) self.new) result }
         // The text reads as the tokens so far and the name, whatever follows that doesn't fuse.
         ensures reads { (text_before : List ℕ) (tokens : List Token) (remarks : List Remark) →
             AreClosed (maps_in C.maps comments.old) → is_well_formed_name sym.now ≡ true →

@@ -162,7 +162,9 @@ impl LowerEmitter {
         negative: bool,
         in_lit: bool,
     ) -> Answer
-        ensures items { DoesTaking (infinity in_lit negative span) (maps_in C.maps comments.old) (maps_in C.maps comments.new) (state_of cfg.now (W.sheet wr.old) self.old) (state_of cfg.now (W.sheet wr.new) self.new) result }
+        ensures items { DoesTaking (infinity in_lit negative span) (maps_in C.maps comments.old)
+            (maps_in C.maps comments.new) (state_of cfg.now (W.sheet wr.old) self.old)
+            (state_of cfg.now (W.sheet wr.new) self.new) result }
         ensures level { OnOk result ((W.sheet wr.new).indentation ≡ (W.sheet wr.old).indentation) }
     {
         self.begun_in(cfg, comments, wr, span, infinity_text(negative), in_lit)?;
@@ -183,7 +185,9 @@ impl LowerEmitter {
         span: Span,
         in_lit: bool,
     ) -> Answer
-        ensures items { DoesTaking (not_a_number in_lit span) (maps_in C.maps comments.old) (maps_in C.maps comments.new) (state_of cfg.now (W.sheet wr.old) self.old) (state_of cfg.now (W.sheet wr.new) self.new) result }
+        ensures items { DoesTaking (not_a_number in_lit span) (maps_in C.maps comments.old)
+            (maps_in C.maps comments.new) (state_of cfg.now (W.sheet wr.old) self.old)
+            (state_of cfg.now (W.sheet wr.new) self.new) result }
         ensures level { OnOk result ((W.sheet wr.new).indentation ≡ (W.sheet wr.old).indentation) }
     {
         self.begun_in(cfg, comments, wr, span, "NaN", in_lit)?;
@@ -203,7 +207,10 @@ impl LowerEmitter {
         value: &NumberValue,
         in_lit: bool,
     ) -> Answer
-        ensures items { DoesTaking (named_number in_lit span value.now) (maps_in C.maps comments.old) (maps_in C.maps comments.new) (state_of cfg.now (W.sheet wr.old) self.old) (state_of cfg.now (W.sheet wr.new) self.new) result }
+        ensures items { DoesTaking (named_number in_lit span value.now)
+            (maps_in C.maps comments.old) (maps_in C.maps comments.new)
+            (state_of cfg.now (W.sheet wr.old) self.old)
+            (state_of cfg.now (W.sheet wr.new) self.new) result }
         ensures level { OnOk result ((W.sheet wr.new).indentation ≡ (W.sheet wr.old).indentation) }
     {
         match value {
@@ -224,7 +231,9 @@ impl LowerEmitter {
         text: &str,
         in_lit: bool,
     ) -> Answer
-        ensures items { DoesTaking (number_by in_lit span text.now) (maps_in C.maps comments.old) (maps_in C.maps comments.new) (state_of cfg.now (W.sheet wr.old) self.old) (state_of cfg.now (W.sheet wr.new) self.new) result }
+        ensures items { DoesTaking (number_by in_lit span text.now) (maps_in C.maps comments.old)
+            (maps_in C.maps comments.new) (state_of cfg.now (W.sheet wr.old) self.old)
+            (state_of cfg.now (W.sheet wr.new) self.new) result }
         ensures level { OnOk result ((W.sheet wr.new).indentation ≡ (W.sheet wr.old).indentation) }
     {
         self.begun_in(cfg, comments, wr, span, text, in_lit)?;
@@ -242,7 +251,9 @@ impl LowerEmitter {
         n: &Number,
         in_lit: bool,
     ) -> Answer
-        ensures items { DoesTaking (spelled_number in_lit n.now) (maps_in C.maps comments.old) (maps_in C.maps comments.new) (state_of cfg.now (W.sheet wr.old) self.old) (state_of cfg.now (W.sheet wr.new) self.new) result }
+        ensures items { DoesTaking (spelled_number in_lit n.now) (maps_in C.maps comments.old)
+            (maps_in C.maps comments.new) (state_of cfg.now (W.sheet wr.old) self.old)
+            (state_of cfg.now (W.sheet wr.new) self.new) result }
         ensures level { OnOk result ((W.sheet wr.new).indentation ≡ (W.sheet wr.old).indentation) }
     {
         if self.failed {
@@ -267,7 +278,9 @@ impl LowerEmitter {
         n: &Number,
         in_lit: bool,
     ) -> Answer
-        ensures items { DoesTaking (number_at in_lit n.now) (maps_in C.maps comments.old) (maps_in C.maps comments.new) (state_of cfg.now (W.sheet wr.old) self.old) (state_of cfg.now (W.sheet wr.new) self.new) result }
+        ensures items { DoesTaking (number_at in_lit n.now) (maps_in C.maps comments.old)
+            (maps_in C.maps comments.new) (state_of cfg.now (W.sheet wr.old) self.old)
+            (state_of cfg.now (W.sheet wr.new) self.new) result }
         ensures level { OnOk result ((W.sheet wr.new).indentation ≡ (W.sheet wr.old).indentation) }
     {
         if is_named(n) {
@@ -285,8 +298,11 @@ impl LowerEmitter {
         wr: &mut W,
         n: &Number,
     ) -> Answer
-        ensures items { DoesTaking (number_lit n.now) (maps_in C.maps comments.old) (maps_in C.maps comments.new) (state_of cfg.now (W.sheet wr.old) self.old) (state_of cfg.now (W.sheet wr.new) self.new) result }
-        ensures reads { AddsTaking (phrases.number n.now) (number_lit n.now) (maps_in C.maps comments.old)
+        ensures items { DoesTaking (number_lit n.now) (maps_in C.maps comments.old)
+            (maps_in C.maps comments.new) (state_of cfg.now (W.sheet wr.old) self.old)
+            (state_of cfg.now (W.sheet wr.new) self.new) result }
+        ensures reads { AddsTaking (phrases.number n.now) (number_lit n.now)
+            (maps_in C.maps comments.old)
             cfg.now (W.sheet wr.old) self.old (W.sheet wr.new) self.new result }
         ensures level { OnOk result ((W.sheet wr.new).indentation ≡ (W.sheet wr.old).indentation) }
     {
@@ -302,7 +318,9 @@ impl LowerEmitter {
         wr: &mut W,
         pos: BytePos,
     ) -> Answer
-        ensures items { DoesTaking (between_dots pos) (maps_in C.maps comments.old) (maps_in C.maps comments.new) (state_of cfg.now (W.sheet wr.old) self.old) (state_of cfg.now (W.sheet wr.new) self.new) result }
+        ensures items { DoesTaking (between_dots pos) (maps_in C.maps comments.old)
+            (maps_in C.maps comments.new) (state_of cfg.now (W.sheet wr.old) self.old)
+            (state_of cfg.now (W.sheet wr.new) self.new) result }
         ensures level { OnOk result ((W.sheet wr.new).indentation ≡ (W.sheet wr.old).indentation) }
     {
         if pos.0 < 2 {
@@ -321,7 +339,9 @@ impl LowerEmitter {
         text: &str,
         pos: BytePos,
     ) -> Answer
-        ensures items { DoesTaking (before_property text.now pos) (maps_in C.maps comments.old) (maps_in C.maps comments.new) (state_of cfg.now (W.sheet wr.old) self.old) (state_of cfg.now (W.sheet wr.new) self.new) result }
+        ensures items { DoesTaking (before_property text.now pos) (maps_in C.maps comments.old)
+            (maps_in C.maps comments.new) (state_of cfg.now (W.sheet wr.old) self.old)
+            (state_of cfg.now (W.sheet wr.new) self.new) result }
         ensures level { OnOk result ((W.sheet wr.new).indentation ≡ (W.sheet wr.old).indentation) }
     {
         if takes_dot(size_of(text)) {
@@ -343,7 +363,9 @@ impl LowerEmitter {
         pos: BytePos,
         text: &str,
     ) -> Answer
-        ensures items { DoesTaking (object_by span pos text.now) (maps_in C.maps comments.old) (maps_in C.maps comments.new) (state_of cfg.now (W.sheet wr.old) self.old) (state_of cfg.now (W.sheet wr.new) self.new) result }
+        ensures items { DoesTaking (object_by span pos text.now) (maps_in C.maps comments.old)
+            (maps_in C.maps comments.new) (state_of cfg.now (W.sheet wr.old) self.old)
+            (state_of cfg.now (W.sheet wr.new) self.new) result }
         ensures level { OnOk result ((W.sheet wr.new).indentation ≡ (W.sheet wr.old).indentation) }
     {
         self.settled_begun(cfg, comments, wr, span, text)?;
@@ -360,7 +382,9 @@ impl LowerEmitter {
         n: &Number,
         pos: BytePos,
     ) -> Answer
-        ensures items { DoesTaking (spelled_object n.now pos) (maps_in C.maps comments.old) (maps_in C.maps comments.new) (state_of cfg.now (W.sheet wr.old) self.old) (state_of cfg.now (W.sheet wr.new) self.new) result }
+        ensures items { DoesTaking (spelled_object n.now pos) (maps_in C.maps comments.old)
+            (maps_in C.maps comments.new) (state_of cfg.now (W.sheet wr.old) self.old)
+            (state_of cfg.now (W.sheet wr.new) self.new) result }
         ensures level { OnOk result ((W.sheet wr.new).indentation ≡ (W.sheet wr.old).indentation) }
     {
         if self.failed {
@@ -386,8 +410,11 @@ impl LowerEmitter {
         n: &Number,
         pos: BytePos,
     ) -> Answer
-        ensures items { DoesTaking (number_object n.now pos) (maps_in C.maps comments.old) (maps_in C.maps comments.new) (state_of cfg.now (W.sheet wr.old) self.old) (state_of cfg.now (W.sheet wr.new) self.new) result }
-        ensures reads { AddsTaking (phrases.number n.now) (number_object n.now pos) (maps_in C.maps comments.old)
+        ensures items { DoesTaking (number_object n.now pos) (maps_in C.maps comments.old)
+            (maps_in C.maps comments.new) (state_of cfg.now (W.sheet wr.old) self.old)
+            (state_of cfg.now (W.sheet wr.new) self.new) result }
+        ensures reads { AddsTaking (phrases.number n.now) (number_object n.now pos)
+            (maps_in C.maps comments.old)
             cfg.now (W.sheet wr.old) self.old (W.sheet wr.new) self.new result }
         ensures level { OnOk result ((W.sheet wr.new).indentation ≡ (W.sheet wr.old).indentation) }
     {
@@ -408,7 +435,9 @@ impl LowerEmitter {
         text: &str,
         whole: bool,
     ) -> Answer
-        ensures items { Does (big_int_parts whole span text.now) (state_of cfg.now (W.sheet wr.old) self.old) (state_of cfg.now (W.sheet wr.new) self.new) result }
+        ensures items { Does (big_int_parts whole span text.now)
+            (state_of cfg.now (W.sheet wr.old) self.old)
+            (state_of cfg.now (W.sheet wr.new) self.new) result }
         ensures level { OnOk result ((W.sheet wr.new).indentation ≡ (W.sheet wr.old).indentation) }
     {
         if whole {
@@ -430,7 +459,10 @@ impl LowerEmitter {
         whole: bool,
         in_lit: bool,
     ) -> Answer
-        ensures items { DoesTaking (big_int_by in_lit whole span text.now) (maps_in C.maps comments.old) (maps_in C.maps comments.new) (state_of cfg.now (W.sheet wr.old) self.old) (state_of cfg.now (W.sheet wr.new) self.new) result }
+        ensures items { DoesTaking (big_int_by in_lit whole span text.now)
+            (maps_in C.maps comments.old) (maps_in C.maps comments.new)
+            (state_of cfg.now (W.sheet wr.old) self.old)
+            (state_of cfg.now (W.sheet wr.new) self.new) result }
         ensures level { OnOk result ((W.sheet wr.new).indentation ≡ (W.sheet wr.old).indentation) }
     {
         self.begun_in(cfg, comments, wr, span, text, in_lit)?;
@@ -448,7 +480,9 @@ impl LowerEmitter {
         n: &BigInt,
         in_lit: bool,
     ) -> Answer
-        ensures items { DoesTaking (big_int_at in_lit n.now) (maps_in C.maps comments.old) (maps_in C.maps comments.new) (state_of cfg.now (W.sheet wr.old) self.old) (state_of cfg.now (W.sheet wr.new) self.new) result }
+        ensures items { DoesTaking (big_int_at in_lit n.now) (maps_in C.maps comments.old)
+            (maps_in C.maps comments.new) (state_of cfg.now (W.sheet wr.old) self.old)
+            (state_of cfg.now (W.sheet wr.new) self.new) result }
         ensures level { OnOk result ((W.sheet wr.new).indentation ≡ (W.sheet wr.old).indentation) }
     {
         if self.failed {
@@ -474,8 +508,11 @@ impl LowerEmitter {
         wr: &mut W,
         n: &BigInt,
     ) -> Answer
-        ensures items { DoesTaking (big_int_lit n.now) (maps_in C.maps comments.old) (maps_in C.maps comments.new) (state_of cfg.now (W.sheet wr.old) self.old) (state_of cfg.now (W.sheet wr.new) self.new) result }
-        ensures reads { AddsTaking (phrases.big_int n.now) (big_int_lit n.now) (maps_in C.maps comments.old)
+        ensures items { DoesTaking (big_int_lit n.now) (maps_in C.maps comments.old)
+            (maps_in C.maps comments.new) (state_of cfg.now (W.sheet wr.old) self.old)
+            (state_of cfg.now (W.sheet wr.new) self.new) result }
+        ensures reads { AddsTaking (phrases.big_int n.now) (big_int_lit n.now)
+            (maps_in C.maps comments.old)
             cfg.now (W.sheet wr.old) self.old (W.sheet wr.new) self.new result }
         ensures level { OnOk result ((W.sheet wr.new).indentation ≡ (W.sheet wr.old).indentation) }
     {

@@ -37,7 +37,8 @@ impl LowerEmitter {
     /// Comes to a node that can't be printed: nothing more is written.
     #[tactic(auto, using(crate::proofs::Emitting::does_refusal, crate::proofs::Emitting::does_failed))]
     pub fn refuse<W: WriteJs>(&mut self, cfg: &Config, wr: &W, why: Unprintable) -> Answer
-        ensures items { Does (refuse why) (state_of cfg.now (W.sheet wr.now) self.old) (state_of cfg.now (W.sheet wr.now) self.new) result }
+        ensures items { Does (refuse why) (state_of cfg.now (W.sheet wr.now) self.old)
+            (state_of cfg.now (W.sheet wr.now) self.new) result }
     {
         let _ = cfg;
         let _ = wr;

@@ -270,7 +270,8 @@ fn mark_start(c: char) -> StartClass
 
 /// The first character, and what follows it.
 pub(crate) fn split_first_char(text: &str) -> Option<(char, &str)>
-    ensures { MatchOption result (chars text.now ≡ []) (λ (first, rest). chars text.now ≡ first ∷ chars rest.now) }
+    ensures { MatchOption result (chars text.now ≡ [])
+        (λ (first, rest). chars text.now ≡ first ∷ chars rest.now) }
 {
     let mut chars = text.chars();
     match chars.next() {

@@ -16,7 +16,7 @@ ghost use Rattle.swc_ecma_codegen_tokens.specs.Adds.{Adds, AddsOn, AddsTakingOn}
 ghost use Rattle.swc_ecma_codegen_tokens.specs.View.{state_of};
 
 use crate::LowerEmitter;
-use crate::last::Last;
+use crate::previous::PreviousToken;
 use crate::starts::StartClass;
 use swc_ecma_codegen_common::{Answer, DUMMY_SP, Refusal, Span};
 use swc_ecma_codegen_grammar::comments::Comments;
@@ -28,18 +28,21 @@ impl LowerEmitter {
     /// The call of a name in a tag.
     fn put_tag_name<W: WriteJs>(&mut self, cfg: &Config, wr: &mut W, text: &str) -> Answer
         requires { self.old.failed ≡ false }
-        ensures items { Does (step (Token kind.JsxName (Symbol dummy_span text.now))) (state_of cfg.now (W.sheet wr.old) self.old) (state_of cfg.now (W.sheet wr.new) self.new) result }
+        ensures items { Does (step (Token kind.JsxName (Symbol dummy_span text.now)))
+            (state_of cfg.now (W.sheet wr.old) self.old)
+            (state_of cfg.now (W.sheet wr.new) self.new) result }
         ensures level { OnOk result ((W.sheet wr.new).indentation ≡ (W.sheet wr.old).indentation) }
     {
         let _ = cfg;
         let answer = wr.write_symbol(DUMMY_SP, text);
-        self.settle(answer, Last::TagNameEnd)
+        self.settle(answer, PreviousToken::TagNameEnd)
     }
 
     /// Writes a name in a tag, and records its position.
     #[tactic(auto, unfolding(crate::specs::Tags::tag_symbol))]
     fn tag_symbol<W: WriteJs>(&mut self, cfg: &Config, wr: &mut W, span: Span, text: &str) -> Answer
-        ensures items { Does (tag_symbol span text.now) (state_of cfg.now (W.sheet wr.old) self.old) (state_of cfg.now (W.sheet wr.new) self.new) result }
+        ensures items { Does (tag_symbol span text.now) (state_of cfg.now (W.sheet wr.old) self.old)
+            (state_of cfg.now (W.sheet wr.new) self.new) result }
         ensures level { OnOk result ((W.sheet wr.new).indentation ≡ (W.sheet wr.old).indentation) }
     {
         self.guard(cfg, wr, text, StartClass::of_text(text))?;
@@ -59,7 +62,9 @@ impl LowerEmitter {
         span: Span,
         text: &str,
     ) -> Answer
-        ensures items { DoesTaking (tag_name span text.now) (maps_in C.maps comments.old) (maps_in C.maps comments.new) (state_of cfg.now (W.sheet wr.old) self.old) (state_of cfg.now (W.sheet wr.new) self.new) result }
+        ensures items { DoesTaking (tag_name span text.now) (maps_in C.maps comments.old)
+            (maps_in C.maps comments.new) (state_of cfg.now (W.sheet wr.old) self.old)
+            (state_of cfg.now (W.sheet wr.new) self.new) result }
         // What follows begins with no dash.
         ensures reads { AddsTakingOn Anything InName
             (TagNameOf span.lo text.now) (tag_name span text.now) (maps_in C.maps comments.old)
@@ -79,11 +84,13 @@ impl LowerEmitter {
     /// The call of what begins a child.
     fn put_child_open<W: WriteJs>(&mut self, cfg: &Config, wr: &mut W, mark: Punctuator) -> Answer
         requires { self.old.failed ≡ false }
-        ensures items { Does (step (Token kind.JsxOpen (Punct None (spelling mark)))) (state_of cfg.now (W.sheet wr.old) self.old) (state_of cfg.now (W.sheet wr.new) self.new) result }
+        ensures items { Does (step (Token kind.JsxOpen (Punct None (spelling mark))))
+            (state_of cfg.now (W.sheet wr.old) self.old)
+            (state_of cfg.now (W.sheet wr.new) self.new) result }
         ensures level { OnOk result ((W.sheet wr.new).indentation ≡ (W.sheet wr.old).indentation) }
     {
         let _ = cfg;
-        let last = Last::after(self.last, mark);
+        let last = PreviousToken::after(self.last, mark);
         let before = self.note(last);
         let answer = wr.write_punct(None, mark.as_str());
         self.settle_noted(answer, before)
@@ -93,9 +100,12 @@ impl LowerEmitter {
     #[inline(never)]
     #[tactic(auto, unfolding(crate::specs::Tags::child_open), using(crate::proofs::Emitting::does_failed))]
     pub fn child_open<W: WriteJs>(&mut self, cfg: &Config, wr: &mut W, mark: Punctuator) -> Answer
-        ensures items { Does (child_open (spelling mark)) (state_of cfg.now (W.sheet wr.old) self.old) (state_of cfg.now (W.sheet wr.new) self.new) result }
+        ensures items { Does (child_open (spelling mark))
+            (state_of cfg.now (W.sheet wr.old) self.old)
+            (state_of cfg.now (W.sheet wr.new) self.new) result }
         // Right behind the end of a tag or of a container, or behind text.
-        ensures reads { is_jsx_open (spelling mark) ≡ true → AddsOn InText Anything (open_token (spelling mark) ∷ [])
+        ensures reads { is_jsx_open (spelling mark) ≡ true →
+            AddsOn InText Anything (open_token (spelling mark) ∷ [])
             cfg.now (W.sheet wr.old) self.old (W.sheet wr.new) self.new result }
         ensures level { OnOk result ((W.sheet wr.new).indentation ≡ (W.sheet wr.old).indentation) }
     {
@@ -115,12 +125,14 @@ impl LowerEmitter {
         text: &str,
     ) -> Answer
         requires { self.old.failed ≡ false }
-        ensures items { Does (step (Token kind.JsxText (StrLit span text.now))) (state_of cfg.now (W.sheet wr.old) self.old) (state_of cfg.now (W.sheet wr.new) self.new) result }
+        ensures items { Does (step (Token kind.JsxText (StrLit span text.now)))
+            (state_of cfg.now (W.sheet wr.old) self.old)
+            (state_of cfg.now (W.sheet wr.new) self.new) result }
         ensures level { OnOk result ((W.sheet wr.new).indentation ≡ (W.sheet wr.old).indentation) }
     {
         let _ = cfg;
         let answer = wr.write_str_lit(span, text);
-        self.settle(answer, Last::TextEnd)
+        self.settle(answer, PreviousToken::TextEnd)
     }
 
     /// Writes the text between tags.
@@ -133,7 +145,8 @@ impl LowerEmitter {
         span: Span,
         text: &str,
     ) -> Answer
-        ensures items { Does (jsx_text span text.now) (state_of cfg.now (W.sheet wr.old) self.old) (state_of cfg.now (W.sheet wr.new) self.new) result }
+        ensures items { Does (jsx_text span text.now) (state_of cfg.now (W.sheet wr.old) self.old)
+            (state_of cfg.now (W.sheet wr.new) self.new) result }
         // Right behind the end of a tag or of a container; what begins a child follows, or a closing tag.
         ensures reads { is_utf8 text.now ≡ true → is_jsx_text (chars text.now) ≡ true →
             AddsOn Between InText (text_token text.now ∷ [])
@@ -151,11 +164,13 @@ impl LowerEmitter {
     #[inline(always)]
     fn put_close<W: WriteJs>(&mut self, cfg: &Config, wr: &mut W) -> Answer
         requires { self.old.failed ≡ false }
-        ensures items { Does (step (Token kind.Close (Punct None (codes ">")))) (state_of cfg.now (W.sheet wr.old) self.old) (state_of cfg.now (W.sheet wr.new) self.new) result }
+        ensures items { Does (step (Token kind.Close (Punct None (codes ">"))))
+            (state_of cfg.now (W.sheet wr.old) self.old)
+            (state_of cfg.now (W.sheet wr.new) self.new) result }
         ensures level { OnOk result ((W.sheet wr.new).indentation ≡ (W.sheet wr.old).indentation) }
     {
         let _ = cfg;
-        let before = self.note(Last::Closing);
+        let before = self.note(PreviousToken::Closing);
         let answer = wr.write_punct(None, ">");
         self.settle_noted(answer, before)
     }
@@ -164,7 +179,8 @@ impl LowerEmitter {
     #[inline(always)]
     #[tactic(auto, unfolding(crate::specs::Tags::close))]
     pub fn close<W: WriteJs>(&mut self, cfg: &Config, wr: &mut W) -> Answer
-        ensures items { Does close (state_of cfg.now (W.sheet wr.old) self.old) (state_of cfg.now (W.sheet wr.new) self.new) result }
+        ensures items { Does close (state_of cfg.now (W.sheet wr.old) self.old)
+            (state_of cfg.now (W.sheet wr.new) self.new) result }
         // The text reads as the tokens so far and this one, whatever follows that doesn't fuse.
         ensures reads { Adds (closing ∷ [])
             cfg.now (W.sheet wr.old) self.old (W.sheet wr.new) self.new result }

@@ -18,7 +18,7 @@ ghost use Rattle.swc_ecma_codegen_tokens.specs.Templates.{with_line_feeds, is_re
 ghost use Rattle.swc_ecma_codegen_tokens.specs.View.{state_of};
 
 use crate::LowerEmitter;
-use crate::last::Last;
+use crate::previous::PreviousToken;
 use crate::raws::is_ascii;
 use crate::starts::{StartClass, split_first_char};
 use std::alloc::{AllocError, Global};
@@ -49,7 +49,8 @@ fn begins_line_feed(text: &str) -> bool
 
 /// CR LF and CR as LF.
 fn with_line_feeds(alloc: Global, raw: &str) -> std::result::Result<String, AllocError>
-    ensures { IfOk result (λ text. string_bytes text ≡ encode_utf8_all (with_line_feeds (chars raw.now))) }
+    ensures { IfOk result (λ text. string_bytes text
+        ≡ encode_utf8_all (with_line_feeds (chars raw.now))) }
 {
     let mut text = String::with_capacity(alloc, raw.len())?;
     let mut rest = raw;
@@ -112,7 +113,9 @@ impl LowerEmitter {
     /// The call of the mark with which a part begins.
     #[inline(never)]
     fn put_begin<W: WriteJs>(&mut self, cfg: &Config, wr: &mut W, first: bool) -> Answer
-        ensures items { Does (step (Plain (Punct None (begin_of_part first)))) (state_of cfg.now (W.sheet wr.old) self.old) (state_of cfg.now (W.sheet wr.new) self.new) result }
+        ensures items { Does (step (Plain (Punct None (begin_of_part first))))
+            (state_of cfg.now (W.sheet wr.old) self.old)
+            (state_of cfg.now (W.sheet wr.new) self.new) result }
         ensures level { OnOk result ((W.sheet wr.new).indentation ≡ (W.sheet wr.old).indentation) }
         ensures fresh { OnOk result (self.new.failed ≡ false) }
     {
@@ -128,7 +131,9 @@ impl LowerEmitter {
     #[inline(never)]
     fn put_cooked<W: WriteJs>(&mut self, cfg: &Config, wr: &mut W, text: &str) -> Answer
         requires { self.old.failed ≡ false }
-        ensures items { Does (step (Plain (StrLit dummy_span text.now))) (state_of cfg.now (W.sheet wr.old) self.old) (state_of cfg.now (W.sheet wr.new) self.new) result }
+        ensures items { Does (step (Plain (StrLit dummy_span text.now)))
+            (state_of cfg.now (W.sheet wr.old) self.old)
+            (state_of cfg.now (W.sheet wr.new) self.new) result }
         ensures level { OnOk result ((W.sheet wr.new).indentation ≡ (W.sheet wr.old).indentation) }
         ensures fresh { OnOk result (self.new.failed ≡ false) }
     {
@@ -141,7 +146,9 @@ impl LowerEmitter {
     #[inline(never)]
     fn put_raw<W: WriteJs>(&mut self, cfg: &Config, wr: &mut W, text: &str) -> Answer
         requires { self.old.failed ≡ false }
-        ensures items { Does (step (Ends [] (StrLit dummy_span text.now))) (state_of cfg.now (W.sheet wr.old) self.old) (state_of cfg.now (W.sheet wr.new) self.new) result }
+        ensures items { Does (step (Ends [] (StrLit dummy_span text.now)))
+            (state_of cfg.now (W.sheet wr.old) self.old)
+            (state_of cfg.now (W.sheet wr.new) self.new) result }
         ensures level { OnOk result ((W.sheet wr.new).indentation ≡ (W.sheet wr.old).indentation) }
         ensures fresh { OnOk result (self.new.failed ≡ false) }
     {
@@ -161,14 +168,16 @@ impl LowerEmitter {
         text: &str,
     ) -> Answer
         requires { self.old.failed ≡ false }
-        ensures items { Does (closed first part text.now) (state_of cfg.now (W.sheet wr.old) self.old) (state_of cfg.now (W.sheet wr.new) self.new) result }
+        ensures items { Does (closed first part text.now)
+            (state_of cfg.now (W.sheet wr.old) self.old)
+            (state_of cfg.now (W.sheet wr.new) self.new) result }
         ensures level { OnOk result ((W.sheet wr.new).indentation ≡ (W.sheet wr.old).indentation) }
     {
         let _ = cfg;
         let _ = first;
         let _ = text;
         let answer = wr.write_punct(None, part_end(part));
-        self.settle(answer, Last::Whole)
+        self.settle(answer, PreviousToken::Whole)
     }
 
     /// Writes what stands inside of a part.
@@ -181,7 +190,8 @@ impl LowerEmitter {
         text: &str,
     ) -> Answer
         requires { self.old.failed ≡ false }
-        ensures items { Does (inside tagged text.now) (state_of cfg.now (W.sheet wr.old) self.old) (state_of cfg.now (W.sheet wr.new) self.new) result }
+        ensures items { Does (inside tagged text.now) (state_of cfg.now (W.sheet wr.old) self.old)
+            (state_of cfg.now (W.sheet wr.new) self.new) result }
         ensures level { OnOk result ((W.sheet wr.new).indentation ≡ (W.sheet wr.old).indentation) }
         ensures fresh { OnOk result (self.new.failed ≡ false) }
     {
@@ -203,7 +213,9 @@ impl LowerEmitter {
         text: &str,
     ) -> Answer
         requires { self.old.failed ≡ false }
-        ensures items { Does (placed_inside tagged span text.now) (state_of cfg.now (W.sheet wr.old) self.old) (state_of cfg.now (W.sheet wr.new) self.new) result }
+        ensures items { Does (placed_inside tagged span text.now)
+            (state_of cfg.now (W.sheet wr.old) self.old)
+            (state_of cfg.now (W.sheet wr.new) self.new) result }
         ensures level { OnOk result ((W.sheet wr.new).indentation ≡ (W.sheet wr.old).indentation) }
         ensures fresh { OnOk result (self.new.failed ≡ false) }
     {
@@ -224,7 +236,9 @@ impl LowerEmitter {
         span: Span,
         text: &str,
     ) -> Answer
-        ensures items { Does (part_by first part span text.now) (state_of cfg.now (W.sheet wr.old) self.old) (state_of cfg.now (W.sheet wr.new) self.new) result }
+        ensures items { Does (part_by first part span text.now)
+            (state_of cfg.now (W.sheet wr.old) self.old)
+            (state_of cfg.now (W.sheet wr.new) self.new) result }
         ensures level { OnOk result ((W.sheet wr.new).indentation ≡ (W.sheet wr.old).indentation) }
     {
         let begin = part_begin(first);
@@ -244,7 +258,9 @@ impl LowerEmitter {
         part: TemplatePart,
         n: &TplElement,
     ) -> Answer
-        ensures items { Does (cooked_part first part n.now) (state_of cfg.now (W.sheet wr.old) self.old) (state_of cfg.now (W.sheet wr.new) self.new) result }
+        ensures items { Does (cooked_part first part n.now)
+            (state_of cfg.now (W.sheet wr.old) self.old)
+            (state_of cfg.now (W.sheet wr.new) self.new) result }
         ensures level { OnOk result ((W.sheet wr.new).indentation ≡ (W.sheet wr.old).indentation) }
     {
         if self.failed {
@@ -270,7 +286,9 @@ impl LowerEmitter {
         part: TemplatePart,
         n: &TplElement,
     ) -> Answer
-        ensures items { Does (tpl_element first part n.now) (state_of cfg.now (W.sheet wr.old) self.old) (state_of cfg.now (W.sheet wr.new) self.new) result }
+        ensures items { Does (tpl_element first part n.now)
+            (state_of cfg.now (W.sheet wr.old) self.old)
+            (state_of cfg.now (W.sheet wr.new) self.new) result }
         // The whole part reads as one token: `a${` of `` `a${b}` ``, whatever stands inside.
         ensures reads { AddsList (phrases.tpl_element first part n.now)
             cfg.now (W.sheet wr.old) self.old (W.sheet wr.new) self.new result }

@@ -14,7 +14,7 @@ ghost use Rattle.swc_ecma_codegen_text_writer.specs.Sheet.{Semi, Keyword, Operat
 ghost use Rattle.swc_ecma_codegen_grammar.specs.GapRules.{fuses};
 ghost use Rattle.swc_ecma_codegen_grammar.specs.declared.kinds.Kind.TheVariants as kind;
 ghost use Rattle.swc_ecma_codegen_grammar.specs.Tokens as lexical;
-ghost use Rattle.swc_ecma_codegen_tokens.specs.Last.{last_at};
+ghost use Rattle.swc_ecma_codegen_tokens.specs.PreviousToken.{last_at};
 ghost use Rattle.swc_ecma_codegen_tokens.specs.Run.{Does, step, Guard, Token, Plain};
 ghost use Rattle.swc_ecma_codegen_tokens.specs.Words.{keyword, operator, operator_between, punct_between, word_operator, punct, placed_punct, semi, space, formatting_space, formatting_line, line_end, commit_pending_semi, position, position_before};
 ghost use Rattle.swc_ecma_codegen_tokens.specs.Written.{IsWord};
@@ -23,7 +23,7 @@ ghost use Rattle.swc_ecma_codegen_tokens.specs.View.{state_of};
 
 use crate::LowerEmitter;
 use crate::guard::{blank_due_after, row};
-use crate::last::Last;
+use crate::previous::PreviousToken;
 use crate::starts::StartClass;
 use std::mem::replace;
 use std::snapshot::Snapshot;
@@ -61,10 +61,12 @@ impl LowerEmitter {
     }
 
     /// What a call of the writer answered is noted, with the last token, and passed on in short.
-    pub(crate) fn settle(&mut self, answer: Result, last: Last) -> Answer
+    pub(crate) fn settle(&mut self, answer: Result, last: PreviousToken) -> Answer
         ensures same { result ≡ in_short answer }
-        ensures ok { OnOk result ((self.new.token.value ≡ last) × (self.new.failed ≡ self.old.failed)) }
-        ensures err { OnErr result ((self.new.token.value ≡ self.old.token.value) × (self.new.failed ≡ true)) }
+        ensures ok { OnOk result ((self.new.token.value ≡ last)
+            × (self.new.failed ≡ self.old.failed)) }
+        ensures err { OnErr result ((self.new.token.value ≡ self.old.token.value)
+            × (self.new.failed ≡ true)) }
     {
         self.keep(answer)?;
         self.last = last.class();
@@ -75,7 +77,7 @@ impl LowerEmitter {
 
     /// Notes the last token ahead of the call that writes it, so that nothing of it is kept over that call, and answers which one
     /// it was before.
-    pub(crate) fn note(&mut self, last: Last) -> Snapshot<Last>
+    pub(crate) fn note(&mut self, last: PreviousToken) -> Snapshot<PreviousToken>
         ensures before { result.value ≡ self.old.token.value }
         ensures token { self.new.token.value ≡ last }
         ensures failed { self.new.failed ≡ self.old.failed }
@@ -86,10 +88,12 @@ impl LowerEmitter {
     }
 
     /// What a call of the writer answered whose token was noted ahead is passed on in short: a refused one wrote no token.
-    pub(crate) fn settle_noted(&mut self, answer: Result, before: Snapshot<Last>) -> Answer
+    pub(crate) fn settle_noted(&mut self, answer: Result, before: Snapshot<PreviousToken>) -> Answer
         ensures same { result ≡ in_short answer }
-        ensures ok { OnOk result ((self.new.token.value ≡ self.old.token.value) × (self.new.failed ≡ self.old.failed)) }
-        ensures err { OnErr result ((self.new.token.value ≡ before.value) × (self.new.failed ≡ true)) }
+        ensures ok { OnOk result ((self.new.token.value ≡ self.old.token.value)
+            × (self.new.failed ≡ self.old.failed)) }
+        ensures err { OnErr result ((self.new.token.value ≡ before.value)
+            × (self.new.failed ≡ true)) }
     {
         match answer {
             Ok(()) => Ok(()),
@@ -100,7 +104,7 @@ impl LowerEmitter {
     /// Notes the error that a call of the writer was refused with, whose token was noted ahead, and says it in short.
     #[cold]
     #[inline(never)]
-    fn give_up_noted(&mut self, error: Error, before: Snapshot<Last>) -> Refusal
+    fn give_up_noted(&mut self, error: Error, before: Snapshot<PreviousToken>) -> Refusal
         ensures same { result ≡ reason_of error }
         ensures token { self.new.token.value ≡ before.value }
         ensures failed { self.new.failed ≡ true }
@@ -134,7 +138,8 @@ impl LowerEmitter {
         next: StartClass,
     ) -> Answer
         requires { start_class (chars text.now) ≡ next }
-        ensures items { Does (step (Guard text.now)) (state_of cfg.now (W.sheet wr.old) self.old) (state_of cfg.now (W.sheet wr.new) self.new) result }
+        ensures items { Does (step (Guard text.now)) (state_of cfg.now (W.sheet wr.old) self.old)
+            (state_of cfg.now (W.sheet wr.new) self.new) result }
         ensures level { OnOk result ((W.sheet wr.new).indentation ≡ (W.sheet wr.old).indentation) }
         ensures fresh { OnOk result (self.new.failed ≡ false) }
     {
@@ -152,14 +157,15 @@ impl LowerEmitter {
     fn put_blank<W: WriteJs>(&mut self, cfg: &Config, wr: &mut W, text: &str) -> Answer
         requires unfailed { self.old.failed ≡ false }
         requires due { fuses (last_at self.old.token.value) (chars text.now) ≡ true }
-        ensures items { Does (step (Guard text.now)) (state_of cfg.now (W.sheet wr.old) self.old) (state_of cfg.now (W.sheet wr.new) self.new) result }
+        ensures items { Does (step (Guard text.now)) (state_of cfg.now (W.sheet wr.old) self.old)
+            (state_of cfg.now (W.sheet wr.new) self.new) result }
         ensures level { OnOk result ((W.sheet wr.new).indentation ≡ (W.sheet wr.old).indentation) }
         ensures fresh { OnOk result (self.new.failed ≡ false) }
     {
         let _ = cfg;
         let _ = text;
         let answer = wr.write_space();
-        self.settle(answer, Last::Apart)
+        self.settle(answer, PreviousToken::Separated)
     }
 
     /// The same before a punctuator.
@@ -169,7 +175,9 @@ impl LowerEmitter {
         wr: &mut W,
         mark: Punctuator,
     ) -> Answer
-        ensures items { Does (step (Guard (spelling mark))) (state_of cfg.now (W.sheet wr.old) self.old) (state_of cfg.now (W.sheet wr.new) self.new) result }
+        ensures items { Does (step (Guard (spelling mark)))
+            (state_of cfg.now (W.sheet wr.old) self.old)
+            (state_of cfg.now (W.sheet wr.new) self.new) result }
         ensures level { OnOk result ((W.sheet wr.new).indentation ≡ (W.sheet wr.old).indentation) }
         ensures fresh { OnOk result (self.new.failed ≡ false) }
     {
@@ -180,7 +188,8 @@ impl LowerEmitter {
     #[tactic(auto, using(crate::proofs::Starting::letter_start))]
     fn guard_word<W: WriteJs>(&mut self, cfg: &Config, wr: &mut W, word: &'static str) -> Answer
         requires { begins_letter word.now ≡ true }
-        ensures items { Does (step (Guard word.now)) (state_of cfg.now (W.sheet wr.old) self.old) (state_of cfg.now (W.sheet wr.new) self.new) result }
+        ensures items { Does (step (Guard word.now)) (state_of cfg.now (W.sheet wr.old) self.old)
+            (state_of cfg.now (W.sheet wr.new) self.new) result }
         ensures level { OnOk result ((W.sheet wr.new).indentation ≡ (W.sheet wr.old).indentation) }
         ensures fresh { OnOk result (self.new.failed ≡ false) }
     {
@@ -197,11 +206,13 @@ impl LowerEmitter {
         text: &'static str,
     ) -> Answer
         requires { self.old.failed ≡ false }
-        ensures items { Does (step (Token kind.Word (Keyword span text.now))) (state_of cfg.now (W.sheet wr.old) self.old) (state_of cfg.now (W.sheet wr.new) self.new) result }
+        ensures items { Does (step (Token kind.Word (Keyword span text.now)))
+            (state_of cfg.now (W.sheet wr.old) self.old)
+            (state_of cfg.now (W.sheet wr.new) self.new) result }
         ensures level { OnOk result ((W.sheet wr.new).indentation ≡ (W.sheet wr.old).indentation) }
     {
         let _ = cfg;
-        let before = self.note(Last::WordEnd);
+        let before = self.note(PreviousToken::WordEnd);
         let answer = wr.write_keyword(span, text);
         self.settle_noted(answer, before)
     }
@@ -210,11 +221,13 @@ impl LowerEmitter {
     #[inline(always)]
     fn put_operator<W: WriteJs>(&mut self, cfg: &Config, wr: &mut W, mark: Punctuator) -> Answer
         requires { self.old.failed ≡ false }
-        ensures items { Does (step (Token kind.Punctuator (Operator None (spelling mark)))) (state_of cfg.now (W.sheet wr.old) self.old) (state_of cfg.now (W.sheet wr.new) self.new) result }
+        ensures items { Does (step (Token kind.Punctuator (Operator None (spelling mark))))
+            (state_of cfg.now (W.sheet wr.old) self.old)
+            (state_of cfg.now (W.sheet wr.new) self.new) result }
         ensures level { OnOk result ((W.sheet wr.new).indentation ≡ (W.sheet wr.old).indentation) }
     {
         let _ = cfg;
-        let last = Last::after(self.last, mark);
+        let last = PreviousToken::after(self.last, mark);
         let before = self.note(last);
         let answer = wr.write_operator(None, mark.as_str());
         self.settle_noted(answer, before)
@@ -229,11 +242,13 @@ impl LowerEmitter {
         text: &'static str,
     ) -> Answer
         requires { self.old.failed ≡ false }
-        ensures items { Does (step (Token kind.Word (Operator None text.now))) (state_of cfg.now (W.sheet wr.old) self.old) (state_of cfg.now (W.sheet wr.new) self.new) result }
+        ensures items { Does (step (Token kind.Word (Operator None text.now)))
+            (state_of cfg.now (W.sheet wr.old) self.old)
+            (state_of cfg.now (W.sheet wr.new) self.new) result }
         ensures level { OnOk result ((W.sheet wr.new).indentation ≡ (W.sheet wr.old).indentation) }
     {
         let _ = cfg;
-        let before = self.note(Last::WordEnd);
+        let before = self.note(PreviousToken::WordEnd);
         let answer = wr.write_operator(None, text);
         self.settle_noted(answer, before)
     }
@@ -248,11 +263,13 @@ impl LowerEmitter {
         mark: Punctuator,
     ) -> Answer
         requires { self.old.failed ≡ false }
-        ensures items { Does (step (Token kind.Punctuator (Punct span (spelling mark)))) (state_of cfg.now (W.sheet wr.old) self.old) (state_of cfg.now (W.sheet wr.new) self.new) result }
+        ensures items { Does (step (Token kind.Punctuator (Punct span (spelling mark))))
+            (state_of cfg.now (W.sheet wr.old) self.old)
+            (state_of cfg.now (W.sheet wr.new) self.new) result }
         ensures level { OnOk result ((W.sheet wr.new).indentation ≡ (W.sheet wr.old).indentation) }
     {
         let _ = cfg;
-        let last = Last::after(self.last, mark);
+        let last = PreviousToken::after(self.last, mark);
         let before = self.note(last);
         let answer = wr.write_punct(span, mark.as_str());
         self.settle_noted(answer, before)
@@ -262,11 +279,13 @@ impl LowerEmitter {
     #[inline(always)]
     fn put_semi<W: WriteJs>(&mut self, cfg: &Config, wr: &mut W) -> Answer
         requires { self.old.failed ≡ false }
-        ensures items { Does (step (Token kind.Ending (Semi None))) (state_of cfg.now (W.sheet wr.old) self.old) (state_of cfg.now (W.sheet wr.new) self.new) result }
+        ensures items { Does (step (Token kind.Ending (Semi None)))
+            (state_of cfg.now (W.sheet wr.old) self.old)
+            (state_of cfg.now (W.sheet wr.new) self.new) result }
         ensures level { OnOk result ((W.sheet wr.new).indentation ≡ (W.sheet wr.old).indentation) }
     {
         let _ = cfg;
-        let last = Last::after(self.last, Punctuator::Semicolon);
+        let last = PreviousToken::after(self.last, Punctuator::Semicolon);
         let before = self.note(last);
         let answer = wr.write_semi(None);
         self.settle_noted(answer, before)
@@ -276,11 +295,13 @@ impl LowerEmitter {
     #[inline(always)]
     pub(crate) fn put_symbol<W: WriteJs>(&mut self, cfg: &Config, wr: &mut W, text: &str) -> Answer
         requires { self.old.failed ≡ false }
-        ensures items { Does (step (Token kind.Name (Symbol dummy_span text.now))) (state_of cfg.now (W.sheet wr.old) self.old) (state_of cfg.now (W.sheet wr.new) self.new) result }
+        ensures items { Does (step (Token kind.Name (Symbol dummy_span text.now)))
+            (state_of cfg.now (W.sheet wr.old) self.old)
+            (state_of cfg.now (W.sheet wr.new) self.new) result }
         ensures level { OnOk result ((W.sheet wr.new).indentation ≡ (W.sheet wr.old).indentation) }
     {
         let _ = cfg;
-        let before = self.note(Last::WordEnd);
+        let before = self.note(PreviousToken::WordEnd);
         let answer = wr.write_symbol(DUMMY_SP, text);
         self.settle_noted(answer, before)
     }
@@ -295,7 +316,8 @@ impl LowerEmitter {
         word: &'static str,
     ) -> Answer
         requires { begins_letter word.now ≡ true }
-        ensures items { Does (keyword span word.now) (state_of cfg.now (W.sheet wr.old) self.old) (state_of cfg.now (W.sheet wr.new) self.new) result }
+        ensures items { Does (keyword span word.now) (state_of cfg.now (W.sheet wr.old) self.old)
+            (state_of cfg.now (W.sheet wr.new) self.new) result }
         // The text reads as the tokens so far and this one, whatever follows that doesn't fuse.
         ensures reads { IsWord word.now → Adds (lexical.word word.now ∷ [])
             cfg.now (W.sheet wr.old) self.old (W.sheet wr.new) self.new result }
@@ -317,7 +339,8 @@ impl LowerEmitter {
         word: &'static str,
     ) -> Answer
         requires { begins_letter word.now ≡ true }
-        ensures items { Does (keyword span word.now) (state_of cfg.now (W.sheet wr.old) self.old) (state_of cfg.now (W.sheet wr.new) self.new) result }
+        ensures items { Does (keyword span word.now) (state_of cfg.now (W.sheet wr.old) self.old)
+            (state_of cfg.now (W.sheet wr.new) self.new) result }
         ensures reads { IsWord word.now → Adds (lexical.word word.now ∷ [])
             cfg.now (W.sheet wr.old) self.old (W.sheet wr.new) self.new result }
         ensures level { OnOk result ((W.sheet wr.new).indentation ≡ (W.sheet wr.old).indentation) }
@@ -336,7 +359,8 @@ impl LowerEmitter {
         word: &'static str,
     ) -> Answer
         requires { begins_letter word.now ≡ true }
-        ensures items { Does (keyword span word.now) (state_of cfg.now (W.sheet wr.old) self.old) (state_of cfg.now (W.sheet wr.new) self.new) result }
+        ensures items { Does (keyword span word.now) (state_of cfg.now (W.sheet wr.old) self.old)
+            (state_of cfg.now (W.sheet wr.new) self.new) result }
         ensures reads { IsWord word.now → Adds (lexical.word word.now ∷ [])
             cfg.now (W.sheet wr.old) self.old (W.sheet wr.new) self.new result }
         ensures level { OnOk result ((W.sheet wr.new).indentation ≡ (W.sheet wr.old).indentation) }
@@ -349,7 +373,8 @@ impl LowerEmitter {
     /// Writes an operator that is a punctuator.
     #[inline(always)]
     pub fn operator<W: WriteJs>(&mut self, cfg: &Config, wr: &mut W, mark: Punctuator) -> Answer
-        ensures items { Does (operator (spelling mark)) (state_of cfg.now (W.sheet wr.old) self.old) (state_of cfg.now (W.sheet wr.new) self.new) result }
+        ensures items { Does (operator (spelling mark)) (state_of cfg.now (W.sheet wr.old) self.old)
+            (state_of cfg.now (W.sheet wr.new) self.new) result }
         // The text reads as the tokens so far and this one, whatever follows that doesn't fuse.
         ensures reads { Adds (lexical.punctuator (spelling mark) ∷ [])
             cfg.now (W.sheet wr.old) self.old (W.sheet wr.new) self.new result }
@@ -364,7 +389,8 @@ impl LowerEmitter {
     /// The same in a function of its own: a token that goes the shortest way takes fewer registers.
     #[inline(never)]
     fn operator_apart<W: WriteJs>(&mut self, cfg: &Config, wr: &mut W, mark: Punctuator) -> Answer
-        ensures items { Does (operator (spelling mark)) (state_of cfg.now (W.sheet wr.old) self.old) (state_of cfg.now (W.sheet wr.new) self.new) result }
+        ensures items { Does (operator (spelling mark)) (state_of cfg.now (W.sheet wr.old) self.old)
+            (state_of cfg.now (W.sheet wr.new) self.new) result }
         ensures reads { Adds (lexical.punctuator (spelling mark) ∷ [])
             cfg.now (W.sheet wr.old) self.old (W.sheet wr.new) self.new result }
         ensures level { OnOk result ((W.sheet wr.new).indentation ≡ (W.sheet wr.old).indentation) }
@@ -376,7 +402,8 @@ impl LowerEmitter {
     #[inline(always)]
     #[tactic(auto, unfolding(crate::specs::Words::operator))]
     fn operator_here<W: WriteJs>(&mut self, cfg: &Config, wr: &mut W, mark: Punctuator) -> Answer
-        ensures items { Does (operator (spelling mark)) (state_of cfg.now (W.sheet wr.old) self.old) (state_of cfg.now (W.sheet wr.new) self.new) result }
+        ensures items { Does (operator (spelling mark)) (state_of cfg.now (W.sheet wr.old) self.old)
+            (state_of cfg.now (W.sheet wr.new) self.new) result }
         ensures reads { Adds (lexical.punctuator (spelling mark) ∷ [])
             cfg.now (W.sheet wr.old) self.old (W.sheet wr.new) self.new result }
         ensures level { OnOk result ((W.sheet wr.new).indentation ≡ (W.sheet wr.old).indentation) }
@@ -396,7 +423,8 @@ impl LowerEmitter {
         text: &'static str,
     ) -> Answer
         requires { begins_letter text.now ≡ true }
-        ensures items { Does (word_operator text.now) (state_of cfg.now (W.sheet wr.old) self.old) (state_of cfg.now (W.sheet wr.new) self.new) result }
+        ensures items { Does (word_operator text.now) (state_of cfg.now (W.sheet wr.old) self.old)
+            (state_of cfg.now (W.sheet wr.new) self.new) result }
         // The text reads as the tokens so far and this one, whatever follows that doesn't fuse.
         ensures reads { IsWord text.now → Adds (lexical.word text.now ∷ [])
             cfg.now (W.sheet wr.old) self.old (W.sheet wr.new) self.new result }
@@ -410,7 +438,8 @@ impl LowerEmitter {
     /// Writes a punctuator.
     #[inline(always)]
     pub fn punct<W: WriteJs>(&mut self, cfg: &Config, wr: &mut W, mark: Punctuator) -> Answer
-        ensures items { Does (punct (spelling mark)) (state_of cfg.now (W.sheet wr.old) self.old) (state_of cfg.now (W.sheet wr.new) self.new) result }
+        ensures items { Does (punct (spelling mark)) (state_of cfg.now (W.sheet wr.old) self.old)
+            (state_of cfg.now (W.sheet wr.new) self.new) result }
         // The text reads as the tokens so far and this one, whatever follows that doesn't fuse.
         ensures reads { Adds (lexical.punctuator (spelling mark) ∷ [])
             cfg.now (W.sheet wr.old) self.old (W.sheet wr.new) self.new result }
@@ -430,7 +459,8 @@ impl LowerEmitter {
         wr: &mut W,
         mark: Punctuator,
     ) -> Answer
-        ensures items { Does (punct (spelling mark)) (state_of cfg.now (W.sheet wr.old) self.old) (state_of cfg.now (W.sheet wr.new) self.new) result }
+        ensures items { Does (punct (spelling mark)) (state_of cfg.now (W.sheet wr.old) self.old)
+            (state_of cfg.now (W.sheet wr.new) self.new) result }
         ensures reads { Adds (lexical.punctuator (spelling mark) ∷ [])
             cfg.now (W.sheet wr.old) self.old (W.sheet wr.new) self.new result }
         ensures level { OnOk result ((W.sheet wr.new).indentation ≡ (W.sheet wr.old).indentation) }
@@ -442,7 +472,8 @@ impl LowerEmitter {
     #[inline(always)]
     #[tactic(auto, unfolding(crate::specs::Words::punct))]
     fn punct_here<W: WriteJs>(&mut self, cfg: &Config, wr: &mut W, mark: Punctuator) -> Answer
-        ensures items { Does (punct (spelling mark)) (state_of cfg.now (W.sheet wr.old) self.old) (state_of cfg.now (W.sheet wr.new) self.new) result }
+        ensures items { Does (punct (spelling mark)) (state_of cfg.now (W.sheet wr.old) self.old)
+            (state_of cfg.now (W.sheet wr.new) self.new) result }
         ensures reads { Adds (lexical.punctuator (spelling mark) ∷ [])
             cfg.now (W.sheet wr.old) self.old (W.sheet wr.new) self.new result }
         ensures level { OnOk result ((W.sheet wr.new).indentation ≡ (W.sheet wr.old).indentation) }
@@ -462,7 +493,9 @@ impl LowerEmitter {
         span: Span,
         mark: Punctuator,
     ) -> Answer
-        ensures items { Does (placed_punct span (spelling mark)) (state_of cfg.now (W.sheet wr.old) self.old) (state_of cfg.now (W.sheet wr.new) self.new) result }
+        ensures items { Does (placed_punct span (spelling mark))
+            (state_of cfg.now (W.sheet wr.old) self.old)
+            (state_of cfg.now (W.sheet wr.new) self.new) result }
         ensures reads { Adds (lexical.punctuator (spelling mark) ∷ [])
             cfg.now (W.sheet wr.old) self.old (W.sheet wr.new) self.new result }
         ensures level { OnOk result ((W.sheet wr.new).indentation ≡ (W.sheet wr.old).indentation) }
@@ -475,7 +508,8 @@ impl LowerEmitter {
     /// Writes a semicolon that may be left out where it isn't needed.
     #[inline(always)]
     pub fn semi<W: WriteJs>(&mut self, cfg: &Config, wr: &mut W) -> Answer
-        ensures items { Does (semi) (state_of cfg.now (W.sheet wr.old) self.old) (state_of cfg.now (W.sheet wr.new) self.new) result }
+        ensures items { Does (semi) (state_of cfg.now (W.sheet wr.old) self.old)
+            (state_of cfg.now (W.sheet wr.new) self.new) result }
         // The text reads as the tokens so far and this one, whatever follows that doesn't fuse.
         ensures reads { Adds (lexical.ending ∷ [])
             cfg.now (W.sheet wr.old) self.old (W.sheet wr.new) self.new result }
@@ -490,7 +524,8 @@ impl LowerEmitter {
     /// The same in a function of its own: a token that goes the shortest way takes fewer registers.
     #[inline(never)]
     fn semi_apart<W: WriteJs>(&mut self, cfg: &Config, wr: &mut W) -> Answer
-        ensures items { Does (semi) (state_of cfg.now (W.sheet wr.old) self.old) (state_of cfg.now (W.sheet wr.new) self.new) result }
+        ensures items { Does (semi) (state_of cfg.now (W.sheet wr.old) self.old)
+            (state_of cfg.now (W.sheet wr.new) self.new) result }
         ensures reads { Adds (lexical.ending ∷ [])
             cfg.now (W.sheet wr.old) self.old (W.sheet wr.new) self.new result }
         ensures level { OnOk result ((W.sheet wr.new).indentation ≡ (W.sheet wr.old).indentation) }
@@ -502,7 +537,8 @@ impl LowerEmitter {
     #[inline(always)]
     #[tactic(auto, unfolding(crate::specs::Words::semi))]
     fn semi_here<W: WriteJs>(&mut self, cfg: &Config, wr: &mut W) -> Answer
-        ensures items { Does (semi) (state_of cfg.now (W.sheet wr.old) self.old) (state_of cfg.now (W.sheet wr.new) self.new) result }
+        ensures items { Does (semi) (state_of cfg.now (W.sheet wr.old) self.old)
+            (state_of cfg.now (W.sheet wr.new) self.new) result }
         ensures reads { Adds (lexical.ending ∷ [])
             cfg.now (W.sheet wr.old) self.old (W.sheet wr.new) self.new result }
         ensures level { OnOk result ((W.sheet wr.new).indentation ≡ (W.sheet wr.old).indentation) }
@@ -515,7 +551,8 @@ impl LowerEmitter {
     /// Writes a blank.
     #[inline(never)]
     pub fn space<W: WriteJs>(&mut self, cfg: &Config, wr: &mut W) -> Answer
-        ensures items { Does (space) (state_of cfg.now (W.sheet wr.old) self.old) (state_of cfg.now (W.sheet wr.new) self.new) result }
+        ensures items { Does (space) (state_of cfg.now (W.sheet wr.old) self.old)
+            (state_of cfg.now (W.sheet wr.new) self.new) result }
         ensures level { OnOk result ((W.sheet wr.new).indentation ≡ (W.sheet wr.old).indentation) }
     {
         self.space_here(cfg, wr)
@@ -524,14 +561,15 @@ impl LowerEmitter {
     /// The same, where it is called.
     #[inline(always)]
     fn space_here<W: WriteJs>(&mut self, cfg: &Config, wr: &mut W) -> Answer
-        ensures items { Does (space) (state_of cfg.now (W.sheet wr.old) self.old) (state_of cfg.now (W.sheet wr.new) self.new) result }
+        ensures items { Does (space) (state_of cfg.now (W.sheet wr.old) self.old)
+            (state_of cfg.now (W.sheet wr.new) self.new) result }
         ensures level { OnOk result ((W.sheet wr.new).indentation ≡ (W.sheet wr.old).indentation) }
     {
         let _ = cfg;
         if self.failed {
             return Err(Refusal::Failed);
         }
-        let before = self.note(Last::Apart);
+        let before = self.note(PreviousToken::Separated);
         let answer = wr.write_space();
         self.settle_noted(answer, before)
     }
@@ -545,7 +583,9 @@ impl LowerEmitter {
         wr: &mut W,
         mark: Punctuator,
     ) -> Answer
-        ensures items { Does (operator_between (spelling mark)) (state_of cfg.now (W.sheet wr.old) self.old) (state_of cfg.now (W.sheet wr.new) self.new) result }
+        ensures items { Does (operator_between (spelling mark))
+            (state_of cfg.now (W.sheet wr.old) self.old)
+            (state_of cfg.now (W.sheet wr.new) self.new) result }
         ensures reads { Adds (lexical.punctuator (spelling mark) ∷ [])
             cfg.now (W.sheet wr.old) self.old (W.sheet wr.new) self.new result }
         ensures level { OnOk result ((W.sheet wr.new).indentation ≡ (W.sheet wr.old).indentation) }
@@ -565,7 +605,9 @@ impl LowerEmitter {
         wr: &mut W,
         mark: Punctuator,
     ) -> Answer
-        ensures items { Does (punct_between (spelling mark)) (state_of cfg.now (W.sheet wr.old) self.old) (state_of cfg.now (W.sheet wr.new) self.new) result }
+        ensures items { Does (punct_between (spelling mark))
+            (state_of cfg.now (W.sheet wr.old) self.old)
+            (state_of cfg.now (W.sheet wr.new) self.new) result }
         ensures reads { Adds (lexical.punctuator (spelling mark) ∷ [])
             cfg.now (W.sheet wr.old) self.old (W.sheet wr.new) self.new result }
         ensures level { OnOk result ((W.sheet wr.new).indentation ≡ (W.sheet wr.old).indentation) }
@@ -579,14 +621,15 @@ impl LowerEmitter {
     /// Ends the line, unless at a line's start.
     #[inline(never)]
     pub fn line<W: WriteJs>(&mut self, cfg: &Config, wr: &mut W) -> Answer
-        ensures items { Does (line_end) (state_of cfg.now (W.sheet wr.old) self.old) (state_of cfg.now (W.sheet wr.new) self.new) result }
+        ensures items { Does (line_end) (state_of cfg.now (W.sheet wr.old) self.old)
+            (state_of cfg.now (W.sheet wr.new) self.new) result }
         ensures level { OnOk result ((W.sheet wr.new).indentation ≡ (W.sheet wr.old).indentation) }
     {
         let _ = cfg;
         if self.failed {
             return Err(Refusal::Failed);
         }
-        let before = self.note(Last::Apart);
+        let before = self.note(PreviousToken::Separated);
         let answer = wr.write_line();
         self.settle_noted(answer, before)
     }
@@ -594,7 +637,8 @@ impl LowerEmitter {
     /// Writes a semicolon that is held back.
     #[inline(never)]
     pub fn commit_pending_semi<W: WriteJs>(&mut self, cfg: &Config, wr: &mut W) -> Answer
-        ensures items { Does (commit_pending_semi) (state_of cfg.now (W.sheet wr.old) self.old) (state_of cfg.now (W.sheet wr.new) self.new) result }
+        ensures items { Does (commit_pending_semi) (state_of cfg.now (W.sheet wr.old) self.old)
+            (state_of cfg.now (W.sheet wr.new) self.new) result }
         ensures level { OnOk result ((W.sheet wr.new).indentation ≡ (W.sheet wr.old).indentation) }
     {
         self.put_pending_semi(cfg, wr)
@@ -603,7 +647,8 @@ impl LowerEmitter {
     /// The same, where it is called.
     #[inline(always)]
     pub(crate) fn put_pending_semi<W: WriteJs>(&mut self, cfg: &Config, wr: &mut W) -> Answer
-        ensures items { Does (commit_pending_semi) (state_of cfg.now (W.sheet wr.old) self.old) (state_of cfg.now (W.sheet wr.new) self.new) result }
+        ensures items { Does (commit_pending_semi) (state_of cfg.now (W.sheet wr.old) self.old)
+            (state_of cfg.now (W.sheet wr.new) self.new) result }
         ensures level { OnOk result ((W.sheet wr.new).indentation ≡ (W.sheet wr.old).indentation) }
     {
         let _ = cfg;
@@ -616,7 +661,9 @@ impl LowerEmitter {
 
     /// Records a position. A writer that keeps none isn't asked to.
     pub(crate) fn record<W: WriteJs>(&mut self, cfg: &Config, wr: &mut W, pos: BytePos) -> Answer
-        ensures items { Does (step (Plain (Position pos))) (state_of cfg.now (W.sheet wr.old) self.old) (state_of cfg.now (W.sheet wr.new) self.new) result }
+        ensures items { Does (step (Plain (Position pos)))
+            (state_of cfg.now (W.sheet wr.old) self.old)
+            (state_of cfg.now (W.sheet wr.new) self.new) result }
         ensures level { OnOk result ((W.sheet wr.new).indentation ≡ (W.sheet wr.old).indentation) }
         ensures fresh { OnOk result (self.new.failed ≡ false) }
     {
@@ -633,7 +680,9 @@ impl LowerEmitter {
     #[inline(never)]
     fn put_position<W: WriteJs>(&mut self, cfg: &Config, wr: &mut W, pos: BytePos) -> Answer
         requires { self.old.failed ≡ false }
-        ensures items { Does (step (Plain (Position pos))) (state_of cfg.now (W.sheet wr.old) self.old) (state_of cfg.now (W.sheet wr.new) self.new) result }
+        ensures items { Does (step (Plain (Position pos)))
+            (state_of cfg.now (W.sheet wr.old) self.old)
+            (state_of cfg.now (W.sheet wr.new) self.new) result }
         ensures level { OnOk result ((W.sheet wr.new).indentation ≡ (W.sheet wr.old).indentation) }
         ensures fresh { OnOk result (self.new.failed ≡ false) }
     {
@@ -645,7 +694,8 @@ impl LowerEmitter {
     /// Writes a blank, unless the settings are to minify.
     #[tactic(auto, unfolding(crate::specs::Words::formatting_space), using(crate::proofs::Calls::skipped, crate::proofs::Calls::not_skipped))]
     pub fn formatting_space<W: WriteJs>(&mut self, cfg: &Config, wr: &mut W) -> Answer
-        ensures items { Does formatting_space (state_of cfg.now (W.sheet wr.old) self.old) (state_of cfg.now (W.sheet wr.new) self.new) result }
+        ensures items { Does formatting_space (state_of cfg.now (W.sheet wr.old) self.old)
+            (state_of cfg.now (W.sheet wr.new) self.new) result }
         ensures level { OnOk result ((W.sheet wr.new).indentation ≡ (W.sheet wr.old).indentation) }
     {
         if cfg.minify {
@@ -657,7 +707,8 @@ impl LowerEmitter {
     /// Ends the line, unless the settings are to minify.
     #[tactic(auto, unfolding(crate::specs::Words::formatting_line), using(crate::proofs::Calls::skipped, crate::proofs::Calls::not_skipped))]
     pub fn formatting_line<W: WriteJs>(&mut self, cfg: &Config, wr: &mut W) -> Answer
-        ensures items { Does formatting_line (state_of cfg.now (W.sheet wr.old) self.old) (state_of cfg.now (W.sheet wr.new) self.new) result }
+        ensures items { Does formatting_line (state_of cfg.now (W.sheet wr.old) self.old)
+            (state_of cfg.now (W.sheet wr.new) self.new) result }
         ensures level { OnOk result ((W.sheet wr.new).indentation ≡ (W.sheet wr.old).indentation) }
     {
         if cfg.minify {
@@ -669,7 +720,8 @@ impl LowerEmitter {
     /// Records a position, unless it is none.
     #[tactic(auto, unfolding(crate::specs::Words::position))]
     pub fn position<W: WriteJs>(&mut self, cfg: &Config, wr: &mut W, pos: BytePos) -> Answer
-        ensures items { Does (position pos) (state_of cfg.now (W.sheet wr.old) self.old) (state_of cfg.now (W.sheet wr.new) self.new) result }
+        ensures items { Does (position pos) (state_of cfg.now (W.sheet wr.old) self.old)
+            (state_of cfg.now (W.sheet wr.new) self.new) result }
         ensures level { OnOk result ((W.sheet wr.new).indentation ≡ (W.sheet wr.old).indentation) }
         ensures fresh { self.old.failed ≡ false → OnOk result (self.new.failed ≡ false) }
     {
@@ -682,7 +734,8 @@ impl LowerEmitter {
     /// Records the position before one, unless that one is none.
     #[tactic(auto, unfolding(crate::specs::Words::position_before))]
     pub fn position_before<W: WriteJs>(&mut self, cfg: &Config, wr: &mut W, pos: BytePos) -> Answer
-        ensures items { Does (position_before pos) (state_of cfg.now (W.sheet wr.old) self.old) (state_of cfg.now (W.sheet wr.new) self.new) result }
+        ensures items { Does (position_before pos) (state_of cfg.now (W.sheet wr.old) self.old)
+            (state_of cfg.now (W.sheet wr.new) self.new) result }
         ensures level { OnOk result ((W.sheet wr.new).indentation ≡ (W.sheet wr.old).indentation) }
     {
         if pos.0 == 0 {

@@ -1,7 +1,7 @@
 -- What a run writes.
 use Rattle.std.specs.Prelude.{◌≡◌, ℕ, Bool, true, false, List, [], Option}
 use Rattle.std.specs.Io.KnownBytes.{Appends}
-use Rattle.swc_ecma_codegen_text_writer.specs.Told.{IsFront}
+use Rattle.swc_ecma_codegen_text_writer.specs.Told.{IsPrefix}
 use Rattle.swc_ecma_codegen_tree.specs.declared.links.AnyNode.{AnyNode}
 use Rattle.swc_ecma_codegen_tree.specs.declared.programs.Program.{Program}
 use Rattle.swc_ecma_codegen_text_writer.specs.Sheet.{Sheet, HoldsNone}
@@ -50,7 +50,7 @@ AddsText options old new = (text : List ℕ) × IsText options text × Appends o
 
 -- a beginning of a text is added to it, which may be nothing
 abbrev pub AddsFront : List ℕ → Option (List ℕ) → Option (List ℕ) → Type 0
-AddsFront text old new = (front : List ℕ) × IsFront front text × Appends old new front
+AddsFront text old new = (front : List ℕ) × IsPrefix front text × Appends old new front
 
 -- a beginning of the text of one program is added to it
 abbrev pub AddsFrontOfText : Options → Option (List ℕ) → Option (List ℕ) → Type 0

@@ -46,17 +46,23 @@ pub fn run<R: Read, O: Write, E: Write>(
     err: &mut E,
 ) -> u8
     // The text of one program goes out, as the words ask for it.
-    ensures printed { result ≡ 0 → AddsText (options_of words.now) (O.contents out.old) (O.contents out.new) }
+    ensures printed { result ≡ 0 →
+        AddsText (options_of words.now) (O.contents out.old) (O.contents out.new) }
     ensures usage { are_options words.now ≡ false → result ≡ 2 }
     ensures no_usage { are_options words.now ≡ true → result ≢ 2 }
     // Wrong words leave `input` and `out` alone; a text that went out whole leaves `err` alone without `--positions`.
     ensures unread { are_options words.now ≡ false → (input.new ≡ input.old) × (out.new ≡ out.old) }
     ensures silent { result ≡ 0 → (options_of words.now).positions ≡ false → err.new ≡ err.old }
     // Otherwise `err` gets the line of a fault, or a beginning of it where it fails itself: that of wrong words for these, and else another.
-    ensures told_usage { result ≡ 2 → AddsFront (line_of Fault.Usage) (E.contents err.old) (E.contents err.new) }
-    ensures told { result ≡ 1 → (fault : AnyFault) × (fault ≢ Fault.Usage) × AddsFront (line_of fault) (E.contents err.old) (E.contents err.new) }
+    ensures told_usage { result ≡ 2 →
+        AddsFront (line_of Fault.Usage) (E.contents err.old) (E.contents err.new) }
+    ensures told { result ≡ 1 →
+        (fault : AnyFault) × (fault ≢ Fault.Usage) × AddsFront (line_of fault) (E.contents err.old)
+        (E.contents err.new) }
     // And `out` is as it was, or took a beginning of such a text and no more.
-    ensures begun { result ≢ 0 → (out.new ≡ out.old) ⊎ AddsFrontOfText (options_of words.now) (O.contents out.old) (O.contents out.new) }
+    ensures begun { result ≢ 0 →
+        (out.new ≡ out.old) ⊎ AddsFrontOfText (options_of words.now) (O.contents out.old)
+        (O.contents out.new) }
 {
     let options = match Options::of_words(words) {
         Ok(options) => options,
@@ -76,8 +82,10 @@ pub fn run<R: Read, O: Write, E: Write>(
 /// The answer where the words can't be had, by the error that says why. The status is 1 for want of memory, with
 /// `refused: memory` to `err`; else a word isn't UTF-8, and so is a wrong word: the status is 2.
 pub fn refuse_words<E: Write>(error: &io::Error, err: &mut E) -> u8
-    ensures memory { error_kind error.now ≡ ErrorKind.OutOfMemory → (result ≡ 1) × AddsFront (line_of Fault.Memory) (E.contents err.old) (E.contents err.new) }
-    ensures usage { error_kind error.now ≢ ErrorKind.OutOfMemory → (result ≡ 2) × AddsFront (line_of Fault.Usage) (E.contents err.old) (E.contents err.new) }
+    ensures memory { error_kind error.now ≡ ErrorKind.OutOfMemory →
+        (result ≡ 1) × AddsFront (line_of Fault.Memory) (E.contents err.old) (E.contents err.new) }
+    ensures usage { error_kind error.now ≢ ErrorKind.OutOfMemory →
+        (result ≡ 2) × AddsFront (line_of Fault.Usage) (E.contents err.old) (E.contents err.new) }
 {
     match error.kind() {
         ErrorKind::OutOfMemory => tell(Fault::Memory, err),
@@ -111,7 +119,8 @@ fn print<R: Read, O: Write>(
 ) -> Result<Vec<(BytePos, LineCol)>, Fault>
     ensures printed { OnOk result (AddsText options (O.contents out.old) (O.contents out.new)) }
     ensures no_usage { result ≢ Err Fault.Usage }
-    ensures begun { OnErr result ((out.new ≡ out.old) ⊎ AddsFrontOfText options (O.contents out.old) (O.contents out.new)) }
+    ensures begun { OnErr result ((out.new ≡ out.old)
+        ⊎ AddsFrontOfText options (O.contents out.old) (O.contents out.new)) }
 {
     let bytes = read_bytes(alloc, input)?;
     let program = program_from_slice(alloc, bytes.as_slice()).map_err(Fault::of_reading)?;
@@ -153,7 +162,8 @@ fn send<O: Write>(text: &[u8], out: &mut O) -> Result<(), Fault>
 /// Writes a beginning of some bytes, and says how long it is. A call that was interrupted is a fault, as any other.
 #[tactic(auto, using(crate::proofs::Kept::kept_appends))]
 fn write_some<O: Write>(bytes: &[u8], out: &mut O) -> Result<usize, Fault>
-    ensures taken { IfOk result (λ n. (n ≤ length bytes.now) × Appends (O.contents out.old) (O.contents out.new) (take n bytes.now)) }
+    ensures taken { IfOk result (λ n. (n ≤ length bytes.now)
+        × Appends (O.contents out.old) (O.contents out.new) (take n bytes.now)) }
     ensures kept { OnErr result (Appends (O.contents out.old) (O.contents out.new) []) }
     ensures no_usage { result ≢ Err Fault.Usage }
 {

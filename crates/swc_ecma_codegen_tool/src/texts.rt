@@ -74,8 +74,11 @@ fn printed_on<P: Node, W: WriteJs + Drop>(
     tree: &P,
     wr: W,
 ) -> Result<W, Fault>
-    ensures sheet { IfOk result (λ w. W.sheet w ≡ (printed (P.part tree.now) (start no_lines no_maps config (W.sheet wr))).sheet) }
-    ensures cause { IfErr result (λ fault. (ended : State) × EndsWithFault (P.part tree.now) (start no_lines no_maps config (W.sheet wr)) ended fault) }
+    ensures sheet { IfOk result (λ w. W.sheet w
+        ≡ (printed (P.part tree.now) (start no_lines no_maps config (W.sheet wr))).sheet) }
+    ensures cause { IfErr result (λ fault. (ended : State)
+        × EndsWithFault (P.part tree.now) (start no_lines no_maps config (W.sheet wr)) ended
+        fault) }
     ensures no_usage { result ≢ Err Fault.Usage }
 {
     let mut emitter = Emitter::new(alloc, config, &NoSource, None::<CommentMaps>, wr);
@@ -91,8 +94,10 @@ fn print_by<P: Node, W: WriteJs, S: SourceMapper, C: Comments>(
     tree: &P,
     e: &mut Emitter<'_, W, S, C>,
 ) -> Result<(), Fault>
-    ensures sheet { OnOk result (W.sheet e.new.wr ≡ (printed (P.part tree.now) (state_of S.lines C.maps W.sheet e.old)).sheet) }
-    ensures cause { IfErr result (EndsWithFault (P.part tree.now) (state_of S.lines C.maps W.sheet e.old) (state_of S.lines C.maps W.sheet e.new)) }
+    ensures sheet { OnOk result (W.sheet e.new.wr
+        ≡ (printed (P.part tree.now) (state_of S.lines C.maps W.sheet e.old)).sheet) }
+    ensures cause { IfErr result (EndsWithFault (P.part tree.now)
+        (state_of S.lines C.maps W.sheet e.old) (state_of S.lines C.maps W.sheet e.new)) }
     ensures no_usage { result ≢ Err Fault.Usage }
 {
     match tree.emit_with(e) {

@@ -11,7 +11,7 @@ use Rattle.swc_ecma_codegen_tree.specs.declared.parts.TsPart.{TsPart}
 use Rattle.swc_ecma_codegen_tree.specs.declared.exprs.Expr.{Expr}
 use Rattle.swc_ecma_codegen_tree.specs.declared.stmts.Stmt.{Stmt}
 use Rattle.swc_ecma_codegen_tree.specs.declared.exprs.MemberExpr.{MemberExpr}
-use Rattle.swc_ecma_codegen_tree.specs.Held.{sorted_at, sorted_in}
+use Rattle.swc_ecma_codegen_tree.specs.LinkTargets.{sorted_at, sorted_in}
 
 -- the node of a sum
 node_of : Sorted (Expr AnyNode) (Stmt AnyNode) (MemberExpr AnyNode) (ExprPart AnyNode) (StmtPart AnyNode) (JSXPart AnyNode) (TsPart AnyNode) → AnyNode-F AnyNode

@@ -1,5 +1,8 @@
 //! Declarations and functions.
 
+ghost use Rattle.std.specs.Prelude.{◌≡◌};
+ghost use Rattle.swc_ecma_codegen_tree.specs.Spellings.{declaration_word};
+
 use crate::idents::Ident;
 use crate::links::AnyNode;
 use crate::pats::Pat;
@@ -73,6 +76,20 @@ pub enum VarDeclKind {
     Let,
     /// `const` of `const a = 1;`
     Const,
+}
+
+impl VarDeclKind {
+    /// Its spelling: `let`.
+    #[tactic(auto, unfolding(crate::specs::Spellings::declaration_word))]
+    pub fn as_str(self) -> &'static str
+        ensures { result.now ≡ declaration_word self }
+    {
+        match self {
+            VarDeclKind::Var => "var",
+            VarDeclKind::Let => "let",
+            VarDeclKind::Const => "const",
+        }
+    }
 }
 
 /// `a = 1` of `let a = 1;`. ECMA-262, section 14.3.

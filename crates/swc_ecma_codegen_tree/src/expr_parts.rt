@@ -1,6 +1,6 @@
 //! How `ExprPart` holds its sorts.
 
-ghost use Rattle.swc_ecma_codegen_tree.specs.Held.{pat_in, tpl_in, object_lit_in, prop_name_in, opt_call_in, assign_target_in};
+ghost use Rattle.swc_ecma_codegen_tree.specs.LinkTargets.{pat_in, tpl_in, object_lit_in, prop_name_in, opt_call_in, assign_target_in};
 
 use crate::exprs::{ObjectLit, OptCall, PropName, Tpl};
 use crate::holds::Holds;

@@ -1,6 +1,6 @@
 //! How `JSXPart` holds its sorts.
 
-ghost use Rattle.swc_ecma_codegen_tree.specs.Held.{jsx_element_in, jsx_fragment_in, jsx_object_in};
+ghost use Rattle.swc_ecma_codegen_tree.specs.LinkTargets.{jsx_element_in, jsx_fragment_in, jsx_object_in};
 
 use crate::holds::Holds;
 use crate::jsx::{JSXElement, JSXFragment, JSXObject};

@@ -2,7 +2,7 @@
 
 ghost use Rattle.std.specs.Prelude.{◌≡◌, IfOk, Some};
 ghost use Rattle.std.specs.Option.{option_copied};
-ghost use Rattle.swc_ecma_codegen_tree.specs.Held.{sorted_in};
+ghost use Rattle.swc_ecma_codegen_tree.specs.LinkTargets.{sorted_in};
 ghost use Rattle.swc_ecma_codegen_tree.specs.SortsTell.{sorts_tell};
 
 use crate::drops::{
@@ -11,8 +11,8 @@ use crate::drops::{
 };
 use crate::exprs::{Expr, MemberExpr};
 use crate::holds::{Holds, hold_in_part, into_node_in_part, node_in_part};
-use crate::knot::{Knot, Shows};
 use crate::parts::{ExprPart, JSXPart, StmtPart, TsPart};
+use crate::recursion::{NodeUnion, Shows};
 use crate::sorts::LinkSort;
 use crate::stmts::Stmt;
 use crate::sums::{
@@ -36,7 +36,7 @@ impl<K, N: Drop> Drop for Link<K, N> {
 
 impl<K, N> Link<K, N> {
     /// What is held, whatever it is.
-    pub fn held(&self) -> &N
+    pub fn target(&self) -> &N
         ensures { result.now ≡ self.now.node.value }
     {
         &self.node
@@ -104,7 +104,7 @@ impl Drop for AnyNode {
     }
 }
 
-impl Knot for AnyNode {
+impl NodeUnion for AnyNode {
     type Sum = Sorted<
         Expr<AnyNode>,
         Stmt<AnyNode>,

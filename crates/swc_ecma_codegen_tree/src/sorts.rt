@@ -3,7 +3,7 @@
 ghost use Rattle.std.specs.Prelude.{◌≡◌, Option, refl};
 ghost use Rattle.std.specs.Option.{option_and_then};
 ghost use Rattle.std.proofs.Common.{rules};
-ghost use Rattle.swc_ecma_codegen_tree.specs.Held.{pat_in, tpl_in, object_lit_in, prop_name_in, opt_call_in, assign_target_in, function_in, class_in, block_stmt_in, decl_in, module_decl_in, var_decl_in, class_member_in, jsx_element_in, jsx_fragment_in, jsx_object_in, ts_type_in, ts_namespace_body_in, ts_type_ann_in, ts_type_param_decl_in, ts_type_param_instantiation_in, ts_fn_param_in, ts_type_element_in, ts_entity_name_in};
+ghost use Rattle.swc_ecma_codegen_tree.specs.LinkTargets.{pat_in, tpl_in, object_lit_in, prop_name_in, opt_call_in, assign_target_in, function_in, class_in, block_stmt_in, decl_in, module_decl_in, var_decl_in, class_member_in, jsx_element_in, jsx_fragment_in, jsx_object_in, ts_type_in, ts_namespace_body_in, ts_type_ann_in, ts_type_param_decl_in, ts_type_param_instantiation_in, ts_fn_param_in, ts_type_element_in, ts_entity_name_in};
 
 use crate::classes::{Class, ClassMember};
 use crate::decls::{Decl, Function, VarDecl};

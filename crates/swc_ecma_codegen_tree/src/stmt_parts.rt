@@ -1,6 +1,6 @@
 //! How `StmtPart` holds its sorts.
 
-ghost use Rattle.swc_ecma_codegen_tree.specs.Held.{function_in, class_in, block_stmt_in, decl_in, module_decl_in, var_decl_in, class_member_in};
+ghost use Rattle.swc_ecma_codegen_tree.specs.LinkTargets.{function_in, class_in, block_stmt_in, decl_in, module_decl_in, var_decl_in, class_member_in};
 
 use crate::classes::{Class, ClassMember};
 use crate::decls::{Decl, Function, VarDecl};

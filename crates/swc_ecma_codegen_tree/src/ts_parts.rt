@@ -1,6 +1,6 @@
 //! How `TsPart` holds its sorts.
 
-ghost use Rattle.swc_ecma_codegen_tree.specs.Held.{ts_type_in, ts_namespace_body_in, ts_type_ann_in, ts_type_param_decl_in, ts_type_param_instantiation_in, ts_fn_param_in, ts_type_element_in, ts_entity_name_in};
+ghost use Rattle.swc_ecma_codegen_tree.specs.LinkTargets.{ts_type_in, ts_namespace_body_in, ts_type_ann_in, ts_type_param_decl_in, ts_type_param_instantiation_in, ts_fn_param_in, ts_type_element_in, ts_entity_name_in};
 
 use crate::holds::Holds;
 use crate::parts::TsPart;

@@ -78,7 +78,8 @@ impl Config {
         mut self,
         emit_assert_for_import_attributes: bool,
     ) -> Self
-        ensures { result ≡ record self { emit_assert_for_import_attributes = emit_assert_for_import_attributes } }
+        ensures { result ≡ record self
+            { emit_assert_for_import_attributes = emit_assert_for_import_attributes } }
     {
         self.emit_assert_for_import_attributes = emit_assert_for_import_attributes;
         self

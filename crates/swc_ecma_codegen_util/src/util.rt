@@ -42,7 +42,7 @@ impl<K, N: StartsWithAlphaNum> StartsWithAlphaNum for Link<K, N> {
     ghost starts = { λ n. N.starts n.node.value };
 
     fn starts_with_alpha_num(&self) -> bool {
-        self.held().starts_with_alpha_num()
+        self.target().starts_with_alpha_num()
     }
 }
 
@@ -66,6 +66,6 @@ impl<K, N: EndsWithAlphaNum> EndsWithAlphaNum for Link<K, N> {
     ghost ends = { λ n. N.ends n.node.value };
 
     fn ends_with_alpha_num(&self) -> bool {
-        self.held().ends_with_alpha_num()
+        self.target().ends_with_alpha_num()
     }
 }

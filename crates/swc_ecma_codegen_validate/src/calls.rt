@@ -33,7 +33,7 @@ impl<N: Fits> WellFormed for Callee<N> {
     fn is_well_formed(&self) -> bool {
         match self {
             Callee::Super(_) | Callee::Import(_) => true,
-            Callee::Expr(node) => node.held().fits(Role::Callee),
+            Callee::Expr(node) => node.target().fits(Role::Callee),
         }
     }
 }
@@ -74,7 +74,7 @@ impl<N: Fits> WellFormed for OptCall<N> {
 
     #[tactic(auto, using(crate::proofs::CallsPossible::chain_call_possible))]
     fn is_well_formed(&self) -> bool {
-        self.callee.held().fits(Role::Callee)
+        self.callee.target().fits(Role::Callee)
             && self.type_args.is_well_formed()
             && all_well_formed(&self.args)
     }

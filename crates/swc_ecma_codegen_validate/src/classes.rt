@@ -55,10 +55,10 @@ impl<N: Fits> WellFormed for ClassDecl<N> {
 
     #[tactic(auto, using(crate::proofs::ClassesPossible::class_decl_possible))]
     fn is_well_formed(&self) -> bool {
-        self.class.held().fits(Role::ClassHead)
-            && self.class.held().fits(Role::ClassWord)
+        self.class.target().fits(Role::ClassHead)
+            && self.class.target().fits(Role::ClassWord)
             && self.ident.is_well_formed()
-            && self.class.held().fits(Role::ClassTail)
+            && self.class.target().fits(Role::ClassTail)
     }
 }
 
@@ -67,10 +67,10 @@ impl<N: Fits> WellFormed for ClassExpr<N> {
 
     #[tactic(auto, unfolding(swc_ecma_codegen_grammar::specs::ClassPhrases::class_expr, swc_ecma_codegen_grammar::specs::Phrases::is_possible))]
     fn is_well_formed(&self) -> bool {
-        self.class.held().fits(Role::ClassHead)
-            && self.class.held().fits(Role::ClassWord)
+        self.class.target().fits(Role::ClassHead)
+            && self.class.target().fits(Role::ClassWord)
             && is_optional_name(&self.ident)
-            && self.class.held().fits(Role::ClassTail)
+            && self.class.target().fits(Role::ClassTail)
     }
 }
 
@@ -149,8 +149,8 @@ fn is_tail<N: Fits>(kind: MethodKind, function: &FunctionBox<N>) -> bool
     ensures { result ≡ is_possible (N.reads function.now.node.value (tail_role kind)) }
 {
     match kind {
-        MethodKind::Method => function.held().fits(Role::MethodTail),
-        MethodKind::Getter | MethodKind::Setter => function.held().fits(Role::AccessorTail),
+        MethodKind::Method => function.target().fits(Role::MethodTail),
+        MethodKind::Getter | MethodKind::Setter => function.target().fits(Role::AccessorTail),
     }
 }
 
@@ -160,7 +160,7 @@ fn is_kind_head<N: Fits>(kind: MethodKind, function: &FunctionBox<N>) -> bool
     ensures { result ≡ is_possible (kind_head N.reads kind function.now) }
 {
     match kind {
-        MethodKind::Method => function.held().fits(Role::MethodHead),
+        MethodKind::Method => function.target().fits(Role::MethodHead),
         MethodKind::Getter | MethodKind::Setter => true,
     }
 }
@@ -170,7 +170,7 @@ impl<N: Fits> WellFormed for ClassMethod<N> {
 
     #[tactic(auto, using(crate::proofs::ClassesPossible::method_possible))]
     fn is_well_formed(&self) -> bool {
-        self.function.held().fits(Role::MethodDecorators)
+        self.function.target().fits(Role::MethodDecorators)
             && is_kind_head(self.kind, &self.function)
             && self.key.is_well_formed()
             && is_tail(self.kind, &self.function)
@@ -182,7 +182,7 @@ impl<N: Fits> WellFormed for PrivateMethod<N> {
 
     #[tactic(auto, using(crate::proofs::ClassesPossible::private_method_possible))]
     fn is_well_formed(&self) -> bool {
-        self.function.held().fits(Role::MethodDecorators)
+        self.function.target().fits(Role::MethodDecorators)
             && is_kind_head(self.kind, &self.function)
             && self.key.is_well_formed()
             && is_tail(self.kind, &self.function)
@@ -195,7 +195,7 @@ fn is_prop_value<N: Fits>(value: &Option<ExprBox<N>>) -> bool
     ensures { result ≡ is_possible (prop_value N.reads value.now) }
 {
     match value {
-        Some(value) => value.held().fits(Role::FieldValue),
+        Some(value) => value.target().fits(Role::FieldValue),
         None => true,
     }
 }

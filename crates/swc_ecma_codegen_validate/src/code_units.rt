@@ -14,8 +14,10 @@ use swc_ecma_codegen_grammar::units::surrogate_value;
 /// Four hexadecimal digits from D800 to DFFF: their value, and the rest of the text.
 #[tactic(auto, unfolding(swc_ecma_codegen_grammar::specs::CodeUnits::begins_like))]
 fn surrogate(text: &str) -> Option<(u32, &str)>
-    ensures some { IfSome result (λ found. IsSurrogate (chars text.now) found.0 (chars found.1.now)) }
-    ensures none { IfNone result (code_units.begins_like (code_units.four_digits []) (chars text.now) ≡ false) }
+    ensures some { IfSome result (λ found.
+        IsSurrogate (chars text.now) found.0 (chars found.1.now)) }
+    ensures none { IfNone result (code_units.begins_like (code_units.four_digits [])
+        (chars text.now) ≡ false) }
 {
     let (a, rest) = split_first(text)?;
     let (b, rest) = split_first(rest)?;
@@ -27,7 +29,8 @@ fn surrogate(text: &str) -> Option<(u32, &str)>
 /// What follows `u{` of a written surrogate escape, as `d83d}`: its unit, and the rest of the text.
 #[tactic(auto, using(swc_ecma_codegen_grammar::proofs::UnitLaws::long_undigit, swc_ecma_codegen_grammar::proofs::UnitLaws::long_unclosed, swc_ecma_codegen_grammar::proofs::UnitLaws::long_unit))]
 fn braced_unit(text: &str) -> Option<(u32, &str)>
-    ensures some { IfSome result (λ found. IsWrittenUnit (117 ∷ 123 ∷ chars text.now) found.0 (chars found.1.now)) }
+    ensures some { IfSome result (λ found.
+        IsWrittenUnit (117 ∷ 123 ∷ chars text.now) found.0 (chars found.1.now)) }
     ensures none { IfNone result (code_units.escape_length (117 ∷ 123 ∷ chars text.now) ≡ 0) }
 {
     let (unit, rest) = surrogate(text)?;
@@ -37,7 +40,8 @@ fn braced_unit(text: &str) -> Option<(u32, &str)>
 /// What follows the `u` of a written surrogate escape, as `d83d` or `{d83d}`: its unit, and the rest of the text.
 #[tactic(auto, unfolding(swc_ecma_codegen_grammar::specs::CodeUnits::begins_like, swc_ecma_codegen_grammar::specs::CodeUnits::short_escape, swc_ecma_codegen_grammar::specs::CodeUnits::long_escape, swc_ecma_codegen_grammar::specs::CodeUnits::escape_length, swc_ecma_codegen_grammar::specs::CodeUnits::escape_unit))]
 fn unicode_unit(text: &str) -> Option<(u32, &str)>
-    ensures some { IfSome result (λ found. IsWrittenUnit (117 ∷ chars text.now) found.0 (chars found.1.now)) }
+    ensures some { IfSome result (λ found.
+        IsWrittenUnit (117 ∷ chars text.now) found.0 (chars found.1.now)) }
     ensures none { IfNone result (code_units.escape_length (117 ∷ chars text.now) ≡ 0) }
 {
     match split_first(text) {
@@ -49,7 +53,8 @@ fn unicode_unit(text: &str) -> Option<(u32, &str)>
 /// A complete written surrogate escape after its backslash: its unit, and the rest of the text.
 #[tactic(auto, unfolding(swc_ecma_codegen_grammar::specs::CodeUnits::begins_like, swc_ecma_codegen_grammar::specs::CodeUnits::short_escape, swc_ecma_codegen_grammar::specs::CodeUnits::long_escape, swc_ecma_codegen_grammar::specs::CodeUnits::escape_length))]
 fn written_unit(text: &str) -> Option<(u32, &str)>
-    ensures some { IfSome result (λ found. IsWrittenUnit (chars text.now) found.0 (chars found.1.now)) }
+    ensures some { IfSome result (λ found.
+        IsWrittenUnit (chars text.now) found.0 (chars found.1.now)) }
     ensures none { IfNone result (code_units.escape_length (chars text.now) ≡ 0) }
 {
     match split_first(text) {
@@ -77,8 +82,10 @@ fn split_units(c: u32) -> (u32, Option<u32>)
 /// Whether a character begins a written surrogate escape: its unit, and the rest of the text.
 #[tactic(auto, using(crate::proofs::UnitsLeft::escaped, crate::proofs::UnitsLeft::unescaped, crate::proofs::UnitsLeft::plain))]
 fn escape_unit(c: char, more: &str) -> Option<(u32, &str)>
-    ensures some { IfSome result (λ r. code_units.units (c ∷ chars more.now) ≡ r.0 ∷ code_units.units (chars r.1.now)) }
-    ensures none { IfNone result (code_units.units (c ∷ chars more.now) ≡ code_units.utf16 c ++ code_units.units (chars more.now)) }
+    ensures some { IfSome result (λ r. code_units.units (c ∷ chars more.now)
+        ≡ r.0 ∷ code_units.units (chars r.1.now)) }
+    ensures none { IfNone result (code_units.units (c ∷ chars more.now)
+        ≡ code_units.utf16 c ++ code_units.units (chars more.now)) }
 {
     if c == '\\' { written_unit(more) } else { None }
 }
@@ -86,7 +93,8 @@ fn escape_unit(c: char, more: &str) -> Option<(u32, &str)>
 /// The first unit of a text, and what is left after it.
 #[tactic(auto, using(crate::proofs::UnitsLeft::split), unfolding(crate::specs::UnitStates::left_units))]
 fn first_unit(text: &str) -> Option<(u32, Option<u32>, &str)>
-    ensures some { IfSome result (λ r. code_units.units (chars text.now) ≡ r.0 ∷ left_units r.1 (chars r.2.now)) }
+    ensures some { IfSome result (λ r. code_units.units (chars text.now)
+        ≡ r.0 ∷ left_units r.1 (chars r.2.now)) }
     ensures none { IfNone result (chars text.now ≡ []) }
 {
     let (c, more) = split_first(text)?;
@@ -102,7 +110,8 @@ fn first_unit(text: &str) -> Option<(u32, Option<u32>, &str)>
 /// The first unit that is left, and what is left after it.
 #[tactic(auto, using(crate::proofs::UnitsLeft::none_left), unfolding(crate::specs::UnitStates::left_units))]
 fn next_unit(low: Option<u32>, rest: &str) -> Option<(u32, Option<u32>, &str)>
-    ensures some { IfSome result (λ r. left_units low (chars rest.now) ≡ r.0 ∷ left_units r.1 (chars r.2.now)) }
+    ensures some { IfSome result (λ r. left_units low (chars rest.now)
+        ≡ r.0 ∷ left_units r.1 (chars r.2.now)) }
     ensures none { IfNone result (left_units low (chars rest.now) ≡ []) }
 {
     match low {
@@ -114,8 +123,10 @@ fn next_unit(low: Option<u32>, rest: &str) -> Option<(u32, Option<u32>, &str)>
 /// What is left after this unit, or `None` where another comes first.
 #[tactic(auto, unfolding(swc_ecma_codegen_grammar::specs::Texts::is_same))]
 fn after_unit(unit: u32, low: Option<u32>, rest: &str) -> Option<(Option<u32>, &str)>
-    ensures some { IfSome result (λ r. left_units low (chars rest.now) ≡ unit ∷ left_units r.0 (chars r.1.now)) }
-    ensures none { IfNone result ((us : List ℕ) → texts.is_same (unit ∷ us) (left_units low (chars rest.now)) ≡ false) }
+    ensures some { IfSome result (λ r. left_units low (chars rest.now)
+        ≡ unit ∷ left_units r.0 (chars r.1.now)) }
+    ensures none { IfNone result ((us : List ℕ) →
+        texts.is_same (unit ∷ us) (left_units low (chars rest.now)) ≡ false) }
 {
     match next_unit(low, rest) {
         Some((first, low, rest)) if first == unit => Some((low, rest)),
@@ -127,8 +138,10 @@ fn after_unit(unit: u32, low: Option<u32>, rest: &str) -> Option<(Option<u32>, &
 #[tactic(auto, unfolding(swc_ecma_codegen_grammar::specs::Texts::is_same))]
 pub(crate) fn after_character(c: u32, low: Option<u32>, rest: &str) -> Option<(Option<u32>, &str)>
     requires { c ≤ 1114111 }
-    ensures some { IfSome result (λ r. left_units low (chars rest.now) ≡ code_units.utf16 c ++ left_units r.0 (chars r.1.now)) }
-    ensures none { IfNone result ((us : List ℕ) → texts.is_same (code_units.utf16 c ++ us) (left_units low (chars rest.now)) ≡ false) }
+    ensures some { IfSome result (λ r. left_units low (chars rest.now)
+        ≡ code_units.utf16 c ++ left_units r.0 (chars r.1.now)) }
+    ensures none { IfNone result ((us : List ℕ) →
+        texts.is_same (code_units.utf16 c ++ us) (left_units low (chars rest.now)) ≡ false) }
 {
     let (first, second) = split_units(c);
     let (low, rest) = after_unit(first, low, rest)?;

@@ -14,7 +14,7 @@ impl<N: Fits> WellFormed for FnDecl<N> {
 
     #[tactic(auto, using(crate::proofs::DeclsPossible::fn_decl_possible))]
     fn is_well_formed(&self) -> bool {
-        self.function.held().fits(Role::FunctionHead)
+        self.function.target().fits(Role::FunctionHead)
             && self.ident.is_well_formed()
             && self.function.is_well_formed()
     }
@@ -54,7 +54,8 @@ impl<N: Fits> WellFormed for VarDeclarator<N> {
 /// Whether declarators are well-formed, and there is one at least.
 #[tactic(auto, using(crate::proofs::DeclsPossible::declarators_possible))]
 fn are_declarators<N: Fits>(declarators: &[VarDeclarator<N>]) -> bool
-    ensures { result ≡ is_possible (some_listed (codes ",") (map (var_declarator N.reads) declarators.now)) }
+    ensures { result ≡ is_possible (some_listed (codes ",")
+        (map (var_declarator N.reads) declarators.now)) }
 {
     !declarators.is_empty() && all_well_formed(declarators)
 }

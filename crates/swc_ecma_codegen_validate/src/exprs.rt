@@ -76,7 +76,7 @@ impl<N: Fits> WellFormed for MemberExpr<N> {
 
     #[tactic(auto, unfolding(swc_ecma_codegen_grammar::specs::ExprPhrases::member_expr, swc_ecma_codegen_grammar::specs::Phrases::is_possible))]
     fn is_well_formed(&self) -> bool {
-        self.obj.held().fits(Role::Callee) && self.prop.is_well_formed()
+        self.obj.target().fits(Role::Callee) && self.prop.is_well_formed()
     }
 }
 
@@ -116,8 +116,8 @@ impl<N: Fits> WellFormed for OptChainExpr<N> {
     #[tactic(auto, unfolding(swc_ecma_codegen_grammar::specs::ExprPhrases::opt_chain_expr, swc_ecma_codegen_grammar::specs::ExprPhrases::chain_base, swc_ecma_codegen_grammar::specs::Phrases::is_possible))]
     fn is_well_formed(&self) -> bool {
         match &self.base {
-            OptChainBase::Member(node) => node.held().fits(Role::ChainMember(self.optional)),
-            OptChainBase::Call(node) => node.held().fits(Role::ChainCall(self.optional)),
+            OptChainBase::Member(node) => node.target().fits(Role::ChainMember(self.optional)),
+            OptChainBase::Call(node) => node.target().fits(Role::ChainCall(self.optional)),
         }
     }
 }

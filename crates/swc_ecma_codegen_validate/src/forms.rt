@@ -44,7 +44,7 @@ impl<K: LinkRole, N: Fits> WellFormed for Link<K, N> {
     ghost phrase = { λ n. N.reads n.node.value K.ROLE };
 
     fn is_well_formed(&self) -> bool {
-        self.held().fits(K::ROLE)
+        self.target().fits(K::ROLE)
     }
 }
 

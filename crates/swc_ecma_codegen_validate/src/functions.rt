@@ -68,7 +68,7 @@ impl<N: Fits> WellFormed for FnExpr<N> {
 
     #[tactic(auto, unfolding(swc_ecma_codegen_grammar::specs::FunctionPhrases::fn_expr, swc_ecma_codegen_grammar::specs::Phrases::is_possible))]
     fn is_well_formed(&self) -> bool {
-        self.function.held().fits(Role::FunctionHead)
+        self.function.target().fits(Role::FunctionHead)
             && is_optional_name(&self.ident)
             && self.function.is_well_formed()
     }

@@ -224,8 +224,8 @@ impl<N: Fits> WellFormed for JSXElementChild<N> {
             JSXElementChild::JSXText(node) => node.is_well_formed(),
             JSXElementChild::JSXExprContainer(node) => node.is_well_formed(),
             JSXElementChild::JSXSpreadChild(node) => node.is_well_formed(),
-            JSXElementChild::JSXElement(node) => node.held().fits(Role::Child),
-            JSXElementChild::JSXFragment(node) => node.held().fits(Role::Child),
+            JSXElementChild::JSXElement(node) => node.target().fits(Role::Child),
+            JSXElementChild::JSXFragment(node) => node.target().fits(Role::Child),
         }
     }
 }

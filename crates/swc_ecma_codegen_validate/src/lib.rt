@@ -11,7 +11,6 @@ pub mod forms;
 mod functions;
 mod jsx;
 mod jsx_texts;
-mod knot;
 mod lits;
 mod modules;
 mod names;
@@ -20,6 +19,7 @@ mod numerals;
 mod parts;
 mod pats;
 mod props;
+mod recursion;
 mod regexes;
 mod stmts;
 mod strings;
@@ -32,6 +32,6 @@ mod ts_members;
 mod types;
 
 pub use crate::forms::{Fits, WellFormed};
-pub use crate::knot::{
+pub use crate::recursion::{
     is_well_formed, is_well_formed_expr, is_well_formed_item, is_well_formed_stmt,
 };

@@ -196,7 +196,7 @@ pub(crate) fn is_exported_head<N: Fits>(node: &Decl<N>) -> bool
     ensures { result ≡ is_possible (exported_head N.reads node.now) }
 {
     match node {
-        Decl::Class(node) => node.class.held().fits(Role::ClassHead),
+        Decl::Class(node) => node.class.target().fits(Role::ClassHead),
         _ => true,
     }
 }
@@ -208,9 +208,9 @@ pub(crate) fn is_exported_tail<N: Fits>(node: &Decl<N>) -> bool
 {
     match node {
         Decl::Class(class) => {
-            class.class.held().fits(Role::ClassWord)
+            class.class.target().fits(Role::ClassWord)
                 && class.ident.is_well_formed()
-                && class.class.held().fits(Role::ClassTail)
+                && class.class.target().fits(Role::ClassTail)
         }
         _ => node.is_well_formed(),
     }
@@ -221,7 +221,7 @@ impl<N: Fits> WellFormed for ExportDecl<N> {
 
     #[tactic(auto, unfolding(swc_ecma_codegen_grammar::specs::ModulePhrases::export_decl, swc_ecma_codegen_grammar::specs::Phrases::is_possible))]
     fn is_well_formed(&self) -> bool {
-        self.decl.held().fits(Role::ExportedHead) && self.decl.held().fits(Role::ExportedTail)
+        self.decl.target().fits(Role::ExportedHead) && self.decl.target().fits(Role::ExportedTail)
     }
 }
 

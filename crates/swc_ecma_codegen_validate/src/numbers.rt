@@ -18,7 +18,8 @@ use swc_ecma_codegen_grammar::texts::{is_empty, split_first};
 /// What stands after the dot, up to an exponent.
 #[tactic(auto, unfolding(crate::specs::Mantissas::after_dot, crate::specs::Mantissas::mantissa))]
 fn after_dot(text: &str) -> &str
-    ensures { parts.mantissa (chars result.now) ≡ parts.mantissa (parts.after_dot (chars text.now)) }
+    ensures { parts.mantissa (chars result.now) ≡ parts.mantissa
+        (parts.after_dot (chars text.now)) }
 {
     let mut rest = text;
     while let Some((c, more)) = split_first(rest) {
@@ -91,8 +92,11 @@ fn without_zeros(text: &str) -> &str
 /// What follows these digits, or `None` where others come first.
 #[tactic(auto, using(crate::proofs::DigitCounts::zeros_step, crate::proofs::DigitCounts::zeros_short), unfolding(crate::specs::Mantissas::mantissa))]
 fn after_digits<'a>(digits: &str, text: &'a str) -> Option<&'a str>
-    ensures some { IfSome result (λ rest. parts.zeros_after (chars digits.now) (parts.mantissa (chars text.now)) ≡ parts.zeros_after [] (parts.mantissa (chars rest.now))) }
-    ensures none { IfNone result (parts.zeros_after (chars digits.now) (parts.mantissa (chars text.now)) ≡ None) }
+    ensures some { IfSome result (λ rest.
+        parts.zeros_after (chars digits.now) (parts.mantissa (chars text.now))
+        ≡ parts.zeros_after [] (parts.mantissa (chars rest.now))) }
+    ensures none { IfNone result (parts.zeros_after (chars digits.now)
+        (parts.mantissa (chars text.now)) ≡ None) }
 {
     let mut rest = text;
     let mut left = digits;
@@ -162,7 +166,8 @@ fn exceeds(more: u128, less: u128, power: &str) -> bool
 
 /// Whether ten to one power, times what stands after `e`, is ten to the other.
 fn is_balanced(low: u128, high: u128, mark: &str) -> bool
-    ensures { result ≡ (low + (values.exponent_value 0 0 (chars mark.now)).tens == high + (values.exponent_value 0 0 (chars mark.now)).tenths) }
+    ensures { result ≡ (low + (values.exponent_value 0 0 (chars mark.now)).tens == high
+        + (values.exponent_value 0 0 (chars mark.now)).tenths) }
 {
     match after_first(mark, '-') {
         Some(power) => exceeds(low, high, power),
@@ -197,7 +202,8 @@ fn tenths(number: &Decimal) -> u32
 /// Whether a decimal literal stands for the size of a number.
 #[tactic(auto, unfolding(swc_ecma_codegen_grammar::specs::DecimalValues::exact_size))]
 fn decimal_has_size(number: &Decimal, text: &str) -> bool
-    ensures { result ≡ lits.is_same_number (values.exact_value (values.decimal_value 0 (chars text.now))) (exact_size number.now) }
+    ensures { result ≡ lits.is_same_number (values.exact_value
+        (values.decimal_value 0 (chars text.now))) (exact_size number.now) }
 {
     let digits = number.digits();
     let significant = without_zeros(text);
@@ -231,8 +237,11 @@ fn all_octal(text: &str) -> bool
 /// The radix and the digits of a number, by what stands after its `0`; `None` where it is decimal.
 #[tactic(auto, unfolding(swc_ecma_codegen_grammar::specs::LitPhrases::is_in_radix, swc_ecma_codegen_grammar::specs::NumberValues::zero_value, swc_ecma_codegen_grammar::specs::NumberValues::digits_after))]
 fn radix_digits(text: &str) -> Option<(u128, &str)>
-    ensures some { IfSome result (λ r. (lits.is_in_radix (chars text.now) ≡ true) × (0 < r.0) × (values.zero_value (chars text.now) ≡ values.times_ten (values.digits_after r.0 0 (chars r.1.now)) 0)) }
-    ensures none { IfNone result ((lits.is_in_radix (chars text.now) ≡ false) × (values.zero_value (chars text.now) ≡ values.decimal_value 0 (chars text.now))) }
+    ensures some { IfSome result (λ r. (lits.is_in_radix (chars text.now) ≡ true) × (0 < r.0)
+        × (values.zero_value (chars text.now) ≡ values.times_ten
+        (values.digits_after r.0 0 (chars r.1.now)) 0)) }
+    ensures none { IfNone result ((lits.is_in_radix (chars text.now) ≡ false)
+        × (values.zero_value (chars text.now) ≡ values.decimal_value 0 (chars text.now))) }
 {
     let Some((c, rest)) = split_first(text) else {
         return Some((8, text));
@@ -266,7 +275,8 @@ fn times_power(number: u128, tens: u32) -> Option<u128>
 
 /// Whether a whole number is the size of a number.
 fn is_size(value: u128, number: &Decimal) -> bool
-    ensures size { result ≡ lits.is_same_number (values.exact_value (values.times_ten value 0)) (exact_size number.now) }
+    ensures size { result ≡ lits.is_same_number (values.exact_value (values.times_ten value 0))
+        (exact_size number.now) }
     ensures held { value < 2 ^ 128 }
 {
     if tenths(number) > 0 {
@@ -285,7 +295,10 @@ fn is_size(value: u128, number: &Decimal) -> bool
 #[tactic(auto, using(crate::proofs::WholeSizes::radix_held, crate::proofs::WholeSizes::radix_too_large))]
 fn radix_has_size(number: &Decimal, radix: u128, digits: &str) -> bool
     requires { 0 < radix }
-    ensures { result ≡ (nat_lt (values.digits_after radix 0 (chars digits.now)) (2 ^ 128) && lits.is_same_number (values.exact_value (values.times_ten (values.digits_after radix 0 (chars digits.now)) 0)) (exact_size number.now)) }
+    ensures { result ≡ (nat_lt (values.digits_after radix 0 (chars digits.now)) (2 ^ 128)
+        && lits.is_same_number (values.exact_value
+        (values.times_ten (values.digits_after radix 0 (chars digits.now)) 0))
+        (exact_size number.now)) }
 {
     match digits_value(radix, digits) {
         Some(value) => is_size(value, number),
@@ -295,7 +308,9 @@ fn radix_has_size(number: &Decimal, radix: u128, digits: &str) -> bool
 
 /// Whether a numeric literal stands for the size of a number; where it isn't decimal, below 2^128.
 fn has_size(number: &Decimal, text: &str) -> bool
-    ensures { result ≡ (lits.is_compared (chars text.now) && lits.is_same_number (values.exact_value (values.numeric_value (chars text.now))) (exact_size number.now)) }
+    ensures { result ≡ (lits.is_compared (chars text.now)
+        && lits.is_same_number (values.exact_value (values.numeric_value (chars text.now)))
+        (exact_size number.now)) }
 {
     match after_first(text, '0') {
         Some(rest) => match radix_digits(rest) {

@@ -82,7 +82,7 @@ impl<N: Fits> WellFormed for MethodProp<N> {
 
     #[tactic(auto, unfolding(swc_ecma_codegen_grammar::specs::PropPhrases::method_prop, swc_ecma_codegen_grammar::specs::Phrases::is_possible))]
     fn is_well_formed(&self) -> bool {
-        self.function.held().fits(Role::MethodHead)
+        self.function.target().fits(Role::MethodHead)
             && self.key.is_well_formed()
             && self.function.is_well_formed()
     }

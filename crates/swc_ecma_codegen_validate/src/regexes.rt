@@ -22,7 +22,8 @@ pub(crate) struct RegexState {
 /// After one more character, or `None` where no body goes on like this.
 #[tactic(auto, using(crate::proofs::Slashes::slash_ends), unfolding(crate::specs::RegexStates::goes_on, swc_ecma_codegen_grammar::specs::RegularExpressions::ends_regex, swc_ecma_codegen_grammar::specs::RegularExpressions::class_after))]
 fn next(state: RegexState, c: char) -> Option<RegexState>
-    ensures some { IfSome result (λ s. (rest : List ℕ) → goes_on state (c ∷ rest) ≡ goes_on s rest) }
+    ensures some { IfSome result (λ s. (rest : List ℕ) →
+        goes_on state (c ∷ rest) ≡ goes_on s rest) }
     ensures none { IfNone result ((rest : List ℕ) → goes_on state (c ∷ rest) ≡ false) }
 {
     let RegexState { inside, escaped } = state;

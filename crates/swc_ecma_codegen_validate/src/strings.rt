@@ -38,7 +38,8 @@ fn turn(quote: char, place: Place, c: char, rest: &str) -> Turn
 /// Whether the rest of a string, after its quote, has the units of this value.
 #[tactic(auto, unfolding(swc_ecma_codegen_grammar::specs::Turns::after, swc_ecma_codegen_grammar::specs::Turns::LeadsOn, swc_ecma_codegen_grammar::specs::Turns::IsReached, swc_ecma_codegen_grammar::specs::LitPhrases::are_units, swc_ecma_codegen_grammar::specs::StringValues::string_rest, crate::specs::UnitStates::left_units))]
 fn rest_spells(quote: char, text: &str, value: &str) -> bool
-    ensures { result ≡ lits.are_units (string_rest quote true Between (chars text.now)) (units (chars value.now)) }
+    ensures { result ≡ lits.are_units (string_rest quote true Between (chars text.now))
+        (units (chars value.now)) }
 {
     let mut rest = text;
     let mut place = Place::Between;

@@ -25,7 +25,8 @@ use swc_ecma_codegen_tree::{TaggedTpl, Tpl, TplElement};
 /// After one more character of a part, or `None` where the part ends before it.
 #[tactic(auto, unfolding(crate::specs::TemplateStates::inside))]
 fn next(escaped: bool, c: char, more: &str) -> Option<bool>
-    ensures some { IfSome result (λ e. inside escaped (c ∷ chars more.now) ≡ inside e (chars more.now)) }
+    ensures some { IfSome result (λ e. inside escaped (c ∷ chars more.now)
+        ≡ inside e (chars more.now)) }
     ensures none { IfNone result (inside escaped (c ∷ chars more.now) ≡ false) }
 {
     match c {
@@ -160,8 +161,8 @@ impl<N: Fits> WellFormed for TaggedTpl<N> {
 
     #[tactic(auto, using(crate::proofs::TemplatesPossible::tagged_possible))]
     fn is_well_formed(&self) -> bool {
-        self.tag.held().fits(Role::Callee)
+        self.tag.target().fits(Role::Callee)
             && self.type_params.is_well_formed()
-            && self.tpl.held().fits(Role::TaggedTemplate)
+            && self.tpl.target().fits(Role::TaggedTemplate)
     }
 }

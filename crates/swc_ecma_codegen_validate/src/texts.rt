@@ -11,7 +11,8 @@ use swc_ecma_codegen_grammar::texts::split_first;
 /// What follows this character at the beginning of a text, or `None` where another stands there.
 #[tactic(auto, unfolding(swc_ecma_codegen_grammar::specs::Texts::begins))]
 pub(crate) fn after_first(text: &str, c: char) -> Option<&str>
-    ensures some { IfSome result (λ rest. (texts.begins (c ∷ []) (chars text.now) ≡ true) × (chars rest.now ≡ drop 1 (chars text.now))) }
+    ensures some { IfSome result (λ rest. (texts.begins (c ∷ []) (chars text.now) ≡ true)
+        × (chars rest.now ≡ drop 1 (chars text.now))) }
     ensures none { IfNone result (texts.begins (c ∷ []) (chars text.now) ≡ false) }
 {
     match split_first(text) {

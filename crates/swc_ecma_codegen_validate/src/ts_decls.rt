@@ -103,7 +103,7 @@ fn is_module_tail<N: Fits>(body: &Option<TsNamespaceBodyBox<N>>) -> bool
     ensures { result ≡ is_possible (module_tail N.reads body.now) }
 {
     match body {
-        Some(node) => node.held().fits(Role::DottedBody),
+        Some(node) => node.target().fits(Role::DottedBody),
         None => true,
     }
 }
@@ -131,7 +131,7 @@ impl<N: Fits> WellFormed for TsModuleBlock<N> {
 fn is_dotted_namespace<N: Fits>(node: &TsNamespaceDecl<N>) -> bool
     ensures { result ≡ is_possible (dotted_namespace N.reads node.now) }
 {
-    !node.declare && node.id.is_well_formed() && node.body.held().fits(Role::DottedBody)
+    !node.declare && node.id.is_well_formed() && node.body.target().fits(Role::DottedBody)
 }
 
 /// Whether a body is well-formed behind the name of its namespace.

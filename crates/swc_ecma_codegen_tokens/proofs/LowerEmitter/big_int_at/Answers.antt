@@ -1,6 +1,6 @@
 use Rattle.swc_ecma_codegen_tokens.specs.Run.{DoesTaking}
 use Rattle.swc_ecma_codegen_grammar.specs.Comments.{maps_in}
-use Rattle.swc_ecma_codegen_tokens.proofs.Anew.{taking_anew, taking_not_anew}
+use Rattle.swc_ecma_codegen_tokens.proofs.RewrittenLiterals.{taking_anew, taking_not_anew}
 use Rattle.swc_ecma_codegen_tokens.proofs.CommentSteps.{taking_failed}
 use Rattle.std.proofs.Common.{Bool, refl, ap, subst, ◌∙◌}
 use Rattle.swc_ecma_codegen_common.specs.Refusals.{reason_of}

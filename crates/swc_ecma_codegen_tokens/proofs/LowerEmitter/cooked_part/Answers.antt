@@ -1,7 +1,7 @@
 use Rattle.std.proofs.Common.{refl, sym, ap, ◌∙◌}
 use Rattle.swc_ecma_codegen_common.specs.Refusals.{reason_of}
 use Rattle.swc_ecma_codegen_tokens.specs.Templates.{cooked_part, cooked_text, makes_cooked, part_by}
-use Rattle.swc_ecma_codegen_tokens.proofs.Anew.{spelled_anew, not_anew}
+use Rattle.swc_ecma_codegen_tokens.proofs.RewrittenLiterals.{spelled_anew, not_anew}
 use Rattle.swc_ecma_codegen_tokens.proofs.Emitting.{does_failed}
 use Rattle.swc_ecma_codegen_tokens.proofs.LowerEmitter.cooked_part.Goals as goal
 

@@ -1,5 +1,5 @@
 use Rattle.swc_ecma_codegen_tokens.proofs.KeySteps.{taking_bare}
-use Rattle.swc_ecma_codegen_tokens.proofs.Anew.{does_takes}
+use Rattle.swc_ecma_codegen_tokens.proofs.RewrittenLiterals.{does_takes}
 use Rattle.swc_ecma_codegen_tokens.proofs.KeySteps.{key_symbol}
 use Rattle.swc_ecma_codegen_tokens.proofs.LowerEmitter.plain_key.Goals as goal
 

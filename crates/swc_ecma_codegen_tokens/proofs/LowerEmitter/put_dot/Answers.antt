@@ -1,7 +1,7 @@
 use Rattle.std.proofs.Common.{refl, ◌++◌, codes, None, sym, ◌∙◌}
 use Rattle.swc_ecma_codegen_grammar.specs.declared.kinds.Kind.TheVariants.{Number}
 use Rattle.swc_ecma_codegen_text_writer.specs.Sheet.{Punct}
-use Rattle.swc_ecma_codegen_tokens.specs.Last.{last_at}
+use Rattle.swc_ecma_codegen_tokens.specs.PreviousToken.{last_at}
 use Rattle.swc_ecma_codegen_tokens.specs.Literals.{signed}
 use Rattle.swc_ecma_codegen_tokens.proofs.NumberEnds.{after_number, dot_end}
 use Rattle.swc_ecma_codegen_tokens.proofs.Calls.{called_ends, level, is_level}

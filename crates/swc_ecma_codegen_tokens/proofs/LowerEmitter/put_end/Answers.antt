@@ -1,7 +1,7 @@
 use Rattle.std.proofs.Common.{List, ℕ, refl, sym, subst, ◌∷◌, [], None}
 use Rattle.swc_ecma_codegen_grammar.specs.TemplatePhrases.{part_kind, part_text}
 use Rattle.swc_ecma_codegen_text_writer.specs.Sheet.{Punct}
-use Rattle.swc_ecma_codegen_tokens.specs.Last.{last_at}
+use Rattle.swc_ecma_codegen_tokens.specs.PreviousToken.{last_at}
 use Rattle.swc_ecma_codegen_tokens.specs.Run.{Does, Ends, step}
 use Rattle.swc_ecma_codegen_tokens.specs.Templates.{closed}
 use Rattle.swc_ecma_codegen_tokens.specs.View.{state_of}

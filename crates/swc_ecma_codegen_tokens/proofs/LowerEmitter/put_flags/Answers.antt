@@ -2,7 +2,7 @@ use Rattle.std.proofs.Common.{refl, ◌∷◌, []}
 use Rattle.swc_ecma_codegen_grammar.specs.declared.kinds.Kind.TheVariants.{Regex}
 use Rattle.swc_ecma_codegen_grammar.specs.GapRules.{last_after}
 use Rattle.swc_ecma_codegen_text_writer.specs.Sheet.{Str}
-use Rattle.swc_ecma_codegen_tokens.specs.Last.{last_at}
+use Rattle.swc_ecma_codegen_tokens.specs.PreviousToken.{last_at}
 use Rattle.swc_ecma_codegen_tokens.specs.Run.{after_token, after_tokens}
 use Rattle.swc_ecma_codegen_tokens.specs.Literals.{regex_text}
 use Rattle.swc_ecma_codegen_tokens.proofs.Calls.{called_ends, level, is_level}

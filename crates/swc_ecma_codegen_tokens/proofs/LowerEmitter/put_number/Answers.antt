@@ -2,7 +2,7 @@ use Rattle.std.proofs.Common.{refl, sym, ap, ◌∙◌}
 use Rattle.swc_ecma_codegen_grammar.specs.declared.kinds.Kind.TheVariants.{Number}
 use Rattle.swc_ecma_codegen_spans.specs.Spans.{dummy_span}
 use Rattle.swc_ecma_codegen_text_writer.specs.Sheet.{StrLit}
-use Rattle.swc_ecma_codegen_tokens.specs.Last.{last_at}
+use Rattle.swc_ecma_codegen_tokens.specs.PreviousToken.{last_at}
 use Rattle.swc_ecma_codegen_tokens.specs.Literals.{signed}
 use Rattle.swc_ecma_codegen_tokens.proofs.NumberEnds.{number_end, after_number}
 use Rattle.swc_ecma_codegen_tokens.proofs.Calls.{called_ends, level, is_level}

@@ -2,10 +2,10 @@ use Rattle.std.proofs.Common.{◌≡◌, List, ℕ, refl, sym, ◌∙◌, ap, su
 use Rattle.swc_ecma_codegen_grammar.specs.declared.kinds.Kind.TheVariants.{Punctuator}
 use Rattle.swc_ecma_codegen_grammar.specs.GapRules.{last_after, mark_after}
 use Rattle.swc_ecma_codegen_text_writer.specs.Sheet.{Operator}
-use Rattle.swc_ecma_codegen_tokens.specs.Last.{last_at, after_mark}
+use Rattle.swc_ecma_codegen_tokens.specs.PreviousToken.{last_at, after_mark}
 use Rattle.swc_ecma_codegen_tokens.specs.Run.{Does, Token, step, spelling as characters, after_token, text_of}
 use Rattle.swc_ecma_codegen_tokens.specs.View.{state_of}
-use Rattle.swc_ecma_codegen_tokens.proofs.Afters.{after_is}
+use Rattle.swc_ecma_codegen_tokens.proofs.AfterPunctuators.{after_is}
 use Rattle.swc_ecma_codegen_tokens.proofs.Calls.{called, level, is_level, noted_ok, noted_err}
 use Rattle.swc_ecma_codegen_tokens.proofs.LowerEmitter.put_operator.Goals as goal
 

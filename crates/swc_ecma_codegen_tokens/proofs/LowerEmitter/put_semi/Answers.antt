@@ -3,9 +3,9 @@ use Rattle.swc_ecma_codegen_grammar.specs.declared.kinds.Kind.TheVariants.{Endin
 use Rattle.swc_ecma_codegen_grammar.specs.GapRules.{last_after}
 use Rattle.swc_ecma_codegen_text_writer.specs.Sheet.{Semi}
 use Rattle.swc_ecma_codegen_literals.specs.declared.punctuators.Punctuator.TheVariants.{Semicolon}
-use Rattle.swc_ecma_codegen_tokens.specs.Last.{last_at, after_mark}
+use Rattle.swc_ecma_codegen_tokens.specs.PreviousToken.{last_at, after_mark}
 use Rattle.swc_ecma_codegen_tokens.specs.Run.{spelling as characters, after_token, text_of}
-use Rattle.swc_ecma_codegen_tokens.proofs.Afters.{after_is}
+use Rattle.swc_ecma_codegen_tokens.proofs.AfterPunctuators.{after_is}
 use Rattle.swc_ecma_codegen_tokens.proofs.Calls.{called, level, is_level, noted_ok, noted_err}
 use Rattle.swc_ecma_codegen_tokens.proofs.LowerEmitter.put_semi.Goals as goal
 

@@ -1,7 +1,7 @@
 use Rattle.std.proofs.Common.{refl, ◌++◌, codes, sym, ◌∙◌}
 use Rattle.swc_ecma_codegen_grammar.specs.declared.kinds.Kind.TheVariants.{BigInt}
 use Rattle.swc_ecma_codegen_text_writer.specs.Sheet.{Lit}
-use Rattle.swc_ecma_codegen_tokens.specs.Last.{last_at}
+use Rattle.swc_ecma_codegen_tokens.specs.PreviousToken.{last_at}
 use Rattle.swc_ecma_codegen_tokens.specs.Literals.{signed}
 use Rattle.swc_ecma_codegen_tokens.proofs.NumberEnds.{after_big, big_end}
 use Rattle.swc_ecma_codegen_tokens.proofs.Calls.{called_ends, level, is_level}

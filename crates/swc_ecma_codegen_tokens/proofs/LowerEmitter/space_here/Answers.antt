@@ -1,6 +1,6 @@
 use Rattle.std.proofs.Common.{refl}
 use Rattle.swc_ecma_codegen_text_writer.specs.Sheet.{Space}
-use Rattle.swc_ecma_codegen_tokens.specs.Last.{last_at}
+use Rattle.swc_ecma_codegen_tokens.specs.PreviousToken.{last_at}
 use Rattle.swc_ecma_codegen_tokens.specs.Run.{after_plain}
 use Rattle.swc_ecma_codegen_tokens.specs.Words.{space}
 use Rattle.swc_ecma_codegen_tokens.proofs.Calls.{called_plain, level, is_level, noted_ok, noted_err}

@@ -1,5 +1,5 @@
 use Rattle.swc_ecma_codegen_tokens.proofs.KeySteps.{taking_kept}
-use Rattle.swc_ecma_codegen_tokens.proofs.Anew.{does_takes}
+use Rattle.swc_ecma_codegen_tokens.proofs.RewrittenLiterals.{does_takes}
 use Rattle.std.proofs.Common.{sym, ◌∙◌}
 use Rattle.swc_ecma_codegen_tokens.proofs.LowerEmitter.spelled_key.Goals as goal
 

@@ -1,4 +1,4 @@
-use Rattle.swc_ecma_codegen_tokens.proofs.Anew.{taking_anew, taking_not_anew}
+use Rattle.swc_ecma_codegen_tokens.proofs.RewrittenLiterals.{taking_anew, taking_not_anew}
 use Rattle.swc_ecma_codegen_tokens.proofs.CommentSteps.{taking_failed}
 use Rattle.std.proofs.Common.{refl, ap, ◌∙◌, not}
 use Rattle.swc_ecma_codegen_common.specs.Refusals.{reason_of}

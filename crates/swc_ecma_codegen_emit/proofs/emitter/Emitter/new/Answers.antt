@@ -1,5 +1,5 @@
 use Rattle.swc_ecma_codegen_grammar.specs.Comments.{maps_in}
-use Rattle.swc_ecma_codegen_tokens.specs.Last.{last_at}
+use Rattle.swc_ecma_codegen_tokens.specs.PreviousToken.{last_at}
 use Rattle.swc_ecma_codegen_emit.proofs.emitter.Emitter.new.Goals as goal
 
 pub returns-clause-state : goal.returns-clause-state

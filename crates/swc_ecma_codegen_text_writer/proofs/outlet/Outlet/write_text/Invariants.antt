@@ -1,5 +1,5 @@
 use Rattle.std.proofs.Common.{◌≡◌, ◌++◌, length}
-use Rattle.swc_ecma_codegen_text_writer.specs.Told.{IsFront}
+use Rattle.swc_ecma_codegen_text_writer.specs.Told.{IsPrefix}
 use Rattle.swc_ecma_codegen_text_writer.specs.Sent.{sent}
 use Rattle.swc_ecma_codegen_text_writer.proofs.outlet.Outlet.write_text.Given as goal
 
@@ -8,7 +8,7 @@ invariant-loop-rest g l = record {
   before : l.self.before ≡ l.fn.self.before;
   out : sent l.self ++ l.rest ≡ sent l.fn.self ++ l.text;
   logged : l.self.log.bytes ++ l.rest ≡ l.fn.self.log.bytes ++ l.text;
-  grows : IsFront (sent l.fn.self) (sent l.self);
+  grows : IsPrefix (sent l.fn.self) (sent l.self);
   faults : l.self.faults ≡ l.fn.self.faults;
 }
 

@@ -29,7 +29,7 @@ use Rattle.swc_ecma_codegen_emit.specs.Tree.{node_items}
 use Rattle.swc_ecma_codegen_emit.specs.TsDecls.{declare_word, ts_expr_with_type_args, extended_place, extended_format, some_extends, extends_clause, ts_interface_decl, ts_type_alias_decl, ts_enum_member, enum_member_place, enum_format, enum_body, ts_enum_decl, module_tail, ts_module_decl}
 use Rattle.swc_ecma_codegen_emit.specs.TsMembers.{interface_format, ts_interface_body}
 use Rattle.swc_ecma_codegen_emit.specs.Types.{word_before, member_place, member_items}
-use Rattle.swc_ecma_codegen_emit.proofs.PatKnots.{children_mapped}
+use Rattle.swc_ecma_codegen_emit.proofs.MappedPats.{children_mapped}
 
 -- ---- interfaces and aliases
 

@@ -8,7 +8,7 @@ use crate::branches::is_block;
 use crate::commented::BreaksBefore;
 use crate::emitter::Emitter;
 use crate::expr::placed_expr;
-use crate::nodes::{Asked, EmitAt, Held, Known, Place, Question, Reply};
+use crate::nodes::{Asked, EmitAt, Known, LinkTarget, Place, Question, Reply};
 use crate::operands::{Operand, SpaceBefore};
 use crate::patterns::{PatternKind, kind_of_part};
 use swc_ecma_codegen_grammar::comments::Comments;
@@ -48,7 +48,7 @@ impl Asked for AnyNode {
 impl EmitAt for AnyNode {
     ghost items = { any_items };
 
-    #[tactic(auto, using(crate::proofs::Knots::any_items_of, crate::proofs::Knots::any_items_expr, crate::proofs::Knots::any_items_stmt, crate::proofs::Knots::any_items_member_expr, crate::proofs::Knots::any_items_expr_part, crate::proofs::Knots::any_items_stmt_part, crate::proofs::Knots::any_items_jsx_part, crate::proofs::Knots::any_items_ts_part), unfolding(crate::specs::Tree::node_items))]
+    #[tactic(auto, using(crate::proofs::MappedNodes::any_items_of, crate::proofs::MappedNodes::any_items_expr, crate::proofs::MappedNodes::any_items_stmt, crate::proofs::MappedNodes::any_items_member_expr, crate::proofs::MappedNodes::any_items_expr_part, crate::proofs::MappedNodes::any_items_stmt_part, crate::proofs::MappedNodes::any_items_jsx_part, crate::proofs::MappedNodes::any_items_ts_part), unfolding(crate::specs::Tree::node_items))]
     fn emit_at<W: WriteJs, S: SourceMapper, C: Comments>(
         &self,
         e: &mut Emitter<'_, W, S, C>,
@@ -66,4 +66,4 @@ impl EmitAt for AnyNode {
     }
 }
 
-impl Held for AnyNode {}
+impl LinkTarget for AnyNode {}

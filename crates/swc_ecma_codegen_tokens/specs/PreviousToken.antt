@@ -5,12 +5,12 @@ use Rattle.swc_ecma_codegen_literals.specs.declared.classes.TokenClass.{TokenCla
 use Rattle.swc_ecma_codegen_literals.specs.declared.classes.TokenClass.TheVariants as class
 use Rattle.swc_ecma_codegen_literals.specs.declared.punctuators.Punctuator.{Punctuator}
 use Rattle.swc_ecma_codegen_literals.specs.declared.punctuators.Punctuator.TheVariants as punctuator
-use Rattle.swc_ecma_codegen_tokens.specs.declared.last.Last.{Last}
-use Rattle.swc_ecma_codegen_tokens.specs.declared.last.Last.TheVariants as last
+use Rattle.swc_ecma_codegen_tokens.specs.declared.previous.PreviousToken.{PreviousToken}
+use Rattle.swc_ecma_codegen_tokens.specs.declared.previous.PreviousToken.TheVariants as last
 
-unfoldable pub last_at : Last → rules.Last
+unfoldable pub last_at : PreviousToken → rules.PreviousToken
 last_at last.Start = rules.Start
-last_at last.Apart = rules.Apart
+last_at last.Separated = rules.Separated
 last_at last.WordEnd = rules.WordEnd
 last_at last.IntegerEnd = rules.IntegerEnd
 last_at (last.Mark p) = rules.Mark (spelling p)
@@ -21,9 +21,9 @@ last_at last.TextEnd = rules.TextEnd
 last_at last.TagNameEnd = rules.TagNameEnd
 last_at last.LineEnd = rules.LineEnd
 
-unfoldable pub class_of : Last → TokenClass
+unfoldable pub class_of : PreviousToken → TokenClass
 class_of last.Start = class.Rest
-class_of last.Apart = class.Rest
+class_of last.Separated = class.Rest
 class_of last.WordEnd = class.Word
 class_of last.IntegerEnd = class.Integer
 class_of (last.Mark p) = class.Punctuator p
@@ -35,6 +35,6 @@ class_of last.TagNameEnd = class.Word
 class_of last.LineEnd = class.Rest
 
 -- the last token after a punctuator that nothing parts from one of a class
-unfoldable pub after_mark : TokenClass → Punctuator → Last
+unfoldable pub after_mark : TokenClass → Punctuator → PreviousToken
 after_mark (class.Punctuator punctuator.Less) punctuator.Bang = last.LessBang
 after_mark c p = last.Mark p

@@ -33,7 +33,7 @@ use Rattle.swc_ecma_codegen_emit.specs.Exprs.{ident}
 use Rattle.swc_ecma_codegen_emit.specs.Tree.{node_items}
 use Rattle.swc_ecma_codegen_emit.specs.TsDecls.{declare_word, ts_expr_with_type_args, ts_interface_decl, ts_module_ref, ts_import_equals_decl, ts_export_assignment}
 use Rattle.swc_ecma_codegen_emit.specs.TsMembers.{ts_interface_body}
-use Rattle.swc_ecma_codegen_emit.proofs.TsDeclKnots.{interface_same}
+use Rattle.swc_ecma_codegen_emit.proofs.MappedTsDecls.{interface_same}
 
 abbrev as_decl : {X : Type 0} → Box (ModuleDecl X) Global → ModuleDecl X → AnyNode-F X
 as_decl b n = nodes.StmtPart (stmt_parts.ModuleDecl (record b { value = n }))

@@ -44,8 +44,8 @@ use Rattle.swc_ecma_codegen_emit.specs.Parts.{expr_part, stmt_part}
 use Rattle.swc_ecma_codegen_emit.specs.Pats.{initializer, declared_pat}
 use Rattle.swc_ecma_codegen_emit.specs.Stmts.{enclosed, argument, argument_in, spaced, stmt_word, empty_stmt, expr_stmt, debugger_stmt, with_stmt, return_arg, return_stmt, labeled_stmt, break_stmt, continue_stmt, else_branch, if_stmt, catch_param, catch_clause, handler, finalizer, try_stmt, throw_stmt, lines_format, cases_format, case_test, is_single, case_list, switch_case, switch_cases, switch_stmt, while_stmt, loop_test, do_while_stmt, var_decl_or_expr, for_init, for_value, for_clause, for_control, for_stmt, for_head, for_right, for_each, for_in_stmt, for_await, for_of_stmt, stmt_parts, stmt_closed, stmt}
 use Rattle.swc_ecma_codegen_emit.specs.Tree.{node_items}
-use Rattle.swc_ecma_codegen_emit.proofs.DeclKnots.{declarator_child, declarator_same, declared_pat_mapped, decl_mapped, decl_placed}
-use Rattle.swc_ecma_codegen_emit.proofs.PatKnots.{child_same, children_mapped}
+use Rattle.swc_ecma_codegen_emit.proofs.MappedDecls.{declarator_child, declarator_same, declared_pat_mapped, decl_mapped, decl_placed}
+use Rattle.swc_ecma_codegen_emit.proofs.MappedPats.{child_same, children_mapped}
 
 -- the end of a statement that is no block
 abbrev ended : Span → Plan → Plan

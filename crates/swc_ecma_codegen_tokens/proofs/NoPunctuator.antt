@@ -5,7 +5,7 @@ use Rattle.std.proofs.lemmas.Bool.{or_cases, or_parts, and_parts, eqb-true, eq-e
 use Rattle.swc_ecma_codegen_grammar.specs.Chars.{begins_digit, is_digit, is_part, is_letter}
 use Rattle.swc_ecma_codegen_grammar.specs.Texts.{is_same, begins, some_begins}
 use Rattle.swc_ecma_codegen_grammar.specs.Punctuators.{punctuators}
-use Rattle.swc_ecma_codegen_grammar.specs.GapRules.{Last, Start, Apart, WordEnd, IntegerEnd, Mark, LessBang, Whole, TextEnd, TagNameEnd, LineEnd, grows, is_choice, mark_fuses, fuses}
+use Rattle.swc_ecma_codegen_grammar.specs.GapRules.{PreviousToken, Start, Separated, WordEnd, IntegerEnd, Mark, LessBang, Whole, TextEnd, TagNameEnd, LineEnd, grows, is_choice, mark_fuses, fuses}
 
 -- ---- lists of characters
 
@@ -87,10 +87,10 @@ unfolding begins
 no_dashes c n h = ap (λ b. b && begins (codes "-") n) (eq_swap 45 c ∙ h)
 
 -- two strangers that are digits alike, and characters of names alike
-pub stranger_same : (l : Last) (c d : ℕ) (n m : List ℕ) → is_in c marks ≡ false → is_in d marks ≡ false → is_digit c ≡ is_digit d → (is_part c || (c == 92)) ≡ (is_part d || (d == 92)) → fuses l (c ∷ n) ≡ fuses l (d ∷ m)
+pub stranger_same : (l : PreviousToken) (c d : ℕ) (n m : List ℕ) → is_in c marks ≡ false → is_in d marks ≡ false → is_digit c ≡ is_digit d → (is_part c || (c == 92)) ≡ (is_part d || (d == 92)) → fuses l (c ∷ n) ≡ fuses l (d ∷ m)
 unfolding fuses is_in marks
 stranger_same Start c d n m h k e p = refl
-stranger_same Apart c d n m h k e p = refl
+stranger_same Separated c d n m h k e p = refl
 stranger_same WordEnd c d n m h k e p = p
 stranger_same IntegerEnd c d n m h k e p = λ i. p i || (not_mark c 46 h refl ∙ sym (not_mark d 46 k refl)) i
 stranger_same (Mark t) c d n m h k e p = mark_stranger t c n h ∙ (ap (λ b. (is_same t (codes ".") || is_same t (codes "?.")) && b) e ∙ sym (mark_stranger t d m k))
@@ -103,10 +103,10 @@ stranger_same TextEnd c d n m h k e p = refl
 stranger_same TagNameEnd c d n m h k e p = p
 stranger_same LineEnd c d n m h k e p = refl
 
-null_apart : (l : Last) → fuses l (0 ∷ []) ≡ false
+null_apart : (l : PreviousToken) → fuses l (0 ∷ []) ≡ false
 unfolding fuses is_in marks is_part is_letter is_digit begins
 null_apart Start = refl
-null_apart Apart = refl
+null_apart Separated = refl
 null_apart WordEnd = refl
 null_apart IntegerEnd = refl
 null_apart (Mark t) = mark_stranger t 0 [] refl ∙ and_false (is_same t (codes ".") || is_same t (codes "?."))
@@ -117,7 +117,7 @@ null_apart TagNameEnd = refl
 null_apart LineEnd = refl
 
 -- a stranger that is neither a digit nor a character of a name
-pub stranger_apart : (l : Last) (c : ℕ) (n : List ℕ) → is_in c marks ≡ false → is_digit c ≡ false → (is_part c || (c == 92)) ≡ false → fuses l (c ∷ n) ≡ false
+pub stranger_apart : (l : PreviousToken) (c : ℕ) (n : List ℕ) → is_in c marks ≡ false → is_digit c ≡ false → (is_part c || (c == 92)) ≡ false → fuses l (c ∷ n) ≡ false
 unfolding is_in marks is_part is_letter is_digit
 stranger_apart l c n h e p = stranger_same l c 0 n [] h refl e p ∙ null_apart l
 
@@ -132,10 +132,10 @@ choice_same t n m h =
     h
 
 -- a dot: whether a digit follows
-pub dot_same : (l : Last) (n m : List ℕ) → begins_digit n ≡ begins_digit m → fuses l (46 ∷ n) ≡ fuses l (46 ∷ m)
+pub dot_same : (l : PreviousToken) (n m : List ℕ) → begins_digit n ≡ begins_digit m → fuses l (46 ∷ n) ≡ fuses l (46 ∷ m)
 unfolding fuses begins
 dot_same Start n m h = refl
-dot_same Apart n m h = refl
+dot_same Separated n m h = refl
 dot_same WordEnd n m h = refl
 dot_same IntegerEnd n m h = refl
 dot_same (Mark t) n m h = choice_same t n m h
@@ -155,10 +155,10 @@ unseen t c n m h =
     same
 
 -- a dash: whether another follows
-pub dash_same : (l : Last) (n m : List ℕ) → begins (codes "-") n ≡ begins (codes "-") m → fuses l (45 ∷ n) ≡ fuses l (45 ∷ m)
+pub dash_same : (l : PreviousToken) (n m : List ℕ) → begins (codes "-") n ≡ begins (codes "-") m → fuses l (45 ∷ n) ≡ fuses l (45 ∷ m)
 unfolding fuses begins
 dash_same Start n m h = refl
-dash_same Apart n m h = refl
+dash_same Separated n m h = refl
 dash_same WordEnd n m h = refl
 dash_same IntegerEnd n m h = refl
 dash_same (Mark t) n m h = unseen t 45 n m refl
@@ -169,10 +169,10 @@ dash_same TagNameEnd n m h = refl
 dash_same LineEnd n m h = refl
 
 -- any other character: nothing
-pub other_same : (l : Last) (c : ℕ) (n m : List ℕ) → (c == 46) ≡ false → (c == 45) ≡ false → fuses l (c ∷ n) ≡ fuses l (c ∷ m)
+pub other_same : (l : PreviousToken) (c : ℕ) (n m : List ℕ) → (c == 46) ≡ false → (c == 45) ≡ false → fuses l (c ∷ n) ≡ fuses l (c ∷ m)
 unfolding fuses
 other_same Start c n m h k = refl
-other_same Apart c n m h k = refl
+other_same Separated c n m h k = refl
 other_same WordEnd c n m h k = refl
 other_same IntegerEnd c n m h k = refl
 other_same (Mark t) c n m h k = unseen t c n m h

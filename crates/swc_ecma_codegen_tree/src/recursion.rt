@@ -14,7 +14,7 @@ use std::alloc::{AllocError, Global};
 
 /// What is made of a sum of sorts. A check of what names all types of the tree is dear, and so is one of what moves a sum of them:
 /// here the sum is any type, so that only two functions name it as it is.
-pub trait Knot: Sized {
+pub trait NodeUnion: Sized {
     /// The sum.
     type Sum;
 
@@ -33,7 +33,7 @@ pub trait Knot: Sized {
 }
 
 /// What shows a node of type `T`, where it is one in the place that `I` names.
-pub trait Shows<I, T>: Knot
+pub trait Shows<I, T>: NodeUnion
 where
     Self::Sum: SumOf<I, T>,
 {
@@ -41,7 +41,7 @@ where
         ensures { option_copied result ≡ Self.Sum.node_at (Self.sum_in self.now) };
 }
 
-impl<N: Knot + Shows<AsExpr, Expr<N>>> Holds<Expr<N>> for N
+impl<N: NodeUnion + Shows<AsExpr, Expr<N>>> Holds<Expr<N>> for N
 where
     N::Sum: SumOf<AsExpr, Expr<N>>,
 {
@@ -63,7 +63,7 @@ where
     }
 }
 
-impl<N: Knot + Shows<AsStmt, Stmt<N>>> Holds<Stmt<N>> for N
+impl<N: NodeUnion + Shows<AsStmt, Stmt<N>>> Holds<Stmt<N>> for N
 where
     N::Sum: SumOf<AsStmt, Stmt<N>>,
 {
@@ -85,7 +85,7 @@ where
     }
 }
 
-impl<N: Knot + Shows<AsMemberExpr, MemberExpr<N>>> Holds<MemberExpr<N>> for N
+impl<N: NodeUnion + Shows<AsMemberExpr, MemberExpr<N>>> Holds<MemberExpr<N>> for N
 where
     N::Sum: SumOf<AsMemberExpr, MemberExpr<N>>,
 {
@@ -107,7 +107,7 @@ where
     }
 }
 
-impl<N: Knot + Shows<AsExprPart, ExprPart<N>>> Holds<ExprPart<N>> for N
+impl<N: NodeUnion + Shows<AsExprPart, ExprPart<N>>> Holds<ExprPart<N>> for N
 where
     N::Sum: SumOf<AsExprPart, ExprPart<N>>,
 {
@@ -129,7 +129,7 @@ where
     }
 }
 
-impl<N: Knot + Shows<AsStmtPart, StmtPart<N>>> Holds<StmtPart<N>> for N
+impl<N: NodeUnion + Shows<AsStmtPart, StmtPart<N>>> Holds<StmtPart<N>> for N
 where
     N::Sum: SumOf<AsStmtPart, StmtPart<N>>,
 {
@@ -151,7 +151,7 @@ where
     }
 }
 
-impl<N: Knot + Shows<AsJSXPart, JSXPart<N>>> Holds<JSXPart<N>> for N
+impl<N: NodeUnion + Shows<AsJSXPart, JSXPart<N>>> Holds<JSXPart<N>> for N
 where
     N::Sum: SumOf<AsJSXPart, JSXPart<N>>,
 {
@@ -173,7 +173,7 @@ where
     }
 }
 
-impl<N: Knot + Shows<AsTsPart, TsPart<N>>> Holds<TsPart<N>> for N
+impl<N: NodeUnion + Shows<AsTsPart, TsPart<N>>> Holds<TsPart<N>> for N
 where
     N::Sum: SumOf<AsTsPart, TsPart<N>>,
 {

@@ -23,7 +23,7 @@ use Rattle.swc_ecma_codegen_emit.specs.Parts.{ts_part}
 use Rattle.swc_ecma_codegen_emit.specs.Tree.{node_items}
 use Rattle.swc_ecma_codegen_emit.specs.TsMembers.{signature_key, signature_params, annotation_between, ts_call_signature_decl, params_behind_new, ts_construct_signature_decl, ts_property_signature, getter_annotation, ts_getter_signature, ts_setter_signature, ts_method_signature, readonly_index, ts_index_signature, ts_signature, ts_type_element}
 use Rattle.swc_ecma_codegen_emit.specs.Types.{types_format, word_before, fn_param_place, fn_param_items}
-use Rattle.swc_ecma_codegen_emit.proofs.PatKnots.{children_mapped}
+use Rattle.swc_ecma_codegen_emit.proofs.MappedPats.{children_mapped}
 
 -- a member, as a part that a link holds
 abbrev as_member : {X : Type 0} → Box (TsTypeElement X) Global → TsTypeElement X → AnyNode-F X

@@ -61,10 +61,10 @@ use Rattle.swc_ecma_codegen_emit.specs.Templates.{bad_shape, tpl_parts}
 use Rattle.swc_ecma_codegen_emit.specs.Tree.{node_items}
 use Rattle.swc_ecma_codegen_emit.specs.Types.{types_format, type_place, type_items, type_at, type_behind, default_type, word_before, ts_qualified_name, ts_entity_name, ts_type_ref, type_arguments, ts_type_param_instantiation, ts_type_param, param_place, ts_type_param_decl, ts_keyword_type, ts_this_type, ts_fn_param, fn_param_place, fn_param_items, signature_type, ts_fn_type, spaced_params, ts_constructor_type, ts_fn_or_constructor_type, ts_tpl_parts, ts_tpl_lit_type, ts_lit, ts_lit_type, qualifier, ts_import_type, ts_type_query_expr, ts_type_query, members_format, member_place, member_items, ts_type_lit, ts_array_type, label, ts_tuple_element, element_place, ts_tuple_type, ts_optional_type, ts_rest_type, mapped_param, mapped_type_ann, mapped_parts, ts_mapped_type, union_format, intersection_format, ts_union_type, ts_intersection_type, ts_union_or_intersection_type, ts_parenthesized_type, ts_type_operator, ts_indexed_access_type, ts_conditional_type, ts_infer_type, is_behind, ts_type_predicate, ts_type, ts_type_ann}
 use Rattle.swc_ecma_codegen_emit.specs.Parts.{expr_part, ts_part}
-use Rattle.swc_ecma_codegen_emit.proofs.NamespaceKnots.{namespace_body_mapped}
-use Rattle.swc_ecma_codegen_emit.proofs.TsMemberKnots.{type_element_mapped}
-use Rattle.swc_ecma_codegen_emit.proofs.PatKnots.{children_mapped, elements_mapped, key_value_same, prop_name_mapped, prop_name_placed}
-use Rattle.swc_ecma_codegen_emit.proofs.TemplateKnots.{parts_mapped}
+use Rattle.swc_ecma_codegen_emit.proofs.MappedNamespaces.{namespace_body_mapped}
+use Rattle.swc_ecma_codegen_emit.proofs.MappedTsMembers.{type_element_mapped}
+use Rattle.swc_ecma_codegen_emit.proofs.MappedPats.{children_mapped, elements_mapped, key_value_same, prop_name_mapped, prop_name_placed}
+use Rattle.swc_ecma_codegen_emit.proofs.MappedTemplates.{parts_mapped}
 
 -- a type, as a part that a link holds
 abbrev as_type : {X : Type 0} → Box (TsType X) Global → TsType X → AnyNode-F X

@@ -6,11 +6,11 @@ use swc_ecma_codegen_literals::{Punctuator, TokenClass};
 
 /// The last token, as the gap rules tell tokens apart. An emission keeps its class alone, and this for proofs.
 #[derive(Debug, Clone, Copy)]
-pub enum Last {
+pub enum PreviousToken {
     /// Nothing was written.
     Start,
     /// A blank, a line end or a comment was.
-    Apart,
+    Separated,
     /// A name or a keyword.
     WordEnd,
     /// A decimal integer, which a dot would belong to.
@@ -31,34 +31,36 @@ pub enum Last {
     LineEnd,
 }
 
-impl Last {
-    ghost use Rattle.swc_ecma_codegen_tokens.specs.Last.{after_mark, class_of};
+impl PreviousToken {
+    ghost use Rattle.swc_ecma_codegen_tokens.specs.PreviousToken.{after_mark, class_of};
 
     /// Its class.
-    #[tactic(auto, unfolding(crate::specs::Last::class_of))]
+    #[tactic(auto, unfolding(crate::specs::PreviousToken::class_of))]
     pub fn class(self) -> TokenClass
         ensures { result ≡ class_of self }
     {
         match self {
-            Last::Start | Last::Apart | Last::Whole | Last::TextEnd | Last::LineEnd => {
-                TokenClass::Rest
-            }
-            Last::WordEnd | Last::TagNameEnd => TokenClass::Word,
-            Last::IntegerEnd => TokenClass::Integer,
-            Last::Mark(mark) => TokenClass::Punctuator(mark),
-            Last::LessBang => TokenClass::LessBang,
-            Last::Closing => TokenClass::Closing,
+            PreviousToken::Start
+            | PreviousToken::Separated
+            | PreviousToken::Whole
+            | PreviousToken::TextEnd
+            | PreviousToken::LineEnd => { TokenClass::Rest }
+            PreviousToken::WordEnd | PreviousToken::TagNameEnd => TokenClass::Word,
+            PreviousToken::IntegerEnd => TokenClass::Integer,
+            PreviousToken::Mark(mark) => TokenClass::Punctuator(mark),
+            PreviousToken::LessBang => TokenClass::LessBang,
+            PreviousToken::Closing => TokenClass::Closing,
         }
     }
 
     /// The last token after a punctuator that nothing parts from a token of a class.
-    #[tactic(auto, unfolding(crate::specs::Last::after_mark))]
-    pub fn after(class: TokenClass, mark: Punctuator) -> Last
+    #[tactic(auto, unfolding(crate::specs::PreviousToken::after_mark))]
+    pub fn after(class: TokenClass, mark: Punctuator) -> PreviousToken
         ensures { result ≡ after_mark class mark }
     {
         match (class, mark) {
-            (TokenClass::Punctuator(Punctuator::Less), Punctuator::Bang) => Last::LessBang,
-            _ => Last::Mark(mark),
+            (TokenClass::Punctuator(Punctuator::Less), Punctuator::Bang) => PreviousToken::LessBang,
+            _ => PreviousToken::Mark(mark),
         }
     }
 }

@@ -46,23 +46,23 @@ use Rattle.swc_ecma_codegen_emit.specs.FunctionExprs.{fn_expr, optional_name}
 use Rattle.swc_ecma_codegen_emit.specs.ClassExprs.{class_expr}
 use Rattle.swc_ecma_codegen_emit.specs.Annotations.{annotation}
 use Rattle.swc_ecma_codegen_emit.specs.Names.{binding_ident}
-use Rattle.swc_ecma_codegen_emit.proofs.TypeKnots.{ts_part_mapped}
+use Rattle.swc_ecma_codegen_emit.proofs.MappedTypes.{ts_part_mapped}
 use Rattle.swc_ecma_codegen_emit.specs.Targets.{simple_assign_target, assign_target}
 use Rattle.swc_ecma_codegen_emit.specs.Parts.{expr_part, stmt_part, ts_part}
 use Rattle.swc_ecma_codegen_emit.specs.Stmts.{stmt}
 use Rattle.swc_ecma_codegen_emit.specs.TsExprs.{ts_as_expr, ts_const_assertion, ts_satisfies_expr, ts_non_null_expr, ts_type_assertion, ts_instantiation}
 use Rattle.swc_ecma_codegen_emit.specs.Jsx.{jsx_member_expr, jsx_part}
 use Rattle.swc_ecma_codegen_emit.specs.Tree.{node_items, any_items}
-use Rattle.swc_ecma_codegen_emit.proofs.DeclKnots.{decl_mapped, var_decl_mapped}
-use Rattle.swc_ecma_codegen_emit.proofs.ModuleKnots.{module_decl_mapped}
-use Rattle.swc_ecma_codegen_emit.proofs.ClassKnots.{class_mapped, class_member_mapped}
-use Rattle.swc_ecma_codegen_emit.proofs.StmtKnots.{stmt_mapped}
-use Rattle.swc_ecma_codegen_emit.proofs.FunctionKnots.{function_mapped, block_mapped, arrow_expr_mapped}
-use Rattle.swc_ecma_codegen_emit.proofs.PatKnots.{prop_name_mapped, pat_mapped, target_pat_mapped}
-use Rattle.swc_ecma_codegen_emit.proofs.PropKnots.{object_lit_mapped}
-use Rattle.swc_ecma_codegen_emit.proofs.TemplateKnots.{tpl_mapped, tagged_tpl_mapped}
-use Rattle.swc_ecma_codegen_emit.proofs.JsxKnots.{jsx_part_mapped}
-use Rattle.swc_ecma_codegen_emit.proofs.CallKnots.{array_lit_mapped, call_mapped, new_mapped, chain_call_mapped}
+use Rattle.swc_ecma_codegen_emit.proofs.MappedDecls.{decl_mapped, var_decl_mapped}
+use Rattle.swc_ecma_codegen_emit.proofs.MappedModules.{module_decl_mapped}
+use Rattle.swc_ecma_codegen_emit.proofs.MappedClasses.{class_mapped, class_member_mapped}
+use Rattle.swc_ecma_codegen_emit.proofs.MappedStmts.{stmt_mapped}
+use Rattle.swc_ecma_codegen_emit.proofs.MappedFunctions.{function_mapped, block_mapped, arrow_expr_mapped}
+use Rattle.swc_ecma_codegen_emit.proofs.MappedPats.{prop_name_mapped, pat_mapped, target_pat_mapped}
+use Rattle.swc_ecma_codegen_emit.proofs.MappedProps.{object_lit_mapped}
+use Rattle.swc_ecma_codegen_emit.proofs.MappedTemplates.{tpl_mapped, tagged_tpl_mapped}
+use Rattle.swc_ecma_codegen_emit.proofs.MappedJsx.{jsx_part_mapped}
+use Rattle.swc_ecma_codegen_emit.proofs.MappedCalls.{array_lit_mapped, call_mapped, new_mapped, chain_call_mapped}
 
 -- ---- a word sees what links hold through `asks` and `items` alone
 

@@ -24,7 +24,7 @@ use Rattle.swc_ecma_codegen_emit.specs.Answers.{Answers, place_of}
 use Rattle.swc_ecma_codegen_emit.specs.Decls.{declarators_format, fn_decl, var_declarator, declarator_place, var_kind, is_unmarked, first_is_unmarked, var_decl, await_word, using_decl, decl_end, by_export, without_head, exported_class, variables, resources, decl}
 use Rattle.swc_ecma_codegen_emit.specs.Classes.{class_decl}
 use Rattle.swc_ecma_codegen_emit.specs.TsDecls.{declare_word}
-use Rattle.swc_ecma_codegen_emit.proofs.TsDeclKnots.{interface_mapped, alias_mapped, enum_mapped, module_mapped}
+use Rattle.swc_ecma_codegen_emit.proofs.MappedTsDecls.{interface_mapped, alias_mapped, enum_mapped, module_mapped}
 use Rattle.swc_ecma_codegen_emit.specs.Exprs.{blank, opened}
 use Rattle.swc_ecma_codegen_emit.specs.Lists.{child_at, child_of}
 use Rattle.swc_ecma_codegen_emit.specs.Parts.{expr_part, stmt_part}
@@ -32,7 +32,7 @@ use Rattle.swc_ecma_codegen_emit.specs.Annotations.{annotation}
 use Rattle.swc_ecma_codegen_emit.specs.Pats.{initializer, definite_ident, definite_pat, declared_pat}
 use Rattle.swc_ecma_codegen_emit.specs.Patterns.{pat_kind, part_pattern, node_pattern}
 use Rattle.swc_ecma_codegen_emit.specs.Tree.{node_items}
-use Rattle.swc_ecma_codegen_emit.proofs.PatKnots.{children_mapped, pat_mapped, pat_kind_mapped}
+use Rattle.swc_ecma_codegen_emit.proofs.MappedPats.{children_mapped, pat_mapped, pat_kind_mapped}
 
 -- a declarator, as a child of a list
 abbrev pub declarator_child : {X : Type 0} → (X → Answers) → (X → Place → Part) → VarDeclarator X → ListChild

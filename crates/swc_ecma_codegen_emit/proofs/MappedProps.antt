@@ -21,7 +21,7 @@ use Rattle.swc_ecma_codegen_emit.specs.Lists.{child_at, child_of}
 use Rattle.swc_ecma_codegen_emit.specs.Parts.{expr_part}
 use Rattle.swc_ecma_codegen_emit.specs.Props.{key_end, value_start, key_value_prop, assign_prop, accessor, optional_body, tight_annotation, getter_prop, this_param, setter_prop, method_prop, prop, prop_or_spread, object_children, object_by_maps, object_lit}
 use Rattle.swc_ecma_codegen_emit.specs.Tree.{node_items}
-use Rattle.swc_ecma_codegen_emit.proofs.PatKnots.{prop_name_mapped, prop_name_placed}
+use Rattle.swc_ecma_codegen_emit.proofs.MappedPats.{prop_name_mapped, prop_name_placed}
 
 -- `a: b`, by its parts
 abbrev key_value_child : (name value : Span) → Part → Part → ListChild

@@ -45,8 +45,8 @@ use Rattle.swc_ecma_codegen_emit.specs.Tree.{node_items}
 use Rattle.swc_ecma_codegen_emit.specs.TsDecls.{extended_place, ts_expr_with_type_args}
 use Rattle.swc_ecma_codegen_emit.specs.TsMembers.{readonly_index, ts_index_signature}
 use Rattle.swc_ecma_codegen_emit.specs.Types.{types_format, word_before, fn_param_place, fn_param_items}
-use Rattle.swc_ecma_codegen_emit.proofs.FunctionKnots.{decorators_mapped, param_same}
-use Rattle.swc_ecma_codegen_emit.proofs.PatKnots.{children_mapped, pat_mapped}
+use Rattle.swc_ecma_codegen_emit.proofs.MappedFunctions.{decorators_mapped, param_same}
+use Rattle.swc_ecma_codegen_emit.proofs.MappedPats.{children_mapped, pat_mapped}
 
 -- ---- classes
 

@@ -36,8 +36,8 @@ use Rattle.swc_ecma_codegen_emit.specs.Lists.{child_of, in_order}
 use Rattle.swc_ecma_codegen_emit.specs.Parts.{expr_part, stmt_part}
 use Rattle.swc_ecma_codegen_emit.specs.Stmts.{stmt}
 use Rattle.swc_ecma_codegen_emit.specs.Tree.{node_items}
-use Rattle.swc_ecma_codegen_emit.proofs.PatKnots.{children_mapped, pat_mapped}
-use Rattle.swc_ecma_codegen_emit.proofs.StmtKnots.{stmt_child_mapped}
+use Rattle.swc_ecma_codegen_emit.proofs.MappedPats.{children_mapped, pat_mapped}
+use Rattle.swc_ecma_codegen_emit.proofs.MappedStmts.{stmt_child_mapped}
 
 -- ---- functions
 

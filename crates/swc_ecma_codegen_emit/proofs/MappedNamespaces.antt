@@ -21,8 +21,8 @@ use Rattle.swc_ecma_codegen_emit.specs.Modules.{module_item, module_item_by}
 use Rattle.swc_ecma_codegen_emit.specs.Namespaces.{module_block_format, ts_module_block, ts_namespace_decl, namespace_inside, braced_body, dotted_body, ts_namespace_body}
 use Rattle.swc_ecma_codegen_emit.specs.Parts.{ts_part}
 use Rattle.swc_ecma_codegen_emit.specs.Tree.{node_items}
-use Rattle.swc_ecma_codegen_emit.proofs.PatKnots.{children_mapped}
-use Rattle.swc_ecma_codegen_emit.proofs.StmtKnots.{stmt_mapped, stmt_placed}
+use Rattle.swc_ecma_codegen_emit.proofs.MappedPats.{children_mapped}
+use Rattle.swc_ecma_codegen_emit.proofs.MappedStmts.{stmt_mapped, stmt_placed}
 
 -- an item, by where it stands and what is written of it
 item_same : (a b : Span) (p q : Part) → a ≡ b → ((rest : Plan) → p rest ≡ q rest) → child_at a (λ rest. leading_comments a.lo (p (trailing_comments true a.hi rest))) ≡ child_at b (λ rest. leading_comments b.lo (q (trailing_comments true b.hi rest)))
