@@ -2,13 +2,15 @@
 #![tactic(auto)]
 
 pub mod ast;
+pub mod text_writer;
 
 pub use swc_ecma_codegen_common::{Error, Result};
-pub use swc_ecma_codegen_emit::{Emitter, Node, to_code, to_code_default, to_code_with_comments};
+pub use swc_ecma_codegen_emit::{
+    Emitter, Node, to_code, to_code_default, to_code_with_comments, to_code_with_positions,
+};
 pub use swc_ecma_codegen_grammar::ListFormat;
 pub use swc_ecma_codegen_laws as laws;
 pub use swc_ecma_codegen_literals as literals;
-pub use swc_ecma_codegen_text_writer as text_writer;
 pub use swc_ecma_codegen_util::config::Config;
 pub use swc_ecma_codegen_util::{config, util};
 pub use swc_ecma_codegen_validate::{

@@ -63,3 +63,4 @@ pub mod TsExprParts
 pub mod MappedTsDecls
 pub mod NamespaceParts
 pub mod MappedNamespaces
+mod LastSemi

@@ -1,11 +1,12 @@
 -- A text that is made in memory.
-use Rattle.std.specs.Prelude.{ℕ, List, [], ◌∷◌, Err}
+use Rattle.std.specs.Prelude.{◌≡◌, ◌⊎◌, ℕ, Bool, true, false, if◌then◌else◌, List, [], ◌∷◌, Err}
 use Rattle.swc_ecma_codegen_common.specs.declared.errors.Error.{Error}
 use Rattle.swc_ecma_codegen_common.specs.declared.errors.Error.TheVariants.{Writer}
 use Rattle.swc_ecma_codegen_common.specs.Refusals.{reason_of}
 use Rattle.swc_ecma_codegen_util.specs.Defaults.{default_config}
-use Rattle.swc_ecma_codegen_text_writer.specs.Sheet.{Sheet}
-use Rattle.swc_ecma_codegen_text_writer.specs.View.{new_sheet}
+use Rattle.swc_ecma_codegen_util.specs.declared.config.Config.{Config}
+use Rattle.swc_ecma_codegen_text_writer.specs.Sheet.{Sheet, HoldsNone, Commit, Refuses, settled}
+use Rattle.swc_ecma_codegen_text_writer.specs.View.{new_sheet, keeping}
 use Rattle.swc_ecma_codegen_grammar.specs.SourceLines.{Lines, no_lines}
 use Rattle.swc_ecma_codegen_grammar.specs.CommentMaps.{Maps}
 use Rattle.swc_ecma_codegen_grammar.specs.Comments.{no_maps}
@@ -31,3 +32,31 @@ IsOfWriter e = ⊥
 -- an emission of a part from a state can end with an error
 abbrev pub GivesCause : Part → State → Error → Type 0
 GivesCause part a error = (b : State) × Follows (part nothing) a b (Err (reason_of error))
+
+-- ---- a text with its positions
+
+-- the sheet on which it is made: positions are kept, none yet, and where it is minified semicolons are held back
+unfoldable pub sheet_by : Bool → Sheet
+sheet_by true = record (keeping [] blank_sheet) { semicolons = HoldsNone }
+sheet_by false = keeping [] blank_sheet
+
+-- where its emission begins
+abbrev pub start_with : Lines → Maps → Config → State
+start_with lines maps config = start lines maps config (sheet_by config.minify)
+
+-- a semicolon that is held back at the end is written, unless the settings leave it out: `a` becomes `a;`
+unfoldable pub with_last : Config → Sheet → Sheet
+with_last config s = if config.omit_last_semi then s else settled s
+
+-- the sheet at the end, with the text and the positions of a part
+abbrev pub sheet_with : Lines → Maps → Config → Part → Sheet
+sheet_with lines maps config part = with_last config (printed part (start_with lines maps config)).sheet
+
+-- a sheet without what it holds back
+abbrev pub unheld : Sheet → Sheet
+unheld s = record s { semicolons = HoldsNone }
+
+-- An emission of a part from a state can end with an error, or else the semicolon that was held back at its end.
+abbrev pub GivesCauseOrLast : Config → Part → State → Error → Type 0
+GivesCauseOrLast config part a error =
+    GivesCause part a error ⊎ ((config.omit_last_semi ≡ false) × ((new : Sheet) × Refuses Commit (reason_of error) (printed part a).sheet new))

@@ -7,6 +7,7 @@ ghost use Rattle.swc_ecma_codegen_emit.specs.Exprs.{ident, ident_name, private_n
 ghost use Rattle.swc_ecma_codegen_emit.specs.AnyExpr.{expr_parts, is_left_operand, leaves_comments, expr_closed, expr, wrapped, placed_expr};
 ghost use Rattle.swc_ecma_codegen_spans.specs.Spans.{expr_span};
 ghost use Rattle.swc_ecma_codegen_emit.specs.Answers.{place_of};
+ghost use Rattle.swc_ecma_codegen_emit.specs.Lists.{unsupported};
 ghost use Rattle.swc_ecma_codegen_emit.specs.Operands.{operand_space};
 ghost use Rattle.swc_ecma_codegen_emit.specs.declared.nodes.Place.TheVariants.{Plain};
 ghost use Rattle.swc_ecma_codegen_util.specs.Starts.{is_word_op as is_word_unary};
@@ -25,7 +26,7 @@ use swc_ecma_codegen_literals::Punctuator;
 use swc_ecma_codegen_text_writer::WriteJs;
 use swc_ecma_codegen_tree::{
     AssignExpr, AwaitExpr, BinExpr, ComputedPropName, CondExpr, Expr, ExprBox, Ident, IdentName,
-    MetaPropExpr, MetaPropKind, ParenExpr, PrivateName, SeqExpr, SpreadElement, ThisExpr,
+    Invalid, MetaPropExpr, MetaPropKind, ParenExpr, PrivateName, SeqExpr, SpreadElement, ThisExpr,
     UnaryExpr, UpdateExpr, YieldExpr,
 };
 
@@ -113,6 +114,18 @@ fn expr_parts<N: LinkTarget, W: WriteJs, S: SourceMapper, C: Comments>(
         Expr::TsInstantiation(node) => node.emit_at(e, place),
         Expr::TsSatisfies(node) => node.emit_at(e, place),
         Expr::Invalid(_) => e.unsupported(),
+    }
+}
+
+impl EmitAt for Invalid {
+    ghost items = { λ n _. unsupported };
+
+    fn emit_at<W: WriteJs, S: SourceMapper, C: Comments>(
+        &self,
+        e: &mut Emitter<'_, W, S, C>,
+        place: Place,
+    ) {
+        e.unsupported();
     }
 }
 

@@ -23,7 +23,7 @@ use swc_ecma_codegen_text_writer::WriteJs;
 use swc_ecma_codegen_tokens::Unprintable;
 
 impl<W: WriteJs, S: SourceMapper, C: Comments> Emitter<'_, W, S, C> {
-    /// Refuses a node that has no text here, as `Invalid`, or none yet, as what TypeScript adds.
+    /// Refuses a node that has no text, as `Invalid`.
     #[tactic(auto, using(crate::proofs::Standings::refused_makes), unfolding(crate::specs::Lists::unsupported))]
     pub(crate) fn unsupported(&mut self)
         ensures items { Performs unsupported S.lines C.maps W.sheet self.old self.new }

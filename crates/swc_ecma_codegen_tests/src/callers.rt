@@ -3,12 +3,14 @@
 use crate::trees::MEMBER;
 use std::alloc::Global;
 use std::test::Fail;
-use swc_ecma_codegen::Node;
+use swc_ecma_codegen::{Config, Node, to_code_with_positions};
 use swc_ecma_codegen_common::Error;
 use swc_ecma_codegen_examples::{
     NoText, append_checked, checked_text, minified, minified_json, negation_text, print_into,
     print_with_positions,
 };
+use swc_ecma_codegen_grammar::comments::CommentMaps;
+use swc_ecma_codegen_grammar::mapper::NoSource;
 use swc_ecma_codegen_json::{ReadError, Tree, program_from_slice};
 
 /// Whether a node is `a.b;` by the callers that take any node.
@@ -67,4 +69,44 @@ fn callers_say_why_there_is_no_text(rt: HostRuntime) {
     assert!(rt; reason(alloc, b"{}") == "unread");
     assert!(rt; reason(alloc, INVALID.as_bytes()) == "not well-formed");
     assert!(rt; reason(alloc, MEMBER.as_bytes()) == "none");
+}
+
+/// `a + b;`, read from the positions 1 to 7.
+const SUM: &str =
+    r#"{"Script":{"span":{"lo":1,"hi":7},"body":[{"Expr":{"span":{"lo":1,"hi":7},"expr":{"Bin":{"span":{"lo":1,"hi":6},"op":"Add","left":{"Ident":{"span":{"lo":1,"hi":2},"sym":"a","optional":false}},"right":{"Ident":{"span":{"lo":5,"hi":6},"sym":"b","optional":false}}}}}}],"shebang":null}}"#;
+
+/// Whether a node has this text with these settings, and `a` at 1 and `b` at 5 stand in these columns of its first line.
+fn has_columns<P: Node>(
+    alloc: Global,
+    cfg: Config,
+    node: &P,
+    text: &str,
+    columns: (u32, u32),
+) -> Result<bool, Error> {
+    let (printed, pairs) = to_code_with_positions(
+        alloc,
+        cfg,
+        &NoSource,
+        None::<CommentMaps>,
+        node,
+    )?;
+    let places = [(1, 0, columns.0), (5, 0, columns.1)];
+    let mut all = printed.as_str() == text && pairs.len() == places.len();
+    for ((pos, at), place) in pairs.iter().zip(places) {
+        all = all && (pos.0, at.line, at.col) == place;
+    }
+    Ok(all)
+}
+
+#[test]
+fn text_and_positions_at_once(rt: HostRuntime) -> Result<(), Fail> {
+    let alloc = rt.alloc();
+    let tree = Tree(program_from_slice(alloc, SUM.as_bytes())?);
+    let cfg = Config::default();
+    assert!(rt; has_columns(alloc, cfg, &tree.0, "a + b;\n", (0, 4))?);
+    let cfg = cfg.with_minify(true);
+    assert!(rt; has_columns(alloc, cfg, &tree.0, "a+b;", (0, 2))?);
+    let cfg = cfg.with_omit_last_semi(true);
+    assert!(rt; has_columns(alloc, cfg, &tree.0, "a+b", (0, 2))?);
+    Ok(())
 }

@@ -15,8 +15,8 @@ use swc_ecma_codegen_common::{BinaryOp, DUMMY_SP, Error, UpdateOp};
 use swc_ecma_codegen_emit::operands::{Operand, OperandKind, SpaceBefore};
 use swc_ecma_codegen_spans::{SpanEnds, Spanned};
 use swc_ecma_codegen_tree::{
-    EmptyStmt, Expr, ExprBox, ExprStmt, Ident, IdentName, MemberExpr, MemberExprBox, MemberProp,
-    Program, Stmt, StmtBox,
+    EmptyStmt, Expr, ExprBox, ExprStmt, Ident, IdentName, Invalid, MemberExpr, MemberExprBox,
+    MemberProp, Program, Stmt, StmtBox, VarDeclKind,
 };
 use swc_ecma_codegen_validate::WellFormed;
 
@@ -185,6 +185,20 @@ fn stops_before_invalid<N: Tree>(alloc: Global) -> Result<bool, Fail> {
     Ok(stops_after(alloc, &tree.0, true, "a;"))
 }
 
+/// Whether the node that stands for what couldn't be parsed is refused by itself.
+fn refuses_invalid(alloc: Global) -> bool {
+    let node = Invalid { span: DUMMY_SP };
+    let emission = Emission::of(alloc, &node, settings(false), Page::new());
+    matches!(&emission.answer, Err(Error::UnsupportedNode)) && emission.stopped_after("")
+}
+
+/// Whether each kind of a declaration of variables has its word.
+fn kinds_have_their_words() -> bool {
+    VarDeclKind::Var.as_str() == "var"
+        && VarDeclKind::Let.as_str() == "let"
+        && VarDeclKind::Const.as_str() == "const"
+}
+
 /// Whether a default specifier among braces, which no language has, is refused where its name would stand.
 fn stops_within_braces<N: Tree>(alloc: Global) -> Result<bool, Fail> {
     let tree = N::read(alloc, DEFAULT_EXPORT)?;
@@ -223,8 +237,12 @@ pub(crate) fn check<N: Tree>(alloc: Global, tally: &mut Tally) -> Result<(), Fai
         "hashbangs are printed, and go on in no other line",
     )?;
     tally.unless(
-        stops_before_invalid::<N>(alloc)?,
+        stops_before_invalid::<N>(alloc)? && refuses_invalid(alloc),
         "what can't be printed is refused before its first token",
+    )?;
+    tally.unless(
+        kinds_have_their_words(),
+        "each kind of a declaration of variables has its word",
     )?;
     tally.unless(
         stops_within_braces::<N>(alloc)?,

@@ -3,11 +3,11 @@
 use crate::pipes::Page;
 use crate::trees::settings;
 use std::alloc::Global;
+use swc_ecma_codegen::text_writer::{JsWriter, omit_trailing_semi};
 use swc_ecma_codegen::{Config, Emitter, Node};
 use swc_ecma_codegen_common::{BytePos, Error, LineCol, Result as Answer};
 use swc_ecma_codegen_grammar::comments::CommentMaps;
 use swc_ecma_codegen_grammar::mapper::NoSource;
-use swc_ecma_codegen_text_writer::{JsWriter, omit_trailing_semi};
 use swc_ecma_codegen_tree::Ident;
 
 /// What an emission answered, and one of nothing after it, what the page took, and the positions that were recorded.

@@ -7,8 +7,10 @@ use Rattle.swc_ecma_codegen_text_writer.specs.Reach.{Shows}
 use Rattle.swc_ecma_codegen_text_writer.specs.Sheet.{Pair}
 use Rattle.swc_ecma_codegen_text_writer.specs.Positions.{pairs, Records}
 use Rattle.swc_ecma_codegen_text_writer.specs.declared.positions.Reached.{Reached}
+use Rattle.swc_ecma_codegen_text_writer.specs.declared.positions.HoldsPairs as holds
 use Rattle.swc_ecma_codegen_text_writer.specs.declared.positions.Positions.{Positions}
 use Rattle.swc_ecma_codegen_text_writer.specs.declared.kept.Kept.{Kept}
+use Rattle.swc_ecma_codegen_text_writer.specs.declared.kept.OwnedPositions.{OwnedPositions}
 
 -- where positions are kept, this place was reached
 abbrev pub IsCounted : Bool → Reached → Place → Type 0
@@ -20,15 +22,15 @@ RecordsIn pos p true old new r = Records pos p old new r
 RecordsIn pos p false old new (Ok _) = new ≡ old
 RecordsIn pos p false old new (Err e) = ⊥
 
-unfoldable pub pairs_in : Option Positions → List Pair
+unfoldable pub pairs_in : {L : Type 0} {l : holds.Ghosts L} → Option (Positions L l) → List Pair
 pairs_in (Some w) = pairs w
 pairs_in None = []
 
-unfoldable pub pending_in : Option Positions → Option BytePos
+unfoldable pub pending_in : {L : Type 0} {l : holds.Ghosts L} → Option (Positions L l) → Option BytePos
 pending_in (Some w) = w.pending
 pending_in None = None
 
-unfoldable pub reached_in : Option Positions → Reached
+unfoldable pub reached_in : {L : Type 0} {l : holds.Ghosts L} → Option (Positions L l) → Reached
 reached_in (Some w) = w.reached
 reached_in None = record { line = 0; column = 0; after_cr = false }
 
@@ -44,3 +46,16 @@ kept_pending k = pending_in k.positions
 
 abbrev pub kept_reached : Kept → Reached
 kept_reached k = reached_in k.positions
+
+-- the same of a list that is owned: its positions are kept
+abbrev pub always : OwnedPositions → Bool
+always k = true
+
+abbrev pub owned_pairs : OwnedPositions → List Pair
+owned_pairs k = pairs k.positions
+
+abbrev pub owned_pending : OwnedPositions → Option BytePos
+owned_pending k = k.positions.pending
+
+abbrev pub owned_reached : OwnedPositions → Reached
+owned_reached k = k.positions.reached

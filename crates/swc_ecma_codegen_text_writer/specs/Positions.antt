@@ -6,14 +6,15 @@ use Rattle.swc_ecma_codegen_common.specs.declared.positions.BytePos.{BytePos}
 use Rattle.swc_ecma_codegen_text_writer.specs.Places.{Place}
 use Rattle.swc_ecma_codegen_text_writer.specs.Sheet.{Pair, IsFar, with_pair}
 use Rattle.swc_ecma_codegen_text_writer.specs.Reach.{Shows}
+use Rattle.swc_ecma_codegen_text_writer.specs.declared.positions.HoldsPairs as holds
 use Rattle.swc_ecma_codegen_text_writer.specs.declared.positions.Positions.{Positions}
 
 -- the pairs of the list, those that were handed in first
-abbrev pub pairs : Positions → List Pair
-pairs w = w.list.now.items
+abbrev pub pairs : {L : Type 0} {l : holds.Ghosts L} → Positions L l → List Pair
+pairs {l = l} w = l.pairs w.list
 
 -- this place was reached, and a count stays at 2 ^ 32
-abbrev pub Counts : Positions → Place → Type 0
+abbrev pub Counts : {L : Type 0} {l : holds.Ghosts L} → Positions L l → Place → Type 0
 Counts w p = Shows w.reached p
 
 -- A position was recorded at a place, or refused, and then the pairs are the same.

@@ -8,7 +8,7 @@ ghost use Rattle.swc_ecma_codegen_text_writer.specs.Kept.{IsCounted};
 
 mod calls;
 
-use crate::kept::{KeepsPositions, Kept};
+use crate::kept::{KeepsPositions, Kept, OwnedPositions};
 use crate::outlet::Outlet;
 use std::alloc::Global;
 use std::io::Write;
@@ -88,7 +88,6 @@ impl<'a, W: Write> JsWriter<'a, W> {
 
     /// A writer at a line's start, with no indentation, whose lines end with `new_line`, as `"\n"` or `"\r\n"`.
     /// Positions are recorded in `srcmap`, where there is such a list. It asks nothing of `wr`, which may be a file.
-    #[tactic(auto, unfolding(crate::specs::View::sheet_of, crate::specs::Places::after_text))]
     pub fn new<S>(
         alloc: Global,
         _: &S,
@@ -103,18 +102,57 @@ impl<'a, W: Write> JsWriter<'a, W> {
             (new_sheet (told (W.contents wr)) new_line.now) }
         ensures tells { IsSome (W.contents wr) → Tells result }
     {
-        Lines {
-            alloc,
-            outlet: Outlet::new(wr),
-            new_line,
-            indent_str: DEFAULT_INDENT,
-            usual_indent: true,
-            indent: 0,
-            line_start: true,
-            failed: false,
-            plain: false,
-            kept: Kept::new(srcmap),
-        }
+        Lines::on(alloc, new_line, wr, Kept::new(srcmap))
+    }
+}
+
+/// A `JsWriter` that owns its list of positions, and gives it back with the writer under it: `into_parts`.
+///
+/// It writes what a `JsWriter` with a list writes, records what that records, and is refused as that is.
+pub type PositionsWriter<'a, W> = Lines<'a, W, OwnedPositions>;
+
+impl<'a, W: Write> PositionsWriter<'a, W> {
+    ghost use Rattle.std.specs.Prelude.{IsSome, Some, []};
+    ghost use Rattle.std.specs.Str.{is_utf8};
+    ghost use Rattle.swc_ecma_codegen_text_writer.specs.Told.{told};
+    ghost use Rattle.swc_ecma_codegen_text_writer.specs.View.{sheet_of, new_sheet, keeping, Tells};
+
+    /// A writer as `JsWriter::new` gives it, that records positions in a list of its own, none yet. Takes no memory before
+    /// a position is recorded.
+    pub fn keeping_positions<S>(
+        alloc: Global,
+        _: &S,
+        new_line: &'a str,
+        wr: W,
+    ) -> PositionsWriter<'a, W>
+        ensures sheet { sheet_of result
+            ≡ keeping [] (new_sheet (told (W.contents wr)) new_line.now) }
+        ensures tells { IsSome (W.contents wr) → Tells result }
+    {
+        Lines::on(alloc, new_line, wr, OwnedPositions::new(alloc))
+    }
+
+    /// The writer under it, as `into_inner` gives it, and the positions that were recorded, in their order: each with the
+    /// line and the column, both from 0, that the text had reached, in UTF-16 units.
+    #[tactic(auto, unfolding(crate::specs::View::sheet_of))]
+    pub fn into_parts(self) -> (W, Vec<(BytePos, LineCol)>)
+        ensures text { Tells self.entry → W.contents result.0 ≡ Some (sheet_of self.entry).text }
+        ensures whole { (sheet_of self.entry).whole ≡ is_utf8 (sheet_of self.entry).text }
+        ensures pairs { result.1.items ≡ (sheet_of self.entry).pairs }
+    {
+        let Lines {
+            alloc: _,
+            outlet,
+            new_line: _,
+            indent_str: _,
+            usual_indent: _,
+            indent: _,
+            line_start: _,
+            failed: _,
+            plain: _,
+            kept,
+        } = self;
+        (outlet.into_inner(), kept.into_list())
     }
 }
 
@@ -125,6 +163,29 @@ impl<'a, W: Write, K: KeepsPositions> Lines<'a, W, K> {
     ghost use Rattle.swc_ecma_codegen_text_writer.specs.Told.{told};
     ghost use Rattle.swc_ecma_codegen_text_writer.specs.Sheet.{Writes, Deeper, Shallower, appended, indented, recorded, start_recorded, end_recorded, pending_recorded, started, written, literal_written};
     ghost use Rattle.swc_ecma_codegen_text_writer.specs.View.{sheet_of, new_sheet, keeping, Prefaces, Tells, Reaches, WritesText, WritesLiteral, WritesLine, WritesPosition, WritesNothing};
+
+    /// A writer at a line's start, with what keeps its positions.
+    #[tactic(auto, unfolding(crate::specs::View::sheet_of, crate::specs::Places::after_text))]
+    fn on(alloc: Global, new_line: &'a str, wr: W, kept: K) -> Lines<'a, W, K>
+        requires counted { IsCounted (K.keeps kept) (K.reached kept) origin }
+        requires pending { K.pending kept ≡ None }
+        ensures sheet { sheet_of result ≡ record (new_sheet (told (W.contents wr)) new_line.now)
+            { keeps_positions = K.keeps kept; pairs = K.pairs kept; takes_memory = K.keeps kept } }
+        ensures tells { IsSome (W.contents wr) → Tells result }
+    {
+        Lines {
+            alloc,
+            outlet: Outlet::new(wr),
+            new_line,
+            indent_str: DEFAULT_INDENT,
+            usual_indent: true,
+            indent: 0,
+            line_start: true,
+            failed: false,
+            plain: false,
+            kept,
+        }
+    }
 
     /// What one level of indentation writes: four blanks unless it is called.
     #[tactic(auto, unfolding(crate::specs::View::sheet_of))]
@@ -700,5 +761,26 @@ impl<'a, W: Write, K: KeepsPositions> Lines<'a, W, K> {
         ensures same { sheet_of self.new ≡ sheet_of self.old }
     {
         refusal.with_fault(self.outlet.take_fault())
+    }
+}
+
+#[cfg(test)]
+mod tests {
+    use super::*;
+    use crate::WriteJs;
+    use std::test::Fail;
+
+    #[test]
+    fn levels_above_32_bits(rt: HostRuntime) -> std::result::Result<(), Fail> {
+        let alloc = rt.alloc();
+        let mut writer = PositionsWriter::keeping_positions(alloc, &(), "\n", Vec::new(alloc));
+        writer.indent = 4294967294;
+        writer.increase_indent()?;
+        let answer = writer.increase_indent();
+        assert!(rt; matches!(answer, Err(Error::PositionTooLarge)));
+        assert!(rt; matches!(writer.write_str("a"), Err(Error::Failed)));
+        let (text, positions) = writer.into_parts();
+        assert!(rt; text.is_empty() && positions.is_empty());
+        Ok(())
     }
 }

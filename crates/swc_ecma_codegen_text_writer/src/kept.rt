@@ -8,6 +8,7 @@ ghost use Rattle.swc_ecma_codegen_text_writer.specs.declared.positions.Reached.{
 ghost use Rattle.swc_ecma_codegen_text_writer.specs.Kept.{IsCounted, RecordsIn};
 
 use crate::positions::Positions;
+use std::alloc::Global;
 use swc_ecma_codegen_common::{Answer, BytePos, LineCol};
 
 /// What keeps positions for a writer, or keeps none: it is told what is written, and where it is to record a position.
@@ -63,7 +64,7 @@ pub trait KeepsPositions: Drop {
 /// The positions that are kept, or nothing where none are.
 #[derive(Drop)]
 pub struct Kept<'a> {
-    positions: Option<Positions<'a>>,
+    positions: Option<Positions<&'a mut Vec<(BytePos, LineCol)>>>,
 }
 
 impl<'a> Kept<'a> {
@@ -131,5 +132,69 @@ impl KeepsPositions for Kept<'_> {
             None => None,
             Some(positions) => positions.take_pending(),
         }
+    }
+}
+
+/// A list of positions that a writer owns: it gives the list back.
+#[derive(Drop)]
+pub struct OwnedPositions {
+    positions: Positions<Vec<(BytePos, LineCol)>>,
+}
+
+impl OwnedPositions {
+    ghost use Rattle.swc_ecma_codegen_text_writer.specs.Kept.{always, owned_pairs, owned_pending, owned_reached};
+
+    /// Nothing is written yet, nothing is pending, and the list is empty.
+    pub fn new(alloc: Global) -> OwnedPositions
+        ensures pairs { owned_pairs result ≡ [] }
+        ensures pending { owned_pending result ≡ None }
+        ensures counted { IsCounted (always result) (owned_reached result) origin }
+    {
+        OwnedPositions {
+            positions: Positions::new(Vec::new(alloc)),
+        }
+    }
+
+    /// The list.
+    pub fn into_list(self) -> Vec<(BytePos, LineCol)>
+        ensures { result.items ≡ owned_pairs self }
+    {
+        let OwnedPositions { positions } = self;
+        positions.into_list()
+    }
+}
+
+#[tactic(auto, unfolding(crate::specs::Kept::RecordsIn))]
+impl KeepsPositions for OwnedPositions {
+    ghost use Rattle.swc_ecma_codegen_text_writer.specs.Kept.{always, owned_pairs, owned_pending, owned_reached};
+
+    ghost keeps = { always };
+
+    ghost pairs = { owned_pairs };
+
+    ghost pending = { owned_pending };
+
+    ghost reached = { owned_reached };
+
+    fn is_kept(&self) -> bool {
+        true
+    }
+
+    #[inline(always)]
+    fn pass(&mut self, text: &str) {
+        self.positions.pass(text);
+    }
+
+    #[inline(always)]
+    fn record(&mut self, pos: BytePos) -> Answer {
+        self.positions.record(pos)
+    }
+
+    fn point(&mut self, pos: BytePos) {
+        self.positions.point(pos);
+    }
+
+    fn take_pending(&mut self) -> Option<BytePos> {
+        self.positions.take_pending()
     }
 }

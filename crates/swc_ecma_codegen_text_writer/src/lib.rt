@@ -15,7 +15,7 @@ mod outlet;
 mod positions;
 mod semicolon;
 
-pub use crate::basic_impl::JsWriter;
+pub use crate::basic_impl::{JsWriter, PositionsWriter};
 pub use crate::semicolon::{OmitTrailingSemi, omit_trailing_semi};
 use swc_ecma_codegen_common::{BytePos, Result, Span};
 

@@ -1,12 +1,13 @@
 //! Positions in a source text, and where in the printed text they stand.
 
-ghost use Rattle.std.specs.Prelude.{◌≡◌, ◌≤◌, ◌<◌, ◌^◌, true, length, Some, None, vec_len};
+ghost use Rattle.std.specs.Prelude.{◌≡◌, ◌≤◌, ◌<◌, ◌^◌, true, List, [], ◌∷◌, ◌++◌, length, Some, None, OnOk, OnErr};
 ghost use Rattle.std.specs.List.{AllWithin};
 ghost use Rattle.std.proofs.Props.{props};
 ghost use Rattle.swc_ecma_codegen_text_writer.specs.Places.{Place, units_of, after_byte, after_text, next_line};
-ghost use Rattle.swc_ecma_codegen_text_writer.specs.Sheet.{is_same_pair, has_pair};
+ghost use Rattle.swc_ecma_codegen_text_writer.specs.Sheet.{Pair, is_same_pair, has_pair};
 ghost use Rattle.swc_ecma_codegen_text_writer.specs.Reach.{Shows, IsFrom, IsAt, IsBefore, further, is_one_column, is_in_line};
 
+use std::alloc::AllocError;
 use swc_ecma_codegen_common::{Answer, BytePos, LineCol, Refusal};
 
 /// A count stays here: from here on no `LineCol` tells it.
@@ -136,35 +137,79 @@ impl Reached {
     }
 }
 
+/// What holds a list of pairs: the list itself, or a reference to it.
+pub trait HoldsPairs: Drop {
+    ghost pairs: { Self → List Pair };
+
+    /// The pairs.
+    fn list(&self) -> &[(BytePos, LineCol)]
+        ensures { result.now ≡ pairs self.now };
+
+    /// Puts a pair at the list's end. Where memory is wanting, the list is as it was.
+    fn add(&mut self, pair: (BytePos, LineCol)) -> std::result::Result<(), AllocError>
+        ensures pushed { OnOk result (pairs self.new ≡ pairs self.old ++ (pair ∷ [])) }
+        ensures same { OnErr result (pairs self.new ≡ pairs self.old) };
+}
+
+impl HoldsPairs for Vec<(BytePos, LineCol)> {
+    ghost pairs = { λ list. list.items };
+
+    #[inline(always)]
+    fn list(&self) -> &[(BytePos, LineCol)] {
+        self.as_slice()
+    }
+
+    #[inline(always)]
+    fn add(&mut self, pair: (BytePos, LineCol)) -> std::result::Result<(), AllocError> {
+        match self.push(pair) {
+            Ok(()) => Ok(()),
+            Err(_) => Err(AllocError),
+        }
+    }
+}
+
+impl<L: HoldsPairs> HoldsPairs for &mut L {
+    ghost pairs = { λ list. L.pairs list.now };
+
+    #[inline(always)]
+    fn list(&self) -> &[(BytePos, LineCol)] {
+        (**self).list()
+    }
+
+    #[inline(always)]
+    fn add(&mut self, pair: (BytePos, LineCol)) -> std::result::Result<(), AllocError> {
+        (**self).add(pair)
+    }
+}
+
 /// What records positions: the list that holds them, and the place that was reached.
 ///
 /// This writer's pairs stand in the order of their places, so one that is recorded twice is among those of the place
 /// reached, at the list's end, or among those that were handed in.
 #[derive(Drop)]
-pub struct Positions<'a> {
-    list: &'a mut Vec<(BytePos, LineCol)>,
+pub struct Positions<L: HoldsPairs> {
+    list: L,
     handed_in: usize,
     /// The first pair that was recorded at the place reached.
     recent: usize,
     pending: Option<BytePos>,
     reached: Reached,
-    ghost in_list: { (handed_in ≤ recent) × (recent ≤ vec_len list.now) } by { Prim.hlevel props },
-    ghost passed: { AllWithin (λ pair. IsBefore pair.1 reached) list.now.items handed_in recent } by { Prim.hlevel props },
-    ghost here: { AllWithin (λ pair. IsAt pair.1 reached) list.now.items recent (vec_len list.now) } by { Prim.hlevel props },
+    ghost in_list: { (handed_in ≤ recent) × (recent ≤ length (L.pairs list)) } by { Prim.hlevel props },
+    ghost passed: { AllWithin (λ pair. IsBefore pair.1 reached) (L.pairs list) handed_in recent } by { Prim.hlevel props },
+    ghost here: { AllWithin (λ pair. IsAt pair.1 reached) (L.pairs list) recent (length (L.pairs list)) } by { Prim.hlevel props },
 }
 
-impl<'a> Positions<'a> {
+impl<L: HoldsPairs> Positions<L> {
     ghost use Rattle.swc_ecma_codegen_text_writer.specs.Places.{origin};
     ghost use Rattle.swc_ecma_codegen_text_writer.specs.Positions.{pairs, Counts, Records};
 
     /// Nothing is written yet, and nothing is pending.
-    pub fn new(list: &'a mut Vec<(BytePos, LineCol)>) -> Positions<'a>
-        ensures pairs { pairs result ≡ list.old.items }
+    pub fn new(list: L) -> Positions<L>
+        ensures pairs { pairs result ≡ L.pairs list }
         ensures place { Counts result origin }
         ensures pending { result.pending ≡ None }
-        ensures lent { result.list.ghost_name ≡ list.entry.ghost_name }
     {
-        let handed_in = list.len();
+        let handed_in = list.list().len();
         Positions {
             list,
             handed_in,
@@ -184,7 +229,6 @@ impl<'a> Positions<'a> {
         ensures place { (p : Place) → Counts self.old p → Counts self.new (after_text text.now p) }
         ensures pairs { pairs self.new ≡ pairs self.old }
         ensures pending { self.new.pending ≡ self.old.pending }
-        ensures lent { self.new.list.ghost_name ≡ self.old.list.ghost_name }
     {
         if !text.is_empty() && is_in_line(text.as_bytes()) {
             let reached = self.reached.after_units(text.len() as u64);
@@ -200,7 +244,6 @@ impl<'a> Positions<'a> {
         ensures place { (p : Place) → Counts self.old p → Counts self.new (after_text text.now p) }
         ensures pairs { pairs self.new ≡ pairs self.old }
         ensures pending { self.new.pending ≡ self.old.pending }
-        ensures lent { self.new.list.ghost_name ≡ self.old.list.ghost_name }
     {
         let reached = self.reached.after_text(text);
         self.move_to(reached);
@@ -213,10 +256,9 @@ impl<'a> Positions<'a> {
         ensures place { (p : Place) → Shows reached p → Counts self.new p }
         ensures pairs { pairs self.new ≡ pairs self.old }
         ensures pending { self.new.pending ≡ self.old.pending }
-        ensures lent { self.new.list.ghost_name ≡ self.old.list.ghost_name }
     {
         if reached.line != self.reached.line || reached.column != self.reached.column {
-            self.recent = self.list.len();
+            self.recent = self.list.list().len();
         }
         self.reached = reached;
     }
@@ -227,7 +269,8 @@ impl<'a> Positions<'a> {
         requires column { pair.1.col ≡ self.now.reached.column }
         ensures { result ≡ has_pair pair (pairs self.now) }
     {
-        holds(&self.list[..self.handed_in], pair) || holds(&self.list[self.recent..], pair)
+        let list = self.list.list();
+        holds(&list[..self.handed_in], pair) || holds(&list[self.recent..], pair)
     }
 
     /// Records that what stands at `pos` in its source text was written at the place reached. Position 0, and a pair
@@ -241,7 +284,6 @@ impl<'a> Positions<'a> {
             Records pos p (pairs self.old) (pairs self.new) result }
         ensures place { (p : Place) → Counts self.old p → Counts self.new p }
         ensures pending { self.new.pending ≡ self.old.pending }
-        ensures lent { self.new.list.ghost_name ≡ self.old.list.ghost_name }
     {
         if pos.0 == 0 {
             return Ok(());
@@ -257,7 +299,6 @@ impl<'a> Positions<'a> {
             Records pos p (pairs self.old) (pairs self.new) result }
         ensures place { (p : Place) → Counts self.old p → Counts self.new p }
         ensures pending { self.new.pending ≡ self.old.pending }
-        ensures lent { self.new.list.ghost_name ≡ self.old.list.ghost_name }
     {
         if self.reached.line >= LIMIT || self.reached.column >= LIMIT {
             return Err(Refusal::PositionTooLarge);
@@ -270,10 +311,24 @@ impl<'a> Positions<'a> {
         if self.stands(pair) {
             return Ok(());
         }
-        match self.list.push(pair) {
+        match self.list.add(pair) {
             Ok(()) => Ok(()),
             Err(_) => Err(Refusal::OutOfMemory),
         }
+    }
+
+    /// What held the list, with the pairs.
+    pub fn into_list(self) -> L
+        ensures { L.pairs result ≡ pairs self }
+    {
+        let Positions {
+            list,
+            handed_in: _,
+            recent: _,
+            pending: _,
+            reached: _,
+        } = self;
+        list
     }
 
     /// What is written next, once the line has begun, stands at `pos`.
@@ -281,7 +336,6 @@ impl<'a> Positions<'a> {
         ensures pending { self.new.pending ≡ Some pos }
         ensures pairs { pairs self.new ≡ pairs self.old }
         ensures place { (p : Place) → Counts self.old p → Counts self.new p }
-        ensures lent { self.new.list.ghost_name ≡ self.old.list.ghost_name }
     {
         self.pending = Some(pos);
     }
@@ -292,8 +346,51 @@ impl<'a> Positions<'a> {
         ensures pending { self.new.pending ≡ None }
         ensures pairs { pairs self.new ≡ pairs self.old }
         ensures place { (p : Place) → Counts self.old p → Counts self.new p }
-        ensures lent { self.new.list.ghost_name ≡ self.old.list.ghost_name }
     {
         self.pending.take()
+    }
+}
+
+#[cfg(test)]
+mod tests {
+    use super::*;
+    use std::alloc::Global;
+
+    /// What records positions in a list of its own, at a place that was set.
+    fn at(alloc: Global, line: u64, column: u64) -> Positions<Vec<(BytePos, LineCol)>> {
+        Positions {
+            list: Vec::new(alloc),
+            handed_in: 0,
+            recent: 0,
+            pending: None,
+            reached: Reached {
+                line,
+                column,
+                after_cr: false,
+            },
+        }
+    }
+
+    #[test]
+    fn places_above_32_bits(rt: HostRuntime) {
+        let alloc = rt.alloc();
+        // (the place that is set, what is written then, whether a position is recorded there)
+        let cases = [
+            (0, 4294967290, "abcde", true),
+            (0, 4294967290, "abcdef", false),
+            (0, 4294967290, "\u{1f600}abcd", false),
+            (4294967290, 3, "\n\n\n\n\na", true),
+            (4294967290, 3, "\r\n\n\n\n\n\n", false),
+            (4294967294, 4294967290, "\n", true),
+        ];
+        for (line, column, text, is_recorded) in cases {
+            let mut positions = at(alloc, line, column);
+            positions.pass(text);
+            let answer = positions.record(BytePos(7));
+            let is_refused = matches!(answer, Err(Refusal::PositionTooLarge));
+            assert_eq!(rt; is_refused, !is_recorded, "at {line}:{column}");
+            let held = positions.into_list().len();
+            assert_eq!(rt; held, if is_recorded { 1 } else { 0 }, "at {line}:{column}");
+        }
     }
 }

@@ -14,8 +14,8 @@ use swc_ecma_codegen_literals::{Punctuator, TokenClass};
 /// Whether a blank is due between a token and a text, by their classes.
 pub fn blank_due(last: TokenClass, next: StartClass) -> bool
     // It is what the gap rules say of each token of the one class and each text of the other.
-    ensures { (token : PreviousToken) (text : List ℕ) → class_of token ≡ last → start_class text ≡ next →
-        result ≡ fuses (last_at token) text }
+    ensures { (token : PreviousToken) (text : List ℕ) → class_of token ≡ last →
+        start_class text ≡ next → result ≡ fuses (last_at token) text }
 {
     blank_due_after(row(last), next)
 }

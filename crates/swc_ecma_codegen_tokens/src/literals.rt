@@ -452,8 +452,9 @@ impl LowerEmitter {
         ensures reads { IsNew (state_of cfg.now (W.sheet wr.old) self.old) →
             IsAtMargin (state_of cfg.now (W.sheet wr.old) self.old) →
             is_utf8 text.now ≡ true → is_one_line (chars text.now) ≡ true →
-            OnOk result (ReadsSoFar (W.sheet wr.old).text (token_of kind.Hashbang (codes "#!" ++ chars text.now) ∷ [])
-            [] (state_of cfg.now (W.sheet wr.new) self.new)) }
+            OnOk result (ReadsSoFar (W.sheet wr.old).text
+            (token_of kind.Hashbang (codes "#!" ++ chars text.now) ∷ []) []
+            (state_of cfg.now (W.sheet wr.new) self.new)) }
         ensures level { OnOk result ((W.sheet wr.new).indentation ≡ (W.sheet wr.old).indentation) }
     {
         self.put_hashbang_mark(cfg, wr)?;

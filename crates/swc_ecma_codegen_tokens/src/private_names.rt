@@ -219,7 +219,8 @@ impl LowerEmitter {
             (maps_in C.maps comments.new) (state_of cfg.now (W.sheet wr.old) self.old)
             (state_of cfg.now (W.sheet wr.new) self.new) result }
         ensures reads { (W.sheet wr.old).keeps_invalid ≡ false →
-            AddsTaking (PrivateOf name.now) (private_name span name.now) (maps_in C.maps comments.old)
+            AddsTaking (PrivateOf name.now) (private_name span name.now)
+            (maps_in C.maps comments.old)
             cfg.now (W.sheet wr.old) self.old (W.sheet wr.new) self.new result }
         ensures level { OnOk result ((W.sheet wr.new).indentation ≡ (W.sheet wr.old).indentation) }
     {

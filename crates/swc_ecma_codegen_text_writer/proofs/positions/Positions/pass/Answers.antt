@@ -5,7 +5,7 @@ use Rattle.swc_ecma_codegen_text_writer.proofs.positions.Positions.pass.Goals as
 
 -- a text that stays in its line
 pub returns-then-is_in_line-clause-place : goal.returns-then-is_in_line-clause-place
-returns-then-is_in_line-clause-place c p h =
+returns-then-is_in_line-clause-place g c p h =
     let text = c.args.text.now in
     let some : text ≡ [] → ⊥ = search rules in
     let same : c.as_bytes.result.now ≡ text = c.as_bytes.ensures.value in

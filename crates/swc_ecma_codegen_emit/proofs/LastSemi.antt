@@ -1,0 +1,189 @@
+-- A semicolon that is held back at the end of an emission, and is written then.
+use Rattle.std.proofs.Common.{◌≡◌, ℕ, append_assoc, Bool, true, false, not, refl, sym, ap, ◌∙◌, subst, inl, inr, List, [], ◌∷◌, ◌++◌, None, Ok, append-nil, if◌then◌else◌}
+use Rattle.std.proofs.lemmas.Bool.{not-false, cases_Bool}
+use Rattle.std.proofs.lemmas.Str.{is_utf8-from_IsUtf8, IsUtf8-nil}
+use Rattle.swc_ecma_codegen_util.specs.declared.config.Config.{Config}
+use Rattle.swc_ecma_codegen_text_writer.specs.Places.{Place, origin, after_text}
+use Rattle.swc_ecma_codegen_text_writer.specs.Recorded.{RecordsTruly, StandIn, AreNew}
+use Rattle.swc_ecma_codegen_text_writer.specs.Sheet.{Sheet, Pair, Commit, effect, settled, holds_semicolons}
+use Rattle.swc_ecma_codegen_text_writer.proofs.Pairs.{records_trans, settled_records, records_refl}
+use Rattle.swc_ecma_codegen_grammar.specs.Phrases.{PlacedName, names_in}
+use Rattle.swc_ecma_codegen_grammar.specs.SourceLines.{Lines}
+use Rattle.swc_ecma_codegen_grammar.specs.CommentMaps.{Maps}
+use Rattle.swc_ecma_codegen_grammar.specs.Comments.{AreClosed, remarks_of}
+use Rattle.swc_ecma_codegen_tokens.specs.Run.{Env, Part, Plan, State, Step, Plain, nothing, step, run, put, start, steps_of, steps_in, printed, taken_in, taken_by, unprintable_in, Follows}
+use Rattle.swc_ecma_codegen_tokens.specs.Named.{NamesStand, RecordsNames}
+use Rattle.swc_ecma_codegen_tokens.specs.Targets.{written_as}
+use Rattle.swc_ecma_codegen_tokens.specs.Words.{commit_pending_semi}
+use Rattle.swc_ecma_codegen_tokens.specs.Written.{AddsReading, ReadsAs, taken_remarks, all_indent, is_indent, holds_one}
+use Rattle.swc_ecma_codegen_tokens.proofs.Fronts.{run_append, run_whole}
+use Rattle.swc_ecma_codegen_tokens.proofs.PartSteps.{steps_of_chain, steps_of_more}
+use Rattle.swc_ecma_codegen_tokens.proofs.Phrased.{PrintsAt, before, prints_wider, steps_read, made_not_out, follows_records, printed_names}
+use Rattle.swc_ecma_codegen_tokens.proofs.Positions.{recorded_more}
+use Rattle.swc_ecma_codegen_tokens.proofs.Printed.{env_after, writes_commit, remarks_both}
+use Rattle.swc_ecma_codegen_tokens.proofs.Shapes.{unbroken_at, open_, join, is_within}
+use Rattle.swc_ecma_codegen_emit.specs.Roots.{Root, root_items, root_phrase, is_well_formed_root, root_hashbang, MayBegin}
+use Rattle.swc_ecma_codegen_emit.specs.Texts.{sheet_by, sheet_with, start_with, with_last}
+use Rattle.swc_ecma_codegen_emit.proofs.TreeReads.{root_prints, root_shape}
+
+left_out : (config : Config) (s : Sheet) → config.omit_last_semi ≡ true → with_last config s ≡ s
+unfolding with_last
+left_out config s h = ap (λ b. if b then s else settled s) h
+
+written_last : (config : Config) (s : Sheet) → config.omit_last_semi ≡ false → with_last config s ≡ settled s
+unfolding with_last
+written_last config s h = ap (λ b. if b then s else settled s) h
+
+-- the call that writes it
+abbrev last_step : List Step
+last_step = Plain Commit ∷ []
+
+after_last : (s : State) → (run last_step s).sheet ≡ settled s.sheet
+unfolding run put effect
+after_last s = refl
+
+-- ---- what is recorded
+
+last_records : (config : Config) (s : Sheet) → RecordsTruly s (with_last config s)
+last_records config s =
+    elim (cases_Bool config.omit_last_semi) [
+      | inl left ↦ subst (RecordsTruly s) (sym (left_out config s left)) (records_refl s)
+      | inr wanted ↦ subst (RecordsTruly s) (sym (written_last config s wanted)) (settled_records s)
+    ]
+
+part_records : (p : Part) (a : State) → unprintable_in (steps_in p a) ≡ None → RecordsTruly a.sheet (printed p a).sheet
+unfolding Follows
+part_records p a none = follows_records (p nothing) a (printed p a) (Ok tt) (none, refl)
+
+pub records_with : (lines : Lines) (maps : Maps) (config : Config) (p : Part) → unprintable_in (steps_in p (start_with lines maps config)) ≡ None → RecordsTruly (sheet_by config.minify) (sheet_with lines maps config p)
+records_with lines maps config p none =
+    let a = start_with lines maps config in
+    records_trans (sheet_by config.minify) (printed p a).sheet (sheet_with lines maps config p) (part_records p a none) (last_records config (printed p a).sheet)
+
+-- the sheet had no text and no pairs before
+no_pairs : (b : Bool) → (sheet_by b).pairs ≡ []
+unfolding sheet_by
+no_pairs true = refl
+no_pairs false = refl
+
+no_text : (b : Bool) → (sheet_by b).text ≡ []
+unfolding sheet_by
+no_text true = refl
+no_text false = refl
+
+at_origin : (b : Bool) → (sheet_by b).place ≡ origin
+unfolding sheet_by
+at_origin true = refl
+at_origin false = refl
+
+pub stand_with : (b : Bool) (s : Sheet) → RecordsTruly (sheet_by b) s → StandIn origin s.text s.pairs
+stand_with b s h =
+    let text : s.text ≡ h.text = h.is_text ∙ ap (λ t. t ++ h.text) (no_text b) in
+    let pairs : s.pairs ≡ h.added = h.is_added ∙ ap (λ (t : List Pair). t ++ h.added) (no_pairs b) in
+    subst (λ t. StandIn origin t s.pairs) (sym text) (subst (λ t. StandIn origin h.text t) (sym pairs) (subst (λ q. StandIn q h.text h.added) (at_origin b) h.are_true))
+
+pub new_with : (b : Bool) (s : Sheet) → RecordsTruly (sheet_by b) s → AreNew [] s.pairs
+new_with b s h =
+    let pairs : s.pairs ≡ h.added = h.is_added ∙ ap (λ (t : List Pair). t ++ h.added) (no_pairs b) in
+    subst (AreNew []) (sym pairs) (subst (λ t. AreNew t h.added) (no_pairs b) h.are_new)
+
+-- ---- its bytes
+
+last_whole : (config : Config) (s : State) → (with_last config s.sheet).whole ≡ s.sheet.whole
+last_whole config s =
+    elim (cases_Bool config.omit_last_semi) [
+      | inl left ↦ ap (λ (z : Sheet). z.whole) (left_out config s.sheet left)
+      | inr wanted ↦ ap (λ (z : Sheet). z.whole) (written_last config s.sheet wanted ∙ sym (after_last s)) ∙ run_whole last_step s
+    ]
+
+whole_at : (b : Bool) → (sheet_by b).whole ≡ true
+unfolding sheet_by
+whole_at true = is_utf8-from_IsUtf8 [] IsUtf8-nil
+whole_at false = is_utf8-from_IsUtf8 [] IsUtf8-nil
+
+pub whole_with : (lines : Lines) (maps : Maps) (config : Config) (p : Part) → (sheet_with lines maps config p).whole ≡ true
+whole_with lines maps config p =
+    let a = start_with lines maps config in
+    last_whole config (printed p a) ∙ run_whole (steps_of (steps_in p a)) a ∙ whole_at config.minify
+
+-- ---- what it reads as
+
+-- nothing more may stand before or behind it
+fits : (b : Bool) → is_within (join (unbroken_at b) open_) (unbroken_at b) ≡ true
+fits true = refl
+fits false = refl
+
+root_reads_last : (n : Root) (p : Part) (a : State) → p ≡ root_items n → is_well_formed_root n ≡ true → MayBegin n a → AreClosed a.env.maps → unprintable_in (p nothing a.env) ≡ None → AddsReading a.env.config (root_phrase n) (taken_remarks p a.env) a.sheet (with_last a.env.config (run (steps_of (p nothing a.env)) a).sheet)
+unfolding nothing commit_pending_semi step steps_of taken_in taken_by remarks_of
+root_reads_last n p a same w s closed none =
+    let anywhere = not (root_hashbang n) in
+    let margin = λ (e : anywhere ≡ false). s.at_margin (not-false (root_hashbang n) e) in
+    let f = root_phrase n in
+    let xs = steps_of (p nothing a.env) in
+    let prints : PrintsAt (root_shape n) a.env p f = subst (λ z. PrintsAt (root_shape n) a.env z f) (sym same) (root_prints a.env s.is_new.leaves_out n) in
+    let o = made_not_out p f a.env prints w none in
+    elim (cases_Bool a.env.config.omit_last_semi) [
+      | inl left ↦ subst (AddsReading a.env.config f (taken_remarks p a.env) a.sheet) (sym (left_out a.env.config (run xs a).sheet left)) (steps_read anywhere p f a s.is_new margin closed prints w o)
+      | inr wanted ↦
+          let q : Part = λ (rest : Plan). p (commit_pending_semi rest) in
+          let more : PrintsAt (root_shape n) a.env q f = prints_wider (root_shape n) (fits anywhere) (before prints (writes_commit a.env)) in
+          let h = (prints.where_possible w o a.env.maps).writes in
+          let base : xs ≡ h.steps = ap steps_of (h.is_steps nothing) ∙ steps_of_chain h.steps in
+          let all : steps_of (q nothing a.env) ≡ xs ++ last_step =
+          ap steps_of (h.is_steps (commit_pending_semi nothing)) ∙ steps_of_more h.steps (commit_pending_semi nothing (env_after h.steps a.env)) ∙ ap (λ z. z ++ last_step) (sym base) in
+          let read = subst (λ z. AddsReading a.env.config f (remarks_of (taken_in z a.env.maps)) a.sheet (run z a).sheet) all (steps_read anywhere q f a s.is_new margin closed more w o) in
+          let remarks : remarks_of (taken_in (xs ++ last_step) a.env.maps) ≡ remarks_of (taken_in xs a.env.maps) = remarks_both xs last_step a.env ∙ append-nil _ in
+          let end : (run (xs ++ last_step) a).sheet ≡ with_last a.env.config (run xs a).sheet =
+          ap (λ (z : State). z.sheet) (run_append xs last_step a) ∙ after_last (run xs a) ∙ sym (written_last a.env.config (run xs a).sheet wanted) in
+          subst (AddsReading a.env.config f (taken_remarks p a.env) a.sheet) end (subst (λ z. AddsReading a.env.config f z a.sheet (run (xs ++ last_step) a).sheet) remarks read)
+    ]
+
+begins_by : (n : Root) (lines : Lines) (maps : Maps) (config : Config) (b : Bool) → MayBegin n (start lines maps config (sheet_by b))
+unfolding sheet_by all_indent is_indent holds_one
+begins_by n lines maps config true = record { is_new = record { nothing_written = refl; nothing_held = refl; indent_text = refl; line_end = inl refl; leaves_out = refl }; at_margin = λ hashbang line. refl }
+begins_by n lines maps config false = record { is_new = record { nothing_written = refl; nothing_held = refl; indent_text = refl; line_end = inl refl; leaves_out = refl }; at_margin = λ hashbang line. refl }
+
+holds_by : (b : Bool) → holds_semicolons (sheet_by b).semicolons ≡ b
+unfolding sheet_by
+holds_by true = refl
+holds_by false = refl
+
+pub code_reads_with : (lines : Lines) (maps : Maps) (config : Config) (n : Root) (p : Part) → p ≡ root_items n → is_well_formed_root n ≡ true → AreClosed maps → unprintable_in (steps_in p (start_with lines maps config)) ≡ None → ReadsAs config config.minify (root_phrase n) (taken_remarks p (start_with lines maps config).env) (sheet_with lines maps config p).text
+code_reads_with lines maps config n p same w closed none =
+    let a = start_with lines maps config in
+    let h = root_reads_last n p a same w (begins_by n lines maps config config.minify) closed none in
+    let added : (sheet_with lines maps config p).text ≡ h.added = h.is_added ∙ ap (λ t. t ++ h.added) (no_text config.minify) in
+    subst (λ t. ReadsAs config config.minify (root_phrase n) (taken_remarks p a.env) t) (sym added) (subst (λ b. ReadsAs config b (root_phrase n) (taken_remarks p a.env) h.added) (holds_by config.minify) h.reading)
+
+-- ---- names
+
+-- names that stand in a text stand in a longer one, with more pairs
+names_longer : (config : Config) (p : Place) (t u : List ℕ) (pairs more : List Pair) (xs : List PlacedName) → NamesStand config p t pairs xs → NamesStand config p (t ++ u) (pairs ++ more) xs
+unfolding NamesStand
+names_longer config p t u pairs more [] h = tt
+names_longer config p t u pairs more (x ∷ xs) h =
+    (h.0, h.1 ++ u, ap (λ z. z ++ u) h.2 ∙ append_assoc h.0 (written_as config x ++ h.1) u ∙ ap (λ z. h.0 ++ z) (append_assoc (written_as config x) h.1 u), recorded_more x.at (after_text h.0 p) pairs more h.3, names_longer config (after_text (written_as config x) (after_text h.0 p)) h.1 u pairs more xs h.4)
+
+keeps_by : (b : Bool) → (sheet_by b).keeps_positions ≡ true
+unfolding sheet_by
+keeps_by true = refl
+keeps_by false = refl
+
+leaves_by : (lines : Lines) (maps : Maps) (config : Config) (b : Bool) → (start lines maps config (sheet_by b)).env.keeps_invalid ≡ false
+unfolding sheet_by
+leaves_by lines maps config true = refl
+leaves_by lines maps config false = refl
+
+pub names_with : (lines : Lines) (maps : Maps) (config : Config) (n : Root) (p : Part) → p ≡ root_items n → is_well_formed_root n ≡ true → unprintable_in (steps_in p (start_with lines maps config)) ≡ None → NamesStand config origin (sheet_with lines maps config p).text (sheet_with lines maps config p).pairs (names_in (root_phrase n))
+unfolding Follows
+names_with lines maps config n p same w none =
+    let a = start_with lines maps config in
+    let f = root_phrase n in
+    let xs = names_in f in
+    let prints : PrintsAt (root_shape n) a.env p f = subst (λ z. PrintsAt (root_shape n) a.env z f) (sym same) (root_prints a.env (leaves_by lines maps config config.minify) n) in
+    let h : RecordsNames config xs a.sheet (printed p a).sheet = printed_names p f a (printed p a) (Ok tt) prints w (keeps_by config.minify) (none, refl) in
+    let k = last_records config (printed p a).sheet in
+    let s = sheet_with lines maps config p in
+    let text : s.text ≡ h.text ++ k.text = k.is_text ∙ ap (λ z. z ++ k.text) (h.is_text ∙ ap (λ z. z ++ h.text) (no_text config.minify)) in
+    let stand = names_longer config a.sheet.place h.text k.text (printed p a).sheet.pairs k.added xs h.stand in
+    subst (λ z. NamesStand config origin z s.pairs xs) (sym text) (subst (λ z. NamesStand config origin (h.text ++ k.text) z xs) (sym k.is_added) (subst (λ q. NamesStand config q (h.text ++ k.text) ((printed p a).sheet.pairs ++ k.added) xs) (at_origin config.minify) stand))
