@@ -1,7 +1,8 @@
 'use strict';
 // Reads lines of JSON, each some texts of one tree, `{"texts":[{"text":"..","tokens":["n:a",..]},..],"tree":..}`, and answers each
 // with who told the tokens of each text, how many texts Babel parsed, how many elements and fragments the tree holds, whether it
-// holds types, and a fault or null. With `isRow` a text may be no program. See scripts/read-back.
+// holds types, and a fault or null. With `isRow` a text may be no program; with `typed` in place of `tree` only the texts are compared,
+// by the plugin for TypeScript where that holds types. See scripts/read-back and scripts/fuzz.
 const { holdsTypes, isReadAs } = require('./typed.js');
 let acorn, babel;
 try {
@@ -49,22 +50,27 @@ function tokensByAcorn(text) {
 }
 
 // What may stand before a text and after it. A hashbang is one at the very beginning alone, and much of TypeScript stands in no function.
-function frames(text, isTyped) {
+function frames(text, isTyped, isFile) {
   if (text.startsWith('#!')) return [['', '']];
+  if (isFile) return [['', ''], [OPEN, CLOSE]];
   return isTyped ? [[OPEN, CLOSE], ['', '']] : [[OPEN, CLOSE]];
 }
 
-// What reads a text: of TypeScript also what reads files of declarations alone.
-function plugins(isTyped) {
-  return isTyped ? [['typescript', ...PLUGINS], [['typescript', { dts: true }], ...PLUGINS]] : [PLUGINS];
+// What reads a text: of a whole file also what reads TypeScript, without JSX too, with decorators before parameters and before `export`,
+// and files of declarations alone.
+function plugins(isTyped, isFile) {
+  const others = PLUGINS.slice(1), old = PLUGINS.map((name) => (name === 'decorators' ? 'decorators-legacy' : name));
+  const typed = [['typescript', ...PLUGINS], ['typescript', ...old], ['typescript', ...others], [['typescript', { dts: true }], ...others]];
+  if (isTyped) return typed;
+  return isFile ? [PLUGINS, ...typed] : [PLUGINS];
 }
 
 // As a script, or else as a module, which alone has `import.meta`; with what stands before it.
-function parsed(text, isTyped) {
+function parsed(text, isTyped, isFile) {
   const allowed = { allowSuperOutsideMethod: true, allowImportExportEverywhere: true, allowReturnOutsideFunction: true, allowUndeclaredExports: true };
-  for (const [open, close] of frames(text, isTyped)) {
+  for (const [open, close] of frames(text, isTyped, isFile)) {
     for (const sourceType of ['script', 'module']) {
-      for (const some of plugins(isTyped)) {
+      for (const some of plugins(isTyped, isFile)) {
         try {
           const file = babel.parse(open + text + close, { sourceType, plugins: some, tokens: true, attachComment: false, ...allowed });
           return { program: file.program, tokens: file.tokens, open, close };
@@ -77,13 +83,14 @@ function parsed(text, isTyped) {
   return null;
 }
 
-function tokensByBabel(text, file) {
+// With `valued` the parts of templates are told without their text, which the program has as units.
+function tokensByBabel(text, file, valued = false) {
   if (file === null) return null;
   const { open, close } = file, src = open + text + close, found = [];
   for (const token of file.tokens) {
     // (comments stand among them)
     if (token.start >= open.length && token.end <= open.length + text.length && typeof token.type !== 'string') {
-      const spelled = src.slice(token.start, token.end);
+      const spelled = valued && token.type.label === 'template' ? 'template' : src.slice(token.start, token.end);
       // (some versions have `#` for itself)
       if (found.length && found[found.length - 1] === '#') found.push(found.pop() + spelled);
       else found.push(spelled);
@@ -107,15 +114,18 @@ function tokensByKinds(text, wanted) {
   return rest === '' ? found : null;
 }
 
+// Whether a node is an empty statement in a list, whose semicolon may be all that ends the statement before it: `{a;;}` is `{a;}` minified.
+const isEmpty = (node) => node !== null && node.type === 'EmptyStatement';
+
 // A tree without places, spellings, parentheses, and marks that the parser leaves. A part of a template is its units, unless there is a tag.
 function bare(node, tagged = false) {
-  if (Array.isArray(node)) return node.map((held) => bare(held, tagged));
+  if (Array.isArray(node)) return node.filter((held) => !isEmpty(held)).map((held) => bare(held, tagged));
   if (node === null || typeof node !== 'object') return node;
   if (node.type === 'NumericLiteral') return { type: node.type, value: node.value };
   if (node.type === 'TemplateElement' && !tagged) return { type: node.type, value: node.value.cooked };
   const made = {};
   for (const [name, held] of Object.entries(node)) {
-    if (!['start', 'end', 'loc', 'extra', 'tokens', 'errors', 'comments', 'range', 'trailingComma'].includes(name)) made[name] = bare(held, node.type === 'TaggedTemplateExpression' || (tagged && node.type === 'TemplateLiteral' && name === 'quasis'));
+    if (!['start', 'end', 'loc', 'extra', 'tokens', 'errors', 'comments', 'range', 'trailingComma'].includes(name)) made[name] = bare(held, (node.type === 'TaggedTemplateExpression' && name === 'quasi') || (tagged && node.type === 'TemplateLiteral' && name === 'quasis'));
   }
   return made;
 }
@@ -184,7 +194,7 @@ function ownElement(part) {
 
 const isSame = (one, two) => JSON.stringify(bare(one)) === JSON.stringify(bare(two));
 
-// Literals are spelled otherwise without blanks, and so are parts of templates.
+// Literals are spelled otherwise without blanks.
 const spelled = (token) => (/^(?:\.?[0-9]|["'])|[\n\\]/.test(token) ? 'literal' : token);
 
 // What is left of tokens when all goes that may be there or not.
@@ -192,9 +202,9 @@ function core(tokens) {
   return tokens.filter((token, at) => !['(', ')', ';'].includes(token) && !(token === ',' && [']', '}', ')'].includes(tokens[at + 1])));
 }
 
-function look({ texts, tree, isRow }) {
-  const isTyped = holdsTypes(tree || {});
-  const files = texts.map(({ text }) => parsed(text, isTyped));
+function look({ texts, tree, typed, isRow }) {
+  const isTyped = holdsTypes(tree || typed || {});
+  const files = texts.map(({ text }) => parsed(text, isTyped, !isRow && !!tree));
   const eyes = [];
   let fault = null;
   texts.forEach(({ text, tokens }, at) => {
@@ -207,7 +217,7 @@ function look({ texts, tree, isRow }) {
   if (texts.length === 2) {
     if (files[0] !== null && files[1] !== null && !isSame(files[0].program, files[1].program)) fault = fault || 'two programs';
     if (texts[0].tokens === null) {
-      const [pretty, minified] = texts.map(({ text }, at) => tokensByBabel(text, files[at]));
+      const [pretty, minified] = texts.map(({ text }, at) => tokensByBabel(text, files[at], true));
       if (pretty === null || minified === null) fault = fault || (isRow ? null : 'no program');
       else if (core(pretty).map(spelled).join(' ') !== core(minified).map(spelled).join(' ')) fault = fault || 'other tokens';
     }

@@ -17,9 +17,12 @@ function holdsTypes(node) {
 const isSpan = (node) => Object.keys(node).join() === 'lo,hi';
 const cooked = (raw) => (0, eval)('`' + raw + '`');
 
+// An empty statement in a list, whose semicolon may be all that ends the statement before it: `{a;;}` is `{a;}` minified.
+const isEmpty = (node) => node !== null && ('Empty' in node || ('Stmt' in node && 'Empty' in node.Stmt));
+
 // A tree without places and spellings, with the empty arguments of `new`, which may be left out, and without joints of one type.
 function bare(node) {
-  if (Array.isArray(node)) return node.map(bare);
+  if (Array.isArray(node)) return node.filter((held) => !isEmpty(held)).map(bare);
   if (node === null || typeof node !== 'object') return node;
   if (isSpan(node)) return true;
   const joined = node.TsUnionOrIntersectionType && Object.values(node.TsUnionOrIntersectionType)[0].types;
@@ -35,17 +38,22 @@ function bare(node) {
 const item = (node) => (node.ModuleDecl || node.Stmt ? node : { Stmt: node });
 const items = (tree) => JSON.stringify(Object.values(tree).map(({ body }) => bare(body.map(item))));
 
-// Whether a text is the source of a tree: of a file of declarations alone, where it is none of others. Nothing where it is no source.
+// What may read a text: TypeScript with JSX, or else without, and files of declarations alone.
+const READERS = [{ jsx: true }, { jsx: false }, { jsx: false, declarations: true }];
+
+// Whether a text is the source of a tree. Nothing where it is no source.
 function isReadAs(text, tree) {
-  const wanted = items(tree), answers = [];
-  for (const declarations of [false, true]) {
+  const wanted = items(tree);
+  let answer = null;
+  for (const reader of READERS) {
     try {
-      answers.push(items(treeOf(text, { typescript: true, jsx: true, nowhere: true, declarations }).tree) === wanted);
+      if (items(treeOf(text, { typescript: true, declarations: false, nowhere: true, ...reader }).tree) === wanted) return true;
+      answer = false;
     } catch (error) {
-      // (the other may be one)
+      // (another may read it)
     }
   }
-  return answers.length ? answers.includes(true) : null;
+  return answer;
 }
 
 module.exports = { holdsTypes, isReadAs };

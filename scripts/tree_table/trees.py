@@ -14,6 +14,7 @@ class Trees:
         self.depths = dict.fromkeys(types, FAR)
         while self.lower_depths():
             pass
+        self.shapes, self.fitting = {}, {}
 
     def lower_depths(self):
         """Whether some type needs fewer levels of JSON than was known."""
@@ -33,17 +34,34 @@ class Trees:
             return 1
         return self.depths[of.removesuffix("Box")]
 
+    def shape(self, of):
+        """Whether a type is an option or a list, or else a node, what it holds, and how many levels that needs at the least."""
+        if of not in self.shapes:
+            held = re.fullmatch(r"(Option|Vec)<(.*)>", of)
+            self.shapes[of] = (held[1], held[2], self.depth(held[2])) if held else ("", self.types[of.removesuffix("Box")], 0)
+        return self.shapes[of]
+
+    def variants(self, it, room):
+        """The variants of a sum that fit, as keys, and of what each is."""
+        if (it.name, room) not in self.fitting:
+            depths = {name: 0 if of == "" else 1 + self.depth(of) for name, of in it.parts}
+            most = room if room > 10 else min(depths.values()) + 1
+            keys = [(it.name, name) for name, depth in depths.items() if depth <= most]
+            self.fitting[it.name, room] = keys or [(it.name, min(depths, key=depths.get))], dict(it.parts)
+        return self.fitting[it.name, room]
+
     def number(self):
         self.count += 1
         return self.count
 
     def pick(self, keys):
         """One of the keys, mostly one that was met the least."""
-        least = min(self.met.get(it, 0) for it in keys)
+        met = self.met
         if self.random.random() < 0.7:
-            keys = [it for it in keys if self.met.get(it, 0) == least]
+            least = min([met.get(it, 0) for it in keys])
+            keys = [it for it in keys if met.get(it, 0) == least]
         picked = self.random.choice(keys)
-        self.met[picked] = self.met.get(picked, 0) + 1
+        met[picked] = met.get(picked, 0) + 1
         return picked
 
     def value(self, of, room, owner):
@@ -57,24 +75,22 @@ class Trees:
         if of == "Decimal":
             return {"negative": self.random.random() < 0.5, "digits": str(self.number() * 10 + 1),
                     "exponent": self.random.choice(EXPONENTS)}
-        if inner := re.fullmatch(r"Option<(.*)>", of):
-            fits = room > 9 and self.depth(inner[1]) <= room
-            keys = [(owner, "None")] + [(owner, "Some")] * fits
-            return self.value(inner[1], room, owner) if self.pick(keys)[1] == "Some" else None
-        if inner := re.fullmatch(r"Vec<(.*)>", of):
-            many = room > 10 and self.depth(inner[1]) < room - 1
-            return [self.value(inner[1], room - 1, owner) for _ in range(self.random.choice([0, 1, 1, 2, 3]) * many)]
-        return self.node(self.types[of.removesuffix("Box")], room)
+        kind, inner, depth = self.shape(of)
+        if kind == "Option":
+            keys = [(owner, "None")] + [(owner, "Some")] * (room > 9 and depth <= room)
+            return self.value(inner, room, owner) if self.pick(keys)[1] == "Some" else None
+        if kind == "Vec":
+            many = room > 10 and depth < room - 1
+            return [self.value(inner, room - 1, owner) for _ in range(self.random.choice([0, 1, 1, 2, 3]) * many)]
+        return self.node(inner, room)
 
     def node(self, it, room):
         if it.is_struct:
             self.met[it.name] = self.met.get(it.name, 0) + 1
             return {name.rstrip("_"): self.value(of, room - 1, (it.name, name)) for name, of in it.parts}
-        depths = {name: 0 if of == "" else 1 + self.depth(of) for name, of in it.parts}
-        most = room if room > 10 else min(depths.values()) + 1
-        _, name = self.pick([(it.name, name) for name, depth in depths.items() if depth <= most]
-                            or [(it.name, min(depths, key=depths.get))])
-        of = dict(it.parts)[name]
+        keys, parts = self.variants(it, room)
+        _, name = self.pick(keys)
+        of = parts[name]
         return name if of == "" else {name: self.value(of, room - 1, (it.name, name))}
 
     def program(self, is_module, items):
