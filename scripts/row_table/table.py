@@ -159,10 +159,13 @@ class Table:
             return tree(parts[-1]), tokens
         return (script_of(",".join(parts)), tokens) if word.startswith("script_") else (script(parts[-1]), tokens + " e:;")
 
-    def of_program(self, row, words, made_of, text):
-        """The text of a program that steps make, with these words."""
-        program, tokens = self.program_of("program_", made_of)
+    def of_steps(self, row, words, word, made_of, text):
+        """The text of what steps make, with these words."""
+        program, tokens = self.program_of(word, made_of)
         return Case(row, words, program, text, "", written(tokens, words))
+
+    def of_program(self, row, words, made_of, text):
+        return self.of_steps(row, words, "program_", made_of, text)
 
     def commented(self, row, word, made_of, comments, left, texts):
         """The texts of a tree with comments, pretty, minified, and minified without semicolons that aren't needed."""
@@ -179,6 +182,9 @@ class Table:
             program, _ = self.program_of(word, rest[0])
             lines = "".join("%s %s %s\n" % tuple(place.split(":")) for place in rest[3].split())
             return [Case(row, ["--positions"], program, rest[2], lines, None, comments_of(rest[1]))]
+        if word.endswith("lined"):
+            # (templates, and what has comments, aren't read back)
+            return [] if rest[1] or "`" in rest[0] else [self.of_steps(row, ["--minify", "--bare", "--max-line", rest[2]], word, rest[0], rest[3])]
         if word in ("tree", "malformed", "script", "script_malformed"):
             return self.both(row, *rest, word.startswith("script"))
         if word == "node":

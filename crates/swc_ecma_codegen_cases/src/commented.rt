@@ -1,6 +1,6 @@
 //! What is printed of a tree with comments.
 
-use crate::looks::{Answers, Emission, Page, Texts, look};
+use crate::looks::{Answers, Emission, Page, Texts, look, look_in_lines};
 use crate::reading::{MINIFIED, Manner, PRETTY, SHORT, comments_read};
 use crate::remarks::{BETWEEN, Remark, remarks_of, taken, told};
 use crate::sources::source_of;
@@ -174,28 +174,33 @@ fn is_beginning(
 }
 
 /// Whether a tree with these comments has this text and these positions over a writer whose room is reserved, or else, where
-/// memory is refused, a beginning of them. Without comments, and so without positions, nothing is asked for that could be refused.
+/// memory is refused, a beginning of them. With blanks and without comments, and so without positions, nothing is asked for that
+/// could be refused.
 pub fn has_beginning(
     alloc: Global,
     tree: &Tree,
     comments: &str,
+    max_line: Option<u32>,
     [text, places]: [&str; 2],
 ) -> Result<bool, AllocError> {
     let Some(remarks) = remarks_of(alloc, comments)? else {
         return Ok(false);
     };
     let source = source_of(alloc, "apart", None)?;
-    match look(alloc, &source, tree.json.as_bytes(), &remarks) {
+    match look_in_lines(alloc, &source, tree.json.as_bytes(), &remarks, max_line) {
         Ok(
             Answers {
                 texts: Ok(found),
                 ..
             },
-        ) => Ok(
-            is_whole(&found.reserved, text, places)
-                || (!remarks.is_empty()
-                    && is_beginning(alloc, &found.reserved, &remarks, text, places)?),
-        ),
+        ) => {
+            let may_be_refused = !remarks.is_empty() || max_line.is_some();
+            Ok(
+                is_whole(&found.reserved, text, places)
+                    || (may_be_refused
+                        && is_beginning(alloc, &found.reserved, &remarks, text, places)?),
+            )
+        }
         _ => Ok(false),
     }
 }

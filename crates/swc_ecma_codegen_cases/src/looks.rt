@@ -44,8 +44,9 @@ pub struct Texts {
     pub reserved: Emission,
 }
 
-/// An emission with blanks over a writer whose room was reserved before: with comments and positions, and in ASCII, or with none of
-/// these where there are no comments.
+/// An emission over a writer whose room was reserved before: with comments and positions, and in ASCII, or with none of
+/// these where there are no comments. It is with blanks, or without and in lines of a greatest length, and then with positions
+/// in any case.
 #[derive(Drop)]
 pub struct Emission {
     pub answer: Result<(), Error>,
@@ -206,17 +207,16 @@ fn page_of<P: Node>(
     })
 }
 
-/// Prints a program to a writer, and then nothing, notes the answers, and gives the writer back. It is printed in ASCII where there
-/// are comments, which takes memory for some names.
+/// Prints a program to a writer, and then nothing, notes the answers, and gives the writer back.
 fn answered_on<P: Node, W: WriteJs + Drop>(
     alloc: Global,
     source: &Source,
+    config: Config,
     tree: &P,
     comments: Option<&mut CommentMaps>,
     emission: &mut Emission,
     wr: W,
 ) -> W {
-    let config = Config::default().with_ascii_only(comments.is_some());
     let mut emitter = Emitter::new(alloc, config, source, comments, wr);
     emission.answer = tree.emit_with(&mut emitter);
     emission.next = None::<Ident>.emit_with(&mut emitter);
@@ -227,6 +227,7 @@ fn answered_on<P: Node, W: WriteJs + Drop>(
 fn reserved_text<P: Node>(
     alloc: Global,
     source: &Source,
+    config: Config,
     tree: &P,
     comments: Option<&mut CommentMaps>,
     pairs: Option<&mut Vec<(BytePos, LineCol)>>,
@@ -234,18 +235,19 @@ fn reserved_text<P: Node>(
 ) -> Result<Vec<u8>, Error> {
     let room = Vec::with_capacity(alloc, ROOM)?;
     let wr = JsWriter::new(alloc, source, "\n", room, pairs);
-    let wr = answered_on(alloc, source, tree, comments, emission, wr);
+    let wr = answered_on(alloc, source, config, tree, comments, emission, wr);
     let text = wr.into_inner();
     let _ended: Vec<u8> = Vec::with_capacity(alloc, ROOM)?;
     Ok(text)
 }
 
-/// The emission of a program over such a writer.
+/// The emission of a program over such a writer. It is in ASCII where there are comments, which takes memory for some names.
 fn reserved_of<P: Node>(
     alloc: Global,
     source: &Source,
     tree: &P,
     remarks: &[Remark],
+    max_line: Option<u32>,
 ) -> Result<Emission, Error> {
     let mut emission = Emission {
         answer: Ok(()),
@@ -256,14 +258,19 @@ fn reserved_of<P: Node>(
         },
         places: String::new(alloc),
     };
-    if remarks.is_empty() {
-        emission.page.text = reserved_text(alloc, source, tree, None, None, &mut emission)?;
+    let config = Config::default()
+        .with_ascii_only(!remarks.is_empty())
+        .with_minify(max_line.is_some())
+        .with_max_line(max_line);
+    if remarks.is_empty() && max_line.is_none() {
+        emission.page.text = reserved_text(alloc, source, config, tree, None, None, &mut emission)?;
     } else {
         let mut maps = maps_of(alloc, remarks)?;
         let mut pairs = Vec::new(alloc);
         emission.page.text = reserved_text(
             alloc,
             source,
+            config,
             tree,
             Some(&mut maps),
             Some(&mut pairs),
@@ -280,6 +287,7 @@ fn texts_of<N: Printed>(
     source: &Source,
     tree: &Program<N>,
     remarks: &[Remark],
+    max_line: Option<u32>,
 ) -> Result<Texts, Error> {
     Ok(Texts {
         code: code_of(alloc, source, tree, remarks)?,
@@ -290,7 +298,7 @@ fn texts_of<N: Printed>(
         pretty: page_of(alloc, source, tree, Layout::Pretty, remarks)?,
         minified: page_of(alloc, source, tree, Layout::Minified, remarks)?,
         short: page_of(alloc, source, tree, Layout::Short, remarks)?,
-        reserved: reserved_of(alloc, source, tree, remarks)?,
+        reserved: reserved_of(alloc, source, tree, remarks, max_line)?,
     })
 }
 
@@ -300,6 +308,7 @@ fn asked<N: Printed>(
     source: &Source,
     tree: &Program<N>,
     remarks: &[Remark],
+    max_line: Option<u32>,
 ) -> Answers {
     let answer = tree.is_well_formed();
     let (stmt, expr) = parts(tree);
@@ -312,7 +321,7 @@ fn asked<N: Printed>(
     };
     Answers {
         well_formed: if agrees { Some(answer) } else { None },
-        texts: texts_of(alloc, source, tree, remarks),
+        texts: texts_of(alloc, source, tree, remarks, max_line),
     }
 }
 
@@ -323,10 +332,21 @@ pub fn look(
     json: &[u8],
     remarks: &[Remark],
 ) -> Result<Answers, ReadError> {
+    look_in_lines(alloc, source, json, remarks, None)
+}
+
+/// The same, with lines of a greatest length where room is reserved.
+pub fn look_in_lines(
+    alloc: Global,
+    source: &Source,
+    json: &[u8],
+    remarks: &[Remark],
+    max_line: Option<u32>,
+) -> Result<Answers, ReadError> {
     match program_from_slice(alloc, json) {
         Ok(program) => {
             let tree = Tree(program);
-            Ok(asked(alloc, source, &tree.0, remarks))
+            Ok(asked(alloc, source, &tree.0, remarks, max_line))
         }
         Err(error) => Err(error),
     }

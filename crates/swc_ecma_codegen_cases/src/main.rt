@@ -17,7 +17,8 @@
 //! the order in which they are taken; those that aren't are given again.
 //! A row `sweep` says of a tree how many texts read back with comments at each place of it, each node having a place of its own.
 //! A row `reserved` has the text of a tree, and its positions where it has comments, over a writer whose room is reserved; a beginning
-//! of both serves where memory is refused (scripts/refuse-memory).
+//! of both serves where memory is refused (scripts/refuse-memory). A row `lined` has them minified, in lines of a greatest length, and
+//! with positions in any case.
 //! A row `literal` says of one, in JSON, which tokens it is, and its texts with the words of each column of `literals`.
 #![tactic(auto)]
 

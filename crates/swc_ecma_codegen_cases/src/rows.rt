@@ -35,7 +35,7 @@ pub fn holds(alloc: Global, steps: &[Step], line: &str) -> Result<bool, Error> {
             Ok(of_steps(alloc, steps, word, words, given, rest)?)
         }
         (
-            "commented" | "commented_node" | "commented_places" | "reserved",
+            "commented" | "commented_node" | "commented_places" | "reserved" | "lined",
             [words, comments, rest @ ..],
         ) => Ok(of_comments(alloc, steps, word, words, comments, rest)?),
         (
@@ -111,8 +111,14 @@ fn of_comments(
         }
         ("commented_node", [text]) => commented::has_node_text(alloc, &tree, comments, text),
         ("reserved", [text, places]) => {
-            commented::has_beginning(alloc, &tree, comments, [text, places])
+            commented::has_beginning(alloc, &tree, comments, None, [text, places])
         }
+        ("lined", [max, text, places]) => match max.parse() {
+            Ok(max) => {
+                commented::has_beginning(alloc, &tree, comments, Some(max), [text, places])
+            }
+            Err(_) => Ok(false),
+        },
         ("commented_places", [text, places]) => {
             commented::has_places(alloc, &tree, comments, [text, places])
         }

@@ -151,6 +151,7 @@ fn make<W: WriteJs>(wr: &mut W, call: &str) -> Answer {
         Some(("mark", mark)) => write_mark(wr, mark),
         Some(("literal", given)) => write_literal(wr, given),
         Some(("at", pos)) => wr.add_srcmap(position(pos)?),
+        Some(("begin", max)) => wr.begin_lines(position(max)?.0),
         Some(_) => Err(Error::UnsupportedNode),
         None => make_bare(wr, call),
     }
@@ -163,6 +164,8 @@ fn make_bare<W: WriteJs>(wr: &mut W, call: &str) -> Answer {
         "semi" => wr.write_semi(None),
         "line" => wr.write_line(),
         "commit" => wr.commit_pending_semi(),
+        "break" => wr.allow_break(),
+        "end" => wr.end_lines(),
         _ => Err(Error::UnsupportedNode),
     }
 }

@@ -1,14 +1,18 @@
 -- What is written of what types add to other nodes is what it reads as.
-use Rattle.std.proofs.Common.{Bool, true, false, not, codes, refl, Option, Some, None}
+use Rattle.std.proofs.Common.{Bool, true, false, not, List, ℕ, codes, refl, Option, Some, None, ◌≡◌}
 use Rattle.swc_ecma_codegen_tree.specs.Links.{TsTypeAnnBox, TsTypeParamDeclBox, TsTypeParamInstantiationBox}
 use Rattle.swc_ecma_codegen_grammar.specs.AnnotationPhrases as lists
+use Rattle.swc_ecma_codegen_grammar.specs.FunctionPhrases.{word_if}
+use Rattle.swc_ecma_codegen_grammar.specs.Phrases.{mark, word}
+use Rattle.swc_ecma_codegen_grammar.specs.TypePhrases as types
 use Rattle.swc_ecma_codegen_grammar.specs.declared.roles.Role.TheVariants.{Annotation, TypeArguments, TypeParameters}
 use Rattle.swc_ecma_codegen_tokens.specs.Run.{Env}
 use Rattle.swc_ecma_codegen_tokens.specs.Words as parts
-use Rattle.swc_ecma_codegen_tokens.specs.Written.{Anything, InName}
-use Rattle.swc_ecma_codegen_tokens.proofs.Phrased.{then, before, prints_nothing, prints_where, prints_punct, PrintsOn, PrintsAt, prints_wider}
-use Rattle.swc_ecma_codegen_tokens.proofs.Printed.{writes_space, writes_formatting_space}
-use Rattle.swc_ecma_codegen_tokens.proofs.Shapes.{open_}
+use Rattle.swc_ecma_codegen_tokens.specs.Words.{keyword, punct_between, space, allows_break}
+use Rattle.swc_ecma_codegen_tokens.specs.Written.{IsWord, IsMark, Anything, InName}
+use Rattle.swc_ecma_codegen_tokens.proofs.Phrased.{then, after, before, prints_nothing, prints_where, prints_keyword, prints_punct, Prints, PrintsOn, PrintsAt, prints_wider, prints_unbroken}
+use Rattle.swc_ecma_codegen_tokens.proofs.Printed.{EndsLines, makes_wider, writes_nothing, writes_space, writes_formatting_space}
+use Rattle.swc_ecma_codegen_tokens.proofs.Shapes.{open_, loose}
 use Rattle.swc_ecma_codegen_tokens.proofs.TagPrints.{prints_spots, prints_none, wider_on}
 use Rattle.swc_ecma_codegen_emit.specs.declared.nodes.Place.{Place}
 use Rattle.swc_ecma_codegen_emit.specs.declared.nodes.Place.TheVariants.{Plain}
@@ -60,3 +64,22 @@ pub type_params_print : {X : Type 0} (l : Linked X) (n : Option (TsTypeParamDecl
 unfolding words.type_params lists.type_params
 type_params_print l None = prints_nothing
 type_params_print l (Some n) = prints_wider open_ refl (l.law n.node.value Plain TypeParameters)
+
+pub ann_at : {X : Type 0} (l : Linked X) (n : TsTypeAnnBox X) → Prints l.env (l.items n.node.value Plain) (types.ann_at l.reads n)
+ann_at l n = l.law n.node.value Plain Annotation
+
+-- a word and a blank, where it is so
+pub word_before_prints : (env : Env) (wanted : Bool) (t : List ℕ) → IsWord t → PrintsAt open_ env (words.word_before wanted t) (word_if wanted (word t))
+unfolding words.word_before word_if
+word_before_prints env true t w = prints_wider open_ refl (before (prints_keyword env None t w) (writes_space env))
+word_before_prints env false t w = prints_nothing
+
+pub word_space_prints : (env : Env) (t : List ℕ) → IsWord t → Prints env (λ rest. keyword None t (space rest)) (word t)
+word_space_prints env t w = before (prints_keyword env None t w) (writes_space env)
+
+pub between_prints : (env : Env) (t : List ℕ) → allows_break t ≡ false → IsMark t → Prints env (punct_between t) (mark t)
+unfolding punct_between
+between_prints env t u w = after (writes_space env) (before (prints_unbroken env t u w) (writes_space env))
+
+pub no_line : (env : Env) → EndsLines env (λ rest. rest)
+no_line env = makes_wider loose refl (writes_nothing env)

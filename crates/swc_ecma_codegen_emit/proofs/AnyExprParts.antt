@@ -12,7 +12,8 @@ use Rattle.swc_ecma_codegen_grammar.specs.declared.roles.Role.TheVariants.{Templ
 use Rattle.swc_ecma_codegen_tokens.specs.Run.{Env}
 use Rattle.swc_ecma_codegen_tokens.specs.Words.{trailing_comments}
 use Rattle.swc_ecma_codegen_tokens.specs.Written.{Anything}
-use Rattle.swc_ecma_codegen_tokens.proofs.Printed.{writes_if, writes_nothing, writes_trailing, Fills}
+use Rattle.swc_ecma_codegen_tokens.proofs.Printed.{writes_if, writes_nothing, Fills}
+use Rattle.swc_ecma_codegen_tokens.proofs.CommentPrints.{writes_trailing}
 use Rattle.swc_ecma_codegen_tokens.proofs.Phrased.{Prints, then, before, prints_never, prints_punct}
 use Rattle.swc_ecma_codegen_tokens.proofs.TagPrints.{prints_spots}
 use Rattle.swc_ecma_codegen_emit.specs.declared.nodes.Place.{Place}

@@ -19,7 +19,6 @@ use Rattle.swc_ecma_codegen_emit.specs.declared.nodes.Place.{Place}
 use Rattle.swc_ecma_codegen_grammar.specs.Settings.{is_up_to_es5}
 use Rattle.swc_ecma_codegen_tokens.specs.Choices.{empty_arguments, loop_ending, attributes_word}
 use Rattle.swc_ecma_codegen_tokens.proofs.Choices.{ended_same, not_ended_same, assert_same, with_same}
-use Rattle.swc_ecma_codegen_common.specs.declared.positions.BytePos.{BytePos}
 use Rattle.swc_ecma_codegen_common.specs.declared.positions.Span.{Span}
 use Rattle.swc_ecma_codegen_emit.specs.Calls.{parentheses}
 use Rattle.swc_ecma_codegen_emit.specs.AnyExpr.{expr_closed}

@@ -1,5 +1,5 @@
 -- What is written of blocks is what it reads as.
-use Rattle.std.proofs.Common.{◌≡◌, refl, ap, ℕ, Bool, ◌||◌, true, false, cond, List, map, codes, inl, inr, None}
+use Rattle.std.proofs.Common.{◌≡◌, refl, ℕ, Bool, ◌||◌, true, false, cond, List, map, codes, inl, inr}
 use Rattle.std.proofs.lemmas.Bool.{cases_Bool}
 use Rattle.swc_ecma_codegen_common.specs.declared.positions.Span.{Span}
 use Rattle.swc_ecma_codegen_tree.specs.declared.stmts.BlockStmt.{BlockStmt}
@@ -8,16 +8,15 @@ use Rattle.swc_ecma_codegen_grammar.specs.FunctionPhrases.{is_some_listed}
 use Rattle.swc_ecma_codegen_grammar.specs.Phrases.{Phrase, ◌>◌, mark}
 use Rattle.swc_ecma_codegen_grammar.specs.Phrases as phrases
 use Rattle.swc_ecma_codegen_grammar.specs.StmtPhrases as lists
-use Rattle.swc_ecma_codegen_grammar.specs.declared.kinds.Kind.TheVariants.{Punctuator}
-use Rattle.swc_ecma_codegen_text_writer.specs.Sheet.{Punct}
 use Rattle.swc_ecma_codegen_grammar.specs.CommentMaps.{Maps}
-use Rattle.swc_ecma_codegen_tokens.specs.Run.{Env, Plan, Part, at_maps, next, step, after_step, when_minified, Guard, Token}
-use Rattle.swc_ecma_codegen_tokens.specs.Lists.{list}
+use Rattle.swc_ecma_codegen_tokens.specs.Run.{Env, Plan, Part, at_maps, when_minified}
+use Rattle.swc_ecma_codegen_tokens.specs.Lists.{list, ListChild}
 use Rattle.swc_ecma_codegen_tokens.specs.Words.{by_maps, comments_before_end, punct, position_before}
 use Rattle.swc_ecma_codegen_tokens.proofs.Emitting.{minified_same, pretty_same}
 use Rattle.swc_ecma_codegen_tokens.proofs.ListLaws.{IsUndelimited, children_of, prints_bracketed_in_order}
 use Rattle.swc_ecma_codegen_tokens.proofs.Phrased.{Prints, prints_by_maps, after, prints_same, prints_punct, prints_wider}
-use Rattle.swc_ecma_codegen_tokens.proofs.Printed.{writes_before_end, writes_nothing, writes_position, writes_position_before, writes_leading, Fills, makes_wider}
+use Rattle.swc_ecma_codegen_tokens.proofs.Printed.{writes_nothing, writes_position, writes_position_before, Fills, makes_wider}
+use Rattle.swc_ecma_codegen_tokens.proofs.CommentPrints.{writes_before_end, writes_leading}
 use Rattle.swc_ecma_codegen_emit.specs.declared.nodes.Place.{Place}
 use Rattle.swc_ecma_codegen_emit.specs.declared.nodes.Place.TheVariants.{Body}
 use Rattle.swc_ecma_codegen_emit.specs.Answers.{place_of}
@@ -29,11 +28,11 @@ use Rattle.swc_ecma_codegen_emit.proofs.Linked.{Linked}
 use Rattle.swc_ecma_codegen_emit.proofs.MarkWords as marks
 use Rattle.swc_ecma_codegen_emit.proofs.StmtParts.{stmt_prints}
 use Rattle.swc_ecma_codegen_tokens.proofs.Shapes.{loose}
+use Rattle.swc_ecma_codegen_emit.proofs.Between.{punct_in}
 
 -- what is the same is the same behind a bracket
 pub behind_bracket : (env : Env) (t : List ℕ) (p q : Part) → ((maps : Maps) (rest : Plan) → p rest (at_maps maps env) ≡ q rest (at_maps maps env)) → (maps : Maps) (rest : Plan) → punct t (p rest) (at_maps maps env) ≡ punct t (q rest) (at_maps maps env)
-unfolding punct step after_step
-behind_bracket env t p q same maps rest = ap (λ z. next (Guard t) (next (Token Punctuator (Punct None t)) z)) (same maps rest)
+behind_bracket env t p q same maps rest = punct_in t (p rest) (q rest) (at_maps maps env) (same maps rest)
 
 writes_block_start : (env : Env) (place : Place) (span : Span) → Fills env (words.block_start place span)
 unfolding words.block_start
@@ -76,10 +75,13 @@ stmts_print l n some =
     ]
 
 block_lines_print : {X : Type 0} (l : Linked X) (n : BlockStmt X) → Prints l.env (λ rest. punct (codes "{") (words.block_lines (is_some_listed n.stmts.items) n.span (children_of (stmt_span (place_of l.asks)) (stmt l.asks l.items) n.stmts.items) (closing n rest))) (whole l n)
-unfolding words.block_lines by_maps punct step after_step
+unfolding words.block_lines by_maps
 block_lines_print l n =
-    let ask : Maps → Part = λ maps rest. punct (codes "{") (words.block_list (is_some_listed n.stmts.items || has_comment_inside n.span maps) n.span (children_of (stmt_span (place_of l.asks)) (stmt l.asks l.items) n.stmts.items) (closing n rest)) in
-    prints_same _ (by_maps ask) (λ maps rest. refl) (prints_by_maps ask (λ maps. stmts_print l n (is_some_listed n.stmts.items || has_comment_inside n.span maps)))
+    let some : Bool = is_some_listed n.stmts.items in
+    let children : List ListChild = children_of (stmt_span (place_of l.asks)) (stmt l.asks l.items) n.stmts.items in
+    let lines : Maps → Part = λ maps rest. words.block_list (some || has_comment_inside n.span maps) n.span children (closing n rest) in
+    let ask : Maps → Part = λ maps rest. punct (codes "{") (lines maps rest) in
+    prints_same _ (by_maps ask) (λ maps rest. punct_in (codes "{") (words.block_lines some n.span children (closing n rest)) (lines maps rest) (at_maps maps l.env) refl) (prints_by_maps ask (λ maps. stmts_print l n (is_some_listed n.stmts.items || has_comment_inside n.span maps)))
 
 pub block_stmt_prints : {X : Type 0} (l : Linked X) (n : BlockStmt X) (place : Place) → Prints l.env (words.block_stmt l.asks l.items n place) (lists.block_stmt l.reads n)
 unfolding words.block_stmt lists.block_stmt

@@ -1,7 +1,6 @@
 -- Whether a line ends before a whole node, by its sort.
-use Rattle.std.proofs.Common.{◌≡◌, Bool, true, false, ◌||◌, List, [], ◌∷◌, refl, sym, ◌∙◌, ap, map}
+use Rattle.std.proofs.Common.{◌≡◌, Bool, ◌||◌, List, [], ◌∷◌, refl, sym, ◌∙◌, ap, map}
 use Rattle.swc_ecma_codegen_grammar.specs.CommentMaps.{Maps}
-use Rattle.swc_ecma_codegen_common.specs.declared.positions.Span.{Span}
 use Rattle.swc_ecma_codegen_spans.specs.Spans.{any_span, expr_span, fn_expr_span, class_expr_span, jsx_member_expr_span, lit_span, jsx_namespaced_name_span}
 use Rattle.swc_ecma_codegen_spans.proofs.Places.{any_span_expr}
 use Rattle.swc_ecma_codegen_tree.specs.declared.links.AnyNode.{AnyNode, AnyNode-F, map-AnyNode, roll-AnyNode, out-AnyNode}

@@ -1,10 +1,10 @@
 -- Whether a line ends before a node, by what the maps hold.
-use Rattle.std.proofs.Common.{◌≡◌, refl, sym, ap, ◌∙◌, subst, Bool, true, false, not, List, Option, Some, None}
+use Rattle.std.proofs.Common.{◌≡◌, refl, sym, ap, ◌∙◌, subst, false, not, List, Option, Some, None}
 use Rattle.swc_ecma_codegen_grammar.specs.CommentMaps.{Maps}
 use Rattle.swc_ecma_codegen_grammar.specs.declared.comments.Comment.{Comment}
 use Rattle.swc_ecma_codegen_common.specs.declared.positions.Span.{Span}
 use Rattle.swc_ecma_codegen_grammar.specs.CommentMaps.{listed}
-use Rattle.swc_ecma_codegen_grammar.specs.Comments.{Leading, maps_in, comments_at, remarks_of, all_tame}
+use Rattle.swc_ecma_codegen_grammar.specs.Comments.{maps_in, comments_at, remarks_of, all_tame}
 use Rattle.swc_ecma_codegen_emit.specs.Commented.{breaks_at}
 
 -- there are no comments at all

@@ -27,7 +27,8 @@ use Rattle.swc_ecma_codegen_tokens.specs.Run.{Env}
 use Rattle.swc_ecma_codegen_tokens.specs.Lists.{list}
 use Rattle.swc_ecma_codegen_tokens.specs.Words.{punct, space, formatting_space, position}
 use Rattle.swc_ecma_codegen_tokens.specs.Written.{IsWord, IsMark}
-use Rattle.swc_ecma_codegen_tokens.proofs.Printed.{writes_if, writes_nothing, writes_space, writes_formatting_space, writes_commit, writes_position, writes_leading, Fills, makes_wider}
+use Rattle.swc_ecma_codegen_tokens.proofs.Printed.{writes_if, writes_nothing, writes_space, writes_formatting_space, writes_commit, writes_position, Fills, makes_wider}
+use Rattle.swc_ecma_codegen_tokens.proofs.CommentPrints.{writes_leading}
 use Rattle.swc_ecma_codegen_tokens.proofs.Phrased.{Prints, then, after, before, prints_nothing, prints_keyword, prints_punct, PrintsAt, prints_wider, loosened}
 use Rattle.swc_ecma_codegen_tokens.proofs.Choices.{prints_empty_arguments}
 use Rattle.swc_ecma_codegen_tokens.proofs.ListLaws.{prints_bracketed, prints_bracketed_some, prints_forced_closing}

@@ -38,23 +38,23 @@ use Rattle.swc_ecma_codegen_tokens.specs.Words.{keyword, punct, space, last_of}
 use Rattle.swc_ecma_codegen_tokens.specs.Written.{IsWord}
 use Rattle.swc_ecma_codegen_tokens.proofs.ListLaws.{IsUndelimited, prints_list, prints_in_order, prints_bracketed_in_order}
 use Rattle.swc_ecma_codegen_tokens.proofs.Phrased.{Prints, PrintsAt, prints_wider, loosened, joined_then, then, after, before, prints_nothing, prints_where, prints_keyword, prints_punct, prints_semi}
-use Rattle.swc_ecma_codegen_tokens.proofs.Printed.{makes_wider, writes_nothing, writes_space, writes_formatting_space, writes_position, writes_position_before, writes_leading}
-use Rattle.swc_ecma_codegen_tokens.proofs.Shapes.{open_, ended_if_any, closed, loose, joining_if_any}
+use Rattle.swc_ecma_codegen_tokens.proofs.Printed.{makes_wider, writes_nothing, writes_space, writes_formatting_space, writes_position, writes_position_before}
+use Rattle.swc_ecma_codegen_tokens.proofs.CommentPrints.{writes_leading}
+use Rattle.swc_ecma_codegen_tokens.proofs.Shapes.{open_, ended_if_any, closed, loose, joining_if_any, ended}
 use Rattle.swc_ecma_codegen_emit.specs.declared.nodes.Place.{Place}
 use Rattle.swc_ecma_codegen_emit.specs.declared.nodes.Place.TheVariants.{Plain, MethodHead, StaticHead, MethodTail}
 use Rattle.swc_ecma_codegen_emit.specs.Classes as words
 use Rattle.swc_ecma_codegen_emit.specs.Classes.{implemented_format}
 use Rattle.swc_ecma_codegen_emit.specs.TsDecls.{extended_place, ts_expr_with_type_args}
-use Rattle.swc_ecma_codegen_emit.specs.Types.{word_before}
+use Rattle.swc_ecma_codegen_emit.specs.Annotations.{word_before}
 use Rattle.swc_ecma_codegen_emit.specs.Places.{behind_key}
 use Rattle.swc_ecma_codegen_emit.specs.FunctionExprs.{comma_list_format}
 use Rattle.swc_ecma_codegen_emit.specs.Functions.{decorators_format, decorator, decorator_lines, decorator_place}
-use Rattle.swc_ecma_codegen_emit.proofs.AnnotationParts.{field_annotation_prints, question_prints, type_args_print, type_params_print}
+use Rattle.swc_ecma_codegen_emit.proofs.AnnotationParts.{field_annotation_prints, question_prints, type_args_print, type_params_print, word_before_prints, word_space_prints}
 use Rattle.swc_ecma_codegen_emit.proofs.ExprParts.{ident_prints, private_name_prints, writes_blank}
 use Rattle.swc_ecma_codegen_emit.proofs.FunctionParts.{decorator_prints, decorators_print, param_prints, undelimited}
 use Rattle.swc_ecma_codegen_emit.proofs.TsDeclParts.{declare_prints, expr_with_type_args_prints}
 use Rattle.swc_ecma_codegen_emit.proofs.TsMemberParts.{index_signature_prints}
-use Rattle.swc_ecma_codegen_emit.proofs.TypeParts.{word_before_prints, word_space_prints}
 use Rattle.swc_ecma_codegen_emit.proofs.TsExprWords as expr_words
 use Rattle.swc_ecma_codegen_emit.proofs.TypeWords as type_words
 use Rattle.swc_ecma_codegen_emit.proofs.Linked.{Linked, expr_at, prop_name_at, block_at}
@@ -73,7 +73,7 @@ heritage_prints l (Some n) args =
     (then (prints_keyword l.env None (codes "extends") marks.extends_word)
     (after (writes_blank l.env (l.asks n.node.value).starts) (then (expr_at l n Plain) (type_args_print l Plain args)))))
 
-member_at : {X : Type 0} (l : Linked X) (n : ClassMemberBox X) → PrintsAt closed l.env (l.items n.node.value Plain) (l.reads n.node.value Member)
+member_at : {X : Type 0} (l : Linked X) (n : ClassMemberBox X) → PrintsAt loose l.env (l.items n.node.value Plain) (l.reads n.node.value Member)
 member_at l n = l.law n.node.value Plain Member
 
 members_undelimited : IsUndelimited words.class_members_format
@@ -85,7 +85,7 @@ closing_prints env n = after (writes_position_before env n.span.hi) (prints_punc
 braced_prints : {X : Type 0} (l : Linked X) (n : class_nodes.Class X) → Prints l.env (λ rest. punct (codes "{") (words.member_list l.asks l.items n (last_of n.span (punct (codes "}") rest)))) (mark (codes "{") > phrases.in_order (map (lists.member_at l.reads) n.body.items) > mark (codes "}"))
 braced_prints l n =
     prints_bracketed_in_order l.env (codes "{") marks.left_brace (λ rest. rest) (makes_wider loose refl (writes_nothing l.env)) words.class_members_format n.span (λ m. (l.asks m.node.value).place) (λ m. l.items m.node.value Plain) (lists.member_at l.reads) (mark (codes "}")) (λ rest. last_of n.span (punct (codes "}") rest))
-    (λ m. prints_wider loose refl (member_at l m)) members_undelimited (closing_prints l.env n) n.body.items
+    (member_at l) members_undelimited (closing_prints l.env n) n.body.items
 
 implements_print : {X : Type 0} (l : Linked X) (span : Span) (ns : List (TsExprWithTypeArgs X)) → PrintsAt ended_if_any l.env (words.implements_clause l.items span ns) (lists.implements_clause l.reads ns)
 unfolding words.implements_clause words.some_implements lists.implements_clause
@@ -166,12 +166,12 @@ unfolding words.constructor_param lists.constructor_param
 constructor_param_prints l (params.Param n) = param_prints l n
 constructor_param_prints l (params.TsParamProp n) = param_prop_prints l n
 
-constructor_body_prints : {X : Type 0} (l : Linked X) (body : Option (BlockStmtBox X)) → Prints l.env (words.constructor_body l.items body) (function_lists.function_body l.reads body)
+constructor_body_prints : {X : Type 0} (l : Linked X) (body : Option (BlockStmtBox X)) → PrintsAt ended l.env (words.constructor_body l.items body) (function_lists.function_body l.reads body)
 unfolding words.constructor_body function_lists.function_body
 constructor_body_prints l None = prints_semi l.env
-constructor_body_prints l (Some n) = block_at l n Plain
+constructor_body_prints l (Some n) = prints_wider ended refl (block_at l n Plain)
 
-constructor_prints : {X : Type 0} (l : Linked X) (n : Constructor X) → Prints l.env (words.class_constructor l.asks l.items n) (lists.class_constructor l.reads n)
+constructor_prints : {X : Type 0} (l : Linked X) (n : Constructor X) → PrintsAt ended l.env (words.class_constructor l.asks l.items n) (lists.class_constructor l.reads n)
 unfolding words.class_constructor words.constructor_word words.constructor_tail lists.class_constructor
 constructor_prints l n =
     after (writes_leading l.env n.span.lo)
@@ -218,13 +218,13 @@ kind_prints l n Method = word_prints l n n.is_static
 kind_prints l n Getter = words_then l.env n.is_static n.is_abstract n.is_override (prints_wider joining_if_any refl (get_prints l.env (l.asks n.key.node.value).starts))
 kind_prints l n Setter = words_then l.env n.is_static n.is_abstract n.is_override (prints_wider joining_if_any refl (set_prints l.env (l.asks n.key.node.value).starts))
 
-tail_prints : {X : Type 0} (l : Linked X) (n : FunctionBox X) (place : Place) (kind : MethodKind) → Prints l.env (l.items n.node.value (behind_key place)) (l.reads n.node.value (lists.tail_role kind))
+tail_prints : {X : Type 0} (l : Linked X) (n : FunctionBox X) (place : Place) (kind : MethodKind) → PrintsAt ended l.env (l.items n.node.value (behind_key place)) (l.reads n.node.value (lists.tail_role kind))
 unfolding lists.tail_role
 tail_prints l n place Method = l.law n.node.value place TailOfMethod
 tail_prints l n place Getter = l.law n.node.value place TailOfAccessor
 tail_prints l n place Setter = l.law n.node.value place TailOfAccessor
 
-method_prints : {X : Type 0} (l : Linked X) (n : ClassMethod X) → Prints l.env (words.class_method l.asks l.items n) (lists.class_method l.reads n)
+method_prints : {X : Type 0} (l : Linked X) (n : ClassMethod X) → PrintsAt ended l.env (words.class_method l.asks l.items n) (lists.class_method l.reads n)
 unfolding words.class_method words.method_rest lists.class_method
 method_prints l n =
     after (writes_leading l.env n.span.lo)
@@ -245,7 +245,7 @@ private_words_print : {X : Type 0} (l : Linked X) (n : PrivateMethod X) → Prin
 unfolding words.private_words lists.method_kind
 private_words_print l n = words_then l.env n.is_static n.is_abstract n.is_override (private_kind_prints l n n.kind)
 
-private_method_prints : {X : Type 0} (l : Linked X) (n : PrivateMethod X) → Prints l.env (words.private_method l.items n) (lists.private_method l.reads n)
+private_method_prints : {X : Type 0} (l : Linked X) (n : PrivateMethod X) → PrintsAt ended l.env (words.private_method l.items n) (lists.private_method l.reads n)
 unfolding words.private_method words.private_rest lists.private_method
 private_method_prints l n =
     after (writes_leading l.env n.span.lo)
@@ -273,7 +273,7 @@ prop_modifiers_print env n =
     (then (static_prints env n.is_static)
     (then (abstract_prints env n.is_abstract) (then (override_prints env n.is_override) (readonly_prints env n.readonly))))))
 
-prop_prints : {X : Type 0} (l : Linked X) (n : ClassProp X) → Prints l.env (words.class_prop l.items n) (lists.class_prop l.reads n)
+prop_prints : {X : Type 0} (l : Linked X) (n : ClassProp X) → PrintsAt ended l.env (words.class_prop l.items n) (lists.class_prop l.reads n)
 unfolding words.class_prop words.prop_tail lists.class_prop
 prop_prints l n =
     after (writes_leading l.env n.span.lo)
@@ -292,7 +292,7 @@ private_modifiers_print env n =
     (then (accessibility_prints env n.accessibility)
     (then (static_prints env n.is_static) (then (override_prints env n.is_override) (readonly_prints env n.readonly))))
 
-private_prop_prints : {X : Type 0} (l : Linked X) (n : PrivateProp X) → PrintsAt closed l.env (words.private_prop l.items n) (lists.private_prop l.reads n)
+private_prop_prints : {X : Type 0} (l : Linked X) (n : PrivateProp X) → PrintsAt loose l.env (words.private_prop l.items n) (lists.private_prop l.reads n)
 unfolding words.private_prop words.private_prop_tail lists.private_prop lists.decorators
 private_prop_prints l n =
     after (writes_leading l.env n.span.lo)
@@ -316,7 +316,7 @@ accessor_modifiers_print env n =
     (then (accessibility_prints env n.accessibility)
     (then (static_prints env n.is_static) (then (abstract_prints env n.is_abstract) (override_prints env n.is_override))))
 
-accessor_prints : {X : Type 0} (l : Linked X) (n : AutoAccessor X) → PrintsAt closed l.env (words.auto_accessor l.items n) (lists.auto_accessor l.reads n)
+accessor_prints : {X : Type 0} (l : Linked X) (n : AutoAccessor X) → PrintsAt loose l.env (words.auto_accessor l.items n) (lists.auto_accessor l.reads n)
 unfolding words.auto_accessor words.accessor_tail lists.auto_accessor lists.decorators
 accessor_prints l n =
     then (prints_in_order l.env decorators_format n.span decorator_place (decorator l.items) (function_lists.decorator l.reads) (λ d. prints_wider loose refl (decorator_prints l d)) undelimited refl n.decorators.items)
@@ -333,18 +333,18 @@ static_block_prints l n =
     (after (writes_position l.env n.span.lo)
     (then (prints_keyword l.env None (codes "static") marks.static_word) (before (block_at l n.body Plain) (writes_position l.env n.span.hi))))
 
-empty_prints : (env : Env) (n : EmptyStmt) → Prints env (words.empty_member n) (mark (codes ";"))
+empty_prints : (env : Env) (n : EmptyStmt) → PrintsAt ended env (words.empty_member n) (mark (codes ";"))
 unfolding words.empty_member
 empty_prints env n = after (writes_leading env n.span.lo) (prints_punct env (codes ";") marks.semicolon)
 
-pub class_member_prints : {X : Type 0} (l : Linked X) (n : class_members.ClassMember X) → PrintsAt closed l.env (words.class_member l.asks l.items n) (lists.class_member l.reads n)
+pub class_member_prints : {X : Type 0} (l : Linked X) (n : class_members.ClassMember X) → PrintsAt loose l.env (words.class_member l.asks l.items n) (lists.class_member l.reads n)
 unfolding words.class_member words.index_member lists.class_member
-class_member_prints l (members.Constructor n) = prints_wider closed refl (constructor_prints l n)
-class_member_prints l (members.Method n) = prints_wider closed refl (method_prints l n)
-class_member_prints l (members.PrivateMethod n) = prints_wider closed refl (private_method_prints l n)
-class_member_prints l (members.ClassProp n) = prints_wider closed refl (prop_prints l n)
+class_member_prints l (members.Constructor n) = prints_wider loose refl (constructor_prints l n)
+class_member_prints l (members.Method n) = prints_wider loose refl (method_prints l n)
+class_member_prints l (members.PrivateMethod n) = prints_wider loose refl (private_method_prints l n)
+class_member_prints l (members.ClassProp n) = prints_wider loose refl (prop_prints l n)
 class_member_prints l (members.PrivateProp n) = private_prop_prints l n
-class_member_prints l (members.Empty n) = prints_wider closed refl (empty_prints l.env n)
-class_member_prints l (members.StaticBlock n) = prints_wider closed refl (static_block_prints l n)
+class_member_prints l (members.Empty n) = prints_wider loose refl (empty_prints l.env n)
+class_member_prints l (members.StaticBlock n) = prints_wider loose refl (static_block_prints l n)
 class_member_prints l (members.AutoAccessor n) = accessor_prints l n
-class_member_prints l (members.TsIndexSignature n) = prints_wider closed refl (then (index_signature_prints l n) (prints_semi l.env))
+class_member_prints l (members.TsIndexSignature n) = prints_wider loose refl (then (index_signature_prints l n) (prints_semi l.env))

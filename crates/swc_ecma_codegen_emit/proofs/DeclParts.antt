@@ -19,7 +19,8 @@ use Rattle.swc_ecma_codegen_grammar.specs.DeclPhrases as lists
 use Rattle.swc_ecma_codegen_tokens.specs.Run.{Env, Part}
 use Rattle.swc_ecma_codegen_tokens.proofs.ListLaws.{prints_list_on_line}
 use Rattle.swc_ecma_codegen_tokens.proofs.Phrased.{Prints, then, after, before, prints_nothing, prints_never, prints_keyword, prints_semi, PrintsAt, prints_wider, joined_then}
-use Rattle.swc_ecma_codegen_tokens.proofs.Printed.{writes_nothing, writes_space, writes_commit, writes_position, writes_leading, Fills}
+use Rattle.swc_ecma_codegen_tokens.proofs.Printed.{writes_nothing, writes_space, writes_commit, writes_position, Fills}
+use Rattle.swc_ecma_codegen_tokens.proofs.CommentPrints.{writes_leading}
 use Rattle.swc_ecma_codegen_emit.specs.declared.nodes.Place.{Place}
 use Rattle.swc_ecma_codegen_emit.specs.declared.nodes.Place.TheVariants.{Plain, DeclarationHead, ExportedHead, ExportedTail, Statement}
 use Rattle.swc_ecma_codegen_emit.specs.Places.{declared}
@@ -92,22 +93,22 @@ unfolding words.decl_end
 writes_decl_end env Statement span = writes_nothing env
 writes_decl_end env place span = writes_position env span.hi
 
-by_prints : (env : Env) (place : Place) (head tail : Part) {whole : Part} {f : phrases.Phrase} → Prints env whole f → Prints env (words.by_export (declared place) head tail whole) f
+by_prints : (env : Env) (place : Place) (head tail : Part) {whole : Part} {f : phrases.Phrase} → PrintsAt ended env whole f → PrintsAt ended env (words.by_export (declared place) head tail whole) f
 unfolding words.by_export
 by_prints env ExportedHead head tail h = h
 by_prints env ExportedTail head tail h = h
 by_prints env place head tail h = h
 
 -- one that isn't exported
-pub decl_prints : {X : Type 0} (l : Linked X) (n : Decl X) (place : Place) → Prints l.env (words.decl l.asks l.items n (declared place)) (lists.decl l.reads n)
+pub decl_prints : {X : Type 0} (l : Linked X) (n : Decl X) (place : Place) → PrintsAt ended l.env (words.decl l.asks l.items n (declared place)) (lists.decl l.reads n)
 unfolding words.decl words.without_head words.variables words.resources lists.decl
-decl_prints l (decls.Class n) place = by_prints l.env place _ _ (class_decl_prints l n)
-decl_prints l (decls.Fn n) place = by_prints l.env place _ _ (fn_decl_prints l n)
+decl_prints l (decls.Class n) place = by_prints l.env place _ _ (prints_wider ended refl (class_decl_prints l n))
+decl_prints l (decls.Fn n) place = by_prints l.env place _ _ (prints_wider ended refl (fn_decl_prints l n))
 decl_prints l (decls.Var n) place = by_prints l.env place _ _ (then (var_decl_prints l n) (before (prints_semi l.env) (writes_decl_end l.env (declared place) n.span)))
 decl_prints l (decls.Using n) place = by_prints l.env place _ _ (then (using_decl_prints l n) (prints_semi l.env))
-decl_prints l (decls.TsInterface n) place = by_prints l.env place _ _ (interface_prints l n.value)
+decl_prints l (decls.TsInterface n) place = by_prints l.env place _ _ (prints_wider ended refl (interface_prints l n.value))
 decl_prints l (decls.TsTypeAlias n) place = by_prints l.env place _ _ (alias_prints l n.value)
-decl_prints l (decls.TsEnum n) place = by_prints l.env place _ _ (enum_prints l n.value)
+decl_prints l (decls.TsEnum n) place = by_prints l.env place _ _ (prints_wider ended refl (enum_prints l n.value))
 decl_prints l (decls.TsModule n) place = by_prints l.env place _ _ (module_prints l n.value)
 
 -- ---- one that is exported
@@ -126,13 +127,13 @@ exported_class_prints l n =
     (then (l.law n.class.node.value Plain ClassWord)
     (after (writes_space l.env) (then (ident_prints l n.ident) (l.law n.class.node.value Plain ClassTail))))))
 
-pub exported_tail_prints : {X : Type 0} (l : Linked X) (n : Decl X) → Prints l.env (words.decl l.asks l.items n ExportedTail) (module_lists.exported_tail l.reads n)
+pub exported_tail_prints : {X : Type 0} (l : Linked X) (n : Decl X) → PrintsAt ended l.env (words.decl l.asks l.items n ExportedTail) (module_lists.exported_tail l.reads n)
 unfolding words.decl words.without_head words.by_export words.variables words.resources words.decl_end lists.decl module_lists.exported_tail
-exported_tail_prints l (decls.Class n) = exported_class_prints l n
-exported_tail_prints l (decls.Fn n) = fn_decl_prints l n
+exported_tail_prints l (decls.Class n) = prints_wider ended refl (exported_class_prints l n)
+exported_tail_prints l (decls.Fn n) = prints_wider ended refl (fn_decl_prints l n)
 exported_tail_prints l (decls.Var n) = then (var_decl_prints l n) (before (prints_semi l.env) (writes_position l.env n.span.hi))
 exported_tail_prints l (decls.Using n) = then (using_decl_prints l n) (prints_semi l.env)
-exported_tail_prints l (decls.TsInterface n) = interface_prints l n.value
+exported_tail_prints l (decls.TsInterface n) = prints_wider ended refl (interface_prints l n.value)
 exported_tail_prints l (decls.TsTypeAlias n) = alias_prints l n.value
-exported_tail_prints l (decls.TsEnum n) = enum_prints l n.value
+exported_tail_prints l (decls.TsEnum n) = prints_wider ended refl (enum_prints l n.value)
 exported_tail_prints l (decls.TsModule n) = module_prints l n.value

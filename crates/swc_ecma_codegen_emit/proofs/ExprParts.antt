@@ -1,5 +1,5 @@
 -- What is written of each expression is what it reads as.
-use Rattle.std.proofs.Common.{◌≡◌, ℕ, Bool, true, false, cond, List, [], ◌==◌, ◌-◌, codes, refl, Option, Some, None, string_bytes}
+use Rattle.std.proofs.Common.{ℕ, Bool, true, false, cond, List, [], ◌==◌, ◌-◌, codes, refl, Option, Some, None, string_bytes, ◌≡◌}
 use Rattle.std.specs.Str.{chars, is_utf8}
 use Rattle.swc_ecma_codegen_common.specs.declared.positions.BytePos.{BytePos}
 use Rattle.swc_ecma_codegen_common.specs.declared.positions.Span.{Span}
@@ -56,15 +56,16 @@ use Rattle.swc_ecma_codegen_grammar.specs.KeyPhrases as keys
 use Rattle.swc_ecma_codegen_grammar.specs.CallPhrases.{callee_at, value_at}
 use Rattle.swc_ecma_codegen_grammar.specs.LitPhrases as lit_lists
 use Rattle.swc_ecma_codegen_grammar.specs.declared.roles.Role.TheVariants.{ChainMember, AssignmentTarget, Callee as IsCallee, ChainCall}
-use Rattle.swc_ecma_codegen_tokens.specs.Run.{Env, Part}
-use Rattle.swc_ecma_codegen_tokens.specs.Words.{operator, space, formatting_space, position, leading_comments, keyword}
+use Rattle.swc_ecma_codegen_tokens.specs.Run.{Env, Part, spelling}
+use Rattle.swc_ecma_codegen_tokens.specs.Words.{operator, space, formatting_space, position, leading_comments, keyword, allow_break, allows_break}
 use Rattle.swc_ecma_codegen_tokens.proofs.PrivatePrints.{prints_private}
-use Rattle.swc_ecma_codegen_tokens.proofs.Printed.{writes_then, writes_if, writes_nothing, writes_space, writes_formatting_space, writes_commit, writes_position, writes_position_before, writes_leading, Fills}
+use Rattle.swc_ecma_codegen_tokens.proofs.Printed.{writes_then, writes_if, writes_nothing, writes_space, writes_formatting_space, writes_commit, writes_position, writes_position_before, Fills}
+use Rattle.swc_ecma_codegen_tokens.proofs.CommentPrints.{writes_leading}
 use Rattle.swc_ecma_codegen_tokens.specs.Written.{IsWord, IsMark}
 use Rattle.swc_ecma_codegen_tokens.proofs.Choices.{prints_bare, prints_optional_parentheses}
 use Rattle.swc_ecma_codegen_tokens.proofs.EachLit.{prints_lit}
 use Rattle.swc_ecma_codegen_tokens.proofs.NumberPrints.{prints_number, prints_number_object}
-use Rattle.swc_ecma_codegen_tokens.proofs.Phrased.{Prints, prints_by_maps, then, after, before, prints_nothing, prints_never, prints_keyword, prints_word_operator, prints_operator, prints_punct, prints_ident, prints_name, PrintsAt, prints_wider, prints_joined_operator, joined_then}
+use Rattle.swc_ecma_codegen_tokens.proofs.Phrased.{Prints, prints_by_maps, then, after, before, prints_nothing, prints_never, prints_keyword, prints_operator, prints_punct, prints_ident, prints_name, PrintsAt, prints_wider, prints_joined_operator, joined_then, prints_unbroken}
 use Rattle.swc_ecma_codegen_emit.specs.declared.nodes.Place.{Place}
 use Rattle.swc_ecma_codegen_emit.specs.declared.nodes.Place.TheVariants.{Plain, LeftOperand, Object, DottedObject, Callee, Chain}
 use Rattle.swc_ecma_codegen_emit.specs.Answers.{Answers, place_of}
@@ -75,8 +76,9 @@ use Rattle.swc_ecma_codegen_emit.specs.Lits.{lit_at}
 use Rattle.swc_ecma_codegen_emit.proofs.CallParts.{super_is_word}
 use Rattle.swc_ecma_codegen_emit.proofs.Linked.{Linked, expr_at}
 use Rattle.swc_ecma_codegen_emit.proofs.ListParts.{some_listed_prints}
-use Rattle.swc_ecma_codegen_tokens.proofs.Shapes.{open_, joined}
+use Rattle.swc_ecma_codegen_tokens.proofs.Shapes.{open_, joined, ended}
 use Rattle.swc_ecma_codegen_grammar.specs.Phrases as phrases
+use Rattle.swc_ecma_codegen_tokens.proofs.BreakPrints.{prints_operator_break, prints_word_break}
 
 -- ---- blanks and comments
 
@@ -122,33 +124,33 @@ unfolding lists.update_op update_text is_punctuator is_among is_same punctuators
 update_op_prints env update.PlusPlus = prints_operator env (codes "++") (record { utf8 = refl; ascii = refl; shape = refl })
 update_op_prints env update.MinusMinus = prints_operator env (codes "--") (record { utf8 = refl; ascii = refl; shape = refl })
 
-binary_op_prints : (env : Env) (op : BinaryOp) → Prints env (words.binary_op op) (One (lists.binary_op op))
-unfolding words.binary_op lists.binary_op is_word_op binary_text is_word is_start is_part is_letter is_digit all_part is_punctuator is_among is_same punctuators chars is_utf8 lib.Utf8.encode
-binary_op_prints env binary.In = prints_word_operator env (codes "in") (record { utf8 = refl; ascii = refl; shape = refl })
-binary_op_prints env binary.InstanceOf = prints_word_operator env (codes "instanceof") (record { utf8 = refl; ascii = refl; shape = refl })
-binary_op_prints env binary.EqEq = prints_operator env (codes "==") (record { utf8 = refl; ascii = refl; shape = refl })
-binary_op_prints env binary.NotEq = prints_operator env (codes "!=") (record { utf8 = refl; ascii = refl; shape = refl })
-binary_op_prints env binary.EqEqEq = prints_operator env (codes "===") (record { utf8 = refl; ascii = refl; shape = refl })
-binary_op_prints env binary.NotEqEq = prints_operator env (codes "!==") (record { utf8 = refl; ascii = refl; shape = refl })
-binary_op_prints env binary.Lt = prints_operator env (codes "<") (record { utf8 = refl; ascii = refl; shape = refl })
-binary_op_prints env binary.LtEq = prints_operator env (codes "<=") (record { utf8 = refl; ascii = refl; shape = refl })
-binary_op_prints env binary.Gt = prints_operator env (codes ">") (record { utf8 = refl; ascii = refl; shape = refl })
-binary_op_prints env binary.GtEq = prints_operator env (codes ">=") (record { utf8 = refl; ascii = refl; shape = refl })
-binary_op_prints env binary.LShift = prints_operator env (codes "<<") (record { utf8 = refl; ascii = refl; shape = refl })
-binary_op_prints env binary.RShift = prints_operator env (codes ">>") (record { utf8 = refl; ascii = refl; shape = refl })
-binary_op_prints env binary.ZeroFillRShift = prints_operator env (codes ">>>") (record { utf8 = refl; ascii = refl; shape = refl })
-binary_op_prints env binary.Add = prints_operator env (codes "+") (record { utf8 = refl; ascii = refl; shape = refl })
-binary_op_prints env binary.Sub = prints_operator env (codes "-") (record { utf8 = refl; ascii = refl; shape = refl })
-binary_op_prints env binary.Mul = prints_operator env (codes "*") (record { utf8 = refl; ascii = refl; shape = refl })
-binary_op_prints env binary.Div = prints_operator env (codes "/") (record { utf8 = refl; ascii = refl; shape = refl })
-binary_op_prints env binary.Mod = prints_operator env (codes "%") (record { utf8 = refl; ascii = refl; shape = refl })
-binary_op_prints env binary.BitOr = prints_operator env (codes "|") (record { utf8 = refl; ascii = refl; shape = refl })
-binary_op_prints env binary.BitXor = prints_operator env (codes "^") (record { utf8 = refl; ascii = refl; shape = refl })
-binary_op_prints env binary.BitAnd = prints_operator env (codes "&") (record { utf8 = refl; ascii = refl; shape = refl })
-binary_op_prints env binary.LogicalOr = prints_operator env (codes "||") (record { utf8 = refl; ascii = refl; shape = refl })
-binary_op_prints env binary.LogicalAnd = prints_operator env (codes "&&") (record { utf8 = refl; ascii = refl; shape = refl })
-binary_op_prints env binary.Exp = prints_operator env (codes "**") (record { utf8 = refl; ascii = refl; shape = refl })
-binary_op_prints env binary.NullishCoalescing = prints_operator env (codes "??") (record { utf8 = refl; ascii = refl; shape = refl })
+binary_op_prints : (env : Env) (op : BinaryOp) → PrintsAt ended env (λ rest. words.binary_op op (allow_break rest)) (One (lists.binary_op op))
+unfolding spelling words.binary_op lists.binary_op is_word_op binary_text is_word is_start is_part is_letter is_digit all_part is_punctuator is_among is_same punctuators chars is_utf8 lib.Utf8.encode
+binary_op_prints env binary.In = prints_word_break env (codes "in") (record { utf8 = refl; ascii = refl; shape = refl })
+binary_op_prints env binary.InstanceOf = prints_word_break env (codes "instanceof") (record { utf8 = refl; ascii = refl; shape = refl })
+binary_op_prints env binary.EqEq = prints_operator_break env (codes "==") refl (record { utf8 = refl; ascii = refl; shape = refl })
+binary_op_prints env binary.NotEq = prints_operator_break env (codes "!=") refl (record { utf8 = refl; ascii = refl; shape = refl })
+binary_op_prints env binary.EqEqEq = prints_operator_break env (codes "===") refl (record { utf8 = refl; ascii = refl; shape = refl })
+binary_op_prints env binary.NotEqEq = prints_operator_break env (codes "!==") refl (record { utf8 = refl; ascii = refl; shape = refl })
+binary_op_prints env binary.Lt = prints_operator_break env (codes "<") refl (record { utf8 = refl; ascii = refl; shape = refl })
+binary_op_prints env binary.LtEq = prints_operator_break env (codes "<=") refl (record { utf8 = refl; ascii = refl; shape = refl })
+binary_op_prints env binary.Gt = prints_operator_break env (codes ">") refl (record { utf8 = refl; ascii = refl; shape = refl })
+binary_op_prints env binary.GtEq = prints_operator_break env (codes ">=") refl (record { utf8 = refl; ascii = refl; shape = refl })
+binary_op_prints env binary.LShift = prints_operator_break env (codes "<<") refl (record { utf8 = refl; ascii = refl; shape = refl })
+binary_op_prints env binary.RShift = prints_operator_break env (codes ">>") refl (record { utf8 = refl; ascii = refl; shape = refl })
+binary_op_prints env binary.ZeroFillRShift = prints_operator_break env (codes ">>>") refl (record { utf8 = refl; ascii = refl; shape = refl })
+binary_op_prints env binary.Add = prints_operator_break env (codes "+") refl (record { utf8 = refl; ascii = refl; shape = refl })
+binary_op_prints env binary.Sub = prints_operator_break env (codes "-") refl (record { utf8 = refl; ascii = refl; shape = refl })
+binary_op_prints env binary.Mul = prints_operator_break env (codes "*") refl (record { utf8 = refl; ascii = refl; shape = refl })
+binary_op_prints env binary.Div = prints_operator_break env (codes "/") refl (record { utf8 = refl; ascii = refl; shape = refl })
+binary_op_prints env binary.Mod = prints_operator_break env (codes "%") refl (record { utf8 = refl; ascii = refl; shape = refl })
+binary_op_prints env binary.BitOr = prints_operator_break env (codes "|") refl (record { utf8 = refl; ascii = refl; shape = refl })
+binary_op_prints env binary.BitXor = prints_operator_break env (codes "^") refl (record { utf8 = refl; ascii = refl; shape = refl })
+binary_op_prints env binary.BitAnd = prints_operator_break env (codes "&") refl (record { utf8 = refl; ascii = refl; shape = refl })
+binary_op_prints env binary.LogicalOr = prints_operator_break env (codes "||") refl (record { utf8 = refl; ascii = refl; shape = refl })
+binary_op_prints env binary.LogicalAnd = prints_operator_break env (codes "&&") refl (record { utf8 = refl; ascii = refl; shape = refl })
+binary_op_prints env binary.Exp = prints_operator_break env (codes "**") refl (record { utf8 = refl; ascii = refl; shape = refl })
+binary_op_prints env binary.NullishCoalescing = prints_operator_break env (codes "??") refl (record { utf8 = refl; ascii = refl; shape = refl })
 
 assign_op_prints : (env : Env) (op : AssignOp) → Prints env (operator (assign_text op)) (One (lists.assign_op op))
 unfolding lists.assign_op assign_text is_punctuator is_among is_same punctuators chars is_utf8 lib.Utf8.encode
@@ -238,9 +240,9 @@ unfolding is_word is_start is_part is_letter is_digit all_part chars is_utf8 lib
 await_is_word = record { utf8 = refl; ascii = refl; shape = refl }
 
 -- a mark between two blanks
-pub spaced_prints : (env : Env) (t : List ℕ) → IsMark t → Prints env (words.spaced_punct t) (mark t)
+pub spaced_prints : (env : Env) (t : List ℕ) → allows_break t ≡ false → IsMark t → Prints env (words.spaced_punct t) (mark t)
 unfolding words.spaced_punct
-spaced_prints env t w = after (writes_formatting_space env) (before (prints_punct env t w) (writes_formatting_space env))
+spaced_prints env t u w = after (writes_formatting_space env) (before (prints_unbroken env t u w) (writes_formatting_space env))
 
 -- ---- expressions
 
@@ -406,8 +408,8 @@ unfolding words.choice lists.cond_expr
 cond_prints l n =
     after (writes_opened l.env n.span)
     (then (expr_at l n.test Plain)
-    (then (spaced_prints l.env (codes "?") question_is_mark)
-    (then (expr_at l n.cons Plain) (then (spaced_prints l.env (codes ":") colon_is_mark) (expr_at l n.alt Plain)))))
+    (then (spaced_prints l.env (codes "?") refl question_is_mark)
+    (then (expr_at l n.cons Plain) (then (spaced_prints l.env (codes ":") refl colon_is_mark) (expr_at l n.alt Plain)))))
 
 pub seq_prints : {X : Type 0} (l : Linked X) (n : SeqExpr X) → Prints l.env (words.seq l.items n) (lists.seq_expr l.reads n)
 unfolding words.seq lists.seq_expr

@@ -1,5 +1,5 @@
 -- What is written of functions and classes in expressions is what it reads as.
-use Rattle.std.proofs.Common.{◌≡◌, not, ℕ, ◌+◌, arith, refl, sym, subst, Bool, true, false, cond, ◌||◌, ◌&&◌, List, [], ◌∷◌, map, codes, string_bytes, Option, Some, None, inl, inr}
+use Rattle.std.proofs.Common.{◌≡◌, not, ℕ, ◌+◌, arith, refl, sym, subst, Bool, true, false, cond, ◌&&◌, List, [], ◌∷◌, map, codes, string_bytes, Option, Some, None, inl, inr}
 use Rattle.std.proofs.lemmas.Bool.{cases_Bool}
 use Rattle.swc_ecma_codegen_common.specs.declared.positions.Span.{Span}
 use Rattle.swc_ecma_codegen_tree.specs.Links.{PatBox, TsTypeAnnBox}
@@ -29,7 +29,8 @@ use Rattle.swc_ecma_codegen_tokens.proofs.Choices.{prints_bare, prints_parenthes
 use Rattle.swc_ecma_codegen_tokens.proofs.Emitting.{minified_same, pretty_same}
 use Rattle.swc_ecma_codegen_tokens.proofs.ListLaws.{children_of, prints_list, prints_one_child}
 use Rattle.swc_ecma_codegen_tokens.proofs.Phrased.{Prints, prints_by_maps, then, after, before, prints_nothing, prints_same, prints_punct, prints_ident, mark_spelled, PrintsAt, prints_wider, loosened, joined_then, joined_mark, prints_joined_punct, prints_regrouped}
-use Rattle.swc_ecma_codegen_tokens.proofs.Printed.{with_room, within_then, deeper_within, writes_same, writes_if, writes_nothing, writes_space, writes_formatting_space, writes_commit, writes_position, writes_leading, writes_shallower, Fills, joined_punct_within}
+use Rattle.swc_ecma_codegen_tokens.proofs.Printed.{with_room, within_then, deeper_within, writes_same, writes_if, writes_nothing, writes_space, writes_formatting_space, writes_commit, writes_position, writes_shallower, Fills, joined_punct_within, punct_shape}
+use Rattle.swc_ecma_codegen_tokens.proofs.CommentPrints.{writes_leading}
 use Rattle.swc_ecma_codegen_emit.specs.declared.nodes.Place.TheVariants.{Plain, Body}
 use Rattle.swc_ecma_codegen_emit.specs.ClassExprs as class_words
 use Rattle.swc_ecma_codegen_emit.specs.FunctionExprs as words
@@ -70,11 +71,11 @@ async_arrow_then env true named h = joined_then env None (codes "async") marks.a
 async_arrow_then env false named h = h
 
 -- a parenthesis beside what isn't a name alone, and in a text that isn't minified
-pub other_parenthesis : (env : Env) (t : List ℕ) → IsMark t → Prints env (words.parenthesis false t) (mark t)
+pub other_parenthesis : (env : Env) (t : List ℕ) → IsMark t → PrintsAt (punct_shape t) env (words.parenthesis false t) (mark t)
 unfolding words.parenthesis
 other_parenthesis env t w = prints_punct env t w
 
-wide_parenthesis : (env : Env) (t : List ℕ) → IsMark t → env.config.minify ≡ false → Prints env (words.parenthesis true t) (mark t)
+wide_parenthesis : (env : Env) (t : List ℕ) → IsMark t → env.config.minify ≡ false → PrintsAt (punct_shape t) env (words.parenthesis true t) (mark t)
 unfolding words.parenthesis
 wide_parenthesis env t w wide = prints_same (words.parenthesis true t) (punct t) (λ maps rest. pretty_same no_part (punct t) rest (at_maps maps env) wide) (prints_punct env t w)
 
@@ -161,11 +162,11 @@ arrow_deeper env =
     let t : List ℕ = codes "=>" in
     let x : lexical.Token = token_of Punctuator (spelling Punctuator t) in
     joined_mark env (λ rest. punct t (deeper rest)) t
-    (with_room (0 + 1) 2 (omega arith) (within_then env (punct t) deeper (lexical.same_line ∷ x ∷ []) [] (joined_punct_within env t arrow_ends_nothing (mark_spelled t marks.arrow) marks.arrow.ascii) (deeper_within env)))
+    (with_room (0 + 1) 2 (omega arith) (within_then env (punct t) deeper (lexical.same_line ∷ x ∷ []) [] (joined_punct_within env t refl arrow_ends_nothing (mark_spelled t marks.arrow) marks.arrow.ascii) (deeper_within env)))
 
 arrow_body_prints : {X : Type 0} (l : Linked X) (n : BlockStmtOrExpr X) → PrintsAt joined l.env (λ rest. punct (codes "=>") (words.arrow_body l.items n rest)) (phrases.same_line > mark (codes "=>") > lists.arrow_body l.reads n)
 unfolding words.arrow_body lists.arrow_body
-arrow_body_prints l (bodies.BlockStmt n) = prints_regrouped (then (prints_joined_punct l.env (codes "=>") arrow_ends_nothing marks.arrow) (block_at l n Body))
+arrow_body_prints l (bodies.BlockStmt n) = prints_regrouped (then (prints_joined_punct l.env (codes "=>") refl arrow_ends_nothing marks.arrow) (block_at l n Body))
 arrow_body_prints l (bodies.Expr n) = prints_regrouped (then (arrow_deeper l.env) (before (expr_at l n Plain) (writes_shallower l.env)))
 
 pub arrow_expr_prints : {X : Type 0} (l : Linked X) (n : ArrowExpr X) → Prints l.env (words.arrow_expr l.asks l.items n) (lists.arrow_expr l.reads n)

@@ -4,15 +4,16 @@ use Rattle.swc_ecma_codegen_tree.specs.Links.{BlockStmtBox}
 use Rattle.swc_ecma_codegen_tree.specs.declared.decls.Decorator.{Decorator}
 use Rattle.swc_ecma_codegen_tree.specs.declared.decls.Param.{Param}
 use Rattle.swc_ecma_codegen_tree.specs.declared.decls.Function as functions
-use Rattle.swc_ecma_codegen_grammar.specs.Phrases.{Phrase, Never, ◌>◌, mark, word}
+use Rattle.swc_ecma_codegen_grammar.specs.Phrases.{Phrase, Never, mark, word}
 use Rattle.swc_ecma_codegen_grammar.specs.ClassPhrases as classes
 use Rattle.swc_ecma_codegen_grammar.specs.FunctionPhrases as lists
 use Rattle.swc_ecma_codegen_grammar.specs.FunctionPhrases.{is_some_listed}
 use Rattle.swc_ecma_codegen_tokens.specs.Run.{Env, Part}
 use Rattle.swc_ecma_codegen_tokens.specs.Words.{space, formatting_space, line_end, position}
 use Rattle.swc_ecma_codegen_tokens.proofs.ListLaws.{IsUndelimited, prints_list, prints_in_order}
-use Rattle.swc_ecma_codegen_tokens.proofs.Phrased.{Prints, then, after, before, prints_nothing, prints_never, prints_keyword, prints_punct, prints_semi, PrintsAt, prints_wider, joined_then}
-use Rattle.swc_ecma_codegen_tokens.proofs.Printed.{writes_then, writes_if, writes_space, writes_formatting_space, writes_line, writes_position, writes_leading, Fills}
+use Rattle.swc_ecma_codegen_tokens.proofs.Phrased.{prints_bare_semi, Prints, then, after, before, prints_nothing, prints_never, prints_keyword, prints_punct, prints_semi, PrintsAt, prints_wider, joined_then}
+use Rattle.swc_ecma_codegen_tokens.proofs.Printed.{writes_then, writes_if, writes_space, writes_formatting_space, writes_line, writes_position, Fills}
+use Rattle.swc_ecma_codegen_tokens.proofs.CommentPrints.{writes_leading}
 use Rattle.swc_ecma_codegen_emit.specs.declared.nodes.Place.{Place}
 use Rattle.swc_ecma_codegen_emit.specs.declared.nodes.Place.TheVariants.{Plain, Body, DeclarationHead, StaticHead, MethodTail}
 use Rattle.swc_ecma_codegen_emit.specs.Places.{before_name, before_method, behind_key}
@@ -53,7 +54,7 @@ param_prints l n =
 
 pub body_prints : {X : Type 0} (l : Linked X) (body : Option (BlockStmtBox X)) → Prints l.env (words.function_body l.items body) (lists.function_body l.reads body)
 unfolding words.function_body lists.function_body
-body_prints l None = prints_semi l.env
+body_prints l None = prints_bare_semi l.env
 body_prints l (Some n) = after (writes_formatting_space l.env) (block_at l n Body)
 
 -- behind the name of a function, and behind that of a private method
@@ -137,12 +138,12 @@ pub method_decorators_print : {X : Type 0} (l : Linked X) (n : functions.Functio
 unfolding classes.method_decorators
 method_decorators_print l n = decorators_print l n.decorators.items
 
-method_body_prints : {X : Type 0} (l : Linked X) (body : Option (BlockStmtBox X)) → Prints l.env (words.method_body l.items body) (lists.function_body l.reads body)
+method_body_prints : {X : Type 0} (l : Linked X) (body : Option (BlockStmtBox X)) → PrintsAt ended l.env (words.method_body l.items body) (lists.function_body l.reads body)
 unfolding words.method_body lists.function_body
 method_body_prints l None = prints_semi l.env
-method_body_prints l (Some n) = after (writes_formatting_space l.env) (block_at l n Plain)
+method_body_prints l (Some n) = prints_wider ended refl (after (writes_formatting_space l.env) (block_at l n Plain))
 
-plain_tail_prints : {X : Type 0} (l : Linked X) (n : functions.Function X) → Prints l.env (words.method_tail l.asks l.items n) (classes.method_tail l.reads n)
+plain_tail_prints : {X : Type 0} (l : Linked X) (n : functions.Function X) → PrintsAt ended l.env (words.method_tail l.asks l.items n) (classes.method_tail l.reads n)
 unfolding words.method_tail classes.method_tail
 plain_tail_prints l n =
     then (type_params_print l n.type_params)
@@ -152,16 +153,16 @@ plain_tail_prints l n =
     (then (annotation_prints l n.return_type) (method_body_prints l n.body)))))
 
 -- what of a method stands behind its key, private or not
-pub method_tail_prints : {X : Type 0} (l : Linked X) (n : functions.Function X) (place : Place) → Prints l.env (words.function l.asks l.items n (behind_key place)) (classes.method_tail l.reads n)
+pub method_tail_prints : {X : Type 0} (l : Linked X) (n : functions.Function X) (place : Place) → PrintsAt ended l.env (words.function l.asks l.items n (behind_key place)) (classes.method_tail l.reads n)
 unfolding words.function
 method_tail_prints l n MethodTail = plain_tail_prints l n
-method_tail_prints l n place = private_tail_prints l n
+method_tail_prints l n place = prints_wider ended refl (private_tail_prints l n)
 
-never_or : {env : Env} {p : Part} {f : Phrase} (never : Bool) → Prints env p f → Prints env p (cond never Never f)
+never_or : {env : Env} {p : Part} {f : Phrase} (never : Bool) → PrintsAt ended env p f → PrintsAt ended env p (cond never Never f)
 never_or true h = prints_never
 never_or false h = h
 
 -- a getter and a setter are written as a method
-pub accessor_tail_prints : {X : Type 0} (l : Linked X) (n : functions.Function X) (place : Place) → Prints l.env (words.function l.asks l.items n (behind_key place)) (classes.accessor_tail l.reads n)
+pub accessor_tail_prints : {X : Type 0} (l : Linked X) (n : functions.Function X) (place : Place) → PrintsAt ended l.env (words.function l.asks l.items n (behind_key place)) (classes.accessor_tail l.reads n)
 unfolding classes.accessor_tail
 accessor_tail_prints l n place = never_or (n.is_async || n.is_generator) (method_tail_prints l n place)

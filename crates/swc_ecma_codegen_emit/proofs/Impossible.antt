@@ -6,7 +6,8 @@ use Rattle.swc_ecma_codegen_util.specs.declared.config.Config.{Config}
 use Rattle.swc_ecma_codegen_grammar.specs.Phrases.{Phrase, Never, Nothing, ◌>◌, mark, Generates, is_possible, names_in}
 use Rattle.swc_ecma_codegen_grammar.specs.FunctionPhrases.{is_never}
 use Rattle.swc_ecma_codegen_tokens.specs.Escapes.{is_spelled_anew, may_make_text}
-use Rattle.swc_ecma_codegen_tokens.specs.Named.{EachName, AllStand}
+use Rattle.swc_ecma_codegen_tokens.specs.Named.{EachName}
+use Rattle.swc_ecma_codegen_tokens.proofs.CutStanding.{AllHere}
 use Rattle.swc_ecma_codegen_tokens.specs.Run.{Env, Part}
 use Rattle.swc_ecma_codegen_tokens.specs.Targets.{is_out}
 use Rattle.swc_ecma_codegen_tokens.proofs.Choices.{IsAmong, prints_among}
@@ -46,7 +47,7 @@ alone_among config f = record {
   out = or_false (is_out config f);
   makes = λ e. sym (or_false (may_make_text config f)) ∙ e;
   names = append-nil (names_in f);
-  stands = λ a b us ts g. subst (λ z. AllStand config a b us f z) (sym (g.4 ∙ ap (λ z. g.0 ++ z) g.3 ∙ append-nil g.0)) g.2;
+  stands = λ a b us ts g. subst (λ z. AllHere config a b us f z) (sym (g.4 ∙ ap (λ z. g.0 ++ z) g.3 ∙ append-nil g.0)) g.2;
 }
 
 pub prints_alone : {i : Shape} {env : Env} {p : Part} {f : Phrase} → PrintsAt i env p (f > Nothing) → PrintsAt i env p f
@@ -61,7 +62,7 @@ last_among config t f = record {
   out = or_false (is_out config f);
   makes = λ e. sym (or_false (may_make_text config f)) ∙ e;
   names = append-nil (names_in f);
-  stands = λ a b us ts g. (g.0, g.1, g.2, subst (λ z. AllStand config a b (us ++ g.0) f z) (sym (g.3.4 ∙ ap (λ z. g.3.0 ++ z) g.3.3 ∙ append-nil g.3.0)) g.3.2, g.4);
+  stands = λ a b us ts g. (g.0, g.1, g.2, subst (λ z. AllHere config a b (us ++ g.0) f z) (sym (g.3.4 ∙ ap (λ z. g.3.0 ++ z) g.3.3 ∙ append-nil g.3.0)) g.3.2, g.4);
 }
 
 pub prints_last : {i : Shape} {env : Env} {p : Part} (t : List ℕ) {f : Phrase} → PrintsAt i env p (mark t > f > Nothing) → PrintsAt i env p (mark t > f)

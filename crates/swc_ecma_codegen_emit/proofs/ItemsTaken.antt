@@ -1,5 +1,5 @@
 -- After the emission of a module no comment is left before one of its items.
-use Rattle.std.proofs.Common.{◌≡◌, ◌≢◌, ◌∙◌, ℕ, ◌==◌, ◌||◌, arith, Bool, true, false, cond, List, [], ◌∷◌, ◌++◌, map, refl, sym, ap, subst, None, Option, Result, Ok, Err, OnOk, inl, inr, All}
+use Rattle.std.proofs.Common.{◌≡◌, ◌∙◌, ℕ, ◌==◌, ◌||◌, arith, Bool, true, false, cond, List, [], ◌∷◌, map, refl, sym, ap, subst, ◌⊎◌, Some, None, Result, Ok, Err, OnOk, inl, inr, All}
 use Rattle.std.proofs.lemmas.Bool.{cases_Bool, and_from, and_parts, or_parts, eq-eqb, ne_eqb}
 use Rattle.std.proofs.lemmas.List.Elements.{All-cons}
 use Rattle.swc_ecma_codegen_common.specs.declared.errors.Error.{Error}
@@ -15,13 +15,14 @@ use Rattle.swc_ecma_codegen_tree.specs.declared.programs.Program.TheVariants as 
 use Rattle.swc_ecma_codegen_spans.specs.Spans.{module_item_span}
 use Rattle.swc_ecma_codegen_grammar.specs.CommentMaps.{Maps, without, without_leading, without_trailing}
 use Rattle.swc_ecma_codegen_grammar.specs.Comments.{Leading, Trailing, taken_out, comments_at}
-use Rattle.swc_ecma_codegen_grammar.specs.Phrases.{is_possible, Phrase, Nothing, ◌>◌}
+use Rattle.swc_ecma_codegen_grammar.specs.Phrases.{is_possible}
 use Rattle.swc_ecma_codegen_grammar.specs.Phrases as phrases
 use Rattle.swc_ecma_codegen_grammar.specs.StmtPhrases as lists
-use Rattle.swc_ecma_codegen_grammar.specs.TreePhrases.{is_well_formed}
-use Rattle.swc_ecma_codegen_tokens.specs.Run.{Env, Plan, Part, State, Step, Steps, Take, Follows, nothing, step, at_maps, after_step, maps_after, steps_of}
+use Rattle.swc_ecma_codegen_grammar.specs.TreePhrases.{is_well_formed, phrase}
+use Rattle.swc_ecma_codegen_tokens.specs.Run.{Env, Plan, Part, State, Step, Take, Follows, nothing, step, at_maps, after_step, maps_after, steps_of, unbounded, with_max_line}
 use Rattle.swc_ecma_codegen_tokens.specs.Targets.{is_out}
-use Rattle.swc_ecma_codegen_tokens.specs.Words.{leading_comments, trailing_comments, take_comments, comments}
+use Rattle.swc_ecma_codegen_tokens.specs.Words.{begin_lines, bounded, end_lines, in_lines, leading_comments, trailing_comments, take_comments, comments}
+use Rattle.swc_ecma_codegen_tokens.proofs.Lengths.{at_length}
 use Rattle.swc_ecma_codegen_tokens.proofs.Printed.{MakesFrom, env_after, maps_append}
 use Rattle.swc_ecma_codegen_tokens.proofs.Phrased.{prints_nothing, prints_wider, steps_of_more}
 use Rattle.swc_ecma_codegen_tokens.proofs.Shapes.{Shape, loose}
@@ -30,9 +31,13 @@ use Rattle.swc_ecma_codegen_emit.specs.Answers.{any_answers, place_of}
 use Rattle.swc_ecma_codegen_emit.specs.Left.{NoneBefore, NoneBeforeItems, NoneBeforeBody}
 use Rattle.swc_ecma_codegen_emit.specs.Lists.{in_order}
 use Rattle.swc_ecma_codegen_emit.specs.Modules.{module_item, module_item_by}
-use Rattle.swc_ecma_codegen_emit.specs.Programs.{program_start, last_semi, program, whole_module}
+use Rattle.swc_ecma_codegen_emit.specs.Programs.{last_semi, module_parts, program, whole_module}
+use Rattle.swc_ecma_codegen_emit.specs.declared.nodes.Place.{Place}
+use Rattle.swc_ecma_codegen_emit.specs.declared.nodes.Place.TheVariants.{Plain, Lines}
+use Rattle.swc_ecma_codegen_emit.specs.Places.{alone, by_itself}
 use Rattle.swc_ecma_codegen_emit.specs.Roots.{OfModule}
 use Rattle.swc_ecma_codegen_emit.specs.Tree.{any_items}
+use Rattle.swc_ecma_codegen_emit.proofs.ByItself.{alone_or}
 use Rattle.swc_ecma_codegen_emit.proofs.Linked.{Linked}
 use Rattle.swc_ecma_codegen_emit.proofs.ModuleParts.{module_item_prints}
 use Rattle.swc_ecma_codegen_emit.proofs.ProgramParts.{opened_prints}
@@ -95,8 +100,8 @@ module _ {X : Type 0} (l : Linked X) where
       (before_gone span.lo (module_item_by l.asks l.items x (trailing_comments true span.hi more)) (at_maps maps l.env))
       (subst (AllLeft xs) (sym (left_then h more)) (items_left xs rest there both.1 none.1))
 
-  module_left : (n : Module X) (rest : Plan) → is_possible (lists.whole_module l.reads n) ≡ true → is_out l.env.config (lists.whole_module l.reads n) ≡ false → AllLeft n.body.items (maps_after (steps_of (whole_module l.asks l.items n rest l.env)) l.env.maps)
-  unfolding lists.whole_module whole_module is_possible is_out
+  module_left : (n : Module X) (rest : Plan) → is_possible (lists.whole_module l.reads n) ≡ true → is_out l.env.config (lists.whole_module l.reads n) ≡ false → AllLeft n.body.items (maps_after (steps_of (module_parts l.asks l.items n rest l.env)) l.env.maps)
+  unfolding lists.whole_module module_parts is_possible is_out
   module_left n rest w o =
       let body = phrases.in_order (map (lists.module_item l.reads) n.body.items) in
       let both = and_parts (is_possible (lists.shebang n.shebang)) (is_possible body) w in
@@ -107,16 +112,26 @@ module _ {X : Type 0} (l : Linked X) where
 
 -- ---- as the calls say it
 
-followed_left : (n : Module AnyNode) (a b : State) (r : Result (Unit {0}) Refusal) → is_well_formed (programs.Module n) ≡ true → a.env.keeps_invalid ≡ false → Follows (whole_module any_answers any_items n nothing) a b r → OnOk r (NoneBeforeItems n b.env.maps)
-unfolding lists.program
+-- in lines and without, and whatever comes behind it
+module_left_at : (n : Module AnyNode) (place : Place) (rest : Plan) (env : Env) → env.keeps_invalid ≡ false → is_well_formed (programs.Module n) ≡ true → is_out env.config (lists.whole_module phrase n) ≡ false → (place ≡ Plain) ⊎ ((max : ℕ) × (place ≡ Lines max)) → NoneBeforeItems n (maps_after (steps_of (unbounded (whole_module any_answers any_items n place) rest env)) env.maps)
+unfolding lists.program whole_module with_max_line bounded in_lines begin_lines end_lines step steps_of maps_after after_step
+module_left_at n place rest env e w o (inl h) =
+    let P : Place → Type 0 = λ z. NoneBeforeItems n (maps_after (steps_of (unbounded (whole_module any_answers any_items n z) rest env)) env.maps) in
+    subst P (sym h) (module_left (known (at_length None env) e) n (λ inner. rest (record inner { max_line = env.max_line })) w o)
+module_left_at n place rest env e w o (inr h) =
+    let P : Place → Type 0 = λ z. NoneBeforeItems n (maps_after (steps_of (unbounded (whole_module any_answers any_items n z) rest env)) env.maps) in
+    subst P (sym h.1) (module_left (known (at_length (Some h.0) env) e) n (λ inner. end_lines (λ more. rest (record more { max_line = env.max_line })) (record inner { max_line = None })) w o)
+
+followed_left : (n : Module AnyNode) (a b : State) (r : Result (Unit {0}) Refusal) → is_well_formed (programs.Module n) ≡ true → a.env.keeps_invalid ≡ false → Follows (by_itself (whole_module any_answers any_items n) nothing) a b r → OnOk r (NoneBeforeItems n b.env.maps)
+unfolding lists.program by_itself
 followed_left n a b (Ok u) w e h =
-    subst (NoneBeforeItems n) (sym (maps_followed _ a b (Ok tt) h)) (module_left (known a.env e) n nothing w (root_in_target (OfModule n) a b w e h))
+    subst (NoneBeforeItems n) (sym (maps_followed _ a b (Ok tt) h)) (module_left_at n (alone a.env) nothing a.env e w (root_in_target (OfModule n) a b w e h) (alone_or a.env))
 followed_left n a b (Err x) w e h = tt
 
-pub module_leaves : (n : Module AnyNode) (a b : State) (r : Result (Unit {0}) Error) → is_well_formed (programs.Module n) ≡ true → a.env.keeps_invalid ≡ false → Follows (whole_module any_answers any_items n nothing) a b (in_short r) → OnOk r (NoneBeforeItems n b.env.maps)
+pub module_leaves : (n : Module AnyNode) (a b : State) (r : Result (Unit {0}) Error) → is_well_formed (programs.Module n) ≡ true → a.env.keeps_invalid ≡ false → Follows (by_itself (whole_module any_answers any_items n) nothing) a b (in_short r) → OnOk r (NoneBeforeItems n b.env.maps)
 module_leaves n a b r w e h = on_ok_in_short _ r (followed_left n a b (in_short r) w e h)
 
-pub program_leaves : (n : Program AnyNode) (a b : State) (r : Result (Unit {0}) Error) → is_well_formed n ≡ true → a.env.keeps_invalid ≡ false → Follows (program any_answers any_items n nothing) a b (in_short r) → OnOk r (NoneBeforeBody n b.env.maps)
+pub program_leaves : (n : Program AnyNode) (a b : State) (r : Result (Unit {0}) Error) → is_well_formed n ≡ true → a.env.keeps_invalid ≡ false → Follows (by_itself (program any_answers any_items n) nothing) a b (in_short r) → OnOk r (NoneBeforeBody n b.env.maps)
 unfolding program
 program_leaves (programs.Module n) a b r w e h = module_leaves n a b r w e h
 program_leaves (programs.Script n) a b (Ok u) w e h = tt

@@ -42,13 +42,14 @@ use Rattle.swc_ecma_codegen_grammar.specs.declared.roles.Role.TheVariants.{Eleme
 use Rattle.swc_ecma_codegen_text_writer.specs.Sheet.{is_ending}
 use Rattle.swc_ecma_codegen_tokens.specs.Run.{Env, Part}
 use Rattle.swc_ecma_codegen_tokens.specs.Tags.{closing, close}
-use Rattle.swc_ecma_codegen_tokens.specs.Words.{punct}
+use Rattle.swc_ecma_codegen_tokens.specs.Words.{bare_punct, punct}
+use Rattle.swc_ecma_codegen_tokens.proofs.Lengths.{prints_at_length}
 use Rattle.swc_ecma_codegen_tokens.specs.Written.{IsMark, Spot, Anything, Between, InText, InName}
-use Rattle.swc_ecma_codegen_tokens.proofs.Phrased.{PrintsOn, PrintsAt, Prints, then_on, after_on, prints_nothing, prints_never, prints_punct, prints_wider}
+use Rattle.swc_ecma_codegen_tokens.proofs.Phrased.{PrintsOn, PrintsAt, Prints, then_on, after_on, prints_nothing, prints_never, prints_bare_punct, prints_punct, prints_wider}
 use Rattle.swc_ecma_codegen_tokens.proofs.Printed.{MakesWithinOn}
 use Rattle.swc_ecma_codegen_tokens.proofs.Shapes.{open_, whole}
 use Rattle.swc_ecma_codegen_tokens.proofs.Spots.{is_narrower}
-use Rattle.swc_ecma_codegen_tokens.proofs.TagPrints.{less_is_mark, slash_is_mark, prints_spots, prints_never_on, prints_where_on, prints_tag_name, prints_named_mark, writes_named_gap, prints_tag_end, prints_less_open, prints_opens, prints_brace_end, prints_none, wider_on}
+use Rattle.swc_ecma_codegen_tokens.proofs.TagPrints.{less_is_mark, slash_is_mark, prints_spots, prints_never_on, prints_where_on, prints_tag_name, prints_named_bare, prints_named_mark, writes_named_gap, prints_tag_end, prints_less_open, prints_opens, prints_brace_end, prints_none, wider_on}
 use Rattle.swc_ecma_codegen_tokens.proofs.TagStrings.{prints_attribute_string, prints_text_node}
 use Rattle.swc_ecma_codegen_emit.specs.declared.nodes.Place.{Place}
 use Rattle.swc_ecma_codegen_emit.specs.declared.nodes.Place.TheVariants.{Plain, Child}
@@ -58,7 +59,7 @@ use Rattle.swc_ecma_codegen_emit.specs.Lists.{in_order}
 use Rattle.swc_ecma_codegen_emit.specs.Places.{placed}
 use Rattle.swc_ecma_codegen_emit.proofs.AnnotationParts.{tag_types_print}
 use Rattle.swc_ecma_codegen_emit.proofs.ExprParts.{spread_element_prints}
-use Rattle.swc_ecma_codegen_emit.proofs.Linked.{Linked, PrintsIn, expr_at}
+use Rattle.swc_ecma_codegen_emit.proofs.Linked.{Linked, unbounded_linked, PrintsIn, expr_at}
 use Rattle.swc_ecma_codegen_emit.proofs.MarkWords as marks
 
 dot_is_mark : IsMark (codes ".")
@@ -82,23 +83,23 @@ behind_mark h = prints_spots Anything InName refl refl h
 -- `.`, `:`, `=` and `{` behind a name
 named_dot : (env : Env) → PrintsOn InName Anything whole env (punct (codes ".")) (phrases.mark (codes "."))
 unfolding is_ending begins
-named_dot env = prints_named_mark env (codes ".") refl refl dot_is_mark
+named_dot env = prints_named_mark env (codes ".") refl refl refl dot_is_mark
 
 named_colon : (env : Env) → PrintsOn InName Anything whole env (punct (codes ":")) (phrases.mark (codes ":"))
 unfolding is_ending begins
-named_colon env = prints_named_mark env (codes ":") refl refl marks.colon
+named_colon env = prints_named_mark env (codes ":") refl refl refl marks.colon
 
 named_equal : (env : Env) → PrintsOn InName Anything whole env (punct (codes "=")) (phrases.mark (codes "="))
 unfolding is_ending begins
-named_equal env = prints_named_mark env (codes "=") refl refl marks.equal
+named_equal env = prints_named_mark env (codes "=") refl refl refl marks.equal
 
-named_brace : (env : Env) → PrintsOn InName Anything whole env (punct (codes "{")) (phrases.mark (codes "{"))
+named_brace : (env : Env) → PrintsOn InName Anything whole env (bare_punct (codes "{")) (phrases.mark (codes "{"))
 unfolding is_ending begins
-named_brace env = prints_named_mark env (codes "{") refl refl marks.left_brace
+named_brace env = prints_named_bare env (codes "{") refl refl marks.left_brace
 
 named_slash : (env : Env) → PrintsOn InName Anything whole env (punct (codes "/")) (phrases.mark (codes "/"))
 unfolding is_ending begins
-named_slash env = prints_named_mark env (codes "/") refl refl slash_is_mark
+named_slash env = prints_named_mark env (codes "/") refl refl refl slash_is_mark
 
 member_prints : {X : Type 0} (l : Linked X) (n : JSXMemberExpr X) → PrintsOn Anything InName whole l.env (words.jsx_member_expr l.items n) (lists.jsx_member_expr l.reads n)
 unfolding words.jsx_member_expr lists.jsx_member_expr
@@ -138,7 +139,7 @@ child_place false = Plain
 open_prints : (env : Env) (is_child : Bool) (t : List ℕ) → IsMark t → is_jsx_open t ≡ true → PrintsOn (before_open is_child) Anything whole env (words.open_at (child_place is_child) t) (lists.open_mark is_child t)
 unfolding words.open_at lists.open_mark
 open_prints env true t w o = prints_opens env t o
-open_prints env false t w o = prints_punct env t w
+open_prints env false t w o = prints_bare_punct env t w
 
 brace_prints : (env : Env) (is_child : Bool) → PrintsOn (before_open is_child) Anything whole env (words.open_at (child_place is_child) (codes "{")) (lists.open_mark is_child (codes "{"))
 unfolding is_jsx_open is_among is_same
@@ -287,9 +288,14 @@ unfolding words.optional_closing lists.jsx_rest
 rest_prints l xs None = prints_where_on (not (lists.ends_in_text false xs)) (λ e. prints_spots Between Between refl (no_text_last (lists.ends_in_text false xs) e) (children_print l xs))
 rest_prints l xs (Some n) = wider_on open_ refl (children_then l xs (closing_prints l n))
 
+element_parts_print : {X : Type 0} (l : Linked X) (is_child : Bool) (n : JSXElement X) → PrintsOn (before_open is_child) Between whole l.env (words.jsx_element_parts l.asks l.items n (child_place is_child)) (lists.jsx_element l.reads is_child n)
+unfolding words.jsx_element_parts lists.jsx_element
+element_parts_print l is_child n = then_on (opening_prints l is_child n.opening) (rest_prints l n.children.items n.closing)
+
+-- no line may be ended in it
 element_prints : {X : Type 0} (l : Linked X) (is_child : Bool) (n : JSXElement X) → PrintsOn (before_open is_child) Between whole l.env (words.jsx_element l.asks l.items n (child_place is_child)) (lists.jsx_element l.reads is_child n)
-unfolding words.jsx_element lists.jsx_element
-element_prints l is_child n = then_on (opening_prints l is_child n.opening) (rest_prints l n.children.items n.closing)
+unfolding words.jsx_element
+element_prints l is_child n = prints_at_length None l.env (words.jsx_element_parts l.asks l.items n (child_place is_child)) (element_parts_print (unbounded_linked l) is_child n)
 
 -- `>` behind `<` or `/`
 end_prints : (env : Env) → PrintsOn Anything Between whole env close (phrases.One closing)
@@ -303,9 +309,13 @@ closing_fragment_prints : (env : Env) → PrintsOn InText Between whole env word
 unfolding words.closing_fragment lists.jsx_closing_fragment lists.open_mark
 closing_fragment_prints env = then_on (prints_less_open env) (then_on (prints_punct env (codes "/") slash_is_mark) (end_prints env))
 
+fragment_parts_print : {X : Type 0} (l : Linked X) (is_child : Bool) (n : JSXFragment X) → PrintsOn (before_open is_child) Between whole l.env (words.jsx_fragment_parts l.items n (child_place is_child)) (lists.jsx_fragment l.reads is_child n)
+unfolding words.jsx_fragment_parts lists.jsx_fragment
+fragment_parts_print l is_child n = then_on (opening_fragment_prints l.env is_child) (children_then l n.children.items (closing_fragment_prints l.env))
+
 fragment_prints : {X : Type 0} (l : Linked X) (is_child : Bool) (n : JSXFragment X) → PrintsOn (before_open is_child) Between whole l.env (words.jsx_fragment l.items n (child_place is_child)) (lists.jsx_fragment l.reads is_child n)
-unfolding words.jsx_fragment lists.jsx_fragment
-fragment_prints l is_child n = then_on (opening_fragment_prints l.env is_child) (children_then l n.children.items (closing_fragment_prints l.env))
+unfolding words.jsx_fragment
+fragment_prints l is_child n = prints_at_length None l.env (words.jsx_fragment_parts l.items n (child_place is_child)) (fragment_parts_print (unbounded_linked l) is_child n)
 
 -- ---- what links hold, in its role
 

@@ -5,26 +5,29 @@ use Rattle.std.proofs.lemmas.Str.{is_utf8-from_IsUtf8, IsUtf8-nil}
 use Rattle.swc_ecma_codegen_util.specs.declared.config.Config.{Config}
 use Rattle.swc_ecma_codegen_text_writer.specs.Places.{Place, origin, after_text}
 use Rattle.swc_ecma_codegen_text_writer.specs.Recorded.{RecordsTruly, StandIn, AreNew}
-use Rattle.swc_ecma_codegen_text_writer.specs.Sheet.{Sheet, Pair, Commit, effect, settled, holds_semicolons}
+use Rattle.swc_ecma_codegen_text_writer.specs.Sheet.{Sheet, Pair, Commit, effect, settled, holds_semicolons, fills_lines}
 use Rattle.swc_ecma_codegen_text_writer.proofs.Pairs.{records_trans, settled_records, records_refl}
 use Rattle.swc_ecma_codegen_grammar.specs.Phrases.{PlacedName, names_in}
 use Rattle.swc_ecma_codegen_grammar.specs.SourceLines.{Lines}
 use Rattle.swc_ecma_codegen_grammar.specs.CommentMaps.{Maps}
 use Rattle.swc_ecma_codegen_grammar.specs.Comments.{AreClosed, remarks_of}
-use Rattle.swc_ecma_codegen_tokens.specs.Run.{Env, Part, Plan, State, Step, Plain, nothing, step, run, put, start, steps_of, steps_in, printed, taken_in, taken_by, unprintable_in, Follows}
+use Rattle.swc_ecma_codegen_tokens.specs.Run.{Part, Plan, State, unlined, Step, Plain, nothing, step, run, put, start, steps_of, steps_in, printed, taken_in, taken_by, unprintable_in, Follows}
 use Rattle.swc_ecma_codegen_tokens.specs.Named.{NamesStand, RecordsNames}
 use Rattle.swc_ecma_codegen_tokens.specs.Targets.{written_as}
 use Rattle.swc_ecma_codegen_tokens.specs.Words.{commit_pending_semi}
 use Rattle.swc_ecma_codegen_tokens.specs.Written.{AddsReading, ReadsAs, taken_remarks, all_indent, is_indent, holds_one}
 use Rattle.swc_ecma_codegen_tokens.proofs.Fronts.{run_append, run_whole}
 use Rattle.swc_ecma_codegen_tokens.proofs.PartSteps.{steps_of_chain, steps_of_more}
-use Rattle.swc_ecma_codegen_tokens.proofs.Phrased.{PrintsAt, before, prints_wider, steps_read, made_not_out, follows_records, printed_names}
+use Rattle.swc_ecma_codegen_tokens.proofs.Phrased.{PrintsAt, before, prints_wider, steps_read, made_not_out, follows_records}
 use Rattle.swc_ecma_codegen_tokens.proofs.Positions.{recorded_more}
 use Rattle.swc_ecma_codegen_tokens.proofs.Printed.{env_after, writes_commit, remarks_both}
 use Rattle.swc_ecma_codegen_tokens.proofs.Shapes.{unbroken_at, open_, join, is_within}
 use Rattle.swc_ecma_codegen_emit.specs.Roots.{Root, root_items, root_phrase, is_well_formed_root, root_hashbang, MayBegin}
 use Rattle.swc_ecma_codegen_emit.specs.Texts.{sheet_by, sheet_with, start_with, with_last}
-use Rattle.swc_ecma_codegen_emit.proofs.TreeReads.{root_prints, root_shape}
+use Rattle.swc_ecma_codegen_emit.specs.Lined.{CanFill}
+use Rattle.swc_ecma_codegen_emit.proofs.ByItself.{Stands, root_shape}
+use Rattle.swc_ecma_codegen_emit.proofs.InLines.{InLines, lines_settle}
+use Rattle.swc_ecma_codegen_emit.proofs.TreeReads.{stands, stands_name, stands_read}
 
 left_out : (config : Config) (s : Sheet) → config.omit_last_semi ≡ true → with_last config s ≡ s
 unfolding with_last
@@ -113,14 +116,13 @@ fits : (b : Bool) → is_within (join (unbroken_at b) open_) (unbroken_at b) ≡
 fits true = refl
 fits false = refl
 
-root_reads_last : (n : Root) (p : Part) (a : State) → p ≡ root_items n → is_well_formed_root n ≡ true → MayBegin n a → AreClosed a.env.maps → unprintable_in (p nothing a.env) ≡ None → AddsReading a.env.config (root_phrase n) (taken_remarks p a.env) a.sheet (with_last a.env.config (run (steps_of (p nothing a.env)) a).sheet)
+plain_reads_last : (n : Root) (p : Part) (a : State) → PrintsAt (root_shape n) a.env p (root_phrase n) → is_well_formed_root n ≡ true → MayBegin n a → AreClosed a.env.maps → unprintable_in (p nothing a.env) ≡ None → AddsReading a.env.config (root_phrase n) (taken_remarks p a.env) a.sheet (with_last a.env.config (run (steps_of (p nothing a.env)) a).sheet)
 unfolding nothing commit_pending_semi step steps_of taken_in taken_by remarks_of
-root_reads_last n p a same w s closed none =
+plain_reads_last n p a prints w s closed none =
     let anywhere = not (root_hashbang n) in
     let margin = λ (e : anywhere ≡ false). s.at_margin (not-false (root_hashbang n) e) in
     let f = root_phrase n in
     let xs = steps_of (p nothing a.env) in
-    let prints : PrintsAt (root_shape n) a.env p f = subst (λ z. PrintsAt (root_shape n) a.env z f) (sym same) (root_prints a.env s.is_new.leaves_out n) in
     let o = made_not_out p f a.env prints w none in
     elim (cases_Bool a.env.config.omit_last_semi) [
       | inl left ↦ subst (AddsReading a.env.config f (taken_remarks p a.env) a.sheet) (sym (left_out a.env.config (run xs a).sheet left)) (steps_read anywhere p f a s.is_new margin closed prints w o)
@@ -138,22 +140,42 @@ root_reads_last n p a same w s closed none =
           subst (AddsReading a.env.config f (taken_remarks p a.env) a.sheet) end (subst (λ z. AddsReading a.env.config f z a.sheet (run (xs ++ last_step) a).sheet) remarks read)
     ]
 
+-- in lines none is held back at the end but where the settings leave it out
+lined_last : (n : Root) (p : Part) (a : State) → InLines (root_shape n) a.env p (root_phrase n) → is_well_formed_root n ≡ true → MayBegin n a → unprintable_in (p nothing a.env) ≡ None → with_last a.env.config (run (steps_of (p nothing a.env)) a).sheet ≡ (run (steps_of (p nothing a.env)) a).sheet
+lined_last n p a h w s none =
+    let b : State = run (steps_of (p nothing a.env)) a in
+    elim (cases_Bool a.env.config.omit_last_semi) [
+      | inl left ↦ left_out a.env.config b.sheet left
+      | inr wanted ↦ written_last a.env.config b.sheet wanted ∙ lines_settle p (root_phrase n) a h w s.flows s.is_new.line_end none wanted
+    ]
+
+stands_reads_last : (n : Root) (p : Part) (a : State) → Stands n a.env p → is_well_formed_root n ≡ true → MayBegin n a → AreClosed a.env.maps → unprintable_in (p nothing a.env) ≡ None → AddsReading a.env.config (root_phrase n) (taken_remarks p a.env) a.sheet (with_last a.env.config (run (steps_of (p nothing a.env)) a).sheet)
+unfolding Follows
+stands_reads_last n p a (inl h) w s closed none = plain_reads_last n p a h w s closed none
+stands_reads_last n p a (inr h) w s closed none =
+    subst (AddsReading a.env.config (root_phrase n) (taken_remarks p a.env) a.sheet) (sym (lined_last n p a h w s none))
+    (stands_read n p a (run (steps_of (p nothing a.env)) a) (Ok tt) (inr h) w s closed (none, refl))
+
+root_reads_last : (n : Root) (p : Part) (a : State) → p ≡ root_items n → is_well_formed_root n ≡ true → MayBegin n a → AreClosed a.env.maps → unprintable_in (p nothing a.env) ≡ None → AddsReading a.env.config (root_phrase n) (taken_remarks p a.env) a.sheet (with_last a.env.config (run (steps_of (p nothing a.env)) a).sheet)
+root_reads_last n p a same w s closed none = stands_reads_last n p a (stands n p a.env s.is_new.leaves_out same) w s closed none
+
 begins_by : (n : Root) (lines : Lines) (maps : Maps) (config : Config) (b : Bool) → MayBegin n (start lines maps config (sheet_by b))
 unfolding sheet_by all_indent is_indent holds_one
-begins_by n lines maps config true = record { is_new = record { nothing_written = refl; nothing_held = refl; indent_text = refl; line_end = inl refl; leaves_out = refl }; at_margin = λ hashbang line. refl }
-begins_by n lines maps config false = record { is_new = record { nothing_written = refl; nothing_held = refl; indent_text = refl; line_end = inl refl; leaves_out = refl }; at_margin = λ hashbang line. refl }
+begins_by n lines maps config true = record { is_new = record { nothing_written = refl; nothing_held = refl; indent_text = refl; line_end = inl refl; flowing = refl; leaves_out = refl }; flows = refl; at_margin = λ hashbang line. refl }
+begins_by n lines maps config false = record { is_new = record { nothing_written = refl; nothing_held = refl; indent_text = refl; line_end = inl refl; flowing = refl; leaves_out = refl }; flows = refl; at_margin = λ hashbang line. refl }
 
 holds_by : (b : Bool) → holds_semicolons (sheet_by b).semicolons ≡ b
 unfolding sheet_by
 holds_by true = refl
 holds_by false = refl
 
-pub code_reads_with : (lines : Lines) (maps : Maps) (config : Config) (n : Root) (p : Part) → p ≡ root_items n → is_well_formed_root n ≡ true → AreClosed maps → unprintable_in (steps_in p (start_with lines maps config)) ≡ None → ReadsAs config config.minify (root_phrase n) (taken_remarks p (start_with lines maps config).env) (sheet_with lines maps config p).text
+pub code_reads_with : (lines : Lines) (maps : Maps) (config : Config) (n : Root) (p : Part) → p ≡ root_items n → is_well_formed_root n ≡ true → AreClosed maps → unprintable_in (steps_in p (start_with lines maps config)) ≡ None → ReadsAs (unlined config) config.minify (root_phrase n) (taken_remarks p (start_with lines maps config).env) (sheet_with lines maps config p).text
+unfolding with_last
 code_reads_with lines maps config n p same w closed none =
     let a = start_with lines maps config in
     let h = root_reads_last n p a same w (begins_by n lines maps config config.minify) closed none in
     let added : (sheet_with lines maps config p).text ≡ h.added = h.is_added ∙ ap (λ t. t ++ h.added) (no_text config.minify) in
-    subst (λ t. ReadsAs config config.minify (root_phrase n) (taken_remarks p a.env) t) (sym added) (subst (λ b. ReadsAs config b (root_phrase n) (taken_remarks p a.env) h.added) (holds_by config.minify) h.reading)
+    subst (λ t. ReadsAs (unlined config) config.minify (root_phrase n) (taken_remarks p a.env) t) (sym added) (subst (λ b. ReadsAs (unlined config) b (root_phrase n) (taken_remarks p a.env) h.added) (holds_by config.minify) h.reading)
 
 -- ---- names
 
@@ -163,6 +185,16 @@ unfolding NamesStand
 names_longer config p t u pairs more [] h = tt
 names_longer config p t u pairs more (x ∷ xs) h =
     (h.0, h.1 ++ u, ap (λ z. z ++ u) h.2 ∙ append_assoc h.0 (written_as config x ++ h.1) u ∙ ap (λ z. h.0 ++ z) (append_assoc (written_as config x) h.1 u), recorded_more x.at (after_text h.0 p) pairs more h.3, names_longer config (after_text (written_as config x) (after_text h.0 p)) h.1 u pairs more xs h.4)
+
+flows_by : (b : Bool) → fills_lines (sheet_by b).lines ≡ false
+unfolding sheet_by
+flows_by true = refl
+flows_by false = refl
+
+fills_by : (lines : Lines) (maps : Maps) (config : Config) (b : Bool) → CanFill (start lines maps config (sheet_by b))
+unfolding sheet_by
+fills_by lines maps config true = record { flows = refl; line_end = inl refl }
+fills_by lines maps config false = record { flows = refl; line_end = inl refl }
 
 keeps_by : (b : Bool) → (sheet_by b).keeps_positions ≡ true
 unfolding sheet_by
@@ -174,16 +206,16 @@ unfolding sheet_by
 leaves_by lines maps config true = refl
 leaves_by lines maps config false = refl
 
-pub names_with : (lines : Lines) (maps : Maps) (config : Config) (n : Root) (p : Part) → p ≡ root_items n → is_well_formed_root n ≡ true → unprintable_in (steps_in p (start_with lines maps config)) ≡ None → NamesStand config origin (sheet_with lines maps config p).text (sheet_with lines maps config p).pairs (names_in (root_phrase n))
+pub names_with : (lines : Lines) (maps : Maps) (config : Config) (n : Root) (p : Part) → p ≡ root_items n → is_well_formed_root n ≡ true → unprintable_in (steps_in p (start_with lines maps config)) ≡ None → NamesStand (unlined config) origin (sheet_with lines maps config p).text (sheet_with lines maps config p).pairs (names_in (root_phrase n))
 unfolding Follows
 names_with lines maps config n p same w none =
     let a = start_with lines maps config in
     let f = root_phrase n in
     let xs = names_in f in
-    let prints : PrintsAt (root_shape n) a.env p f = subst (λ z. PrintsAt (root_shape n) a.env z f) (sym same) (root_prints a.env (leaves_by lines maps config config.minify) n) in
-    let h : RecordsNames config xs a.sheet (printed p a).sheet = printed_names p f a (printed p a) (Ok tt) prints w (keeps_by config.minify) (none, refl) in
+    let here = stands n p a.env (leaves_by lines maps config config.minify) same in
+    let h : RecordsNames (unlined config) xs a.sheet (printed p a).sheet = stands_name n p a (printed p a) (Ok tt) here w (keeps_by config.minify) (flows_by config.minify) (λ b. fills_by lines maps config config.minify) (none, refl) in
     let k = last_records config (printed p a).sheet in
     let s = sheet_with lines maps config p in
     let text : s.text ≡ h.text ++ k.text = k.is_text ∙ ap (λ z. z ++ k.text) (h.is_text ∙ ap (λ z. z ++ h.text) (no_text config.minify)) in
-    let stand = names_longer config a.sheet.place h.text k.text (printed p a).sheet.pairs k.added xs h.stand in
-    subst (λ z. NamesStand config origin z s.pairs xs) (sym text) (subst (λ z. NamesStand config origin (h.text ++ k.text) z xs) (sym k.is_added) (subst (λ q. NamesStand config q (h.text ++ k.text) ((printed p a).sheet.pairs ++ k.added) xs) (at_origin config.minify) stand))
+    let stand = names_longer (unlined config) a.sheet.place h.text k.text (printed p a).sheet.pairs k.added xs h.stand in
+    subst (λ z. NamesStand (unlined config) origin z s.pairs xs) (sym text) (subst (λ z. NamesStand (unlined config) origin (h.text ++ k.text) z xs) (sym k.is_added) (subst (λ q. NamesStand (unlined config) q (h.text ++ k.text) ((printed p a).sheet.pairs ++ k.added) xs) (at_origin config.minify) stand))

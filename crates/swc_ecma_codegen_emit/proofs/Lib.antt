@@ -45,12 +45,15 @@ pub mod ModuleParts
 pub mod ProgramParts
 pub mod PartLaws
 pub mod TreeLaw
+pub mod InLines
+pub mod ByItself
 pub mod TreeReads
 pub mod ItemsTaken
 pub mod TreeMade
 pub mod OperatorLaws
 pub mod Between
 pub mod Standings
+pub mod Lengths
 pub mod MappedTypes
 pub mod TypeParts
 pub mod TypeWords

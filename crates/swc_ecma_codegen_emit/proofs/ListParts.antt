@@ -16,7 +16,7 @@ comma_is_mark : IsMark (codes ",")
 unfolding is_punctuator is_among is_same punctuators chars is_utf8 lib.Utf8.encode
 comma_is_mark = record { utf8 = refl; ascii = refl; shape = refl }
 
-comma_prints : (env : Env) → Prints env (comma false) (mark (codes ","))
+comma_prints : (env : Env) → PrintsAt ended env (comma false) (mark (codes ","))
 unfolding comma
 comma_prints env = before (prints_punct env (codes ",") comma_is_mark) (writes_formatting_space env)
 

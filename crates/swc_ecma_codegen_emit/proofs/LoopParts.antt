@@ -109,7 +109,7 @@ pub while_prints : {X : Type 0} (l : Linked X) (n : WhileStmt X) → PrintsAt en
 unfolding words.while_stmt lists.while_stmt
 while_prints l n = begun l.env n.span (codes "while") marks.while_word (enclosed_then l n.test (stmt_at l n.body))
 
-pub do_while_prints : {X : Type 0} (l : Linked X) (n : DoWhileStmt X) → Prints l.env (words.do_while_stmt l.asks l.items n) (lists.do_while_stmt l.reads n)
+pub do_while_prints : {X : Type 0} (l : Linked X) (n : DoWhileStmt X) → PrintsAt ended l.env (words.do_while_stmt l.asks l.items n) (lists.do_while_stmt l.reads n)
 unfolding words.do_while_stmt words.loop_test lists.do_while_stmt
 do_while_prints l n =
     begun l.env n.span (codes "do") marks.do_word

@@ -31,7 +31,7 @@ use Rattle.swc_ecma_codegen_tokens.specs.Run.{Plan, Part}
 use Rattle.swc_ecma_codegen_tokens.specs.Words.{keyword, punct, space, formatting_space, start_of, last_of, leading_comments}
 use Rattle.swc_ecma_codegen_emit.specs.declared.nodes.Place.{Place}
 use Rattle.swc_ecma_codegen_emit.specs.declared.nodes.Place.TheVariants.{Plain, ClassHead, ClassWord}
-use Rattle.swc_ecma_codegen_emit.specs.Annotations.{annotation, field_annotation, type_args, type_params}
+use Rattle.swc_ecma_codegen_emit.specs.Annotations.{annotation, field_annotation, type_args, type_params, types_format, word_before}
 use Rattle.swc_ecma_codegen_emit.specs.Answers.{Answers}
 use Rattle.swc_ecma_codegen_emit.specs.Classes.{class_members_format, heritage, implemented_format, some_implements, implements_clause, class_body, class_tail, class_word, class, accessibility_word, ts_param_prop_param, ts_param_prop, constructor_param, constructor_param_place, constructor_body, constructor_tail, constructor_word, class_constructor, static_method, method_word, accessor_words, method_kind, method_rest, class_method, private_kind, private_words, private_rest, private_method, prop_value, prop_modifiers, prop_tail, class_prop, private_modifiers, private_prop_tail, private_prop, accessor_key, accessor_modifiers, accessor_tail, auto_accessor, static_block, index_member, class_member}
 use Rattle.swc_ecma_codegen_emit.specs.Exprs.{blank}
@@ -43,8 +43,7 @@ use Rattle.swc_ecma_codegen_emit.specs.Parts.{expr_part, stmt_part}
 use Rattle.swc_ecma_codegen_emit.specs.Pats.{assign_pat, initializer}
 use Rattle.swc_ecma_codegen_emit.specs.Tree.{node_items}
 use Rattle.swc_ecma_codegen_emit.specs.TsDecls.{extended_place, ts_expr_with_type_args}
-use Rattle.swc_ecma_codegen_emit.specs.TsMembers.{readonly_index, ts_index_signature}
-use Rattle.swc_ecma_codegen_emit.specs.Types.{types_format, word_before, fn_param_place, fn_param_items}
+use Rattle.swc_ecma_codegen_emit.specs.TsMembers.{readonly_index, ts_index_signature, fn_param_place, fn_param_items}
 use Rattle.swc_ecma_codegen_emit.proofs.MappedFunctions.{decorators_mapped, param_same}
 use Rattle.swc_ecma_codegen_emit.proofs.MappedPats.{children_mapped, pat_mapped}
 

@@ -38,8 +38,9 @@ use Rattle.swc_ecma_codegen_emit.specs.Annotations.{type_args}
 use Rattle.swc_ecma_codegen_emit.specs.Answers.{Answers}
 use Rattle.swc_ecma_codegen_emit.specs.Exprs.{blank, spread_element}
 use Rattle.swc_ecma_codegen_emit.specs.Lists.{in_order}
-use Rattle.swc_ecma_codegen_emit.specs.Jsx.{jsx_member_expr, jsx_object, jsx_element_name, open_at, jsx_expr, jsx_expr_container, jsx_spread_child, jsx_attr_value, attr_initializer, jsx_attr, jsx_attr_or_spread, jsx_attributes, self_closing, jsx_opening_element, jsx_closing_element, jsx_element_child, jsx_children, optional_closing, jsx_element, opening_fragment, closing_fragment, jsx_fragment, jsx_part}
+use Rattle.swc_ecma_codegen_emit.specs.Jsx.{jsx_member_expr, jsx_object, jsx_element_name, open_at, jsx_expr, jsx_expr_container, jsx_spread_child, jsx_attr_value, attr_initializer, jsx_attr, jsx_attr_or_spread, jsx_attributes, self_closing, jsx_opening_element, jsx_closing_element, jsx_element_child, jsx_children, optional_closing, jsx_element, opening_fragment, closing_fragment, jsx_fragment, jsx_part, jsx_element_parts, jsx_fragment_parts}
 use Rattle.swc_ecma_codegen_emit.specs.Tree.{node_items}
+use Rattle.swc_ecma_codegen_emit.proofs.MappedTemplates.{unbounded_alike}
 
 -- ---- by what is there
 
@@ -128,14 +129,14 @@ element_same : {X Y : Type 0} (asks : Y → Answers) (items : Y → Place → Pa
     → ((rest : Plan) → jsx_children items o.children.items rest ≡ jsx_children put n.children.items rest)
     → ((rest : Plan) → optional_closing items o.closing rest ≡ optional_closing put n.closing rest)
     → (rest : Plan) → jsx_element asks items o place rest ≡ jsx_element said put n place rest
-unfolding jsx_element
-element_same asks items said put o n place opening children closing rest =
+unfolding jsx_element jsx_element_parts
+element_same asks items said put o n place opening children closing = unbounded_alike (jsx_element_parts asks items o place) (jsx_element_parts said put n place) (λ rest.
     ap (jsx_opening_element asks items o.opening place) (children (optional_closing items o.closing rest) ∙ ap (jsx_children put n.children.items) (closing rest))
-    ∙ opening (jsx_children put n.children.items (optional_closing put n.closing rest))
+    ∙ opening (jsx_children put n.children.items (optional_closing put n.closing rest)))
 
 fragment_same : {X Y : Type 0} (items : Y → Place → Part) (put : X → Place → Part) (o : JSXFragment Y) (n : JSXFragment X) (place : Place) → ((rest : Plan) → jsx_children items o.children.items rest ≡ jsx_children put n.children.items rest) → (rest : Plan) → jsx_fragment items o place rest ≡ jsx_fragment put n place rest
-unfolding jsx_fragment
-fragment_same items put o n place children rest = ap (opening_fragment place) (children (closing_fragment rest))
+unfolding jsx_fragment jsx_fragment_parts
+fragment_same items put o n place children = unbounded_alike (jsx_fragment_parts items o place) (jsx_fragment_parts put n place) (λ rest. ap (opening_fragment place) (children (closing_fragment rest)))
 
 -- ---- what links hold
 

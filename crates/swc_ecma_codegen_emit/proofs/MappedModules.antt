@@ -1,5 +1,5 @@
 -- What is written of modules sees what links hold through `asks` and `items` alone.
-use Rattle.std.proofs.Common.{◌≡◌, refl, true, codes, Option, Some, None, Box, Global}
+use Rattle.std.proofs.Common.{◌≡◌, refl, ap, true, codes, Option, Some, None, Box, Global}
 use Rattle.swc_ecma_codegen_tree.specs.Links.{ObjectLitBox, TsTypeParamDeclBox}
 use Rattle.swc_ecma_codegen_tree.specs.declared.lits.Str.{Str}
 use Rattle.swc_ecma_codegen_tree.specs.declared.links.AnyNode.{AnyNode-F, map-AnyNode}
@@ -20,7 +20,7 @@ use Rattle.swc_ecma_codegen_tree.specs.declared.programs.ModuleDecl.TheVariants 
 use Rattle.swc_ecma_codegen_spans.specs.Spans.{module_decl_span}
 use Rattle.swc_ecma_codegen_tokens.specs.Run.{Plan, Part}
 use Rattle.swc_ecma_codegen_grammar.proofs.MappedTsDecls.{by_args}
-use Rattle.swc_ecma_codegen_tokens.specs.Words.{keyword, space, formatting_line, start_of, leading_comments, trailing_comments}
+use Rattle.swc_ecma_codegen_tokens.specs.Words.{keyword, space, formatting_line, start_of, leading_comments, trailing_comments, formatting_space}
 use Rattle.swc_ecma_codegen_emit.specs.declared.nodes.Place.{Place}
 use Rattle.swc_ecma_codegen_emit.specs.declared.nodes.Place.TheVariants.{Plain}
 use Rattle.swc_ecma_codegen_emit.specs.Annotations.{type_args, type_params}
@@ -32,8 +32,7 @@ use Rattle.swc_ecma_codegen_emit.specs.Parts.{stmt_part}
 use Rattle.swc_ecma_codegen_emit.specs.Exprs.{ident}
 use Rattle.swc_ecma_codegen_emit.specs.Tree.{node_items}
 use Rattle.swc_ecma_codegen_emit.specs.TsDecls.{declare_word, ts_expr_with_type_args, ts_interface_decl, ts_module_ref, ts_import_equals_decl, ts_export_assignment}
-use Rattle.swc_ecma_codegen_emit.specs.TsMembers.{ts_interface_body}
-use Rattle.swc_ecma_codegen_emit.proofs.MappedTsDecls.{interface_same}
+use Rattle.swc_ecma_codegen_emit.proofs.MappedTsDecls.{extends_mapped}
 
 abbrev as_decl : {X : Type 0} → Box (ModuleDecl X) Global → ModuleDecl X → AnyNode-F X
 as_decl b n = nodes.StmtPart (stmt_parts.ModuleDecl (record b { value = n }))
@@ -56,9 +55,9 @@ all_by g asks items b n None place rest = refl
 all_by g asks items b n (Some w) place rest = refl
 
 default_interface : {X Y : Type 0} (g : X → Y) (asks : Y → Answers) (items : Y → Place → Part) (b : Box (ModuleDecl X) Global) (n : ExportDefaultDecl X) (i : TsInterfaceDecl X) (type_params : Option (TsTypeParamDeclBox X)) (place : Place) (rest : Plan) → node_items asks items (map-AnyNode X Y g (as_decl b (module_decls.ExportDefaultDecl (record n { decl = default_decls.TsInterfaceDecl (record i { type_params = type_params }) })))) place rest ≡ module_decl (λ x. asks (g x)) (λ x. items (g x)) (module_decls.ExportDefaultDecl (record n { decl = default_decls.TsInterfaceDecl (record i { type_params = type_params }) })) rest
-unfolding node_items stmt_part module_decl module_decl_by module_decl_span export_default_decl default_decl ts_interface_decl ts_interface_body ts_expr_with_type_args type_params type_args
-default_interface {X} {Y} g asks items b n i None place rest = interface_same {X = X} {Y = Y} _ _ asks items (λ x. asks (g x)) (λ x. items (g x)) (by_args {X = X} _ (λ e. refl) (λ e t. refl)) (λ m. refl) (λ z. leading_comments n.span.lo (leading_comments n.span.lo (start_of n.span (export_default (space (leading_comments i.span.lo (declare_word i.declare (keyword None (codes "interface") (space (ident i.id z)))))))))) i.span i.body.span i.extends.items i.body.body.items (trailing_comments true n.span.hi (formatting_line rest))
-default_interface {X} {Y} g asks items b n i (Some t) place rest = interface_same {X = X} {Y = Y} _ _ asks items (λ x. asks (g x)) (λ x. items (g x)) (by_args {X = X} _ (λ e. refl) (λ e t. refl)) (λ m. refl) (λ z. leading_comments n.span.lo (leading_comments n.span.lo (start_of n.span (export_default (space (leading_comments i.span.lo (declare_word i.declare (keyword None (codes "interface") (space (ident i.id (items (g t.node.value) Plain z))))))))))) i.span i.body.span i.extends.items i.body.body.items (trailing_comments true n.span.hi (formatting_line rest))
+unfolding node_items stmt_part module_decl module_decl_by module_decl_span export_default_decl default_decl ts_interface_decl ts_expr_with_type_args type_params type_args
+default_interface {X} {Y} g asks items b n i None place rest = ap (λ z. leading_comments n.span.lo (leading_comments n.span.lo (start_of n.span (export_default (space (leading_comments i.span.lo (declare_word i.declare (keyword None (codes "interface") (space (ident i.id z)))))))))) (extends_mapped {X = X} {Y = Y} _ items (λ x. items (g x)) (by_args {X = X} _ (λ e. refl) (λ e t. refl)) i.span i.extends.items (formatting_space (items (g i.body.node.value) Plain (trailing_comments true n.span.hi (formatting_line rest)))))
+default_interface {X} {Y} g asks items b n i (Some t) place rest = ap (λ z. leading_comments n.span.lo (leading_comments n.span.lo (start_of n.span (export_default (space (leading_comments i.span.lo (declare_word i.declare (keyword None (codes "interface") (space (ident i.id (items (g t.node.value) Plain z))))))))))) (extends_mapped {X = X} {Y = Y} _ items (λ x. items (g x)) (by_args {X = X} _ (λ e. refl) (λ e t. refl)) i.span i.extends.items (formatting_space (items (g i.body.node.value) Plain (trailing_comments true n.span.hi (formatting_line rest)))))
 
 default_by : {X Y : Type 0} (g : X → Y) (asks : Y → Answers) (items : Y → Place → Part) (b : Box (ModuleDecl X) Global) (n : ExportDefaultDecl X) (decl : DefaultDecl X) (place : Place) (rest : Plan) → node_items asks items (map-AnyNode X Y g (as_decl b (module_decls.ExportDefaultDecl (record n { decl = decl })))) place rest ≡ module_decl (λ x. asks (g x)) (λ x. items (g x)) (module_decls.ExportDefaultDecl (record n { decl = decl })) rest
 unfolding node_items stmt_part module_decl module_decl_by module_decl_span export_default_decl default_decl class_expr fn_expr optional_name

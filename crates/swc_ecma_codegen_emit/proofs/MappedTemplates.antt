@@ -13,7 +13,7 @@ use Rattle.swc_ecma_codegen_spans.specs.Spans.{expr_span}
 use Rattle.swc_ecma_codegen_grammar.specs.TemplatePhrases.{is_counted, part_before}
 use Rattle.swc_ecma_codegen_grammar.proofs.MappedTemplates.{length_mapped}
 use Rattle.swc_ecma_codegen_grammar.specs.TreePhrases.{is_sequence}
-use Rattle.swc_ecma_codegen_tokens.specs.Run.{Plan, Part}
+use Rattle.swc_ecma_codegen_tokens.specs.Run.{unbounded, Plan, Part}
 use Rattle.swc_ecma_codegen_tokens.specs.Templates.{tpl_element}
 use Rattle.swc_ecma_codegen_tokens.specs.Words.{start_of, end_of, leading_comments}
 use Rattle.swc_ecma_codegen_emit.specs.Exprs.{held}
@@ -23,8 +23,14 @@ use Rattle.swc_ecma_codegen_emit.specs.AnyExpr as words
 use Rattle.swc_ecma_codegen_emit.specs.AnyExpr.{expr}
 use Rattle.swc_ecma_codegen_emit.specs.Annotations.{type_args}
 use Rattle.swc_ecma_codegen_emit.specs.Parts.{expr_part}
-use Rattle.swc_ecma_codegen_emit.specs.Templates.{tpl_rest, tpl_parts, tpl_placed, bad_shape, tpl, is_tagged, tagged_tpl}
+use Rattle.swc_ecma_codegen_emit.specs.Templates.{tpl_rest, tpl_all, tpl_parts, tpl_placed, bad_shape, tpl, is_tagged, tagged_tpl}
 use Rattle.swc_ecma_codegen_emit.specs.Tree.{node_items}
+
+-- what is the same is the same where no line may be ended
+pub unbounded_alike : (p q : Part) → ((rest : Plan) → p rest ≡ q rest) → (rest : Plan) → unbounded p rest ≡ unbounded q rest
+unbounded_alike p q same rest =
+    let e : p ≡ q = λ i. λ after. same after i in
+    ap (λ (part : Part). unbounded part rest) e
 
 rest_mapped : {A B : Type 0} (g : A → B) (items : B → Part) (put : A → Part) → ((n : A) → items (g n) ≡ put n) → (tagged : Bool) (es : List A) (qs : List TplElement) (rest : Plan) → tpl_rest items tagged (map g es) qs rest ≡ tpl_rest put tagged es qs rest
 unfolding tpl_rest
@@ -34,10 +40,14 @@ rest_mapped g items put same tagged (e ∷ es) (q ∷ qs) rest =
     ap (λ part. part (tpl_element false (part_before tagged qs) q (tpl_rest items tagged (map g es) qs rest))) (same e)
     ∙ ap (λ more. put e (tpl_element false (part_before tagged qs) q more)) (rest_mapped g items put same tagged es qs rest)
 
+all_mapped : {A B : Type 0} (g : A → B) (items : B → Part) (put : A → Part) → ((n : A) → items (g n) ≡ put n) → (tagged : Bool) (es : List A) (qs : List TplElement) (rest : Plan) → tpl_all items tagged (map g es) qs rest ≡ tpl_all put tagged es qs rest
+unfolding tpl_all
+all_mapped g items put same tagged es [] rest = refl
+all_mapped g items put same tagged es (q ∷ qs) rest = ap (tpl_element true (part_before tagged qs) q) (rest_mapped g items put same tagged es qs rest)
+
 pub parts_mapped : {A B : Type 0} (g : A → B) (items : B → Part) (put : A → Part) → ((n : A) → items (g n) ≡ put n) → (tagged : Bool) (es : List A) (qs : List TplElement) (rest : Plan) → tpl_parts items tagged (map g es) qs rest ≡ tpl_parts put tagged es qs rest
 unfolding tpl_parts
-parts_mapped g items put same tagged es [] rest = refl
-parts_mapped g items put same tagged es (q ∷ qs) rest = ap (tpl_element true (part_before tagged qs) q) (rest_mapped g items put same tagged es qs rest)
+parts_mapped g items put same tagged es qs rest = unbounded_alike (tpl_all items tagged (map g es) qs) (tpl_all put tagged es qs) (all_mapped g items put same tagged es qs) rest
 
 abbrev placed : {A : Type 0} → (A → Part) → Bool → Span → List A → List TplElement → Plan → Plan
 placed items tagged span es qs rest = leading_comments span.lo (start_of span (tpl_parts items tagged es qs (end_of span rest)))

@@ -1,9 +1,9 @@
 -- What is written of declarations of TypeScript sees what links hold through `asks` and `items` alone.
-use Rattle.std.proofs.Common.{◌≡◌, refl, ◌∙◌, ap, List, [], ◌∷◌, map, codes, Option, Some, None, Box, Global}
+use Rattle.std.proofs.Common.{◌≡◌, refl, ap, List, [], ◌∷◌, map, codes, Option, Some, None, Box, Global}
 use Rattle.swc_ecma_codegen_common.specs.declared.positions.Span.{Span}
 use Rattle.swc_ecma_codegen_tree.specs.declared.links.AnyNode.{map-AnyNode}
 use Rattle.swc_ecma_codegen_tree.specs.declared.links.AnyNode.TheOpen as nodes
-use Rattle.swc_ecma_codegen_tree.specs.Links.{TsNamespaceBodyBox, TsTypeElementBox, TsTypeParamDeclBox}
+use Rattle.swc_ecma_codegen_tree.specs.Links.{TsNamespaceBodyBox, TsTypeParamDeclBox}
 use Rattle.swc_ecma_codegen_tree.specs.declared.parts.StmtPart.TheVariants as stmt_parts
 use Rattle.swc_ecma_codegen_tree.specs.declared.decls.Decl.TheVariants as decls
 use Rattle.swc_ecma_codegen_tree.specs.declared.ts_decls.TsEnumDecl.{TsEnumDecl}
@@ -14,11 +14,10 @@ use Rattle.swc_ecma_codegen_tree.specs.declared.ts_decls.TsModuleDecl.{TsModuleD
 use Rattle.swc_ecma_codegen_tree.specs.declared.ts_decls.TsTypeAliasDecl.{TsTypeAliasDecl}
 use Rattle.swc_ecma_codegen_grammar.proofs.MappedTsDecls.{by_args, by_value}
 use Rattle.swc_ecma_codegen_tokens.specs.Run.{Plan, Part}
-use Rattle.swc_ecma_codegen_tokens.specs.Lists.{list}
 use Rattle.swc_ecma_codegen_tokens.specs.Words.{keyword, punct, space, formatting_space, leading_comments}
 use Rattle.swc_ecma_codegen_emit.specs.declared.nodes.Place.{Place}
 use Rattle.swc_ecma_codegen_emit.specs.declared.nodes.Place.TheVariants.{Plain}
-use Rattle.swc_ecma_codegen_emit.specs.Annotations.{type_args, type_params}
+use Rattle.swc_ecma_codegen_emit.specs.Annotations.{type_args, type_params, word_before}
 use Rattle.swc_ecma_codegen_emit.specs.Answers.{Answers}
 use Rattle.swc_ecma_codegen_emit.specs.Decls.{by_export, without_head, decl}
 use Rattle.swc_ecma_codegen_emit.specs.Exprs.{ident}
@@ -26,35 +25,23 @@ use Rattle.swc_ecma_codegen_emit.specs.Lists.{child_of}
 use Rattle.swc_ecma_codegen_emit.specs.Parts.{stmt_part}
 use Rattle.swc_ecma_codegen_emit.specs.Pats.{initializer}
 use Rattle.swc_ecma_codegen_emit.specs.Tree.{node_items}
-use Rattle.swc_ecma_codegen_emit.specs.TsDecls.{declare_word, ts_expr_with_type_args, extended_place, extended_format, some_extends, extends_clause, ts_interface_decl, ts_type_alias_decl, ts_enum_member, enum_member_place, enum_format, enum_body, ts_enum_decl, module_tail, ts_module_decl}
-use Rattle.swc_ecma_codegen_emit.specs.TsMembers.{interface_format, ts_interface_body}
-use Rattle.swc_ecma_codegen_emit.specs.Types.{word_before, member_place, member_items}
+use Rattle.swc_ecma_codegen_emit.specs.TsDecls.{declare_word, ts_expr_with_type_args, extended_place, extended_format, some_extends, extends_clause, ts_interface_decl, ts_type_alias_decl, ts_enum_member, enum_body, ts_enum_decl, module_tail, ts_module_decl, enum_member_place, enum_format}
 use Rattle.swc_ecma_codegen_emit.proofs.MappedPats.{children_mapped}
 
 -- ---- interfaces and aliases
 
-extends_mapped : {X Y : Type 0} (e : TsExprWithTypeArgs X → TsExprWithTypeArgs Y) (items : Y → Place → Part) (d : X → Place → Part) → ((n : TsExprWithTypeArgs X) → child_of extended_place (λ m place. ts_expr_with_type_args items m) (e n) ≡ child_of extended_place (λ m place. ts_expr_with_type_args d m) n) → (span : Span) (ns : List (TsExprWithTypeArgs X)) (after : Plan) → extends_clause items span (map e ns) after ≡ extends_clause d span ns after
+pub extends_mapped : {X Y : Type 0} (e : TsExprWithTypeArgs X → TsExprWithTypeArgs Y) (items : Y → Place → Part) (d : X → Place → Part) → ((n : TsExprWithTypeArgs X) → child_of extended_place (λ m place. ts_expr_with_type_args items m) (e n) ≡ child_of extended_place (λ m place. ts_expr_with_type_args d m) n) → (span : Span) (ns : List (TsExprWithTypeArgs X)) (after : Plan) → extends_clause items span (map e ns) after ≡ extends_clause d span ns after
 unfolding extends_clause some_extends
 extends_mapped e items d child span [] after = refl
 extends_mapped e items d child span (n ∷ ns) after =
     ap (λ z. space (keyword None (codes "extends") (space z))) (children_mapped e (child_of extended_place (λ m place. ts_expr_with_type_args items m)) (child_of extended_place (λ m place. ts_expr_with_type_args d m)) child extended_format span (n ∷ ns) after)
 
--- the members between braces
-abbrev braced_members : {X : Type 0} → (X → Answers) → (X → Place → Part) → Span → List (TsTypeElementBox X) → Plan → Plan
-braced_members asks items span ms after = formatting_space (leading_comments span.lo (punct (codes "{") (list interface_format span (map (child_of (member_place asks) (member_items items)) ms) (punct (codes "}") after))))
+interface_by : {X Y : Type 0} (g : X → Y) (asks : Y → Answers) (items : Y → Place → Part) (b : Box (TsInterfaceDecl X) Global) (n : TsInterfaceDecl X) (type_params : Option (TsTypeParamDeclBox X)) (rest : Plan) → node_items asks items (map-AnyNode X Y g (nodes.StmtPart (stmt_parts.Decl (decls.TsInterface (record b { value = record n { type_params = type_params } }))))) Plain rest ≡ ts_interface_decl (λ x. items (g x)) (record n { type_params = type_params }) rest
+unfolding node_items stmt_part decl without_head by_export ts_interface_decl ts_expr_with_type_args type_params type_args
+interface_by {X} {Y} g asks items b n None rest = ap (λ z. leading_comments n.span.lo (declare_word n.declare (keyword None (codes "interface") (space (ident n.id z))))) (extends_mapped {X = X} {Y = Y} _ items (λ x. items (g x)) (by_args {X = X} _ (λ e. refl) (λ e t. refl)) n.span n.extends.items (formatting_space (items (g n.body.node.value) Plain rest)))
+interface_by {X} {Y} g asks items b n (Some t) rest = ap (λ z. leading_comments n.span.lo (declare_word n.declare (keyword None (codes "interface") (space (ident n.id (items (g t.node.value) Plain z)))))) (extends_mapped {X = X} {Y = Y} _ items (λ x. items (g x)) (by_args {X = X} _ (λ e. refl) (λ e t. refl)) n.span n.extends.items (formatting_space (items (g n.body.node.value) Plain rest)))
 
--- what is extended, and then the members
-pub interface_same : {X Y : Type 0} (e : TsExprWithTypeArgs X → TsExprWithTypeArgs Y) (m : TsTypeElementBox X → TsTypeElementBox Y) (asks : Y → Answers) (items : Y → Place → Part) (known : X → Answers) (d : X → Place → Part) → ((n : TsExprWithTypeArgs X) → child_of extended_place (λ x place. ts_expr_with_type_args items x) (e n) ≡ child_of extended_place (λ x place. ts_expr_with_type_args d x) n) → ((n : TsTypeElementBox X) → child_of (member_place asks) (member_items items) (m n) ≡ child_of (member_place known) (member_items d) n) → (head : Plan → Plan) (span body : Span) (ns : List (TsExprWithTypeArgs X)) (ms : List (TsTypeElementBox X)) (after : Plan) → head (extends_clause items span (map e ns) (braced_members asks items body (map m ms) after)) ≡ head (extends_clause d span ns (braced_members known d body ms after))
-interface_same e m asks items known d extended member head span body ns ms after =
-    ap head (extends_mapped e items d extended span ns (braced_members asks items body (map m ms) after))
-    ∙ ap (λ z. head (extends_clause d span ns (formatting_space (leading_comments body.lo (punct (codes "{") z))))) (children_mapped m (child_of (member_place asks) (member_items items)) (child_of (member_place known) (member_items d)) member interface_format body ms (punct (codes "}") after))
-
-interface_by : {X Y : Type 0} (g : X → Y) (asks : Y → Answers) (items : Y → Place → Part) (b : Box (TsInterfaceDecl X) Global) (n : TsInterfaceDecl X) (type_params : Option (TsTypeParamDeclBox X)) (rest : Plan) → node_items asks items (map-AnyNode X Y g (nodes.StmtPart (stmt_parts.Decl (decls.TsInterface (record b { value = record n { type_params = type_params } }))))) Plain rest ≡ ts_interface_decl (λ x. asks (g x)) (λ x. items (g x)) (record n { type_params = type_params }) rest
-unfolding node_items stmt_part decl without_head by_export ts_interface_decl ts_interface_body ts_expr_with_type_args type_params type_args
-interface_by {X} {Y} g asks items b n None rest = interface_same {X = X} {Y = Y} _ _ asks items (λ x. asks (g x)) (λ x. items (g x)) (by_args {X = X} _ (λ e. refl) (λ e t. refl)) (λ m. refl) (λ z. leading_comments n.span.lo (declare_word n.declare (keyword None (codes "interface") (space (ident n.id z))))) n.span n.body.span n.extends.items n.body.body.items rest
-interface_by {X} {Y} g asks items b n (Some t) rest = interface_same {X = X} {Y = Y} _ _ asks items (λ x. asks (g x)) (λ x. items (g x)) (by_args {X = X} _ (λ e. refl) (λ e t. refl)) (λ m. refl) (λ z. leading_comments n.span.lo (declare_word n.declare (keyword None (codes "interface") (space (ident n.id (items (g t.node.value) Plain z)))))) n.span n.body.span n.extends.items n.body.body.items rest
-
-pub interface_mapped : {X Y : Type 0} (g : X → Y) (asks : Y → Answers) (items : Y → Place → Part) (b : Box (TsInterfaceDecl X) Global) (rest : Plan) → node_items asks items (map-AnyNode X Y g (nodes.StmtPart (stmt_parts.Decl (decls.TsInterface b)))) Plain rest ≡ ts_interface_decl (λ x. asks (g x)) (λ x. items (g x)) b.value rest
+pub interface_mapped : {X Y : Type 0} (g : X → Y) (asks : Y → Answers) (items : Y → Place → Part) (b : Box (TsInterfaceDecl X) Global) (rest : Plan) → node_items asks items (map-AnyNode X Y g (nodes.StmtPart (stmt_parts.Decl (decls.TsInterface b)))) Plain rest ≡ ts_interface_decl (λ x. items (g x)) b.value rest
 interface_mapped g asks items b rest = interface_by g asks items b b.value b.value.type_params rest
 
 alias_by : {X Y : Type 0} (g : X → Y) (asks : Y → Answers) (items : Y → Place → Part) (b : Box (TsTypeAliasDecl X) Global) (n : TsTypeAliasDecl X) (type_params : Option (TsTypeParamDeclBox X)) (rest : Plan) → node_items asks items (map-AnyNode X Y g (nodes.StmtPart (stmt_parts.Decl (decls.TsTypeAlias (record b { value = record n { type_params = type_params } }))))) Plain rest ≡ ts_type_alias_decl (λ x. items (g x)) (record n { type_params = type_params }) rest

@@ -1,9 +1,10 @@
 -- The words of types see what links hold through `asks` and `items` alone.
 use Rattle.std.proofs.Common.{◌≡◌, refl, ◌∙◌, ap, ◌+◌, ◌==◌, length, false, cond, List, map, codes, Option, Some, None, Box, Global}
+use Rattle.std.specs.Box.{with_value}
 use Rattle.swc_ecma_codegen_common.specs.declared.positions.Span.{Span}
 use Rattle.swc_ecma_codegen_tree.specs.declared.links.AnyNode.{AnyNode-F, map-AnyNode}
 use Rattle.swc_ecma_codegen_tree.specs.declared.links.AnyNode.TheOpen as nodes
-use Rattle.swc_ecma_codegen_tree.specs.Links.{PatBox, TsEntityNameBox, TsFnParamBox, TsTypeAnnBox, TsTypeBox, TsTypeElementBox, TsTypeParamDeclBox, TsTypeParamInstantiationBox}
+use Rattle.swc_ecma_codegen_tree.specs.Links.{PatBox, TsEntityNameBox, TsFnParamBox, TsTypeAnnBox, TsTypeBox, TsTypeParamDeclBox, TsTypeParamInstantiationBox}
 use Rattle.swc_ecma_codegen_tree.specs.declared.idents.Ident.{Ident}
 use Rattle.swc_ecma_codegen_tree.specs.declared.pats.ArrayPat.{ArrayPat}
 use Rattle.swc_ecma_codegen_tree.specs.declared.pats.ObjectPat.{ObjectPat}
@@ -11,6 +12,7 @@ use Rattle.swc_ecma_codegen_tree.specs.declared.pats.ObjectPatProp.{ObjectPatPro
 use Rattle.swc_ecma_codegen_tree.specs.declared.pats.RestPat.{RestPat}
 use Rattle.swc_ecma_codegen_tree.specs.declared.parts.TsPart.{TsPart}
 use Rattle.swc_ecma_codegen_tree.specs.declared.parts.TsPart.TheVariants as ts_parts
+use Rattle.swc_ecma_codegen_tree.specs.declared.ts_members.TsTypeElement.{TsTypeElement}
 use Rattle.swc_ecma_codegen_tree.specs.declared.ts_types.TsConstructorType.{TsConstructorType}
 use Rattle.swc_ecma_codegen_tree.specs.declared.ts_types.TsEntityName.{TsEntityName}
 use Rattle.swc_ecma_codegen_tree.specs.declared.ts_types.TsEntityName.TheVariants as entity_names
@@ -41,7 +43,7 @@ use Rattle.swc_ecma_codegen_tree.specs.declared.ts_types.TsTypeRef.{TsTypeRef}
 use Rattle.swc_ecma_codegen_tree.specs.declared.ts_types.TsUnionOrIntersectionType.{TsUnionOrIntersectionType}
 use Rattle.swc_ecma_codegen_tree.specs.declared.ts_types.TsUnionOrIntersectionType.TheVariants as joined_types
 use Rattle.swc_ecma_codegen_tree.specs.declared.exprs.TplElement.{TplElement}
-use Rattle.swc_ecma_codegen_spans.specs.Spans.{object_pat_prop_span, key_value_pat_prop_span, expr_part_span, node_span}
+use Rattle.swc_ecma_codegen_spans.specs.Spans.{ts_type_element_span, object_pat_prop_span, key_value_pat_prop_span, expr_part_span, node_span}
 use Rattle.swc_ecma_codegen_grammar.specs.TemplatePhrases.{is_counted}
 use Rattle.swc_ecma_codegen_grammar.proofs.MappedPats.{by_cases}
 use Rattle.swc_ecma_codegen_grammar.proofs.MappedTemplates.{length_mapped}
@@ -51,7 +53,7 @@ use Rattle.swc_ecma_codegen_tokens.specs.Tags.{close}
 use Rattle.swc_ecma_codegen_tokens.specs.Words.{keyword, punct, space, leading_comments}
 use Rattle.swc_ecma_codegen_emit.specs.declared.nodes.Place.{Place}
 use Rattle.swc_ecma_codegen_emit.specs.declared.nodes.Place.TheVariants.{Plain, Reference}
-use Rattle.swc_ecma_codegen_emit.specs.Annotations.{annotation, spaced_annotation, type_args, type_params}
+use Rattle.swc_ecma_codegen_emit.specs.Annotations.{annotation, spaced_annotation, type_args, type_params, types_format, word_before}
 use Rattle.swc_ecma_codegen_emit.specs.Answers.{Answers}
 use Rattle.swc_ecma_codegen_emit.specs.Exprs.{opened, spaced_punct}
 use Rattle.swc_ecma_codegen_emit.specs.Lists.{child_of}
@@ -59,16 +61,17 @@ use Rattle.swc_ecma_codegen_emit.specs.Names.{binding_ident}
 use Rattle.swc_ecma_codegen_emit.specs.Pats.{pat_place, pat_items, initializer, array_pat, rest_pat, key_value_pat_prop, assign_pat_prop, object_pat_prop, object_pat_format, object_pat}
 use Rattle.swc_ecma_codegen_emit.specs.Templates.{bad_shape, tpl_parts}
 use Rattle.swc_ecma_codegen_emit.specs.Tree.{node_items}
-use Rattle.swc_ecma_codegen_emit.specs.Types.{types_format, type_place, type_items, type_at, type_behind, default_type, word_before, ts_qualified_name, ts_entity_name, ts_type_ref, type_arguments, ts_type_param_instantiation, ts_type_param, param_place, ts_type_param_decl, ts_keyword_type, ts_this_type, ts_fn_param, fn_param_place, fn_param_items, signature_type, ts_fn_type, spaced_params, ts_constructor_type, ts_fn_or_constructor_type, ts_tpl_parts, ts_tpl_lit_type, ts_lit, ts_lit_type, qualifier, ts_import_type, ts_type_query_expr, ts_type_query, members_format, member_place, member_items, ts_type_lit, ts_array_type, label, ts_tuple_element, element_place, ts_tuple_type, ts_optional_type, ts_rest_type, mapped_param, mapped_type_ann, mapped_parts, ts_mapped_type, union_format, intersection_format, ts_union_type, ts_intersection_type, ts_union_or_intersection_type, ts_parenthesized_type, ts_type_operator, ts_indexed_access_type, ts_conditional_type, ts_infer_type, is_behind, ts_type_predicate, ts_type, ts_type_ann}
+use Rattle.swc_ecma_codegen_emit.specs.TsMembers.{fn_param_place, fn_param_items, member_items}
+use Rattle.swc_ecma_codegen_emit.specs.Types.{type_place, type_items, type_at, type_behind, default_type, ts_qualified_name, ts_entity_name, ts_type_ref, type_arguments, ts_type_param_instantiation, ts_type_param, param_place, ts_type_param_decl, ts_keyword_type, ts_this_type, ts_fn_param, signature_type, ts_fn_type, spaced_params, ts_constructor_type, ts_fn_or_constructor_type, ts_tpl_parts, ts_tpl_lit_type, ts_lit, ts_lit_type, qualifier, ts_import_type, ts_type_query_expr, ts_type_query, members_format, ts_type_lit, ts_array_type, label, ts_tuple_element, element_place, ts_tuple_type, ts_optional_type, ts_rest_type, mapped_param, mapped_type_ann, mapped_parts, ts_mapped_type, union_format, intersection_format, ts_union_type, ts_intersection_type, ts_union_or_intersection_type, ts_parenthesized_type, ts_type_operator, ts_indexed_access_type, ts_conditional_type, ts_infer_type, is_behind, ts_type_predicate, ts_type, ts_type_ann}
 use Rattle.swc_ecma_codegen_emit.specs.Parts.{expr_part, ts_part}
 use Rattle.swc_ecma_codegen_emit.proofs.MappedNamespaces.{namespace_body_mapped}
-use Rattle.swc_ecma_codegen_emit.proofs.MappedTsMembers.{type_element_mapped}
+use Rattle.swc_ecma_codegen_emit.proofs.MappedTsMembers.{type_element_same, interface_body_mapped}
 use Rattle.swc_ecma_codegen_emit.proofs.MappedPats.{children_mapped, elements_mapped, key_value_same, prop_name_mapped, prop_name_placed}
 use Rattle.swc_ecma_codegen_emit.proofs.MappedTemplates.{parts_mapped}
 
 -- a type, as a part that a link holds
-abbrev as_type : {X : Type 0} → Box (TsType X) Global → TsType X → AnyNode-F X
-as_type b n = nodes.TsPart (ts_parts.TsType (record b { value = n }))
+abbrev as_type : {X : Type 0} → TsType X → AnyNode-F X
+as_type n = nodes.TsPart (ts_parts.TsType n)
 
 -- ---- names, arguments and parameters
 
@@ -121,39 +124,39 @@ fn_param_mapped g asks items (fn_params.Object n) place rest = param_object_mapp
 
 -- ---- types
 
-ref_mapped : {X Y : Type 0} (g : X → Y) (asks : Y → Answers) (items : Y → Place → Part) (b : Box (TsType X) Global) (n : TsTypeRef X) (type_params : Option (TsTypeParamInstantiationBox X)) (place : Place) (rest : Plan) → node_items asks items (map-AnyNode X Y g (as_type b (types.TsTypeRef (record n { type_params = type_params })))) place rest ≡ ts_type_ref (λ x. items (g x)) (record n { type_params = type_params }) rest
+ref_mapped : {X Y : Type 0} (g : X → Y) (asks : Y → Answers) (items : Y → Place → Part) (n : TsTypeRef X) (type_params : Option (TsTypeParamInstantiationBox X)) (place : Place) (rest : Plan) → node_items asks items (map-AnyNode X Y g (as_type (types.TsTypeRef (record n { type_params = type_params })))) place rest ≡ ts_type_ref (λ x. items (g x)) (record n { type_params = type_params }) rest
 unfolding node_items ts_part ts_type ts_type_ref type_args
-ref_mapped g asks items b n None place rest = refl
-ref_mapped g asks items b n (Some t) place rest = refl
+ref_mapped g asks items n None place rest = refl
+ref_mapped g asks items n (Some t) place rest = refl
 
-fn_mapped : {X Y : Type 0} (g : X → Y) (asks : Y → Answers) (items : Y → Place → Part) (b : Box (TsType X) Global) (n : TsFnType X) (type_params : Option (TsTypeParamDeclBox X)) (place : Place) (rest : Plan) → node_items asks items (map-AnyNode X Y g (as_type b (types.TsFnOrConstructorType (function_types.TsFnType (record n { type_params = type_params }))))) place rest ≡ ts_fn_type (λ x. asks (g x)) (λ x. items (g x)) (record n { type_params = type_params }) rest
+fn_mapped : {X Y : Type 0} (g : X → Y) (asks : Y → Answers) (items : Y → Place → Part) (b : Box (TsFnOrConstructorType X) Global) (n : TsFnType X) (type_params : Option (TsTypeParamDeclBox X)) (place : Place) (rest : Plan) → node_items asks items (map-AnyNode X Y g (as_type (types.TsFnOrConstructorType (with_value b (function_types.TsFnType (record n { type_params = type_params })))))) place rest ≡ ts_fn_type (λ x. asks (g x)) (λ x. items (g x)) (record n { type_params = type_params }) rest
 unfolding node_items ts_part ts_type ts_fn_or_constructor_type ts_fn_type type_params signature_type
 fn_mapped {X} g asks items b n None place rest = ap (λ z. leading_comments n.span.lo (punct (codes "(") z)) (children_mapped {A = TsFnParamBox X} _ (child_of (fn_param_place asks) (fn_param_items items)) (child_of (fn_param_place (λ x. asks (g x))) (fn_param_items (λ x. items (g x)))) (λ x. refl) types_format n.span n.params.items (punct (codes ")") (spaced_punct (codes "=>") (items (g n.type_ann.node.value) Plain rest))))
 fn_mapped {X} g asks items b n (Some t) place rest = ap (λ z. leading_comments n.span.lo (items (g t.node.value) Plain (punct (codes "(") z))) (children_mapped {A = TsFnParamBox X} _ (child_of (fn_param_place asks) (fn_param_items items)) (child_of (fn_param_place (λ x. asks (g x))) (fn_param_items (λ x. items (g x)))) (λ x. refl) types_format n.span n.params.items (punct (codes ")") (spaced_punct (codes "=>") (items (g n.type_ann.node.value) Plain rest))))
 
-constructor_mapped : {X Y : Type 0} (g : X → Y) (asks : Y → Answers) (items : Y → Place → Part) (b : Box (TsType X) Global) (n : TsConstructorType X) (type_params : Option (TsTypeParamDeclBox X)) (place : Place) (rest : Plan) → node_items asks items (map-AnyNode X Y g (as_type b (types.TsFnOrConstructorType (function_types.TsConstructorType (record n { type_params = type_params }))))) place rest ≡ ts_constructor_type (λ x. asks (g x)) (λ x. items (g x)) (record n { type_params = type_params }) rest
+constructor_mapped : {X Y : Type 0} (g : X → Y) (asks : Y → Answers) (items : Y → Place → Part) (b : Box (TsFnOrConstructorType X) Global) (n : TsConstructorType X) (type_params : Option (TsTypeParamDeclBox X)) (place : Place) (rest : Plan) → node_items asks items (map-AnyNode X Y g (as_type (types.TsFnOrConstructorType (with_value b (function_types.TsConstructorType (record n { type_params = type_params })))))) place rest ≡ ts_constructor_type (λ x. asks (g x)) (λ x. items (g x)) (record n { type_params = type_params }) rest
 unfolding node_items ts_part ts_type ts_fn_or_constructor_type ts_constructor_type spaced_params type_params signature_type
 constructor_mapped {X} g asks items b n None place rest = ap (λ z. leading_comments n.span.lo (word_before n.is_abstract (codes "abstract") (keyword None (codes "new") (punct (codes "(") z)))) (children_mapped {A = TsFnParamBox X} _ (child_of (fn_param_place asks) (fn_param_items items)) (child_of (fn_param_place (λ x. asks (g x))) (fn_param_items (λ x. items (g x)))) (λ x. refl) types_format n.span n.params.items (punct (codes ")") (spaced_punct (codes "=>") (items (g n.type_ann.node.value) Plain rest))))
 constructor_mapped {X} g asks items b n (Some t) place rest = ap (λ z. leading_comments n.span.lo (word_before n.is_abstract (codes "abstract") (keyword None (codes "new") (space (items (g t.node.value) Plain (punct (codes "(") z)))))) (children_mapped {A = TsFnParamBox X} _ (child_of (fn_param_place asks) (fn_param_items items)) (child_of (fn_param_place (λ x. asks (g x))) (fn_param_items (λ x. items (g x)))) (λ x. refl) types_format n.span n.params.items (punct (codes ")") (spaced_punct (codes "=>") (items (g n.type_ann.node.value) Plain rest))))
 
-function_mapped : {X Y : Type 0} (g : X → Y) (asks : Y → Answers) (items : Y → Place → Part) (b : Box (TsType X) Global) (n : TsFnOrConstructorType X) (place : Place) (rest : Plan) → node_items asks items (map-AnyNode X Y g (as_type b (types.TsFnOrConstructorType n))) place rest ≡ ts_fn_or_constructor_type (λ x. asks (g x)) (λ x. items (g x)) n rest
+function_mapped : {X Y : Type 0} (g : X → Y) (asks : Y → Answers) (items : Y → Place → Part) (b : Box (TsFnOrConstructorType X) Global) (n : TsFnOrConstructorType X) (place : Place) (rest : Plan) → node_items asks items (map-AnyNode X Y g (as_type (types.TsFnOrConstructorType (with_value b n)))) place rest ≡ ts_fn_or_constructor_type (λ x. asks (g x)) (λ x. items (g x)) n rest
 unfolding node_items ts_part ts_type ts_fn_or_constructor_type
 function_mapped g asks items b (function_types.TsFnType n) place rest = fn_mapped g asks items b n n.type_params place rest
 function_mapped g asks items b (function_types.TsConstructorType n) place rest = constructor_mapped g asks items b n n.type_params place rest
 
-import_mapped : {X Y : Type 0} (g : X → Y) (asks : Y → Answers) (items : Y → Place → Part) (b : Box (TsType X) Global) (n : TsImportType X) (qualified : Option (TsEntityNameBox X)) (type_args : Option (TsTypeParamInstantiationBox X)) (place : Place) (rest : Plan) → node_items asks items (map-AnyNode X Y g (as_type b (types.TsImportType (record n { qualifier = qualified; type_args = type_args })))) place rest ≡ ts_import_type (λ x. items (g x)) (record n { qualifier = qualified; type_args = type_args }) rest
+import_mapped : {X Y : Type 0} (g : X → Y) (asks : Y → Answers) (items : Y → Place → Part) (b : Box (TsImportType X) Global) (n : TsImportType X) (qualified : Option (TsEntityNameBox X)) (type_args : Option (TsTypeParamInstantiationBox X)) (place : Place) (rest : Plan) → node_items asks items (map-AnyNode X Y g (as_type (types.TsImportType (with_value b (record n { qualifier = qualified; type_args = type_args }))))) place rest ≡ ts_import_type (λ x. items (g x)) (record n { qualifier = qualified; type_args = type_args }) rest
 unfolding node_items ts_part ts_type ts_import_type qualifier type_args
 import_mapped g asks items b n None None place rest = refl
 import_mapped g asks items b n None (Some t) place rest = refl
 import_mapped g asks items b n (Some q) None place rest = refl
 import_mapped g asks items b n (Some q) (Some t) place rest = refl
 
-name_query_mapped : {X Y : Type 0} (g : X → Y) (asks : Y → Answers) (items : Y → Place → Part) (b : Box (TsType X) Global) (n : TsTypeQuery X) (name : TsEntityNameBox X) (type_args : Option (TsTypeParamInstantiationBox X)) (place : Place) (rest : Plan) → node_items asks items (map-AnyNode X Y g (as_type b (types.TsTypeQuery (record n { expr_name = query_exprs.TsEntityName name; type_args = type_args })))) place rest ≡ ts_type_query (λ x. items (g x)) (record n { expr_name = query_exprs.TsEntityName name; type_args = type_args }) rest
+name_query_mapped : {X Y : Type 0} (g : X → Y) (asks : Y → Answers) (items : Y → Place → Part) (b : Box (TsTypeQuery X) Global) (n : TsTypeQuery X) (name : TsEntityNameBox X) (type_args : Option (TsTypeParamInstantiationBox X)) (place : Place) (rest : Plan) → node_items asks items (map-AnyNode X Y g (as_type (types.TsTypeQuery (with_value b (record n { expr_name = query_exprs.TsEntityName name; type_args = type_args }))))) place rest ≡ ts_type_query (λ x. items (g x)) (record n { expr_name = query_exprs.TsEntityName name; type_args = type_args }) rest
 unfolding node_items ts_part ts_type ts_type_query ts_type_query_expr type_args
 name_query_mapped g asks items b n name None place rest = refl
 name_query_mapped g asks items b n name (Some t) place rest = refl
 
-import_query_mapped : {X Y : Type 0} (g : X → Y) (asks : Y → Answers) (items : Y → Place → Part) (b : Box (TsType X) Global) (n : TsTypeQuery X) (m : TsImportType X) (qualified : Option (TsEntityNameBox X)) (inner type_args : Option (TsTypeParamInstantiationBox X)) (place : Place) (rest : Plan) → node_items asks items (map-AnyNode X Y g (as_type b (types.TsTypeQuery (record n { expr_name = query_exprs.Import (record m { qualifier = qualified; type_args = inner }); type_args = type_args })))) place rest ≡ ts_type_query (λ x. items (g x)) (record n { expr_name = query_exprs.Import (record m { qualifier = qualified; type_args = inner }); type_args = type_args }) rest
+import_query_mapped : {X Y : Type 0} (g : X → Y) (asks : Y → Answers) (items : Y → Place → Part) (b : Box (TsTypeQuery X) Global) (n : TsTypeQuery X) (m : TsImportType X) (qualified : Option (TsEntityNameBox X)) (inner type_args : Option (TsTypeParamInstantiationBox X)) (place : Place) (rest : Plan) → node_items asks items (map-AnyNode X Y g (as_type (types.TsTypeQuery (with_value b (record n { expr_name = query_exprs.Import (record m { qualifier = qualified; type_args = inner }); type_args = type_args }))))) place rest ≡ ts_type_query (λ x. items (g x)) (record n { expr_name = query_exprs.Import (record m { qualifier = qualified; type_args = inner }); type_args = type_args }) rest
 unfolding node_items ts_part ts_type ts_type_query ts_type_query_expr ts_import_type qualifier type_args
 import_query_mapped g asks items b n m None None None place rest = refl
 import_query_mapped g asks items b n m None None (Some t) place rest = refl
@@ -164,7 +167,7 @@ import_query_mapped g asks items b n m (Some q) None (Some t) place rest = refl
 import_query_mapped g asks items b n m (Some q) (Some i) None place rest = refl
 import_query_mapped g asks items b n m (Some q) (Some i) (Some t) place rest = refl
 
-query_mapped : {X Y : Type 0} (g : X → Y) (asks : Y → Answers) (items : Y → Place → Part) (b : Box (TsType X) Global) (n : TsTypeQuery X) (expr_name : TsTypeQueryExpr X) (place : Place) (rest : Plan) → node_items asks items (map-AnyNode X Y g (as_type b (types.TsTypeQuery (record n { expr_name = expr_name })))) place rest ≡ ts_type_query (λ x. items (g x)) (record n { expr_name = expr_name }) rest
+query_mapped : {X Y : Type 0} (g : X → Y) (asks : Y → Answers) (items : Y → Place → Part) (b : Box (TsTypeQuery X) Global) (n : TsTypeQuery X) (expr_name : TsTypeQueryExpr X) (place : Place) (rest : Plan) → node_items asks items (map-AnyNode X Y g (as_type (types.TsTypeQuery (with_value b (record n { expr_name = expr_name }))))) place rest ≡ ts_type_query (λ x. items (g x)) (record n { expr_name = expr_name }) rest
 unfolding node_items ts_part ts_type ts_type_query
 query_mapped g asks items b n (query_exprs.TsEntityName m) place rest = name_query_mapped g asks items b n m n.type_args place rest
 query_mapped g asks items b n (query_exprs.Import m) place rest = import_query_mapped g asks items b n m m.qualifier m.type_args n.type_args place rest
@@ -175,7 +178,7 @@ counted_mapped g items put same span es qs rest =
     ap (λ k. cond (length qs == k + 1) (leading_comments span.lo (tpl_parts items false (map g es) qs rest)) (bad_shape rest)) (length_mapped g es)
     ∙ ap (λ z. cond (is_counted es qs) (leading_comments span.lo z) (bad_shape rest)) (parts_mapped g items put same false es qs rest)
 
-lit_mapped : {X Y : Type 0} (g : X → Y) (asks : Y → Answers) (items : Y → Place → Part) (b : Box (TsType X) Global) (n : TsLitType X) (lit : TsLit X) (place : Place) (rest : Plan) → node_items asks items (map-AnyNode X Y g (as_type b (types.TsLitType (record n { lit = lit })))) place rest ≡ ts_lit_type (λ x. items (g x)) (record n { lit = lit }) rest
+lit_mapped : {X Y : Type 0} (g : X → Y) (asks : Y → Answers) (items : Y → Place → Part) (b : Box (TsLitType X) Global) (n : TsLitType X) (lit : TsLit X) (place : Place) (rest : Plan) → node_items asks items (map-AnyNode X Y g (as_type (types.TsLitType (with_value b (record n { lit = lit }))))) place rest ≡ ts_lit_type (λ x. items (g x)) (record n { lit = lit }) rest
 unfolding node_items ts_part ts_type ts_lit_type ts_lit ts_tpl_lit_type ts_tpl_parts
 lit_mapped {X} {Y} g asks items b n (type_lits.Tpl m) place rest = ap (leading_comments n.span.lo) (counted_mapped {A = TsTypeBox X} {B = TsTypeBox Y} _ (type_at items) (type_at (λ x. items (g x))) (λ x. refl) m.span m.types.items m.quasis.items rest)
 lit_mapped g asks items b n (type_lits.Number m) place rest = refl
@@ -183,27 +186,27 @@ lit_mapped g asks items b n (type_lits.Str m) place rest = refl
 lit_mapped g asks items b n (type_lits.Bool m) place rest = refl
 lit_mapped g asks items b n (type_lits.BigInt m) place rest = refl
 
-object_mapped : {X Y : Type 0} (g : X → Y) (asks : Y → Answers) (items : Y → Place → Part) (b : Box (TsType X) Global) (n : TsTypeLit X) (place : Place) (rest : Plan) → node_items asks items (map-AnyNode X Y g (as_type b (types.TsTypeLit n))) place rest ≡ ts_type_lit (λ x. asks (g x)) (λ x. items (g x)) n rest
+object_mapped : {X Y : Type 0} (g : X → Y) (asks : Y → Answers) (items : Y → Place → Part) (n : TsTypeLit X) (place : Place) (rest : Plan) → node_items asks items (map-AnyNode X Y g (as_type (types.TsTypeLit n))) place rest ≡ ts_type_lit (λ x. asks (g x)) (λ x. items (g x)) n rest
 unfolding node_items ts_part ts_type ts_type_lit
-object_mapped {X} g asks items b n place rest = ap (λ z. leading_comments n.span.lo (punct (codes "{") z)) (children_mapped {A = TsTypeElementBox X} _ (child_of (member_place asks) (member_items items)) (child_of (member_place (λ x. asks (g x))) (member_items (λ x. items (g x)))) (λ x. refl) members_format n.span n.members.items (punct (codes "}") rest))
+object_mapped {X} g asks items n place rest = ap (λ z. leading_comments n.span.lo (punct (codes "{") z)) (children_mapped {A = TsTypeElement X} _ (child_of ts_type_element_span (member_items asks items)) (child_of ts_type_element_span (member_items (λ x. asks (g x)) (λ x. items (g x)))) (type_element_same g asks items n) members_format n.span n.members.items (punct (codes "}") rest))
 
-tuple_mapped : {X Y : Type 0} (g : X → Y) (asks : Y → Answers) (items : Y → Place → Part) (b : Box (TsType X) Global) (n : TsTupleType X) (place : Place) (rest : Plan) → node_items asks items (map-AnyNode X Y g (as_type b (types.TsTupleType n))) place rest ≡ ts_tuple_type (λ x. items (g x)) n rest
+tuple_mapped : {X Y : Type 0} (g : X → Y) (asks : Y → Answers) (items : Y → Place → Part) (n : TsTupleType X) (place : Place) (rest : Plan) → node_items asks items (map-AnyNode X Y g (as_type (types.TsTupleType n))) place rest ≡ ts_tuple_type (λ x. items (g x)) n rest
 unfolding node_items ts_part ts_type ts_tuple_type ts_tuple_element label
-tuple_mapped {X} g asks items b n place rest = ap (λ z. leading_comments n.span.lo (punct (codes "[") z)) (children_mapped {A = TsTupleElement X} _ (child_of element_place (λ x place. ts_tuple_element items x)) (child_of element_place (λ x place. ts_tuple_element (λ y. items (g y)) x)) (by_element {X = X} _ (λ x. refl) (λ x l. refl)) types_format n.span n.elem_types.items (punct (codes "]") rest))
+tuple_mapped {X} g asks items n place rest = ap (λ z. leading_comments n.span.lo (punct (codes "[") z)) (children_mapped {A = TsTupleElement X} _ (child_of element_place (λ x place. ts_tuple_element items x)) (child_of element_place (λ x place. ts_tuple_element (λ y. items (g y)) x)) (by_element {X = X} _ (λ x. refl) (λ x l. refl)) types_format n.span n.elem_types.items (punct (codes "]") rest))
 
-joined_mapped : {X Y : Type 0} (g : X → Y) (asks : Y → Answers) (items : Y → Place → Part) (b : Box (TsType X) Global) (n : TsUnionOrIntersectionType X) (place : Place) (rest : Plan) → node_items asks items (map-AnyNode X Y g (as_type b (types.TsUnionOrIntersectionType n))) place rest ≡ ts_union_or_intersection_type (λ x. asks (g x)) (λ x. items (g x)) n rest
+joined_mapped : {X Y : Type 0} (g : X → Y) (asks : Y → Answers) (items : Y → Place → Part) (n : TsUnionOrIntersectionType X) (place : Place) (rest : Plan) → node_items asks items (map-AnyNode X Y g (as_type (types.TsUnionOrIntersectionType n))) place rest ≡ ts_union_or_intersection_type (λ x. asks (g x)) (λ x. items (g x)) n rest
 unfolding node_items ts_part ts_type ts_union_or_intersection_type ts_union_type ts_intersection_type
-joined_mapped {X} g asks items b (joined_types.TsUnionType n) place rest = ap (leading_comments n.span.lo) (children_mapped {A = TsTypeBox X} _ (child_of (type_place asks) (type_items items)) (child_of (type_place (λ x. asks (g x))) (type_items (λ x. items (g x)))) (λ x. refl) union_format n.span n.types.items rest)
-joined_mapped {X} g asks items b (joined_types.TsIntersectionType n) place rest = ap (leading_comments n.span.lo) (children_mapped {A = TsTypeBox X} _ (child_of (type_place asks) (type_items items)) (child_of (type_place (λ x. asks (g x))) (type_items (λ x. items (g x)))) (λ x. refl) intersection_format n.span n.types.items rest)
+joined_mapped {X} g asks items (joined_types.TsUnionType n) place rest = ap (leading_comments n.span.lo) (children_mapped {A = TsTypeBox X} _ (child_of (type_place asks) (type_items items)) (child_of (type_place (λ x. asks (g x))) (type_items (λ x. items (g x)))) (λ x. refl) union_format n.span n.types.items rest)
+joined_mapped {X} g asks items (joined_types.TsIntersectionType n) place rest = ap (leading_comments n.span.lo) (children_mapped {A = TsTypeBox X} _ (child_of (type_place asks) (type_items items)) (child_of (type_place (λ x. asks (g x))) (type_items (λ x. items (g x)))) (λ x. refl) intersection_format n.span n.types.items rest)
 
-infer_mapped : {X Y : Type 0} (g : X → Y) (asks : Y → Answers) (items : Y → Place → Part) (b : Box (TsType X) Global) (n : TsInferType X) (constraint default_ : Option (TsTypeBox X)) (place : Place) (rest : Plan) → node_items asks items (map-AnyNode X Y g (as_type b (types.TsInferType (record n { type_param = record n.type_param { constraint = constraint; default_ = default_ } })))) place rest ≡ ts_infer_type (λ x. items (g x)) (record n { type_param = record n.type_param { constraint = constraint; default_ = default_ } }) rest
+infer_mapped : {X Y : Type 0} (g : X → Y) (asks : Y → Answers) (items : Y → Place → Part) (b : Box (TsInferType X) Global) (n : TsInferType X) (constraint default_ : Option (TsTypeBox X)) (place : Place) (rest : Plan) → node_items asks items (map-AnyNode X Y g (as_type (types.TsInferType (with_value b (record n { type_param = record n.type_param { constraint = constraint; default_ = default_ } }))))) place rest ≡ ts_infer_type (λ x. items (g x)) (record n { type_param = record n.type_param { constraint = constraint; default_ = default_ } }) rest
 unfolding node_items ts_part ts_type ts_infer_type ts_type_param type_behind default_type
 infer_mapped g asks items b n None None place rest = refl
 infer_mapped g asks items b n None (Some d) place rest = refl
 infer_mapped g asks items b n (Some c) None place rest = refl
 infer_mapped g asks items b n (Some c) (Some d) place rest = refl
 
-mapped_mapped : {X Y : Type 0} (g : X → Y) (asks : Y → Answers) (items : Y → Place → Part) (b : Box (TsType X) Global) (n : TsMappedType X) (constraint default_ name_type type_ann : Option (TsTypeBox X)) (place : Place) (rest : Plan) → node_items asks items (map-AnyNode X Y g (as_type b (types.TsMappedType (record n { type_param = record n.type_param { constraint = constraint; default_ = default_ }; name_type = name_type; type_ann = type_ann })))) place rest ≡ ts_mapped_type (λ x. items (g x)) (record n { type_param = record n.type_param { constraint = constraint; default_ = default_ }; name_type = name_type; type_ann = type_ann }) rest
+mapped_mapped : {X Y : Type 0} (g : X → Y) (asks : Y → Answers) (items : Y → Place → Part) (b : Box (TsMappedType X) Global) (n : TsMappedType X) (constraint default_ name_type type_ann : Option (TsTypeBox X)) (place : Place) (rest : Plan) → node_items asks items (map-AnyNode X Y g (as_type (types.TsMappedType (with_value b (record n { type_param = record n.type_param { constraint = constraint; default_ = default_ }; name_type = name_type; type_ann = type_ann }))))) place rest ≡ ts_mapped_type (λ x. items (g x)) (record n { type_param = record n.type_param { constraint = constraint; default_ = default_ }; name_type = name_type; type_ann = type_ann }) rest
 unfolding node_items ts_part ts_type ts_mapped_type mapped_parts mapped_param mapped_type_ann type_behind default_type
 mapped_mapped g asks items b n None None None None place rest = refl
 mapped_mapped g asks items b n None None None (Some t) place rest = refl
@@ -222,34 +225,34 @@ mapped_mapped g asks items b n (Some c) (Some d) None (Some t) place rest = refl
 mapped_mapped g asks items b n (Some c) (Some d) (Some a) None place rest = refl
 mapped_mapped g asks items b n (Some c) (Some d) (Some a) (Some t) place rest = refl
 
-predicate_mapped : {X Y : Type 0} (g : X → Y) (asks : Y → Answers) (items : Y → Place → Part) (b : Box (TsType X) Global) (n : TsTypePredicate X) (type_ann : Option (TsTypeAnnBox X)) (place : Place) (rest : Plan) → node_items asks items (map-AnyNode X Y g (as_type b (types.TsTypePredicate (record n { type_ann = type_ann })))) place rest ≡ ts_type_predicate (λ x. items (g x)) (record n { type_ann = type_ann }) rest
+predicate_mapped : {X Y : Type 0} (g : X → Y) (asks : Y → Answers) (items : Y → Place → Part) (b : Box (TsTypePredicate X) Global) (n : TsTypePredicate X) (type_ann : Option (TsTypeAnnBox X)) (place : Place) (rest : Plan) → node_items asks items (map-AnyNode X Y g (as_type (types.TsTypePredicate (with_value b (record n { type_ann = type_ann }))))) place rest ≡ ts_type_predicate (λ x. items (g x)) (record n { type_ann = type_ann }) rest
 unfolding node_items ts_part ts_type ts_type_predicate is_behind
 predicate_mapped g asks items b n None place rest = refl
 predicate_mapped g asks items b n (Some t) place rest = refl
 
-type_mapped : {X Y : Type 0} (g : X → Y) (asks : Y → Answers) (items : Y → Place → Part) (b : Box (TsType X) Global) (n : TsType X) (place : Place) (rest : Plan) → node_items asks items (map-AnyNode X Y g (as_type b (n))) place rest ≡ ts_type (λ x. asks (g x)) (λ x. items (g x)) n rest
+type_mapped : {X Y : Type 0} (g : X → Y) (asks : Y → Answers) (items : Y → Place → Part) (n : TsType X) (place : Place) (rest : Plan) → node_items asks items (map-AnyNode X Y g (as_type n)) place rest ≡ ts_type (λ x. asks (g x)) (λ x. items (g x)) n rest
 unfolding node_items ts_part ts_type ts_keyword_type ts_this_type ts_array_type ts_optional_type ts_rest_type ts_parenthesized_type ts_type_operator ts_indexed_access_type ts_conditional_type
-type_mapped g asks items b (types.TsFnOrConstructorType n) place rest = function_mapped g asks items b n place rest
-type_mapped g asks items b (types.TsTypeRef n) place rest = ref_mapped g asks items b n n.type_params place rest
-type_mapped g asks items b (types.TsTypeQuery n) place rest = query_mapped g asks items b n n.expr_name place rest
-type_mapped g asks items b (types.TsTypeLit n) place rest = object_mapped g asks items b n place rest
-type_mapped g asks items b (types.TsTupleType n) place rest = tuple_mapped g asks items b n place rest
-type_mapped g asks items b (types.TsUnionOrIntersectionType n) place rest = joined_mapped g asks items b n place rest
-type_mapped g asks items b (types.TsInferType n) place rest = infer_mapped g asks items b n n.type_param.constraint n.type_param.default_ place rest
-type_mapped g asks items b (types.TsMappedType n) place rest = mapped_mapped g asks items b n n.type_param.constraint n.type_param.default_ n.name_type n.type_ann place rest
-type_mapped g asks items b (types.TsLitType n) place rest = lit_mapped g asks items b n n.lit place rest
-type_mapped g asks items b (types.TsTypePredicate n) place rest = predicate_mapped g asks items b n n.type_ann place rest
-type_mapped g asks items b (types.TsImportType n) place rest = import_mapped g asks items b n n.qualifier n.type_args place rest
-type_mapped g asks items b n place rest = refl
+type_mapped g asks items (types.TsFnOrConstructorType n) place rest = function_mapped g asks items n n.value place rest
+type_mapped g asks items (types.TsTypeRef n) place rest = ref_mapped g asks items n n.type_params place rest
+type_mapped g asks items (types.TsTypeQuery n) place rest = query_mapped g asks items n n.value n.value.expr_name place rest
+type_mapped g asks items (types.TsTypeLit n) place rest = object_mapped g asks items n place rest
+type_mapped g asks items (types.TsTupleType n) place rest = tuple_mapped g asks items n place rest
+type_mapped g asks items (types.TsUnionOrIntersectionType n) place rest = joined_mapped g asks items n place rest
+type_mapped g asks items (types.TsInferType n) place rest = infer_mapped g asks items n n.value n.value.type_param.constraint n.value.type_param.default_ place rest
+type_mapped g asks items (types.TsMappedType n) place rest = mapped_mapped g asks items n n.value n.value.type_param.constraint n.value.type_param.default_ n.value.name_type n.value.type_ann place rest
+type_mapped g asks items (types.TsLitType n) place rest = lit_mapped g asks items n n.value n.value.lit place rest
+type_mapped g asks items (types.TsTypePredicate n) place rest = predicate_mapped g asks items n n.value n.value.type_ann place rest
+type_mapped g asks items (types.TsImportType n) place rest = import_mapped g asks items n n.value n.value.qualifier n.value.type_args place rest
+type_mapped g asks items n place rest = refl
 
 pub ts_part_mapped : {X Y : Type 0} (g : X → Y) (asks : Y → Answers) (items : Y → Place → Part) (n : TsPart X) (place : Place) (rest : Plan) → node_items asks items (map-AnyNode X Y g (nodes.TsPart n)) place rest ≡ ts_part (λ x. asks (g x)) (λ x. items (g x)) n place rest
 unfolding node_items ts_part ts_type_ann
-ts_part_mapped g asks items (ts_parts.TsType n) place rest = type_mapped g asks items n n.value place rest
+ts_part_mapped g asks items (ts_parts.TsType n) place rest = type_mapped g asks items n place rest
 ts_part_mapped g asks items (ts_parts.TsTypeParamDecl n) place rest = params_mapped g asks items n place rest
 ts_part_mapped g asks items (ts_parts.TsTypeParamInstantiation n) place rest = arguments_mapped g asks items n place rest
 ts_part_mapped g asks items (ts_parts.TsFnParam n) place rest = fn_param_mapped g asks items n place rest
+ts_part_mapped g asks items (ts_parts.TsInterfaceBody n) place rest = interface_body_mapped g asks items n place rest
 ts_part_mapped g asks items (ts_parts.TsEntityName n) place rest = entity_mapped g asks items n place rest
-ts_part_mapped g asks items (ts_parts.TsTypeAnn n) Reference rest = refl
-ts_part_mapped g asks items (ts_parts.TsTypeAnn n) place rest = refl
-ts_part_mapped g asks items (ts_parts.TsTypeElement n) place rest = type_element_mapped g asks items n place rest
+ts_part_mapped g asks items (ts_parts.TsTypeAnn n) Reference rest = type_mapped g asks items n.type_ann Plain rest
+ts_part_mapped g asks items (ts_parts.TsTypeAnn n) place rest = ap (leading_comments n.span.lo) (type_mapped g asks items n.type_ann Plain rest)
 ts_part_mapped g asks items (ts_parts.TsNamespaceBody n) place rest = namespace_body_mapped g asks items n place rest

@@ -46,7 +46,8 @@ use Rattle.swc_ecma_codegen_tokens.proofs.ListLaws.{children_of, writes_no_list,
 use Rattle.swc_ecma_codegen_tokens.proofs.Choices.{prints_attributes_word}
 use Rattle.swc_ecma_codegen_tokens.proofs.Shapes.{Shape, open_, closed, ended}
 use Rattle.swc_ecma_codegen_tokens.proofs.Phrased.{Prints, PrintsAt, prints_wider, loosened, then, after, before, prints_nothing, prints_never, prints_same, prints_keyword, prints_punct, prints_semi}
-use Rattle.swc_ecma_codegen_tokens.proofs.Printed.{writes_space, writes_formatting_space, writes_formatting_line, writes_position, writes_leading, writes_trailing}
+use Rattle.swc_ecma_codegen_tokens.proofs.Printed.{writes_space, writes_formatting_space, writes_formatting_line, writes_position}
+use Rattle.swc_ecma_codegen_tokens.proofs.CommentPrints.{writes_leading, writes_trailing}
 use Rattle.swc_ecma_codegen_tokens.proofs.StringPrints.{prints_str}
 use Rattle.swc_ecma_codegen_emit.specs.declared.nodes.Place.TheVariants.{Plain}
 use Rattle.swc_ecma_codegen_emit.specs.Answers.{place_of}
@@ -54,12 +55,12 @@ use Rattle.swc_ecma_codegen_emit.specs.Exprs.{ident as words_ident}
 use Rattle.swc_ecma_codegen_emit.specs.Lists.{comma}
 use Rattle.swc_ecma_codegen_emit.specs.Modules as words
 use Rattle.swc_ecma_codegen_emit.specs.Templates.{bad_shape}
+use Rattle.swc_ecma_codegen_emit.proofs.AnnotationParts.{word_before_prints}
 use Rattle.swc_ecma_codegen_emit.proofs.ExprParts.{ident_prints, writes_blank}
 use Rattle.swc_ecma_codegen_emit.proofs.FunctionExprParts.{class_expr_prints, fn_expr_prints}
 use Rattle.swc_ecma_codegen_emit.proofs.Impossible.{if_possible, prints_impossible}
 use Rattle.swc_ecma_codegen_emit.proofs.TsDeclParts.{interface_prints, import_equals_prints, export_assignment_prints, namespace_export_prints}
 use Rattle.swc_ecma_codegen_emit.proofs.TsDeclWords as decl_words
-use Rattle.swc_ecma_codegen_emit.proofs.TypeParts.{word_before_prints}
 use Rattle.swc_ecma_codegen_grammar.specs.FunctionPhrases.{word_if}
 use Rattle.swc_ecma_codegen_emit.proofs.Linked.{Linked, expr_at}
 use Rattle.swc_ecma_codegen_emit.proofs.MarkWords as marks
@@ -252,7 +253,7 @@ attributes_print l (Some n) =
     prints_wider open_ refl
     (after (writes_formatting_space l.env) (then prints_attributes_word (after (writes_formatting_space l.env) (l.law n.node.value Plain ObjectLiteral))))
 
-source_end_prints : {X : Type 0} (l : Linked X) (src : Str) (with_ : Option (ObjectLitBox X)) (span : Span) → Prints l.env (words.source_end l.items src with_ span) (str_lit src > lists.attributes l.reads with_ > ending)
+source_end_prints : {X : Type 0} (l : Linked X) (src : Str) (with_ : Option (ObjectLitBox X)) (span : Span) → PrintsAt ended l.env (words.source_end l.items src with_ span) (str_lit src > lists.attributes l.reads with_ > ending)
 unfolding words.source_end
 source_end_prints l src with_ span = then (prints_str l.env src) (then (attributes_print l with_) (before (prints_semi l.env) (writes_position l.env span.hi)))
 
@@ -266,7 +267,7 @@ unfolding is_possible
 import_has_room type_only phase ns tail w =
     ordered_not_crowded (imports_ordered ns (and_parts (is_possible (lists.import_clause ns)) _ (and_parts (is_possible (lists.import_phase phase)) _ (and_parts (is_possible (lists.type_word type_only)) _ w).1).1).0)
 
-import_prints : {X : Type 0} (l : Linked X) (n : ImportDecl X) → Prints l.env (words.import_decl l.items n) (lists.import_decl l.reads n)
+import_prints : {X : Type 0} (l : Linked X) (n : ImportDecl X) → PrintsAt ended l.env (words.import_decl l.items n) (lists.import_decl l.reads n)
 unfolding words.import_decl words.import_parts words.import_tail lists.import_decl
 import_prints l n = unless_crowded (words.is_crowded n.specifiers.items) (import_has_room n.type_only n.phase n.specifiers.items _)
     (after (writes_leading l.env n.span.lo)
@@ -372,7 +373,7 @@ from_clause_prints l None needed None = prints_nothing
 from_clause_prints l (Some w) needed None = prints_never
 from_clause_prints l with_ needed (Some n) = prints_wider open_ refl (after (writes_blank l.env needed) (then (from_prints l.env) (then (prints_str l.env n) (attributes_print l with_))))
 
-export_named_prints : {X : Type 0} (l : Linked X) (n : NamedExport X) → Prints l.env (words.export_named l.items n) (lists.export_named l.reads n)
+export_named_prints : {X : Type 0} (l : Linked X) (n : NamedExport X) → PrintsAt ended l.env (words.export_named l.items n) (lists.export_named l.reads n)
 unfolding words.export_named words.export_tail lists.export_named
 export_named_prints l n =
     after (writes_leading l.env n.span.lo)
@@ -388,7 +389,7 @@ unfolding words.all_word lists.type_word word_if
 all_word_prints env true = prints_wider open_ refl (after (writes_space env) (before (prints_keyword env None (codes "type") decl_words.type_word) (writes_space env)))
 all_word_prints env false = after (writes_formatting_space env) prints_nothing
 
-export_all_prints : {X : Type 0} (l : Linked X) (n : ExportAll X) → Prints l.env (words.export_all l.items n) (lists.export_all l.reads n)
+export_all_prints : {X : Type 0} (l : Linked X) (n : ExportAll X) → PrintsAt ended l.env (words.export_all l.items n) (lists.export_all l.reads n)
 unfolding words.export_all words.all_tail lists.export_all
 export_all_prints l n =
     after (writes_leading l.env n.span.lo)
@@ -399,29 +400,29 @@ export_all_prints l n =
     (after (writes_formatting_space l.env)
     (then (from_prints l.env) (source_end_prints l n.src n.with_ n.span)))))))
 
-export_decl_prints : {X : Type 0} (l : Linked X) (n : ExportDecl X) → Prints l.env (words.export_decl l.items n) (lists.export_decl l.reads n)
+export_decl_prints : {X : Type 0} (l : Linked X) (n : ExportDecl X) → PrintsAt ended l.env (words.export_decl l.items n) (lists.export_decl l.reads n)
 unfolding words.export_decl lists.export_decl
 export_decl_prints l n =
     after (writes_position l.env n.span.lo)
     (then (l.law n.decl.node.value Plain HeadOfExported)
     (then (prints_keyword l.env None (codes "export") marks.export_word) (after (writes_space l.env) (l.law n.decl.node.value Plain TailOfExported))))
 
-default_decl_prints : {X : Type 0} (l : Linked X) (n : DefaultDecl X) → Prints l.env (words.default_decl l.asks l.items n) (lists.default_decl l.reads n)
+default_decl_prints : {X : Type 0} (l : Linked X) (n : DefaultDecl X) → PrintsAt ended l.env (words.default_decl l.asks l.items n) (lists.default_decl l.reads n)
 unfolding words.default_decl lists.default_decl
-default_decl_prints l (default_decls.Class n) = class_expr_prints l n
-default_decl_prints l (default_decls.Fn n) = fn_expr_prints l n
-default_decl_prints l (default_decls.TsInterfaceDecl n) = interface_prints l n
+default_decl_prints l (default_decls.Class n) = prints_wider ended refl (class_expr_prints l n)
+default_decl_prints l (default_decls.Fn n) = prints_wider ended refl (fn_expr_prints l n)
+default_decl_prints l (default_decls.TsInterfaceDecl n) = prints_wider ended refl (interface_prints l n)
 
-default_prints : (env : Env) {p : Part} {f : Phrase} → Prints env p f → Prints env (λ rest. words.export_default (p rest)) (word (codes "export") > word (codes "default") > f)
+default_prints : (env : Env) {p : Part} {f : Phrase} → PrintsAt ended env p f → PrintsAt ended env (λ rest. words.export_default (p rest)) (word (codes "export") > word (codes "default") > f)
 unfolding words.export_default
 default_prints env h = then (prints_keyword env None (codes "export") marks.export_word) (after (writes_space env) (then (prints_keyword env None (codes "default") marks.default_word) h))
 
-export_default_decl_prints : {X : Type 0} (l : Linked X) (n : ExportDefaultDecl X) → Prints l.env (words.export_default_decl l.asks l.items n) (lists.export_default_decl l.reads n)
+export_default_decl_prints : {X : Type 0} (l : Linked X) (n : ExportDefaultDecl X) → PrintsAt ended l.env (words.export_default_decl l.asks l.items n) (lists.export_default_decl l.reads n)
 unfolding words.export_default_decl lists.export_default_decl
 export_default_decl_prints l n =
     after (writes_leading l.env n.span.lo) (after (writes_position l.env n.span.lo) (default_prints l.env (after (writes_space l.env) (default_decl_prints l n.decl))))
 
-export_default_expr_prints : {X : Type 0} (l : Linked X) (n : ExportDefaultExpr X) → Prints l.env (words.export_default_expr l.asks l.items n) (lists.export_default_expr l.reads n)
+export_default_expr_prints : {X : Type 0} (l : Linked X) (n : ExportDefaultExpr X) → PrintsAt ended l.env (words.export_default_expr l.asks l.items n) (lists.export_default_expr l.reads n)
 unfolding words.export_default_expr lists.export_default_expr
 export_default_expr_prints l n =
     after (writes_position l.env n.span.lo)
@@ -430,7 +431,7 @@ export_default_expr_prints l n =
 
 -- ---- all of them
 
-decl_by_prints : {X : Type 0} (l : Linked X) (n : ModuleDecl X) → Prints l.env (words.module_decl_by l.asks l.items n) (lists.module_decl l.reads n)
+decl_by_prints : {X : Type 0} (l : Linked X) (n : ModuleDecl X) → PrintsAt ended l.env (words.module_decl_by l.asks l.items n) (lists.module_decl l.reads n)
 unfolding words.module_decl_by lists.module_decl
 decl_by_prints l (module_decls.Import n) = import_prints l n
 decl_by_prints l (module_decls.ExportDecl n) = export_decl_prints l n

@@ -16,9 +16,10 @@ use Rattle.swc_ecma_codegen_tokens.specs.Run.{Env, spelling}
 use Rattle.swc_ecma_codegen_tokens.specs.Lists.{deeper}
 use Rattle.swc_ecma_codegen_tokens.specs.Words.{punct}
 use Rattle.swc_ecma_codegen_tokens.proofs.ListLaws.{IsUndelimited, prints_in_order}
-use Rattle.swc_ecma_codegen_tokens.proofs.Phrased.{Prints, prints_wider, then, after, prints_never, prints_where, prints_mark, mark_spelled, prints_punct}
-use Rattle.swc_ecma_codegen_tokens.proofs.Printed.{Makes, with_room, within_then, punct_within, deeper_within, writes_formatting_space, writes_leading, writes_shallower}
-use Rattle.swc_ecma_codegen_tokens.proofs.Shapes.{loose}
+use Rattle.swc_ecma_codegen_tokens.proofs.Phrased.{Prints, prints_wider, then, after, prints_never, prints_where, prints_mark, mark_spelled, prints_punct, PrintsAt}
+use Rattle.swc_ecma_codegen_tokens.proofs.Printed.{with_room, within_then, punct_within, deeper_within, writes_formatting_space, writes_shallower, MakesAt}
+use Rattle.swc_ecma_codegen_tokens.proofs.CommentPrints.{writes_leading}
+use Rattle.swc_ecma_codegen_tokens.proofs.Shapes.{loose, ended}
 use Rattle.swc_ecma_codegen_emit.specs.declared.nodes.Place.TheVariants.{Plain}
 use Rattle.swc_ecma_codegen_emit.specs.Answers.{place_of}
 use Rattle.swc_ecma_codegen_emit.specs.Modules as modules
@@ -31,14 +32,14 @@ use Rattle.swc_ecma_codegen_emit.proofs.ModuleParts.{module_item_prints}
 use Rattle.swc_ecma_codegen_emit.proofs.TypeWords as type_words
 
 -- `{`, and a level, whatever the settings
-brace_within : (env : Env) → Makes env (λ rest. punct (codes "{") (deeper rest)) (token_of Punctuator (spelling Punctuator (codes "{")) ∷ []) false
+brace_within : (env : Env) → MakesAt ended env (λ rest. punct (codes "{") (deeper rest)) (token_of Punctuator (spelling Punctuator (codes "{")) ∷ []) false
 brace_within env =
     let t : List ℕ = codes "{" in
     let x : lexical.Token = token_of Punctuator (spelling Punctuator t) in
     with_room 1 1 (omega arith)
     (within_then env (punct t) deeper (x ∷ []) [] (punct_within env t (mark_spelled t marks.left_brace) marks.left_brace.ascii) (deeper_within env))
 
-brace_deeper : (env : Env) → Prints env (λ rest. punct (codes "{") (deeper rest)) (mark (codes "{"))
+brace_deeper : (env : Env) → PrintsAt ended env (λ rest. punct (codes "{") (deeper rest)) (mark (codes "{"))
 brace_deeper env = prints_mark env (λ rest. punct (codes "{") (deeper rest)) (codes "{") (brace_within env)
 
 items_undelimited : IsUndelimited module_block_format

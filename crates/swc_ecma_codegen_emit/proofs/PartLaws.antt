@@ -5,7 +5,7 @@ use Rattle.swc_ecma_codegen_tree.specs.declared.parts.ExprPart.TheVariants as ex
 use Rattle.swc_ecma_codegen_tree.specs.declared.parts.StmtPart.{StmtPart}
 use Rattle.swc_ecma_codegen_tree.specs.declared.parts.StmtPart.TheVariants as stmt_parts
 use Rattle.swc_ecma_codegen_grammar.specs.declared.roles.Role.{Role}
-use Rattle.swc_ecma_codegen_grammar.specs.declared.roles.Role.TheVariants.{AssignmentTarget, Pattern, PlainParameter, PropertyName, ObjectLiteral, Function, FunctionHead, MethodHead, Block, Declaration, VariableDeclaration, ChainCall, Template, TaggedTemplate, ClassHead, ClassWord, ClassTail, Member, MethodDecorators, MethodTail, AccessorTail, ModuleDeclaration, ExportedHead, ExportedTail, AnyType, Annotation, TypeArguments, TypeParameters, EntityName, SignatureParameter, TypeMember, NamespaceBody, DottedBody}
+use Rattle.swc_ecma_codegen_grammar.specs.declared.roles.Role.TheVariants.{AssignmentTarget, Pattern, PlainParameter, PropertyName, ObjectLiteral, Function, FunctionHead, MethodHead, Block, Declaration, VariableDeclaration, ChainCall, Template, TaggedTemplate, ClassHead, ClassWord, ClassTail, Member, MethodDecorators, MethodTail, AccessorTail, ModuleDeclaration, ExportedHead, ExportedTail, AnyType, Annotation, TypeArguments, TypeParameters, EntityName, SignatureParameter, InterfaceBody, NamespaceBody, DottedBody}
 use Rattle.swc_ecma_codegen_grammar.specs.PartPhrases as lists
 use Rattle.swc_ecma_codegen_tokens.proofs.TagPrints.{prints_never_on}
 use Rattle.swc_ecma_codegen_emit.specs.declared.nodes.Place.{Place}
@@ -29,7 +29,7 @@ use Rattle.swc_ecma_codegen_emit.proofs.TargetParts.{assign_target_prints}
 use Rattle.swc_ecma_codegen_tree.specs.declared.parts.TsPart.{TsPart}
 use Rattle.swc_ecma_codegen_tree.specs.declared.parts.TsPart.TheVariants as ts_parts
 use Rattle.swc_ecma_codegen_emit.proofs.NamespaceParts.{dotted_body_prints, namespace_body_prints}
-use Rattle.swc_ecma_codegen_emit.proofs.TsMemberParts.{type_element_prints}
+use Rattle.swc_ecma_codegen_emit.proofs.TsMemberParts.{interface_body_prints}
 use Rattle.swc_ecma_codegen_emit.proofs.TypeParts.{type_prints, ann_prints, params_print, arguments_print, fn_param_prints, entity_prints}
 
 pub part_prints : {X : Type 0} (l : Linked X) (n : ExprPart X) (place : Place) (role : Role) → PrintsIn role l.env (words.expr_part l.asks l.items n (placed role place)) (lists.expr_part l.reads n role)
@@ -66,13 +66,13 @@ stmt_part_prints l n place role = prints_never_on
 
 pub ts_part_prints : {X : Type 0} (l : Linked X) (n : TsPart X) (place : Place) (role : Role) → PrintsIn role l.env (words.ts_part l.asks l.items n (placed role place)) (lists.ts_part l.reads n role)
 unfolding words.ts_part lists.ts_part ts_namespace_body
-ts_part_prints l (ts_parts.TsType n) place AnyType = type_prints l n.value
+ts_part_prints l (ts_parts.TsType n) place AnyType = type_prints l n
 ts_part_prints l (ts_parts.TsTypeAnn n) place Annotation = ann_prints l n place
 ts_part_prints l (ts_parts.TsTypeParamDecl n) place TypeParameters = params_print l n
 ts_part_prints l (ts_parts.TsTypeParamInstantiation n) place TypeArguments = arguments_print l n place
 ts_part_prints l (ts_parts.TsFnParam n) place SignatureParameter = fn_param_prints l n
+ts_part_prints l (ts_parts.TsInterfaceBody n) place InterfaceBody = interface_body_prints l n
 ts_part_prints l (ts_parts.TsEntityName n) place EntityName = entity_prints l n
-ts_part_prints l (ts_parts.TsTypeElement n) place TypeMember = type_element_prints l n.value
 ts_part_prints l (ts_parts.TsNamespaceBody n) place NamespaceBody = namespace_body_prints l n
 ts_part_prints l (ts_parts.TsNamespaceBody n) place DottedBody = dotted_body_prints l n
 ts_part_prints l n place role = prints_never_on

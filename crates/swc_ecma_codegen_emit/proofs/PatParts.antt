@@ -26,7 +26,8 @@ use Rattle.swc_ecma_codegen_tokens.specs.Lists.{list, list_closing}
 use Rattle.swc_ecma_codegen_tokens.specs.Words.{punct, position, question}
 use Rattle.swc_ecma_codegen_tokens.proofs.ListLaws.{children_of, writes_no_list, prints_some, prints_forced_closing, prints_optional_closing}
 use Rattle.swc_ecma_codegen_tokens.proofs.Phrased.{Prints, then, after, before, prints_nothing, prints_never, prints_punct, prints_placed_punct, prints_regrouped, PrintsAt, prints_wider, loosened}
-use Rattle.swc_ecma_codegen_tokens.proofs.Printed.{writes_formatting_space, writes_position, writes_leading, writes_trailing}
+use Rattle.swc_ecma_codegen_tokens.proofs.Printed.{writes_formatting_space, writes_position}
+use Rattle.swc_ecma_codegen_tokens.proofs.CommentPrints.{writes_leading, writes_trailing}
 use Rattle.swc_ecma_codegen_emit.specs.declared.nodes.Place.TheVariants.{Plain}
 use Rattle.swc_ecma_codegen_emit.specs.Annotations.{spaced_annotation}
 use Rattle.swc_ecma_codegen_emit.specs.Answers.{place_of}
@@ -44,7 +45,7 @@ use Rattle.swc_ecma_codegen_tokens.proofs.Shapes.{open_, loose, closed}
 pub initializer_prints : {X : Type 0} (l : Linked X) (n : Option (ExprBox X)) → PrintsAt open_ l.env (words.initializer l.items n) (lists.initializer l.reads n)
 unfolding words.initializer lists.initializer
 initializer_prints l None = prints_nothing
-initializer_prints l (Some n) = prints_wider open_ refl (then (spaced_prints l.env (codes "=") marks.equal) (expr_at l n Plain))
+initializer_prints l (Some n) = prints_wider open_ refl (then (spaced_prints l.env (codes "=") refl marks.equal) (expr_at l n Plain))
 
 -- ---- arrays
 
@@ -104,7 +105,7 @@ unfolding words.assign_pat lists.assign_pat
 assign_pat_prints l n =
     after (writes_opened l.env n.span)
     (then (pat_at l n.left)
-    (then (spaced_prints l.env (codes "=") marks.equal) (before (expr_at l n.right Plain) (writes_position l.env n.span.hi))))
+    (then (spaced_prints l.env (codes "=") refl marks.equal) (before (expr_at l n.right Plain) (writes_position l.env n.span.hi))))
 
 -- ---- objects
 

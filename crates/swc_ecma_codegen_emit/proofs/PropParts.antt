@@ -23,8 +23,8 @@ use Rattle.swc_ecma_codegen_grammar.specs.PatPhrases as heads
 use Rattle.swc_ecma_codegen_grammar.specs.declared.roles.Role.TheVariants.{Annotation, Function, MethodHead}
 use Rattle.swc_ecma_codegen_grammar.specs.CommentMaps.{Maps}
 use Rattle.swc_ecma_codegen_emit.specs.Commented.{has_comment_inside}
-use Rattle.swc_ecma_codegen_tokens.specs.Run.{Env, Part, step, after_step, at_maps, when_minified}
-use Rattle.swc_ecma_codegen_tokens.specs.Lists.{list}
+use Rattle.swc_ecma_codegen_tokens.specs.Run.{Env, Part, at_maps, when_minified}
+use Rattle.swc_ecma_codegen_tokens.specs.Lists.{list, ListChild}
 use Rattle.swc_ecma_codegen_tokens.specs.Words.{by_maps, punct, line_end, position, position_before}
 use Rattle.swc_ecma_codegen_tokens.specs.Written.{IsWord}
 use Rattle.swc_ecma_codegen_tokens.proofs.Emitting.{minified_same, pretty_same}
@@ -40,7 +40,8 @@ use Rattle.swc_ecma_codegen_emit.proofs.ExprParts.{ident_prints, spread_element_
 use Rattle.swc_ecma_codegen_emit.proofs.Linked.{Linked, expr_at, pat_at, prop_name_at, block_at}
 use Rattle.swc_ecma_codegen_emit.proofs.MarkWords as marks
 use Rattle.swc_ecma_codegen_emit.proofs.NameParts.{prop_name_prints}
-use Rattle.swc_ecma_codegen_tokens.proofs.Shapes.{open_}
+use Rattle.swc_ecma_codegen_tokens.proofs.Shapes.{open_, ended_if_any}
+use Rattle.swc_ecma_codegen_emit.proofs.Between.{punct_in}
 
 -- ---- properties
 
@@ -91,10 +92,10 @@ getter_prints l n =
     (then (prints_punct l.env (codes ")") marks.right_parenthesis)
     (then (before (tight_annotation_prints l n.type_ann) (writes_formatting_space l.env)) (body_prints l n.body))))))
 
-this_prints : {X : Type 0} (l : Linked X) (n : Option (PatBox X)) → PrintsAt open_ l.env (words.this_param l.items n) (lists.this_param l.reads n)
+this_prints : {X : Type 0} (l : Linked X) (n : Option (PatBox X)) → PrintsAt ended_if_any l.env (words.this_param l.items n) (lists.this_param l.reads n)
 unfolding words.this_param lists.this_param
-this_prints l None = prints_nothing
-this_prints l (Some n) = prints_wider open_ refl (then (pat_at l n) (before (prints_punct l.env (codes ",") marks.comma) (writes_formatting_space l.env)))
+this_prints l None = prints_wider ended_if_any refl prints_nothing
+this_prints l (Some n) = prints_wider ended_if_any refl (then (pat_at l n) (before (prints_punct l.env (codes ",") marks.comma) (writes_formatting_space l.env)))
 
 setter_prints : {X : Type 0} (l : Linked X) (n : SetterProp X) → Prints l.env (words.setter_prop l.asks l.items n) (lists.setter_prop l.reads n)
 unfolding words.setter_prop words.accessor lists.setter_prop
@@ -169,10 +170,13 @@ props_print l n some =
     ]
 
 props_by_maps_print : {X : Type 0} (l : Linked X) (n : ObjectLit X) → Prints l.env (λ rest. punct (codes "{") (words.object_by_maps (is_some_listed n.props.items) n.span (children_of (prop_or_spread_span (place_of l.asks)) (words.prop_or_spread l.asks l.items) n.props.items) (closing n rest))) (whole l n)
-unfolding words.object_by_maps by_maps punct step after_step
+unfolding words.object_by_maps by_maps
 props_by_maps_print l n =
-    let ask : Maps → Part = λ maps rest. punct (codes "{") (words.object_list (is_some_listed n.props.items || has_comment_inside n.span maps) n.span (children_of (prop_or_spread_span (place_of l.asks)) (words.prop_or_spread l.asks l.items) n.props.items) (closing n rest)) in
-    prints_same _ (by_maps ask) (λ maps rest. refl) (prints_by_maps ask (λ maps. props_print l n (is_some_listed n.props.items || has_comment_inside n.span maps)))
+    let some : Bool = is_some_listed n.props.items in
+    let children : List ListChild = children_of (prop_or_spread_span (place_of l.asks)) (words.prop_or_spread l.asks l.items) n.props.items in
+    let lines : Maps → Part = λ maps rest. words.object_list (some || has_comment_inside n.span maps) n.span children (closing n rest) in
+    let ask : Maps → Part = λ maps rest. punct (codes "{") (lines maps rest) in
+    prints_same _ (by_maps ask) (λ maps rest. punct_in (codes "{") (words.object_by_maps some n.span children (closing n rest)) (lines maps rest) (at_maps maps l.env) refl) (prints_by_maps ask (λ maps. props_print l n (is_some_listed n.props.items || has_comment_inside n.span maps)))
 
 pub object_lit_prints : {X : Type 0} (l : Linked X) (n : ObjectLit X) → Prints l.env (words.object_lit l.asks l.items n) (lists.object_lit l.reads n)
 unfolding words.object_lit words.object_children lists.object_lit

@@ -27,7 +27,8 @@ use Rattle.swc_ecma_codegen_tokens.specs.Run.{Env}
 use Rattle.swc_ecma_codegen_tokens.specs.Words.{formatting_space, formatting_line, trailing_comments, semi}
 use Rattle.swc_ecma_codegen_tokens.proofs.Choices.{prints_bare, prints_optional_parentheses}
 use Rattle.swc_ecma_codegen_tokens.proofs.Phrased.{Prints, prints_by_maps, then, after, before, prints_nothing, prints_keyword, prints_punct, prints_semi, PrintsAt, prints_wider, joined_then, prints_ident}
-use Rattle.swc_ecma_codegen_tokens.proofs.Printed.{writes_then, writes_if, writes_nothing, writes_formatting_space, writes_formatting_line, writes_commit, writes_position, writes_leading, writes_trailing, Fills, makes_wider, EndsLines, writes_space}
+use Rattle.swc_ecma_codegen_tokens.proofs.Printed.{writes_then, writes_if, writes_nothing, writes_formatting_space, writes_formatting_line, writes_commit, writes_position, Fills, makes_wider, EndsLines, writes_space}
+use Rattle.swc_ecma_codegen_tokens.proofs.CommentPrints.{writes_leading, writes_trailing}
 use Rattle.swc_ecma_codegen_emit.specs.declared.nodes.Place.TheVariants.{Plain, Statement}
 use Rattle.swc_ecma_codegen_emit.specs.Answers.{place_of}
 use Rattle.swc_ecma_codegen_emit.specs.Branches.{is_block}
@@ -43,15 +44,15 @@ use Rattle.swc_ecma_codegen_tokens.specs.Written.{IsWord}
 
 -- ---- statements
 
-empty_prints : (env : Env) (n : EmptyStmt) → Prints env (words.empty_stmt n) (lists.empty_stmt n)
+empty_prints : (env : Env) (n : EmptyStmt) → PrintsAt ended env (words.empty_stmt n) (lists.empty_stmt n)
 unfolding words.empty_stmt lists.empty_stmt
 empty_prints env n = after (writes_leading env n.span.lo) (prints_punct env (codes ";") marks.semicolon)
 
-expr_stmt_prints : {X : Type 0} (l : Linked X) (n : ExprStmt X) → Prints l.env (words.expr_stmt l.items n) (lists.expr_stmt l.reads n)
+expr_stmt_prints : {X : Type 0} (l : Linked X) (n : ExprStmt X) → PrintsAt ended l.env (words.expr_stmt l.items n) (lists.expr_stmt l.reads n)
 unfolding words.expr_stmt lists.expr_stmt
 expr_stmt_prints l n = after (writes_leading l.env n.span.lo) (then (expr_at l n.expr Plain) (prints_semi l.env))
 
-debugger_prints : (env : Env) (n : DebuggerStmt) → Prints env (words.debugger_stmt n) (lists.debugger_stmt n)
+debugger_prints : (env : Env) (n : DebuggerStmt) → PrintsAt ended env (words.debugger_stmt n) (lists.debugger_stmt n)
 unfolding words.debugger_stmt lists.debugger_stmt
 debugger_prints env n = after (writes_commit env) (after (writes_leading env n.span.lo) (then (prints_keyword env (Some n.span) (codes "debugger") marks.debugger_word) (prints_semi env)))
 
@@ -73,12 +74,12 @@ argument_prints : {X : Type 0} (l : Linked X) (n : ExprBox X) → Prints l.env (
 unfolding words.argument
 argument_prints l n = prints_by_maps (λ maps. words.argument_in l.asks l.items n.node.value ((l.asks n.node.value).breaks maps)) (λ maps. argument_by l n ((l.asks n.node.value).breaks maps))
 
-return_by : {X : Type 0} (l : Linked X) (span : Span) (arg : Option (ExprBox X)) → Prints l.env (λ rest. words.stmt_word span (codes "return") (words.return_arg l.asks l.items arg (semi rest))) (word (codes "return") > lists.return_rest l.reads arg)
+return_by : {X : Type 0} (l : Linked X) (span : Span) (arg : Option (ExprBox X)) → PrintsAt ended l.env (λ rest. words.stmt_word span (codes "return") (words.return_arg l.asks l.items arg (semi rest))) (word (codes "return") > lists.return_rest l.reads arg)
 unfolding words.return_arg lists.return_rest
 return_by l span None = begun l.env span (codes "return") marks.return_word (prints_semi l.env)
 return_by l span (Some n) = begun_joined l.env span (codes "return") marks.return_word (then (argument_prints l n) (prints_semi l.env))
 
-return_prints : {X : Type 0} (l : Linked X) (n : ReturnStmt X) → Prints l.env (words.return_stmt l.asks l.items n) (lists.return_stmt l.reads n)
+return_prints : {X : Type 0} (l : Linked X) (n : ReturnStmt X) → PrintsAt ended l.env (words.return_stmt l.asks l.items n) (lists.return_stmt l.reads n)
 unfolding words.return_stmt lists.return_stmt
 return_prints l n = return_by l n.span n.arg
 
@@ -91,16 +92,16 @@ labeled_prints l n =
     (after (writes_formatting_space l.env) (stmt_at l n.body))))
 
 -- `break` and `continue`
-jump_prints : {X : Type 0} (l : Linked X) (span : Span) (t : List ℕ) → IsWord t → (label : Option Ident) → Prints l.env (words.jump span t label) (word t > lists.jump_rest label)
+jump_prints : {X : Type 0} (l : Linked X) (span : Span) (t : List ℕ) → IsWord t → (label : Option Ident) → PrintsAt ended l.env (words.jump span t label) (word t > lists.jump_rest label)
 unfolding words.jump optional_name lists.jump_rest names.ident
 jump_prints l span t w None = after (writes_commit l.env) (after (writes_position l.env span.lo) (then (prints_keyword l.env None t w) (prints_semi l.env)))
 jump_prints l span t w (Some n) = after (writes_commit l.env) (after (writes_position l.env span.lo) (joined_then l.env None t w (after (writes_space l.env) (then (prints_ident l.env n.span (string_bytes n.sym) n.optional l.leaves_out) (prints_semi l.env)))))
 
-break_prints : {X : Type 0} (l : Linked X) (n : BreakStmt) → Prints l.env (words.break_stmt n) (lists.break_stmt n)
+break_prints : {X : Type 0} (l : Linked X) (n : BreakStmt) → PrintsAt ended l.env (words.break_stmt n) (lists.break_stmt n)
 unfolding words.break_stmt lists.break_stmt
 break_prints l n = jump_prints l n.span (codes "break") marks.break_word n.label
 
-continue_prints : {X : Type 0} (l : Linked X) (n : ContinueStmt) → Prints l.env (words.continue_stmt n) (lists.continue_stmt n)
+continue_prints : {X : Type 0} (l : Linked X) (n : ContinueStmt) → PrintsAt ended l.env (words.continue_stmt n) (lists.continue_stmt n)
 unfolding words.continue_stmt lists.continue_stmt
 continue_prints l n = jump_prints l n.span (codes "continue") marks.continue_word n.label
 
@@ -160,7 +161,7 @@ try_prints l n =
     (after (writes_formatting_space l.env)
     (then (block_at l n.block Plain) (then (handler_prints l n.handler) (finalizer_prints l n.finalizer)))))))
 
-throw_prints : {X : Type 0} (l : Linked X) (n : ThrowStmt X) → Prints l.env (words.throw_stmt l.asks l.items n) (lists.throw_stmt l.reads n)
+throw_prints : {X : Type 0} (l : Linked X) (n : ThrowStmt X) → PrintsAt ended l.env (words.throw_stmt l.asks l.items n) (lists.throw_stmt l.reads n)
 unfolding words.throw_stmt lists.throw_stmt
 throw_prints l n =
     after (writes_opened l.env n.span)
@@ -172,24 +173,24 @@ throw_prints l n =
 parts_print : {X : Type 0} (l : Linked X) (n : Stmt X) → PrintsAt ended l.env (words.stmt_parts l.asks l.items n) (lists.stmt l.reads n)
 unfolding words.stmt_parts lists.stmt
 parts_print l (stmts.Block n) = prints_wider ended refl (block_at l n Plain)
-parts_print l (stmts.Empty n) = prints_wider ended refl (empty_prints l.env n)
-parts_print l (stmts.Debugger n) = prints_wider ended refl (debugger_prints l.env n)
+parts_print l (stmts.Empty n) = empty_prints l.env n
+parts_print l (stmts.Debugger n) = debugger_prints l.env n
 parts_print l (stmts.With n) = with_prints l n
-parts_print l (stmts.Return n) = prints_wider ended refl (return_prints l n)
+parts_print l (stmts.Return n) = return_prints l n
 parts_print l (stmts.Labeled n) = labeled_prints l n
-parts_print l (stmts.Break n) = prints_wider ended refl (break_prints l n)
-parts_print l (stmts.Continue n) = prints_wider ended refl (continue_prints l n)
+parts_print l (stmts.Break n) = break_prints l n
+parts_print l (stmts.Continue n) = continue_prints l n
 parts_print l (stmts.If n) = if_prints l n
 parts_print l (stmts.Switch n) = prints_wider ended refl (switch_prints l n)
-parts_print l (stmts.Throw n) = prints_wider ended refl (throw_prints l n)
+parts_print l (stmts.Throw n) = throw_prints l n
 parts_print l (stmts.Try n) = prints_wider ended refl (try_prints l n)
 parts_print l (stmts.While n) = while_prints l n
-parts_print l (stmts.DoWhile n) = prints_wider ended refl (do_while_prints l n)
+parts_print l (stmts.DoWhile n) = do_while_prints l n
 parts_print l (stmts.For n) = for_prints l n
 parts_print l (stmts.ForIn n) = for_in_prints l n
 parts_print l (stmts.ForOf n) = for_of_prints l n
-parts_print l (stmts.Decl n) = prints_wider ended refl (decl_prints l n Statement)
-parts_print l (stmts.Expr n) = prints_wider ended refl (expr_stmt_prints l n)
+parts_print l (stmts.Decl n) = decl_prints l n Statement
+parts_print l (stmts.Expr n) = expr_stmt_prints l n
 
 -- the comments after it, and the end of its line, which a block doesn't end
 writes_closed : (env : Env) (block : Bool) (span : Span) → EndsLines env (words.stmt_closed block span)

@@ -1,5 +1,5 @@
 -- What is written of a whole tree is what it reads as.
-use Rattle.std.proofs.Common.{◌≡◌, false, true, refl, sym, subst}
+use Rattle.std.proofs.Common.{◌≡◌, ℕ, false, true, refl, sym, subst, Option, None}
 use denote.Hole.Holds.{Such}
 use Rattle.swc_ecma_codegen_tree.specs.declared.links.AnyNode.{AnyNode, AnyNode-F, ind-AnyNode, map-AnyNode, roll-AnyNode}
 use Rattle.swc_ecma_codegen_tree.specs.declared.links.AnyNode.TheOpen as nodes
@@ -11,6 +11,7 @@ use Rattle.swc_ecma_codegen_grammar.specs.declared.roles.Role.TheVariants.{Expre
 use Rattle.swc_ecma_codegen_grammar.specs.TreePhrases.{node_phrase, phrase}
 use Rattle.swc_ecma_codegen_grammar.proofs.TreeLaws.{phrase_of}
 use Rattle.swc_ecma_codegen_tokens.specs.Run.{Env, Part}
+use Rattle.swc_ecma_codegen_tokens.proofs.Lengths.{at_length}
 use Rattle.swc_ecma_codegen_tokens.proofs.TagPrints.{prints_never_on}
 use Rattle.swc_ecma_codegen_emit.specs.declared.nodes.Place.{Place}
 use Rattle.swc_ecma_codegen_emit.specs.declared.nodes.Place.TheVariants.{Object, DottedObject, Callee, FieldValue}
@@ -72,20 +73,24 @@ node_prints l (nodes.JSXPart n) place role = jsx_part_prints l n place role
 node_prints l (nodes.TsPart n) place role = ts_part_prints l n place role
 node_prints l n place role = prints_never_on
 
+-- whatever the greatest length of lines, or where there is none
 abbrev Law : Env → AnyNode → Type 0
-Law env n = (place : Place) (role : Role) → PrintsIn role env (any_items n (placed role place)) (phrase n role)
+Law env n = (max : Option ℕ) (place : Place) (role : Role) → PrintsIn role (at_length max env) (any_items n (placed role place)) (phrase n role)
 
 -- nodes that a link of the tree holds, with the law of each
-abbrev children : (env : Env) → env.keeps_invalid ≡ false → Linked (Such the_family (claims (Law env)) member-AnyNode)
-children env e = record { env = env; leaves_out = e; asks = λ y. any_answers y.0; items = λ y. any_items y.0; reads = λ y. phrase y.0; plain = λ y. plain_reads y.0; law = λ y. y.1 }
+abbrev children : (max : Option ℕ) (env : Env) → env.keeps_invalid ≡ false → Linked (Such the_family (claims (Law env)) member-AnyNode)
+children max env e = record { env = at_length max env; leaves_out = e; asks = λ y. any_answers y.0; items = λ y. any_items y.0; reads = λ y. phrase y.0; plain = λ y. plain_reads y.0; law = λ y. y.1 max; inside = λ y. y.1 None }
 
-pub prints : (env : Env) → env.keeps_invalid ≡ false → (n : AnyNode) → Law env n
-prints env e = ind-AnyNode (Law env) (λ x y q. subst (λ z. Law env (roll-AnyNode z)) q (λ place role.
-    let here = node_prints (children env e) y place role in
-    let P : Phrase → Type 0 = λ f. PrintsIn role env (node_items (λ z. any_answers z.0) (λ z. any_items z.0) y (placed role place)) f in
-    let Q : Part → Type 0 = λ p. PrintsIn role env p (phrase (roll-AnyNode (map-AnyNode _ _ (λ z. z.0) y)) role) in
+prints_at : (env : Env) → env.keeps_invalid ≡ false → (n : AnyNode) → Law env n
+prints_at env e = ind-AnyNode (Law env) (λ x y q. subst (λ z. Law env (roll-AnyNode z)) q (λ max place role.
+    let here = node_prints (children max env e) y place role in
+    let P : Phrase → Type 0 = λ f. PrintsIn role (at_length max env) (node_items (λ z. any_answers z.0) (λ z. any_items z.0) y (placed role place)) f in
+    let Q : Part → Type 0 = λ p. PrintsIn role (at_length max env) p (phrase (roll-AnyNode (map-AnyNode _ _ (λ z. z.0) y)) role) in
     subst Q (sym (items_of (λ z. z.0) y (placed role place))) (subst P (sym (phrase_of (λ z. z.0) y role)) here)))
+
+pub prints : (env : Env) → env.keeps_invalid ≡ false → (n : AnyNode) (place : Place) (role : Role) → PrintsIn role env (any_items n (placed role place)) (phrase n role)
+prints env e n = prints_at env e n env.max_line
 
 -- the nodes of a whole tree
 abbrev pub known : (env : Env) → env.keeps_invalid ≡ false → Linked AnyNode
-known env e = record { env = env; leaves_out = e; asks = any_answers; items = any_items; reads = phrase; plain = plain_reads; law = prints env e }
+known env e = record { env = env; leaves_out = e; asks = any_answers; items = any_items; reads = phrase; plain = plain_reads; law = prints env e; inside = prints (at_length None env) e }

@@ -1,5 +1,5 @@
 -- When the emission of a tree is made.
-use Rattle.std.proofs.Common.{◌≡◌, ◌⊎◌, inl, inr, ℕ, ◌^◌, ◌<◌, true, false, not, [], refl, sym, ap, ◌∙◌, subst, List, ◌∷◌, Option, Some, Result, None, IsOk, Err, arith}
+use Rattle.std.proofs.Common.{◌≡◌, ◌⊎◌, ◌&&◌, is_some, inl, inr, ℕ, ◌^◌, ◌<◌, true, false, not, [], refl, sym, ap, ◌∙◌, subst, List, ◌∷◌, Option, Some, Result, None, IsOk, Err, arith}
 use Rattle.std.proofs.lemmas.Bool.{not-false, true≢false}
 use Rattle.swc_ecma_codegen_common.specs.declared.errors.Error.{Error}
 use Rattle.swc_ecma_codegen_common.specs.Refusals.{in_short, reason_of}
@@ -20,46 +20,44 @@ use Rattle.swc_ecma_codegen_grammar.specs.CommentMaps.{Maps}
 use Rattle.swc_ecma_codegen_grammar.specs.Trivia.{Remark}
 use Rattle.swc_ecma_codegen_grammar.specs.Comments.{AreClosed, no_maps, remarks_of}
 use Rattle.swc_ecma_codegen_tokens.proofs.NoneTaken.{none_taken, no_maps_bare, no_maps_closed}
-use Rattle.swc_ecma_codegen_tokens.specs.Run.{Env, Part, State, nothing, unprintable_in, Follows, HasCause, PassesLimit, IsTooFar, start, steps_in, steps_of}
+use Rattle.swc_ecma_codegen_tokens.specs.Run.{Part, is_bounded, State, nothing, unprintable_in, Follows, HasCause, PassesLimit, IsTooFar, start, steps_in, steps_of}
 use Rattle.swc_ecma_codegen_tokens.specs.declared.refusals.Unprintable.{Unprintable}
 use Rattle.swc_ecma_codegen_tokens.specs.Targets.{is_out}
 use Rattle.swc_ecma_codegen_tokens.specs.Ready.{token_count, IsPlainTree, IsReady}
 use Rattle.swc_ecma_codegen_tokens.specs.Written.{ReadsAs, taken_remarks}
 use Rattle.swc_ecma_codegen_tokens.proofs.Short.{is_ok_in_short}
-use Rattle.swc_ecma_codegen_tokens.proofs.Phrased.{steps_read, whole_reads, PrintsAt}
+use Rattle.swc_ecma_codegen_tokens.proofs.Phrased.{steps_read, whole_reads}
 use Rattle.swc_ecma_codegen_tokens.proofs.Made.{plain_made, printable, within}
 use Rattle.swc_ecma_codegen_tokens.proofs.Targets.{bare_not_out}
 use Rattle.swc_ecma_codegen_emit.specs.Answers.{any_answers}
 use Rattle.swc_ecma_codegen_emit.specs.Modules.{module_item}
+use Rattle.swc_ecma_codegen_emit.specs.Places.{by_itself}
 use Rattle.swc_ecma_codegen_emit.specs.Programs as programs
 use Rattle.swc_ecma_codegen_emit.specs.Tree.{any_items}
 use Rattle.swc_ecma_codegen_tokens.proofs.Fronts.{follows_cause}
 use Rattle.swc_ecma_codegen_emit.specs.Texts.{blank_sheet, text_of, text_over, IsOfWriter, GivesCause}
 use Rattle.swc_ecma_codegen_emit.specs.Roots.{Root, OfItem, OfModule, OfScript, OfProgram, root_items, root_phrase, is_well_formed_root, root_hashbang}
-use Rattle.swc_ecma_codegen_emit.proofs.TreeReads.{root_prints, root_shape, new_begins}
-
-part_prints : (n : Root) (p : Part) (env : Env) → env.keeps_invalid ≡ false → p ≡ root_items n → PrintsAt (root_shape n) env p (root_phrase n)
-part_prints n p env e same = subst (λ z. PrintsAt (root_shape n) env z (root_phrase n)) (sym same) (root_prints env e n)
+use Rattle.swc_ecma_codegen_emit.proofs.TreeReads.{new_begins, stands_plain}
 
 -- whatever the root is, and whatever refers to it
 pub root_made : (n : Root) (p : Part) (a b : State) (r : Result (Unit {0}) Error) → p ≡ root_items n → IsPlainTree a.env.config (root_phrase n) a.sheet.indentation → IsReady a → b.sheet.faults ≡ a.sheet.faults → Follows (p nothing) a b (in_short r) → IsOk r
-root_made n p a b r same t s e h = is_ok_in_short r (plain_made p (root_phrase n) a b (in_short r) (part_prints n p a.env s.leaves_out same) t s e h)
+root_made n p a b r same t s e h = is_ok_in_short r (plain_made p (root_phrase n) a b (in_short r) (stands_plain n p a.env s.leaves_out s.unbounded same) t s e h)
 
-pub item_made : (n : ModuleItem AnyNode) (a b : State) (r : Result (Unit {0}) Error) → IsPlainTree a.env.config (stmt_lists.module_item phrase n) a.sheet.indentation → IsReady a → b.sheet.faults ≡ a.sheet.faults → Follows (module_item any_answers any_items n nothing) a b (in_short r) → IsOk r
+pub item_made : (n : ModuleItem AnyNode) (a b : State) (r : Result (Unit {0}) Error) → IsPlainTree a.env.config (stmt_lists.module_item phrase n) a.sheet.indentation → IsReady a → b.sheet.faults ≡ a.sheet.faults → Follows (by_itself (λ place. module_item any_answers any_items n) nothing) a b (in_short r) → IsOk r
 item_made n a b r t s e h = root_made (OfItem n) _ a b r refl t s e h
 
-pub module_made : (n : Module AnyNode) (a b : State) (r : Result (Unit {0}) Error) → IsPlainTree a.env.config (program_phrase (a_module n)) a.sheet.indentation → IsReady a → b.sheet.faults ≡ a.sheet.faults → Follows (programs.whole_module any_answers any_items n nothing) a b (in_short r) → IsOk r
+pub module_made : (n : Module AnyNode) (a b : State) (r : Result (Unit {0}) Error) → IsPlainTree a.env.config (program_phrase (a_module n)) a.sheet.indentation → IsReady a → b.sheet.faults ≡ a.sheet.faults → Follows (by_itself (programs.whole_module any_answers any_items n) nothing) a b (in_short r) → IsOk r
 module_made n a b r t s e h = root_made (OfModule n) _ a b r refl t s e h
 
-pub script_made : (n : Script AnyNode) (a b : State) (r : Result (Unit {0}) Error) → IsPlainTree a.env.config (program_phrase (a_script n)) a.sheet.indentation → IsReady a → b.sheet.faults ≡ a.sheet.faults → Follows (programs.script any_answers any_items n nothing) a b (in_short r) → IsOk r
+pub script_made : (n : Script AnyNode) (a b : State) (r : Result (Unit {0}) Error) → IsPlainTree a.env.config (program_phrase (a_script n)) a.sheet.indentation → IsReady a → b.sheet.faults ≡ a.sheet.faults → Follows (by_itself (programs.script any_answers any_items n) nothing) a b (in_short r) → IsOk r
 script_made n a b r t s e h = root_made (OfScript n) _ a b r refl t s e h
 
-pub program_made : (n : Program AnyNode) (a b : State) (r : Result (Unit {0}) Error) → IsPlainTree a.env.config (program_phrase n) a.sheet.indentation → IsReady a → b.sheet.faults ≡ a.sheet.faults → Follows (programs.program any_answers any_items n nothing) a b (in_short r) → IsOk r
+pub program_made : (n : Program AnyNode) (a b : State) (r : Result (Unit {0}) Error) → IsPlainTree a.env.config (program_phrase n) a.sheet.indentation → IsReady a → b.sheet.faults ≡ a.sheet.faults → Follows (by_itself (programs.program any_answers any_items n) nothing) a b (in_short r) → IsOk r
 program_made n a b r t s e h = root_made (OfProgram n) _ a b r refl t s e h
 
--- a new emitter over a new writer
-pub new_is_ready : (lines : Lines) (maps : Maps) (config : Config) (bytes line_end : List ℕ) → IsReady (start lines maps config (new_sheet bytes line_end))
-new_is_ready lines maps config bytes line_end = record { none_failed = refl; none_refused = refl; no_memory = refl; no_positions = refl; leaves_out = refl; can_count = omega arith }
+-- a new emitter over a new writer, whose lines aren't bounded
+pub new_is_ready : (lines : Lines) (maps : Maps) (config : Config) (bytes line_end : List ℕ) → (is_some config.max_line && config.minify) ≡ false → IsReady (start lines maps config (new_sheet bytes line_end))
+new_is_ready lines maps config bytes line_end b = record { none_failed = refl; none_refused = refl; no_memory = refl; no_positions = refl; unbounded = b; leaves_out = refl; can_count = omega arith }
 
 -- ---- a text in memory
 
@@ -76,7 +74,7 @@ pub code_reads_over : (lines : Lines) (maps : Maps) (n : Root) (p : Part) → p 
 code_reads_over lines maps n p same w closed =
     let a : State = begun lines maps in
     let s = new_begins n lines maps default_config [] (10 ∷ []) (inl refl) in
-    whole_reads default_config false (root_phrase n) (taken_remarks p a.env) (text_over lines maps p) (steps_read (not (root_hashbang n)) p (root_phrase n) a s.is_new (λ e. s.at_margin (not-false (root_hashbang n) e)) closed (part_prints n p a.env refl same) w (default_not_out n))
+    whole_reads default_config false (root_phrase n) (taken_remarks p a.env) (text_over lines maps p) (steps_read (not (root_hashbang n)) p (root_phrase n) a s.is_new (λ e. s.at_margin (not-false (root_hashbang n) e)) closed (stands_plain n p a.env refl refl same) w (default_not_out n))
 
 -- without comments none stand between the tokens
 pub code_reads : (n : Root) (p : Part) → p ≡ root_items n → is_well_formed_root n ≡ true → ReadsAs default_config false (root_phrase n) [] (text_of p)
@@ -85,21 +83,21 @@ code_reads n p same w =
     let P : List Remark → Type 0 = λ rs. ReadsAs default_config false (root_phrase n) rs (text_of p) in
     subst P (ap remarks_of (none_taken (steps_of (p nothing (begun no_lines no_maps).env)) no_maps no_maps_bare)) (code_reads_over no_lines no_maps n p same w no_maps_closed)
 
-root_printable : (a : State) (n : Root) (p : Part) → a.env.config ≡ default_config → a.env.keeps_invalid ≡ false → p ≡ root_items n → is_well_formed_root n ≡ true → unprintable_in (steps_in p a) ≡ None
-root_printable a n p settings leaves same w =
+root_printable : (a : State) (n : Root) (p : Part) → a.env.config ≡ default_config → a.env.keeps_invalid ≡ false → is_bounded a.env ≡ false → p ≡ root_items n → is_well_formed_root n ≡ true → unprintable_in (steps_in p a) ≡ None
+root_printable a n p settings leaves b same w =
     let P : Config → Type 0 = λ z. is_out z (root_phrase n) ≡ false in
-    printable p (root_phrase n) a.env (part_prints n p a.env leaves same) w (subst P (sym settings) (default_not_out n))
+    printable p (root_phrase n) a.env (stands_plain n p a.env leaves b same) w (subst P (sym settings) (default_not_out n))
 
 no_refusal : (r : Unprintable) → ◌≡◌ {A = Option Unprintable} (Some r) None → ⊥
 no_refusal r h = absurd (cc)
 
 module _ (lines : Lines) (maps : Maps) (n : Root) (p : Part) (same : p ≡ root_items n) (w : is_well_formed_root n ≡ true) where
   is_printable : unprintable_in (steps_in p (begun lines maps)) ≡ None
-  is_printable = root_printable (begun lines maps) n p refl refl same w
+  is_printable = root_printable (begun lines maps) n p refl refl refl same w
 
   -- it comes to no limit, and keeps no position
   no_limit : token_count (root_phrase n) < 2 ^ 32 → (b : State) → PassesLimit (steps_of (steps_in p (begun lines maps))) (begun lines maps) ⊎ IsTooFar (begun lines maps) b → ⊥
-  no_limit room b (inl h) = within p (root_phrase n) (begun lines maps) (part_prints n p _ refl same) w (default_not_out n) (omega (arith, room)) h
+  no_limit room b (inl h) = within p (root_phrase n) (begun lines maps) (stands_plain n p _ refl refl same) w (default_not_out n) (omega (arith, room)) h
   no_limit room b (inr h) = true≢false (sym h.0)
 
   by_cause : (error : Error) → token_count (root_phrase n) < 2 ^ 32 → (b : State) → HasCause (steps_in p (begun lines maps)) (reason_of error) (begun lines maps) b → (IsOfWriter error → ⊥) → error ≡ OutOfMemory

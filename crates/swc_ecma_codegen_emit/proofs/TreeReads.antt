@@ -22,7 +22,7 @@ use Rattle.swc_ecma_codegen_grammar.specs.SourceLines.{Lines}
 use Rattle.swc_ecma_codegen_grammar.specs.CommentMaps.{Maps}
 use Rattle.swc_ecma_codegen_grammar.specs.Comments.{AreClosed, texts_of}
 use Rattle.swc_ecma_codegen_common.specs.declared.errors.Refusal.{Refusal}
-use Rattle.swc_ecma_codegen_tokens.specs.Run.{Env, Plan, Part, State, refuse, refused, nothing, Follows, start, makes_text, maps_after, taken_in, spoken, steps_of, steps_in, unprintable_in}
+use Rattle.swc_ecma_codegen_tokens.specs.Run.{Env, is_bounded, Plan, Part, State, refuse, refused, nothing, Follows, start, makes_text, maps_after, taken_in, spoken, steps_of, steps_in, unprintable_in}
 use Rattle.swc_ecma_codegen_tokens.specs.Targets.{is_out}
 use Rattle.swc_ecma_codegen_tokens.specs.Escapes.{may_make_text}
 use Rattle.swc_ecma_codegen_tokens.specs.Named.{RecordsNames, PlacesNames}
@@ -32,89 +32,71 @@ use Rattle.swc_ecma_codegen_tokens.specs.Scripts.{value_strings, AddsSafe}
 use Rattle.swc_ecma_codegen_tokens.proofs.AsciiTexts.{printed_ascii, printed_keeps, none_other}
 use Rattle.swc_ecma_codegen_tokens.proofs.ScriptTexts.{printed_safe}
 use Rattle.swc_ecma_codegen_text_writer.specs.Recorded.{RecordsTruly}
-use Rattle.swc_ecma_codegen_grammar.specs.Phrases.{Phrase, is_possible, names_in}
-use Rattle.swc_ecma_codegen_text_writer.specs.Sheet.{HoldsNone}
-use Rattle.swc_ecma_codegen_tokens.specs.Written.{Anything, IsLineEnd, IsNew, AddsReading, taken_remarks, all_indent, is_indent, holds_one}
+use Rattle.swc_ecma_codegen_grammar.specs.Phrases.{is_possible, names_in}
+use Rattle.swc_ecma_codegen_text_writer.specs.Sheet.{Flowing, HoldsNone, fills_lines}
+use Rattle.swc_ecma_codegen_tokens.specs.Written.{IsAtMargin, IsLineEnd, IsNew, AddsReading, taken_remarks, all_indent, is_indent, holds_one}
 use Rattle.swc_ecma_codegen_tokens.proofs.Short.{on_ok_in_short}
-use Rattle.swc_ecma_codegen_tokens.proofs.Phrased.{printed_reads, printed_tells, printed_remakes, printed_names, printed_places, follows_records, PrintsAt, prints_never, prints_wider}
-use Rattle.swc_ecma_codegen_tokens.proofs.TagPrints.{prints_spots}
-use Rattle.swc_ecma_codegen_tokens.proofs.Made.{run_env, ends_where_out, follows_in_target, follows_out_of_target, follows_shaped, follows_supported}
-use Rattle.swc_ecma_codegen_emit.specs.declared.nodes.Place.TheVariants.{Plain}
+use Rattle.swc_ecma_codegen_tokens.proofs.Phrased.{made_not_out, printed_reads, printed_tells, printed_remakes, printed_names, printed_places, follows_records, PrintsAt}
+use Rattle.swc_ecma_codegen_tokens.proofs.Made.{printable, run_env}
 use Rattle.swc_ecma_codegen_emit.specs.Answers.{any_answers}
 use Rattle.swc_ecma_codegen_emit.specs.Modules.{is_crowded, import_parts, import_decl, module_item}
-use Rattle.swc_ecma_codegen_emit.specs.Places.{placed}
+use Rattle.swc_ecma_codegen_emit.specs.Places.{by_itself}
 use Rattle.swc_ecma_codegen_emit.specs.Programs as programs
 use Rattle.swc_ecma_codegen_emit.specs.Templates.{tpl_placed, bad_shape, tpl}
 use Rattle.swc_ecma_codegen_emit.specs.Tree.{any_items}
-use Rattle.swc_ecma_codegen_emit.specs.Roots.{Root, OfExpr, OfStmt, OfItem, OfModule, OfScript, OfProgram, OfLink, root_items, read_alone, root_phrase, is_well_formed_root, root_hashbang, MayBegin}
-use Rattle.swc_ecma_codegen_emit.proofs.AnyExprParts.{plain_expr_prints}
-use Rattle.swc_ecma_codegen_emit.proofs.ModuleParts.{module_item_prints}
-use Rattle.swc_ecma_codegen_emit.proofs.ProgramParts.{module_prints, script_prints, program_prints}
-use Rattle.swc_ecma_codegen_emit.proofs.StmtParts.{stmt_prints}
-use Rattle.swc_ecma_codegen_emit.proofs.TreeLaw.{prints, known}
-use Rattle.swc_ecma_codegen_tokens.proofs.Shapes.{Shape, unbroken, unbroken_at, loose_at, is_within}
-use Rattle.swc_ecma_codegen_emit.proofs.Linked.{role_shape}
-use Rattle.swc_ecma_codegen_grammar.specs.declared.roles.Role.{Role}
-use Rattle.swc_ecma_codegen_grammar.specs.declared.roles.Role.TheVariants.{Statement, VariableDeclaration, MethodHead, MethodDecorators, ClassHead, ExportedHead, Member, ModuleDeclaration, Element, Child, TagObject, TypeArguments}
+use Rattle.swc_ecma_codegen_emit.specs.Roots.{Root, OfItem, OfModule, OfScript, OfProgram, is_program, root_at, root_items, root_phrase, is_well_formed_root, root_hashbang, MayBegin}
+use Rattle.swc_ecma_codegen_tokens.proofs.Shapes.{unbroken}
+use Rattle.swc_ecma_codegen_emit.specs.Lined.{CanFill, FillsLinesOf}
+use Rattle.swc_ecma_codegen_emit.proofs.ByItself.{Stands, alone_at, bounded_at, part_prints, program_in, root_prints, root_shape, root_stands}
+use Rattle.swc_ecma_codegen_emit.proofs.InLines.{Ends, ends_so, goes_in_target, goes_out_of_target, goes_shaped, goes_supported, lines_ascii, lines_fill, lines_keep, lines_names, lines_not_out, lines_out, lines_place, lines_printable, lines_read, lines_safe, lines_tell}
 
-role_within : (role : Role) → is_within (role_shape role) unbroken ≡ true
-role_within Statement = refl
-role_within VariableDeclaration = refl
-role_within MethodHead = refl
-role_within MethodDecorators = refl
-role_within ClassHead = refl
-role_within ExportedHead = refl
-role_within Member = refl
-role_within ModuleDeclaration = refl
-role_within role = refl
+-- a root, whatever refers to it
+pub stands : (n : Root) (p : Part) (env : Env) → env.keeps_invalid ≡ false → p ≡ root_items n → Stands n env p
+stands n p env e same = subst (Stands n env) (sym same) (root_stands env e n)
 
--- a program stands anywhere, or only where nothing was written
-loose_within : (anywhere : Bool) → is_within (loose_at anywhere) (unbroken_at anywhere) ≡ true
-loose_within true = refl
-loose_within false = refl
+-- the settings leave its lines as they are
+pub stands_plain : (n : Root) (p : Part) (env : Env) → env.keeps_invalid ≡ false → is_bounded env ≡ false → p ≡ root_items n → PrintsAt (root_shape n) env p (root_phrase n)
+stands_plain n p env e b same = subst (λ z. PrintsAt (root_shape n) env z (root_phrase n)) (sym same) (root_prints env e n b)
 
-program_unbroken : {env : Env} {p : Part} {f : Phrase} (anywhere : Bool) → PrintsAt (loose_at anywhere) env p f → PrintsAt (unbroken_at anywhere) env p f
-program_unbroken anywhere h = prints_wider (unbroken_at anywhere) (loose_within anywhere) h
+item_prints : (n : ModuleItem AnyNode) (env : Env) → env.keeps_invalid ≡ false → PrintsAt unbroken env (root_items (OfItem n)) (root_phrase (OfItem n))
+item_prints n env e = part_prints env e (OfItem n) refl
 
-abbrev pub root_shape : Root → Shape
-root_shape n = unbroken_at (not (root_hashbang n))
+abbrev margin : (n : Root) (a : State) → MayBegin n a → not (root_hashbang n) ≡ false → IsAtMargin a
+margin n a s e = s.at_margin (not-false (root_hashbang n) e)
 
--- a child alone, or the object of a name, is read as nothing
-link_prints : (env : Env) → env.keeps_invalid ≡ false → (n : AnyNode) (role : Role) → PrintsAt unbroken env (any_items n (placed role Plain)) (read_alone role (phrase n role))
-link_prints env e n Child = prints_never
-link_prints env e n TagObject = prints_never
-link_prints env e n Element = prints_wider unbroken refl (prints_spots Anything Anything refl refl (prints env e n Plain Element))
-link_prints env e n TypeArguments = prints_wider unbroken refl (prints_spots Anything Anything refl refl (prints env e n Plain TypeArguments))
-link_prints env e n role = prints_wider unbroken (role_within role) (prints env e n Plain role)
+stands_not_out : (n : Root) (p : Part) (env : Env) → Stands n env p → is_well_formed_root n ≡ true → unprintable_in (p nothing env) ≡ None → is_out env.config (root_phrase n) ≡ false
+stands_not_out n p env (inl h) w k = made_not_out p (root_phrase n) env h w k
+stands_not_out n p env (inr h) w k = lines_not_out p (root_phrase n) env h w k
 
-pub root_prints : (env : Env) → env.keeps_invalid ≡ false → (n : Root) → PrintsAt (root_shape n) env (root_items n) (root_phrase n)
-unfolding stmt_lists.program
-root_prints env e (OfExpr n) = prints_wider unbroken refl (plain_expr_prints (known env e) n Plain refl)
-root_prints env e (OfStmt n) = prints_wider unbroken refl (stmt_prints (known env e) n)
-root_prints env e (OfItem n) = prints_wider unbroken refl (module_item_prints (known env e) n)
-root_prints env e (OfModule n) = program_unbroken _ (module_prints (known env e) n)
-root_prints env e (OfScript n) = program_unbroken _ (script_prints (known env e) n)
-root_prints env e (OfProgram n) = program_unbroken _ (program_prints (known env e) n)
-root_prints env e (OfLink n role) = link_prints env e n role
+stands_end : (n : Root) (p : Part) (env : Env) → Stands n env p → is_well_formed_root n ≡ true → Ends env p (root_phrase n)
+stands_end n p env (inl h) w = record { printable = printable p (root_phrase n) env h w; out = λ o. h.where_out w o env.maps nothing }
+stands_end n p env (inr h) w = record { printable = lines_printable p (root_phrase n) env h w; out = lines_out p (root_phrase n) env h w }
+
+root_end : (n : Root) (env : Env) → env.keeps_invalid ≡ false → is_well_formed_root n ≡ true → Ends env (root_items n) (root_phrase n)
+root_end n env e w = stands_end n (root_items n) env (root_stands env e n) w
+
+pub stands_read : (n : Root) (p : Part) (a b : State) (r : Result (Unit {0}) Refusal) → Stands n a.env p → is_well_formed_root n ≡ true → MayBegin n a → AreClosed a.env.maps → Follows (p nothing) a b r → OnOk r (AddsReading a.env.config (root_phrase n) (taken_remarks p a.env) a.sheet b.sheet)
+stands_read n p a b r (inl h) w s closed k = printed_reads (not (root_hashbang n)) p (root_phrase n) a b r s.is_new (margin n a s) closed h w k
+stands_read n p a b r (inr h) w s closed k = lines_read (not (root_hashbang n)) p (root_phrase n) a b h w s.is_new s.flows (margin n a s) closed r k
 
 -- whatever the root is, and whatever refers to it
 pub root_reads : (n : Root) (p : Part) (a b : State) (r : Result (Unit {0}) Error) → p ≡ root_items n → is_well_formed_root n ≡ true → MayBegin n a → AreClosed a.env.maps → Follows (p nothing) a b (in_short r) → OnOk r (AddsReading a.env.config (root_phrase n) (taken_remarks p a.env) a.sheet b.sheet)
-root_reads n p a b r same w s closed h = on_ok_in_short _ r (printed_reads (not (root_hashbang n)) p (root_phrase n) a b (in_short r) s.is_new (λ e. s.at_margin (not-false (root_hashbang n) e)) closed (subst (λ z. PrintsAt (root_shape n) a.env z (root_phrase n)) (sym same) (root_prints a.env s.is_new.leaves_out n)) w h)
+root_reads n p a b r same w s closed h = on_ok_in_short _ r (stands_read n p a b (in_short r) (stands n p a.env s.is_new.leaves_out same) w s closed h)
 
 -- what begins with no hashbang may stand anywhere
-pub may_begin : (n : Root) (a : State) → root_hashbang n ≡ false → IsNew a → MayBegin n a
-may_begin n a h s = record { is_new = s; at_margin = λ e. absurd (true≢false (sym e ∙ h)) }
+pub may_begin : (n : Root) (a : State) → root_hashbang n ≡ false → a.sheet.lines ≡ Flowing → IsNew a → MayBegin n a
+may_begin n a h flows s = record { is_new = s; flows = flows; at_margin = λ e. absurd (true≢false (sym e ∙ h)) }
 
-pub item_reads : (n : ModuleItem AnyNode) (a b : State) (r : Result (Unit {0}) Error) → is_possible (stmt_lists.module_item phrase n) ≡ true → IsNew a → AreClosed a.env.maps → Follows (module_item any_answers any_items n nothing) a b (in_short r) → OnOk r (AddsReading a.env.config (stmt_lists.module_item phrase n) (taken_remarks (module_item any_answers any_items n) a.env) a.sheet b.sheet)
-item_reads n a b r w s closed h = root_reads (OfItem n) _ a b r refl w (may_begin (OfItem n) a refl s) closed h
+pub item_reads : (n : ModuleItem AnyNode) (a b : State) (r : Result (Unit {0}) Error) → is_possible (stmt_lists.module_item phrase n) ≡ true → IsNew a → AreClosed a.env.maps → Follows (by_itself (λ place. module_item any_answers any_items n) nothing) a b (in_short r) → OnOk r (AddsReading a.env.config (stmt_lists.module_item phrase n) (taken_remarks (by_itself (λ place. module_item any_answers any_items n)) a.env) a.sheet b.sheet)
+item_reads n a b r w s closed h = on_ok_in_short _ r (printed_reads true _ (root_phrase (OfItem n)) a b (in_short r) s (λ e. absurd (true≢false e)) closed (item_prints n a.env s.leaves_out) w h)
 
-pub module_reads : (n : Module AnyNode) (a b : State) (r : Result (Unit {0}) Error) → is_well_formed (a_module n) ≡ true → MayBegin (OfModule n) a → AreClosed a.env.maps → Follows (programs.whole_module any_answers any_items n nothing) a b (in_short r) → OnOk r (AddsReading a.env.config (program_phrase (a_module n)) (taken_remarks (programs.whole_module any_answers any_items n) a.env) a.sheet b.sheet)
+pub module_reads : (n : Module AnyNode) (a b : State) (r : Result (Unit {0}) Error) → is_well_formed (a_module n) ≡ true → MayBegin (OfModule n) a → AreClosed a.env.maps → Follows (by_itself (programs.whole_module any_answers any_items n) nothing) a b (in_short r) → OnOk r (AddsReading a.env.config (program_phrase (a_module n)) (taken_remarks (by_itself (programs.whole_module any_answers any_items n)) a.env) a.sheet b.sheet)
 module_reads n a b r w s closed h = root_reads (OfModule n) _ a b r refl w s closed h
 
-pub script_reads : (n : Script AnyNode) (a b : State) (r : Result (Unit {0}) Error) → is_well_formed (a_script n) ≡ true → MayBegin (OfScript n) a → AreClosed a.env.maps → Follows (programs.script any_answers any_items n nothing) a b (in_short r) → OnOk r (AddsReading a.env.config (program_phrase (a_script n)) (taken_remarks (programs.script any_answers any_items n) a.env) a.sheet b.sheet)
+pub script_reads : (n : Script AnyNode) (a b : State) (r : Result (Unit {0}) Error) → is_well_formed (a_script n) ≡ true → MayBegin (OfScript n) a → AreClosed a.env.maps → Follows (by_itself (programs.script any_answers any_items n) nothing) a b (in_short r) → OnOk r (AddsReading a.env.config (program_phrase (a_script n)) (taken_remarks (by_itself (programs.script any_answers any_items n)) a.env) a.sheet b.sheet)
 script_reads n a b r w s closed h = root_reads (OfScript n) _ a b r refl w s closed h
 
-pub program_reads : (n : Program AnyNode) (a b : State) (r : Result (Unit {0}) Error) → is_well_formed n ≡ true → MayBegin (OfProgram n) a → AreClosed a.env.maps → Follows (programs.program any_answers any_items n nothing) a b (in_short r) → OnOk r (AddsReading a.env.config (program_phrase n) (taken_remarks (programs.program any_answers any_items n) a.env) a.sheet b.sheet)
+pub program_reads : (n : Program AnyNode) (a b : State) (r : Result (Unit {0}) Error) → is_well_formed n ≡ true → MayBegin (OfProgram n) a → AreClosed a.env.maps → Follows (by_itself (programs.program any_answers any_items n) nothing) a b (in_short r) → OnOk r (AddsReading a.env.config (program_phrase n) (taken_remarks (by_itself (programs.program any_answers any_items n)) a.env) a.sheet b.sheet)
 program_reads n a b r w s closed h = root_reads (OfProgram n) _ a b r refl w s closed h
 
 pub maps_followed : (p : Plan) (a b : State) (r : Result (Unit {0}) Refusal) → Follows p a b r → OnOk r (b.env.maps ≡ maps_after (steps_of (p a.env)) a.env.maps)
@@ -127,106 +109,149 @@ pub steps_taken : (p : Plan) (a b : State) (r : Result (Unit {0}) Error) → Fol
 steps_taken p a b r h = on_ok_in_short _ r (maps_followed p a b (in_short r) h)
 
 -- each of them is written once, in order of taking
+stands_tell : (n : Root) (p : Part) (env : Env) → Stands n env p → is_well_formed_root n ≡ true → is_out env.config (root_phrase n) ≡ false → spoken (steps_of (p nothing env)) ≡ texts_of (taken_in (steps_of (p nothing env)) env.maps)
+stands_tell n p env (inl h) w o = printed_tells p (root_phrase n) env h w o
+stands_tell n p env (inr h) w o = lines_tell p (root_phrase n) env h w o
+
 pub root_tells : (n : Root) (s : State) → is_well_formed_root n ≡ true → s.env.keeps_invalid ≡ false → is_out s.env.config (root_phrase n) ≡ false → spoken (steps_of (steps_in (root_items n) s)) ≡ texts_of (taken_in (steps_of (steps_in (root_items n) s)) s.env.maps)
-root_tells n s w e o = printed_tells (root_items n) (root_phrase n) s.env (root_prints s.env e n) w o
+root_tells n s w e o = stands_tell n (root_items n) s.env (root_stands s.env e n) w o
 
 -- what is recorded is true
 pub steps_recorded : (p : Plan) (a b : State) (r : Result (Unit {0}) Error) → Follows p a b (in_short r) → OnOk r (RecordsTruly a.sheet b.sheet)
 steps_recorded p a b r h = on_ok_in_short _ r (follows_records p a b (in_short r) h)
 
+pub stands_name : (n : Root) (p : Part) (a b : State) (r : Result (Unit {0}) Refusal) → Stands n a.env p → is_well_formed_root n ≡ true → a.sheet.keeps_positions ≡ true → fills_lines a.sheet.lines ≡ false → (is_bounded a.env ≡ true → CanFill a) → Follows (p nothing) a b r → OnOk r (RecordsNames a.env.config (names_in (root_phrase n)) a.sheet b.sheet)
+stands_name n p a b r (inl h) w k flows fill f = printed_names p (root_phrase n) a b r h w k flows f
+stands_name n p a b r (inr h) w k flows fill f = lines_names p (root_phrase n) a b h w r k (fill h.bounded).flows (fill h.bounded).line_end f
+
 -- where positions are kept, each name has its own where it begins
-pub root_names : (n : Root) (p : Part) (a b : State) (r : Result (Unit {0}) Error) → p ≡ root_items n → is_well_formed_root n ≡ true → a.sheet.keeps_positions ≡ true → a.env.keeps_invalid ≡ false → Follows (p nothing) a b (in_short r) → OnOk r (RecordsNames a.env.config (names_in (root_phrase n)) a.sheet b.sheet)
-root_names n p a b r same w k e h = on_ok_in_short _ r (printed_names p (root_phrase n) a b (in_short r) (subst (λ z. PrintsAt (root_shape n) a.env z (root_phrase n)) (sym same) (root_prints a.env e n)) w k h)
+pub root_names : (n : Root) (p : Part) (a b : State) (r : Result (Unit {0}) Error) → p ≡ root_items n → is_well_formed_root n ≡ true → a.sheet.keeps_positions ≡ true → a.env.keeps_invalid ≡ false → fills_lines a.sheet.lines ≡ false → (is_bounded a.env ≡ true → CanFill a) → Follows (p nothing) a b (in_short r) → OnOk r (RecordsNames a.env.config (names_in (root_phrase n)) a.sheet b.sheet)
+root_names n p a b r same w k e flows fill h = on_ok_in_short _ r (stands_name n p a b (in_short r) (stands n p a.env e same) w k flows fill h)
+
+stands_place : (n : Root) (p : Part) (a b : State) (r : Result (Unit {0}) Refusal) → Stands n a.env p → is_well_formed_root n ≡ true → MayBegin n a → AreClosed a.env.maps → a.sheet.keeps_positions ≡ true → Follows (p nothing) a b r → OnOk r (PlacesNames a.env.config (root_phrase n) (taken_remarks p a.env) a.sheet b.sheet)
+stands_place n p a b r (inl h) w s closed k f = printed_places (not (root_hashbang n)) p (root_phrase n) a b r s.is_new (margin n a s) closed h w k f
+stands_place n p a b r (inr h) w s closed k f = lines_place (not (root_hashbang n)) p (root_phrase n) a b h w s.is_new s.flows (margin n a s) closed r k f
 
 -- of a new emitter, each name stands as its own token, with its position where it begins
 pub root_places : (n : Root) (p : Part) (a b : State) (r : Result (Unit {0}) Error) → p ≡ root_items n → is_well_formed_root n ≡ true → MayBegin n a → AreClosed a.env.maps → a.sheet.keeps_positions ≡ true → Follows (p nothing) a b (in_short r) → OnOk r (PlacesNames a.env.config (root_phrase n) (taken_remarks p a.env) a.sheet b.sheet)
-root_places n p a b r same w s closed k h = on_ok_in_short _ r (printed_places (not (root_hashbang n)) p (root_phrase n) a b (in_short r) s.is_new (λ e. s.at_margin (not-false (root_hashbang n) e)) closed (subst (λ z. PrintsAt (root_shape n) a.env z (root_phrase n)) (sym same) (root_prints a.env s.is_new.leaves_out n)) w k h)
+root_places n p a b r same w s closed k h = on_ok_in_short _ r (stands_place n p a b (in_short r) (stands n p a.env s.is_new.leaves_out same) w s closed k h)
 
-pub item_places : (n : ModuleItem AnyNode) (a b : State) (r : Result (Unit {0}) Error) → is_possible (stmt_lists.module_item phrase n) ≡ true → IsNew a → AreClosed a.env.maps → a.sheet.keeps_positions ≡ true → Follows (module_item any_answers any_items n nothing) a b (in_short r) → OnOk r (PlacesNames a.env.config (stmt_lists.module_item phrase n) (taken_remarks (module_item any_answers any_items n) a.env) a.sheet b.sheet)
-item_places n a b r w s closed k h = root_places (OfItem n) _ a b r refl w (may_begin (OfItem n) a refl s) closed k h
+pub item_places : (n : ModuleItem AnyNode) (a b : State) (r : Result (Unit {0}) Error) → is_possible (stmt_lists.module_item phrase n) ≡ true → IsNew a → AreClosed a.env.maps → a.sheet.keeps_positions ≡ true → Follows (by_itself (λ place. module_item any_answers any_items n) nothing) a b (in_short r) → OnOk r (PlacesNames a.env.config (stmt_lists.module_item phrase n) (taken_remarks (by_itself (λ place. module_item any_answers any_items n)) a.env) a.sheet b.sheet)
+item_places n a b r w s closed k h = on_ok_in_short _ r (printed_places true _ (root_phrase (OfItem n)) a b (in_short r) s (λ e. absurd (true≢false e)) closed (item_prints n a.env s.leaves_out) w k h)
 
-pub module_places : (n : Module AnyNode) (a b : State) (r : Result (Unit {0}) Error) → is_well_formed (a_module n) ≡ true → MayBegin (OfModule n) a → AreClosed a.env.maps → a.sheet.keeps_positions ≡ true → Follows (programs.whole_module any_answers any_items n nothing) a b (in_short r) → OnOk r (PlacesNames a.env.config (program_phrase (a_module n)) (taken_remarks (programs.whole_module any_answers any_items n) a.env) a.sheet b.sheet)
+pub module_places : (n : Module AnyNode) (a b : State) (r : Result (Unit {0}) Error) → is_well_formed (a_module n) ≡ true → MayBegin (OfModule n) a → AreClosed a.env.maps → a.sheet.keeps_positions ≡ true → Follows (by_itself (programs.whole_module any_answers any_items n) nothing) a b (in_short r) → OnOk r (PlacesNames a.env.config (program_phrase (a_module n)) (taken_remarks (by_itself (programs.whole_module any_answers any_items n)) a.env) a.sheet b.sheet)
 module_places n a b r w s closed k h = root_places (OfModule n) _ a b r refl w s closed k h
 
-pub script_places : (n : Script AnyNode) (a b : State) (r : Result (Unit {0}) Error) → is_well_formed (a_script n) ≡ true → MayBegin (OfScript n) a → AreClosed a.env.maps → a.sheet.keeps_positions ≡ true → Follows (programs.script any_answers any_items n nothing) a b (in_short r) → OnOk r (PlacesNames a.env.config (program_phrase (a_script n)) (taken_remarks (programs.script any_answers any_items n) a.env) a.sheet b.sheet)
+pub script_places : (n : Script AnyNode) (a b : State) (r : Result (Unit {0}) Error) → is_well_formed (a_script n) ≡ true → MayBegin (OfScript n) a → AreClosed a.env.maps → a.sheet.keeps_positions ≡ true → Follows (by_itself (programs.script any_answers any_items n) nothing) a b (in_short r) → OnOk r (PlacesNames a.env.config (program_phrase (a_script n)) (taken_remarks (by_itself (programs.script any_answers any_items n)) a.env) a.sheet b.sheet)
 script_places n a b r w s closed k h = root_places (OfScript n) _ a b r refl w s closed k h
 
-pub program_places : (n : Program AnyNode) (a b : State) (r : Result (Unit {0}) Error) → is_well_formed n ≡ true → MayBegin (OfProgram n) a → AreClosed a.env.maps → a.sheet.keeps_positions ≡ true → Follows (programs.program any_answers any_items n nothing) a b (in_short r) → OnOk r (PlacesNames a.env.config (program_phrase n) (taken_remarks (programs.program any_answers any_items n) a.env) a.sheet b.sheet)
+pub program_places : (n : Program AnyNode) (a b : State) (r : Result (Unit {0}) Error) → is_well_formed n ≡ true → MayBegin (OfProgram n) a → AreClosed a.env.maps → a.sheet.keeps_positions ≡ true → Follows (by_itself (programs.program any_answers any_items n) nothing) a b (in_short r) → OnOk r (PlacesNames a.env.config (program_phrase n) (taken_remarks (by_itself (programs.program any_answers any_items n)) a.env) a.sheet b.sheet)
 program_places n a b r w s closed k h = root_places (OfProgram n) _ a b r refl w s closed k h
 
-pub item_names : (n : ModuleItem AnyNode) (a b : State) (r : Result (Unit {0}) Error) → is_possible (stmt_lists.module_item phrase n) ≡ true → a.sheet.keeps_positions ≡ true → a.env.keeps_invalid ≡ false → Follows (module_item any_answers any_items n nothing) a b (in_short r) → OnOk r (RecordsNames a.env.config (names_in (stmt_lists.module_item phrase n)) a.sheet b.sheet)
-item_names n a b r w k e h = root_names (OfItem n) _ a b r refl w k e h
+pub item_names : (n : ModuleItem AnyNode) (a b : State) (r : Result (Unit {0}) Error) → is_possible (stmt_lists.module_item phrase n) ≡ true → a.sheet.keeps_positions ≡ true → a.env.keeps_invalid ≡ false → fills_lines a.sheet.lines ≡ false → Follows (by_itself (λ place. module_item any_answers any_items n) nothing) a b (in_short r) → OnOk r (RecordsNames a.env.config (names_in (stmt_lists.module_item phrase n)) a.sheet b.sheet)
+item_names n a b r w k e flows h = on_ok_in_short _ r (printed_names _ (root_phrase (OfItem n)) a b (in_short r) (item_prints n a.env e) w k flows h)
 
-pub module_names : (n : Module AnyNode) (a b : State) (r : Result (Unit {0}) Error) → is_well_formed (a_module n) ≡ true → a.sheet.keeps_positions ≡ true → a.env.keeps_invalid ≡ false → Follows (programs.whole_module any_answers any_items n nothing) a b (in_short r) → OnOk r (RecordsNames a.env.config (names_in (program_phrase (a_module n))) a.sheet b.sheet)
-module_names n a b r w k e h = root_names (OfModule n) _ a b r refl w k e h
+pub module_names : (n : Module AnyNode) (a b : State) (r : Result (Unit {0}) Error) → is_well_formed (a_module n) ≡ true → a.sheet.keeps_positions ≡ true → a.env.keeps_invalid ≡ false → fills_lines a.sheet.lines ≡ false → (is_bounded a.env ≡ true → CanFill a) → Follows (by_itself (programs.whole_module any_answers any_items n) nothing) a b (in_short r) → OnOk r (RecordsNames a.env.config (names_in (program_phrase (a_module n))) a.sheet b.sheet)
+module_names n a b r w k e flows fill h = root_names (OfModule n) _ a b r refl w k e flows fill h
 
-pub script_names : (n : Script AnyNode) (a b : State) (r : Result (Unit {0}) Error) → is_well_formed (a_script n) ≡ true → a.sheet.keeps_positions ≡ true → a.env.keeps_invalid ≡ false → Follows (programs.script any_answers any_items n nothing) a b (in_short r) → OnOk r (RecordsNames a.env.config (names_in (program_phrase (a_script n))) a.sheet b.sheet)
-script_names n a b r w k e h = root_names (OfScript n) _ a b r refl w k e h
+pub script_names : (n : Script AnyNode) (a b : State) (r : Result (Unit {0}) Error) → is_well_formed (a_script n) ≡ true → a.sheet.keeps_positions ≡ true → a.env.keeps_invalid ≡ false → fills_lines a.sheet.lines ≡ false → (is_bounded a.env ≡ true → CanFill a) → Follows (by_itself (programs.script any_answers any_items n) nothing) a b (in_short r) → OnOk r (RecordsNames a.env.config (names_in (program_phrase (a_script n))) a.sheet b.sheet)
+script_names n a b r w k e flows fill h = root_names (OfScript n) _ a b r refl w k e flows fill h
 
-pub program_names : (n : Program AnyNode) (a b : State) (r : Result (Unit {0}) Error) → is_well_formed n ≡ true → a.sheet.keeps_positions ≡ true → a.env.keeps_invalid ≡ false → Follows (programs.program any_answers any_items n nothing) a b (in_short r) → OnOk r (RecordsNames a.env.config (names_in (program_phrase n)) a.sheet b.sheet)
-program_names n a b r w k e h = root_names (OfProgram n) _ a b r refl w k e h
+pub program_names : (n : Program AnyNode) (a b : State) (r : Result (Unit {0}) Error) → is_well_formed n ≡ true → a.sheet.keeps_positions ≡ true → a.env.keeps_invalid ≡ false → fills_lines a.sheet.lines ≡ false → (is_bounded a.env ≡ true → CanFill a) → Follows (by_itself (programs.program any_answers any_items n) nothing) a b (in_short r) → OnOk r (RecordsNames a.env.config (names_in (program_phrase n)) a.sheet b.sheet)
+program_names n a b r w k e flows fill h = root_names (OfProgram n) _ a b r refl w k e flows fill h
+
+stands_ascii : (n : Root) (p : Part) (a b : State) (r : Result (Unit {0}) Refusal) → Stands n a.env p → is_well_formed_root n ≡ true → WantsAscii a → Follows (p nothing) a b r → OnOk r (AddsAscii (other_texts (steps_of (p nothing a.env))) a.sheet.text b.sheet.text)
+stands_ascii n p a b r (inl h) w s k = printed_ascii p (root_phrase n) a b r h w s k
+stands_ascii n p a b r (inr h) w s k = lines_ascii p (root_phrase n) a b h w r s k
 
 -- under ASCII only what is added is ASCII, save what stands as it is
 pub root_ascii : (n : Root) (p : Part) (a b : State) (r : Result (Unit {0}) Error) → p ≡ root_items n → is_well_formed_root n ≡ true → WantsAscii a → Follows (p nothing) a b (in_short r) → OnOk r (AddsAscii (other_texts (steps_of (p nothing a.env))) a.sheet.text b.sheet.text)
-root_ascii n p a b r same w s h = on_ok_in_short _ r (printed_ascii p (root_phrase n) a b (in_short r) (subst (λ z. PrintsAt (root_shape n) a.env z (root_phrase n)) (sym same) (root_prints a.env s.leaves_out n)) w s h)
+root_ascii n p a b r same w s h = on_ok_in_short _ r (stands_ascii n p a b (in_short r) (stands n p a.env s.leaves_out same) w s h)
 
-pub item_ascii : (n : ModuleItem AnyNode) (a b : State) (r : Result (Unit {0}) Error) → is_possible (stmt_lists.module_item phrase n) ≡ true → WantsAscii a → Follows (module_item any_answers any_items n nothing) a b (in_short r) → OnOk r (AddsAscii (other_texts (steps_of (module_item any_answers any_items n nothing a.env))) a.sheet.text b.sheet.text)
+pub item_ascii : (n : ModuleItem AnyNode) (a b : State) (r : Result (Unit {0}) Error) → is_possible (stmt_lists.module_item phrase n) ≡ true → WantsAscii a → Follows (by_itself (λ place. module_item any_answers any_items n) nothing) a b (in_short r) → OnOk r (AddsAscii (other_texts (steps_of (by_itself (λ place. module_item any_answers any_items n) nothing a.env))) a.sheet.text b.sheet.text)
 item_ascii n a b r w s h = root_ascii (OfItem n) _ a b r refl w s h
 
-pub module_ascii : (n : Module AnyNode) (a b : State) (r : Result (Unit {0}) Error) → is_well_formed (a_module n) ≡ true → WantsAscii a → Follows (programs.whole_module any_answers any_items n nothing) a b (in_short r) → OnOk r (AddsAscii (other_texts (steps_of (programs.whole_module any_answers any_items n nothing a.env))) a.sheet.text b.sheet.text)
+pub module_ascii : (n : Module AnyNode) (a b : State) (r : Result (Unit {0}) Error) → is_well_formed (a_module n) ≡ true → WantsAscii a → Follows (by_itself (programs.whole_module any_answers any_items n) nothing) a b (in_short r) → OnOk r (AddsAscii (other_texts (steps_of (by_itself (programs.whole_module any_answers any_items n) nothing a.env))) a.sheet.text b.sheet.text)
 module_ascii n a b r w s h = root_ascii (OfModule n) _ a b r refl w s h
 
-pub script_ascii : (n : Script AnyNode) (a b : State) (r : Result (Unit {0}) Error) → is_well_formed (a_script n) ≡ true → WantsAscii a → Follows (programs.script any_answers any_items n nothing) a b (in_short r) → OnOk r (AddsAscii (other_texts (steps_of (programs.script any_answers any_items n nothing a.env))) a.sheet.text b.sheet.text)
+pub script_ascii : (n : Script AnyNode) (a b : State) (r : Result (Unit {0}) Error) → is_well_formed (a_script n) ≡ true → WantsAscii a → Follows (by_itself (programs.script any_answers any_items n) nothing) a b (in_short r) → OnOk r (AddsAscii (other_texts (steps_of (by_itself (programs.script any_answers any_items n) nothing a.env))) a.sheet.text b.sheet.text)
 script_ascii n a b r w s h = root_ascii (OfScript n) _ a b r refl w s h
 
-pub program_ascii : (n : Program AnyNode) (a b : State) (r : Result (Unit {0}) Error) → is_well_formed n ≡ true → WantsAscii a → Follows (programs.program any_answers any_items n nothing) a b (in_short r) → OnOk r (AddsAscii (other_texts (steps_of (programs.program any_answers any_items n nothing a.env))) a.sheet.text b.sheet.text)
+pub program_ascii : (n : Program AnyNode) (a b : State) (r : Result (Unit {0}) Error) → is_well_formed n ≡ true → WantsAscii a → Follows (by_itself (programs.program any_answers any_items n) nothing) a b (in_short r) → OnOk r (AddsAscii (other_texts (steps_of (by_itself (programs.program any_answers any_items n) nothing a.env))) a.sheet.text b.sheet.text)
 program_ascii n a b r w s h = root_ascii (OfProgram n) _ a b r refl w s h
 
+stands_safe : (n : Root) (p : Part) (a b : State) (r : Result (Unit {0}) Refusal) → Stands n a.env p → is_well_formed_root n ≡ true → a.env.config.inline_script ≡ true → fills_lines a.sheet.lines ≡ false → Follows (p nothing) a b r → OnOk r (AddsSafe (value_strings (steps_of (p nothing a.env))) a.sheet.text b.sheet.text)
+stands_safe n p a b r (inl h) w i flows k = printed_safe p (root_phrase n) a b r h w i flows k
+stands_safe n p a b r (inr h) w i flows k = lines_safe p (root_phrase n) a b h w r i flows k
+
 -- under `inline_script` each string that is printed by its value is safe inside a script
-pub root_safe : (n : Root) (p : Part) (a b : State) (r : Result (Unit {0}) Error) → p ≡ root_items n → is_well_formed_root n ≡ true → a.env.config.inline_script ≡ true → a.env.keeps_invalid ≡ false → Follows (p nothing) a b (in_short r) → OnOk r (AddsSafe (value_strings (steps_of (p nothing a.env))) a.sheet.text b.sheet.text)
-root_safe n p a b r same w i e h = on_ok_in_short _ r (printed_safe p (root_phrase n) a b (in_short r) (subst (λ z. PrintsAt (root_shape n) a.env z (root_phrase n)) (sym same) (root_prints a.env e n)) w i h)
+pub root_safe : (n : Root) (p : Part) (a b : State) (r : Result (Unit {0}) Error) → p ≡ root_items n → is_well_formed_root n ≡ true → a.env.config.inline_script ≡ true → a.env.keeps_invalid ≡ false → fills_lines a.sheet.lines ≡ false → Follows (p nothing) a b (in_short r) → OnOk r (AddsSafe (value_strings (steps_of (p nothing a.env))) a.sheet.text b.sheet.text)
+root_safe n p a b r same w i e flows h = on_ok_in_short _ r (stands_safe n p a b (in_short r) (stands n p a.env e same) w i flows h)
 
-pub item_safe : (n : ModuleItem AnyNode) (a b : State) (r : Result (Unit {0}) Error) → is_possible (stmt_lists.module_item phrase n) ≡ true → a.env.config.inline_script ≡ true → a.env.keeps_invalid ≡ false → Follows (module_item any_answers any_items n nothing) a b (in_short r) → OnOk r (AddsSafe (value_strings (steps_of (module_item any_answers any_items n nothing a.env))) a.sheet.text b.sheet.text)
-item_safe n a b r w i e h = root_safe (OfItem n) _ a b r refl w i e h
+pub item_safe : (n : ModuleItem AnyNode) (a b : State) (r : Result (Unit {0}) Error) → is_possible (stmt_lists.module_item phrase n) ≡ true → a.env.config.inline_script ≡ true → a.env.keeps_invalid ≡ false → fills_lines a.sheet.lines ≡ false → Follows (by_itself (λ place. module_item any_answers any_items n) nothing) a b (in_short r) → OnOk r (AddsSafe (value_strings (steps_of (by_itself (λ place. module_item any_answers any_items n) nothing a.env))) a.sheet.text b.sheet.text)
+item_safe n a b r w i e flows h = root_safe (OfItem n) _ a b r refl w i e flows h
 
-pub module_safe : (n : Module AnyNode) (a b : State) (r : Result (Unit {0}) Error) → is_well_formed (a_module n) ≡ true → a.env.config.inline_script ≡ true → a.env.keeps_invalid ≡ false → Follows (programs.whole_module any_answers any_items n nothing) a b (in_short r) → OnOk r (AddsSafe (value_strings (steps_of (programs.whole_module any_answers any_items n nothing a.env))) a.sheet.text b.sheet.text)
-module_safe n a b r w i e h = root_safe (OfModule n) _ a b r refl w i e h
+pub module_safe : (n : Module AnyNode) (a b : State) (r : Result (Unit {0}) Error) → is_well_formed (a_module n) ≡ true → a.env.config.inline_script ≡ true → a.env.keeps_invalid ≡ false → fills_lines a.sheet.lines ≡ false → Follows (by_itself (programs.whole_module any_answers any_items n) nothing) a b (in_short r) → OnOk r (AddsSafe (value_strings (steps_of (by_itself (programs.whole_module any_answers any_items n) nothing a.env))) a.sheet.text b.sheet.text)
+module_safe n a b r w i e flows h = root_safe (OfModule n) _ a b r refl w i e flows h
 
-pub script_safe : (n : Script AnyNode) (a b : State) (r : Result (Unit {0}) Error) → is_well_formed (a_script n) ≡ true → a.env.config.inline_script ≡ true → a.env.keeps_invalid ≡ false → Follows (programs.script any_answers any_items n nothing) a b (in_short r) → OnOk r (AddsSafe (value_strings (steps_of (programs.script any_answers any_items n nothing a.env))) a.sheet.text b.sheet.text)
-script_safe n a b r w i e h = root_safe (OfScript n) _ a b r refl w i e h
+pub script_safe : (n : Script AnyNode) (a b : State) (r : Result (Unit {0}) Error) → is_well_formed (a_script n) ≡ true → a.env.config.inline_script ≡ true → a.env.keeps_invalid ≡ false → fills_lines a.sheet.lines ≡ false → Follows (by_itself (programs.script any_answers any_items n) nothing) a b (in_short r) → OnOk r (AddsSafe (value_strings (steps_of (by_itself (programs.script any_answers any_items n) nothing a.env))) a.sheet.text b.sheet.text)
+script_safe n a b r w i e flows h = root_safe (OfScript n) _ a b r refl w i e flows h
 
-pub program_safe : (n : Program AnyNode) (a b : State) (r : Result (Unit {0}) Error) → is_well_formed n ≡ true → a.env.config.inline_script ≡ true → a.env.keeps_invalid ≡ false → Follows (programs.program any_answers any_items n nothing) a b (in_short r) → OnOk r (AddsSafe (value_strings (steps_of (programs.program any_answers any_items n nothing a.env))) a.sheet.text b.sheet.text)
-program_safe n a b r w i e h = root_safe (OfProgram n) _ a b r refl w i e h
+pub program_safe : (n : Program AnyNode) (a b : State) (r : Result (Unit {0}) Error) → is_well_formed n ≡ true → a.env.config.inline_script ≡ true → a.env.keeps_invalid ≡ false → fills_lines a.sheet.lines ≡ false → Follows (by_itself (programs.program any_answers any_items n) nothing) a b (in_short r) → OnOk r (AddsSafe (value_strings (steps_of (by_itself (programs.program any_answers any_items n) nothing a.env))) a.sheet.text b.sheet.text)
+program_safe n a b r w i e flows h = root_safe (OfProgram n) _ a b r refl w i e flows h
+
+-- where lines are bounded, those of a module or script are filled
+stands_fill : (n : Root) (p : Part) (a b : State) (r : Result (Unit {0}) Refusal) (max : ℕ) → p ≡ root_items n → is_program n ≡ true → is_well_formed_root n ≡ true → a.env.config.minify ≡ true → a.env.max_line ≡ Some max → a.env.keeps_invalid ≡ false → CanFill a → Follows (p nothing) a b r → OnOk r (FillsLinesOf max (root_at n) a b.sheet)
+unfolding program_in
+stands_fill n p a b r max same whole w m l e fill k =
+    let here = program_in a.env max e n whole (bounded_at a.env max m l) (alone_at a.env max m l) in
+    lines_fill (root_items n) (root_phrase n) a b here w r fill.flows fill.line_end (subst (λ z. Follows (z nothing) a b r) same k)
+
+pub root_fills : (n : Root) (p : Part) (a b : State) (r : Result (Unit {0}) Error) (max : ℕ) → p ≡ root_items n → is_program n ≡ true → is_well_formed_root n ≡ true → a.env.config.minify ≡ true → a.env.max_line ≡ Some max → a.env.keeps_invalid ≡ false → CanFill a → Follows (p nothing) a b (in_short r) → OnOk r (FillsLinesOf max (root_at n) a b.sheet)
+root_fills n p a b r max same whole w m l e fill h = on_ok_in_short _ r (stands_fill n p a b (in_short r) max same whole w m l e fill h)
+
+pub module_fills : (n : Module AnyNode) (a b : State) (r : Result (Unit {0}) Error) (max : ℕ) → is_well_formed (a_module n) ≡ true → a.env.config.minify ≡ true → a.env.max_line ≡ Some max → a.env.keeps_invalid ≡ false → CanFill a → Follows (by_itself (programs.whole_module any_answers any_items n) nothing) a b (in_short r) → OnOk r (FillsLinesOf max (programs.whole_module any_answers any_items n) a b.sheet)
+module_fills n a b r max w m l e fill h = root_fills (OfModule n) _ a b r max refl refl w m l e fill h
+
+pub script_fills : (n : Script AnyNode) (a b : State) (r : Result (Unit {0}) Error) (max : ℕ) → is_well_formed (a_script n) ≡ true → a.env.config.minify ≡ true → a.env.max_line ≡ Some max → a.env.keeps_invalid ≡ false → CanFill a → Follows (by_itself (programs.script any_answers any_items n) nothing) a b (in_short r) → OnOk r (FillsLinesOf max (programs.script any_answers any_items n) a b.sheet)
+script_fills n a b r max w m l e fill h = root_fills (OfScript n) _ a b r max refl refl w m l e fill h
+
+pub program_fills : (n : Program AnyNode) (a b : State) (r : Result (Unit {0}) Error) (max : ℕ) → is_well_formed n ≡ true → a.env.config.minify ≡ true → a.env.max_line ≡ Some max → a.env.keeps_invalid ≡ false → CanFill a → Follows (by_itself (programs.program any_answers any_items n) nothing) a b (in_short r) → OnOk r (FillsLinesOf max (programs.program any_answers any_items n) a b.sheet)
+program_fills n a b r max w m l e fill h = root_fills (OfProgram n) _ a b r max refl refl w m l e fill h
+
+stands_keep : (n : Root) (p : Part) (env : Env) → Stands n env p → is_well_formed_root n ≡ true → is_out env.config (root_phrase n) ≡ false → may_keep_other (root_phrase n) ≡ false → other_texts (steps_of (p nothing env)) ≡ spoken (steps_of (p nothing env))
+stands_keep n p env (inl h) w o none = none_other (steps_of (p nothing env)) (printed_keeps p (root_phrase n) env h w o none)
+stands_keep n p env (inr h) w o none = lines_keep p (root_phrase n) env h w o none
 
 -- only texts of comments aren't ASCII, where no token is in the tree that stands as it is and isn't
 pub root_keeps : (n : Root) (s : State) → is_well_formed_root n ≡ true → s.env.keeps_invalid ≡ false → is_out s.env.config (root_phrase n) ≡ false → may_keep_other (root_phrase n) ≡ false → other_texts (steps_of (steps_in (root_items n) s)) ≡ spoken (steps_of (steps_in (root_items n) s))
-root_keeps n s w e o none = none_other (steps_of (steps_in (root_items n) s)) (printed_keeps (root_items n) (root_phrase n) s.env (root_prints s.env e n) w o none)
+root_keeps n s w e o none = stands_keep n (root_items n) s.env (root_stands s.env e n) w o none
 
 -- a new emitter over a new writer
 pub new_wants_ascii : (lines : Lines) (maps : Maps) (config : Config) (bytes line_end : List ℕ) → config.ascii_only ≡ true → IsLineEnd line_end → WantsAscii (start lines maps config (new_sheet bytes line_end))
-new_wants_ascii lines maps config bytes line_end e (inl h) = record { by_settings = e; leaves_out = refl; indent_text = refl; line_end = ap is_ascii_text h }
-new_wants_ascii lines maps config bytes line_end e (inr h) = record { by_settings = e; leaves_out = refl; indent_text = refl; line_end = ap is_ascii_text h }
+new_wants_ascii lines maps config bytes line_end e (inl h) = record { by_settings = e; leaves_out = refl; indent_text = refl; line_end = ap is_ascii_text h; flowing = refl }
+new_wants_ascii lines maps config bytes line_end e (inr h) = record { by_settings = e; leaves_out = refl; indent_text = refl; line_end = ap is_ascii_text h; flowing = refl }
 
--- no text is made anew where nothing of the tree may be
-pub root_remakes : (n : Root) (s : State) → is_well_formed_root n ≡ true → s.env.keeps_invalid ≡ false → may_make_text s.env.config (root_phrase n) ≡ false → makes_text (steps_of (steps_in (root_items n) s)) ≡ false
-root_remakes n s w e none = printed_remakes (root_items n) (root_phrase n) s.env (root_prints s.env e n) w none
+-- no text is made anew where nothing of the tree may be, and no lines are bounded
+pub root_remakes : (n : Root) (s : State) → is_well_formed_root n ≡ true → s.env.keeps_invalid ≡ false → is_bounded s.env ≡ false → may_make_text s.env.config (root_phrase n) ≡ false → makes_text (steps_of (steps_in (root_items n) s)) ≡ false
+root_remakes n s w e b none = printed_remakes (root_items n) (root_phrase n) s.env (root_prints s.env e n b) w none
 
 -- an emission comes to a node that can't be printed exactly where a name of the tree is out of the target
 pub root_ends : (n : Root) (s : State) → is_well_formed_root n ≡ true → s.env.keeps_invalid ≡ false → unprintable_in (steps_in (root_items n) s) ≡ (if is_out s.env.config (root_phrase n) then Some NameOutOfTarget else None)
-root_ends n s w e = ends_where_out (root_items n) (root_phrase n) s.env (root_prints s.env e n) w
+root_ends n s w e = ends_so (root_items n) (root_phrase n) s.env (root_end n s.env e w)
 
 pub root_in_target : (n : Root) (a b : State) → is_well_formed_root n ≡ true → a.env.keeps_invalid ≡ false → Follows (root_items n nothing) a b (Ok tt) → is_out a.env.config (root_phrase n) ≡ false
-root_in_target n a b w e h = follows_in_target (root_items n) (root_phrase n) a b (Ok tt) (root_prints a.env e n) w h
+root_in_target n a b w e h = goes_in_target (root_items n) (root_phrase n) a b (root_end n a.env e w) h
 
 pub root_out_of_target : (n : Root) (a b : State) → is_well_formed_root n ≡ true → a.env.keeps_invalid ≡ false → Follows (root_items n nothing) a b (Err refusals.NameOutOfTarget) → is_out a.env.config (root_phrase n) ≡ true
-root_out_of_target n a b w e h = follows_out_of_target (root_items n) (root_phrase n) a b (root_prints a.env e n) w h
+root_out_of_target n a b w e h = goes_out_of_target (root_items n) (root_phrase n) a b (root_end n a.env e w) h
 
 -- it comes to no other node that can't be printed
 pub root_shaped : (n : Root) (a b : State) → is_well_formed_root n ≡ true → a.env.keeps_invalid ≡ false → Follows (root_items n nothing) a b (Err refusals.BadShape) → ⊥
-root_shaped n a b w e h = follows_shaped (root_items n) (root_phrase n) a b (root_prints a.env e n) w h
+root_shaped n a b w e h = goes_shaped (root_items n) (root_phrase n) a b (root_end n a.env e w) h
 
 pub root_supported : (n : Root) (a b : State) → is_well_formed_root n ≡ true → a.env.keeps_invalid ≡ false → Follows (root_items n nothing) a b (Err refusals.UnsupportedNode) → ⊥
-root_supported n a b w e h = follows_supported (root_items n) (root_phrase n) a b (root_prints a.env e n) w h
+root_supported n a b w e h = goes_supported (root_items n) (root_phrase n) a b (root_end n a.env e w) h
 
 -- a shape of which no text is written
 pub crowded_refused : (n : ImportDecl AnyNode) (rest : Plan) (env : Env) → is_crowded n.specifiers.items ≡ true → import_decl any_items n rest env ≡ refused BadShape
@@ -239,44 +264,45 @@ uncounted_refused n tagged rest env h = ap (λ b. cond b (tpl_placed any_items t
 
 new_is_new : (lines : Lines) (maps : Maps) (config : Config) (bytes line_end : List ℕ) → IsLineEnd line_end → IsNew (start lines maps config (new_sheet bytes line_end))
 unfolding all_indent is_indent holds_one
-new_is_new lines maps config bytes line_end h = record { nothing_written = refl; nothing_held = refl; indent_text = refl; line_end = h; leaves_out = refl }
+new_is_new lines maps config bytes line_end h = record { nothing_written = refl; nothing_held = refl; indent_text = refl; line_end = h; leaves_out = refl; flowing = refl }
 
 indented_is_new : (lines : Lines) (maps : Maps) (config : Config) (bytes line_end indent : List ℕ) → IsLineEnd line_end → all_indent indent ≡ true → IsNew (start lines maps config (record (new_sheet bytes line_end) { indent_text = indent }))
 unfolding holds_one
-indented_is_new lines maps config bytes line_end indent h k = record { nothing_written = refl; nothing_held = refl; indent_text = k; line_end = h; leaves_out = refl }
+indented_is_new lines maps config bytes line_end indent h k = record { nothing_written = refl; nothing_held = refl; indent_text = k; line_end = h; leaves_out = refl; flowing = refl }
 
 holding_is_new : (lines : Lines) (maps : Maps) (config : Config) (bytes line_end : List ℕ) → IsLineEnd line_end → IsNew (start lines maps config (record (new_sheet bytes line_end) { semicolons = HoldsNone }))
 unfolding all_indent is_indent holds_one
-holding_is_new lines maps config bytes line_end h = record { nothing_written = refl; nothing_held = refl; indent_text = refl; line_end = h; leaves_out = refl }
+holding_is_new lines maps config bytes line_end h = record { nothing_written = refl; nothing_held = refl; indent_text = refl; line_end = h; leaves_out = refl; flowing = refl }
 
 -- what a new emitter over a new writer begins may be any root
 pub new_begins : (n : Root) (lines : Lines) (maps : Maps) (config : Config) (bytes line_end : List ℕ) → IsLineEnd line_end → MayBegin n (start lines maps config (new_sheet bytes line_end))
-new_begins n lines maps config bytes line_end h = record { is_new = new_is_new lines maps config bytes line_end h; at_margin = λ e at. refl }
+new_begins n lines maps config bytes line_end h = record { is_new = new_is_new lines maps config bytes line_end h; flows = refl; at_margin = λ e at. refl }
 
 pub indented_begins : (n : Root) (lines : Lines) (maps : Maps) (config : Config) (bytes line_end indent : List ℕ) → IsLineEnd line_end → all_indent indent ≡ true → MayBegin n (start lines maps config (record (new_sheet bytes line_end) { indent_text = indent }))
-indented_begins n lines maps config bytes line_end indent h k = record { is_new = indented_is_new lines maps config bytes line_end indent h k; at_margin = λ e at. refl }
+indented_begins n lines maps config bytes line_end indent h k = record { is_new = indented_is_new lines maps config bytes line_end indent h k; flows = refl; at_margin = λ e at. refl }
 
 pub holding_begins : (n : Root) (lines : Lines) (maps : Maps) (config : Config) (bytes line_end : List ℕ) → IsLineEnd line_end → MayBegin n (start lines maps config (record (new_sheet bytes line_end) { semicolons = HoldsNone }))
-holding_begins n lines maps config bytes line_end h = record { is_new = holding_is_new lines maps config bytes line_end h; at_margin = λ e at. refl }
+holding_begins n lines maps config bytes line_end h = record { is_new = holding_is_new lines maps config bytes line_end h; flows = refl; at_margin = λ e at. refl }
 
 -- what an emission took it wrote, once, in order of taking
 told : (n : Root) (p : Part) (a b : State) (r : Result (Unit {0}) Refusal) → p ≡ root_items n → is_well_formed_root n ≡ true → a.env.keeps_invalid ≡ false → Follows (p nothing) a b r → OnOk r (spoken (steps_of (p nothing a.env)) ≡ texts_of (taken_in (steps_of (p nothing a.env)) a.env.maps))
+unfolding Follows
 told n p a b (Ok u) same w e h =
-    let P : Part → Type 0 = λ z. spoken (steps_of (z nothing a.env)) ≡ texts_of (taken_in (steps_of (z nothing a.env)) a.env.maps) in
-    subst P (sym same) (root_tells n a w e (root_in_target n a b w e (subst (λ z. Follows (z nothing) a b (Ok tt)) same h)))
+    let here = stands n p a.env e same in
+    stands_tell n p a.env here w (stands_not_out n p a.env here w h.0)
 told n p a b (Err x) same w e h = tt
 
 pub root_told : (n : Root) (p : Part) (a b : State) (r : Result (Unit {0}) Error) → p ≡ root_items n → is_well_formed_root n ≡ true → a.env.keeps_invalid ≡ false → Follows (p nothing) a b (in_short r) → OnOk r (spoken (steps_of (p nothing a.env)) ≡ texts_of (taken_in (steps_of (p nothing a.env)) a.env.maps))
 root_told n p a b r same w e h = on_ok_in_short _ r (told n p a b (in_short r) same w e h)
 
-pub item_told : (n : ModuleItem AnyNode) (a b : State) (r : Result (Unit {0}) Error) → is_possible (stmt_lists.module_item phrase n) ≡ true → a.env.keeps_invalid ≡ false → Follows (module_item any_answers any_items n nothing) a b (in_short r) → OnOk r (spoken (steps_of (module_item any_answers any_items n nothing a.env)) ≡ texts_of (taken_in (steps_of (module_item any_answers any_items n nothing a.env)) a.env.maps))
+pub item_told : (n : ModuleItem AnyNode) (a b : State) (r : Result (Unit {0}) Error) → is_possible (stmt_lists.module_item phrase n) ≡ true → a.env.keeps_invalid ≡ false → Follows (by_itself (λ place. module_item any_answers any_items n) nothing) a b (in_short r) → OnOk r (spoken (steps_of (by_itself (λ place. module_item any_answers any_items n) nothing a.env)) ≡ texts_of (taken_in (steps_of (by_itself (λ place. module_item any_answers any_items n) nothing a.env)) a.env.maps))
 item_told n a b r w e h = root_told (OfItem n) _ a b r refl w e h
 
-pub module_told : (n : Module AnyNode) (a b : State) (r : Result (Unit {0}) Error) → is_well_formed (a_module n) ≡ true → a.env.keeps_invalid ≡ false → Follows (programs.whole_module any_answers any_items n nothing) a b (in_short r) → OnOk r (spoken (steps_of (programs.whole_module any_answers any_items n nothing a.env)) ≡ texts_of (taken_in (steps_of (programs.whole_module any_answers any_items n nothing a.env)) a.env.maps))
+pub module_told : (n : Module AnyNode) (a b : State) (r : Result (Unit {0}) Error) → is_well_formed (a_module n) ≡ true → a.env.keeps_invalid ≡ false → Follows (by_itself (programs.whole_module any_answers any_items n) nothing) a b (in_short r) → OnOk r (spoken (steps_of (by_itself (programs.whole_module any_answers any_items n) nothing a.env)) ≡ texts_of (taken_in (steps_of (by_itself (programs.whole_module any_answers any_items n) nothing a.env)) a.env.maps))
 module_told n a b r w e h = root_told (OfModule n) _ a b r refl w e h
 
-pub script_told : (n : Script AnyNode) (a b : State) (r : Result (Unit {0}) Error) → is_well_formed (a_script n) ≡ true → a.env.keeps_invalid ≡ false → Follows (programs.script any_answers any_items n nothing) a b (in_short r) → OnOk r (spoken (steps_of (programs.script any_answers any_items n nothing a.env)) ≡ texts_of (taken_in (steps_of (programs.script any_answers any_items n nothing a.env)) a.env.maps))
+pub script_told : (n : Script AnyNode) (a b : State) (r : Result (Unit {0}) Error) → is_well_formed (a_script n) ≡ true → a.env.keeps_invalid ≡ false → Follows (by_itself (programs.script any_answers any_items n) nothing) a b (in_short r) → OnOk r (spoken (steps_of (by_itself (programs.script any_answers any_items n) nothing a.env)) ≡ texts_of (taken_in (steps_of (by_itself (programs.script any_answers any_items n) nothing a.env)) a.env.maps))
 script_told n a b r w e h = root_told (OfScript n) _ a b r refl w e h
 
-pub program_told : (n : Program AnyNode) (a b : State) (r : Result (Unit {0}) Error) → is_well_formed n ≡ true → a.env.keeps_invalid ≡ false → Follows (programs.program any_answers any_items n nothing) a b (in_short r) → OnOk r (spoken (steps_of (programs.program any_answers any_items n nothing a.env)) ≡ texts_of (taken_in (steps_of (programs.program any_answers any_items n nothing a.env)) a.env.maps))
+pub program_told : (n : Program AnyNode) (a b : State) (r : Result (Unit {0}) Error) → is_well_formed n ≡ true → a.env.keeps_invalid ≡ false → Follows (by_itself (programs.program any_answers any_items n) nothing) a b (in_short r) → OnOk r (spoken (steps_of (by_itself (programs.program any_answers any_items n) nothing a.env)) ≡ texts_of (taken_in (steps_of (by_itself (programs.program any_answers any_items n) nothing a.env)) a.env.maps))
 program_told n a b r w e h = root_told (OfProgram n) _ a b r refl w e h

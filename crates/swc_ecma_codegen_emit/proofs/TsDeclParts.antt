@@ -20,25 +20,25 @@ use Rattle.swc_ecma_codegen_tree.specs.declared.ts_decls.TsNamespaceExportDecl.{
 use Rattle.swc_ecma_codegen_tree.specs.declared.ts_decls.TsTypeAliasDecl.{TsTypeAliasDecl}
 use Rattle.swc_ecma_codegen_grammar.specs.Phrases.{mark}
 use Rattle.swc_ecma_codegen_grammar.specs.TsDeclPhrases as lists
-use Rattle.swc_ecma_codegen_grammar.specs.declared.roles.Role.TheVariants.{DottedBody}
+use Rattle.swc_ecma_codegen_grammar.specs.declared.roles.Role.TheVariants.{InterfaceBody, DottedBody}
 use Rattle.swc_ecma_codegen_tokens.specs.Run.{Env}
 use Rattle.swc_ecma_codegen_tokens.specs.Words.{punct}
 use Rattle.swc_ecma_codegen_tokens.proofs.ListLaws.{prints_list, prints_bracketed}
 use Rattle.swc_ecma_codegen_tokens.proofs.Phrased.{Prints, PrintsAt, prints_wider, loosened, then, after, prints_nothing, prints_keyword, prints_punct, prints_semi}
-use Rattle.swc_ecma_codegen_tokens.proofs.Printed.{writes_space, writes_formatting_space, writes_leading}
-use Rattle.swc_ecma_codegen_tokens.proofs.Shapes.{open_, ended_if_any}
+use Rattle.swc_ecma_codegen_tokens.proofs.Printed.{writes_space, writes_formatting_space}
+use Rattle.swc_ecma_codegen_tokens.proofs.CommentPrints.{writes_leading}
+use Rattle.swc_ecma_codegen_tokens.proofs.Shapes.{open_, ended_if_any, ended}
 use Rattle.swc_ecma_codegen_tokens.proofs.StringPrints.{prints_str}
 use Rattle.swc_ecma_codegen_emit.specs.declared.nodes.Place.TheVariants.{Plain}
 use Rattle.swc_ecma_codegen_emit.specs.TsDecls as words
 use Rattle.swc_ecma_codegen_emit.specs.TsDecls.{extended_format, extended_place, enum_format, enum_member_place}
-use Rattle.swc_ecma_codegen_emit.proofs.AnnotationParts.{type_args_print, type_params_print}
+use Rattle.swc_ecma_codegen_emit.proofs.AnnotationParts.{type_args_print, type_params_print, word_before_prints, word_space_prints, no_line}
 use Rattle.swc_ecma_codegen_emit.proofs.ExprParts.{ident_prints, spaced_prints}
 use Rattle.swc_ecma_codegen_emit.proofs.Linked.{Linked, expr_at}
 use Rattle.swc_ecma_codegen_emit.proofs.MarkWords as marks
 use Rattle.swc_ecma_codegen_emit.proofs.PatParts.{initializer_prints}
 use Rattle.swc_ecma_codegen_emit.proofs.TsDeclWords as decl_words
-use Rattle.swc_ecma_codegen_emit.proofs.TsMemberParts.{interface_body_prints}
-use Rattle.swc_ecma_codegen_emit.proofs.TypeParts.{type_at, entity_at, word_before_prints, word_space_prints, no_line}
+use Rattle.swc_ecma_codegen_emit.proofs.TypeParts.{type_at, entity_at}
 
 pub declare_prints : (env : Env) (declared : Bool) → PrintsAt open_ env (words.declare_word declared) (lists.declare_word declared)
 unfolding words.declare_word lists.declare_word
@@ -59,7 +59,7 @@ extends_print l span (n ∷ ns) =
     (then (word_space_prints l.env (codes "extends") marks.extends_word)
     (prints_list l.env extended_format span extended_place (words.ts_expr_with_type_args l.items) (lists.ts_expr_with_type_args l.reads) (λ m. loosened (expr_with_type_args_prints l m)) refl refl refl refl (n ∷ ns))))
 
-pub interface_prints : {X : Type 0} (l : Linked X) (n : TsInterfaceDecl X) → Prints l.env (words.ts_interface_decl l.asks l.items n) (lists.ts_interface_decl l.reads n)
+pub interface_prints : {X : Type 0} (l : Linked X) (n : TsInterfaceDecl X) → Prints l.env (words.ts_interface_decl l.items n) (lists.ts_interface_decl l.reads n)
 unfolding words.ts_interface_decl lists.ts_interface_decl
 interface_prints l n =
     after (writes_leading l.env n.span.lo)
@@ -67,9 +67,9 @@ interface_prints l n =
     (then (word_space_prints l.env (codes "interface") decl_words.interface_word)
     (then (ident_prints l n.id)
     (then (type_params_print l n.type_params)
-    (then (extends_print l n.span n.extends.items) (after (writes_formatting_space l.env) (interface_body_prints l n.body)))))))
+    (then (extends_print l n.span n.extends.items) (after (writes_formatting_space l.env) (l.law n.body.node.value Plain InterfaceBody)))))))
 
-pub alias_prints : {X : Type 0} (l : Linked X) (n : TsTypeAliasDecl X) → Prints l.env (words.ts_type_alias_decl l.items n) (lists.ts_type_alias_decl l.reads n)
+pub alias_prints : {X : Type 0} (l : Linked X) (n : TsTypeAliasDecl X) → PrintsAt ended l.env (words.ts_type_alias_decl l.items n) (lists.ts_type_alias_decl l.reads n)
 unfolding words.ts_type_alias_decl lists.ts_type_alias_decl
 alias_prints l n =
     after (writes_leading l.env n.span.lo)
@@ -77,7 +77,7 @@ alias_prints l n =
     (then (word_space_prints l.env (codes "type") decl_words.type_word)
     (then (ident_prints l n.id)
     (then (type_params_print l n.type_params)
-    (then (spaced_prints l.env (codes "=") marks.equal) (then (type_at l n.type_ann) (prints_semi l.env)))))))
+    (then (spaced_prints l.env (codes "=") refl marks.equal) (then (type_at l n.type_ann) (prints_semi l.env)))))))
 
 -- ---- enums
 
@@ -114,12 +114,12 @@ unfolding words.module_head lists.module_head
 module_head_prints l true n = prints_keyword l.env None (codes "global") decl_words.global_word
 module_head_prints l false n = module_name_prints l n
 
-module_tail_prints : {X : Type 0} (l : Linked X) (n : Option (TsNamespaceBodyBox X)) → Prints l.env (words.module_tail l.items n) (lists.module_tail l.reads n)
+module_tail_prints : {X : Type 0} (l : Linked X) (n : Option (TsNamespaceBodyBox X)) → PrintsAt ended l.env (words.module_tail l.items n) (lists.module_tail l.reads n)
 unfolding words.module_tail lists.module_tail
 module_tail_prints l None = prints_semi l.env
-module_tail_prints l (Some n) = l.law n.node.value Plain DottedBody
+module_tail_prints l (Some n) = prints_wider ended refl (l.law n.node.value Plain DottedBody)
 
-pub module_prints : {X : Type 0} (l : Linked X) (n : TsModuleDecl X) → Prints l.env (words.ts_module_decl l.items n) (lists.ts_module_decl l.reads n)
+pub module_prints : {X : Type 0} (l : Linked X) (n : TsModuleDecl X) → PrintsAt ended l.env (words.ts_module_decl l.items n) (lists.ts_module_decl l.reads n)
 unfolding words.ts_module_decl lists.ts_module_decl
 module_prints l n =
     after (writes_leading l.env n.span.lo) (then (declare_prints l.env n.declare) (then (module_head_prints l n.global n.id) (module_tail_prints l n.body)))
@@ -138,7 +138,7 @@ unfolding words.ts_module_ref lists.ts_module_ref
 module_ref_prints l (module_refs.TsEntityName n) = entity_at l n
 module_ref_prints l (module_refs.TsExternalModuleRef n) = external_ref_prints l.env n
 
-pub import_equals_prints : {X : Type 0} (l : Linked X) (n : TsImportEqualsDecl X) → Prints l.env (words.ts_import_equals_decl l.items n) (lists.ts_import_equals_decl l.reads n)
+pub import_equals_prints : {X : Type 0} (l : Linked X) (n : TsImportEqualsDecl X) → PrintsAt ended l.env (words.ts_import_equals_decl l.items n) (lists.ts_import_equals_decl l.reads n)
 unfolding words.ts_import_equals_decl lists.ts_import_equals_decl
 import_equals_prints l n =
     after (writes_leading l.env n.span.lo)
@@ -146,16 +146,16 @@ import_equals_prints l n =
     (then (word_space_prints l.env (codes "import") marks.import_word)
     (then (word_before_prints l.env n.is_type_only (codes "type") decl_words.type_word)
     (then (ident_prints l n.id)
-    (then (spaced_prints l.env (codes "=") marks.equal) (then (module_ref_prints l n.module_ref) (prints_semi l.env)))))))
+    (then (spaced_prints l.env (codes "=") refl marks.equal) (then (module_ref_prints l n.module_ref) (prints_semi l.env)))))))
 
-pub export_assignment_prints : {X : Type 0} (l : Linked X) (n : TsExportAssignment X) → Prints l.env (words.ts_export_assignment l.items n) (lists.ts_export_assignment l.reads n)
+pub export_assignment_prints : {X : Type 0} (l : Linked X) (n : TsExportAssignment X) → PrintsAt ended l.env (words.ts_export_assignment l.items n) (lists.ts_export_assignment l.reads n)
 unfolding words.ts_export_assignment lists.ts_export_assignment
 export_assignment_prints l n =
     after (writes_leading l.env n.span.lo)
     (then (prints_keyword l.env None (codes "export") marks.export_word)
-    (then (spaced_prints l.env (codes "=") marks.equal) (then (expr_at l n.expr Plain) (prints_semi l.env))))
+    (then (spaced_prints l.env (codes "=") refl marks.equal) (then (expr_at l n.expr Plain) (prints_semi l.env))))
 
-pub namespace_export_prints : {X : Type 0} (l : Linked X) (n : TsNamespaceExportDecl) → Prints l.env (words.ts_namespace_export_decl n) (lists.ts_namespace_export_decl n)
+pub namespace_export_prints : {X : Type 0} (l : Linked X) (n : TsNamespaceExportDecl) → PrintsAt ended l.env (words.ts_namespace_export_decl n) (lists.ts_namespace_export_decl n)
 unfolding words.ts_namespace_export_decl lists.ts_namespace_export_decl
 namespace_export_prints l n =
     after (writes_leading l.env n.span.lo)

@@ -10,14 +10,16 @@ use Rattle.swc_ecma_codegen_grammar.specs.TsExprPhrases as lists
 use Rattle.swc_ecma_codegen_grammar.specs.declared.roles.Role.TheVariants.{TypeArguments}
 use Rattle.swc_ecma_codegen_tokens.specs.Written.{Anything}
 use Rattle.swc_ecma_codegen_tokens.proofs.Phrased.{Prints, then, after, prints_keyword, prints_punct, prints_close}
-use Rattle.swc_ecma_codegen_tokens.proofs.Printed.{writes_space, writes_leading}
+use Rattle.swc_ecma_codegen_tokens.proofs.Printed.{writes_space}
+use Rattle.swc_ecma_codegen_tokens.proofs.CommentPrints.{writes_leading}
 use Rattle.swc_ecma_codegen_tokens.proofs.TagPrints.{prints_spots}
 use Rattle.swc_ecma_codegen_emit.specs.declared.nodes.Place.TheVariants.{Plain}
 use Rattle.swc_ecma_codegen_emit.specs.TsExprs as words
+use Rattle.swc_ecma_codegen_emit.proofs.AnnotationParts.{word_space_prints}
 use Rattle.swc_ecma_codegen_emit.proofs.Linked.{Linked, expr_at}
 use Rattle.swc_ecma_codegen_emit.proofs.MarkWords as marks
 use Rattle.swc_ecma_codegen_emit.proofs.TsExprWords as expr_words
-use Rattle.swc_ecma_codegen_emit.proofs.TypeParts.{type_at, word_space_prints}
+use Rattle.swc_ecma_codegen_emit.proofs.TypeParts.{type_at}
 use Rattle.swc_ecma_codegen_emit.proofs.TypeWords as type_words
 
 pub as_prints : {X : Type 0} (l : Linked X) (n : TsAsExpr X) → Prints l.env (words.ts_as_expr l.items n) (lists.ts_as_expr l.reads n)

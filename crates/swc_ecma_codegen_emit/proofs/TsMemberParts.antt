@@ -1,5 +1,5 @@
 -- What is written of members of object types is what they read as.
-use Rattle.std.proofs.Common.{ℕ, Bool, true, false, refl, List, codes, map, Option, Some, None}
+use Rattle.std.proofs.Common.{ℕ, Bool, true, false, refl, List, codes, map, Option, Some, None, ◌≡◌}
 use Rattle.swc_ecma_codegen_common.specs.declared.positions.Span.{Span}
 use Rattle.swc_ecma_codegen_tree.specs.Links.{ExprBox, TsFnParamBox, TsTypeAnnBox, TsTypeParamDeclBox}
 use Rattle.swc_ecma_codegen_tree.specs.declared.ts_members.TsCallSignatureDecl.{TsCallSignatureDecl}
@@ -12,28 +12,29 @@ use Rattle.swc_ecma_codegen_tree.specs.declared.ts_members.TsPropertySignature.{
 use Rattle.swc_ecma_codegen_tree.specs.declared.ts_members.TsSetterSignature.{TsSetterSignature}
 use Rattle.swc_ecma_codegen_tree.specs.declared.ts_members.TsTypeElement.{TsTypeElement}
 use Rattle.swc_ecma_codegen_tree.specs.declared.ts_members.TsTypeElement.TheVariants as elements
+use Rattle.swc_ecma_codegen_spans.specs.Spans.{ts_type_element_span}
 use Rattle.swc_ecma_codegen_grammar.specs.AnnotationPhrases as annotations
 use Rattle.swc_ecma_codegen_grammar.specs.FunctionPhrases.{word_if}
 use Rattle.swc_ecma_codegen_grammar.specs.MemberPhrases as lists
 use Rattle.swc_ecma_codegen_grammar.specs.Phrases.{Phrase, ◌>◌, mark, word}
-use Rattle.swc_ecma_codegen_grammar.specs.TypePhrases.{signature_param_at, type_member_at}
-use Rattle.swc_ecma_codegen_grammar.specs.declared.roles.Role.TheVariants.{Annotation, SignatureParameter, TypeMember, TypeParameters}
+use Rattle.swc_ecma_codegen_grammar.specs.MemberPhrases.{signature_param_at}
+use Rattle.swc_ecma_codegen_grammar.specs.declared.roles.Role.TheVariants.{Annotation, SignatureParameter, TypeParameters}
 use Rattle.swc_ecma_codegen_tokens.specs.Run.{Env, Part}
 use Rattle.swc_ecma_codegen_tokens.specs.Lists.{list}
-use Rattle.swc_ecma_codegen_tokens.specs.Words.{punct}
+use Rattle.swc_ecma_codegen_tokens.specs.Words.{punct, allows_break}
 use Rattle.swc_ecma_codegen_tokens.specs.Written.{IsMark}
 use Rattle.swc_ecma_codegen_tokens.proofs.ListLaws.{IsUndelimited, prints_bracketed, prints_bracketed_in_order}
-use Rattle.swc_ecma_codegen_tokens.proofs.Phrased.{Prints, PrintsAt, prints_wider, loosened, then, after, before, prints_nothing, prints_keyword, prints_punct, prints_semi}
-use Rattle.swc_ecma_codegen_tokens.proofs.Printed.{writes_space, writes_formatting_space, writes_leading}
-use Rattle.swc_ecma_codegen_tokens.proofs.Shapes.{open_}
+use Rattle.swc_ecma_codegen_tokens.proofs.Phrased.{Prints, PrintsAt, prints_wider, loosened, then, after, before, prints_nothing, prints_keyword, prints_punct, prints_semi, prints_unbroken}
+use Rattle.swc_ecma_codegen_tokens.proofs.Printed.{writes_space, writes_formatting_space}
+use Rattle.swc_ecma_codegen_tokens.proofs.CommentPrints.{writes_leading}
+use Rattle.swc_ecma_codegen_tokens.proofs.Shapes.{open_, ended, loose}
 use Rattle.swc_ecma_codegen_emit.specs.declared.nodes.Place.TheVariants.{Plain, Reference}
 use Rattle.swc_ecma_codegen_emit.specs.TsMembers as words
-use Rattle.swc_ecma_codegen_emit.specs.TsMembers.{interface_format}
-use Rattle.swc_ecma_codegen_emit.specs.Types.{types_format, fn_param_place, fn_param_items, member_place, member_items}
-use Rattle.swc_ecma_codegen_emit.proofs.AnnotationParts.{annotation_prints, spaced_annotation_prints, question_prints, type_params_print}
+use Rattle.swc_ecma_codegen_emit.specs.TsMembers.{interface_format, fn_param_place, fn_param_items}
+use Rattle.swc_ecma_codegen_emit.specs.Annotations.{types_format}
+use Rattle.swc_ecma_codegen_emit.proofs.AnnotationParts.{ann_at, word_before_prints, word_space_prints, between_prints, no_line, annotation_prints, spaced_annotation_prints, question_prints, type_params_print}
 use Rattle.swc_ecma_codegen_emit.proofs.Linked.{Linked, expr_at}
 use Rattle.swc_ecma_codegen_emit.proofs.MarkWords as marks
-use Rattle.swc_ecma_codegen_emit.proofs.TypeParts.{ann_at, word_before_prints, word_space_prints, between_prints, no_line}
 use Rattle.swc_ecma_codegen_emit.proofs.TypeWords as type_words
 
 -- ---- what members share
@@ -44,19 +45,19 @@ key_prints l true n = then (prints_punct l.env (codes "[") marks.left_bracket) (
 key_prints l false n = expr_at l n Plain
 
 -- parameters in brackets, and what stands behind them
-bracketed_prints : {X : Type 0} (l : Linked X) (first last : List ℕ) → IsMark first → IsMark last → (span : Span) (ns : List (TsFnParamBox X)) {p : Part} {f : Phrase} → PrintsAt open_ l.env p f → Prints l.env (λ rest. punct first (list types_format span (map (λ n. record { place = fn_param_place l.asks n; part = fn_param_items l.items n Plain }) ns) (punct last (p rest)))) (mark first > lists.signature_params l.reads ns > mark last > f)
-bracketed_prints l first last o c span ns {p} {f} h =
+bracketed_prints : {X : Type 0} (l : Linked X) (first last : List ℕ) → allows_break last ≡ false → IsMark first → IsMark last → (span : Span) (ns : List (TsFnParamBox X)) {p : Part} {f : Phrase} → PrintsAt open_ l.env p f → Prints l.env (λ rest. punct first (list types_format span (map (λ n. record { place = fn_param_place l.asks n; part = fn_param_items l.items n Plain }) ns) (punct last (p rest)))) (mark first > lists.signature_params l.reads ns > mark last > f)
+bracketed_prints l first last u o c span ns {p} {f} h =
     prints_bracketed l.env first o (λ rest. rest) (no_line l.env) types_format span (fn_param_place l.asks) (λ n. fn_param_items l.items n Plain) (signature_param_at l.reads) (mark last > f) (λ rest. punct last (p rest))
-    (λ n. loosened (l.law n.node.value Plain SignatureParameter)) refl refl refl (then (prints_punct l.env last c) h) ns
+    (λ n. loosened (l.law n.node.value Plain SignatureParameter)) refl refl refl (then (prints_unbroken l.env last u c) h) ns
 
 signature_prints : {X : Type 0} (l : Linked X) (span : Span) (ns : List (TsFnParamBox X)) {p : Part} {f : Phrase} → PrintsAt open_ l.env p f → Prints l.env (λ rest. words.signature_params l.asks l.items span ns (p rest)) (mark (codes "(") > lists.signature_params l.reads ns > mark (codes ")") > f)
 unfolding words.signature_params
-signature_prints l span ns h = bracketed_prints l (codes "(") (codes ")") marks.left_parenthesis marks.right_parenthesis span ns h
+signature_prints l span ns h = bracketed_prints l (codes "(") (codes ")") refl marks.left_parenthesis marks.right_parenthesis span ns h
 
 annotation_between_prints : {X : Type 0} (l : Linked X) (n : Option (TsTypeAnnBox X)) → PrintsAt open_ l.env (words.annotation_between l.items n) (annotations.annotation l.reads n)
 unfolding words.annotation_between annotations.annotation
 annotation_between_prints l None = prints_nothing
-annotation_between_prints l (Some n) = prints_wider open_ refl (then (between_prints l.env (codes ":") marks.colon) (ann_at l n))
+annotation_between_prints l (Some n) = prints_wider open_ refl (then (between_prints l.env (codes ":") refl marks.colon) (ann_at l n))
 
 params_behind_new_print : {X : Type 0} (l : Linked X) (n : Option (TsTypeParamDeclBox X)) → PrintsAt open_ l.env (words.params_behind_new l.items n) (annotations.type_params l.reads n)
 unfolding words.params_behind_new annotations.type_params
@@ -123,7 +124,7 @@ index_signature_prints l n =
     after (writes_leading l.env n.span.lo)
     (then (word_before_prints l.env n.is_static (codes "static") marks.static_word)
     (then (readonly_index_prints l.env n.readonly)
-    (bracketed_prints l (codes "[") (codes "]") marks.left_bracket marks.right_bracket n.span n.params.items (annotation_prints l n.type_ann))))
+    (bracketed_prints l (codes "[") (codes "]") refl marks.left_bracket marks.right_bracket n.span n.params.items (annotation_prints l n.type_ann))))
 
 signature_by : {X : Type 0} (l : Linked X) (n : TsTypeElement X) → Prints l.env (words.ts_signature l.asks l.items n) (lists.ts_signature l.reads n)
 unfolding words.ts_signature lists.ts_signature
@@ -135,7 +136,7 @@ signature_by l (elements.TsSetterSignature n) = setter_prints l n
 signature_by l (elements.TsMethodSignature n) = method_prints l n
 signature_by l (elements.TsIndexSignature n) = index_signature_prints l n
 
-pub type_element_prints : {X : Type 0} (l : Linked X) (n : TsTypeElement X) → Prints l.env (words.ts_type_element l.asks l.items n) (lists.ts_type_element l.reads n)
+pub type_element_prints : {X : Type 0} (l : Linked X) (n : TsTypeElement X) → PrintsAt ended l.env (words.ts_type_element l.asks l.items n) (lists.ts_type_element l.reads n)
 unfolding words.ts_type_element lists.ts_type_element
 type_element_prints l n = then (signature_by l n) (prints_semi l.env)
 
@@ -148,5 +149,5 @@ pub interface_body_prints : {X : Type 0} (l : Linked X) (n : TsInterfaceBody X) 
 unfolding words.ts_interface_body lists.ts_interface_body
 interface_body_prints l n =
     after (writes_leading l.env n.span.lo)
-    (prints_bracketed_in_order l.env (codes "{") marks.left_brace (λ rest. rest) (no_line l.env) interface_format n.span (member_place l.asks) (λ m. member_items l.items m Plain) (type_member_at l.reads)
-    (mark (codes "}")) (punct (codes "}")) (λ m. loosened (l.law m.node.value Plain TypeMember)) members_undelimited (prints_punct l.env (codes "}") marks.right_brace) n.body.items)
+    (prints_bracketed_in_order l.env (codes "{") marks.left_brace (λ rest. rest) (no_line l.env) interface_format n.span ts_type_element_span (λ m. words.member_items l.asks l.items m Plain) (lists.ts_type_element l.reads)
+    (mark (codes "}")) (punct (codes "}")) (λ m. prints_wider loose refl (type_element_prints l m)) members_undelimited (prints_punct l.env (codes "}") marks.right_brace) n.body.items)

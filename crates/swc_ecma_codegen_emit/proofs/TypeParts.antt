@@ -1,5 +1,5 @@
 -- What is written of types is what it reads as.
-use Rattle.std.proofs.Common.{◌≡◌, ◌&&◌, ◌||◌, not, Bool, true, false, cond, is_some, refl, List, [], ◌∷◌, codes, map, ℕ, arith, Option, Some, None}
+use Rattle.std.proofs.Common.{◌||◌, not, false, cond, is_some, refl, List, [], ◌∷◌, codes, map, ℕ, arith, Option, Some, None}
 use Rattle.swc_ecma_codegen_common.specs.declared.positions.Span.{Span}
 use Rattle.swc_ecma_codegen_tree.specs.Links.{PatBox, TsEntityNameBox, TsFnParamBox, TsTypeAnnBox, TsTypeBox, TsTypeParamDeclBox}
 use Rattle.swc_ecma_codegen_tree.specs.declared.ts_types.TruePlusMinus.{TruePlusMinus}
@@ -50,47 +50,51 @@ use Rattle.swc_ecma_codegen_tree.specs.declared.ts_types.TsKeywordTypeKind.{TsKe
 use Rattle.swc_ecma_codegen_tree.specs.declared.ts_types.TsKeywordTypeKind.TheVariants as keyword_kinds
 use Rattle.swc_ecma_codegen_tree.specs.declared.ts_types.TsTypeOperatorOp.{TsTypeOperatorOp}
 use Rattle.swc_ecma_codegen_tree.specs.declared.ts_types.TsTypeOperatorOp.TheVariants as type_operators
+use Rattle.swc_ecma_codegen_spans.specs.Spans.{ts_type_element_span}
 use Rattle.swc_ecma_codegen_grammar.specs.declared.kinds.Kind.TheVariants.{Punctuator}
 use Rattle.swc_ecma_codegen_grammar.specs.Tokens as lexical
 use Rattle.swc_ecma_codegen_grammar.specs.Tokens.{token_of}
 use Rattle.swc_ecma_codegen_grammar.specs.AnnotationPhrases as annotations
-use Rattle.swc_ecma_codegen_grammar.specs.FunctionPhrases.{word_if}
 use Rattle.swc_ecma_codegen_grammar.specs.LitPhrases.{bool_lit}
+use Rattle.swc_ecma_codegen_grammar.specs.MemberPhrases.{signature_param_at, ts_type_element}
 use Rattle.swc_ecma_codegen_grammar.specs.Phrases as phrases
 use Rattle.swc_ecma_codegen_grammar.specs.Phrases.{Phrase, One, ◌>◌, mark, word}
 use Rattle.swc_ecma_codegen_grammar.specs.TemplatePhrases.{is_counted}
 use Rattle.swc_ecma_codegen_grammar.specs.Texts.{begins}
 use Rattle.swc_ecma_codegen_grammar.specs.TypePhrases as lists
-use Rattle.swc_ecma_codegen_grammar.specs.declared.roles.Role.TheVariants.{AnyType, Annotation, TypeParameters, EntityName, SignatureParameter, TypeMember}
+use Rattle.swc_ecma_codegen_grammar.specs.declared.roles.Role.TheVariants.{AnyType, TypeParameters, EntityName, SignatureParameter}
 use Rattle.swc_ecma_codegen_text_writer.specs.Sheet.{is_ending}
 use Rattle.swc_ecma_codegen_tokens.specs.Run.{Env, Part, spelling}
 use Rattle.swc_ecma_codegen_tokens.specs.Lists.{list, delimiter, deeper, shallower}
 use Rattle.swc_ecma_codegen_tokens.specs.Lits.{bool_text, bool_node}
 use Rattle.swc_ecma_codegen_tokens.specs.Tags.{close}
-use Rattle.swc_ecma_codegen_tokens.specs.Words.{keyword, punct, punct_between, space, line_end}
-use Rattle.swc_ecma_codegen_tokens.specs.Written.{IsWord, IsMark, Anything, InName}
+use Rattle.swc_ecma_codegen_tokens.specs.Words.{punct, space, line_end}
+use Rattle.swc_ecma_codegen_tokens.specs.Written.{IsWord, Anything, InName}
 use Rattle.swc_ecma_codegen_tokens.proofs.BigPrints.{prints_big_int}
 use Rattle.swc_ecma_codegen_tokens.proofs.LitPrints.{bool_is_word}
 use Rattle.swc_ecma_codegen_tokens.proofs.ListLaws.{IsUndelimited, IsJoined, prints_list, prints_bracketed, prints_bracketed_in_order, prints_joined}
 use Rattle.swc_ecma_codegen_tokens.proofs.NumberPrints.{prints_number}
 use Rattle.swc_ecma_codegen_tokens.proofs.Phrased.{Prints, PrintsOn, PrintsAt, prints_wider, loosened, then, then_on, after, after_on, before, prints_nothing, prints_never, prints_where, prints_mark, mark_spelled, prints_keyword, prints_punct, prints_semi, prints_close}
-use Rattle.swc_ecma_codegen_tokens.proofs.Printed.{EndsLines, MakesAt, makes_wider, with_room, within_then, punct_within, deeper_within, writes_nothing, writes_space, writes_formatting_space, writes_leading, writes_named_leading, writes_line, writes_shallower}
-use Rattle.swc_ecma_codegen_tokens.proofs.Shapes.{open_, whole, loose, ended, closed}
+use Rattle.swc_ecma_codegen_tokens.proofs.Printed.{MakesAt, with_room, within_then, punct_within, deeper_within, writes_space, writes_formatting_space, writes_line, writes_shallower}
+use Rattle.swc_ecma_codegen_tokens.proofs.CommentPrints.{writes_leading, writes_named_leading}
+use Rattle.swc_ecma_codegen_tokens.proofs.Shapes.{open_, whole, ended, closed, loose}
 use Rattle.swc_ecma_codegen_tokens.proofs.StringPrints.{prints_str}
 use Rattle.swc_ecma_codegen_tokens.proofs.TagPrints.{prints_named_mark}
 use Rattle.swc_ecma_codegen_emit.specs.declared.nodes.Place.{Place}
 use Rattle.swc_ecma_codegen_emit.specs.declared.nodes.Place.TheVariants.{Plain, Reference}
-use Rattle.swc_ecma_codegen_emit.specs.Annotations.{type_params}
+use Rattle.swc_ecma_codegen_emit.specs.Annotations.{type_params, types_format}
 use Rattle.swc_ecma_codegen_emit.specs.Exprs.{spaced_punct}
+use Rattle.swc_ecma_codegen_emit.specs.TsMembers.{fn_param_place, fn_param_items, member_items}
 use Rattle.swc_ecma_codegen_emit.specs.Types as words
-use Rattle.swc_ecma_codegen_emit.specs.Types.{types_format, members_format, union_format, intersection_format}
-use Rattle.swc_ecma_codegen_emit.proofs.AnnotationParts.{type_args_print, type_params_print}
+use Rattle.swc_ecma_codegen_emit.specs.Types.{members_format, union_format, intersection_format}
+use Rattle.swc_ecma_codegen_emit.proofs.AnnotationParts.{ann_at, word_before_prints, word_space_prints, between_prints, no_line, type_args_print, type_params_print}
 use Rattle.swc_ecma_codegen_emit.proofs.ExprParts.{ident_prints, ident_name_prints, spaced_prints}
-use Rattle.swc_ecma_codegen_emit.proofs.Linked.{Linked, pat_at}
+use Rattle.swc_ecma_codegen_emit.proofs.Linked.{Linked, pat_at, unbounded_linked}
 use Rattle.swc_ecma_codegen_emit.proofs.MarkWords as marks
 use Rattle.swc_ecma_codegen_emit.proofs.NameParts.{binding_ident_prints}
 use Rattle.swc_ecma_codegen_emit.proofs.PatParts.{array_pat_prints, rest_pat_prints, object_pat_prints}
 use Rattle.swc_ecma_codegen_emit.proofs.TemplateParts.{parts_print, shaped_or}
+use Rattle.swc_ecma_codegen_emit.proofs.TsMemberParts.{type_element_prints}
 use Rattle.swc_ecma_codegen_emit.proofs.TypeWords as type_words
 
 pub type_at : {X : Type 0} (l : Linked X) (n : TsTypeBox X) → Prints l.env (words.type_at l.items n) (lists.type_at l.reads n)
@@ -98,9 +102,6 @@ type_at l n = l.law n.node.value Plain AnyType
 
 pub entity_at : {X : Type 0} (l : Linked X) (n : TsEntityNameBox X) → Prints l.env (l.items n.node.value Plain) (l.reads n.node.value EntityName)
 entity_at l n = l.law n.node.value Plain EntityName
-
-pub ann_at : {X : Type 0} (l : Linked X) (n : TsTypeAnnBox X) → Prints l.env (l.items n.node.value Plain) (lists.ann_at l.reads n)
-ann_at l n = l.law n.node.value Plain Annotation
 
 behind_prints : {X : Type 0} (l : Linked X) (t : List ℕ) → IsWord t → (n : Option (TsTypeBox X)) → PrintsAt open_ l.env (words.type_behind l.items t n) (lists.type_behind l.reads (word t) n)
 unfolding words.type_behind lists.type_behind
@@ -110,23 +111,7 @@ behind_prints l t w (Some n) = prints_wider open_ refl (after (writes_space l.en
 default_prints : {X : Type 0} (l : Linked X) (n : Option (TsTypeBox X)) → PrintsAt open_ l.env (words.default_type l.items n) (lists.type_behind l.reads (mark (codes "=")) n)
 unfolding words.default_type lists.type_behind
 default_prints l None = prints_nothing
-default_prints l (Some n) = prints_wider open_ refl (then (spaced_prints l.env (codes "=") marks.equal) (type_at l n))
-
--- a word and a blank, where it is so
-pub word_before_prints : (env : Env) (wanted : Bool) (t : List ℕ) → IsWord t → PrintsAt open_ env (words.word_before wanted t) (word_if wanted (word t))
-unfolding words.word_before word_if
-word_before_prints env true t w = prints_wider open_ refl (before (prints_keyword env None t w) (writes_space env))
-word_before_prints env false t w = prints_nothing
-
-pub word_space_prints : (env : Env) (t : List ℕ) → IsWord t → Prints env (λ rest. keyword None t (space rest)) (word t)
-word_space_prints env t w = before (prints_keyword env None t w) (writes_space env)
-
-pub between_prints : (env : Env) (t : List ℕ) → IsMark t → Prints env (punct_between t) (mark t)
-unfolding punct_between
-between_prints env t w = after (writes_space env) (before (prints_punct env t w) (writes_space env))
-
-pub no_line : (env : Env) → EndsLines env (λ rest. rest)
-no_line env = makes_wider loose refl (writes_nothing env)
+default_prints l (Some n) = prints_wider open_ refl (then (spaced_prints l.env (codes "=") refl marks.equal) (type_at l n))
 
 -- ---- names, arguments and parameters
 
@@ -148,7 +133,7 @@ closed_list env parent place part e law (x ∷ xs) = prints_bracketed env (codes
 -- `<` behind the name of a tag, or any other
 named_less : (env : Env) → PrintsOn InName Anything whole env (punct (codes "<")) (mark (codes "<"))
 unfolding is_ending begins
-named_less env = prints_named_mark env (codes "<") refl refl type_words.less
+named_less env = prints_named_mark env (codes "<") refl refl refl type_words.less
 
 -- the same list there
 named_list : {A : Type 0} (env : Env) (parent : Span) (place : A → Span) (part : A → Part) (e : A → Phrase) → ((x : A) → Prints env (part x) (e x)) → (xs : List A) → PrintsOn InName Anything whole env (λ rest. punct (codes "<") (list types_format parent (map (λ x. record { place = place x; part = part x }) xs) (close rest))) (mark (codes "<") > phrases.some_listed (codes ",") (map e xs) > One lexical.tag_close)
@@ -214,13 +199,13 @@ fn_param_prints l (fn_params.Array n) = array_pat_prints l n
 fn_param_prints l (fn_params.Rest n) = rest_pat_prints l n
 fn_param_prints l (fn_params.Object n) = object_pat_prints l n
 
-signature_prints : {X : Type 0} (l : Linked X) (span : Span) (ns : List (TsFnParamBox X)) (result : TsTypeAnnBox X) → Prints l.env (words.signature_type l.asks l.items span ns result) (mark (codes "(") > phrases.listed (codes ",") (map (lists.signature_param_at l.reads) ns) > mark (codes ")") > mark (codes "=>") > lists.ann_at l.reads result)
+signature_prints : {X : Type 0} (l : Linked X) (span : Span) (ns : List (TsFnParamBox X)) (result : TsTypeAnnBox X) → Prints l.env (words.signature_type l.asks l.items span ns result) (mark (codes "(") > phrases.listed (codes ",") (map (signature_param_at l.reads) ns) > mark (codes ")") > mark (codes "=>") > lists.ann_at l.reads result)
 unfolding words.signature_type
 signature_prints l span ns result =
-    prints_bracketed l.env (codes "(") marks.left_parenthesis (λ rest. rest) (no_line l.env) types_format span (words.fn_param_place l.asks) (λ x. words.fn_param_items l.items x Plain) (lists.signature_param_at l.reads)
+    prints_bracketed l.env (codes "(") marks.left_parenthesis (λ rest. rest) (no_line l.env) types_format span (fn_param_place l.asks) (λ x. fn_param_items l.items x Plain) (signature_param_at l.reads)
     (mark (codes ")") > mark (codes "=>") > lists.ann_at l.reads result) (λ rest. punct (codes ")") (spaced_punct (codes "=>") (l.items result.node.value Plain rest)))
     (λ n. loosened (l.law n.node.value Plain SignatureParameter)) refl refl refl
-    (then (prints_punct l.env (codes ")") marks.right_parenthesis) (then (spaced_prints l.env (codes "=>") marks.arrow) (ann_at l result))) ns
+    (then (prints_punct l.env (codes ")") marks.right_parenthesis) (then (spaced_prints l.env (codes "=>") refl marks.arrow) (ann_at l result))) ns
 
 fn_type_prints : {X : Type 0} (l : Linked X) (n : TsFnType X) → Prints l.env (words.ts_fn_type l.asks l.items n) (lists.ts_fn_type l.reads n)
 unfolding words.ts_fn_type lists.ts_fn_type
@@ -249,7 +234,7 @@ function_type_prints l (function_types.TsConstructorType n) = constructor_type_p
 
 tpl_type_prints : {X : Type 0} (l : Linked X) (n : TsTplLitType X) → Prints l.env (words.ts_tpl_lit_type l.items n) (lists.ts_tpl_lit_type l.reads n)
 unfolding words.ts_tpl_lit_type words.ts_tpl_parts lists.ts_tpl_lit_type
-tpl_type_prints l n = shaped_or (is_counted n.types.items n.quasis.items) (after (writes_leading l.env n.span.lo) (parts_print l.env (words.type_at l.items) (lists.type_at l.reads) (type_at l) false n.types.items n.quasis.items))
+tpl_type_prints l n = shaped_or (is_counted n.types.items n.quasis.items) (after (writes_leading l.env n.span.lo) (parts_print l.env (words.type_at l.items) (lists.type_at l.reads) (type_at (unbounded_linked l)) false n.types.items n.quasis.items))
 
 lit_prints : {X : Type 0} (l : Linked X) (n : TsLit X) → Prints l.env (words.ts_lit l.items n) (lists.ts_lit l.reads n)
 unfolding words.ts_lit lists.ts_lit bool_node bool_text bool_lit
@@ -298,8 +283,8 @@ type_lit_prints : {X : Type 0} (l : Linked X) (n : TsTypeLit X) → Prints l.env
 unfolding words.ts_type_lit lists.ts_type_lit
 type_lit_prints l n =
     after (writes_leading l.env n.span.lo)
-    (prints_bracketed_in_order l.env (codes "{") marks.left_brace (λ rest. rest) (no_line l.env) members_format n.span (words.member_place l.asks) (λ x. words.member_items l.items x Plain) (lists.type_member_at l.reads)
-    (mark (codes "}")) (punct (codes "}")) (λ m. loosened (l.law m.node.value Plain TypeMember)) members_undelimited (prints_punct l.env (codes "}") marks.right_brace) n.members.items)
+    (prints_bracketed_in_order l.env (codes "{") marks.left_brace (λ rest. rest) (no_line l.env) members_format n.span ts_type_element_span (λ x. member_items l.asks l.items x Plain) (ts_type_element l.reads)
+    (mark (codes "}")) (punct (codes "}")) (λ m. prints_wider loose refl (type_element_prints l m)) members_undelimited (prints_punct l.env (codes "}") marks.right_brace) n.members.items)
 
 -- `[` and `]`
 brackets_print : (env : Env) → Prints env (λ rest. punct (codes "[") (punct (codes "]") rest)) (mark (codes "[") > mark (codes "]"))
@@ -391,11 +376,11 @@ mapped_type_prints l n =
 
 union_joined : IsJoined union_format (codes "|")
 unfolding delimiter
-union_joined = record { joins = λ rest. refl; is_mark = type_words.bar; no_comma = refl; flat = refl; leads = λ lines p q. refl; separates = λ lines p q. refl; closes = λ lines p q. refl }
+union_joined = record { joins = λ rest. refl; is_mark = type_words.bar; unbroken = refl; no_comma = refl; flat = refl; leads = λ lines p q. refl; separates = λ lines p q. refl; closes = λ lines p q. refl }
 
 intersection_joined : IsJoined intersection_format (codes "&")
 unfolding delimiter
-intersection_joined = record { joins = λ rest. refl; is_mark = type_words.ampersand; no_comma = refl; flat = refl; leads = λ lines p q. refl; separates = λ lines p q. refl; closes = λ lines p q. refl }
+intersection_joined = record { joins = λ rest. refl; is_mark = type_words.ampersand; unbroken = refl; no_comma = refl; flat = refl; leads = λ lines p q. refl; separates = λ lines p q. refl; closes = λ lines p q. refl }
 
 joined_type_prints : {X : Type 0} (l : Linked X) (n : TsUnionOrIntersectionType X) → Prints l.env (words.ts_union_or_intersection_type l.asks l.items n) (lists.ts_union_or_intersection_type l.reads n)
 unfolding words.ts_union_or_intersection_type words.ts_union_type words.ts_intersection_type lists.ts_union_or_intersection_type lists.ts_union_type lists.ts_intersection_type
@@ -427,9 +412,9 @@ conditional_prints l n =
     (then (type_at l n.check_type)
     (then (after (writes_space l.env) (word_space_prints l.env (codes "extends") marks.extends_word))
     (then (type_at l n.extends_type)
-    (then (between_prints l.env (codes "?") type_words.question)
+    (then (between_prints l.env (codes "?") refl type_words.question)
     (then (type_at l n.true_type)
-    (then (between_prints l.env (codes ":") marks.colon) (type_at l n.false_type)))))))
+    (then (between_prints l.env (codes ":") refl marks.colon) (type_at l n.false_type)))))))
 
 infer_prints : {X : Type 0} (l : Linked X) (n : TsInferType X) → Prints l.env (words.ts_infer_type l.items n) (lists.ts_infer_type l.reads n)
 unfolding words.ts_infer_type lists.ts_infer_type
@@ -457,9 +442,9 @@ pub type_prints : {X : Type 0} (l : Linked X) (n : TsType X) → Prints l.env (w
 unfolding words.ts_type lists.ts_type
 type_prints l (types.TsKeywordType n) = keyword_type_prints l.env n
 type_prints l (types.TsThisType n) = this_type_prints l.env n
-type_prints l (types.TsFnOrConstructorType n) = function_type_prints l n
+type_prints l (types.TsFnOrConstructorType n) = function_type_prints l n.value
 type_prints l (types.TsTypeRef n) = ref_prints l n
-type_prints l (types.TsTypeQuery n) = query_prints l n
+type_prints l (types.TsTypeQuery n) = query_prints l n.value
 type_prints l (types.TsTypeLit n) = type_lit_prints l n
 type_prints l (types.TsArrayType n) = array_type_prints l n
 type_prints l (types.TsTupleType n) = tuple_prints l n
@@ -467,16 +452,16 @@ type_prints l (types.TsOptionalType n) = optional_type_prints l n
 type_prints l (types.TsRestType n) = rest_type_prints l n
 type_prints l (types.TsUnionOrIntersectionType n) = joined_type_prints l n
 type_prints l (types.TsConditionalType n) = conditional_prints l n
-type_prints l (types.TsInferType n) = infer_prints l n
+type_prints l (types.TsInferType n) = infer_prints l n.value
 type_prints l (types.TsParenthesizedType n) = parenthesized_prints l n
 type_prints l (types.TsTypeOperator n) = operator_prints l n
 type_prints l (types.TsIndexedAccessType n) = indexed_prints l n
-type_prints l (types.TsMappedType n) = mapped_type_prints l n
-type_prints l (types.TsLitType n) = lit_type_prints l n
-type_prints l (types.TsTypePredicate n) = predicate_prints l n
-type_prints l (types.TsImportType n) = import_type_prints l n
+type_prints l (types.TsMappedType n) = mapped_type_prints l n.value
+type_prints l (types.TsLitType n) = lit_type_prints l n.value
+type_prints l (types.TsTypePredicate n) = predicate_prints l n.value
+type_prints l (types.TsImportType n) = import_type_prints l n.value
 
-pub ann_prints : {X : Type 0} (l : Linked X) (n : TsTypeAnn X) (place : Place) → Prints l.env (words.ts_type_ann l.items n place) (lists.ts_type_ann l.reads n)
+pub ann_prints : {X : Type 0} (l : Linked X) (n : TsTypeAnn X) (place : Place) → Prints l.env (words.ts_type_ann l.asks l.items n place) (lists.ts_type_ann l.reads n)
 unfolding words.ts_type_ann lists.ts_type_ann
-ann_prints l n Reference = type_at l n.type_ann
-ann_prints l n place = after (writes_leading l.env n.span.lo) (type_at l n.type_ann)
+ann_prints l n Reference = type_prints l n.type_ann
+ann_prints l n place = after (writes_leading l.env n.span.lo) (type_prints l n.type_ann)

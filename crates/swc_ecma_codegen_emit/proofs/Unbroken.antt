@@ -1,5 +1,5 @@
 -- Where there are no comments, no line ends before a node.
-use Rattle.std.proofs.Common.{◌≡◌, Bool, true, false, List, [], ◌∷◌, Option, Some, None, refl, sym, ◌∙◌, ap, map, subst}
+use Rattle.std.proofs.Common.{◌≡◌, Bool, true, false, List, [], ◌∷◌, Option, Some, None, refl, sym, ◌∙◌, map, subst}
 use Rattle.std.specs.Prelude.{is_some}
 use Rattle.swc_ecma_codegen_grammar.specs.CommentMaps.{Maps, listed}
 use Rattle.swc_ecma_codegen_grammar.specs.Comments.{maps_in, no_maps, comments_at, remarks_of, all_tame}

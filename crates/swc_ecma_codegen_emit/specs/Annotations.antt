@@ -1,8 +1,8 @@
 -- What is written of what types add to other nodes.
-use Rattle.std.specs.Prelude.{Bool, if◌then◌else◌, Option, Some, None, codes}
+use Rattle.std.specs.Prelude.{ℕ, Bool, if◌then◌else◌, List, Option, Some, None, codes}
 use Rattle.swc_ecma_codegen_tree.specs.Links.{TsTypeAnnBox, TsTypeParamDeclBox, TsTypeParamInstantiationBox}
 use Rattle.swc_ecma_codegen_tokens.specs.Run.{Part}
-use Rattle.swc_ecma_codegen_tokens.specs.Words.{punct, space, formatting_space}
+use Rattle.swc_ecma_codegen_tokens.specs.Words.{keyword, punct, space, formatting_space}
 use Rattle.swc_ecma_codegen_emit.specs.declared.nodes.Place.{Place}
 use Rattle.swc_ecma_codegen_emit.specs.declared.nodes.Place.TheVariants.{Plain}
 
@@ -34,3 +34,11 @@ type_args items place (Some n) rest = items n.node.value place rest
 unfoldable pub type_params : {X : Type 0} → (X → Place → Part) → Option (TsTypeParamDeclBox X) → Part
 type_params items None rest = rest
 type_params items (Some n) rest = items n.node.value Plain rest
+
+-- `TypeArguments`, `TypeParameters`, `TupleTypeElements` and `Parameters`
+abbrev pub types_format : ℕ
+types_format = 272
+
+-- a word and a blank, where it is so
+unfoldable pub word_before : Bool → List ℕ → Part
+word_before wanted t rest = if wanted then keyword None t (space rest) else rest

@@ -36,13 +36,12 @@ use Rattle.swc_ecma_codegen_emit.specs.Answers.{Answers}
 use Rattle.swc_ecma_codegen_emit.specs.FunctionExprs.{comma_list_format}
 use Rattle.swc_ecma_codegen_emit.specs.Functions.{decorator, decorator_lines, decorators_format, decorator_place, param}
 use Rattle.swc_ecma_codegen_emit.specs.Exprs.{blank, ident, private_name}
-use Rattle.swc_ecma_codegen_emit.specs.Annotations.{field_annotation, type_args, type_params}
+use Rattle.swc_ecma_codegen_emit.specs.Annotations.{field_annotation, type_args, type_params, word_before}
 use Rattle.swc_ecma_codegen_emit.specs.Lists.{child_of}
 use Rattle.swc_ecma_codegen_emit.specs.Names.{binding_ident}
 use Rattle.swc_ecma_codegen_emit.specs.Pats.{assign_pat, initializer}
 use Rattle.swc_ecma_codegen_emit.specs.TsDecls.{declare_word, extended_place, ts_expr_with_type_args}
 use Rattle.swc_ecma_codegen_emit.specs.TsMembers.{ts_index_signature}
-use Rattle.swc_ecma_codegen_emit.specs.Types.{word_before}
 
 -- `ClassMembers`
 abbrev pub class_members_format : ℕ

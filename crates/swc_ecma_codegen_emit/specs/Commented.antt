@@ -1,6 +1,6 @@
 -- Whether a line ends in or after a comment before one of the leftmost parts of an expression: `return (// a` LF `b)`. Words for
 -- a node take what they ask of what its links hold: where it stands, and what it answers to this.
-use Rattle.std.specs.Prelude.{ℕ, ◌==◌, ◌-◌, if◌then◌else◌, Bool, true, false, not, ◌||◌, List, [], ◌∷◌, is_some}
+use Rattle.std.specs.Prelude.{◌==◌, ◌-◌, if◌then◌else◌, Bool, false, not, ◌||◌, List, [], ◌∷◌, is_some}
 use Rattle.swc_ecma_codegen_grammar.specs.CommentMaps.{Maps}
 use Rattle.swc_ecma_codegen_grammar.specs.Comments.{Leading, comments_at, remarks_of, all_tame}
 use Rattle.swc_ecma_codegen_common.specs.declared.positions.Span.{Span}
@@ -11,7 +11,6 @@ use Rattle.swc_ecma_codegen_tree.specs.declared.links.AnyNode.TheFolds.{para-Any
 use Rattle.swc_ecma_codegen_tree.specs.declared.parts.ExprPart.{ExprPart}
 use Rattle.swc_ecma_codegen_tree.specs.declared.parts.ExprPart.TheVariants as expr_parts
 use Rattle.swc_ecma_codegen_tree.specs.Links.{ExprBox}
-use Rattle.swc_ecma_codegen_tree.specs.declared.exprs.AssignExpr.{AssignExpr}
 use Rattle.swc_ecma_codegen_tree.specs.declared.exprs.Callee.{Callee}
 use Rattle.swc_ecma_codegen_tree.specs.declared.exprs.Callee.TheVariants as callees
 use Rattle.swc_ecma_codegen_tree.specs.declared.exprs.Expr.{Expr}

@@ -39,7 +39,7 @@ use Rattle.swc_ecma_codegen_util.specs.Starts as starts
 use Rattle.swc_ecma_codegen_tokens.specs.PrivateNames as names
 use Rattle.swc_ecma_codegen_tokens.specs.Run.{Part}
 use Rattle.swc_ecma_codegen_tokens.specs.Choices.{optional_parentheses}
-use Rattle.swc_ecma_codegen_tokens.specs.Words.{by_maps, keyword, operator, word_operator, punct, space, formatting_space, commit_pending_semi, start_of, end_of, last_of, leading_comments, name}
+use Rattle.swc_ecma_codegen_tokens.specs.Words.{allow_break, by_maps, keyword, operator, word_operator, punct, space, formatting_space, commit_pending_semi, start_of, end_of, last_of, leading_comments, name}
 use Rattle.swc_ecma_codegen_emit.specs.declared.nodes.Place.{Place}
 use Rattle.swc_ecma_codegen_emit.specs.declared.nodes.Place.TheVariants.{Plain, LeftOperand, Object, DottedObject, Callee, Chain}
 use Rattle.swc_ecma_codegen_emit.specs.Answers.{Answers, place_of}
@@ -109,17 +109,17 @@ before_op op left = if is_word_op op then left.ends else space_after left.kind o
 unfoldable pub after_op : BinaryOp → Answers → Bool
 after_op op right = if is_word_op op then right.starts else right.space op
 
--- the operator with the blanks beside it
+-- the operator with the blanks beside it, behind which a line may be ended
 unfoldable pub bin_operator : {X : Type 0} → (X → Answers) → BinExpr X → Part
 bin_operator asks n rest =
     blank (before_op n.op (asks n.left.node.value))
-    (binary_op n.op (blank (after_op n.op (asks n.right.node.value)) rest))
+    (binary_op n.op (allow_break (blank (after_op n.op (asks n.right.node.value)) rest)))
 
 -- the same minified: `a+b`, `a in b`
 unfoldable pub tight_operator : {X : Type 0} → (X → Answers) → BinExpr X → Part
 tight_operator asks n rest =
     space_if (before_op n.op (asks n.left.node.value))
-    (binary_op n.op (space_if (after_op n.op (asks n.right.node.value)) rest))
+    (binary_op n.op (allow_break (space_if (after_op n.op (asks n.right.node.value)) rest)))
 
 -- the same with blanks: `a + b`
 unfoldable pub spaced_operator : BinaryOp → Part

@@ -7,7 +7,7 @@ use Rattle.swc_ecma_codegen_tree.specs.declared.decls.Param.{Param}
 use Rattle.swc_ecma_codegen_tree.specs.declared.decls.Function as functions
 use Rattle.swc_ecma_codegen_tokens.specs.Run.{Part}
 use Rattle.swc_ecma_codegen_tokens.specs.Lists.{list}
-use Rattle.swc_ecma_codegen_tokens.specs.Words.{keyword, punct, semi, space, formatting_space, line_end, start_of, end_of, leading_comments}
+use Rattle.swc_ecma_codegen_tokens.specs.Words.{keyword, punct, bare_semi, semi, space, formatting_space, line_end, start_of, end_of, leading_comments}
 use Rattle.swc_ecma_codegen_emit.specs.declared.nodes.Place.{Place}
 use Rattle.swc_ecma_codegen_emit.specs.declared.nodes.Place.TheVariants.{Plain, Body, FunctionHead, MethodHead, DeclarationHead, StaticHead, MethodDecorators, MethodTail}
 use Rattle.swc_ecma_codegen_emit.specs.Annotations.{annotation, type_params}
@@ -42,9 +42,9 @@ param asks items n rest =
 abbrev pub param_place : {X : Type 0} → Param X → Span
 param_place n = n.span
 
--- `{ a; }`, or the semicolon in its place
+-- `{ a; }`, or the semicolon in its place: a function without a body may be an expression, so no line may be ended behind it
 unfoldable pub function_body : {X : Type 0} → (X → Place → Part) → Option (BlockStmtBox X) → Part
-function_body items None rest = semi rest
+function_body items None rest = bare_semi rest
 function_body items (Some n) rest = formatting_space (items n.node.value Body rest)
 
 -- the parameters of a function, with commas between

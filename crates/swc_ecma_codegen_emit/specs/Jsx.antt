@@ -29,10 +29,10 @@ use Rattle.swc_ecma_codegen_tree.specs.declared.jsx.JSXOpeningElement.{JSXOpenin
 use Rattle.swc_ecma_codegen_tree.specs.declared.jsx.JSXSpreadChild.{JSXSpreadChild}
 use Rattle.swc_ecma_codegen_tree.specs.declared.parts.JSXPart.{JSXPart}
 use Rattle.swc_ecma_codegen_tree.specs.declared.parts.JSXPart.TheVariants as jsx_parts
-use Rattle.swc_ecma_codegen_tokens.specs.Run.{Part}
+use Rattle.swc_ecma_codegen_tokens.specs.Run.{unbounded, Part}
 use Rattle.swc_ecma_codegen_tokens.specs.Attributes.{attribute_string, jsx_text_node}
 use Rattle.swc_ecma_codegen_tokens.specs.Tags.{tag_name, child_open, close}
-use Rattle.swc_ecma_codegen_tokens.specs.Words.{punct}
+use Rattle.swc_ecma_codegen_tokens.specs.Words.{bare_punct, punct}
 use Rattle.swc_ecma_codegen_emit.specs.declared.nodes.Place.{Place}
 use Rattle.swc_ecma_codegen_emit.specs.declared.nodes.Place.TheVariants.{Plain, Child}
 use Rattle.swc_ecma_codegen_emit.specs.Annotations.{type_args}
@@ -75,7 +75,7 @@ jsx_attr_name (attr_names.JSXNamespacedName n) rest = jsx_namespaced_name n rest
 -- the `{` or `<` of a child, and of what is none
 unfoldable pub open_at : Place → List ℕ → Part
 open_at Child t rest = child_open t rest
-open_at place t rest = punct t rest
+open_at place t rest = bare_punct t rest
 
 unfoldable pub jsx_expr : {X : Type 0} → (X → Place → Part) → JSXExpr X → Part
 jsx_expr items (contents.JSXEmptyExpr n) rest = rest
@@ -113,7 +113,7 @@ jsx_attr items n rest = jsx_attr_name n.name (attr_initializer items n.value res
 -- `a="b"`, `{...a}`
 unfoldable pub jsx_attr_or_spread : {X : Type 0} → (X → Answers) → (X → Place → Part) → JSXAttrOrSpread X → Part
 jsx_attr_or_spread asks items (attrs.JSXAttr n) rest = jsx_attr items n rest
-jsx_attr_or_spread asks items (attrs.SpreadElement n) rest = punct (codes "{") (spread_element asks items n (punct (codes "}") rest))
+jsx_attr_or_spread asks items (attrs.SpreadElement n) rest = bare_punct (codes "{") (spread_element asks items n (punct (codes "}") rest))
 
 -- A blank stands before the first always, and before each other one unless minified.
 unfoldable pub jsx_attributes : {A : Type 0} → (A → Part) → Bool → List A → Part
@@ -152,8 +152,12 @@ unfoldable pub optional_closing : {X : Type 0} → (X → Place → Part) → Op
 optional_closing items None rest = rest
 optional_closing items (Some n) rest = jsx_closing_element items n rest
 
+unfoldable pub jsx_element_parts : {X : Type 0} → (X → Answers) → (X → Place → Part) → JSXElement X → Place → Part
+jsx_element_parts asks items n place rest = jsx_opening_element asks items n.opening place (jsx_children items n.children.items (optional_closing items n.closing rest))
+
+-- no line may be ended in it
 unfoldable pub jsx_element : {X : Type 0} → (X → Answers) → (X → Place → Part) → JSXElement X → Place → Part
-jsx_element asks items n place rest = jsx_opening_element asks items n.opening place (jsx_children items n.children.items (optional_closing items n.closing rest))
+jsx_element asks items n place = unbounded (jsx_element_parts asks items n place)
 
 -- `<>`, `</>`
 unfoldable pub opening_fragment : Place → Part
@@ -162,8 +166,11 @@ opening_fragment place rest = open_at place (codes "<") (close rest)
 unfoldable pub closing_fragment : Part
 closing_fragment rest = child_open (codes "<") (punct (codes "/") (close rest))
 
+unfoldable pub jsx_fragment_parts : {X : Type 0} → (X → Place → Part) → JSXFragment X → Place → Part
+jsx_fragment_parts items n place rest = opening_fragment place (jsx_children items n.children.items (closing_fragment rest))
+
 unfoldable pub jsx_fragment : {X : Type 0} → (X → Place → Part) → JSXFragment X → Place → Part
-jsx_fragment items n place rest = opening_fragment place (jsx_children items n.children.items (closing_fragment rest))
+jsx_fragment items n place = unbounded (jsx_fragment_parts items n place)
 
 -- ---- the parts of JSX that links hold, by their sorts
 

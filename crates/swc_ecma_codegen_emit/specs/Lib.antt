@@ -37,3 +37,4 @@ pub mod TsExprs
 pub mod Namespaces
 pub mod Texts
 pub mod Roots
+pub mod Lined

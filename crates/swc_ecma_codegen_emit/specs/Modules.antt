@@ -2,8 +2,6 @@
 use Rattle.std.specs.Prelude.{ℕ, nat_lt, Bool, true, false, not, ◌&&◌, if◌then◌else◌, List, [], ◌∷◌, length, map, filter, codes, Option, Some, None}
 use Rattle.std.specs.List.{list_any}
 use Rattle.swc_ecma_codegen_common.specs.declared.positions.Span.{Span}
-use Rattle.swc_ecma_codegen_tree.specs.declared.decls.Decl.{Decl}
-use Rattle.swc_ecma_codegen_tree.specs.declared.decls.Decl.TheVariants as decls
 use Rattle.swc_ecma_codegen_tree.specs.Links.{ObjectLitBox}
 use Rattle.swc_ecma_codegen_tree.specs.declared.lits.Str.{Str}
 use Rattle.swc_ecma_codegen_tree.specs.declared.modules.DefaultDecl.{DefaultDecl}
@@ -45,7 +43,7 @@ use Rattle.swc_ecma_codegen_emit.specs.Lists.{child_of, comma, unsupported}
 use Rattle.swc_ecma_codegen_emit.specs.Stmts.{stmt}
 use Rattle.swc_ecma_codegen_emit.specs.Templates.{bad_shape}
 use Rattle.swc_ecma_codegen_emit.specs.TsDecls.{ts_interface_decl, ts_import_equals_decl, ts_export_assignment, ts_namespace_export_decl}
-use Rattle.swc_ecma_codegen_emit.specs.Types.{word_before}
+use Rattle.swc_ecma_codegen_emit.specs.Annotations.{word_before}
 
 -- `a` or `'b c'`
 unfoldable pub module_export_name : ModuleExportName → Part
@@ -259,7 +257,7 @@ export_decl items n rest = start_of n.span (items n.decl.node.value ExportedHead
 unfoldable pub default_decl : {X : Type 0} → (X → Answers) → (X → Place → Part) → DefaultDecl X → Part
 default_decl asks items (default_decls.Class n) rest = class_expr asks items n rest
 default_decl asks items (default_decls.Fn n) rest = fn_expr asks items n rest
-default_decl asks items (default_decls.TsInterfaceDecl n) rest = ts_interface_decl asks items n rest
+default_decl asks items (default_decls.TsInterfaceDecl n) rest = ts_interface_decl items n rest
 
 -- `export default`
 unfoldable pub export_default : Part

@@ -20,7 +20,7 @@ use Rattle.swc_ecma_codegen_emit.specs.Names.{prop_name}
 use Rattle.swc_ecma_codegen_emit.specs.Props.{object_lit}
 use Rattle.swc_ecma_codegen_emit.specs.Targets.{assign_target}
 use Rattle.swc_ecma_codegen_emit.specs.Templates.{tpl, is_tagged}
-use Rattle.swc_ecma_codegen_emit.specs.TsMembers.{ts_type_element}
+use Rattle.swc_ecma_codegen_emit.specs.TsMembers.{ts_interface_body}
 use Rattle.swc_ecma_codegen_emit.specs.Types.{ts_type, ts_type_ann, ts_type_param_decl, ts_type_param_instantiation, ts_fn_param, ts_entity_name}
 
 unfoldable pub expr_part : {X : Type 0} → (X → Answers) → (X → Place → Part) → ExprPart X → Place → Part
@@ -41,11 +41,11 @@ stmt_part asks items (stmt_parts.ModuleDecl n) place rest = module_decl asks ite
 stmt_part asks items (stmt_parts.VarDecl n) place rest = var_decl asks items n rest
 
 unfoldable pub ts_part : {X : Type 0} → (X → Answers) → (X → Place → Part) → TsPart X → Place → Part
-ts_part asks items (ts_parts.TsType n) place rest = ts_type asks items n.value rest
-ts_part asks items (ts_parts.TsTypeAnn n) place rest = ts_type_ann items n place rest
+ts_part asks items (ts_parts.TsType n) place rest = ts_type asks items n rest
+ts_part asks items (ts_parts.TsTypeAnn n) place rest = ts_type_ann asks items n place rest
 ts_part asks items (ts_parts.TsTypeParamDecl n) place rest = ts_type_param_decl items n rest
 ts_part asks items (ts_parts.TsTypeParamInstantiation n) place rest = ts_type_param_instantiation asks items n place rest
 ts_part asks items (ts_parts.TsFnParam n) place rest = ts_fn_param asks items n rest
+ts_part asks items (ts_parts.TsInterfaceBody n) place rest = ts_interface_body asks items n rest
 ts_part asks items (ts_parts.TsEntityName n) place rest = ts_entity_name items n rest
-ts_part asks items (ts_parts.TsTypeElement n) place rest = ts_type_element asks items n.value rest
 ts_part asks items (ts_parts.TsNamespaceBody n) place rest = ts_namespace_body asks items n place rest

@@ -1,8 +1,10 @@
 -- Where a node may stand in its role.
+use Rattle.std.specs.Prelude.{ℕ, if◌then◌else◌, Option, Some, None}
 use Rattle.swc_ecma_codegen_grammar.specs.declared.roles.Role.{Role}
 use Rattle.swc_ecma_codegen_grammar.specs.declared.roles.Role.TheVariants.{MemberExpression, ChainMember, Function, FunctionHead as HeadOfFunction, MethodHead as HeadOfMethod, Expression, Callee as IsCallee, ChainCall, Template, TaggedTemplate, ClassHead as HeadOfClass, ClassWord as WordOfClass, ClassTail, MethodDecorators as DecoratorsOfMethod, MethodTail as TailOfMethod, AccessorTail as TailOfAccessor, FieldValue as ValueOfField, ModuleDeclaration, Declaration, ExportedHead as HeadOfExported, ExportedTail as TailOfExported, Element, Child as IsChild, NamespaceBody, DottedBody}
+use Rattle.swc_ecma_codegen_tokens.specs.Run.{Env, Part, unbounded}
 use Rattle.swc_ecma_codegen_emit.specs.declared.nodes.Place.{Place}
-use Rattle.swc_ecma_codegen_emit.specs.declared.nodes.Place.TheVariants.{Plain, Chain, FunctionHead, MethodHead, DeclarationHead, Object, DottedObject, Callee, Tagged, ClassHead, ClassWord, StaticHead, MethodDecorators, MethodTail, FieldValue, ExportedHead, ExportedTail, Child, Dotted}
+use Rattle.swc_ecma_codegen_emit.specs.declared.nodes.Place.TheVariants.{Plain, Chain, FunctionHead, MethodHead, DeclarationHead, Object, DottedObject, Callee, Tagged, ClassHead, ClassWord, StaticHead, MethodDecorators, MethodTail, FieldValue, ExportedHead, ExportedTail, Child, Dotted, Lines}
 
 -- a place where nothing is asked of an expression, and one inside of a callee
 abbrev pub outside : Place → Place
@@ -69,3 +71,15 @@ placed IsChild place = Child
 placed NamespaceBody place = Plain
 placed DottedBody place = Dotted
 placed role place = place
+
+-- a node stands by itself: a module or script, where lines have a greatest length and the settings are to minify, is told it
+abbrev pub with_lines : Option ℕ → Place
+with_lines None = Plain
+with_lines (Some max) = Lines max
+
+abbrev pub alone : Env → Place
+alone env = if env.config.minify then with_lines env.max_line else Plain
+
+-- what is written of it: it alone tells where lines may be ended
+unfoldable pub by_itself : (Place → Part) → Part
+by_itself items rest env = unbounded (items (alone env)) rest env

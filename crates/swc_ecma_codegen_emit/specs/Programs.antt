@@ -8,8 +8,9 @@ use Rattle.swc_ecma_codegen_tree.specs.declared.programs.Program.{Program}
 use Rattle.swc_ecma_codegen_tree.specs.declared.programs.Program.TheVariants as programs
 use Rattle.swc_ecma_codegen_tokens.specs.Literals.{hashbang}
 use Rattle.swc_ecma_codegen_tokens.specs.Run.{Part}
-use Rattle.swc_ecma_codegen_tokens.specs.Words.{commit_pending_semi, start_of, leading_comments, trailing_comments}
+use Rattle.swc_ecma_codegen_tokens.specs.Words.{bounded, commit_pending_semi, start_of, leading_comments, trailing_comments}
 use Rattle.swc_ecma_codegen_emit.specs.declared.nodes.Place.{Place}
+use Rattle.swc_ecma_codegen_emit.specs.declared.nodes.Place.TheVariants.{Lines}
 use Rattle.swc_ecma_codegen_emit.specs.Answers.{Answers}
 use Rattle.swc_ecma_codegen_emit.specs.Lists.{in_order}
 use Rattle.swc_ecma_codegen_emit.specs.Modules.{module_item}
@@ -29,15 +30,26 @@ unfoldable pub program_start : {A Z : Type 0} → Option (String Z) → List A �
 program_start None body span rest = leading_comments span.lo (start_if_empty body span rest)
 program_start (Some text) body span rest = start_if_empty body span (hashbang (string_bytes text) (leading_comments span.lo rest))
 
-unfoldable pub script : {X : Type 0} → (X → Answers) → (X → Place → Part) → Script X → Part
-script asks items n rest = program_start n.shebang n.body.items n.span (in_order (stmt asks items) n.body.items (trailing_comments true n.span.hi (last_semi rest)))
+-- a part with lines of the greatest length that its place tells
+abbrev pub lined : Place → Part → Part
+lined (Lines max) part = bounded max part
+lined place part = part
 
-unfoldable pub whole_module : {X : Type 0} → (X → Answers) → (X → Place → Part) → Module X → Part
-whole_module asks items n rest = program_start n.shebang n.body.items n.span (in_order (module_item asks items) n.body.items (trailing_comments true n.span.hi (last_semi rest)))
+unfoldable pub script_parts : {X : Type 0} → (X → Answers) → (X → Place → Part) → Script X → Part
+script_parts asks items n rest = program_start n.shebang n.body.items n.span (in_order (stmt asks items) n.body.items (trailing_comments true n.span.hi (last_semi rest)))
 
-unfoldable pub program : {X : Type 0} → (X → Answers) → (X → Place → Part) → Program X → Part
-program asks items (programs.Module n) rest = whole_module asks items n rest
-program asks items (programs.Script n) rest = script asks items n rest
+unfoldable pub module_parts : {X : Type 0} → (X → Answers) → (X → Place → Part) → Module X → Part
+module_parts asks items n rest = program_start n.shebang n.body.items n.span (in_order (module_item asks items) n.body.items (trailing_comments true n.span.hi (last_semi rest)))
+
+unfoldable pub script : {X : Type 0} → (X → Answers) → (X → Place → Part) → Script X → Place → Part
+script asks items n place = lined place (script_parts asks items n)
+
+unfoldable pub whole_module : {X : Type 0} → (X → Answers) → (X → Place → Part) → Module X → Place → Part
+whole_module asks items n place = lined place (module_parts asks items n)
+
+unfoldable pub program : {X : Type 0} → (X → Answers) → (X → Place → Part) → Program X → Place → Part
+program asks items (programs.Module n) place = whole_module asks items n place
+program asks items (programs.Script n) place = script asks items n place
 
 -- it begins with a hashbang
 unfoldable pub has_hashbang : {X : Type 0} → Program X → Bool

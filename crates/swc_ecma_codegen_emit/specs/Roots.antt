@@ -13,11 +13,12 @@ use Rattle.swc_ecma_codegen_grammar.specs.Phrases.{Phrase, Never, is_possible}
 use Rattle.swc_ecma_codegen_grammar.specs.declared.roles.Role.{Role}
 use Rattle.swc_ecma_codegen_grammar.specs.declared.roles.Role.TheVariants.{Child, TagObject}
 use Rattle.swc_ecma_codegen_grammar.specs.TreePhrases.{phrase, expr_phrase, stmt_phrase, program_phrase}
+use Rattle.swc_ecma_codegen_text_writer.specs.Sheet.{Flowing}
 use Rattle.swc_ecma_codegen_tokens.specs.Run.{Part, State}
 use Rattle.swc_ecma_codegen_tokens.specs.Written.{IsNew, IsAtMargin}
-use Rattle.swc_ecma_codegen_emit.specs.declared.nodes.Place.TheVariants.{Plain}
+use Rattle.swc_ecma_codegen_emit.specs.declared.nodes.Place.{Place}
 use Rattle.swc_ecma_codegen_emit.specs.Answers.{any_answers}
-use Rattle.swc_ecma_codegen_emit.specs.Places.{placed}
+use Rattle.swc_ecma_codegen_emit.specs.Places.{by_itself, placed}
 use Rattle.swc_ecma_codegen_emit.specs.AnyExpr.{expr}
 use Rattle.swc_ecma_codegen_emit.specs.Stmts.{stmt}
 use Rattle.swc_ecma_codegen_emit.specs.Modules.{module_item}
@@ -34,15 +35,26 @@ pub data Root : Type 0 where
   OfProgram : (node : Program AnyNode) → Root
   OfLink : (node : AnyNode) → (role : Role) → Root
 
--- what is written of it
+-- what is written of it at a place
+abbrev pub root_at : Root → Place → Part
+root_at (OfExpr n) = expr any_answers any_items n
+root_at (OfStmt n) = λ place. stmt any_answers any_items n
+root_at (OfItem n) = λ place. module_item any_answers any_items n
+root_at (OfModule n) = whole_module any_answers any_items n
+root_at (OfScript n) = script any_answers any_items n
+root_at (OfProgram n) = program any_answers any_items n
+root_at (OfLink n role) = λ place. any_items n (placed role place)
+
+-- and by itself
 abbrev pub root_items : Root → Part
-root_items (OfExpr n) = expr any_answers any_items n Plain
-root_items (OfStmt n) = stmt any_answers any_items n
-root_items (OfItem n) = module_item any_answers any_items n
-root_items (OfModule n) = whole_module any_answers any_items n
-root_items (OfScript n) = script any_answers any_items n
-root_items (OfProgram n) = program any_answers any_items n
-root_items (OfLink n role) = any_items n (placed role Plain)
+root_items n = by_itself (root_at n)
+
+-- a module or a script: its lines may be bounded
+abbrev pub is_program : Root → Bool
+is_program (OfModule n) = true
+is_program (OfScript n) = true
+is_program (OfProgram n) = true
+is_program n = false
 
 -- A child of an element stands right behind a tag or text, and the object of a name in a tag behind `<`: neither is read by itself.
 abbrev pub read_alone : Role → Phrase → Phrase
@@ -71,7 +83,8 @@ root_hashbang (OfScript n) = is_some n.shebang
 root_hashbang (OfProgram n) = has_hashbang n
 root_hashbang n = false
 
--- An emission begins where the root may stand: one with a hashbang stands first of all in a text.
+-- An emission begins where the root may stand: what is written goes out at once, and one with a hashbang stands first of all in a text.
 pub record MayBegin (n : Root) (s : State) : Type 0 where
   pub is_new : IsNew s
+  pub flows : s.sheet.lines ≡ Flowing
   pub at_margin : root_hashbang n ≡ true → IsAtMargin s

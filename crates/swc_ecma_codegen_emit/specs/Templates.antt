@@ -4,7 +4,7 @@ use Rattle.swc_ecma_codegen_tree.specs.declared.exprs.Tpl.{Tpl}
 use Rattle.swc_ecma_codegen_tree.specs.declared.exprs.TplElement.{TplElement}
 use Rattle.swc_ecma_codegen_tree.specs.declared.exprs.TaggedTpl.{TaggedTpl}
 use Rattle.swc_ecma_codegen_grammar.specs.TemplatePhrases.{is_counted, part_before}
-use Rattle.swc_ecma_codegen_tokens.specs.Run.{Part, refuse}
+use Rattle.swc_ecma_codegen_tokens.specs.Run.{unbounded, Part, refuse}
 use Rattle.swc_ecma_codegen_tokens.specs.Templates.{tpl_element}
 use Rattle.swc_ecma_codegen_tokens.specs.Words.{start_of, end_of, leading_comments}
 use Rattle.swc_ecma_codegen_tokens.specs.declared.refusals.Unprintable.TheVariants as unprintable
@@ -19,9 +19,13 @@ tpl_rest each tagged (e ∷ es) (q ∷ qs) rest = each e (tpl_element false (par
 tpl_rest each tagged es qs rest = rest
 
 -- all of them
+unfoldable pub tpl_all : {A : Type 0} → (A → Part) → Bool → List A → List TplElement → Part
+tpl_all each tagged es [] rest = rest
+tpl_all each tagged es (q ∷ qs) rest = tpl_element true (part_before tagged qs) q (tpl_rest each tagged es qs rest)
+
+-- no line may be ended in them
 unfoldable pub tpl_parts : {A : Type 0} → (A → Part) → Bool → List A → List TplElement → Part
-tpl_parts each tagged es [] rest = rest
-tpl_parts each tagged es (q ∷ qs) rest = tpl_element true (part_before tagged qs) q (tpl_rest each tagged es qs rest)
+tpl_parts each tagged es qs = unbounded (tpl_all each tagged es qs)
 
 unfoldable pub tpl_placed : {X : Type 0} → (X → Place → Part) → Bool → Tpl X → Part
 tpl_placed items tagged n rest = leading_comments n.span.lo (start_of n.span (tpl_parts (held items) tagged n.exprs.items n.quasis.items (end_of n.span rest)))

@@ -24,13 +24,11 @@ use Rattle.swc_ecma_codegen_tokens.specs.Lits.{str_lit}
 use Rattle.swc_ecma_codegen_tokens.specs.Words.{keyword, punct, semi, space, formatting_space, leading_comments}
 use Rattle.swc_ecma_codegen_emit.specs.declared.nodes.Place.{Place}
 use Rattle.swc_ecma_codegen_emit.specs.declared.nodes.Place.TheVariants.{Plain, Dotted}
-use Rattle.swc_ecma_codegen_emit.specs.Annotations.{type_args, type_params}
-use Rattle.swc_ecma_codegen_emit.specs.Answers.{Answers}
+use Rattle.swc_ecma_codegen_emit.specs.Annotations.{type_args, type_params, word_before}
 use Rattle.swc_ecma_codegen_emit.specs.Exprs.{ident, spaced_punct}
 use Rattle.swc_ecma_codegen_emit.specs.Lists.{child_of}
 use Rattle.swc_ecma_codegen_emit.specs.Pats.{initializer}
-use Rattle.swc_ecma_codegen_emit.specs.TsMembers.{ts_interface_body}
-use Rattle.swc_ecma_codegen_emit.specs.Types.{type_at, word_before}
+use Rattle.swc_ecma_codegen_emit.specs.Types.{type_at}
 
 -- `declare` and a blank, where it stands
 unfoldable pub declare_word : Bool → Part
@@ -61,8 +59,8 @@ extends_clause items span [] rest = rest
 extends_clause items span (n ∷ ns) rest = some_extends items span (n ∷ ns) rest
 
 -- `declare interface A<B> extends C { d: E; }`
-unfoldable pub ts_interface_decl : {X : Type 0} → (X → Answers) → (X → Place → Part) → TsInterfaceDecl X → Part
-ts_interface_decl asks items n rest =
+unfoldable pub ts_interface_decl : {X : Type 0} → (X → Place → Part) → TsInterfaceDecl X → Part
+ts_interface_decl items n rest =
     leading_comments n.span.lo
     (declare_word n.declare
     (keyword None (codes "interface")
@@ -70,7 +68,7 @@ ts_interface_decl asks items n rest =
     (ident n.id
     (type_params items n.type_params
     (extends_clause items n.span n.extends.items
-    (formatting_space (ts_interface_body asks items n.body rest))))))))
+    (formatting_space (items n.body.node.value Plain rest))))))))
 
 -- `declare type A<B> = C;`
 unfoldable pub ts_type_alias_decl : {X : Type 0} → (X → Place → Part) → TsTypeAliasDecl X → Part

@@ -15,17 +15,27 @@ use Rattle.swc_ecma_codegen_tree.specs.declared.ts_members.TsTypeElement.TheVari
 use Rattle.swc_ecma_codegen_tokens.specs.Run.{Part}
 use Rattle.swc_ecma_codegen_tokens.specs.Lists.{list}
 use Rattle.swc_ecma_codegen_tokens.specs.Words.{keyword, punct, punct_between, question, semi, space, formatting_space, leading_comments}
+use Rattle.swc_ecma_codegen_spans.specs.Spans.{ts_type_element_span}
 use Rattle.swc_ecma_codegen_emit.specs.declared.nodes.Place.{Place}
 use Rattle.swc_ecma_codegen_emit.specs.declared.nodes.Place.TheVariants.{Plain, Reference}
-use Rattle.swc_ecma_codegen_emit.specs.Annotations.{annotation, spaced_annotation, type_params}
+use Rattle.swc_ecma_codegen_emit.specs.Annotations.{annotation, spaced_annotation, type_params, types_format, word_before}
 use Rattle.swc_ecma_codegen_emit.specs.Answers.{Answers}
 use Rattle.swc_ecma_codegen_emit.specs.Lists.{child_of}
-use Rattle.swc_ecma_codegen_emit.specs.Types.{word_before, fn_params_list, member_place, member_items}
 
 -- `a` or `[a]`
 unfoldable pub signature_key : {X : Type 0} → (X → Place → Part) → Bool → ExprBox X → Part
 signature_key items computed n rest =
     if computed then punct (codes "[") (items n.node.value Plain (punct (codes "]") rest)) else items n.node.value Plain rest
+
+-- parameters that links hold
+abbrev pub fn_param_place : {X : Type 0} → (X → Answers) → TsFnParamBox X → Span
+fn_param_place asks n = (asks n.node.value).place
+
+abbrev pub fn_param_items : {X : Type 0} → (X → Place → Part) → TsFnParamBox X → Place → Part
+fn_param_items items n place = items n.node.value place
+
+abbrev pub fn_params_list : {X : Type 0} → (X → Answers) → (X → Place → Part) → Span → List (TsFnParamBox X) → Part
+fn_params_list asks items span ns = list types_format span (map (child_of (fn_param_place asks) (fn_param_items items)) ns)
 
 -- `(a: A, b: B)` of `(a: A, b: B): C`
 unfoldable pub signature_params : {X : Type 0} → (X → Answers) → (X → Place → Part) → Span → List (TsFnParamBox X) → Part
@@ -115,12 +125,16 @@ ts_signature asks items (elements.TsIndexSignature n) rest = ts_index_signature 
 unfoldable pub ts_type_element : {X : Type 0} → (X → Answers) → (X → Place → Part) → TsTypeElement X → Part
 ts_type_element asks items n rest = ts_signature asks items n (semi rest)
 
+-- a member in a list
+abbrev pub member_items : {X : Type 0} → (X → Answers) → (X → Place → Part) → TsTypeElement X → Place → Part
+member_items asks items n place = ts_type_element asks items n
+
 -- `InterfaceMembers`
 abbrev pub interface_format : ℕ
 interface_format = 65
 
 abbrev pub interface_members : {X : Type 0} → (X → Answers) → (X → Place → Part) → TsInterfaceBody X → Part
-interface_members asks items n = list interface_format n.span (map (child_of (member_place asks) (member_items items)) n.body.items)
+interface_members asks items n = list interface_format n.span (map (child_of ts_type_element_span (member_items asks items)) n.body.items)
 
 -- `{ a: B; }`
 unfoldable pub ts_interface_body : {X : Type 0} → (X → Answers) → (X → Place → Part) → TsInterfaceBody X → Part

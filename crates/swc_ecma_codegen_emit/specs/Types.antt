@@ -1,7 +1,7 @@
 -- What is written of types of TypeScript.
-use Rattle.std.specs.Prelude.{ℕ, Bool, false, if◌then◌else◌, is_some, List, map, codes, Option, Some, None}
+use Rattle.std.specs.Prelude.{ℕ, false, if◌then◌else◌, is_some, List, map, codes, Option, Some, None}
 use Rattle.swc_ecma_codegen_common.specs.declared.positions.Span.{Span}
-use Rattle.swc_ecma_codegen_tree.specs.Links.{PatBox, TsEntityNameBox, TsFnParamBox, TsTypeAnnBox, TsTypeBox, TsTypeElementBox}
+use Rattle.swc_ecma_codegen_tree.specs.Links.{PatBox, TsEntityNameBox, TsFnParamBox, TsTypeAnnBox, TsTypeBox}
 use Rattle.swc_ecma_codegen_tree.specs.declared.ts_types.TruePlusMinus.{TruePlusMinus}
 use Rattle.swc_ecma_codegen_tree.specs.declared.ts_types.TruePlusMinus.TheVariants as signs
 use Rattle.swc_ecma_codegen_tree.specs.declared.ts_types.TsArrayType.{TsArrayType}
@@ -56,19 +56,17 @@ use Rattle.swc_ecma_codegen_tokens.specs.Lists.{list, deeper, shallower}
 use Rattle.swc_ecma_codegen_tokens.specs.Lits.{str_lit, bool_node, number_lit, big_int_lit}
 use Rattle.swc_ecma_codegen_tokens.specs.Tags.{close}
 use Rattle.swc_ecma_codegen_tokens.specs.Words.{keyword, punct, punct_between, semi, space, formatting_space, line_end, leading_comments}
+use Rattle.swc_ecma_codegen_spans.specs.Spans.{ts_type_element_span}
 use Rattle.swc_ecma_codegen_emit.specs.declared.nodes.Place.{Place}
 use Rattle.swc_ecma_codegen_emit.specs.declared.nodes.Place.TheVariants.{Plain, Reference}
-use Rattle.swc_ecma_codegen_emit.specs.Annotations.{type_args, type_params}
+use Rattle.swc_ecma_codegen_emit.specs.Annotations.{types_format, word_before, type_args, type_params}
 use Rattle.swc_ecma_codegen_emit.specs.Answers.{Answers}
 use Rattle.swc_ecma_codegen_emit.specs.Exprs.{ident, ident_name, spaced_punct}
-use Rattle.swc_ecma_codegen_emit.specs.Lists.{child_of, unsupported}
+use Rattle.swc_ecma_codegen_emit.specs.Lists.{child_of}
 use Rattle.swc_ecma_codegen_emit.specs.Names.{binding_ident}
 use Rattle.swc_ecma_codegen_emit.specs.Pats.{array_pat, rest_pat, object_pat}
 use Rattle.swc_ecma_codegen_emit.specs.Templates.{bad_shape, tpl_parts}
-
--- `TypeArguments`, `TypeParameters`, `TupleTypeElements` and `Parameters`
-abbrev pub types_format : ℕ
-types_format = 272
+use Rattle.swc_ecma_codegen_emit.specs.TsMembers.{fn_params_list, member_items}
 
 -- a type that a link holds: where it stands, and what is written of it
 abbrev pub type_place : {X : Type 0} → (X → Answers) → TsTypeBox X → Span
@@ -89,10 +87,6 @@ type_behind items t (Some n) rest = space (keyword None t (space (type_at items 
 unfoldable pub default_type : {X : Type 0} → (X → Place → Part) → Option (TsTypeBox X) → Part
 default_type items None rest = rest
 default_type items (Some n) rest = spaced_punct (codes "=") (type_at items n rest)
-
--- a word and a blank, where it is so
-unfoldable pub word_before : Bool → List ℕ → Part
-word_before wanted t rest = if wanted then keyword None t (space rest) else rest
 
 -- ---- names of types
 
@@ -159,15 +153,6 @@ ts_fn_param asks items (fn_params.Ident n) rest = binding_ident items n rest
 ts_fn_param asks items (fn_params.Array n) rest = array_pat asks items n rest
 ts_fn_param asks items (fn_params.Rest n) rest = rest_pat items n rest
 ts_fn_param asks items (fn_params.Object n) rest = object_pat asks items n rest
-
-abbrev pub fn_param_place : {X : Type 0} → (X → Answers) → TsFnParamBox X → Span
-fn_param_place asks n = (asks n.node.value).place
-
-abbrev pub fn_param_items : {X : Type 0} → (X → Place → Part) → TsFnParamBox X → Place → Part
-fn_param_items items n place = items n.node.value place
-
-abbrev pub fn_params_list : {X : Type 0} → (X → Answers) → (X → Place → Part) → Span → List (TsFnParamBox X) → Part
-fn_params_list asks items span ns = list types_format span (map (child_of (fn_param_place asks) (fn_param_items items)) ns)
 
 -- `(a: A) => B`
 unfoldable pub signature_type : {X : Type 0} → (X → Answers) → (X → Place → Part) → Span → List (TsFnParamBox X) → TsTypeAnnBox X → Part
@@ -244,14 +229,8 @@ ts_type_query items n rest = leading_comments n.span.lo (keyword None (codes "ty
 abbrev pub members_format : ℕ
 members_format = 1089
 
-abbrev pub member_place : {X : Type 0} → (X → Answers) → TsTypeElementBox X → Span
-member_place asks n = (asks n.node.value).place
-
-abbrev pub member_items : {X : Type 0} → (X → Place → Part) → TsTypeElementBox X → Place → Part
-member_items items n place = items n.node.value place
-
 abbrev pub listed_members : {X : Type 0} → (X → Answers) → (X → Place → Part) → TsTypeLit X → Part
-listed_members asks items n = list members_format n.span (map (child_of (member_place asks) (member_items items)) n.members.items)
+listed_members asks items n = list members_format n.span (map (child_of ts_type_element_span (member_items asks items)) n.members.items)
 
 -- `{ a: B; }`
 unfoldable pub ts_type_lit : {X : Type 0} → (X → Answers) → (X → Place → Part) → TsTypeLit X → Part
@@ -404,9 +383,9 @@ ts_type_predicate items n rest = leading_comments n.span.lo (word_before n.asser
 unfoldable pub ts_type : {X : Type 0} → (X → Answers) → (X → Place → Part) → TsType X → Part
 ts_type asks items (types.TsKeywordType n) rest = ts_keyword_type n rest
 ts_type asks items (types.TsThisType n) rest = ts_this_type n rest
-ts_type asks items (types.TsFnOrConstructorType n) rest = ts_fn_or_constructor_type asks items n rest
+ts_type asks items (types.TsFnOrConstructorType n) rest = ts_fn_or_constructor_type asks items n.value rest
 ts_type asks items (types.TsTypeRef n) rest = ts_type_ref items n rest
-ts_type asks items (types.TsTypeQuery n) rest = ts_type_query items n rest
+ts_type asks items (types.TsTypeQuery n) rest = ts_type_query items n.value rest
 ts_type asks items (types.TsTypeLit n) rest = ts_type_lit asks items n rest
 ts_type asks items (types.TsArrayType n) rest = ts_array_type items n rest
 ts_type asks items (types.TsTupleType n) rest = ts_tuple_type items n rest
@@ -414,16 +393,16 @@ ts_type asks items (types.TsOptionalType n) rest = ts_optional_type items n rest
 ts_type asks items (types.TsRestType n) rest = ts_rest_type items n rest
 ts_type asks items (types.TsUnionOrIntersectionType n) rest = ts_union_or_intersection_type asks items n rest
 ts_type asks items (types.TsConditionalType n) rest = ts_conditional_type items n rest
-ts_type asks items (types.TsInferType n) rest = ts_infer_type items n rest
+ts_type asks items (types.TsInferType n) rest = ts_infer_type items n.value rest
 ts_type asks items (types.TsParenthesizedType n) rest = ts_parenthesized_type items n rest
 ts_type asks items (types.TsTypeOperator n) rest = ts_type_operator items n rest
 ts_type asks items (types.TsIndexedAccessType n) rest = ts_indexed_access_type items n rest
-ts_type asks items (types.TsMappedType n) rest = ts_mapped_type items n rest
-ts_type asks items (types.TsLitType n) rest = ts_lit_type items n rest
-ts_type asks items (types.TsTypePredicate n) rest = ts_type_predicate items n rest
-ts_type asks items (types.TsImportType n) rest = ts_import_type items n rest
+ts_type asks items (types.TsMappedType n) rest = ts_mapped_type items n.value rest
+ts_type asks items (types.TsLitType n) rest = ts_lit_type items n.value rest
+ts_type asks items (types.TsTypePredicate n) rest = ts_type_predicate items n.value rest
+ts_type asks items (types.TsImportType n) rest = ts_import_type items n.value rest
 
 -- with its comments but as the type of a getter
-unfoldable pub ts_type_ann : {X : Type 0} → (X → Place → Part) → TsTypeAnn X → Place → Part
-ts_type_ann items n Reference rest = type_at items n.type_ann rest
-ts_type_ann items n place rest = leading_comments n.span.lo (type_at items n.type_ann rest)
+unfoldable pub ts_type_ann : {X : Type 0} → (X → Answers) → (X → Place → Part) → TsTypeAnn X → Place → Part
+ts_type_ann asks items n Reference rest = ts_type asks items n.type_ann rest
+ts_type_ann asks items n place rest = leading_comments n.span.lo (ts_type asks items n.type_ann rest)

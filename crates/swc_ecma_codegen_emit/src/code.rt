@@ -16,7 +16,7 @@ ghost use Rattle.swc_ecma_codegen_text_writer.specs.Sheet.{Sheet, Commit, Refuse
 ghost use Rattle.swc_ecma_codegen_text_writer.specs.View.{sheet_of};
 ghost use Rattle.swc_ecma_codegen_grammar.specs.Phrases.{names_in};
 ghost use Rattle.swc_ecma_codegen_tokens.specs.Named.{NamesStand};
-ghost use Rattle.swc_ecma_codegen_tokens.specs.Run.{steps_in, unprintable_in};
+ghost use Rattle.swc_ecma_codegen_tokens.specs.Run.{steps_in, unlined, unprintable_in};
 ghost use Rattle.swc_ecma_codegen_emit.specs.Texts.{blank_sheet, sheet_with, start_with, text_of, text_over, unheld, with_last, GivesCause, GivesCauseOrLast, IsOfWriter};
 
 use crate::emitter::Emitter;
@@ -228,7 +228,7 @@ pub fn to_code_with_positions<N: Node, S: SourceMapper, C: Comments + Drop>(
     ensures reads { (root : Root) → N.part node.now ≡ root_items root →
         is_well_formed_root root ≡ true → AreClosed (maps_in C.maps comments) →
         IfOk result (λ made.
-        ReadsAs cfg cfg.minify (root_phrase root)
+        ReadsAs (unlined cfg) cfg.minify (root_phrase root)
         (taken_remarks (N.part node.now)
         (start_with (S.lines cm.now) (maps_in C.maps comments) cfg).env) (string_bytes made.0)) }
     // Each position holds a place in the text, and they stand in the order of their places.
@@ -239,7 +239,8 @@ pub fn to_code_with_positions<N: Node, S: SourceMapper, C: Comments + Drop>(
     ensures names { (root : Root) → N.part node.now ≡ root_items root →
         is_well_formed_root root ≡ true →
         IfOk result (λ made.
-        NamesStand cfg origin (string_bytes made.0) made.1.items (names_in (root_phrase root))) }
+        NamesStand (unlined cfg) origin (string_bytes made.0) made.1.items
+        (names_in (root_phrase root))) }
     // It is refused for want of memory, or for the cause that the error names.
     ensures cause { IfErr result (λ error. (error ≡ OutOfMemory)
         ⊎ GivesCauseOrLast cfg (N.part node.now)

@@ -266,7 +266,7 @@ impl<W: WriteJs, S: SourceMapper, C: Comments> Emitter<'_, W, S, C> {
     /// Writes an interface, before `export` nothing.
     #[tactic(auto, unfolding(crate::specs::Decls::without_head, crate::specs::Decls::by_export))]
     fn interface_by_place<N: LinkTarget>(&mut self, node: &TsInterfaceDecl<N>, place: Place)
-        ensures items { Performs (without_head place (ts_interface_decl N.answers N.items node.now))
+        ensures items { Performs (without_head place (ts_interface_decl N.items node.now))
             S.lines C.maps W.sheet self.old self.new }
         ensures level { KeepsLevel S.lines C.maps W.sheet self.old self.new }
     {

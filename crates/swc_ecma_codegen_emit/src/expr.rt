@@ -532,6 +532,7 @@ impl<W: WriteJs, S: SourceMapper, C: Comments> Emitter<'_, W, S, C> {
     {
         self.space_if(before_op(node.op, node.left.target()));
         self.binary_op(node.op);
+        self.allow_break();
         self.space_if(after_op(node.op, node.right.target()));
     }
 

@@ -1,7 +1,8 @@
 //! Types of functions, and what types say of their parameters and results.
 
 ghost use Rattle.swc_ecma_codegen_emit.specs.Standing.{Performs, KeepsLevel};
-ghost use Rattle.swc_ecma_codegen_emit.specs.Types.{ts_fn_param, fn_params_list, signature_type, ts_fn_type, spaced_params, ts_constructor_type, ts_fn_or_constructor_type, ts_this_type_or_ident, is_behind, ts_type_predicate};
+ghost use Rattle.swc_ecma_codegen_emit.specs.TsMembers.{fn_params_list};
+ghost use Rattle.swc_ecma_codegen_emit.specs.Types.{ts_fn_param, signature_type, ts_fn_type, spaced_params, ts_constructor_type, ts_fn_or_constructor_type, ts_this_type_or_ident, is_behind, ts_type_predicate};
 
 use crate::emitter::Emitter;
 use crate::nodes::{EmitAt, LinkTarget, Place};

@@ -413,7 +413,7 @@ impl<W: WriteJs, S: SourceMapper, C: Comments> Emitter<'_, W, S, C> {
                 self.formatting_space();
                 body.target().emit_at(self, Place::Body)
             }
-            None => self.semi(),
+            None => self.bare_semi(),
         }
     }
 

@@ -4,7 +4,7 @@ ghost use Rattle.std.specs.Prelude.{◌≡◌, true};
 ghost use Rattle.swc_ecma_codegen_literals.specs.Punctuators.{spelling};
 ghost use Rattle.swc_ecma_codegen_tokens.specs.Attributes.{attribute_string, jsx_text_node, jsx_text_lit};
 ghost use Rattle.swc_ecma_codegen_tokens.specs.Tags.{tag_name, child_open, close};
-ghost use Rattle.swc_ecma_codegen_emit.specs.Jsx.{tag_ident, tag_ident_name, jsx_member_expr, jsx_namespaced_name, jsx_object, jsx_element_name, jsx_attr_name, open_at, jsx_expr, jsx_expr_container, jsx_spread_child, jsx_attr_lit, jsx_attr_value, attr_initializer, jsx_attr, jsx_attr_or_spread, jsx_attributes, self_closing, jsx_opening_element, jsx_closing_element, jsx_element_child, jsx_children, optional_closing, jsx_element, opening_fragment, closing_fragment, jsx_fragment, jsx_part};
+ghost use Rattle.swc_ecma_codegen_emit.specs.Jsx.{jsx_element_parts, jsx_fragment_parts, tag_ident, tag_ident_name, jsx_member_expr, jsx_namespaced_name, jsx_object, jsx_element_name, jsx_attr_name, open_at, jsx_expr, jsx_expr_container, jsx_spread_child, jsx_attr_lit, jsx_attr_value, attr_initializer, jsx_attr, jsx_attr_or_spread, jsx_attributes, self_closing, jsx_opening_element, jsx_closing_element, jsx_element_child, jsx_children, optional_closing, jsx_element, opening_fragment, closing_fragment, jsx_fragment, jsx_part};
 ghost use Rattle.swc_ecma_codegen_emit.specs.Standing.{Performs, KeepsLevel};
 
 use crate::emitter::Emitter;
@@ -25,17 +25,15 @@ use swc_ecma_codegen_tree::{
 impl<N: LinkTarget> EmitAt for JSXElement<N> {
     ghost items = { jsx_element N.answers N.items };
 
-    #[tactic(auto, unfolding(crate::specs::Jsx::jsx_element, crate::specs::Jsx::optional_closing))]
     fn emit_at<W: WriteJs, S: SourceMapper, C: Comments>(
         &self,
         e: &mut Emitter<'_, W, S, C>,
         place: Place,
     ) {
-        self.opening.emit_at(e, place);
-        e.jsx_children(&self.children);
-        if let Some(closing) = &self.closing {
-            closing.emit_at(e, Place::Plain);
-        }
+        let max_line = e.cfg.max_line;
+        e.cfg.max_line = None;
+        e.jsx_element_parts(self, place);
+        e.cfg.max_line = max_line;
     }
 }
 
@@ -137,7 +135,7 @@ impl<N: LinkTarget> EmitAt for JSXAttrOrSpread<N> {
         match self {
             JSXAttrOrSpread::JSXAttr(node) => node.emit_at(e, Place::Plain),
             JSXAttrOrSpread::SpreadElement(node) => {
-                e.punct(Punctuator::LeftBrace);
+                e.bare_punct(Punctuator::LeftBrace);
                 node.emit_at(e, Place::Plain);
                 e.punct(Punctuator::RightBrace);
             }
@@ -230,15 +228,15 @@ impl<N: LinkTarget> EmitAt for JSXClosingElement<N> {
 impl<N: LinkTarget> EmitAt for JSXFragment<N> {
     ghost items = { jsx_fragment N.items };
 
-    #[tactic(auto, unfolding(crate::specs::Jsx::jsx_fragment))]
     fn emit_at<W: WriteJs, S: SourceMapper, C: Comments>(
         &self,
         e: &mut Emitter<'_, W, S, C>,
         place: Place,
     ) {
-        self.opening.emit_at(e, place);
-        e.jsx_children(&self.children);
-        self.closing.emit_at(e, Place::Plain);
+        let max_line = e.cfg.max_line;
+        e.cfg.max_line = None;
+        e.jsx_fragment_parts(self, place);
+        e.cfg.max_line = max_line;
     }
 }
 
@@ -365,6 +363,34 @@ impl<N: LinkTarget> EmitAt for JSXPart<N> {
 }
 
 impl<W: WriteJs, S: SourceMapper, C: Comments> Emitter<'_, W, S, C> {
+    /// Writes an element; its caller says that no line may be ended in it.
+    #[inline(always)]
+    #[tactic(auto, unfolding(crate::specs::Jsx::jsx_element_parts, crate::specs::Jsx::optional_closing))]
+    fn jsx_element_parts<N: LinkTarget>(&mut self, node: &JSXElement<N>, place: Place)
+        ensures items { Performs (jsx_element_parts N.answers N.items node.now place)
+            S.lines C.maps W.sheet self.old self.new }
+        ensures level { KeepsLevel S.lines C.maps W.sheet self.old self.new }
+    {
+        node.opening.emit_at(self, place);
+        self.jsx_children(&node.children);
+        if let Some(closing) = &node.closing {
+            closing.emit_at(self, Place::Plain);
+        }
+    }
+
+    /// Writes a fragment; its caller says that no line may be ended in it.
+    #[inline(always)]
+    #[tactic(auto, unfolding(crate::specs::Jsx::jsx_fragment_parts))]
+    fn jsx_fragment_parts<N: LinkTarget>(&mut self, node: &JSXFragment<N>, place: Place)
+        ensures items { Performs (jsx_fragment_parts N.items node.now place)
+            S.lines C.maps W.sheet self.old self.new }
+        ensures level { KeepsLevel S.lines C.maps W.sheet self.old self.new }
+    {
+        node.opening.emit_at(self, place);
+        self.jsx_children(&node.children);
+        node.closing.emit_at(self, Place::Plain);
+    }
+
     /// Writes a name in a tag with its comments.
     #[inline(never)]
     #[tactic(auto, using(crate::proofs::Standings::refused_makes))]
@@ -426,7 +452,7 @@ impl<W: WriteJs, S: SourceMapper, C: Comments> Emitter<'_, W, S, C> {
     {
         match place {
             Place::Child => self.child_open(mark),
-            _ => self.punct(mark),
+            _ => self.bare_punct(mark),
         }
     }
 

@@ -21,6 +21,7 @@ mod jsx;
 mod lists;
 mod lits;
 mod loops;
+mod mapped_types;
 mod marks;
 mod modules;
 mod node;

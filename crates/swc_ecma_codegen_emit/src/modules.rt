@@ -1,13 +1,14 @@
 //! Modules: their items, and what imports and exports share.
 
-ghost use Rattle.std.specs.Prelude.{◌≡◌};
+ghost use Rattle.std.specs.Prelude.{◌≡◌, Some};
+ghost use Rattle.swc_ecma_codegen_tokens.specs.Run.{with_max_line};
 ghost use Rattle.swc_ecma_codegen_emit.specs.Standing.{Performs, KeepsLevel};
 ghost use Rattle.swc_ecma_codegen_tokens.specs.Choices.{attributes_word};
 ghost use Rattle.swc_ecma_codegen_emit.specs.Modules.{named_format, module_export_name, type_word, from_word, as_word, star_as, module_decl_by, module_decl, module_item_by, module_item, attributes, source_end};
 ghost use Rattle.swc_ecma_codegen_spans.specs.Spans.{module_item_span};
 ghost use Rattle.swc_ecma_codegen_emit.specs.Answers.{place_of};
 ghost use Rattle.swc_ecma_codegen_emit.specs.Lists.{in_order};
-ghost use Rattle.swc_ecma_codegen_emit.specs.Programs.{whole_module};
+ghost use Rattle.swc_ecma_codegen_emit.specs.Programs.{module_parts, whole_module};
 
 use crate::emitter::Emitter;
 use crate::nodes::{Child, EmitAt, LinkTarget, Place};
@@ -89,22 +90,51 @@ impl<N: LinkTarget> Child for ModuleItem<N> {
 }
 
 impl<N: LinkTarget> EmitAt for Module<N> {
-    ghost items = { λ n _. whole_module N.answers N.items n };
+    ghost items = { whole_module N.answers N.items };
 
-    #[tactic(auto, unfolding(crate::specs::Programs::whole_module))]
+    #[tactic(auto, unfolding(crate::specs::Programs::whole_module, swc_ecma_codegen_tokens::specs::Words::bounded, swc_ecma_codegen_tokens::specs::Words::in_lines))]
     fn emit_at<W: WriteJs, S: SourceMapper, C: Comments>(
         &self,
         e: &mut Emitter<'_, W, S, C>,
         place: Place,
     ) {
-        e.program_start(&self.shebang, &self.body, self.span);
-        e.module_items(&self.body);
-        e.trailing_comments(self.span.hi, true);
-        e.last_semi();
+        match place {
+            Place::Lines(max) => {
+                e.begin_lines(max);
+                e.broken_module(self, max);
+                e.end_lines();
+            }
+            _ => e.module_parts(self),
+        }
     }
 }
 
 impl<W: WriteJs, S: SourceMapper, C: Comments> Emitter<'_, W, S, C> {
+    /// Writes a module whose lines may be ended.
+    fn broken_module<N: LinkTarget>(&mut self, node: &Module<N>, max: u32)
+        ensures items { Performs (with_max_line (Some max)
+            (module_parts N.answers N.items node.now)) S.lines C.maps W.sheet self.old self.new }
+        ensures level { KeepsLevel S.lines C.maps W.sheet self.old self.new }
+    {
+        let max_line = self.cfg.max_line;
+        self.cfg.max_line = Some(max);
+        self.module_parts(node);
+        self.cfg.max_line = max_line;
+    }
+
+    /// Writes a module, in lines of whatever length.
+    #[tactic(auto, unfolding(crate::specs::Programs::module_parts))]
+    fn module_parts<N: LinkTarget>(&mut self, node: &Module<N>)
+        ensures items { Performs (module_parts N.answers N.items node.now)
+            S.lines C.maps W.sheet self.old self.new }
+        ensures level { KeepsLevel S.lines C.maps W.sheet self.old self.new }
+    {
+        self.program_start(&node.shebang, &node.body, node.span);
+        self.module_items(&node.body);
+        self.trailing_comments(node.span.hi, true);
+        self.last_semi();
+    }
+
     /// Writes items, one after another.
     fn module_items<N: LinkTarget>(&mut self, nodes: &[ModuleItem<N>])
         ensures items { Performs (in_order (module_item N.answers N.items) nodes.now)

@@ -68,6 +68,8 @@ pub enum Place {
     Reference,
     /// The body of a namespace behind its name: ` {}` of `namespace a {}`, `.b {}` of `namespace a.b {}`
     Dotted,
+    /// By itself, with this greatest length of lines, where it is a module or script: `a;b` by itself with 2 is `a;` LF `b`
+    Lines(u32),
 }
 
 /// What a node tells those above it.

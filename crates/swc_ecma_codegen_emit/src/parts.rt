@@ -63,13 +63,13 @@ impl<N: LinkTarget> EmitAt for TsPart<N> {
         place: Place,
     ) {
         match self {
-            TsPart::TsType(node) => (**node).emit_at(e, place),
+            TsPart::TsType(node) => node.emit_at(e, place),
             TsPart::TsTypeAnn(node) => node.emit_at(e, place),
             TsPart::TsTypeParamDecl(node) => node.emit_at(e, place),
             TsPart::TsTypeParamInstantiation(node) => node.emit_at(e, place),
             TsPart::TsFnParam(node) => node.emit_at(e, place),
+            TsPart::TsInterfaceBody(node) => node.emit_at(e, place),
             TsPart::TsEntityName(node) => node.emit_at(e, place),
-            TsPart::TsTypeElement(node) => (**node).emit_at(e, place),
             TsPart::TsNamespaceBody(node) => node.emit_at(e, place),
         }
     }

@@ -1,16 +1,17 @@
 //! Statements and programs.
 
-ghost use Rattle.std.specs.Prelude.{◌≡◌, true};
+ghost use Rattle.std.specs.Prelude.{◌≡◌, Some, true};
 ghost use Rattle.swc_ecma_codegen_tokens.specs.Lists.{blank_if};
 ghost use Rattle.swc_ecma_codegen_spans.specs.Spans.{stmt_span};
 ghost use Rattle.swc_ecma_codegen_emit.specs.Answers.{place_of};
 ghost use Rattle.swc_ecma_codegen_emit.specs.Branches.{is_block};
 ghost use Rattle.swc_ecma_codegen_emit.specs.Lists.{in_order};
+ghost use Rattle.swc_ecma_codegen_tokens.specs.Run.{with_max_line};
 ghost use Rattle.swc_ecma_codegen_emit.specs.Standing.{Performs, KeepsLevel};
 ghost use Rattle.swc_ecma_codegen_tokens.specs.Starts.{begins_letter};
 ghost use Rattle.swc_ecma_codegen_tokens.specs.Words.{trailing_comments};
 ghost use Rattle.swc_ecma_codegen_emit.specs.Stmts.{enclosed, spaced, argument, argument_in, stmt_word, spaced_word, jump, empty_stmt, expr_stmt, debugger_stmt, with_stmt, return_arg, return_stmt, labeled_stmt, break_stmt, continue_stmt, else_branch, if_stmt, catch_param, catch_clause, handler, finalizer, try_stmt, throw_stmt, stmt_parts, stmt_closed, stmt};
-ghost use Rattle.swc_ecma_codegen_emit.specs.Programs.{start_if_empty, program_start, script, program};
+ghost use Rattle.swc_ecma_codegen_emit.specs.Programs.{start_if_empty, program_start, script, script_parts, program};
 
 use crate::branches::is_block;
 use crate::emitter::Emitter;
@@ -273,23 +274,27 @@ impl<N: LinkTarget> EmitAt for TryStmt<N> {
 }
 
 impl<N: LinkTarget> EmitAt for Script<N> {
-    ghost items = { λ n _. script N.answers N.items n };
+    ghost items = { script N.answers N.items };
 
-    #[tactic(auto, unfolding(crate::specs::Programs::script))]
+    #[tactic(auto, unfolding(crate::specs::Programs::script, swc_ecma_codegen_tokens::specs::Words::bounded, swc_ecma_codegen_tokens::specs::Words::in_lines))]
     fn emit_at<W: WriteJs, S: SourceMapper, C: Comments>(
         &self,
         e: &mut Emitter<'_, W, S, C>,
         place: Place,
     ) {
-        e.program_start(&self.shebang, &self.body, self.span);
-        e.stmts(&self.body);
-        e.trailing_comments(self.span.hi, true);
-        e.last_semi();
+        match place {
+            Place::Lines(max) => {
+                e.begin_lines(max);
+                e.broken_script(self, max);
+                e.end_lines();
+            }
+            _ => e.script_parts(self),
+        }
     }
 }
 
 impl<N: LinkTarget> EmitAt for Program<N> {
-    ghost items = { λ n _. program N.answers N.items n };
+    ghost items = { program N.answers N.items };
 
     #[tactic(auto, unfolding(crate::specs::Programs::program))]
     fn emit_at<W: WriteJs, S: SourceMapper, C: Comments>(
@@ -298,13 +303,38 @@ impl<N: LinkTarget> EmitAt for Program<N> {
         place: Place,
     ) {
         match self {
-            Program::Module(node) => node.emit_at(e, Place::Plain),
-            Program::Script(node) => node.emit_at(e, Place::Plain),
+            Program::Module(node) => node.emit_at(e, place),
+            Program::Script(node) => node.emit_at(e, place),
         }
     }
 }
 
 impl<W: WriteJs, S: SourceMapper, C: Comments> Emitter<'_, W, S, C> {
+    /// Writes a script whose lines may be ended.
+    fn broken_script<N: LinkTarget>(&mut self, node: &Script<N>, max: u32)
+        ensures items { Performs (with_max_line (Some max)
+            (script_parts N.answers N.items node.now)) S.lines C.maps W.sheet self.old self.new }
+        ensures level { KeepsLevel S.lines C.maps W.sheet self.old self.new }
+    {
+        let max_line = self.cfg.max_line;
+        self.cfg.max_line = Some(max);
+        self.script_parts(node);
+        self.cfg.max_line = max_line;
+    }
+
+    /// Writes a script, in lines of whatever length.
+    #[tactic(auto, unfolding(crate::specs::Programs::script_parts))]
+    fn script_parts<N: LinkTarget>(&mut self, node: &Script<N>)
+        ensures items { Performs (script_parts N.answers N.items node.now)
+            S.lines C.maps W.sheet self.old self.new }
+        ensures level { KeepsLevel S.lines C.maps W.sheet self.old self.new }
+    {
+        self.program_start(&node.shebang, &node.body, node.span);
+        self.stmts(&node.body);
+        self.trailing_comments(node.span.hi, true);
+        self.last_semi();
+    }
+
     /// Writes statements, one after another.
     fn stmts<N: LinkTarget>(&mut self, nodes: &[Stmt<N>])
         ensures items { Performs (in_order (stmt N.answers N.items) nodes.now)

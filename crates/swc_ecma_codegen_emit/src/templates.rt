@@ -6,7 +6,7 @@ ghost use Rattle.swc_ecma_codegen_emit.specs.Standing.{Performs, KeepsLevel};
 ghost use Rattle.swc_ecma_codegen_tokens.specs.Templates.{tpl_element};
 ghost use Rattle.swc_ecma_codegen_emit.specs.Lists.{plainly};
 ghost use Rattle.swc_ecma_codegen_emit.specs.Exprs.{held};
-ghost use Rattle.swc_ecma_codegen_emit.specs.Templates.{tpl_rest, tpl_parts, bad_shape, tpl, is_tagged, tagged_tpl};
+ghost use Rattle.swc_ecma_codegen_emit.specs.Templates.{tpl_rest, tpl_all, tpl_parts, bad_shape, tpl, is_tagged, tagged_tpl};
 
 use crate::emitter::Emitter;
 use crate::nodes::{EmitAt, LinkTarget, Place};
@@ -137,9 +137,10 @@ impl<W: WriteJs, S: SourceMapper, C: Comments> Emitter<'_, W, S, C> {
     }
 
     /// Writes the parts of a template.
-    #[tactic(auto, unfolding(crate::specs::Templates::tpl_parts))]
-    pub(crate) fn tpl_parts<T: EmitAt>(&mut self, tagged: bool, nodes: &[T], quasis: &[TplElement])
-        ensures items { Performs (tpl_parts (plainly T.items) tagged nodes.now quasis.now)
+    #[inline(always)]
+    #[tactic(auto, unfolding(crate::specs::Templates::tpl_all))]
+    fn tpl_all<T: EmitAt>(&mut self, tagged: bool, nodes: &[T], quasis: &[TplElement])
+        ensures items { Performs (tpl_all (plainly T.items) tagged nodes.now quasis.now)
             S.lines C.maps W.sheet self.old self.new }
         ensures level { KeepsLevel S.lines C.maps W.sheet self.old self.new }
     {
@@ -150,6 +151,18 @@ impl<W: WriteJs, S: SourceMapper, C: Comments> Emitter<'_, W, S, C> {
             }
             [] => {}
         }
+    }
+
+    /// Writes the parts of a template: no line may be ended in them.
+    pub(crate) fn tpl_parts<T: EmitAt>(&mut self, tagged: bool, nodes: &[T], quasis: &[TplElement])
+        ensures items { Performs (tpl_parts (plainly T.items) tagged nodes.now quasis.now)
+            S.lines C.maps W.sheet self.old self.new }
+        ensures level { KeepsLevel S.lines C.maps W.sheet self.old self.new }
+    {
+        let max_line = self.cfg.max_line;
+        self.cfg.max_line = None;
+        self.tpl_all(tagged, nodes, quasis);
+        self.cfg.max_line = max_line;
     }
 
     /// Writes the parts of a template, with expressions between.

@@ -5,7 +5,7 @@ ghost use Rattle.swc_ecma_codegen_literals.specs.Punctuators.{spelling};
 ghost use Rattle.swc_ecma_codegen_tokens.specs.Starts.{begins_letter};
 ghost use Rattle.swc_ecma_codegen_tokens.specs.PrivateNames.{private_name};
 ghost use Rattle.swc_ecma_codegen_emit.specs.Standing.{Deepens, Rises, HasLevels, standing_of, Performs, KeepsLevel};
-ghost use Rattle.swc_ecma_codegen_tokens.specs.Words.{keyword, operator, operator_between, punct_between, word_operator, punct, placed_punct, semi, space, formatting_space, formatting_line, line_end, commit_pending_semi, position, position_before, start_of, end_of, last_of, leading_comments, trailing_comments, comments_before_end, name};
+ghost use Rattle.swc_ecma_codegen_tokens.specs.Words.{allow_break, bare_punct, bare_semi, begin_lines, end_lines, keyword, operator, operator_between, punct_between, word_operator, punct, placed_punct, semi, space, formatting_space, formatting_line, line_end, commit_pending_semi, position, position_before, start_of, end_of, last_of, leading_comments, trailing_comments, comments_before_end, name};
 ghost use Rattle.swc_ecma_codegen_tokens.specs.Keys.{key};
 ghost use Rattle.swc_ecma_codegen_tokens.specs.Literals.{hashbang};
 ghost use Rattle.swc_ecma_codegen_tokens.specs.Lists.{deeper, shallower};
@@ -103,6 +103,85 @@ impl<W: WriteJs, S: SourceMapper, C: Comments> Emitter<'_, W, S, C> {
         keep(
             &mut self.refusal,
             self.lower.punct(&self.cfg, &mut self.wr, mark),
+        );
+    }
+
+    /// Writes a punctuator of an element, behind which no line may be ended.
+    #[inline(never)]
+    #[tactic(auto, using(crate::proofs::Standings::refused_makes))]
+    pub(crate) fn bare_punct(&mut self, mark: Punctuator)
+        ensures items { Performs (bare_punct (spelling mark))
+            S.lines C.maps W.sheet self.old self.new }
+        ensures level { KeepsLevel S.lines C.maps W.sheet self.old self.new }
+    {
+        if self.refusal.is_some() {
+            return;
+        }
+        keep(
+            &mut self.refusal,
+            self.lower.bare_punct(&self.cfg, &mut self.wr, mark),
+        );
+    }
+
+    /// Writes a semicolon behind which no line may be ended.
+    #[tactic(auto, using(crate::proofs::Standings::refused_makes))]
+    pub(crate) fn bare_semi(&mut self)
+        ensures items { Performs bare_semi S.lines C.maps W.sheet self.old self.new }
+        ensures level { KeepsLevel S.lines C.maps W.sheet self.old self.new }
+    {
+        if self.refusal.is_some() {
+            return;
+        }
+        keep(
+            &mut self.refusal,
+            self.lower.bare_semi(&self.cfg, &mut self.wr),
+        );
+    }
+
+    /// Here a line may be ended, where lines are bounded.
+    #[inline(always)]
+    #[tactic(auto, using(crate::proofs::Standings::refused_makes))]
+    pub(crate) fn allow_break(&mut self)
+        ensures items { Performs allow_break S.lines C.maps W.sheet self.old self.new }
+        ensures level { KeepsLevel S.lines C.maps W.sheet self.old self.new }
+    {
+        if self.refusal.is_some() {
+            return;
+        }
+        keep(
+            &mut self.refusal,
+            self.lower.allow_break(&self.cfg, &mut self.wr),
+        );
+    }
+
+    /// Lines have at most `max` UTF-16 units from here on, as far as breaks are allowed.
+    #[tactic(auto, using(crate::proofs::Standings::refused_makes))]
+    pub(crate) fn begin_lines(&mut self, max: u32)
+        ensures items { Performs (begin_lines max) S.lines C.maps W.sheet self.old self.new }
+        ensures level { KeepsLevel S.lines C.maps W.sheet self.old self.new }
+        ensures settings { self.new.cfg ≡ self.old.cfg }
+    {
+        if self.refusal.is_some() {
+            return;
+        }
+        keep(
+            &mut self.refusal,
+            self.lower.begin_lines(&self.cfg, &mut self.wr, max),
+        );
+    }
+
+    /// Lines are filled no more.
+    #[tactic(auto, using(crate::proofs::Standings::refused_makes))]
+    pub(crate) fn end_lines(&mut self)
+        ensures items { Performs end_lines S.lines C.maps W.sheet self.old self.new }
+        ensures level { KeepsLevel S.lines C.maps W.sheet self.old self.new }
+    {
+        if self.refusal.is_some() {
+            return;
+        }
+        keep(
+            &mut self.refusal,
+            self.lower.end_lines(&self.cfg, &mut self.wr),
         );
     }
 

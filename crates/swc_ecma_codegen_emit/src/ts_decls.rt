@@ -66,7 +66,7 @@ impl<N: LinkTarget> Child for TsExprWithTypeArgs<N> {
 }
 
 impl<N: LinkTarget> EmitAt for TsInterfaceDecl<N> {
-    ghost items = { λ n _. ts_interface_decl N.answers N.items n };
+    ghost items = { λ n _. ts_interface_decl N.items n };
 
     #[tactic(auto, unfolding(crate::specs::TsDecls::ts_interface_decl))]
     fn emit_at<W: WriteJs, S: SourceMapper, C: Comments>(
@@ -82,7 +82,7 @@ impl<N: LinkTarget> EmitAt for TsInterfaceDecl<N> {
         e.type_params(&self.type_params);
         e.extends_clause(self.span, &self.extends);
         e.formatting_space();
-        self.body.emit_at(e, Place::Plain);
+        self.body.target().emit_at(e, Place::Plain);
     }
 }
 

@@ -1,11 +1,12 @@
 //! Members of object types and of interfaces.
 
 ghost use Rattle.std.specs.Prelude.{◌≡◌};
+ghost use Rattle.swc_ecma_codegen_spans.specs.Spans.{ts_type_element_span};
 ghost use Rattle.swc_ecma_codegen_emit.specs.Standing.{Performs, KeepsLevel};
 ghost use Rattle.swc_ecma_codegen_emit.specs.TsMembers.{signature_key, signature_params, annotation_between, ts_call_signature_decl, params_behind_new, ts_construct_signature_decl, ts_property_signature, getter_annotation, ts_getter_signature, ts_setter_signature, ts_method_signature, readonly_index, index_params, ts_index_signature, ts_signature, ts_type_element, interface_format, interface_members, ts_interface_body};
 
 use crate::emitter::Emitter;
-use crate::nodes::{EmitAt, LinkTarget, Place};
+use crate::nodes::{Child, EmitAt, LinkTarget, Place};
 use swc_ecma_codegen_common::Span;
 use swc_ecma_codegen_grammar::ListFormat;
 use swc_ecma_codegen_grammar::comments::Comments;
@@ -157,6 +158,23 @@ impl<N: LinkTarget> EmitAt for TsTypeElement<N> {
     ) {
         e.ts_signature(self);
         e.semi();
+    }
+}
+
+impl<N: LinkTarget> Child for TsTypeElement<N> {
+    ghost stands = { ts_type_element_span };
+
+    #[tactic(auto, unfolding(swc_ecma_codegen_spans::specs::Spans::ts_type_element_span))]
+    fn place(&self) -> Span {
+        match self {
+            TsTypeElement::TsCallSignatureDecl(node) => node.span,
+            TsTypeElement::TsConstructSignatureDecl(node) => node.span,
+            TsTypeElement::TsPropertySignature(node) => node.span,
+            TsTypeElement::TsGetterSignature(node) => node.span,
+            TsTypeElement::TsSetterSignature(node) => node.span,
+            TsTypeElement::TsMethodSignature(node) => node.span,
+            TsTypeElement::TsIndexSignature(node) => node.span,
+        }
     }
 }
 

@@ -3,7 +3,8 @@
 ghost use Rattle.std.specs.Prelude.{◌≡◌, true};
 ghost use Rattle.swc_ecma_codegen_tokens.specs.Starts.{begins_letter};
 ghost use Rattle.swc_ecma_codegen_emit.specs.Standing.{Performs, KeepsLevel};
-ghost use Rattle.swc_ecma_codegen_emit.specs.Types.{types_format, type_behind, default_type, ts_qualified_name, ts_entity_name, ts_type_ref, listed_types, type_arguments, ts_type_param_instantiation, ts_type_param, listed_params, ts_type_param_decl};
+ghost use Rattle.swc_ecma_codegen_emit.specs.Annotations.{types_format};
+ghost use Rattle.swc_ecma_codegen_emit.specs.Types.{type_behind, default_type, ts_qualified_name, ts_entity_name, ts_type_ref, listed_types, type_arguments, ts_type_param_instantiation, ts_type_param, listed_params, ts_type_param_decl};
 
 use crate::emitter::Emitter;
 use crate::nodes::{Child, EmitAt, LinkTarget, Place};

@@ -5,7 +5,8 @@ ghost use Rattle.swc_ecma_codegen_grammar.specs.TypePhrases.{keyword_of, type_op
 ghost use Rattle.swc_ecma_codegen_tokens.specs.Starts.{begins_letter};
 ghost use Rattle.swc_ecma_codegen_emit.specs.Standing.{Performs, KeepsLevel};
 ghost use Rattle.swc_ecma_codegen_emit.specs.Templates.{tpl_parts};
-ghost use Rattle.swc_ecma_codegen_emit.specs.Types.{type_at, word_before, ts_keyword_type, ts_this_type, ts_tpl_lit_type, ts_lit, ts_lit_type, qualifier, ts_import_type, ts_type_query_expr, ts_type_query, members_format, listed_members, ts_type_lit, ts_array_type, label, ts_tuple_element, listed_elements, ts_tuple_type, ts_optional_type, ts_rest_type, sign, signed_readonly, signed_question, mapped_param, mapped_type_ann, mapped_parts, ts_mapped_type, union_format, intersection_format, joined_list, union_types, intersection_types, ts_union_type, ts_intersection_type, ts_union_or_intersection_type, ts_parenthesized_type, ts_type_operator, ts_indexed_access_type, ts_conditional_type, ts_infer_type, ts_type, ts_type_ann};
+ghost use Rattle.swc_ecma_codegen_emit.specs.Annotations.{word_before};
+ghost use Rattle.swc_ecma_codegen_emit.specs.Types.{type_at, ts_keyword_type, ts_this_type, ts_tpl_lit_type, ts_lit, ts_lit_type, qualifier, ts_import_type, ts_type_query_expr, ts_type_query, members_format, listed_members, ts_type_lit, ts_array_type, label, ts_tuple_element, listed_elements, ts_tuple_type, ts_optional_type, ts_rest_type, union_format, intersection_format, joined_list, union_types, intersection_types, ts_union_type, ts_intersection_type, ts_union_or_intersection_type, ts_parenthesized_type, ts_type_operator, ts_indexed_access_type, ts_conditional_type, ts_infer_type, ts_type, ts_type_ann};
 
 use crate::emitter::Emitter;
 use crate::nodes::{Child, EmitAt, LinkTarget, Place};
@@ -18,12 +19,11 @@ use swc_ecma_codegen_grammar::mapper::SourceMapper;
 use swc_ecma_codegen_literals::Punctuator;
 use swc_ecma_codegen_text_writer::WriteJs;
 use swc_ecma_codegen_tree::{
-    PatBox, TplElement, TruePlusMinus, TsArrayType, TsConditionalType, TsEntityNameBox,
-    TsImportType, TsIndexedAccessType, TsInferType, TsIntersectionType, TsKeywordType,
-    TsKeywordTypeKind, TsLit, TsLitType, TsMappedType, TsOptionalType, TsParenthesizedType,
-    TsRestType, TsThisType, TsTplLitType, TsTupleElement, TsTupleType, TsType, TsTypeAnn,
-    TsTypeBox, TsTypeLit, TsTypeOperator, TsTypeOperatorOp, TsTypeParam, TsTypeQuery,
-    TsTypeQueryExpr, TsUnionOrIntersectionType, TsUnionType,
+    PatBox, TplElement, TsArrayType, TsConditionalType, TsEntityNameBox, TsImportType,
+    TsIndexedAccessType, TsInferType, TsIntersectionType, TsKeywordType, TsKeywordTypeKind, TsLit,
+    TsLitType, TsOptionalType, TsParenthesizedType, TsRestType, TsThisType, TsTplLitType,
+    TsTupleElement, TsTupleType, TsType, TsTypeAnn, TsTypeBox, TsTypeLit, TsTypeOperator,
+    TsTypeOperatorOp, TsTypeQuery, TsTypeQueryExpr, TsUnionOrIntersectionType, TsUnionType,
 };
 
 /// The format of the members of a type.
@@ -314,26 +314,6 @@ impl<N: LinkTarget> EmitAt for TsRestType<N> {
     }
 }
 
-impl<N: LinkTarget> EmitAt for TsMappedType<N> {
-    ghost items = { λ n _. ts_mapped_type N.items n };
-
-    #[tactic(auto, unfolding(crate::specs::Types::ts_mapped_type))]
-    fn emit_at<W: WriteJs, S: SourceMapper, C: Comments>(
-        &self,
-        e: &mut Emitter<'_, W, S, C>,
-        place: Place,
-    ) {
-        e.leading_comments(self.span.lo);
-        e.punct(Punctuator::LeftBrace);
-        e.line();
-        e.deeper();
-        e.mapped_parts(self);
-        e.line();
-        e.shallower();
-        e.punct(Punctuator::RightBrace);
-    }
-}
-
 impl<N: LinkTarget> EmitAt for TsUnionType<N> {
     ghost items = { λ n _. ts_union_type N.answers N.items n };
 
@@ -477,9 +457,9 @@ impl<N: LinkTarget> EmitAt for TsType<N> {
         match self {
             TsType::TsKeywordType(node) => node.emit_at(e, Place::Plain),
             TsType::TsThisType(node) => node.emit_at(e, Place::Plain),
-            TsType::TsFnOrConstructorType(node) => node.emit_at(e, Place::Plain),
+            TsType::TsFnOrConstructorType(node) => (**node).emit_at(e, Place::Plain),
             TsType::TsTypeRef(node) => node.emit_at(e, Place::Plain),
-            TsType::TsTypeQuery(node) => node.emit_at(e, Place::Plain),
+            TsType::TsTypeQuery(node) => (**node).emit_at(e, Place::Plain),
             TsType::TsTypeLit(node) => node.emit_at(e, Place::Plain),
             TsType::TsArrayType(node) => node.emit_at(e, Place::Plain),
             TsType::TsTupleType(node) => node.emit_at(e, Place::Plain),
@@ -487,20 +467,20 @@ impl<N: LinkTarget> EmitAt for TsType<N> {
             TsType::TsRestType(node) => node.emit_at(e, Place::Plain),
             TsType::TsUnionOrIntersectionType(node) => node.emit_at(e, Place::Plain),
             TsType::TsConditionalType(node) => node.emit_at(e, Place::Plain),
-            TsType::TsInferType(node) => node.emit_at(e, Place::Plain),
+            TsType::TsInferType(node) => (**node).emit_at(e, Place::Plain),
             TsType::TsParenthesizedType(node) => node.emit_at(e, Place::Plain),
             TsType::TsTypeOperator(node) => node.emit_at(e, Place::Plain),
             TsType::TsIndexedAccessType(node) => node.emit_at(e, Place::Plain),
-            TsType::TsMappedType(node) => node.emit_at(e, Place::Plain),
-            TsType::TsLitType(node) => node.emit_at(e, Place::Plain),
-            TsType::TsTypePredicate(node) => node.emit_at(e, Place::Plain),
-            TsType::TsImportType(node) => node.emit_at(e, Place::Plain),
+            TsType::TsMappedType(node) => (**node).emit_at(e, Place::Plain),
+            TsType::TsLitType(node) => (**node).emit_at(e, Place::Plain),
+            TsType::TsTypePredicate(node) => (**node).emit_at(e, Place::Plain),
+            TsType::TsImportType(node) => (**node).emit_at(e, Place::Plain),
         }
     }
 }
 
 impl<N: LinkTarget> EmitAt for TsTypeAnn<N> {
-    ghost items = { ts_type_ann N.items };
+    ghost items = { ts_type_ann N.answers N.items };
 
     #[tactic(auto, unfolding(crate::specs::Types::ts_type_ann))]
     fn emit_at<W: WriteJs, S: SourceMapper, C: Comments>(
@@ -509,10 +489,10 @@ impl<N: LinkTarget> EmitAt for TsTypeAnn<N> {
         place: Place,
     ) {
         match place {
-            Place::Reference => self.type_ann.target().emit_at(e, Place::Plain),
+            Place::Reference => self.type_ann.emit_at(e, Place::Plain),
             _ => {
                 e.leading_comments(self.span.lo);
-                self.type_ann.target().emit_at(e, Place::Plain)
+                self.type_ann.emit_at(e, Place::Plain)
             }
         }
     }
@@ -520,7 +500,7 @@ impl<N: LinkTarget> EmitAt for TsTypeAnn<N> {
 
 impl<W: WriteJs, S: SourceMapper, C: Comments> Emitter<'_, W, S, C> {
     /// Writes a word and a blank, where it is so.
-    #[tactic(auto, unfolding(crate::specs::Types::word_before))]
+    #[tactic(auto, unfolding(crate::specs::Annotations::word_before))]
     pub(crate) fn word_before(&mut self, wanted: bool, text: &'static str)
         requires { begins_letter text.now ≡ true }
         ensures items { Performs (word_before wanted text.now)
@@ -590,96 +570,6 @@ impl<W: WriteJs, S: SourceMapper, C: Comments> Emitter<'_, W, S, C> {
         ensures level { KeepsLevel S.lines C.maps W.sheet self.old self.new }
     {
         self.list(types_format(), node.span, &node.elem_types)
-    }
-
-    /// Writes a sign, where there is one.
-    #[tactic(auto, unfolding(crate::specs::Types::sign))]
-    fn sign(&mut self, written: TruePlusMinus)
-        ensures items { Performs (sign written) S.lines C.maps W.sheet self.old self.new }
-        ensures level { KeepsLevel S.lines C.maps W.sheet self.old self.new }
-    {
-        match written {
-            TruePlusMinus::True => {}
-            TruePlusMinus::Plus => self.punct(Punctuator::Plus),
-            TruePlusMinus::Minus => self.punct(Punctuator::Minus),
-        }
-    }
-
-    /// Writes `+readonly `.
-    #[tactic(auto, unfolding(crate::specs::Types::signed_readonly))]
-    fn signed_readonly(&mut self, readonly: Option<TruePlusMinus>)
-        ensures items { Performs (signed_readonly readonly)
-            S.lines C.maps W.sheet self.old self.new }
-        ensures level { KeepsLevel S.lines C.maps W.sheet self.old self.new }
-    {
-        if let Some(sign) = readonly {
-            self.sign(sign);
-            self.keyword(None, "readonly");
-            self.space();
-        }
-    }
-
-    /// Writes `+?`.
-    #[tactic(auto, unfolding(crate::specs::Types::signed_question))]
-    fn signed_question(&mut self, optional: Option<TruePlusMinus>)
-        ensures items { Performs (signed_question optional)
-            S.lines C.maps W.sheet self.old self.new }
-        ensures level { KeepsLevel S.lines C.maps W.sheet self.old self.new }
-    {
-        if let Some(sign) = optional {
-            self.sign(sign);
-            self.punct(Punctuator::Question);
-        }
-    }
-
-    /// Writes `A in B = C as D`.
-    #[tactic(auto, unfolding(crate::specs::Types::mapped_param))]
-    fn mapped_param<N: LinkTarget>(
-        &mut self,
-        node: &TsTypeParam<N>,
-        name_type: &Option<TsTypeBox<N>>,
-    )
-        ensures items { Performs (mapped_param N.items node.now name_type.now)
-            S.lines C.maps W.sheet self.old self.new }
-        ensures level { KeepsLevel S.lines C.maps W.sheet self.old self.new }
-    {
-        node.name.emit_at(self, Place::Plain);
-        self.type_behind("in", &node.constraint);
-        self.default_type(&node.default_);
-        self.type_behind("as", name_type);
-    }
-
-    /// Writes `: A`, with a blank always.
-    #[tactic(auto, unfolding(crate::specs::Types::mapped_type_ann))]
-    fn mapped_type_ann<N: LinkTarget>(&mut self, ty: &Option<TsTypeBox<N>>)
-        ensures items { Performs (mapped_type_ann N.items ty.now)
-            S.lines C.maps W.sheet self.old self.new }
-        ensures level { KeepsLevel S.lines C.maps W.sheet self.old self.new }
-    {
-        match ty {
-            Some(node) => {
-                self.punct(Punctuator::Colon);
-                self.space();
-                node.target().emit_at(self, Place::Plain)
-            }
-            None => {}
-        }
-    }
-
-    /// Writes `readonly [A in B as C]?: D;`.
-    #[tactic(auto, unfolding(crate::specs::Types::mapped_parts))]
-    fn mapped_parts<N: LinkTarget>(&mut self, node: &TsMappedType<N>)
-        ensures items { Performs (mapped_parts N.items node.now)
-            S.lines C.maps W.sheet self.old self.new }
-        ensures level { KeepsLevel S.lines C.maps W.sheet self.old self.new }
-    {
-        self.signed_readonly(node.readonly);
-        self.punct(Punctuator::LeftBracket);
-        self.mapped_param(&node.type_param, &node.name_type);
-        self.punct(Punctuator::RightBracket);
-        self.signed_question(node.optional);
-        self.mapped_type_ann(&node.type_ann);
-        self.semi();
     }
 
     /// Writes types with `|` or `&` between.

@@ -16,7 +16,7 @@ ghost use Rattle.swc_ecma_codegen_text_writer.specs.Recorded.{RecordsTruly};
 ghost use Rattle.swc_ecma_codegen_text_writer.specs.Told.{told};
 ghost use Rattle.swc_ecma_codegen_text_writer.specs.View.{sheet_of, new_sheet, keeping};
 ghost use Rattle.swc_ecma_codegen_tokens.specs.Ready.{token_count};
-ghost use Rattle.swc_ecma_codegen_tokens.specs.Run.{maps_after, start, steps_in, steps_of};
+ghost use Rattle.swc_ecma_codegen_tokens.specs.Run.{maps_after, start, steps_in, steps_of, unlined};
 ghost use Rattle.swc_ecma_codegen_tokens.specs.Written.{AddsReading, AddsText, ReadsAs, taken_remarks};
 ghost use Rattle.swc_ecma_codegen_emit.specs.Roots.{Root, root_items, root_phrase, is_well_formed_root, MayBegin};
 ghost use Rattle.swc_ecma_codegen_emit.specs.Texts.{blank_sheet, GivesCause};
@@ -130,7 +130,8 @@ fn printed_on<P: Node, W: WriteJs + Drop>(
     ensures reads { (root : Root) → P.part node.now ≡ root_items root →
         is_well_formed_root root ≡ true →
         MayBegin root (start no_lines no_maps config (W.sheet wr)) →
-        IfOk result (λ w. AddsReading config (root_phrase root) [] (W.sheet wr) (W.sheet w)) }
+        IfOk result (λ w.
+        AddsReading (unlined config) (root_phrase root) [] (W.sheet wr) (W.sheet w)) }
     // Each position that it records holds the line and column that the text had reached.
     ensures recorded { IfOk result (λ w. RecordsTruly (W.sheet wr) (W.sheet w)) }
     // It is refused for the cause that the error names.

@@ -8,7 +8,7 @@ use Rattle.swc_ecma_codegen_grammar.proofs.JsxShapes.{jsx_name_head, jsx_string_
 use Rattle.swc_ecma_codegen_grammar.proofs.Marks.{punctuator_among}
 use Rattle.swc_ecma_codegen_grammar.proofs.NameShapes.{name_head, private_head, starts_name, word_name}
 use Rattle.swc_ecma_codegen_grammar.proofs.NumberShapes.{big_numeric, number_head, number_numeric}
-use Rattle.swc_ecma_codegen_grammar.proofs.Reading.{reads}
+use Rattle.swc_ecma_codegen_grammar.proofs.Reading.{reads, broken_stays}
 use Rattle.swc_ecma_codegen_grammar.proofs.RegexShapes.{regex_head}
 use Rattle.swc_ecma_codegen_grammar.proofs.StringShapes.{string_head}
 use Rattle.swc_ecma_codegen_grammar.proofs.Tables.{blank_ne, each, each_at, each_begins}
@@ -18,7 +18,7 @@ use Rattle.swc_ecma_codegen_grammar.specs.Endings.{IsAtEnd, IsReduced, ends, is_
 use Rattle.swc_ecma_codegen_grammar.specs.GapRules.{Separated, IntegerEnd, PreviousToken, LessBang, LineEnd, Mark, MayBegin, Start, TagNameEnd, TextEnd, Whole, WordEnd, allows, ends_line, ends_text, fuses, grows, holds_child, last_after, last_after_gap, mark_after, mark_fuses}
 use Rattle.swc_ecma_codegen_grammar.specs.Jsx.{is_jsx_open}
 use Rattle.swc_ecma_codegen_grammar.specs.Numbers.{takes_dot}
-use Rattle.swc_ecma_codegen_grammar.specs.Parts.{Gap, IsEnding, NoneFuse, Own, Part, Reduced, remarks_in, text_of, tokens_of, Joint, OfLine, OnLine, PastLine, AtJoint, Broken, walk, over_own, over_gap, over_joint, is_broken, KeepsLines}
+use Rattle.swc_ecma_codegen_grammar.specs.Parts.{Gap, IsEnding, NoneFuse, Own, Part, Reduced, remarks_in, text_of, tokens_of, Joint, Break, begins_break, OfLine, OnLine, PastLine, AtJoint, Broken, walk, over_own, over_gap, over_joint, is_broken, KeepsLines}
 use Rattle.swc_ecma_codegen_grammar.specs.Punctuators.{punctuators}
 use Rattle.swc_ecma_codegen_grammar.specs.Reads.{Reads, is_child}
 use Rattle.swc_ecma_codegen_grammar.specs.RegularExpressions.{is_regex}
@@ -109,6 +109,20 @@ ending_allowed Whole c n a h = refl
 ending_allowed TextEnd c n a h = absurd (true≢false (sym a))
 ending_allowed TagNameEnd c n a h = ap not (ending_ne (λ c. begins (codes "-") (c ∷ n)) c h refl refl)
 ending_allowed LineEnd c n a h = absurd (true≢false (sym a))
+
+-- and a line may be ended
+line_allowed : (k : PreviousToken) → allows k (codes ";") ≡ true → allows k (10 ∷ []) ≡ true
+unfolding allows ends_text ends_line begins is_line_end
+line_allowed Start a = refl
+line_allowed Separated a = refl
+line_allowed WordEnd a = refl
+line_allowed IntegerEnd a = refl
+line_allowed (Mark m) a = refl
+line_allowed LessBang a = refl
+line_allowed Whole a = refl
+line_allowed TextEnd a = absurd (true≢false (sym a))
+line_allowed TagNameEnd a = refl
+line_allowed LineEnd a = refl
 
 end_allowed : (k : PreviousToken) → allows k (codes ";") ≡ true → allows k [] ≡ true
 unfolding allows ends_text ends_line begins is_line_end
@@ -242,6 +256,7 @@ unfolding NoneFuse IsEnding
 drop_semi k [] r a h e = end_allowed k a
 drop_semi k (Gap ps ∷ xs) r a h e = absurd e
 drop_semi k (Joint ∷ xs) r a h e = absurd e
+drop_semi k (Break ∷ xs) r a h e = (line_allowed k a, drop_semi k xs r a h.1 e, h.2)
 drop_semi k (Own y [] ∷ xs) r a h e = absurd (some_text y h.0)
 drop_semi k (Own y (c ∷ n) ∷ xs) r a h e =
     let i = ending_char c n e in (
@@ -259,23 +274,35 @@ semi_parts k x t xs e a h =
     let g : t ≡ codes ";" = cc e in
     (subst (λ z. allows k z ≡ true) g a, subst (λ z. NoneFuse (last_after k Ending z) xs) g (subst (λ z. NoneFuse (last_after k z t) xs) f h))
 
+apart_is_real : IsReal Separated
+unfolding IsReal
+apart_is_real = tt
+
 reduced_fuses : (xs ys : List Part) (k : PreviousToken) → IsReal k → NoneFuse k xs → Reduced xs ys → NoneFuse k ys
 unfolding NoneFuse Reduced
 reduced_fuses [] ys k r h e = let P : List Part → Type 0 = λ z. NoneFuse k z in subst P (sym e) h
 reduced_fuses (Gap ps ∷ xs) ys k r h (inl e) =
     let P : List Part → Type 0 = λ z. NoneFuse k z in
     subst P (sym e.1) (h.0, h.1, h.2, reduced_fuses xs e.0 (last_after_gap k ps) (real_gap k ps r) h.3 e.2)
-reduced_fuses (Gap ps ∷ xs) ys k r h (inr e) = absurd (cc e.0)
+reduced_fuses (Gap ps ∷ xs) ys k r h (inr (inl e)) = absurd (cc e.0)
+reduced_fuses (Gap ps ∷ xs) ys k r h (inr (inr e)) = absurd (cc e.0)
 reduced_fuses (Joint ∷ xs) ys k r h (inl e) =
     let P : List Part → Type 0 = λ z. NoneFuse k z in
     subst P (sym e.1) (reduced_fuses xs e.0 k r h e.2)
-reduced_fuses (Joint ∷ xs) ys k r h (inr e) = absurd (cc e.0)
+reduced_fuses (Joint ∷ xs) ys k r h (inr (inl e)) = absurd (cc e.0)
+reduced_fuses (Joint ∷ xs) ys k r h (inr (inr e)) = absurd (cc e.0)
+reduced_fuses (Break ∷ xs) ys k r h (inl e) =
+    let P : List Part → Type 0 = λ z. NoneFuse k z in
+    subst P (sym e.1) (h.0, reduced_fuses xs e.0 k r h.1 e.2, reduced_fuses xs e.0 Separated apart_is_real h.2 e.2)
+reduced_fuses (Break ∷ xs) ys k r h (inr (inl e)) = absurd (cc e.0)
+reduced_fuses (Break ∷ xs) ys k r h (inr (inr e)) = reduced_fuses xs ys k r h.1 e.1
 reduced_fuses (Own x t ∷ xs) ys k r h (inl e) =
     let P : List Part → Type 0 = λ z. NoneFuse k z in
     subst P (sym e.1) (h.0, h.1, h.2, h.3, reduced_fuses xs e.0 (last_after k x t) (real_own k x t h.0) h.4 e.2)
-reduced_fuses (Own x t ∷ xs) ys k r h (inr e) =
+reduced_fuses (Own x t ∷ xs) ys k r h (inr (inl e)) =
     let p = semi_parts k x t xs e.0 h.3 h.4 in
-    reduced_fuses xs ys k r (drop_semi k xs r p.0 p.1 e.1) e.2
+    reduced_fuses xs ys k r (drop_semi k xs r p.0 p.1 e.1) e.3
+reduced_fuses (Own x t ∷ xs) ys k r h (inr (inr e)) = absurd (cc e.0)
 
 start_is_real : IsReal Start
 unfolding IsReal
@@ -301,24 +328,67 @@ whole_before PastLine h = refl
 whole_before AtJoint h = refl
 whole_before Broken h = h
 
--- what a dropped semicolon stood before is a token, or nothing
-ending_walk : (xs : List Part) (w : OfLine) → IsEnding xs → is_broken (walk (over_own w) xs) ≡ false → is_broken (walk w xs) ≡ false
-unfolding walk IsEnding
-ending_walk [] w e h = whole_before w h
-ending_walk (Gap ps ∷ xs) w e h = absurd e
-ending_walk (Joint ∷ xs) w e h = absurd e
-ending_walk (Own x t ∷ xs) w e h = subst (λ z. is_broken (walk z xs) ≡ false) (own_again w) h
+-- where a line may end, none need
+gap_first : (o : Bool) (xs : List Part) → (is_broken (walk PastLine xs) ≡ false → is_broken (walk OnLine xs) ≡ false) → is_broken (walk (over_gap o PastLine) xs) ≡ false → is_broken (walk (over_gap o OnLine) xs) ≡ false
+unfolding over_gap
+gap_first true xs f h = f h
+gap_first false xs f h = h
+
+past_first : (xs : List Part) → is_broken (walk PastLine xs) ≡ false → is_broken (walk OnLine xs) ≡ false
+unfolding walk over_gap over_own over_joint is_broken
+past_first [] h = refl
+past_first (Gap ps ∷ xs) h = gap_first (is_one_line (pieces_text ps)) xs (λ k. past_first xs k) h
+past_first (Own x t ∷ xs) h = h
+past_first (Joint ∷ xs) h = absurd (true≢false (sym (broken_stays xs) ∙ h))
+past_first (Break ∷ xs) h = h
+
+pub none_ends : (xs : List Part) (w : OfLine) → is_broken (walk (over_gap false w) xs) ≡ false → is_broken (walk w xs) ≡ false
+unfolding over_gap
+none_ends xs OnLine h = past_first xs h
+none_ends xs PastLine h = h
+none_ends xs AtJoint h = absurd (true≢false (sym (broken_stays xs) ∙ h))
+none_ends xs Broken h = h
+
+-- what a dropped semicolon stood before is a token, or nothing, behind places where a line may be ended
+own_before : (w : OfLine) (xs : List Part) → is_broken (walk (over_own (over_own w)) xs) ≡ false → is_broken (walk (over_own w) xs) ≡ false
+own_before w xs h = subst (λ z. is_broken (walk z xs) ≡ false) (own_again w) h
+
+kept_break : (zs : List Part) → begins_break (Break ∷ zs) ≡ false → ⊥
+unfolding begins_break
+kept_break zs e = true≢false e
+
+-- where parts lead from here, or from behind a semicolon that is dropped
+unfoldable LeadsOn : Bool → OfLine → List Part → List Part → Type 0
+LeadsOn false w xs ys = is_broken (walk w xs) ≡ false
+LeadsOn true w xs ys = IsEnding xs × (begins_break ys ≡ false) × (is_broken (walk (over_own w) xs) ≡ false)
+
+keeps_on : (xs ys : List Part) (b : Bool) (w : OfLine) → Reduced xs ys → LeadsOn b w xs ys → is_broken (walk w ys) ≡ false
+unfolding walk Reduced LeadsOn IsEnding
+keeps_on [] ys false w e h = subst (λ (z : List Part). is_broken (walk w z) ≡ false) (sym e) h
+keeps_on [] ys true w e h = subst (λ (z : List Part). is_broken (walk w z) ≡ false) (sym e) (whole_before w h.2)
+keeps_on (Gap ps ∷ xs) ys true w e h = absurd h.0
+keeps_on (Gap ps ∷ xs) ys false w (inl e) h = subst (λ (z : List Part). is_broken (walk w z) ≡ false) (sym e.1) (keeps_on xs e.0 false (over_gap (is_one_line (pieces_text ps)) w) e.2 h)
+keeps_on (Gap ps ∷ xs) ys false w (inr (inl e)) h = absurd (cc e.0)
+keeps_on (Gap ps ∷ xs) ys false w (inr (inr e)) h = absurd (cc e.0)
+keeps_on (Joint ∷ xs) ys true w e h = absurd h.0
+keeps_on (Joint ∷ xs) ys false w (inl e) h = subst (λ (z : List Part). is_broken (walk w z) ≡ false) (sym e.1) (keeps_on xs e.0 false (over_joint w) e.2 h)
+keeps_on (Joint ∷ xs) ys false w (inr (inl e)) h = absurd (cc e.0)
+keeps_on (Joint ∷ xs) ys false w (inr (inr e)) h = absurd (cc e.0)
+keeps_on (Break ∷ xs) ys false w (inl e) h = subst (λ (z : List Part). is_broken (walk w z) ≡ false) (sym e.1) (keeps_on xs e.0 false (over_gap false w) e.2 h)
+keeps_on (Break ∷ xs) ys true w (inl e) h = absurd (kept_break e.0 (sym (ap begins_break e.1) ∙ h.1))
+keeps_on (Break ∷ xs) ys b w (inr (inl e)) h = absurd (cc e.0)
+keeps_on (Break ∷ xs) ys false w (inr (inr e)) h = keeps_on xs ys false w e.1 (none_ends xs w h)
+keeps_on (Break ∷ xs) ys true w (inr (inr e)) h = keeps_on xs ys true w e.1 (h.0, h.1, none_ends xs (over_own w) h.2)
+keeps_on (Own x t ∷ xs) ys false w (inl e) h = subst (λ (z : List Part). is_broken (walk w z) ≡ false) (sym e.1) (keeps_on xs e.0 false (over_own w) e.2 h)
+keeps_on (Own x t ∷ xs) ys true w (inl e) h = subst (λ (z : List Part). is_broken (walk w z) ≡ false) (sym e.1) (keeps_on xs e.0 false (over_own w) e.2 (own_before w xs h.2))
+keeps_on (Own x t ∷ xs) ys false w (inr (inl e)) h = keeps_on xs ys true w e.3 (e.1, e.2, h)
+keeps_on (Own x t ∷ xs) ys true w (inr (inl e)) h = keeps_on xs ys true w e.3 (e.1, e.2, own_before w xs h.2)
+keeps_on (Own x t ∷ xs) ys b w (inr (inr e)) h = absurd (cc e.0)
 
 -- no line ends where none may, where none did before
 pub keeps_reduced : (xs ys : List Part) (w : OfLine) → Reduced xs ys → is_broken (walk w xs) ≡ false → is_broken (walk w ys) ≡ false
-unfolding walk Reduced
-keeps_reduced [] ys w e h = subst (λ (z : List Part). is_broken (walk w z) ≡ false) (sym e) h
-keeps_reduced (Gap ps ∷ xs) ys w (inl e) h = subst (λ (z : List Part). is_broken (walk w z) ≡ false) (sym e.1) (keeps_reduced xs e.0 (over_gap (is_one_line (pieces_text ps)) w) e.2 h)
-keeps_reduced (Gap ps ∷ xs) ys w (inr e) h = absurd (cc e.0)
-keeps_reduced (Joint ∷ xs) ys w (inl e) h = subst (λ (z : List Part). is_broken (walk w z) ≡ false) (sym e.1) (keeps_reduced xs e.0 (over_joint w) e.2 h)
-keeps_reduced (Joint ∷ xs) ys w (inr e) h = absurd (cc e.0)
-keeps_reduced (Own x t ∷ xs) ys w (inl e) h = subst (λ (z : List Part). is_broken (walk w z) ≡ false) (sym e.1) (keeps_reduced xs e.0 (over_own w) e.2 h)
-keeps_reduced (Own x t ∷ xs) ys w (inr e) h = keeps_reduced xs ys w e.2 (ending_walk xs w e.1 h)
+unfolding LeadsOn
+keeps_reduced xs ys w e h = keeps_on xs ys false w e h
 
 -- what is left reads as the tokens that are left
 pub reads_reduced : (xs ys : List Part) → NoneFuse Start xs → KeepsLines xs → Reduced xs ys → Reads (text_of ys) (tokens_of ys) (remarks_in ys)
@@ -382,6 +452,7 @@ unfolding NoneFuse IsEnding IsAtEnd tokens_of
 ends_after k [] h e = tt
 ends_after k (Gap ps ∷ xs) h e = absurd e
 ends_after k (Joint ∷ xs) h e = absurd e
+ends_after k (Break ∷ xs) h e = ends_after k xs h.1 e
 ends_after k (Own y [] ∷ xs) h e = absurd (some_text y h.0)
 ends_after k (Own y (c ∷ n) ∷ xs) h e = token_ends y c n h.0 (subst (λ z. MayBegin z y) (mark_ending k 59 [] refl) h.2) e
 
@@ -389,17 +460,30 @@ reduced_tokens : (xs ys : List Part) (k : PreviousToken) → NoneFuse k xs → R
 unfolding NoneFuse Reduced IsReduced tokens_of
 reduced_tokens [] ys k h e = ap tokens_of e
 reduced_tokens (Gap ps ∷ xs) ys k h (inl e) = subst (λ z. IsReduced (tokens_of xs) z) (sym (ap tokens_of e.1)) (reduced_tokens xs e.0 (last_after_gap k ps) h.3 e.2)
-reduced_tokens (Gap ps ∷ xs) ys k h (inr e) = absurd (cc e.0)
+reduced_tokens (Gap ps ∷ xs) ys k h (inr (inl e)) = absurd (cc e.0)
+reduced_tokens (Gap ps ∷ xs) ys k h (inr (inr e)) = absurd (cc e.0)
 reduced_tokens (Joint ∷ xs) ys k h (inl e) = inl (tokens_of e.0, ap tokens_of e.1, reduced_tokens xs e.0 k h e.2)
-reduced_tokens (Joint ∷ xs) ys k h (inr e) = absurd (cc e.0)
+reduced_tokens (Joint ∷ xs) ys k h (inr (inl e)) = absurd (cc e.0)
+reduced_tokens (Joint ∷ xs) ys k h (inr (inr e)) = absurd (cc e.0)
+reduced_tokens (Break ∷ xs) ys k h (inl e) = subst (λ z. IsReduced (tokens_of xs) z) (sym (ap tokens_of e.1)) (reduced_tokens xs e.0 k h.1 e.2)
+reduced_tokens (Break ∷ xs) ys k h (inr (inl e)) = absurd (cc e.0)
+reduced_tokens (Break ∷ xs) ys k h (inr (inr e)) = reduced_tokens xs ys k h.1 e.1
 reduced_tokens (Own x t ∷ xs) ys k h (inl e) = inl (tokens_of e.0, ap tokens_of e.1, reduced_tokens xs e.0 (last_after k x t) h.4 e.2)
-reduced_tokens (Own x t ∷ xs) ys k h (inr e) = inr (semi_token x t e.0, ends_after k xs (semi_parts k x t xs e.0 h.3 h.4).1 e.1, reduced_tokens xs ys (last_after k x t) h.4 e.2)
+reduced_tokens (Own x t ∷ xs) ys k h (inr (inl e)) = inr (semi_token x t e.0, ends_after k xs (semi_parts k x t xs e.0 h.3 h.4).1 e.1, reduced_tokens xs ys (last_after k x t) h.4 e.3)
+reduced_tokens (Own x t ∷ xs) ys k h (inr (inr e)) = absurd (cc e.0)
 
 -- what is left are the tokens but for some ending semicolons, which aren't needed where they stand
 pub tokens_reduced : (xs ys : List Part) → NoneFuse Start xs → Reduced xs ys → IsReduced (tokens_of xs) (tokens_of ys)
 tokens_reduced xs ys h e = reduced_tokens xs ys Start h e
 
 -- ---- laws of dropping
+
+-- what begins with a token goes on beginning with one
+pub own_first : (x : Kind) (t : List ℕ) (xs ys : List Part) → Reduced (Own x t ∷ xs) ys → begins_break ys ≡ false
+unfolding Reduced begins_break
+own_first x t xs ys (inl e) = ap begins_break e.1
+own_first x t xs ys (inr (inl e)) = e.2
+own_first x t xs ys (inr (inr e)) = absurd (cc e.0)
 
 -- nothing need be dropped
 pub reduced_same : (xs : List Part) → Reduced xs xs
@@ -440,4 +524,5 @@ unfolding NoneFuse
 without_last_gap k [] ps h = end_for_gap k ps h.0 h.2
 without_last_gap k (Gap qs ∷ xs) ps h = (h.0, h.1, h.2, without_last_gap (last_after_gap k qs) xs ps h.3)
 without_last_gap k (Joint ∷ xs) ps h = without_last_gap k xs ps h
+without_last_gap k (Break ∷ xs) ps h = (h.0, without_last_gap k xs ps h.1, without_last_gap Separated xs ps h.2)
 without_last_gap k (Own x t ∷ xs) ps h = (h.0, h.1, h.2, h.3, without_last_gap (last_after k x t) xs ps h.4)

@@ -5,6 +5,7 @@ pub mod HashbangShapes
 pub mod Heads
 pub mod JsxShapes
 pub mod LayoutLaws
+pub mod LineEnds
 pub mod Lists
 pub mod Longest
 pub mod Mapped

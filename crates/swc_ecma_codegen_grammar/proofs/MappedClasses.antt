@@ -36,11 +36,10 @@ use Rattle.swc_ecma_codegen_grammar.specs.declared.roles.Role.TheVariants.{Class
 use Rattle.swc_ecma_codegen_grammar.specs.PatPhrases.{assign_pat, initializer}
 use Rattle.swc_ecma_codegen_grammar.specs.FunctionPhrases.{decorator, param, function_body, word_if}
 use Rattle.swc_ecma_codegen_grammar.specs.ClassPhrases.{member_at, decorators, class_head, heritage, implements_clause, class_tail, accessibility, ts_param_prop_param, ts_param_prop, constructor_param, class_constructor, method_decorators, method_tail, accessor_tail, tail_role, kind_head, method_kind, class_method, private_method, prop_value, prop_modifiers, class_prop, private_modifiers, private_prop, accessor_key, accessor_modifiers, auto_accessor, static_block, class_member}
-use Rattle.swc_ecma_codegen_grammar.specs.MemberPhrases.{ts_index_signature}
+use Rattle.swc_ecma_codegen_grammar.specs.MemberPhrases.{ts_index_signature, signature_param_at}
 use Rattle.swc_ecma_codegen_grammar.specs.NamePhrases.{binding_ident}
 use Rattle.swc_ecma_codegen_grammar.specs.PartPhrases.{expr_part, stmt_part}
 use Rattle.swc_ecma_codegen_grammar.specs.TsDeclPhrases.{ts_expr_with_type_args}
-use Rattle.swc_ecma_codegen_grammar.specs.TypePhrases.{signature_param_at}
 use Rattle.swc_ecma_codegen_grammar.specs.TreePhrases.{node_phrase}
 use Rattle.swc_ecma_codegen_grammar.proofs.Mapped.{list_mapped}
 use Rattle.swc_ecma_codegen_grammar.proofs.MappedFunctions.{param_mapped, with_parts}

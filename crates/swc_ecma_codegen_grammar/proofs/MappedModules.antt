@@ -1,5 +1,5 @@
 -- Productions of modules see what links hold through f alone.
-use Rattle.std.proofs.Common.{◌≡◌, refl, codes, Option, Some, None, Box, Global}
+use Rattle.std.proofs.Common.{◌≡◌, refl, ap, codes, Option, Some, None, Box, Global}
 use Rattle.swc_ecma_codegen_tree.specs.Links.{ObjectLitBox, TsTypeParamDeclBox}
 use Rattle.swc_ecma_codegen_tree.specs.declared.links.AnyNode.{AnyNode-F, map-AnyNode}
 use Rattle.swc_ecma_codegen_tree.specs.declared.links.AnyNode.TheOpen as nodes
@@ -26,14 +26,14 @@ use Rattle.swc_ecma_codegen_grammar.specs.ClassPhrases.{class_expr}
 use Rattle.swc_ecma_codegen_grammar.specs.FunctionPhrases.{fn_expr}
 use Rattle.swc_ecma_codegen_grammar.specs.ModulePhrases.{attributes, from_clause, import_decl, export_named, export_all, exported_head, exported_tail, export_decl, default_decl, export_default_decl, export_default_expr, module_decl}
 use Rattle.swc_ecma_codegen_grammar.specs.AnnotationPhrases.{type_args, type_params}
-use Rattle.swc_ecma_codegen_grammar.specs.MemberPhrases.{ts_interface_body}
+use Rattle.swc_ecma_codegen_grammar.specs.MemberPhrases.{interface_body_at}
 use Rattle.swc_ecma_codegen_grammar.specs.NamePhrases.{ident}
 use Rattle.swc_ecma_codegen_grammar.specs.TypePhrases.{params_at}
 use Rattle.swc_ecma_codegen_grammar.specs.PartPhrases.{stmt_part}
 use Rattle.swc_ecma_codegen_grammar.specs.TsDeclPhrases.{declare_word, ts_expr_with_type_args, ts_interface_decl, ts_module_ref, ts_import_equals_decl, ts_export_assignment}
 use Rattle.swc_ecma_codegen_grammar.specs.TreePhrases.{node_phrase}
 use Rattle.swc_ecma_codegen_grammar.proofs.MappedStmts.{decl_mapped}
-use Rattle.swc_ecma_codegen_grammar.proofs.MappedTsDecls.{interface_same, by_args}
+use Rattle.swc_ecma_codegen_grammar.proofs.MappedTsDecls.{extends_mapped, by_args}
 
 abbrev as_decl : {X : Type 0} → Box (ModuleDecl X) Global → ModuleDecl X → AnyNode-F X
 as_decl b n = nodes.StmtPart (stmt_parts.ModuleDecl (record b { value = n }))
@@ -56,9 +56,9 @@ all_by g f b n None = refl
 all_by g f b n (Some w) = refl
 
 default_interface : {X Y : Type 0} (g : X → Y) (f : Y → Role → Phrase) (b : Box (ModuleDecl X) Global) (n : ExportDefaultDecl X) (i : TsInterfaceDecl X) (type_params : Option (TsTypeParamDeclBox X)) → node_phrase f (map-AnyNode X Y g (as_decl b (module_decls.ExportDefaultDecl (record n { decl = default_decls.TsInterfaceDecl (record i { type_params = type_params }) })))) ModuleDeclaration ≡ export_default_decl (λ x. f (g x)) (record n { decl = default_decls.TsInterfaceDecl (record i { type_params = type_params }) })
-unfolding node_phrase stmt_part module_decl export_default_decl default_decl ts_interface_decl ts_interface_body ts_expr_with_type_args type_params type_args
-default_interface {X} {Y} g f b n i None = interface_same {X = X} {Y = Y} _ _ f (λ x. f (g x)) (by_args {X = X} _ (λ e. refl) (λ e t. refl)) (λ m. refl) (λ z. word (codes "export") > word (codes "default") > declare_word i.declare > word (codes "interface") > ident i.id > Nothing > z) i.extends.items i.body.body.items
-default_interface {X} {Y} g f b n i (Some t) = interface_same {X = X} {Y = Y} _ _ f (λ x. f (g x)) (by_args {X = X} _ (λ e. refl) (λ e t. refl)) (λ m. refl) (λ z. word (codes "export") > word (codes "default") > declare_word i.declare > word (codes "interface") > ident i.id > params_at (λ x. f (g x)) t > z) i.extends.items i.body.body.items
+unfolding node_phrase stmt_part module_decl export_default_decl default_decl ts_interface_decl ts_expr_with_type_args type_params type_args
+default_interface {X} {Y} g f b n i None = ap (λ z. word (codes "export") > word (codes "default") > declare_word i.declare > word (codes "interface") > ident i.id > Nothing > z > interface_body_at (λ x. f (g x)) i.body) (extends_mapped {X = X} {Y = Y} _ f (λ x. f (g x)) (by_args {X = X} _ (λ e. refl) (λ e t. refl)) i.extends.items)
+default_interface {X} {Y} g f b n i (Some t) = ap (λ z. word (codes "export") > word (codes "default") > declare_word i.declare > word (codes "interface") > ident i.id > params_at (λ x. f (g x)) t > z > interface_body_at (λ x. f (g x)) i.body) (extends_mapped {X = X} {Y = Y} _ f (λ x. f (g x)) (by_args {X = X} _ (λ e. refl) (λ e t. refl)) i.extends.items)
 
 default_by : {X Y : Type 0} (g : X → Y) (f : Y → Role → Phrase) (b : Box (ModuleDecl X) Global) (n : ExportDefaultDecl X) (decl : DefaultDecl X) → node_phrase f (map-AnyNode X Y g (as_decl b (module_decls.ExportDefaultDecl (record n { decl = decl })))) ModuleDeclaration ≡ export_default_decl (λ x. f (g x)) (record n { decl = decl })
 unfolding node_phrase stmt_part module_decl export_default_decl default_decl class_expr fn_expr

@@ -1,8 +1,8 @@
 -- The productions of declarations of TypeScript see what links hold through f alone.
-use Rattle.std.proofs.Common.{◌≡◌, refl, ◌∙◌, ap, List, [], ◌∷◌, map, codes, Option, Some, None, Box, Global}
+use Rattle.std.proofs.Common.{◌≡◌, refl, ap, List, [], ◌∷◌, map, codes, Option, Some, None, Box, Global}
 use Rattle.swc_ecma_codegen_tree.specs.declared.links.AnyNode.{map-AnyNode}
 use Rattle.swc_ecma_codegen_tree.specs.declared.links.AnyNode.TheOpen as nodes
-use Rattle.swc_ecma_codegen_tree.specs.Links.{ExprBox, TsNamespaceBodyBox, TsTypeElementBox, TsTypeParamDeclBox, TsTypeParamInstantiationBox}
+use Rattle.swc_ecma_codegen_tree.specs.Links.{ExprBox, TsNamespaceBodyBox, TsTypeParamDeclBox, TsTypeParamInstantiationBox}
 use Rattle.swc_ecma_codegen_tree.specs.declared.parts.StmtPart.TheVariants as stmt_parts
 use Rattle.swc_ecma_codegen_tree.specs.declared.decls.Decl.TheVariants as decls
 use Rattle.swc_ecma_codegen_tree.specs.declared.ts_decls.TsEnumDecl.{TsEnumDecl}
@@ -15,12 +15,12 @@ use Rattle.swc_ecma_codegen_grammar.specs.Phrases.{Phrase, Nothing, ◌>◌, mar
 use Rattle.swc_ecma_codegen_grammar.specs.AnnotationPhrases.{type_args, type_params}
 use Rattle.swc_ecma_codegen_grammar.specs.DeclPhrases.{decl}
 use Rattle.swc_ecma_codegen_grammar.specs.FunctionPhrases.{word_if}
-use Rattle.swc_ecma_codegen_grammar.specs.MemberPhrases.{ts_interface_body}
+use Rattle.swc_ecma_codegen_grammar.specs.MemberPhrases.{interface_body_at}
 use Rattle.swc_ecma_codegen_grammar.specs.NamePhrases.{ident}
 use Rattle.swc_ecma_codegen_grammar.specs.PartPhrases.{stmt_part}
 use Rattle.swc_ecma_codegen_grammar.specs.PatPhrases.{initializer}
 use Rattle.swc_ecma_codegen_grammar.specs.TsDeclPhrases.{declare_word, ts_expr_with_type_args, extends_clause, ts_interface_decl, ts_type_alias_decl, ts_enum_member, ts_enum_decl, module_tail, ts_module_decl}
-use Rattle.swc_ecma_codegen_grammar.specs.TypePhrases.{type_member_at, params_at}
+use Rattle.swc_ecma_codegen_grammar.specs.TypePhrases.{params_at}
 use Rattle.swc_ecma_codegen_grammar.specs.declared.roles.Role.{Role}
 use Rattle.swc_ecma_codegen_grammar.specs.declared.roles.Role.TheVariants.{Declaration}
 use Rattle.swc_ecma_codegen_grammar.specs.TreePhrases.{node_phrase}
@@ -36,21 +36,15 @@ with_args P n (Some t) bare typed = typed t
 pub by_args : {X : Type 0} (P : TsExprWithTypeArgs X → Type 0) → ((n : TsExprWithTypeArgs X) → P (record n { type_args = None })) → ((n : TsExprWithTypeArgs X) (t : TsTypeParamInstantiationBox X) → P (record n { type_args = Some t })) → (n : TsExprWithTypeArgs X) → P n
 by_args P bare typed n = with_args P n n.type_args (bare n) (typed n)
 
-extends_mapped : {X Y : Type 0} (g : TsExprWithTypeArgs X → TsExprWithTypeArgs Y) (f : Y → Role → Phrase) (d : X → Role → Phrase) → ((n : TsExprWithTypeArgs X) → ts_expr_with_type_args f (g n) ≡ ts_expr_with_type_args d n) → (ns : List (TsExprWithTypeArgs X)) → extends_clause f (map g ns) ≡ extends_clause d ns
+pub extends_mapped : {X Y : Type 0} (g : TsExprWithTypeArgs X → TsExprWithTypeArgs Y) (f : Y → Role → Phrase) (d : X → Role → Phrase) → ((n : TsExprWithTypeArgs X) → ts_expr_with_type_args f (g n) ≡ ts_expr_with_type_args d n) → (ns : List (TsExprWithTypeArgs X)) → extends_clause f (map g ns) ≡ extends_clause d ns
 unfolding extends_clause
 extends_mapped g f d same [] = refl
 extends_mapped g f d same (n ∷ ns) = ap (λ ps. word (codes "extends") > listed (codes ",") ps) (list_mapped g (ts_expr_with_type_args f) (ts_expr_with_type_args d) same (n ∷ ns))
 
--- what is extended, and then the members
-pub interface_same : {X Y : Type 0} (e : TsExprWithTypeArgs X → TsExprWithTypeArgs Y) (m : TsTypeElementBox X → TsTypeElementBox Y) (f : Y → Role → Phrase) (d : X → Role → Phrase) → ((n : TsExprWithTypeArgs X) → ts_expr_with_type_args f (e n) ≡ ts_expr_with_type_args d n) → ((n : TsTypeElementBox X) → type_member_at f (m n) ≡ type_member_at d n) → (head : Phrase → Phrase) (ns : List (TsExprWithTypeArgs X)) (ms : List (TsTypeElementBox X)) → head (extends_clause f (map e ns) > mark (codes "{") > in_order (map (type_member_at f) (map m ms)) > mark (codes "}")) ≡ head (extends_clause d ns > mark (codes "{") > in_order (map (type_member_at d) ms) > mark (codes "}"))
-interface_same e m f d extended member head ns ms =
-    ap (λ z. head (z > mark (codes "{") > in_order (map (type_member_at f) (map m ms)) > mark (codes "}"))) (extends_mapped e f d extended ns)
-    ∙ ap (λ ps. head (extends_clause d ns > mark (codes "{") > in_order ps > mark (codes "}"))) (list_mapped m (type_member_at f) (type_member_at d) member ms)
-
 interface_by : {X Y : Type 0} (g : X → Y) (f : Y → Role → Phrase) (b : Box (TsInterfaceDecl X) Global) (n : TsInterfaceDecl X) (type_params : Option (TsTypeParamDeclBox X)) → node_phrase f (map-AnyNode X Y g (nodes.StmtPart (stmt_parts.Decl (decls.TsInterface (record b { value = record n { type_params = type_params } }))))) Declaration ≡ ts_interface_decl (λ x. f (g x)) (record n { type_params = type_params })
-unfolding node_phrase stmt_part decl ts_interface_decl ts_interface_body ts_expr_with_type_args type_params type_args
-interface_by {X} {Y} g f b n None = interface_same {X = X} {Y = Y} _ _ f (λ x. f (g x)) (by_args {X = X} _ (λ e. refl) (λ e t. refl)) (λ m. refl) (λ z. declare_word n.declare > word (codes "interface") > ident n.id > Nothing > z) n.extends.items n.body.body.items
-interface_by {X} {Y} g f b n (Some t) = interface_same {X = X} {Y = Y} _ _ f (λ x. f (g x)) (by_args {X = X} _ (λ e. refl) (λ e t. refl)) (λ m. refl) (λ z. declare_word n.declare > word (codes "interface") > ident n.id > params_at (λ x. f (g x)) t > z) n.extends.items n.body.body.items
+unfolding node_phrase stmt_part decl ts_interface_decl ts_expr_with_type_args type_params type_args
+interface_by {X} {Y} g f b n None = ap (λ z. declare_word n.declare > word (codes "interface") > ident n.id > Nothing > z > interface_body_at (λ x. f (g x)) n.body) (extends_mapped {X = X} {Y = Y} _ f (λ x. f (g x)) (by_args {X = X} _ (λ e. refl) (λ e t. refl)) n.extends.items)
+interface_by {X} {Y} g f b n (Some t) = ap (λ z. declare_word n.declare > word (codes "interface") > ident n.id > params_at (λ x. f (g x)) t > z > interface_body_at (λ x. f (g x)) n.body) (extends_mapped {X = X} {Y = Y} _ f (λ x. f (g x)) (by_args {X = X} _ (λ e. refl) (λ e t. refl)) n.extends.items)
 
 pub interface_mapped : {X Y : Type 0} (g : X → Y) (f : Y → Role → Phrase) (b : Box (TsInterfaceDecl X) Global) → node_phrase f (map-AnyNode X Y g (nodes.StmtPart (stmt_parts.Decl (decls.TsInterface b)))) Declaration ≡ ts_interface_decl (λ x. f (g x)) b.value
 interface_mapped g f b = interface_by g f b b.value b.value.type_params

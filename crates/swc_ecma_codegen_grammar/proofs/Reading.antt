@@ -12,7 +12,7 @@ use Rattle.swc_ecma_codegen_grammar.proofs.Tables.{blank_ne}
 use Rattle.swc_ecma_codegen_grammar.specs.Chars.{begins_digit, is_blank, is_digit, is_letter, is_part, is_quote, is_start, is_one_line, is_line_end}
 use Rattle.swc_ecma_codegen_grammar.specs.GapRules.{Separated, IntegerEnd, PreviousToken, LessBang, LineEnd, Mark, MayBegin, Ready, Start, TagNameEnd, TextEnd, Whole, WordEnd, allows, ends_line, ends_text, fuses, grows, holds_child, is_choice, last_after, last_after_gap, mark_after, mark_fuses}
 use Rattle.swc_ecma_codegen_grammar.specs.Numbers.{takes_dot}
-use Rattle.swc_ecma_codegen_grammar.specs.Parts.{Gap, NoneFuse, Own, Part, remarks_in, text_of, tokens_of, Joint, OfLine, OnLine, PastLine, AtJoint, Broken, walk, over_own, over_gap, over_joint, is_broken, KeepsLines}
+use Rattle.swc_ecma_codegen_grammar.specs.Parts.{Gap, NoneFuse, Own, Part, remarks_in, text_of, tokens_of, Joint, Break, OfLine, OnLine, PastLine, AtJoint, Broken, walk, over_own, over_gap, over_joint, is_broken, KeepsLines}
 use Rattle.swc_ecma_codegen_grammar.specs.Punctuators.{punctuators}
 use Rattle.swc_ecma_codegen_grammar.specs.Reads.{Reads, ReadsOn, is_child, is_close_by, is_hashbang_kind, is_same_line}
 use Rattle.swc_ecma_codegen_grammar.specs.RegularExpressions.{is_regex}
@@ -124,6 +124,7 @@ none_close_by : (xs : List Part) → NoneFuse Separated xs → NoneCloseBy (toke
 unfolding NoneCloseBy tokens_of NoneFuse token_of
 none_close_by [] h = tt
 none_close_by (Joint ∷ xs) h = (joint_apart, λ e. none_close_by xs h)
+none_close_by (Break ∷ xs) h = none_close_by xs h.1
 none_close_by (Gap ps ∷ xs) h = none_close_by xs (subst (λ k. NoneFuse k xs) (apart_stays ps) h.3)
 none_close_by (Own x t ∷ xs) h = (none_apart x h.2, λ e. absurd (same_line_unspelled t (subst (λ (z : Kind). has_shape z t ≡ true) (kind_same (token_of x t) e) h.0)))
 
@@ -349,6 +350,7 @@ ready k [] h = record { apart = nothing_fuses k; no_html = λ e. nothing_begins 
 ready k (Gap [] ∷ xs) h = ready_past k (text_of xs) (ready k xs (no_gap k xs h.3))
 ready k (Gap (p ∷ ps) ∷ xs) h = gap_ready_at k (pieces_text (p ∷ ps)) (text_of xs) (gap_begins p ps (piece_first p ps h.0)) h.1 h.2
 ready k (Joint ∷ xs) h = ready k xs h
+ready k (Break ∷ xs) h = ready k xs h.1
 ready k (Own x t ∷ xs) h = own_ready k x t (text_of xs) h.0 h.1 h.2 h.3 (ready (last_after k x t) xs h.4)
 
 -- nothing was written yet
@@ -419,6 +421,7 @@ broken_stays [] = refl
 broken_stays (Gap ps ∷ xs) = subst (λ w. is_broken (walk w xs) ≡ true) (sym (gap_broken (is_one_line (pieces_text ps)))) (broken_stays xs)
 broken_stays (Own x t ∷ xs) = broken_stays xs
 broken_stays (Joint ∷ xs) = broken_stays xs
+broken_stays (Break ∷ xs) = subst (λ w. is_broken (walk w xs) ≡ true) (sym (gap_broken false)) (broken_stays xs)
 
 gap_joint : (o : Bool) (w : OfLine) (xs : List Part) → is_broken (walk (over_gap o w) xs) ≡ false → is_joint (over_gap o w) ≡ is_joint w
 unfolding is_joint over_gap
@@ -459,6 +462,7 @@ past_leads k [] h l = absurd (true≢false (sym l))
 past_leads k (Gap ps ∷ xs) h l = subst (λ w. is_broken (walk w xs) ≡ true) (sym (past_gap (is_one_line (pieces_text ps)))) (past_leads (last_after_gap k ps) xs h.3 l)
 past_leads k (Own x t ∷ xs) h l = absurd (own_leads x t l h.0)
 past_leads k (Joint ∷ xs) h l = broken_stays xs
+past_leads k (Break ∷ xs) h l = subst (λ w. is_broken (walk w xs) ≡ true) (sym (past_gap false)) (past_leads k xs h.1 l)
 
 -- so a gap before what is joined holds no line terminator
 one_line_due : (o : Bool) (w : OfLine) (k : PreviousToken) (xs : List Part) → NoneFuse k xs → is_broken (walk (over_gap o w) xs) ≡ false → (is_joint w || leads_same (tokens_of xs)) ≡ true → o ≡ true
@@ -480,6 +484,7 @@ reads_on k w (Gap (p ∷ ps) ∷ xs) h b =
     reads_gap (is_start_of k) (is_joint w) (is_start_of Separated) (p ∷ ps) (text_of xs) (tokens_of xs) (remarks_in xs) h.0 (none_close_by xs n) (one_line_due o w Separated xs n b)
     (subst (λ j. ReadsOn (is_start_of Separated) j (text_of xs) (tokens_of xs) (remarks_in xs)) (gap_joint o w xs b) (reads_on Separated (over_gap o w) xs n b))
 reads_on k w (Joint ∷ xs) h b = inl (refl, subst (λ j. ReadsOn (is_start_of k) j (text_of xs) (tokens_of xs) (remarks_in xs)) (joint_joint w xs b) (reads_on k (over_joint w) xs h b))
+reads_on k w (Break ∷ xs) h b = subst (λ j. ReadsOn (is_start_of k) j (text_of xs) (tokens_of xs) (remarks_in xs)) (gap_joint false w xs b) (reads_on k (over_gap false w) xs h.1 b)
 reads_on k w (Own x t ∷ xs) h b =
     let next = last_after k x t in inr (
       [],

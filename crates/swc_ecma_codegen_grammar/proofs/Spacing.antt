@@ -6,7 +6,7 @@ use Rattle.swc_ecma_codegen_grammar.proofs.Tables.{eq_of_same}
 use Rattle.swc_ecma_codegen_grammar.specs.Chars.{is_blank, is_one_line, is_line_end}
 use Rattle.swc_ecma_codegen_grammar.specs.GapRules.{Separated, IntegerEnd, PreviousToken, LessBang, LineEnd, Mark, MayBegin, Start, TagNameEnd, TextEnd, Whole, WordEnd, allows, fuses, grows, holds_child, is_choice, last_after, last_after_gap, mark_after, mark_fuses}
 use Rattle.swc_ecma_codegen_grammar.specs.Numbers.{takes_dot}
-use Rattle.swc_ecma_codegen_grammar.specs.Parts.{AllSpelled, AtStart, Before, Elsewhere, Gap, InLine, InTagName, InText, NoneFuse, Own, Part, TagEnd, before, before_gap, is_between_tags, remarks_in, spaced, text_of, tokens_of, wants, Joint, OfLine, OnLine, walk, over_own, over_gap, over_joint, is_broken, KeepsLines}
+use Rattle.swc_ecma_codegen_grammar.specs.Parts.{AllSpelled, AtStart, Before, Elsewhere, Gap, InLine, InTagName, InText, NoneFuse, Own, Part, TagEnd, before, before_gap, is_between_tags, remarks_in, spaced, text_of, tokens_of, wants, Joint, Break, OfLine, OnLine, walk, over_own, over_gap, over_joint, is_broken, KeepsLines}
 use Rattle.swc_ecma_codegen_grammar.specs.Punctuators.{punctuators}
 use Rattle.swc_ecma_codegen_grammar.specs.Reads.{Reads, is_child, is_hashbang_kind}
 use Rattle.swc_ecma_codegen_grammar.specs.Texts.{begins, is_same, some_begins}
@@ -203,6 +203,7 @@ unfolding AllSpelled spaced NoneFuse
 spaced_fuses [] b k h f = f.follows [] h
 spaced_fuses (Gap ps ∷ xs) b k h f = gap_case b k ps xs (fuses k (pieces_text ps)) refl f h.0 h.1 (λ l g. spaced_fuses xs (before_gap b ps) l h.2 g)
 spaced_fuses (Joint ∷ xs) b k h f = spaced_fuses xs b k h f
+spaced_fuses (Break ∷ xs) b k h f = absurd h
 spaced_fuses (Own x t ∷ xs) b k h f = own_case b k x t xs (fuses k t) refl f h.0 h.1 h.2 h.3 (λ l g. spaced_fuses xs (before x t) l h.4 g)
 
 own_same : (k : PreviousToken) (x : Kind) (t : List ℕ) (xs : List Part) (c : Bool) → ((l : PreviousToken) → (tokens_of (spaced l xs) ≡ tokens_of xs) × (remarks_in (spaced l xs) ≡ remarks_in xs))
@@ -224,6 +225,7 @@ unfolding tokens_of remarks_in spaced
 spaced_same [] k = (refl, refl)
 spaced_same (Gap ps ∷ xs) k = gap_same k ps xs (fuses k (pieces_text ps)) (λ l. spaced_same xs l)
 spaced_same (Joint ∷ xs) k = let r = spaced_same xs k in (ap (λ z. same_line ∷ z) r.0, r.1)
+spaced_same (Break ∷ xs) k = spaced_same xs k
 spaced_same (Own x t ∷ xs) k = own_same k x t xs (fuses k t) (λ l. spaced_same xs l)
 
 -- a blank ends no line
@@ -242,6 +244,7 @@ unfolding walk spaced
 spaced_walk [] k w = refl
 spaced_walk (Gap ps ∷ xs) k w = gap_walk k ps xs (fuses k (pieces_text ps)) w (λ l v. spaced_walk xs l v)
 spaced_walk (Joint ∷ xs) k w = spaced_walk xs k (over_joint w)
+spaced_walk (Break ∷ xs) k w = spaced_walk xs k (over_gap false w)
 spaced_walk (Own x t ∷ xs) k w = own_walk k x t xs (fuses k t) w (λ l v. spaced_walk xs l v)
 
 start_fits : Fits AtStart Start

@@ -23,6 +23,7 @@ pub mod Keys
 pub mod Layouts
 pub mod ListFormats
 pub mod KeyPhrases
+pub mod LineEnds
 pub mod LitPhrases
 pub mod LongestMatch
 pub mod SourceLines

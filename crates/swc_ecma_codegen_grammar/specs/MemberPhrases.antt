@@ -1,7 +1,7 @@
 -- Members of object types and of interfaces: one production a node. `f` says what is read of what a link holds, in its role. TypeScript
 -- handbook, sections "Object Types" and "Functions".
 use Rattle.std.specs.Prelude.{Bool, if◌then◌else◌, List, map, codes}
-use Rattle.swc_ecma_codegen_tree.specs.Links.{ExprBox, TsFnParamBox}
+use Rattle.swc_ecma_codegen_tree.specs.Links.{ExprBox, TsFnParamBox, TsInterfaceBodyBox}
 use Rattle.swc_ecma_codegen_tree.specs.declared.ts_members.TsCallSignatureDecl.{TsCallSignatureDecl}
 use Rattle.swc_ecma_codegen_tree.specs.declared.ts_members.TsConstructSignatureDecl.{TsConstructSignatureDecl}
 use Rattle.swc_ecma_codegen_tree.specs.declared.ts_members.TsGetterSignature.{TsGetterSignature}
@@ -16,12 +16,16 @@ use Rattle.swc_ecma_codegen_grammar.specs.Phrases.{Phrase, ◌>◌, word, mark, 
 use Rattle.swc_ecma_codegen_grammar.specs.AnnotationPhrases.{annotation, question, type_params}
 use Rattle.swc_ecma_codegen_grammar.specs.FunctionPhrases.{word_if}
 use Rattle.swc_ecma_codegen_grammar.specs.PatPhrases.{value_at}
-use Rattle.swc_ecma_codegen_grammar.specs.TypePhrases.{signature_param_at, type_member_at}
 use Rattle.swc_ecma_codegen_grammar.specs.declared.roles.Role.{Role}
+use Rattle.swc_ecma_codegen_grammar.specs.declared.roles.Role.TheVariants.{SignatureParameter, InterfaceBody}
 
 -- `a` or `[a]`
 unfoldable pub signature_key : {X : Type 0} → (X → Role → Phrase) → Bool → ExprBox X → Phrase
 signature_key f computed n = if computed then (mark (codes "[") > value_at f n > mark (codes "]")) else value_at f n
+
+-- a parameter that a link holds
+abbrev pub signature_param_at : {X : Type 0} → (X → Role → Phrase) → TsFnParamBox X → Phrase
+signature_param_at f n = f n.node.value SignatureParameter
 
 -- `a: A, b: B` of `(a: A, b: B): C`
 abbrev pub signature_params : {X : Type 0} → (X → Role → Phrase) → List (TsFnParamBox X) → Phrase
@@ -80,4 +84,8 @@ ts_type_element f n = ts_signature f n > ending
 
 -- `{ a: B; }`
 unfoldable pub ts_interface_body : {X : Type 0} → (X → Role → Phrase) → TsInterfaceBody X → Phrase
-ts_interface_body f n = mark (codes "{") > in_order (map (type_member_at f) n.body.items) > mark (codes "}")
+ts_interface_body f n = mark (codes "{") > in_order (map (ts_type_element f) n.body.items) > mark (codes "}")
+
+-- one that a link holds
+abbrev pub interface_body_at : {X : Type 0} → (X → Role → Phrase) → TsInterfaceBodyBox X → Phrase
+interface_body_at f n = f n.node.value InterfaceBody

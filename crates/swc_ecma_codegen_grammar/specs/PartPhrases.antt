@@ -7,13 +7,13 @@ use Rattle.swc_ecma_codegen_tree.specs.declared.parts.StmtPart.TheVariants as st
 use Rattle.swc_ecma_codegen_tree.specs.declared.parts.TsPart.{TsPart}
 use Rattle.swc_ecma_codegen_tree.specs.declared.parts.TsPart.TheVariants as ts_parts
 use Rattle.swc_ecma_codegen_grammar.specs.Phrases.{Phrase, Never}
+use Rattle.swc_ecma_codegen_grammar.specs.MemberPhrases.{ts_interface_body}
 use Rattle.swc_ecma_codegen_grammar.specs.declared.roles.Role.{Role}
-use Rattle.swc_ecma_codegen_grammar.specs.declared.roles.Role.TheVariants.{AssignmentTarget, Pattern, PlainParameter, PropertyName, ObjectLiteral, Function, FunctionHead, MethodHead, Block, Declaration, VariableDeclaration, ChainCall, Template, TaggedTemplate, ClassHead, ClassWord, ClassTail, Member, MethodDecorators, MethodTail, AccessorTail, ModuleDeclaration, ExportedHead, ExportedTail, AnyType, Annotation, TypeArguments, TypeParameters, EntityName, SignatureParameter, TypeMember, NamespaceBody, DottedBody}
+use Rattle.swc_ecma_codegen_grammar.specs.declared.roles.Role.TheVariants.{AssignmentTarget, Pattern, PlainParameter, PropertyName, ObjectLiteral, Function, FunctionHead, MethodHead, Block, Declaration, VariableDeclaration, ChainCall, Template, TaggedTemplate, ClassHead, ClassWord, ClassTail, Member, MethodDecorators, MethodTail, AccessorTail, ModuleDeclaration, ExportedHead, ExportedTail, AnyType, Annotation, TypeArguments, TypeParameters, EntityName, SignatureParameter, InterfaceBody, NamespaceBody, DottedBody}
 use Rattle.swc_ecma_codegen_grammar.specs.AssignPhrases.{assign_target}
 use Rattle.swc_ecma_codegen_grammar.specs.CallPhrases.{chain_call}
 use Rattle.swc_ecma_codegen_grammar.specs.KeyPhrases.{prop_name}
 use Rattle.swc_ecma_codegen_grammar.specs.ModulePhrases.{exported_head, exported_tail, module_decl}
-use Rattle.swc_ecma_codegen_grammar.specs.MemberPhrases.{ts_type_element}
 use Rattle.swc_ecma_codegen_grammar.specs.NamespacePhrases.{dotted_body, ts_namespace_body}
 use Rattle.swc_ecma_codegen_grammar.specs.PatPhrases.{pat, plain_parameter}
 use Rattle.swc_ecma_codegen_grammar.specs.PropPhrases.{object_lit}
@@ -55,13 +55,13 @@ stmt_part f (stmt_parts.VarDecl n) VariableDeclaration = var_decl f n
 stmt_part f n role = Never
 
 unfoldable pub ts_part : {X : Type 0} → (X → Role → Phrase) → TsPart X → Role → Phrase
-ts_part f (ts_parts.TsType n) AnyType = ts_type f n.value
+ts_part f (ts_parts.TsType n) AnyType = ts_type f n
 ts_part f (ts_parts.TsTypeAnn n) Annotation = ts_type_ann f n
 ts_part f (ts_parts.TsTypeParamDecl n) TypeParameters = ts_type_param_decl f n
 ts_part f (ts_parts.TsTypeParamInstantiation n) TypeArguments = ts_type_param_instantiation f n
 ts_part f (ts_parts.TsFnParam n) SignatureParameter = ts_fn_param f n
+ts_part f (ts_parts.TsInterfaceBody n) InterfaceBody = ts_interface_body f n
 ts_part f (ts_parts.TsEntityName n) EntityName = ts_entity_name f n
-ts_part f (ts_parts.TsTypeElement n) TypeMember = ts_type_element f n.value
 ts_part f (ts_parts.TsNamespaceBody n) NamespaceBody = ts_namespace_body f n
 ts_part f (ts_parts.TsNamespaceBody n) DottedBody = dotted_body f n
 ts_part f n role = Never

@@ -22,7 +22,7 @@ use Rattle.swc_ecma_codegen_grammar.specs.Phrases.{Phrase, Nothing, ◌>◌, wor
 use Rattle.swc_ecma_codegen_grammar.specs.AnnotationPhrases.{type_args, type_params}
 use Rattle.swc_ecma_codegen_grammar.specs.FunctionPhrases.{word_if}
 use Rattle.swc_ecma_codegen_grammar.specs.LitPhrases.{str_lit}
-use Rattle.swc_ecma_codegen_grammar.specs.MemberPhrases.{ts_interface_body}
+use Rattle.swc_ecma_codegen_grammar.specs.MemberPhrases.{interface_body_at}
 use Rattle.swc_ecma_codegen_grammar.specs.NamePhrases.{ident}
 use Rattle.swc_ecma_codegen_grammar.specs.PatPhrases.{value_at, initializer}
 use Rattle.swc_ecma_codegen_grammar.specs.TypePhrases.{type_at}
@@ -48,7 +48,7 @@ extends_clause f (n ∷ ns) = word (codes "extends") > listed (codes ",") (map (
 unfoldable pub ts_interface_decl : {X : Type 0} → (X → Role → Phrase) → TsInterfaceDecl X → Phrase
 ts_interface_decl f n =
     declare_word n.declare > word (codes "interface") > ident n.id > type_params f n.type_params > extends_clause f n.extends.items
-    > ts_interface_body f n.body
+    > interface_body_at f n.body
 
 -- `declare type A<B> = C;`
 unfoldable pub ts_type_alias_decl : {X : Type 0} → (X → Role → Phrase) → TsTypeAliasDecl X → Phrase

@@ -1,7 +1,7 @@
 -- Types of TypeScript: one production a node. `f` says what is read of what a link holds, in its role. TypeScript handbook, the section
 -- that stands with each.
 use Rattle.std.specs.Prelude.{◌||◌, false, not, if◌then◌else◌, List, map, codes, ℕ, Option, Some, None}
-use Rattle.swc_ecma_codegen_tree.specs.Links.{PatBox, TsEntityNameBox, TsFnParamBox, TsTypeAnnBox, TsTypeBox, TsTypeElementBox, TsTypeParamDeclBox, TsTypeParamInstantiationBox}
+use Rattle.swc_ecma_codegen_tree.specs.Links.{PatBox, TsEntityNameBox, TsTypeAnnBox, TsTypeBox, TsTypeParamDeclBox, TsTypeParamInstantiationBox}
 use Rattle.swc_ecma_codegen_tree.specs.declared.ts_types.TruePlusMinus.{TruePlusMinus}
 use Rattle.swc_ecma_codegen_tree.specs.declared.ts_types.TruePlusMinus.TheVariants as signs
 use Rattle.swc_ecma_codegen_tree.specs.declared.ts_types.TsArrayType.{TsArrayType}
@@ -56,13 +56,14 @@ use Rattle.swc_ecma_codegen_tree.specs.declared.ts_types.TsUnionType.{TsUnionTyp
 use Rattle.swc_ecma_codegen_grammar.specs.Phrases.{Phrase, Never, Nothing, One, ◌>◌, where_, word, mark, ending, in_order, listed, some_listed}
 use Rattle.swc_ecma_codegen_grammar.specs.AnnotationPhrases.{type_args, type_params}
 use Rattle.swc_ecma_codegen_grammar.specs.FunctionPhrases.{word_if}
+use Rattle.swc_ecma_codegen_grammar.specs.MemberPhrases.{signature_param_at, ts_type_element}
 use Rattle.swc_ecma_codegen_grammar.specs.LitPhrases.{str_lit, number, bool_lit, big_int}
 use Rattle.swc_ecma_codegen_grammar.specs.NamePhrases.{ident, ident_name, binding_ident}
 use Rattle.swc_ecma_codegen_grammar.specs.PatPhrases.{pat_at, array_pat, rest_pat, object_pat}
 use Rattle.swc_ecma_codegen_grammar.specs.TemplatePhrases.{is_counted, tpl_parts}
 use Rattle.swc_ecma_codegen_grammar.specs.Tokens as tokens
 use Rattle.swc_ecma_codegen_grammar.specs.declared.roles.Role.{Role}
-use Rattle.swc_ecma_codegen_grammar.specs.declared.roles.Role.TheVariants.{AnyType, Annotation, TypeArguments, TypeParameters, EntityName, SignatureParameter, TypeMember}
+use Rattle.swc_ecma_codegen_grammar.specs.declared.roles.Role.TheVariants.{AnyType, Annotation, TypeArguments, TypeParameters, EntityName}
 
 -- a type that a link holds
 abbrev pub type_at : {X : Type 0} → (X → Role → Phrase) → TsTypeBox X → Phrase
@@ -145,10 +146,6 @@ ts_fn_param f (fn_params.Array n) = array_pat f n
 ts_fn_param f (fn_params.Rest n) = rest_pat f n
 ts_fn_param f (fn_params.Object n) = object_pat f n
 
--- a parameter that a link holds
-abbrev pub signature_param_at : {X : Type 0} → (X → Role → Phrase) → TsFnParamBox X → Phrase
-signature_param_at f n = f n.node.value SignatureParameter
-
 -- `<A>(a: A) => B`
 unfoldable pub ts_fn_type : {X : Type 0} → (X → Role → Phrase) → TsFnType X → Phrase
 ts_fn_type f n =
@@ -203,13 +200,9 @@ ts_type_query f n = word (codes "typeof") > ts_type_query_expr f n.expr_name > t
 
 -- ---- objects. Sections "Object Types" and "Mapped Types".
 
--- a member that a link holds
-abbrev pub type_member_at : {X : Type 0} → (X → Role → Phrase) → TsTypeElementBox X → Phrase
-type_member_at f n = f n.node.value TypeMember
-
 -- `{ a: B; }`
 unfoldable pub ts_type_lit : {X : Type 0} → (X → Role → Phrase) → TsTypeLit X → Phrase
-ts_type_lit f n = mark (codes "{") > in_order (map (type_member_at f) n.members.items) > mark (codes "}")
+ts_type_lit f n = mark (codes "{") > in_order (map (ts_type_element f) n.members.items) > mark (codes "}")
 
 -- `A[]`
 unfoldable pub ts_array_type : {X : Type 0} → (X → Role → Phrase) → TsArrayType X → Phrase
@@ -313,9 +306,9 @@ ts_type_predicate f n = word_if n.asserts (word (codes "asserts")) > ts_this_typ
 unfoldable pub ts_type : {X : Type 0} → (X → Role → Phrase) → TsType X → Phrase
 ts_type f (types.TsKeywordType n) = ts_keyword_type n
 ts_type f (types.TsThisType n) = ts_this_type n
-ts_type f (types.TsFnOrConstructorType n) = ts_fn_or_constructor_type f n
+ts_type f (types.TsFnOrConstructorType n) = ts_fn_or_constructor_type f n.value
 ts_type f (types.TsTypeRef n) = ts_type_ref f n
-ts_type f (types.TsTypeQuery n) = ts_type_query f n
+ts_type f (types.TsTypeQuery n) = ts_type_query f n.value
 ts_type f (types.TsTypeLit n) = ts_type_lit f n
 ts_type f (types.TsArrayType n) = ts_array_type f n
 ts_type f (types.TsTupleType n) = ts_tuple_type f n
@@ -323,14 +316,14 @@ ts_type f (types.TsOptionalType n) = ts_optional_type f n
 ts_type f (types.TsRestType n) = ts_rest_type f n
 ts_type f (types.TsUnionOrIntersectionType n) = ts_union_or_intersection_type f n
 ts_type f (types.TsConditionalType n) = ts_conditional_type f n
-ts_type f (types.TsInferType n) = ts_infer_type f n
+ts_type f (types.TsInferType n) = ts_infer_type f n.value
 ts_type f (types.TsParenthesizedType n) = ts_parenthesized_type f n
 ts_type f (types.TsTypeOperator n) = ts_type_operator f n
 ts_type f (types.TsIndexedAccessType n) = ts_indexed_access_type f n
-ts_type f (types.TsMappedType n) = ts_mapped_type f n
-ts_type f (types.TsLitType n) = ts_lit_type f n
-ts_type f (types.TsTypePredicate n) = ts_type_predicate f n
-ts_type f (types.TsImportType n) = ts_import_type f n
+ts_type f (types.TsMappedType n) = ts_mapped_type f n.value
+ts_type f (types.TsLitType n) = ts_lit_type f n.value
+ts_type f (types.TsTypePredicate n) = ts_type_predicate f n.value
+ts_type f (types.TsImportType n) = ts_import_type f n.value
 
 unfoldable pub ts_type_ann : {X : Type 0} → (X → Role → Phrase) → TsTypeAnn X → Phrase
-ts_type_ann f n = type_at f n.type_ann
+ts_type_ann f n = ts_type f n.type_ann

@@ -6,6 +6,7 @@ pub mod characters;
 pub mod comments;
 mod gaps;
 pub mod kinds;
+pub mod line_end_laws;
 pub mod list_format;
 pub mod mapper;
 pub mod names;

@@ -79,8 +79,8 @@ pub enum Role {
     EntityName,
     /// `a: B` of `let c: (a: B) => C`: a parameter of a type.
     SignatureParameter,
-    /// `a: B;` of `let c: { a: B; }`: a member of a type.
-    TypeMember,
+    /// `{ b: C; }` of `interface A { b: C; }`: the body of an interface.
+    InterfaceBody,
     /// `{ b; }` of `namespace a { b; }`: the body of a namespace.
     NamespaceBody,
     /// `.b { c; }` of `namespace a.b { c; }`: the same behind the name, with further names.

@@ -7,8 +7,9 @@ use crate::source::{Failed, Fault, Source};
 use swc_ecma_codegen_tree::{
     Link, ToAssignTarget, ToBlockStmt, ToClass, ToClassMember, ToDecl, ToExpr, ToFunction,
     ToJSXElement, ToJSXFragment, ToJSXObject, ToMemberExpr, ToModuleDecl, ToObjectLit, ToOptCall,
-    ToPat, ToPropName, ToStmt, ToTpl, ToTsEntityName, ToTsFnParam, ToTsNamespaceBody, ToTsType,
-    ToTsTypeAnn, ToTsTypeElement, ToTsTypeParamDecl, ToTsTypeParamInstantiation, ToVarDecl,
+    ToPat, ToPropName, ToStmt, ToTpl, ToTsEntityName, ToTsFnParam, ToTsInterfaceBody,
+    ToTsNamespaceBody, ToTsType, ToTsTypeAnn, ToTsTypeParamDecl, ToTsTypeParamInstantiation,
+    ToVarDecl,
 };
 
 /// What a link is to, as what makes that knows it.
@@ -133,8 +134,8 @@ impl ReadSort for ToTsFnParam {
     const SORT: Sort = Sort::TsPart(TsPartSort::TsFnParam);
 }
 
-impl ReadSort for ToTsTypeElement {
-    const SORT: Sort = Sort::TsPart(TsPartSort::TsTypeElement);
+impl ReadSort for ToTsInterfaceBody {
+    const SORT: Sort = Sort::TsPart(TsPartSort::TsInterfaceBody);
 }
 
 impl ReadSort for ToTsEntityName {

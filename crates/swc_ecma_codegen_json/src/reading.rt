@@ -57,7 +57,7 @@ pub enum TsPartSort {
     TsTypeParamDecl,
     TsTypeParamInstantiation,
     TsFnParam,
-    TsTypeElement,
+    TsInterfaceBody,
     TsEntityName,
 }
 

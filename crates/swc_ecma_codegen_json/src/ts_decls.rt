@@ -8,9 +8,10 @@ use serde::Name;
 use swc_ecma_codegen_common::Span;
 use swc_ecma_codegen_tree::{
     ExprBox, Ident, ModuleItem, Str, TsEnumDecl, TsEnumMember, TsEnumMemberId, TsExportAssignment,
-    TsExprWithTypeArgs, TsExternalModuleRef, TsImportEqualsDecl, TsInterfaceBody, TsInterfaceDecl,
-    TsModuleBlock, TsModuleDecl, TsModuleName, TsModuleRef, TsNamespaceBody, TsNamespaceBodyBox,
-    TsNamespaceDecl, TsNamespaceExportDecl, TsTypeAliasDecl, TsTypeBox, TsTypeParamDeclBox,
+    TsExprWithTypeArgs, TsExternalModuleRef, TsImportEqualsDecl, TsInterfaceBodyBox,
+    TsInterfaceDecl, TsModuleBlock, TsModuleDecl, TsModuleName, TsModuleRef, TsNamespaceBody,
+    TsNamespaceBodyBox, TsNamespaceDecl, TsNamespaceExportDecl, TsTypeAliasDecl, TsTypeBox,
+    TsTypeParamDeclBox,
 };
 
 impl<N: Drop> ReadFrom<N> for TsInterfaceDecl<N> {
@@ -18,7 +19,7 @@ impl<N: Drop> ReadFrom<N> for TsInterfaceDecl<N> {
         (Span, (Ident, (bool, ()))),
         (
             Option<TsTypeParamDeclBox<N>>,
-            (Vec<TsExprWithTypeArgs<N>>, (TsInterfaceBody<N>, ())),
+            (Vec<TsExprWithTypeArgs<N>>, (TsInterfaceBodyBox<N>, ())),
         ),
     >;
 

@@ -5,7 +5,7 @@ use crate::part;
 use crate::reading::{Make, TsPartSort};
 use crate::source::{Failed, Source};
 use swc_ecma_codegen_tree::{
-    TsEntityName, TsFnParam, TsNamespaceBody, TsPart, TsType, TsTypeAnn, TsTypeElement,
+    TsEntityName, TsFnParam, TsInterfaceBody, TsNamespaceBody, TsPart, TsType, TsTypeAnn,
     TsTypeParamDecl, TsTypeParamInstantiation,
 };
 
@@ -48,11 +48,11 @@ fn ts_fn_param<N: Drop, S: Source, M: Make<N>>(
     part!(TsFnParam, source, make)
 }
 
-fn ts_type_element<N: Drop, S: Source, M: Make<N>>(
+fn ts_interface_body<N: Drop, S: Source, M: Make<N>>(
     source: &mut S,
     make: &M,
 ) -> Result<TsPart<N>, Failed> {
-    part!(TsTypeElement, source, make)
+    part!(TsInterfaceBody, source, make)
 }
 
 fn ts_entity_name<N: Drop, S: Source, M: Make<N>>(
@@ -75,7 +75,7 @@ pub fn read_ts_part<N: Drop, S: Source, M: Make<N>>(
         TsPartSort::TsTypeParamDecl => ts_type_param_decl(source, make),
         TsPartSort::TsTypeParamInstantiation => ts_type_param_instantiation(source, make),
         TsPartSort::TsFnParam => ts_fn_param(source, make),
-        TsPartSort::TsTypeElement => ts_type_element(source, make),
+        TsPartSort::TsInterfaceBody => ts_interface_body(source, make),
         TsPartSort::TsEntityName => ts_entity_name(source, make),
     }
 }

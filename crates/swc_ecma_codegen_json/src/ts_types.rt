@@ -11,14 +11,14 @@ use swc_ecma_codegen_tree::{
     TsFnOrConstructorType, TsFnParamBox, TsFnType, TsImportType, TsIndexedAccessType, TsInferType,
     TsIntersectionType, TsKeywordType, TsKeywordTypeKind, TsLit, TsLitType, TsMappedType,
     TsOptionalType, TsParenthesizedType, TsRestType, TsThisType, TsThisTypeOrIdent, TsTupleElement,
-    TsTupleType, TsTypeAnn, TsTypeAnnBox, TsTypeBox, TsTypeElementBox, TsTypeLit, TsTypeOperator,
-    TsTypeOperatorOp, TsTypeParam, TsTypeParamDecl, TsTypeParamDeclBox, TsTypeParamInstantiation,
-    TsTypeParamInstantiationBox, TsTypePredicate, TsTypeQuery, TsTypeQueryExpr, TsTypeRef,
-    TsUnionOrIntersectionType, TsUnionType,
+    TsTupleType, TsType, TsTypeAnn, TsTypeAnnBox, TsTypeBox, TsTypeElement, TsTypeLit,
+    TsTypeOperator, TsTypeOperatorOp, TsTypeParam, TsTypeParamDecl, TsTypeParamDeclBox,
+    TsTypeParamInstantiation, TsTypeParamInstantiationBox, TsTypePredicate, TsTypeQuery,
+    TsTypeQueryExpr, TsTypeRef, TsUnionOrIntersectionType, TsUnionType,
 };
 
 impl<N: Drop> ReadFrom<N> for TsTypeAnn<N> {
-    type Parts = (Span, (TsTypeBox<N>, ()));
+    type Parts = (Span, (TsType<N>, ()));
 
     fn names() -> &'static [Name<'static>] {
         names!(span, type_ann)
@@ -150,7 +150,7 @@ impl<N: Drop> ReadFrom<N> for TsTypeQuery<N> {
 }
 
 impl<N: Drop> ReadFrom<N> for TsTypeLit<N> {
-    type Parts = (Span, (Vec<TsTypeElementBox<N>>, ()));
+    type Parts = (Span, (Vec<TsTypeElement<N>>, ()));
 
     fn names() -> &'static [Name<'static>] {
         names!(span, members)

@@ -36,9 +36,10 @@ use Rattle.swc_ecma_codegen_tree.specs.declared.programs.Script.{Script}
 use Rattle.swc_ecma_codegen_tree.specs.declared.programs.Program.TheVariants as program_variants
 use Rattle.swc_ecma_codegen_spans.specs.Spans.{expr_span, stmt_span}
 use Rattle.swc_ecma_codegen_util.specs.Starts as starts
-use Rattle.swc_ecma_codegen_tokens.specs.Run.{Env, Part, at_maps}
+use Rattle.swc_ecma_codegen_tokens.specs.Run.{Env, Part, at_maps, is_bounded}
 use Rattle.swc_ecma_codegen_tokens.specs.Words.{keyword, operator, word_operator, punct, formatting_line, commit_pending_semi, trailing_comments}
-use Rattle.swc_ecma_codegen_tokens.proofs.Printed.{writes_commit, writes_formatting_line, writes_formatting_space, writes_leading, writes_position, writes_position_before, writes_trailing}
+use Rattle.swc_ecma_codegen_tokens.proofs.Printed.{writes_commit, writes_formatting_line, writes_formatting_space, writes_position, writes_position_before}
+use Rattle.swc_ecma_codegen_tokens.proofs.CommentPrints.{writes_leading, writes_trailing}
 use Rattle.swc_ecma_codegen_emit.specs.declared.nodes.Place.{Place}
 use Rattle.swc_ecma_codegen_emit.specs.declared.nodes.Place.TheVariants.{Plain, LeftOperand}
 use Rattle.swc_ecma_codegen_emit.specs.Answers.{Answers, any_answers, place_of}
@@ -49,13 +50,14 @@ use Rattle.swc_ecma_codegen_emit.specs.Branches.{is_block}
 use Rattle.swc_ecma_codegen_emit.specs.Lists.{comma, listed, in_order}
 use Rattle.swc_ecma_codegen_emit.specs.Stmts as statements
 use Rattle.swc_ecma_codegen_emit.specs.Programs as programs
+use Rattle.swc_ecma_codegen_emit.specs.Places.{by_itself, placed}
 use Rattle.swc_ecma_codegen_emit.specs.Roots.{Root, OfExpr, OfStmt, OfItem, OfModule, OfScript, OfProgram, OfLink, root_items}
 use Rattle.swc_ecma_codegen_emit.specs.Tree.{node_items, any_items}
 use Rattle.swc_ecma_codegen_emit.proofs.Asked.{kept_same, committed_same}
 use Rattle.swc_ecma_codegen_emit.proofs.ExprParts.{writes_blank, writes_comments_before, writes_opened, writes_space_if}
 use Rattle.swc_ecma_codegen_emit.proofs.MappedNodes.{items_of}
 use Rattle.swc_ecma_codegen_laws.specs.Basic.{is_bare, basic_prop, all_basic, basic_expr, basic_stmt, basic_node, any_basic, basic_stmts, is_basic, TakesNoMemory}
-use Rattle.swc_ecma_codegen_laws.proofs.Quiet.{Quiet, then, quiet_same, quiet_made, quiet_if, quiet_nothing, quiet_keyword, quiet_operator, quiet_word_operator, quiet_punct, quiet_semi, quiet_name, takes_none}
+use Rattle.swc_ecma_codegen_laws.proofs.Quiet.{Quiet, then, inside, quiet_allow_break, quiet_itself, quiet_same, quiet_made, quiet_if, quiet_nothing, quiet_keyword, quiet_operator, quiet_word_operator, quiet_punct, quiet_semi, quiet_name, takes_none, itself_takes_none}
 
 -- What is known of whatever links hold: what is written of it takes no memory where it is basic.
 record Linked (X : Type 0) : Type 0 where
@@ -120,7 +122,8 @@ quiet_bin l n place h =
     (then (l.law n.left.node.value LeftOperand both.0)
     (then (quiet_made (writes_blank l.env (words.before_op n.op (l.asks n.left.node.value))))
     (then (quiet_binary_op l.env n.op)
-    (then (quiet_made (writes_blank l.env (words.after_op n.op (l.asks n.right.node.value)))) (l.law n.right.node.value Plain both.1)))))
+    (then (quiet_allow_break l.env)
+    (then (quiet_made (writes_blank l.env (words.after_op n.op (l.asks n.right.node.value)))) (l.law n.right.node.value Plain both.1))))))
 
 quiet_computed : {X : Type 0} (l : Linked X) (n : ComputedPropName X) → l.basic n.expr.node.value ≡ true → Quiet l.env (words.computed_prop_name l.items n)
 unfolding words.computed_prop_name
@@ -325,73 +328,73 @@ unfolding programs.program_start
 quiet_start env None xs span h = then (quiet_made (writes_leading env span.lo)) (quiet_start_if_empty env xs span)
 quiet_start env (Some text) xs span h = absurd (true≢false h)
 
-quiet_script : (env : Env) → env.config.ascii_only ≡ false → (n : Script AnyNode) → (not (is_some n.shebang) && basic_stmts n.body.items) ≡ true → Quiet env (programs.script any_answers any_items n)
-unfolding programs.script
+quiet_script : (env : Env) → env.config.ascii_only ≡ false → (n : Script AnyNode) → (not (is_some n.shebang) && basic_stmts n.body.items) ≡ true → Quiet env (programs.script any_answers any_items n Plain)
+unfolding programs.script programs.script_parts
 quiet_script env e n h =
     let both = and_parts (not (is_some n.shebang)) (basic_stmts n.body.items) h in
     then (quiet_start env n.shebang n.body.items n.span (not-true _ both.0))
     (then (quiet_stmts (known env e) refl n.body.items both.1)
     (then (quiet_made (writes_trailing env true n.span.hi)) (quiet_last_semi env)))
 
-quiet_root : (env : Env) → env.config.ascii_only ≡ false → (n : Root) → is_basic n ≡ true → Quiet env (root_items n)
+quiet_root : (env : Env) → env.config.ascii_only ≡ false → is_bounded env ≡ false → (n : Root) → is_basic n ≡ true → Quiet env (root_items n)
 unfolding programs.program
-quiet_root env e (OfExpr n) h = quiet_expr (known env e) n Plain h
-quiet_root env e (OfStmt n) h = quiet_stmt (known env e) n h
-quiet_root env e (OfItem n) h = never h
-quiet_root env e (OfModule n) h = never h
-quiet_root env e (OfScript n) h = quiet_script env e n h
-quiet_root env e (OfProgram (program_variants.Script n)) h = quiet_script env e n h
-quiet_root env e (OfProgram (program_variants.Module n)) h = never h
-quiet_root env e (OfLink n role) h = quiet_tree env e n _ h
+quiet_root env e k (OfExpr n) h = quiet_itself env (wholes.expr any_answers any_items n) k (quiet_expr (known (inside env) e) n Plain h)
+quiet_root env e k (OfStmt n) h = quiet_itself env (λ place. statements.stmt any_answers any_items n) k (quiet_stmt (known (inside env) e) n h)
+quiet_root env e k (OfItem n) h = never h
+quiet_root env e k (OfModule n) h = never h
+quiet_root env e k (OfScript n) h = quiet_itself env (programs.script any_answers any_items n) k (quiet_script (inside env) e n h)
+quiet_root env e k (OfProgram (program_variants.Script n)) h = quiet_itself env (programs.program any_answers any_items (program_variants.Script n)) k (quiet_script (inside env) e n h)
+quiet_root env e k (OfProgram (program_variants.Module n)) h = never h
+quiet_root env e k (OfLink n role) h = quiet_itself env (λ place. any_items n (placed role place)) k (quiet_tree (inside env) e n (placed role Plain) h)
 
 pub root_takes_none : (n : Root) → is_basic n ≡ true → TakesNoMemory (root_items n)
-root_takes_none n h = takes_none (root_items n) (λ env e. quiet_root env e n h)
+root_takes_none n h = takes_none (root_items n) (λ env e k. quiet_root env e k n h)
 
 -- ---- nodes by themselves
 
-pub this_takes_none : (n : this_exprs.ThisExpr) → TakesNoMemory (words.this n)
-this_takes_none n = takes_none (words.this n) (λ env e. quiet_this env n)
+pub this_takes_none : (n : this_exprs.ThisExpr) → TakesNoMemory (by_itself (λ place. words.this n))
+this_takes_none n = itself_takes_none (λ place. words.this n) (λ env e. quiet_this env n)
 
-pub ident_takes_none : (n : Ident) → is_bare (string_bytes n.sym) ≡ true → TakesNoMemory (words.ident n)
-ident_takes_none n h = takes_none (words.ident n) (λ env e. quiet_ident (known env e) n h)
+pub ident_takes_none : (n : Ident) → is_bare (string_bytes n.sym) ≡ true → TakesNoMemory (by_itself (λ place. words.ident n))
+ident_takes_none n h = itself_takes_none (λ place. words.ident n) (λ env e. quiet_ident (known env e) n h)
 
-pub ident_name_takes_none : (n : IdentName) → is_bare (string_bytes n.sym) ≡ true → TakesNoMemory (words.ident_name n)
-ident_name_takes_none n h = takes_none (words.ident_name n) (λ env e. quiet_ident_name (known env e) n h)
+pub ident_name_takes_none : (n : IdentName) → is_bare (string_bytes n.sym) ≡ true → TakesNoMemory (by_itself (λ place. words.ident_name n))
+ident_name_takes_none n h = itself_takes_none (λ place. words.ident_name n) (λ env e. quiet_ident_name (known env e) n h)
 
-pub unary_takes_none : (n : UnaryExpr AnyNode) → is_basic (OfExpr (exprs.Unary n)) ≡ true → TakesNoMemory (words.unary any_answers any_items n)
+pub unary_takes_none : (n : UnaryExpr AnyNode) → is_basic (OfExpr (exprs.Unary n)) ≡ true → TakesNoMemory (by_itself (λ place. words.unary any_answers any_items n))
 unfolding basic_expr
-unary_takes_none n h = takes_none (words.unary any_answers any_items n) (λ env e. quiet_unary (known env e) n h)
+unary_takes_none n h = itself_takes_none (λ place. words.unary any_answers any_items n) (λ env e. quiet_unary (known env e) n h)
 
-pub update_takes_none : (n : UpdateExpr AnyNode) → is_basic (OfExpr (exprs.Update n)) ≡ true → TakesNoMemory (words.update any_items n)
+pub update_takes_none : (n : UpdateExpr AnyNode) → is_basic (OfExpr (exprs.Update n)) ≡ true → TakesNoMemory (by_itself (λ place. words.update any_items n))
 unfolding basic_expr
-update_takes_none n h = takes_none (words.update any_items n) (λ env e. quiet_update (known env e) n h)
+update_takes_none n h = itself_takes_none (λ place. words.update any_items n) (λ env e. quiet_update (known env e) n h)
 
-pub bin_takes_none : (n : BinExpr AnyNode) → is_basic (OfExpr (exprs.Bin n)) ≡ true → TakesNoMemory (words.bin any_answers any_items n Plain)
+pub bin_takes_none : (n : BinExpr AnyNode) → is_basic (OfExpr (exprs.Bin n)) ≡ true → TakesNoMemory (by_itself (words.bin any_answers any_items n))
 unfolding basic_expr
-bin_takes_none n h = takes_none (words.bin any_answers any_items n Plain) (λ env e. quiet_bin (known env e) n Plain h)
+bin_takes_none n h = itself_takes_none (words.bin any_answers any_items n) (λ env e. quiet_bin (known env e) n Plain h)
 
-pub computed_takes_none : (n : ComputedPropName AnyNode) → any_basic n.expr.node.value ≡ true → TakesNoMemory (words.computed_prop_name any_items n)
-computed_takes_none n h = takes_none (words.computed_prop_name any_items n) (λ env e. quiet_computed (known env e) n h)
+pub computed_takes_none : (n : ComputedPropName AnyNode) → any_basic n.expr.node.value ≡ true → TakesNoMemory (by_itself (λ place. words.computed_prop_name any_items n))
+computed_takes_none n h = itself_takes_none (λ place. words.computed_prop_name any_items n) (λ env e. quiet_computed (known env e) n h)
 
-pub member_takes_none : (n : MemberExpr AnyNode) → is_basic (OfExpr (exprs.Member n)) ≡ true → TakesNoMemory (words.member_at any_items n Plain)
+pub member_takes_none : (n : MemberExpr AnyNode) → is_basic (OfExpr (exprs.Member n)) ≡ true → TakesNoMemory (by_itself (words.member_at any_items n))
 unfolding basic_expr words.member_at
-member_takes_none n h = takes_none (words.member any_items n) (λ env e. quiet_member (known env e) n h)
+member_takes_none n h = itself_takes_none (words.member_at any_items n) (λ env e. quiet_member (known env e) n h)
 
-pub cond_takes_none : (n : CondExpr AnyNode) → is_basic (OfExpr (exprs.Cond n)) ≡ true → TakesNoMemory (words.choice any_items n)
+pub cond_takes_none : (n : CondExpr AnyNode) → is_basic (OfExpr (exprs.Cond n)) ≡ true → TakesNoMemory (by_itself (λ place. words.choice any_items n))
 unfolding basic_expr
-cond_takes_none n h = takes_none (words.choice any_items n) (λ env e. quiet_choice (known env e) n h)
+cond_takes_none n h = itself_takes_none (λ place. words.choice any_items n) (λ env e. quiet_choice (known env e) n h)
 
-pub seq_takes_none : (n : SeqExpr AnyNode) → is_basic (OfExpr (exprs.Seq n)) ≡ true → TakesNoMemory (words.seq any_items n)
+pub seq_takes_none : (n : SeqExpr AnyNode) → is_basic (OfExpr (exprs.Seq n)) ≡ true → TakesNoMemory (by_itself (λ place. words.seq any_items n))
 unfolding basic_expr
-seq_takes_none n h = takes_none (words.seq any_items n) (λ env e. quiet_seq (known env e) n h)
+seq_takes_none n h = itself_takes_none (λ place. words.seq any_items n) (λ env e. quiet_seq (known env e) n h)
 
-pub paren_takes_none : (n : ParenExpr AnyNode) → is_basic (OfExpr (exprs.Paren n)) ≡ true → TakesNoMemory (words.paren any_items n)
+pub paren_takes_none : (n : ParenExpr AnyNode) → is_basic (OfExpr (exprs.Paren n)) ≡ true → TakesNoMemory (by_itself (λ place. words.paren any_items n))
 unfolding basic_expr
-paren_takes_none n h = takes_none (words.paren any_items n) (λ env e. quiet_paren (known env e) n h)
+paren_takes_none n h = itself_takes_none (λ place. words.paren any_items n) (λ env e. quiet_paren (known env e) n h)
 
-pub empty_takes_none : (n : EmptyStmt) → TakesNoMemory (statements.empty_stmt n)
-empty_takes_none n = takes_none (statements.empty_stmt n) (λ env e. quiet_empty env n)
+pub empty_takes_none : (n : EmptyStmt) → TakesNoMemory (by_itself (λ place. statements.empty_stmt n))
+empty_takes_none n = itself_takes_none (λ place. statements.empty_stmt n) (λ env e. quiet_empty env n)
 
-pub expr_stmt_takes_none : (n : ExprStmt AnyNode) → is_basic (OfStmt (stmts.Expr n)) ≡ true → TakesNoMemory (statements.expr_stmt any_items n)
+pub expr_stmt_takes_none : (n : ExprStmt AnyNode) → is_basic (OfStmt (stmts.Expr n)) ≡ true → TakesNoMemory (by_itself (λ place. statements.expr_stmt any_items n))
 unfolding basic_stmt
-expr_stmt_takes_none n h = takes_none (statements.expr_stmt any_items n) (λ env e. quiet_expr_stmt (known env e) n h)
+expr_stmt_takes_none n h = itself_takes_none (λ place. statements.expr_stmt any_items n) (λ env e. quiet_expr_stmt (known env e) n h)

@@ -64,7 +64,7 @@ use Rattle.swc_ecma_codegen_grammar.specs.Phrases.{Phrase, Never, Nothing, One, 
 use Rattle.swc_ecma_codegen_grammar.specs.Phrases as phrases
 use Rattle.swc_ecma_codegen_grammar.specs.Settings.{Settings}
 use Rattle.swc_ecma_codegen_grammar.specs.declared.roles.Role.{Role}
-use Rattle.swc_ecma_codegen_grammar.specs.declared.roles.Role.TheVariants.{Expression, Statement, MemberExpression, ChainMember, AssignmentTarget, Pattern, PlainParameter, PropertyName, ObjectLiteral, Function, FunctionHead, MethodHead, Block, Declaration, VariableDeclaration, Callee as IsCallee, ChainCall, Template, TaggedTemplate, ClassHead, ClassWord, ClassTail, Member, MethodDecorators, MethodTail, AccessorTail, FieldValue, ModuleDeclaration, ExportedHead, ExportedTail, Element, Child, TagObject, AnyType, Annotation, TypeArguments, TypeParameters, EntityName, SignatureParameter, TypeMember, NamespaceBody, DottedBody}
+use Rattle.swc_ecma_codegen_grammar.specs.declared.roles.Role.TheVariants.{Expression, Statement, MemberExpression, ChainMember, AssignmentTarget, Pattern, PlainParameter, PropertyName, ObjectLiteral, Function, FunctionHead, MethodHead, Block, Declaration, VariableDeclaration, Callee as IsCallee, ChainCall, Template, TaggedTemplate, ClassHead, ClassWord, ClassTail, Member, MethodDecorators, MethodTail, AccessorTail, FieldValue, ModuleDeclaration, ExportedHead, ExportedTail, Element, Child, TagObject, AnyType, Annotation, TypeArguments, TypeParameters, EntityName, SignatureParameter, InterfaceBody, NamespaceBody, DottedBody}
 use Rattle.swc_ecma_codegen_grammar.specs.NamePhrases as names
 use Rattle.swc_ecma_codegen_grammar.specs.ExprPhrases as lists
 use Rattle.swc_ecma_codegen_grammar.specs.LitPhrases as lit_lists
@@ -234,7 +234,7 @@ leads Annotation = false
 leads TypeArguments = false
 leads EntityName = false
 leads SignatureParameter = false
-leads TypeMember = false
+leads InterfaceBody = false
 leads NamespaceBody = false
 leads DottedBody = false
 leads role = true
@@ -580,8 +580,8 @@ ts_begins reads (ts_parts.TsTypeAnn n) Annotation h = absurd (true≢false (sym 
 ts_begins reads (ts_parts.TsTypeParamDecl n) TypeParameters h = begins_then _ _ _ (begins_mark _ _)
 ts_begins reads (ts_parts.TsTypeParamInstantiation n) TypeArguments h = absurd (true≢false (sym h))
 ts_begins reads (ts_parts.TsFnParam n) SignatureParameter h = absurd (true≢false (sym h))
+ts_begins reads (ts_parts.TsInterfaceBody n) InterfaceBody h = absurd (true≢false (sym h))
 ts_begins reads (ts_parts.TsEntityName n) EntityName h = absurd (true≢false (sym h))
-ts_begins reads (ts_parts.TsTypeElement n) TypeMember h = absurd (true≢false (sym h))
 ts_begins reads (ts_parts.TsNamespaceBody n) NamespaceBody h = absurd (true≢false (sym h))
 ts_begins reads (ts_parts.TsNamespaceBody n) DottedBody h = absurd (true≢false (sym h))
 ts_begins reads n role h = begins_never _

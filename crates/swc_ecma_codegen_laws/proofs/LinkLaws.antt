@@ -15,50 +15,53 @@ use Rattle.swc_ecma_codegen_grammar.specs.TreePhrases.{node_phrase, phrase}
 use Rattle.swc_ecma_codegen_grammar.specs.declared.roles.Role.TheVariants.{MemberExpression, AssignmentTarget}
 use Rattle.swc_ecma_codegen_grammar.proofs.TreeLaws.{phrase_member_expr, phrase_expr_part}
 use Rattle.swc_ecma_codegen_util.specs.declared.config.Config.{Config}
-use Rattle.swc_ecma_codegen_tokens.specs.Run.{Env, Part, State, Follows, nothing}
+use Rattle.swc_ecma_codegen_tokens.specs.Run.{Env, Part, State, Follows, nothing, with_max_line}
 use Rattle.swc_ecma_codegen_tokens.specs.Written.{AddsText, taken_remarks}
 use Rattle.swc_ecma_codegen_emit.specs.declared.nodes.Place.{Place}
-use Rattle.swc_ecma_codegen_emit.specs.declared.nodes.Place.TheVariants.{Plain}
+use Rattle.swc_ecma_codegen_emit.specs.declared.nodes.Place.TheVariants.{Plain, Lines}
+use Rattle.swc_ecma_codegen_emit.specs.Places.{by_itself, placed}
+use Rattle.swc_ecma_codegen_emit.specs.AnyExpr.{expr}
 use Rattle.swc_ecma_codegen_emit.specs.Exprs.{member, member_at}
 use Rattle.swc_ecma_codegen_emit.specs.Answers.{any_answers}
 use Rattle.swc_ecma_codegen_emit.specs.Targets.{assign_target}
 use Rattle.swc_ecma_codegen_emit.specs.Parts.{expr_part}
 use Rattle.swc_ecma_codegen_emit.specs.Lists.{if_some_at}
+use Rattle.swc_ecma_codegen_emit.specs.Stmts.{stmt}
 use Rattle.swc_ecma_codegen_emit.specs.Roots.{Root, OfExpr, OfStmt, OfItem, OfModule, OfScript, OfProgram, OfLink, root_items}
 use Rattle.swc_ecma_codegen_laws.specs.HeldRoots.{IsHeld}
 use Rattle.swc_ecma_codegen_emit.specs.Tree.{any_items}
 use Rattle.swc_ecma_codegen_emit.proofs.MappedNodes.{any_items_plain_expr, any_items_stmt, any_items_member_expr, any_items_expr_part}
+use Rattle.swc_ecma_codegen_laws.proofs.LinedNodes.{any_items_lined_expr, any_items_in_role, by_itself_same}
 
 -- ---- what is written
 
 -- a link writes what it holds
-pub held_written : (n : AnyNode) (root : Root) → IsHeld n root → any_items n Plain ≡ root_items root
-held_written n (OfExpr e) h = ap (λ z. any_items z Plain) h ∙ any_items_plain_expr e
-held_written n (OfStmt s) h = ap (λ z. any_items z Plain) h ∙ any_items_stmt s Plain
-held_written n (OfLink m role) h = ap (λ z. any_items z Plain) h.0 ∙ ap (any_items m) (sym h.1)
+pub held_written : (n : AnyNode) (root : Root) → IsHeld n root → by_itself (any_items n) ≡ root_items root
+held_written n (OfExpr e) h = ap (λ z. by_itself (any_items z)) h ∙ by_itself_same (any_items (whole.Expr e)) (expr any_answers any_items e) (any_items_plain_expr e) (any_items_lined_expr e)
+held_written n (OfStmt s) h = ap (λ z. by_itself (any_items z)) h ∙ by_itself_same (any_items (whole.Stmt s)) (λ place. stmt any_answers any_items s) (any_items_stmt s Plain) (λ max. any_items_stmt s (Lines max))
+held_written n (OfLink m role) h = ap (λ z. by_itself (any_items z)) h.0 ∙ by_itself_same (any_items m) (λ place. any_items m (placed role place)) (ap (any_items m) (sym h.1)) (λ max. any_items_in_role m role max h.1)
 held_written n (OfItem i) h = absurd h
 held_written n (OfModule m) h = absurd h
 held_written n (OfScript s) h = absurd h
 held_written n (OfProgram p) h = absurd h
 
-pub member_written : (n : AnyNode) (m : MemberExpr AnyNode) → n ≡ whole.MemberExpr m → any_items n Plain ≡ member any_items m
+pub member_written : (n : AnyNode) (m : MemberExpr AnyNode) → n ≡ whole.MemberExpr m → by_itself (any_items n) ≡ by_itself (λ place. member any_items m)
 unfolding member_at
-member_written n m h = ap (λ z. any_items z Plain) h ∙ any_items_member_expr m Plain
+member_written n m h = ap (λ z. by_itself (any_items z)) h ∙ by_itself_same (any_items (whole.MemberExpr m)) (λ place. member any_items m) (any_items_member_expr m Plain) (λ max. any_items_member_expr m (Lines max))
 
-part_written : (n : AnyNode) (m : ExprPart AnyNode) → n ≡ whole.ExprPart m → any_items n Plain ≡ expr_part any_answers any_items m Plain
-part_written n m h = ap (λ z. any_items z Plain) h ∙ any_items_expr_part m Plain
-
-pub assign_target_written : (n : AnyNode) (m : AssignTarget AnyNode) → n ≡ whole.ExprPart (expr_parts.AssignTarget m) → any_items n Plain ≡ assign_target any_answers any_items m
+pub assign_target_written : (n : AnyNode) (m : AssignTarget AnyNode) → n ≡ whole.ExprPart (expr_parts.AssignTarget m) → by_itself (any_items n) ≡ by_itself (λ place. assign_target any_answers any_items m)
 unfolding expr_part
-assign_target_written n m h = part_written n (expr_parts.AssignTarget m) h
+assign_target_written n m h =
+    let part : ExprPart AnyNode = expr_parts.AssignTarget m in
+    ap (λ z. by_itself (any_items z)) h ∙ by_itself_same (any_items (whole.ExprPart part)) (λ place. assign_target any_answers any_items m) (any_items_expr_part part Plain) (λ max. any_items_expr_part part (Lines max))
 
-pub some_written : {A : Type 0} (items : A → Place → Part) (o : Option A) (x : A) → o ≡ Some x → if_some_at items o Plain ≡ items x Plain
+pub some_written : {A : Type 0} (items : A → Place → Part) (o : Option A) (x : A) → o ≡ Some x → by_itself (if_some_at items o) ≡ by_itself (items x)
 unfolding if_some_at
-some_written items o x h = ap (λ z. if_some_at items z Plain) h ∙ (λ i. λ rest. items x Plain rest)
+some_written items o x h = ap (λ z. by_itself (if_some_at items z)) h ∙ (λ i. by_itself (λ place rest. items x place rest))
 
-pub none_written : {A : Type 0} (items : A → Place → Part) (o : Option A) → o ≡ None → if_some_at items o Plain ≡ (λ rest. rest)
-unfolding if_some_at
-none_written items o h = ap (λ z. if_some_at items z Plain) h ∙ (λ i. λ rest. rest)
+pub none_written : {A : Type 0} (items : A → Place → Part) (o : Option A) → o ≡ None → by_itself (if_some_at items o) ≡ (λ rest. rest)
+unfolding if_some_at by_itself with_max_line
+none_written items o h = ap (λ z. by_itself (if_some_at items z)) h ∙ (λ i. λ rest env. rest env)
 
 -- what is done of one is done of the other
 pub follows_part : (p q : Part) (a b : State) (r : Result (Unit {0}) Refusal) → p ≡ q → Follows (p nothing) a b r → Follows (q nothing) a b r

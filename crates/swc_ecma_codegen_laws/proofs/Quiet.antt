@@ -1,5 +1,5 @@
 -- Parts of a plan that take no memory, and make no level.
-use Rattle.std.proofs.Common.{◌≡◌, ℕ, Bool, true, false, not, cond, ◌&&◌, ◌||◌, List, [], ◌∷◌, ◌++◌, codes, ◌^◌, ◌<◌, arith, refl, sym, ap, ◌∙◌, inl, inr, Option, None}
+use Rattle.std.proofs.Common.{◌≡◌, ℕ, Bool, true, false, not, cond, ◌&&◌, ◌||◌, List, [], ◌∷◌, ◌++◌, codes, ◌^◌, ◌<◌, arith, refl, sym, ap, ◌∙◌, subst, inl, inr, is_some, Option, None, Some}
 use Rattle.std.proofs.lemmas.Bool.{cases_Bool, false_from_ne_true, or_from, true≢false}
 use Rattle.std.specs.Str.{chars}
 use Rattle.swc_ecma_codegen_common.specs.declared.positions.Span.{Span}
@@ -8,19 +8,23 @@ use Rattle.swc_ecma_codegen_grammar.specs.declared.kinds.Kind.TheVariants.{Word,
 use Rattle.swc_ecma_codegen_grammar.specs.CommentMaps.{Maps}
 use Rattle.swc_ecma_codegen_grammar.specs.Tokens as lexical
 use Rattle.swc_ecma_codegen_grammar.specs.ValidNames.{turned}
-use Rattle.swc_ecma_codegen_text_writer.specs.Sheet.{Semi, Keyword, Operator, Symbol, Punct}
+use Rattle.swc_ecma_codegen_text_writer.specs.Sheet.{AllowBreak, Semi, Keyword, Operator, Symbol, Punct}
 use Rattle.swc_ecma_codegen_literals.specs.AsciiNames.{is_ascii_text, is_out_of_target}
-use Rattle.swc_ecma_codegen_tokens.specs.Run.{Env, Plan, Part, State, Step, Guard, Token, Remake, done, at_maps, maps_after, step, steps_of, steps_in, nothing, unprintable_in, makes_text, has_backslash, IsUnhindered}
+use Rattle.swc_ecma_codegen_tokens.specs.Run.{Env, Plan, Part, State, Step, Guard, Token, Plain as Call, Remake, is_bounded, with_max_line, done, at_maps, maps_after, step, steps_of, steps_in, nothing, unprintable_in, makes_text, has_backslash, IsUnhindered}
 use Rattle.swc_ecma_codegen_tokens.specs.Targets.{wants_escapes, in_ascii, is_out_name}
-use Rattle.swc_ecma_codegen_tokens.specs.Words.{keyword, operator, word_operator, punct, semi, symbol, spelled_symbol, valid_symbol, name_text, question, name}
+use Rattle.swc_ecma_codegen_tokens.specs.Words.{allow_break, allows_break, break_where, bare_punct, bare_semi, keyword, operator, word_operator, punct, semi, symbol, spelled_symbol, valid_symbol, name_text, question, name}
 use Rattle.swc_ecma_codegen_tokens.specs.Ready.{IsReady}
 use Rattle.swc_ecma_codegen_tokens.specs.Written.{Spot}
 use Rattle.swc_ecma_codegen_tokens.proofs.Levels.{levels, rise, levels_append, stays_within}
 use Rattle.swc_ecma_codegen_tokens.proofs.Shapes.{Shape}
 use Rattle.swc_ecma_codegen_tokens.proofs.Spelled.{spelled_same}
 use Rattle.swc_ecma_codegen_tokens.proofs.PartSteps.{steps_of_chain}
+use Rattle.swc_ecma_codegen_emit.specs.declared.nodes.Place.{Place}
+use Rattle.swc_ecma_codegen_emit.specs.declared.nodes.Place.TheVariants.{Plain}
+use Rattle.swc_ecma_codegen_emit.specs.Places.{alone, by_itself, with_lines}
 use Rattle.swc_ecma_codegen_laws.specs.Basic.{TakesNoMemory}
-use Rattle.swc_ecma_codegen_tokens.proofs.Printed.{chain, chain_append, env_after, maps_append, remakes_append, MakesWithinOn, writes_position, writes_commit, writes_leading}
+use Rattle.swc_ecma_codegen_tokens.proofs.Printed.{chain, chain_append, env_after, maps_append, remakes_append, MakesWithinOn, writes_position, writes_commit}
+use Rattle.swc_ecma_codegen_tokens.proofs.CommentPrints.{writes_leading}
 
 -- A part is these steps, whatever comes after it; no text of theirs is made anew, and none of them makes the indentation deeper.
 pub record QuietFrom (env : Env) (part : Part) : Type 0 where
@@ -88,13 +92,30 @@ pub quiet_word_operator : (env : Env) (t : List ℕ) → Quiet env (word_operato
 unfolding word_operator makes_text levels rise
 quiet_word_operator env t = then (quiet_step env (Guard t) refl refl) (quiet_step env (Token Word (Operator None t)) refl refl)
 
+-- where a line may be ended
+quiet_break : (env : Env) → Quiet env (step (Call AllowBreak))
+unfolding makes_text levels rise
+quiet_break env = quiet_step env (Call AllowBreak) refl refl
+
+pub quiet_allow_break : (env : Env) → Quiet env allow_break
+unfolding allow_break break_where
+quiet_allow_break env = quiet_same env allow_break (λ rest. cond (is_bounded env) (step (Call AllowBreak) rest) rest) (λ maps rest. refl) (quiet_if env (is_bounded env) (step (Call AllowBreak)) (λ rest. rest) (quiet_break env) (quiet_nothing env))
+
+quiet_bare_punct : (env : Env) (t : List ℕ) → Quiet env (bare_punct t)
+unfolding bare_punct makes_text levels rise
+quiet_bare_punct env t = then (quiet_step env (Guard t) refl refl) (quiet_step env (Token Punctuator (Punct None t)) refl refl)
+
 pub quiet_punct : (env : Env) (t : List ℕ) → Quiet env (punct t)
-unfolding punct makes_text levels rise
-quiet_punct env t = then (quiet_step env (Guard t) refl refl) (quiet_step env (Token Punctuator (Punct None t)) refl refl)
+unfolding punct
+quiet_punct env t = then (quiet_bare_punct env t) (quiet_if env (allows_break t) allow_break (λ rest. rest) (quiet_allow_break env) (quiet_nothing env))
+
+quiet_bare_semi : (env : Env) → Quiet env bare_semi
+unfolding bare_semi makes_text levels rise
+quiet_bare_semi env = then (quiet_step env (Guard (codes ";")) refl refl) (quiet_step env (Token Ending (Semi None)) refl refl)
 
 pub quiet_semi : (env : Env) → Quiet env semi
-unfolding semi makes_text levels rise
-quiet_semi env = then (quiet_step env (Guard (codes ";")) refl refl) (quiet_step env (Token Ending (Semi None)) refl refl)
+unfolding semi
+quiet_semi env = then (quiet_bare_semi env) (quiet_allow_break env)
 
 -- ---- names, where the settings don't ask for ASCII
 
@@ -174,9 +195,32 @@ quiet_unhindered p a b h s room e =
       printable = quiet_ends p a h;
     }
 
-pub takes_none : (p : Part) → ((env : Env) → env.config.ascii_only ≡ false → Quiet env p) → TakesNoMemory p
+-- what a node goes by that stands by itself
+abbrev pub inside : Env → Env
+inside env = record env { max_line = None }
+
+place_alone : (minify : Bool) (max : Option ℕ) → (is_some max && minify) ≡ false → cond minify (with_lines max) Plain ≡ Plain
+place_alone true None h = refl
+place_alone true (Some max) h = absurd (true≢false h)
+place_alone false max h = refl
+
+-- where lines aren't bounded, nothing is asked of it
+pub quiet_itself : (env : Env) (items : Place → Part) → is_bounded env ≡ false → Quiet (inside env) (items Plain) → Quiet env (by_itself items)
+unfolding by_itself with_max_line
+quiet_itself env items h k =
+    let here : Quiet (inside env) (items (alone env)) = subst (λ z. Quiet (inside env) (items z)) (sym (place_alone env.config.minify env.max_line h)) k in
+    record {
+      from = λ maps.
+          let x = here.from maps in
+          record { steps = x.steps; is_steps = λ rest. x.is_steps (λ inner. rest (record inner { max_line = env.max_line })); quiet = x.quiet; flat = x.flat };
+    }
+
+pub takes_none : (p : Part) → ((env : Env) → env.config.ascii_only ≡ false → is_bounded env ≡ false → Quiet env p) → TakesNoMemory p
 takes_none p law = record {
-  memory = λ s e. quiet_steps p s (law s.env e);
-  printable = λ s e. quiet_ends p s (law s.env e);
-  made = λ a b e s room same. quiet_unhindered p a b (law a.env e) s room same;
+  memory = λ s e k. quiet_steps p s (law s.env e k);
+  printable = λ s e k. quiet_ends p s (law s.env e k);
+  made = λ a b e s room same. quiet_unhindered p a b (law a.env e s.unbounded) s room same;
 }
+
+pub itself_takes_none : (items : Place → Part) → ((env : Env) → env.config.ascii_only ≡ false → Quiet env (items Plain)) → TakesNoMemory (by_itself items)
+itself_takes_none items law = takes_none (by_itself items) (λ env e k. quiet_itself env items k (law (inside env) e))

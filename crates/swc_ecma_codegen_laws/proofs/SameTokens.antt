@@ -1,5 +1,5 @@
 -- Two emissions of one tree under the same settings.
-use Rattle.std.proofs.Common.{◌≡◌, ℕ, Bool, true, false, not, refl, sym, ap, ◌∙◌, subst, List, [], ◌∷◌, ◌++◌, Ok}
+use Rattle.std.proofs.Common.{◌≡◌, ℕ, Bool, true, false, not, refl, sym, ap, ◌∙◌, subst, List, [], ◌∷◌, ◌++◌, inl, inr, Ok}
 use Rattle.std.proofs.lemmas.Bool.{not-false}
 use Rattle.swc_ecma_codegen_grammar.specs.Layouts.{AreAlike, Alongside, leaves_open}
 use Rattle.swc_ecma_codegen_grammar.specs.Phrases.{Phrase, Nothing, One, ◌>◌, Generates}
@@ -8,17 +8,25 @@ use Rattle.swc_ecma_codegen_grammar.specs.Comments.{AreClosed}
 use Rattle.swc_ecma_codegen_grammar.specs.Tokens.{Token}
 use Rattle.swc_ecma_codegen_grammar.specs.Trivia.{Remark}
 use Rattle.swc_ecma_codegen_grammar.proofs.LayoutLaws.{alongside, one_list}
+use Rattle.swc_ecma_codegen_text_writer.specs.Filling.{text_of}
+use Rattle.swc_ecma_codegen_text_writer.specs.Runs.{cut_from_here}
+use Rattle.swc_ecma_codegen_text_writer.specs.Sheet.{Sheet}
 use Rattle.swc_ecma_codegen_util.specs.declared.config.Config.{Config}
-use Rattle.swc_ecma_codegen_tokens.specs.Run.{State, Step, Follows, nothing, run, steps_of}
+use Rattle.swc_ecma_codegen_tokens.specs.Run.{Env, State, Step, Follows, nothing, run, steps_of}
 use Rattle.swc_ecma_codegen_tokens.specs.Settings.{settings_of}
-use Rattle.swc_ecma_codegen_tokens.specs.Written.{ReadsAs, AddsReading, AddsText, taken_remarks}
+use Rattle.swc_ecma_codegen_tokens.specs.Written.{ReadsAs, IsNew, IsAtMargin, AddsReading, AddsText, taken_remarks}
 use Rattle.swc_ecma_codegen_emit.specs.Roots.{Root, root_items, root_phrase, is_well_formed_root, MayBegin}
 use Rattle.swc_ecma_codegen_tokens.specs.Targets.{is_out}
+use Rattle.swc_ecma_codegen_tokens.proofs.CutReads.{cut_reads}
+use Rattle.swc_ecma_codegen_tokens.proofs.Filled.{filled, run_calls, steps_fill}
+use Rattle.swc_ecma_codegen_tokens.proofs.FilledTexts.{lined_steps, lined_remarks}
 use Rattle.swc_ecma_codegen_tokens.proofs.Printed.{remarks_by}
-use Rattle.swc_ecma_codegen_tokens.proofs.Phrased.{laid_reads, made_not_out, new_at_rest, taken_closed}
-use Rattle.swc_ecma_codegen_tokens.proofs.PartSteps.{steps_of_chain}
+use Rattle.swc_ecma_codegen_tokens.proofs.Phrased.{laid_reads, new_at_rest, taken_closed, PrintsAt}
+use Rattle.swc_ecma_codegen_tokens.proofs.PartSteps.{steps_alone}
 use Rattle.swc_ecma_codegen_emit.specs.Roots.{root_hashbang}
-use Rattle.swc_ecma_codegen_emit.proofs.TreeReads.{root_prints, root_reads}
+use Rattle.swc_ecma_codegen_emit.proofs.ByItself.{root_shape, root_stands}
+use Rattle.swc_ecma_codegen_emit.proofs.InLines.{InLines}
+use Rattle.swc_ecma_codegen_emit.proofs.TreeReads.{root_in_target, root_reads}
 use Rattle.swc_ecma_codegen_laws.specs.SameTokens.{AddTokensAlike, AddOneList}
 
 like_itself : (s : Settings) → AreAlike s s
@@ -77,33 +85,83 @@ as_phrase config holds f ts remarks old new g x = record {
   };
 }
 
-steps_read_alike : (root : Root) (a c : State) → is_well_formed_root root ≡ true → is_out a.env.config (root_phrase root) ≡ false → MayBegin root a → MayBegin root c → AreClosed a.env.maps
-    → AddOneList a.env.config (root_phrase root) (taken_remarks (root_items root) a.env) a.sheet (run (steps_of (root_items root nothing a.env)) a).sheet c.sheet (run (steps_of (root_items root nothing a.env)) c).sheet
-unfolding nothing as_phrase
-steps_read_alike root a c w o s t k =
-    let anywhere : Bool = not (root_hashbang root) in
-    let config : Config = a.env.config in
-    let h = (root_prints a.env s.is_new.leaves_out root).where_possible w o a.env.maps in
+-- what is added reads as a list of the phrase, and as this one
+record AddsThese (config : Config) (f : Phrase) (remarks : List Remark) (ts : List Token) (old new : Sheet) : Type 0 where
+  adds : AddsReading config f remarks old new
+  tokens : adds.reading.tokens ≡ ts
+
+-- The steps of a root add one list, wherever its emission begins.
+record AddsOne (root : Root) (env : Env) (steps : List Step) : Type 0 where
+  tokens : List Token
+  each : (s : State) → MayBegin root s → AddsThese env.config (root_phrase root) (remarks_by steps env) tokens s.sheet (run steps s).sheet
+
+margin : (root : Root) (s : State) → MayBegin root s → not (root_hashbang root) ≡ false → IsAtMargin s
+margin root s t e = t.at_margin (not-false (root_hashbang root) e)
+
+-- without lines
+plain_adds : (root : Root) (env : Env) → is_well_formed_root root ≡ true → is_out env.config (root_phrase root) ≡ false → AreClosed env.maps → PrintsAt (root_shape root) env (root_items root) (root_phrase root) → AddsOne root env (steps_of (root_items root nothing env))
+unfolding as_phrase
+plain_adds root env w o k prints =
+    let config : Config = env.config in
+    let h = prints.where_possible w o env.maps in
     let ts : List Token = h.tokens in
-    let rs : List Remark = remarks_by h.writes.steps a.env in
-    let same : steps_of (root_items root nothing a.env) ≡ h.writes.steps = ap steps_of (h.writes.is_steps nothing) ∙ steps_of_chain h.writes.steps in
-    let closed = taken_closed h.writes.steps a.env.maps k in
-    let x : AddsReading config (exactly ts) rs a.sheet (run h.writes.steps a).sheet = laid_reads anywhere config (exactly ts) ts a (run h.writes.steps a) (has_list (settings_of config) ts) s.is_new (λ e. s.at_margin (not-false (root_hashbang root) e)) (h.writes.lays a (new_at_rest a s.is_new) closed) in
-    let y : AddsReading config (exactly ts) rs c.sheet (run h.writes.steps c).sheet = laid_reads anywhere config (exactly ts) ts c (run h.writes.steps c) (has_list (settings_of config) ts) t.is_new (λ e. t.at_margin (not-false (root_hashbang root) e)) (h.writes.lays c (new_at_rest c t.is_new) closed) in
-    let P : List Step → Type 0 = λ z. AddOneList config (root_phrase root) (remarks_by z a.env) a.sheet (run z a).sheet c.sheet (run z c).sheet in
-    subst P (sym same) (record {
-      one = as_phrase config _ (root_phrase root) ts rs _ _ h.generated x;
-      other = as_phrase config _ (root_phrase root) ts rs _ _ h.generated y;
-      same = has_no_other (settings_of config) ts x.reading.tokens x.reading.is_list ∙ sym (has_no_other (settings_of config) ts y.reading.tokens y.reading.is_list);
+    let rs : List Remark = remarks_by h.writes.steps env in
+    let P : List Step → Type 0 = λ z. AddsOne root env z in
+    subst P (sym (steps_alone h.writes)) (record {
+      tokens = ts;
+      each = λ s t.
+          let x : AddsReading config (exactly ts) rs s.sheet (run h.writes.steps s).sheet = laid_reads (not (root_hashbang root)) config (exactly ts) ts s (run h.writes.steps s) (has_list (settings_of config) ts) t.is_new (margin root s t) (h.writes.lays s (new_at_rest s t.is_new) (taken_closed h.writes.steps env.maps k)) in
+          record { adds = as_phrase config _ (root_phrase root) ts rs _ _ h.generated x; tokens = has_no_other (settings_of config) ts x.reading.tokens x.reading.is_list };
     })
+
+-- the same state, whose sheet is cut from here
+abbrev cut_state : State → State
+cut_state s = record s { sheet = cut_from_here s.sheet }
+
+cut_new : (s : State) → IsNew s → IsNew (cut_state s)
+cut_new s n = record { nothing_written = n.nothing_written; nothing_held = n.nothing_held; indent_text = n.indent_text; line_end = n.line_end; flowing = refl; leaves_out = n.leaves_out }
+
+-- in lines: the text is cut where lines may be ended, and reads as without
+lined_adds : (root : Root) (env : Env) → is_well_formed_root root ≡ true → is_out env.config (root_phrase root) ≡ false → AreClosed env.maps → InLines (root_shape root) env (root_items root) (root_phrase root) → AddsOne root env (steps_of (root_items root nothing env))
+lined_adds root env w o k lines =
+    let config : Config = env.config in
+    let f : Phrase = root_phrase root in
+    let h = lines.prints.where_possible w o env.maps in
+    let steps : List Step = h.writes.steps in
+    let inner : steps_of (lines.inner nothing env) ≡ steps = steps_alone h.writes in
+    let whole : List Step = steps_of (root_items root nothing env) in
+    let same : whole ≡ filled lines.max steps = ap steps_of lines.same ∙ lined_steps lines.max lines.inner f env lines.prints w o ∙ ap (filled lines.max) inner in
+    let taken : remarks_by whole env ≡ remarks_by steps env = ap (λ z. remarks_by (steps_of z) env) lines.same ∙ lined_remarks lines.max lines.inner f env lines.prints w o ∙ ap (λ z. remarks_by z env) inner in
+    record {
+      tokens = h.tokens;
+      each = λ s t.
+          let c : State = cut_state s in
+          let new = cut_new s t.is_new in
+          let fills = steps_fill lines.max steps s h.writes.inner t.is_new t.flows in
+          let cut = ap (λ (z : Sheet). z.lines) (run_calls steps c) ∙ fills.cut in
+          let x = cut_reads (not (root_hashbang root)) config f h.tokens c (run steps c) h.generated new (margin root s t) (h.writes.lays c (new_at_rest c new) (taken_closed steps env.maps k)) fills.done fills.begun refl cut fills.first fills.parts fills.segments in
+          let there : AddsThese config f (remarks_by steps env) h.tokens s.sheet (run (filled lines.max steps) s).sheet =
+          record { adds = record { added = fills.first ++ text_of s.sheet.line_end fills.parts; is_added = fills.text; reading = x.reading }; tokens = x.tokens } in
+          subst (λ z. AddsThese config f z h.tokens s.sheet (run whole s).sheet) (sym taken) (subst (λ z. AddsThese config f (remarks_by steps env) h.tokens s.sheet (run z s).sheet) (sym same) there);
+    }
+
+root_adds : (root : Root) (env : Env) → env.keeps_invalid ≡ false → is_well_formed_root root ≡ true → is_out env.config (root_phrase root) ≡ false → AreClosed env.maps → AddsOne root env (steps_of (root_items root nothing env))
+root_adds root env e w o k = elim (root_stands env e root) [
+  | inl prints ↦ plain_adds root env w o k prints
+  | inr lines ↦ lined_adds root env w o k lines
+]
 
 pub emissions_same : (root : Root) (a b c d : State) → is_well_formed_root root ≡ true → MayBegin root a → MayBegin root c → AreClosed a.env.maps → a.env ≡ c.env
     → Follows (root_items root nothing) a b (Ok tt) → Follows (root_items root nothing) c d (Ok tt)
     → AddOneList a.env.config (root_phrase root) (taken_remarks (root_items root) a.env) a.sheet b.sheet c.sheet d.sheet
 unfolding Follows
 emissions_same root a b c d w s t k e f g =
-    let o = made_not_out (root_items root) (root_phrase root) a.env (root_prints a.env s.is_new.leaves_out root) w f.0 in
-    let there : d ≡ run (steps_of (root_items root nothing a.env)) c = subst (λ v. d ≡ run (steps_of (root_items root nothing v)) c) (sym e) g.1 in
-    let P : State → Type 0 = λ z. AddOneList a.env.config (root_phrase root) (taken_remarks (root_items root) a.env) a.sheet z.sheet c.sheet (run (steps_of (root_items root nothing a.env)) c).sheet in
+    let steps : List Step = steps_of (root_items root nothing a.env) in
+    let o : is_out a.env.config (root_phrase root) ≡ false = root_in_target root a b w s.is_new.leaves_out f in
+    let adds = root_adds root a.env s.is_new.leaves_out w o k in
+    let one = adds.each a s in
+    let other = adds.each c t in
+    let there : d ≡ run steps c = subst (λ v. d ≡ run (steps_of (root_items root nothing v)) c) (sym e) g.1 in
+    let P : State → Type 0 = λ z. AddOneList a.env.config (root_phrase root) (taken_remarks (root_items root) a.env) a.sheet z.sheet c.sheet (run steps c).sheet in
     let Q : State → Type 0 = λ z. AddOneList a.env.config (root_phrase root) (taken_remarks (root_items root) a.env) a.sheet b.sheet c.sheet z.sheet in
-    subst Q (sym there) (subst P (sym f.1) (steps_read_alike root a c w o s t k))
+    subst Q (sym there) (subst P (sym f.1) (record { one = one.adds; other = other.adds; same = one.tokens ∙ sym other.tokens }))

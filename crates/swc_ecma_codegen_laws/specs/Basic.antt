@@ -12,7 +12,7 @@ use Rattle.swc_ecma_codegen_tree.specs.declared.stmts.Stmt.TheVariants as stmts
 use Rattle.swc_ecma_codegen_tree.specs.declared.programs.Script.{Script}
 use Rattle.swc_ecma_codegen_tree.specs.declared.programs.Program.TheVariants as programs
 use Rattle.swc_ecma_codegen_tokens.specs.Ready.{IsReady}
-use Rattle.swc_ecma_codegen_tokens.specs.Run.{Part, State, IsUnhindered, has_backslash, makes_text, steps_in, steps_of, unprintable_in}
+use Rattle.swc_ecma_codegen_tokens.specs.Run.{Part, State, IsUnhindered, is_bounded, has_backslash, makes_text, steps_in, steps_of, unprintable_in}
 use Rattle.swc_ecma_codegen_emit.specs.Roots.{Root, OfExpr, OfStmt, OfItem, OfModule, OfScript, OfProgram, OfLink}
 
 -- a name without a backslash
@@ -75,9 +75,9 @@ is_basic (OfProgram (programs.Script n)) = basic_script n
 is_basic (OfProgram (programs.Module n)) = false
 is_basic (OfLink n role) = any_basic n
 
--- Where the settings don't ask for ASCII, no text of this part is made anew, in memory, and it comes to no node that can't be
--- printed. So it is made by an emitter that is ready where the writer counts no fault.
+-- Where the settings don't ask for ASCII and lines have no greatest length, no text of this part is made anew, in memory, and it comes to no
+-- node that can't be printed. So it is made by an emitter that is ready where the writer counts no fault.
 pub record TakesNoMemory (part : Part) : Type 0 where
-  pub memory : (s : State) → s.env.config.ascii_only ≡ false → makes_text (steps_of (steps_in part s)) ≡ false
-  pub printable : (s : State) → s.env.config.ascii_only ≡ false → unprintable_in (steps_in part s) ≡ None
+  pub memory : (s : State) → s.env.config.ascii_only ≡ false → is_bounded s.env ≡ false → makes_text (steps_of (steps_in part s)) ≡ false
+  pub printable : (s : State) → s.env.config.ascii_only ≡ false → is_bounded s.env ≡ false → unprintable_in (steps_in part s) ≡ None
   pub made : (a b : State) → a.env.config.ascii_only ≡ false → IsReady a → a.sheet.indentation < 2 ^ 32 → b.sheet.faults ≡ a.sheet.faults → IsUnhindered (steps_in part a) a b

@@ -18,16 +18,17 @@ ghost use Rattle.swc_ecma_codegen_tree.specs.declared.exprs.ParenExpr.{ParenExpr
 ghost use Rattle.swc_ecma_codegen_tree.specs.declared.stmts.EmptyStmt.{EmptyStmt};
 ghost use Rattle.swc_ecma_codegen_tree.specs.declared.stmts.ExprStmt.{ExprStmt};
 ghost use Rattle.swc_ecma_codegen_tree.specs.declared.stmts.Stmt.TheVariants as stmts;
-ghost use Rattle.swc_ecma_codegen_emit.specs.declared.nodes.Place.TheVariants.{Plain};
 ghost use Rattle.swc_ecma_codegen_emit.specs.Answers.{any_answers};
 ghost use Rattle.swc_ecma_codegen_emit.specs.Exprs.{this, ident, ident_name, unary, update, bin, computed_prop_name, member_at, choice, seq, paren};
+ghost use Rattle.swc_ecma_codegen_emit.specs.Places.{by_itself};
 ghost use Rattle.swc_ecma_codegen_emit.specs.Roots.{Root, OfExpr, OfStmt, root_items};
 ghost use Rattle.swc_ecma_codegen_emit.specs.Stmts.{empty_stmt, expr_stmt};
 ghost use Rattle.swc_ecma_codegen_emit.specs.Tree.{any_items};
 ghost use Rattle.swc_ecma_codegen_laws.specs.Basic.{any_basic, is_bare, is_basic, TakesNoMemory};
 
 /// An emission of names and operators alone takes no memory, nor comes to a node that can't be printed, where the settings don't
-/// ask for ASCII, be the tree well-formed or not: a script without a hashbang, statements of expressions and empty ones, and in
+/// ask for ASCII and lines have no greatest length (a script holds text in memory until it knows where its lines end), be the tree
+/// well-formed or not: a script without a hashbang, statements of expressions and empty ones, and in
 /// these `this`, names, `-a`, `a++`, `a + b`, `a.b`, `a[b]`, `a ? b : c`, `a, b` and `(a)`, where no name holds a backslash.
 /// So by the clause `no_memory` of `emit_with` none is refused for memory over a writer that takes none, and by its clause
 /// `succeeds` one over an emitter that is ready is `Ok` where the writer counts no fault.
@@ -38,27 +39,28 @@ pub fn basic_trees_take_no_memory()
 /// The same of each type of node of these by itself, as `emit_with` of one prints it, without the comments after it that the
 /// expression or statement that it is would take.
 pub fn basic_nodes_take_no_memory()
-    ensures this { (n : ThisExpr) → TakesNoMemory (this n) }
-    ensures ident { (n : Ident) → is_bare (string_bytes n.sym) ≡ true → TakesNoMemory (ident n) }
+    ensures this { (n : ThisExpr) → TakesNoMemory (by_itself (λ _. this n)) }
+    ensures ident { (n : Ident) → is_bare (string_bytes n.sym) ≡ true →
+        TakesNoMemory (by_itself (λ _. ident n)) }
     ensures ident_name { (n : IdentName) → is_bare (string_bytes n.sym) ≡ true →
-        TakesNoMemory (ident_name n) }
+        TakesNoMemory (by_itself (λ _. ident_name n)) }
     ensures unary { (n : UnaryExpr AnyNode) → is_basic (OfExpr (exprs.Unary n)) ≡ true →
-        TakesNoMemory (unary any_answers any_items n) }
+        TakesNoMemory (by_itself (λ _. unary any_answers any_items n)) }
     ensures update { (n : UpdateExpr AnyNode) → is_basic (OfExpr (exprs.Update n)) ≡ true →
-        TakesNoMemory (update any_items n) }
+        TakesNoMemory (by_itself (λ _. update any_items n)) }
     ensures bin { (n : BinExpr AnyNode) → is_basic (OfExpr (exprs.Bin n)) ≡ true →
-        TakesNoMemory (bin any_answers any_items n Plain) }
+        TakesNoMemory (by_itself (bin any_answers any_items n)) }
     ensures computed { (n : ComputedPropName AnyNode) → any_basic n.expr.node.value ≡ true →
-        TakesNoMemory (computed_prop_name any_items n) }
+        TakesNoMemory (by_itself (λ _. computed_prop_name any_items n)) }
     ensures member { (n : MemberExpr AnyNode) → is_basic (OfExpr (exprs.Member n)) ≡ true →
-        TakesNoMemory (member_at any_items n Plain) }
+        TakesNoMemory (by_itself (member_at any_items n)) }
     ensures cond { (n : CondExpr AnyNode) → is_basic (OfExpr (exprs.Cond n)) ≡ true →
-        TakesNoMemory (choice any_items n) }
+        TakesNoMemory (by_itself (λ _. choice any_items n)) }
     ensures seq { (n : SeqExpr AnyNode) → is_basic (OfExpr (exprs.Seq n)) ≡ true →
-        TakesNoMemory (seq any_items n) }
+        TakesNoMemory (by_itself (λ _. seq any_items n)) }
     ensures paren { (n : ParenExpr AnyNode) → is_basic (OfExpr (exprs.Paren n)) ≡ true →
-        TakesNoMemory (paren any_items n) }
-    ensures empty { (n : EmptyStmt) → TakesNoMemory (empty_stmt n) }
+        TakesNoMemory (by_itself (λ _. paren any_items n)) }
+    ensures empty { (n : EmptyStmt) → TakesNoMemory (by_itself (λ _. empty_stmt n)) }
     ensures expr_stmt { (n : ExprStmt AnyNode) → is_basic (OfStmt (stmts.Expr n)) ≡ true →
-        TakesNoMemory (expr_stmt any_items n) }
+        TakesNoMemory (by_itself (λ _. expr_stmt any_items n)) }
 {}

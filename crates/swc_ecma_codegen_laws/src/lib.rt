@@ -5,7 +5,7 @@
 //! the start of a comment, nor `a - -b` as a decrement.
 #![tactic(auto)]
 
-ghost use Rattle.std.specs.Prelude.{◌≡◌, ℕ, Bool, true, false, if◌then◌else◌, List, [], ◌∷◌, Ok, Err, Some, None};
+ghost use Rattle.std.specs.Prelude.{◌≡◌, ◌&&◌, is_some, ℕ, Bool, true, false, if◌then◌else◌, List, [], ◌∷◌, Ok, Err, Some, None};
 ghost use Rattle.swc_ecma_codegen_common.specs.declared.errors.Refusal.TheVariants as refusals;
 ghost use Rattle.std.specs.String.{string_bytes};
 ghost use Rattle.swc_ecma_codegen_tree.specs.declared.exprs.Tpl.{Tpl};
@@ -21,14 +21,14 @@ ghost use Rattle.swc_ecma_codegen_grammar.specs.Settings.{Settings};
 ghost use Rattle.swc_ecma_codegen_grammar.specs.Layouts.{AreAlike, Alongside, AreSameBut, IsWritten, leaves_open};
 ghost use Rattle.swc_ecma_codegen_grammar.specs.TemplatePhrases.{is_counted};
 ghost use Rattle.swc_ecma_codegen_grammar.specs.TreePhrases.{expr_phrase};
-ghost use Rattle.swc_ecma_codegen_text_writer.specs.Sheet.{HoldsNone};
+ghost use Rattle.swc_ecma_codegen_text_writer.specs.Sheet.{Flowing, HoldsNone};
 ghost use Rattle.swc_ecma_codegen_text_writer.specs.View.{new_sheet};
 ghost use Rattle.swc_ecma_codegen_tokens.specs.declared.refusals.Unprintable.TheVariants.{BadShape, NameOutOfTarget};
 ghost use Rattle.swc_ecma_codegen_grammar.specs.SourceLines.{Lines};
 ghost use Rattle.swc_ecma_codegen_grammar.specs.CommentMaps.{Maps, with_leading, with_trailing};
 ghost use Rattle.swc_ecma_codegen_grammar.specs.Comments.{is_closed, remark_of, AreClosed};
 ghost use Rattle.swc_ecma_codegen_grammar.specs.declared.comments.Comment.{Comment};
-ghost use Rattle.swc_ecma_codegen_tokens.specs.Run.{Env, Follows, Plan, State, nothing, refused, makes_text, spoken, start, steps_in, steps_of, unprintable_in};
+ghost use Rattle.swc_ecma_codegen_tokens.specs.Run.{Env, Follows, Plan, State, is_bounded, nothing, refused, makes_text, spoken, start, steps_in, steps_of, unprintable_in};
 ghost use Rattle.swc_ecma_codegen_tokens.specs.Attributes.{attribute_string, has_no_text};
 ghost use Rattle.swc_ecma_codegen_tokens.specs.Lits.{prints_raw, string_at, value_text};
 ghost use Rattle.swc_ecma_codegen_tokens.specs.Scripts.{value_strings};
@@ -38,7 +38,7 @@ ghost use Rattle.swc_ecma_codegen_tokens.specs.Settings.{settings_of};
 ghost use Rattle.swc_ecma_codegen_tokens.specs.Written.{IsLineEnd, IsNew, ReadsAs, all_indent, taken_remarks};
 ghost use Rattle.swc_ecma_codegen_tokens.specs.Ready.{IsReady};
 ghost use Rattle.swc_ecma_codegen_util.specs.Starts.{expr_starts, any_starts};
-ghost use Rattle.swc_ecma_codegen_emit.specs.declared.nodes.Place.TheVariants.{Plain};
+ghost use Rattle.swc_ecma_codegen_emit.specs.Places.{by_itself};
 ghost use Rattle.swc_ecma_codegen_emit.specs.Answers.{any_answers};
 ghost use Rattle.swc_ecma_codegen_emit.specs.AnyExpr.{expr as expr_items};
 ghost use Rattle.swc_ecma_codegen_emit.specs.Modules.{is_crowded, import_decl};
@@ -66,21 +66,22 @@ pub use swc_ecma_codegen_grammar::reading_laws::{
 use swc_ecma_codegen_tree::Expr;
 use swc_ecma_codegen_util::util::StartsWithAlphaNum;
 
-/// What is written of an expression, and of a statement, is what is written of the root that it is, which may begin wherever an
+/// What is written of an expression, and of a statement, by itself is what is written of the root that it is, which may begin wherever an
 /// emission is new. So the clauses of `emit_with` that speak of roots speak of these.
 #[tactic(auto, using(swc_ecma_codegen_emit::proofs::TreeReads::may_begin))]
 pub fn expressions_and_statements_are_roots()
     ensures expr { (expr : Expr AnyNode) →
-        expr_items any_answers any_items expr Plain ≡ root_items (OfExpr expr) }
+        by_itself (expr_items any_answers any_items expr) ≡ root_items (OfExpr expr) }
     ensures stmt { (stmt : Stmt AnyNode) →
-        stmt_items any_answers any_items stmt ≡ root_items (OfStmt stmt) }
+        by_itself (λ _. stmt_items any_answers any_items stmt) ≡ root_items (OfStmt stmt) }
     ensures begin { (root : Root) (s : State) → root_hashbang root ≡ false → IsNew s →
-        MayBegin root s }
+        s.sheet.lines ≡ Flowing → MayBegin root s }
 {}
 
 /// A new emitter over a new `JsWriter`, whose lines end with LF or with CR and LF, is one that these laws speak of, whatever
 /// the root, the source text and the comments; and after `set_indent_str` of blanks and tabs, and inside
-/// `omit_trailing_semi`. It is ready, whatever its lines end with. Under `ascii_only` it is one that is to write ASCII.
+/// `omit_trailing_semi`. It is ready, whatever its lines end with, unless it minifies and lines have a greatest length. Under
+/// `ascii_only` it is one that is to write ASCII.
 pub fn new_emitter_reads()
     ensures new { (root : Root) (lines : Lines) (maps : Maps) (config : Config)
         (bytes line_end : List ℕ) → IsLineEnd line_end →
@@ -90,6 +91,7 @@ pub fn new_emitter_reads()
         MayBegin root (start lines maps config
         (record (new_sheet bytes line_end) { semicolons = HoldsNone })) }
     ensures ready { (lines : Lines) (maps : Maps) (config : Config) (bytes line_end : List ℕ) →
+        (is_some config.max_line && config.minify) ≡ false →
         IsReady (start lines maps config (new_sheet bytes line_end)) }
     ensures ascii { (lines : Lines) (maps : Maps) (config : Config) (bytes line_end : List ℕ) →
         config.ascii_only ≡ true → IsLineEnd line_end →
@@ -126,13 +128,14 @@ pub fn first_token_is_told(expr: &Expr) -> bool
 }
 
 /// No step of an emission of a well-formed tree makes a text anew, in memory, where no name of the tree holds a backslash, or
-/// isn't ASCII under `ascii_only`, and no number, no big integer and no string stands in it, over a writer that leaves out
-/// U+0000 after a backslash: what the clauses `cause`, `no_memory` and `succeeds` of `emit_with` ask of memory. Of a tree with
+/// isn't ASCII under `ascii_only`, no number, no big integer and no string stands in it, and lines have no greatest length, over a
+/// writer that leaves out U+0000 after a backslash: what the clauses `cause`, `no_memory` and `succeeds` of `emit_with` ask of memory. Of a tree with
 /// such, these clauses speak of its steps: one takes memory where the text of a literal isn't its raw.
 #[tactic(auto, using(swc_ecma_codegen_emit::proofs::TreeReads::root_remakes))]
 pub fn plain_trees_take_no_memory()
     ensures { (root : Root) (s : State) → is_well_formed_root root ≡ true →
-        s.env.keeps_invalid ≡ false → may_make_text s.env.config (root_phrase root) ≡ false →
+        s.env.keeps_invalid ≡ false → is_bounded s.env ≡ false →
+        may_make_text s.env.config (root_phrase root) ≡ false →
         makes_text (steps_of (steps_in (root_items root) s)) ≡ false }
 {}
 

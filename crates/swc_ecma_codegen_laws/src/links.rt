@@ -11,13 +11,13 @@ ghost use Rattle.swc_ecma_codegen_grammar.specs.Comments.{maps_in, AreClosed};
 ghost use Rattle.swc_ecma_codegen_grammar.specs.ExprPhrases.{member_expr};
 ghost use Rattle.swc_ecma_codegen_grammar.specs.TreePhrases.{phrase};
 ghost use Rattle.swc_ecma_codegen_grammar.specs.declared.roles.Role.TheVariants.{MemberExpression, AssignmentTarget};
-ghost use Rattle.swc_ecma_codegen_tokens.specs.Run.{Follows, nothing};
+ghost use Rattle.swc_ecma_codegen_tokens.specs.Run.{Follows, nothing, unlined};
 ghost use Rattle.swc_ecma_codegen_tokens.specs.Written.{AddsReading, taken_remarks};
-ghost use Rattle.swc_ecma_codegen_emit.specs.declared.nodes.Place.TheVariants.{Plain};
 ghost use Rattle.swc_ecma_codegen_emit.specs.Answers.{any_answers};
 ghost use Rattle.swc_ecma_codegen_emit.specs.Exprs.{member as member_items};
 ghost use Rattle.swc_ecma_codegen_emit.specs.Targets.{assign_target as target_items};
 ghost use Rattle.swc_ecma_codegen_emit.specs.Tree.{any_items};
+ghost use Rattle.swc_ecma_codegen_emit.specs.Places.{by_itself};
 ghost use Rattle.swc_ecma_codegen_emit.specs.Roots.{Root, root_items, root_phrase, is_well_formed_root, MayBegin};
 ghost use Rattle.swc_ecma_codegen_laws.specs.HeldRoots.{IsHeld};
 ghost use Rattle.swc_ecma_codegen_emit.specs.View.{state_of};
@@ -36,14 +36,15 @@ use swc_ecma_codegen_tree::{AnyNode, ExprPart, Link};
 #[tactic(auto, using(crate::proofs::LinkLaws::held_written))]
 pub fn links_write_their_roots()
     ensures { (node : AnyNode) (root : Root) → IsHeld node root →
-        any_items node Plain ≡ root_items root }
+        by_itself (any_items node) ≡ root_items root }
 {}
 
 /// A link that holds a member expression, in the role of one, is written and read as that.
 #[tactic(auto, using(crate::proofs::LinkLaws::member_written, crate::proofs::LinkLaws::member_read))]
 pub fn links_write_members()
     ensures items { (node : AnyNode) (member : MemberExpr AnyNode) →
-        node ≡ AnyNode.MemberExpr member → any_items node Plain ≡ member_items any_items member }
+        node ≡ AnyNode.MemberExpr member →
+        by_itself (any_items node) ≡ by_itself (λ _. member_items any_items member) }
     ensures reads { (node : AnyNode) (member : MemberExpr AnyNode) →
         node ≡ AnyNode.MemberExpr member →
         phrase node MemberExpression ≡ member_expr phrase member }
@@ -54,7 +55,7 @@ pub fn links_write_members()
 pub fn links_write_targets()
     ensures items { (node : AnyNode) (target : AssignTarget AnyNode) →
         node ≡ AnyNode.ExprPart (ExprPart.AssignTarget target) →
-        any_items node Plain ≡ target_items any_answers any_items target }
+        by_itself (any_items node) ≡ by_itself (λ _. target_items any_answers any_items target) }
     ensures reads { (node : AnyNode) (target : AssignTarget AnyNode) →
         node ≡ AnyNode.ExprPart (ExprPart.AssignTarget target) →
         phrase node AssignmentTarget ≡ assign_target phrase target }
@@ -65,14 +66,14 @@ pub fn emitted_link_reads<K, N: EmitAt + Spanned, W: WriteJs, S: SourceMapper, C
     link: &Link<K, N>,
     e: &mut Emitter<'_, W, S, C>,
 ) -> Result
-    ensures items { Follows (N.items link.now.node.value Plain nothing)
+    ensures items { Follows (by_itself (N.items link.now.node.value) nothing)
         (state_of S.lines C.maps W.sheet e.old) (state_of S.lines C.maps W.sheet e.new)
         (in_short result) }
-    ensures reads { (root : Root) → N.items link.now.node.value Plain ≡ root_items root →
+    ensures reads { (root : Root) → by_itself (N.items link.now.node.value) ≡ root_items root →
         is_well_formed_root root ≡ true → MayBegin root (state_of S.lines C.maps W.sheet e.old) →
         AreClosed (maps_in C.maps e.old.comments) →
-        OnOk result (AddsReading e.old.cfg (root_phrase root)
-        (taken_remarks (N.items link.now.node.value Plain)
+        OnOk result (AddsReading (unlined e.old.cfg) (root_phrase root)
+        (taken_remarks (by_itself (N.items link.now.node.value))
         (state_of S.lines C.maps W.sheet e.old).env) (W.sheet e.old.wr) (W.sheet e.new.wr)) }
 {
     link.emit_with(e)
@@ -83,14 +84,15 @@ pub fn emitted_ref_reads<T: EmitAt + Spanned, W: WriteJs, S: SourceMapper, C: Co
     node: &&T,
     e: &mut Emitter<'_, W, S, C>,
 ) -> Result
-    ensures items { Follows (T.items node.now.now Plain nothing)
+    ensures items { Follows (by_itself (T.items node.now.now) nothing)
         (state_of S.lines C.maps W.sheet e.old) (state_of S.lines C.maps W.sheet e.new)
         (in_short result) }
-    ensures reads { (root : Root) → T.items node.now.now Plain ≡ root_items root →
+    ensures reads { (root : Root) → by_itself (T.items node.now.now) ≡ root_items root →
         is_well_formed_root root ≡ true → MayBegin root (state_of S.lines C.maps W.sheet e.old) →
         AreClosed (maps_in C.maps e.old.comments) →
-        OnOk result (AddsReading e.old.cfg (root_phrase root)
-        (taken_remarks (T.items node.now.now Plain) (state_of S.lines C.maps W.sheet e.old).env)
+        OnOk result (AddsReading (unlined e.old.cfg) (root_phrase root)
+        (taken_remarks (by_itself (T.items node.now.now))
+        (state_of S.lines C.maps W.sheet e.old).env)
         (W.sheet e.old.wr) (W.sheet e.new.wr)) }
 {
     node.emit_with(e)
@@ -101,14 +103,15 @@ pub fn emitted_box_reads<T: EmitAt + Spanned, W: WriteJs, S: SourceMapper, C: Co
     node: &Box<T>,
     e: &mut Emitter<'_, W, S, C>,
 ) -> Result
-    ensures items { Follows (T.items node.now.value Plain nothing)
+    ensures items { Follows (by_itself (T.items node.now.value) nothing)
         (state_of S.lines C.maps W.sheet e.old) (state_of S.lines C.maps W.sheet e.new)
         (in_short result) }
-    ensures reads { (root : Root) → T.items node.now.value Plain ≡ root_items root →
+    ensures reads { (root : Root) → by_itself (T.items node.now.value) ≡ root_items root →
         is_well_formed_root root ≡ true → MayBegin root (state_of S.lines C.maps W.sheet e.old) →
         AreClosed (maps_in C.maps e.old.comments) →
-        OnOk result (AddsReading e.old.cfg (root_phrase root)
-        (taken_remarks (T.items node.now.value Plain) (state_of S.lines C.maps W.sheet e.old).env)
+        OnOk result (AddsReading (unlined e.old.cfg) (root_phrase root)
+        (taken_remarks (by_itself (T.items node.now.value))
+        (state_of S.lines C.maps W.sheet e.old).env)
         (W.sheet e.old.wr) (W.sheet e.new.wr)) }
 {
     node.emit_with(e)
@@ -120,14 +123,14 @@ pub fn emitted_option_reads<T: EmitAt + Spanned, W: WriteJs, S: SourceMapper, C:
     e: &mut Emitter<'_, W, S, C>,
 ) -> Result
     ensures items { (some : T) → node.now ≡ Some some →
-        Follows (T.items some Plain nothing) (state_of S.lines C.maps W.sheet e.old)
+        Follows (by_itself (T.items some) nothing) (state_of S.lines C.maps W.sheet e.old)
         (state_of S.lines C.maps W.sheet e.new) (in_short result) }
     ensures reads { (some : T) (root : Root) → node.now ≡ Some some →
-        T.items some Plain ≡ root_items root → is_well_formed_root root ≡ true →
+        by_itself (T.items some) ≡ root_items root → is_well_formed_root root ≡ true →
         MayBegin root (state_of S.lines C.maps W.sheet e.old) →
         AreClosed (maps_in C.maps e.old.comments) →
-        OnOk result (AddsReading e.old.cfg (root_phrase root)
-        (taken_remarks (T.items some Plain) (state_of S.lines C.maps W.sheet e.old).env)
+        OnOk result (AddsReading (unlined e.old.cfg) (root_phrase root)
+        (taken_remarks (by_itself (T.items some)) (state_of S.lines C.maps W.sheet e.old).env)
         (W.sheet e.old.wr) (W.sheet e.new.wr)) }
     ensures none { node.now ≡ None →
         state_of S.lines C.maps W.sheet e.new ≡ state_of S.lines C.maps W.sheet e.old }

@@ -25,13 +25,13 @@ use Rattle.swc_ecma_codegen_tree.specs.declared.exprs.PropName.{PropName}
 use Rattle.swc_ecma_codegen_tree.specs.declared.pats.SimpleAssignTarget.{SimpleAssignTarget}
 use Rattle.swc_ecma_codegen_tree.specs.declared.stmts.Stmt.{Stmt}
 use Rattle.swc_ecma_codegen_tree.specs.declared.exprs.Tpl.{Tpl}
+use Rattle.swc_ecma_codegen_tree.specs.declared.ts_members.TsInterfaceBody.{TsInterfaceBody}
 use Rattle.swc_ecma_codegen_tree.specs.declared.ts_types.TsEntityName.{TsEntityName}
 use Rattle.swc_ecma_codegen_tree.specs.declared.ts_types.TsFnOrConstructorType.{TsFnOrConstructorType}
 use Rattle.swc_ecma_codegen_tree.specs.declared.ts_types.TsFnParam.{TsFnParam}
 use Rattle.swc_ecma_codegen_tree.specs.declared.ts_decls.TsNamespaceBody.{TsNamespaceBody}
 use Rattle.swc_ecma_codegen_tree.specs.declared.ts_types.TsType.{TsType}
 use Rattle.swc_ecma_codegen_tree.specs.declared.ts_types.TsTypeAnn.{TsTypeAnn}
-use Rattle.swc_ecma_codegen_tree.specs.declared.ts_members.TsTypeElement.{TsTypeElement}
 use Rattle.swc_ecma_codegen_tree.specs.declared.ts_types.TsTypeParamDecl.{TsTypeParamDecl}
 use Rattle.swc_ecma_codegen_tree.specs.declared.ts_types.TsTypeParamInstantiation.{TsTypeParamInstantiation}
 use Rattle.swc_ecma_codegen_tree.specs.declared.ts_types.TsUnionOrIntersectionType.{TsUnionOrIntersectionType}
@@ -52,7 +52,6 @@ use Rattle.swc_ecma_codegen_tree.specs.declared.ts_types.TsFnOrConstructorType.T
 use Rattle.swc_ecma_codegen_tree.specs.declared.ts_types.TsFnParam.TheVariants as ts_fn_params
 use Rattle.swc_ecma_codegen_tree.specs.declared.ts_decls.TsNamespaceBody.TheVariants as ts_namespace_bodys
 use Rattle.swc_ecma_codegen_tree.specs.declared.ts_types.TsType.TheVariants as ts_types
-use Rattle.swc_ecma_codegen_tree.specs.declared.ts_members.TsTypeElement.TheVariants as ts_type_elements
 use Rattle.swc_ecma_codegen_tree.specs.declared.ts_types.TsUnionOrIntersectionType.TheVariants as ts_union_or_intersection_types
 use Rattle.swc_ecma_codegen_tree.specs.declared.parts.ExprPart.{ExprPart}
 use Rattle.swc_ecma_codegen_tree.specs.declared.parts.ExprPart.TheVariants as expr_parts
@@ -63,7 +62,7 @@ use Rattle.swc_ecma_codegen_tree.specs.declared.parts.JSXPart.TheVariants as jsx
 use Rattle.swc_ecma_codegen_tree.specs.declared.parts.TsPart.{TsPart}
 use Rattle.swc_ecma_codegen_tree.specs.declared.parts.TsPart.TheVariants as ts_parts
 use Rattle.std.specs.Box.{with_value}
-use Rattle.swc_ecma_codegen_spans.specs.Spans.{assign_target_pat_span, assign_target_span, binding_ident_span, class_decl_span, class_expr_span, class_member_span, decl_span, expr_span, fn_decl_span, fn_expr_span, jsx_member_expr_span, jsx_namespaced_name_span, jsx_object_span, lit_span, module_decl_span, pat_span, prop_name_span, simple_assign_target_span, stmt_span, ts_entity_name_span, ts_fn_or_constructor_type_span, ts_fn_param_span, ts_namespace_body_span, ts_type_element_span, ts_type_span, ts_union_or_intersection_type_span, node_span, any_span, expr_part_span, stmt_part_span, jsx_part_span, ts_part_span}
+use Rattle.swc_ecma_codegen_spans.specs.Spans.{assign_target_pat_span, assign_target_span, binding_ident_span, class_decl_span, class_expr_span, class_member_span, decl_span, expr_span, fn_decl_span, fn_expr_span, jsx_member_expr_span, jsx_namespaced_name_span, jsx_object_span, lit_span, module_decl_span, pat_span, prop_name_span, simple_assign_target_span, stmt_span, ts_entity_name_span, ts_fn_or_constructor_type_span, ts_fn_param_span, ts_namespace_body_span, ts_type_span, ts_union_or_intersection_type_span, node_span, any_span, expr_part_span, stmt_part_span, jsx_part_span, ts_part_span}
 
 known_of : AnyNode-F AnyNode → AnyNode-F Span
 known_of = map-AnyNode AnyNode Span any_span
@@ -152,30 +151,34 @@ pat_known (pats.Assign n) = refl
 pat_known (pats.Invalid n) = refl
 pat_known (pats.Expr n) = refl
 
-ts_type_known : (b : (Box (TsType AnyNode) Global)) (n : TsType AnyNode) → node_span (λ known. known) (known_of (nodes.TsPart (ts_parts.TsType (with_value b n)))) ≡ ts_type_span n
+function_type_known : (b : (Box (TsFnOrConstructorType AnyNode) Global)) (n : TsFnOrConstructorType AnyNode) → node_span (λ known. known) (known_of (nodes.TsPart (ts_parts.TsType (ts_types.TsFnOrConstructorType (with_value b n))))) ≡ ts_fn_or_constructor_type_span n
+unfolding node_span known_of ts_part_span ts_type_span ts_fn_or_constructor_type_span
+function_type_known b (ts_fn_or_constructor_types.TsFnType n) = refl
+function_type_known b (ts_fn_or_constructor_types.TsConstructorType n) = refl
+
+ts_type_known : (n : TsType AnyNode) → node_span (λ known. known) (known_of (nodes.TsPart (ts_parts.TsType n))) ≡ ts_type_span n
 unfolding node_span known_of ts_part_span ts_type_span ts_fn_or_constructor_type_span ts_union_or_intersection_type_span
-ts_type_known b (ts_types.TsKeywordType n) = refl
-ts_type_known b (ts_types.TsThisType n) = refl
-ts_type_known b (ts_types.TsFnOrConstructorType (ts_fn_or_constructor_types.TsFnType n)) = refl
-ts_type_known b (ts_types.TsFnOrConstructorType (ts_fn_or_constructor_types.TsConstructorType n)) = refl
-ts_type_known b (ts_types.TsTypeRef n) = refl
-ts_type_known b (ts_types.TsTypeQuery n) = refl
-ts_type_known b (ts_types.TsTypeLit n) = refl
-ts_type_known b (ts_types.TsArrayType n) = refl
-ts_type_known b (ts_types.TsTupleType n) = refl
-ts_type_known b (ts_types.TsOptionalType n) = refl
-ts_type_known b (ts_types.TsRestType n) = refl
-ts_type_known b (ts_types.TsUnionOrIntersectionType (ts_union_or_intersection_types.TsUnionType n)) = refl
-ts_type_known b (ts_types.TsUnionOrIntersectionType (ts_union_or_intersection_types.TsIntersectionType n)) = refl
-ts_type_known b (ts_types.TsConditionalType n) = refl
-ts_type_known b (ts_types.TsInferType n) = refl
-ts_type_known b (ts_types.TsParenthesizedType n) = refl
-ts_type_known b (ts_types.TsTypeOperator n) = refl
-ts_type_known b (ts_types.TsIndexedAccessType n) = refl
-ts_type_known b (ts_types.TsMappedType n) = refl
-ts_type_known b (ts_types.TsLitType n) = refl
-ts_type_known b (ts_types.TsTypePredicate n) = refl
-ts_type_known b (ts_types.TsImportType n) = refl
+ts_type_known (ts_types.TsKeywordType n) = refl
+ts_type_known (ts_types.TsThisType n) = refl
+ts_type_known (ts_types.TsFnOrConstructorType n) = function_type_known n n.value
+ts_type_known (ts_types.TsTypeRef n) = refl
+ts_type_known (ts_types.TsTypeQuery n) = refl
+ts_type_known (ts_types.TsTypeLit n) = refl
+ts_type_known (ts_types.TsArrayType n) = refl
+ts_type_known (ts_types.TsTupleType n) = refl
+ts_type_known (ts_types.TsOptionalType n) = refl
+ts_type_known (ts_types.TsRestType n) = refl
+ts_type_known (ts_types.TsUnionOrIntersectionType (ts_union_or_intersection_types.TsUnionType n)) = refl
+ts_type_known (ts_types.TsUnionOrIntersectionType (ts_union_or_intersection_types.TsIntersectionType n)) = refl
+ts_type_known (ts_types.TsConditionalType n) = refl
+ts_type_known (ts_types.TsInferType n) = refl
+ts_type_known (ts_types.TsParenthesizedType n) = refl
+ts_type_known (ts_types.TsTypeOperator n) = refl
+ts_type_known (ts_types.TsIndexedAccessType n) = refl
+ts_type_known (ts_types.TsMappedType n) = refl
+ts_type_known (ts_types.TsLitType n) = refl
+ts_type_known (ts_types.TsTypePredicate n) = refl
+ts_type_known (ts_types.TsImportType n) = refl
 
 ts_namespace_body_known : (n : TsNamespaceBody AnyNode) → node_span (λ known. known) (known_of (nodes.TsPart (ts_parts.TsNamespaceBody n))) ≡ ts_namespace_body_span n
 unfolding node_span known_of ts_part_span ts_namespace_body_span
@@ -265,15 +268,9 @@ jsx_fragment_known : (n : JSXFragment AnyNode) → node_span (λ known. known) (
 unfolding node_span known_of jsx_part_span
 jsx_fragment_known n = refl
 
-ts_type_element_known : (b : (Box (TsTypeElement AnyNode) Global)) (n : TsTypeElement AnyNode) → node_span (λ known. known) (known_of (nodes.TsPart (ts_parts.TsTypeElement (with_value b n)))) ≡ ts_type_element_span n
-unfolding node_span known_of ts_part_span ts_type_element_span
-ts_type_element_known b (ts_type_elements.TsCallSignatureDecl n) = refl
-ts_type_element_known b (ts_type_elements.TsConstructSignatureDecl n) = refl
-ts_type_element_known b (ts_type_elements.TsPropertySignature n) = refl
-ts_type_element_known b (ts_type_elements.TsGetterSignature n) = refl
-ts_type_element_known b (ts_type_elements.TsSetterSignature n) = refl
-ts_type_element_known b (ts_type_elements.TsMethodSignature n) = refl
-ts_type_element_known b (ts_type_elements.TsIndexSignature n) = refl
+ts_interface_body_known : (n : TsInterfaceBody AnyNode) → node_span (λ known. known) (known_of (nodes.TsPart (ts_parts.TsInterfaceBody n))) ≡ n.span
+unfolding node_span known_of ts_part_span
+ts_interface_body_known n = refl
 
 member_expr_known : (n : MemberExpr AnyNode) → node_span (λ known. known) (known_of (nodes.MemberExpr n)) ≡ n.span
 unfolding node_span known_of
@@ -337,13 +334,13 @@ jsx_part_known (jsx_parts.JSXObject n) = jsx_object_known n
 
 ts_part_known : (n : TsPart AnyNode) → node_span (λ known. known) (known_of (nodes.TsPart n)) ≡ ts_part_span any_span n
 unfolding node_span known_of ts_part_span
-ts_part_known (ts_parts.TsType n) = ts_type_known n n.value
+ts_part_known (ts_parts.TsType n) = ts_type_known n
 ts_part_known (ts_parts.TsNamespaceBody n) = ts_namespace_body_known n
 ts_part_known (ts_parts.TsTypeAnn n) = ts_type_ann_known n
 ts_part_known (ts_parts.TsTypeParamDecl n) = ts_type_param_decl_known n
 ts_part_known (ts_parts.TsTypeParamInstantiation n) = ts_type_param_instantiation_known n
 ts_part_known (ts_parts.TsFnParam n) = ts_fn_param_known n
-ts_part_known (ts_parts.TsTypeElement n) = ts_type_element_known n n.value
+ts_part_known (ts_parts.TsInterfaceBody n) = ts_interface_body_known n
 ts_part_known (ts_parts.TsEntityName n) = ts_entity_name_known n
 
 layer_known : (n : AnyNode-F AnyNode) → node_span (λ known. known) (known_of n) ≡ node_span any_span n

@@ -505,9 +505,9 @@ ts_module_ref_span f (ts_module_refs.TsExternalModuleRef n) = n.span
 unfoldable pub ts_type_span : {X : Type 0} → TsType X → Span
 ts_type_span (ts_types.TsKeywordType n) = n.span
 ts_type_span (ts_types.TsThisType n) = n.span
-ts_type_span (ts_types.TsFnOrConstructorType n) = ts_fn_or_constructor_type_span n
+ts_type_span (ts_types.TsFnOrConstructorType n) = ts_fn_or_constructor_type_span n.value
 ts_type_span (ts_types.TsTypeRef n) = n.span
-ts_type_span (ts_types.TsTypeQuery n) = n.span
+ts_type_span (ts_types.TsTypeQuery n) = n.value.span
 ts_type_span (ts_types.TsTypeLit n) = n.span
 ts_type_span (ts_types.TsArrayType n) = n.span
 ts_type_span (ts_types.TsTupleType n) = n.span
@@ -515,14 +515,14 @@ ts_type_span (ts_types.TsOptionalType n) = n.span
 ts_type_span (ts_types.TsRestType n) = n.span
 ts_type_span (ts_types.TsUnionOrIntersectionType n) = ts_union_or_intersection_type_span n
 ts_type_span (ts_types.TsConditionalType n) = n.span
-ts_type_span (ts_types.TsInferType n) = n.span
+ts_type_span (ts_types.TsInferType n) = n.value.span
 ts_type_span (ts_types.TsParenthesizedType n) = n.span
 ts_type_span (ts_types.TsTypeOperator n) = n.span
 ts_type_span (ts_types.TsIndexedAccessType n) = n.span
-ts_type_span (ts_types.TsMappedType n) = n.span
-ts_type_span (ts_types.TsLitType n) = n.span
-ts_type_span (ts_types.TsTypePredicate n) = n.span
-ts_type_span (ts_types.TsImportType n) = n.span
+ts_type_span (ts_types.TsMappedType n) = n.value.span
+ts_type_span (ts_types.TsLitType n) = n.value.span
+ts_type_span (ts_types.TsTypePredicate n) = n.value.span
+ts_type_span (ts_types.TsImportType n) = n.value.span
 
 -- what a link holds besides expressions, statements and member expressions stands where its value does
 unfoldable pub expr_part_span : {X : Type 0} → (X → Span) → ExprPart X → Span
@@ -548,13 +548,13 @@ jsx_part_span f (jsx_parts.JSXFragment n) = n.span
 jsx_part_span f (jsx_parts.JSXObject n) = jsx_object_span f n
 
 unfoldable pub ts_part_span : {X : Type 0} → (X → Span) → TsPart X → Span
-ts_part_span f (ts_parts.TsType n) = ts_type_span n.value
+ts_part_span f (ts_parts.TsType n) = ts_type_span n
 ts_part_span f (ts_parts.TsNamespaceBody n) = ts_namespace_body_span n
 ts_part_span f (ts_parts.TsTypeAnn n) = n.span
 ts_part_span f (ts_parts.TsTypeParamDecl n) = n.span
 ts_part_span f (ts_parts.TsTypeParamInstantiation n) = n.span
 ts_part_span f (ts_parts.TsFnParam n) = ts_fn_param_span n
-ts_part_span f (ts_parts.TsTypeElement n) = ts_type_element_span n.value
+ts_part_span f (ts_parts.TsInterfaceBody n) = n.span
 ts_part_span f (ts_parts.TsEntityName n) = ts_entity_name_span n
 
 -- one node, where f says where what its links hold stands

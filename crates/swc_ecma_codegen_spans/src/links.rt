@@ -72,7 +72,7 @@ impl<N: Spanned> Spanned for TsPart<N> {
             TsPart::TsTypeParamDecl(node) => node.span(),
             TsPart::TsTypeParamInstantiation(node) => node.span(),
             TsPart::TsFnParam(node) => node.span(),
-            TsPart::TsTypeElement(node) => node.span(),
+            TsPart::TsInterfaceBody(node) => node.span(),
             TsPart::TsEntityName(node) => node.span(),
         }
     }

@@ -75,13 +75,13 @@ fn callers_say_why_there_is_no_text(rt: HostRuntime) {
 const SUM: &str =
     r#"{"Script":{"span":{"lo":1,"hi":7},"body":[{"Expr":{"span":{"lo":1,"hi":7},"expr":{"Bin":{"span":{"lo":1,"hi":6},"op":"Add","left":{"Ident":{"span":{"lo":1,"hi":2},"sym":"a","optional":false}},"right":{"Ident":{"span":{"lo":5,"hi":6},"sym":"b","optional":false}}}}}}],"shebang":null}}"#;
 
-/// Whether a node has this text with these settings, and `a` at 1 and `b` at 5 stand in these columns of its first line.
-fn has_columns<P: Node>(
+/// Whether a node has this text with these settings, and `a` at 1 stands at its beginning, and `b` at 5 in this line and column.
+fn has_places<P: Node>(
     alloc: Global,
     cfg: Config,
     node: &P,
     text: &str,
-    columns: (u32, u32),
+    place: (u32, u32),
 ) -> Result<bool, Error> {
     let (printed, pairs) = to_code_with_positions(
         alloc,
@@ -90,7 +90,7 @@ fn has_columns<P: Node>(
         None::<CommentMaps>,
         node,
     )?;
-    let places = [(1, 0, columns.0), (5, 0, columns.1)];
+    let places = [(1, 0, 0), (5, place.0, place.1)];
     let mut all = printed.as_str() == text && pairs.len() == places.len();
     for ((pos, at), place) in pairs.iter().zip(places) {
         all = all && (pos.0, at.line, at.col) == place;
@@ -103,10 +103,12 @@ fn text_and_positions_at_once(rt: HostRuntime) -> Result<(), Fail> {
     let alloc = rt.alloc();
     let tree = Tree(program_from_slice(alloc, SUM.as_bytes())?);
     let cfg = Config::default();
-    assert!(rt; has_columns(alloc, cfg, &tree.0, "a + b;\n", (0, 4))?);
+    assert!(rt; has_places(alloc, cfg, &tree.0, "a + b;\n", (0, 4))?);
     let cfg = cfg.with_minify(true);
-    assert!(rt; has_columns(alloc, cfg, &tree.0, "a+b;", (0, 2))?);
+    assert!(rt; has_places(alloc, cfg, &tree.0, "a+b;", (0, 2))?);
+    let lined = cfg.with_max_line(Some(3));
+    assert!(rt; has_places(alloc, lined, &tree.0, "a+\nb;", (1, 0))?);
     let cfg = cfg.with_omit_last_semi(true);
-    assert!(rt; has_columns(alloc, cfg, &tree.0, "a+b", (0, 2))?);
+    assert!(rt; has_places(alloc, cfg, &tree.0, "a+b", (0, 2))?);
     Ok(())
 }

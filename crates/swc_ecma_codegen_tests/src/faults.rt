@@ -12,20 +12,22 @@ use swc_ecma_codegen::Node;
 use swc_ecma_codegen_common::{BytePos, Error};
 use swc_ecma_codegen_grammar::comments::{CommentKind, CommentMaps};
 
-/// How `foobar();` is printed: with blanks, without and through a writer that holds semicolons back, or with comments and
-/// positions.
+/// How `foobar();` is printed: with blanks, without and through a writer that holds semicolons back, with comments and positions, or
+/// in lines of no unit.
 #[derive(Clone, Copy)]
 enum Way {
     Pretty,
     Short,
     Told,
+    Lined,
 }
 
 /// Each way with its text.
-const WAYS: [(Way, &str); 3] = [
+const WAYS: [(Way, &str); 4] = [
     (Way::Pretty, "foobar();\n"),
     (Way::Short, "foobar()"),
     (Way::Told, "/* a */ foobar /*b*/ (); // c\n"),
+    (Way::Lined, "foobar(\n);"),
 ];
 
 const FAULTS: [Fault; 7] = [
@@ -53,6 +55,7 @@ fn printed<P: Node>(alloc: Global, tree: &P, way: Way, page: Page) -> Result<Emi
         Way::Pretty => Emission::of(alloc, tree, settings(false), page),
         Way::Short => Emission::short(alloc, tree, page),
         Way::Told => Emission::told(alloc, tree, three(alloc)?, page),
+        Way::Lined => Emission::of(alloc, tree, settings(true).with_max_line(Some(0)), page),
     })
 }
 

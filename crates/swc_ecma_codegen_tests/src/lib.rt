@@ -16,6 +16,8 @@ mod emissions;
 #[cfg(test)]
 mod faults;
 #[cfg(test)]
+mod lines;
+#[cfg(test)]
 mod links;
 #[cfg(test)]
 mod pipes;

@@ -3,7 +3,7 @@
 use crate::checks::Tally;
 use crate::emissions::Emission;
 use crate::pipes::Page;
-use crate::trees::{LITERALS, Tree, page_of};
+use crate::trees::{LITERALS, Tree, expr_of, page_of};
 use std::alloc::Global;
 use std::test::Fail;
 use swc_ecma_codegen::{Config, Emitter, Node};
@@ -11,6 +11,7 @@ use swc_ecma_codegen_common::{Error, EsVersion};
 use swc_ecma_codegen_grammar::comments::CommentMaps;
 use swc_ecma_codegen_grammar::mapper::NoSource;
 use swc_ecma_codegen_text_writer::{JsWriter, omit_trailing_semi};
+use swc_ecma_codegen_tree::Program;
 
 /// What is written of a tree whose semicolons are held back.
 fn written_when_held<P: Node>(alloc: Global, tree: &P, config: Config) -> Result<Page, Error> {
@@ -19,6 +20,21 @@ fn written_when_held<P: Node>(alloc: Global, tree: &P, config: Config) -> Result
     let mut emitter = Emitter::new(alloc, config, &NoSource, None::<CommentMaps>, wr);
     let answer = tree.emit_with(&mut emitter);
     page_of(answer, emitter.wr.into_inner().into_inner())
+}
+
+/// Whether a tree has this text behind a preamble.
+fn is_written_behind<P: Node>(
+    alloc: Global,
+    tree: &P,
+    config: Config,
+    text: &str,
+) -> Result<bool, Error> {
+    let mut wr = JsWriter::new(alloc, &NoSource, "\n", Page::new(), None);
+    let before = wr.preamble("/*x*/").is_ok();
+    let mut emitter = Emitter::new(alloc, config, &NoSource, None::<CommentMaps>, wr);
+    let answer = tree.emit_with(&mut emitter);
+    let page = page_of(answer, emitter.wr.into_inner())?;
+    Ok(before && page.holds(text))
 }
 
 /// Whether each setting by itself changes what it is for.
@@ -48,6 +64,21 @@ fn act_one_by_one<P: Node>(alloc: Global, tree: &P) -> bool {
         all = all && Emission::of(alloc, tree, config, Page::new()).is(text);
     }
     all
+}
+
+/// Whether lines have a greatest length where nothing else is asked for than a program without blanks, and what stands before that gives
+/// no line end before its first token.
+fn fill_lines<N: Tree>(alloc: Global, tree: &Program<N>) -> Result<bool, Error> {
+    let none = Config::default().with_max_line(Some(1));
+    let minified = none.with_minify(true);
+    let expr = Emission::of(alloc, &expr_of(tree), minified, Page::new());
+    let pretty = Emission::of(alloc, tree, none, Page::new());
+    let text = "/*x*/é,\n\"é</script>\",\n3,\n𝒫;";
+    Ok(
+        expr.is("é,\"é</script>\",3,𝒫")
+            && pretty.is("é, \"é</script>\", 0b11, 𝒫;\n")
+            && is_written_behind(alloc, tree, minified, text)?,
+    )
 }
 
 /// Whether the last semicolon is left out where it is held back and the settings ask for it, and not otherwise.
@@ -80,6 +111,10 @@ pub(crate) fn check<N: Tree>(alloc: Global, tally: &mut Tally) -> Result<(), Fai
     tally.unless(
         leave_out_the_last_semicolon(alloc, &tree.0)?,
         "the last semicolon is left out where that is asked for",
+    )?;
+    tally.unless(
+        fill_lines(alloc, &tree.0)?,
+        "a program without blanks has lines of a greatest length",
     )?;
     tally.unless(
         refuse_a_name(alloc, &tree.0),

@@ -399,5 +399,6 @@ pub(crate) fn settings(minify: bool) -> Config {
         omit_last_semi: false,
         emit_assert_for_import_attributes: false,
         inline_script: false,
+        max_line: None,
     }
 }

@@ -53,8 +53,8 @@ fn versions_in_order(rt: HostRuntime) {
 }
 
 /// Whether the settings are this version and these: ASCII alone, minified, without the last semicolon, `assert`, for an
-/// inline script.
-fn are_set(config: Config, target: EsVersion, flags: [bool; 5]) -> bool {
+/// inline script, in lines of at most 80 units.
+fn are_set(config: Config, target: EsVersion, flags: [bool; 6]) -> bool {
     config.target == target
         && flags
             == [
@@ -63,6 +63,7 @@ fn are_set(config: Config, target: EsVersion, flags: [bool; 5]) -> bool {
                 config.omit_last_semi,
                 config.emit_assert_for_import_attributes,
                 config.inline_script,
+                config.max_line == Some(80),
             ]
 }
 
@@ -70,18 +71,32 @@ fn are_set(config: Config, target: EsVersion, flags: [bool; 5]) -> bool {
 fn one_setting_changed(rt: HostRuntime) {
     let none = Config::default();
     let latest = EsVersion::latest();
-    assert!(rt; are_set(none, latest, [false; 5]));
-    assert!(rt; are_set(none.with_target(EsVersion::Es5), EsVersion::Es5, [false; 5]));
+    assert!(rt; are_set(none, latest, [false; 6]));
+    assert!(rt; are_set(none.with_target(EsVersion::Es5), EsVersion::Es5, [false; 6]));
     let ascii = none.with_ascii_only(true);
-    assert!(rt; are_set(ascii, latest, [true, false, false, false, false]));
+    assert!(rt; are_set(ascii, latest, [true, false, false, false, false, false]));
     let minified = none.with_minify(true);
-    assert!(rt; are_set(minified, latest, [false, true, false, false, false]));
+    assert!(rt; are_set(minified, latest, [false, true, false, false, false, false]));
     let without_last = none.with_omit_last_semi(true);
-    assert!(rt; are_set(without_last, latest, [false, false, true, false, false]));
+    assert!(rt;
+        are_set(
+            without_last,
+            latest,
+            [false, false, true, false, false, false]
+        )
+    );
     let with_assert = none.with_emit_assert_for_import_attributes(true);
-    assert!(rt; are_set(with_assert, latest, [false, false, false, true, false]));
+    assert!(rt;
+        are_set(
+            with_assert,
+            latest,
+            [false, false, false, true, false, false]
+        )
+    );
     let inline = none.with_inline_script(true);
-    assert!(rt; are_set(inline, latest, [false, false, false, false, true]));
+    assert!(rt; are_set(inline, latest, [false, false, false, false, true, false]));
+    let filled = none.with_max_line(Some(80));
+    assert!(rt; are_set(filled, latest, [false, false, false, false, false, true]));
 }
 
 #[test]
@@ -92,16 +107,18 @@ fn settings_one_after_another(rt: HostRuntime) {
         .with_minify(true)
         .with_omit_last_semi(true)
         .with_emit_assert_for_import_attributes(true)
-        .with_inline_script(true);
-    assert!(rt; are_set(all, EsVersion::Es2015, [true; 5]));
+        .with_inline_script(true)
+        .with_max_line(Some(80));
+    assert!(rt; are_set(all, EsVersion::Es2015, [true; 6]));
     let none = all
         .with_target(EsVersion::latest())
         .with_ascii_only(false)
         .with_minify(false)
         .with_omit_last_semi(false)
         .with_emit_assert_for_import_attributes(false)
-        .with_inline_script(false);
-    assert!(rt; are_set(none, EsVersion::latest(), [false; 5]));
+        .with_inline_script(false)
+        .with_max_line(None);
+    assert!(rt; are_set(none, EsVersion::latest(), [false; 6]));
 }
 
 #[test]

@@ -88,7 +88,8 @@ fn each_call(rt: HostRuntime) -> Result<(), Fail> {
     Ok(())
 }
 
-fn is_failed(answer: Answer) -> bool {
+/// Whether a call answered `Failed`.
+pub(crate) fn is_failed(answer: Answer) -> bool {
     match answer {
         Ok(()) => false,
         Err(error) => error.refusal() == Refusal::Failed,

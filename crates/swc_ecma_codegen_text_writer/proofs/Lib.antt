@@ -1,8 +1,25 @@
 pub mod Characters
 pub mod Pairs
+mod Moves
+mod Ways
 pub mod Semicolons
 pub mod Sheets
-mod Reaching
+pub mod Stays
+pub mod FirstLines
+pub mod Ahead
+pub mod Fills
+pub mod Marked
+pub mod Added
+pub mod Laid
+pub mod Twins
+pub mod Again
+pub mod Noted
+pub mod Noting
+pub mod Cuts
+pub mod Flows
+pub mod Flushes
+pub mod Reaching
+pub mod Released
 mod Recording
 mod Steps
 pub mod Text

@@ -5,15 +5,11 @@ use Rattle.std.specs.List.{repeat}
 use Rattle.swc_ecma_codegen_common.specs.declared.positions.BytePos.{BytePos}
 use Rattle.swc_ecma_codegen_common.specs.declared.positions.Span.{Span}
 use Rattle.swc_ecma_codegen_text_writer.specs.Places.{Place, after_text}
+pub use Rattle.swc_ecma_codegen_text_writer.proofs.Reaching.{after_both}
 use Rattle.swc_ecma_codegen_text_writer.specs.Recorded.{StandIn, AreNew, RecordsTruly}
-use Rattle.swc_ecma_codegen_text_writer.specs.Sheet.{Sheet, Item, Pair, Semi, Space, Keyword, Operator, Param, Property, Line, Lit, Comment, StrLit, Str, Symbol, Punct, Position, Commit, Deeper, Shallower, Semicolons, AtOnce, HoldsNone, HoldsOne, has_pair, pair_at, with_pair, recorded, start_recorded, end_recorded, pending_recorded, appended, indented, started, written, literal_written, ended, pointed, settled_by, settled, semicolon_by, dropped, is_ending, before_punct, effect, effects}
+use Rattle.swc_ecma_codegen_text_writer.specs.Sheet.{Sheet, Item, Pair, Semi, Space, Keyword, Operator, Param, Property, Line, Lit, Comment, StrLit, Str, Symbol, Punct, Position, Commit, Deeper, Shallower, BeginLines, AllowBreak, EndLines, Semicolons, AtOnce, HoldsNone, HoldsOne, Flow, Flowing, Filling, Cutting, Segment, has_pair, pair_at, with_pair, released, noted, recorded_by, is_recorded, recorded, start_recorded, end_recorded, pending_recorded, appended_by, appended, indented, started, written, literal_written, ended, pointed, notes_released, line_ended, ends_before, segment_released, begun_by, allowed_by, allowed, closed_by, passed_on, settled_by, settled, semicolon_by, dropped, is_ending, before_punct, allowed_at, effect, effects}
 
 -- ---- two texts, one after the other
-
-pub after_both : (t u : List ℕ) (p : Place) → after_text (t ++ u) p ≡ after_text u (after_text t p)
-unfolding after_text
-after_both [] u p = refl
-after_both (c ∷ cs) u p = after_both cs u _
 
 -- what stands in a text stands there with a text before it
 stand_later : (p : Place) (t u : List ℕ) (xs : List Pair) → StandIn (after_text t p) u xs → StandIn p (t ++ u) xs
@@ -81,18 +77,27 @@ records_one pos s h = record {
   place = refl;
 }
 
-with_pair_records : (pos : BytePos) (s : Sheet) → RecordsTruly s (record s { pairs = with_pair pos s.place s.pairs })
-unfolding with_pair
-with_pair_records pos s =
+pub noted_records : (pos : BytePos) (s : Sheet) → RecordsTruly s (noted pos s)
+unfolding noted with_pair
+noted_records pos s =
     let stands : Bool = (pos.0 == 0) || has_pair (pair_at pos s.place) s.pairs in
     let P : Bool → Type 0 = λ b. stands ≡ b → RecordsTruly s (record s { pairs = cond b s.pairs (s.pairs ++ (pair_at pos s.place ∷ [])) }) in
     (elim stands as P [ true ↦ λ h. records_refl s | false ↦ λ h. records_one pos s (or_parts (pos.0 == 0) _ h).1 ]) refl
 
+other_lines : (l : Flow) (s : Sheet) → RecordsTruly s (record s { lines = l })
+other_lines l s = records_same s (record s { lines = l }) refl refl refl
+
+recorded_by_records : (l : Flow) (pos : BytePos) (s : Sheet) → RecordsTruly s (recorded_by l pos s)
+unfolding recorded_by
+recorded_by_records Flowing pos s = noted_records pos s
+recorded_by_records (Filling max first g) pos s = other_lines _ s
+recorded_by_records (Cutting done begun) pos s = records_trans s _ _ (noted_records pos s) (other_lines _ (noted pos s))
+
 pub recorded_records : (pos : BytePos) (s : Sheet) → RecordsTruly s (recorded pos s)
 unfolding recorded
 recorded_records pos s =
-    elim s.keeps_positions as (λ b. RecordsTruly s (cond b (record s { pairs = with_pair pos s.place s.pairs }) s))
-    [ true ↦ with_pair_records pos s | false ↦ records_refl s ]
+    elim (is_recorded pos s) as (λ b. RecordsTruly s (cond b (recorded_by s.lines pos s) s))
+    [ true ↦ recorded_by_records s.lines pos s | false ↦ records_refl s ]
 
 pub start_records : (span : Option Span) (s : Sheet) → RecordsTruly s (start_recorded span s)
 unfolding start_recorded
@@ -120,9 +125,64 @@ pointed_records pos s =
 
 -- ---- texts
 
+pub sent_records : (t : List ℕ) (s : Sheet) → RecordsTruly s (released t s)
+unfolding released StandIn AreNew
+sent_records t s = record { added = []; is_added = sym (append-nil s.pairs); text = t; is_text = refl; are_true = tt; are_new = tt; place = refl }
+
+appended_by_records : (l : Flow) (t : List ℕ) (s : Sheet) → RecordsTruly s (appended_by l t s)
+unfolding appended_by
+appended_by_records Flowing t s = sent_records t s
+appended_by_records (Filling max first g) t s = other_lines _ s
+appended_by_records (Cutting done begun) t s = records_trans s _ _ (sent_records t s) (other_lines _ (released t s))
+
 pub appended_records : (t : List ℕ) (s : Sheet) → RecordsTruly s (appended t s)
-unfolding appended StandIn AreNew
-appended_records t s = record { added = []; is_added = sym (append-nil s.pairs); text = t; is_text = refl; are_true = tt; are_new = tt; place = refl }
+unfolding appended
+appended_records t s = appended_by_records s.lines t s
+
+-- ---- lines
+
+pub notes_record : (xs : List (List ℕ × BytePos)) (s : Sheet) → RecordsTruly s (notes_released xs s)
+unfolding notes_released
+notes_record [] s = records_refl s
+notes_record (x ∷ xs) s = records_trans s _ _ (records_trans s _ _ (sent_records x.0 s) (noted_records x.1 (released x.0 s))) (notes_record xs (noted x.1 (released x.0 s)))
+
+line_records : (b : Bool) (s : Sheet) → RecordsTruly s (line_ended b s)
+unfolding line_ended
+line_records true s = sent_records s.line_end s
+line_records false s = records_refl s
+
+pub segment_records : (max : ℕ) (first : Bool) (g : Segment) (s : Sheet) → RecordsTruly s (segment_released max first g s)
+unfolding segment_released
+segment_records max first g s =
+    let b : Sheet = line_ended (ends_before max first g s) s in
+    records_trans s _ _ (line_records (ends_before max first g s) s) (records_trans b _ _ (notes_record g.noted b) (sent_records g.rest (notes_released g.noted b)))
+
+begun_records_by : (l : Flow) (max : ℕ) (s : Sheet) → RecordsTruly s (begun_by l max s)
+unfolding begun_by
+begun_records_by Flowing max s = other_lines _ s
+begun_records_by (Filling old first g) max s = other_lines _ s
+begun_records_by (Cutting done begun) max s = records_refl s
+
+allowed_by_records : (l : Flow) (s : Sheet) → RecordsTruly s (allowed_by l s)
+unfolding allowed_by
+allowed_by_records Flowing s = records_refl s
+allowed_by_records (Filling max first g) s = records_trans s _ _ (segment_records max first g s) (other_lines _ (segment_released max first g s))
+allowed_by_records (Cutting done begun) s = other_lines _ s
+
+allowed_records : (s : Sheet) → RecordsTruly s (allowed s)
+unfolding allowed
+allowed_records s = allowed_by_records s.lines s
+
+closed_records : (l : Flow) (s : Sheet) → RecordsTruly s (closed_by l s)
+unfolding closed_by
+closed_records Flowing s = records_refl s
+closed_records (Filling max first g) s = records_trans s _ _ (segment_records max first g s) (other_lines _ (segment_released max first g s))
+closed_records (Cutting done begun) s = records_refl s
+
+passed_records : (b : Bool) (s : Sheet) → RecordsTruly s (passed_on b s)
+unfolding passed_on
+passed_records true s = allowed_records s
+passed_records false s = records_refl s
 
 pub indented_records : (n : ℕ) (s : Sheet) → RecordsTruly s (indented n s)
 unfolding indented
@@ -175,7 +235,7 @@ settled_by_records : (x : Semicolons) (s : Sheet) → RecordsTruly s (settled_by
 unfolding settled_by
 settled_by_records AtOnce s = records_refl s
 settled_by_records HoldsNone s = records_refl s
-settled_by_records (HoldsOne span) s = records_trans _ _ _ (other_semicolon HoldsNone s) (written_records span (codes ";") (record s { semicolons = HoldsNone }))
+settled_by_records (HoldsOne span kept) s = records_trans s _ _ (records_trans s _ _ (other_semicolon HoldsNone s) (written_records span (codes ";") (record s { semicolons = HoldsNone }))) (passed_records kept (written span (codes ";") (record s { semicolons = HoldsNone })))
 
 pub settled_records : (s : Sheet) → RecordsTruly s (settled s)
 settled_records s = settled_by_records s.semicolons s
@@ -183,8 +243,8 @@ settled_records s = settled_by_records s.semicolons s
 pub semicolon_records : (x : Semicolons) (span : Option Span) (s : Sheet) → RecordsTruly s (semicolon_by x span s)
 unfolding semicolon_by
 semicolon_records AtOnce span s = written_records span (codes ";") s
-semicolon_records HoldsNone span s = other_semicolon (HoldsOne span) s
-semicolon_records (HoldsOne held) span s = other_semicolon (HoldsOne span) s
+semicolon_records HoldsNone span s = other_semicolon (HoldsOne span false) s
+semicolon_records (HoldsOne held kept) span s = other_semicolon (HoldsOne span false) s
 
 pub before_punct_records : (t : List ℕ) (s : Sheet) → RecordsTruly s (before_punct t s)
 unfolding before_punct
@@ -199,6 +259,12 @@ other_level n s = records_same s (record s { indentation = n }) refl refl refl
 
 after_settled : (s t : Sheet) → RecordsTruly (settled s) t → RecordsTruly s t
 after_settled s t h = records_trans s (settled s) t (settled_records s) h
+
+break_records : (x : Semicolons) (s : Sheet) → RecordsTruly s (allowed_at x s)
+unfolding allowed_at
+break_records AtOnce s = allowed_records s
+break_records HoldsNone s = allowed_records s
+break_records (HoldsOne span kept) s = other_semicolon (HoldsOne span true) s
 
 pub effect_records : (x : Item) (s : Sheet) → RecordsTruly s (effect x s)
 unfolding effect
@@ -219,6 +285,9 @@ effect_records (Position pos) s = pointed_records pos s
 effect_records Commit s = settled_records s
 effect_records Deeper s = after_settled s _ (other_level (s.indentation + 1) (settled s))
 effect_records Shallower s = after_settled s _ (other_level (s.indentation - 1) (settled s))
+effect_records (BeginLines max) s = begun_records_by s.lines max s
+effect_records AllowBreak s = break_records s.semicolons s
+effect_records EndLines s = closed_records s.lines s
 
 pub effects_record : (xs : List Item) (s : Sheet) → RecordsTruly s (effects xs s)
 unfolding effects

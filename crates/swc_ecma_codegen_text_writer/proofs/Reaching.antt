@@ -1,9 +1,13 @@
 -- The place after some bytes.
-use Rattle.std.proofs.Common.{◌≡◌, ℕ, ◌+◌, List, [], ◌∷◌, ◌++◌, true, false, cond, eqb, nat_le, refl, sym, ap, ◌∙◌, arith, length, ◌<◌, take, get_or}
+use Rattle.std.proofs.Common.{◌≡◌, ℕ, ◌+◌, List, [], ◌∷◌, ◌++◌, true, false, cond, eqb, nat_le, refl, sym, ap, ◌∙◌, arith, length, ◌<◌, ◌≤◌, take, drop, length-drop, get_or, suc}
 use Rattle.std.proofs.lemmas.Bool.{ne_eqb, and_parts, true≢false}
-use Rattle.std.proofs.lemmas.List.{take_more}
+use Rattle.std.proofs.lemmas.List.{take_more, nil_from_length}
+use Rattle.std.proofs.Math.Seq.{drop-cons}
 use Rattle.swc_ecma_codegen_text_writer.specs.Places.{Place, units_of, after_lf, after_byte, after_text, next_line}
+use Rattle.swc_ecma_codegen_text_writer.specs.Characters.{is_line_end}
 use Rattle.swc_ecma_codegen_text_writer.specs.Reach.{further, is_one_column, is_in_line}
+use Rattle.swc_ecma_codegen_text_writer.specs.Filling.{first_units}
+use Rattle.swc_ecma_codegen_text_writer.proofs.FirstLines.{first-further, first-end, first-empty}
 
 -- LF after CR
 pub after_second : (byte : ℕ) (p : Place) → byte ≡ 10 → p.after_cr ≡ true → after_byte byte p ≡ further 0 p
@@ -67,3 +71,25 @@ in_line (x ∷ y ∷ ys) p some h =
     let b = and_parts (is_one_column x) (is_in_line (y ∷ ys)) h in
     let more : 1 + length (y ∷ ys) ≡ length (x ∷ y ∷ ys) = omega arith in
     after_first x (y ∷ ys) p ∙ ap (λ z. after_text (y ∷ ys) z) (one_column x p b.0) ∙ in_line (y ∷ ys) (further 1 p) (λ e. let n = ap length e in absurd (omega (arith, n))) b.1 ∙ further_twice 1 (length (y ∷ ys)) p ∙ ap (λ n. further n p) more
+
+-- two texts, one after the other
+pub after_both : (t u : List ℕ) (p : Place) → after_text (t ++ u) p ≡ after_text u (after_text t p)
+unfolding after_text
+after_both [] u p = refl
+after_both (c ∷ cs) u p = after_both cs u _
+
+-- ---- the first line of a text
+
+-- from a byte on
+pub first_drop : (xs : List ℕ) (i d : ℕ) → i < length xs → is_line_end (get_or xs i d) ≡ false → first_units (drop i xs) ≡ units_of (get_or xs i d) + first_units (drop (i + 1) xs)
+first_drop xs i d h k =
+    let e : suc i ≡ i + 1 = omega arith in
+    ap first_units (drop-cons xs i d h) ∙ (first-further (get_or xs i d) (drop (suc i) xs) k ∙ ap (λ n. units_of (get_or xs i d) + first_units (drop n xs)) e)
+
+pub first_stop : (xs : List ℕ) (i d : ℕ) → i < length xs → is_line_end (get_or xs i d) ≡ true → first_units (drop i xs) ≡ 0
+first_stop xs i d h k = ap first_units (drop-cons xs i d h) ∙ (first-end (get_or xs i d) _ k)
+
+pub first_all : (xs : List ℕ) (i : ℕ) → length xs ≤ i → first_units (drop i xs) ≡ 0
+first_all xs i h =
+    let n : length (drop i xs) ≡ 0 = simp length-drop (omega arith) in
+    ap first_units (nil_from_length (drop i xs) n) ∙ first-empty

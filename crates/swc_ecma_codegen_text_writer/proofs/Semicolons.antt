@@ -1,194 +1,27 @@
 -- Calls of a writer that holds semicolons back, made of calls of the writer under it.
-use Rattle.std.proofs.Common.{◌≡◌, inl, inr, ℕ, ◌+◌, ◌-◌, Bool, true, false, ◌&&◌, ◌||◌, ◌==◌, List, [], ◌∷◌, ◌++◌, refl, sym, ◌∙◌, ap, subst, append_assoc, append-nil, cond, codes, Option, Some, None, Result, Ok, Err}
-use Rattle.std.specs.List.{repeat}
+use Rattle.std.proofs.Common.{◌≡◌, inl, inr, ℕ, ◌+◌, ◌-◌, Bool, true, false, ◌||◌, List, ◌∷◌, refl, sym, ◌∙◌, ap, subst, cond, codes, Option, Some, None, Result, Ok, Err}
+use Rattle.std.specs.Prelude.{OnOk, IfErr}
 use Rattle.std.proofs.lemmas.Bool.{false≢true}
 use Rattle.swc_ecma_codegen_common.specs.declared.errors.Refusal.{Refusal}
 use Rattle.swc_ecma_codegen_common.specs.declared.errors.Refusal.TheVariants.{Writer, OutOfMemory, UnsupportedNode, BadShape, NameOutOfTarget, PositionTooLarge, Failed}
 use Rattle.swc_ecma_codegen_common.specs.declared.positions.BytePos.{BytePos}
 use Rattle.swc_ecma_codegen_common.specs.declared.positions.Span.{Span}
 use Rattle.swc_ecma_codegen_text_writer.specs.Told.{Rises, IsPrefix}
-use Rattle.swc_ecma_codegen_text_writer.specs.Places.{Place, after_text}
-use Rattle.swc_ecma_codegen_text_writer.proofs.Sheets.{front_refl, front_append, front_trans, placed_on}
-use Rattle.swc_ecma_codegen_text_writer.specs.Sheet.{Sheet, Item, Semi, Space, Keyword, Operator, Param, Property, Line, Lit, Comment, StrLit, Str, Symbol, Punct, Position, Commit, Deeper, Shallower, Semicolons, AtOnce, HoldsNone, HoldsOne, holds_semicolons, appended, indented, with_pair, has_pair, pair_at, recorded, start_recorded, end_recorded, pending_recorded, started, written, literal_written, ended, pointed, settled_by, settled, semicolon_by, dropped, is_ending, before_punct, effect, Causes, Stopped, Refuses, earlier, stopped, Writes}
-use Rattle.swc_ecma_codegen_text_writer.specs.PendingSemi.{semicolons_of, with_held, WritesAtOnce, Settles}
-
--- ---- a sheet but for its semicolons
-
-abbrev holding : Semicolons → Sheet → Sheet
-holding q s = record s { semicolons = q }
-
-recorded_moves : (q : Semicolons) (pos : BytePos) (s : Sheet) → recorded pos (holding q s) ≡ holding q (recorded pos s)
-unfolding recorded
-recorded_moves q pos s =
-    elim s.keeps_positions as (λ b. cond b (record s { pairs = with_pair pos s.place s.pairs; semicolons = q }) (holding q s) ≡ holding q (cond b (record s { pairs = with_pair pos s.place s.pairs }) s))
-    [ true ↦ refl | false ↦ refl ]
-
-start_moves : (q : Semicolons) (span : Option Span) (s : Sheet) → start_recorded span (holding q s) ≡ holding q (start_recorded span s)
-unfolding start_recorded
-start_moves q None s = refl
-start_moves q (Some span) s = recorded_moves q span.lo s
-
-end_moves : (q : Semicolons) (span : Option Span) (s : Sheet) → end_recorded span (holding q s) ≡ holding q (end_recorded span s)
-unfolding end_recorded
-end_moves q None s = refl
-end_moves q (Some span) s = recorded_moves q span.hi s
-
-pending_moves : (q : Semicolons) (p : Option BytePos) (s : Sheet) → pending_recorded p (holding q s) ≡ holding q (pending_recorded p s)
-unfolding pending_recorded
-pending_moves q None s = refl
-pending_moves q (Some pos) s = recorded_moves q pos (record s { pending = None })
-
--- the line's indentation is out
-abbrev begun : Sheet → Sheet
-begun s = record (indented s.indentation s) { at_line_start = false }
-
-begun_moves : (q : Semicolons) (s : Sheet) → begun (holding q s) ≡ holding q (begun s)
-unfolding indented appended
-begun_moves q s = refl
-
-started_moves : (q : Semicolons) (s : Sheet) → started (holding q s) ≡ holding q (started s)
-unfolding started
-started_moves q s =
-    elim s.at_line_start as (λ b. cond b (pending_recorded s.pending (begun (holding q s))) (holding q s) ≡ holding q (cond b (pending_recorded s.pending (begun s)) s))
-    [ true ↦ ap (pending_recorded s.pending) (begun_moves q s) ∙ pending_moves q s.pending (begun s) | false ↦ refl ]
-
-appended_moves : (q : Semicolons) (t : List ℕ) (s : Sheet) → appended t (holding q s) ≡ holding q (appended t s)
-unfolding appended
-appended_moves q t s = refl
-
-written_moves : (q : Semicolons) (span : Option Span) (t : List ℕ) (s : Sheet) → written span t (holding q s) ≡ holding q (written span t s)
-unfolding written
-written_moves q span [] s = refl
-written_moves q span (c ∷ cs) s =
-    ap (λ z. end_recorded span (appended (c ∷ cs) (start_recorded span z))) (started_moves q s) ∙
-    ap (λ z. end_recorded span (appended (c ∷ cs) z)) (start_moves q span (started s)) ∙
-    ap (end_recorded span) (appended_moves q (c ∷ cs) (start_recorded span (started s))) ∙
-    end_moves q span (appended (c ∷ cs) (start_recorded span (started s)))
-
-literal_moves : (q : Semicolons) (span : Span) (t : List ℕ) (s : Sheet) → literal_written span t (holding q s) ≡ holding q (literal_written span t s)
-unfolding literal_written
-literal_moves q span [] s = refl
-literal_moves q span (c ∷ cs) s =
-    ap (λ z. recorded span.hi (written None (c ∷ cs) z)) (recorded_moves q span.lo s) ∙
-    ap (recorded span.hi) (written_moves q None (c ∷ cs) (recorded span.lo s)) ∙
-    recorded_moves q span.hi (written None (c ∷ cs) (recorded span.lo s))
-
-ended_moves : (q : Semicolons) (s : Sheet) → ended (holding q s) ≡ holding q (ended s)
-unfolding ended appended
-ended_moves q s =
-    elim s.at_line_start as (λ b. cond b (record s { pending = None; semicolons = q }) (record (appended s.line_end s) { at_line_start = true; semicolons = q }) ≡ holding q (cond b (record s { pending = None }) (record (appended s.line_end s) { at_line_start = true })))
-    [ true ↦ refl | false ↦ refl ]
-
-pointed_moves : (q : Semicolons) (pos : BytePos) (s : Sheet) → pointed pos (holding q s) ≡ holding q (pointed pos s)
-unfolding pointed
-pointed_moves q pos s =
-    elim (s.keeps_positions && s.at_line_start) as (λ b. cond b (record s { pending = Some pos; semicolons = q }) (recorded pos (holding q s)) ≡ holding q (cond b (record s { pending = Some pos }) (recorded pos s)))
-    [ true ↦ refl | false ↦ recorded_moves q pos s ]
-
--- ---- texts and pairs grow
-
--- from the first sheet to the second only text was written
-record Way (a b : Sheet) : Type 0 where
-  pub text : IsPrefix a.text b.text
-  pub place : b.place ≡ after_text text.0 a.place
-  pub pairs : IsPrefix a.pairs b.pairs
-  pub same : b ≡ record a { text = b.text; at_line_start = b.at_line_start; semicolons = b.semicolons; pairs = b.pairs; pending = b.pending; place = b.place }
-
-way_refl : (a : Sheet) → Way a a
-way_refl a = record { text = front_refl a.text; place = unfold after_text in refl; pairs = front_refl a.pairs; same = refl }
-
-way_trans : (a b c : Sheet) → Way a b → Way b c → Way a c
-way_trans a b c h k =
-    record {
-      text = front_trans a.text b.text c.text h.text k.text;
-      place = placed_on h.text.0 k.text.0 a.place b.place c.place h.place k.place;
-      pairs = front_trans a.pairs b.pairs c.pairs h.pairs k.pairs;
-      same = k.same ∙ ap (λ (s : Sheet). record s { text = c.text; at_line_start = c.at_line_start; semicolons = c.semicolons; pairs = c.pairs; pending = c.pending; place = c.place }) h.same;
-    }
-
-with_pair_grows : (x : BytePos) (s : Sheet) → IsPrefix s.pairs (with_pair x s.place s.pairs)
-unfolding with_pair
-with_pair_grows x s =
-    elim ((x.0 == 0) || has_pair (pair_at x s.place) s.pairs) as (λ b. IsPrefix s.pairs (cond b s.pairs (s.pairs ++ (pair_at x s.place ∷ []))))
-    [ true ↦ front_refl s.pairs | false ↦ front_append s.pairs _ ]
-
-recorded_way : (pos : BytePos) (s : Sheet) → Way s (recorded pos s)
-unfolding recorded
-recorded_way pos s =
-    elim s.keeps_positions as (λ b. Way s (cond b (record s { pairs = with_pair pos s.place s.pairs }) s))
-    [ true ↦ record { text = front_refl s.text; place = unfold after_text in refl; pairs = with_pair_grows pos s; same = refl } | false ↦ way_refl s ]
-
-start_way : (span : Option Span) (s : Sheet) → Way s (start_recorded span s)
-unfolding start_recorded
-start_way None s = way_refl s
-start_way (Some span) s = recorded_way span.lo s
-
-end_way : (span : Option Span) (s : Sheet) → Way s (end_recorded span s)
-unfolding end_recorded
-end_way None s = way_refl s
-end_way (Some span) s = recorded_way span.hi s
-
--- another start of a line, other semicolons and another pending position
-alike_way : (b : Bool) (q : Semicolons) (p : Option BytePos) (s : Sheet) → Way s (record s { at_line_start = b; semicolons = q; pending = p })
-alike_way b q p s = record { text = front_refl s.text; place = unfold after_text in refl; pairs = front_refl s.pairs; same = refl }
-
-appended_way : (t : List ℕ) (s : Sheet) → Way s (appended t s)
-unfolding appended
-appended_way t s = record { text = front_append s.text t; place = refl; pairs = front_refl s.pairs; same = refl }
-
-pending_way : (p : Option BytePos) (s : Sheet) → Way s (pending_recorded p s)
-unfolding pending_recorded
-pending_way None s = way_refl s
-pending_way (Some pos) s = way_trans _ _ _ (alike_way s.at_line_start s.semicolons None s) (recorded_way pos (record s { pending = None }))
-
-begun_way : (s : Sheet) → Way s (begun s)
-unfolding indented appended
-begun_way s = way_trans _ _ _ (appended_way (repeat s.indentation s.indent_text) s) (alike_way false s.semicolons s.pending (appended (repeat s.indentation s.indent_text) s))
-
-started_way : (s : Sheet) → Way s (started s)
-unfolding started
-started_way s =
-    elim s.at_line_start as (λ b. Way s (cond b (pending_recorded s.pending (begun s)) s))
-    [ true ↦ way_trans _ _ _ (begun_way s) (pending_way s.pending (begun s)) | false ↦ way_refl s ]
-
-written_way : (span : Option Span) (t : List ℕ) (s : Sheet) → Way s (written span t s)
-unfolding written
-written_way span [] s = way_refl s
-written_way span (c ∷ cs) s =
-    let begin = way_trans _ _ _ (started_way s) (start_way span (started s)) in
-    let out = way_trans _ _ _ begin (appended_way (c ∷ cs) (start_recorded span (started s))) in
-    way_trans _ _ _ out (end_way span (appended (c ∷ cs) (start_recorded span (started s))))
-
-literal_way : (span : Span) (t : List ℕ) (s : Sheet) → Way s (literal_written span t s)
-unfolding literal_written
-literal_way span [] s = way_refl s
-literal_way span (c ∷ cs) s =
-    let out = way_trans _ _ _ (recorded_way span.lo s) (written_way None (c ∷ cs) (recorded span.lo s)) in
-    way_trans _ _ _ out (recorded_way span.hi (written None (c ∷ cs) (recorded span.lo s)))
-
-ended_way : (s : Sheet) → Way s (ended s)
-unfolding ended
-ended_way s =
-    elim s.at_line_start as (λ b. Way s (cond b (record s { pending = None }) (record (appended s.line_end s) { at_line_start = true }))) [
-      | true ↦ alike_way s.at_line_start s.semicolons None s
-      | false ↦ way_trans _ _ _ (appended_way s.line_end s) (alike_way true (appended s.line_end s).semicolons (appended s.line_end s).pending (appended s.line_end s))
-    ]
-
-settled_by_way : (q : Semicolons) (s : Sheet) → Way s (settled_by q s)
-unfolding settled_by
-settled_by_way AtOnce s = way_refl s
-settled_by_way HoldsNone s = way_refl s
-settled_by_way (HoldsOne span) s = way_trans _ _ _ (alike_way s.at_line_start HoldsNone s.pending s) (written_way span (codes ";") (holding HoldsNone s))
-
-settled_way : (s : Sheet) → Way s (settled s)
-settled_way s = settled_by_way s.semicolons s
+use Rattle.swc_ecma_codegen_text_writer.proofs.Sheets.{front_refl, front_trans, placed_on}
+use Rattle.swc_ecma_codegen_text_writer.specs.Sheet.{Sheet, Item, Semi, Space, Keyword, Operator, Param, Property, Line, Lit, Comment, StrLit, Str, Symbol, Punct, Position, Commit, Deeper, Shallower, BeginLines, AllowBreak, EndLines, Semicolons, AtOnce, HoldsNone, HoldsOne, holds_semicolons, allowed, passed_on, allowed_at, written, literal_written, ended, pointed, settled_by, settled, semicolon_by, dropped, is_ending, before_punct, effect, effects, Causes, Stopped, Refuses, earlier, stopped, Writes}
+use Rattle.swc_ecma_codegen_common.specs.declared.errors.Error.{Error}
+use Rattle.swc_ecma_codegen_common.specs.Refusals.{in_short, reason_of}
+use Rattle.swc_ecma_codegen_text_writer.specs.declared.semicolon.HeldSemi.{HeldSemi}
+use Rattle.swc_ecma_codegen_text_writer.specs.PendingSemi.{semicolons_of, with_held, WritesAtOnce, IsSettled, Settles, break_after}
+use Rattle.swc_ecma_codegen_text_writer.proofs.Moves.{holding, written_moves, literal_moves, ended_moves, pointed_moves, allowed_moves, passed_moves, begun_by_moves, closed_by_moves}
+use Rattle.swc_ecma_codegen_text_writer.proofs.Ways.{Way, way_trans, alike_way, written_way, literal_way, ended_way, passed_way, settled_way}
 
 -- ---- writers that write semicolons at once
 
 at_once : (q : Semicolons) → holds_semicolons q ≡ false → q ≡ AtOnce
 at_once AtOnce h = refl
 at_once HoldsNone h = absurd (false≢true (sym h))
-at_once (HoldsOne span) h = absurd (false≢true (sym h))
+at_once (HoldsOne span allowed) h = absurd (false≢true (sym h))
 
 settled_at_once : (s : Sheet) → s.semicolons ≡ AtOnce → settled s ≡ s
 unfolding settled_by
@@ -339,6 +172,10 @@ semi_at_once : (span : Option Span) (s : Sheet) → s.semicolons ≡ AtOnce → 
 unfolding effect semicolon_by
 semi_at_once span s h = ap (λ q. semicolon_by q span s) h
 
+break_at_once : (s : Sheet) → s.semicolons ≡ AtOnce → effect AllowBreak s ≡ allowed s
+unfolding effect allowed_at
+break_at_once s h = ap (λ q. allowed_at q s) h
+
 written_keeps : (span : Option Span) (t : List ℕ) (s : Sheet) → (written span t s).semicolons ≡ s.semicolons
 written_keeps span t s = unmoved (written span t) s (λ q. written_moves q span t s)
 
@@ -361,6 +198,9 @@ effect_at_once (Position pos) s h = unmoved (pointed pos) s (λ q. pointed_moves
 effect_at_once Commit s h = kept_settling _ commit_settles s h
 effect_at_once Deeper s h = kept_settling _ deeper_settles s h
 effect_at_once Shallower s h = kept_settling _ shallower_settles s h
+effect_at_once (BeginLines max) s h = ap (λ (z : Sheet). z.semicolons) (begun_by_moves s.lines s.semicolons max s) ∙ h
+effect_at_once AllowBreak s h = ap (λ (z : Sheet). z.semicolons) (break_at_once s h) ∙ (unmoved allowed s (λ q. allowed_moves q s) ∙ h)
+effect_at_once EndLines s h = ap (λ (z : Sheet). z.semicolons) (closed_by_moves s.lines s.semicolons s) ∙ h
 
 -- a call of the writer under it leaves that one writing semicolons at once
 pub kept : (x : Item) (a b : Sheet) (r : Result (Unit {0}) Refusal) → WritesAtOnce a → Writes x a b r → WritesAtOnce b
@@ -375,11 +215,16 @@ is_deeper : Item → Bool
 is_deeper Deeper = true
 is_deeper (Semi span) = false
 is_deeper Commit = false
+is_deeper AllowBreak = false
 is_deeper _ = false
 
 semi_isnt_deeper : (span : Option Span) → Semi span ≡ Deeper → ⊥
 unfolding is_deeper
 semi_isnt_deeper span e = false≢true (ap is_deeper e)
+
+break_isnt_deeper : AllowBreak ≡ Deeper → ⊥
+unfolding is_deeper
+break_isnt_deeper e = false≢true (ap is_deeper e)
 
 commit_isnt_deeper : Commit ≡ Deeper → ⊥
 unfolding is_deeper
@@ -434,27 +279,12 @@ pub settles_none : (a : Sheet) → Settles (with_held None a) (with_held None a)
 unfolding Settles with_held settled_by
 settles_none a = (refl, inr refl)
 
-semi_lifts : (span : Option Span) (a : Sheet) → Lifts (Semi span) Commit (HoldsOne span) HoldsNone a
-unfolding effect settled_by
-semi_lifts span a h r =
-    written_moves HoldsNone span (codes ";") a ∙ ap (holding HoldsNone) (sym (semi_at_once span a (at_once _ (h r))))
-
-pub settles_one : (span : Option Span) (a b : Sheet) (u : Unit {0}) → WritesAtOnce a → Writes (Semi span) a b (Ok u) → Settles (with_held (Some span) a) (with_held None b) (Ok tt)
-unfolding Settles with_held Writes effect
-settles_one span a b u h k =
-    let done = lifted_ok (Semi span) Commit (HoldsOne span) HoldsNone a b u h (semi_lifts span a) k in (done.1, inl done.0)
-
-pub settles_err : (span : Option Span) (a b : Sheet) (e : Refusal) → WritesAtOnce a → Writes (Semi span) a b (Err e) → Settles (with_held (Some span) a) (with_held (Some span) b) (Err e)
-unfolding Settles with_held Writes
-settles_err span a b e h k =
-    lifted_err (Semi span) Commit (HoldsOne span) HoldsNone a b e (λ d. absurd (semi_isnt_deeper span d)) h (semi_lifts span a) k
-
 -- ---- a call, after the held semicolon went out
 
 causes_on : (x : Item) (e : Refusal) (a b c : Sheet) → Way a b → Causes x e b c → Causes x e a c
 unfolding Causes
 causes_on x Writer a b c w h = let P : ℕ → Type 0 = λ n. Rises n c.faults in subst P (ap (λ (z : Sheet). z.faults) w.same) h
-causes_on x OutOfMemory a b c w h = sym (ap (λ (z : Sheet). z.takes_memory) w.same) ∙ h
+causes_on x OutOfMemory a b c w h = sym (λ i. (ap (λ (z : Sheet). z.takes_memory) w.same) i || w.fills i) ∙ h
 causes_on x UnsupportedNode a b c w h = h
 causes_on x BadShape a b c w h = h
 causes_on x NameOutOfTarget a b c w h = h
@@ -462,18 +292,109 @@ causes_on x PositionTooLarge a b c w (inl h) = inl (h.0, sym (ap (λ (z : Sheet)
 causes_on x PositionTooLarge a b c w (inr h) = inr (sym (ap (λ (z : Sheet). z.keeps_positions) w.same) ∙ h.0, h.1)
 causes_on x Failed a b c w h = h
 
+-- the semicolon goes out, and then the break that was kept with it
+semi_then : (semi : HeldSemi) (a : Sheet) → a.semicolons ≡ AtOnce → settled (with_held (Some semi) a) ≡ passed_on semi.allows_break (holding HoldsNone (effect (Semi semi.span) a))
+unfolding settled_by with_held
+semi_then semi a h = ap (passed_on semi.allows_break) (written_moves HoldsNone semi.span (codes ";") a ∙ ap (holding HoldsNone) (sym (semi_at_once semi.span a h)))
+
+pub held_plain : (semi : HeldSemi) (a b : Sheet) (u : Unit {0}) → semi.allows_break ≡ false → WritesAtOnce a → Writes (Semi semi.span) a b (Ok u) → IsSettled (with_held (Some semi) a) (with_held None b)
+unfolding IsSettled with_held Writes passed_on
+held_plain semi a b u e h k =
+    let c : Sheet = holding HoldsNone (effect (Semi semi.span) a) in
+    (ap (holding HoldsNone) k.1 ∙ (sym (ap (λ z. passed_on z c) e) ∙ sym (unfold with_held in semi_then semi a (at_once _ (h k.0)))), k.0)
+
+pub held_broken : (semi : HeldSemi) (a b c : Sheet) (u v : Unit {0}) → semi.allows_break ≡ true → WritesAtOnce a → Writes (Semi semi.span) a b (Ok u) → Writes AllowBreak b c (Ok v) → IsSettled (with_held (Some semi) a) (with_held None c)
+unfolding IsSettled with_held Writes passed_on
+held_broken semi a b c u v e h k m =
+    let one : a.semicolons ≡ AtOnce = at_once _ (h k.0) in
+    let d : Sheet = effect (Semi semi.span) a in
+    let after : c ≡ allowed d = m.1 ∙ (ap (effect AllowBreak) k.1 ∙ break_at_once d (effect_at_once (Semi semi.span) a one)) in
+    (ap (holding HoldsNone) after ∙ (sym (allowed_moves HoldsNone d) ∙ (sym (ap (λ z. passed_on z (holding HoldsNone d)) e) ∙ sym (unfold with_held in semi_then semi a one))), k.0)
+
+passed_true : (s : Sheet) → passed_on true (holding HoldsNone s) ≡ holding HoldsNone (allowed s)
+unfolding passed_on
+passed_true s = allowed_moves HoldsNone s
+
+-- what goes out of the semicolon is a beginning of what goes out of both
+semi_front : (semi : HeldSemi) (a : Sheet) → a.semicolons ≡ AtOnce → Way (effect (Semi semi.span) a) (settled (with_held (Some semi) a))
+semi_front semi a h =
+    let d : Sheet = effect (Semi semi.span) a in
+    subst (λ (z : Sheet). Way d z) (sym (semi_then semi a h)) (way_trans _ _ _ (alike_way d.at_line_start HoldsNone d.pending d) (passed_way semi.allows_break (holding HoldsNone d)))
+
+pub held_err : (semi : HeldSemi) (a b : Sheet) (e : Refusal) → WritesAtOnce a → Writes (Semi semi.span) a b (Err e) → Refuses Commit e (with_held (Some semi) a) (with_held (Some semi) b)
+unfolding Writes
+held_err semi a b e h (earlier i j k) = earlier (unfold with_held in i) j (ap (with_held (Some semi)) k)
+held_err semi a b e h (stopped i j k) =
+    let way = semi_front semi a (at_once _ (h i)) in
+    unfold with_held in
+    stopped i (causes_held (Semi semi.span) Commit e _ _ a b (λ d. absurd (semi_isnt_deeper semi.span d)) j) (record {
+      grows = k.grows;
+      front = unfold effect in front_trans b.text _ _ k.front way.text;
+      place = k.place;
+      more_pairs = k.more_pairs;
+      front_pairs = unfold effect in front_trans b.pairs _ _ k.front_pairs way.pairs;
+      held = inl refl;
+      same = ap (holding (semicolons_of (Some semi))) k.same;
+    })
+
+-- the semicolon went out, and the break behind it was refused: it may still be held
+pub broken_err : (semi : HeldSemi) (a b c : Sheet) (u : Unit {0}) (e : Refusal) → semi.allows_break ≡ true → WritesAtOnce a → Writes (Semi semi.span) a b (Ok u) → Writes AllowBreak b c (Err e) → Refuses Commit e (with_held (Some semi) a) (with_held (Some semi) c)
+unfolding Writes with_held effect
+broken_err semi a b c u e t h (r, k) (earlier i j m) =
+    let way : Way a b = subst (λ (z : Sheet). Way a z) (sym (k ∙ semi_at_once semi.span a (at_once _ (h r)))) (written_way semi.span (codes ";") a) in
+    absurd (false≢true (sym r ∙ (sym (ap (λ (z : Sheet). z.refused) way.same) ∙ i)))
+broken_err semi a b c u e t h (r, k) (stopped i j m) =
+    let one : a.semicolons ≡ AtOnce = at_once _ (h r) in
+    let d : Sheet = effect (Semi semi.span) a in
+    let way : Way a b = subst (λ (z : Sheet). Way a z) (sym (k ∙ semi_at_once semi.span a one)) (written_way semi.span (codes ";") a) in
+    let goal : effect AllowBreak b ≡ allowed d = ap (effect AllowBreak) k ∙ break_at_once d (effect_at_once (Semi semi.span) a one) in
+    let all : settled (with_held (Some semi) a) ≡ holding HoldsNone (allowed d) = semi_then semi a one ∙ (ap (λ z. passed_on z (holding HoldsNone d)) t ∙ passed_true d) in
+    let text : (effect AllowBreak b).text ≡ (settled (with_held (Some semi) a)).text = ap (λ (z : Sheet). z.text) goal ∙ sym (ap (λ (z : Sheet). z.text) all) in
+    let pairs : (effect AllowBreak b).pairs ≡ (settled (with_held (Some semi) a)).pairs = ap (λ (z : Sheet). z.pairs) goal ∙ sym (ap (λ (z : Sheet). z.pairs) all) in
+    stopped r (causes_held AllowBreak Commit e _ _ a c (λ d. absurd (break_isnt_deeper d)) (causes_on AllowBreak e a b c way j)) (record {
+      grows = front_trans a.text b.text c.text way.text m.grows;
+      front = subst (λ z. IsPrefix c.text z) text m.front;
+      place = placed_on way.text.0 m.grows.0 a.place b.place c.place way.place m.place;
+      more_pairs = front_trans a.pairs b.pairs c.pairs way.pairs m.more_pairs;
+      front_pairs = subst (λ z. IsPrefix c.pairs z) pairs m.front_pairs;
+      held = inl refl;
+      same =
+          ap (holding (semicolons_of (Some semi))) (m.same ∙ ap (λ (s : Sheet). record s { text = c.text; whole = c.whole; at_line_start = c.at_line_start; semicolons = c.semicolons; pairs = c.pairs; pending = c.pending; place = c.place; lines = c.lines; faults = c.faults; refused = true }) way.same);
+    })
+
+-- the same by the answer of the writer under it
+pub broken_ok : (semi : HeldSemi) (a b c : Sheet) (u : Unit {0}) (r : Result (Unit {0}) Error) → semi.allows_break ≡ true → WritesAtOnce a → Writes (Semi semi.span) a b (Ok u) → Writes AllowBreak b c (in_short r) → OnOk r (IsSettled (with_held (Some semi) a) (with_held None c))
+broken_ok semi a b c u (Ok v) t h k m = held_broken semi a b c u v t h k m
+broken_ok semi a b c u (Err e) t h k m = tt
+
+pub broken_not : (semi : HeldSemi) (a b c : Sheet) (u : Unit {0}) (r : Result (Unit {0}) Error) → semi.allows_break ≡ true → WritesAtOnce a → Writes (Semi semi.span) a b (Ok u) → Writes AllowBreak b c (in_short r) → IfErr (in_short r) (λ e. Refuses Commit e (with_held (Some semi) a) (with_held (Some semi) c))
+broken_not semi a b c u (Ok v) t h k m = tt
+broken_not semi a b c u (Err e) t h k m = broken_err semi a b c u (reason_of e) t h k m
+
+pub settles_one : (s b : Sheet) → IsSettled s b → Settles s b (Ok tt)
+unfolding Settles IsSettled
+settles_one s b h = (h.0, inl h.1)
+
+pub settles_err : (s b : Sheet) (e : Refusal) → Refuses Commit e s b → Settles s b (Err e)
+unfolding Settles
+settles_err s b e h = h
+
 -- from the settled sheet a call does what it does from the first one
 same_goal : (x : Item) → Settling x → (s : Sheet) → settled (settled s) ≡ settled s → effect x (settled s) ≡ effect x s
 same_goal x m s h = m.is (settled s) ∙ ap m.act h ∙ sym (m.is s)
 
 -- after it went out none is held
+pub out_keeps : (span : Option Span) (allowed : Bool) (s : Sheet) → (passed_on allowed (written span (codes ";") (holding HoldsNone s))).semicolons ≡ HoldsNone
+out_keeps span allowed s =
+    let out = written span (codes ";") (holding HoldsNone s) in unmoved (passed_on allowed) out (λ q. passed_moves allowed q out) ∙ written_keeps span (codes ";") (holding HoldsNone s)
+
 settled_by_twice : (q : Semicolons) (s : Sheet) → q ≡ s.semicolons → settled (settled_by q s) ≡ settled_by q s
 unfolding settled_by
 settled_by_twice AtOnce s h = ap (λ q. settled_by q s) (sym h)
 settled_by_twice HoldsNone s h = ap (λ q. settled_by q s) (sym h)
-settled_by_twice (HoldsOne span) s h =
-    let out = written span (codes ";") (holding HoldsNone s) in
-    ap (λ q. settled_by q out) (written_keeps span (codes ";") (holding HoldsNone s))
+settled_by_twice (HoldsOne span allowed) s h =
+    let out = passed_on allowed (written span (codes ";") (holding HoldsNone s)) in
+    ap (λ q. settled_by q out) (out_keeps span allowed s)
 
 settled_twice : (s : Sheet) → settled (settled s) ≡ settled s
 settled_twice s = settled_by_twice s.semicolons s refl
@@ -483,7 +404,7 @@ settled_by_drops : (q : Semicolons) (s : Sheet) → q ≡ s.semicolons → (sett
 unfolding settled_by dropped
 settled_by_drops AtOnce s h = sym h
 settled_by_drops HoldsNone s h = sym h
-settled_by_drops (HoldsOne span) s h = written_keeps span (codes ";") (holding HoldsNone s)
+settled_by_drops (HoldsOne span allowed) s h = out_keeps span allowed s
 
 settled_drops : (s : Sheet) → (settled s).semicolons ≡ dropped s.semicolons
 settled_drops s = settled_by_drops s.semicolons s refl
@@ -492,7 +413,7 @@ dropped_twice : (q : Semicolons) → dropped (dropped q) ≡ dropped q
 unfolding dropped
 dropped_twice AtOnce = refl
 dropped_twice HoldsNone = refl
-dropped_twice (HoldsOne span) = refl
+dropped_twice (HoldsOne span allowed) = refl
 
 stopped_on : (x : Item) → Settling x → (a b c : Sheet) → b ≡ settled a → Stopped (effect x b) b c → Stopped (effect x a) a c
 stopped_on x m a b c e k =
@@ -510,7 +431,7 @@ stopped_on x m a b c e k =
       more_pairs = front_trans a.pairs b.pairs c.pairs way.pairs k.more_pairs;
       front_pairs = subst Pairs goal k.front_pairs;
       held = inr (lost, subst Out e k.grows);
-      same = k.same ∙ ap (λ (s : Sheet). record s { text = c.text; whole = c.whole; at_line_start = c.at_line_start; semicolons = c.semicolons; pairs = c.pairs; pending = c.pending; place = c.place; faults = c.faults; refused = true }) way.same;
+      same = k.same ∙ ap (λ (s : Sheet). record s { text = c.text; whole = c.whole; at_line_start = c.at_line_start; semicolons = c.semicolons; pairs = c.pairs; pending = c.pending; place = c.place; lines = c.lines; faults = c.faults; refused = true }) way.same;
     }
 
 settled_refused : (s : Sheet) → (settled s).refused ≡ s.refused
@@ -533,10 +454,10 @@ unfolding settled_by
 settling_lifts x m a h r =
     m.is (holding HoldsNone a) ∙ m.moves HoldsNone a ∙ ap (holding HoldsNone) (sym (m.is a ∙ ap m.act (settled_at_once a (at_once _ (h r)))))
 
-pub settled_then : (x : Item) → Settling x → (s a b : Sheet) (p : Option (Option Span)) (u : Unit {0}) (r : Result (Unit {0}) Refusal) → Settles s (with_held p a) (Ok u) → p ≡ None → WritesAtOnce a → Writes x a b r → Writes x s (with_held p b) r
+pub settled_then : (x : Item) → Settling x → (s a b : Sheet) (p : Option HeldSemi) (u : Unit {0}) (r : Result (Unit {0}) Refusal) → Settles s (with_held p a) (Ok u) → p ≡ None → WritesAtOnce a → Writes x a b r → Writes x s (with_held p b) r
 unfolding with_held
 settled_then x m s a b p u r h n w k =
-    let P : Option (Option Span) → Type 0 = λ o. Settles s (with_held o a) (Ok u) → Writes x s (with_held o b) r in
+    let P : Option HeldSemi → Type 0 = λ o. Settles s (with_held o a) (Ok u) → Writes x s (with_held o b) r in
     subst P (sym n) (λ g. joined x m s (holding HoldsNone a) (holding HoldsNone b) u r g (lifted x HoldsNone a b r w (settling_lifts x m a) k)) h
 
 -- the held semicolon's writing was refused
@@ -568,37 +489,37 @@ settled_not x m a b e (stopped i j k) =
     })
 
 -- the depth that the next call finds
-pub settled_depth : (s a : Sheet) (p : Option (Option Span)) (u : Unit {0}) → Settles s (with_held p a) (Ok u) → a.indentation ≡ s.indentation
+pub settled_depth : (s a : Sheet) (p : Option HeldSemi) (u : Unit {0}) → Settles s (with_held p a) (Ok u) → a.indentation ≡ s.indentation
 unfolding Settles with_held
 settled_depth s a p u h = ap (λ (z : Sheet). z.indentation) h.0 ∙ settled_indentation s
 
 -- ---- the other calls
 
-held_or_none : (p : Option (Option Span)) (span : Option Span) (a : Sheet) → semicolon_by (semicolons_of p) span (holding (semicolons_of p) a) ≡ holding (HoldsOne span) a
+held_or_none : (p : Option HeldSemi) (span : Option Span) (a : Sheet) → semicolon_by (semicolons_of p) span (holding (semicolons_of p) a) ≡ holding (HoldsOne span false) a
 unfolding semicolon_by
 held_or_none None span a = refl
 held_or_none (Some held) span a = refl
 
-semi_held_lifts : (p : Option (Option Span)) (span : Option Span) (a : Sheet) → Lifts Commit (Semi span) (semicolons_of p) (HoldsOne span) a
+semi_held_lifts : (p : Option HeldSemi) (span : Option Span) (a : Sheet) → Lifts Commit (Semi span) (semicolons_of p) (HoldsOne span false) a
 unfolding effect
-semi_held_lifts p span a h r = held_or_none p span a ∙ ap (holding (HoldsOne span)) (sym (settled_at_once a (at_once _ (h r))))
+semi_held_lifts p span a h r = held_or_none p span a ∙ ap (holding (HoldsOne span false)) (sym (settled_at_once a (at_once _ (h r))))
 
 -- a semicolon is held
-pub semi_ok : (p : Option (Option Span)) (span : Option Span) (a b : Sheet) (u : Unit {0}) → WritesAtOnce a → Writes Commit a b (Ok u) → Writes (Semi span) (with_held p a) (with_held (Some span) b) (Ok tt)
+pub semi_ok : (p : Option HeldSemi) (span : Option Span) (a b : Sheet) (u : Unit {0}) → WritesAtOnce a → Writes Commit a b (Ok u) → Writes (Semi span) (with_held p a) (with_held (Some (record { span = span; allows_break = false })) b) (Ok tt)
 unfolding with_held
-semi_ok p span a b u h k = lifted_ok Commit (Semi span) (semicolons_of p) (HoldsOne span) a b u h (semi_held_lifts p span a) k
+semi_ok p span a b u h k = lifted_ok Commit (Semi span) (semicolons_of p) (HoldsOne span false) a b u h (semi_held_lifts p span a) k
 
-pub semi_err : (p : Option (Option Span)) (span : Option Span) (a b : Sheet) (e : Refusal) → WritesAtOnce a → Writes Commit a b (Err e) → Writes (Semi span) (with_held p a) (with_held p b) (Err e)
+pub semi_err : (p : Option HeldSemi) (span : Option Span) (a b : Sheet) (e : Refusal) → WritesAtOnce a → Writes Commit a b (Err e) → Writes (Semi span) (with_held p a) (with_held p b) (Err e)
 unfolding with_held Writes
 semi_err p span a b e h k =
-    lifted_err Commit (Semi span) (semicolons_of p) (HoldsOne span) a b e (λ d. absurd (commit_isnt_deeper d)) h (semi_held_lifts p span a) k
+    lifted_err Commit (Semi span) (semicolons_of p) (HoldsOne span false) a b e (λ d. absurd (commit_isnt_deeper d)) h (semi_held_lifts p span a) k
 
-dropped_none : (p : Option (Option Span)) → dropped (semicolons_of p) ≡ HoldsNone
+dropped_none : (p : Option HeldSemi) → dropped (semicolons_of p) ≡ HoldsNone
 unfolding dropped
 dropped_none None = refl
 dropped_none (Some span) = refl
 
-ending_lifts : (p : Option (Option Span)) (span : Option Span) (t : List ℕ) (a : Sheet) → is_ending t ≡ true → Lifts (Punct span t) (Punct span t) (semicolons_of p) HoldsNone a
+ending_lifts : (p : Option HeldSemi) (span : Option Span) (t : List ℕ) (a : Sheet) → is_ending t ≡ true → Lifts (Punct span t) (Punct span t) (semicolons_of p) HoldsNone a
 unfolding effect before_punct
 ending_lifts p span t a i h r =
     let s = holding (semicolons_of p) a in
@@ -608,24 +529,83 @@ ending_lifts p span t a i h r =
     ap (holding HoldsNone) (sym (punct_at_once span t a (at_once _ (h r))))
 
 -- before an ending the held semicolon is lost
-pub ending_ok : (p : Option (Option Span)) (span : Option Span) (t : List ℕ) (a b : Sheet) (u : Unit {0}) → is_ending t ≡ true → WritesAtOnce a → Writes (Punct span t) a b (Ok u) → Writes (Punct span t) (with_held p a) (with_held None b) (Ok tt)
+pub ending_ok : (p : Option HeldSemi) (span : Option Span) (t : List ℕ) (a b : Sheet) (u : Unit {0}) → is_ending t ≡ true → WritesAtOnce a → Writes (Punct span t) a b (Ok u) → Writes (Punct span t) (with_held p a) (with_held None b) (Ok tt)
 unfolding with_held
 ending_ok p span t a b u i h k = lifted_ok (Punct span t) (Punct span t) (semicolons_of p) HoldsNone a b u h (ending_lifts p span t a i) k
 
-pub ending_err : (p : Option (Option Span)) (span : Option Span) (t : List ℕ) (a b : Sheet) (e : Refusal) → is_ending t ≡ true → WritesAtOnce a → Writes (Punct span t) a b (Err e) → Writes (Punct span t) (with_held p a) (with_held p b) (Err e)
+pub ending_err : (p : Option HeldSemi) (span : Option Span) (t : List ℕ) (a b : Sheet) (e : Refusal) → is_ending t ≡ true → WritesAtOnce a → Writes (Punct span t) a b (Err e) → Writes (Punct span t) (with_held p a) (with_held p b) (Err e)
 unfolding with_held Writes
 ending_err p span t a b e i h k =
     lifted_err (Punct span t) (Punct span t) (semicolons_of p) HoldsNone a b e (λ d. d) h (ending_lifts p span t a i) k
 
 -- a position passes a held semicolon by
-pub position_passes : (p : Option (Option Span)) (pos : BytePos) (a b : Sheet) (r : Result (Unit {0}) Refusal) → WritesAtOnce a → Writes (Position pos) a b r → Writes (Position pos) (with_held p a) (with_held p b) r
+pub position_passes : (p : Option HeldSemi) (pos : BytePos) (a b : Sheet) (r : Result (Unit {0}) Refusal) → WritesAtOnce a → Writes (Position pos) a b r → Writes (Position pos) (with_held p a) (with_held p b) r
 unfolding with_held effect
 position_passes p pos a b r h k = lifted (Position pos) (semicolons_of p) a b r h (λ _ _. pointed_moves (semicolons_of p) pos a) k
 
+-- lines begin and end below it
+pub begin_passes : (p : Option HeldSemi) (max : ℕ) (a b : Sheet) (r : Result (Unit {0}) Refusal) → WritesAtOnce a → Writes (BeginLines max) a b r → Writes (BeginLines max) (with_held p a) (with_held p b) r
+unfolding with_held effect
+begin_passes p max a b r h k = lifted (BeginLines max) (semicolons_of p) a b r h (λ _ _. begun_by_moves a.lines (semicolons_of p) max a) k
+
+pub end_passes : (p : Option HeldSemi) (a b : Sheet) (r : Result (Unit {0}) Refusal) → WritesAtOnce a → Writes EndLines a b r → Writes EndLines (with_held p a) (with_held p b) r
+unfolding with_held effect
+end_passes p a b r h k = lifted EndLines (semicolons_of p) a b r h (λ _ _. closed_by_moves a.lines (semicolons_of p) a) k
+
+-- an allowed break too where no semicolon is held
+none_lifts : (a : Sheet) → Lifts AllowBreak AllowBreak HoldsNone HoldsNone a
+unfolding effect allowed_at
+none_lifts a h r = allowed_moves HoldsNone a ∙ ap (holding HoldsNone) (sym (unfold effect allowed_at in break_at_once a (at_once _ (h r))))
+
+pub break_passes : (p : Option HeldSemi) (a b : Sheet) (r : Result (Unit {0}) Refusal) → p ≡ None → WritesAtOnce a → Writes AllowBreak a b r → Writes AllowBreak (with_held p a) (with_held p b) r
+break_passes p a b r n h k =
+    subst (λ (o : Option HeldSemi). Writes AllowBreak (with_held o a) (with_held o b) r) (sym n) (unfold with_held in lifted AllowBreak HoldsNone a b r h (none_lifts a) k)
+
+-- else it is kept with the semicolon
+kept_lifts : (semi : HeldSemi) (a : Sheet) → Lifts Commit AllowBreak (HoldsOne semi.span semi.allows_break) (HoldsOne semi.span true) a
+unfolding effect allowed_at
+kept_lifts semi a h r = ap (holding (HoldsOne semi.span true)) (sym (settled_at_once a (at_once _ (h r))))
+
+pub break_kept : (p : Option HeldSemi) (semi : HeldSemi) (a b : Sheet) (u : Unit {0}) → p ≡ Some semi → WritesAtOnce a → Writes Commit a b (Ok u) → Writes AllowBreak (with_held p a) (with_held (Some (record { span = semi.span; allows_break = true })) b) (Ok tt)
+break_kept p semi a b u n h k =
+    subst (λ (o : Option HeldSemi). Writes AllowBreak (with_held o a) (with_held (Some (record { span = semi.span; allows_break = true })) b) (Ok tt)) (sym n)
+    (unfold with_held in lifted_ok Commit AllowBreak (HoldsOne semi.span semi.allows_break) (HoldsOne semi.span true) a b u h (kept_lifts semi a) k)
+
+pub break_err : (p : Option HeldSemi) (semi : HeldSemi) (a b : Sheet) (e : Refusal) → p ≡ Some semi → WritesAtOnce a → Writes Commit a b (Err e) → Writes AllowBreak (with_held p a) (with_held p b) (Err e)
+break_err p semi a b e n h k =
+    subst (λ (o : Option HeldSemi). Writes AllowBreak (with_held o a) (with_held o b) (Err e)) (sym n)
+    (unfold with_held Writes in lifted_err Commit AllowBreak (HoldsOne semi.span semi.allows_break) (HoldsOne semi.span true) a b e (λ d. absurd (commit_isnt_deeper d)) h (kept_lifts semi a) k)
+
+-- ---- a writer that holds semicolons, over one that writes them at once
+
+at_once_allows : (s : Sheet) → allowed_at AtOnce (holding AtOnce s) ≡ holding AtOnce (allowed s)
+unfolding allowed_at
+at_once_allows s = allowed_moves AtOnce s
+
+-- the semicolon goes out, and then the break that was allowed behind it
+pub settled_layers : (span : Option Span) (kept : Bool) (s : Sheet) → settled (holding (HoldsOne span kept) s) ≡ holding HoldsNone (effects (Semi span ∷ break_after kept) (holding AtOnce s))
+unfolding settled_by passed_on break_after effects effect semicolon_by
+settled_layers span false s = written_moves HoldsNone span (codes ";") s ∙ ap (holding HoldsNone) (sym (written_moves AtOnce span (codes ";") s))
+settled_layers span true s =
+    let w : Sheet = written span (codes ";") s in
+    ap allowed (written_moves HoldsNone span (codes ";") s)
+    ∙ (allowed_moves HoldsNone w
+    ∙ sym (ap (holding HoldsNone)
+    (ap (λ (z : Sheet). allowed_at z.semicolons z) (written_moves AtOnce span (codes ";") s) ∙ at_once_allows w)))
+
+-- an allowed break is kept with a semicolon that is held, and else passed on
+pub kept_layers : (span : Option Span) (kept : Bool) (s : Sheet) → effect AllowBreak (holding (HoldsOne span kept) s) ≡ holding (HoldsOne span true) s
+unfolding effect allowed_at
+kept_layers span kept s = refl
+
+pub passed_layers : (s : Sheet) → effect AllowBreak (holding HoldsNone s) ≡ holding HoldsNone (effect AllowBreak (holding AtOnce s))
+unfolding effect allowed_at
+passed_layers s = allowed_moves HoldsNone s ∙ ap (holding HoldsNone) (sym (allowed_moves AtOnce s))
+
 -- it says that it holds semicolons
-pub held_back : (p : Option (Option Span)) → true ≡ holds_semicolons (semicolons_of p)
+pub held_back : (p : Option HeldSemi) → true ≡ holds_semicolons (semicolons_of p)
 held_back None = refl
 held_back (Some span) = refl
 
 -- what the calls need
-pub ruleset calls = (kept, settled_then, settled_not, space_settles, keyword_settles, operator_settles, param_settles, property_settles, line_settles, lit_settles, comment_settles, string_settles, str_settles, symbol_settles, punct_settles, commit_settles, deeper_settles, shallower_settles, semi_ok, semi_err, ending_ok, ending_err, position_passes)
+pub ruleset calls = (kept, settled_then, settled_not, space_settles, keyword_settles, operator_settles, param_settles, property_settles, line_settles, lit_settles, comment_settles, string_settles, str_settles, symbol_settles, punct_settles, commit_settles, deeper_settles, shallower_settles, semi_ok, semi_err, ending_ok, ending_err, position_passes, begin_passes, end_passes, break_passes, break_kept, break_err)

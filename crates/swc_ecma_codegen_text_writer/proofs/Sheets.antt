@@ -1,5 +1,5 @@
 -- What calls do to a sheet, and what they leave alone.
-use Rattle.std.proofs.Common.{◌≡◌, ℕ, ◌+◌, ◌-◌, true, false, List, [], ◌∷◌, ◌++◌, refl, sym, ◌∙◌, ap, append_assoc, append-nil, cond, codes, subst, Option, Some, None, Result, Ok, Err, ◌&&◌, ◌||◌, ◌==◌}
+use Rattle.std.proofs.Common.{◌≡◌, ℕ, ◌+◌, ◌-◌, Bool, true, false, List, [], ◌∷◌, ◌++◌, refl, sym, ◌∙◌, ap, append_assoc, append-nil, cond, codes, subst, Option, Some, None, ◌&&◌, ◌||◌, ◌==◌}
 use Rattle.std.specs.List.{repeat}
 use Rattle.swc_ecma_codegen_common.specs.declared.errors.Refusal.{Refusal}
 use Rattle.swc_ecma_codegen_common.specs.declared.positions.BytePos.{BytePos}
@@ -7,7 +7,7 @@ use Rattle.swc_ecma_codegen_common.specs.declared.positions.Span.{Span}
 use Rattle.swc_ecma_codegen_text_writer.specs.Places.{Place, after_text}
 use Rattle.swc_ecma_codegen_text_writer.proofs.Pairs.{after_both}
 use Rattle.swc_ecma_codegen_text_writer.specs.Told.{IsPrefix}
-use Rattle.swc_ecma_codegen_text_writer.specs.Sheet.{Sheet, Item, Pair, Semi, Space, Keyword, Operator, Param, Property, Line, Lit, Comment, StrLit, Str, Symbol, Punct, Position, Commit, Deeper, Shallower, Semicolons, AtOnce, HoldsNone, HoldsOne, holds_semicolons, has_pair, pair_at, with_pair, recorded, start_recorded, end_recorded, pending_recorded, appended, indented, started, written, literal_written, ended, pointed, settled_by, settled, semicolon_by, dropped, is_ending, before_punct, effect, effects, Refuses, earlier, stopped, Writes}
+use Rattle.swc_ecma_codegen_text_writer.specs.Sheet.{Sheet, Item, Pair, Semi, Space, Keyword, Operator, Param, Property, Line, Lit, Comment, StrLit, Str, Symbol, Punct, Position, Commit, Deeper, Shallower, BeginLines, AllowBreak, EndLines, Semicolons, AtOnce, HoldsNone, HoldsOne, holds_semicolons, Flow, Flowing, Filling, Cutting, Segment, released, noted, notes_released, line_ended, ends_before, segment_released, begun_by, allowed_by, allowed, closed_by, passed_on, allowed_at, appended_by, recorded_by, is_recorded, has_pair, pair_at, with_pair, recorded, start_recorded, end_recorded, pending_recorded, appended, indented, started, written, literal_written, ended, pointed, settled_by, settled, semicolon_by, dropped, is_ending, before_punct, effect, effects, Refuses, earlier, stopped}
 
 -- ---- fronts
 
@@ -32,7 +32,7 @@ pub record Alike (a b : Sheet) : Type 0 where
   pub place : b.place ≡ after_text grows.0 a.place
   pub more_pairs : IsPrefix a.pairs b.pairs
   pub holds : holds_semicolons b.semicolons ≡ holds_semicolons a.semicolons
-  pub same : b ≡ record a { text = b.text; at_line_start = b.at_line_start; indentation = b.indentation; semicolons = b.semicolons; pairs = b.pairs; pending = b.pending; place = b.place }
+  pub same : b ≡ record a { text = b.text; at_line_start = b.at_line_start; indentation = b.indentation; semicolons = b.semicolons; pairs = b.pairs; pending = b.pending; place = b.place; lines = b.lines }
 
 pub alike_refl : (a : Sheet) → Alike a a
 alike_refl a = record { grows = front_refl a.text; place = unfold after_text in refl; more_pairs = front_refl a.pairs; holds = refl; same = refl }
@@ -43,11 +43,11 @@ alike_trans a b c h k = record {
   place = placed_on h.grows.0 k.grows.0 a.place b.place c.place h.place k.place;
   more_pairs = front_trans a.pairs b.pairs c.pairs h.more_pairs k.more_pairs;
   holds = k.holds ∙ h.holds;
-  same = k.same ∙ ap (λ (x : Sheet). record x { text = c.text; at_line_start = c.at_line_start; indentation = c.indentation; semicolons = c.semicolons; pairs = c.pairs; pending = c.pending; place = c.place }) h.same;
+  same = k.same ∙ ap (λ (x : Sheet). record x { text = c.text; at_line_start = c.at_line_start; indentation = c.indentation; semicolons = c.semicolons; pairs = c.pairs; pending = c.pending; place = c.place; lines = c.lines }) h.same;
 }
 
 -- another text, another start, another level and so on, of which only a longer text and more pairs matter
-alike_at : (a b : Sheet) (h : IsPrefix a.text b.text) → b.place ≡ after_text h.0 a.place → IsPrefix a.pairs b.pairs → holds_semicolons b.semicolons ≡ holds_semicolons a.semicolons → b ≡ record a { text = b.text; at_line_start = b.at_line_start; indentation = b.indentation; semicolons = b.semicolons; pairs = b.pairs; pending = b.pending; place = b.place } → Alike a b
+alike_at : (a b : Sheet) (h : IsPrefix a.text b.text) → b.place ≡ after_text h.0 a.place → IsPrefix a.pairs b.pairs → holds_semicolons b.semicolons ≡ holds_semicolons a.semicolons → b ≡ record a { text = b.text; at_line_start = b.at_line_start; indentation = b.indentation; semicolons = b.semicolons; pairs = b.pairs; pending = b.pending; place = b.place; lines = b.lines } → Alike a b
 alike_at a b h p k s e = record { grows = h; place = p; more_pairs = k; holds = s; same = e }
 
 with_pair_grows : (pos : BytePos) (p : Place) (pairs : List Pair) → IsPrefix pairs (with_pair pos p pairs)
@@ -56,11 +56,28 @@ with_pair_grows pos p pairs =
     elim ((pos.0 == 0) || has_pair (pair_at pos p) pairs) as (λ b. IsPrefix pairs (cond b pairs (pairs ++ (pair_at pos p ∷ []))))
     [ true ↦ front_refl pairs | false ↦ front_append pairs (pair_at pos p ∷ []) ]
 
+pub noted_alike : (pos : BytePos) (s : Sheet) → Alike s (noted pos s)
+unfolding noted
+noted_alike pos s = alike_at s (noted pos s) (front_refl s.text) (unfold after_text in refl) (with_pair_grows pos s.place s.pairs) refl refl
+
+pub released_alike : (t : List ℕ) (s : Sheet) → Alike s (released t s)
+unfolding released
+released_alike t s = alike_at s (released t s) (front_append s.text t) refl (front_refl s.pairs) refl refl
+
+-- other lines, of which nothing went out
+pub other_lines : (l : Flow) (s : Sheet) → Alike s (record s { lines = l })
+other_lines l s = alike_at s (record s { lines = l }) (front_refl s.text) (unfold after_text in refl) (front_refl s.pairs) refl refl
+
+recorded_by_alike : (l : Flow) (pos : BytePos) (s : Sheet) → Alike s (recorded_by l pos s)
+unfolding recorded_by
+recorded_by_alike Flowing pos s = noted_alike pos s
+recorded_by_alike (Filling max first held) pos s = other_lines _ s
+recorded_by_alike (Cutting done begun) pos s = alike_trans _ _ _ (noted_alike pos s) (other_lines _ (noted pos s))
+
 pub recorded_alike : (pos : BytePos) (s : Sheet) → Alike s (recorded pos s)
 unfolding recorded
 recorded_alike pos s =
-    elim s.keeps_positions as (λ b. Alike s (cond b (record s { pairs = with_pair pos s.place s.pairs }) s))
-    [ true ↦ alike_at s (record s { pairs = with_pair pos s.place s.pairs }) (front_refl s.text) (unfold after_text in refl) (with_pair_grows pos s.place s.pairs) refl refl | false ↦ alike_refl s ]
+    elim (is_recorded pos s) as (λ b. Alike s (cond b (recorded_by s.lines pos s) s)) [ true ↦ recorded_by_alike s.lines pos s | false ↦ alike_refl s ]
 
 pub start_alike : (span : Option Span) (s : Sheet) → Alike s (start_recorded span s)
 unfolding start_recorded
@@ -80,9 +97,15 @@ unfolding pending_recorded
 pending_alike None s = alike_refl s
 pending_alike (Some pos) s = alike_trans _ _ _ (dropped_pending s) (recorded_alike pos (record s { pending = None }))
 
+appended_by_alike : (l : Flow) (t : List ℕ) (s : Sheet) → Alike s (appended_by l t s)
+unfolding appended_by
+appended_by_alike Flowing t s = released_alike t s
+appended_by_alike (Filling max first held) t s = other_lines _ s
+appended_by_alike (Cutting done begun) t s = alike_trans _ _ _ (released_alike t s) (other_lines _ (released t s))
+
 pub appended_alike : (t : List ℕ) (s : Sheet) → Alike s (appended t s)
 unfolding appended
-appended_alike t s = alike_at s (appended t s) (front_append s.text t) refl (front_refl s.pairs) refl refl
+appended_alike t s = appended_by_alike s.lines t s
 
 pub indented_alike : (n : ℕ) (s : Sheet) → Alike s (indented n s)
 unfolding indented
@@ -92,7 +115,7 @@ in_line : (s : Sheet) → Alike s (record s { at_line_start = false })
 in_line s = alike_at s (record s { at_line_start = false }) (front_refl s.text) (unfold after_text in refl) (front_refl s.pairs) refl refl
 
 -- the sheet at a line's start, with the indentation out
-pub begun : Sheet → Sheet
+unfoldable pub begun : Sheet → Sheet
 begun s = record (indented s.indentation s) { at_line_start = false }
 
 begun_alike : (s : Sheet) → Alike s (begun s)
@@ -138,6 +161,50 @@ pointed_alike pos s =
     elim (s.keeps_positions && s.at_line_start) as (λ b. Alike s (cond b (record s { pending = Some pos }) (recorded pos s)))
     [ true ↦ other_pending pos s | false ↦ recorded_alike pos s ]
 
+-- a segment goes out
+pub notes_alike : (xs : List (List ℕ × BytePos)) (s : Sheet) → Alike s (notes_released xs s)
+unfolding notes_released
+notes_alike [] s = alike_refl s
+notes_alike (x ∷ xs) s = alike_trans _ _ _ (alike_trans _ _ _ (released_alike x.0 s) (noted_alike x.1 (released x.0 s))) (notes_alike xs (noted x.1 (released x.0 s)))
+
+pub line_alike : (b : Bool) (s : Sheet) → Alike s (line_ended b s)
+unfolding line_ended
+line_alike true s = released_alike s.line_end s
+line_alike false s = alike_refl s
+
+pub segment_alike : (max : ℕ) (first : Bool) (g : Segment) (s : Sheet) → Alike s (segment_released max first g s)
+unfolding segment_released
+segment_alike max first g s =
+    let a : Sheet = line_ended (ends_before max first g s) s in
+    alike_trans _ _ _ (line_alike (ends_before max first g s) s) (alike_trans _ _ _ (notes_alike g.noted a) (released_alike g.rest (notes_released g.noted a)))
+
+begun_by_alike : (l : Flow) (max : ℕ) (s : Sheet) → Alike s (begun_by l max s)
+unfolding begun_by
+begun_by_alike Flowing max s = other_lines _ s
+begun_by_alike (Filling old first held) max s = other_lines _ s
+begun_by_alike (Cutting done begun) max s = alike_refl s
+
+pub allowed_by_alike : (l : Flow) (s : Sheet) → Alike s (allowed_by l s)
+unfolding allowed_by
+allowed_by_alike Flowing s = alike_refl s
+allowed_by_alike (Filling max first held) s = alike_trans _ _ _ (segment_alike max first held s) (other_lines _ (segment_released max first held s))
+allowed_by_alike (Cutting done begun) s = other_lines _ s
+
+pub allowed_alike : (s : Sheet) → Alike s (allowed s)
+unfolding allowed
+allowed_alike s = allowed_by_alike s.lines s
+
+closed_by_alike : (l : Flow) (s : Sheet) → Alike s (closed_by l s)
+unfolding closed_by
+closed_by_alike Flowing s = alike_refl s
+closed_by_alike (Filling max first held) s = alike_trans _ _ _ (segment_alike max first held s) (other_lines _ (segment_released max first held s))
+closed_by_alike (Cutting done begun) s = alike_refl s
+
+pub passed_alike : (b : Bool) (s : Sheet) → Alike s (passed_on b s)
+unfolding passed_on
+passed_alike true s = allowed_alike s
+passed_alike false s = alike_refl s
+
 other_semicolon : (x : Semicolons) (s : Sheet) → holds_semicolons x ≡ holds_semicolons s.semicolons → Alike s (record s { semicolons = x })
 other_semicolon x s h = alike_at s (record s { semicolons = x }) (front_refl s.text) (unfold after_text in refl) (front_refl s.pairs) h refl
 
@@ -145,8 +212,9 @@ settled_by_alike : (x : Semicolons) (s : Sheet) → x ≡ s.semicolons → Alike
 unfolding settled_by
 settled_by_alike AtOnce s h = alike_refl s
 settled_by_alike HoldsNone s h = alike_refl s
-settled_by_alike (HoldsOne span) s h =
-    alike_trans _ _ _ (other_semicolon HoldsNone s (ap holds_semicolons h)) (written_alike span (codes ";") (record s { semicolons = HoldsNone }))
+settled_by_alike (HoldsOne span allowed) s h =
+    let w : Sheet = written span (codes ";") (record s { semicolons = HoldsNone }) in
+    alike_trans _ _ _ (alike_trans _ _ _ (other_semicolon HoldsNone s (ap holds_semicolons h)) (written_alike span (codes ";") (record s { semicolons = HoldsNone }))) (passed_alike allowed w)
 
 pub settled_alike : (s : Sheet) → Alike s (settled s)
 settled_alike s = settled_by_alike s.semicolons s refl
@@ -154,14 +222,14 @@ settled_alike s = settled_by_alike s.semicolons s refl
 semicolon_alike : (x : Semicolons) (span : Option Span) (s : Sheet) → x ≡ s.semicolons → Alike s (semicolon_by x span s)
 unfolding semicolon_by
 semicolon_alike AtOnce span s h = written_alike span (codes ";") s
-semicolon_alike HoldsNone span s h = other_semicolon (HoldsOne span) s (ap holds_semicolons h)
-semicolon_alike (HoldsOne held) span s h = other_semicolon (HoldsOne span) s (ap holds_semicolons h)
+semicolon_alike HoldsNone span s h = other_semicolon (HoldsOne span false) s (ap holds_semicolons h)
+semicolon_alike (HoldsOne held allowed) span s h = other_semicolon (HoldsOne span false) s (ap holds_semicolons h)
 
 dropped_holds : (x : Semicolons) → holds_semicolons (dropped x) ≡ holds_semicolons x
 unfolding dropped
 dropped_holds AtOnce = refl
 dropped_holds HoldsNone = refl
-dropped_holds (HoldsOne span) = refl
+dropped_holds (HoldsOne span allowed) = refl
 
 pub before_punct_alike : (t : List ℕ) (s : Sheet) → Alike s (before_punct t s)
 unfolding before_punct
@@ -174,6 +242,12 @@ other_level n s = alike_at s (record s { indentation = n }) (front_refl s.text) 
 
 after_settled : (s t : Sheet) → Alike (settled s) t → Alike s t
 after_settled s t h = alike_trans s (settled s) t (settled_alike s) h
+
+break_alike : (x : Semicolons) (s : Sheet) → x ≡ s.semicolons → Alike s (allowed_at x s)
+unfolding allowed_at
+break_alike AtOnce s h = allowed_alike s
+break_alike HoldsNone s h = allowed_alike s
+break_alike (HoldsOne span kept) s h = other_semicolon (HoldsOne span true) s (ap holds_semicolons h)
 
 pub effect_alike : (x : Item) (s : Sheet) → Alike s (effect x s)
 unfolding effect
@@ -194,6 +268,9 @@ effect_alike (Position pos) s = pointed_alike pos s
 effect_alike Commit s = settled_alike s
 effect_alike Deeper s = after_settled s _ (other_level (s.indentation + 1) (settled s))
 effect_alike Shallower s = after_settled s _ (other_level (s.indentation - 1) (settled s))
+effect_alike (BeginLines max) s = begun_by_alike s.lines max s
+effect_alike AllowBreak s = break_alike s.semicolons s refl
+effect_alike EndLines s = closed_by_alike s.lines s
 
 pub effects_alike : (xs : List Item) (s : Sheet) → Alike s (effects xs s)
 unfolding effects
@@ -254,122 +331,6 @@ effect_grows x s = (effect_alike x s).grows
 pub effects_grow : (xs : List Item) (s : Sheet) → IsPrefix s.text (effects xs s).text
 effects_grow xs s = (effects_alike xs s).grows
 
--- ---- the depth
-
-pub recorded_indentation : (pos : BytePos) (s : Sheet) → (recorded pos s).indentation ≡ s.indentation
-unfolding recorded
-recorded_indentation pos s =
-    elim s.keeps_positions as (λ b. (cond b (record s { pairs = with_pair pos s.place s.pairs }) s).indentation ≡ s.indentation) [ true ↦ refl | false ↦ refl ]
-
-pub start_indentation : (span : Option Span) (s : Sheet) → (start_recorded span s).indentation ≡ s.indentation
-unfolding start_recorded
-start_indentation None s = refl
-start_indentation (Some span) s = recorded_indentation span.lo s
-
-pub end_indentation : (span : Option Span) (s : Sheet) → (end_recorded span s).indentation ≡ s.indentation
-unfolding end_recorded
-end_indentation None s = refl
-end_indentation (Some span) s = recorded_indentation span.hi s
-
-pub pending_indentation : (pos : Option BytePos) (s : Sheet) → (pending_recorded pos s).indentation ≡ s.indentation
-unfolding pending_recorded
-pending_indentation None s = refl
-pending_indentation (Some pos) s = recorded_indentation pos (record s { pending = None })
-
-pub started_indentation : (s : Sheet) → (started s).indentation ≡ s.indentation
-unfolding started indented appended
-started_indentation s =
-    elim s.at_line_start as (λ b. (cond b (pending_recorded s.pending (record (indented s.indentation s) { at_line_start = false })) s).indentation ≡ s.indentation)
-    [ true ↦ pending_indentation s.pending (record (indented s.indentation s) { at_line_start = false }) | false ↦ refl ]
-
-pub written_indentation : (span : Option Span) (t : List ℕ) (s : Sheet) → (written span t s).indentation ≡ s.indentation
-unfolding written appended
-written_indentation span [] s = refl
-written_indentation span (c ∷ cs) s = end_indentation span (appended (c ∷ cs) (start_recorded span (started s))) ∙ start_indentation span (started s) ∙ started_indentation s
-
-pub literal_indentation : (span : Span) (t : List ℕ) (s : Sheet) → (literal_written span t s).indentation ≡ s.indentation
-unfolding literal_written
-literal_indentation span [] s = refl
-literal_indentation span (c ∷ cs) s =
-    recorded_indentation span.hi (written None (c ∷ cs) (recorded span.lo s)) ∙ written_indentation None (c ∷ cs) (recorded span.lo s) ∙ recorded_indentation span.lo s
-
-pub ended_indentation : (s : Sheet) → (ended s).indentation ≡ s.indentation
-unfolding ended appended
-ended_indentation s =
-    elim s.at_line_start as (λ b. (cond b (record s { pending = None }) (record (appended s.line_end s) { at_line_start = true })).indentation ≡ s.indentation)
-    [ true ↦ refl | false ↦ refl ]
-
-pointed_indentation : (pos : BytePos) (s : Sheet) → (pointed pos s).indentation ≡ s.indentation
-unfolding pointed
-pointed_indentation pos s =
-    elim (s.keeps_positions && s.at_line_start) as (λ b. (cond b (record s { pending = Some pos }) (recorded pos s)).indentation ≡ s.indentation)
-    [ true ↦ refl | false ↦ recorded_indentation pos s ]
-
-settled_by_indentation : (x : Semicolons) (s : Sheet) → (settled_by x s).indentation ≡ s.indentation
-unfolding settled_by
-settled_by_indentation AtOnce s = refl
-settled_by_indentation HoldsNone s = refl
-settled_by_indentation (HoldsOne span) s = written_indentation span (codes ";") (record s { semicolons = HoldsNone })
-
-pub settled_indentation : (s : Sheet) → (settled s).indentation ≡ s.indentation
-settled_indentation s = settled_by_indentation s.semicolons s
-
-semicolon_indentation : (x : Semicolons) (span : Option Span) (s : Sheet) → (semicolon_by x span s).indentation ≡ s.indentation
-unfolding semicolon_by
-semicolon_indentation AtOnce span s = written_indentation span (codes ";") s
-semicolon_indentation HoldsNone span s = refl
-semicolon_indentation (HoldsOne held) span s = refl
-
-before_punct_indentation : (t : List ℕ) (s : Sheet) → (before_punct t s).indentation ≡ s.indentation
-unfolding before_punct
-before_punct_indentation t s =
-    elim (is_ending t) as (λ b. (cond b (record s { semicolons = dropped s.semicolons }) (settled s)).indentation ≡ s.indentation)
-    [ true ↦ refl | false ↦ settled_indentation s ]
-
--- the depth after a call
-abbrev pub depth : Item → ℕ → ℕ
-depth Deeper n = n + 1
-depth Shallower n = n - 1
-depth (Semi span) n = n
-depth Space n = n
-depth (Keyword span t) n = n
-depth (Operator span t) n = n
-depth (Param t) n = n
-depth (Property t) n = n
-depth Line n = n
-depth (Lit span t) n = n
-depth (Comment t) n = n
-depth (StrLit span t) n = n
-depth (Str t) n = n
-depth (Symbol span t) n = n
-depth (Punct span t) n = n
-depth (Position pos) n = n
-depth Commit n = n
-
-text_indentation : (span : Option Span) (t : List ℕ) (s : Sheet) → (written span t (settled s)).indentation ≡ s.indentation
-text_indentation span t s = written_indentation span t (settled s) ∙ settled_indentation s
-
--- only `Deeper` and `Shallower` change the depth
-pub effect_indentation : (x : Item) (s : Sheet) → (effect x s).indentation ≡ depth x s.indentation
-unfolding effect
-effect_indentation (Semi span) s = semicolon_indentation s.semicolons span s
-effect_indentation Space s = text_indentation None (codes " ") s
-effect_indentation (Keyword span t) s = text_indentation span t s
-effect_indentation (Operator span t) s = text_indentation span t s
-effect_indentation (Param t) s = text_indentation None t s
-effect_indentation (Property t) s = text_indentation None t s
-effect_indentation Line s = ended_indentation (settled s) ∙ settled_indentation s
-effect_indentation (Lit span t) s = literal_indentation span t (settled s) ∙ settled_indentation s
-effect_indentation (Comment t) s = text_indentation None t s
-effect_indentation (StrLit span t) s = literal_indentation span t (settled s) ∙ settled_indentation s
-effect_indentation (Str t) s = text_indentation None t s
-effect_indentation (Symbol span t) s = text_indentation (Some span) t s
-effect_indentation (Punct span t) s = written_indentation span t (before_punct t s) ∙ before_punct_indentation t s
-effect_indentation (Position pos) s = pointed_indentation pos s
-effect_indentation Commit s = settled_indentation s
-effect_indentation Deeper s = refl
-effect_indentation Shallower s = refl
-
 -- ---- the same, a field at a time
 
 pub effect_whole : (x : Item) (s : Sheet) → (effect x s).whole ≡ s.whole
@@ -420,14 +381,3 @@ refuses_front x e a b (stopped h k m) = m.front
 pub refuses_refused : (x : Item) (e : Refusal) (a b : Sheet) → Refuses x e a b → b.refused ≡ true
 refuses_refused x e a b (earlier h k m) = ap (λ (s : Sheet). s.refused) m ∙ h
 refuses_refused x e a b (stopped h k m) = ap (λ (s : Sheet). s.refused) m.same
-
--- the depth stays
-pub refuses_indentation : (x : Item) (e : Refusal) (a b : Sheet) → Refuses x e a b → b.indentation ≡ a.indentation
-refuses_indentation x e a b (earlier h k m) = ap (λ (s : Sheet). s.indentation) m
-refuses_indentation x e a b (stopped h k m) = ap (λ (s : Sheet). s.indentation) m.same
-
--- a call that is no change of the depth leaves it, refused or not
-pub writes_indentation : (x : Item) (a b : Sheet) (r : Result (Unit {0}) Refusal) → depth x a.indentation ≡ a.indentation → Writes x a b r → b.indentation ≡ a.indentation
-unfolding Writes
-writes_indentation x a b (Ok u) h k = ap (λ (s : Sheet). s.indentation) k.1 ∙ effect_indentation x a ∙ h
-writes_indentation x a b (Err e) h k = refuses_indentation x e a b k

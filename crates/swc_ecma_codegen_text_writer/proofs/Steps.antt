@@ -1,7 +1,8 @@
 -- Sheets on the way to others.
-use Rattle.std.proofs.Common.{◌≡◌, inl, inr, ℕ, ◌+◌, ◌-◌, ◌^◌, ◌<◌, ◌≤◌, Bool, true, false, List, [], ◌∷◌, ◌++◌, length, refl, sym, ◌∙◌, ap, subst, append_assoc, arith, append-nil, codes, zero, suc, Option, Some, None, Result, Ok, Err, cond, ◌&&◌}
+use Rattle.std.proofs.Common.{◌≡◌, inl, inr, ℕ, ◌+◌, ◌-◌, ◌^◌, ◌<◌, ◌≤◌, Bool, true, false, List, [], ◌∷◌, ◌++◌, length, refl, sym, ◌∙◌, ap, subst, append_assoc, arith, append-nil, codes, zero, suc, Option, Some, None, Result, Ok, Err, cond, ◌&&◌, ◌==◌, not, ◌||◌}
 use Rattle.std.specs.List.{repeat}
 use Rattle.std.proofs.lemmas.List.{append_cancel_left}
+use Rattle.std.proofs.lemmas.Bool.{and_right, ne_eqb}
 use Rattle.std.specs.declared.io.traits.Write as io
 use Rattle.swc_ecma_codegen_common.specs.declared.errors.Refusal.{Refusal}
 use Rattle.swc_ecma_codegen_common.specs.declared.errors.Refusal.TheVariants.{Writer, OutOfMemory, UnsupportedNode, BadShape, NameOutOfTarget, PositionTooLarge, Failed}
@@ -13,10 +14,10 @@ use Rattle.swc_ecma_codegen_text_writer.specs.Told.{told, IsPrefix}
 use Rattle.swc_ecma_codegen_text_writer.specs.Sent.{sent}
 use Rattle.swc_ecma_codegen_text_writer.specs.declared.outlet.Outlet.{Outlet}
 use Rattle.swc_ecma_codegen_text_writer.specs.Places.{Place, origin, after_text}
-use Rattle.swc_ecma_codegen_text_writer.specs.Sheet.{Sheet, Pair, with_pair, pointed, Item, Causes, earlier, stopped, Writes, Semicolons, AtOnce, appended, indented, start_recorded, end_recorded, pending_recorded, recorded, started, written, literal_written, ended, settled, settled_by, semicolon_by, dropped, is_ending, before_punct, effect, Deeper}
+use Rattle.swc_ecma_codegen_text_writer.specs.Sheet.{Sheet, Pair, Flow, Flowing, Filling, Cutting, Segment, with_text, with_note, released, noted, appended_by, recorded_by, is_recorded, with_pair, pointed, Item, Causes, earlier, stopped, Writes, Semicolons, AtOnce, appended, indented, start_recorded, end_recorded, pending_recorded, recorded, started, written, literal_written, ended, settled, settled_by, semicolon_by, dropped, is_ending, before_punct, effect, Deeper, fills_lines, may_take_memory}
 use Rattle.swc_ecma_codegen_text_writer.specs.View.{HasReason, Halted, Reaches, Prefaces}
-use Rattle.swc_ecma_codegen_text_writer.proofs.Recording.{records_none}
-use Rattle.swc_ecma_codegen_text_writer.proofs.Sheets.{Alike, placed_on, alike_refl, alike_trans, start_alike, end_alike, pending_alike, appended_alike, indented_alike, front_refl, front_append, front_trans}
+use Rattle.swc_ecma_codegen_text_writer.proofs.Sheets.{Alike, placed_on, alike_refl, alike_trans, start_alike, end_alike, pending_alike, appended_alike, indented_alike, front_refl, front_trans}
+use Rattle.swc_ecma_codegen_text_writer.proofs.Stays.{Stays, stays_refl, indented_stays}
 
 -- ---- copies
 
@@ -43,13 +44,65 @@ after_append (c ∷ cs) u p = after_append cs u _
 
 -- ---- indentation
 
+released_twice : (t u : List ℕ) (s : Sheet) → released u (released t s) ≡ released (t ++ u) s
+unfolding released
+released_twice t u s = λ i. record s { text = append_assoc s.text t u i; place = sym (after_append t u s.place) i }
+
+released_none : (s : Sheet) → s ≡ released [] s
+unfolding released after_text
+released_none s = ap (λ t. record s { text = t }) (sym (append-nil s.text))
+
+text_twice : (t u : List ℕ) (g : Segment) → with_text u (with_text t g) ≡ with_text (t ++ u) g
+text_twice t u g = ap (λ z. record { noted = g.noted; rest = z }) (append_assoc g.rest t u)
+
+text_none : (g : Segment) → g ≡ with_text [] g
+text_none g = ap (λ z. record { noted = g.noted; rest = z }) (sym (append-nil g.rest))
+
+-- by what lines are made
+lines_as : (s : Sheet) (l : Flow) → s.lines ≡ l → record s { lines = l } ≡ s
+lines_as s l h = ap (λ z. record s { lines = z }) (sym h)
+
+twice_by : (l : Flow) (t u : List ℕ) (s : Sheet) → l ≡ s.lines → appended u (appended_by l t s) ≡ appended_by l (t ++ u) s
+unfolding appended appended_by released
+twice_by Flowing t u s h = ap (λ l. appended_by l u (released t s)) (sym h) ∙ released_twice t u s
+twice_by (Filling max first g) t u s h = ap (λ (z : Segment). record s { lines = Filling max first z }) (text_twice t u g)
+twice_by (Cutting done begun) t u s h =
+    ap (λ (z : Sheet). record z { lines = Cutting done (with_text u (with_text t begun)) }) (released_twice t u s)
+    ∙ ap (λ (z : Segment). record (released (t ++ u) s) { lines = Cutting done z }) (text_twice t u begun)
+
 pub appended_twice : (t u : List ℕ) (s : Sheet) → appended u (appended t s) ≡ appended (t ++ u) s
-unfolding appended
-appended_twice t u s = λ i. record s { text = append_assoc s.text t u i; place = sym (after_append t u s.place) i }
+appended_twice t u s = unfold appended in twice_by s.lines t u s refl
+
+none_by : (l : Flow) (s : Sheet) → l ≡ s.lines → s ≡ appended_by l [] s
+unfolding appended_by
+none_by Flowing s h = released_none s
+none_by (Filling max first g) s h = sym (lines_as s _ (sym h)) ∙ ap (λ (z : Segment). record s { lines = Filling max first z }) (text_none g)
+none_by (Cutting done begun) s h =
+    sym (lines_as s _ (sym h))
+    ∙ (ap (λ (z : Sheet). record z { lines = Cutting done begun }) (released_none s)
+    ∙ ap (λ (z : Segment). record (released [] s) { lines = Cutting done z }) (text_none begun))
 
 pub appended_none : (s : Sheet) → s ≡ appended [] s
-unfolding appended after_text
-appended_none s = ap (λ t. record s { text = t }) (sym (append-nil s.text))
+unfolding appended
+appended_none s = none_by s.lines s refl
+
+-- where no lines are filled or cut
+pub appended_flowing : (t : List ℕ) (s : Sheet) → s.lines ≡ Flowing → appended t s ≡ released t s
+unfolding appended appended_by
+appended_flowing t s h = ap (λ l. appended_by l t s) h
+
+pub recorded_flowing : (pos : BytePos) (s : Sheet) → is_recorded pos s ≡ true → s.lines ≡ Flowing → recorded pos s ≡ noted pos s
+unfolding recorded recorded_by
+recorded_flowing pos s k h = ap (λ b. cond b (recorded_by s.lines pos s) s) k ∙ ap (λ l. recorded_by l pos s) h
+
+-- where they are filled
+pub appended_filling : (t : List ℕ) (s : Sheet) (max : ℕ) (first : Bool) (g : Segment) → s.lines ≡ Filling max first g → appended t s ≡ record s { lines = Filling max first (with_text t g) }
+unfolding appended appended_by
+appended_filling t s max first g h = ap (λ l. appended_by l t s) h
+
+pub recorded_filling : (pos : BytePos) (s : Sheet) (max : ℕ) (first : Bool) (g : Segment) → is_recorded pos s ≡ true → s.lines ≡ Filling max first g → recorded pos s ≡ record s { lines = Filling max first (with_note pos g) }
+unfolding recorded recorded_by
+recorded_filling pos s max first g k h = ap (λ b. cond b (recorded_by s.lines pos s) s) k ∙ ap (λ l. recorded_by l pos s) h
 
 pub indented_zero : (s : Sheet) → s ≡ indented 0 s
 unfolding indented
@@ -69,29 +122,32 @@ indented_on n m s h =
 
 -- ---- ways
 
-reason_alike : (e : Refusal) (a b c : Sheet) → Alike a b → HasReason e b c → HasReason e a c
+same_memory : (a b : Sheet) → b.takes_memory ≡ a.takes_memory → fills_lines b.lines ≡ fills_lines a.lines → may_take_memory b ≡ may_take_memory a
+same_memory a b h k = λ i. h i || k i
+
+reason_alike : (e : Refusal) (a b c : Sheet) → Alike a b → Stays a b → HasReason e b c → HasReason e a c
 unfolding HasReason
-reason_alike Writer a b c h k = let q : b.faults ≡ a.faults = ap (λ (x : Sheet). x.faults) h.same in rw (sym q) k
-reason_alike OutOfMemory a b c h k = sym (ap (λ (x : Sheet). x.takes_memory) h.same) ∙ k
-reason_alike UnsupportedNode a b c h k = k
-reason_alike BadShape a b c h k = k
-reason_alike NameOutOfTarget a b c h k = k
-reason_alike PositionTooLarge a b c h k = (sym (ap (λ (x : Sheet). x.keeps_positions) h.same) ∙ k.0, k.1)
-reason_alike Failed a b c h k = k
+reason_alike Writer a b c h f k = let q : b.faults ≡ a.faults = ap (λ (x : Sheet). x.faults) h.same in rw (sym q) k
+reason_alike OutOfMemory a b c h f k = sym (same_memory a b (ap (λ (x : Sheet). x.takes_memory) h.same) f.fills) ∙ k
+reason_alike UnsupportedNode a b c h f k = k
+reason_alike BadShape a b c h f k = k
+reason_alike NameOutOfTarget a b c h f k = k
+reason_alike PositionTooLarge a b c h f k = (sym (ap (λ (x : Sheet). x.keeps_positions) h.same) ∙ k.0, k.1)
+reason_alike Failed a b c h f k = k
 
 -- what was refused on a part of the way was on the way
-pub halted_on : (e : Refusal) (goal next a b c : Sheet) → Alike a b → b.indentation ≡ a.indentation → Alike next goal → Halted e next b c → Halted e goal a c
+pub halted_on : (e : Refusal) (goal next a b c : Sheet) → Alike a b → Stays a b → Alike next goal → Halted e next b c → Halted e goal a c
 halted_on e goal next a b c h l k s =
-    let same_level : b ≡ record a { text = b.text; at_line_start = b.at_line_start; semicolons = b.semicolons; pairs = b.pairs; pending = b.pending; place = b.place } =
-    h.same ∙ ap (λ n. record a { text = b.text; at_line_start = b.at_line_start; indentation = n; semicolons = b.semicolons; pairs = b.pairs; pending = b.pending; place = b.place }) l in
+    let same_level : b ≡ record a { text = b.text; at_line_start = b.at_line_start; semicolons = b.semicolons; pairs = b.pairs; pending = b.pending; place = b.place; lines = b.lines } =
+    h.same ∙ ap (λ n. record a { text = b.text; at_line_start = b.at_line_start; indentation = n; semicolons = b.semicolons; pairs = b.pairs; pending = b.pending; place = b.place; lines = b.lines }) l.indentation in
     record {
-      reason = reason_alike e a b c h s.reason;
+      reason = reason_alike e a b c h l s.reason;
       grows = front_trans a.text b.text c.text h.grows s.grows;
       front = front_trans c.text next.text goal.text s.front k.grows;
       place = placed_on h.grows.0 s.grows.0 a.place b.place c.place h.place s.place;
       more_pairs = front_trans a.pairs b.pairs c.pairs h.more_pairs s.more_pairs;
       front_pairs = front_trans c.pairs next.pairs goal.pairs s.front_pairs k.more_pairs;
-      same = s.same ∙ ap (λ (x : Sheet). record x { text = c.text; whole = c.whole; at_line_start = c.at_line_start; semicolons = c.semicolons; pairs = c.pairs; pending = c.pending; place = c.place; faults = c.faults; refused = true }) same_level;
+      same = s.same ∙ ap (λ (x : Sheet). record x { text = c.text; whole = c.whole; at_line_start = c.at_line_start; semicolons = c.semicolons; pairs = c.pairs; pending = c.pending; place = c.place; lines = c.lines; faults = c.faults; refused = true }) same_level;
     }
 
 -- where a way that came to its end has led
@@ -105,26 +161,26 @@ reaches_to goal to a b r e h = subst (λ (z : Sheet). Reaches z a b r) e h
 
 -- the first part of a way was refused
 pub first_halted : (e : Refusal) (goal next a c : Sheet) → Alike next goal → Halted e next a c → Halted e goal a c
-first_halted e goal next a c k s = halted_on e goal next a a c (alike_refl a) refl k s
+first_halted e goal next a c k s = halted_on e goal next a a c (alike_refl a) (stays_refl a) k s
 
 -- the second part of a way, from where the first has led
-pub reaches_on : (goal a b c : Sheet) (r : Result (Unit {0}) Refusal) → Alike a b → b.indentation ≡ a.indentation → Reaches goal b c r → Reaches goal a c r
+pub reaches_on : (goal a b c : Sheet) (r : Result (Unit {0}) Refusal) → Alike a b → Stays a b → Reaches goal b c r → Reaches goal a c r
 unfolding Reaches
 reaches_on goal a b c (Ok u) h l k = k
 reaches_on goal a b c (Err e) h l k = halted_on e goal goal a b c h l (alike_refl goal) k
 
 -- two parts of a way
-pub reaches_then : (goal a b c next : Sheet) (r : Result (Unit {0}) Refusal) → b ≡ next → Alike a next → next.indentation ≡ a.indentation → (b ≡ next → Reaches goal b c r) → Reaches goal a c r
+pub reaches_then : (goal a b c next : Sheet) (r : Result (Unit {0}) Refusal) → b ≡ next → Alike a next → Stays a next → (b ≡ next → Reaches goal b c r) → Reaches goal a c r
 reaches_then goal a b c next r e h l k =
-    reaches_on goal a b c r (subst (λ (z : Sheet). Alike a z) (sym e) h) (ap (λ (z : Sheet). z.indentation) e ∙ l) (k e)
+    reaches_on goal a b c r (subst (λ (z : Sheet). Alike a z) (sym e) h) (subst (λ (z : Sheet). Stays a z) (sym e) l) (k e)
 
 -- one copy of the indentation failed
 pub indent_halted : (e : Refusal) (n m : ℕ) (a c : Sheet) → n < m → Halted e (appended a.indent_text (indented n a)) (indented n a) c → Halted e (indented m a) a c
-unfolding indented appended
+unfolding indented
 indent_halted e n m a c h s =
     let f : Alike (appended a.indent_text (indented n a)) (indented m a) =
     subst (λ (z : Sheet). Alike z (indented m a)) (sym (indented_more n a)) (indented_on (n + 1) m a (omega (arith, h))) in
-    halted_on e (indented m a) (appended a.indent_text (indented n a)) a (indented n a) c (indented_alike n a) refl f s
+    halted_on e (indented m a) (appended a.indent_text (indented n a)) a (indented n a) c (indented_alike n a) (indented_stays n a) f s
 
 -- the sheet at the start of a line's text
 abbrev pub begun_sheet : Sheet → Sheet
@@ -138,16 +194,30 @@ pub started_false : (s : Sheet) → s.at_line_start ≡ false → started s ≡ 
 unfolding started
 started_false s h = ap (λ b. cond b (pending_recorded s.pending (record (indented s.indentation s) { at_line_start = false })) s) h
 
+line_begun : (s : Sheet) → Alike s (record s { at_line_start = false })
+line_begun s = record { grows = front_refl s.text; place = unfold after_text in refl; more_pairs = front_refl s.pairs; holds = refl; same = refl }
+
 pub begun_sheet_alike : (s : Sheet) → Alike s (begun_sheet s)
+begun_sheet_alike s = alike_trans _ _ _ (indented_alike s.indentation s) (line_begun (indented s.indentation s))
+
+appended_by_pending : (l : Flow) (t : List ℕ) (s : Sheet) → (appended_by l t s).pending ≡ s.pending
+unfolding appended_by released
+appended_by_pending Flowing t s = refl
+appended_by_pending (Filling max first held) t s = refl
+appended_by_pending (Cutting done begun) t s = refl
+
+pub begun_sheet_pending : (s : Sheet) → (begun_sheet s).pending ≡ s.pending
 unfolding indented appended
-begun_sheet_alike s = record { grows = front_append s.text (repeat s.indentation s.indent_text); place = refl; more_pairs = front_refl s.pairs; holds = refl; same = refl }
+begun_sheet_pending s = appended_by_pending s.lines (repeat s.indentation s.indent_text) s
+
+pub begun_sheet_stays : (s : Sheet) → Stays s (begun_sheet s)
+begun_sheet_stays s = let h = indented_stays s.indentation s in record { indentation = h.indentation; fills = h.fills }
 
 -- from the indentation to the line's start
 pub begun_on : (s : Sheet) → s.at_line_start ≡ true → Alike (indented s.indentation s) (started s)
-unfolding indented appended
 begun_on s h =
     let there : Sheet = indented s.indentation s in
-    let f : Alike there (begun_sheet s) = record { grows = front_refl there.text; place = unfold after_text in refl; more_pairs = front_refl there.pairs; holds = refl; same = refl } in
+    let f : Alike there (begun_sheet s) = line_begun there in
     subst (λ (z : Sheet). Alike there z) (sym (started_true s h)) (alike_trans there (begun_sheet s) (pending_recorded s.pending (begun_sheet s)) f (pending_alike s.pending (begun_sheet s)))
 
 -- nothing comes of an empty text
@@ -166,15 +236,10 @@ pub written_in_line : (t : List ℕ) (s : Sheet) → 0 < length t → s.at_line_
 unfolding start_recorded end_recorded
 written_in_line t s h k = ap (appended t) (sym (started_false s k)) ∙ written_some None t s h
 
-same_case : (b : Bool) (s : Sheet) → cond b s s ≡ s
-same_case true s = refl
-same_case false s = refl
-
 -- position 0 is never recorded
-recorded_none : (pos : BytePos) (s : Sheet) → pos.0 ≡ 0 → recorded pos s ≡ s
-unfolding recorded Records
-recorded_none pos s h =
-    ap (λ (z : List Pair). cond s.keeps_positions (record s { pairs = z }) s) (sym (records_none pos s.place s.pairs h)) ∙ same_case s.keeps_positions s
+pub recorded_none : (pos : BytePos) (s : Sheet) → pos.0 ≡ 0 → recorded pos s ≡ s
+unfolding recorded
+recorded_none pos s h = ap (λ n. cond (s.keeps_positions && not (n == 0)) (recorded_by s.lines pos s) s) h ∙ ap (λ b. cond b (recorded_by s.lines pos s) s) (and_right s.keeps_positions false refl)
 
 -- so nothing of a span that stands nowhere
 pub written_nowhere : (span : Span) (t : List ℕ) (s : Sheet) → span.lo.0 ≡ 0 → span.hi.0 ≡ 0 → written (Some span) t s ≡ written None t s
@@ -199,14 +264,14 @@ literal_some span [] s h = absurd (omega (arith, h))
 literal_some span (c ∷ cs) s h = refl
 
 -- no position is recorded where none are kept
-recorded_bare : (pos : BytePos) (s : Sheet) → s.keeps_positions ≡ false → recorded pos s ≡ s
+pub recorded_bare : (pos : BytePos) (s : Sheet) → s.keeps_positions ≡ false → recorded pos s ≡ s
 unfolding recorded
-recorded_bare pos s h = ap (λ b. cond b (record s { pairs = with_pair pos s.place s.pairs }) s) h
+recorded_bare pos s h = ap (λ b. cond (b && not (pos.0 == 0)) (recorded_by s.lines pos s) s) h
 
 -- so in a line a literal is written as it is
 pub literal_in_line : (span : Span) (t : List ℕ) (s : Sheet) → 0 < length t → s.at_line_start ≡ false → s.keeps_positions ≡ false → appended t s ≡ literal_written span t s
 literal_in_line span t s h k b =
-    let bare : (appended t s).keeps_positions ≡ false = unfold appended in b in
+    let bare : (appended t s).keeps_positions ≡ false = ap (λ (x : Sheet). x.keeps_positions) (appended_alike t s).same ∙ b in
     sym (recorded_bare span.hi (appended t s) bare)
     ∙ ap (recorded span.hi) (written_in_line t s h k ∙ ap (written None t) (sym (recorded_bare span.lo s b)))
     ∙ literal_some span t s h
@@ -227,15 +292,15 @@ place_since {g = g} old new b h =
 pub outlet_same : (s : Sheet) (x : List ℕ) (b : Bool) (p : Place) (n : ℕ) → x ≡ s.text → b ≡ s.whole → p ≡ s.place → n ≡ s.faults → record s { text = x; whole = b; place = p; faults = n } ≡ s
 outlet_same s x b p n h k l m = λ i. record s { text = h i; whole = k i; place = l i; faults = m i }
 
--- the sheet after a text that went out, by its parts
+-- the place where nothing went out
 pub new_place : (bytes : List ℕ) → bytes ≡ [] → after_text bytes origin ≡ origin
 unfolding after_text
 new_place bytes h = ap (λ z. after_text z origin) h
 
 pub sent_sheet : (t : List ℕ) (s : Sheet) (x : List ℕ) (b : Bool) (n : ℕ) (p : Place) (keeps memory : Bool) (pairs : List Pair) (pending : Option BytePos)
     → x ≡ s.text ++ t → b ≡ s.whole → n ≡ s.faults → p ≡ after_text t s.place → keeps ≡ s.keeps_positions → memory ≡ s.takes_memory → pairs ≡ s.pairs → pending ≡ s.pending
-    → record s { text = x; whole = b; faults = n; place = p; keeps_positions = keeps; takes_memory = memory; pairs = pairs; pending = pending } ≡ appended t s
-unfolding appended
+    → record s { text = x; whole = b; faults = n; place = p; keeps_positions = keeps; takes_memory = memory; pairs = pairs; pending = pending } ≡ released t s
+unfolding released
 sent_sheet t s x b n p keeps memory pairs pending h k m q e f g l =
     λ i. record s { text = h i; whole = k i; faults = m i; place = q i; keeps_positions = e i; takes_memory = f i; pairs = g i; pending = l i }
 
@@ -246,18 +311,13 @@ unfolding RecordsIn Records
 records_ok pos p true old new u h = h
 records_ok pos p false old new u h = h
 
-recorded_case : (b : Bool) (pos : BytePos) (s : Sheet) → record s { pairs = cond b (with_pair pos s.place s.pairs) s.pairs } ≡ cond b (record s { pairs = with_pair pos s.place s.pairs }) s
-recorded_case true pos s = refl
-recorded_case false pos s = refl
-
 -- the sheet after a position that was recorded, by its parts
 pub recorded_sheet : (pos : BytePos) (s : Sheet) (new : List Pair) (u : Unit {0}) (keeps memory : Bool) (pending : Option BytePos)
-    → RecordsIn pos s.place s.keeps_positions s.pairs new (Ok u) → keeps ≡ s.keeps_positions → memory ≡ s.takes_memory → pending ≡ s.pending
-    → record s { keeps_positions = keeps; takes_memory = memory; pairs = new; pending = pending } ≡ recorded pos s
-unfolding recorded
-recorded_sheet pos s new u keeps memory pending h k m l =
-    (λ i. record s { keeps_positions = k i; takes_memory = m i; pairs = records_ok pos s.place s.keeps_positions s.pairs new u h i; pending = l i })
-    ∙ recorded_case s.keeps_positions pos s
+    → RecordsIn pos s.place s.keeps_positions s.pairs new (Ok u) → s.keeps_positions ≡ true → keeps ≡ s.keeps_positions → memory ≡ s.takes_memory → pending ≡ s.pending
+    → record s { keeps_positions = keeps; takes_memory = memory; pairs = new; pending = pending } ≡ noted pos s
+unfolding noted
+recorded_sheet pos s new u keeps memory pending h t k m l =
+    λ i. record s { keeps_positions = k i; takes_memory = m i; pairs = (records_ok pos s.place s.keeps_positions s.pairs new u h ∙ ap (λ b. cond b (with_pair pos s.place s.pairs) s.pairs) t) i; pending = l i }
 
 -- a refused position leaves the pairs
 pub refused_pairs : (pos : BytePos) (p : Place) (keeps : Bool) (old new : List Pair) (e : Refusal) → RecordsIn pos p keeps old new (Err e) → new ≡ old
@@ -275,7 +335,7 @@ refused_pairs pos p false old new e h = absurd h
 pub refused_reason : (pos : BytePos) (keeps : Bool) (old new : List Pair) (e : Refusal) (s c : Sheet) → RecordsIn pos c.place keeps old new (Err e) → keeps ≡ s.keeps_positions → keeps ≡ s.takes_memory → HasReason e s c
 unfolding RecordsIn Records HasReason
 refused_reason pos true old new Writer s c h k m = absurd h
-refused_reason pos true old new OutOfMemory s c h k m = sym m
+refused_reason pos true old new OutOfMemory s c h k m = ap (λ z. z || fills_lines s.lines) (sym m)
 refused_reason pos true old new UnsupportedNode s c h k m = absurd h
 refused_reason pos true old new BadShape s c h k m = absurd h
 refused_reason pos true old new NameOutOfTarget s c h k m = absurd h
@@ -283,10 +343,10 @@ refused_reason pos true old new PositionTooLarge s c h k m = (sym k, h.0)
 refused_reason pos true old new Failed s c h k m = absurd h
 refused_reason pos false old new e s c h k m = absurd h
 
--- something was refused, and the sheet is marked
-pub refused_here : (e : Refusal) (goal s c : Sheet) → c ≡ record s { refused = true } → Alike s goal → HasReason e s c → Halted e goal s c
-refused_here e goal s c h k r =
-    let P : Sheet → Type 0 = λ z. z ≡ record s { text = z.text; whole = z.whole; at_line_start = z.at_line_start; semicolons = z.semicolons; pairs = z.pairs; pending = z.pending; place = z.place; faults = z.faults; refused = true } in
+-- something was refused, and the sheet is marked; what is held isn't told
+pub refused_here : (e : Refusal) (goal s c : Sheet) (l : Flow) → c ≡ record s { lines = l; refused = true } → Alike s goal → HasReason e s c → Halted e goal s c
+refused_here e goal s c l h k r =
+    let P : Sheet → Type 0 = λ z. z ≡ record s { text = z.text; whole = z.whole; at_line_start = z.at_line_start; semicolons = z.semicolons; pairs = z.pairs; pending = z.pending; place = z.place; lines = z.lines; faults = z.faults; refused = true } in
     let T : Sheet → Type 0 = λ z. IsPrefix z.text goal.text in
     let Q : Sheet → Type 0 = λ z. IsPrefix z.pairs goal.pairs in
     let V : Sheet → Type 0 = λ z. IsPrefix s.pairs z.pairs in
@@ -417,7 +477,7 @@ deeper_refused a c o r h k =
     let e : c.text ≡ a.text = ap (λ (s : Sheet). s.text) k in
     let q : c.pairs ≡ a.pairs = ap (λ (s : Sheet). s.pairs) k in
     let z : settled a ≡ a = settled_at_once a o in
-    let P : Sheet → Type 0 = λ (s : Sheet). s ≡ record a { text = s.text; whole = s.whole; at_line_start = s.at_line_start; semicolons = s.semicolons; pairs = s.pairs; pending = s.pending; place = s.place; faults = s.faults; refused = true } in
+    let P : Sheet → Type 0 = λ (s : Sheet). s ≡ record a { text = s.text; whole = s.whole; at_line_start = s.at_line_start; semicolons = s.semicolons; pairs = s.pairs; pending = s.pending; place = s.place; lines = s.lines; faults = s.faults; refused = true } in
     stopped r (inl (refl, h)) (record {
       grows = ([], e ∙ sym (append-nil a.text));
       place = unfold after_text in ap (λ (s : Sheet). s.place) k;
@@ -435,6 +495,9 @@ none_pending s h = ap (λ (z : Option BytePos). record s { pending = z }) (sym h
 pub some_pending : (pos : BytePos) (s : Sheet) → s.pending ≡ Some pos → recorded pos (record s { pending = None }) ≡ pending_recorded s.pending s
 unfolding pending_recorded
 some_pending pos s h = sym (ap (λ (z : Option BytePos). pending_recorded z s) h)
+
+pub not_zero : (n : ℕ) → (n ≡ 0 → ⊥) → not (n == 0) ≡ true
+not_zero n h = ap not (ne_eqb n 0 h)
 
 pub both_true : (a b : Bool) → a ≡ true → b ≡ true → (a && b) ≡ true
 both_true a b h k = λ i. h i && k i

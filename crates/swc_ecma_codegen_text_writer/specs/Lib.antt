@@ -1,10 +1,15 @@
 pub mod PendingSemi
+pub mod Held
 pub mod Kept
 pub mod Characters
+pub mod Filling
+pub mod Marks
+pub mod Notes
 pub mod Places
 pub mod Positions
 pub mod Reach
 pub mod Recorded
+pub mod Runs
 pub mod Sent
 pub mod Sheet
 pub mod Told

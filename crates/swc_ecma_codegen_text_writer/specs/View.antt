@@ -10,7 +10,8 @@ use Rattle.swc_ecma_codegen_text_writer.specs.Sent.{sent}
 use Rattle.swc_ecma_codegen_common.specs.declared.positions.BytePos.{BytePos}
 use Rattle.swc_ecma_codegen_common.specs.declared.positions.Span.{Span}
 use Rattle.swc_ecma_codegen_text_writer.specs.Places.{origin, after_text}
-use Rattle.swc_ecma_codegen_text_writer.specs.Sheet.{Sheet, Pair, Item, AtOnce, IsFar, Writes, appended, effect, written, literal_written, ended, pointed}
+use Rattle.swc_ecma_codegen_text_writer.specs.Sheet.{Sheet, Pair, Item, AtOnce, Flowing, may_take_memory, IsFar, Writes, appended, effect, written, literal_written, ended, pointed}
+use Rattle.swc_ecma_codegen_text_writer.specs.Held.{flow_of}
 use Rattle.swc_ecma_codegen_text_writer.specs.declared.basic_impl.Lines.{Lines}
 
 -- The sheet of a new `JsWriter` without positions, over a writer that tells some bytes.
@@ -28,6 +29,7 @@ new_sheet bytes line_end =
       pairs = [];
       pending = None;
       place = origin;
+      lines = Flowing;
       faults = 0;
       refused = false;
       takes_memory = false;
@@ -53,6 +55,7 @@ sheet_of {k = k} w =
       pairs = k.pairs w.kept;
       pending = k.pending w.kept;
       place = after_text w.outlet.log.bytes origin;
+      lines = flow_of w.held;
       faults = w.outlet.faults;
       refused = w.failed;
       takes_memory = k.keeps w.kept;
@@ -63,17 +66,17 @@ sheet_of {k = k} w =
 abbrev pub Tells : {W : Type 0} {g : io.Ghosts W} {K : Type 0} {k : kept.Ghosts K} → Lines W K g k → Type 0
 Tells {g = g} w = IsSome (g.contents w.outlet.before.value)
 
--- the cause of an error on the way: a fault of the writer under it that was counted, or of the list of positions
+-- the cause of an error on the way: a fault of the writer under it that was counted, or of the list of positions, or memory for what is held
 unfoldable pub HasReason : Refusal → Sheet → Sheet → Type 0
 HasReason Writer old new = Rises old.faults new.faults
-HasReason OutOfMemory old new = old.takes_memory ≡ true
+HasReason OutOfMemory old new = may_take_memory old ≡ true
 HasReason UnsupportedNode old new = ⊥
 HasReason BadShape old new = ⊥
 HasReason NameOutOfTarget old new = ⊥
 HasReason PositionTooLarge old new = (old.keeps_positions ≡ true) × IsFar new.place
 HasReason Failed old new = ⊥
 
--- On the way to a sheet something was refused: a beginning of its text is out, with the place behind it, and of its pairs recorded.
+-- On the way to a sheet something was refused: a beginning of its text is out, with the place behind it, and of its pairs recorded. What is then held of a segment isn't told.
 pub record Halted (e : Refusal) (goal old new : Sheet) : Type 0 where
   pub reason : HasReason e old new
   pub grows : IsPrefix old.text new.text
@@ -81,7 +84,7 @@ pub record Halted (e : Refusal) (goal old new : Sheet) : Type 0 where
   pub place : new.place ≡ after_text grows.0 old.place
   pub more_pairs : IsPrefix old.pairs new.pairs
   pub front_pairs : IsPrefix new.pairs goal.pairs
-  pub same : new ≡ record old { text = new.text; whole = new.whole; at_line_start = new.at_line_start; semicolons = new.semicolons; pairs = new.pairs; pending = new.pending; place = new.place; faults = new.faults; refused = true }
+  pub same : new ≡ record old { text = new.text; whole = new.whole; at_line_start = new.at_line_start; semicolons = new.semicolons; pairs = new.pairs; pending = new.pending; place = new.place; lines = new.lines; faults = new.faults; refused = true }
 
 -- a way to a sheet, which ends there or where something was refused
 unfoldable pub Reaches : Sheet → Sheet → Sheet → Result (Unit {0}) Refusal → Type 0

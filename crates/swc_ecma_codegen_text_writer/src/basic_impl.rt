@@ -1,28 +1,26 @@
 //! The writer over an `io::Write`.
 
-ghost use Rattle.std.specs.Prelude.{◌≡◌, false, true, IfSome, codes};
+ghost use Rattle.std.specs.Prelude.{◌≡◌, false, true, length, IfSome, None, codes};
 ghost use Rattle.std.specs.List.{repeat};
 ghost use Rattle.std.proofs.Props.{props};
 ghost use Rattle.swc_ecma_codegen_text_writer.specs.Places.{origin, after_text};
+ghost use Rattle.swc_ecma_codegen_text_writer.specs.Reach.{Shows};
 ghost use Rattle.swc_ecma_codegen_text_writer.specs.Kept.{IsCounted};
+ghost use Rattle.swc_ecma_codegen_text_writer.specs.Held.{notes_in};
 
 mod calls;
+mod lengths;
+mod texts;
 
+use crate::held::Held;
 use crate::kept::{KeepsPositions, Kept, OwnedPositions};
 use crate::outlet::Outlet;
+use crate::positions::Reached;
 use std::alloc::Global;
 use std::io::Write;
 use swc_ecma_codegen_common::{Answer, BytePos, Error, LineCol, Refusal, Result, Span};
 
 const DEFAULT_INDENT: &str = "    ";
-
-/// Whether nothing of a span is recorded, as of one that stands nowhere: position 0 never is.
-#[inline(always)]
-fn is_nowhere(span: Span) -> bool
-    ensures { result ≡ true → (span.lo.0 ≡ 0) × (span.hi.0 ≡ 0) }
-{
-    span.lo.0 == 0 && span.hi.0 == 0
-}
 
 /// What some levels of the usual indentation write, up to eight of them.
 fn blanks(levels: u32) -> Option<&'static str>
@@ -54,14 +52,23 @@ pub struct Lines<'a, W: Write, K: KeepsPositions> {
     indent: u32,
     line_start: bool,
     failed: bool,
-    // A text is only sent: nothing was refused, no line starts, and no positions are kept.
+    // A text is only sent: nothing was refused, no line starts, no positions are kept, and no lines are filled.
     plain: bool,
     kept: K,
+    // Where all that went out ends, for lines that are filled.
+    reached: Reached,
+    // While lines are filled, what was written since the last allowed break.
+    held: Option<Held>,
     ghost usual: { usual_indent ≡ true → indent_str.now ≡ codes "    " } by { Prim.hlevel props },
     ghost plain_fresh: { plain ≡ true → failed ≡ false } by { Prim.hlevel props },
     ghost plain_in_line: { plain ≡ true → line_start ≡ false } by { Prim.hlevel props },
     ghost plain_bare: { plain ≡ true → K.keeps kept ≡ false } by { Prim.hlevel props },
-    ghost counted: { failed ≡ false → IsCounted (K.keeps kept) (K.reached kept) (after_text outlet.log.bytes origin) } by { Prim.hlevel props },
+    ghost plain_flowing: { plain ≡ true → held ≡ None } by { Prim.hlevel props },
+    ghost held_bare: { K.keeps kept ≡ false → length (notes_in held) ≡ 0 } by { Prim.hlevel props },
+    ghost shown: { failed ≡ false →
+        Shows reached (after_text outlet.log.bytes origin) } by { Prim.hlevel props },
+    ghost counted: { failed ≡ false → IsCounted (K.keeps kept) (K.reached kept)
+        (after_text outlet.log.bytes origin) } by { Prim.hlevel props },
 }
 
 /// Writes lines with their indentation: at a line's start a text that isn't empty has the indentation first, and a
@@ -74,8 +81,8 @@ pub struct Lines<'a, W: Write, K: KeepsPositions> {
 /// what stands there has in all that this writer wrote. Lines end with LF, CR, or CR and LF, and columns are UTF-16
 /// units. Position 0 is never recorded, nor a pair that stands in the list already.
 ///
-/// Without such a list no call takes memory, so none answers `OutOfMemory`; with one a call does where the list can't
-/// grow. A call answers `Writer` where the writer under it failed, was interrupted, or took no byte of some
+/// Without such a list no call takes memory, so none answers `OutOfMemory`, unless lines are filled; with one a call does where the
+/// list can't grow. While lines are filled, what was written since the last allowed break is held in memory. A call answers `Writer` where the writer under it failed, was interrupted, or took no byte of some
 /// (`ErrorKind::WriteZero`); `PositionTooLarge` where the indentation would pass 4294967295 levels, or a position to be
 /// recorded has a line or a column above that; `Failed` where an earlier call was refused. swc's
 /// `text_writer::basic_impl::JsWriter`.
@@ -151,6 +158,8 @@ impl<'a, W: Write> PositionsWriter<'a, W> {
             failed: _,
             plain: _,
             kept,
+            reached: _,
+            held: _,
         } = self;
         (outlet.into_inner(), kept.into_list())
     }
@@ -161,8 +170,8 @@ impl<'a, W: Write, K: KeepsPositions> Lines<'a, W, K> {
     ghost use Rattle.std.specs.Str.{is_utf8};
     ghost use Rattle.swc_ecma_codegen_common.specs.Refusals.{in_short, reason_of};
     ghost use Rattle.swc_ecma_codegen_text_writer.specs.Told.{told};
-    ghost use Rattle.swc_ecma_codegen_text_writer.specs.Sheet.{Writes, Deeper, Shallower, appended, indented, recorded, start_recorded, end_recorded, pending_recorded, started, written, literal_written};
-    ghost use Rattle.swc_ecma_codegen_text_writer.specs.View.{sheet_of, new_sheet, keeping, Prefaces, Tells, Reaches, WritesText, WritesLiteral, WritesLine, WritesPosition, WritesNothing};
+    ghost use Rattle.swc_ecma_codegen_text_writer.specs.Sheet.{Writes, Deeper, Shallower, released, appended, indented, noted, is_recorded, recorded, start_recorded, end_recorded, pending_recorded, started, written, literal_written};
+    ghost use Rattle.swc_ecma_codegen_text_writer.specs.View.{sheet_of, new_sheet, keeping, Prefaces, Tells, Reaches, WritesPosition, WritesNothing};
 
     /// A writer at a line's start, with what keeps its positions.
     #[tactic(auto, unfolding(crate::specs::View::sheet_of, crate::specs::Places::after_text))]
@@ -184,6 +193,8 @@ impl<'a, W: Write, K: KeepsPositions> Lines<'a, W, K> {
             failed: false,
             plain: false,
             kept,
+            reached: Reached::origin(),
+            held: None,
         }
     }
 
@@ -235,6 +246,8 @@ impl<'a, W: Write, K: KeepsPositions> Lines<'a, W, K> {
             failed: _,
             plain: _,
             kept: _,
+            reached: _,
+            held: _,
         } = self;
         outlet.into_inner()
     }
@@ -255,7 +268,7 @@ impl<'a, W: Write, K: KeepsPositions> Lines<'a, W, K> {
         ensures { sheet_of self.new ≡ record (sheet_of self.old) { at_line_start = false } }
     {
         self.line_start = false;
-        self.plain = !self.kept.is_kept();
+        self.plain = !self.kept.is_kept() && self.held.is_none();
     }
 
     /// Sends a text out as it is.
@@ -268,16 +281,37 @@ impl<'a, W: Write, K: KeepsPositions> Lines<'a, W, K> {
         self.hand_on(text)
     }
 
-    /// The same, where it is called.
+    /// The same, where it is called: while lines are filled it is held.
     #[inline(always)]
     fn hand_on(&mut self, text: &str) -> Answer
         requires { (sheet_of self.old).refused ≡ false }
         ensures { Reaches (appended text.now (sheet_of self.old)) (sheet_of self.old)
             (sheet_of self.new) result }
     {
+        match &mut self.held {
+            None => self.release(text),
+            Some(held) => match held.segment.push_text(text) {
+                Ok(()) => Ok(()),
+                Err(refusal) => {
+                    self.failed = true;
+                    self.plain = false;
+                    Err(refusal)
+                }
+            },
+        }
+    }
+
+    /// Sends a text out, also where lines are filled.
+    #[inline(always)]
+    fn release(&mut self, text: &str) -> Answer
+        requires { (sheet_of self.old).refused ≡ false }
+        ensures { Reaches (released text.now (sheet_of self.old)) (sheet_of self.old)
+            (sheet_of self.new) result }
+    {
         match self.outlet.write_text(text) {
             Ok(()) => {
                 self.kept.pass(text);
+                self.reached = self.reached.past(text);
                 Ok(())
             }
             Err(_) => {
@@ -296,7 +330,10 @@ impl<'a, W: Write, K: KeepsPositions> Lines<'a, W, K> {
             (sheet_of self.new) result }
     {
         match self.outlet.write_text(text) {
-            Ok(()) => Ok(()),
+            Ok(()) => {
+                self.reached = self.reached.past(text);
+                Ok(())
+            }
             Err(_) => {
                 self.failed = true;
                 self.plain = false;
@@ -344,11 +381,46 @@ impl<'a, W: Write, K: KeepsPositions> Lines<'a, W, K> {
         Ok(())
     }
 
-    /// Records a position, where positions are kept.
+    /// Records a position, where positions are kept: while lines are filled it is held.
     #[inline(always)]
     fn record(&mut self, pos: BytePos) -> Answer
         requires { (sheet_of self.old).refused ≡ false }
         ensures { Reaches (recorded pos (sheet_of self.old)) (sheet_of self.old) (sheet_of self.new)
+            result }
+    {
+        if pos.0 == 0 || !self.kept.is_kept() {
+            return Ok(());
+        }
+        self.record_or_hold(pos)
+    }
+
+    /// The same where positions are kept, of one that isn't 0.
+    #[inline(always)]
+    fn record_or_hold(&mut self, pos: BytePos) -> Answer
+        requires fresh { (sheet_of self.old).refused ≡ false }
+        requires recorded { is_recorded pos (sheet_of self.old) ≡ true }
+        ensures { Reaches (recorded pos (sheet_of self.old)) (sheet_of self.old) (sheet_of self.new)
+            result }
+    {
+        match &mut self.held {
+            None => self.note(pos),
+            Some(held) => match held.segment.push_note(pos) {
+                Ok(()) => Ok(()),
+                Err(refusal) => {
+                    self.failed = true;
+                    self.plain = false;
+                    Err(refusal)
+                }
+            },
+        }
+    }
+
+    /// Records a position where the text ends that is out.
+    #[inline(always)]
+    fn note(&mut self, pos: BytePos) -> Answer
+        requires fresh { (sheet_of self.old).refused ≡ false }
+        requires keeps { (sheet_of self.old).keeps_positions ≡ true }
+        ensures { Reaches (noted pos (sheet_of self.old)) (sheet_of self.old) (sheet_of self.new)
             result }
     {
         match self.kept.record(pos) {
@@ -471,218 +543,6 @@ impl<'a, W: Write, K: KeepsPositions> Lines<'a, W, K> {
         self.record(span.lo)?;
         self.put(None, text)?;
         self.record(span.hi)
-    }
-
-    /// Writes a text, after the indentation at a line's start.
-    #[inline(always)]
-    fn write(&mut self, span: Option<Span>, text: &str) -> Answer
-        ensures { WritesText span text.now (sheet_of self.old) (sheet_of self.new) result }
-    {
-        match span {
-            None => self.write_plain(text),
-            Some(span) => self.write_with(span, text),
-        }
-    }
-
-    /// The same with a span. One that stands nowhere, as that of each name does, takes the shorter way, since none of it is recorded.
-    #[inline(always)]
-    fn write_with(&mut self, span: Span, text: &str) -> Answer
-        ensures { WritesText (Some span) text.now (sheet_of self.old) (sheet_of self.new) result }
-    {
-        if is_nowhere(span) {
-            return self.write_bytes(text);
-        }
-        self.write_spanned(span, text)
-    }
-
-    /// The same without a span. Most texts are one byte, as a blank and most punctuators are.
-    #[inline(always)]
-    fn write_plain(&mut self, text: &str) -> Answer
-        ensures { WritesText None text.now (sheet_of self.old) (sheet_of self.new) result }
-    {
-        if text.len() == 1 {
-            self.write_byte(text)
-        } else {
-            self.write_bytes(text)
-        }
-    }
-
-    /// Writes a text of one byte: in most calls it is only sent.
-    #[inline(always)]
-    fn write_byte(&mut self, text: &str) -> Answer
-        requires { length text.now ≡ 1 }
-        ensures { WritesText None text.now (sheet_of self.old) (sheet_of self.new) result }
-    {
-        if self.plain {
-            self.send_byte(text)
-        } else {
-            self.write_first_byte(text)
-        }
-    }
-
-    /// The same where it is only sent: that of one byte takes no call that copies bytes.
-    #[inline(always)]
-    fn send_byte(&mut self, text: &str) -> Answer
-        requires plain { self.old.plain ≡ true }
-        requires byte { length text.now ≡ 1 }
-        ensures { WritesText None text.now (sheet_of self.old) (sheet_of self.new) result }
-    {
-        if text.len() != 1 {
-            unreachable!();
-        }
-        self.send_plainly(text)
-    }
-
-    /// The same at a line's start, where positions are kept, or after a refusal.
-    #[inline(never)]
-    fn write_first_byte(&mut self, text: &str) -> Answer
-        requires { length text.now ≡ 1 }
-        ensures { WritesText None text.now (sheet_of self.old) (sheet_of self.new) result }
-    {
-        if text.len() != 1 {
-            unreachable!();
-        }
-        self.write_here(None, text)
-    }
-
-    /// Writes a text of any length, without a span. Each way is a function of its own, so that none goes through the other.
-    #[inline(always)]
-    fn write_bytes(&mut self, text: &str) -> Answer
-        ensures { WritesText None text.now (sheet_of self.old) (sheet_of self.new) result }
-    {
-        if self.plain {
-            self.send_bytes(text)
-        } else {
-            self.write_first_bytes(text)
-        }
-    }
-
-    /// The same where it is only sent.
-    #[inline(never)]
-    fn send_bytes(&mut self, text: &str) -> Answer
-        requires { self.old.plain ≡ true }
-        ensures { WritesText None text.now (sheet_of self.old) (sheet_of self.new) result }
-    {
-        if text.len() == 1 {
-            return self.send_byte(text);
-        }
-        if text.is_empty() {
-            return Ok(());
-        }
-        self.send_plainly(text)
-    }
-
-    /// The same at a line's start, where positions are kept, or after a refusal.
-    #[inline(never)]
-    fn write_first_bytes(&mut self, text: &str) -> Answer
-        ensures { WritesText None text.now (sheet_of self.old) (sheet_of self.new) result }
-    {
-        if text.len() == 1 {
-            return self.write_first_byte(text);
-        }
-        self.write_here(None, text)
-    }
-
-    /// Writes a text, and records its span.
-    #[inline(never)]
-    fn write_spanned(&mut self, span: Span, text: &str) -> Answer
-        ensures { WritesText (Some span) text.now (sheet_of self.old) (sheet_of self.new) result }
-    {
-        self.write_here(Some(span), text)
-    }
-
-    /// Writes a text, where it is called.
-    #[inline(always)]
-    fn write_here(&mut self, span: Option<Span>, text: &str) -> Answer
-        ensures { WritesText span text.now (sheet_of self.old) (sheet_of self.new) result }
-    {
-        if self.failed {
-            return Err(Refusal::Failed);
-        }
-        if text.is_empty() {
-            return Ok(());
-        }
-        self.put(span, text)
-    }
-
-    /// Writes a literal: its start is recorded before the line begins.
-    fn literal(&mut self, span: Span, text: &str) -> Answer
-        ensures { WritesLiteral span text.now (sheet_of self.old) (sheet_of self.new) result }
-    {
-        if self.plain {
-            return self.send_literal(span, text);
-        }
-        self.write_first_literal(span, text)
-    }
-
-    /// The same where it is only sent.
-    #[inline(always)]
-    fn send_literal(&mut self, span: Span, text: &str) -> Answer
-        requires { self.old.plain ≡ true }
-        ensures { WritesLiteral span text.now (sheet_of self.old) (sheet_of self.new) result }
-    {
-        let _ = span;
-        if text.is_empty() {
-            return Ok(());
-        }
-        self.send_plainly(text)
-    }
-
-    /// The same at a line's start, where positions are kept, or after a refusal.
-    #[inline(never)]
-    fn write_first_literal(&mut self, span: Span, text: &str) -> Answer
-        ensures { WritesLiteral span text.now (sheet_of self.old) (sheet_of self.new) result }
-    {
-        if self.failed {
-            return Err(Refusal::Failed);
-        }
-        if text.is_empty() {
-            return Ok(());
-        }
-        self.put_literal(span, text)
-    }
-
-    /// Writes the line's end, unless at a line's start. Mostly it is one byte, which is only sent.
-    #[inline(always)]
-    fn end_line(&mut self) -> Answer
-        ensures { WritesLine (sheet_of self.old) (sheet_of self.new) result }
-    {
-        let text = self.new_line;
-        if !self.plain || text.len() != 1 {
-            return self.end_any_line();
-        }
-        self.send_plainly(text)?;
-        self.set_line_start();
-        Ok(())
-    }
-
-    /// The same of any line: at a line's start the position that is pending is forgotten.
-    #[inline(never)]
-    fn end_any_line(&mut self) -> Answer
-        ensures { WritesLine (sheet_of self.old) (sheet_of self.new) result }
-    {
-        if self.failed {
-            return Err(Refusal::Failed);
-        }
-        if self.line_start {
-            self.drop_pending();
-            return Ok(());
-        }
-        self.send_line_end()?;
-        self.set_line_start();
-        Ok(())
-    }
-
-    /// Sends the line's end.
-    #[inline(always)]
-    #[tactic(auto, unfolding(crate::specs::View::sheet_of))]
-    fn send_line_end(&mut self) -> Answer
-        requires { (sheet_of self.old).refused ≡ false }
-        ensures { Reaches (appended (sheet_of self.old).line_end (sheet_of self.old))
-            (sheet_of self.old) (sheet_of self.new) result }
-    {
-        let text = self.new_line;
-        self.send(text)
     }
 
     /// Records a position for what comes next: at a line's start, once the line has begun.

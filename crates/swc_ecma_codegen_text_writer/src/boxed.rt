@@ -78,6 +78,18 @@ impl<W: WriteJs> WriteJs for Box<W> {
         (**self).commit_pending_semi()
     }
 
+    fn begin_lines(&mut self, max: u32) -> Result {
+        (**self).begin_lines(max)
+    }
+
+    fn allow_break(&mut self) -> Result {
+        (**self).allow_break()
+    }
+
+    fn end_lines(&mut self) -> Result {
+        (**self).end_lines()
+    }
+
     fn can_ignore_invalid_unicodes(&mut self) -> bool {
         (**self).can_ignore_invalid_unicodes()
     }

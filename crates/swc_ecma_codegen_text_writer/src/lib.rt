@@ -3,10 +3,12 @@
 
 ghost use Rattle.std.specs.Prelude.{◌≡◌, ◌<◌};
 ghost use Rattle.swc_ecma_codegen_common.specs.Refusals.{in_short};
-ghost use Rattle.swc_ecma_codegen_text_writer.specs.Sheet.{Sheet, holds_semicolons, Writes, Semi, Space, Keyword, Operator, Param, Property, Line, Lit, Comment, StrLit, Str, Symbol, Punct, Position, Commit, Deeper, Shallower};
+ghost use Rattle.swc_ecma_codegen_text_writer.specs.Sheet.{Sheet, holds_semicolons, Writes, Semi, Space, Keyword, Operator, Param, Property, Line, Lit, Comment, StrLit, Str, Symbol, Punct, Position, Commit, Deeper, Shallower, BeginLines, AllowBreak, EndLines};
 
 mod basic_impl;
 mod boxed;
+mod filling;
+mod held;
 mod kept;
 pub mod laws;
 mod lent;
@@ -49,7 +51,8 @@ pub trait WriteJs {
 
     /// Writes an operator.
     fn write_operator(&mut self, span: Option<Span>, s: &str) -> Result
-        ensures { Writes (Operator span s.now) (sheet self.old) (sheet self.new) (in_short result) };
+        ensures { Writes (Operator span s.now) (sheet self.old) (sheet self.new)
+            (in_short result) };
 
     /// Writes a parameter.
     fn write_param(&mut self, s: &str) -> Result
@@ -98,6 +101,22 @@ pub trait WriteJs {
     /// Writes a semicolon that is held back.
     fn commit_pending_semi(&mut self) -> Result
         ensures { Writes Commit (sheet self.old) (sheet self.new) (in_short result) };
+
+    /// From here on lines have at most `max` UTF-16 units, where breaks are allowed in time: with 3, `a,` `b,` `c` with a break allowed
+    /// after each comma is written `a,` LF `b,c`. What is written is held in memory from here on, and goes out where a break is
+    /// allowed. A second call only sets `max`.
+    fn begin_lines(&mut self, max: u32) -> Result
+        ensures { Writes (BeginLines max) (sheet self.old) (sheet self.new) (in_short result) };
+
+    /// Here a line may end. What is held goes out, after a line end where the line, and what is held up to its first line end,
+    /// would have together more than `max` units; never before the first since `begin_lines`. Where lines aren't filled it does
+    /// nothing.
+    fn allow_break(&mut self) -> Result
+        ensures { Writes AllowBreak (sheet self.old) (sheet self.new) (in_short result) };
+
+    /// Lines are filled no more. What is held goes out as at an allowed break.
+    fn end_lines(&mut self) -> Result
+        ensures { Writes EndLines (sheet self.old) (sheet self.new) (in_short result) };
 
     /// Whether names keep U+0000 after a backslash.
     fn can_ignore_invalid_unicodes(&mut self) -> bool

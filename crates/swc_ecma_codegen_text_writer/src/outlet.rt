@@ -23,7 +23,8 @@ pub struct Outlet<W: Write> {
     fault: Option<io::Error>,
     before: Snapshot<W>,
     log: Log,
-    ghost tells: { TellsSince (W.contents before.value) log.bytes (W.contents inner) } by { Prim.hlevel props },
+    ghost tells: { TellsSince (W.contents before.value) log.bytes
+        (W.contents inner) } by { Prim.hlevel props },
 }
 
 impl<W: Write> Outlet<W> {

@@ -3,7 +3,7 @@
 ghost use Rattle.std.specs.Prelude.{◌≡◌, ◌≤◌, ◌<◌, ◌^◌, true, List, [], ◌∷◌, ◌++◌, length, Some, None, OnOk, OnErr};
 ghost use Rattle.std.specs.List.{AllWithin};
 ghost use Rattle.std.proofs.Props.{props};
-ghost use Rattle.swc_ecma_codegen_text_writer.specs.Places.{Place, units_of, after_byte, after_text, next_line};
+ghost use Rattle.swc_ecma_codegen_text_writer.specs.Places.{Place, origin, units_of, after_byte, after_text, next_line};
 ghost use Rattle.swc_ecma_codegen_text_writer.specs.Sheet.{Pair, is_same_pair, has_pair};
 ghost use Rattle.swc_ecma_codegen_text_writer.specs.Reach.{Shows, IsFrom, IsAt, IsBefore, further, is_one_column, is_in_line};
 
@@ -15,7 +15,7 @@ const LIMIT: u64 = 1 << 32;
 
 /// The UTF-16 units that begin with a byte of UTF-8: none with one that goes on, two with the first of four.
 #[tactic(auto, unfolding(crate::specs::Places::units_of))]
-fn units(byte: u8) -> u64
+pub fn units(byte: u8) -> u64
     ensures value { result ≡ units_of byte }
     ensures few { result ≤ 2 }
 {
@@ -135,6 +135,36 @@ impl Reached {
         }
         reached
     }
+
+    /// The place after a text. Most stay in their line: "typeof" takes six columns.
+    #[inline(always)]
+    pub fn past(self, text: &str) -> Reached
+        ensures shows { (p : Place) → Shows self p → Shows result (after_text text.now p) }
+        ensures order { IsFrom self result }
+    {
+        if !text.is_empty() && is_in_line(text.as_bytes()) {
+            return self.after_units(text.len() as u64);
+        }
+        self.after_text(text)
+    }
+
+    /// Where a text begins.
+    pub fn origin() -> Reached
+        ensures { Shows result origin }
+    {
+        Reached {
+            line: 0,
+            column: 0,
+            after_cr: false,
+        }
+    }
+
+    /// The UTF-16 units of the line.
+    pub fn units(self) -> u64
+        ensures { result ≡ self.column }
+    {
+        self.column
+    }
 }
 
 /// What holds a list of pairs: the list itself, or a reference to it.
@@ -194,9 +224,12 @@ pub struct Positions<L: HoldsPairs> {
     recent: usize,
     pending: Option<BytePos>,
     reached: Reached,
-    ghost in_list: { (handed_in ≤ recent) × (recent ≤ length (L.pairs list)) } by { Prim.hlevel props },
-    ghost passed: { AllWithin (λ pair. IsBefore pair.1 reached) (L.pairs list) handed_in recent } by { Prim.hlevel props },
-    ghost here: { AllWithin (λ pair. IsAt pair.1 reached) (L.pairs list) recent (length (L.pairs list)) } by { Prim.hlevel props },
+    ghost in_list: { (handed_in ≤ recent) ×
+        (recent ≤ length (L.pairs list)) } by { Prim.hlevel props },
+    ghost passed: { AllWithin (λ pair. IsBefore pair.1 reached) (L.pairs list)
+        handed_in recent } by { Prim.hlevel props },
+    ghost here: { AllWithin (λ pair. IsAt pair.1 reached) (L.pairs list)
+        recent (length (L.pairs list)) } by { Prim.hlevel props },
 }
 
 impl<L: HoldsPairs> Positions<L> {

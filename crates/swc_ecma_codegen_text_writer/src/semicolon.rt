@@ -1,28 +1,35 @@
 //! A writer that leaves semicolons out where `}` or `;` follows.
 
-ghost use Rattle.std.specs.Prelude.{◌≡◌, false, true, None, OnOk};
+ghost use Rattle.std.specs.Prelude.{◌≡◌, false, true, None, Some, OnOk, IfErr};
 ghost use Rattle.std.proofs.Props.{props};
 ghost use Rattle.swc_ecma_codegen_common.specs.Refusals.{in_short};
-ghost use Rattle.swc_ecma_codegen_text_writer.specs.Sheet.{holds_semicolons, is_ending, HoldsNone};
-ghost use Rattle.swc_ecma_codegen_text_writer.specs.PendingSemi.{with_held, Settles, WritesAtOnce};
+ghost use Rattle.swc_ecma_codegen_text_writer.specs.Sheet.{holds_semicolons, is_ending, HoldsNone, Commit, Refuses};
+ghost use Rattle.swc_ecma_codegen_text_writer.specs.PendingSemi.{with_held, IsSettled, Settles, WritesAtOnce};
 
 use crate::WriteJs;
 use swc_ecma_codegen_common::{BytePos, Result, Span};
+
+/// A semicolon that is held: its span, and whether a break was allowed since.
+#[derive(Clone, Copy, Drop)]
+pub struct HeldSemi {
+    span: Option<Span>,
+    allows_break: bool,
+}
 
 /// Holds each semicolon back until it knows what follows: before `}` and `;` it is left out, before all else it is
 /// written first.
 ///
 /// The calls `write_str("a")`, `write_semi`, `write_punct("}")` write `a}`; with `write_space` or `write_line` in place
 /// of `write_punct("}")` they write `a;` and then the blank or the line's end. Of two semicolons in a row the first is
-/// left out. `add_srcmap` passes a held semicolon by, and `commit_pending_semi` writes it.
+/// left out. `add_srcmap` passes a held semicolon by, and `commit_pending_semi` writes it. A break that is allowed while a
+/// semicolon is held is kept with it: it is allowed right after the semicolon is written, and lost with it.
 ///
 /// A call takes no memory of its own and is refused where the writer under it refuses: then a semicolon that was to be
 /// written stays held, unless it is out. swc's `text_writer::semicolon::OmitTrailingSemi`.
 #[derive(Drop)]
 pub struct OmitTrailingSemi<W: WriteJs> {
     inner: W,
-    // The span of the semicolon that is held.
-    pending: Option<Option<Span>>,
+    pending: Option<HeldSemi>,
     ghost at_once: { WritesAtOnce (W.sheet inner) } by { Prim.hlevel props },
 }
 
@@ -65,9 +72,26 @@ impl<W: WriteJs> OmitTrailingSemi<W> {
             (with_held self.new.pending (W.sheet self.new.inner)) (in_short result) }
         ensures none { OnOk result (self.new.pending ≡ None) }
     {
-        if let Some(span) = self.pending {
-            self.inner.write_semi(span)?;
+        if let Some(semi) = self.pending {
+            self.write_held(semi)?;
             self.pending = None;
+        }
+        Ok(())
+    }
+
+    /// Writes a semicolon that is held, and allows the break that was kept with it. It stays held until that is done.
+    fn write_held(&mut self, semi: HeldSemi) -> Result
+        requires { self.old.pending ≡ Some semi }
+        ensures ok { OnOk result (IsSettled (with_held (Some semi) (W.sheet self.old.inner))
+            (with_held None (W.sheet self.new.inner))) }
+        ensures err { IfErr (in_short result) (λ e. Refuses Commit e
+            (with_held (Some semi) (W.sheet self.old.inner))
+            (with_held (Some semi) (W.sheet self.new.inner))) }
+        ensures same { self.new.pending ≡ self.old.pending }
+    {
+        self.inner.write_semi(semi.span)?;
+        if semi.allows_break {
+            return self.inner.allow_break();
         }
         Ok(())
     }
@@ -90,7 +114,10 @@ impl<W: WriteJs> WriteJs for OmitTrailingSemi<W> {
     fn write_semi(&mut self, span: Option<Span>) -> Result {
         // Nothing is written: it answers whether an earlier call was refused.
         self.inner.commit_pending_semi()?;
-        self.pending = Some(span);
+        self.pending = Some(HeldSemi {
+            span,
+            allows_break: false,
+        });
         Ok(())
     }
 
@@ -172,6 +199,27 @@ impl<W: WriteJs> WriteJs for OmitTrailingSemi<W> {
         self.settle()?;
         // Nothing is written: it answers whether an earlier call was refused.
         self.inner.commit_pending_semi()
+    }
+
+    fn begin_lines(&mut self, max: u32) -> Result {
+        self.inner.begin_lines(max)
+    }
+
+    fn allow_break(&mut self) -> Result {
+        if let Some(semi) = self.pending {
+            // Nothing is written: it answers whether an earlier call was refused.
+            self.inner.commit_pending_semi()?;
+            self.pending = Some(HeldSemi {
+                span: semi.span,
+                allows_break: true,
+            });
+            return Ok(());
+        }
+        self.inner.allow_break()
+    }
+
+    fn end_lines(&mut self) -> Result {
+        self.inner.end_lines()
     }
 
     #[tactic(auto, unfolding(crate::specs::PendingSemi::with_held))]

@@ -6,7 +6,7 @@ use Rattle.swc_ecma_codegen_grammar.specs.declared.kinds.Kind.TheVariants.{Word}
 use Rattle.swc_ecma_codegen_grammar.specs.Trivia.{piece_text, pieces_text, all_pieces}
 use Rattle.swc_ecma_codegen_grammar.specs.GapRules.{PreviousToken, Start, Separated, fuses, allows, mark_after, last_after, last_after_gap, holds_child}
 use Rattle.swc_ecma_codegen_grammar.specs.Parts as parts
-use Rattle.swc_ecma_codegen_grammar.specs.Parts.{Gap, Own, Joint, NoneFuse}
+use Rattle.swc_ecma_codegen_grammar.specs.Parts.{Gap, Own, Joint, Break, NoneFuse}
 use Rattle.swc_ecma_codegen_grammar.proofs.Reading.{blank_fuses}
 use Rattle.swc_ecma_codegen_tokens.specs.Written.{is_indent, all_indent, is_free}
 use Rattle.swc_ecma_codegen_tokens.proofs.Indented.{blanks, indent_blank, blanks_pieces}
@@ -33,6 +33,7 @@ first_of_all [] h = refl
 first_of_all (Gap [] ∷ xs) h = (h.0, start_alone (pieces_text []), refl, first_of_all xs h.3)
 first_of_all (Gap (p ∷ ps) ∷ xs) h = (h.0, start_alone (pieces_text (p ∷ ps)), refl, h.3)
 first_of_all (Joint ∷ xs) h = first_of_all xs h
+first_of_all (Break ∷ xs) h = (refl, first_of_all xs h.1, h.2)
 first_of_all (Own x t ∷ xs) h = (h.0, start_alone t, record { child = λ e. absurd (true≢false (sym (h.2.child e))); first = λ e. refl }, refl, subst (λ k. NoneFuse k xs) (same_after x t) h.4)
 
 pub free_apart : (k : PreviousToken) → is_free k ≡ true → (xs : List parts.Part) → NoneFuse Separated xs → NoneFuse k xs

@@ -10,8 +10,12 @@ use Rattle.swc_ecma_codegen_grammar.specs.GapRules.{fuses, Separated}
 use Rattle.swc_ecma_codegen_grammar.specs.Settings.{Settings, is_up_to_es5}
 use Rattle.swc_ecma_codegen_grammar.specs.Phrases.{Phrase, Never, Nothing, One, NameOf, KeyOf, PrivateOf, TagNameOf, Then, CommaBefore, OptionalParentheses, Chosen, EmptyArguments, LoopEnding, AttributesWord, in_parentheses, close_parenthesis, Generates, chosen, is_possible}
 use Rattle.swc_ecma_codegen_grammar.specs.Tokens as lexical
-use Rattle.swc_ecma_codegen_text_writer.specs.Sheet.{Item, Semi, Space, Keyword, Operator, Param, Property, Line, Lit, Comment, StrLit, Str, Symbol, Punct, Position, Commit, Deeper, Shallower, Sheet, Semicolons, AtOnce, HoldsNone, HoldsOne, appended, written, literal_written, ended, settled, settled_by, semicolon_by, before_punct, is_ending, dropped, effect}
+use Rattle.swc_ecma_codegen_tokens.proofs.Fronts.{are_inner_steps}
+use Rattle.swc_ecma_codegen_text_writer.specs.Runs.{is_inner}
+use Rattle.swc_ecma_codegen_text_writer.proofs.Flows.{allowed_out, passed_out, appended_text}
+use Rattle.swc_ecma_codegen_text_writer.specs.Sheet.{Item, Semi, Space, Keyword, Operator, Param, Property, Line, Lit, Comment, StrLit, Str, Symbol, Punct, Position, Commit, Deeper, Shallower, Sheet, Semicolons, AtOnce, HoldsNone, HoldsOne, appended, written, literal_written, ended, settled, settled_by, semicolon_by, before_punct, is_ending, dropped, effect, BeginLines, AllowBreak, EndLines, allowed_at, fills_lines}
 use Rattle.swc_ecma_codegen_text_writer.proofs.Sheets.{effect_indent_text, effect_line_end, settled_same}
+use Rattle.swc_ecma_codegen_text_writer.proofs.Stays.{settled_stays, written_stays, effect_fills}
 use Rattle.swc_ecma_codegen_literals.specs.AsciiNames.{is_ascii_text}
 use Rattle.swc_ecma_codegen_tokens.specs.Ascii.{is_other_value, is_other, is_other_piece, is_other_end, is_kept, is_kept_piece, is_kept_end, keeps_other, are_ascii_or_kept, text_if, other_texts, keeps_tokens, may_keep_other, WantsAscii, IsAsciiBut, AddsAscii}
 use Rattle.swc_ecma_codegen_tokens.specs.Run.{Env, Part, State, Step, Guard, Token, Plain, Ends, Remake, Take, CommentText, spoken, put, run, steps_of, nothing, text_of, Follows}
@@ -66,6 +70,7 @@ adds_same {ts} old t u h e = subst (λ z. AddsAscii ts old z) (sym e) h
 record HasAsciiLines (s : Sheet) : Type 0 where
   pub indent_text : is_ascii_text s.indent_text ≡ true
   pub line_end : is_ascii_text s.line_end ≡ true
+  pub flows : fills_lines s.lines ≡ false
 
 front_ascii : (b : Bool) (s : Sheet) → HasAsciiLines s → is_ascii_text (front_of b s) ≡ true
 front_ascii true s l = ascii_repeat s.indentation s.indent_text l.indent_text
@@ -74,63 +79,77 @@ front_ascii false s l = refl
 written_adds : {ts : List (List ℕ)} (old : List ℕ) (span : Option Span) (t : List ℕ) (s : Sheet) → HasAsciiLines s → is_ascii_text t ≡ true → AddsAscii ts old s.text → AddsAscii ts old (written span t s).text
 unfolding written
 written_adds old span [] s l a h = h
-written_adds old span (c ∷ cs) s l a h = adds_more old s.text _ (front s ++ c ∷ cs) h (written_text span c cs s) (ascii_append (front s) (c ∷ cs) (front_ascii s.at_line_start s l) a)
+written_adds old span (c ∷ cs) s l a h = adds_more old s.text _ (front s ++ c ∷ cs) h (written_text span c cs s l.flows) (ascii_append (front s) (c ∷ cs) (front_ascii s.at_line_start s l) a)
 
 literal_adds : {ts : List (List ℕ)} (old : List ℕ) (span : Span) (t : List ℕ) (s : Sheet) → HasAsciiLines s → is_ascii_text t ≡ true → AddsAscii ts old s.text → AddsAscii ts old (literal_written span t s).text
 unfolding literal_written
 literal_adds old span [] s l a h = h
-literal_adds old span (c ∷ cs) s l a h = adds_more old s.text _ (front s ++ c ∷ cs) h (adds_literal span c cs s).text (ascii_append (front s) (c ∷ cs) (front_ascii s.at_line_start s l) a)
+literal_adds old span (c ∷ cs) s l a h = adds_more old s.text _ (front s ++ c ∷ cs) h (adds_literal span c cs s l.flows).text (ascii_append (front s) (c ∷ cs) (front_ascii s.at_line_start s l) a)
 
 settled_by_adds : {ts : List (List ℕ)} (old : List ℕ) (x : Semicolons) (s : Sheet) → HasAsciiLines s → AddsAscii ts old s.text → AddsAscii ts old (settled_by x s).text
 unfolding settled_by
 settled_by_adds old AtOnce s l h = h
 settled_by_adds old HoldsNone s l h = h
-settled_by_adds old (HoldsOne span) s l h = written_adds old span (codes ";") (record s { semicolons = HoldsNone }) (record { indent_text = l.indent_text; line_end = l.line_end }) refl h
+settled_by_adds old (HoldsOne span allowed) s l h =
+    let none : Sheet = record s { semicolons = HoldsNone } in
+    let out : Sheet = written span (codes ";") none in
+    let first = written_adds old span (codes ";") none (record { indent_text = l.indent_text; line_end = l.line_end; flows = l.flows }) refl h in
+    adds_same old out.text _ first (passed_out (λ z. z.text) (λ z x. refl) allowed out ((written_stays span (codes ";") none).fills ∙ l.flows))
 
 settled_adds : {ts : List (List ℕ)} (old : List ℕ) (s : Sheet) → HasAsciiLines s → AddsAscii ts old s.text → AddsAscii ts old (settled s).text
 settled_adds old s l h = settled_by_adds old s.semicolons s l h
 
 settled_lines : (s : Sheet) → HasAsciiLines s → HasAsciiLines (settled s)
-settled_lines s l = record { indent_text = ap is_ascii_text (settled_same s).indent_text ∙ l.indent_text; line_end = ap is_ascii_text (settled_same s).line_end ∙ l.line_end }
+settled_lines s l = record { indent_text = ap is_ascii_text (settled_same s).indent_text ∙ l.indent_text; line_end = ap is_ascii_text (settled_same s).line_end ∙ l.line_end; flows = (settled_stays s).fills ∙ l.flows }
 
 ended_adds : {ts : List (List ℕ)} (old : List ℕ) (s : Sheet) → HasAsciiLines s → AddsAscii ts old s.text → AddsAscii ts old (ended s).text
-unfolding ended appended
+unfolding ended
 ended_adds {ts} old s l h =
     elim s.at_line_start as (λ b. AddsAscii ts old (cond b (record s { pending = None }) (record (appended s.line_end s) { at_line_start = true })).text)
-    [ true ↦ h | false ↦ adds_more old s.text _ s.line_end h refl l.line_end ]
+    [ true ↦ h | false ↦ adds_more old s.text _ s.line_end h (appended_text s.line_end s l.flows) l.line_end ]
 
 semicolon_adds : {ts : List (List ℕ)} (old : List ℕ) (x : Semicolons) (span : Option Span) (s : Sheet) → HasAsciiLines s → AddsAscii ts old s.text → AddsAscii ts old (semicolon_by x span s).text
 unfolding semicolon_by
 semicolon_adds old AtOnce span s l h = written_adds old span (codes ";") s l refl h
 semicolon_adds old HoldsNone span s l h = h
-semicolon_adds old (HoldsOne held) span s l h = h
+semicolon_adds old (HoldsOne held allowed) span s l h = h
 
 punct_adds : {ts : List (List ℕ)} (old : List ℕ) (b : Bool) (span : Option Span) (t : List ℕ) (s : Sheet) → HasAsciiLines s → is_ascii_text t ≡ true → AddsAscii ts old s.text → AddsAscii ts old (written span t (cond b (record s { semicolons = dropped s.semicolons }) (settled s))).text
-punct_adds old true span t s l a h = written_adds old span t (record s { semicolons = dropped s.semicolons }) (record { indent_text = l.indent_text; line_end = l.line_end }) a h
+punct_adds old true span t s l a h = written_adds old span t (record s { semicolons = dropped s.semicolons }) (record { indent_text = l.indent_text; line_end = l.line_end; flows = l.flows }) a h
 punct_adds old false span t s l a h = written_adds old span t (settled s) (settled_lines s l) a (settled_adds old s l h)
 
-effect_adds : {ts : List (List ℕ)} (old : List ℕ) (x : Item) (s : Sheet) → HasAsciiLines s → is_ascii_text (text_of x) ≡ true → AddsAscii ts old s.text → AddsAscii ts old (effect x s).text
-unfolding effect text_of before_punct
-effect_adds old (Semi span) s l a h = semicolon_adds old s.semicolons span s l h
-effect_adds old Space s l a h = written_adds old None (codes " ") (settled s) (settled_lines s l) a (settled_adds old s l h)
-effect_adds old (Keyword span t) s l a h = written_adds old span t (settled s) (settled_lines s l) a (settled_adds old s l h)
-effect_adds old (Operator span t) s l a h = written_adds old span t (settled s) (settled_lines s l) a (settled_adds old s l h)
-effect_adds old (Param t) s l a h = written_adds old None t (settled s) (settled_lines s l) a (settled_adds old s l h)
-effect_adds old (Property t) s l a h = written_adds old None t (settled s) (settled_lines s l) a (settled_adds old s l h)
-effect_adds old Line s l a h = ended_adds old (settled s) (settled_lines s l) (settled_adds old s l h)
-effect_adds old (Lit span t) s l a h = literal_adds old span t (settled s) (settled_lines s l) a (settled_adds old s l h)
-effect_adds old (Comment t) s l a h = written_adds old None t (settled s) (settled_lines s l) a (settled_adds old s l h)
-effect_adds old (StrLit span t) s l a h = literal_adds old span t (settled s) (settled_lines s l) a (settled_adds old s l h)
-effect_adds old (Str t) s l a h = written_adds old None t (settled s) (settled_lines s l) a (settled_adds old s l h)
-effect_adds old (Symbol span t) s l a h = written_adds old (Some span) t (settled s) (settled_lines s l) a (settled_adds old s l h)
-effect_adds old (Punct span t) s l a h = punct_adds old (is_ending t) span t s l a h
-effect_adds old (Position pos) s l a h = adds_same old s.text _ h (pointed_keeps (λ z. z.text) (λ z x. refl) (λ z x. refl) pos s)
-effect_adds old Commit s l a h = settled_adds old s l h
-effect_adds old Deeper s l a h = settled_adds old s l h
-effect_adds old Shallower s l a h = settled_adds old s l h
+-- an allowed break adds nothing
+break_adds : {ts : List (List ℕ)} (old : List ℕ) (x : Semicolons) (s : Sheet) → HasAsciiLines s → AddsAscii ts old s.text → AddsAscii ts old (allowed_at x s).text
+unfolding allowed_at
+break_adds old AtOnce s l h = adds_same old s.text _ h (allowed_out (λ z. z.text) (λ z x. refl) s l.flows)
+break_adds old HoldsNone s l h = adds_same old s.text _ h (allowed_out (λ z. z.text) (λ z x. refl) s l.flows)
+break_adds old (HoldsOne span allowed) s l h = h
 
-effect_lines : (x : Item) (s : Sheet) → HasAsciiLines s → HasAsciiLines (effect x s)
-effect_lines x s l = record { indent_text = ap is_ascii_text (effect_indent_text x s) ∙ l.indent_text; line_end = ap is_ascii_text (effect_line_end x s) ∙ l.line_end }
+effect_adds : {ts : List (List ℕ)} (old : List ℕ) (x : Item) (s : Sheet) → HasAsciiLines s → is_inner x ≡ true → is_ascii_text (text_of x) ≡ true → AddsAscii ts old s.text → AddsAscii ts old (effect x s).text
+unfolding effect text_of before_punct
+effect_adds old (Semi span) s l i a h = semicolon_adds old s.semicolons span s l h
+effect_adds old Space s l i a h = written_adds old None (codes " ") (settled s) (settled_lines s l) a (settled_adds old s l h)
+effect_adds old (Keyword span t) s l i a h = written_adds old span t (settled s) (settled_lines s l) a (settled_adds old s l h)
+effect_adds old (Operator span t) s l i a h = written_adds old span t (settled s) (settled_lines s l) a (settled_adds old s l h)
+effect_adds old (Param t) s l i a h = written_adds old None t (settled s) (settled_lines s l) a (settled_adds old s l h)
+effect_adds old (Property t) s l i a h = written_adds old None t (settled s) (settled_lines s l) a (settled_adds old s l h)
+effect_adds old Line s l i a h = ended_adds old (settled s) (settled_lines s l) (settled_adds old s l h)
+effect_adds old (Lit span t) s l i a h = literal_adds old span t (settled s) (settled_lines s l) a (settled_adds old s l h)
+effect_adds old (Comment t) s l i a h = written_adds old None t (settled s) (settled_lines s l) a (settled_adds old s l h)
+effect_adds old (StrLit span t) s l i a h = literal_adds old span t (settled s) (settled_lines s l) a (settled_adds old s l h)
+effect_adds old (Str t) s l i a h = written_adds old None t (settled s) (settled_lines s l) a (settled_adds old s l h)
+effect_adds old (Symbol span t) s l i a h = written_adds old (Some span) t (settled s) (settled_lines s l) a (settled_adds old s l h)
+effect_adds old (Punct span t) s l i a h = punct_adds old (is_ending t) span t s l a h
+effect_adds old (Position pos) s l i a h = adds_same old s.text _ h (pointed_keeps (λ z. z.text) (λ z x l. refl) (λ z x. refl) pos s)
+effect_adds old Commit s l i a h = settled_adds old s l h
+effect_adds old Deeper s l i a h = settled_adds old s l h
+effect_adds old Shallower s l i a h = settled_adds old s l h
+effect_adds old (BeginLines max) s l i a h = absurd (true≢false (sym i))
+effect_adds old AllowBreak s l i a h = break_adds old s.semicolons s l h
+effect_adds old EndLines s l i a h = absurd (true≢false (sym i))
+
+effect_lines : (x : Item) (s : Sheet) → is_inner x ≡ true → HasAsciiLines s → HasAsciiLines (effect x s)
+effect_lines x s i l = record { indent_text = ap is_ascii_text (effect_indent_text x s) ∙ l.indent_text; line_end = ap is_ascii_text (effect_line_end x s) ∙ l.line_end; flows = effect_fills x s i ∙ l.flows }
 
 -- ---- what steps add
 
@@ -139,14 +158,14 @@ record Goes (ts : List (List ℕ)) (old : List ℕ) (s : Sheet) : Type 0 where
   pub lines : HasAsciiLines s
   pub adds : AddsAscii ts old s.text
 
-call_goes : {ts : List (List ℕ)} (old : List ℕ) (x : Item) (s : Sheet) → is_ascii_text (text_of x) ≡ true → Goes ts old s → Goes ts old (effect x s)
-call_goes old x s a g = record { lines = effect_lines x s g.lines; adds = effect_adds old x s g.lines a g.adds }
+call_goes : {ts : List (List ℕ)} (old : List ℕ) (x : Item) (s : Sheet) → is_inner x ≡ true → is_ascii_text (text_of x) ≡ true → Goes ts old s → Goes ts old (effect x s)
+call_goes old x s i a g = record { lines = effect_lines x s i g.lines; adds = effect_adds old x s g.lines i a g.adds }
 
 guard_goes : {ts : List (List ℕ)} (old t : List ℕ) (a : State) → Goes ts old a.sheet → Goes ts old (put (Guard t) a).sheet
 unfolding put text_of
 guard_goes {ts} old t a g =
     elim (fuses a.last (chars t)) as (λ b. Goes ts old (cond b (record a { sheet = effect Space a.sheet; last = Separated }) a).sheet)
-    [ true ↦ call_goes old Space a.sheet refl g | false ↦ g ]
+    [ true ↦ call_goes old Space a.sheet refl refl g | false ↦ g ]
 
 -- a text more, whatever it is
 said_adds : {ts : List (List ℕ)} (old : List ℕ) (span : Option Span) (t : List ℕ) (s : Sheet) → HasAsciiLines s → AddsAscii ts old s.text → AddsAscii (ts ++ t ∷ []) old (written span t s).text
@@ -154,7 +173,7 @@ unfolding written
 said_adds {ts} old span [] s l h = record { added = h.added; is_added = h.is_added; ascii = subst (λ z. IsAsciiBut (ts ++ [] ∷ []) z) (append-nil h.added) (but_text ts [] h.added [] h.ascii refl) }
 said_adds {ts} old span (c ∷ cs) s l h = record {
   added = h.added ++ (front s ++ c ∷ cs);
-  is_added = written_text span c cs s ∙ ap (λ z. z ++ (front s ++ c ∷ cs)) h.is_added ∙ append_assoc old h.added (front s ++ c ∷ cs);
+  is_added = written_text span c cs s l.flows ∙ ap (λ z. z ++ (front s ++ c ∷ cs)) h.is_added ∙ append_assoc old h.added (front s ++ c ∷ cs);
   ascii = but_text ts (c ∷ cs) h.added (front s) h.ascii (front_ascii s.at_line_start s l);
 }
 
@@ -163,12 +182,12 @@ unfolding literal_written
 literal_said {ts} old span [] s l h = record { added = h.added; is_added = h.is_added; ascii = subst (λ z. IsAsciiBut (ts ++ [] ∷ []) z) (append-nil h.added) (but_text ts [] h.added [] h.ascii refl) }
 literal_said {ts} old span (c ∷ cs) s l h = record {
   added = h.added ++ (front s ++ c ∷ cs);
-  is_added = (adds_literal span c cs s).text ∙ ap (λ z. z ++ (front s ++ c ∷ cs)) h.is_added ∙ append_assoc old h.added (front s ++ c ∷ cs);
+  is_added = (adds_literal span c cs s l.flows).text ∙ ap (λ z. z ++ (front s ++ c ∷ cs)) h.is_added ∙ append_assoc old h.added (front s ++ c ∷ cs);
   ascii = but_text ts (c ∷ cs) h.added (front s) h.ascii (front_ascii s.at_line_start s l);
 }
 
 punct_said : {ts : List (List ℕ)} (old : List ℕ) (b : Bool) (span : Option Span) (t : List ℕ) (s : Sheet) → HasAsciiLines s → AddsAscii ts old s.text → AddsAscii (ts ++ t ∷ []) old (written span t (cond b (record s { semicolons = dropped s.semicolons }) (settled s))).text
-punct_said old true span t s l h = said_adds old span t (record s { semicolons = dropped s.semicolons }) (record { indent_text = l.indent_text; line_end = l.line_end }) h
+punct_said old true span t s l h = said_adds old span t (record s { semicolons = dropped s.semicolons }) (record { indent_text = l.indent_text; line_end = l.line_end; flows = l.flows }) h
 punct_said old false span t s l h = said_adds old span t (settled s) (settled_lines s l) (settled_adds old s l h)
 
 -- what is no ASCII is no text of a call that has its own
@@ -191,42 +210,48 @@ effect_said old (Position pos) s l n h = absurd (true≢false n)
 effect_said old Commit s l n h = absurd (true≢false n)
 effect_said old Deeper s l n h = absurd (true≢false n)
 effect_said old Shallower s l n h = absurd (true≢false n)
+effect_said old (BeginLines max) s l n h = absurd (true≢false n)
+effect_said old AllowBreak s l n h = absurd (true≢false n)
+effect_said old EndLines s l n h = absurd (true≢false n)
 
 text_goes : {ts : List (List ℕ)} (old t : List ℕ) (s : Sheet) → Goes ts old s → Goes (ts ++ t ∷ []) old (effect (Comment t) s)
 unfolding effect
-text_goes old t s g = record { lines = effect_lines (Comment t) s g.lines; adds = said_adds old None t (settled s) (settled_lines s g.lines) (settled_adds old s g.lines g.adds) }
+text_goes old t s g = record { lines = effect_lines (Comment t) s refl g.lines; adds = said_adds old None t (settled s) (settled_lines s g.lines) (settled_adds old s g.lines g.adds) }
 
 -- a call that hands over ASCII, or a text that stands as it is
-other_if : {ts : List (List ℕ)} (old : List ℕ) (a kept : Bool) (x : Item) (s : Sheet) → is_ascii_text (text_of x) ≡ a → (a || kept) ≡ true → Goes ts old s → Goes (ts ++ text_if (kept && not a) (text_of x)) old (effect x s)
-other_if {ts} old true true x s e h g = subst (λ z. Goes z old (effect x s)) (sym (append-nil ts)) (call_goes old x s e g)
-other_if {ts} old true false x s e h g = subst (λ z. Goes z old (effect x s)) (sym (append-nil ts)) (call_goes old x s e g)
-other_if old false true x s e h g = record { lines = effect_lines x s g.lines; adds = effect_said old x s g.lines e g.adds }
-other_if old false false x s e h g = absurd (true≢false (sym h))
+other_if : {ts : List (List ℕ)} (old : List ℕ) (a kept : Bool) (x : Item) (s : Sheet) → is_inner x ≡ true → is_ascii_text (text_of x) ≡ a → (a || kept) ≡ true → Goes ts old s → Goes (ts ++ text_if (kept && not a) (text_of x)) old (effect x s)
+other_if {ts} old true true x s i e h g = subst (λ z. Goes z old (effect x s)) (sym (append-nil ts)) (call_goes old x s i e g)
+other_if {ts} old true false x s i e h g = subst (λ z. Goes z old (effect x s)) (sym (append-nil ts)) (call_goes old x s i e g)
+other_if old false true x s i e h g = record { lines = effect_lines x s i g.lines; adds = effect_said old x s g.lines e g.adds }
+other_if old false false x s i e h g = absurd (true≢false (sym h))
 
 -- and what goes on behind it
 goes_on : (ts : List (List ℕ)) (old : List ℕ) (b : Bool) (t : List ℕ) (us : List (List ℕ)) (s : Sheet) → Goes ((ts ++ text_if b t) ++ us) old s → Goes (ts ++ (text_if b t ++ us)) old s
 goes_on ts old b t us s g = subst (λ z. Goes z old s) (append_assoc ts (text_if b t) us) g
 
-run_goes : {ts : List (List ℕ)} (old : List ℕ) (xs : List Step) (a : State) → are_ascii_or_kept xs ≡ true → Goes ts old a.sheet → Goes (ts ++ other_texts xs) old (run xs a).sheet
+run_goes : {ts : List (List ℕ)} (old : List ℕ) (xs : List Step) (a : State) → are_ascii_or_kept xs ≡ true → are_inner_steps xs ≡ true → Goes ts old a.sheet → Goes (ts ++ other_texts xs) old (run xs a).sheet
 unfolding run put are_ascii_or_kept other_texts is_other is_other_piece is_other_end
-run_goes {ts} old [] a h g = subst (λ z. Goes z old a.sheet) (sym (append-nil ts)) g
-run_goes old (Guard t ∷ xs) a h g = run_goes old xs (put (Guard t) a) h (guard_goes old t a g)
-run_goes {ts} old (Token kind x ∷ xs) a h g =
+run_goes {ts} old [] a h i g = subst (λ z. Goes z old a.sheet) (sym (append-nil ts)) g
+run_goes old (Guard t ∷ xs) a h i g = run_goes old xs (put (Guard t) a) h i (guard_goes old t a g)
+run_goes {ts} old (Token kind x ∷ xs) a h i g =
     let p = and_parts (is_ascii_text (text_of x) || is_kept kind x) (are_ascii_or_kept xs) h in
+    let q = and_parts (is_inner x) (are_inner_steps xs) i in
     goes_on ts old (is_other kind x) (text_of x) (other_texts xs) (run xs (put (Token kind x) a)).sheet
-    (run_goes {ts = ts ++ text_if (is_other kind x) (text_of x)} old xs (put (Token kind x) a) p.1 (other_if old (is_ascii_text (text_of x)) (is_kept kind x) x a.sheet refl p.0 g))
-run_goes {ts} old (Plain x ∷ xs) a h g =
+    (run_goes {ts = ts ++ text_if (is_other kind x) (text_of x)} old xs (put (Token kind x) a) p.1 q.1 (other_if old (is_ascii_text (text_of x)) (is_kept kind x) x a.sheet q.0 refl p.0 g))
+run_goes {ts} old (Plain x ∷ xs) a h i g =
     let p = and_parts (is_ascii_text (text_of x) || is_kept_piece x) (are_ascii_or_kept xs) h in
+    let q = and_parts (is_inner x) (are_inner_steps xs) i in
     goes_on ts old (is_other_piece x) (text_of x) (other_texts xs) (run xs (put (Plain x) a)).sheet
-    (run_goes {ts = ts ++ text_if (is_other_piece x) (text_of x)} old xs (put (Plain x) a) p.1 (other_if old (is_ascii_text (text_of x)) (is_kept_piece x) x a.sheet refl p.0 g))
-run_goes {ts} old (Ends tokens x ∷ xs) a h g =
+    (run_goes {ts = ts ++ text_if (is_other_piece x) (text_of x)} old xs (put (Plain x) a) p.1 q.1 (other_if old (is_ascii_text (text_of x)) (is_kept_piece x) x a.sheet q.0 refl p.0 g))
+run_goes {ts} old (Ends tokens x ∷ xs) a h i g =
     let p = and_parts (is_ascii_text (text_of x) || is_kept_end tokens x) (are_ascii_or_kept xs) h in
+    let q = and_parts (is_inner x) (are_inner_steps xs) i in
     goes_on ts old (is_other_end tokens x) (text_of x) (other_texts xs) (run xs (put (Ends tokens x) a)).sheet
-    (run_goes {ts = ts ++ text_if (is_other_end tokens x) (text_of x)} old xs (put (Ends tokens x) a) p.1 (other_if old (is_ascii_text (text_of x)) (is_kept_end tokens x) x a.sheet refl p.0 g))
-run_goes old (Remake due ∷ xs) a h g = run_goes old xs (put (Remake due) a) h g
-run_goes old (Take side at ∷ xs) a h g = run_goes old xs (put (Take side at) a) h g
-run_goes {ts} old (CommentText t ∷ xs) a h g =
-    let k = run_goes old xs (put (CommentText t) a) h (text_goes old t a.sheet g) in
+    (run_goes {ts = ts ++ text_if (is_other_end tokens x) (text_of x)} old xs (put (Ends tokens x) a) p.1 q.1 (other_if old (is_ascii_text (text_of x)) (is_kept_end tokens x) x a.sheet q.0 refl p.0 g))
+run_goes old (Remake due ∷ xs) a h i g = run_goes old xs (put (Remake due) a) h i g
+run_goes old (Take side at ∷ xs) a h i g = run_goes old xs (put (Take side at) a) h i g
+run_goes {ts} old (CommentText t ∷ xs) a h i g =
+    let k = run_goes old xs (put (CommentText t) a) h i (text_goes old t a.sheet g) in
     subst (λ z. Goes z old (run xs (put (CommentText t) a)).sheet) (append_assoc ts (t ∷ []) (other_texts xs)) k
 
 -- ---- what an emission adds
@@ -238,12 +263,20 @@ part_steps {p = p} {f = f} {env = env} prints w o e =
     let same : steps_of (p nothing env) ≡ h.steps = ap steps_of (h.is_steps nothing) ∙ steps_of_chain h.steps in
     ap are_ascii_or_kept same ∙ h.hands.ascii e
 
+pub part_inner : {v w : Spot} {i : Shape} {p : Part} {f : Phrase} {env : Env} → PrintsOn v w i env p f → is_possible f ≡ true → is_out env.config f ≡ false → are_inner_steps (steps_of (p nothing env)) ≡ true
+unfolding nothing
+part_inner {p = p} {f = f} {env = env} prints w o =
+    let h = (prints.where_possible w o env.maps).writes in
+    let same : steps_of (p nothing env) ≡ h.steps = ap steps_of (h.is_steps nothing) ∙ steps_of_chain h.steps in
+    ap are_inner_steps same ∙ h.inner
+
 -- under ASCII only what is added is ASCII, save what stands as it is, and the texts of comments
 pub printed_ascii : {v w : Spot} {i : Shape} (p : Part) (f : Phrase) (a b : State) (r : Result (Unit {0}) Refusal) → PrintsOn v w i a.env p f → is_possible f ≡ true → WantsAscii a → Follows (p nothing) a b r → OnOk r (AddsAscii (other_texts (steps_of (p nothing a.env))) a.sheet.text b.sheet.text)
 unfolding Follows
 printed_ascii p f a b (Ok u) prints w s k =
-    let begin : Goes [] a.sheet.text a.sheet = record { lines = record { indent_text = s.indent_text; line_end = s.line_end }; adds = adds_none a.sheet.text } in
-    let end = run_goes a.sheet.text (steps_of (p nothing a.env)) a (part_steps prints w (made_not_out p f a.env prints w k.0) s.by_settings) begin in
+    let begin : Goes [] a.sheet.text a.sheet = record { lines = record { indent_text = s.indent_text; line_end = s.line_end; flows = s.flowing }; adds = adds_none a.sheet.text } in
+    let o = made_not_out p f a.env prints w k.0 in
+    let end = run_goes a.sheet.text (steps_of (p nothing a.env)) a (part_steps prints w o s.by_settings) (part_inner prints w o) begin in
     let P : State → Type 0 = λ z. AddsAscii (other_texts (steps_of (p nothing a.env))) a.sheet.text z.sheet.text in
     subst P (sym k.1) end.adds
 printed_ascii p f a b (Err x) prints w s k = tt

@@ -35,7 +35,8 @@ use Rattle.swc_ecma_codegen_tokens.proofs.LiteralParts.{big_ascii, writes_big_di
 use Rattle.swc_ecma_codegen_tokens.proofs.NumberEnds.{size_utf8}
 use Rattle.swc_ecma_codegen_tokens.proofs.NumberPrints.{sign_text_ascii}
 use Rattle.swc_ecma_codegen_tokens.proofs.Phrased.{Prints, prints_same, prints_where}
-use Rattle.swc_ecma_codegen_tokens.proofs.Printed.{Writes, writes_leading, writes_then}
+use Rattle.swc_ecma_codegen_tokens.proofs.Printed.{Writes, writes_then}
+use Rattle.swc_ecma_codegen_tokens.proofs.CommentPrints.{writes_leading}
 use Rattle.swc_ecma_codegen_tokens.proofs.RawTexts.{ascii_is}
 use Rattle.swc_ecma_codegen_tokens.proofs.Remade.{makes_remade, prints_signed, writes_begun_in}
 

@@ -8,14 +8,16 @@ use Rattle.swc_ecma_codegen_grammar.specs.SourceLines.{no_lines}
 use Rattle.swc_ecma_codegen_grammar.specs.Comments.{no_maps}
 use Rattle.swc_ecma_codegen_grammar.specs.GapRules as rules
 use Rattle.swc_ecma_codegen_grammar.specs.GapRules.{fuses}
-use Rattle.swc_ecma_codegen_text_writer.specs.Sheet.{Item, Semi, Space, Keyword, Operator, Param, Property, Line, Lit, Comment, StrLit, Str, Symbol, Punct, Position, Commit, Deeper, Shallower, Sheet, effect, Writes, Refuses, earlier, stopped}
-use Rattle.swc_ecma_codegen_text_writer.proofs.Sheets.{depth, effect_indentation, effect_same}
+use Rattle.swc_ecma_codegen_text_writer.specs.Sheet.{Item, Semi, Space, Keyword, Operator, Param, Property, Line, Lit, Comment, StrLit, Str, Symbol, Punct, Position, Commit, Deeper, Shallower, Sheet, effect, Writes, Refuses, earlier, stopped, BeginLines, AllowBreak, EndLines}
+use Rattle.swc_ecma_codegen_text_writer.proofs.Sheets.{effect_same}
+use Rattle.swc_ecma_codegen_text_writer.proofs.Stays.{depth, effect_indentation}
 use Rattle.swc_ecma_codegen_tokens.specs.declared.LowerEmitter.{LowerEmitter}
 use Rattle.swc_ecma_codegen_tokens.specs.declared.previous.PreviousToken.{PreviousToken}
 use Rattle.swc_ecma_codegen_tokens.specs.declared.previous.PreviousToken.TheVariants as last
 use Rattle.swc_ecma_codegen_tokens.specs.PreviousToken.{last_at}
 use Rattle.swc_ecma_codegen_tokens.specs.View.{state_of}
-use Rattle.swc_ecma_codegen_tokens.specs.Run.{Part, when_minified, no_part, State, Step, Guard, Token, Plain, Ends, CommentText, IsRefused, Does, with_source, put, step, text_of, after_token, after_tokens, after_plain}
+use Rattle.swc_ecma_codegen_tokens.specs.Words.{allow_break, allows_break, break_behind, break_where}
+use Rattle.swc_ecma_codegen_tokens.specs.Run.{unlined, is_bounded, step, Part, when_minified, no_part, State, Step, Guard, Token, Plain, Ends, CommentText, IsRefused, Does, with_source, put, text_of, after_token, after_tokens, after_plain}
 use Rattle.swc_ecma_codegen_tokens.proofs.Emitting.{is_taking, emits_step, emits_refused, does_step, put_lines, refused_lines, follows_same, minified_same, pretty_same}
 
 -- ---- what no call changes
@@ -52,6 +54,9 @@ depth_level (Symbol span t) n h = refl
 depth_level (Punct span t) n h = refl
 depth_level (Position pos) n h = refl
 depth_level Commit n h = refl
+depth_level (BeginLines max) n h = refl
+depth_level AllowBreak n h = refl
+depth_level EndLines n h = refl
 
 effect_level : (x : Item) (s : Sheet) → is_level x ≡ true → (effect x s).indentation ≡ s.indentation
 effect_level x s h = effect_indentation x s ∙ depth_level x s.indentation h
@@ -107,13 +112,13 @@ unfolding Writes with_source
 step_called x item config e f old new (Ok u) made refused none fresh w ok err = λ lines maps.
     let there : State = state_of config old e in
     let q : state_of config new f ≡ put x there =
-    (λ i. record { env = record { config = config; keeps_invalid = (ap (λ (s : Sheet). s.keeps_invalid) w.1 ∙ effect_keeps item old) i; lines = no_lines; maps = no_maps }; sheet = w.1 i; last = ok.0 i; failed = ok.1 i })
+    (λ i. record { env = record { config = unlined config; max_line = config.max_line; keeps_invalid = (ap (λ (s : Sheet). s.keeps_invalid) w.1 ∙ effect_keeps item old) i; lines = no_lines; maps = no_maps }; sheet = w.1 i; last = ok.0 i; failed = ok.1 i })
     ∙ sym made in
     emits_step x (with_source lines maps there) (with_source lines maps (state_of config new f)) fresh (ap (with_source lines maps) q ∙ put_lines x lines maps there none)
 step_called x item config e f old new (Err er) made refused none fresh w ok err = λ lines maps.
     let there : State = state_of config old e in
     let q : state_of config new f ≡ record there { sheet = new; failed = true } =
-    (λ i. record { env = record { config = config; keeps_invalid = refuses_keeps old new w i; lines = no_lines; maps = no_maps }; sheet = new; last = err.0 i; failed = err.1 i }) in
+    (λ i. record { env = record { config = unlined config; max_line = config.max_line; keeps_invalid = refuses_keeps old new w i; lines = no_lines; maps = no_maps }; sheet = new; last = err.0 i; failed = err.1 i }) in
     emits_refused x er (with_source lines maps there) (with_source lines maps (state_of config new f)) fresh (ap (with_source lines maps) q) (refused_lines x er there new lines maps (refused er new w))
 
 -- a token, by one call
@@ -213,3 +218,23 @@ pub not_skipped : (part : Part) (a b : State) (r : Result (Unit {0}) Refusal) �
 unfolding with_source
 not_skipped part a b (Ok u) h k = λ lines maps rest c r f. follows_same (when_minified no_part part rest) (part rest) (with_source lines maps a) c r (pretty_same no_part part rest (with_source lines maps a).env h) (k lines maps rest c r f)
 not_skipped part a b (Err e) h k = λ lines maps rest. follows_same (when_minified no_part part rest) (part rest) (with_source lines maps a) (with_source lines maps b) (Err e) (pretty_same no_part part rest (with_source lines maps a).env h) (k lines maps rest)
+
+-- ---- what is done where lines are bounded
+
+pub passes_break : (a : State) → is_bounded a.env ≡ false → Does allow_break a a (Ok tt)
+unfolding with_source allow_break break_where
+passes_break a h lines maps rest c r k = follows_same (allow_break rest) rest (with_source lines maps a) c r (ap (λ b. cond b (step (Plain AllowBreak) rest) rest (with_source lines maps a).env) h) k
+
+pub allows_one : (a b : State) (r : Result (Unit {0}) Refusal) → is_bounded a.env ≡ true → Does (step (Plain AllowBreak)) a b r → Does allow_break a b r
+unfolding with_source allow_break break_where
+allows_one a b (Ok u) h k = λ lines maps rest c r f. follows_same (allow_break rest) (step (Plain AllowBreak) rest) (with_source lines maps a) c r (ap (λ b. cond b (step (Plain AllowBreak) rest) rest (with_source lines maps a).env) h) (k lines maps rest c r f)
+allows_one a b (Err e) h k = λ lines maps rest. follows_same (allow_break rest) (step (Plain AllowBreak) rest) (with_source lines maps a) (with_source lines maps b) (Err e) (ap (λ b. cond b (step (Plain AllowBreak) rest) rest (with_source lines maps a).env) h) (k lines maps rest)
+
+pub no_break : (t : List ℕ) (a : State) → allows_break t ≡ false → Does (break_behind t) a a (Ok tt)
+unfolding with_source
+no_break t a h lines maps rest c r k = follows_same (break_behind t rest) rest (with_source lines maps a) c r (ap (λ b. cond b (allow_break rest) rest (with_source lines maps a).env) h) k
+
+pub has_break : (t : List ℕ) (a b : State) (r : Result (Unit {0}) Refusal) → allows_break t ≡ true → Does allow_break a b r → Does (break_behind t) a b r
+unfolding with_source
+has_break t a b (Ok u) h k = λ lines maps rest c r f. follows_same (break_behind t rest) (allow_break rest) (with_source lines maps a) c r (ap (λ z. cond z (allow_break rest) rest (with_source lines maps a).env) h) (k lines maps rest c r f)
+has_break t a b (Err e) h k = λ lines maps rest. follows_same (break_behind t rest) (allow_break rest) (with_source lines maps a) (with_source lines maps b) (Err e) (ap (λ z. cond z (allow_break rest) rest (with_source lines maps a).env) h) (k lines maps rest)

@@ -1,7 +1,7 @@
 -- Parts that write what syntax leaves open: one of the lists that their phrase has.
-use Rattle.std.proofs.Common.{◌≡◌, ◌⊎◌, ℕ, None, Bool, true, false, cond, ◌||◌, List, [], ◌∷◌, ◌++◌, ◌&&◌, append-nil, codes, refl, sym, ap, ◌∙◌, subst, inl, inr}
-use Rattle.std.proofs.lemmas.Bool.{cases_Bool, true≢false}
-use Rattle.swc_ecma_codegen_grammar.specs.Phrases.{Phrase, Nothing, Closing, CommaBefore, OptionalParentheses, Chosen, EmptyArguments, LoopEnding, AttributesWord, Generates, chosen, closing_mark, closing_token, in_parentheses, comma, open_parenthesis, is_possible, names_in, ◌>◌, mark, ending}
+use Rattle.std.proofs.Common.{◌≡◌, ℕ, None, Bool, true, false, cond, ◌||◌, List, [], ◌∷◌, ◌++◌, ◌&&◌, append-nil, codes, refl, sym, ap, ◌∙◌, subst, inl, inr}
+use Rattle.std.proofs.lemmas.Bool.{cases_Bool}
+use Rattle.swc_ecma_codegen_grammar.specs.Phrases.{Phrase, Nothing, Closing, CommaBefore, OptionalParentheses, Chosen, EmptyArguments, LoopEnding, AttributesWord, Generates, chosen, closing_mark, in_parentheses, comma, open_parenthesis, is_possible, names_in, ◌>◌, mark, ending}
 use Rattle.swc_ecma_codegen_grammar.specs.Phrases as phrases
 use Rattle.swc_ecma_codegen_grammar.specs.Chars.{is_start, is_part, is_letter, is_digit}
 use Rattle.swc_ecma_codegen_grammar.specs.Names.{is_word, all_part}
@@ -15,19 +15,18 @@ use Rattle.std.specs.Str.{chars, is_utf8}
 use Rattle.swc_ecma_codegen_tokens.specs.Choices.{optional_parentheses, empty_arguments, loop_ending, attributes_word}
 use Rattle.swc_ecma_codegen_tokens.specs.Escapes.{is_spelled_anew, may_make_text}
 use Rattle.swc_ecma_codegen_tokens.specs.Run.{Env, Plan, Part, at_maps, no_part}
-use Rattle.swc_ecma_codegen_tokens.specs.Scripts.{is_str}
 use Rattle.swc_ecma_codegen_tokens.specs.Settings.{settings_of}
 use Rattle.swc_ecma_codegen_tokens.specs.Targets.{is_out}
 use Rattle.swc_ecma_codegen_tokens.specs.Words.{keyword, punct, semi}
 use Rattle.swc_ecma_codegen_tokens.specs.Written.{IsMark, IsWord}
 use Rattle.swc_ecma_codegen_tokens.proofs.Emitting.{minified_same, pretty_same}
-use Rattle.swc_ecma_codegen_tokens.proofs.StepAscii.{holds_string}
 use Rattle.swc_ecma_codegen_text_writer.specs.Sheet.{Sheet}
-use Rattle.swc_ecma_codegen_tokens.specs.Named.{EachName, AllStand}
-use Rattle.swc_ecma_codegen_tokens.proofs.Printed.{from_where, makes_some, MakesAt}
-use Rattle.swc_ecma_codegen_tokens.proofs.PartSteps.{NamedBy, PlacedBy, no_names, placed_none, no_strings}
+use Rattle.swc_ecma_codegen_tokens.specs.Named.{EachName}
+use Rattle.swc_ecma_codegen_tokens.proofs.Printed.{from_where}
+use Rattle.swc_ecma_codegen_tokens.proofs.PartSteps.{NamedBy, PlacedBy}
 use Rattle.swc_ecma_codegen_tokens.proofs.Phrased.{Prints, then, prints_nothing, prints_keyword, prints_punct, prints_semi, prints_same, PrintsAt, prints_wider}
-use Rattle.swc_ecma_codegen_tokens.proofs.Shapes.{Shape, open_}
+use Rattle.swc_ecma_codegen_tokens.proofs.Shapes.{ended_if_any, Shape, open_}
+use Rattle.swc_ecma_codegen_tokens.proofs.CutStanding.{AllHere}
 
 -- ---- a phrase whose lists another has too
 
@@ -39,7 +38,7 @@ pub record IsAmong (config : Config) (f g : Phrase) : Type 0 where
   pub out : is_out config f ≡ is_out config g
   pub makes : may_make_text config f ≡ true → may_make_text config g ≡ true
   pub names : names_in f ≡ names_in g
-  pub stands : (a b : Sheet) (us ts : List Token) → AllStand config a b us f ts → AllStand config a b us g ts
+  pub stands : (a b : Sheet) (us ts : List Token) → AllHere config a b us f ts → AllHere config a b us g ts
 
 pub placed_among : {k : Shape} {env : Env} {p : Part} {f g : Phrase} {ts : List Token} → IsAmong env.config f g → PlacedBy k env p f ts → PlacedBy k env p g ts
 placed_among i x = record { stands = λ a s us r k c. i.stands a.sheet _ us _ (x.stands a s us r k c) }
@@ -102,7 +101,7 @@ parentheses_among config f = record {
   out = or_false (is_out config f);
   makes = λ e. sym (or_false (may_make_text config f)) ∙ e;
   names = append-nil (names_in f);
-  stands = λ a b us ts g. inr (g.3.0, subst (λ z. AllStand config a b (us ++ z) f g.3.0) g.2 g.3.2, g.4 ∙ ap (λ z. z ++ g.1) g.2 ∙ ap (λ z. open_parenthesis ∷ z) (g.3.4 ∙ ap (λ z. g.3.0 ++ z) g.3.3));
+  stands = λ a b us ts g. inr (g.3.0, subst (λ z. AllHere config a b (us ++ z) f g.3.0) g.2 g.3.2, g.4 ∙ ap (λ z. z ++ g.1) g.2 ∙ ap (λ z. open_parenthesis ∷ z) (g.3.4 ∙ ap (λ z. g.3.0 ++ z) g.3.3));
 }
 
 -- a part that writes a phrase bare, or in parentheses, writes it in optional ones
@@ -184,10 +183,10 @@ pub not_ended_same : (rest : Plan) (env : Env) → is_up_to_es5 env.config.targe
 unfolding loop_ending
 not_ended_same rest env e = ap (λ b. cond b (semi rest env) (rest env)) e
 
-pub prints_loop_ending : {env : Env} → PrintsAt open_ env loop_ending (Chosen LoopEnding)
+pub prints_loop_ending : {env : Env} → PrintsAt ended_if_any env loop_ending (Chosen LoopEnding)
 prints_loop_ending {env} = elim (cases_Bool (is_up_to_es5 env.config.target)) [
-  | inl e ↦ prints_among (ending_among env.config e) (prints_same loop_ending semi (λ maps rest. ended_same rest (at_maps maps env) e) (prints_wider open_ refl (prints_semi env)))
-  | inr e ↦ prints_among (no_ending_among env.config e) (prints_same loop_ending (λ rest. rest) (λ maps rest. not_ended_same rest (at_maps maps env) e) prints_nothing)
+  | inl e ↦ prints_among (ending_among env.config e) (prints_same loop_ending semi (λ maps rest. ended_same rest (at_maps maps env) e) (prints_wider ended_if_any refl (prints_semi env)))
+  | inr e ↦ prints_among (no_ending_among env.config e) (prints_same loop_ending (λ rest. rest) (λ maps rest. not_ended_same rest (at_maps maps env) e) (prints_wider ended_if_any refl prints_nothing))
 ]
 
 -- the word before import attributes, by the settings

@@ -17,8 +17,11 @@ use Rattle.swc_ecma_codegen_grammar.specs.GapRules.{PreviousToken, Start, Separa
 use Rattle.swc_ecma_codegen_grammar.specs.Parts as parts
 use Rattle.swc_ecma_codegen_grammar.specs.Parts.{Gap, Own, tokens_of, remarks_in, NoneFuse, Reduced}
 use Rattle.swc_ecma_codegen_grammar.specs.Phrases.{One, where_}
-use Rattle.swc_ecma_codegen_text_writer.specs.Sheet.{Sheet, StrLit, Punct, Position, Line, holds_semicolons, effect, written, literal_written, ended, appended, pointed, settled, before_punct, is_ending}
+use Rattle.swc_ecma_codegen_text_writer.specs.Places.{Place}
+use Rattle.swc_ecma_codegen_text_writer.proofs.Flows.{appended_leaves, appended_text}
+use Rattle.swc_ecma_codegen_text_writer.specs.Sheet.{Sheet, StrLit, Punct, Position, Line, holds_semicolons, effect, written, literal_written, ended, appended, pointed, settled, before_punct, is_ending, Flow, fills_lines}
 use Rattle.swc_ecma_codegen_text_writer.proofs.Sheets.{pointed_alike, alike_same}
+use Rattle.swc_ecma_codegen_text_writer.proofs.Stays.{appended_stays, settled_stays}
 use Rattle.swc_ecma_codegen_literals.specs.AsciiNames.{is_ascii_text}
 use Rattle.swc_ecma_codegen_tokens.specs.Ascii.{is_kept_piece, is_other_piece, is_kept_end, is_other_end, is_other_value, keeps_other, are_ascii, keeps_tokens, are_ascii_or_kept}
 use Rattle.swc_ecma_codegen_tokens.specs.Literals.{hashbang}
@@ -27,7 +30,7 @@ use Rattle.swc_ecma_codegen_tokens.specs.Scripts.{is_str, is_string_call}
 use Rattle.swc_ecma_codegen_tokens.specs.Words.{line_end, position}
 use Rattle.swc_ecma_codegen_tokens.specs.Written.{IsLineEnd, AtRest, all_indent, holds_one, is_free}
 use Rattle.swc_ecma_codegen_tokens.proofs.AfterBlanks.{start_alone}
-use Rattle.swc_ecma_codegen_tokens.proofs.StepAscii.{Hands, has_string, hands_ascii, hands_then}
+use Rattle.swc_ecma_codegen_tokens.proofs.StepAscii.{HandsOverAscii, has_string, hands_ascii, hands_then}
 use Rattle.swc_ecma_codegen_tokens.proofs.PendingSemi.{front, pointed_keeps, settled_none}
 use Rattle.swc_ecma_codegen_tokens.proofs.Indented.{blanks, blanks_text, blanks_remarks, indent_utf8, indent_chars}
 use Rattle.swc_ecma_codegen_tokens.proofs.Levels.{levels, rise}
@@ -37,6 +40,8 @@ use Rattle.swc_ecma_codegen_tokens.proofs.Phrased.{PrintsAt, prints_one, prints_
 use Rattle.swc_ecma_codegen_tokens.proofs.Printed.{takes_none, makes_silently, MakesAt, chain, no_text}
 use Rattle.swc_ecma_codegen_tokens.proofs.Shapes.{Shape, first_line, Fits, fits_then, fits_wider, fits_text, fits_end}
 use Rattle.swc_ecma_codegen_tokens.proofs.Texts.{Adds, adds_written, adds_literal, adds_more}
+use Rattle.swc_ecma_codegen_text_writer.proofs.Cuts.{grows_as, grows_then, appended_grows, pointed_grows}
+use Rattle.swc_ecma_codegen_tokens.proofs.Cuts.{cuts_then, cuts_whole, cuts_none}
 use Rattle.swc_ecma_codegen_tokens.proofs.Laid.{LaysWith, LaysAt, IsFirst, Enters, held, laid_out}
 use Rattle.swc_ecma_codegen_tokens.proofs.Written.{front_indent, apart_open, settle, settle_rest, lays_settled, lays_position}
 
@@ -105,32 +110,40 @@ ended_here : (s : Sheet) → s.at_line_start ≡ false → ended s ≡ record (a
 unfolding ended
 ended_here s h = ap (λ b. cond b (record s { pending = None }) (record (appended s.line_end s) { at_line_start = true })) h
 
+line_leaves : {A : Type 0} (f : Sheet → A) → ((s : Sheet) (t : List ℕ) (p : Place) (l : Flow) → f (record s { text = t; place = p; lines = l }) ≡ f s) → (m : Sheet) → f (appended m.line_end m) ≡ f m
+line_leaves f k m = appended_leaves f k m.line_end m
+
 -- a hashbang that was added, and the end of its line, where no semicolon is held back
 line_lays : (t : List ℕ) (s : State) (m : Sheet) → IsUtf8 t → has_shape Hashbang (chars t) ≡ true → holds_one s.sheet.semicolons ≡ false → AtRest s → Adds t s.sheet m → LaysAt first_line (token_of Hashbang (chars t) ∷ []) s (record s { sheet = record (appended m.line_end m) { at_line_start = true }; last = Separated })
-unfolding appended tokens_of remarks_in parts.text_of is_free
+unfolding tokens_of remarks_in parts.text_of is_free
 line_lays t s m u p o r h =
     let i = front_indent s.sheet r.indent_text in
     let l = line_pieces s.sheet.line_end r.line_end in
     let b : State = record s { sheet = record (appended m.line_end m) { at_line_start = true }; last = Separated } in
     let out : List parts.Part = Gap (blanks (front s.sheet)) ∷ Own Hashbang (chars t) ∷ Gap l.pieces ∷ [] in
+    let utf8 : IsUtf8 ((front s.sheet ++ t) ++ s.sheet.line_end) = IsUtf8-append (front s.sheet ++ t) s.sheet.line_end (IsUtf8-append (front s.sheet) t (indent_utf8 _ i) u) l.utf8 in
     record {
       out = out;
       laid = out;
       bytes = (front s.sheet ++ t) ++ s.sheet.line_end;
-      text = ap (λ z. m.text ++ z) h.line_end ∙ ap (λ z. z ++ s.sheet.line_end) h.text ∙ append_assoc s.sheet.text (front s.sheet ++ t) s.sheet.line_end;
-      utf8 = IsUtf8-append (front s.sheet ++ t) s.sheet.line_end (IsUtf8-append (front s.sheet) t (indent_utf8 _ i) u) l.utf8;
+      text = appended_text m.line_end m (h.fills ∙ r.flowing) ∙ ap (λ z. m.text ++ z) h.line_end ∙ ap (λ z. z ++ s.sheet.line_end) h.text ∙ append_assoc s.sheet.text (front s.sheet ++ t) s.sheet.line_end;
+      utf8 = utf8;
       spells = laid_line t s.sheet u i l;
       tokens = refl;
       remarks = ap (λ z. remarks_of (blanks (front s.sheet)) ++ (z ++ [])) l.no_remarks ∙ append-nil (remarks_of (blanks (front s.sheet))) ∙ blanks_remarks _;
       apart = λ e more n. line_apart t s more p l (line_enters s e) n;
-      reduces = λ more ys d. laid_out s b out more ys o (ap holds_one h.semicolons ∙ o) d;
-      holds = ap holds_semicolons h.semicolons;
+      reduces = λ more ys d. laid_out s b out more ys o (ap holds_one (line_leaves (λ z. z.semicolons) (λ z t p l. refl) m ∙ h.semicolons) ∙ o) d;
+      holds = ap holds_semicolons (line_leaves (λ z. z.semicolons) (λ z t p l. refl) m ∙ h.semicolons);
       whole = λ e. refl;
+      cuts = cuts_whole out ((front s.sheet ++ t) ++ s.sheet.line_end) s.sheet b.sheet refl utf8 (laid_line t s.sheet u i l)
+          (grows_as ((front s.sheet ++ t) ++ m.line_end) ((front s.sheet ++ t) ++ s.sheet.line_end) s.sheet b.sheet (ap (λ z. (front s.sheet ++ t) ++ z) h.line_end)
+          (grows_then (front s.sheet ++ t) m.line_end s.sheet m (appended m.line_end m) h.grows (appended_grows m.line_end m)));
       rest = record {
-        indent_text = subst (λ z. all_indent z ≡ true) (sym h.indent_text) r.indent_text;
-        line_end = subst (λ z. IsLineEnd z) (sym h.line_end) r.line_end;
+        indent_text = subst (λ z. all_indent z ≡ true) (sym (line_leaves (λ z. z.indent_text) (λ z t p l. refl) m ∙ h.indent_text)) r.indent_text;
+        line_end = subst (λ z. IsLineEnd z) (sym (line_leaves (λ z. z.line_end) (λ z t p l. refl) m ∙ h.line_end)) r.line_end;
         free = λ o e. refl;
         allowed = apart_open;
+        flowing = (appended_stays m.line_end m).fills ∙ h.fills ∙ r.flowing;
       };
       fits = λ e. line_fits (front s.sheet) (chars t) l.pieces i;
     }
@@ -138,21 +151,22 @@ line_lays t s m u p o r h =
 -- ---- the calls
 
 -- a literal more, or none
-literal_more : (t u : List ℕ) (a b : Sheet) → Adds t a b → Adds (t ++ u) a (literal_written dummy_span u b)
+literal_more : (t u : List ℕ) (a b : Sheet) → fills_lines a.lines ≡ false → Adds t a b → Adds (t ++ u) a (literal_written dummy_span u b)
 unfolding literal_written
-literal_more t [] a b h = subst (λ z. Adds z a b) (sym (append-nil t)) h
-literal_more t (c ∷ cs) a b h = adds_more t (c ∷ cs) a b _ h (adds_literal dummy_span c cs b)
+literal_more t [] a b n h = subst (λ z. Adds z a b) (sym (append-nil t)) h
+literal_more t (c ∷ cs) a b n h = adds_more t (c ∷ cs) a b _ h (adds_literal dummy_span c cs b (h.fills ∙ n))
 
 calls_sheet : List ℕ → Sheet → Sheet
 calls_sheet t s = literal_written dummy_span t (settled (written None (codes "#!") (settled s)))
 
-calls_add : (t : List ℕ) (s : Sheet) → Adds (codes "#!" ++ t) (settled s) (calls_sheet t s)
+calls_add : (t : List ℕ) (s : Sheet) → fills_lines s.lines ≡ false → Adds (codes "#!" ++ t) (settled s) (calls_sheet t s)
 unfolding calls_sheet
-calls_add t s =
+calls_add t s n =
     let a : Sheet = settled s in
+    let still = (settled_stays s).fills ∙ n in
     let b : Sheet = written None (codes "#!") a in
-    let h : Adds (codes "#!") a b = adds_written None 35 (33 ∷ []) a in
-    literal_more (codes "#!") t a (settled b) (subst (λ z. Adds (codes "#!") a z) (sym (still_settled (codes "#!") a b (settled_none s) h)) h)
+    let h : Adds (codes "#!") a b = adds_written None 35 (33 ∷ []) a still in
+    literal_more (codes "#!") t a (settled b) still (subst (λ z. Adds (codes "#!") a z) (sym (still_settled (codes "#!") a b (settled_none s) h)) h)
 
 unfoldable pub hashbang_steps : List ℕ → List Step
 hashbang_steps t = Plain (Punct None (codes "#!")) ∷ Ends ((Hashbang, codes "#!" ++ t) ∷ []) (StrLit dummy_span t) ∷ Plain Line ∷ []
@@ -161,7 +175,7 @@ pub calls_lay : (t : List ℕ) (s : State) → IsUtf8 t → is_one_line (chars t
 unfolding hashbang_steps calls_sheet run put effect text_of after_plain before_punct is_ending
 calls_lay t s u h r =
     let m : Sheet = calls_sheet t s.sheet in
-    let a : Adds (codes "#!" ++ t) (settled s.sheet) m = calls_add t s.sheet in
+    let a : Adds (codes "#!" ++ t) (settled s.sheet) m = calls_add t s.sheet r.flowing in
     let end : ended (settled m) ≡ record (appended m.line_end m) { at_line_start = true } =
     ap ended (still_settled (codes "#!" ++ t) (settled s.sheet) m (settled_none s.sheet) a) ∙ ended_here m a.in_line in
     let P : List ℕ → Sheet → Type 0 = λ x z. LaysAt first_line (token_of Hashbang x ∷ []) s (record s { sheet = z; last = Separated }) in
@@ -175,7 +189,7 @@ kept_line : (b : Bool) → ((b || true) && true) ≡ true
 kept_line true = refl
 kept_line false = refl
 
-line_hands : (env : Env) (t : List ℕ) → IsUtf8 t → Hands env (hashbang_steps t) (token_of Hashbang (codes "#!" ++ chars t) ∷ [])
+line_hands : (env : Env) (t : List ℕ) → IsUtf8 t → HandsOverAscii env (hashbang_steps t) (token_of Hashbang (codes "#!" ++ chars t) ∷ [])
 unfolding hashbang_steps are_ascii_or_kept has_string is_string_call keeps_other is_other_piece is_kept_piece is_other_end is_kept_end is_hashbang_kind text_of keeps_tokens is_other_value token_of value_of
 line_hands env t u = record {
   ascii = λ e. kept_line (is_ascii_text t);
@@ -195,8 +209,8 @@ pointed_enters i pos s (inr k) = inr (
   k.0,
   record {
     nothing_written = k.1.nothing_written;
-    nothing_held = pointed_keeps (λ z. holds_one z.semicolons) (λ z x. refl) (λ z x. refl) pos s.sheet ∙ k.1.nothing_held;
-    at_margin = pointed_keeps (λ z. front z) (λ z x. refl) (λ z x. refl) pos s.sheet ∙ k.1.at_margin;
+    nothing_held = pointed_keeps (λ z. holds_one z.semicolons) (λ z x l. refl) (λ z x. refl) pos s.sheet ∙ k.1.nothing_held;
+    at_margin = pointed_keeps (λ z. front z) (λ z x l. refl) (λ z x. refl) pos s.sheet ∙ k.1.at_margin;
   },
 )
 
@@ -207,15 +221,16 @@ lays_pointed {i} pos s b ts l =
       out = l.out;
       laid = l.laid;
       bytes = l.bytes;
-      text = l.text ∙ ap (λ z. z ++ l.bytes) (pointed_keeps (λ z. z.text) (λ z x. refl) (λ z x. refl) pos s.sheet);
+      text = l.text ∙ ap (λ z. z ++ l.bytes) (pointed_keeps (λ z. z.text) (λ z x l. refl) (λ z x. refl) pos s.sheet);
       utf8 = l.utf8;
       spells = l.spells;
       tokens = l.tokens;
       remarks = l.remarks;
       apart = λ e. l.apart (pointed_enters i pos s e);
-      reduces = λ more ys d. subst (λ z. Reduced (z ++ (l.out ++ more)) (l.laid ++ ys)) (pointed_keeps (λ z. held z) (λ z x. refl) (λ z x. refl) pos s.sheet) (l.reduces more ys d);
+      reduces = λ more ys d. subst (λ z. Reduced (z ++ (l.out ++ more)) (l.laid ++ ys)) (pointed_keeps (λ z. held z) (λ z x l. refl) (λ z x. refl) pos s.sheet) (l.reduces more ys d);
       holds = l.holds ∙ p.holds;
       whole = λ e. l.whole (p.holds ∙ e);
+      cuts = cuts_then [] l.laid s.sheet (pointed pos s.sheet) b.sheet (cuts_none s.sheet (pointed pos s.sheet) (pointed_grows pos s.sheet)) l.cuts;
       rest = l.rest;
       fits = l.fits;
     }
@@ -231,6 +246,7 @@ placed_case env pos false p ts h = record {
         is_steps = λ rest. ap (λ z. next (Plain (Position pos)) z) (x.is_steps rest);
         lays = λ s r c. lays_pointed pos s _ ts (x.lays (record s { sheet = pointed pos s.sheet }) (lays_position pos s r).rest c);
         remakes = x.remakes;
+        inner = x.inner;
         deep = let d = x.deep in omega (arith, d);
         hands = hands_then (hands_ascii (at_maps maps env) (Plain (Position pos) ∷ []) [] refl no_text) x.hands;
         told = x.told;

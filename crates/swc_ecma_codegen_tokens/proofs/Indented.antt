@@ -6,7 +6,7 @@ use Rattle.std.proofs.lemmas.Bool.{and_from, and_parts, eqb-true, or_cases}
 use Rattle.std.proofs.lemmas.Str.{chars-IsAscii, IsUtf8-from_ascii}
 use Rattle.std.proofs.lemmas.Str.Ascii.{IsAscii-cons, IsAscii-nil}
 use Rattle.swc_ecma_codegen_grammar.specs.Chars.{is_blank, is_line_end, is_one_line}
-use Rattle.swc_ecma_codegen_grammar.specs.Trivia.{Piece, Blank, is_piece, piece_text, pieces_text, all_pieces, remarks_of}
+use Rattle.swc_ecma_codegen_grammar.specs.Trivia.{is_piece, piece_text, pieces_text, all_pieces, remarks_of}
 use Rattle.swc_ecma_codegen_tokens.specs.Written.{all_indent, is_indent}
 unfoldable pub use Rattle.swc_ecma_codegen_tokens.specs.Written.{blanks}
 

@@ -6,12 +6,14 @@ use Rattle.swc_ecma_codegen_grammar.specs.declared.kinds.Kind.TheVariants.{SameL
 use Rattle.swc_ecma_codegen_grammar.specs.Chars.{is_one_line}
 use Rattle.swc_ecma_codegen_grammar.specs.Tokens as lexical
 use Rattle.swc_ecma_codegen_grammar.specs.Tokens.{Token, token_of, has_shape}
-use Rattle.swc_ecma_codegen_grammar.specs.Trivia.{pieces_text, remarks_of}
+use Rattle.swc_ecma_codegen_grammar.specs.Trivia.{Piece, pieces_text, remarks_of}
 use Rattle.swc_ecma_codegen_grammar.specs.Reads.{Reads, ReadsOn, is_same_line}
 use Rattle.swc_ecma_codegen_grammar.specs.Trivia.{Remark}
-use Rattle.swc_ecma_codegen_grammar.specs.GapRules.{PreviousToken, Start, last_after, last_after_gap}
+use Rattle.swc_ecma_codegen_grammar.specs.GapRules.{PreviousToken, Start, Separated, last_after, last_after_gap}
 use Rattle.swc_ecma_codegen_grammar.specs.Parts as parts
-use Rattle.swc_ecma_codegen_grammar.specs.Parts.{Gap, Own, Joint, OfLine, OnLine, PastLine, AtJoint, Broken, over_gap, over_own, walk, is_broken, tokens_of, remarks_in, NoneFuse}
+use Rattle.swc_ecma_codegen_grammar.specs.Parts.{Gap, Own, Joint, Break, OfLine, OnLine, PastLine, AtJoint, Broken, over_gap, over_own, walk, is_broken, tokens_of, remarks_in, NoneFuse}
+use Rattle.swc_ecma_codegen_grammar.specs.LineEnds.{IsNewLine, segments, ended_text, segments_in}
+use Rattle.swc_ecma_codegen_grammar.proofs.LineEnds.{reads_cut}
 use Rattle.swc_ecma_codegen_grammar.proofs.Reading.{reads}
 use Rattle.swc_ecma_codegen_tokens.specs.Written.{without_joints}
 use Rattle.swc_ecma_codegen_tokens.proofs.Shapes.{Le, line_first, same}
@@ -21,6 +23,7 @@ stripped [] = []
 stripped (Gap ps ∷ xs) = Gap ps ∷ stripped xs
 stripped (Own x t ∷ xs) = Own x t ∷ stripped xs
 stripped (Joint ∷ xs) = stripped xs
+stripped (Break ∷ xs) = Break ∷ stripped xs
 
 stripped_text : (xs : List parts.Part) → parts.text_of (stripped xs) ≡ parts.text_of xs
 unfolding stripped parts.text_of
@@ -28,6 +31,7 @@ stripped_text [] = refl
 stripped_text (Gap ps ∷ xs) = ap (λ z. pieces_text ps ++ z) (stripped_text xs)
 stripped_text (Own x t ∷ xs) = ap (λ z. t ++ z) (stripped_text xs)
 stripped_text (Joint ∷ xs) = stripped_text xs
+stripped_text (Break ∷ xs) = stripped_text xs
 
 stripped_remarks : (xs : List parts.Part) → remarks_in (stripped xs) ≡ remarks_in xs
 unfolding stripped remarks_in
@@ -35,6 +39,7 @@ stripped_remarks [] = refl
 stripped_remarks (Gap ps ∷ xs) = ap (λ z. remarks_of ps ++ z) (stripped_remarks xs)
 stripped_remarks (Own x t ∷ xs) = stripped_remarks xs
 stripped_remarks (Joint ∷ xs) = stripped_remarks xs
+stripped_remarks (Break ∷ xs) = stripped_remarks xs
 
 stripped_fuse : (k : PreviousToken) (xs : List parts.Part) → NoneFuse k xs → NoneFuse k (stripped xs)
 unfolding stripped NoneFuse
@@ -42,6 +47,7 @@ stripped_fuse k [] h = h
 stripped_fuse k (Gap ps ∷ xs) h = (h.0, h.1, h.2, stripped_fuse (last_after_gap k ps) xs h.3)
 stripped_fuse k (Own x t ∷ xs) h = (h.0, h.1, h.2, h.3, stripped_fuse (last_after k x t) xs h.4)
 stripped_fuse k (Joint ∷ xs) h = stripped_fuse k xs h
+stripped_fuse k (Break ∷ xs) h = (h.0, stripped_fuse k xs h.1, stripped_fuse Separated xs h.2)
 
 -- a token that is spelled is no joint
 spelled_kind : (x : Kind) (t : List ℕ) → has_shape x t ≡ true → is_same_line x ≡ false
@@ -63,6 +69,7 @@ stripped_tokens k [] h = unfold without_joints in refl
 stripped_tokens k (Gap ps ∷ xs) h = stripped_tokens (last_after_gap k ps) xs h.3
 stripped_tokens k (Own x t ∷ xs) h = ap (λ z. token_of x t ∷ z) (stripped_tokens (last_after k x t) xs h.4) ∙ sym (kept x t (tokens_of xs) h.0)
 stripped_tokens k (Joint ∷ xs) h = stripped_tokens k xs h ∙ sym (joint_left (tokens_of xs))
+stripped_tokens k (Break ∷ xs) h = stripped_tokens k xs h.1
 
 -- on a line or past its end, no joint before
 unfoldable is_calm : OfLine → Bool
@@ -98,6 +105,7 @@ stripped_calm [] w h = h
 stripped_calm (Gap ps ∷ xs) w h = stripped_calm xs _ (gap_calm (is_one_line (pieces_text ps)) w h)
 stripped_calm (Own x t ∷ xs) w h = stripped_calm xs _ (own_calm w h)
 stripped_calm (Joint ∷ xs) w h = stripped_calm xs w h
+stripped_calm (Break ∷ xs) w h = stripped_calm xs _ (gap_calm false w h)
 
 -- whatever ends lines between them, parts in which no two fuse read as their tokens, where nothing is said of lines
 pub reads_without : (xs : List parts.Part) → NoneFuse Start xs → Reads (parts.text_of xs) (without_joints (tokens_of xs)) (remarks_in xs)
@@ -107,6 +115,22 @@ reads_without xs h =
     subst (λ z. Reads z (without_joints (tokens_of xs)) (remarks_in xs)) (stripped_text xs)
     (subst (λ z. Reads (parts.text_of (stripped xs)) z (remarks_in xs)) (stripped_tokens Start xs h)
     (subst (λ z. Reads (parts.text_of (stripped xs)) (tokens_of (stripped xs)) z) (stripped_remarks xs) r))
+
+stripped_segments : (xs : List parts.Part) (begun : List ℕ) → segments (stripped xs) begun ≡ segments xs begun
+unfolding stripped segments
+stripped_segments [] begun = refl
+stripped_segments (Gap ps ∷ xs) begun = stripped_segments xs (begun ++ pieces_text ps)
+stripped_segments (Own x t ∷ xs) begun = stripped_segments xs (begun ++ t)
+stripped_segments (Joint ∷ xs) begun = stripped_segments xs begun
+stripped_segments (Break ∷ xs) begun = ap (λ z. begun ∷ z) (stripped_segments xs [])
+
+-- so they do where lines are ended at some of the places where they may be
+pub cut_without : (line : List Piece) (xs : List parts.Part) (c : List ℕ) (ps : List (Bool × List ℕ)) → IsNewLine line → NoneFuse Start xs → segments xs [] ≡ (c ∷ segments_in ps) → Reads (c ++ ended_text (pieces_text line) ps) (without_joints (tokens_of xs)) (remarks_in xs)
+unfolding is_calm
+cut_without line xs c ps l h e =
+    let r = reads_cut line (stripped xs) c ps l (stripped_fuse Start xs h) (calm_end (walk OnLine (stripped xs)) (stripped_calm xs OnLine refl)) (stripped_segments xs [] ∙ e) in
+    subst (λ z. Reads (c ++ ended_text (pieces_text line) ps) z (remarks_in xs)) (stripped_tokens Start xs h)
+    (subst (λ z. Reads (c ++ ended_text (pieces_text line) ps) (tokens_of (stripped xs)) z) (stripped_remarks xs) r)
 
 -- `[no LineTerminator here]` is among these tokens
 unfoldable pub holds_joint : List Token → Bool
@@ -119,6 +143,7 @@ calm_walk [] w n h = h
 calm_walk (Gap ps ∷ xs) w n h = calm_walk xs _ n (gap_calm (is_one_line (pieces_text ps)) w h)
 calm_walk (Own x t ∷ xs) w n h = calm_walk xs _ (or_parts (is_same_line x) (holds_joint (tokens_of xs)) n).1 (own_calm w h)
 calm_walk (Joint ∷ xs) w n h = absurd (true≢false n)
+calm_walk (Break ∷ xs) w n h = calm_walk xs _ n (gap_calm false w h)
 
 calm_le : (w : OfLine) → is_calm w ≡ true → Le w PastLine
 unfolding is_calm

@@ -13,7 +13,7 @@ use Rattle.swc_ecma_codegen_grammar.specs.Phrases.{KeyOf, Key, PlacedName, Gener
 use Rattle.swc_ecma_codegen_grammar.specs.SpelledNames.{is_well_formed_name}
 use Rattle.swc_ecma_codegen_grammar.specs.Tokens.{token_of}
 use Rattle.swc_ecma_codegen_grammar.specs.ValidNames.{turned}
-use Rattle.swc_ecma_codegen_text_writer.specs.Sheet.{Sheet, Symbol, Position, Commit}
+use Rattle.swc_ecma_codegen_text_writer.specs.Sheet.{Sheet, Symbol, Position, Commit, fills_lines}
 use Rattle.swc_ecma_codegen_util.specs.declared.config.Config.{Config}
 use Rattle.swc_ecma_codegen_literals.specs.AsciiNames.{ascii_name, wants_quotes}
 use Rattle.swc_ecma_codegen_tokens.specs.Escapes.{may_make_text}
@@ -34,10 +34,12 @@ use Rattle.swc_ecma_codegen_tokens.proofs.Positions.{Named, name_named, name_cal
 use Rattle.swc_ecma_codegen_tokens.proofs.Shapes as shapes
 use Rattle.swc_ecma_codegen_tokens.proofs.Shapes.{Shape, open_}
 use Rattle.swc_ecma_codegen_tokens.proofs.Standing.{name_stands}
-use Rattle.swc_ecma_codegen_tokens.proofs.Written.{Spelled}
-use Rattle.swc_ecma_codegen_tokens.specs.Named.{StandsAfter, EachName}
+use Rattle.swc_ecma_codegen_tokens.proofs.TokenLays.{Spelled}
+use Rattle.swc_ecma_codegen_tokens.specs.Named.{EachName}
 use Rattle.swc_ecma_codegen_grammar.specs.Tokens as lexical
-use Rattle.swc_ecma_codegen_tokens.proofs.Printed.{MakesAt, Makes, Writes, or_false, writes_then, writes_remake, writes_commit, writes_leading, writes_position, writes_placed}
+use Rattle.swc_ecma_codegen_tokens.proofs.Printed.{MakesAt, Makes, Writes, or_false, writes_then, writes_remake, writes_commit, writes_position, writes_placed}
+use Rattle.swc_ecma_codegen_tokens.proofs.CommentPrints.{writes_leading}
+use Rattle.swc_ecma_codegen_tokens.proofs.CutStanding.{StandsHere}
 
 -- ---- the text of a key, by the settings
 
@@ -116,17 +118,17 @@ unfolding made_part commit_pending_semi position name_steps step steps_of after_
 made_steps env first second kind span t = ap (λ z. Plain Commit ∷ Remake first ∷ Remake second ∷ Guard t ∷ z) (call_steps env kind span.lo (span.lo.0 == 0) t)
 
 -- a key that is so written
-keyed : (env : Env) (first second : Bool) (kind : Kind) (span : Span) (bytes t : List ℕ) (s : State) → written_as env.config (key_at span.lo bytes) ≡ t → (t ≡ [] → ⊥) → s.sheet.keeps_positions ≡ true → Named env.config (key_at span.lo bytes ∷ []) s.sheet (run (name_steps first second kind (span.lo.0 == 0) span.lo t) s).sheet
-keyed env first second kind span bytes t s e some k =
+keyed : (env : Env) (first second : Bool) (kind : Kind) (span : Span) (bytes t : List ℕ) (s : State) → written_as env.config (key_at span.lo bytes) ≡ t → (t ≡ [] → ⊥) → s.sheet.keeps_positions ≡ true → fills_lines s.sheet.lines ≡ false → Named env.config (key_at span.lo bytes ∷ []) s.sheet (run (name_steps first second kind (span.lo.0 == 0) span.lo t) s).sheet
+keyed env first second kind span bytes t s e some k flows =
     let x : PlacedName = key_at span.lo bytes in
     let P : List ℕ → Type 0 = λ z. Named env.config (x ∷ []) s.sheet (run (name_steps first second kind (span.lo.0 == 0) span.lo z) s).sheet in
-    subst P e (name_named env.config first second kind (span.lo.0 == 0) x s refl (λ n. some (sym e ∙ n)) k)
+    subst P e (name_named env.config first second kind (span.lo.0 == 0) x s refl (λ n. some (sym e ∙ n)) k flows)
 
 made_named : (env : Env) (first second : Bool) (kind : Kind) (span : Span) (bytes t : List ℕ) → written_as env.config (key_at span.lo bytes) ≡ t → (t ≡ [] → ⊥) → NamedBy env (made_part first second kind span t) (key_at span.lo bytes ∷ [])
 unfolding NamedBy
-made_named env first second kind span bytes t e some s k =
+made_named env first second kind span bytes t e some s k flows =
     let P : List Step → Type 0 = λ z. Named env.config (key_at span.lo bytes ∷ []) s.sheet (run z s).sheet in
-    subst P (sym (made_steps env first second kind span t)) (keyed env first second kind span bytes t s e some k)
+    subst P (sym (made_steps env first second kind span t)) (keyed env first second kind span bytes t s e some k flows)
 
 kept_steps : (env : Env) (first : Bool) (span : Span) (t : List ℕ) → steps_of (kept_part first span t nothing env) ≡ Plain Commit ∷ Remake first ∷ Guard t ∷ name_call Name (span.lo.0 == 0) span.lo t
 unfolding kept_part commit_pending_semi position step steps_of after_step
@@ -134,9 +136,9 @@ kept_steps env first span t = ap (λ z. Plain Commit ∷ Remake first ∷ Guard 
 
 kept_named : (env : Env) (first : Bool) (span : Span) (bytes t : List ℕ) → written_as env.config (key_at span.lo bytes) ≡ t → (t ≡ [] → ⊥) → NamedBy env (kept_part first span t) (key_at span.lo bytes ∷ [])
 unfolding NamedBy name_steps run put
-kept_named env first span bytes t e some s k =
+kept_named env first span bytes t e some s k flows =
     let P : List Step → Type 0 = λ z. Named env.config (key_at span.lo bytes ∷ []) s.sheet (run z s).sheet in
-    subst P (sym (kept_steps env first span t)) (keyed env first false Name span bytes t s e some k)
+    subst P (sym (kept_steps env first span t)) (keyed env first false Name span bytes t s e some k flows)
 
 own_steps : (env : Env) (span : Span) (t : List ℕ) → steps_of (name_part span t nothing env) ≡ Plain Commit ∷ Guard t ∷ name_call Name (span.lo.0 == 0) span.lo t
 unfolding name_part commit_pending_semi position step steps_of after_step
@@ -144,9 +146,9 @@ own_steps env span t = ap (λ z. Plain Commit ∷ Guard t ∷ z) (call_steps env
 
 own_named : (env : Env) (span : Span) (bytes t : List ℕ) → written_as env.config (key_at span.lo bytes) ≡ t → (t ≡ [] → ⊥) → NamedBy env (name_part span t) (key_at span.lo bytes ∷ [])
 unfolding NamedBy name_steps run put
-own_named env span bytes t e some s k =
+own_named env span bytes t e some s k flows =
     let P : List Step → Type 0 = λ z. Named env.config (key_at span.lo bytes ∷ []) s.sheet (run z s).sheet in
-    subst P (sym (own_steps env span t)) (keyed env false false Name span bytes t s e some k)
+    subst P (sym (own_steps env span t)) (keyed env false false Name span bytes t s e some k flows)
 
 -- ---- no string of the tree is among its steps
 
@@ -228,9 +230,9 @@ key_here env first second kind span bytes t p h e steps = record {
       let x : PlacedName = key_at span.lo bytes in
       let u : List ℕ = written_as env.config x in
       let there = name_stands env.config first second kind (span.lo.0 == 0) x us a s refl (subst (λ z. Spelled kind z) (sym e) h.spelled) k r in
-      let P : List ℕ → Type 0 = λ z. StandsAfter env.config a.sheet (run (name_steps first second kind (span.lo.0 == 0) span.lo z) s).sheet us (token_of kind (spelling kind z)) x in
-      let Q : lexical.Token → Type 0 = λ z. StandsAfter env.config a.sheet (run (name_steps first second kind (span.lo.0 == 0) span.lo t) s).sheet us z x in
-      (refl, subst (λ (z : Sheet). StandsAfter env.config a.sheet z us (key_token (settings_of env.config) bytes) x) (sym (steps s)) (subst Q h.token (subst P e there)));
+      let P : List ℕ → Type 0 = λ z. StandsHere env.config a.sheet (run (name_steps first second kind (span.lo.0 == 0) span.lo z) s).sheet us (token_of kind (spelling kind z)) x in
+      let Q : lexical.Token → Type 0 = λ z. StandsHere env.config a.sheet (run (name_steps first second kind (span.lo.0 == 0) span.lo t) s).sheet us z x in
+      (refl, subst (λ (z : Sheet). StandsHere env.config a.sheet z us (key_token (settings_of env.config) bytes) x) (sym (steps s)) (subst Q h.token (subst P e there)));
 }
 
 made_here : {i : Shape} (env : Env) (first second : Bool) (kind : Kind) (span : Span) (bytes t : List ℕ) → SpellsKey env.config kind bytes t → written_as env.config (key_at span.lo bytes) ≡ t → PlacedBy i env (made_part first second kind span t) (KeyOf span.lo bytes) (key_token (settings_of env.config) bytes ∷ [])

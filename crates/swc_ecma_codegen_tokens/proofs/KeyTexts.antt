@@ -36,7 +36,7 @@ use Rattle.swc_ecma_codegen_tokens.specs.Targets.{wants_escapes}
 use Rattle.swc_ecma_codegen_tokens.proofs.LitTexts.{spelled_string}
 use Rattle.swc_ecma_codegen_tokens.proofs.RawTexts.{ascii_is}
 use Rattle.swc_ecma_codegen_tokens.proofs.Targets.{not_ascii, kept_ascii}
-use Rattle.swc_ecma_codegen_tokens.proofs.Written.{Spelled, spelled_name}
+use Rattle.swc_ecma_codegen_tokens.proofs.TokenLays.{Spelled, spelled_name}
 
 -- ---- a key in quotes is no directive: no blank is in it
 

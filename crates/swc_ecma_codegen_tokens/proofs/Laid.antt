@@ -13,20 +13,22 @@ use Rattle.swc_ecma_codegen_grammar.specs.Parts.{Gap, Own, Joint, tokens_of, rem
 use Rattle.swc_ecma_codegen_grammar.specs.Parts.{Reduced}
 use Rattle.swc_ecma_codegen_grammar.proofs.Dropped.{reduced_after}
 use Rattle.swc_ecma_codegen_text_writer.specs.Sheet.{Sheet, holds_semicolons}
+use Rattle.swc_ecma_codegen_text_writer.proofs.Cuts.{GrowsBy, grows_same}
 use Rattle.swc_ecma_codegen_tokens.specs.Run.{State, Take, put}
 use Rattle.swc_ecma_codegen_grammar.specs.Comments.{Side}
-use Rattle.swc_ecma_codegen_tokens.specs.Written.{holds_one, AtRest, RestsAt, Spot, Anything, InName}
+use Rattle.swc_ecma_codegen_tokens.specs.Written.{holds_one, keeps_break, AtRest, RestsAt, Spot, Anything, InName}
 use Rattle.swc_ecma_codegen_tokens.proofs.PendingSemi.{front}
 use Rattle.swc_ecma_codegen_tokens.proofs.Appended.{text_append, tokens_append, remarks_append}
 use Rattle.swc_ecma_codegen_tokens.proofs.Shapes.{Shape, whole, open_, joining, join, is_within, within_stands, Fits, fits_then, fits_wider, fits_nothing, fits_joint}
 use Rattle.swc_ecma_codegen_tokens.proofs.Indented.{blanks}
+use Rattle.swc_ecma_codegen_tokens.proofs.Cuts.{Cuts, cuts_then, cuts_whole, cuts_none, break_if}
 
--- what is asked for and isn't out yet: a semicolon that is held back, where it would stand
-abbrev pub held_of : Bool → Sheet → List parts.Part
-held_of b s = cond b (Gap (blanks (front s)) ∷ Own Ending (codes ";") ∷ []) []
+-- what is asked for and isn't out yet: a semicolon that is held back, where it would stand, and the break that is kept with it
+abbrev pub held_of : Bool → Bool → Sheet → List parts.Part
+held_of b c s = cond b (Gap (blanks (front s)) ∷ Own Ending (codes ";") ∷ break_if c) []
 
 abbrev pub held : Sheet → List parts.Part
-held s = held_of (holds_one s.semicolons) s
+held s = held_of (holds_one s.semicolons) (keeps_break s.semicolons) s
 
 -- Nothing was written, and nothing stands before what is written next.
 pub record IsFirst (s : State) : Type 0 where
@@ -55,6 +57,8 @@ pub record LaysTo (spot : Spot) (shape : Shape) (ts : List lexical.Token) (rs : 
   -- a writer that holds nothing back leaves nothing out
   pub holds : holds_semicolons b.sheet.semicolons ≡ holds_semicolons a.sheet.semicolons
   pub whole : holds_semicolons a.sheet.semicolons ≡ false → laid ≡ out
+  -- its segments are those of what is laid
+  pub cuts : Cuts laid a.sheet b.sheet
   pub rest : RestsAt spot b
   -- where no line ends in or after a comment
   pub fits : all_tame rs ≡ true → Fits shape out
@@ -110,23 +114,25 @@ lays_then {i} {j} {rs} {qs} ts us a b c h k = record {
       (subst (λ z. Reduced (held a.sheet ++ (h.out ++ (k.out ++ more))) z) (sym (append_assoc h.laid k.laid ys)) (h.reduces (k.out ++ more) (k.laid ++ ys) (k.reduces more ys r)));
   holds = k.holds ∙ h.holds;
   whole = λ e. ap (λ z. z ++ k.laid) (h.whole e) ∙ ap (λ z. h.out ++ z) (k.whole (h.holds ∙ e));
+  cuts = cuts_then h.laid k.laid a.sheet b.sheet c.sheet h.cuts k.cuts;
   rest = k.rest;
   fits = λ t. let p = and_parts (all_tame rs) (all_tame qs) (sym (tame_append rs qs) ∙ t) in fits_then h.out k.out (h.fits p.0) (k.fits p.1);
 }
 
 -- what leads less far
 pub lays_wider : {i : Shape} (j : Shape) {ts : List lexical.Token} {rs : List Remark} {a b : State} {w : Spot} → is_within i j ≡ true → LaysTo w i ts rs a b → LaysTo w j ts rs a b
-lays_wider {i} j {a = a} e h = record { out = h.out; laid = h.laid; bytes = h.bytes; text = h.text; utf8 = h.utf8; spells = h.spells; tokens = h.tokens; remarks = h.remarks; apart = λ k. h.apart (enters_wider i j a e k); reduces = h.reduces; holds = h.holds; whole = h.whole; rest = h.rest; fits = λ t. fits_wider j e (h.fits t) }
+lays_wider {i} j {a = a} e h = record { out = h.out; laid = h.laid; bytes = h.bytes; text = h.text; utf8 = h.utf8; spells = h.spells; tokens = h.tokens; remarks = h.remarks; apart = λ k. h.apart (enters_wider i j a e k); reduces = h.reduces; holds = h.holds; whole = h.whole; cuts = h.cuts; rest = h.rest; fits = λ t. fits_wider j e (h.fits t) }
 
 -- the parts that are asked for go out, where no semicolon is held back
 pub laid_out : (a b : State) (out more ys : List parts.Part) → holds_one a.sheet.semicolons ≡ false → holds_one b.sheet.semicolons ≡ false → Reduced (held b.sheet ++ more) ys → Reduced (held a.sheet ++ (out ++ more)) (out ++ ys)
 laid_out a b out more ys h k r =
-    subst (λ z. Reduced (held_of z a.sheet ++ (out ++ more)) (out ++ ys)) (sym h) (reduced_after out more ys (subst (λ z. Reduced (held_of z b.sheet ++ more) ys) k r))
+    subst (λ z. Reduced (held_of z (keeps_break a.sheet.semicolons) a.sheet ++ (out ++ more)) (out ++ ys)) (sym h)
+    (reduced_after out more ys (subst (λ z. Reduced (held_of z (keeps_break b.sheet.semicolons) b.sheet ++ more) ys) k r))
 
 -- nothing, where nothing that matters changes
-pub lays_same : {w : Spot} (a b : State) → b.sheet.text ≡ a.sheet.text → b.last ≡ a.last → held b.sheet ≡ held a.sheet → holds_semicolons b.sheet.semicolons ≡ holds_semicolons a.sheet.semicolons → RestsAt w b → LaysTo w open_ [] [] a b
+pub lays_same : {w : Spot} (a b : State) → b.sheet.text ≡ a.sheet.text → b.last ≡ a.last → held b.sheet ≡ held a.sheet → holds_semicolons b.sheet.semicolons ≡ holds_semicolons a.sheet.semicolons → GrowsBy [] a.sheet b.sheet → RestsAt w b → LaysTo w open_ [] [] a b
 unfolding parts.text_of tokens_of remarks_in
-lays_same a b t l h o r = record {
+lays_same a b t l h o g r = record {
   out = [];
   laid = [];
   bytes = [];
@@ -139,17 +145,18 @@ lays_same a b t l h o r = record {
   reduces = λ more ys d. subst (λ z. Reduced (z ++ more) ys) h d;
   holds = o;
   whole = λ e. refl;
+  cuts = cuts_none a.sheet b.sheet g;
   rest = r;
   fits = λ t. fits_nothing;
 }
 
 pub lays_nothing : {w : Spot} (s : State) → RestsAt w s → LaysTo w open_ [] [] s s
-lays_nothing s r = lays_same s s refl refl refl refl r
+lays_nothing s r = lays_same s s refl refl refl refl (grows_same s.sheet s.sheet refl) r
 
 -- comments are taken out of the maps: nothing that matters here changes
 pub rest_taken : (side : Side) (at : ℕ) (s : State) → AtRest s → AtRest (put (Take side at) s)
 unfolding put
-rest_taken side at s r = record { indent_text = r.indent_text; line_end = r.line_end; free = r.free; allowed = r.allowed }
+rest_taken side at s r = record { indent_text = r.indent_text; line_end = r.line_end; flowing = r.flowing; free = r.free; allowed = r.allowed }
 
 enters_taken : (i : Shape) (side : Side) (at : ℕ) (s : State) → Enters i s → Enters i (put (Take side at) s)
 unfolding put
@@ -158,12 +165,12 @@ enters_taken i side at s (inr k) = inr (k.0, record { nothing_written = k.1.noth
 
 pub lays_taken : {w : Spot} {i : Shape} {rs : List Remark} {ts : List lexical.Token} (side : Side) (at : ℕ) (s b : State) → LaysTo w i ts rs (put (Take side at) s) b → LaysTo w i ts rs s b
 unfolding put
-lays_taken {i} side at s b h = record { out = h.out; laid = h.laid; bytes = h.bytes; text = h.text; utf8 = h.utf8; spells = h.spells; tokens = h.tokens; remarks = h.remarks; apart = λ e. h.apart (enters_taken i side at s e); reduces = h.reduces; holds = h.holds; whole = h.whole; rest = h.rest; fits = h.fits }
+lays_taken {i} side at s b h = record { out = h.out; laid = h.laid; bytes = h.bytes; text = h.text; utf8 = h.utf8; spells = h.spells; tokens = h.tokens; remarks = h.remarks; apart = λ e. h.apart (enters_taken i side at s e); reduces = h.reduces; holds = h.holds; whole = h.whole; cuts = h.cuts; rest = h.rest; fits = h.fits }
 
 -- behind a name in a tag too
 pub named_taken : (side : Side) (at : ℕ) (s : State) → RestsAt InName s → RestsAt InName (put (Take side at) s)
 unfolding put
-named_taken side at s r = record { indent_text = r.indent_text; line_end = r.line_end; free = r.free; allowed = r.allowed }
+named_taken side at s r = record { indent_text = r.indent_text; line_end = r.line_end; flowing = r.flowing; free = r.free; allowed = r.allowed }
 
 -- `[no LineTerminator here]`, where no semicolon is held back
 pub lays_joint : (s : State) → holds_one s.sheet.semicolons ≡ false → AtRest s → LaysAt joining (lexical.same_line ∷ []) s s
@@ -181,6 +188,7 @@ lays_joint s o r = record {
   reduces = λ more ys d. laid_out s s (Joint ∷ []) more ys o o d;
   holds = refl;
   whole = λ e. refl;
+  cuts = cuts_whole (Joint ∷ []) [] s.sheet s.sheet refl IsUtf8-nil chars-nil (grows_same s.sheet s.sheet refl);
   rest = r;
   fits = λ t. fits_joint;
 }

@@ -2,8 +2,8 @@
 use Rattle.std.proofs.Common.{◌≡◌, ℕ, ◌+◌, ◌^◌, ◌<◌, ◌≤◌, cond, true, false, List, [], ◌∷◌, ◌++◌, refl, ap, ◌∙◌, arith}
 use Rattle.std.specs.Str.{chars}
 use Rattle.swc_ecma_codegen_grammar.specs.GapRules.{fuses, Separated}
-use Rattle.swc_ecma_codegen_text_writer.specs.Sheet.{Item, Semi, Space, Keyword, Operator, Param, Property, Line, Lit, Comment, StrLit, Str, Symbol, Punct, Position, Commit, Deeper, Shallower, Sheet, effect}
-use Rattle.swc_ecma_codegen_text_writer.proofs.Sheets.{depth, effect_indentation}
+use Rattle.swc_ecma_codegen_text_writer.specs.Sheet.{Item, Semi, Space, Keyword, Operator, Param, Property, Line, Lit, Comment, StrLit, Str, Symbol, Punct, Position, Commit, Deeper, Shallower, Sheet, effect, BeginLines, AllowBreak, EndLines}
+use Rattle.swc_ecma_codegen_text_writer.proofs.Stays.{depth, effect_indentation}
 use Rattle.swc_ecma_codegen_tokens.specs.Run.{State, Step, Guard, Token, Plain, Ends, Remake, Take, CommentText, put, run, deepens, PassesLimit}
 
 -- how much deeper the indentation is after a call
@@ -25,6 +25,9 @@ rise (Symbol span t) = 0
 rise (Punct span t) = 0
 rise (Position pos) = 0
 rise Commit = 0
+rise (BeginLines max) = 0
+rise AllowBreak = 0
+rise EndLines = 0
 
 -- how often steps make it deeper
 unfoldable pub levels : List Step → ℕ
@@ -56,6 +59,9 @@ depth_rise (Symbol span t) n = omega arith
 depth_rise (Punct span t) n = omega arith
 depth_rise (Position pos) n = omega arith
 depth_rise Commit n = omega arith
+depth_rise (BeginLines max) n = omega arith
+depth_rise AllowBreak n = omega arith
+depth_rise EndLines n = omega arith
 
 effect_rise : (x : Item) (s : Sheet) → (effect x s).indentation ≤ s.indentation + rise x
 effect_rise x s = let k = depth_rise x s.indentation in omega (arith, k, effect_indentation x s)

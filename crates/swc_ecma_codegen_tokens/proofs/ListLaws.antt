@@ -14,19 +14,20 @@ use Rattle.swc_ecma_codegen_grammar.specs.Texts.{is_same, is_among}
 use Rattle.swc_ecma_codegen_grammar.specs.Phrases as phrases
 use Rattle.swc_ecma_codegen_grammar.specs.Phrases.{Phrase, Closing, CommaBefore, closing_mark, is_possible, names_in, mark, ◌>◌}
 use Rattle.swc_ecma_codegen_tokens.specs.Run.{Env, Plan, Part, Remake, at_maps, maps_after, step, spelling, when_minified, no_part}
-use Rattle.swc_ecma_codegen_tokens.specs.Words.{punct, formatting_space, formatting_line, trailing_comments}
+use Rattle.swc_ecma_codegen_tokens.specs.Words.{allows_break, punct, formatting_space, formatting_line, trailing_comments}
 use Rattle.swc_ecma_codegen_tokens.specs.Written.{IsMark}
 use Rattle.swc_ecma_codegen_tokens.specs.Lists.{ListChild, by_lines, blank_if, line_or_blank, deeper, formatting_deeper, deeper_if, shallower, formatting_shallower, shallower_if, opening, delimiter, separator, child_comments, first_child_after, next_child_after, comma_if, source_comma, wanted_comma, source_has_comma, may_have_comma, trailing_comma, closing, list_end, list_closing, empty_list, more_children, last_place, list}
 use Rattle.swc_ecma_codegen_tokens.proofs.Emitting.{minified_same, pretty_same}
 use Rattle.swc_ecma_codegen_tokens.proofs.ListCommas.{written_same, left_out_same, forced_same, source_same}
-use Rattle.swc_ecma_codegen_tokens.proofs.Printed.{writes_remake, MakesWithin, from_both, within_then, with_room, writes_then, writes_same, writes_nothing, writes_if, writes_minified, writes_formatting_space, writes_formatting_line, writes_trailing, writes_shallower, deeper_within, punct_within, writes_punct, Fills, MakesAt, EndsLines, makes_wider}
+use Rattle.swc_ecma_codegen_tokens.proofs.Printed.{writes_remake, MakesWithin, from_both, within_then, with_room, writes_then, writes_same, writes_nothing, writes_if, writes_minified, writes_formatting_space, writes_formatting_line, writes_shallower, deeper_within, opened_within, writes_opened_punct, Fills, MakesAt, EndsLines, makes_wider}
+use Rattle.swc_ecma_codegen_tokens.proofs.CommentPrints.{writes_trailing}
 use Rattle.swc_ecma_codegen_tokens.specs.Escapes.{may_make_text}
 use Rattle.swc_ecma_codegen_tokens.specs.Targets.{is_out}
 use Rattle.swc_ecma_codegen_tokens.proofs.StepAscii.{holds_string}
 use Rattle.swc_ecma_codegen_tokens.proofs.Choices.{IsAmong, placed_among, comma_among, no_comma_among, prints_no_comma}
 use Rattle.swc_ecma_codegen_tokens.proofs.Shapes.{Shape, open_, ended, loose, closed, past_line, join}
 use Rattle.swc_ecma_codegen_tokens.proofs.PartSteps.{NamedBy, names_then, no_names, placed_after, safe_then, no_strings}
-use Rattle.swc_ecma_codegen_tokens.proofs.Phrased.{Prints, PrintsAt, prints_wider, loosened, then, after as behind, before, prints_nothing, prints_never, prints_same, prints_punct, prints_mark, mark_spelled}
+use Rattle.swc_ecma_codegen_tokens.proofs.Phrased.{Prints, PrintsAt, prints_wider, loosened, then, after as behind, before, prints_nothing, prints_never, prints_same, prints_opened, prints_punct, prints_unbroken, prints_mark, mark_spelled}
 
 -- ---- parts
 
@@ -86,7 +87,7 @@ bracket_within env t w p h format line =
     let x : lexical.Token = token_of Punctuator (spelling Punctuator t) in
     let b = space_between_braces format in
     with_room 1 1 (omega arith)
-    (within_then env (punct t) (λ rest. p (line_or_blank line b (deeper_if (indented format) rest))) (x ∷ []) [] (punct_within env t (mark_spelled t w) w.ascii)
+    (within_then env (punct t) (λ rest. p (line_or_blank line b (deeper_if (indented format) rest))) (x ∷ []) [] (opened_within env t (mark_spelled t w) w.ascii)
     (within_then env p (λ rest. line_or_blank line b (deeper_if (indented format) rest)) [] [] h
     (within_then env (line_or_blank line b) (deeper_if (indented format)) [] [] (writes_line_or_blank env line b) (deeper_if_within env (indented format)))))
 
@@ -106,7 +107,7 @@ picked b p q env h = ap (λ z. cond z p q env) h
 passed_over : (b : Bool) (p q : Plan) (env : Env) → b ≡ false → cond b p q env ≡ q env
 passed_over b p q env h = ap (λ z. cond z p q env) h
 
-prints_comma : (env : Env) (format : ℕ) → comma_delimited format ≡ true → Prints env (delimiter format) (mark (codes ","))
+prints_comma : (env : Env) (format : ℕ) → comma_delimited format ≡ true → PrintsAt ended env (delimiter format) (mark (codes ","))
 unfolding delimiter
 prints_comma env format h = prints_same (delimiter format) (punct (codes ",")) (λ maps rest. picked (comma_delimited format) (punct (codes ",") rest) _ (at_maps maps env) h) (prints_punct env (codes ",") comma_is_mark)
 
@@ -157,7 +158,7 @@ unfolding list_closing
 writes_closing env format parent last f a = writes_then env (trailing_comma format parent) (list_end format parent last) [] [] (no_comma_written env format parent f a) (writes_end env format parent last)
 
 -- a comma and a blank
-prints_comma_if : (env : Env) → Prints env (comma_if true) (mark (codes ","))
+prints_comma_if : (env : Env) → PrintsAt ended env (comma_if true) (mark (codes ","))
 unfolding comma_if
 prints_comma_if env = before (prints_punct env (codes ",") comma_is_mark) (writes_formatting_space env)
 
@@ -285,21 +286,21 @@ prints_bracketed_some env t w p h format parent place part e tail after close la
     let children : Part = children_after format line place part x xs in
     let ending : Part = list_closing format parent last in
     prints_same (λ rest. punct t (p (list format parent (children_of place part (x ∷ xs)) (close rest)))) (λ rest. punct t (p (opening format line (children (ending (close rest))))))
-    (λ maps rest. list_in_parts (writes_then env (punct t) p (token_of Punctuator (spelling Punctuator t) ∷ []) [] (writes_punct env t (mark_spelled t w) w.ascii) h) format parent place part x xs maps (close rest))
+    (λ maps rest. list_in_parts (writes_then env (punct t) p (token_of Punctuator (spelling Punctuator t) ∷ []) [] (writes_opened_punct env t (mark_spelled t w) w.ascii) h) format parent place part x xs maps (close rest))
     (then (prints_bracket env t w p h format line) (then (then (prints_children env format line place part e law c x xs) (ends last)) closed))
 
 -- Without a trailing comma: `{ a, b }`.
 pub prints_bracketed : {A : Type 0} {j : Shape} (env : Env) (t : List ℕ) → IsMark t → (p : Part) → EndsLines env p → (format : ℕ) (parent : Span) (place : A → Span) (part : A → Part) (e : A → Phrase) (after : Phrase) (close : Part) → ((x : A) → PrintsAt loose env (part x) (e x)) → comma_delimited format ≡ true → forces_trailing_comma format ≡ false → allows_trailing_comma format ≡ false → PrintsAt j env close after → (xs : List A) → PrintsAt (past_line j) env (λ rest. punct t (p (list format parent (children_of place part xs) (close rest)))) (mark t > phrases.listed (codes ",") (map e xs) > after)
 unfolding phrases.listed
 prints_bracketed env t w p h format parent place part e after close law c f a closed [] =
-    then (prints_punct env t w) (then (before (behind h prints_nothing) (writes_no_list env format parent)) closed)
+    then (prints_opened env t w) (then (before (behind h prints_nothing) (writes_no_list env format parent)) closed)
 prints_bracketed env t w p h format parent place part e after close law c f a closed (x ∷ xs) =
     let line : Bool = leading_line env.lines format parent (place x) in
     let last : Span = last_place (place x) (children_of place part xs) in
     let children : Part = children_after format line place part x xs in
     let ending : Part = list_closing format parent last in
     prints_same (λ rest. punct t (p (list format parent (children_of place part (x ∷ xs)) (close rest)))) (λ rest. punct t (p (opening format line (children (ending (close rest))))))
-    (λ maps rest. list_in_parts (writes_then env (punct t) p (token_of Punctuator (spelling Punctuator t) ∷ []) [] (writes_punct env t (mark_spelled t w) w.ascii) h) format parent place part x xs maps (close rest))
+    (λ maps rest. list_in_parts (writes_then env (punct t) p (token_of Punctuator (spelling Punctuator t) ∷ []) [] (writes_opened_punct env t (mark_spelled t w) w.ascii) h) format parent place part x xs maps (close rest))
     (then (prints_bracket env t w p h format line) (then (before (prints_children env format line place part e law c x xs) (writes_closing env format parent last f a)) closed))
 
 -- ---- lists without delimiters, as statements of a block
@@ -336,13 +337,13 @@ prints_in_order env format parent place part e law u i (x ∷ xs) =
 pub prints_bracketed_in_order : {A : Type 0} {j : Shape} (env : Env) (t : List ℕ) → IsMark t → (p : Part) → EndsLines env p → (format : ℕ) (parent : Span) (place : A → Span) (part : A → Part) (e : A → Phrase) (after : Phrase) (close : Part) → ((x : A) → PrintsAt loose env (part x) (e x)) → IsUndelimited format → PrintsAt j env close after → (xs : List A) → PrintsAt (past_line j) env (λ rest. punct t (p (list format parent (children_of place part xs) (close rest)))) (mark t > phrases.in_order (map e xs) > after)
 unfolding phrases.in_order
 prints_bracketed_in_order env t w p h format parent place part e after close law u closed [] =
-    then (prints_punct env t w) (then (before (behind h prints_nothing) (writes_no_list env format parent)) closed)
+    then (prints_opened env t w) (then (before (behind h prints_nothing) (writes_no_list env format parent)) closed)
 prints_bracketed_in_order env t w p h format parent place part e after close law u closed (x ∷ xs) =
     let line : Bool = leading_line env.lines format parent (place x) in
     let last : Span = last_place (place x) (children_of place part xs) in
     let ending : Part = list_closing format parent last in
     prints_same (λ rest. punct t (p (list format parent (children_of place part (x ∷ xs)) (close rest)))) (λ rest. punct t (p (opening format line (children_after format line place part x xs (ending (close rest))))))
-    (λ maps rest. list_in_parts (writes_then env (punct t) p (token_of Punctuator (spelling Punctuator t) ∷ []) [] (writes_punct env t (mark_spelled t w) w.ascii) h) format parent place part x xs maps (close rest))
+    (λ maps rest. list_in_parts (writes_then env (punct t) p (token_of Punctuator (spelling Punctuator t) ∷ []) [] (writes_opened_punct env t (mark_spelled t w) w.ascii) h) format parent place part x xs maps (close rest))
     (then (prints_bracket env t w p h format line)
     (then (then (prints_child env format line (record { place = place x; part = part x }) (law x)) (before (more_in_order env format place part e law u (place x) xs) (closing_undelimited env format parent last u))) closed))
 
@@ -352,6 +353,7 @@ prints_bracketed_in_order env t w p h format parent place part e after close law
 pub record IsJoined (format : ℕ) (t : List ℕ) : Type 0 where
   pub joins : (rest : Plan) → delimiter format rest ≡ formatting_space (punct t rest)
   pub is_mark : IsMark t
+  pub unbroken : allows_break t ≡ false
   pub no_comma : comma_delimited format ≡ false
   pub flat : indented format ≡ false
   pub leads : (lines : Lines) (p q : Span) → leading_line lines format p q ≡ false
@@ -361,7 +363,7 @@ pub record IsJoined (format : ℕ) (t : List ℕ) : Type 0 where
 prints_joint : (env : Env) (format : ℕ) (t : List ℕ) → IsJoined format t → Prints env (separator format false) (mark t)
 unfolding separator line_or_blank
 prints_joint env format t j =
-    before (prints_same (delimiter format) (λ rest. formatting_space (punct t rest)) (λ maps rest. ap (λ plan. plan (at_maps maps env)) (j.joins rest)) (behind (writes_formatting_space env) (prints_punct env t j.is_mark)))
+    before (prints_same (delimiter format) (λ rest. formatting_space (punct t rest)) (λ maps rest. ap (λ plan. plan (at_maps maps env)) (j.joins rest)) (behind (writes_formatting_space env) (prints_unbroken env t j.unbroken j.is_mark)))
     (writes_blank_if env (space_between_siblings format))
 
 joined_more : {A : Type 0} (env : Env) (format : ℕ) (t : List ℕ) (place : A → Span) (part : A → Part) (e : A → Phrase) → ((x : A) → Prints env (part x) (e x)) → IsJoined format t → (previous : Span) (xs : List A) → PrintsAt open_ env (more_children format previous (children_of place part xs)) (phrases.each_after t (map e xs))

@@ -1,5 +1,5 @@
 -- What the pieces of lists add to the tokens so far: a delimiter and a trailing comma, and nothing by blanks and line ends.
-use Rattle.std.proofs.Common.{◌≡◌, ◌==◌, ◌&&◌, ◌||◌, ℕ, Bool, true, false, cond, not, List, [], ◌∷◌, ◌++◌, codes, refl, sym, ap, ◌∙◌, subst, append-nil, Result, Ok, OnOk}
+use Rattle.std.proofs.Common.{◌≡◌, ◌==◌, ◌&&◌, ◌||◌, ℕ, Bool, true, false, cond, not, List, [], ◌∷◌, ◌++◌, codes, sym, ap, ◌∙◌, subst, append-nil, Result, Ok, OnOk}
 use Rattle.swc_ecma_codegen_common.specs.declared.errors.Refusal.{Refusal}
 use Rattle.swc_ecma_codegen_common.specs.declared.positions.Span.{Span}
 use Rattle.swc_ecma_codegen_util.specs.declared.config.Config.{Config}

@@ -22,7 +22,8 @@ use Rattle.swc_ecma_codegen_tokens.specs.Written.{IsWord}
 use Rattle.swc_ecma_codegen_tokens.proofs.LitTexts.{spelled_regex}
 use Rattle.swc_ecma_codegen_tokens.proofs.LiteralParts.{writes_regex}
 use Rattle.swc_ecma_codegen_tokens.proofs.Phrased.{Prints, after, prints_keyword, prints_one, prints_where}
-use Rattle.swc_ecma_codegen_tokens.proofs.Printed.{Writes, writes_leading}
+use Rattle.swc_ecma_codegen_tokens.proofs.Printed.{Writes}
+use Rattle.swc_ecma_codegen_tokens.proofs.CommentPrints.{writes_leading}
 use Rattle.swc_ecma_codegen_tokens.proofs.Starting.{plain_class}
 
 -- ---- `true`, `false` and `null`

@@ -36,7 +36,7 @@ use Rattle.swc_ecma_codegen_tokens.specs.Starts.{start_class, order}
 use Rattle.swc_ecma_codegen_tokens.proofs.OwnDots.{dotted_is_number, dotted_same}
 use Rattle.swc_ecma_codegen_tokens.proofs.Starting.{dash_class, digit_class, dot_class, same_beginning, sample, samples}
 use Rattle.swc_ecma_codegen_tokens.proofs.Texts.{SpelledAs, minus_chars, minus_is_mark, owns, spelled_one, spelled_signed}
-use Rattle.swc_ecma_codegen_tokens.proofs.Written.{Spelled}
+use Rattle.swc_ecma_codegen_tokens.proofs.TokenLays.{Spelled}
 
 -- ---- a text that is one literal
 

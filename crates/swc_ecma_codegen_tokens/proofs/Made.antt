@@ -1,18 +1,19 @@
 -- When an emission of a tree is made, and what is left after it.
 use Rattle.std.proofs.Common.{◌≡◌, ◌+◌, ◌^◌, ◌<◌, ◌≤◌, true, false, cond, if◌then◌else◌, inl, inr, List, [], ◌∷◌, ◌++◌, length, length-append, Result, Ok, Err, None, Option, Some, OnOk, IsOk, refl, sym, ap, ◌∙◌, subst, arith}
-use Rattle.std.proofs.lemmas.Bool.{cases_Bool, or_from, true_from_ne_false, true≢false}
+use Rattle.std.proofs.lemmas.Bool.{cases_Bool, or_from, or_parts, true_from_ne_false, true≢false}
 use Rattle.swc_ecma_codegen_common.specs.declared.errors.Error.{Error}
 use Rattle.swc_ecma_codegen_common.specs.declared.errors.Refusal.{Refusal}
 use Rattle.swc_ecma_codegen_common.specs.declared.errors.Refusal.TheVariants as refusals
 use Rattle.swc_ecma_codegen_common.specs.Refusals.{in_short}
 use Rattle.swc_ecma_codegen_tokens.specs.declared.refusals.Unprintable.{Unprintable}
+use Rattle.swc_ecma_codegen_text_writer.specs.Sheet.{fills_lines}
 use Rattle.swc_ecma_codegen_text_writer.proofs.Sheets.{effect_refused, effect_faults, effect_takes_memory, effect_keeps_positions}
 use Rattle.swc_ecma_codegen_grammar.specs.Tokens.{Token as LexicalToken, ending}
 use Rattle.swc_ecma_codegen_grammar.specs.Settings.{Settings, is_up_to_es5}
 use Rattle.swc_ecma_codegen_grammar.specs.Phrases.{Phrase, Never, Nothing, One, NameOf, KeyOf, PrivateOf, TagNameOf, Then, CommaBefore, OptionalParentheses, Chosen, EmptyArguments, LoopEnding, AttributesWord, in_parentheses, close_parenthesis, Generates, chosen, is_possible}
 use Rattle.swc_ecma_codegen_tokens.specs.declared.refusals.Unprintable.TheVariants.{UnsupportedNode, BadShape, NameOutOfTarget}
 use Rattle.swc_ecma_codegen_tokens.specs.Targets.{is_out}
-use Rattle.swc_ecma_codegen_tokens.specs.Run.{Env, at_maps, maps_after, put, Plan, Part, Step, State, run, steps_of, unprintable_in, nothing, Follows, HasCause, PassesLimit, IsUnhindered, earlier, stopped, reached}
+use Rattle.swc_ecma_codegen_tokens.specs.Run.{Env, is_bounded, at_maps, maps_after, put, Plan, Part, Step, State, run, steps_of, unprintable_in, nothing, Follows, HasCause, PassesLimit, IsUnhindered, earlier, stopped, reached}
 use Rattle.swc_ecma_codegen_tokens.specs.Settings.{settings_of}
 use Rattle.swc_ecma_codegen_tokens.specs.Ready.{token_count, IsPlainTree, IsReady}
 use Rattle.swc_ecma_codegen_tokens.specs.Written.{Spot}
@@ -137,23 +138,24 @@ unfolding run maps_after
 run_env [] a = refl
 run_env (x ∷ xs) a = run_env xs (put x a) ∙ ap (λ (z : Env). at_maps (maps_after xs z.maps) z) (put_env x a)
 
-run_ready : (xs : List Step) (a : State) → IsReady a → IsReady (run xs a)
-run_ready xs a s =
+run_ready : (xs : List Step) (a : State) → fills_lines (run xs a).sheet.lines ≡ false → IsReady a → IsReady (run xs a)
+run_ready xs a n s =
     let faults = run_sheet (λ z. z.faults) effect_faults xs a in
     let can_count = s.can_count in
     record {
       none_failed = run_failed xs a ∙ s.none_failed;
       none_refused = run_sheet (λ z. z.refused) effect_refused xs a ∙ s.none_refused;
-      no_memory = run_sheet (λ z. z.takes_memory) effect_takes_memory xs a ∙ s.no_memory;
+      no_memory = or_from _ _ (run_sheet (λ z. z.takes_memory) effect_takes_memory xs a ∙ (or_parts a.sheet.takes_memory (fills_lines a.sheet.lines) s.no_memory).0) n;
       no_positions = run_sheet (λ z. z.keeps_positions) effect_keeps_positions xs a ∙ s.no_positions;
+      unbounded = ap (λ (z : Env). is_bounded z) (run_env xs a) ∙ s.unbounded;
       leaves_out = ap (λ (z : Env). z.keeps_invalid) (run_env xs a) ∙ s.leaves_out;
       can_count = omega (arith, faults, can_count);
     }
 
--- an emission that was made leaves it ready for the next
-pub ready_after : (p : Plan) (a b : State) (r : Result (Unit {0}) Error) → Follows p a b (in_short r) → OnOk r (IsReady a → IsReady b)
+-- an emission that was made leaves it ready for the next, where no lines are filled then
+pub ready_after : (p : Plan) (a b : State) (r : Result (Unit {0}) Error) → Follows p a b (in_short r) → OnOk r (fills_lines b.sheet.lines ≡ false → IsReady a → IsReady b)
 unfolding Follows
-ready_after p a b (Ok u) h = λ s. subst IsReady (sym h.1) (run_ready (steps_of (p a.env)) a s)
+ready_after p a b (Ok u) h = λ n s. subst IsReady (sym h.1) (run_ready (steps_of (p a.env)) a (sym (ap (λ (z : State). fills_lines z.sheet.lines) h.1) ∙ n) s)
 ready_after p a b (Err e) h = tt
 
 -- ---- nothing

@@ -41,10 +41,11 @@ use Rattle.swc_ecma_codegen_tokens.proofs.LiteralParts.{literal_token, writes_do
 use Rattle.swc_ecma_codegen_tokens.proofs.NumeralTexts.{numeric_ascii, ascii_by_chars}
 use Rattle.swc_ecma_codegen_tokens.proofs.OwnDots.{dotted_begins}
 use Rattle.swc_ecma_codegen_tokens.proofs.Phrased.{Prints, after, prints_mark, prints_never, prints_one, prints_same, prints_where, then}
-use Rattle.swc_ecma_codegen_tokens.proofs.Printed.{Writes, writes_commit, writes_if, writes_leading, writes_nothing, writes_then, Fills}
+use Rattle.swc_ecma_codegen_tokens.proofs.Printed.{Writes, writes_commit, writes_if, writes_nothing, writes_then, Fills}
+use Rattle.swc_ecma_codegen_tokens.proofs.CommentPrints.{writes_leading}
 use Rattle.swc_ecma_codegen_tokens.proofs.Remade.{makes_remade, prints_signed, writes_begun_in}
 use Rattle.swc_ecma_codegen_tokens.proofs.Texts.{minus_is_mark}
-use Rattle.swc_ecma_codegen_tokens.proofs.Written.{Spelled, spelled_name}
+use Rattle.swc_ecma_codegen_tokens.proofs.TokenLays.{Spelled, spelled_name}
 
 -- ---- texts of numbers
 

@@ -1,17 +1,19 @@
 -- What the steps of a part do beside writing tokens: which names they place, and which strings.
-use Rattle.std.proofs.Common.{◌≡◌, ◌≢◌, ℕ, Bool, true, false, List, [], ◌∷◌, ◌++◌, refl, sym, ap, ◌∙◌, subst, append_assoc, append-nil}
+use Rattle.std.proofs.Common.{◌≡◌, ℕ, Bool, true, false, List, [], ◌∷◌, ◌++◌, refl, sym, ap, ◌∙◌, subst, append_assoc, append-nil}
 use Rattle.std.proofs.lemmas.Bool.{and_parts, false_from_ne_true, true≢false}
 use Rattle.swc_ecma_codegen_grammar.specs.Tokens as lexical
 use Rattle.swc_ecma_codegen_grammar.specs.Comments.{all_closed}
+use Rattle.swc_ecma_codegen_text_writer.specs.Sheet.{fills_lines}
 use Rattle.swc_ecma_codegen_text_writer.proofs.Sheets.{effect_keeps_positions}
 use Rattle.swc_ecma_codegen_grammar.specs.Phrases.{Phrase, Nothing, Then, PlacedName, Generates, names_in}
 use Rattle.swc_ecma_codegen_tokens.specs.Run.{Env, Plan, Part, State, Step, Steps, done, steps_of, run, nothing}
 use Rattle.swc_ecma_codegen_tokens.specs.Settings.{settings_of}
 use Rattle.swc_ecma_codegen_tokens.specs.Written.{Spot, Anything}
-use Rattle.swc_ecma_codegen_tokens.specs.Named.{EachName, AllStand}
+use Rattle.swc_ecma_codegen_tokens.specs.Named.{EachName}
 use Rattle.swc_ecma_codegen_tokens.specs.Scripts.{strings_after, AreSafe}
-use Rattle.swc_ecma_codegen_tokens.proofs.Fronts.{run_append, run_sheet}
+use Rattle.swc_ecma_codegen_tokens.proofs.Fronts.{run_append, run_sheet, run_fills}
 use Rattle.swc_ecma_codegen_tokens.proofs.StepAscii.{has_string, holds_string}
+use Rattle.swc_ecma_codegen_tokens.proofs.NamesCut.{run_on}
 use Rattle.swc_ecma_codegen_tokens.proofs.Positions.{Named, named_none, named_then, run_records}
 use Rattle.swc_ecma_codegen_tokens.proofs.Standing.{ReachedAt, all_more, nameless, reached_as, reached_narrower, reached_then}
 use Rattle.swc_ecma_codegen_tokens.proofs.ValueStrings.{none_by_value, steps_safe}
@@ -19,6 +21,7 @@ use Rattle.swc_ecma_codegen_tokens.proofs.Shapes.{Shape, join, is_within}
 use Rattle.swc_ecma_codegen_tokens.proofs.Spots.{is_narrower}
 use Rattle.swc_ecma_codegen_tokens.proofs.Laid.{enters_first, enters_wider}
 use Rattle.swc_ecma_codegen_tokens.proofs.Printed.{remarks_both, env_after, remarks_by, closed_append, chain, MakesOn}
+use Rattle.swc_ecma_codegen_tokens.proofs.CutStanding.{AllHere, run_later}
 
 pub steps_of_chain : (xs : List Step) → steps_of (chain xs done) ≡ xs
 unfolding steps_of chain
@@ -41,28 +44,30 @@ steps_then {env = env} h q =
     let alone = ap steps_of (h.is_steps nothing) ∙ steps_of_chain h.steps in
     ap steps_of (h.is_steps (q nothing)) ∙ steps_of_more h.steps (q nothing (env_after h.steps env)) ∙ ap (λ z. z ++ steps_of (q nothing (env_after h.steps env))) (sym alone)
 
--- Where positions are kept, the steps of a part write these names, and record the position of each where it begins.
+-- Where positions are kept, and no lines are filled, the steps of a part write these names, and record the position of each where it begins.
 unfoldable pub NamedBy : Env → Part → List PlacedName → Type 0
-NamedBy env p names = (s : State) → s.sheet.keeps_positions ≡ true → Named env.config names s.sheet (run (steps_of (p nothing env)) s).sheet
+NamedBy env p names = (s : State) → s.sheet.keeps_positions ≡ true → fills_lines s.sheet.lines ≡ false → Named env.config names s.sheet (run (steps_of (p nothing env)) s).sheet
 
 pub no_names : (env : Env) (p : Part) → NamedBy env p []
 unfolding NamedBy
-no_names env p s k = named_none env.config s.sheet _ (run_records (steps_of (p nothing env)) s)
+no_names env p s k n = named_none env.config s.sheet _ (run_records (steps_of (p nothing env)) s) (run_on (steps_of (p nothing env)) s)
 
 pub names_then : {i : Shape} {room : ℕ} {env : Env} {p : Part} {ts : List lexical.Token} {b : Bool} {v w : Spot} (q : Part) (xs ys : List PlacedName) (h : MakesOn v w i room env p ts b) → NamedBy env p xs → NamedBy (env_after h.steps env) q ys → NamedBy env (λ rest. p (q rest)) (xs ++ ys)
-unfolding NamedBy
-names_then {env = env} {p = p} q xs ys m h k s keeps =
+unfolding NamedBy nothing
+names_then {env = env} {p = p} q xs ys m h k s keeps flows =
     let here = steps_of (p nothing env) in
     let there = steps_of (q nothing (env_after m.steps env)) in
+    let alone : here ≡ m.steps = ap steps_of (m.is_steps nothing) ∙ steps_of_chain m.steps in
+    let still : fills_lines (run here s).sheet.lines ≡ false = ap (λ z. fills_lines (run z s).sheet.lines) alone ∙ run_fills m.steps s m.inner ∙ flows in
     let P : List Step → Type 0 = λ z. Named env.config (xs ++ ys) s.sheet (run z s).sheet in
     let Q : State → Type 0 = λ z. Named env.config (xs ++ ys) s.sheet z.sheet in
     subst P (sym (steps_then m q)) (subst Q (sym (run_append here there s))
-    (named_then env.config xs ys s.sheet (run here s).sheet (run there (run here s)).sheet (h s keeps) (k (run here s) (run_sheet (λ z. z.keeps_positions) effect_keeps_positions here s ∙ keeps))))
+    (named_then env.config xs ys s.sheet (run here s).sheet (run there (run here s)).sheet (h s keeps flows) (k (run here s) (run_sheet (λ z. z.keeps_positions) effect_keeps_positions here s ∙ keeps) still)))
 
 -- Where an emission has come so far that a part may stand, and positions are kept, its steps write this list of a phrase, in which each name
 -- stands as its own token, with its position where it begins.
 pub record PlacedOn (before : Spot) (i : Shape) (env : Env) (p : Part) (f : Phrase) (ts : List lexical.Token) : Type 0 where
-  pub stands : (a s : State) (us : List lexical.Token) → ReachedAt before i us a s → s.sheet.keeps_positions ≡ true → all_closed (remarks_by (steps_of (p nothing env)) env) ≡ true → AllStand env.config a.sheet (run (steps_of (p nothing env)) s).sheet us f ts
+  pub stands : (a s : State) (us : List lexical.Token) → ReachedAt before i us a s → s.sheet.keeps_positions ≡ true → all_closed (remarks_by (steps_of (p nothing env)) env) ≡ true → AllHere env.config a.sheet (run (steps_of (p nothing env)) s).sheet us f ts
 
 -- where any token may come before it
 abbrev pub PlacedBy : Shape → Env → Part → Phrase → List lexical.Token → Type 0
@@ -72,7 +77,7 @@ PlacedBy i env p f ts = PlacedOn Anything i env p f ts
 pub placed_none : {v : Spot} {i : Shape} (env : Env) (p : Part) (f : Phrase) (ts : List lexical.Token) → names_in f ≡ [] → Generates (settings_of env.config) f ts → PlacedOn v i env p f ts
 placed_none env p f ts e g = record { stands = λ a s us r k c. nameless env.config a.sheet _ us f ts e g }
 
-placed_both : {u v : Spot} {i j : Shape} {room : ℕ} {env : Env} {p : Part} {ts : List lexical.Token} {b : Bool} (q : Part) (f g : Phrase) (vs : List lexical.Token) (h : MakesOn u v i room env p ts b) → PlacedOn u i env p f ts → PlacedOn v j (env_after h.steps env) q g vs → (a s : State) (us : List lexical.Token) → ReachedAt u (join i j) us a s → s.sheet.keeps_positions ≡ true → all_closed (remarks_by (steps_of (p (q nothing) env)) env) ≡ true → AllStand env.config a.sheet (run (steps_of (p (q nothing) env)) s).sheet us f ts × AllStand env.config a.sheet (run (steps_of (p (q nothing) env)) s).sheet (us ++ ts) g vs
+placed_both : {u v : Spot} {i j : Shape} {room : ℕ} {env : Env} {p : Part} {ts : List lexical.Token} {b : Bool} (q : Part) (f g : Phrase) (vs : List lexical.Token) (h : MakesOn u v i room env p ts b) → PlacedOn u i env p f ts → PlacedOn v j (env_after h.steps env) q g vs → (a s : State) (us : List lexical.Token) → ReachedAt u (join i j) us a s → s.sheet.keeps_positions ≡ true → all_closed (remarks_by (steps_of (p (q nothing) env)) env) ≡ true → AllHere env.config a.sheet (run (steps_of (p (q nothing) env)) s).sheet us f ts × AllHere env.config a.sheet (run (steps_of (p (q nothing) env)) s).sheet (us ++ ts) g vs
 placed_both {v = v} {i = i} {j = j} {env = env} {p = p} {ts = ts} q f g vs h x y a s us r k c =
     let here : List Step = h.steps in
     let there : List Step = steps_of (q nothing (env_after here env)) in
@@ -83,12 +88,12 @@ placed_both {v = v} {i = i} {j = j} {env = env} {p = p} {ts = ts} q f g vs h x y
     let qs = remarks_by there (env_after here env) in
     let closed = and_parts (all_closed rs) (all_closed qs) (sym (closed_append rs qs) ∙ ap all_closed (sym (remarks_both here there env)) ∙ both) in
     let next : State = run here s in
-    let first : AllStand env.config a.sheet next.sheet us f ts = subst (λ z. AllStand env.config a.sheet (run z s).sheet us f ts) same (x.stands a s us (reached_as i (enters_first i j s r.enters) r) k (subst (λ z. all_closed (remarks_by z env) ≡ true) (sym same) closed.0)) in
+    let first : AllHere env.config a.sheet next.sheet us f ts = subst (λ z. AllHere env.config a.sheet (run z s).sheet us f ts) same (x.stands a s us (reached_as i (enters_first i j s r.enters) r) k (subst (λ z. all_closed (remarks_by z env) ≡ true) (sym same) closed.0)) in
     let reached : ReachedAt v j (us ++ ts) a next = reached_then i j us ts a s next r (h.lays s r.rest closed.0) (run_records here s) in
-    let second : AllStand env.config a.sheet (run there next).sheet (us ++ ts) g vs = y.stands a next (us ++ ts) reached (run_sheet (λ z. z.keeps_positions) effect_keeps_positions here s ∙ k) closed.1 in
-    let P : List Step → Type 0 = λ z. AllStand env.config a.sheet (run z s).sheet us f ts × AllStand env.config a.sheet (run z s).sheet (us ++ ts) g vs in
-    let Q : State → Type 0 = λ z. AllStand env.config a.sheet z.sheet us f ts × AllStand env.config a.sheet z.sheet (us ++ ts) g vs in
-    subst P (sym whole) (subst Q (sym (run_append here there s)) (all_more env.config a.sheet next.sheet (run there next).sheet us f ts (run_records there next) first, second))
+    let second : AllHere env.config a.sheet (run there next).sheet (us ++ ts) g vs = y.stands a next (us ++ ts) reached (run_sheet (λ z. z.keeps_positions) effect_keeps_positions here s ∙ k) closed.1 in
+    let P : List Step → Type 0 = λ z. AllHere env.config a.sheet (run z s).sheet us f ts × AllHere env.config a.sheet (run z s).sheet (us ++ ts) g vs in
+    let Q : State → Type 0 = λ z. AllHere env.config a.sheet z.sheet us f ts × AllHere env.config a.sheet z.sheet (us ++ ts) g vs in
+    subst P (sym whole) (subst Q (sym (run_append here there s)) (all_more env.config a.sheet next.sheet (run there next).sheet us f ts (run_later there next) first, second))
 
 pub placed_then : {u v : Spot} {i j : Shape} {room : ℕ} {env : Env} {p : Part} {ts : List lexical.Token} {b : Bool} (q : Part) (f g : Phrase) (vs : List lexical.Token) (h : MakesOn u v i room env p ts b) → PlacedOn u i env p f ts → PlacedOn v j (env_after h.steps env) q g vs → PlacedOn u (join i j) env (λ rest. p (q rest)) (Then f g) (ts ++ vs)
 unfolding EachName
@@ -98,7 +103,7 @@ placed_then {ts = ts} q f g vs h x y = record { stands = λ a s us r k c. let z 
 pub placed_after : {u v : Spot} {i j : Shape} {room : ℕ} {env : Env} {p : Part} {b : Bool} (q : Part) (g : Phrase) (vs : List lexical.Token) (h : MakesOn u v i room env p [] b) → PlacedOn v j (env_after h.steps env) q g vs → PlacedOn u (join i j) env (λ rest. p (q rest)) g vs
 unfolding names_in Generates nothing
 placed_after {env = env} {p = p} q g vs h y = record {
-  stands = λ a s us r k c. subst (λ z. AllStand env.config a.sheet (run (steps_of (p (q nothing) env)) s).sheet z g vs) (append-nil us) (placed_both q Nothing g vs h (placed_none env p Nothing [] refl refl) y a s us r k c).1;
+  stands = λ a s us r k c. subst (λ z. AllHere env.config a.sheet (run (steps_of (p (q nothing) env)) s).sheet z g vs) (append-nil us) (placed_both q Nothing g vs h (placed_none env p Nothing [] refl refl) y a s us r k c).1;
 }
 
 pub placed_before : {u v : Spot} {i : Shape} (j : Shape) {room : ℕ} {env : Env} {p : Part} {ts : List lexical.Token} {b : Bool} (q : Part) (f : Phrase) (h : MakesOn u v i room env p ts b) → PlacedOn u i env p f ts → PlacedOn u (join i j) env (λ rest. p (q rest)) f ts
@@ -114,7 +119,7 @@ placed_narrower u {v} e x = record { stands = λ a s us r k c. x.stands a s us (
 
 pub placed_same : {i : Shape} {f : Phrase} {ts : List lexical.Token} (env : Env) (p q : Part) → ((rest : Plan) → p rest env ≡ q rest env) → PlacedBy i env q f ts → PlacedBy i env p f ts
 placed_same {f = f} {ts = ts} env p q e x = record {
-  stands = λ a s us r k c. subst (λ (z : Steps). AllStand env.config a.sheet (run (steps_of z) s).sheet us f ts) (sym (e nothing)) (x.stands a s us r k (subst (λ (z : Steps). all_closed (remarks_by (steps_of z) env) ≡ true) (e nothing) c));
+  stands = λ a s us r k c. subst (λ (z : Steps). AllHere env.config a.sheet (run (steps_of z) s).sheet us f ts) (sym (e nothing)) (x.stands a s us r k (subst (λ (z : Steps). all_closed (remarks_by (steps_of z) env) ≡ true) (e nothing) c));
 }
 
 -- the lists of three phrases, however they are taken together
@@ -123,7 +128,7 @@ unfolding EachName
 placed_regrouped {env = env} {p = p} f g h x = record {
   stands = λ a s us r k c.
       let z = x.stands a s us r k c in
-      let P : List lexical.Token → Type 0 = λ v. AllStand env.config a.sheet (run (steps_of (p nothing env)) s).sheet v h z.1 in
+      let P : List lexical.Token → Type 0 = λ v. AllHere env.config a.sheet (run (steps_of (p nothing env)) s).sheet v h z.1 in
       (z.2.0, z.2.1 ++ z.1, z.2.2, (z.2.1, z.1, z.2.3, subst P (ap (λ v. us ++ v) z.2.4 ∙ sym (append_assoc us z.2.0 z.2.1)) z.3, refl), z.4 ∙ ap (λ v. v ++ z.1) z.2.4 ∙ append_assoc z.2.0 z.2.1 z.1);
 }
 

@@ -22,13 +22,13 @@ use Rattle.swc_ecma_codegen_grammar.specs.CommentMaps.{listed}
 use Rattle.swc_ecma_codegen_grammar.specs.Comments.{Side, Leading, Trailing, AreClosed, comments_at, taken_out, remarks_of, texts_of, all_closed, all_tame}
 use Rattle.swc_ecma_codegen_grammar.specs.GapRules.{Start, allows}
 use Rattle.swc_ecma_codegen_grammar.specs.Parts as parts
-use Rattle.swc_ecma_codegen_grammar.specs.Parts.{OfLine, OnLine, KeepsLines, walk, is_broken, Gap, NoneFuse, Reduced, IsEnding, tokens_of, remarks_in}
+use Rattle.swc_ecma_codegen_grammar.specs.Parts.{OfLine, OnLine, KeepsLines, walk, is_broken, Gap, NoneFuse, Reduced, IsEnding, begins_break, tokens_of, remarks_in}
 use Rattle.swc_ecma_codegen_grammar.specs.Endings.{IsReduced}
 use Rattle.swc_ecma_codegen_grammar.proofs.Dropped.{keeps_reduced, none_fuse_reduced, tokens_reduced, without_last_gap}
 use Rattle.swc_ecma_codegen_common.specs.declared.positions.BytePos.{BytePos}
 use Rattle.swc_ecma_codegen_spans.specs.Spans.{dummy_span}
 use Rattle.swc_ecma_codegen_text_writer.specs.Recorded.{RecordsTruly}
-use Rattle.swc_ecma_codegen_text_writer.specs.Sheet.{Sheet, Symbol, Position, Commit, is_ending}
+use Rattle.swc_ecma_codegen_text_writer.specs.Sheet.{Sheet, Symbol, Position, Commit, is_ending, may_take_memory, fills_lines}
 use Rattle.swc_ecma_codegen_grammar.specs.Phrases.{Phrase, Never, Nothing, One, NameOf, Then, PlacedName, Generates, is_possible, names_in, where_, ◌>◌, mark}
 use Rattle.swc_ecma_codegen_grammar.specs.Phrases as phrases
 use Rattle.swc_ecma_codegen_grammar.specs.SpelledNames as names
@@ -44,10 +44,10 @@ use Rattle.swc_ecma_codegen_tokens.specs.Run.{Env, Plan, Part, State, Step, Guar
 use Rattle.swc_ecma_codegen_tokens.specs.Settings.{settings_of}
 use Rattle.swc_ecma_codegen_tokens.specs.Tags.{closing, close}
 use Rattle.swc_ecma_codegen_tokens.specs.Targets.{written_as, written_by, wants_escapes, is_out_name, written_name, is_out}
-use Rattle.swc_ecma_codegen_tokens.specs.Words.{keyword, operator, word_operator, punct, placed_punct, semi, commit_pending_semi, position, by_maps, symbol, valid_symbol, name_text, question, name}
-use Rattle.swc_ecma_codegen_tokens.specs.Written.{AtRest, Spot, Anything, is_free, holds_one, IsNew, IsAtMargin, ReadsAs, AddsText, AddsReading, taken_remarks, without_joints, IsWord, IsMark}
+use Rattle.swc_ecma_codegen_tokens.specs.Words.{allows_break, bare_punct, bare_semi, keyword, operator, word_operator, punct, placed_punct, semi, commit_pending_semi, position, by_maps, symbol, valid_symbol, name_text, question, name}
+use Rattle.swc_ecma_codegen_tokens.specs.Written.{keeps_break, AtRest, Spot, Anything, is_free, holds_one, IsNew, IsAtMargin, ReadsAs, AddsText, AddsReading, taken_remarks, without_joints, IsWord, IsMark}
 use Rattle.swc_ecma_codegen_tokens.specs.Escapes.{may_make_text}
-use Rattle.swc_ecma_codegen_tokens.specs.Named.{RecordsNames, StandsAfter, EachName, AllStand, PlacesNames}
+use Rattle.swc_ecma_codegen_tokens.specs.Named.{RecordsNames, EachName, PlacesNames}
 use Rattle.swc_ecma_codegen_tokens.specs.Scripts.{is_str, strings_after, AreSafe}
 use Rattle.swc_ecma_codegen_tokens.proofs.Fronts.{follows_cause}
 use Rattle.swc_ecma_codegen_tokens.proofs.StepAscii.{holds_string}
@@ -57,14 +57,17 @@ use Rattle.swc_ecma_codegen_tokens.proofs.Spelled.{valid_same, spelled_same, out
 use Rattle.swc_ecma_codegen_tokens.proofs.Positions.{Named, named_records, name_named, name_steps, name_call, run_records}
 use Rattle.swc_ecma_codegen_tokens.proofs.Standing.{reached_first, name_stands}
 use Rattle.swc_ecma_codegen_tokens.proofs.Targets.{Names, names_in_ascii, plain_not_out}
-use Rattle.swc_ecma_codegen_tokens.proofs.Shapes.{Shape, whole, open_, loose, unbroken_at, joining, joined, at_joint, join, is_within, met_unbroken, broken_from, walk_append}
+use Rattle.swc_ecma_codegen_tokens.proofs.Shapes.{Shape, whole, ended, open_, loose, unbroken_at, joining, joined, at_joint, join, is_within, met_unbroken, broken_from, walk_append}
 use Rattle.swc_ecma_codegen_tokens.proofs.Appended.{tokens_append}
 use Rattle.swc_ecma_codegen_tokens.proofs.Jointless.{reads_without}
+use Rattle.swc_ecma_codegen_tokens.proofs.Cuts.{past_break, ending_past}
 use Rattle.swc_ecma_codegen_tokens.proofs.Laid.{LaysWith, Enters, held, held_of}
-use Rattle.swc_ecma_codegen_tokens.proofs.Written.{Spelled, spelled_word, spelled_name, spelled_mark}
-use Rattle.swc_ecma_codegen_tokens.proofs.Printed.{MakesFrom, MakesAt, from_wider, from_same, from_both, env_after, remarks_by, remarks_append, closed_append, writes_joined_operator, writes_joined_punct, writes_keyword_joint, chain, or_false, Writes, writes_whatever, writes_then, writes_nothing, writes_keyword, writes_operator, writes_word_operator, writes_punct, writes_placed_punct, writes_semi, writes_commit, writes_leading, writes_name_text, MakesOn, MakesWithinOn, from_where, writes_close}
+use Rattle.swc_ecma_codegen_tokens.proofs.TokenLays.{Spelled, spelled_word, spelled_name, spelled_mark}
+use Rattle.swc_ecma_codegen_tokens.proofs.Printed.{MakesFrom, MakesAt, from_wider, from_same, from_both, env_after, remarks_by, remarks_append, closed_append, writes_joined_operator, writes_joined_punct, writes_keyword_joint, chain, or_false, writes_whatever, writes_then, writes_nothing, writes_keyword, writes_operator, writes_word_operator, punct_shape, unbroken_punct, writes_bare_punct, writes_bare_semi, writes_opened_punct, writes_punct, writes_placed_punct, writes_semi, writes_commit, writes_name_text, MakesOn, MakesWithinOn, from_where, writes_close}
+use Rattle.swc_ecma_codegen_tokens.proofs.CommentPrints.{writes_leading}
 use Rattle.swc_ecma_codegen_tokens.proofs.PartSteps.{steps_of_chain, steps_alone, NamedBy, no_names, names_then, PlacedOn, PlacedBy, placed_none, placed_then, placed_after, placed_before, placed_wider, placed_same, placed_regrouped, IsSafe, no_strings, safe_then}
 pub use Rattle.swc_ecma_codegen_tokens.proofs.PartSteps.{steps_of_more}
+use Rattle.swc_ecma_codegen_tokens.proofs.CutStanding.{AllHere, StandsHere, each_holds}
 
 and_assoc : (a b c : Bool) → ((a && b) && c) ≡ (a && (b && c))
 and_assoc true b c = refl
@@ -212,7 +215,7 @@ printed_same {f = f} env p q e a = record {
   tokens = a.tokens;
   generated = a.generated;
   writes = from_same env p q a.tokens e a.writes;
-  named = λ s k. let P : Steps → Type 0 = λ z. Named env.config (names_in f) s.sheet (run (steps_of z) s).sheet in subst P (sym (e nothing)) (a.named s k);
+  named = λ s k n. let P : Steps → Type 0 = λ z. Named env.config (names_in f) s.sheet (run (steps_of z) s).sheet in subst P (sym (e nothing)) (a.named s k n);
   placed = placed_same env p q e a.placed;
   safe = λ i anew. subst (λ z. AreSafe (strings_after anew (steps_of z))) (sym (e nothing)) (a.safe i anew);
 }
@@ -255,15 +258,15 @@ one_on env p x h none = record { where_possible = λ k o maps. record { tokens =
 ascii_same : (t : List ℕ) → is_ascii_text t ≡ true → chars t ≡ t
 ascii_same t a = (ascii_chars t (ascii_from_all t a)).0
 
-word_spelled : (t : List ℕ) → IsWord t → Spelled Word t
+pub word_spelled : (t : List ℕ) → IsWord t → Spelled Word t
 word_spelled t w = spelled_word t w.utf8 (ap is_word (ascii_same t w.ascii) ∙ w.shape)
 
 pub mark_spelled : (t : List ℕ) → IsMark t → Spelled Punctuator t
 mark_spelled t w = spelled_mark t w.utf8 (ascii_same t w.ascii) w.shape
 
-prints_word : (env : Env) (p : Part) (t : List ℕ) → IsWord t → Writes env p (token_of Word (spelling Word t) ∷ []) → Prints env p (phrases.word t)
+pub prints_word : {i : Shape} (env : Env) (p : Part) (t : List ℕ) → IsWord t → MakesAt i env p (token_of Word (spelling Word t) ∷ []) false → PrintsAt i env p (phrases.word t)
 unfolding token_of value_of spelling lexical.word is_str
-prints_word env p t w h = subst (λ z. Prints env p (phrases.word z)) (ascii_same t w.ascii) (prints_one env p _ h refl)
+prints_word {i} env p t w h = subst (λ z. PrintsAt i env p (phrases.word z)) (ascii_same t w.ascii) (prints_one env p _ h refl)
 
 pub prints_mark : {i : Shape} (env : Env) (p : Part) (t : List ℕ) → MakesAt i env p (token_of Punctuator (spelling Punctuator t) ∷ []) false → PrintsAt i env p (mark t)
 unfolding token_of value_of spelling lexical.punctuator is_str
@@ -278,7 +281,17 @@ prints_word_operator env t w = prints_word env (word_operator t) t w (writes_wor
 pub prints_operator : (env : Env) (t : List ℕ) → IsMark t → Prints env (operator t) (mark t)
 prints_operator env t w = prints_mark env (operator t) t (writes_operator env t (mark_spelled t w) w.ascii)
 
-pub prints_punct : (env : Env) (t : List ℕ) → IsMark t → Prints env (punct t) (mark t)
+pub prints_bare_punct : (env : Env) (t : List ℕ) → IsMark t → Prints env (bare_punct t) (mark t)
+prints_bare_punct env t w = prints_mark env (bare_punct t) t (writes_bare_punct env t (mark_spelled t w) w.ascii)
+
+-- whatever punctuator it is, and one behind which no line may be ended
+pub prints_opened : (env : Env) (t : List ℕ) → IsMark t → PrintsAt ended env (punct t) (mark t)
+prints_opened env t w = prints_mark env (punct t) t (writes_opened_punct env t (mark_spelled t w) w.ascii)
+
+pub prints_unbroken : (env : Env) (t : List ℕ) → allows_break t ≡ false → IsMark t → Prints env (punct t) (mark t)
+prints_unbroken env t h w = prints_same (punct t) (bare_punct t) (λ maps rest. unbroken_punct t h rest (at_maps maps env)) (prints_bare_punct env t w)
+
+pub prints_punct : (env : Env) (t : List ℕ) → IsMark t → PrintsAt (punct_shape t) env (punct t) (mark t)
 prints_punct env t w = prints_mark env (punct t) t (writes_punct env t (mark_spelled t w) w.ascii)
 
 pub prints_placed_punct : (env : Env) (span : Span) (t : List ℕ) → IsMark t → Prints env (placed_punct span t) (mark t)
@@ -288,9 +301,13 @@ question_is_mark : IsMark (codes "?")
 unfolding is_punctuator is_among is_same punctuators chars is_utf8 lib.Utf8.encode
 question_is_mark = record { utf8 = refl; ascii = refl; shape = refl }
 
-pub prints_semi : (env : Env) → Prints env semi phrases.ending
+pub prints_semi : (env : Env) → PrintsAt ended env semi phrases.ending
 unfolding token_of value_of spelling lexical.ending is_str
 prints_semi env = prints_one env semi _ (writes_semi env) refl
+
+pub prints_bare_semi : (env : Env) → Prints env bare_semi phrases.ending
+unfolding token_of value_of spelling lexical.ending is_str
+prints_bare_semi env = prints_one env bare_semi _ (writes_bare_semi env) refl
 
 pub prints_close : (env : Env) → Prints env close (One closing)
 unfolding token_of value_of spelling lexical.tag_close is_str chars lib.Utf8.encode
@@ -323,8 +340,8 @@ pub joined_mark : {i : Shape} (env : Env) (p : Part) (t : List ℕ) → MakesAt 
 unfolding token_of value_of spelling lexical.punctuator lexical.same_line is_str
 joined_mark env p t h = prints_pair env p _ _ h refl refl
 
-pub prints_joined_punct : (env : Env) (t : List ℕ) → is_ending t ≡ false → IsMark t → PrintsAt joined env (punct t) (phrases.same_line > mark t)
-prints_joined_punct env t e w = joined_mark env (punct t) t (writes_joined_punct env t e (mark_spelled t w) w.ascii)
+pub prints_joined_punct : (env : Env) (t : List ℕ) → allows_break t ≡ false → is_ending t ≡ false → IsMark t → PrintsAt joined env (punct t) (phrases.same_line > mark t)
+prints_joined_punct env t q e w = joined_mark env (punct t) t (writes_joined_punct env t q e (mark_spelled t w) w.ascii)
 
 joint_word : (env : Env) (p : Part) (t : List ℕ) → IsWord t → MakesAt (join whole joining) env p (token_of Word (spelling Word t) ∷ lexical.same_line ∷ []) false → PrintsAt (join whole joining) env p (phrases.word t > phrases.same_line)
 unfolding token_of value_of spelling lexical.word lexical.same_line is_str
@@ -378,9 +395,9 @@ named_at at bytes = record { at = at; bytes = bytes; sort = phrases.Plain }
 
 names_here : (env : Env) (span : Span) (bytes : List ℕ) → env.keeps_invalid ≡ false → is_out_name env.config (turned bytes) ≡ false → (written_name env.config bytes ≡ [] → ⊥) → NamedBy env (settled_name span bytes) (named_at span.lo bytes ∷ [])
 unfolding NamedBy written_as written_by
-names_here env span bytes e o some s k =
+names_here env span bytes e o some s k flows =
     let P : List Step → Type 0 = λ z. Named env.config (named_at span.lo bytes ∷ []) s.sheet (run z s).sheet in
-    subst P (sym (symbol_steps env span bytes e o)) (name_named env.config (has_backslash bytes) (wants_escapes env.config (turned bytes)) Name (span.lo.0 == 0) (named_at span.lo bytes) s refl some k)
+    subst P (sym (symbol_steps env span bytes e o)) (name_named env.config (has_backslash bytes) (wants_escapes env.config (turned bytes)) Name (span.lo.0 == 0) (named_at span.lo bytes) s refl some k flows)
 
 -- and stands there as its own token
 name_here : {i : Shape} (env : Env) (span : Span) (bytes : List ℕ) → env.keeps_invalid ≡ false → is_out_name env.config (turned bytes) ≡ false → Spelled Name (written_name env.config bytes) → token_of Name (spelling Name (written_name env.config bytes)) ≡ lexical.name (name_value (names.spelled_name bytes)) → PlacedBy i env (settled_name span bytes) (NameOf span.lo bytes) (token_of Name (spelling Name (written_name env.config bytes)) ∷ [])
@@ -392,7 +409,7 @@ name_here env span bytes e o spelled token = record {
       let second : Bool = wants_escapes env.config (turned bytes) in
       let there = name_stands env.config first second Name (span.lo.0 == 0) x us a s refl spelled k r in
       let t = token_of Name (spelling Name (written_name env.config bytes)) in
-      (ap (λ z. z ∷ []) token, subst (λ (z : lexical.Token). StandsAfter env.config a.sheet (run (steps_of (settled_name span bytes nothing env)) s).sheet us z x) token (subst (λ (z : List Step). StandsAfter env.config a.sheet (run z s).sheet us t x) (sym (symbol_steps env span bytes e o)) there));
+      (ap (λ z. z ∷ []) token, subst (λ (z : lexical.Token). StandsHere env.config a.sheet (run (steps_of (settled_name span bytes nothing env)) s).sheet us z x) token (subst (λ (z : List Step). StandsHere env.config a.sheet (run z s).sheet us t x) (sym (symbol_steps env span bytes e o)) there));
 }
 
 -- a name that can't be written ends it
@@ -439,6 +456,7 @@ unfolding is_free allows
 new_at_rest a n = record {
   indent_text = n.indent_text;
   line_end = n.line_end;
+  flowing = n.flowing;
   free = λ o e. ap is_free n.nothing_written;
   allowed = λ t. ap (λ k. allows k t) n.nothing_written;
 }
@@ -447,10 +465,10 @@ new_at_rest a n = record {
 end_of : Bool → Sheet → List parts.Part
 end_of b s = cond b (Gap (blanks (front s)) ∷ []) []
 
-end_reduced : (b : Bool) (s : Sheet) → Reduced (held_of b s ++ []) (end_of b s)
-unfolding Reduced IsEnding end_of
-end_reduced true s = inl ([], refl, inr (refl, tt, refl))
-end_reduced false s = refl
+end_reduced : (b c : Bool) (s : Sheet) → Reduced (held_of b c s ++ []) (end_of b s)
+unfolding Reduced IsEnding begins_break end_of
+end_reduced true c s = inl ([], refl, inr (inl (refl, ending_past c [] tt, refl, past_break c [] [] refl)))
+end_reduced false c s = refl
 
 without_end : (b : Bool) (s : Sheet) (xs : List parts.Part) → NoneFuse Start (xs ++ end_of b s) → NoneFuse Start xs
 unfolding end_of
@@ -478,18 +496,31 @@ pub enters_new : (anywhere : Bool) (a : State) → IsNew a → (anywhere ≡ fal
 enters_new true a n m = inl refl
 enters_new false a n m = inr (refl, record { nothing_written = n.nothing_written; nothing_held = n.nothing_held; at_margin = no_front a.sheet.at_line_start a.sheet (m refl) })
 
-pub laid_reads : {rs : List Remark} (anywhere : Bool) (config : Config) (f : Phrase) (ts : List lexical.Token) (a b : State) → Generates (settings_of config) f ts → IsNew a → (anywhere ≡ false → IsAtMargin a) → LaysWith (unbroken_at anywhere) ts rs a b → AddsReading config f rs a.sheet b.sheet
-unfolding NoneFuse is_broken
-laid_reads {rs} anywhere config f ts a b g n m l =
+-- What was laid since an emission began: no two parts of it fuse, no line ends where none may, and it is what was asked for without some
+-- semicolons that aren't needed.
+pub record StandsAlone (ts : List lexical.Token) (rs : List Remark) (laid : List parts.Part) : Type 0 where
+  pub apart : NoneFuse Start laid
+  pub lines : all_tame rs ≡ true → KeepsLines laid
+  pub reduced : IsReduced ts (tokens_of laid)
+
+pub laid_alone : {rs : List Remark} (anywhere : Bool) (ts : List lexical.Token) (a b : State) → IsNew a → (anywhere ≡ false → IsAtMargin a) → (l : LaysWith (unbroken_at anywhere) ts rs a b) → StandsAlone ts rs l.laid
+laid_alone {rs} anywhere ts a b n m l =
     let last : Bool = holds_one b.sheet.semicolons in
     let end : List parts.Part = end_of last b.sheet in
-    let none : held a.sheet ≡ [] = ap (λ z. held_of z a.sheet) n.nothing_held in
+    let none : held a.sheet ≡ [] = ap (λ z. held_of z (keeps_break a.sheet.semicolons) a.sheet) n.nothing_held in
     let reduced : Reduced l.out (l.laid ++ end) =
-    subst (λ z. Reduced z (l.laid ++ end)) (append-nil l.out) (subst (λ z. Reduced (z ++ (l.out ++ [])) (l.laid ++ end)) none (l.reduces [] end (end_reduced last b.sheet))) in
-    let apart : NoneFuse Start l.out = subst (λ z. NoneFuse z l.out) n.nothing_written (subst (λ z. NoneFuse a.last z) (append-nil l.out) (l.apart (enters_new anywhere a n m) [] (l.rest.allowed []))) in
-    let laid : NoneFuse Start l.laid = without_end last b.sheet l.laid (none_fuse_reduced l.out (l.laid ++ end) apart reduced) in
-    let lines : all_tame rs ≡ true → KeepsLines l.laid = λ t. kept_front l.laid end OnLine (keeps_reduced l.out (l.laid ++ end) OnLine reduced (met_unbroken _ (l.fits t).line)) in
+    subst (λ z. Reduced z (l.laid ++ end)) (append-nil l.out) (subst (λ z. Reduced (z ++ (l.out ++ [])) (l.laid ++ end)) none (l.reduces [] end (end_reduced last (keeps_break b.sheet.semicolons) b.sheet))) in
+    let apart : NoneFuse Start l.out = subst (λ z. NoneFuse z l.out) n.nothing_written (subst (λ z. NoneFuse a.last z) (append-nil l.out) (l.apart (enters_new anywhere a n m) [] (unfold NoneFuse in l.rest.allowed []))) in
     let same : tokens_of (l.laid ++ end) ≡ tokens_of l.laid = tokens_append l.laid end ∙ ap (λ z. tokens_of l.laid ++ z) (no_end_tokens last b.sheet) ∙ append-nil (tokens_of l.laid) in
+    record {
+      apart = without_end last b.sheet l.laid (none_fuse_reduced l.out (l.laid ++ end) apart reduced);
+      lines = λ t. kept_front l.laid end OnLine (keeps_reduced l.out (l.laid ++ end) OnLine reduced (met_unbroken _ (l.fits t).line));
+      reduced = subst (λ z. IsReduced z (tokens_of l.laid)) l.tokens (subst (λ z. IsReduced (tokens_of l.out) z) same (tokens_reduced l.out (l.laid ++ end) apart reduced));
+    }
+
+pub laid_reads : {rs : List Remark} (anywhere : Bool) (config : Config) (f : Phrase) (ts : List lexical.Token) (a b : State) → Generates (settings_of config) f ts → IsNew a → (anywhere ≡ false → IsAtMargin a) → LaysWith (unbroken_at anywhere) ts rs a b → AddsReading config f rs a.sheet b.sheet
+laid_reads {rs} anywhere config f ts a b g n m l =
+    let alone = laid_alone anywhere ts a b n m l in
     record {
       added = l.bytes;
       is_added = l.text;
@@ -498,10 +529,10 @@ laid_reads {rs} anywhere config f ts a b g n m l =
         tokens = ts;
         is_list = g;
         written = tokens_of l.laid;
-        reduced = subst (λ z. IsReduced z (tokens_of l.laid)) l.tokens (subst (λ z. IsReduced (tokens_of l.out) z) same (tokens_reduced l.out (l.laid ++ end) apart reduced));
+        reduced = alone.reduced;
         whole = λ e. ap tokens_of (l.whole e) ∙ l.tokens;
-        reads = subst (λ z. Reads (chars l.bytes) (without_joints (tokens_of l.laid)) z) l.remarks (subst (λ z. Reads z (without_joints (tokens_of l.laid)) (remarks_in l.laid)) (sym l.spells) (reads_without l.laid laid));
-        keeps_lines = λ t. subst (λ z. Reads (chars l.bytes) (tokens_of l.laid) z) l.remarks (subst (λ z. Reads z (tokens_of l.laid) (remarks_in l.laid)) (sym l.spells) (reads l.laid laid (lines t)));
+        reads = subst (λ z. Reads (chars l.bytes) (without_joints (tokens_of l.laid)) z) l.remarks (subst (λ z. Reads z (without_joints (tokens_of l.laid)) (remarks_in l.laid)) (sym l.spells) (reads_without l.laid alone.apart));
+        keeps_lines = λ t. subst (λ z. Reads (chars l.bytes) (tokens_of l.laid) z) l.remarks (subst (λ z. Reads z (tokens_of l.laid) (remarks_in l.laid)) (sym l.spells) (reads l.laid alone.apart (alone.lines t)));
       };
     }
 
@@ -588,22 +619,22 @@ printed_tells p f env prints w none =
     subst (λ xs. spoken xs ≡ texts_of (taken_in xs env.maps)) (sym (ap steps_of (h.writes.is_steps nothing) ∙ steps_of_chain h.writes.steps)) h.writes.told
 
 -- an emission without calls that take memory, and without such a name, isn't refused for want of memory
-pub never_out_of_memory : (p : Part) (a b : State) (r : Result (Unit {0}) Error) → makes_text (steps_of (p nothing a.env)) ≡ false → a.sheet.takes_memory ≡ false → Follows (p nothing) a b (in_short r) → r ≢ Err errors.OutOfMemory
+pub never_out_of_memory : (p : Part) (a b : State) (r : Result (Unit {0}) Error) → makes_text (steps_of (p nothing a.env)) ≡ false → may_take_memory a.sheet ≡ false → Follows (p nothing) a b (in_short r) → r ≢ Err errors.OutOfMemory
 unfolding HasCause
 never_out_of_memory p a b r plain t h e =
     let P : Result (Unit {0}) Refusal → Type 0 = λ z. IfErr z (λ x. HasCause (p nothing a.env) x a b) in
-    let k : (a.sheet.takes_memory || makes_text (steps_of (p nothing a.env))) ≡ true = subst P (ap in_short e) (follows_cause (p nothing) a b (in_short r) h) in
+    let k : (may_take_memory a.sheet || makes_text (steps_of (p nothing a.env))) ≡ true = subst P (ap in_short e) (follows_cause (p nothing) a b (in_short r) h) in
     true≢false (sym k ∙ or_from _ _ t plain)
 
 -- ---- what an emission records
 
 -- where positions are kept, each name has its own where it begins
-pub printed_names : {v w : Spot} {i : Shape} (p : Part) (f : Phrase) (a b : State) (r : Result (Unit {0}) Refusal) → PrintsOn v w i a.env p f → is_possible f ≡ true → a.sheet.keeps_positions ≡ true → Follows (p nothing) a b r → OnOk r (RecordsNames a.env.config (names_in f) a.sheet b.sheet)
+pub printed_names : {v w : Spot} {i : Shape} (p : Part) (f : Phrase) (a b : State) (r : Result (Unit {0}) Refusal) → PrintsOn v w i a.env p f → is_possible f ≡ true → a.sheet.keeps_positions ≡ true → fills_lines a.sheet.lines ≡ false → Follows (p nothing) a b r → OnOk r (RecordsNames a.env.config (names_in f) a.sheet b.sheet)
 unfolding Follows NamedBy
-printed_names p f a b (Ok u) prints w k h =
+printed_names p f a b (Ok u) prints w k n h =
     let P : State → Type 0 = λ z. RecordsNames a.env.config (names_in f) a.sheet z.sheet in
-    subst P (sym h.1) (named_records a.env.config (names_in f) a.sheet _ ((prints.where_possible w (made_not_out p f a.env prints w h.0) a.env.maps).named a k))
-printed_names p f a b (Err e) prints w k h = tt
+    subst P (sym h.1) (named_records a.env.config (names_in f) a.sheet _ ((prints.where_possible w (made_not_out p f a.env prints w h.0) a.env.maps).named a k n))
+printed_names p f a b (Err e) prints w k n h = tt
 
 -- what is recorded is true
 pub follows_records : (p : Plan) (a b : State) (r : Result (Unit {0}) Refusal) → Follows p a b r → OnOk r (RecordsTruly a.sheet b.sheet)
@@ -619,13 +650,13 @@ steps_placed anywhere p f a n m closed prints w o k =
     let h = prints.where_possible w o a.env.maps in
     let same : steps_of (p nothing a.env) ≡ h.writes.steps = steps_alone h.writes in
     let r = reached_first (unbroken_at anywhere) a n (new_at_rest a n) (enters_new anywhere a n m) in
-    let there : AllStand a.env.config a.sheet (run h.writes.steps a).sheet [] f h.tokens =
-    subst (λ z. AllStand a.env.config a.sheet (run z a).sheet [] f h.tokens) same (h.placed.stands a a [] r k (taken_closed (steps_of (p nothing a.env)) a.env.maps closed)) in
+    let there : AllHere a.env.config a.sheet (run h.writes.steps a).sheet [] f h.tokens =
+    subst (λ z. AllHere a.env.config a.sheet (run z a).sheet [] f h.tokens) same (h.placed.stands a a [] r k (taken_closed (steps_of (p nothing a.env)) a.env.maps closed)) in
     let P : List Step → Type 0 = λ z. PlacesNames a.env.config f (remarks_by z a.env) a.sheet (run z a).sheet in
     subst P (sym same)
     (record {
       reads = laid_reads anywhere a.env.config f h.tokens a (run h.writes.steps a) h.generated n m (h.writes.lays a (new_at_rest a n) (taken_closed h.writes.steps a.env.maps closed));
-      stand = there;
+      stand = each_holds (λ us t x s. s.stands) (settings_of a.env.config) [] f h.tokens there;
     })
 
 -- what a new emitter prints reads, and each name of the list that it reads as stands there as its own token, with its position where it begins

@@ -1,6 +1,6 @@
 -- What each word writes, whatever comes after it.
-use Rattle.std.proofs.Common.{◌≡◌, ℕ, ◌+◌, ◌-◌, ◌≤◌, Bool, true, false, cond, not, ◌&&◌, ◌||◌, List, [], ◌∷◌, ◌++◌, length, length-append, append_assoc, append-nil, arith, ◌==◌, codes, refl, sym, ap, ◌∙◌, subst, inl, inr, Option, Some, None}
-use Rattle.std.proofs.lemmas.Bool.{and_from, and_parts, cases_Bool, or_cases, or_from, or_left, or_right, true≢false}
+use Rattle.std.proofs.Common.{◌≡◌, ℕ, ◌+◌, ◌-◌, ◌≤◌, Bool, true, false, cond, not, ◌&&◌, ◌||◌, List, [], ◌∷◌, ◌++◌, length, length-append, append_assoc, arith, ◌==◌, codes, refl, sym, ap, ◌∙◌, subst, inl, inr, Option, Some, None}
+use Rattle.std.proofs.lemmas.Bool.{and_from, and_parts, cases_Bool, eqb-true, false_from_ne_true, or_cases, or_left, or_right, true≢false}
 use Rattle.swc_ecma_codegen_common.specs.declared.positions.BytePos.{BytePos}
 use Rattle.swc_ecma_codegen_common.specs.declared.positions.Span.{Span}
 use Rattle.swc_ecma_codegen_spans.specs.Spans.{dummy_span}
@@ -8,40 +8,32 @@ use Rattle.swc_ecma_codegen_grammar.specs.declared.kinds.Kind.{Kind}
 use Rattle.swc_ecma_codegen_grammar.specs.declared.kinds.Kind.TheVariants.{Word, Name, Punctuator, Ending, Close}
 use Rattle.swc_ecma_codegen_grammar.specs.Tokens as lexical
 use Rattle.swc_ecma_codegen_grammar.specs.Tokens.{token_of}
-use Rattle.swc_ecma_codegen_text_writer.specs.Sheet.{Semi, Space, Keyword, Operator, Line, Symbol, Punct, Position, Commit, Deeper, Shallower, effect, is_ending, before_punct}
+use Rattle.swc_ecma_codegen_grammar.specs.Texts.{is_same}
+use Rattle.swc_ecma_codegen_text_writer.specs.Sheet.{AllowBreak, Semi, Space, Keyword, Operator, Line, Symbol, Punct, Position, Commit, Deeper, Shallower, effect, is_ending, before_punct, begins_lines}
 use Rattle.swc_ecma_codegen_grammar.specs.ValidNames.{turned}
-use Rattle.swc_ecma_codegen_tokens.specs.Run.{Env, Plan, Part, State, Step, Guard, Token, Plain, Ends, Remake, Take, CommentText, Steps, next, at_maps, after_step, maps_after, taken_by, taken_in, spoken, put, run, step, spelling, text_of, after_token, after_plain, when_minified, no_part, has_backslash, makes_text}
-use Rattle.swc_ecma_codegen_tokens.specs.Words.{keyword, operator, word_operator, punct, placed_punct, semi, space, formatting_space, line_end, formatting_line, commit_pending_semi, position, position_before, comment_blank, before_closing, comment_by, comment, comments, take_comments, leading_comments, trailing_comments, comments_before_end, symbol, spelled_symbol, valid_symbol, name_text}
+use Rattle.swc_ecma_codegen_tokens.specs.Run.{Env, is_bounded, Plan, Part, State, Step, Guard, Token, Plain, Ends, Remake, Take, CommentText, Steps, next, at_maps, after_step, maps_after, taken_by, taken_in, spoken, put, run, step, spelling, text_of, after_token, after_plain, when_minified, no_part, has_backslash, makes_text}
+use Rattle.swc_ecma_codegen_tokens.specs.Words.{allow_break, allows_break, bare_punct, bare_semi, break_where, keyword, operator, word_operator, punct, placed_punct, semi, space, formatting_space, line_end, formatting_line, commit_pending_semi, position, position_before, symbol, spelled_symbol, valid_symbol, name_text}
 use Rattle.swc_ecma_codegen_tokens.specs.Lists.{deeper, shallower}
 use Rattle.swc_ecma_codegen_tokens.specs.Tags.{close}
 use Rattle.swc_ecma_codegen_literals.specs.AsciiNames.{is_ascii_text}
 use Rattle.swc_ecma_codegen_tokens.specs.Ascii.{is_tag_kind, is_kept_call, is_kept, is_other, is_kept_piece, is_other_piece, keeps_other, are_ascii}
 use Rattle.swc_ecma_codegen_tokens.specs.Scripts.{is_string_call}
 use Rattle.swc_ecma_codegen_tokens.specs.Targets.{wants_escapes, in_ascii, is_out_name, written_name}
-use Rattle.swc_ecma_codegen_tokens.specs.Written.{AtRest, RestsAt, Spot, Anything, InName}
+use Rattle.swc_ecma_codegen_tokens.specs.Written.{AtRest, RestsAt, Spot, Anything}
 use Rattle.swc_ecma_codegen_tokens.proofs.Emitting.{minified_same, pretty_same}
-use Rattle.swc_ecma_codegen_tokens.proofs.Fronts.{run_append}
-use Rattle.swc_ecma_codegen_tokens.proofs.StepAscii.{Hands, has_string, has_append, ascii_append, hands_ascii, hands_at, hands_from, hands_by_settings, hands_then}
+use Rattle.swc_ecma_codegen_tokens.proofs.Fronts.{run_append, is_inner_step, are_inner_steps, inner_append}
+use Rattle.swc_ecma_codegen_tokens.proofs.StepAscii.{HandsOverAscii, has_string, hands_ascii, hands_at, hands_from, hands_by_settings, hands_then}
 use Rattle.swc_ecma_codegen_tokens.proofs.Levels.{levels, rise, levels_append}
 use Rattle.swc_ecma_codegen_tokens.proofs.Spelled.{valid_same, spelled_same}
-use Rattle.swc_ecma_codegen_tokens.proofs.Shapes.{Shape, whole, open_, loose, joining, joined, join, is_within}
+use Rattle.swc_ecma_codegen_tokens.proofs.Shapes.{Shape, whole, ended, open_, loose, joining, joined, join, is_within}
 use Rattle.swc_ecma_codegen_grammar.specs.CommentMaps.{Maps}
-use Rattle.swc_ecma_codegen_grammar.specs.Chars.{is_one_line}
-use Rattle.swc_ecma_codegen_grammar.specs.Trivia as trivia
-use Rattle.swc_ecma_codegen_grammar.specs.Trivia.{Remark, is_open}
-use Rattle.std.specs.Str.{chars, IsUtf8}
-use Rattle.std.specs.Prelude.{nat_lt, string_bytes}
-use Rattle.std.proofs.lemmas.Str.{IsUtf8-string_bytes}
-use Rattle.swc_ecma_codegen_grammar.specs.declared.comments.CommentKind.{CommentKind}
-use Rattle.swc_ecma_codegen_grammar.specs.declared.comments.CommentKind.TheVariants as kinds
-use Rattle.swc_ecma_codegen_text_writer.specs.Sheet as calls
-use Rattle.swc_ecma_codegen_tokens.proofs.ValueStrings.{anew_after, anew_append}
-use Rattle.swc_ecma_codegen_tokens.proofs.CommentLays.{lays_line_comment, lays_line_noted, lays_block_comment, lays_block_noted, lays_comment_blank}
+use Rattle.swc_ecma_codegen_grammar.specs.Trivia.{Remark}
 use Rattle.swc_ecma_codegen_grammar.specs.declared.comments.Comment.{Comment}
-use Rattle.swc_ecma_codegen_grammar.specs.Comments.{Side, Leading, Trailing, comments_at, taken_out, no_maps, comment_bytes, remark_by, remark_of, remarks_of, texts_of, is_closed, all_closed}
-use Rattle.swc_ecma_codegen_tokens.proofs.Spots.{is_narrower, rests_narrower, lays_narrower}
-use Rattle.swc_ecma_codegen_tokens.proofs.Laid.{LaysWith, LaysAt, lays_wider, lays_then, lays_nothing, lays_taken, named_taken, rest_taken, LaysTo}
-use Rattle.swc_ecma_codegen_tokens.proofs.Written.{lays_named_commit, lays_named_position, lays_joint_token, lays_joint_punct, lays_token_joint, lays_blank, lays_line, lays_commit, lays_level, lays_position, lays_token, lays_punct, lays_semi, lays_placed, Spelled, own_put, punct_put, semi_put, spelled_close}
+use Rattle.swc_ecma_codegen_grammar.specs.Comments.{no_maps, comment_bytes, remark_of, remarks_of, texts_of, is_closed, all_closed}
+use Rattle.swc_ecma_codegen_tokens.proofs.Laid.{LaysWith, LaysAt, lays_wider, lays_then, lays_nothing, LaysTo}
+use Rattle.swc_ecma_codegen_tokens.proofs.Written.{lays_blank, lays_line, lays_commit, lays_level, lays_position}
+use Rattle.swc_ecma_codegen_tokens.proofs.Breaks.{lays_punct_break, lays_semi_break}
+use Rattle.swc_ecma_codegen_tokens.proofs.TokenLays.{lays_joint_token, lays_joint_punct, lays_token_joint, lays_token, lays_punct, lays_semi, lays_placed, Spelled, own_put, punct_put, semi_put, spelled_close}
 
 -- some steps, and then more
 unfoldable pub chain : List Step → Steps → Steps
@@ -62,15 +54,16 @@ abbrev pub remarks_by : List Step → Env → List Remark
 remarks_by xs env = remarks_of (taken_in xs env.maps)
 
 -- A part is these steps, whatever comes after it, and they write these tokens with the comments between that they take; where `made` is
--- false, none of their texts is made anew, in memory. They make no more levels than `room`, and hand over ASCII where the settings ask
+-- false, none of their texts is made anew, in memory. Lines neither begin nor end with them. They make no more levels than `room`, and hand over ASCII where the settings ask
 -- for that, save the texts of those comments.
 pub record MakesOn (before behind : Spot) (shape : Shape) (room : ℕ) (env : Env) (part : Part) (ts : List lexical.Token) (made : Bool) : Type 0 where
   pub steps : List Step
   pub is_steps : (rest : Plan) → part rest env ≡ chain steps (rest (env_after steps env))
   pub lays : (s : State) → RestsAt before s → all_closed (remarks_by steps env) ≡ true → LaysTo behind shape ts (remarks_by steps env) s (run steps s)
   pub remakes : makes_text steps ≡ true → made ≡ true
+  pub inner : are_inner_steps steps ≡ true
   pub deep : levels steps ≤ room
-  pub hands : Hands env steps ts
+  pub hands : HandsOverAscii env steps ts
   pub told : spoken steps ≡ texts_of (taken_in steps env.maps)
 
 -- where any token may come, before it and behind it
@@ -114,9 +107,9 @@ pub remakes_append : (xs ys : List Step) → makes_text (xs ++ ys) ≡ (makes_te
 unfolding makes_text
 remakes_append [] ys = refl
 remakes_append (Guard t ∷ xs) ys = remakes_append xs ys
-remakes_append (Token kind x ∷ xs) ys = remakes_append xs ys
-remakes_append (Plain x ∷ xs) ys = remakes_append xs ys
-remakes_append (Ends tokens x ∷ xs) ys = remakes_append xs ys
+remakes_append (Token kind x ∷ xs) ys = ap (λ z. begins_lines x || z) (remakes_append xs ys) ∙ or_assoc (begins_lines x) (makes_text xs) (makes_text ys)
+remakes_append (Plain x ∷ xs) ys = ap (λ z. begins_lines x || z) (remakes_append xs ys) ∙ or_assoc (begins_lines x) (makes_text xs) (makes_text ys)
+remakes_append (Ends tokens x ∷ xs) ys = ap (λ z. begins_lines x || z) (remakes_append xs ys) ∙ or_assoc (begins_lines x) (makes_text xs) (makes_text ys)
 remakes_append (Take side at ∷ xs) ys = remakes_append xs ys
 remakes_append (CommentText t ∷ xs) ys = remakes_append xs ys
 remakes_append (Remake due ∷ xs) ys = ap (λ z. due || z) (remakes_append xs ys) ∙ or_assoc due (makes_text xs) (makes_text ys)
@@ -138,7 +131,7 @@ unfolding maps_after
 maps_append [] ys maps = refl
 maps_append (x ∷ xs) ys maps = maps_append xs ys (after_step x maps)
 
-taken_append : (xs ys : List Step) (maps : Maps) → taken_in (xs ++ ys) maps ≡ taken_in xs maps ++ taken_in ys (maps_after xs maps)
+pub taken_append : (xs ys : List Step) (maps : Maps) → taken_in (xs ++ ys) maps ≡ taken_in xs maps ++ taken_in ys (maps_after xs maps)
 unfolding taken_in maps_after
 taken_append [] ys maps = refl
 taken_append (x ∷ xs) ys maps = ap (λ z. taken_by x maps ++ z) (taken_append xs ys (after_step x maps)) ∙ sym (append_assoc (taken_by x maps) (taken_in xs (after_step x maps)) (taken_in ys (maps_after xs (after_step x maps))))
@@ -188,6 +181,7 @@ from_then {i} {j} {u} {v} {w} env p q ts us {m} {n} {a} {b} h k = record {
       let Q : List Remark → Type 0 = λ z. LaysTo w (join i j) (ts ++ us) z s (run (h.steps ++ k.steps) s) in
       subst Q (sym both) (subst P (sym (run_append h.steps k.steps s)) (lays_then ts us s (run h.steps s) (run k.steps (run h.steps s)) x (k.lays (run h.steps s) x.rest closed.1)));
   remakes = λ e. or_either (makes_text h.steps) (makes_text k.steps) a b (sym (remakes_append h.steps k.steps) ∙ e) h.remakes k.remakes;
+  inner = inner_append h.steps k.steps ∙ and_from (are_inner_steps h.steps) (are_inner_steps k.steps) h.inner k.inner;
   deep = let x = h.deep in let y = k.deep in omega (arith, x, y, levels_append h.steps k.steps);
   hands = hands_then h.hands (hands_from (maps_after h.steps env.maps) k.hands);
   told = spoken_append h.steps k.steps ∙ ap (λ z. z ++ spoken k.steps) h.told ∙ ap (λ z. texts_of (taken_in h.steps env.maps) ++ z) k.told ∙ sym (ap texts_of (taken_append h.steps k.steps env.maps) ∙ texts_append (taken_in h.steps env.maps) (taken_in k.steps (maps_after h.steps env.maps)));
@@ -199,17 +193,17 @@ within_then env p q ts us h k = record { from = λ maps. let x = h.from maps in 
 
 -- with more room, with less known of lines, with memory that may be taken
 pub from_room : {i : Shape} {env : Env} {p : Part} {ts : List lexical.Token} {a : Bool} {v w : Spot} (m n : ℕ) → m ≤ n → MakesOn v w i m env p ts a → MakesOn v w i n env p ts a
-from_room m n le h = record { steps = h.steps; is_steps = h.is_steps; lays = h.lays; remakes = h.remakes; deep = let x = h.deep in omega (arith, x, le); hands = h.hands; told = h.told }
+from_room m n le h = record { steps = h.steps; is_steps = h.is_steps; lays = h.lays; remakes = h.remakes; inner = h.inner; deep = let x = h.deep in omega (arith, x, le); hands = h.hands; told = h.told }
 
 pub from_wider : {i : Shape} (j : Shape) {env : Env} {p : Part} {ts : List lexical.Token} {a : Bool} {room : ℕ} {v w : Spot} → is_within i j ≡ true → MakesOn v w i room env p ts a → MakesOn v w j room env p ts a
-from_wider j e h = record { steps = h.steps; is_steps = h.is_steps; lays = λ s r c. lays_wider j e (h.lays s r c); remakes = h.remakes; deep = h.deep; hands = h.hands; told = h.told }
+from_wider j e h = record { steps = h.steps; is_steps = h.is_steps; lays = λ s r c. lays_wider j e (h.lays s r c); remakes = h.remakes; inner = h.inner; deep = h.deep; hands = h.hands; told = h.told }
 
 pub from_where : {i : Shape} {env : Env} {p : Part} {ts : List lexical.Token} {a b : Bool} {room : ℕ} {v w : Spot} → (a ≡ true → b ≡ true) → MakesOn v w i room env p ts a → MakesOn v w i room env p ts b
-from_where k h = record { steps = h.steps; is_steps = h.is_steps; lays = h.lays; remakes = λ e. k (h.remakes e); deep = h.deep; hands = h.hands; told = h.told }
+from_where k h = record { steps = h.steps; is_steps = h.is_steps; lays = h.lays; remakes = λ e. k (h.remakes e); inner = h.inner; deep = h.deep; hands = h.hands; told = h.told }
 
 -- a part that is written as another is
 pub from_same : {u v : Spot} {i : Shape} (env : Env) (p q : Part) (ts : List lexical.Token) {a : Bool} {room : ℕ} → ((rest : Plan) → p rest env ≡ q rest env) → MakesOn u v i room env q ts a → MakesOn u v i room env p ts a
-from_same env p q ts e h = record { steps = h.steps; is_steps = λ rest. e rest ∙ h.is_steps rest; lays = h.lays; remakes = h.remakes; deep = h.deep; hands = h.hands; told = h.told }
+from_same env p q ts e h = record { steps = h.steps; is_steps = λ rest. e rest ∙ h.is_steps rest; lays = h.lays; remakes = h.remakes; inner = h.inner; deep = h.deep; hands = h.hands; told = h.told }
 
 -- one after the other, with as much room as tokens
 pub from_both : {i j : Shape} {u v w : Spot} (env : Env) (p q : Part) (ts us : List lexical.Token) {a b : Bool} (h : MakesOn u v i (length ts) env p ts a) → MakesOn v w j (length us) (env_after h.steps env) q us b → MakesOn u w (join i j) (length (ts ++ us)) env (λ rest. p (q rest)) (ts ++ us) (a || b)
@@ -239,11 +233,11 @@ writes_same env p q ts e h = record { from = λ maps. from_same (at_maps maps en
 
 -- ---- steps that take no comments
 
--- none is taken, and none is written
+-- none is taken, and none is written; and lines neither begin nor end
 abbrev pub is_silent : Step → Bool
 is_silent (Take side at) = false
 is_silent (CommentText t) = false
-is_silent x = true
+is_silent x = is_inner_step x
 
 unfoldable pub takes_none : List Step → Bool
 takes_none [] = true
@@ -274,13 +268,27 @@ unfolding takes_none maps_after
 silent_after [] maps h = refl
 silent_after (x ∷ xs) maps h = let p = and_parts (is_silent x) (takes_none xs) h in ap (maps_after xs) (silent_step x maps p.0).0 ∙ silent_after xs maps p.1
 
+silent_one : (x : Step) → is_silent x ≡ true → is_inner_step x ≡ true
+silent_one (Guard t) h = refl
+silent_one (Token kind x) h = h
+silent_one (Plain x) h = h
+silent_one (Ends tokens x) h = h
+silent_one (Remake due) h = refl
+silent_one (Take side at) h = refl
+silent_one (CommentText t) h = refl
+
+pub silent_inner : (xs : List Step) → takes_none xs ≡ true → are_inner_steps xs ≡ true
+unfolding takes_none
+silent_inner [] h = refl
+silent_inner (x ∷ xs) h = let p = and_parts (is_silent x) (takes_none xs) h in and_from (is_inner_step x) (are_inner_steps xs) (silent_one x p.0) (silent_inner xs p.1)
+
 pub takes_append : (xs ys : List Step) → takes_none (xs ++ ys) ≡ (takes_none xs && takes_none ys)
 unfolding takes_none
 takes_append [] ys = refl
 takes_append (x ∷ xs) ys = ap (λ z. is_silent x && z) (takes_append xs ys) ∙ and_assoc (is_silent x) (takes_none xs) (takes_none ys)
 
 -- where these comments are still to be taken
-pub from_silently : {i : Shape} {room : ℕ} {made : Bool} (env : Env) (p : Part) (steps : List Step) (ts : List lexical.Token) → takes_none steps ≡ true → ((rest : Plan) → p rest env ≡ chain steps (rest env)) → ((s : State) → AtRest s → LaysAt i ts s (run steps s)) → (makes_text steps ≡ true → made ≡ true) → levels steps ≤ room → Hands env steps ts → MakesFrom i room env p ts made
+pub from_silently : {i : Shape} {room : ℕ} {made : Bool} (env : Env) (p : Part) (steps : List Step) (ts : List lexical.Token) → takes_none steps ≡ true → ((rest : Plan) → p rest env ≡ chain steps (rest env)) → ((s : State) → AtRest s → LaysAt i ts s (run steps s)) → (makes_text steps ≡ true → made ≡ true) → levels steps ≤ room → HandsOverAscii env steps ts → MakesFrom i room env p ts made
 from_silently {i} env p steps ts none is lays remakes deep hands =
     let taken : taken_in steps env.maps ≡ [] = silent_taken steps env.maps none in
     record {
@@ -288,12 +296,13 @@ from_silently {i} env p steps ts none is lays remakes deep hands =
       is_steps = λ rest. is rest ∙ ap (λ z. chain steps (rest (at_maps z env))) (sym (silent_after steps env.maps none));
       lays = λ s r c. let P : List Comment → Type 0 = λ z. LaysWith i ts (remarks_of z) s (run steps s) in subst P (sym taken) (unfold remarks_of in lays s r);
       remakes = remakes;
+      inner = silent_inner steps none;
       deep = deep;
       hands = hands;
       told = silent_spoken steps none ∙ sym (ap texts_of taken ∙ (unfold texts_of in refl));
     }
 
-pub makes_silently : {i : Shape} {room : ℕ} {made : Bool} (env : Env) (p : Part) (steps : List Step) (ts : List lexical.Token) → takes_none steps ≡ true → ((maps : Maps) (rest : Plan) → p rest (at_maps maps env) ≡ chain steps (rest (at_maps (maps_after steps maps) env))) → ((s : State) → AtRest s → LaysAt i ts s (run steps s)) → (makes_text steps ≡ true → made ≡ true) → levels steps ≤ room → Hands env steps ts → MakesWithin i room env p ts made
+pub makes_silently : {i : Shape} {room : ℕ} {made : Bool} (env : Env) (p : Part) (steps : List Step) (ts : List lexical.Token) → takes_none steps ≡ true → ((maps : Maps) (rest : Plan) → p rest (at_maps maps env) ≡ chain steps (rest (at_maps (maps_after steps maps) env))) → ((s : State) → AtRest s → LaysAt i ts s (run steps s)) → (makes_text steps ≡ true → made ≡ true) → levels steps ≤ room → HandsOverAscii env steps ts → MakesWithin i room env p ts made
 makes_silently {i} env p steps ts none is lays remakes deep hands = record {
   from = λ maps.
       let taken : taken_in steps maps ≡ [] = silent_taken steps maps none in
@@ -302,6 +311,7 @@ makes_silently {i} env p steps ts none is lays remakes deep hands = record {
         is_steps = is maps;
         lays = λ s r c. let P : List Comment → Type 0 = λ z. LaysWith i ts (remarks_of z) s (run steps s) in subst P (sym taken) (unfold remarks_of in lays s r);
         remakes = remakes;
+        inner = silent_inner steps none;
         deep = deep;
         hands = hands_at maps hands;
         told = silent_spoken steps none ∙ sym (ap texts_of taken ∙ (unfold texts_of in refl));
@@ -313,12 +323,12 @@ unfolding chain run makes_text levels are_ascii has_string is_string_call takes_
 writes_nothing env = makes_silently env (λ rest. rest) [] [] refl (λ maps rest. refl) (λ s r. lays_nothing s r) no_text (omega arith) (hands_ascii env [] [] refl no_text)
 
 -- one step
-pub writes_step : {i : Shape} (env : Env) (x : Step) (ts : List lexical.Token) → takes_none (x ∷ []) ≡ true → ((s : State) → AtRest s → LaysAt i ts s (put x s)) → levels (x ∷ []) ≤ length ts → Hands env (x ∷ []) ts → MakesAt i env (step x) ts (makes_text (x ∷ []))
+pub writes_step : {i : Shape} (env : Env) (x : Step) (ts : List lexical.Token) → takes_none (x ∷ []) ≡ true → ((s : State) → AtRest s → LaysAt i ts s (put x s)) → levels (x ∷ []) ≤ length ts → HandsOverAscii env (x ∷ []) ts → MakesAt i env (step x) ts (makes_text (x ∷ []))
 unfolding step chain run maps_after
 writes_step env x ts n h k a = makes_silently env (step x) (x ∷ []) ts n (λ maps rest. refl) h (λ e. e) k a
 
 -- steps that take no comments, between two spots
-pub makes_on : {v w : Spot} {i : Shape} {room : ℕ} {made : Bool} (env : Env) (p : Part) (steps : List Step) (ts : List lexical.Token) → takes_none steps ≡ true → ((maps : Maps) (rest : Plan) → p rest (at_maps maps env) ≡ chain steps (rest (at_maps (maps_after steps maps) env))) → ((s : State) → RestsAt v s → LaysTo w i ts [] s (run steps s)) → (makes_text steps ≡ true → made ≡ true) → levels steps ≤ room → Hands env steps ts → MakesWithinOn v w i room env p ts made
+pub makes_on : {v w : Spot} {i : Shape} {room : ℕ} {made : Bool} (env : Env) (p : Part) (steps : List Step) (ts : List lexical.Token) → takes_none steps ≡ true → ((maps : Maps) (rest : Plan) → p rest (at_maps maps env) ≡ chain steps (rest (at_maps (maps_after steps maps) env))) → ((s : State) → RestsAt v s → LaysTo w i ts [] s (run steps s)) → (makes_text steps ≡ true → made ≡ true) → levels steps ≤ room → HandsOverAscii env steps ts → MakesWithinOn v w i room env p ts made
 makes_on {v} {w} {i} env p steps ts none is lays remakes deep hands = record {
   from = λ maps.
       let taken : taken_in steps maps ≡ [] = silent_taken steps maps none in
@@ -327,6 +337,7 @@ makes_on {v} {w} {i} env p steps ts none is lays remakes deep hands = record {
         is_steps = is maps;
         lays = λ s r c. let P : List Comment → Type 0 = λ z. LaysTo w i ts (remarks_of z) s (run steps s) in subst P (sym taken) (unfold remarks_of in lays s r);
         remakes = remakes;
+        inner = silent_inner steps none;
         deep = deep;
         hands = hands_at maps hands;
         told = silent_spoken steps none ∙ sym (ap texts_of taken ∙ (unfold texts_of in refl));
@@ -339,7 +350,7 @@ unfolding put makes_text levels are_ascii has_string is_string_call takes_none
 writes_remake env due = subst (λ z. MakesAt open_ env (step (Remake due)) [] z) (or_false due) (writes_step env (Remake due) [] refl (λ s r. lays_nothing s r) (omega arith) (hands_ascii env _ [] refl no_text))
 
 -- two steps
-pub writes_two : {i : Shape} (env : Env) (x y : Step) (ts : List lexical.Token) → takes_none (x ∷ y ∷ []) ≡ true → ((s : State) → AtRest s → LaysAt i ts s (put y (put x s))) → levels (x ∷ y ∷ []) ≤ length ts → Hands env (x ∷ y ∷ []) ts → MakesAt i env (λ rest. step x (step y rest)) ts (makes_text (x ∷ y ∷ []))
+pub writes_two : {i : Shape} (env : Env) (x y : Step) (ts : List lexical.Token) → takes_none (x ∷ y ∷ []) ≡ true → ((s : State) → AtRest s → LaysAt i ts s (put y (put x s))) → levels (x ∷ y ∷ []) ≤ length ts → HandsOverAscii env (x ∷ y ∷ []) ts → MakesAt i env (λ rest. step x (step y rest)) ts (makes_text (x ∷ y ∷ []))
 unfolding step chain run maps_after
 writes_two env x y ts n h k a = makes_silently env (λ rest. step x (step y rest)) (x ∷ y ∷ []) ts n (λ maps rest. refl) h (λ e. e) k a
 
@@ -372,17 +383,17 @@ pub writes_word_operator : (env : Env) (t : List ℕ) → Spelled Word t → is_
 unfolding word_operator put effect text_of after_token own_put makes_text levels rise are_ascii has_string is_string_call takes_none maps_after after_step
 writes_word_operator env t p a = writes_two env (Guard t) (Token Word (Operator None t)) _ refl (λ s r. lays_token Word None t s p r) (omega arith) (hands_ascii env _ _ (guarded_ascii t a) no_text)
 
-pub writes_punct : (env : Env) (t : List ℕ) → Spelled Punctuator t → is_ascii_text t ≡ true → Writes env (punct t) (token_of Punctuator (spelling Punctuator t) ∷ [])
-unfolding punct put effect text_of after_token punct_put makes_text levels rise are_ascii has_string is_string_call takes_none maps_after after_step
-writes_punct env t p a = writes_two env (Guard t) (Token Punctuator (Punct None t)) _ refl (λ s r. lays_punct None t s p r) (omega arith) (hands_ascii env _ _ (guarded_ascii t a) no_text)
+pub writes_bare_punct : (env : Env) (t : List ℕ) → Spelled Punctuator t → is_ascii_text t ≡ true → Writes env (bare_punct t) (token_of Punctuator (spelling Punctuator t) ∷ [])
+unfolding bare_punct put effect text_of after_token punct_put makes_text levels rise are_ascii has_string is_string_call takes_none maps_after after_step
+writes_bare_punct env t p a = writes_two env (Guard t) (Token Punctuator (Punct None t)) _ refl (λ s r. lays_punct None t s p r) (omega arith) (hands_ascii env _ _ (guarded_ascii t a) no_text)
 
 pub writes_placed_punct : (env : Env) (span : Span) (t : List ℕ) → Spelled Punctuator t → is_ascii_text t ≡ true → Writes env (placed_punct span t) (token_of Punctuator (spelling Punctuator t) ∷ [])
 unfolding placed_punct put effect text_of after_token punct_put makes_text levels rise are_ascii has_string is_string_call takes_none maps_after after_step
 writes_placed_punct env span t p a = writes_two env (Guard t) (Token Punctuator (Punct (Some span) t)) _ refl (λ s r. lays_punct (Some span) t s p r) (omega arith) (hands_ascii env _ _ (guarded_ascii t a) no_text)
 
-pub writes_semi : (env : Env) → Writes env semi (token_of Ending (spelling Ending (codes ";")) ∷ [])
-unfolding semi put effect text_of after_token semi_put makes_text levels rise are_ascii has_string is_string_call takes_none maps_after after_step
-writes_semi env = writes_two env (Guard (codes ";")) (Token Ending (Semi None)) _ refl (λ s r. lays_semi None s r) (omega arith) (hands_ascii env _ _ refl no_text)
+pub writes_bare_semi : (env : Env) → Writes env bare_semi (token_of Ending (spelling Ending (codes ";")) ∷ [])
+unfolding bare_semi put effect text_of after_token semi_put makes_text levels rise are_ascii has_string is_string_call takes_none maps_after after_step
+writes_bare_semi env = writes_two env (Guard (codes ";")) (Token Ending (Semi None)) _ refl (λ s r. lays_semi None s r) (omega arith) (hands_ascii env _ _ refl no_text)
 
 pub writes_close : (env : Env) → Writes env close (token_of Close (spelling Close (codes ">")) ∷ [])
 unfolding close put effect text_of after_token own_put before_punct is_ending makes_text levels rise are_ascii has_string is_string_call takes_none maps_after after_step
@@ -394,12 +405,20 @@ pub writes_joined_operator : (env : Env) (t : List ℕ) → Spelled Punctuator t
 unfolding operator put effect text_of after_token own_put makes_text levels rise are_ascii has_string is_string_call takes_none maps_after after_step
 writes_joined_operator env t p a = writes_two env (Guard t) (Token Punctuator (Operator None t)) _ refl (λ s r. lays_joint_token Punctuator None t s p r) (omega arith) (hands_ascii env _ _ (guarded_ascii t a) no_text)
 
-pub joined_punct_within : (env : Env) (t : List ℕ) → is_ending t ≡ false → Spelled Punctuator t → is_ascii_text t ≡ true → MakesWithin joined 0 env (punct t) (lexical.same_line ∷ token_of Punctuator (spelling Punctuator t) ∷ []) false
-unfolding punct step chain run put effect text_of after_token punct_put makes_text levels rise are_ascii has_string is_string_call takes_none maps_after after_step
-joined_punct_within env t e p a = makes_silently env (punct t) (Guard t ∷ Token Punctuator (Punct None t) ∷ []) _ refl (λ maps rest. refl) (λ s r. lays_joint_punct None t s e p r) no_text (omega arith) (hands_ascii env _ _ (guarded_ascii t a) no_text)
+-- a punctuator behind which no line may be ended is that alone
+pub unbroken_punct : (t : List ℕ) → allows_break t ≡ false → (rest : Plan) (env : Env) → punct t rest env ≡ bare_punct t rest env
+unfolding punct
+unbroken_punct t h rest env = ap (λ b. bare_punct t (cond b (allow_break rest) rest) env) h
 
-pub writes_joined_punct : (env : Env) (t : List ℕ) → is_ending t ≡ false → Spelled Punctuator t → is_ascii_text t ≡ true → MakesAt joined env (punct t) (lexical.same_line ∷ token_of Punctuator (spelling Punctuator t) ∷ []) false
-writes_joined_punct env t e p a = with_room 0 2 (omega arith) (joined_punct_within env t e p a)
+joined_bare_within : (env : Env) (t : List ℕ) → is_ending t ≡ false → Spelled Punctuator t → is_ascii_text t ≡ true → MakesWithin joined 0 env (bare_punct t) (lexical.same_line ∷ token_of Punctuator (spelling Punctuator t) ∷ []) false
+unfolding bare_punct step chain run put effect text_of after_token punct_put makes_text levels rise are_ascii has_string is_string_call takes_none maps_after after_step
+joined_bare_within env t e p a = makes_silently env (bare_punct t) (Guard t ∷ Token Punctuator (Punct None t) ∷ []) _ refl (λ maps rest. refl) (λ s r. lays_joint_punct None t s e p r) no_text (omega arith) (hands_ascii env _ _ (guarded_ascii t a) no_text)
+
+pub joined_punct_within : (env : Env) (t : List ℕ) → allows_break t ≡ false → is_ending t ≡ false → Spelled Punctuator t → is_ascii_text t ≡ true → MakesWithin joined 0 env (punct t) (lexical.same_line ∷ token_of Punctuator (spelling Punctuator t) ∷ []) false
+joined_punct_within env t q e p a = writes_same env (punct t) (bare_punct t) _ (λ maps rest. unbroken_punct t q rest (at_maps maps env)) (joined_bare_within env t e p a)
+
+pub writes_joined_punct : (env : Env) (t : List ℕ) → allows_break t ≡ false → is_ending t ≡ false → Spelled Punctuator t → is_ascii_text t ≡ true → MakesAt joined env (punct t) (lexical.same_line ∷ token_of Punctuator (spelling Punctuator t) ∷ []) false
+writes_joined_punct env t q e p a = with_room 0 2 (omega arith) (joined_punct_within env t q e p a)
 
 pub writes_keyword_joint : (env : Env) (span : Option Span) (t : List ℕ) → Spelled Word t → is_ascii_text t ≡ true → MakesAt (join whole joining) env (keyword span t) (token_of Word (spelling Word t) ∷ lexical.same_line ∷ []) false
 unfolding keyword put effect text_of after_token own_put makes_text levels rise are_ascii has_string is_string_call takes_none maps_after after_step
@@ -439,200 +458,6 @@ pub writes_position_before : (env : Env) (pos : BytePos) → Fills env (position
 unfolding position_before
 writes_position_before env pos = writes_if env (pos.0 == 0) (λ rest. rest) _ [] (writes_nothing env) (recorded env _)
 
--- ---- comments
-
--- A part is these steps, whatever comes after it: they write comments, which read so and have these texts, and no token, and take none out of the maps.
-pub record SaysOn (before behind : Spot) (env : Env) (part : Part) (rs : List Remark) (texts : List (List ℕ)) : Type 0 where
-  pub steps : List Step
-  pub is_steps : (rest : Plan) → part rest env ≡ chain steps (rest env)
-  pub lays : (s : State) → RestsAt before s → all_closed rs ≡ true → LaysTo behind open_ [] rs s (run steps s)
-  pub remakes : makes_text steps ≡ false
-  pub deep : levels steps ≡ 0
-  pub ascii : are_ascii steps ≡ true
-  pub strings : has_string steps ≡ false
-  pub told : spoken steps ≡ texts
-  pub kept : (maps : Maps) → maps_after steps maps ≡ maps
-  pub taken : (maps : Maps) → taken_in steps maps ≡ []
-  pub anew : (b : Bool) → anew_after b steps ≡ b
-
--- where any token may come, before them and behind them
-abbrev pub Says : Env → Part → List Remark → List (List ℕ) → Type 0
-Says env part rs texts = SaysOn Anything Anything env part rs texts
-
-says_then : {u v w : Spot} (env : Env) (p q : Part) {rs qs : List Remark} {ts us : List (List ℕ)} → SaysOn u v env p rs ts → SaysOn v w env q qs us → SaysOn u w env (λ rest. p (q rest)) (rs ++ qs) (ts ++ us)
-says_then {w = w} env p q {rs} {qs} {ts} {us} h k = record {
-  steps = h.steps ++ k.steps;
-  is_steps = λ rest. h.is_steps (q rest) ∙ ap (λ z. chain h.steps z) (k.is_steps rest) ∙ sym (chain_append h.steps k.steps (rest env));
-  lays = λ s r c.
-      let closed = and_parts (all_closed rs) (all_closed qs) (sym (closed_append rs qs) ∙ c) in
-      let x = h.lays s r closed.0 in
-      let P : State → Type 0 = λ z. LaysTo w open_ [] (rs ++ qs) s z in
-      subst P (sym (run_append h.steps k.steps s)) (lays_then [] [] s (run h.steps s) (run k.steps (run h.steps s)) x (k.lays (run h.steps s) x.rest closed.1));
-  remakes = remakes_append h.steps k.steps ∙ or_from (makes_text h.steps) (makes_text k.steps) h.remakes k.remakes;
-  deep = let x = h.deep in let y = k.deep in omega (arith, x, y, levels_append h.steps k.steps);
-  ascii = ascii_append h.steps k.steps ∙ and_from (are_ascii h.steps) (are_ascii k.steps) h.ascii k.ascii;
-  strings = has_append h.steps k.steps ∙ or_from (has_string h.steps) (has_string k.steps) h.strings k.strings;
-  told = spoken_append h.steps k.steps ∙ ap (λ z. z ++ spoken k.steps) h.told ∙ ap (λ z. ts ++ z) k.told;
-  kept = λ maps. maps_append h.steps k.steps maps ∙ ap (maps_after k.steps) (h.kept maps) ∙ k.kept maps;
-  taken = λ maps. taken_append h.steps k.steps maps ∙ ap (λ z. z ++ taken_in k.steps (maps_after h.steps maps)) (h.taken maps) ∙ k.taken (maps_after h.steps maps);
-  anew = λ b. anew_append b h.steps k.steps ∙ k.anew (anew_after b h.steps) ∙ h.anew b;
-}
-
-says_same : {u v : Spot} (env : Env) (p q : Part) {rs : List Remark} {ts : List (List ℕ)} → ((rest : Plan) → p rest env ≡ q rest env) → SaysOn u v env q rs ts → SaysOn u v env p rs ts
-says_same env p q e h = record { steps = h.steps; is_steps = λ rest. e rest ∙ h.is_steps rest; lays = h.lays; remakes = h.remakes; deep = h.deep; ascii = h.ascii; strings = h.strings; told = h.told; kept = h.kept; taken = h.taken; anew = h.anew }
-
--- steps that take nothing
-says_steps : {u v : Spot} (env : Env) (p : Part) (steps : List Step) (rs : List Remark) (ts : List (List ℕ)) → ((rest : Plan) → p rest env ≡ chain steps (rest env)) → ((s : State) → RestsAt u s → all_closed rs ≡ true → LaysTo v open_ [] rs s (run steps s)) → makes_text steps ≡ false → levels steps ≡ 0 → are_ascii steps ≡ true → has_string steps ≡ false → spoken steps ≡ ts → ((maps : Maps) → maps_after steps maps ≡ maps) → ((maps : Maps) → taken_in steps maps ≡ []) → ((b : Bool) → anew_after b steps ≡ b) → SaysOn u v env p rs ts
-says_steps env p steps rs ts i l m d a h t k n w = record { steps = steps; is_steps = i; lays = l; remakes = m; deep = d; ascii = a; strings = h; told = t; kept = k; taken = n; anew = w }
-
-says_nothing : {v : Spot} (env : Env) → SaysOn v v env (λ rest. rest) [] []
-unfolding chain run makes_text levels are_ascii has_string spoken maps_after taken_in anew_after
-says_nothing env = says_steps env (λ rest. rest) [] [] [] (λ rest. refl) (λ s r c. lays_nothing s r) refl refl refl refl refl (λ maps. refl) (λ maps. refl) (λ b. refl)
-
-says_if : {u v : Spot} (env : Env) (b : Bool) (p q : Part) {rs : List Remark} {ts : List (List ℕ)} → SaysOn u v env p rs ts → SaysOn u v env q rs ts → SaysOn u v env (λ rest. cond b (p rest) (q rest)) rs ts
-says_if env true p q h k = h
-says_if env false p q h k = k
-
-says_minified : (env : Env) (p q : Part) {rs : List Remark} {ts : List (List ℕ)} → Says env p rs ts → Says env q rs ts → Says env (when_minified p q) rs ts
-says_minified env p q h k = elim (cases_Bool env.config.minify) [
-  | inl small ↦ says_same env (when_minified p q) p (λ rest. minified_same p q rest env small) h
-  | inr wide ↦ says_same env (when_minified p q) q (λ rest. pretty_same p q rest env wide) k
-]
-
--- a position
-named_noted : (env : Env) (pos : BytePos) → SaysOn InName InName env (step (Plain (Position pos))) [] []
-unfolding step chain run put effect text_of after_plain makes_text levels rise are_ascii has_string is_string_call spoken maps_after after_step taken_in taken_by anew_after
-named_noted env pos = says_steps env (step (Plain (Position pos))) (Plain (Position pos) ∷ []) [] [] (λ rest. refl) (λ s r c. lays_named_position pos s r) refl refl refl refl refl (λ maps. refl) (λ maps. refl) (λ b. refl)
-
-says_position : (env : Env) (pos : BytePos) → SaysOn InName InName env (position pos) [] []
-unfolding position
-says_position env pos = says_if env (pos.0 == 0) (λ rest. rest) (step (Plain (Position pos))) (says_nothing env) (named_noted env pos)
-
-says_space : (env : Env) → Says env space [] []
-unfolding space step chain run put effect text_of after_plain makes_text levels rise are_ascii has_string is_string_call spoken maps_after after_step taken_in taken_by anew_after
-says_space env = says_steps env space (Plain Space ∷ []) [] [] (λ rest. refl) (λ s r c. lays_blank s r) refl refl refl refl refl (λ maps. refl) (λ maps. refl) (λ b. refl)
-
-says_formatting_space : (env : Env) → Says env formatting_space [] []
-unfolding formatting_space no_part
-says_formatting_space env = says_minified env no_part space (says_nothing env) (says_space env)
-
-says_blank : (env : Env) → Says env (step (Plain (calls.Comment (codes " ")))) [] []
-unfolding step chain run text_of makes_text levels rise are_ascii has_string is_string_call spoken maps_after after_step taken_in taken_by anew_after
-says_blank env = says_steps env (step (Plain (calls.Comment (codes " ")))) (Plain (calls.Comment (codes " ")) ∷ []) [] [] (λ rest. refl) (λ s r c. lays_comment_blank s r) refl refl refl refl refl (λ maps. refl) (λ maps. refl) (λ b. refl)
-
-says_prefix : (env : Env) (b : Bool) → Says env (comment_blank b) [] []
-unfolding comment_blank no_part
-says_prefix env b = says_if env b (when_minified no_part (step (Plain (calls.Comment (codes " "))))) (λ rest. rest) (says_minified env no_part _ (says_nothing env) (says_blank env)) (says_nothing env)
-
--- `// a` and the end of its line, and with the position of that end
-line_said : (env : Env) (pos : BytePos) (b : Bool) (t : List ℕ) → IsUtf8 t → SaysOn InName Anything env (λ rest. step (Guard (codes "//")) (step (Plain (calls.Comment (codes "//"))) (step (CommentText t) (cond b (line_end rest) (step (Plain (Position pos)) (line_end rest)))))) (trivia.Line (chars t) ∷ []) (t ∷ [])
-unfolding line_end step chain run text_of makes_text levels rise are_ascii has_string is_string_call spoken maps_after after_step taken_in taken_by anew_after all_closed is_closed
-line_said env pos true t u = says_steps env _ (Guard (codes "//") ∷ Plain (calls.Comment (codes "//")) ∷ CommentText t ∷ Plain Line ∷ []) _ _ (λ rest. refl) (λ s r c. lays_line_comment t s u (and_parts (is_one_line (chars t)) true c).0 r) refl refl refl refl refl (λ maps. refl) (λ maps. refl) (λ b. refl)
-line_said env pos false t u = says_steps env _ (Guard (codes "//") ∷ Plain (calls.Comment (codes "//")) ∷ CommentText t ∷ Plain (Position pos) ∷ Plain Line ∷ []) _ _ (λ rest. refl) (λ s r c. lays_line_noted pos t s u (and_parts (is_one_line (chars t)) true c).0 r) refl refl refl refl refl (λ maps. refl) (λ maps. refl) (λ b. refl)
-
--- `/* a */`, and with a position before what closes it
-block_said : (env : Env) (pos : BytePos) (b : Bool) (t : List ℕ) → IsUtf8 t → SaysOn InName Anything env (λ rest. step (Guard (codes "/*")) (step (Plain (calls.Comment (codes "/*"))) (step (CommentText t) (cond b (step (Plain (Position pos)) (step (Plain (calls.Comment (codes "*/"))) rest)) (step (Plain (calls.Comment (codes "*/"))) rest))))) (trivia.Block (chars t) ∷ []) (t ∷ [])
-unfolding step chain run text_of makes_text levels rise are_ascii has_string is_string_call spoken maps_after after_step taken_in taken_by anew_after all_closed is_closed
-block_said env pos true t u = says_steps env _ (Guard (codes "/*") ∷ Plain (calls.Comment (codes "/*")) ∷ CommentText t ∷ Plain (Position pos) ∷ Plain (calls.Comment (codes "*/")) ∷ []) _ _ (λ rest. refl) (λ s r c. lays_block_noted pos t s u (and_parts (is_open (chars t)) true c).0 r) refl refl refl refl refl (λ maps. refl) (λ maps. refl) (λ b. refl)
-block_said env pos false t u = says_steps env _ (Guard (codes "/*") ∷ Plain (calls.Comment (codes "/*")) ∷ CommentText t ∷ Plain (calls.Comment (codes "*/")) ∷ []) _ _ (λ rest. refl) (λ s r c. lays_block_comment t s u (and_parts (is_open (chars t)) true c).0 r) refl refl refl refl refl (λ maps. refl) (λ maps. refl) (λ b. refl)
-
-says_comment_by : (env : Env) (kind : CommentKind) (span : Span) (t : List ℕ) → IsUtf8 t → SaysOn InName Anything env (comment_by kind span t) (remark_by kind (chars t) ∷ []) (t ∷ [])
-unfolding comment_by remark_by before_closing position
-says_comment_by env kinds.Line span t u = says_then env (position span.lo) _ (says_position env span.lo) (line_said env span.hi (span.hi.0 == 0) t u)
-says_comment_by env kinds.Block span t u =
-    let pos : BytePos = record { 0 = span.hi.0 - 2 } in
-    says_then env (position span.lo) _ (says_position env span.lo)
-    (says_then env (λ rest. step (Guard (codes "/*")) (step (Plain (calls.Comment (codes "/*"))) (step (CommentText t) (before_closing span.hi (step (Plain (calls.Comment (codes "*/"))) rest))))) formatting_space (block_said env pos (nat_lt 2 span.hi.0) t u) (says_formatting_space env))
-
--- where more may come before, and less behind
-says_spots : {v w : Spot} (u x : Spot) (env : Env) (p : Part) {rs : List Remark} {ts : List (List ℕ)} → is_narrower u v ≡ true → is_narrower w x ≡ true → SaysOn v w env p rs ts → SaysOn u x env p rs ts
-says_spots {v} {w} u x env p e k h = record {
-  steps = h.steps;
-  is_steps = h.is_steps;
-  lays = λ s r c. lays_narrower w x s (run h.steps s) k (h.lays s (rests_narrower u v s e r) c);
-  remakes = h.remakes;
-  deep = h.deep;
-  ascii = h.ascii;
-  strings = h.strings;
-  told = h.told;
-  kept = h.kept;
-  taken = h.taken;
-  anew = h.anew;
-}
-
-pub says_comments : (env : Env) (prefix_space : Bool) (cs : List Comment) → Says env (comments prefix_space cs) (remarks_of cs) (texts_of cs)
-unfolding comments comment remarks_of texts_of
-says_comments env b [] = says_nothing env
-says_comments env b (c ∷ cs) =
-    let one = says_spots Anything Anything env (comment_by c.kind c.span (string_bytes c.text)) refl refl (says_comment_by env c.kind c.span (string_bytes c.text) (IsUtf8-string_bytes c.text)) in
-    says_then env (λ rest. comment_blank b (comment_by c.kind c.span (string_bytes c.text) rest)) (comments b cs) (says_then env (comment_blank b) (comment_by c.kind c.span (string_bytes c.text)) (says_prefix env b) one) (says_comments env b cs)
-
--- behind a name in a tag
-named_comments : (env : Env) (cs : List Comment) → SaysOn InName InName env (comments false cs) (remarks_of cs) (texts_of cs)
-unfolding comments comment comment_blank remarks_of texts_of
-named_comments env [] = says_nothing env
-named_comments env (c ∷ cs) =
-    says_spots InName InName env (comments false (c ∷ cs)) refl refl
-    (says_then env (comment_by c.kind c.span (string_bytes c.text)) (comments false cs) (says_comment_by env c.kind c.span (string_bytes c.text) (IsUtf8-string_bytes c.text)) (says_comments env false cs))
-
--- what is said of comments that were taken out of the maps is made of their taking
-from_said : {u v : Spot} (side : Side) (at : ℕ) (env : Env) (p : Part) → ((s : State) → RestsAt u s → RestsAt u (put (Take side at) s)) → SaysOn u v (at_maps (taken_out side at env.maps) env) p (remarks_of (comments_at side at env.maps)) (texts_of (comments_at side at env.maps)) → MakesOn u v open_ 0 env (λ rest v. step (Take side at) (p rest) v) [] false
-unfolding step chain run put makes_text levels are_ascii has_string spoken maps_after after_step taken_in taken_by anew_after
-from_said {v = w} side at env p g h =
-    let cs : List Comment = comments_at side at env.maps in
-    let there : Maps = taken_out side at env.maps in
-    let taken : cs ++ taken_in h.steps there ≡ cs = ap (λ z. cs ++ z) (h.taken there) ∙ append-nil cs in
-    record {
-      steps = Take side at ∷ h.steps;
-      is_steps = λ rest. ap (λ z. next (Take side at) z) (h.is_steps rest ∙ ap (λ z. chain h.steps (rest (at_maps z env))) (sym (h.kept there)));
-      lays = λ s r c.
-          let t : State = put (Take side at) s in
-          let P : List Comment → Type 0 = λ z. LaysTo w open_ [] (remarks_of z) s (run h.steps t) in
-          subst P (sym taken) (lays_taken side at s (run h.steps t) (h.lays t (g s r) (ap (λ z. all_closed (remarks_of z)) (sym taken) ∙ c)));
-      remakes = λ e. absurd (true≢false (sym e ∙ h.remakes));
-      deep = let x = h.deep in omega (arith, x);
-      hands = hands_ascii env _ [] h.ascii (λ e. absurd (true≢false (sym e ∙ h.strings)));
-      told = h.told ∙ ap texts_of (sym taken);
-    }
-
-writes_taken : (env : Env) (side : Side) (b : Bool) (at : ℕ) → Fills env (take_comments side b at)
-unfolding take_comments
-writes_taken env side b at = record { from = λ maps. from_same (at_maps maps env) (take_comments side b at) (λ rest v. step (Take side at) (comments b (comments_at side at maps) rest) v) [] (λ rest. refl) (from_said side at (at_maps maps env) (comments b (comments_at side at maps)) (rest_taken side at) (says_comments (at_maps (taken_out side at maps) env) b (comments_at side at maps))) }
-
--- behind a name in a tag
-named_comments_taken : (env : Env) (at : ℕ) → MakesWithinOn InName InName open_ 0 env (take_comments Leading false at) [] false
-unfolding take_comments
-named_comments_taken env at = record { from = λ maps. from_same (at_maps maps env) (take_comments Leading false at) (λ rest v. step (Take Leading at) (comments false (comments_at Leading at maps) rest) v) [] (λ rest. refl) (from_said Leading at (at_maps maps env) (comments false (comments_at Leading at maps)) (named_taken Leading at) (named_comments (at_maps (taken_out Leading at maps) env) (comments_at Leading at maps))) }
-
-pub writes_on_if : {u v : Spot} {i : Shape} {room : ℕ} {ts : List lexical.Token} (env : Env) (b : Bool) (p q : Part) → MakesWithinOn u v i room env p ts false → MakesWithinOn u v i room env q ts false → MakesWithinOn u v i room env (λ rest. cond b (p rest) (q rest)) ts false
-writes_on_if env true p q h k = h
-writes_on_if env false p q h k = k
-
-pub nothing_on : {v : Spot} (env : Env) → MakesWithinOn v v open_ 0 env (λ rest. rest) [] false
-unfolding chain run makes_text levels are_ascii has_string takes_none maps_after
-nothing_on env = makes_on env (λ rest. rest) [] [] refl (λ maps rest. refl) (λ s r. lays_nothing s r) no_text (omega arith) (hands_ascii env [] [] refl no_text)
-
-pub writes_named_leading : (env : Env) (pos : BytePos) → MakesWithinOn InName InName open_ 0 env (leading_comments pos) [] false
-unfolding leading_comments
-writes_named_leading env pos = writes_on_if env (pos.0 == 0) (λ rest. rest) (take_comments Leading false pos.0) (nothing_on env) (named_comments_taken env pos.0)
-
--- a semicolon that is held back is written there too
-pub writes_named_commit : (env : Env) → MakesWithinOn InName InName open_ 0 env commit_pending_semi [] false
-unfolding commit_pending_semi step chain run put effect text_of after_plain makes_text levels rise are_ascii has_string is_string_call takes_none maps_after after_step
-writes_named_commit env = makes_on env commit_pending_semi (Plain Commit ∷ []) [] refl (λ maps rest. refl) (λ s r. lays_named_commit s r) no_text (omega arith) (hands_ascii env _ [] refl no_text)
-
-pub writes_leading : (env : Env) (pos : BytePos) → Fills env (leading_comments pos)
-unfolding leading_comments
-writes_leading env pos = writes_if env (pos.0 == 0) (λ rest. rest) (take_comments Leading false pos.0) [] (writes_nothing env) (writes_taken env Leading false pos.0)
-
-pub writes_trailing : (env : Env) (b : Bool) (pos : BytePos) → Fills env (trailing_comments b pos)
-unfolding trailing_comments
-writes_trailing env b pos = writes_if env (pos.0 == 0) (λ rest. rest) (take_comments Trailing b pos.0) [] (writes_nothing env) (writes_taken env Trailing b pos.0)
-
-pub writes_before_end : (env : Env) (pos : BytePos) → Fills env (comments_before_end pos)
-unfolding comments_before_end
-writes_before_end env pos = writes_if env (pos.0 == 0) (λ rest. rest) (take_comments Leading false (pos.0 - 1)) [] (writes_nothing env) (writes_taken env Leading false (pos.0 - 1))
-
 -- ---- indentation
 
 pub writes_shallower : (env : Env) → Fills env shallower
@@ -643,9 +468,9 @@ pub deeper_within : (env : Env) → MakesWithin open_ 1 env deeper [] false
 unfolding deeper step chain run put effect text_of after_plain makes_text levels rise are_ascii has_string is_string_call takes_none maps_after after_step
 deeper_within env = makes_silently env deeper (Plain Deeper ∷ []) [] refl (λ maps rest. refl) (λ s r. lays_level (s.sheet.indentation + 1) s r) no_text (omega arith) (hands_ascii env _ [] refl no_text)
 
-pub punct_within : (env : Env) (t : List ℕ) → Spelled Punctuator t → is_ascii_text t ≡ true → MakesWithin whole 0 env (punct t) (token_of Punctuator (spelling Punctuator t) ∷ []) false
-unfolding punct step chain run put effect text_of after_token punct_put makes_text levels rise are_ascii has_string is_string_call takes_none maps_after after_step
-punct_within env t p a = makes_silently env (punct t) (Guard t ∷ Token Punctuator (Punct None t) ∷ []) _ refl (λ maps rest. refl) (λ s r. lays_punct None t s p r) no_text (omega arith) (hands_ascii env _ _ (guarded_ascii t a) no_text)
+pub bare_punct_within : (env : Env) (t : List ℕ) → Spelled Punctuator t → is_ascii_text t ≡ true → MakesWithin whole 0 env (bare_punct t) (token_of Punctuator (spelling Punctuator t) ∷ []) false
+unfolding bare_punct step chain run put effect text_of after_token punct_put makes_text levels rise are_ascii has_string is_string_call takes_none maps_after after_step
+bare_punct_within env t p a = makes_silently env (bare_punct t) (Guard t ∷ Token Punctuator (Punct None t) ∷ []) _ refl (λ maps rest. refl) (λ s r. lays_punct None t s p r) no_text (omega arith) (hands_ascii env _ _ (guarded_ascii t a) no_text)
 
 -- ---- names
 
@@ -688,3 +513,58 @@ unfolding valid_symbol written_name
 writes_name_text env span bytes e o p a =
     writes_same env (name_text span bytes) (valid_symbol span bytes) _ (λ maps rest. valid_same span bytes rest (at_maps maps env) e)
     (writes_then env (step (Remake (has_backslash bytes))) (spelled_symbol span (turned bytes)) [] _ (writes_remake env (has_backslash bytes)) (writes_spelled_symbol env span (turned bytes) o p a))
+
+-- ---- with the place behind it where a line may be ended
+
+brace_allows : (c : ℕ) → (c == 125) ≡ true → allows_break (c ∷ []) ≡ false
+brace_allows c h = subst (λ z. allows_break (z ∷ []) ≡ false) (sym (eqb-true c 125 h)) refl
+
+-- `}` isn't among them
+pub no_brace : (t : List ℕ) → allows_break t ≡ true → is_same (spelling Punctuator t) (codes "}") ≡ false
+unfolding is_same spelling
+no_brace [] h = absurd (true≢false (sym h))
+no_brace (c ∷ []) h = false_from_ne_true ((c == 125) && true) (λ e. true≢false (sym h ∙ brace_allows c (and_parts (c == 125) true e).0))
+no_brace (c ∷ d ∷ ds) h = absurd (true≢false (sym h))
+
+broken_within : (env : Env) (allowed : Bool) (t : List ℕ) → is_same (spelling Punctuator t) (codes "}") ≡ false → Spelled Punctuator t → is_ascii_text t ≡ true → MakesWithin ended 0 env (λ rest. bare_punct t (break_where allowed rest)) (token_of Punctuator (spelling Punctuator t) ∷ []) false
+unfolding bare_punct break_where step chain run put effect text_of after_token after_plain punct_put makes_text levels rise are_ascii has_string is_string_call takes_none maps_after after_step
+broken_within env true t e p a =
+    makes_silently env _ (Guard t ∷ Token Punctuator (Punct None t) ∷ Plain AllowBreak ∷ []) _ refl (λ maps rest. refl) (λ s r. lays_punct_break None t s e p r) no_text (omega arith) (hands_ascii env _ _ (guarded_ascii t a) no_text)
+broken_within env false t e p a = makes_wider ended refl (bare_punct_within env t p a)
+
+-- what a punctuator leaves: a line may be ended behind `,` and not behind `.`
+abbrev pub punct_shape : List ℕ → Shape
+punct_shape t = cond (allows_break t) ended whole
+
+behind_within : (env : Env) (b : Bool) (t : List ℕ) → (b ≡ true → is_same (spelling Punctuator t) (codes "}") ≡ false) → Spelled Punctuator t → is_ascii_text t ≡ true → MakesWithin (cond b ended whole) 0 env (λ rest. bare_punct t (cond b (allow_break rest) rest)) (token_of Punctuator (spelling Punctuator t) ∷ []) false
+unfolding bare_punct allow_break step
+behind_within env true t n p a = writes_same env _ (λ rest. bare_punct t (break_where (is_bounded env) rest)) _ (λ maps rest. refl) (broken_within env (is_bounded env) t (n refl) p a)
+behind_within env false t n p a = bare_punct_within env t p a
+
+pub punct_within : (env : Env) (t : List ℕ) → Spelled Punctuator t → is_ascii_text t ≡ true → MakesWithin (punct_shape t) 0 env (punct t) (token_of Punctuator (spelling Punctuator t) ∷ []) false
+unfolding punct
+punct_within env t p a = behind_within env (allows_break t) t (no_brace t) p a
+
+behind_ended : (b : Bool) → is_within (cond b ended whole) ended ≡ true
+behind_ended true = refl
+behind_ended false = refl
+
+-- whatever punctuator it is, a line may end behind it
+pub opened_within : (env : Env) (t : List ℕ) → Spelled Punctuator t → is_ascii_text t ≡ true → MakesWithin ended 0 env (punct t) (token_of Punctuator (spelling Punctuator t) ∷ []) false
+opened_within env t p a = makes_wider ended (behind_ended (allows_break t)) (punct_within env t p a)
+
+pub writes_punct : (env : Env) (t : List ℕ) → Spelled Punctuator t → is_ascii_text t ≡ true → MakesAt (punct_shape t) env (punct t) (token_of Punctuator (spelling Punctuator t) ∷ []) false
+writes_punct env t p a = with_room 0 1 (omega arith) (punct_within env t p a)
+
+pub writes_opened_punct : (env : Env) (t : List ℕ) → Spelled Punctuator t → is_ascii_text t ≡ true → MakesAt ended env (punct t) (token_of Punctuator (spelling Punctuator t) ∷ []) false
+writes_opened_punct env t p a = with_room 0 1 (omega arith) (opened_within env t p a)
+
+broken_semi : (env : Env) (allowed : Bool) → MakesAt ended env (λ rest. bare_semi (break_where allowed rest)) (token_of Ending (spelling Ending (codes ";")) ∷ []) false
+unfolding bare_semi break_where step chain run put effect text_of after_token after_plain semi_put makes_text levels rise are_ascii has_string is_string_call takes_none maps_after after_step
+broken_semi env true =
+    makes_silently env _ (Guard (codes ";") ∷ Token Ending (Semi None) ∷ Plain AllowBreak ∷ []) _ refl (λ maps rest. refl) (λ s r. lays_semi_break None s r) no_text (omega arith) (hands_ascii env _ _ refl no_text)
+broken_semi env false = makes_wider ended refl (writes_bare_semi env)
+
+pub writes_semi : (env : Env) → MakesAt ended env semi (token_of Ending (spelling Ending (codes ";")) ∷ []) false
+unfolding semi bare_semi allow_break step
+writes_semi env = writes_same env semi (λ rest. bare_semi (break_where (is_bounded env) rest)) _ (λ maps rest. refl) (broken_semi env (is_bounded env))

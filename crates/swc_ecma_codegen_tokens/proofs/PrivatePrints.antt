@@ -15,7 +15,7 @@ use Rattle.swc_ecma_codegen_grammar.specs.SpelledNames.{spelled_name}
 use Rattle.swc_ecma_codegen_grammar.specs.Tokens as lexical
 use Rattle.swc_ecma_codegen_grammar.specs.Tokens.{has_shape, token_of, value_of}
 use Rattle.swc_ecma_codegen_grammar.specs.ValidNames.{turned}
-use Rattle.swc_ecma_codegen_text_writer.specs.Sheet.{Sheet, Punct, Symbol, effect, written, settled, before_punct, is_ending}
+use Rattle.swc_ecma_codegen_text_writer.specs.Sheet.{Sheet, Punct, Symbol, effect, written, settled, before_punct, is_ending, fills_lines}
 use Rattle.swc_ecma_codegen_literals.specs.AsciiNames.{is_ascii_text}
 use Rattle.swc_ecma_codegen_tokens.specs.Ascii.{is_other_piece, is_kept_piece, is_other_end, is_kept_end, keeps_other, are_ascii}
 use Rattle.swc_ecma_codegen_tokens.specs.declared.refusals.Unprintable.TheVariants.{NameOutOfTarget}
@@ -35,13 +35,14 @@ use Rattle.swc_ecma_codegen_tokens.proofs.Levels.{levels, levels_append, rise}
 use Rattle.swc_ecma_codegen_tokens.proofs.LiteralParts.{lays_guarded, still_settled, writes_guard}
 use Rattle.swc_ecma_codegen_tokens.proofs.PartSteps.{no_names, placed_none}
 use Rattle.swc_ecma_codegen_tokens.proofs.Phrased.{Prints, after, before, name_written, no_string}
-use Rattle.swc_ecma_codegen_tokens.proofs.Printed.{takes_none, takes_append, from_silently, Makes, Writes, chain, chain_append, or_false, remakes_append, writes_same, writes_then, writes_remake, writes_position, writes_leading}
+use Rattle.swc_ecma_codegen_tokens.proofs.Printed.{takes_none, takes_append, from_silently, Makes, Writes, chain, chain_append, or_false, remakes_append, writes_same, writes_then, writes_remake, writes_position}
+use Rattle.swc_ecma_codegen_tokens.proofs.CommentPrints.{writes_leading}
 use Rattle.swc_ecma_codegen_tokens.proofs.PrivateSteps.{private_same, private_out, valid_same}
 use Rattle.swc_ecma_codegen_tokens.proofs.Starting.{plain_class}
 use Rattle.swc_ecma_codegen_tokens.proofs.TemplateLaws.{Inside, position_inside}
 use Rattle.swc_ecma_codegen_tokens.proofs.Texts.{Adds, adds_written, adds_more, owns, spelled_one}
 use Rattle.swc_ecma_codegen_tokens.proofs.Laid.{Lays}
-use Rattle.swc_ecma_codegen_tokens.proofs.Written.{Spelled}
+use Rattle.swc_ecma_codegen_tokens.proofs.TokenLays.{Spelled}
 
 -- ---- its spelling
 
@@ -90,16 +91,16 @@ last_step t = Ends ((PrivateName, private_spelling t) ∷ []) (Symbol dummy_span
 abbrev all_steps : List Step → List ℕ → List Step
 all_steps inner t = Guard (codes "#") ∷ Plain (Punct None (codes "#")) ∷ (inner ++ (last_step t ∷ []))
 
-name_adds : (t : List ℕ) (a b : Sheet) → holds_one a.semicolons ≡ false → (t ≡ [] → ⊥) → Adds (codes "#") a b → Adds (private_spelling t) a (written (Some dummy_span) t (settled b))
-name_adds [] a b o some h = absurd (some refl)
-name_adds (c ∷ cs) a b o some h = subst (λ z. Adds (private_spelling (c ∷ cs)) a (written (Some dummy_span) (c ∷ cs) z)) (sym (still_settled (codes "#") a b o h)) (adds_more (codes "#") (c ∷ cs) a b _ h (adds_written (Some dummy_span) c cs b))
+name_adds : (t : List ℕ) (a b : Sheet) → holds_one a.semicolons ≡ false → fills_lines a.lines ≡ false → (t ≡ [] → ⊥) → Adds (codes "#") a b → Adds (private_spelling t) a (written (Some dummy_span) t (settled b))
+name_adds [] a b o n some h = absurd (some refl)
+name_adds (c ∷ cs) a b o n some h = subst (λ z. Adds (private_spelling (c ∷ cs)) a (written (Some dummy_span) (c ∷ cs) z)) (sym (still_settled (codes "#") a b o h)) (adds_more (codes "#") (c ∷ cs) a b _ h (adds_written (Some dummy_span) c cs b (h.fills ∙ n)))
 
 hash_put : State → State
 hash_put s = put (Plain (Punct None (codes "#"))) s
 
-hash_adds : (s : State) → Adds (codes "#") (settled s.sheet) (hash_put s).sheet
+hash_adds : (s : State) → fills_lines (settled s.sheet).lines ≡ false → Adds (codes "#") (settled s.sheet) (hash_put s).sheet
 unfolding hash_put put effect before_punct is_ending
-hash_adds s = adds_written None 35 [] (settled s.sheet)
+hash_adds s n = adds_written None 35 [] (settled s.sheet) n
 
 last_adds : (t : List ℕ) (a : Sheet) (s : State) → Adds (private_spelling t) a (written (Some dummy_span) t (settled s.sheet)) → Adds (private_spelling t) a (run (last_step t ∷ []) s).sheet
 unfolding last_step run put effect
@@ -113,11 +114,11 @@ steps_run : (inner : List Step) (t : List ℕ) (s : State) → run (Plain (Punct
 unfolding hash_put run
 steps_run inner t s = run_append inner (last_step t ∷ []) (put (Plain (Punct None (codes "#"))) s)
 
-steps_add : {env : Env} (span : Span) (h : Inside env (position span.lo) [] false) (t : List ℕ) (s : State) → (t ≡ [] → ⊥) → Adds (private_spelling t) (settled s.sheet) (run (last_step t ∷ []) (run h.steps (hash_put s))).sheet
-steps_add span h t s some =
+steps_add : {env : Env} (span : Span) (h : Inside env (position span.lo) [] false) (t : List ℕ) (s : State) → (t ≡ [] → ⊥) → fills_lines (settled s.sheet).lines ≡ false → Adds (private_spelling t) (settled s.sheet) (run (last_step t ∷ []) (run h.steps (hash_put s))).sheet
+steps_add span h t s some n =
     let a : Sheet = settled s.sheet in
     let o = settled_none s.sheet in
-    last_adds t a (run h.steps (hash_put s)) (name_adds t a (run h.steps (hash_put s)).sheet o some (h.adds (codes "#") a (hash_put s) o (hash_adds s)))
+    last_adds t a (run h.steps (hash_put s)) (name_adds t a (run h.steps (hash_put s)).sheet o n some (h.adds (codes "#") a (hash_put s) o n (hash_adds s n)))
 
 token_lays : {env : Env} (span : Span) (h : Inside env (position span.lo) [] false) (t : List ℕ) → Spelled PrivateName (private_spelling t) → (t ≡ [] → ⊥) → (s : State) → AtRest s → Lays (token_of PrivateName (spelling PrivateName (private_spelling t)) ∷ []) s (run (all_steps h.steps t) s)
 unfolding owns tokens_of run
@@ -127,7 +128,7 @@ token_lays span h t p some s r =
     let same = steps_run h.steps t there in
     let P : State → Type 0 = λ z. Adds (private_spelling t) (settled there.sheet) z.sheet in
     lays_guarded ((PrivateName, private_spelling t) ∷ []) (private_spelling t) (codes "#") s all (spelled_one PrivateName (private_spelling t) p) (private_class t) r
-    (subst P (sym same) (steps_add span h t there some)) (ap (λ (z : State). z.last) same ∙ last_last t (run h.steps (hash_put there)) there)
+    (λ n. subst P (sym same) (steps_add span h t there some n)) (ap (λ (z : State). z.last) same ∙ last_last t (run h.steps (hash_put there)) there)
 
 token_is : {env : Env} (span : Span) (h : Inside env (position span.lo) [] false) (t : List ℕ) (rest : Plan) → words.private_token span t rest env ≡ chain (all_steps h.steps t) (rest env)
 unfolding words.private_token words.hashed last_step step chain after_step

@@ -5,7 +5,7 @@ use Rattle.swc_ecma_codegen_grammar.specs.declared.kinds.Kind.{Kind}
 use Rattle.swc_ecma_codegen_grammar.specs.Chars.{is_one_line}
 use Rattle.swc_ecma_codegen_grammar.specs.Trivia.{Piece, pieces_text}
 use Rattle.swc_ecma_codegen_grammar.specs.Parts as parts
-use Rattle.swc_ecma_codegen_grammar.specs.Parts.{Gap, Own, Joint, OfLine, OnLine, PastLine, AtJoint, Broken, over_gap, over_own, over_joint, walk, is_broken}
+use Rattle.swc_ecma_codegen_grammar.specs.Parts.{Gap, Own, Joint, Break, OfLine, OnLine, PastLine, AtJoint, Broken, over_gap, over_own, over_joint, walk, is_broken}
 use Rattle.swc_ecma_codegen_grammar.proofs.Reading.{broken_stays}
 use Rattle.swc_ecma_codegen_tokens.specs.Written.{all_indent}
 use Rattle.swc_ecma_codegen_tokens.proofs.Indented.{blanks, indent_one_line}
@@ -88,6 +88,7 @@ walk_le [] v w h = h
 walk_le (Gap ps ∷ xs) v w h = walk_le xs _ _ (gap_le (is_one_line (pieces_text ps)) v w h)
 walk_le (Own x t ∷ xs) v w h = walk_le xs _ _ (own_le v w h)
 walk_le (Joint ∷ xs) v w h = walk_le xs _ _ (joint_le v w h)
+walk_le (Break ∷ xs) v w h = walk_le xs _ _ (gap_le false v w h)
 
 pub walk_append : (xs ys : List parts.Part) (w : OfLine) → walk w (xs ++ ys) ≡ walk (walk w xs) ys
 unfolding walk
@@ -95,6 +96,7 @@ walk_append [] ys w = refl
 walk_append (Gap ps ∷ xs) ys w = walk_append xs ys _
 walk_append (Own x t ∷ xs) ys w = walk_append xs ys _
 walk_append (Joint ∷ xs) ys w = walk_append xs ys _
+walk_append (Break ∷ xs) ys w = walk_append xs ys _
 
 -- ---- where parts lead
 
@@ -396,3 +398,8 @@ fits_text u kind t h = fits_then (Gap (blanks u) ∷ []) (Own kind t ∷ []) (fi
 pub fits_end : (ps : List Piece) → Fits loose (Gap ps ∷ [])
 unfolding walk
 fits_end ps = fits_gap (is_one_line (pieces_text ps)) (λ w. refl)
+
+-- a place where a line may be ended
+pub fits_break : Fits loose (Break ∷ [])
+unfolding walk
+fits_break = fits_gap false (λ w. refl)

@@ -1,47 +1,47 @@
 -- After a call the text reads as the tokens so far and those of the call, whatever follows that doesn't fuse.
-use Rattle.std.proofs.Common.{◌≡◌, ℕ, Bool, true, false, ◌&&◌, cond, List, [], ◌∷◌, ◌++◌, ◌-◌, ◌==◌, codes, refl, sym, ap, ◌∙◌, subst, append_assoc, append-nil, inl, inr, Option, Some, None, Ok, ◌||◌}
+use Rattle.std.proofs.Common.{◌≡◌, ℕ, Bool, true, false, ◌&&◌, cond, List, [], ◌∷◌, ◌++◌, ◌-◌, ◌==◌, codes, refl, sym, ap, ◌∙◌, subst, append_assoc, append-nil, inl, inr, Option, None, Ok}
 use Rattle.std.specs.Str.{chars, is_utf8}
 use Rattle.std.proofs.lemmas.Str.{chars-nil, chars-append, IsUtf8-nil, IsUtf8-append}
 use Rattle.swc_ecma_codegen_common.specs.declared.positions.BytePos.{BytePos}
 use Rattle.swc_ecma_codegen_common.specs.declared.positions.Span.{Span}
 use Rattle.swc_ecma_codegen_grammar.specs.Tokens as lexical
-use Rattle.swc_ecma_codegen_grammar.specs.Tokens.{token_of, value_of}
-use Rattle.swc_ecma_codegen_spans.specs.Spans.{dummy_span}
 use Rattle.swc_ecma_codegen_grammar.specs.Reads.{Reads, is_same_line}
 use Rattle.swc_ecma_codegen_grammar.specs.Endings.{IsReduced}
-use Rattle.swc_ecma_codegen_text_writer.specs.Sheet.{holds_semicolons, Position, effect}
+use Rattle.swc_ecma_codegen_text_writer.specs.Sheet.{holds_semicolons, Position}
 use Rattle.swc_ecma_codegen_grammar.specs.Parts as parts
-use Rattle.swc_ecma_codegen_grammar.specs.Parts.{Gap, Own, OnLine, PastLine, KeepsLines, IsEnding, Reduced, walk, is_broken, NoneFuse, tokens_of, remarks_in}
+use Rattle.swc_ecma_codegen_grammar.specs.Parts.{Gap, Own, OnLine, PastLine, KeepsLines, IsEnding, begins_break, Reduced, walk, is_broken, NoneFuse, tokens_of, remarks_in}
 use Rattle.swc_ecma_codegen_grammar.specs.GapRules.{Start, allows}
 use Rattle.swc_ecma_codegen_grammar.specs.declared.kinds.Kind.TheVariants.{Ending}
 use Rattle.swc_ecma_codegen_grammar.proofs.Dropped.{keeps_reduced, none_fuse_reduced, tokens_reduced, without_last_gap}
 use Rattle.swc_ecma_codegen_grammar.specs.Settings.{Settings}
 use Rattle.swc_ecma_codegen_util.specs.declared.config.Config.{Config}
 use Rattle.swc_ecma_codegen_tokens.specs.Settings.{settings_of}
-use Rattle.swc_ecma_codegen_grammar.specs.Phrases.{Phrase, Nothing, One, NameOf, TagNameOf, Generates, is_possible, ◌>◌, mark}
-use Rattle.swc_ecma_codegen_grammar.specs.SpelledNames.{is_well_formed_name, is_well_formed_tag_name}
+use Rattle.swc_ecma_codegen_grammar.specs.Phrases.{Phrase, Nothing, One, NameOf, Generates, is_possible, ◌>◌, mark}
+use Rattle.swc_ecma_codegen_grammar.specs.SpelledNames.{is_well_formed_name}
 use Rattle.swc_ecma_codegen_grammar.proofs.Reading.{reads}
 use Rattle.swc_ecma_codegen_grammar.specs.CommentMaps.{Maps}
 use Rattle.swc_ecma_codegen_grammar.specs.SourceLines.{Lines}
-use Rattle.swc_ecma_codegen_tokens.specs.Run.{Env, Part, State, at_source, Step, Plain, put, spelling, text_of, after_token, step, after_step, taken_in, taken_by, when_minified, no_part, steps_of, unprintable_in, run, nothing, Follows, Emits}
+use Rattle.swc_ecma_codegen_tokens.specs.Run.{Env, is_bounded, Part, State, at_source, Step, Plain, step, after_step, taken_in, taken_by, when_minified, no_part, steps_of, unprintable_in, run, nothing, Follows, Emits}
 use Rattle.swc_ecma_codegen_tokens.specs.Targets.{is_out}
-use Rattle.swc_ecma_codegen_tokens.specs.Words.{keyword, operator, word_operator, punct, placed_punct, semi, name, space, formatting_space, line_end, formatting_line, commit_pending_semi, position, position_before, leading_comments, trailing_comments}
-use Rattle.swc_ecma_codegen_tokens.specs.Tags.{closing, close, tag_name_token, tag_name, text_token, jsx_text, open_token, child_open}
+use Rattle.swc_ecma_codegen_tokens.specs.Words.{allow_break, allows_break, bare_punct, bare_semi, break_where, keyword, operator, word_operator, punct, placed_punct, semi, name, space, formatting_space, line_end, formatting_line, commit_pending_semi, position, position_before, leading_comments, trailing_comments}
+use Rattle.swc_ecma_codegen_tokens.specs.Tags.{closing, close, text_token, jsx_text, open_token, child_open}
 use Rattle.swc_ecma_codegen_grammar.specs.Jsx.{is_jsx_text, is_jsx_open}
 use Rattle.swc_ecma_codegen_tokens.proofs.TagPrints.{prints_tag_end, is_text_token, prints_jsx_text, prints_opens}
-use Rattle.swc_ecma_codegen_tokens.specs.Written.{IsNew, IsWord, IsMark, ReadsSoFar, ReadsSoFarAt, GoesOn, IsLeft, pending, indentation_due, blanks, holds_one, Spot, RestsAt, Takes, Anything, Between, InText, InName, AddsText, taken_remarks, name_tokens}
+use Rattle.swc_ecma_codegen_tokens.specs.Written.{keeps_break, IsNew, IsWord, IsMark, ReadsSoFar, ReadsSoFarAt, GoesOn, IsLeft, pending, indentation_due, blanks, holds_one, Spot, RestsAt, Takes, Anything, Between, InText, InName, AddsText, taken_remarks, name_tokens}
 use Rattle.swc_ecma_codegen_tokens.proofs.Emitting.{emits_nothing}
 use Rattle.swc_ecma_codegen_tokens.proofs.Spots.{rests_narrower}
 use Rattle.swc_ecma_codegen_tokens.proofs.Appended.{text_append, tokens_append, remarks_append}
+use Rattle.swc_ecma_codegen_tokens.proofs.Cuts.{break_if, past_break, ending_past}
 use Rattle.swc_ecma_codegen_tokens.proofs.Laid.{LaysTo, Enters}
 use Rattle.swc_ecma_codegen_tokens.proofs.Jointless.{holds_joint, walks_past, drops_joints}
 use Rattle.swc_ecma_codegen_grammar.specs.Trivia.{Remark, Piece}
 use Rattle.swc_ecma_codegen_grammar.specs.Comments.{AreClosed, remarks_of, all_closed}
 use Rattle.std.proofs.lemmas.Bool.{or_from}
-use Rattle.swc_ecma_codegen_tokens.proofs.Printed.{writes_space, writes_formatting_space, writes_line, writes_formatting_line, writes_commit, writes_position, writes_position_before, writes_leading, writes_trailing, MakesFrom, MakesOn, MakesAt, EndsLines, makes_wider, from_wider, remarks_by}
+use Rattle.swc_ecma_codegen_tokens.proofs.Printed.{writes_space, writes_formatting_space, writes_line, writes_formatting_line, writes_commit, writes_position, writes_position_before, MakesOn, MakesAt, EndsLines, makes_wider, from_wider, remarks_by}
+use Rattle.swc_ecma_codegen_tokens.proofs.CommentPrints.{writes_leading, writes_trailing}
 use Rattle.swc_ecma_codegen_tokens.proofs.PartSteps.{steps_of_chain}
-use Rattle.swc_ecma_codegen_tokens.proofs.Phrased.{Prints, PrintsOn, new_at_rest, kept_front, prints_keyword, prints_operator, prints_word_operator, prints_punct, prints_placed_punct, prints_semi, prints_close, prints_ident, made_not_out, taken_closed}
-use Rattle.swc_ecma_codegen_tokens.proofs.Shapes.{Shape, Le, line_first, loose, whole, walk_append, walk_le, not_broken}
+use Rattle.swc_ecma_codegen_tokens.proofs.Phrased.{PrintsOn, new_at_rest, kept_front, prints_keyword, prints_operator, prints_word_operator, prints_punct, prints_bare_punct, prints_bare_semi, prints_placed_punct, prints_semi, prints_close, prints_ident, made_not_out, taken_closed}
+use Rattle.swc_ecma_codegen_tokens.proofs.Shapes.{Shape, Le, line_first, loose, whole, ended, is_within, walk_append, walk_le, not_broken}
 
 -- where no line ends within what follows the end of a line, none does where some parts stand before
 kept_on : (xs more : List parts.Part) → Le (walk PastLine xs) PastLine → is_broken (walk PastLine more) ≡ false → is_broken (walk PastLine (xs ++ more)) ≡ false
@@ -124,14 +124,14 @@ made_so_far part old tokens ts rs a b w none t e h =
     subst (λ z. ReadsSoFar old (tokens ++ ts) z b) (ap (λ z. rs ++ z) t ∙ append-nil rs) (emitted_so_far part old tokens ts rs a b (makes_wider loose refl w) none closed e h)
 
 -- a part that writes one token, and takes no comments
-one_so_far : {v w : Spot} (part : Part) (x : lexical.Token) (old : List ℕ) (tokens : List lexical.Token) (rs : List Remark) (a b : State) → PrintsOn v w whole a.env part (One x) → is_same_line x.kind ≡ false → taken_remarks part a.env ≡ [] → Emits part a b (Ok tt) → ReadsSoFarAt v old tokens rs a → ReadsSoFarAt w old (tokens ++ x ∷ []) rs b
+one_so_far : {v w : Spot} {i : Shape} → is_within i loose ≡ true → (part : Part) (x : lexical.Token) (old : List ℕ) (tokens : List lexical.Token) (rs : List Remark) (a b : State) → PrintsOn v w i a.env part (One x) → is_same_line x.kind ≡ false → taken_remarks part a.env ≡ [] → Emits part a b (Ok tt) → ReadsSoFarAt v old tokens rs a → ReadsSoFarAt w old (tokens ++ x ∷ []) rs b
 unfolding Generates is_possible is_out
-one_so_far {w = w} part x old tokens rs a b prints n t e h =
+one_so_far {w = w} fits part x old tokens rs a b prints n t e h =
     let p = prints.where_possible refl refl a.env.maps in
     let none : holds_joint p.tokens ≡ false = ap holds_joint p.generated ∙ (unfold holds_joint in or_from (is_same_line x.kind) false n refl) in
     let closed : all_closed (taken_remarks part a.env) ≡ true = ap all_closed t ∙ (unfold all_closed in refl) in
     subst (λ z. ReadsSoFarAt w old (tokens ++ x ∷ []) z b) (ap (λ z. rs ++ z) t ∙ append-nil rs)
-    (subst (λ z. ReadsSoFarAt w old (tokens ++ z) (rs ++ taken_remarks part a.env) b) p.generated (from_so_far part old tokens p.tokens rs a b (from_wider loose refl p.writes) none closed e h))
+    (subst (λ z. ReadsSoFarAt w old (tokens ++ z) (rs ++ taken_remarks part a.env) b) p.generated (from_so_far part old tokens p.tokens rs a b (from_wider loose fits p.writes) none closed e h))
 
 -- a part that was made comes to its end
 emitted_ends : (part : Part) (a b : State) → Emits part a b (Ok tt) → unprintable_in (part nothing a.env) ≡ None
@@ -146,36 +146,67 @@ phrase_so_far part f old tokens rs a b prints w none c e h =
 
 pub keyword_so_far : (span : Option Span) (t old : List ℕ) (tokens : List lexical.Token) (rs : List Remark) (a b : State) → IsWord t → Emits (keyword span t) a b (Ok tt) → ReadsSoFar old tokens rs a → ReadsSoFar old (tokens ++ lexical.word t ∷ []) rs b
 unfolding keyword step steps_of nothing after_step taken_in taken_by remarks_of lexical.word lexical.punctuator lexical.ending is_same_line
-keyword_so_far span t old tokens rs a b w e h = one_so_far (keyword span t) (lexical.word t) old tokens rs a b (prints_keyword a.env span t w) refl refl e h
+keyword_so_far span t old tokens rs a b w e h = one_so_far refl (keyword span t) (lexical.word t) old tokens rs a b (prints_keyword a.env span t w) refl refl e h
 
 pub word_operator_so_far : (t old : List ℕ) (tokens : List lexical.Token) (rs : List Remark) (a b : State) → IsWord t → Emits (word_operator t) a b (Ok tt) → ReadsSoFar old tokens rs a → ReadsSoFar old (tokens ++ lexical.word t ∷ []) rs b
 unfolding word_operator step steps_of nothing after_step taken_in taken_by remarks_of lexical.word lexical.punctuator lexical.ending is_same_line
-word_operator_so_far t old tokens rs a b w e h = one_so_far (word_operator t) (lexical.word t) old tokens rs a b (prints_word_operator a.env t w) refl refl e h
+word_operator_so_far t old tokens rs a b w e h = one_so_far refl (word_operator t) (lexical.word t) old tokens rs a b (prints_word_operator a.env t w) refl refl e h
 
 pub operator_so_far : (t old : List ℕ) (tokens : List lexical.Token) (rs : List Remark) (a b : State) → IsMark t → Emits (operator t) a b (Ok tt) → ReadsSoFar old tokens rs a → ReadsSoFar old (tokens ++ lexical.punctuator t ∷ []) rs b
 unfolding operator step steps_of nothing after_step taken_in taken_by remarks_of lexical.word lexical.punctuator lexical.ending is_same_line
-operator_so_far t old tokens rs a b w e h = one_so_far (operator t) (lexical.punctuator t) old tokens rs a b (prints_operator a.env t w) refl refl e h
+operator_so_far t old tokens rs a b w e h = one_so_far refl (operator t) (lexical.punctuator t) old tokens rs a b (prints_operator a.env t w) refl refl e h
+
+-- an allowed break takes no comments
+break_takes : (allowed : Bool) (env : Env) → taken_in (steps_of (break_where allowed nothing env)) env.maps ≡ []
+unfolding break_where step steps_of nothing taken_in taken_by after_step
+break_takes true env = refl
+break_takes false env = refl
+
+behind_takes : (b : Bool) (env : Env) → taken_in (steps_of (cond b (allow_break nothing) nothing env)) env.maps ≡ []
+unfolding allow_break steps_of nothing taken_in
+behind_takes true env = break_takes (is_bounded env) env
+behind_takes false env = refl
+
+punct_takes : (t : List ℕ) (env : Env) → taken_remarks (punct t) env ≡ []
+unfolding punct bare_punct step steps_of after_step taken_in taken_by
+punct_takes t env = ap remarks_of (behind_takes (allows_break t) env) ∙ (unfold remarks_of in refl)
+
+semi_takes : (env : Env) → taken_remarks semi env ≡ []
+unfolding semi bare_semi allow_break step steps_of after_step taken_in taken_by
+semi_takes env = ap remarks_of (break_takes (is_bounded env) env) ∙ (unfold remarks_of in refl)
+
+punct_fits : (b : Bool) → is_within (cond b ended whole) loose ≡ true
+punct_fits true = refl
+punct_fits false = refl
 
 pub punct_so_far : (t old : List ℕ) (tokens : List lexical.Token) (rs : List Remark) (a b : State) → IsMark t → Emits (punct t) a b (Ok tt) → ReadsSoFar old tokens rs a → ReadsSoFar old (tokens ++ lexical.punctuator t ∷ []) rs b
-unfolding punct step steps_of nothing after_step taken_in taken_by remarks_of lexical.word lexical.punctuator lexical.ending is_same_line
-punct_so_far t old tokens rs a b w e h = one_so_far (punct t) (lexical.punctuator t) old tokens rs a b (prints_punct a.env t w) refl refl e h
+unfolding lexical.punctuator is_same_line
+punct_so_far t old tokens rs a b w e h = one_so_far (punct_fits (allows_break t)) (punct t) (lexical.punctuator t) old tokens rs a b (prints_punct a.env t w) refl (punct_takes t a.env) e h
+
+pub bare_punct_so_far : (t old : List ℕ) (tokens : List lexical.Token) (rs : List Remark) (a b : State) → IsMark t → Emits (bare_punct t) a b (Ok tt) → ReadsSoFar old tokens rs a → ReadsSoFar old (tokens ++ lexical.punctuator t ∷ []) rs b
+unfolding bare_punct step steps_of nothing after_step taken_in taken_by remarks_of lexical.word lexical.punctuator lexical.ending is_same_line
+bare_punct_so_far t old tokens rs a b w e h = one_so_far refl (bare_punct t) (lexical.punctuator t) old tokens rs a b (prints_bare_punct a.env t w) refl refl e h
 
 pub placed_punct_so_far : (span : Span) (t old : List ℕ) (tokens : List lexical.Token) (rs : List Remark) (a b : State) → IsMark t → Emits (placed_punct span t) a b (Ok tt) → ReadsSoFar old tokens rs a → ReadsSoFar old (tokens ++ lexical.punctuator t ∷ []) rs b
 unfolding placed_punct step steps_of nothing after_step taken_in taken_by remarks_of lexical.word lexical.punctuator lexical.ending is_same_line
-placed_punct_so_far span t old tokens rs a b w e h = one_so_far (placed_punct span t) (lexical.punctuator t) old tokens rs a b (prints_placed_punct a.env span t w) refl refl e h
+placed_punct_so_far span t old tokens rs a b w e h = one_so_far refl (placed_punct span t) (lexical.punctuator t) old tokens rs a b (prints_placed_punct a.env span t w) refl refl e h
 
 pub semi_so_far : (old : List ℕ) (tokens : List lexical.Token) (rs : List Remark) (a b : State) → Emits semi a b (Ok tt) → ReadsSoFar old tokens rs a → ReadsSoFar old (tokens ++ lexical.ending ∷ []) rs b
-unfolding semi step steps_of nothing after_step taken_in taken_by remarks_of lexical.word lexical.punctuator lexical.ending is_same_line
-semi_so_far old tokens rs a b e h = one_so_far semi lexical.ending old tokens rs a b (prints_semi a.env) refl refl e h
+unfolding lexical.ending is_same_line
+semi_so_far old tokens rs a b e h = one_so_far refl semi lexical.ending old tokens rs a b (prints_semi a.env) refl (semi_takes a.env) e h
+
+pub bare_semi_so_far : (old : List ℕ) (tokens : List lexical.Token) (rs : List Remark) (a b : State) → Emits bare_semi a b (Ok tt) → ReadsSoFar old tokens rs a → ReadsSoFar old (tokens ++ lexical.ending ∷ []) rs b
+unfolding bare_semi step steps_of nothing after_step taken_in taken_by remarks_of lexical.ending is_same_line
+bare_semi_so_far old tokens rs a b e h = one_so_far refl bare_semi lexical.ending old tokens rs a b (prints_bare_semi a.env) refl refl e h
 
 pub close_so_far : (old : List ℕ) (tokens : List lexical.Token) (rs : List Remark) (a b : State) → Emits close a b (Ok tt) → ReadsSoFar old tokens rs a → ReadsSoFar old (tokens ++ closing ∷ []) rs b
 unfolding close step steps_of nothing after_step taken_in taken_by remarks_of lexical.tag_close is_same_line
-close_so_far old tokens rs a b e h = one_so_far close closing old tokens rs a b (prints_close a.env) refl refl e h
+close_so_far old tokens rs a b e h = one_so_far refl close closing old tokens rs a b (prints_close a.env) refl refl e h
 
 -- behind a name in a tag: a child may come next
 pub tag_end_so_far : (old : List ℕ) (tokens : List lexical.Token) (rs : List Remark) (a b : State) → Emits close a b (Ok tt) → ReadsSoFarAt InName old tokens rs a → ReadsSoFarAt Between old (tokens ++ closing ∷ []) rs b
 unfolding close step steps_of nothing after_step taken_in taken_by remarks_of lexical.tag_close is_same_line
-tag_end_so_far old tokens rs a b e h = one_so_far close closing old tokens rs a b (prints_tag_end a.env) refl refl e h
+tag_end_so_far old tokens rs a b e h = one_so_far refl close closing old tokens rs a b (prints_tag_end a.env) refl refl e h
 
 pub named_so_far : (old : List ℕ) (tokens : List lexical.Token) (rs : List Remark) (s : State) → ReadsSoFar old tokens rs s → ReadsSoFarAt InName old tokens rs s
 named_so_far old tokens rs s h = record {
@@ -191,11 +222,11 @@ named_so_far old tokens rs s h = record {
 
 pub text_so_far : (span : Span) (t old : List ℕ) (tokens : List lexical.Token) (rs : List Remark) (a b : State) → is_utf8 t ≡ true → is_jsx_text (chars t) ≡ true → Emits (jsx_text span t) a b (Ok tt) → ReadsSoFarAt Between old tokens rs a → ReadsSoFarAt InText old (tokens ++ text_token t ∷ []) rs b
 unfolding jsx_text step steps_of nothing after_step taken_in taken_by remarks_of lexical.jsx_text is_same_line
-text_so_far span t old tokens rs a b u n e h = one_so_far (jsx_text span t) (text_token t) old tokens rs a b (prints_jsx_text a.env span t (is_text_token t u n)) refl refl e h
+text_so_far span t old tokens rs a b u n e h = one_so_far refl (jsx_text span t) (text_token t) old tokens rs a b (prints_jsx_text a.env span t (is_text_token t u n)) refl refl e h
 
 pub open_so_far : (t old : List ℕ) (tokens : List lexical.Token) (rs : List Remark) (a b : State) → is_jsx_open t ≡ true → Emits (child_open t) a b (Ok tt) → ReadsSoFarAt InText old tokens rs a → ReadsSoFar old (tokens ++ open_token t ∷ []) rs b
 unfolding child_open step steps_of nothing after_step taken_in taken_by remarks_of lexical.child_open is_same_line
-open_so_far t old tokens rs a b o e h = one_so_far (child_open t) (open_token t) old tokens rs a b (prints_opens a.env t o) refl refl e h
+open_so_far t old tokens rs a b o e h = one_so_far refl (child_open t) (open_token t) old tokens rs a b (prints_opens a.env t o) refl refl e h
 
 -- a name, and `?` after an optional one
 name_list : (s : Settings) (at : BytePos) (bytes : List ℕ) (optional : Bool) (ts : List lexical.Token) → Generates s (NameOf at bytes > cond optional (mark (codes "?")) Nothing) ts → ts ≡ name_tokens bytes optional
@@ -241,7 +272,7 @@ front_of_left next left n k (inr d) = front_of_gap next left d.0 (front_of_reduc
 
 goes_first : (s : State) → IsNew s → (next left : List parts.Part) → GoesOn s.last s.sheet next left → IsPrefix next left
 goes_first s n next left g =
-    let none : pending s.sheet ≡ [] = ap (λ b. cond b (Gap (blanks (indentation_due s.sheet)) ∷ Own Ending (codes ";") ∷ []) []) n.nothing_held in
+    let none : pending s.sheet ≡ [] = ap (λ b. cond b (Gap (blanks (indentation_due s.sheet)) ∷ Own Ending (codes ";") ∷ break_if (keeps_break s.sheet.semicolons)) []) n.nothing_held in
     front_of_left next left
     (subst (λ k. NoneFuse k next) n.nothing_written g.apart)
     (not_broken _ _ (walk_le next OnLine PastLine (line_first PastLine)) g.keeps_lines)
@@ -262,14 +293,14 @@ new_so_far s n = record {
 }
 
 -- where nothing follows, a semicolon that is held back isn't needed
-nothing_left : (b : Bool) (u : List ℕ) → IsLeft (cond b (Gap (blanks u) ∷ Own Ending (codes ";") ∷ []) [] ++ []) []
-unfolding Reduced IsEnding
-nothing_left true u = inr (blanks u, inl ([], refl, inr (refl, tt, refl)))
-nothing_left false u = inl refl
+nothing_left : (b c : Bool) (u : List ℕ) → IsLeft (cond b (Gap (blanks u) ∷ Own Ending (codes ";") ∷ break_if c) [] ++ []) []
+unfolding Reduced IsEnding begins_break
+nothing_left true c u = inr (blanks u, inl ([], refl, inr (inl (refl, ending_past c [] tt, refl, past_break c [] [] refl))))
+nothing_left false c u = inl refl
 
 at_end : (s : State) → allows s.last [] ≡ true → GoesOn s.last s.sheet [] []
 unfolding NoneFuse walk is_broken
-at_end s a = record { apart = a; keeps_lines = refl; is_left = nothing_left (holds_one s.sheet.semicolons) (indentation_due s.sheet) }
+at_end s a = record { apart = a; keeps_lines = refl; is_left = nothing_left (holds_one s.sheet.semicolons) (keeps_break s.sheet.semicolons) (indentation_due s.sheet) }
 
 pub so_far_reads : (config : Config) (f : Phrase) (old : List ℕ) (tokens : List lexical.Token) (rs : List Remark) (s : State) → Generates (settings_of config) f tokens → ReadsSoFar old tokens rs s → AddsText config (holds_semicolons s.sheet.semicolons) f rs old s.sheet.text
 unfolding parts.text_of tokens_of remarks_in
@@ -370,7 +401,7 @@ so_far_at {v} lines maps old tokens rs s h = record {
   whole = h.whole;
   reduced = h.reduced;
   reads = h.reads;
-  rest = record { indent_text = h.rest.indent_text; line_end = h.rest.line_end; free = h.rest.free; allowed = takes_at v lines maps s h.rest.allowed };
+  rest = record { indent_text = h.rest.indent_text; line_end = h.rest.line_end; flowing = h.rest.flowing; free = h.rest.free; allowed = takes_at v lines maps s h.rest.allowed };
 }
 
 pub so_far_from : {v : Spot} (lines : Lines) (maps : Maps) (old : List ℕ) (tokens : List lexical.Token) (rs : List Remark) (s : State) → ReadsSoFarAt v old tokens rs (at_source lines maps s) → ReadsSoFarAt v old tokens rs s
@@ -382,5 +413,5 @@ so_far_from {v} lines maps old tokens rs s h = record {
   whole = h.whole;
   reduced = h.reduced;
   reads = h.reads;
-  rest = record { indent_text = h.rest.indent_text; line_end = h.rest.line_end; free = h.rest.free; allowed = takes_from v lines maps s h.rest.allowed };
+  rest = record { indent_text = h.rest.indent_text; line_end = h.rest.line_end; flowing = h.rest.flowing; free = h.rest.free; allowed = takes_from v lines maps s h.rest.allowed };
 }

@@ -1,5 +1,5 @@
 -- What may come next: which spot is as good as another.
-use Rattle.std.proofs.Common.{◌≡◌, ℕ, Bool, true, false, ◌==◌, List, [], ◌∷◌, codes, refl, sym, subst, inl, inr}
+use Rattle.std.proofs.Common.{◌≡◌, ℕ, Bool, true, false, ◌==◌, List, ◌∷◌, codes, refl, sym, subst, inl, inr}
 use Rattle.std.proofs.lemmas.Bool.{eqb-true, or_cases, true≢false}
 use Rattle.swc_ecma_codegen_grammar.specs.Tokens as lexical
 use Rattle.swc_ecma_codegen_grammar.specs.Trivia.{Remark}
@@ -19,7 +19,7 @@ is_narrower InName InName = true
 is_narrower v w = false
 
 pub taking : {v : Spot} (w : Spot) (s : State) → Takes w s → RestsAt v s → RestsAt w s
-taking w s k r = record { indent_text = r.indent_text; line_end = r.line_end; free = r.free; allowed = k }
+taking w s k r = record { indent_text = r.indent_text; line_end = r.line_end; flowing = r.flowing; free = r.free; allowed = k }
 
 pub rests_narrower : (v w : Spot) (s : State) → is_narrower v w ≡ true → RestsAt v s → RestsAt w s
 rests_narrower Anything Anything s e r = r
@@ -33,7 +33,7 @@ rests_narrower InName InName s e r = r
 rests_narrower v w s e r = absurd (true≢false (sym e))
 
 pub lays_ends : {i : Shape} {ts : List lexical.Token} {rs : List Remark} {v : Spot} (w : Spot) (a b : State) → (RestsAt v b → RestsAt w b) → LaysTo v i ts rs a b → LaysTo w i ts rs a b
-lays_ends w a b f h = record { out = h.out; laid = h.laid; bytes = h.bytes; text = h.text; utf8 = h.utf8; spells = h.spells; tokens = h.tokens; remarks = h.remarks; apart = h.apart; reduces = h.reduces; holds = h.holds; whole = h.whole; rest = f h.rest; fits = h.fits }
+lays_ends w a b f h = record { out = h.out; laid = h.laid; bytes = h.bytes; text = h.text; utf8 = h.utf8; spells = h.spells; tokens = h.tokens; remarks = h.remarks; apart = h.apart; reduces = h.reduces; holds = h.holds; whole = h.whole; cuts = h.cuts; rest = f h.rest; fits = h.fits }
 
 pub lays_narrower : {i : Shape} {ts : List lexical.Token} {rs : List Remark} (v w : Spot) (a b : State) → is_narrower v w ≡ true → LaysTo v i ts rs a b → LaysTo w i ts rs a b
 lays_narrower v w a b e h = lays_ends w a b (rests_narrower v w b e) h

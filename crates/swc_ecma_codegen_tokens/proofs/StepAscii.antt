@@ -1,6 +1,6 @@
 -- What steps hand over: ASCII, where the settings ask for that, or what stands as it is in the tree; and strings.
 use Rattle.std.proofs.Common.{◌≡◌, Bool, true, false, not, ◌&&◌, ◌||◌, List, [], ◌∷◌, ◌++◌, refl, sym, ap, ◌∙◌, inl, inr}
-use Rattle.std.proofs.lemmas.Bool.{and_from, and_parts, or_cases, or_from, or_parts, or_left, or_right, true≢false}
+use Rattle.std.proofs.lemmas.Bool.{and_from, and_parts, or_cases, or_from, or_left, or_right, true≢false}
 use Rattle.swc_ecma_codegen_grammar.specs.Tokens as lexical
 use Rattle.swc_ecma_codegen_text_writer.specs.Sheet.{Item}
 use Rattle.swc_ecma_codegen_literals.specs.AsciiNames.{is_ascii_text}
@@ -27,16 +27,16 @@ holds_string (x ∷ xs) = is_str x.kind || holds_string xs
 
 -- Where the settings ask for ASCII, each text is, save what stands as it is in the tree; and of such a text there is a token.
 -- Of a string there is one too.
-pub record Hands (env : Env) (steps : List Step) (ts : List lexical.Token) : Type 0 where
+pub record HandsOverAscii (env : Env) (steps : List Step) (ts : List lexical.Token) : Type 0 where
   pub ascii : env.config.ascii_only ≡ true → are_ascii_or_kept steps ≡ true
   pub keeps : keeps_other steps ≡ true → keeps_tokens ts ≡ true
   pub strings : has_string steps ≡ true → holds_string ts ≡ true
 
 -- whatever comments are to be taken
-pub hands_at : {env : Env} {steps : List Step} {ts : List lexical.Token} (maps : Maps) → Hands env steps ts → Hands (at_maps maps env) steps ts
+pub hands_at : {env : Env} {steps : List Step} {ts : List lexical.Token} (maps : Maps) → HandsOverAscii env steps ts → HandsOverAscii (at_maps maps env) steps ts
 hands_at maps h = record { ascii = h.ascii; keeps = h.keeps; strings = h.strings }
 
-pub hands_from : {env : Env} {steps : List Step} {ts : List lexical.Token} (maps : Maps) → Hands (at_maps maps env) steps ts → Hands env steps ts
+pub hands_from : {env : Env} {steps : List Step} {ts : List lexical.Token} (maps : Maps) → HandsOverAscii (at_maps maps env) steps ts → HandsOverAscii env steps ts
 hands_from maps h = record { ascii = h.ascii; keeps = h.keeps; strings = h.strings }
 
 -- ---- steps one after the other
@@ -123,7 +123,7 @@ holds_append (x ∷ ts) us = ap (λ z. is_str x.kind || z) (holds_append ts us) 
 or_either : (x y a b : Bool) → (x || y) ≡ true → (x ≡ true → a ≡ true) → (y ≡ true → b ≡ true) → (a || b) ≡ true
 or_either x y a b h f g = elim (or_cases x y h) [ inl e ↦ or_left a b (f e) | inr e ↦ or_right a b (g e) ]
 
-pub hands_then : {env : Env} {xs ys : List Step} {ts us : List lexical.Token} → Hands env xs ts → Hands env ys us → Hands env (xs ++ ys) (ts ++ us)
+pub hands_then : {env : Env} {xs ys : List Step} {ts us : List lexical.Token} → HandsOverAscii env xs ts → HandsOverAscii env ys us → HandsOverAscii env (xs ++ ys) (ts ++ us)
 hands_then {env} {xs} {ys} {ts} {us} h k = record {
   ascii = λ e. or_kept_append xs ys ∙ and_from (are_ascii_or_kept xs) (are_ascii_or_kept ys) (h.ascii e) (k.ascii e);
   keeps = λ n. tokens_keep ts us ∙ or_either (keeps_other xs) (keeps_other ys) (keeps_tokens ts) (keeps_tokens us) (sym (keeps_append xs ys) ∙ n) h.keeps k.keeps;
@@ -151,9 +151,9 @@ ascii_keeps (Take side at ∷ xs) h = ascii_keeps xs h
 ascii_keeps (CommentText t ∷ xs) h = ascii_keeps xs h
 
 -- whatever the settings
-pub hands_ascii : (env : Env) (steps : List Step) (ts : List lexical.Token) → are_ascii steps ≡ true → (has_string steps ≡ true → holds_string ts ≡ true) → Hands env steps ts
+pub hands_ascii : (env : Env) (steps : List Step) (ts : List lexical.Token) → are_ascii steps ≡ true → (has_string steps ≡ true → holds_string ts ≡ true) → HandsOverAscii env steps ts
 hands_ascii env steps ts a s = record { ascii = λ e. kept_of_ascii steps a; keeps = λ n. absurd (true≢false (sym n ∙ ascii_keeps steps a)); strings = s }
 
 -- where the settings ask for it
-pub hands_by_settings : (env : Env) (steps : List Step) (ts : List lexical.Token) → (env.config.ascii_only ≡ true → are_ascii steps ≡ true) → keeps_other steps ≡ false → (has_string steps ≡ true → holds_string ts ≡ true) → Hands env steps ts
+pub hands_by_settings : (env : Env) (steps : List Step) (ts : List lexical.Token) → (env.config.ascii_only ≡ true → are_ascii steps ≡ true) → keeps_other steps ≡ false → (has_string steps ≡ true → holds_string ts ≡ true) → HandsOverAscii env steps ts
 hands_by_settings env steps ts a n s = record { ascii = λ e. kept_of_ascii steps (a e); keeps = λ k. absurd (true≢false (sym k ∙ n)); strings = s }

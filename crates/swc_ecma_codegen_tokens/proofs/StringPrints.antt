@@ -49,7 +49,8 @@ use Rattle.swc_ecma_codegen_tokens.proofs.LitTexts.{spelled_string}
 use Rattle.swc_ecma_codegen_tokens.proofs.LiteralParts.{writes_settled_begun, writes_string}
 use Rattle.swc_ecma_codegen_tokens.proofs.PartSteps.{IsSafe}
 use Rattle.swc_ecma_codegen_tokens.proofs.Phrased.{Prints, prints_same, prints_where}
-use Rattle.swc_ecma_codegen_tokens.proofs.Printed.{Says, says_comments, chain, Writes, writes_if, writes_nothing, writes_position, writes_then, Fills}
+use Rattle.swc_ecma_codegen_tokens.proofs.Printed.{chain, Writes, writes_if, writes_nothing, writes_position, writes_then, Fills}
+use Rattle.swc_ecma_codegen_tokens.proofs.CommentPrints.{Says, says_comments}
 use Rattle.swc_ecma_codegen_tokens.proofs.RawTexts.{ascii_is}
 use Rattle.swc_ecma_codegen_tokens.proofs.Remade.{makes_remade, prints_anew, writes_begun_in}
 

@@ -1,5 +1,5 @@
 -- Tokens of JSX: what stands before each, and what may come next.
-use Rattle.std.proofs.Common.{◌≡◌, ℕ, Bool, true, false, not, cond, ◌&&◌, ◌==◌, List, [], ◌∷◌, ◌++◌, Option, Some, None, codes, refl, sym, ap, ◌∙◌, subst, append-nil, inl, inr}
+use Rattle.std.proofs.Common.{◌≡◌, ℕ, Bool, true, false, not, cond, ◌&&◌, ◌==◌, List, [], ◌∷◌, ◌++◌, Option, None, codes, refl, sym, ap, ◌∙◌, subst, append-nil, inl, inr}
 use Rattle.std.specs.List.{repeat}
 use Rattle.std.specs.Str.{chars, IsUtf8}
 use Rattle.std.proofs.lemmas.Bool.{and_parts, cases_Bool, eqb-true, true≢false}
@@ -10,29 +10,31 @@ use Rattle.swc_ecma_codegen_grammar.specs.declared.kinds.Kind.{Kind}
 use Rattle.swc_ecma_codegen_grammar.specs.declared.kinds.Kind.TheVariants.{Punctuator, Close, JsxName, JsxText, JsxOpen}
 use Rattle.swc_ecma_codegen_grammar.specs.Chars.{is_start, is_letter}
 use Rattle.swc_ecma_codegen_grammar.specs.Jsx.{is_jsx_name, all_tag}
-use Rattle.swc_ecma_codegen_grammar.specs.Tokens as lexical
 use Rattle.swc_ecma_codegen_grammar.specs.Tokens.{has_shape, token_of}
 use Rattle.swc_ecma_codegen_grammar.specs.Texts.{begins, is_same, some_begins}
 use Rattle.swc_ecma_codegen_grammar.specs.Punctuators.{punctuators}
-use Rattle.swc_ecma_codegen_grammar.specs.Trivia.{Remark, piece_text, pieces_text, all_pieces, remarks_of}
+use Rattle.swc_ecma_codegen_grammar.specs.Trivia.{piece_text, pieces_text, all_pieces, remarks_of}
 use Rattle.swc_ecma_codegen_grammar.specs.Reads.{is_child, is_hashbang_kind}
 use Rattle.swc_ecma_codegen_grammar.specs.GapRules.{PreviousToken, Start, Separated, Mark, LessBang, Whole, TextEnd, fuses, mark_fuses, grows, allows, ends_text, mark_after, last_after, last_after_gap, holds_child}
 use Rattle.swc_ecma_codegen_grammar.specs.Parts as parts
 use Rattle.swc_ecma_codegen_grammar.specs.Parts.{Gap, Own, tokens_of, remarks_in, NoneFuse}
 use Rattle.swc_ecma_codegen_grammar.proofs.Tables.{eq_of_same}
 use Rattle.swc_ecma_codegen_grammar.proofs.Reading.{blank_fuses}
-use Rattle.swc_ecma_codegen_spans.specs.Spans.{dummy_span}
-use Rattle.swc_ecma_codegen_text_writer.specs.Sheet.{Sheet, Space, StrLit, Punct, holds_semicolons, written, literal_written, pointed, settled, dropped, before_punct, is_ending, effect}
+use Rattle.swc_ecma_codegen_text_writer.proofs.Stays.{settled_stays}
+use Rattle.swc_ecma_codegen_text_writer.specs.Sheet.{Sheet, Space, StrLit, Punct, holds_semicolons, written, literal_written, pointed, settled, dropped, before_punct, is_ending, effect, fills_lines}
 use Rattle.swc_ecma_codegen_tokens.specs.Run.{State, Guard, Token, put, spelling, text_of, after_token}
 use Rattle.swc_ecma_codegen_tokens.specs.Written.{IsLineEnd, is_indent, all_indent, is_free, holds_one, AtRest, RestsAt, Takes, TakesChild, Spot, Anything, Between, InText, InName}
 use Rattle.swc_ecma_codegen_tokens.proofs.PendingSemi.{front, front_of, written_semicolons, in_line, settled_none, unheld_settled, dropped_none}
 use Rattle.swc_ecma_codegen_tokens.proofs.AfterBlanks.{apart_alone, after_indent, nothing_fuses}
 use Rattle.swc_ecma_codegen_tokens.proofs.Indented.{indent_append, indent_repeat, indent_blank, indent_utf8, indent_chars, blanks, blanks_text, blanks_pieces, blanks_remarks}
-use Rattle.swc_ecma_codegen_tokens.proofs.Shapes.{Shape, whole, open_, fits_own, fits_indent, fits_text}
+use Rattle.swc_ecma_codegen_tokens.proofs.Shapes.{whole, open_, fits_own, fits_indent, fits_text}
 use Rattle.swc_ecma_codegen_tokens.proofs.Texts.{Adds, adds_written, adds_literal}
 use Rattle.swc_ecma_codegen_tokens.proofs.Spots.{dashless, taking, lays_ends, lays_narrower}
+use Rattle.swc_ecma_codegen_text_writer.proofs.Cuts.{grows_as}
+use Rattle.swc_ecma_codegen_tokens.proofs.Cuts.{cuts_whole}
 use Rattle.swc_ecma_codegen_tokens.proofs.Laid.{LaysTo, lays_then, lays_nothing, laid_out}
-use Rattle.swc_ecma_codegen_tokens.proofs.Written.{Spelled, spelled_close, mark_allows, lays_settled, lays_punct, after_guard, settle, settle_named, lays_named_position, front_indent, still_none, still_holds, at_text, free_last, own_none, own_put, punct_put}
+use Rattle.swc_ecma_codegen_tokens.proofs.Written.{lays_settled, settle, settle_named, lays_named_position, front_indent, still_none, still_holds, at_text}
+use Rattle.swc_ecma_codegen_tokens.proofs.TokenLays.{Spelled, spelled_close, mark_allows, lays_punct, after_guard, free_last, own_none, own_put, punct_put}
 
 -- a text is a token of a kind, whatever may come next
 pub record IsToken (kind : Kind) (t : List ℕ) : Type 0 where
@@ -71,10 +73,11 @@ token_apart true kind t s more free i p c f e a n =
     (token_fits kind t Separated more p c (apart_alone (chars t)) (apart_allows (spelling kind t)) (subst (λ k. NoneFuse k more) (free_last s.last kind (spelling kind t) (free refl)) n))
 token_apart false kind t s more free i p c f e a n = behind_nothing s.last (Own kind (spelling kind t) ∷ more) e (token_fits kind t s.last more p c f a n)
 
-rest_added : {w : Spot} (t : List ℕ) (s b : State) → all_indent s.sheet.indent_text ≡ true → IsLineEnd s.sheet.line_end → Adds t s.sheet b.sheet → Takes w b → RestsAt w b
-rest_added t s b i l h k = record {
+rest_added : {w : Spot} (t : List ℕ) (s b : State) → all_indent s.sheet.indent_text ≡ true → IsLineEnd s.sheet.line_end → fills_lines s.sheet.lines ≡ false → Adds t s.sheet b.sheet → Takes w b → RestsAt w b
+rest_added t s b i l n h k = record {
   indent_text = subst (λ z. all_indent z ≡ true) (sym h.indent_text) i;
   line_end = subst (λ z. IsLineEnd z) (sym h.line_end) l;
+  flowing = h.fills ∙ n;
   free = λ o e. absurd (true≢false (sym e ∙ h.in_line));
   allowed = k;
 }
@@ -104,7 +107,8 @@ token_lays w kind t s b p c f o r e a h last k =
       reduces = λ more ys d. laid_out s b out more ys o (ap holds_one h.semicolons ∙ o) d;
       holds = ap holds_semicolons h.semicolons;
       whole = λ z. refl;
-      rest = rest_added t s b r.indent_text r.line_end h k;
+      cuts = cuts_whole out (front s.sheet ++ t) s.sheet b.sheet refl (IsUtf8-append (front s.sheet) t (indent_utf8 _ i) p.utf8) (laid_chars (front s.sheet) t kind i p.same) h.grows;
+      rest = rest_added t s b r.indent_text r.line_end r.flowing h k;
       fits = λ z. fits_text (front s.sheet) kind (spelling kind t) i;
     }
 
@@ -112,17 +116,17 @@ token_lays w kind t s b p c f o r e a h last k =
 token_settled : {v : Spot} (w : Spot) (kind : Kind) (t : List ℕ) (s b : State) → IsToken kind t → (is_child kind ≡ true → ⊥) → fuses s.last (chars t) ≡ false → RestsAt v s → RestsAt v (settle s) → allows s.last [] ≡ true → allows s.last (spelling kind t) ≡ true → Adds t (settled s.sheet) b.sheet → b.last ≡ last_after s.last kind (spelling kind t) → Takes w b → LaysTo w whole (token_of kind (spelling kind t) ∷ []) [] s b
 token_settled w kind t s b p c f r q e a h last k = lays_settled s b _ r (token_lays w kind t (settle s) b p c f (settled_none s.sheet) q e a h last k)
 
-written_adds : (span : Option Span) (t : List ℕ) (s : Sheet) → (t ≡ [] → ⊥) → Adds t s (written span t s)
-written_adds span [] s some = absurd (some refl)
-written_adds span (c ∷ cs) s some = adds_written span c cs s
+written_adds : (span : Option Span) (t : List ℕ) (s : Sheet) → (t ≡ [] → ⊥) → fills_lines s.lines ≡ false → Adds t s (written span t s)
+written_adds span [] s some n = absurd (some refl)
+written_adds span (c ∷ cs) s some n = adds_written span c cs s n
 
-literal_adds : (span : Span) (t : List ℕ) (s : Sheet) → (t ≡ [] → ⊥) → Adds t s (literal_written span t s)
-literal_adds span [] s some = absurd (some refl)
-literal_adds span (c ∷ cs) s some = adds_literal span c cs s
+literal_adds : (span : Span) (t : List ℕ) (s : Sheet) → (t ≡ [] → ⊥) → fills_lines s.lines ≡ false → Adds t s (literal_written span t s)
+literal_adds span [] s some n = absurd (some refl)
+literal_adds span (c ∷ cs) s some n = adds_literal span c cs s n
 
-mark_adds : (t : List ℕ) (s : Sheet) → is_ending t ≡ false → (t ≡ [] → ⊥) → Adds t (settled s) (written None t (before_punct t s))
+mark_adds : (t : List ℕ) (s : Sheet) → is_ending t ≡ false → (t ≡ [] → ⊥) → fills_lines s.lines ≡ false → Adds t (settled s) (written None t (before_punct t s))
 unfolding before_punct
-mark_adds t s e some = subst (λ z. Adds t (settled s) (written None t (cond z (record s { semicolons = dropped s.semicolons }) (settled s)))) (sym e) (written_adds None t (settled s) some)
+mark_adds t s e some n = subst (λ z. Adds t (settled s) (written None t (cond z (record s { semicolons = dropped s.semicolons }) (settled s)))) (sym e) (written_adds None t (settled s) some ((settled_stays s).fills ∙ n))
 
 -- ---- a name in a tag, and what stands behind it
 
@@ -144,21 +148,24 @@ unfolding parts.text_of tokens_of remarks_in all_indent is_indent allows
 named_blank_here s o r =
     let h : all_indent (front s.sheet ++ codes " ") ≡ true = indent_append (front s.sheet) (codes " ") (front_indent s.sheet r.indent_text) refl in
     let there : State = record s { sheet = written None (codes " ") s.sheet; last = Separated } in
-    let w = adds_written None 32 [] s.sheet in
+    let w = adds_written None 32 [] s.sheet r.flowing in
+    let gap : List parts.Part = Gap (blanks (front s.sheet ++ codes " ")) ∷ [] in
+    let same : chars (front s.sheet ++ codes " ") ≡ parts.text_of gap = indent_chars _ h ∙ sym (blanks_text _) ∙ sym (append-nil (pieces_text (blanks (front s.sheet ++ codes " ")))) in
     record {
-      out = Gap (blanks (front s.sheet ++ codes " ")) ∷ [];
-      laid = Gap (blanks (front s.sheet ++ codes " ")) ∷ [];
+      out = gap;
+      laid = gap;
       bytes = front s.sheet ++ codes " ";
       text = w.text;
       utf8 = indent_utf8 _ h;
-      spells = indent_chars _ h ∙ sym (blanks_text _) ∙ sym (append-nil (pieces_text (blanks (front s.sheet ++ codes " "))));
+      spells = same;
       tokens = refl;
       remarks = append-nil (remarks_of (blanks (front s.sheet ++ codes " "))) ∙ blanks_remarks _;
       apart = λ e more n. blank_named s.last (front s.sheet) more h r.allowed n;
       reduces = λ more ys d. laid_out s there (Gap (blanks (front s.sheet ++ codes " ")) ∷ []) more ys o (still_none None (codes " ") s.sheet o) d;
       holds = still_holds None (codes " ") s.sheet;
       whole = λ e. refl;
-      rest = at_text None 32 [] s Separated (λ t. refl) r.indent_text r.line_end;
+      cuts = cuts_whole gap (front s.sheet ++ codes " ") s.sheet there.sheet refl (indent_utf8 _ h) same w.grows;
+      rest = at_text None 32 [] s Separated (λ t. refl) r.indent_text r.line_end r.flowing;
       fits = λ t. fits_indent (front s.sheet ++ codes " ") h;
     }
 
@@ -201,7 +208,7 @@ tag_call : (span : Option Span) (t : List ℕ) (s : State) → IsToken JsxName t
 unfolding own_put last_after allows is_child
 tag_call span t s p f r =
     let q = settle_named s r in
-    token_settled InName JsxName t s (own_put JsxName span t s) p (λ e. true≢false (sym e)) f r q (q.allowed [] nothing_dashless) (q.allowed (spelling JsxName t) (name_dashless t p)) (written_adds span t (settled s.sheet) p.some) refl (λ u e. ap not e)
+    token_settled InName JsxName t s (own_put JsxName span t s) p (λ e. true≢false (sym e)) f r q (q.allowed [] nothing_dashless) (q.allowed (spelling JsxName t) (name_dashless t p)) (written_adds span t (settled s.sheet) p.some q.flowing) refl (λ u e. ap not e)
 
 -- a name, with the blank that is due
 pub lays_tag_name : (span : Option Span) (t : List ℕ) (s : State) → IsToken JsxName t → RestsAt InName s → LaysTo InName whole (token_of JsxName (spelling JsxName t) ∷ []) [] s (own_put JsxName span t (put (Guard t) s))
@@ -228,7 +235,7 @@ lays_named_mark t s e d p r =
     let g = named_guard t s r in
     let q = settle_named there g.rest in
     lays_then [] (token_of Punctuator t ∷ []) s there (punct_put None t there) g
-    (token_settled Anything Punctuator t there (punct_put None t there) (from_spelled p) (λ z. true≢false (sym z)) (after_guard t s) g.rest q (q.allowed [] nothing_dashless) (q.allowed t d) (mark_adds t there.sheet e p.some) refl (λ u. p.allowed there.last u))
+    (token_settled Anything Punctuator t there (punct_put None t there) (from_spelled p) (λ z. true≢false (sym z)) (after_guard t s) g.rest q (q.allowed [] nothing_dashless) (q.allowed t d) (mark_adds t there.sheet e p.some g.rest.flowing) refl (λ u. p.allowed there.last u))
 
 -- the `>` that closes a tag, behind which a child may stand
 pub lays_tag_end : (s : State) → RestsAt InName s → LaysTo Between whole (token_of Close (spelling Close (codes ">")) ∷ []) [] s (own_put Close None (codes ">") (put (Guard (codes ">")) s))
@@ -239,7 +246,7 @@ lays_tag_end s r =
     let g = named_guard t s r in
     let q = settle_named there g.rest in
     lays_then [] (token_of Close (spelling Close t) ∷ []) s there (own_put Close None t there) g
-    (token_settled Between Close t there (own_put Close None t there) (from_spelled spelled_close) (λ z. true≢false (sym z)) (after_guard t s) g.rest q (q.allowed [] refl) (q.allowed (spelling Close t) refl) (written_adds None t (settled there.sheet) spelled_close.some) refl
+    (token_settled Between Close t there (own_put Close None t there) (from_spelled spelled_close) (λ z. true≢false (sym z)) (after_guard t s) g.rest q (q.allowed [] refl) (q.allowed (spelling Close t) refl) (written_adds None t (settled there.sheet) spelled_close.some q.flowing) refl
     (record { child = refl; nothing_held = own_none Close None t there; in_line = in_line None 62 [] (settled there.sheet) }, λ u. refl))
 
 -- ---- children
@@ -274,7 +281,8 @@ child_lays w kind t s b p c r a h last k =
       reduces = λ more ys d. laid_out s b out more ys c.nothing_held (ap holds_one h.semicolons ∙ c.nothing_held) d;
       holds = ap holds_semicolons h.semicolons;
       whole = λ z. refl;
-      rest = rest_added t s b r.indent_text r.line_end h k;
+      cuts = cuts_whole out t s.sheet b.sheet refl p.utf8 (p.same ∙ sym (append-nil (spelling kind t))) (grows_as (front s.sheet ++ t) t s.sheet b.sheet (ap (λ z. front_of z s.sheet ++ t) c.in_line) h.grows);
+      rest = rest_added t s b r.indent_text r.line_end r.flowing h k;
       fits = λ z. fits_own kind (spelling kind t);
     }
 
@@ -284,7 +292,7 @@ unfolding put effect text_of after_token last_after allows holds_child
 lays_jsx_text span t s p r =
     let c = r.allowed.0 in
     let b : State = put (Token JsxText (StrLit span t)) s in
-    let h : Adds t s.sheet b.sheet = subst (λ z. Adds t s.sheet (literal_written span t z)) (sym (unheld_settled s.sheet c.nothing_held)) (literal_adds span t s.sheet p.some) in
+    let h : Adds t s.sheet b.sheet = subst (λ z. Adds t s.sheet (literal_written span t z)) (sym (unheld_settled s.sheet c.nothing_held)) (literal_adds span t s.sheet p.some r.flowing) in
     child_lays InText JsxText t s b p c r (r.allowed.1 (spelling JsxText t)) h refl (record { child = refl; nothing_held = ap holds_one h.semicolons ∙ c.nothing_held; in_line = h.in_line }, λ u e. e)
 
 -- what begins another child, or a closing tag
@@ -293,7 +301,7 @@ unfolding put effect text_of after_token last_after
 lays_child_open t s p o e r =
     let c = r.allowed.0 in
     let b : State = put (Token JsxOpen (Punct None t)) s in
-    let h : Adds t s.sheet b.sheet = subst (λ z. Adds t z b.sheet) (unheld_settled s.sheet c.nothing_held) (mark_adds t s.sheet e p.some) in
+    let h : Adds t s.sheet b.sheet = subst (λ z. Adds t z b.sheet) (unheld_settled s.sheet c.nothing_held) (mark_adds t s.sheet e p.some r.flowing) in
     child_lays Anything JsxOpen t s b p c r (r.allowed.1 (spelling JsxOpen t) o) h refl (λ u. mark_allows s.last (spelling JsxOpen t) u)
 
 -- ---- the end of a container

@@ -1,5 +1,5 @@
 -- What is printed of JSX, between spots.
-use Rattle.std.proofs.Common.{◌≡◌, ℕ, Bool, true, false, cond, not, ◌&&◌, ◌||◌, ◌==◌, List, [], ◌∷◌, ◌++◌, codes, arith, refl, sym, ap, ◌∙◌, subst, inl, inr, Some, None}
+use Rattle.std.proofs.Common.{◌≡◌, ℕ, Bool, true, false, cond, not, ◌&&◌, ◌||◌, ◌==◌, List, [], ◌∷◌, codes, arith, refl, sym, ap, ◌∙◌, subst, inl, inr, Some, None}
 use Rattle.std.specs.Str.{chars, is_utf8, IsUtf8}
 use Rattle.std.proofs.lemmas.Bool.{and_from, and_parts, cases_Bool, false_from_ne_true, not_from_false, or_cases, or_left, true≢false}
 use Rattle.swc_ecma_codegen_grammar.proofs.Tables.{eq_of_same}
@@ -7,7 +7,6 @@ use Rattle.std.proofs.lemmas.Str.{chars-nil, IsUtf8-from_is_utf8}
 use Rattle.swc_ecma_codegen_common.specs.declared.positions.BytePos.{BytePos}
 use Rattle.swc_ecma_codegen_common.specs.declared.positions.Span.{Span}
 use Rattle.swc_ecma_codegen_spans.specs.Spans.{dummy_span}
-use Rattle.swc_ecma_codegen_grammar.specs.declared.kinds.Kind.{Kind}
 use Rattle.swc_ecma_codegen_grammar.specs.declared.kinds.Kind.TheVariants.{Punctuator, Close, JsxName, JsxText, JsxOpen}
 use Rattle.swc_ecma_codegen_grammar.specs.Tokens as lexical
 use Rattle.swc_ecma_codegen_grammar.specs.Tokens.{has_shape, token_of, value_of}
@@ -16,18 +15,18 @@ use Rattle.swc_ecma_codegen_grammar.specs.Texts.{begins, is_same, is_among, is_e
 use Rattle.swc_ecma_codegen_grammar.specs.Punctuators.{is_punctuator, punctuators}
 use Rattle.swc_ecma_codegen_grammar.specs.Reads.{is_hashbang_kind}
 use Rattle.swc_ecma_codegen_grammar.specs.GapRules.{ends_text}
-use Rattle.swc_ecma_codegen_grammar.specs.Phrases.{Phrase, Never, Nothing, One, TagNameOf, Then, PlacedName, Tag, where_, mark, ◌>◌, Generates, is_possible, names_in}
+use Rattle.swc_ecma_codegen_grammar.specs.Phrases.{Phrase, Never, Nothing, One, TagNameOf, PlacedName, Tag, where_, mark, ◌>◌, Generates, is_possible, names_in}
 use Rattle.swc_ecma_codegen_grammar.specs.SpelledNames.{is_well_formed_tag_name}
 use Rattle.swc_ecma_codegen_text_writer.specs.Sheet.{Space, StrLit, Symbol, Punct, Position, Commit, effect, before_punct, is_ending}
 use Rattle.swc_ecma_codegen_literals.specs.AsciiNames.{is_ascii_text}
-use Rattle.swc_ecma_codegen_tokens.specs.Run.{Env, Plan, Part, State, Step, Guard, Token, Plain, step, put, run, spelling, text_of, after_token, after_plain, after_step, maps_after, makes_text, at_maps, steps_of, nothing, no_part}
-use Rattle.swc_ecma_codegen_tokens.specs.Words.{punct, space, formatting_space, commit_pending_semi, position}
+use Rattle.swc_ecma_codegen_tokens.specs.Run.{Env, Part, Step, Guard, Token, Plain, step, put, run, spelling, text_of, after_token, after_plain, after_step, maps_after, makes_text, at_maps, steps_of, nothing, no_part}
+use Rattle.swc_ecma_codegen_tokens.specs.Words.{allows_break, bare_punct, punct, space, formatting_space, commit_pending_semi, position}
 use Rattle.swc_ecma_codegen_tokens.specs.Tags.{closing, close, tag_name_token, tag_symbol, tag_name, text_token, jsx_text, open_token, child_open}
 use Rattle.swc_ecma_codegen_tokens.specs.Ascii.{is_tag_kind, is_kept, is_kept_piece, is_other, is_other_piece, is_other_value, keeps_other, keeps_tokens, are_ascii, are_ascii_or_kept}
 use Rattle.swc_ecma_codegen_tokens.specs.Scripts.{is_str, is_string_call}
-use Rattle.swc_ecma_codegen_tokens.specs.Written.{IsMark, AtRest, RestsAt, Spot, Anything, Between, InText, InName}
-use Rattle.swc_ecma_codegen_tokens.proofs.StepAscii.{Hands, has_string, holds_string, hands_ascii}
-use Rattle.swc_ecma_codegen_tokens.specs.Named.{EachName, StandsAfter}
+use Rattle.swc_ecma_codegen_tokens.specs.Written.{IsMark, Spot, Anything, Between, InText, InName}
+use Rattle.swc_ecma_codegen_tokens.proofs.StepAscii.{HandsOverAscii, has_string, holds_string, hands_ascii}
+use Rattle.swc_ecma_codegen_tokens.specs.Named.{EachName}
 use Rattle.swc_ecma_codegen_tokens.specs.Targets.{written_as, written_by}
 use Rattle.swc_ecma_codegen_tokens.proofs.NumeralTexts.{ascii_by_chars}
 use Rattle.swc_ecma_codegen_tokens.proofs.Positions.{Named, name_named, name_steps, name_call}
@@ -36,14 +35,16 @@ use Rattle.swc_ecma_codegen_tokens.proofs.Levels.{levels, rise}
 use Rattle.swc_ecma_codegen_tokens.proofs.Shapes.{Shape, whole, open_, is_within}
 use Rattle.swc_ecma_codegen_tokens.proofs.Spots.{is_narrower, rests_narrower, lays_narrower}
 use Rattle.swc_ecma_codegen_tokens.proofs.Laid.{lays_nothing}
-use Rattle.swc_ecma_codegen_tokens.proofs.Written.{own_put, punct_put}
+use Rattle.swc_ecma_codegen_tokens.proofs.TokenLays.{own_put, punct_put}
 use Rattle.swc_ecma_codegen_tokens.proofs.TagLays.{IsToken, lays_tag_name, lays_tag_placed, lays_named_blank, lays_named_mark, lays_tag_end, lays_jsx_text, lays_child_open, lays_brace_end}
-use Rattle.swc_ecma_codegen_tokens.proofs.Printed.{MakesOn, MakesWithinOn, chain, no_text, takes_none, makes_on, from_both, from_wider, or_false, nothing_on, writes_on_if, writes_same, writes_named_commit, writes_named_leading}
+use Rattle.swc_ecma_codegen_tokens.proofs.Printed.{unbroken_punct, MakesWithinOn, chain, no_text, takes_none, makes_on, from_both, from_wider, or_false, writes_same}
+use Rattle.swc_ecma_codegen_tokens.proofs.CommentPrints.{nothing_on, writes_on_if, writes_named_commit, writes_named_leading}
 use Rattle.swc_ecma_codegen_tokens.proofs.Emitting.{minified_same, pretty_same}
 use Rattle.swc_ecma_codegen_tokens.proofs.PartSteps.{NamedBy, PlacedOn, no_names, no_strings, placed_none, placed_narrower, placed_wider}
-use Rattle.swc_ecma_codegen_tokens.proofs.Phrased.{PrintedOn, PrintsOn, PrintsAt, Prints, then_on, after_on, one_on, mark_spelled, prints_punct}
+use Rattle.swc_ecma_codegen_tokens.proofs.Phrased.{PrintsOn, Prints, then_on, after_on, one_on, mark_spelled, prints_punct}
 use Rattle.swc_ecma_codegen_tokens.specs.Targets.{is_out}
 use Rattle.swc_ecma_codegen_tokens.specs.Escapes.{may_make_text}
+use Rattle.swc_ecma_codegen_tokens.proofs.CutStanding.{StandsHere}
 
 -- ---- with more that may come before, or less behind
 
@@ -55,7 +56,7 @@ prints_spots {v} {w} u x e k h = record {
       record {
         tokens = b.tokens;
         generated = b.generated;
-        writes = record { steps = m.steps; is_steps = m.is_steps; lays = λ s r c. lays_narrower w x s (run m.steps s) k (m.lays s (rests_narrower u v s e r) c); remakes = m.remakes; deep = m.deep; hands = m.hands; told = m.told };
+        writes = record { steps = m.steps; is_steps = m.is_steps; lays = λ s r c. lays_narrower w x s (run m.steps s) k (m.lays s (rests_narrower u v s e r) c); remakes = m.remakes; inner = m.inner; deep = m.deep; hands = m.hands; told = m.told };
         named = b.named;
         placed = placed_narrower u e b.placed;
         safe = b.safe;
@@ -65,7 +66,7 @@ prints_spots {v} {w} u x e k h = record {
 
 within_narrower : {u : Spot} {i : Shape} {room : ℕ} {env : Env} {p : Part} {ts : List lexical.Token} {made : Bool} (v w : Spot) → is_narrower v w ≡ true → MakesWithinOn u v i room env p ts made → MakesWithinOn u w i room env p ts made
 within_narrower v w e h = record {
-  from = λ maps. let m = h.from maps in record { steps = m.steps; is_steps = m.is_steps; lays = λ s r c. lays_narrower v w s (run m.steps s) e (m.lays s r c); remakes = m.remakes; deep = m.deep; hands = m.hands; told = m.told };
+  from = λ maps. let m = h.from maps in record { steps = m.steps; is_steps = m.is_steps; lays = λ s r c. lays_narrower v w s (run m.steps s) e (m.lays s r c); remakes = m.remakes; inner = m.inner; deep = m.deep; hands = m.hands; told = m.told };
 }
 
 -- what is never, and a phrase on a condition
@@ -95,7 +96,7 @@ or_kept false = refl
 kept_token : (t : List ℕ) → IsUtf8 t → (not (is_ascii_text t) || false) ≡ true → (not (is_ascii_text (chars t)) || false) ≡ true
 kept_token t u n = or_left (not (is_ascii_text (chars t))) false (not_from_false (is_ascii_text (chars t)) (false_from_ne_true (is_ascii_text (chars t)) (λ a. true≢false (sym n ∙ ap (λ z. not z || false) (ascii_by_chars t u a)))))
 
-pub hands_kept : (env : Env) (t : List ℕ) (steps : List Step) (ts : List lexical.Token) → IsUtf8 t → are_ascii_or_kept steps ≡ ((is_ascii_text t || true) && true) → keeps_other steps ≡ (not (is_ascii_text t) || false) → keeps_tokens ts ≡ (not (is_ascii_text (chars t)) || false) → has_string steps ≡ false → Hands env steps ts
+pub hands_kept : (env : Env) (t : List ℕ) (steps : List Step) (ts : List lexical.Token) → IsUtf8 t → are_ascii_or_kept steps ≡ ((is_ascii_text t || true) && true) → keeps_other steps ≡ (not (is_ascii_text t) || false) → keeps_tokens ts ≡ (not (is_ascii_text (chars t)) || false) → has_string steps ≡ false → HandsOverAscii env steps ts
 hands_kept env t steps ts u a k o n = record {
   ascii = λ e. a ∙ or_kept (is_ascii_text t);
   keeps = λ e. o ∙ kept_token t u (sym k ∙ e);
@@ -127,16 +128,16 @@ tag_steps env span t =
 
 tag_named : (env : Env) (span : Span) (t : List ℕ) → (t ≡ [] → ⊥) → NamedBy env (settled_tag span t) (tag_at span.lo t ∷ [])
 unfolding NamedBy name_steps run put written_as written_by tag_at
-tag_named env span t some s k =
+tag_named env span t some s k flows =
     let P : List Step → Type 0 = λ z. Named env.config (tag_at span.lo t ∷ []) s.sheet (run z s).sheet in
-    subst P (sym (tag_steps env span t)) (name_named env.config false false JsxName (span.lo.0 == 0) (tag_at span.lo t) s refl some k)
+    subst P (sym (tag_steps env span t)) (name_named env.config false false JsxName (span.lo.0 == 0) (tag_at span.lo t) s refl some k flows)
 
 tag_placed : (env : Env) (span : Span) (t : List ℕ) → IsToken JsxName t → PlacedOn InName whole env (settled_tag span t) (TagNameOf span.lo t) (token_of JsxName (spelling JsxName t) ∷ [])
 unfolding EachName name_steps run put written_as written_by tag_at token_of value_of spelling lexical.tag_name
 tag_placed env span t p = record {
   stands = λ a s us r k c.
       let there = tag_stands env.config (span.lo.0 == 0) (tag_at span.lo t) us a s refl p k r in
-      (refl, subst (λ (z : List Step). StandsAfter env.config a.sheet (run z s).sheet us (tag_name_token t) (tag_at span.lo t)) (sym (tag_steps env span t)) there);
+      (refl, subst (λ (z : List Step). StandsHere env.config a.sheet (run z s).sheet us (tag_name_token t) (tag_at span.lo t)) (sym (tag_steps env span t)) there);
 }
 
 prints_settled_tag : (env : Env) (span : Span) (t : List ℕ) → PrintsOn InName InName whole env (settled_tag span t) (TagNameOf span.lo t)
@@ -174,14 +175,19 @@ formatting_on env = elim (cases_Bool env.config.minify) [
 pub writes_named_gap : (env : Env) (needed : Bool) → MakesWithinOn InName InName open_ 0 env (λ rest. cond needed (space rest) (formatting_space rest)) [] false
 writes_named_gap env needed = writes_on_if env needed space formatting_space (within_narrower Anything InName refl (writes_named_space env)) (formatting_on env)
 
-writes_named_mark : (env : Env) (t : List ℕ) → is_ending t ≡ false → begins (codes "-") t ≡ false → IsMark t → MakesWithinOn InName Anything whole 1 env (punct t) (token_of Punctuator (spelling Punctuator t) ∷ []) false
-unfolding punct step chain run put effect text_of after_token punct_put makes_text levels rise are_ascii has_string is_string_call takes_none maps_after after_step
-writes_named_mark env t e d w = makes_on env (punct t) (Guard t ∷ Token Punctuator (Punct None t) ∷ []) _ refl (λ maps rest. refl) (λ s r. lays_named_mark t s e d (mark_spelled t w) r) no_text (omega arith) (hands_ascii env _ _ (guarded t w.ascii) no_text)
+writes_named_mark : (env : Env) (t : List ℕ) → is_ending t ≡ false → begins (codes "-") t ≡ false → IsMark t → MakesWithinOn InName Anything whole 1 env (bare_punct t) (token_of Punctuator (spelling Punctuator t) ∷ []) false
+unfolding bare_punct step chain run put effect text_of after_token punct_put makes_text levels rise are_ascii has_string is_string_call takes_none maps_after after_step
+writes_named_mark env t e d w = makes_on env (bare_punct t) (Guard t ∷ Token Punctuator (Punct None t) ∷ []) _ refl (λ maps rest. refl) (λ s r. lays_named_mark t s e d (mark_spelled t w) r) no_text (omega arith) (hands_ascii env _ _ (guarded t w.ascii) no_text)
+
+-- `{` behind a name
+pub prints_named_bare : (env : Env) (t : List ℕ) → is_ending t ≡ false → begins (codes "-") t ≡ false → IsMark t → PrintsOn InName Anything whole env (bare_punct t) (mark t)
+unfolding token_of value_of spelling lexical.punctuator is_str
+prints_named_bare env t e d w = one_on env (bare_punct t) _ (writes_named_mark env t e d w) refl
 
 -- `/`, `.`, `:`, `=`, `<` behind a name
-pub prints_named_mark : (env : Env) (t : List ℕ) → is_ending t ≡ false → begins (codes "-") t ≡ false → IsMark t → PrintsOn InName Anything whole env (punct t) (mark t)
+pub prints_named_mark : (env : Env) (t : List ℕ) → allows_break t ≡ false → is_ending t ≡ false → begins (codes "-") t ≡ false → IsMark t → PrintsOn InName Anything whole env (punct t) (mark t)
 unfolding token_of value_of spelling lexical.punctuator is_str
-prints_named_mark env t e d w = one_on env (punct t) _ (writes_named_mark env t e d w) refl
+prints_named_mark env t q e d w = one_on env (punct t) _ (writes_same env (punct t) (bare_punct t) _ (λ maps rest. unbroken_punct t q rest (at_maps maps env)) (writes_named_mark env t e d w)) refl
 
 writes_tag_end : (env : Env) → MakesWithinOn InName Between whole 1 env close (token_of Close (spelling Close (codes ">")) ∷ []) false
 unfolding close step chain run put effect text_of after_token own_put before_punct is_ending makes_text levels rise are_ascii has_string is_string_call takes_none maps_after after_step
@@ -243,7 +249,7 @@ unfolding is_punctuator is_among is_same punctuators chars is_utf8 lib.Utf8.enco
 brace_is_mark = record { utf8 = refl; ascii = refl; shape = refl }
 
 writes_brace_end : (env : Env) → MakesWithinOn Anything Between whole 1 env (punct (codes "}")) (token_of Punctuator (spelling Punctuator (codes "}")) ∷ []) false
-unfolding punct step chain run put effect text_of after_token punct_put makes_text levels rise are_ascii has_string is_string_call takes_none maps_after after_step
+unfolding punct bare_punct step chain run put effect text_of after_token punct_put makes_text levels rise are_ascii has_string is_string_call takes_none maps_after after_step
 writes_brace_end env = makes_on env (punct (codes "}")) (Guard (codes "}") ∷ Token Punctuator (Punct None (codes "}")) ∷ []) _ refl (λ maps rest. refl) (λ s r. lays_brace_end s (mark_spelled (codes "}") brace_is_mark) r) no_text (omega arith) (hands_ascii env _ _ refl no_text)
 
 -- the `}` of a container, behind which a child may stand

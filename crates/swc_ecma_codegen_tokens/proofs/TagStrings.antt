@@ -1,5 +1,5 @@
 -- What is printed of strings of attributes, and of text between tags.
-use Rattle.std.proofs.Common.{◌≡◌, ℕ, ◌+◌, ◌≤◌, ◌<◌, ◌==◌, Bool, true, false, cond, not, ◌&&◌, codes, is_none, List, [], ◌∷◌, ◌++◌, Option, Some, None, refl, sym, ap, ◌∙◌, subst, arith, string_bytes, Result, Ok, Err, OnOk}
+use Rattle.std.proofs.Common.{◌≡◌, ℕ, ◌<◌, Bool, true, false, cond, not, ◌&&◌, is_none, List, [], ◌∷◌, ◌++◌, Option, Some, None, refl, sym, ap, ◌∙◌, subst, arith, string_bytes, Result}
 use Rattle.std.specs.Str.{chars, IsUtf8, is_utf8}
 use Rattle.std.specs.declared.string.String.{String}
 use Rattle.std.proofs.lemmas.Bool.{true≢false}
@@ -23,23 +23,23 @@ use Rattle.swc_ecma_codegen_util.specs.declared.config.Config.{Config}
 use Rattle.swc_ecma_codegen_text_writer.specs.Sheet.{Sheet}
 use Rattle.swc_ecma_codegen_tokens.specs.Adds.{AddsOn}
 use Rattle.swc_ecma_codegen_tokens.specs.Ascii.{is_tag_kind, is_kept, is_other, is_other_value, keeps_other, keeps_tokens, are_ascii_or_kept}
-use Rattle.swc_ecma_codegen_tokens.specs.Attributes.{has_no_text, attribute_token, attribute_by, spelled_string, attribute_string, jsx_text_node}
+use Rattle.swc_ecma_codegen_tokens.specs.Attributes.{attribute_token, attribute_by, spelled_string, attribute_string, jsx_text_node}
 use Rattle.swc_ecma_codegen_tokens.specs.Escapes.{is_spelled_anew}
 use Rattle.swc_ecma_codegen_tokens.specs.Literals as words
-use Rattle.swc_ecma_codegen_tokens.specs.Run.{Env, Guard, Token, Remake, step, spelling, text_of, at_maps, refuse}
+use Rattle.swc_ecma_codegen_tokens.specs.Run.{Env, spelling, text_of, refuse}
 use Rattle.swc_ecma_codegen_tokens.specs.Scripts.{is_str, is_string_call}
 use Rattle.swc_ecma_codegen_tokens.specs.Tags.{text_token}
 use Rattle.swc_ecma_codegen_tokens.specs.Written.{Between, InText}
 use Rattle.swc_ecma_codegen_tokens.specs.declared.LowerEmitter.{LowerEmitter}
 use Rattle.swc_ecma_codegen_tokens.specs.declared.refusals.Unprintable.TheVariants.{BadShape}
-use Rattle.swc_ecma_codegen_tokens.proofs.StepAscii.{Hands, has_string}
+use Rattle.swc_ecma_codegen_tokens.proofs.StepAscii.{has_string}
 use Rattle.swc_ecma_codegen_tokens.proofs.LiteralParts.{literal_handed, writes_begun, writes_settled_begun}
-use Rattle.swc_ecma_codegen_tokens.proofs.Phrased.{Prints, PrintsOn, no_string, prints_same, prints_where}
+use Rattle.swc_ecma_codegen_tokens.proofs.Phrased.{Prints, PrintsOn, no_string, prints_where}
 use Rattle.swc_ecma_codegen_tokens.proofs.Printed.{Writes, writes_then}
 use Rattle.swc_ecma_codegen_tokens.proofs.Remade.{makes_remade, prints_anew}
 use Rattle.swc_ecma_codegen_tokens.proofs.Shapes.{whole}
 use Rattle.swc_ecma_codegen_tokens.proofs.TagPrints.{hands_kept, is_text_token, prints_jsx_text, prints_where_on}
-use Rattle.swc_ecma_codegen_tokens.proofs.Written.{Spelled}
+use Rattle.swc_ecma_codegen_tokens.proofs.TokenLays.{Spelled}
 
 not_false : (b : Bool) → not b ≡ true → b ≡ false
 not_false true h = absurd (true≢false (sym h))

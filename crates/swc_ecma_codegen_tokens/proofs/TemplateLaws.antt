@@ -17,7 +17,8 @@ use Rattle.swc_ecma_codegen_grammar.specs.Texts.{begins}
 use Rattle.swc_ecma_codegen_grammar.specs.Templates.{part_end, part_units}
 use Rattle.swc_ecma_codegen_grammar.specs.TemplatePhrases.{part_kind, part_begin, part_text}
 use Rattle.swc_ecma_codegen_grammar.specs.Tokens.{Characters, Units, has_shape, token_of, value_of, part_value}
-use Rattle.swc_ecma_codegen_text_writer.specs.Sheet.{Sheet, Semicolons, AtOnce, HoldsNone, HoldsOne, Position, Punct, StrLit, effect, written, literal_written, settled, before_punct, is_ending, dropped, pointed}
+use Rattle.swc_ecma_codegen_text_writer.proofs.Stays.{pointed_stays, before_punct_stays}
+use Rattle.swc_ecma_codegen_text_writer.specs.Sheet.{Sheet, Semicolons, AtOnce, HoldsNone, HoldsOne, Position, Punct, StrLit, effect, written, literal_written, settled, before_punct, is_ending, dropped, pointed, fills_lines}
 use Rattle.swc_ecma_codegen_literals.specs.AsciiNames.{is_ascii_text}
 use Rattle.swc_ecma_codegen_tokens.specs.Ascii.{is_other_piece, is_kept_piece, is_other_end, is_kept_end, is_other_value, keeps_other, keeps_tokens, are_ascii, are_ascii_or_kept}
 use Rattle.swc_ecma_codegen_tokens.specs.Run.{at_maps, after_step, Env, Plan, Part, State, Step, Guard, Plain, Ends, put, run, step, spelling, text_of, after_token, after_tokens, after_plain, makes_text}
@@ -25,9 +26,10 @@ use Rattle.swc_ecma_codegen_tokens.specs.Starts.{start_class}
 use Rattle.swc_ecma_codegen_tokens.specs.Templates as words
 use Rattle.swc_ecma_codegen_tokens.specs.Words.{position}
 use Rattle.swc_ecma_codegen_tokens.specs.Written.{AtRest, holds_one}
+use Rattle.swc_ecma_codegen_text_writer.proofs.Cuts.{grows_last, pointed_grows}
 use Rattle.swc_ecma_codegen_tokens.proofs.Fronts.{run_append}
-use Rattle.swc_ecma_codegen_tokens.proofs.StepAscii.{Hands, has_string, has_append, keeps_append, ascii_append, ascii_keeps, or_kept_append, kept_of_ascii}
-use Rattle.swc_ecma_codegen_tokens.proofs.PendingSemi.{pointed_keeps, settled_none}
+use Rattle.swc_ecma_codegen_tokens.proofs.StepAscii.{HandsOverAscii, has_string, has_append, keeps_append, ascii_append, ascii_keeps, or_kept_append, kept_of_ascii}
+use Rattle.swc_ecma_codegen_tokens.proofs.PendingSemi.{front, pointed_keeps, settled_none}
 use Rattle.swc_ecma_codegen_tokens.proofs.NumeralTexts.{ascii_by_chars}
 use Rattle.swc_ecma_codegen_tokens.proofs.Levels.{levels, levels_append, rise}
 use Rattle.swc_ecma_codegen_tokens.proofs.LiteralParts.{alike_fuses, still_settled, more_adds}
@@ -35,7 +37,8 @@ use Rattle.swc_ecma_codegen_tokens.proofs.Printed.{takes_none, takes_append, fro
 use Rattle.swc_ecma_codegen_tokens.proofs.Starting.{plain_class}
 use Rattle.swc_ecma_codegen_tokens.proofs.Texts.{Adds, adds_written, adds_literal, adds_more, owns, SpelledAs, spelled_one, lays_texts, lost_texts}
 use Rattle.swc_ecma_codegen_tokens.proofs.Laid.{Lays, lays_then}
-use Rattle.swc_ecma_codegen_tokens.proofs.Written.{Spelled, after_guard, lays_guard, lays_settled, settle, settle_rest}
+use Rattle.swc_ecma_codegen_tokens.proofs.Written.{lays_settled, settle, settle_rest}
+use Rattle.swc_ecma_codegen_tokens.proofs.TokenLays.{Spelled, after_guard, lays_guard}
 
 -- a part ends by itself
 pub after_part : (first : Bool) (part : TemplatePart) (t : List ℕ) (k : PreviousToken) → after_tokens ((part_kind first part, t) ∷ []) k ≡ Whole
@@ -49,7 +52,7 @@ after_part false part t k = refl
 pub record Inside (env : Env) (part : Part) (t : List ℕ) (tagged : Bool) : Type 0 where
   pub steps : List Step
   pub is_steps : (rest : Plan) → part rest env ≡ chain steps (rest env)
-  pub adds : (u : List ℕ) (a : Sheet) (s : State) → holds_one a.semicolons ≡ false → Adds u a s.sheet → Adds (u ++ t) a (run steps s).sheet
+  pub adds : (u : List ℕ) (a : Sheet) (s : State) → holds_one a.semicolons ≡ false → fills_lines a.lines ≡ false → Adds u a s.sheet → Adds (u ++ t) a (run steps s).sheet
   pub last : (s : State) → (run steps s).last ≡ s.last
   pub remakes : makes_text steps ≡ false
   pub level : levels steps ≡ 0
@@ -63,9 +66,9 @@ inside_then : {env : Env} {p q : Part} {t v : List ℕ} {b : Bool} → Inside en
 inside_then {env} {p} {q} {t} {v} {b} h k = record {
   steps = h.steps ++ k.steps;
   is_steps = λ rest. h.is_steps (q rest) ∙ ap (λ z. chain h.steps z) (k.is_steps rest) ∙ sym (chain_append h.steps k.steps (rest env));
-  adds = λ u a s o e.
+  adds = λ u a s o n e.
       let P : State → Type 0 = λ z. Adds (u ++ (t ++ v)) a z.sheet in
-      subst P (sym (run_append h.steps k.steps s)) (subst (λ z. Adds z a (run k.steps (run h.steps s)).sheet) (append_assoc u t v) (k.adds (u ++ t) a (run h.steps s) o (h.adds u a s o e)));
+      subst P (sym (run_append h.steps k.steps s)) (subst (λ z. Adds z a (run k.steps (run h.steps s)).sheet) (append_assoc u t v) (k.adds (u ++ t) a (run h.steps s) o n (h.adds u a s o n e)));
   last = λ s. ap (λ (z : State). z.last) (run_append h.steps k.steps s) ∙ k.last (run h.steps s) ∙ h.last s;
   remakes = remakes_append h.steps k.steps ∙ or_from (makes_text h.steps) (makes_text k.steps) h.remakes k.remakes;
   level = levels_append h.steps k.steps ∙ ap (λ n. n + levels k.steps) h.level ∙ ap (λ n. 0 + n) k.level;
@@ -87,11 +90,13 @@ inside_then {env} {p} {q} {t} {v} {b} h k = record {
 
 pointed_adds : (pos : BytePos) (t : List ℕ) (a b : Sheet) → Adds t a b → Adds t a (pointed pos b)
 pointed_adds pos t a b h = record {
-  text = pointed_keeps (λ z. z.text) (λ z x. refl) (λ z x. refl) pos b ∙ h.text;
-  semicolons = pointed_keeps (λ z. z.semicolons) (λ z x. refl) (λ z x. refl) pos b ∙ h.semicolons;
-  in_line = pointed_keeps (λ z. z.at_line_start) (λ z x. refl) (λ z x. refl) pos b ∙ h.in_line;
-  indent_text = pointed_keeps (λ z. z.indent_text) (λ z x. refl) (λ z x. refl) pos b ∙ h.indent_text;
-  line_end = pointed_keeps (λ z. z.line_end) (λ z x. refl) (λ z x. refl) pos b ∙ h.line_end;
+  text = pointed_keeps (λ z. z.text) (λ z x l. refl) (λ z x. refl) pos b ∙ h.text;
+  semicolons = pointed_keeps (λ z. z.semicolons) (λ z x l. refl) (λ z x. refl) pos b ∙ h.semicolons;
+  in_line = pointed_keeps (λ z. z.at_line_start) (λ z x l. refl) (λ z x. refl) pos b ∙ h.in_line;
+  grows = grows_last (front a ++ t) a b (pointed pos b) h.grows (pointed_grows pos b);
+  indent_text = pointed_keeps (λ z. z.indent_text) (λ z x l. refl) (λ z x. refl) pos b ∙ h.indent_text;
+  line_end = pointed_keeps (λ z. z.line_end) (λ z x l. refl) (λ z x. refl) pos b ∙ h.line_end;
+  fills = (pointed_stays pos b).fills ∙ h.fills;
 }
 
 recorded_inside : (env : Env) (pos : BytePos) (tagged : Bool) → Inside env (step (Plain (Position pos))) [] tagged
@@ -99,7 +104,7 @@ unfolding step chain run put effect text_of after_plain makes_text levels rise a
 recorded_inside env pos tagged = record {
   steps = Plain (Position pos) ∷ [];
   is_steps = λ rest. refl;
-  adds = λ u a s o e. subst (λ z. Adds z a (pointed pos s.sheet)) (sym (append-nil u)) (pointed_adds pos u a s.sheet e);
+  adds = λ u a s o n e. subst (λ z. Adds z a (pointed pos s.sheet)) (sym (append-nil u)) (pointed_adds pos u a s.sheet e);
   last = λ s. refl;
   remakes = refl;
   level = refl;
@@ -115,7 +120,7 @@ unfolding chain run makes_text levels are_ascii are_ascii_or_kept has_string kee
 nothing_inside env tagged = record {
   steps = [];
   is_steps = λ rest. refl;
-  adds = λ u a s o e. subst (λ z. Adds z a s.sheet) (sym (append-nil u)) e;
+  adds = λ u a s o n e. subst (λ z. Adds z a s.sheet) (sym (append-nil u)) e;
   last = λ s. refl;
   remakes = refl;
   level = refl;
@@ -136,10 +141,10 @@ position_inside env pos tagged = inside_if (pos.0 == 0) (nothing_inside env tagg
 
 -- ---- the text
 
-literal_more : (t u : List ℕ) (a b : Sheet) → holds_one a.semicolons ≡ false → Adds u a b → Adds (u ++ t) a (literal_written dummy_span t (settled b))
+literal_more : (t u : List ℕ) (a b : Sheet) → holds_one a.semicolons ≡ false → fills_lines a.lines ≡ false → Adds u a b → Adds (u ++ t) a (literal_written dummy_span t (settled b))
 unfolding literal_written
-literal_more [] u a b o h = subst (λ z. Adds z a (settled b)) (sym (append-nil u)) (subst (λ z. Adds u a z) (sym (still_settled u a b o h)) h)
-literal_more (c ∷ cs) u a b o h = subst (λ z. Adds (u ++ (c ∷ cs)) a (literal_written dummy_span (c ∷ cs) z)) (sym (still_settled u a b o h)) (adds_more u (c ∷ cs) a b _ h (adds_literal dummy_span c cs b))
+literal_more [] u a b o n h = subst (λ z. Adds z a (settled b)) (sym (append-nil u)) (subst (λ z. Adds u a z) (sym (still_settled u a b o h)) h)
+literal_more (c ∷ cs) u a b o n h = subst (λ z. Adds (u ++ (c ∷ cs)) a (literal_written dummy_span (c ∷ cs) z)) (sym (still_settled u a b o h)) (adds_more u (c ∷ cs) a b _ h (adds_literal dummy_span c cs b (h.fills ∙ n)))
 
 text_ascii : (t : List ℕ) → is_ascii_text t ≡ true → (is_ascii_text t && true) ≡ true
 text_ascii t a = and_from (is_ascii_text t) true a refl
@@ -158,7 +163,7 @@ unfolding words.inside step chain run put effect text_of after_plain after_token
 text_inside env true t = record {
   steps = Ends [] (StrLit dummy_span t) ∷ [];
   is_steps = λ rest. refl;
-  adds = λ u a s o e. literal_more t u a s.sheet o e;
+  adds = λ u a s o n e. literal_more t u a s.sheet o n e;
   last = λ s. refl;
   remakes = refl;
   level = refl;
@@ -171,7 +176,7 @@ text_inside env true t = record {
 text_inside env false t = record {
   steps = Plain (StrLit dummy_span t) ∷ [];
   is_steps = λ rest. refl;
-  adds = λ u a s o e. literal_more t u a s.sheet o e;
+  adds = λ u a s o n e. literal_more t u a s.sheet o n e;
   last = λ s. refl;
   remakes = refl;
   level = refl;
@@ -206,17 +211,17 @@ lost_none : (x : Semicolons) → holds_one (dropped x) ≡ false
 unfolding holds_one dropped
 lost_none AtOnce = refl
 lost_none HoldsNone = refl
-lost_none (HoldsOne span) = refl
+lost_none (HoldsOne span allowed) = refl
 
 begun_none : (first : Bool) (s : Sheet) → holds_one (begun_on first s).semicolons ≡ false
 unfolding part_begin before_punct is_ending
 begun_none true s = settled_none s
 begun_none false s = lost_none s.semicolons
 
-begin_adds : (first : Bool) (s : State) → Adds (part_begin first) (begun_on first s.sheet) (run (begin_steps first) s).sheet
+begin_adds : (first : Bool) (s : State) → fills_lines (begun_on first s.sheet).lines ≡ false → Adds (part_begin first) (begun_on first s.sheet) (run (begin_steps first) s).sheet
 unfolding begin_steps part_begin run put effect
-begin_adds true s = adds_written None 96 [] (begun_on true s.sheet)
-begin_adds false s = adds_written None 125 [] (begun_on false s.sheet)
+begin_adds true s n = adds_written None 96 [] (begun_on true s.sheet) n
+begin_adds false s n = adds_written None 125 [] (begun_on false s.sheet) n
 
 begin_last : (first : Bool) (s : State) → (run (begin_steps first) s).last ≡ s.last
 unfolding begin_steps run put after_plain
@@ -229,10 +234,10 @@ begin_plain false = (refl, refl, refl, refl, refl)
 
 -- ---- the mark with which it ends
 
-end_adds : (part : TemplatePart) (u : List ℕ) (a b : Sheet) → holds_one a.semicolons ≡ false → Adds u a b → Adds (u ++ part_end part) a (written None (part_end part) (before_punct (part_end part) b))
+end_adds : (part : TemplatePart) (u : List ℕ) (a b : Sheet) → holds_one a.semicolons ≡ false → fills_lines a.lines ≡ false → Adds u a b → Adds (u ++ part_end part) a (written None (part_end part) (before_punct (part_end part) b))
 unfolding part_end before_punct is_ending
-end_adds part u a b o h = elim part.opens as (λ z. Adds (u ++ (cond z (codes "${") (codes "`"))) a (written None (cond z (codes "${") (codes "`")) (cond (is_ending (cond z (codes "${") (codes "`"))) (record b { semicolons = dropped b.semicolons }) (settled b))))
-    [ true ↦ more_adds u (codes "${") a b o h | false ↦ more_adds u (codes "`") a b o h ]
+end_adds part u a b o n h = elim part.opens as (λ z. Adds (u ++ (cond z (codes "${") (codes "`"))) a (written None (cond z (codes "${") (codes "`")) (cond (is_ending (cond z (codes "${") (codes "`"))) (record b { semicolons = dropped b.semicolons }) (settled b))))
+    [ true ↦ more_adds u (codes "${") a b o n h | false ↦ more_adds u (codes "`") a b o n h ]
 
 end_ascii : (part : TemplatePart) → is_ascii_text (part_end part) ≡ true
 unfolding part_end
@@ -281,15 +286,16 @@ unfolding part_kind spelling is_child is_hashbang_kind last_after allows
 part_spelled true part t u h some = record { utf8 = u; same = refl; shape = h; no_child = λ e. true≢false (sym e); no_hashbang = λ e. true≢false (sym e); allowed = λ k v. refl; some = some }
 part_spelled false part t u h some = record { utf8 = u; same = refl; shape = h; no_child = λ e. true≢false (sym e); no_hashbang = λ e. true≢false (sym e); allowed = λ k v. refl; some = some }
 
-part_adds : {env : Env} (first : Bool) (part : TemplatePart) (span : Span) (t : List ℕ) (h : Inside env (words.placed_inside part.tagged span t) t part.tagged) (text : List ℕ) (s : State) → Adds (part_text first part t) (begun_on first s.sheet) (run (begin_steps first ++ (h.steps ++ (Ends ((part_kind first part, text) ∷ []) (Punct None (part_end part)) ∷ []))) s).sheet
+part_adds : {env : Env} (first : Bool) (part : TemplatePart) (span : Span) (t : List ℕ) (h : Inside env (words.placed_inside part.tagged span t) t part.tagged) (text : List ℕ) (s : State) → fills_lines s.sheet.lines ≡ false → Adds (part_text first part t) (begun_on first s.sheet) (run (begin_steps first ++ (h.steps ++ (Ends ((part_kind first part, text) ∷ []) (Punct None (part_end part)) ∷ []))) s).sheet
 unfolding part_text
-part_adds first part span t h text s =
+part_adds first part span t h text s n =
     let a : Sheet = begun_on first s.sheet in
     let o = begun_none first s.sheet in
+    let m = (before_punct_stays (part_begin first) s.sheet).fills ∙ n in
     let begun : State = run (begin_steps first) s in
     let last : Step = Ends ((part_kind first part, text) ∷ []) (Punct None (part_end part)) in
     let P : State → Type 0 = λ z. Adds (part_begin first ++ (t ++ part_end part)) a z.sheet in
-    let whole = end_adds part (part_begin first ++ t) a (run h.steps begun).sheet o (h.adds (part_begin first) a begun o (begin_adds first s)) in
+    let whole = end_adds part (part_begin first ++ t) a (run h.steps begun).sheet o m (h.adds (part_begin first) a begun o m (begin_adds first s m)) in
     subst P (sym (run_append (begin_steps first) (h.steps ++ (last ∷ [])) s))
     (subst P (sym (run_append h.steps (last ∷ []) begun))
     (last_adds (part_kind first part) text part (run h.steps begun) _ a (subst (λ z. Adds z a (written None (part_end part) (before_punct (part_end part) (run h.steps begun).sheet))) (append_assoc (part_begin first) t (part_end part)) whole)))
@@ -358,7 +364,7 @@ by_tag : (tagged : Bool) (A : Type 0) → (tagged ≡ true → A) → (tagged �
 by_tag true A h k = h refl
 by_tag false A h k = k refl
 
-part_hands : (env : Env) (first : Bool) (part : TemplatePart) (span : Span) (t : List ℕ) (h : Inside env (words.placed_inside part.tagged span t) t part.tagged) → Spelled (part_kind first part) (part_text first part t) → (env.config.ascii_only ≡ true → part.tagged ≡ false → is_ascii_text t ≡ true) → Hands env (all_steps first part h.steps (part_text first part t)) (token_of (part_kind first part) (chars (part_text first part t)) ∷ [])
+part_hands : (env : Env) (first : Bool) (part : TemplatePart) (span : Span) (t : List ℕ) (h : Inside env (words.placed_inside part.tagged span t) t part.tagged) → Spelled (part_kind first part) (part_text first part t) → (env.config.ascii_only ≡ true → part.tagged ≡ false → is_ascii_text t ≡ true) → HandsOverAscii env (all_steps first part h.steps (part_text first part t)) (token_of (part_kind first part) (chars (part_text first part t)) ∷ [])
 unfolding keeps_tokens token_of has_string
 part_hands env first part span t h p a =
     let text : List ℕ = part_text first part t in
@@ -383,7 +389,7 @@ later_lays : (x : Semicolons) (part : TemplatePart) (t : List ℕ) (s b : State)
 unfolding dropped
 later_lays AtOnce part t s b e p f r h last = lays_texts _ _ s b p f (unfold holds_one in ap holds_one (sym e)) r (subst (λ z. Adds (part_text false part t) (record s.sheet { semicolons = z }) b.sheet) e h) last
 later_lays HoldsNone part t s b e p f r h last = lays_texts _ _ s b p f (unfold holds_one in ap holds_one (sym e)) r (subst (λ z. Adds (part_text false part t) (record s.sheet { semicolons = z }) b.sheet) e h) last
-later_lays (HoldsOne span) part t s b e p f r h last = lost_texts _ _ s b e (part_ends part t) p f r h last
+later_lays (HoldsOne span allowed) part t s b e p f r h last = lost_texts _ _ s b e (part_ends part t) p f r h last
 
 -- a part that begins behind a semicolon that was held back, or in its place
 begun_lays : (first : Bool) (part : TemplatePart) (t : List ℕ) (s b : State) → SpelledAs ((part_kind first part, part_text first part t) ∷ []) (part_text first part t) → fuses s.last (chars (part_text first part t)) ≡ false → AtRest s → Adds (part_text first part t) (begun_on first s.sheet) b.sheet → b.last ≡ after_tokens ((part_kind first part, part_text first part t) ∷ []) s.last → Lays (tokens_of (owns ((part_kind first part, part_text first part t) ∷ []))) s b
@@ -401,7 +407,7 @@ part_lays env first part span t h p s r =
     let before = lays_guard (part_begin first) s r in
     let f = alike_fuses there.last (chars text) (chars (part_begin first)) (part_class first (t ++ part_end part)) (after_guard (part_begin first) s) in
     lays_then [] (token_of kind (spelling kind text) ∷ []) s there b before
-    (begun_lays first part t there b (spelled_one kind text p) f before.rest (part_adds first part span t h text there) (part_last first part span t h text there))
+    (begun_lays first part t there b (spelled_one kind text p) f before.rest (part_adds first part span t h text there before.rest.flowing) (part_last first part span t h text there))
 
 begin_silent : (first : Bool) → takes_none (begin_steps first) ≡ true
 unfolding begin_steps takes_none

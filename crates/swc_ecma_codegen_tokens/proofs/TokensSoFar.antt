@@ -1,6 +1,6 @@
 -- What tokens of several calls, and nodes, add to the tokens so far.
-use Rattle.std.proofs.Common.{◌≡◌, ℕ, Bool, true, false, not, ◌&&◌, ◌||◌, ◌==◌, cond, List, [], ◌∷◌, ◌++◌, codes, refl, sym, ap, ◌∙◌, subst, append-nil, inl, inr, Option, Some, None, Result, Ok, Err, OnOk, string_bytes}
-use Rattle.std.specs.Str.{chars, is_utf8, IsUtf8}
+use Rattle.std.proofs.Common.{◌≡◌, ℕ, Bool, true, false, not, ◌&&◌, ◌==◌, cond, List, [], ◌∷◌, ◌++◌, codes, refl, sym, ap, ◌∙◌, subst, inl, inr, Option, Some, None, Result, Ok, Err, OnOk}
+use Rattle.std.specs.Str.{chars, is_utf8}
 use Rattle.std.specs.declared.string.String.{String}
 use Rattle.std.proofs.lemmas.Bool.{and_parts, cases_Bool, eqb-true, not-true, or_from, or_parts, true≢false}
 use Rattle.std.proofs.lemmas.Str.{chars-nil, IsUtf8-from_is_utf8}
@@ -22,7 +22,7 @@ use Rattle.swc_ecma_codegen_grammar.specs.declared.kinds.Kind.{Kind}
 use Rattle.swc_ecma_codegen_grammar.specs.declared.kinds.Kind.TheVariants.{Name, Number, BigInt as BigIntToken, Punctuator, Str, Regex, Hashbang}
 use Rattle.swc_ecma_codegen_grammar.specs.declared.kinds.TemplatePart.{TemplatePart}
 use Rattle.swc_ecma_codegen_grammar.specs.CommentMaps.{Maps}
-use Rattle.swc_ecma_codegen_grammar.specs.Comments.{AreClosed, no_maps, all_closed, remarks_of}
+use Rattle.swc_ecma_codegen_grammar.specs.Comments.{AreClosed, no_maps, remarks_of}
 use Rattle.swc_ecma_codegen_grammar.specs.Keys.{key_token, is_quoted}
 use Rattle.swc_ecma_codegen_grammar.specs.JsxPhrases.{jsx_string}
 use Rattle.swc_ecma_codegen_grammar.specs.LitPhrases as phrases
@@ -47,7 +47,7 @@ use Rattle.swc_ecma_codegen_literals.proofs.BeginningLaws.{number_begins}
 use Rattle.swc_ecma_codegen_text_writer.specs.Sheet.{StrLit}
 use Rattle.swc_ecma_codegen_tokens.specs.Adds.{sign_tokens, tokens_of_digits, tokens_of_number}
 use Rattle.swc_ecma_codegen_tokens.specs.Literals.{string, number, dotted_number, sign, number_name, big_digits, big_integer, regex, hashbang, size_of}
-use Rattle.swc_ecma_codegen_tokens.specs.Run.{Part, State, Step, Guard, Token, step, after_step, taken_in, taken_by, steps_of, run, nothing, spelling, at_source, with_source, Emits, Does, DoesTaking}
+use Rattle.swc_ecma_codegen_tokens.specs.Run.{Part, State, Guard, Token, step, after_step, taken_in, taken_by, steps_of, run, nothing, spelling, at_source, with_source, Emits, Does, DoesTaking}
 use Rattle.swc_ecma_codegen_tokens.specs.Settings.{settings_of}
 use Rattle.swc_ecma_codegen_tokens.specs.Words.{line_end}
 use Rattle.swc_ecma_codegen_tokens.specs.Written.{IsNew, IsAtMargin, Spot, ReadsSoFar, ReadsSoFarAt, taken_remarks}
@@ -63,7 +63,7 @@ use Rattle.swc_ecma_codegen_tokens.proofs.Phrased.{Prints, PrintsOn, enters_new}
 use Rattle.swc_ecma_codegen_tokens.proofs.Shapes.{whole}
 use Rattle.swc_ecma_codegen_tokens.proofs.SoFar.{laid_so_far, made_so_far, new_so_far, phrase_so_far, so_far_at, so_far_from}
 use Rattle.swc_ecma_codegen_tokens.proofs.Texts.{minus_is_mark}
-use Rattle.swc_ecma_codegen_tokens.proofs.Written.{Spelled, spelled_name as name_spelled}
+use Rattle.swc_ecma_codegen_tokens.proofs.TokenLays.{Spelled, spelled_name as name_spelled}
 
 -- ---- phrases without `[no LineTerminator here]`
 

@@ -9,7 +9,7 @@ use Rattle.swc_ecma_codegen_grammar.specs.StringValues.{string_value}
 use Rattle.swc_ecma_codegen_grammar.specs.Texts.{is_same}
 use Rattle.swc_ecma_codegen_grammar.specs.Tokens as lexical
 use Rattle.swc_ecma_codegen_grammar.specs.Tokens.{Value, Characters, Units}
-use Rattle.swc_ecma_codegen_text_writer.specs.Sheet.{Item, StrLit, Str}
+use Rattle.swc_ecma_codegen_text_writer.specs.Sheet.{Item, StrLit, Str, fills_lines}
 use Rattle.swc_ecma_codegen_literals.specs.AsciiNames.{is_ascii_text}
 use Rattle.swc_ecma_codegen_literals.specs.ValidNames.{has_byte}
 use Rattle.swc_ecma_codegen_tokens.specs.Run.{State, Step, Guard, Token, Plain, Ends, Remake, Take, CommentText, text_of}
@@ -141,13 +141,14 @@ may_keep_other (CommaBefore close) = false
 may_keep_other (OptionalParentheses a) = may_keep_other a
 may_keep_other (Chosen choice) = false
 
--- An emission is to write ASCII: the settings ask for it, lines are indented by ASCII and end with it, and U+0000 after a
--- backslash is left out of names.
+-- An emission is to write ASCII: the settings ask for it, lines are indented by ASCII and end with it, no lines are filled
+-- around it, and U+0000 after a backslash is left out of names.
 pub record WantsAscii (s : State) : Type 0 where
   pub by_settings : s.env.config.ascii_only ≡ true
   pub leaves_out : s.env.keeps_invalid ≡ false
   pub indent_text : is_ascii_text s.sheet.indent_text ≡ true
   pub line_end : is_ascii_text s.sheet.line_end ≡ true
+  pub flowing : fills_lines s.sheet.lines ≡ false
 
 -- A text is ASCII, save these texts, which stand in it one after another.
 unfoldable pub IsAsciiBut : List (List ℕ) → List ℕ → Type 0

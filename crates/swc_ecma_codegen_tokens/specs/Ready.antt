@@ -1,9 +1,10 @@
 -- When the emission of a tree comes to its end, in what a caller sees: the tree, and the sheet before and after.
+use Rattle.swc_ecma_codegen_text_writer.specs.Sheet.{may_take_memory}
 use Rattle.std.specs.Prelude.{◌≡◌, ℕ, ◌+◌, ◌-◌, ◌^◌, ◌<◌, true, false}
 use Rattle.swc_ecma_codegen_grammar.specs.Phrases.{Phrase, Never, Nothing, One, NameOf, KeyOf, PrivateOf, TagNameOf, Then, CommaBefore, OptionalParentheses, Chosen, EmptyArguments, LoopEnding, AttributesWord, is_possible}
 use Rattle.swc_ecma_codegen_util.specs.declared.config.Config.{Config}
 use Rattle.swc_ecma_codegen_tokens.specs.Escapes.{may_make_text}
-use Rattle.swc_ecma_codegen_tokens.specs.Run.{State}
+use Rattle.swc_ecma_codegen_tokens.specs.Run.{State, is_bounded}
 
 -- how many tokens the lists of a phrase have at most
 unfoldable pub token_count : Phrase → ℕ
@@ -28,12 +29,13 @@ pub record IsPlainTree (config : Config) (phrase : Phrase) (level : ℕ) : Type 
   pub no_text_made : may_make_text config phrase ≡ false
   pub has_room : level + token_count phrase < 2 ^ 32
 
--- An emission can go on: nothing was refused, no call of the writer takes memory, it keeps no positions, U+0000 after a backslash is left out of
--- names, and the count of faults isn't at its last value.
+-- An emission can go on: nothing was refused, no call of the writer takes memory, it keeps no positions, lines aren't bounded, U+0000 after a
+-- backslash is left out of names, and the count of faults isn't at its last value.
 pub record IsReady (s : State) : Type 0 where
   pub none_failed : s.failed ≡ false
   pub none_refused : s.sheet.refused ≡ false
-  pub no_memory : s.sheet.takes_memory ≡ false
+  pub no_memory : may_take_memory s.sheet ≡ false
   pub no_positions : s.sheet.keeps_positions ≡ false
+  pub unbounded : is_bounded s.env ≡ false
   pub leaves_out : s.env.keeps_invalid ≡ false
   pub can_count : s.sheet.faults < 2 ^ 64 - 1

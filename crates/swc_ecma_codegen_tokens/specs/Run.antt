@@ -1,5 +1,5 @@
 -- What an emission does: its steps, where each leads, and how it stops.
-use Rattle.std.specs.Prelude.{◌≡◌, ◌⊎◌, ℕ, ◌<◌, ◌-◌, ◌^◌, Bool, true, false, ◌||◌, if◌then◌else◌, List, [], ◌∷◌, ◌++◌, codes, Option, Some, None, Result, Ok, Err}
+use Rattle.std.specs.Prelude.{◌≡◌, ◌⊎◌, ℕ, ◌<◌, ◌-◌, ◌^◌, Bool, true, false, ◌||◌, ◌&&◌, is_some, if◌then◌else◌, List, [], ◌∷◌, ◌++◌, codes, Option, Some, None, Result, Ok, Err}
 use Rattle.std.specs.Str.{chars}
 use Rattle.swc_ecma_codegen_common.specs.declared.errors.Refusal.{Refusal}
 use Rattle.swc_ecma_codegen_common.specs.declared.errors.Refusal.TheVariants.{Writer, OutOfMemory, UnsupportedNode, BadShape, NameOutOfTarget, PositionTooLarge, Failed}
@@ -8,7 +8,7 @@ use Rattle.swc_ecma_codegen_grammar.specs.declared.kinds.Kind.{Kind}
 use Rattle.swc_ecma_codegen_grammar.specs.declared.kinds.Kind.TheVariants.{Punctuator, Ending}
 use Rattle.swc_ecma_codegen_grammar.specs.SourceLines.{Lines}
 use Rattle.swc_ecma_codegen_grammar.specs.GapRules.{PreviousToken, Start, Separated, fuses, last_after}
-use Rattle.swc_ecma_codegen_text_writer.specs.Sheet.{Item, Semi, Space, Keyword, Operator, Param, Property, Line, Lit, Comment, StrLit, Str, Symbol, Punct, Position, Commit, Deeper, Shallower, Sheet, effect, IsFar, Refuses}
+use Rattle.swc_ecma_codegen_text_writer.specs.Sheet.{Item, Semi, Space, Keyword, Operator, Param, Property, Line, Lit, Comment, StrLit, Str, Symbol, Punct, Position, Commit, Deeper, Shallower, Sheet, effect, IsFar, Refuses, BeginLines, AllowBreak, EndLines, begins_lines, may_take_memory}
 use Rattle.swc_ecma_codegen_text_writer.specs.Told.{Rises}
 use Rattle.swc_ecma_codegen_literals.specs.ValidNames.{has_byte}
 use Rattle.swc_ecma_codegen_grammar.specs.CommentMaps.{Maps}
@@ -54,6 +54,9 @@ text_of (Position pos) = []
 text_of Commit = []
 text_of Deeper = []
 text_of Shallower = []
+text_of (BeginLines max) = []
+text_of AllowBreak = []
+text_of EndLines = []
 
 -- the characters of a token's text; a punctuator is ASCII, so its bytes are its characters
 unfoldable pub spelling : Kind → List ℕ → List ℕ
@@ -79,13 +82,24 @@ after_plain x last = last
 
 -- what an emission goes by, whatever it has written
 pub record Env : Type 0 where
+  -- the settings, without the greatest length of lines
   pub config : Config
+  -- the greatest length of lines, where lines are to be bounded
+  pub max_line : Option ℕ
   -- the writer keeps U+0000 after a backslash in a name
   pub keeps_invalid : Bool
   -- what the map of the source text answers
   pub lines : Lines
   -- the comments that are still to be taken
   pub maps : Maps
+
+-- the settings that tokens go by: a greatest length of lines changes none
+abbrev pub unlined : Config → Config
+unlined config = record config { max_line = None }
+
+-- lines are bounded here: there is a greatest length, and the settings are to minify
+abbrev pub is_bounded : Env → Bool
+is_bounded env = is_some env.max_line && env.config.minify
 
 -- the same with other comments to be taken
 abbrev pub at_maps : Maps → Env → Env
@@ -249,6 +263,14 @@ step x rest env = next x (rest (at_maps (after_step x env.maps) env))
 unfoldable pub refuse : Unprintable → Part
 refuse r rest env = refused r
 
+-- a part with another greatest length of lines, or with none
+unfoldable pub with_max_line : Option ℕ → Part → Part
+with_max_line max part rest env = part (λ inner. rest (record inner { max_line = env.max_line })) (record env { max_line = max })
+
+-- a part in which no line may be ended: a template, an element
+abbrev pub unbounded : Part → Part
+unbounded part = with_max_line None part
+
 -- one part, where the settings are to minify, else another
 unfoldable pub when_minified : Part → Part → Part
 when_minified part other rest env = if env.config.minify then part rest env else other rest env
@@ -257,14 +279,14 @@ when_minified part other rest env = if env.config.minify then part rest env else
 unfoldable pub no_part : Part
 no_part rest = rest
 
--- a text of these steps is made anew, in memory
+-- a text of these steps is made anew, in memory, or lines begin with one of them, and what is written then is held there
 unfoldable pub makes_text : List Step → Bool
 makes_text [] = false
 makes_text (Remake due ∷ xs) = due || makes_text xs
 makes_text (Guard t ∷ xs) = makes_text xs
-makes_text (Token kind x ∷ xs) = makes_text xs
-makes_text (Plain x ∷ xs) = makes_text xs
-makes_text (Ends tokens x ∷ xs) = makes_text xs
+makes_text (Token kind x ∷ xs) = begins_lines x || makes_text xs
+makes_text (Plain x ∷ xs) = begins_lines x || makes_text xs
+makes_text (Ends tokens x ∷ xs) = begins_lines x || makes_text xs
 makes_text (Take side at ∷ xs) = makes_text xs
 makes_text (CommentText t ∷ xs) = makes_text xs
 
@@ -299,7 +321,7 @@ pub record IsReached (xs : Steps) (r : Unprintable) (a b : State) : Type 0 where
 -- An emission is refused only for the cause that its error names.
 unfoldable pub HasCause : Steps → Refusal → State → State → Type 0
 HasCause xs Writer a b = Rises a.sheet.faults b.sheet.faults
-HasCause xs OutOfMemory a b = (a.sheet.takes_memory || makes_text (steps_of xs)) ≡ true
+HasCause xs OutOfMemory a b = (may_take_memory a.sheet || makes_text (steps_of xs)) ≡ true
 HasCause xs PositionTooLarge a b = PassesLimit (steps_of xs) a ⊎ IsTooFar a b
 HasCause xs Failed a b = (a.failed || a.sheet.refused) ≡ true
 HasCause xs UnsupportedNode a b = IsReached xs unprintable.UnsupportedNode a b
@@ -313,7 +335,7 @@ pub record IsUnhindered (xs : Steps) (a b : State) : Type 0 where
   pub fresh : (a.failed || a.sheet.refused) ≡ false
   pub no_fault : b.sheet.faults ≡ a.sheet.faults
   pub can_count : a.sheet.faults < 2 ^ 64 - 1
-  pub no_memory : (a.sheet.takes_memory || makes_text (steps_of xs)) ≡ false
+  pub no_memory : (may_take_memory a.sheet || makes_text (steps_of xs)) ≡ false
   pub within : PassesLimit (steps_of xs) a → ⊥
   pub near : IsTooFar a b → ⊥
   pub printable : unprintable_in xs ≡ None
@@ -328,4 +350,4 @@ printed part a = run (steps_of (steps_in part a)) a
 
 -- where an emission over a sheet begins
 abbrev pub start : Lines → Maps → Config → Sheet → State
-start lines maps config sheet = record { env = record { config = config; keeps_invalid = sheet.keeps_invalid; lines = lines; maps = maps }; sheet = sheet; last = Start; failed = false }
+start lines maps config sheet = record { env = record { config = unlined config; max_line = config.max_line; keeps_invalid = sheet.keeps_invalid; lines = lines; maps = maps }; sheet = sheet; last = Start; failed = false }

@@ -1,5 +1,5 @@
 -- What is written of the parts of templates. ECMA-262, section 12.9.6; `emit_quasi` of swc, and what it does for a tagged template.
-use Rattle.std.specs.Prelude.{ℕ, ◌==◌, Bool, true, false, not, ◌&&◌, ◌||◌, if◌then◌else◌, List, [], ◌∷◌, None, string_bytes}
+use Rattle.std.specs.Prelude.{ℕ, ◌==◌, Bool, not, ◌&&◌, ◌||◌, if◌then◌else◌, List, [], ◌∷◌, None, string_bytes}
 use Rattle.std.specs.Str.{chars, encode_utf8_all}
 use Rattle.swc_ecma_codegen_common.specs.declared.positions.Span.{Span}
 use Rattle.swc_ecma_codegen_tree.specs.declared.exprs.TplElement.{TplElement}

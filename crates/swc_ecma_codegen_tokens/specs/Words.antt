@@ -1,10 +1,10 @@
 -- The parts that plans are made of.
-use Rattle.std.specs.Prelude.{ℕ, ◌-◌, ◌==◌, nat_lt, Bool, false, if◌then◌else◌, List, [], ◌∷◌, codes, Option, Some, None, string_bytes}
+use Rattle.std.specs.Prelude.{ℕ, ◌-◌, ◌==◌, nat_lt, ◌||◌, Bool, false, if◌then◌else◌, List, [], ◌∷◌, codes, Option, Some, None, string_bytes}
 use Rattle.swc_ecma_codegen_common.specs.declared.positions.BytePos.{BytePos}
 use Rattle.swc_ecma_codegen_common.specs.declared.positions.Span.{Span}
 use Rattle.swc_ecma_codegen_spans.specs.Spans.{dummy_span}
 use Rattle.swc_ecma_codegen_grammar.specs.declared.kinds.Kind.TheVariants.{Word, Name, Punctuator, Ending}
-use Rattle.swc_ecma_codegen_text_writer.specs.Sheet.{Semi, Space, Keyword, Operator, Symbol, Punct, Position, Commit, Comment}
+use Rattle.swc_ecma_codegen_text_writer.specs.Sheet.{Semi, Space, Keyword, Operator, Symbol, Punct, Position, Commit, Comment, BeginLines, AllowBreak, EndLines}
 use Rattle.swc_ecma_codegen_text_writer.specs.Sheet as sheet
 use Rattle.swc_ecma_codegen_grammar.specs.CommentMaps.{Maps}
 use Rattle.swc_ecma_codegen_grammar.specs.declared.comments.Comment.{Comment as SourceComment}
@@ -13,7 +13,7 @@ use Rattle.swc_ecma_codegen_grammar.specs.declared.comments.CommentKind.TheVaria
 use Rattle.swc_ecma_codegen_grammar.specs.Comments.{Side, Leading, Trailing, comments_at}
 use Rattle.swc_ecma_codegen_grammar.specs.ValidNames.{turned}
 use Rattle.swc_ecma_codegen_tokens.specs.declared.refusals.Unprintable.TheVariants.{NameOutOfTarget}
-use Rattle.swc_ecma_codegen_tokens.specs.Run.{Part, step, Guard, Token, Plain, Remake, Take, CommentText, refuse, when_minified, no_part, has_backslash}
+use Rattle.swc_ecma_codegen_tokens.specs.Run.{Part, step, is_bounded, with_max_line, Guard, Token, Plain, Remake, Take, CommentText, refuse, when_minified, no_part, has_backslash}
 use Rattle.swc_ecma_codegen_tokens.specs.Targets.{wants_escapes, in_ascii, is_out_name}
 
 -- a keyword
@@ -28,17 +28,39 @@ operator t rest = step (Guard t) (step (Token Punctuator (Operator None t)) rest
 unfoldable pub word_operator : List ℕ → Part
 word_operator t rest = step (Guard t) (step (Token Word (Operator None t)) rest)
 
--- a punctuator
+-- here a line may be ended
+unfoldable pub break_where : Bool → Part
+break_where allowed rest = if allowed then step (Plain AllowBreak) rest else rest
+
+-- the same where lines are bounded
+unfoldable pub allow_break : Part
+allow_break rest env = break_where (is_bounded env) rest env
+
+-- behind these a line may be ended: `(` `,` `;` `[` `{`
+abbrev pub allows_break : List ℕ → Bool
+allows_break (c ∷ []) = (c == 40) || ((c == 44) || ((c == 59) || ((c == 91) || (c == 123))))
+allows_break t = false
+
+abbrev pub break_behind : List ℕ → Part
+break_behind t rest = if allows_break t then allow_break rest else rest
+
+-- a punctuator, and the same with the place behind it where a line may be ended
+unfoldable pub bare_punct : List ℕ → Part
+bare_punct t rest = step (Guard t) (step (Token Punctuator (Punct None t)) rest)
+
 unfoldable pub punct : List ℕ → Part
-punct t rest = step (Guard t) (step (Token Punctuator (Punct None t)) rest)
+punct t rest = bare_punct t (break_behind t rest)
 
 -- one whose place is recorded, `...` of `...a`
 unfoldable pub placed_punct : Span → List ℕ → Part
 placed_punct span t rest = step (Guard t) (step (Token Punctuator (Punct (Some span) t)) rest)
 
--- a semicolon that may be left out where it isn't needed
+-- a semicolon that may be left out where it isn't needed, and the same with the place behind it where a line may be ended
+unfoldable pub bare_semi : Part
+bare_semi rest = step (Guard (codes ";")) (step (Token Ending (Semi None)) rest)
+
 unfoldable pub semi : Part
-semi rest = step (Guard (codes ";")) (step (Token Ending (Semi None)) rest)
+semi rest = bare_semi (allow_break rest)
 
 -- a blank
 unfoldable pub space : Part
@@ -66,6 +88,21 @@ formatting_line = when_minified no_part line_end
 -- a semicolon that is held back is written
 unfoldable pub commit_pending_semi : Part
 commit_pending_semi rest = step (Plain Commit) rest
+
+-- lines are filled from here on, and no more
+unfoldable pub begin_lines : ℕ → Part
+begin_lines max rest = step (Plain (BeginLines max)) rest
+
+unfoldable pub end_lines : Part
+end_lines rest = step (Plain EndLines) rest
+
+-- a part with lines of at most so many units
+unfoldable pub in_lines : ℕ → Part → Part
+in_lines max part rest = begin_lines max (part (end_lines rest))
+
+-- a part with lines of at most so many units, where they may be ended
+unfoldable pub bounded : ℕ → Part → Part
+bounded max part = in_lines max (with_max_line (Some max) part)
 
 -- a position is recorded, unless it is none
 unfoldable pub position : BytePos → Part

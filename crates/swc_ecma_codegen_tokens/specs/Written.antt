@@ -14,8 +14,8 @@ use Rattle.swc_ecma_codegen_grammar.specs.Comments.{all_tame, remarks_of}
 use Rattle.swc_ecma_codegen_grammar.specs.Endings.{IsReduced}
 use Rattle.swc_ecma_codegen_grammar.specs.Phrases.{Phrase, Generates}
 use Rattle.swc_ecma_codegen_grammar.specs.GapRules.{PreviousToken, Start, Separated, allows, ends_text, holds_child}
-use Rattle.swc_ecma_codegen_grammar.specs.Parts.{Part, Gap, Own, PastLine, walk, is_broken, text_of, tokens_of, remarks_in, NoneFuse, Reduced}
-use Rattle.swc_ecma_codegen_text_writer.specs.Sheet.{Sheet, Semicolons, AtOnce, HoldsNone, HoldsOne, holds_semicolons}
+use Rattle.swc_ecma_codegen_grammar.specs.Parts.{Part, Gap, Own, Break, PastLine, walk, is_broken, text_of, tokens_of, remarks_in, NoneFuse, Reduced}
+use Rattle.swc_ecma_codegen_text_writer.specs.Sheet.{Sheet, Semicolons, AtOnce, HoldsNone, HoldsOne, holds_semicolons, fills_lines}
 use Rattle.swc_ecma_codegen_literals.specs.AsciiNames.{is_ascii_text}
 use Rattle.swc_ecma_codegen_util.specs.declared.config.Config.{Config}
 use Rattle.swc_ecma_codegen_tokens.specs.Run as run
@@ -44,7 +44,13 @@ is_free last = false
 unfoldable pub holds_one : Semicolons → Bool
 holds_one AtOnce = false
 holds_one HoldsNone = false
-holds_one (HoldsOne span) = true
+holds_one (HoldsOne span allowed) = true
+
+-- a break was allowed since, and is kept with it
+unfoldable pub keeps_break : Semicolons → Bool
+keeps_break AtOnce = false
+keeps_break HoldsNone = false
+keeps_break (HoldsOne span allowed) = allowed
 
 -- What may come next: any token but a child of JSX; a child too, behind the end of a tag or of a container; what begins a child and
 -- nothing else, behind text or a child; what begins with no dash, behind a name in a tag.
@@ -63,10 +69,11 @@ Takes Between s = TakesChild s × ((t : List ℕ) → allows s.last t ≡ true)
 Takes InText s = TakesChild s × ((t : List ℕ) → ends_text t ≡ true → allows s.last t ≡ true)
 Takes InName s = (t : List ℕ) → begins (codes "-") t ≡ false → allows s.last t ≡ true
 
--- Between two steps of a text that can be read back: lines are indented by blanks or tabs, and this may come next.
+-- Between two steps of a text that can be read back: lines are indented by blanks or tabs, and not filled, and this may come next.
 pub record RestsAt (spot : Spot) (s : State) : Type 0 where
   pub indent_text : all_indent s.sheet.indent_text ≡ true
   pub line_end : IsLineEnd s.sheet.line_end
+  pub flowing : fills_lines s.sheet.lines ≡ false
   pub free : holds_one s.sheet.semicolons ≡ false → s.sheet.at_line_start ≡ true → is_free s.last ≡ true
   pub allowed : Takes spot s
 
@@ -74,13 +81,14 @@ pub record RestsAt (spot : Spot) (s : State) : Type 0 where
 abbrev pub AtRest : State → Type 0
 AtRest s = RestsAt Anything s
 
--- An emission begins: no token was written, no semicolon is held back, lines are indented by blanks or tabs, and U+0000 after
--- a backslash is left out of names.
+-- An emission begins: no token was written, no semicolon is held back, lines are indented by blanks or tabs, and not filled, and
+-- U+0000 after a backslash is left out of names.
 pub record IsNew (s : State) : Type 0 where
   pub nothing_written : s.last ≡ Start
   pub nothing_held : holds_one s.sheet.semicolons ≡ false
   pub indent_text : all_indent s.sheet.indent_text ≡ true
   pub line_end : IsLineEnd s.sheet.line_end
+  pub flowing : fills_lines s.sheet.lines ≡ false
   pub leaves_out : s.env.keeps_invalid ≡ false
 
 -- No indentation is due, so that what is written next may be a hashbang, which stands first of all in a text.
@@ -139,9 +147,11 @@ blanks (c ∷ cs) = Blank c ∷ blanks cs
 abbrev pub indentation_due : Sheet → List ℕ
 indentation_due s = if s.at_line_start then repeat s.indentation s.indent_text else []
 
--- a semicolon that is held back, where it would stand
+-- a semicolon that is held back, where it would stand, and the break that is kept with it
 abbrev pub pending : Sheet → List Part
-pending s = if holds_one s.semicolons then Gap (blanks (indentation_due s)) ∷ Own Ending (codes ";") ∷ [] else []
+pending s =
+    if holds_one s.semicolons then Gap (blanks (indentation_due s)) ∷ Own Ending (codes ";") ∷ (if keeps_break s.semicolons then Break ∷ [] else [])
+    else []
 
 -- Of these parts those are written: some semicolons that aren't needed are left out, and a gap at the end may be.
 abbrev pub IsLeft : List Part → List Part → Type 0

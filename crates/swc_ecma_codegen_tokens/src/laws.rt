@@ -1,17 +1,18 @@
 //! Laws of the text so far. Each is the contract of a function that does nothing: a proof cites it, and a program has no
 //! need to call it. That a call of a token adds its token is a clause of the call.
 
-ghost use Rattle.std.specs.Prelude.{◌≡◌, ℕ, Bool, false, List, [], ◌++◌, Ok};
+ghost use Rattle.std.specs.Prelude.{◌≡◌, ℕ, Bool, false, true, List, [], ◌++◌, Ok};
 ghost use Rattle.swc_ecma_codegen_common.specs.declared.positions.BytePos.{BytePos};
 ghost use Rattle.swc_ecma_codegen_grammar.specs.Tokens.{Token};
 ghost use Rattle.swc_ecma_codegen_grammar.specs.Trivia.{Remark};
 ghost use Rattle.swc_ecma_codegen_grammar.specs.Comments.{AreClosed};
+ghost use Rattle.swc_ecma_codegen_grammar.specs.LineEnds.{may_end};
 ghost use Rattle.swc_ecma_codegen_grammar.specs.Phrases.{Phrase, Generates};
 ghost use Rattle.swc_ecma_codegen_text_writer.specs.Sheet.{holds_semicolons};
 ghost use Rattle.swc_ecma_codegen_util.specs.declared.config.Config.{Config};
 ghost use Rattle.swc_ecma_codegen_tokens.specs.Run.{State, Emits};
 ghost use Rattle.swc_ecma_codegen_tokens.specs.Settings.{settings_of};
-ghost use Rattle.swc_ecma_codegen_tokens.specs.Words.{space, formatting_space, line_end, formatting_line, commit_pending_semi, position, position_before, leading_comments, trailing_comments};
+ghost use Rattle.swc_ecma_codegen_tokens.specs.Words.{space, formatting_space, line_end, formatting_line, commit_pending_semi, allow_break, position, position_before, leading_comments, trailing_comments};
 ghost use Rattle.swc_ecma_codegen_tokens.specs.Written.{IsNew, ReadsSoFar, AddsText, taken_remarks};
 
 /// A new emission has written no tokens so far.
@@ -30,7 +31,7 @@ pub fn so_far_reads()
         s.sheet.text }
 {}
 
-/// Blanks, line ends, a semicolon that was held back and positions leave the tokens so far; comments that are taken stand behind those so far.
+/// Blanks, line ends, allowed breaks, a semicolon that was held back and positions leave the tokens so far; comments that are taken stand behind those so far.
 pub fn gaps_leave_the_tokens()
     ensures space { (text_before : List ℕ) (tokens : List Token) (remarks : List Remark)
         (a b : State) → Emits space a b (Ok tt) → ReadsSoFar text_before tokens remarks a →
@@ -44,6 +45,10 @@ pub fn gaps_leave_the_tokens()
     ensures formatting_line { (text_before : List ℕ) (tokens : List Token) (remarks : List Remark)
         (a b : State) → Emits formatting_line a b (Ok tt) →
         ReadsSoFar text_before tokens remarks a → ReadsSoFar text_before tokens remarks b }
+    ensures allow_break { (text_before : List ℕ) (tokens : List Token)
+        (remarks : List Remark) (a b : State) → may_end a.last ≡ true →
+        Emits allow_break a b (Ok tt) → ReadsSoFar text_before tokens remarks a →
+        ReadsSoFar text_before tokens remarks b }
     ensures commit { (text_before : List ℕ) (tokens : List Token) (remarks : List Remark)
         (a b : State) → Emits commit_pending_semi a b (Ok tt) →
         ReadsSoFar text_before tokens remarks a → ReadsSoFar text_before tokens remarks b }

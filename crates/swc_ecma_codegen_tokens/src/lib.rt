@@ -6,11 +6,13 @@ ghost use Rattle.swc_ecma_codegen_common.specs.Refusals.{reason_of};
 ghost use Rattle.swc_ecma_codegen_tokens.specs.Classes.{row_of};
 ghost use Rattle.swc_ecma_codegen_tokens.specs.PreviousToken.{class_of};
 
+mod answers;
 mod attributes;
 mod comments;
 mod guard;
 mod keys;
 pub mod laws;
+mod lines;
 mod list_commas;
 mod lists;
 mod literals;

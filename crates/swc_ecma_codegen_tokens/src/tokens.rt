@@ -4,9 +4,8 @@
 //! part of the frames of nodes, which are there once for each level of a tree. So a token takes one call or two. What else calls the
 //! writer is never inlined.
 
-ghost use Rattle.std.specs.Prelude.{◌≡◌, None, OnOk, OnErr, Option, [], ◌∷◌, codes, true, false};
+ghost use Rattle.std.specs.Prelude.{◌≡◌, None, OnOk, Option, [], ◌∷◌, true, false};
 ghost use Rattle.std.specs.Str.{chars};
-ghost use Rattle.swc_ecma_codegen_common.specs.Refusals.{in_short, reason_of};
 ghost use Rattle.swc_ecma_codegen_literals.specs.Punctuators.{spelling};
 ghost use Rattle.swc_ecma_codegen_tokens.specs.Starts.{begins_letter, start_class};
 ghost use Rattle.swc_ecma_codegen_spans.specs.Spans.{dummy_span};
@@ -16,104 +15,21 @@ ghost use Rattle.swc_ecma_codegen_grammar.specs.declared.kinds.Kind.TheVariants 
 ghost use Rattle.swc_ecma_codegen_grammar.specs.Tokens as lexical;
 ghost use Rattle.swc_ecma_codegen_tokens.specs.PreviousToken.{last_at};
 ghost use Rattle.swc_ecma_codegen_tokens.specs.Run.{Does, step, Guard, Token, Plain};
-ghost use Rattle.swc_ecma_codegen_tokens.specs.Words.{keyword, operator, operator_between, punct_between, word_operator, punct, placed_punct, semi, space, formatting_space, formatting_line, line_end, commit_pending_semi, position, position_before};
+ghost use Rattle.swc_ecma_codegen_tokens.specs.Words.{bare_punct, bare_semi, keyword, operator, operator_between, punct_between, word_operator, punct, placed_punct, semi, space, formatting_space, commit_pending_semi, position, position_before};
 ghost use Rattle.swc_ecma_codegen_tokens.specs.Written.{IsWord};
 ghost use Rattle.swc_ecma_codegen_tokens.specs.Adds.{Adds};
 ghost use Rattle.swc_ecma_codegen_tokens.specs.View.{state_of};
 
 use crate::LowerEmitter;
-use crate::guard::{blank_due_after, row};
+use crate::guard::blank_due_after;
 use crate::previous::PreviousToken;
 use crate::starts::StartClass;
-use std::mem::replace;
-use std::snapshot::Snapshot;
-use swc_ecma_codegen_common::{Answer, BytePos, DUMMY_SP, Error, Refusal, Result, Span};
+use swc_ecma_codegen_common::{Answer, BytePos, DUMMY_SP, Refusal, Span};
 use swc_ecma_codegen_literals::Punctuator;
 use swc_ecma_codegen_text_writer::WriteJs;
 use swc_ecma_codegen_util::config::Config;
 
 impl LowerEmitter {
-    /// What a call of the writer that leaves the last token answered is passed on in short.
-    pub(crate) fn keep(&mut self, answer: Result) -> Answer
-        ensures same { result ≡ in_short answer }
-        ensures token { self.new.token.value ≡ self.old.token.value }
-        ensures ok { OnOk result (self.new.failed ≡ self.old.failed) }
-        ensures err { OnErr result (self.new.failed ≡ true) }
-    {
-        match answer {
-            Ok(()) => Ok(()),
-            Err(error) => Err(self.give_up(error)),
-        }
-    }
-
-    /// Notes the error that a call of the writer was refused with, and says it in short.
-    #[cold]
-    #[inline(never)]
-    fn give_up(&mut self, error: Error) -> Refusal
-        ensures same { result ≡ reason_of error }
-        ensures token { self.new.token.value ≡ self.old.token.value }
-        ensures failed { self.new.failed ≡ true }
-    {
-        let refusal = error.refusal();
-        self.failed = true;
-        self.fault = error.into_fault();
-        refusal
-    }
-
-    /// What a call of the writer answered is noted, with the last token, and passed on in short.
-    pub(crate) fn settle(&mut self, answer: Result, last: PreviousToken) -> Answer
-        ensures same { result ≡ in_short answer }
-        ensures ok { OnOk result ((self.new.token.value ≡ last)
-            × (self.new.failed ≡ self.old.failed)) }
-        ensures err { OnErr result ((self.new.token.value ≡ self.old.token.value)
-            × (self.new.failed ≡ true)) }
-    {
-        self.keep(answer)?;
-        self.last = last.class();
-        self.row = row(self.last);
-        self.token = Snapshot::of(&last);
-        Ok(())
-    }
-
-    /// Notes the last token ahead of the call that writes it, so that nothing of it is kept over that call, and answers which one
-    /// it was before.
-    pub(crate) fn note(&mut self, last: PreviousToken) -> Snapshot<PreviousToken>
-        ensures before { result.value ≡ self.old.token.value }
-        ensures token { self.new.token.value ≡ last }
-        ensures failed { self.new.failed ≡ self.old.failed }
-    {
-        self.last = last.class();
-        self.row = row(self.last);
-        replace(&mut self.token, Snapshot::of(&last))
-    }
-
-    /// What a call of the writer answered whose token was noted ahead is passed on in short: a refused one wrote no token.
-    pub(crate) fn settle_noted(&mut self, answer: Result, before: Snapshot<PreviousToken>) -> Answer
-        ensures same { result ≡ in_short answer }
-        ensures ok { OnOk result ((self.new.token.value ≡ self.old.token.value)
-            × (self.new.failed ≡ self.old.failed)) }
-        ensures err { OnErr result ((self.new.token.value ≡ before.value)
-            × (self.new.failed ≡ true)) }
-    {
-        match answer {
-            Ok(()) => Ok(()),
-            Err(error) => Err(self.give_up_noted(error, before)),
-        }
-    }
-
-    /// Notes the error that a call of the writer was refused with, whose token was noted ahead, and says it in short.
-    #[cold]
-    #[inline(never)]
-    fn give_up_noted(&mut self, error: Error, before: Snapshot<PreviousToken>) -> Refusal
-        ensures same { result ≡ reason_of error }
-        ensures token { self.new.token.value ≡ before.value }
-        ensures failed { self.new.failed ≡ true }
-    {
-        let refusal = self.give_up(error);
-        self.token = before;
-        refusal
-    }
-
     /// Whether a punctuator doesn't go the shortest way: it is `!`, or a blank is due before it, as before the second `-` of `a - -b`, or
     /// an earlier call was refused.
     #[inline(always)]
@@ -468,9 +384,25 @@ impl LowerEmitter {
         self.punct_here(cfg, wr, mark)
     }
 
+    /// Writes a punctuator behind which no line may be ended, whichever it is: the `{` of `<a b={c}/>`.
+    #[inline(always)]
+    #[tactic(auto, unfolding(crate::specs::Words::bare_punct))]
+    pub fn bare_punct<W: WriteJs>(&mut self, cfg: &Config, wr: &mut W, mark: Punctuator) -> Answer
+        ensures items { Does (bare_punct (spelling mark))
+            (state_of cfg.now (W.sheet wr.old) self.old)
+            (state_of cfg.now (W.sheet wr.new) self.new) result }
+        ensures reads { Adds (lexical.punctuator (spelling mark) ∷ [])
+            cfg.now (W.sheet wr.old) self.old (W.sheet wr.new) self.new result }
+        ensures level { OnOk result ((W.sheet wr.new).indentation ≡ (W.sheet wr.old).indentation) }
+    {
+        self.guard_mark(cfg, wr, mark)?;
+        self.put_punct(cfg, wr, None, mark)?;
+        Ok(())
+    }
+
     /// The same, where it is called.
     #[inline(always)]
-    #[tactic(auto, unfolding(crate::specs::Words::punct))]
+    #[tactic(auto, unfolding(crate::specs::Words::punct, crate::specs::Words::bare_punct))]
     fn punct_here<W: WriteJs>(&mut self, cfg: &Config, wr: &mut W, mark: Punctuator) -> Answer
         ensures items { Does (punct (spelling mark)) (state_of cfg.now (W.sheet wr.old) self.old)
             (state_of cfg.now (W.sheet wr.new) self.new) result }
@@ -480,6 +412,7 @@ impl LowerEmitter {
     {
         self.guard_mark(cfg, wr, mark)?;
         self.put_punct(cfg, wr, None, mark)?;
+        self.break_behind(cfg, wr, mark)?;
         Ok(())
     }
 
@@ -533,9 +466,24 @@ impl LowerEmitter {
         self.semi_here(cfg, wr)
     }
 
+    /// Writes a semicolon behind which no line may be ended: that of a function without a body.
+    #[inline(never)]
+    #[tactic(auto, unfolding(crate::specs::Words::bare_semi))]
+    pub fn bare_semi<W: WriteJs>(&mut self, cfg: &Config, wr: &mut W) -> Answer
+        ensures items { Does (bare_semi) (state_of cfg.now (W.sheet wr.old) self.old)
+            (state_of cfg.now (W.sheet wr.new) self.new) result }
+        ensures reads { Adds (lexical.ending ∷ [])
+            cfg.now (W.sheet wr.old) self.old (W.sheet wr.new) self.new result }
+        ensures level { OnOk result ((W.sheet wr.new).indentation ≡ (W.sheet wr.old).indentation) }
+    {
+        self.guard_mark(cfg, wr, Punctuator::Semicolon)?;
+        self.put_semi(cfg, wr)?;
+        Ok(())
+    }
+
     /// The same, where it is called.
     #[inline(always)]
-    #[tactic(auto, unfolding(crate::specs::Words::semi))]
+    #[tactic(auto, unfolding(crate::specs::Words::semi, crate::specs::Words::bare_semi))]
     fn semi_here<W: WriteJs>(&mut self, cfg: &Config, wr: &mut W) -> Answer
         ensures items { Does (semi) (state_of cfg.now (W.sheet wr.old) self.old)
             (state_of cfg.now (W.sheet wr.new) self.new) result }
@@ -545,6 +493,7 @@ impl LowerEmitter {
     {
         self.guard_mark(cfg, wr, Punctuator::Semicolon)?;
         self.put_semi(cfg, wr)?;
+        self.allow_break(cfg, wr)?;
         Ok(())
     }
 
@@ -618,22 +567,6 @@ impl LowerEmitter {
         Ok(())
     }
 
-    /// Ends the line, unless at a line's start.
-    #[inline(never)]
-    pub fn line<W: WriteJs>(&mut self, cfg: &Config, wr: &mut W) -> Answer
-        ensures items { Does (line_end) (state_of cfg.now (W.sheet wr.old) self.old)
-            (state_of cfg.now (W.sheet wr.new) self.new) result }
-        ensures level { OnOk result ((W.sheet wr.new).indentation ≡ (W.sheet wr.old).indentation) }
-    {
-        let _ = cfg;
-        if self.failed {
-            return Err(Refusal::Failed);
-        }
-        let before = self.note(PreviousToken::Separated);
-        let answer = wr.write_line();
-        self.settle_noted(answer, before)
-    }
-
     /// Writes a semicolon that is held back.
     #[inline(never)]
     pub fn commit_pending_semi<W: WriteJs>(&mut self, cfg: &Config, wr: &mut W) -> Answer
@@ -702,19 +635,6 @@ impl LowerEmitter {
             return Ok(());
         }
         self.space(cfg, wr)
-    }
-
-    /// Ends the line, unless the settings are to minify.
-    #[tactic(auto, unfolding(crate::specs::Words::formatting_line), using(crate::proofs::Calls::skipped, crate::proofs::Calls::not_skipped))]
-    pub fn formatting_line<W: WriteJs>(&mut self, cfg: &Config, wr: &mut W) -> Answer
-        ensures items { Does formatting_line (state_of cfg.now (W.sheet wr.old) self.old)
-            (state_of cfg.now (W.sheet wr.new) self.new) result }
-        ensures level { OnOk result ((W.sheet wr.new).indentation ≡ (W.sheet wr.old).indentation) }
-    {
-        if cfg.minify {
-            return Ok(());
-        }
-        self.line(cfg, wr)
     }
 
     /// Records a position, unless it is none.

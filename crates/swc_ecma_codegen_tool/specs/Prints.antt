@@ -11,6 +11,7 @@ use Rattle.swc_ecma_codegen_grammar.specs.SourceLines.{no_lines}
 use Rattle.swc_ecma_codegen_grammar.specs.TreePhrases.{is_well_formed}
 use Rattle.swc_ecma_codegen_tokens.specs.Run.{Part, printed, start}
 use Rattle.swc_ecma_codegen_emit.specs.Answers.{any_answers}
+use Rattle.swc_ecma_codegen_emit.specs.Places.{by_itself}
 use Rattle.swc_ecma_codegen_emit.specs.Programs.{program}
 use Rattle.swc_ecma_codegen_emit.specs.Texts.{blank_sheet}
 use Rattle.swc_ecma_codegen_emit.specs.Tree.{any_items}
@@ -42,7 +43,7 @@ MayPrint options p = options.any ≡ false → is_well_formed p ≡ true
 
 -- a text is that of a program
 abbrev pub IsText : Options → List ℕ → Type 0
-IsText options text = (p : Program AnyNode) × MayPrint options p × (text ≡ text_with options (program any_answers any_items p))
+IsText options text = (p : Program AnyNode) × MayPrint options p × (text ≡ text_with options (by_itself (program any_answers any_items p)))
 
 -- the text of one program is added to what a writer tells
 abbrev pub AddsText : Options → Option (List ℕ) → Option (List ℕ) → Type 0

@@ -28,10 +28,11 @@ use swc_ecma_codegen_tree::Program;
 /// A run of the program: `words` are those after its name. Standard input is one program as JSON, and its text goes to
 /// `out`, whole, after it was made in memory. The answer is the status.
 ///
-/// The words are `--minify`, `--omit-last-semi`, `--ascii-only`, `--assert`, `--inline-script`, `--positions`, `--any` and `--target` with a
-/// version after it (`es3`, `es5`, `es2015` to `es2022`, `esnext`), in any order; one that is given again counts once, and of
-/// targets the last. With `--any` a program that isn't well-formed is printed too: the name `a b` as `a b;`. With `--positions`, after the text, `err` gets a line for each position of the source that was recorded: `4 0 2`
-/// says that what stands at 4 there was written in line 0, column 2.
+/// The words are `--minify`, `--omit-last-semi`, `--ascii-only`, `--assert`, `--inline-script`, `--positions`, `--any`, `--target` with a
+/// version after it (`es3`, `es5`, `es2015` to `es2022`, `esnext`), and `--max-line` with a length of lines after it (0 to 4294967295, in
+/// decimal digits), in any order; one that is given again counts once, and of targets and lengths the last. With `--any` a
+/// program that isn't well-formed is printed too: the name `a b` as `a b;`. With `--positions`, after the text, `err` gets a
+/// line for each position of the source that was recorded: `4 0 2` says that what stands at 4 there was written in line 0, column 2.
 ///
 /// On a fault `err` gets one line, and `out` nothing, save what it took before a fault of its own. The status is 2 for
 /// wrong words, else 1: `cannot read` for a failed read and for bytes that aren't UTF-8, `bad tree` for what is no

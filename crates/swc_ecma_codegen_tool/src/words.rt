@@ -1,14 +1,18 @@
 //! The words of a run.
 
-ghost use Rattle.std.specs.Prelude.{◌≡◌, false, true, Err, Ok};
+ghost use Rattle.std.specs.Prelude.{◌≡◌, false, true, None, Err, Ok};
 ghost use Rattle.swc_ecma_codegen_tool.specs.Words.{
   are_options,
   is_given,
   is_option,
+  last_length,
   last_version,
+  length_named,
+  may_follow,
   options_of,
   settings_of,
   version_named,
+  wants_more,
 };
 
 use crate::faults::Fault;
@@ -30,6 +34,9 @@ pub struct Options {
     pub inline_script: bool,
     /// `--target es5`: literals are spelled for this version. The last one counts.
     pub target: EsVersion,
+    /// `--max-line 80`: with `minify` a line of a program has at most this length, in UTF-16 units, where one may be ended. The
+    /// last one counts.
+    pub max_line: Option<u32>,
     /// `--positions`: standard error gets the positions of the source, with where they stand in the text.
     pub positions: bool,
     /// `--any`: a program that isn't well-formed is printed too.
@@ -52,6 +59,7 @@ impl Options {
             assert_for_attributes: is_given(words, "--assert"),
             inline_script: is_given(words, "--inline-script"),
             target: last_version(words),
+            max_line: last_length(words),
             positions: is_given(words, "--positions"),
             any: is_given(words, "--any"),
         })
@@ -68,6 +76,7 @@ impl Options {
             .with_ascii_only(self.ascii_only)
             .with_emit_assert_for_import_attributes(self.assert_for_attributes)
             .with_inline_script(self.inline_script)
+            .with_max_line(self.max_line)
     }
 }
 
@@ -91,6 +100,17 @@ fn version_named(word: &str) -> Option<EsVersion>
     }
 }
 
+/// The greatest length of a line that a word writes, in decimal digits: 80 for `80` and `080`.
+fn length_named(word: &str) -> Option<u32>
+    ensures { result ≡ length_named word.now }
+{
+    // (`parse` takes a sign too)
+    if word.starts_with('+') {
+        return None;
+    }
+    word.parse().ok()
+}
+
 /// Whether a word is an option.
 fn is_option(word: &str) -> bool
     ensures { result ≡ is_option word.now }
@@ -105,26 +125,41 @@ fn is_option(word: &str) -> bool
             | "--positions"
             | "--any"
             | "--target"
+            | "--max-line"
     )
 }
 
-/// Whether each of these words is an option, and the name of a version comes after each `--target`, and nowhere else.
+/// Whether a word comes after this one that says more.
+fn wants_more(word: &str) -> bool
+    ensures { result ≡ wants_more word.now }
+{
+    matches!(word, "--target" | "--max-line")
+}
+
+/// Whether a word may come right after another, or after none, which is an empty one here.
+fn may_follow(before: &str, word: &str) -> bool
+    ensures { result ≡ may_follow before.now word.now }
+{
+    match before {
+        "--target" => version_named(word).is_some(),
+        "--max-line" => length_named(word).is_some(),
+        _ => is_option(word),
+    }
+}
+
+/// Whether each of these words is an option, and the name of a version comes after each `--target`, a length after each
+/// `--max-line`, and neither anywhere else.
 fn are_options(words: &[String]) -> bool
     ensures { result ≡ are_options words.now }
 {
-    let mut version_is_due = false;
+    let mut before = "";
     for word in words {
-        let fits = if version_is_due {
-            version_named(word).is_some()
-        } else {
-            is_option(word)
-        };
-        if !fits {
+        if !may_follow(before, word) {
             return false;
         }
-        version_is_due = word.as_str() == "--target";
+        before = word.as_str();
     }
-    !version_is_due
+    !wants_more(before)
 }
 
 /// Whether a word stands among these.
@@ -143,4 +178,15 @@ fn last_version(words: &[String]) -> EsVersion
         version = version_named(word).unwrap_or(version);
     }
     version
+}
+
+/// The last length among these words; none where there is none.
+fn last_length(words: &[String]) -> Option<u32>
+    ensures { result ≡ last_length None words.now }
+{
+    let mut length = None;
+    for word in words {
+        length = length_named(word).or(length);
+    }
+    length
 }

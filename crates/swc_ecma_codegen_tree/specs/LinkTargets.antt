@@ -31,13 +31,13 @@ use Rattle.swc_ecma_codegen_tree.specs.declared.classes.ClassMember.{ClassMember
 use Rattle.swc_ecma_codegen_tree.specs.declared.jsx.JSXElement.{JSXElement}
 use Rattle.swc_ecma_codegen_tree.specs.declared.jsx.JSXFragment.{JSXFragment}
 use Rattle.swc_ecma_codegen_tree.specs.declared.jsx.JSXObject.{JSXObject}
+use Rattle.swc_ecma_codegen_tree.specs.declared.ts_members.TsInterfaceBody.{TsInterfaceBody}
 use Rattle.swc_ecma_codegen_tree.specs.declared.ts_types.TsType.{TsType}
 use Rattle.swc_ecma_codegen_tree.specs.declared.ts_decls.TsNamespaceBody.{TsNamespaceBody}
 use Rattle.swc_ecma_codegen_tree.specs.declared.ts_types.TsTypeAnn.{TsTypeAnn}
 use Rattle.swc_ecma_codegen_tree.specs.declared.ts_types.TsTypeParamDecl.{TsTypeParamDecl}
 use Rattle.swc_ecma_codegen_tree.specs.declared.ts_types.TsTypeParamInstantiation.{TsTypeParamInstantiation}
 use Rattle.swc_ecma_codegen_tree.specs.declared.ts_types.TsFnParam.{TsFnParam}
-use Rattle.swc_ecma_codegen_tree.specs.declared.ts_members.TsTypeElement.{TsTypeElement}
 use Rattle.swc_ecma_codegen_tree.specs.declared.ts_types.TsEntityName.{TsEntityName}
 
 -- what a link holds, by its sort
@@ -122,7 +122,7 @@ jsx_object_in _ = None
 
 -- the part of TypeScript, where it is of one sort
 abbrev pub ts_type_in : {N : Type 0} → TsPart N → Option (TsType N)
-ts_type_in (ts_parts.TsType n) = Some n.value
+ts_type_in (ts_parts.TsType n) = Some n
 ts_type_in _ = None
 
 abbrev pub ts_namespace_body_in : {N : Type 0} → TsPart N → Option (TsNamespaceBody N)
@@ -145,9 +145,9 @@ abbrev pub ts_fn_param_in : {N : Type 0} → TsPart N → Option (TsFnParam N)
 ts_fn_param_in (ts_parts.TsFnParam n) = Some n
 ts_fn_param_in _ = None
 
-abbrev pub ts_type_element_in : {N : Type 0} → TsPart N → Option (TsTypeElement N)
-ts_type_element_in (ts_parts.TsTypeElement n) = Some n.value
-ts_type_element_in _ = None
+abbrev pub ts_interface_body_in : {N : Type 0} → TsPart N → Option (TsInterfaceBody N)
+ts_interface_body_in (ts_parts.TsInterfaceBody n) = Some n
+ts_interface_body_in _ = None
 
 abbrev pub ts_entity_name_in : {N : Type 0} → TsPart N → Option (TsEntityName N)
 ts_entity_name_in (ts_parts.TsEntityName n) = Some n

@@ -25,7 +25,7 @@ use Rattle.swc_ecma_codegen_tree.specs.declared.sorts.ToTsTypeAnn.{ToTsTypeAnn}
 use Rattle.swc_ecma_codegen_tree.specs.declared.sorts.ToTsTypeParamDecl.{ToTsTypeParamDecl}
 use Rattle.swc_ecma_codegen_tree.specs.declared.sorts.ToTsTypeParamInstantiation.{ToTsTypeParamInstantiation}
 use Rattle.swc_ecma_codegen_tree.specs.declared.sorts.ToTsFnParam.{ToTsFnParam}
-use Rattle.swc_ecma_codegen_tree.specs.declared.sorts.ToTsTypeElement.{ToTsTypeElement}
+use Rattle.swc_ecma_codegen_tree.specs.declared.sorts.ToTsInterfaceBody.{ToTsInterfaceBody}
 use Rattle.swc_ecma_codegen_tree.specs.declared.sorts.ToTsEntityName.{ToTsEntityName}
 
 abbrev pub ExprBox : Type 0 → Type 0
@@ -103,8 +103,8 @@ TsTypeParamInstantiationBox N = Link ToTsTypeParamInstantiation N
 abbrev pub TsFnParamBox : Type 0 → Type 0
 TsFnParamBox N = Link ToTsFnParam N
 
-abbrev pub TsTypeElementBox : Type 0 → Type 0
-TsTypeElementBox N = Link ToTsTypeElement N
+abbrev pub TsInterfaceBodyBox : Type 0 → Type 0
+TsInterfaceBodyBox N = Link ToTsInterfaceBody N
 
 abbrev pub TsEntityNameBox : Type 0 → Type 0
 TsEntityNameBox N = Link ToTsEntityName N

@@ -158,7 +158,7 @@ pub(crate) fn let_ts_part_go<N: Drop>(node: TsPart<N>) {
         TsPart::TsTypeParamDecl(node) => let_go_apart(node),
         TsPart::TsTypeParamInstantiation(node) => let_go_apart(node),
         TsPart::TsFnParam(node) => let_go_apart(node),
-        TsPart::TsTypeElement(node) => let_go_apart(node),
+        TsPart::TsInterfaceBody(node) => let_go_apart(node),
         TsPart::TsEntityName(node) => let_go_apart(node),
     }
 }

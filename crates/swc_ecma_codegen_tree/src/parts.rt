@@ -11,7 +11,7 @@ use crate::pats::{AssignTarget, Pat};
 use crate::programs::ModuleDecl;
 use crate::stmts::BlockStmt;
 use crate::ts_decls::TsNamespaceBody;
-use crate::ts_members::TsTypeElement;
+use crate::ts_members::TsInterfaceBody;
 use crate::ts_types::{
     TsEntityName, TsFnParam, TsType, TsTypeAnn, TsTypeParamDecl, TsTypeParamInstantiation,
 };
@@ -50,12 +50,12 @@ pub enum JSXPart<N = AnyNode> {
 /// A part of TypeScript that a link can hold.
 #[derive(Drop)]
 pub enum TsPart<N = AnyNode> {
-    TsType(Box<TsType<N>>),
+    TsType(TsType<N>),
     TsNamespaceBody(TsNamespaceBody<N>),
     TsTypeAnn(TsTypeAnn<N>),
     TsTypeParamDecl(TsTypeParamDecl<N>),
     TsTypeParamInstantiation(TsTypeParamInstantiation<N>),
     TsFnParam(TsFnParam<N>),
-    TsTypeElement(Box<TsTypeElement<N>>),
+    TsInterfaceBody(TsInterfaceBody<N>),
     TsEntityName(TsEntityName<N>),
 }

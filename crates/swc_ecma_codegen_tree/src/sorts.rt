@@ -3,7 +3,7 @@
 ghost use Rattle.std.specs.Prelude.{◌≡◌, Option, refl};
 ghost use Rattle.std.specs.Option.{option_and_then};
 ghost use Rattle.std.proofs.Common.{rules};
-ghost use Rattle.swc_ecma_codegen_tree.specs.LinkTargets.{pat_in, tpl_in, object_lit_in, prop_name_in, opt_call_in, assign_target_in, function_in, class_in, block_stmt_in, decl_in, module_decl_in, var_decl_in, class_member_in, jsx_element_in, jsx_fragment_in, jsx_object_in, ts_type_in, ts_namespace_body_in, ts_type_ann_in, ts_type_param_decl_in, ts_type_param_instantiation_in, ts_fn_param_in, ts_type_element_in, ts_entity_name_in};
+ghost use Rattle.swc_ecma_codegen_tree.specs.LinkTargets.{pat_in, tpl_in, object_lit_in, prop_name_in, opt_call_in, assign_target_in, function_in, class_in, block_stmt_in, decl_in, module_decl_in, var_decl_in, class_member_in, jsx_element_in, jsx_fragment_in, jsx_object_in, ts_type_in, ts_namespace_body_in, ts_type_ann_in, ts_type_param_decl_in, ts_type_param_instantiation_in, ts_fn_param_in, ts_interface_body_in, ts_entity_name_in};
 
 use crate::classes::{Class, ClassMember};
 use crate::decls::{Decl, Function, VarDecl};
@@ -16,7 +16,7 @@ use crate::pats::{AssignTarget, Pat};
 use crate::programs::ModuleDecl;
 use crate::stmts::{BlockStmt, Stmt};
 use crate::ts_decls::TsNamespaceBody;
-use crate::ts_members::TsTypeElement;
+use crate::ts_members::TsInterfaceBody;
 use crate::ts_types::{
     TsEntityName, TsFnParam, TsType, TsTypeAnn, TsTypeParamDecl, TsTypeParamInstantiation,
 };
@@ -435,18 +435,18 @@ impl<N: Drop> LinkSort<N> for ToTsFnParam {
     ghost linked_is_held = { λ part. refl };
 }
 
-/// A link to a member of an object type, as `Box<TsTypeElement>` in swc.
-pub type TsTypeElementBox<N = AnyNode> = Link<ToTsTypeElement, N>;
+/// A link to the body of an interface, as `Box<TsInterfaceBody>` in swc.
+pub type TsInterfaceBodyBox<N = AnyNode> = Link<ToTsInterfaceBody, N>;
 
-/// To a member of an object type.
-pub enum ToTsTypeElement {}
+/// To the body of an interface.
+pub enum ToTsInterfaceBody {}
 
-impl<N: Drop> LinkSort<N> for ToTsTypeElement {
-    type Node = TsTypeElement<N>;
+impl<N: Drop> LinkSort<N> for ToTsInterfaceBody {
+    type Node = TsInterfaceBody<N>;
 
     type Part = TsPart<N>;
 
-    ghost linked = { option_and_then ts_type_element_in };
+    ghost linked = { option_and_then ts_interface_body_in };
 
     ghost linked_is_held = { λ part. refl };
 }

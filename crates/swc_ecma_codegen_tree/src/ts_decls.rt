@@ -5,10 +5,9 @@ use crate::links::AnyNode;
 use crate::lits::Str;
 use crate::programs::ModuleItem;
 use crate::sorts::{
-    ExprBox, TsEntityNameBox, TsNamespaceBodyBox, TsTypeBox, TsTypeParamDeclBox,
-    TsTypeParamInstantiationBox,
+    ExprBox, TsEntityNameBox, TsInterfaceBodyBox, TsNamespaceBodyBox, TsTypeBox,
+    TsTypeParamDeclBox, TsTypeParamInstantiationBox,
 };
-use crate::ts_members::TsInterfaceBody;
 use swc_ecma_codegen_common::Span;
 
 /// `interface A<T> extends B<T> {c: D}`. TypeScript, Object Types.
@@ -24,7 +23,7 @@ pub struct TsInterfaceDecl<N = AnyNode> {
     /// `B<T>` and `C` of `interface A<T> extends B<T>, C {}`, in order.
     pub extends: Vec<TsExprWithTypeArgs<N>>,
     /// `{b: C}` of `interface A {b: C}`.
-    pub body: TsInterfaceBody<N>,
+    pub body: TsInterfaceBodyBox<N>,
 }
 
 /// `B<C>` of `interface A extends B<C> {}`. TypeScript, Object Types.

@@ -1,7 +1,7 @@
 //! What object types and interfaces hold.
 
 use crate::links::AnyNode;
-use crate::sorts::{ExprBox, TsFnParamBox, TsTypeAnnBox, TsTypeElementBox, TsTypeParamDeclBox};
+use crate::sorts::{ExprBox, TsFnParamBox, TsTypeAnnBox, TsTypeParamDeclBox};
 use swc_ecma_codegen_common::Span;
 
 /// `a: B` or `c(): D` of `{a: B; c(): D}`. TypeScript, Object Types.
@@ -124,5 +124,5 @@ pub struct TsIndexSignature<N = AnyNode> {
 pub struct TsInterfaceBody<N = AnyNode> {
     pub span: Span,
     /// `b: C` and `d(): E` of `interface A {b: C; d(): E}`, in order.
-    pub body: Vec<TsTypeElementBox<N>>,
+    pub body: Vec<TsTypeElement<N>>,
 }

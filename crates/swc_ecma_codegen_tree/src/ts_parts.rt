@@ -1,11 +1,11 @@
 //! How `TsPart` holds its sorts.
 
-ghost use Rattle.swc_ecma_codegen_tree.specs.LinkTargets.{ts_type_in, ts_namespace_body_in, ts_type_ann_in, ts_type_param_decl_in, ts_type_param_instantiation_in, ts_fn_param_in, ts_type_element_in, ts_entity_name_in};
+ghost use Rattle.swc_ecma_codegen_tree.specs.LinkTargets.{ts_type_in, ts_namespace_body_in, ts_type_ann_in, ts_type_param_decl_in, ts_type_param_instantiation_in, ts_fn_param_in, ts_interface_body_in, ts_entity_name_in};
 
 use crate::holds::Holds;
 use crate::parts::TsPart;
 use crate::ts_decls::TsNamespaceBody;
-use crate::ts_members::TsTypeElement;
+use crate::ts_members::TsInterfaceBody;
 use crate::ts_types::{
     TsEntityName, TsFnParam, TsType, TsTypeAnn, TsTypeParamDecl, TsTypeParamInstantiation,
 };
@@ -14,8 +14,8 @@ use std::alloc::{AllocError, Global};
 impl<N: Drop> Holds<TsType<N>> for TsPart<N> {
     ghost node_in = { ts_type_in };
 
-    fn hold(alloc: Global, node: TsType<N>) -> Result<TsPart<N>, AllocError> {
-        Ok(TsPart::TsType(Box::new(alloc, node)?))
+    fn hold(_: Global, node: TsType<N>) -> Result<TsPart<N>, AllocError> {
+        Ok(TsPart::TsType(node))
     }
 
     fn node(&self) -> Option<&TsType<N>> {
@@ -27,7 +27,7 @@ impl<N: Drop> Holds<TsType<N>> for TsPart<N> {
 
     fn into_node(self) -> Result<TsType<N>, TsPart<N>> {
         match self {
-            TsPart::TsType(node) => Ok(Box::into_inner(node)),
+            TsPart::TsType(node) => Ok(node),
             other => Err(other),
         }
     }
@@ -143,23 +143,23 @@ impl<N: Drop> Holds<TsFnParam<N>> for TsPart<N> {
     }
 }
 
-impl<N: Drop> Holds<TsTypeElement<N>> for TsPart<N> {
-    ghost node_in = { ts_type_element_in };
+impl<N: Drop> Holds<TsInterfaceBody<N>> for TsPart<N> {
+    ghost node_in = { ts_interface_body_in };
 
-    fn hold(alloc: Global, node: TsTypeElement<N>) -> Result<TsPart<N>, AllocError> {
-        Ok(TsPart::TsTypeElement(Box::new(alloc, node)?))
+    fn hold(_: Global, node: TsInterfaceBody<N>) -> Result<TsPart<N>, AllocError> {
+        Ok(TsPart::TsInterfaceBody(node))
     }
 
-    fn node(&self) -> Option<&TsTypeElement<N>> {
+    fn node(&self) -> Option<&TsInterfaceBody<N>> {
         match self {
-            TsPart::TsTypeElement(node) => Some(node),
+            TsPart::TsInterfaceBody(node) => Some(node),
             _ => None,
         }
     }
 
-    fn into_node(self) -> Result<TsTypeElement<N>, TsPart<N>> {
+    fn into_node(self) -> Result<TsInterfaceBody<N>, TsPart<N>> {
         match self {
-            TsPart::TsTypeElement(node) => Ok(Box::into_inner(node)),
+            TsPart::TsInterfaceBody(node) => Ok(node),
             other => Err(other),
         }
     }

@@ -6,9 +6,10 @@ use crate::links::AnyNode;
 use crate::lits::{BigInt, Bool, Number, Str};
 use crate::pats::{ArrayPat, ObjectPat, RestPat};
 use crate::sorts::{
-    PatBox, TsEntityNameBox, TsFnParamBox, TsTypeAnnBox, TsTypeBox, TsTypeElementBox,
-    TsTypeParamDeclBox, TsTypeParamInstantiationBox,
+    PatBox, TsEntityNameBox, TsFnParamBox, TsTypeAnnBox, TsTypeBox, TsTypeParamDeclBox,
+    TsTypeParamInstantiationBox,
 };
+use crate::ts_members::TsTypeElement;
 use swc_ecma_codegen_common::Span;
 
 /// `: A` of `let a: A`. TypeScript, Everyday Types.
@@ -16,7 +17,7 @@ use swc_ecma_codegen_common::Span;
 pub struct TsTypeAnn<N = AnyNode> {
     pub span: Span,
     /// `A` of `let a: A`.
-    pub type_ann: TsTypeBox<N>,
+    pub type_ann: TsType<N>,
 }
 
 /// `A<B>` or `string`: any type. TypeScript, Everyday Types.
@@ -27,11 +28,11 @@ pub enum TsType<N = AnyNode> {
     /// `this`
     TsThisType(TsThisType),
     /// `(a: A) => B`
-    TsFnOrConstructorType(TsFnOrConstructorType<N>),
+    TsFnOrConstructorType(Box<TsFnOrConstructorType<N>>),
     /// `A<B>`
     TsTypeRef(TsTypeRef<N>),
     /// `typeof a`
-    TsTypeQuery(TsTypeQuery<N>),
+    TsTypeQuery(Box<TsTypeQuery<N>>),
     /// `{a: B}`
     TsTypeLit(TsTypeLit<N>),
     /// `A[]`
@@ -47,7 +48,7 @@ pub enum TsType<N = AnyNode> {
     /// `A extends B ? C : D`
     TsConditionalType(TsConditionalType<N>),
     /// `infer B` of `A extends (infer B)[] ? B : C`.
-    TsInferType(TsInferType<N>),
+    TsInferType(Box<TsInferType<N>>),
     /// `(A)`
     TsParenthesizedType(TsParenthesizedType<N>),
     /// `keyof T`
@@ -55,13 +56,13 @@ pub enum TsType<N = AnyNode> {
     /// `A["b"]`
     TsIndexedAccessType(TsIndexedAccessType<N>),
     /// `{[A in B]: C}`
-    TsMappedType(TsMappedType<N>),
+    TsMappedType(Box<TsMappedType<N>>),
     /// `"a"`
-    TsLitType(TsLitType<N>),
+    TsLitType(Box<TsLitType<N>>),
     /// `a is B` of `(a): a is B`.
-    TsTypePredicate(TsTypePredicate<N>),
+    TsTypePredicate(Box<TsTypePredicate<N>>),
     /// `import("a").B`
-    TsImportType(TsImportType<N>),
+    TsImportType(Box<TsImportType<N>>),
 }
 
 /// `string`: a type that is a keyword. TypeScript, Everyday Types.
@@ -126,7 +127,7 @@ pub struct TsTypeQuery<N = AnyNode> {
 pub struct TsTypeLit<N = AnyNode> {
     pub span: Span,
     /// `a: B` and `c(): D` of `{a: B; c(): D}`, in order.
-    pub members: Vec<TsTypeElementBox<N>>,
+    pub members: Vec<TsTypeElement<N>>,
 }
 
 /// `A[]`. TypeScript, Object Types.

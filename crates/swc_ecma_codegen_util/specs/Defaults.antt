@@ -1,9 +1,9 @@
 -- The settings that stand where none are given.
-use Rattle.std.specs.Prelude.{false}
+use Rattle.std.specs.Prelude.{false, None}
 use Rattle.swc_ecma_codegen_common.specs.declared.versions.EsVersion.TheVariants.{EsNext}
 use Rattle.swc_ecma_codegen_util.specs.declared.config.Config.{Config}
 
--- the latest version, and all else false
+-- the latest version, no greatest length of lines, and all else false
 abbrev pub default_config : Config
 default_config =
     record {
@@ -13,4 +13,5 @@ default_config =
       omit_last_semi = false;
       emit_assert_for_import_attributes = false;
       inline_script = false;
+      max_line = None;
     }

@@ -20,6 +20,9 @@ pub struct Config {
     pub emit_assert_for_import_attributes: bool,
     /// Strings hold neither `</script` nor `<!--` nor `-->`.
     pub inline_script: bool,
+    /// The greatest length of lines of a module or script that is minified, in UTF-16 units: a line that is longer holds no place
+    /// where it may be ended.
+    pub max_line: Option<u32>,
 }
 
 impl Default for Config {
@@ -34,6 +37,7 @@ impl Default for Config {
             omit_last_semi: false,
             emit_assert_for_import_attributes: false,
             inline_script: false,
+            max_line: None,
         }
     }
 }
@@ -90,6 +94,15 @@ impl Config {
         ensures { result ≡ record self { inline_script = inline_script } }
     {
         self.inline_script = inline_script;
+        self
+    }
+
+    /// The greatest length of lines, in UTF-16 units, of a module or script that is minified; `None` for no such length.
+    /// Lines are ended behind `,` `;` `(` `[` `{` and the operators of two operands, as few as can be.
+    pub fn with_max_line(mut self, max_line: Option<u32>) -> Self
+        ensures { result ≡ record self { max_line = max_line } }
+    {
+        self.max_line = max_line;
         self
     }
 }

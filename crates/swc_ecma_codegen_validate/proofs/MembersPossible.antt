@@ -13,10 +13,10 @@ use Rattle.swc_ecma_codegen_tree.specs.declared.ts_members.TsTypeElement.{TsType
 use Rattle.swc_ecma_codegen_grammar.specs.AnnotationPhrases.{question, annotation, type_params}
 use Rattle.swc_ecma_codegen_grammar.specs.ElementPhrases.{element}
 use Rattle.swc_ecma_codegen_grammar.specs.FunctionPhrases.{word_if}
-use Rattle.swc_ecma_codegen_grammar.specs.MemberPhrases.{signature_key, signature_params, ts_call_signature_decl, ts_construct_signature_decl, ts_property_signature, ts_getter_signature, ts_setter_signature, ts_method_signature, ts_index_signature, ts_signature, ts_type_element, ts_interface_body}
+use Rattle.swc_ecma_codegen_grammar.specs.MemberPhrases.{signature_key, signature_params, ts_call_signature_decl, ts_construct_signature_decl, ts_property_signature, ts_getter_signature, ts_setter_signature, ts_method_signature, ts_index_signature, ts_signature, ts_type_element, ts_interface_body, signature_param_at}
 use Rattle.swc_ecma_codegen_grammar.specs.PatPhrases.{value_at}
 use Rattle.swc_ecma_codegen_grammar.specs.Phrases.{Phrase, word, is_possible}
-use Rattle.swc_ecma_codegen_grammar.specs.TypePhrases.{signature_param_at, type_member_at, ann_at, params_at}
+use Rattle.swc_ecma_codegen_grammar.specs.TypePhrases.{ann_at, params_at}
 use Rattle.swc_ecma_codegen_grammar.specs.declared.roles.Role.{Role}
 use Rattle.swc_ecma_codegen_validate.specs.Possible.{all_possible}
 use Rattle.swc_ecma_codegen_validate.proofs.Annotations.{annotation_possible, typed_possible, params_possible}
@@ -93,6 +93,6 @@ pub type_element_possible : {X : Type 0} (f : X → Role → Phrase) (n : TsType
 unfolding is_possible ts_type_element
 type_element_possible f n = and_true _
 
-pub interface_body_possible : {X : Type 0} (f : X → Role → Phrase) (n : TsInterfaceBody X) → is_possible (ts_interface_body f n) ≡ all_possible (type_member_at f) n.body.items
+pub interface_body_possible : {X : Type 0} (f : X → Role → Phrase) (n : TsInterfaceBody X) → is_possible (ts_interface_body f n) ≡ all_possible (ts_type_element f) n.body.items
 unfolding is_possible ts_interface_body
-interface_body_possible f n = and_true _ ∙ in_order_possible (type_member_at f) n.body.items
+interface_body_possible f n = and_true _ ∙ in_order_possible (ts_type_element f) n.body.items

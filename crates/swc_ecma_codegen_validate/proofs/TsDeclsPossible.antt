@@ -13,7 +13,7 @@ use Rattle.swc_ecma_codegen_tree.specs.declared.ts_decls.TsNamespaceExportDecl.{
 use Rattle.swc_ecma_codegen_tree.specs.declared.ts_decls.TsTypeAliasDecl.{TsTypeAliasDecl}
 use Rattle.swc_ecma_codegen_grammar.specs.ElementPhrases.{element}
 use Rattle.swc_ecma_codegen_grammar.specs.LitPhrases.{str_lit}
-use Rattle.swc_ecma_codegen_grammar.specs.MemberPhrases.{ts_interface_body}
+use Rattle.swc_ecma_codegen_grammar.specs.MemberPhrases.{interface_body_at}
 use Rattle.swc_ecma_codegen_grammar.specs.NamePhrases.{ident}
 use Rattle.swc_ecma_codegen_grammar.specs.NamespacePhrases.{ts_module_block, dotted_namespace}
 use Rattle.swc_ecma_codegen_grammar.specs.PatPhrases.{value_at}
@@ -45,10 +45,10 @@ unfolding is_possible extends_clause all_possible
 extends_possible f [] = refl
 extends_possible f (n ∷ ns) = listed_possible (codes ",") (ts_expr_with_type_args f) (n ∷ ns)
 
-pub interface_decl_possible : {X : Type 0} (f : X → Role → Phrase) (n : TsInterfaceDecl X) → is_possible (ts_interface_decl f n) ≡ (is_possible (ident n.id) && (is_possible (element (params_at f) n.type_params) && (all_possible (ts_expr_with_type_args f) n.extends.items && is_possible (ts_interface_body f n.body))))
+pub interface_decl_possible : {X : Type 0} (f : X → Role → Phrase) (n : TsInterfaceDecl X) → is_possible (ts_interface_decl f n) ≡ (is_possible (ident n.id) && (is_possible (element (params_at f) n.type_params) && (all_possible (ts_expr_with_type_args f) n.extends.items && is_possible (interface_body_at f n.body))))
 unfolding is_possible ts_interface_decl
 interface_decl_possible f n =
-    let body : Bool = is_possible (ts_interface_body f n.body) in
+    let body : Bool = is_possible (interface_body_at f n.body) in
     past_declare n.declare _
     ∙ ap (λ b. is_possible (ident n.id) && (b && (is_possible (extends_clause f n.extends.items) && body))) (params_possible f n.type_params)
     ∙ ap (λ b. is_possible (ident n.id) && (is_possible (element (params_at f) n.type_params) && (b && body))) (extends_possible f n.extends.items)

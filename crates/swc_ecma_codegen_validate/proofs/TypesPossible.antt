@@ -32,7 +32,8 @@ use Rattle.swc_ecma_codegen_grammar.specs.NamePhrases.{ident}
 use Rattle.swc_ecma_codegen_grammar.specs.PatPhrases.{pat_at}
 use Rattle.swc_ecma_codegen_grammar.specs.Phrases.{Phrase, ◌>◌, mark, word, in_order, listed, some_listed, is_possible}
 use Rattle.swc_ecma_codegen_grammar.specs.TemplatePhrases.{is_counted, tpl_parts}
-use Rattle.swc_ecma_codegen_grammar.specs.TypePhrases.{type_at, ann_at, args_at, params_at, type_behind, ts_type_ref, ts_type_param_instantiation, ts_type_param, ts_type_param_decl, signature_param_at, ts_fn_type, ts_constructor_type, ts_tpl_lit_type, qualifier, ts_import_type, ts_type_query_expr, ts_type_query, type_member_at, ts_type_lit, ts_array_type, label, ts_tuple_element, ts_tuple_type, ts_optional_type, signed, mapped_param, ts_mapped_type, ts_union_type, ts_intersection_type, ts_parenthesized_type, ts_indexed_access_type, ts_this_type_or_ident, is_behind, ts_type_predicate}
+use Rattle.swc_ecma_codegen_grammar.specs.MemberPhrases.{signature_param_at, ts_type_element}
+use Rattle.swc_ecma_codegen_grammar.specs.TypePhrases.{type_at, ann_at, args_at, params_at, type_behind, ts_type_ref, ts_type_param_instantiation, ts_type_param, ts_type_param_decl, ts_fn_type, ts_constructor_type, ts_tpl_lit_type, qualifier, ts_import_type, ts_type_query_expr, ts_type_query, ts_type_lit, ts_array_type, label, ts_tuple_element, ts_tuple_type, ts_optional_type, signed, mapped_param, ts_mapped_type, ts_union_type, ts_intersection_type, ts_parenthesized_type, ts_indexed_access_type, ts_this_type_or_ident, is_behind, ts_type_predicate}
 use Rattle.swc_ecma_codegen_grammar.specs.declared.roles.Role.{Role}
 use Rattle.swc_ecma_codegen_grammar.specs.declared.roles.Role.TheVariants.{EntityName}
 use Rattle.swc_ecma_codegen_validate.specs.Possible.{all_possible}
@@ -121,9 +122,9 @@ query_possible f n = ap (λ b. is_possible (ts_type_query_expr f n.expr_name) &&
 
 -- ---- objects, arrays and tuples
 
-pub type_lit_possible : {X : Type 0} (f : X → Role → Phrase) (n : TsTypeLit X) → is_possible (ts_type_lit f n) ≡ all_possible (type_member_at f) n.members.items
+pub type_lit_possible : {X : Type 0} (f : X → Role → Phrase) (n : TsTypeLit X) → is_possible (ts_type_lit f n) ≡ all_possible (ts_type_element f) n.members.items
 unfolding is_possible ts_type_lit
-type_lit_possible f n = and_true _ ∙ in_order_possible (type_member_at f) n.members.items
+type_lit_possible f n = and_true _ ∙ in_order_possible (ts_type_element f) n.members.items
 
 pub array_type_possible : {X : Type 0} (f : X → Role → Phrase) (n : TsArrayType X) → is_possible (ts_array_type f n) ≡ is_possible (type_at f n.elem_type)
 unfolding is_possible ts_array_type

@@ -2,7 +2,7 @@
 
 ghost use Rattle.std.specs.Prelude.{◌≡◌, Bool, List, true};
 ghost use Rattle.swc_ecma_codegen_grammar.specs.declared.roles.Role.{Role as InRole};
-ghost use Rattle.swc_ecma_codegen_grammar.specs.declared.roles.Role.TheVariants.{Expression, Statement, MemberExpression, AssignmentTarget, Pattern, PropertyName, ObjectLiteral, Function, Block, Declaration, VariableDeclaration, Member, Template, ModuleDeclaration, Element, TagObject, AnyType, Annotation, TypeArguments, TypeParameters, EntityName, SignatureParameter, TypeMember, NamespaceBody};
+ghost use Rattle.swc_ecma_codegen_grammar.specs.declared.roles.Role.TheVariants.{Expression, Statement, MemberExpression, AssignmentTarget, Pattern, PropertyName, ObjectLiteral, Function, Block, Declaration, VariableDeclaration, Member, Template, ModuleDeclaration, Element, TagObject, AnyType, Annotation, TypeArguments, TypeParameters, EntityName, SignatureParameter, InterfaceBody, NamespaceBody};
 ghost use Rattle.swc_ecma_codegen_grammar.specs.ElementPhrases.{element};
 ghost use Rattle.swc_ecma_codegen_grammar.specs.Phrases.{Phrase, is_possible};
 ghost use Rattle.swc_ecma_codegen_validate.specs.Possible.{all_possible};
@@ -11,8 +11,8 @@ use swc_ecma_codegen_grammar::roles::Role;
 use swc_ecma_codegen_tree::{
     Link, ToAssignTarget, ToBlockStmt, ToClassMember, ToDecl, ToExpr, ToFunction, ToJSXElement,
     ToJSXFragment, ToJSXObject, ToMemberExpr, ToModuleDecl, ToObjectLit, ToPat, ToPropName, ToStmt,
-    ToTpl, ToTsEntityName, ToTsFnParam, ToTsNamespaceBody, ToTsType, ToTsTypeAnn, ToTsTypeElement,
-    ToTsTypeParamDecl, ToTsTypeParamInstantiation, ToVarDecl,
+    ToTpl, ToTsEntityName, ToTsFnParam, ToTsInterfaceBody, ToTsNamespaceBody, ToTsType,
+    ToTsTypeAnn, ToTsTypeParamDecl, ToTsTypeParamInstantiation, ToVarDecl,
 };
 
 /// A node, or a link to one.
@@ -180,10 +180,10 @@ impl LinkRole for ToTsFnParam {
     ghost ROLE = { SignatureParameter };
 }
 
-impl LinkRole for ToTsTypeElement {
-    const ROLE: Role = Role::TypeMember;
+impl LinkRole for ToTsInterfaceBody {
+    const ROLE: Role = Role::InterfaceBody;
 
-    ghost ROLE = { TypeMember };
+    ghost ROLE = { InterfaceBody };
 }
 
 impl LinkRole for ToTsEntityName {

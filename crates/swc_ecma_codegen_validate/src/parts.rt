@@ -63,13 +63,13 @@ pub(crate) fn ts_part_fits<N: Fits>(part: &TsPart<N>, role: Role) -> bool
     ensures { result ≡ is_possible (ts_part N.reads part.now role) }
 {
     match (part, role) {
-        (TsPart::TsType(node), Role::AnyType) => (**node).is_well_formed(),
+        (TsPart::TsType(node), Role::AnyType) => node.is_well_formed(),
         (TsPart::TsTypeAnn(node), Role::Annotation) => node.is_well_formed(),
         (TsPart::TsTypeParamDecl(node), Role::TypeParameters) => node.is_well_formed(),
         (TsPart::TsTypeParamInstantiation(node), Role::TypeArguments) => node.is_well_formed(),
         (TsPart::TsFnParam(node), Role::SignatureParameter) => node.is_well_formed(),
+        (TsPart::TsInterfaceBody(node), Role::InterfaceBody) => node.is_well_formed(),
         (TsPart::TsEntityName(node), Role::EntityName) => node.is_well_formed(),
-        (TsPart::TsTypeElement(node), Role::TypeMember) => (**node).is_well_formed(),
         (TsPart::TsNamespaceBody(node), Role::NamespaceBody) => node.is_well_formed(),
         (TsPart::TsNamespaceBody(node), Role::DottedBody) => is_dotted_body(node),
         _ => false,

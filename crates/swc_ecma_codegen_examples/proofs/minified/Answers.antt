@@ -7,7 +7,7 @@ use Rattle.swc_ecma_codegen_text_writer.specs.Told.{told}
 use Rattle.swc_ecma_codegen_text_writer.specs.Sheet.{Sheet, HoldsNone}
 use Rattle.swc_ecma_codegen_text_writer.specs.PendingSemi.{with_held}
 use Rattle.swc_ecma_codegen_text_writer.specs.View.{sheet_of, new_sheet}
-use Rattle.swc_ecma_codegen_tokens.specs.Run.{start}
+use Rattle.swc_ecma_codegen_tokens.specs.Run.{start, unlined}
 use Rattle.swc_ecma_codegen_tokens.specs.Written.{AddsReading, ReadsAs, all_indent, is_indent, holds_one}
 use Rattle.swc_ecma_codegen_emit.specs.Roots.{root_phrase, MayBegin}
 use Rattle.swc_ecma_codegen_emit.specs.Texts.{GivesCause}
@@ -26,11 +26,11 @@ returns-clause-reads g c = λ root same well.
     let begun : held ≡ blank =
     c.omit_trailing_semi.ensures ∙ ap (λ (s : Sheet). record s { semicolons = HoldsNone }) (c.new-writer.ensures.sheet refl ∙ ap (λ t. new_sheet t (10 ∷ [])) c.new.ensures.items) in
     let fresh : MayBegin root (start no_lines no_maps config held) =
-    subst (λ s. MayBegin root (start no_lines no_maps config s)) (sym begun) (record { is_new = record { nothing_written = refl; nothing_held = refl; indent_text = refl; line_end = inl refl; leaves_out = refl }; at_margin = λ hashbang line. refl }) in
-    let added : AddsReading config phrase [] blank end = subst (λ s. AddsReading config phrase [] s end) begun (c.in_ok-printed.ensures.reads root same well fresh) in
+    subst (λ s. MayBegin root (start no_lines no_maps config s)) (sym begun) (record { is_new = record { nothing_written = refl; nothing_held = refl; indent_text = refl; line_end = inl refl; leaves_out = refl; flowing = refl }; flows = refl; at_margin = λ hashbang line. refl }) in
+    let added : AddsReading (unlined config) phrase [] blank end = subst (λ s. AddsReading (unlined config) phrase [] s end) begun (c.in_ok-printed.ensures.reads root same well fresh) in
     let all : c.into_inner.result.items ≡ end.text = ap told (c.into_inner.ensures.text refl) ∙ ap (λ (s : Sheet). s.text) c.into_inner-plain.ensures.sheet in
-    let reading = subst (λ t. ReadsAs config true phrase [] t) (sym (all ∙ added.is_added)) added.reading in
-    subst (λ k. ReadsAs k true phrase [] c.into_inner.result.items) (c.with_minify-config.ensures ∙ ap (λ (k : Config). record k { minify = true }) c.default.ensures) reading
+    let reading = subst (λ t. ReadsAs (unlined config) true phrase [] t) (sym (all ∙ added.is_added)) added.reading in
+    subst (λ k. ReadsAs (unlined k) true phrase [] c.into_inner.result.items) (c.with_minify-config.ensures ∙ ap (λ (k : Config). record k { minify = true }) c.default.ensures) reading
 
 -- an emission that is refused began there too
 pub returns-in_err-printed-clause-cause : goal.returns-in_err-printed-clause-cause

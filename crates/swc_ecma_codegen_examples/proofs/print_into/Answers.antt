@@ -5,7 +5,7 @@ use Rattle.swc_ecma_codegen_grammar.specs.Comments.{no_maps}
 use Rattle.swc_ecma_codegen_grammar.specs.SourceLines.{no_lines}
 use Rattle.swc_ecma_codegen_text_writer.specs.Told.{told}
 use Rattle.swc_ecma_codegen_text_writer.specs.View.{sheet_of, new_sheet}
-use Rattle.swc_ecma_codegen_tokens.specs.Run.{start}
+use Rattle.swc_ecma_codegen_tokens.specs.Run.{start, unlined}
 use Rattle.swc_ecma_codegen_tokens.specs.Written.{AddsReading}
 use Rattle.swc_ecma_codegen_emit.specs.Roots.{root_phrase, MayBegin}
 use Rattle.swc_ecma_codegen_emit.specs.Texts.{GivesCause}
@@ -20,8 +20,8 @@ returns-clause-reads g c = λ root same well tells.
     let begun : sheet_of c.new-writer.result ≡ new_sheet before (10 ∷ []) = c.new-writer.ensures.sheet refl in
     let fresh = new_begins root no_lines no_maps c.default.result before (10 ∷ []) (inl refl) in
     let added = c.in_ok-printed.ensures.reads root same well (subst (λ s. MayBegin root (start no_lines no_maps c.default.result s)) (sym begun) fresh) in
-    let over : AddsReading c.default.result (root_phrase root) [] (new_sheet before (10 ∷ [])) end = subst (λ s. AddsReading c.default.result (root_phrase root) [] s end) begun added in
-    let told_so : AddsReading default_config (root_phrase root) [] (new_sheet before (10 ∷ [])) end = subst (λ k. AddsReading k (root_phrase root) [] (new_sheet before (10 ∷ [])) end) c.default.ensures over in
+    let over : AddsReading (unlined c.default.result) (root_phrase root) [] (new_sheet before (10 ∷ [])) end = subst (λ s. AddsReading (unlined c.default.result) (root_phrase root) [] s end) begun added in
+    let told_so : AddsReading default_config (root_phrase root) [] (new_sheet before (10 ∷ [])) end = subst (λ k. AddsReading (unlined k) (root_phrase root) [] (new_sheet before (10 ∷ [])) end) c.default.ensures over in
     let all : told (g.W.Write.contents c.into_inner.result) ≡ end.text = ap told (c.into_inner.ensures.text (tells _)) in
     record { added = told_so.added; is_added = all ∙ told_so.is_added; reading = told_so.reading }
 

@@ -2,7 +2,7 @@ use Rattle.std.proofs.Common.{[], ap, subst, sym}
 use Rattle.swc_ecma_codegen_grammar.specs.Comments.{AreClosed, maps_in, no_maps}
 use Rattle.swc_ecma_codegen_grammar.specs.SourceLines.{no_lines}
 use Rattle.swc_ecma_codegen_tokens.proofs.NoneTaken.{no_maps_bare, no_maps_closed, same_remarks}
-use Rattle.swc_ecma_codegen_tokens.specs.Run.{State, start}
+use Rattle.swc_ecma_codegen_tokens.specs.Run.{State, start, unlined}
 use Rattle.swc_ecma_codegen_tokens.specs.Written.{AddsReading, taken_remarks}
 use Rattle.swc_ecma_codegen_text_writer.specs.Recorded.{RecordsTruly}
 use Rattle.swc_ecma_codegen_emit.specs.Roots.{root_phrase, MayBegin}
@@ -18,9 +18,9 @@ returns-clause-reads g c = λ root same well fresh.
     let begun = c.new-emitter.ensures.state in
     let closed = subst AreClosed (sym (ap (λ (s : State). s.env.maps) begun)) no_maps_closed in
     let reads = c.in_ok-emit_with.ensures.reads root same well (subst (MayBegin root) (sym begun) fresh) closed in
-    let over : AddsReading c.args.config (root_phrase root) (taken_remarks part (start no_lines no_maps c.args.config old).env) old end =
+    let over : AddsReading (unlined c.args.config) (root_phrase root) (taken_remarks part (start no_lines no_maps c.args.config old).env) old end =
     subst (λ (s : State). AddsReading s.env.config (root_phrase root) (taken_remarks part s.env) s.sheet end) begun reads in
-    subst (λ remarks. AddsReading c.args.config (root_phrase root) remarks old end) (same_remarks [] part (start no_lines no_maps c.args.config old).env no_maps_bare) over
+    subst (λ remarks. AddsReading (unlined c.args.config) (root_phrase root) remarks old end) (same_remarks [] part (start no_lines no_maps c.args.config old).env no_maps_bare) over
 
 pub returns-clause-recorded : goal.returns-clause-recorded
 returns-clause-recorded g c =

@@ -9,7 +9,7 @@ pub returns-clause-indented : goal.returns-clause-indented
 returns-clause-indented c root lines maps config bytes line_end indent h k = indented_begins root lines maps config bytes line_end indent h k
 
 pub returns-clause-ready : goal.returns-clause-ready
-returns-clause-ready c lines maps config bytes line_end = new_is_ready lines maps config bytes line_end
+returns-clause-ready c lines maps config bytes line_end h = new_is_ready lines maps config bytes line_end h
 
 pub returns-clause-holding : goal.returns-clause-holding
 returns-clause-holding c root lines maps config bytes line_end h = holding_begins root lines maps config bytes line_end h

@@ -125,6 +125,21 @@ impl<W: Write, K: KeepsPositions> WriteJs for Lines<'_, W, K> {
         self.answer(answer)
     }
 
+    fn begin_lines(&mut self, max: u32) -> Result {
+        let answer = self.begin(max);
+        self.answer(answer)
+    }
+
+    fn allow_break(&mut self) -> Result {
+        let answer = self.allow();
+        self.answer(answer)
+    }
+
+    fn end_lines(&mut self) -> Result {
+        let answer = self.close();
+        self.answer(answer)
+    }
+
     #[inline(always)]
     #[tactic(auto, unfolding(crate::specs::View::sheet_of))]
     fn can_ignore_invalid_unicodes(&mut self) -> bool {

@@ -2,8 +2,7 @@ use Rattle.std.proofs.Common.{◌≡◌, None, ap, ◌∙◌, subst, inr}
 use Rattle.std.proofs.lemmas.Result.{IfOk-weaker, IfErr-weaker}
 use Rattle.swc_ecma_codegen_common.specs.Refusals.{reason_of}
 use Rattle.swc_ecma_codegen_text_writer.specs.Sheet.{Commit, Refuses}
-use Rattle.swc_ecma_codegen_grammar.specs.Comments.{maps_in}
-use Rattle.swc_ecma_codegen_tokens.specs.Run.{State, Follows, printed, start, steps_in, unprintable_in}
+use Rattle.swc_ecma_codegen_tokens.specs.Run.{State, Follows, printed, steps_in, unprintable_in}
 use Rattle.swc_ecma_codegen_emit.specs.Texts.{with_last}
 use Rattle.swc_ecma_codegen_emit.proofs.code.print_whole.Goals as goal
 

@@ -9,6 +9,7 @@ use Rattle.swc_ecma_codegen_text_writer.specs.View.{sheet_of}
 use Rattle.swc_ecma_codegen_grammar.specs.Comments.{maps_in}
 use Rattle.swc_ecma_codegen_grammar.specs.Phrases.{names_in}
 use Rattle.swc_ecma_codegen_tokens.specs.Named.{NamesStand}
+use Rattle.swc_ecma_codegen_tokens.specs.Run.{unlined}
 use Rattle.swc_ecma_codegen_tokens.specs.Written.{ReadsAs, taken_remarks}
 use Rattle.swc_ecma_codegen_emit.specs.Roots.{root_phrase}
 use Rattle.swc_ecma_codegen_emit.specs.Texts.{sheet_with, start_with}
@@ -37,7 +38,7 @@ returns-in-Ok-clause-reads g c = λ root same well closed.
     let maps = maps_in g.C.Comments.maps c.args.comments in
     let part = g.N.Node.part c.args.node.now in
     let config = c.args.cfg in
-    subst (λ z. ReadsAs config config.minify (root_phrase root) (taken_remarks part (start_with lines maps config).env) z) (sym (returns-in-Ok-clause-text g c)) (code_reads_with lines maps config root part same well closed c.in-Ok.ensures.printable)
+    subst (λ z. ReadsAs (unlined config) config.minify (root_phrase root) (taken_remarks part (start_with lines maps config).env) z) (sym (returns-in-Ok-clause-text g c)) (code_reads_with lines maps config root part same well closed c.in-Ok.ensures.printable)
 
 pub returns-in-Ok-clause-recorded : goal.returns-in-Ok-clause-recorded
 returns-in-Ok-clause-recorded g c =
@@ -65,4 +66,4 @@ returns-in-Ok-clause-names g c = λ root same well.
     let config = c.args.cfg in
     let sheet = sheet_with lines maps config part in
     let names = names_in (root_phrase root) in
-    subst (λ t. NamesStand config origin t c.into_parts-text.result.1.items names) (sym (returns-in-Ok-clause-text g c)) (subst (λ t. NamesStand config origin sheet.text t names) (sym (returns-in-Ok-clause-positions g c)) (names_with lines maps config root part same well c.in-Ok.ensures.printable))
+    subst (λ t. NamesStand (unlined config) origin t c.into_parts-text.result.1.items names) (sym (returns-in-Ok-clause-text g c)) (subst (λ t. NamesStand (unlined config) origin sheet.text t names) (sym (returns-in-Ok-clause-positions g c)) (names_with lines maps config root part same well c.in-Ok.ensures.printable))

@@ -1,6 +1,6 @@
 use Rattle.std.proofs.Common.{arith, ap, refl}
 use Rattle.swc_ecma_codegen_text_writer.specs.Sheet.{Sheet, Semi, Symbol, Writes, effect}
-use Rattle.swc_ecma_codegen_text_writer.proofs.Sheets.{writes_indentation}
+use Rattle.swc_ecma_codegen_text_writer.proofs.Stays.{writes_indentation}
 use Rattle.swc_ecma_codegen_tests.proofs.writers.fails_at_a_name.Goals as goal
 
 -- the depth is one since the first call

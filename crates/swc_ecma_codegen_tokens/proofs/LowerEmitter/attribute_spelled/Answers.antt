@@ -1,6 +1,6 @@
 use Rattle.swc_ecma_codegen_tokens.proofs.RewrittenLiterals.{taking_anew, taking_not_anew}
 use Rattle.swc_ecma_codegen_tokens.proofs.CommentSteps.{taking_failed}
-use Rattle.std.proofs.Common.{refl, ap, ◌∙◌, is_none}
+use Rattle.std.proofs.Common.{refl, ap, ◌∙◌}
 use Rattle.swc_ecma_codegen_common.specs.Refusals.{reason_of}
 use Rattle.swc_ecma_codegen_tokens.specs.Attributes.{spelled_string, attribute_by}
 use Rattle.swc_ecma_codegen_tokens.proofs.LowerEmitter.attribute_spelled.Goals as goal

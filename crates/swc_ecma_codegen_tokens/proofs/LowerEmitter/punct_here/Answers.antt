@@ -8,5 +8,5 @@ use Rattle.swc_ecma_codegen_tokens.proofs.SoFar.{punct_so_far}
 use Rattle.swc_ecma_codegen_tokens.proofs.LowerEmitter.punct_here.Goals as goal
 
 pub returns-clause-reads : goal.returns-clause-reads
-unfolding words.punct with_source
-returns-clause-reads g c = λ old tokens rs h. punct_so_far (spelling c.args.mark) old tokens rs _ _ (is_mark c.args.mark) (λ rest z r f. c.in_ok-guard_mark.ensures.items no_lines no_maps _ z r (c.in_ok-put_punct.ensures.items no_lines no_maps rest z r f)) h
+unfolding words.punct words.bare_punct with_source
+returns-clause-reads g c = λ old tokens rs h. punct_so_far (spelling c.args.mark) old tokens rs _ _ (is_mark c.args.mark) (λ rest z r f. c.in_ok-guard_mark.ensures.items no_lines no_maps _ z r (c.in_ok-put_punct.ensures.items no_lines no_maps _ z r (c.in_ok-break_behind.ensures.items no_lines no_maps rest z r f))) h

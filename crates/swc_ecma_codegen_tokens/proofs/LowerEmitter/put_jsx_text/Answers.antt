@@ -1,7 +1,6 @@
 use Rattle.std.proofs.Common.{refl}
 use Rattle.swc_ecma_codegen_grammar.specs.declared.kinds.Kind.TheVariants.{JsxText}
 use Rattle.swc_ecma_codegen_grammar.specs.GapRules.{last_after}
-use Rattle.swc_ecma_codegen_spans.specs.Spans.{dummy_span}
 use Rattle.swc_ecma_codegen_text_writer.specs.Sheet.{StrLit}
 use Rattle.swc_ecma_codegen_tokens.specs.PreviousToken.{last_at}
 use Rattle.swc_ecma_codegen_tokens.specs.Run.{after_token, text_of}

@@ -1,6 +1,6 @@
-use Rattle.std.proofs.Common.{◌≡◌, false, ◌&&◌, cond, Some, rules, refl, sym, ap, ◌∙◌}
+use Rattle.std.proofs.Common.{◌≡◌, false, ◌&&◌, ◌==◌, not, cond, Some, rules, refl, sym, ap, ◌∙◌}
 use Rattle.swc_ecma_codegen_common.specs.declared.positions.BytePos.{BytePos}
-use Rattle.swc_ecma_codegen_text_writer.specs.Sheet.{Sheet, Position, effect, pointed, recorded, with_pair}
+use Rattle.swc_ecma_codegen_text_writer.specs.Sheet.{Sheet, Position, effect, pointed, recorded, recorded_by}
 use Rattle.swc_ecma_codegen_tokens.specs.Run.{State, Plain, put, after_plain}
 use Rattle.swc_ecma_codegen_tokens.proofs.Emitting.{does_failed, does_step}
 use Rattle.swc_ecma_codegen_tokens.proofs.LowerEmitter.record.Goals as goal
@@ -11,7 +11,7 @@ returns-then-self-clause-items g c = λ lines maps rest. does_failed _ _ c.if-se
 -- without positions its call would change nothing
 unrecorded : (pos : BytePos) (s : Sheet) → s.keeps_positions ≡ false → s ≡ pointed pos s
 unfolding pointed recorded
-unrecorded pos s h = sym (ap (λ b. cond (b && s.at_line_start) (record s { pending = Some pos }) (cond b (record s { pairs = with_pair pos s.place s.pairs }) s)) h)
+unrecorded pos s h = sym (ap (λ b. cond (b && s.at_line_start) (record s { pending = Some pos }) (cond (b && not (pos.0 == 0)) (recorded_by s.lines pos s) s)) h)
 
 same_state : (pos : BytePos) (a : State) → a.sheet.keeps_positions ≡ false → a ≡ put (Plain (Position pos)) a
 unfolding put effect after_plain

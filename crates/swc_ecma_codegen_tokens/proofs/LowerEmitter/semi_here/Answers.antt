@@ -6,5 +6,5 @@ use Rattle.swc_ecma_codegen_tokens.proofs.SoFar.{semi_so_far}
 use Rattle.swc_ecma_codegen_tokens.proofs.LowerEmitter.semi_here.Goals as goal
 
 pub returns-clause-reads : goal.returns-clause-reads
-unfolding words.semi with_source
-returns-clause-reads g c = λ old tokens rs h. semi_so_far old tokens rs _ _ (λ rest z r f. c.in_ok-guard_mark.ensures.items no_lines no_maps _ z r (c.in_ok-put_semi.ensures.items no_lines no_maps rest z r f)) h
+unfolding words.semi words.bare_semi with_source
+returns-clause-reads g c = λ old tokens rs h. semi_so_far old tokens rs _ _ (λ rest z r f. c.in_ok-guard_mark.ensures.items no_lines no_maps _ z r (c.in_ok-put_semi.ensures.items no_lines no_maps _ z r (c.in_ok-allow_break.ensures.items no_lines no_maps rest z r f))) h

@@ -1,7 +1,8 @@
--- What is left of the words decides, from whether the name of a version is due.
-use Rattle.std.proofs.Common.{◌≡◌, drop, false}
-use Rattle.swc_ecma_codegen_tool.specs.Words.{are_options_from}
+-- What is left of the words decides, after the word before.
+use Rattle.std.proofs.Common.{◌≡◌, drop, []}
+use Rattle.std.specs.Str.{IsUtf8}
+use Rattle.swc_ecma_codegen_tool.specs.Words.{are_options_after}
 use Rattle.swc_ecma_codegen_tool.proofs.words.are_options.Given as goal
 
 abbrev pub invariant-loop-word : goal.invariant-loop-word
-invariant-loop-word l = are_options_from l.version_is_due (drop l.word-index l.words) ≡ are_options_from false l.words
+invariant-loop-word l = IsUtf8 l.before × (are_options_after l.before (drop l.word-index l.words) ≡ are_options_after [] l.words)

@@ -1,6 +1,6 @@
 use Rattle.swc_ecma_codegen_tokens.specs.Run.{State}
 use Rattle.swc_ecma_codegen_emit.specs.View.{state_of}
-use Rattle.swc_ecma_codegen_emit.proofs.TreeReads.{script_reads, script_told, steps_taken, script_safe, script_places}
+use Rattle.swc_ecma_codegen_emit.proofs.TreeReads.{script_ascii, script_fills, script_names, script_reads, script_told, steps_taken, script_safe, script_places}
 use Rattle.swc_ecma_codegen_emit.proofs.emitter.Emitter.emit_script.Goals as goal
 
 pub returns-clause-reads : goal.returns-clause-reads
@@ -13,7 +13,7 @@ pub returns-clause-inline : goal.returns-clause-inline
 returns-clause-inline g c =
     let a : State = state_of g.S.SourceMapper.lines g.C.Comments.maps g.W.WriteJs.sheet c.args.self.now in
     let b : State = state_of g.S.SourceMapper.lines g.C.Comments.maps g.W.WriteJs.sheet c.emit.new.self in
-    λ well inline left_out. script_safe c.args.node.now a b c.emit.result well inline left_out c.emit.ensures.items
+    λ well inline left_out flows. script_safe c.args.node.now a b c.emit.result well inline left_out flows c.emit.ensures.items
 
 pub returns-clause-taken : goal.returns-clause-taken
 returns-clause-taken g c =
@@ -32,3 +32,21 @@ returns-clause-places g c =
     let a : State = state_of g.S.SourceMapper.lines g.C.Comments.maps g.W.WriteJs.sheet c.args.self.now in
     let b : State = state_of g.S.SourceMapper.lines g.C.Comments.maps g.W.WriteJs.sheet c.emit.new.self in
     λ well fresh closed kept. script_places c.args.node.now a b c.emit.result well fresh closed kept c.emit.ensures.items
+
+pub returns-clause-fills : goal.returns-clause-fills
+returns-clause-fills g c =
+    let a : State = state_of g.S.SourceMapper.lines g.C.Comments.maps g.W.WriteJs.sheet c.args.self.now in
+    let b : State = state_of g.S.SourceMapper.lines g.C.Comments.maps g.W.WriteJs.sheet c.emit.new.self in
+    λ max well minified bounded left_out fill. script_fills c.args.node.now a b c.emit.result max well minified bounded left_out fill c.emit.ensures.items
+
+pub returns-clause-names : goal.returns-clause-names
+returns-clause-names g c =
+    let a : State = state_of g.S.SourceMapper.lines g.C.Comments.maps g.W.WriteJs.sheet c.args.self.now in
+    let b : State = state_of g.S.SourceMapper.lines g.C.Comments.maps g.W.WriteJs.sheet c.emit.new.self in
+    λ well kept left_out flows fill. script_names c.args.node.now a b c.emit.result well kept left_out flows fill c.emit.ensures.items
+
+pub returns-clause-ascii : goal.returns-clause-ascii
+returns-clause-ascii g c =
+    let a : State = state_of g.S.SourceMapper.lines g.C.Comments.maps g.W.WriteJs.sheet c.args.self.now in
+    let b : State = state_of g.S.SourceMapper.lines g.C.Comments.maps g.W.WriteJs.sheet c.emit.new.self in
+    λ well wants. script_ascii c.args.node.now a b c.emit.result well wants c.emit.ensures.items

@@ -3,7 +3,8 @@ use Rattle.swc_ecma_codegen_tree.specs.declared.ts_types.TsTypeParam.{TsTypePara
 use Rattle.swc_ecma_codegen_emit.specs.Standing.{Standing, Makes, standing_of}
 use Rattle.swc_ecma_codegen_tokens.specs.Lists.{list}
 use Rattle.swc_ecma_codegen_emit.specs.Lists.{child_of}
-use Rattle.swc_ecma_codegen_emit.specs.Types.{types_format, param_place, ts_type_param}
+use Rattle.swc_ecma_codegen_emit.specs.Annotations.{types_format}
+use Rattle.swc_ecma_codegen_emit.specs.Types.{param_place, ts_type_param}
 use Rattle.swc_ecma_codegen_emit.proofs.emitter.Emitter.listed_params.Goals as goal
 
 pub returns-clause-items : goal.returns-clause-items

@@ -3,7 +3,7 @@ use Rattle.swc_ecma_codegen_tree.specs.Links.{TsTypeBox}
 use Rattle.swc_ecma_codegen_emit.specs.Standing.{Standing, Makes, standing_of}
 use Rattle.swc_ecma_codegen_tokens.specs.Lists.{list}
 use Rattle.swc_ecma_codegen_emit.specs.Lists.{child_of}
-use Rattle.swc_ecma_codegen_emit.specs.Types.{types_format}
+use Rattle.swc_ecma_codegen_emit.specs.Annotations.{types_format}
 use Rattle.swc_ecma_codegen_emit.proofs.emitter.Emitter.listed_types.Goals as goal
 
 pub returns-clause-items : goal.returns-clause-items

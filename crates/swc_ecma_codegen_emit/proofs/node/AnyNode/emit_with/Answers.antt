@@ -1,6 +1,6 @@
 use Rattle.swc_ecma_codegen_tokens.specs.Run.{State}
 use Rattle.swc_ecma_codegen_emit.specs.View.{state_of}
-use Rattle.swc_ecma_codegen_emit.proofs.TreeReads.{root_reads, root_told, steps_taken, root_names, root_places, root_ascii, root_safe}
+use Rattle.swc_ecma_codegen_emit.proofs.TreeReads.{root_reads, root_told, steps_taken, root_fills, root_names, root_places, root_ascii, root_safe}
 use Rattle.swc_ecma_codegen_emit.proofs.TreeMade.{root_made}
 use Rattle.swc_ecma_codegen_emit.proofs.node.AnyNode.emit_with.Goals as goal
 
@@ -11,13 +11,16 @@ pub returns-clause-made : goal.returns-clause-made
 returns-clause-made g c = λ root same plain ready no_fault. root_made root _ _ _ _ same plain ready no_fault c.emit.ensures.items
 
 pub returns-clause-names : goal.returns-clause-names
-returns-clause-names g c = λ root same well kept left_out. root_names root _ _ _ _ same well kept left_out c.emit.ensures.items
+returns-clause-names g c = λ root same well kept left_out flows fill. root_names root _ _ _ _ same well kept left_out flows fill c.emit.ensures.items
+
+pub returns-clause-fills : goal.returns-clause-fills
+returns-clause-fills g c = λ root max same whole well minified bounded left_out fill. root_fills root _ _ _ _ max same whole well minified bounded left_out fill c.emit.ensures.items
 
 pub returns-clause-ascii : goal.returns-clause-ascii
 returns-clause-ascii g c = λ root same well wants. root_ascii root _ _ _ _ same well wants c.emit.ensures.items
 
 pub returns-clause-inline : goal.returns-clause-inline
-returns-clause-inline g c = λ root same well inline left_out. root_safe root _ _ _ _ same well inline left_out c.emit.ensures.items
+returns-clause-inline g c = λ root same well inline left_out flows. root_safe root _ _ _ _ same well inline left_out flows c.emit.ensures.items
 
 pub returns-clause-taken : goal.returns-clause-taken
 returns-clause-taken g c =

@@ -2,6 +2,7 @@ use Rattle.std.proofs.Common.{◌≡◌, refl, ◌∙◌, ap, subst, arith}
 use Rattle.std.proofs.lemmas.Result.{err_from_is_err_and}
 use Rattle.swc_ecma_codegen_text_writer.specs.Sheet.{Sheet, appended, indented}
 use Rattle.swc_ecma_codegen_text_writer.specs.View.{sheet_of, Reaches, Halted}
+use Rattle.swc_ecma_codegen_text_writer.proofs.Sheets.{alike_same, indented_alike}
 use Rattle.swc_ecma_codegen_text_writer.proofs.Steps.{indented_zero, indented_more, indent_halted}
 use Rattle.swc_ecma_codegen_text_writer.proofs.basic_impl.Lines.indent_by_levels.Goals as goal
 
@@ -11,8 +12,7 @@ loop-init g c = record { sheet = indented_zero _; indent_text = refl; end = refl
 
 -- the sheets so far have the mark of the first one
 pub send-requires : goal.send-requires
-unfolding indented appended
-send-requires g c = ap (λ (s : Sheet). s.refused) c.loop.invariant.sheet ∙ c.requires
+send-requires g c = ap (λ (s : Sheet). s.refused) c.loop.invariant.sheet ∙ (alike_same _ _ (indented_alike c.loop.counter (sheet_of c.args.self.now))).refused ∙ c.requires
 
 pub loop-preserved : goal.loop-preserved
 unfolding sheet_of Reaches

@@ -1,6 +1,6 @@
 use Rattle.std.proofs.Common.{true, false, codes}
 use Rattle.std.specs.Str.{is_utf8}
-use Rattle.swc_ecma_codegen_text_writer.specs.Sheet.{AtOnce}
+use Rattle.swc_ecma_codegen_text_writer.specs.Sheet.{AtOnce, Flowing}
 use Rattle.swc_ecma_codegen_text_writer.specs.View.{sheet_of}
 use Rattle.swc_ecma_codegen_text_writer.proofs.Steps.{new_place}
 use Rattle.swc_ecma_codegen_text_writer.proofs.basic_impl.Lines.on.Goals as goal
@@ -19,6 +19,7 @@ returns-clause-sheet g c = λ i. record {
   pairs = g.K.KeepsPositions.pairs c.args.kept;
   pending = c.requires.pending i;
   place = new_place _ c.new.ensures.logged i;
+  lines = Flowing;
   faults = c.new.ensures.faults i;
   refused = false;
   takes_memory = g.K.KeepsPositions.keeps c.args.kept;

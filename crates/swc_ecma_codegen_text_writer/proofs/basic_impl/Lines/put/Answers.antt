@@ -2,7 +2,8 @@ use Rattle.std.proofs.Common.{◌∙◌, ap}
 use Rattle.std.proofs.lemmas.Result.{err_from_is_err_and}
 use Rattle.swc_ecma_codegen_text_writer.specs.Sheet.{Sheet, appended, start_recorded, end_recorded}
 use Rattle.swc_ecma_codegen_text_writer.specs.View.{sheet_of, Reaches}
-use Rattle.swc_ecma_codegen_text_writer.proofs.Sheets.{started_alike, started_same, started_indentation}
+use Rattle.swc_ecma_codegen_text_writer.proofs.Sheets.{started_alike, started_same}
+use Rattle.swc_ecma_codegen_text_writer.proofs.Stays.{started_stays}
 use Rattle.swc_ecma_codegen_text_writer.proofs.Steps.{first_halted, reached, reaches_to, reaches_then, written_some, started_written}
 use Rattle.swc_ecma_codegen_text_writer.proofs.basic_impl.Lines.put.Goals as goal
 
@@ -18,5 +19,5 @@ put_in_line-requires g c = ap (λ (s : Sheet). s.refused) c.in_ok-start_line.ens
 
 pub returns : goal.returns
 returns g c =
-    reaches_then _ _ _ _ _ _ (reached _ _ _ _ c.in_ok-start_line.ensures) (started_alike _) (started_indentation _)
+    reaches_then _ _ _ _ _ _ (reached _ _ _ _ c.in_ok-start_line.ensures) (started_alike _) (started_stays _)
     (λ e. reaches_to _ _ _ _ _ (ap (λ (s : Sheet). end_recorded c.args.span (appended c.args.text.now (start_recorded c.args.span s))) e ∙ written_some c.args.span c.args.text.now _ c.requires.some) c.put_in_line.ensures)

@@ -1,22 +1,19 @@
-use Rattle.std.proofs.Common.{true, refl}
-use Rattle.swc_ecma_codegen_text_writer.specs.Sheet.{recorded}
+use Rattle.std.proofs.Common.{sym, ◌∙◌}
+use Rattle.swc_ecma_codegen_text_writer.specs.Sheet.{Sheet}
 use Rattle.swc_ecma_codegen_text_writer.specs.View.{sheet_of, Reaches}
-use Rattle.swc_ecma_codegen_text_writer.proofs.Sheets.{recorded_alike}
-use Rattle.swc_ecma_codegen_text_writer.proofs.Steps.{recorded_sheet, refused_here, refused_pairs, refused_reason}
+use Rattle.swc_ecma_codegen_text_writer.proofs.Steps.{recorded_none, recorded_bare, both_true, not_zero}
 use Rattle.swc_ecma_codegen_text_writer.proofs.basic_impl.Lines.record.Goals as goal
+use Rattle.swc_ecma_codegen_text_writer.proofs.basic_impl.Lines.record.Goals.{then-pos-eq0-via-then-pos-eq0, then-pos-eq0-via-else-pos-eq0+then-not-is_kept}
 
-pub returns-in-Ok : goal.returns-in-Ok
+pub returns-then-pos-eq0 : goal.returns-then-pos-eq0
 unfolding sheet_of Reaches
-returns-in-Ok g c =
-    recorded_sheet c.args.pos (sheet_of c.args.self.now) _ c.in-Ok.field-0 _ _ _
-    (c.in-Ok.ensures.pairs _ (c.args.self.now.counted c.requires)) c.in-Ok.ensures.keeps c.in-Ok.ensures.keeps c.in-Ok.ensures.pending
+returns-then-pos-eq0 g c =
+    let s : Sheet = sheet_of c.args.self.now in
+    elim c.then-pos-eq0.branch [
+      | then-pos-eq0-via-then-pos-eq0 w ↦ sym (recorded_none c.args.pos s w.if-pos-eq0.true)
+      | then-pos-eq0-via-else-pos-eq0+then-not-is_kept w ↦ sym (recorded_bare c.args.pos s (sym w.is_kept.ensures ∙ w.if-not-is_kept.true))
+    ]
 
-pub returns-in-Err : goal.returns-in-Err
-unfolding sheet_of Reaches
-returns-in-Err g c =
-    let old = sheet_of c.args.self.now in
-    let refused = c.in-Err.ensures.pairs _ (c.args.self.now.counted c.requires) in
-    refused_here c.in-Err.refusal (recorded c.args.pos old) old _
-    (λ i. record old { refused = true; keeps_positions = c.in-Err.ensures.keeps i; takes_memory = c.in-Err.ensures.keeps i; pairs = refused_pairs c.args.pos _ _ _ _ c.in-Err.refusal refused i; pending = c.in-Err.ensures.pending i })
-    (recorded_alike c.args.pos old)
-    (refused_reason c.args.pos _ _ _ c.in-Err.refusal old _ refused refl refl)
+pub record_or_hold-requires-clause-recorded : goal.record_or_hold-requires-clause-recorded
+unfolding sheet_of
+record_or_hold-requires-clause-recorded g c = both_true _ _ (sym c.is_kept.ensures ∙ c.if-not-is_kept.false) (not_zero c.args.pos.0 c.if-pos-eq0.false)

@@ -1,6 +1,7 @@
 use Rattle.std.proofs.Common.{refl, sym, ap, ◌∙◌}
 use Rattle.swc_ecma_codegen_text_writer.specs.Sheet.{recorded}
 use Rattle.swc_ecma_codegen_text_writer.specs.View.{sheet_of, Reaches}
+use Rattle.swc_ecma_codegen_text_writer.proofs.Stays.{stays_same}
 use Rattle.swc_ecma_codegen_text_writer.proofs.Steps.{taken_sheet, none_pending, some_pending, pending_dropped, reaches_then, reaches_to}
 use Rattle.swc_ecma_codegen_text_writer.proofs.basic_impl.Lines.record_pending.Goals as goal
 
@@ -20,5 +21,5 @@ returns-in-Some g c =
     let s = sheet_of c.args.self.now in
     reaches_then _ s _ _ _ _
     (taken_sheet s _ _ _ _ c.take_pending.ensures.keeps c.take_pending.ensures.keeps c.take_pending.ensures.pairs c.take_pending.ensures.pending)
-    (pending_dropped s) refl
+    (pending_dropped s) (stays_same _ _ refl refl)
     (λ e. reaches_to _ _ _ _ _ (ap (recorded c.in-Some.pos) e ∙ some_pending c.in-Some.pos s (sym c.take_pending.ensures.result ∙ c.in-Some.is)) c.record.ensures)

@@ -1,19 +1,22 @@
-use Rattle.std.proofs.Common.{refl, sym, ◌∙◌}
+use Rattle.std.proofs.Common.{refl, sym, ◌∙◌, ap, subst, Err}
 use Rattle.std.proofs.lemmas.Bool.{true≢false}
-use Rattle.swc_ecma_codegen_text_writer.specs.Sheet.{appended}
+use Rattle.swc_ecma_codegen_text_writer.specs.Sheet.{released}
+use Rattle.swc_ecma_codegen_text_writer.specs.Held.{flow_of}
+use Rattle.swc_ecma_codegen_text_writer.specs.Reach.{Shows}
 use Rattle.swc_ecma_codegen_text_writer.specs.View.{sheet_of, Reaches, HasReason}
 use Rattle.swc_ecma_codegen_text_writer.proofs.Sheets.{front_refl}
-use Rattle.swc_ecma_codegen_text_writer.proofs.Steps.{sent_sheet, place_on, place_since}
+use Rattle.swc_ecma_codegen_text_writer.proofs.Steps.{sent_sheet, reaches_to, appended_flowing, place_on, place_since}
 use Rattle.swc_ecma_codegen_text_writer.proofs.basic_impl.Lines.send_plainly.Goals as goal
 
 pub returns-in-Ok : goal.returns-in-Ok
 unfolding sheet_of Reaches
 returns-in-Ok g c =
     sent_sheet c.args.text.now (sheet_of c.args.self.now) _ _ _ _ _ _ _ _ c.in-Ok.ensures.sent c.in-Ok.ensures.whole c.in-Ok.ensures.faults (place_on _ _ _ c.in-Ok.ensures.logged) refl refl refl refl
+    ∙ sym (appended_flowing c.args.text.now (sheet_of c.args.self.now) (ap flow_of (c.args.self.now.plain_flowing c.requires)))
 
 pub returns-in-Err : goal.returns-in-Err
-unfolding sheet_of Reaches HasReason appended
-returns-in-Err g c = record {
+unfolding sheet_of Reaches HasReason released
+returns-in-Err g c = reaches_to _ _ _ _ (Err _) (sym (appended_flowing c.args.text.now (sheet_of c.args.self.now) (ap flow_of (c.args.self.now.plain_flowing c.requires)))) (record {
   reason = c.in-Err.ensures.counted;
   grows = c.in-Err.ensures.grows;
   front = c.in-Err.ensures.front;
@@ -21,7 +24,10 @@ returns-in-Err g c = record {
   more_pairs = front_refl _;
   front_pairs = front_refl _;
   same = refl;
-}
+})
+
+pub invariant_of-self-clause-shown : goal.invariant_of-self-clause-shown
+invariant_of-self-clause-shown g c = λ f. subst (λ z. Shows c.past-self.result z) (sym (place_on _ _ _ c.in-Ok.ensures.logged)) (c.past-self.ensures.shows _ (c.args.self.now.shown f))
 
 -- no positions are kept, so none are counted
 pub invariant_of-self-clause-counted : goal.invariant_of-self-clause-counted

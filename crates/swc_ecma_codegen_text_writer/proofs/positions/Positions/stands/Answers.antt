@@ -1,4 +1,4 @@
-use Rattle.std.proofs.Common.{◌≤◌, length, take, ap, ◌∙◌, arith}
+use Rattle.std.proofs.Common.{◌≤◌, length, take, ap, ◌∙◌}
 use Rattle.swc_ecma_codegen_text_writer.proofs.Recording.{last_part, stands_first, stands_last}
 use Rattle.swc_ecma_codegen_text_writer.specs.Sheet.{has_pair}
 use Rattle.swc_ecma_codegen_text_writer.proofs.positions.Positions.stands.Goals as goal

@@ -1,0 +1,9 @@
+use Rattle.std.proofs.Common.{ap, sym, ◌∙◌, ◌^◌, min, string_bytes}
+use Rattle.swc_ecma_codegen_text_writer.specs.Filling.{first_units}
+use Rattle.swc_ecma_codegen_text_writer.proofs.Noting.{text-of_segment}
+use Rattle.swc_ecma_codegen_text_writer.proofs.held.HeldText.first_units.Goals as goal
+
+pub returns : goal.returns
+returns c =
+    let held = c.args.self.now in
+    c.first_units.ensures ∙ ap (λ z. min (first_units z) (2 ^ 32)) (c.as_str.ensures.value ∙ sym (text-of_segment (string_bytes held.text) held.notes.items held.in_order))

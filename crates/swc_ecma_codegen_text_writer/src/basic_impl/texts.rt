@@ -1,0 +1,234 @@
+//! Texts, literals and line ends, each written in the shortest way: most are only sent.
+
+ghost use Rattle.std.specs.Prelude.{◌≡◌, true, false};
+
+use crate::basic_impl::Lines;
+use crate::kept::KeepsPositions;
+use std::io::Write;
+use swc_ecma_codegen_common::{Answer, Refusal, Span};
+
+/// Whether nothing of a span is recorded, as of one that stands nowhere: position 0 never is.
+#[inline(always)]
+fn is_nowhere(span: Span) -> bool
+    ensures { result ≡ true → (span.lo.0 ≡ 0) × (span.hi.0 ≡ 0) }
+{
+    span.lo.0 == 0 && span.hi.0 == 0
+}
+
+impl<W: Write, K: KeepsPositions> Lines<'_, W, K> {
+    ghost use Rattle.std.specs.Prelude.{length, Some, None};
+    ghost use Rattle.swc_ecma_codegen_text_writer.specs.Sheet.{appended};
+    ghost use Rattle.swc_ecma_codegen_text_writer.specs.View.{sheet_of, Reaches, WritesText, WritesLiteral, WritesLine};
+
+    /// Writes a text, after the indentation at a line's start.
+    #[inline(always)]
+    pub(super) fn write(&mut self, span: Option<Span>, text: &str) -> Answer
+        ensures { WritesText span text.now (sheet_of self.old) (sheet_of self.new) result }
+    {
+        match span {
+            None => self.write_plain(text),
+            Some(span) => self.write_with(span, text),
+        }
+    }
+
+    /// The same with a span. One that stands nowhere, as that of each name does, takes the shorter way, since none of it is recorded.
+    #[inline(always)]
+    fn write_with(&mut self, span: Span, text: &str) -> Answer
+        ensures { WritesText (Some span) text.now (sheet_of self.old) (sheet_of self.new) result }
+    {
+        if is_nowhere(span) {
+            return self.write_bytes(text);
+        }
+        self.write_spanned(span, text)
+    }
+
+    /// The same without a span. Most texts are one byte, as a blank and most punctuators are.
+    #[inline(always)]
+    fn write_plain(&mut self, text: &str) -> Answer
+        ensures { WritesText None text.now (sheet_of self.old) (sheet_of self.new) result }
+    {
+        if text.len() == 1 {
+            self.write_byte(text)
+        } else {
+            self.write_bytes(text)
+        }
+    }
+
+    /// Writes a text of one byte: in most calls it is only sent.
+    #[inline(always)]
+    fn write_byte(&mut self, text: &str) -> Answer
+        requires { length text.now ≡ 1 }
+        ensures { WritesText None text.now (sheet_of self.old) (sheet_of self.new) result }
+    {
+        if self.plain {
+            self.send_byte(text)
+        } else {
+            self.write_first_byte(text)
+        }
+    }
+
+    /// The same where it is only sent: that of one byte takes no call that copies bytes.
+    #[inline(always)]
+    fn send_byte(&mut self, text: &str) -> Answer
+        requires plain { self.old.plain ≡ true }
+        requires byte { length text.now ≡ 1 }
+        ensures { WritesText None text.now (sheet_of self.old) (sheet_of self.new) result }
+    {
+        if text.len() != 1 {
+            unreachable!();
+        }
+        self.send_plainly(text)
+    }
+
+    /// The same at a line's start, where positions are kept, or after a refusal.
+    #[inline(never)]
+    fn write_first_byte(&mut self, text: &str) -> Answer
+        requires { length text.now ≡ 1 }
+        ensures { WritesText None text.now (sheet_of self.old) (sheet_of self.new) result }
+    {
+        if text.len() != 1 {
+            unreachable!();
+        }
+        self.write_here(None, text)
+    }
+
+    /// Writes a text of any length, without a span. Each way is a function of its own, so that none goes through the other.
+    #[inline(always)]
+    fn write_bytes(&mut self, text: &str) -> Answer
+        ensures { WritesText None text.now (sheet_of self.old) (sheet_of self.new) result }
+    {
+        if self.plain {
+            self.send_bytes(text)
+        } else {
+            self.write_first_bytes(text)
+        }
+    }
+
+    /// The same where it is only sent.
+    #[inline(never)]
+    fn send_bytes(&mut self, text: &str) -> Answer
+        requires { self.old.plain ≡ true }
+        ensures { WritesText None text.now (sheet_of self.old) (sheet_of self.new) result }
+    {
+        if text.len() == 1 {
+            return self.send_byte(text);
+        }
+        if text.is_empty() {
+            return Ok(());
+        }
+        self.send_plainly(text)
+    }
+
+    /// The same at a line's start, where positions are kept, or after a refusal.
+    #[inline(never)]
+    fn write_first_bytes(&mut self, text: &str) -> Answer
+        ensures { WritesText None text.now (sheet_of self.old) (sheet_of self.new) result }
+    {
+        if text.len() == 1 {
+            return self.write_first_byte(text);
+        }
+        self.write_here(None, text)
+    }
+
+    /// Writes a text, and records its span.
+    #[inline(never)]
+    fn write_spanned(&mut self, span: Span, text: &str) -> Answer
+        ensures { WritesText (Some span) text.now (sheet_of self.old) (sheet_of self.new) result }
+    {
+        self.write_here(Some(span), text)
+    }
+
+    /// Writes a text, where it is called.
+    #[inline(always)]
+    fn write_here(&mut self, span: Option<Span>, text: &str) -> Answer
+        ensures { WritesText span text.now (sheet_of self.old) (sheet_of self.new) result }
+    {
+        if self.failed {
+            return Err(Refusal::Failed);
+        }
+        if text.is_empty() {
+            return Ok(());
+        }
+        self.put(span, text)
+    }
+
+    /// Writes a literal: its start is recorded before the line begins.
+    pub(super) fn literal(&mut self, span: Span, text: &str) -> Answer
+        ensures { WritesLiteral span text.now (sheet_of self.old) (sheet_of self.new) result }
+    {
+        if self.plain {
+            return self.send_literal(span, text);
+        }
+        self.write_first_literal(span, text)
+    }
+
+    /// The same where it is only sent.
+    #[inline(always)]
+    fn send_literal(&mut self, span: Span, text: &str) -> Answer
+        requires { self.old.plain ≡ true }
+        ensures { WritesLiteral span text.now (sheet_of self.old) (sheet_of self.new) result }
+    {
+        let _ = span;
+        if text.is_empty() {
+            return Ok(());
+        }
+        self.send_plainly(text)
+    }
+
+    /// The same at a line's start, where positions are kept, or after a refusal.
+    #[inline(never)]
+    fn write_first_literal(&mut self, span: Span, text: &str) -> Answer
+        ensures { WritesLiteral span text.now (sheet_of self.old) (sheet_of self.new) result }
+    {
+        if self.failed {
+            return Err(Refusal::Failed);
+        }
+        if text.is_empty() {
+            return Ok(());
+        }
+        self.put_literal(span, text)
+    }
+
+    /// Writes the line's end, unless at a line's start. Mostly it is one byte, which is only sent.
+    #[inline(always)]
+    pub(super) fn end_line(&mut self) -> Answer
+        ensures { WritesLine (sheet_of self.old) (sheet_of self.new) result }
+    {
+        let text = self.new_line;
+        if !self.plain || text.len() != 1 {
+            return self.end_any_line();
+        }
+        self.send_plainly(text)?;
+        self.set_line_start();
+        Ok(())
+    }
+
+    /// The same of any line: at a line's start the position that is pending is forgotten.
+    #[inline(never)]
+    fn end_any_line(&mut self) -> Answer
+        ensures { WritesLine (sheet_of self.old) (sheet_of self.new) result }
+    {
+        if self.failed {
+            return Err(Refusal::Failed);
+        }
+        if self.line_start {
+            self.drop_pending();
+            return Ok(());
+        }
+        self.send_line_end()?;
+        self.set_line_start();
+        Ok(())
+    }
+
+    /// Sends the line's end.
+    #[inline(always)]
+    #[tactic(auto, unfolding(crate::specs::View::sheet_of))]
+    fn send_line_end(&mut self) -> Answer
+        requires { (sheet_of self.old).refused ≡ false }
+        ensures { Reaches (appended (sheet_of self.old).line_end (sheet_of self.old))
+            (sheet_of self.old) (sheet_of self.new) result }
+    {
+        let text = self.new_line;
+        self.send(text)
+    }
+}

@@ -1,0 +1,18 @@
+use Rattle.std.proofs.Common.{refl}
+use Rattle.swc_ecma_codegen_text_writer.specs.Sheet.{BeginLines}
+use Rattle.swc_ecma_codegen_tokens.specs.Run.{after_plain}
+use Rattle.swc_ecma_codegen_tokens.specs.Words.{begin_lines}
+use Rattle.swc_ecma_codegen_tokens.proofs.Calls.{called_kept, level, is_level}
+use Rattle.swc_ecma_codegen_tokens.proofs.Emitting.{does_failed}
+use Rattle.swc_ecma_codegen_tokens.proofs.LowerEmitter.begin_lines.Goals as goal
+
+pub returns-then-self-clause-items : goal.returns-then-self-clause-items
+returns-then-self-clause-items g c = λ lines maps rest. does_failed _ _ c.if-self.true lines maps
+
+pub returns-clause-items : goal.returns-clause-items
+unfolding after_plain begin_lines
+returns-clause-items g c = called_kept (BeginLines c.args.max) _ c.args.self.now c.keep.new.self _ _ _ _ c.if-self.false c.begin_lines-answer.ensures c.keep.ensures.token c.keep.ensures.ok c.keep.ensures.err c.keep.ensures.same refl
+
+pub returns-clause-level : goal.returns-clause-level
+unfolding is_level
+returns-clause-level g c = level _ _ _ _ _ c.begin_lines-answer.ensures c.keep.ensures.same refl

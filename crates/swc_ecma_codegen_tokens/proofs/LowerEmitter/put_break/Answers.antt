@@ -1,0 +1,17 @@
+use Rattle.std.proofs.Common.{refl}
+use Rattle.swc_ecma_codegen_text_writer.specs.Sheet.{AllowBreak}
+use Rattle.swc_ecma_codegen_tokens.specs.Run.{after_plain}
+use Rattle.swc_ecma_codegen_tokens.proofs.Calls.{called_kept, level, is_level}
+use Rattle.swc_ecma_codegen_tokens.proofs.Emitting.{does_failed}
+use Rattle.swc_ecma_codegen_tokens.proofs.LowerEmitter.put_break.Goals as goal
+
+pub returns-then-self-clause-items : goal.returns-then-self-clause-items
+returns-then-self-clause-items g c = λ lines maps rest. does_failed _ _ c.if-self.true lines maps
+
+pub returns-clause-items : goal.returns-clause-items
+unfolding after_plain
+returns-clause-items g c = called_kept (AllowBreak) _ c.args.self.now c.keep.new.self _ _ _ _ c.if-self.false c.allow_break-answer.ensures c.keep.ensures.token c.keep.ensures.ok c.keep.ensures.err c.keep.ensures.same refl
+
+pub returns-clause-level : goal.returns-clause-level
+unfolding is_level
+returns-clause-level g c = level _ _ _ _ _ c.allow_break-answer.ensures c.keep.ensures.same refl
