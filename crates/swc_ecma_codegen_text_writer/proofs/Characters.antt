@@ -168,7 +168,7 @@ pub column_of_text : (text : List ℕ) (p : Place) → IsUtf8 text → list_any 
 column_of_text text p u h = ap (λ (q : Place). q.column) (place_of_characters text p u) ∙ (in_line (chars text) p h).1
 
 -- after CR a line begins
-Begins : Place → Type 0
+unfoldable pub Begins : Place → Type 0
 Begins p = p.after_cr ≡ true → p.column ≡ 0
 
 not_after_cr : (p : Place) → p.after_cr ≡ false → Begins p
@@ -179,14 +179,14 @@ lf_begins : (p : Place) → Begins (after_lf p)
 unfolding after_lf Begins
 lf_begins p = cond_both p.after_cr (record p { after_cr = false }) (next_line false p) Begins (λ h. not_after_cr (record p { after_cr = false }) refl) (λ h k. refl)
 
-byte_begins : (b : ℕ) (p : Place) → Begins (after_byte b p)
+pub byte_begins : (b : ℕ) (p : Place) → Begins (after_byte b p)
 unfolding after_byte Begins
 byte_begins b p =
     let there : Place = record { line = p.line; column = p.column + units_of b; after_cr = false } in
     cond_both (b == 10) (after_lf p) (cond (b == 13) (next_line true p) there) Begins (λ h. lf_begins p)
     (λ h. cond_both (b == 13) (next_line true p) there Begins (λ k l. refl) (λ k. not_after_cr there refl))
 
-text_begins : (text : List ℕ) (p : Place) → Begins p → Begins (after_text text p)
+pub text_begins : (text : List ℕ) (p : Place) → Begins p → Begins (after_text text p)
 unfolding after_text
 text_begins [] p h = h
 text_begins (b ∷ bs) p h = text_begins bs (after_byte b p) (byte_begins b p)
@@ -195,7 +195,7 @@ lf_column : (p : Place) → Begins p → (after_lf p).column ≡ 0
 unfolding after_lf Begins
 lf_column p h = cond_both p.after_cr (record p { after_cr = false }) (next_line false p) (λ q. q.column ≡ 0) h (λ k. refl)
 
-end_column : (end : ℕ) (p : Place) → (end ≡ 10) ⊎ (end ≡ 13) → Begins p → (after_byte end p).column ≡ 0
+pub end_column : (end : ℕ) (p : Place) → (end ≡ 10) ⊎ (end ≡ 13) → Begins p → (after_byte end p).column ≡ 0
 unfolding after_byte
 end_column end p (inl e) h = ap (λ b. (after_byte b p).column) e ∙ lf_column p h
 end_column end p (inr e) h = ap (λ b. (after_byte b p).column) e

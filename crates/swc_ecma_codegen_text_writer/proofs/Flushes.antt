@@ -1,5 +1,5 @@
 -- Segments that go out.
-use Rattle.std.proofs.Common.{◌≡◌, ℕ, ◌<◌, ◌^◌, min, Bool, true, false, List, [], ◌∷◌, refl, sym, ◌∙◌, ap, subst, arith, length, Option, Some, None, Result, Ok, Err, ◌||◌}
+use Rattle.std.proofs.Common.{◌≡◌, ℕ, ◌<◌, ◌^◌, min, Bool, true, false, List, [], ◌∷◌, refl, sym, ◌∙◌, ap, subst, arith, length, Option, Some, None, Result, Ok, Err, ◌||◌, IfSome}
 use Rattle.std.proofs.lemmas.Bool.Decides.{nat_tests}
 use Rattle.std.proofs.Math.Bool.{or-true}
 use Rattle.swc_ecma_codegen_common.specs.declared.positions.BytePos.{BytePos}
@@ -8,7 +8,9 @@ use Rattle.swc_ecma_codegen_common.specs.declared.errors.Refusal.TheVariants.{Wr
 use Rattle.swc_ecma_codegen_text_writer.specs.View.{HasReason, Reaches}
 use Rattle.swc_ecma_codegen_text_writer.specs.declared.held.Note.{Note}
 use Rattle.swc_ecma_codegen_text_writer.specs.declared.held.Held.{Held}
-use Rattle.swc_ecma_codegen_text_writer.specs.Held.{notes_in}
+use Rattle.swc_ecma_codegen_text_writer.specs.Held.{notes_in, GoesOn}
+use Rattle.swc_ecma_codegen_text_writer.specs.Notes.{segment_of}
+use Rattle.swc_ecma_codegen_text_writer.proofs.Noting.{bare-released}
 use Rattle.swc_ecma_codegen_text_writer.specs.Filling.{first_units, is_due}
 use Rattle.swc_ecma_codegen_text_writer.specs.Sheet.{Sheet, Segment, no_segment, Flow, Flowing, Filling, fills_lines, released, noted, notes_released, text_in, ends_before, line_ended, segment_released, allowed_by, allowed, closed_by, allowed_at, AtOnce, AllowBreak, EndLines, effect, may_take_memory}
 
@@ -115,3 +117,30 @@ allowed_not s q h = sym (ap (λ x. allowed_at x s) q ∙ ap (λ x. allowed_by x 
 pub closed_not : (s : Sheet) → s.lines ≡ Flowing → s ≡ effect EndLines s
 unfolding effect closed_by
 closed_not s h = sym (ap (λ x. closed_by x s) h)
+
+-- a segment goes out as it is
+pub allowed_on : (max : ℕ) (first : Bool) (text : List ℕ) (ns : List Note) (x : Segment) (s : Sheet) → s.lines ≡ Filling max first (segment_of text ns) → length ns ≡ 0 → ends_before max first (segment_of text ns) s ≡ false → x ≡ no_segment → record (released text s) { lines = Filling max false x } ≡ allowed s
+unfolding allowed allowed_by segment_released line_ended
+allowed_on max first text ns x s h n e m =
+    let g : Segment = segment_of text ns in
+    let out : segment_released max first g s ≡ released text s = ap (λ b. released g.rest (notes_released g.noted (line_ended b s))) e ∙ sym (bare-released text ns s n) in
+    ap (λ (y : Segment). record (released text s) { lines = Filling max false y }) m
+    ∙ sym (ap (λ l. allowed_by l s) h ∙ ap (λ (z : Sheet). record z { lines = Filling max false no_segment }) out)
+
+pub goes : (b : Bool) (x : Option Held) (h : Held) (s : Sheet) → x ≡ Some h → GoesOn b x s → GoesOn b (Some h) s
+goes b x h s e g = subst (λ z. GoesOn b z s) e g
+
+pub goes_back : (b : Bool) (x : Option Held) (h : Held) (s : Sheet) → x ≡ Some h → GoesOn b (Some h) s → GoesOn b x s
+goes_back b x h s e g = subst (λ z. GoesOn b z s) (sym e) g
+
+pub goes_nowhere : (b : Bool) (x : Option Held) (s : Sheet) → x ≡ None → GoesOn b x s → ⊥
+unfolding GoesOn
+goes_nowhere b x s e g = subst (λ z. GoesOn b z s) e g
+
+pub some_goes : (r : Option Bool) (x : Option Held) (h : Held) (s : Sheet) → x ≡ Some h → IfSome r (λ b. GoesOn b (Some h) s) → IfSome r (λ b. GoesOn b x s)
+some_goes None x h s e g = g
+some_goes (Some b) x h s e g = goes_back b x h s e g
+
+pub allowed_effect : (s : Sheet) → s.semicolons ≡ AtOnce → allowed s ≡ effect AllowBreak s
+unfolding effect allowed_at
+allowed_effect s q = sym (ap (λ x. allowed_at x s) q)

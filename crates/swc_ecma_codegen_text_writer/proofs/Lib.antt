@@ -15,9 +15,12 @@ pub mod Twins
 pub mod Again
 pub mod Noted
 pub mod Noting
+pub mod Counting
 pub mod Cuts
 pub mod Flows
 pub mod Flushes
+pub mod InLine
+pub mod InPlace
 pub mod Reaching
 pub mod Released
 mod Recording

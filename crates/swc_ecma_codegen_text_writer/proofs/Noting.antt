@@ -197,3 +197,9 @@ boundaries-grown false new old t ns e u v h = subst (λ z. AreBoundaries z ns) (
 pub boundaries-pushed : (b : Bool) (new old : List Note) (n : Note) (text : List ℕ) → new ≡ cond b (old ++ n ∷ []) old → n.offset ≡ length text → AreBoundaries text old → AreBoundaries text new
 boundaries-pushed true new old n text e o h = subst (AreBoundaries text) (sym e) (boundaries-more text old n o h)
 boundaries-pushed false new old n text e o h = subst (AreBoundaries text) (sym e) h
+
+-- a text without positions
+pub bare-released : (text : List ℕ) (ns : List Note) (s : Sheet) → length ns ≡ 0 → released text s ≡ released (segment_of text ns).rest (notes_released (segment_of text ns).noted s)
+unfolding segment_of noted_of last_of notes_released
+bare-released text [] s h = refl
+bare-released text (n ∷ ns) s h = absurd (omega (arith, h))

@@ -32,7 +32,7 @@ unfolding after_byte
 after_other byte p h k =
     ap (λ b. cond b (after_lf p) (cond (eqb byte 13) (next_line true p) (further (units_of byte) p))) (ne_eqb byte 10 h) ∙ ap (λ b. cond b (next_line true p) (further (units_of byte) p)) (ne_eqb byte 13 k)
 
-one_unit : (byte : ℕ) → nat_le byte 127 ≡ true → units_of byte ≡ 1
+pub one_unit : (byte : ℕ) → nat_le byte 127 ≡ true → units_of byte ≡ 1
 unfolding units_of
 one_unit byte h = ap (λ b. cond b 1 (cond (nat_le byte 191) 0 (cond (nat_le byte 239) 1 2))) h
 

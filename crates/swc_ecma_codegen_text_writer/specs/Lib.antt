@@ -1,7 +1,9 @@
 pub mod PendingSemi
 pub mod Held
+pub mod InPlace
 pub mod Kept
 pub mod Characters
+pub mod Columns
 pub mod Filling
 pub mod Marks
 pub mod Notes

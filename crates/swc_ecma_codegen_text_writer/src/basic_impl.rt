@@ -4,7 +4,8 @@ ghost use Rattle.std.specs.Prelude.{◌≡◌, false, true, length, IfSome, None
 ghost use Rattle.std.specs.List.{repeat};
 ghost use Rattle.std.proofs.Props.{props};
 ghost use Rattle.swc_ecma_codegen_text_writer.specs.Places.{origin, after_text};
-ghost use Rattle.swc_ecma_codegen_text_writer.specs.Reach.{Shows};
+ghost use Rattle.swc_ecma_codegen_text_writer.specs.Columns.{Stands};
+ghost use Rattle.swc_ecma_codegen_text_writer.specs.Reach.{is_in_line};
 ghost use Rattle.swc_ecma_codegen_text_writer.specs.Kept.{IsCounted};
 ghost use Rattle.swc_ecma_codegen_text_writer.specs.Held.{notes_in};
 
@@ -12,10 +13,11 @@ mod calls;
 mod lengths;
 mod texts;
 
+use crate::columns::Column;
 use crate::held::Held;
 use crate::kept::{KeepsPositions, Kept, OwnedPositions};
 use crate::outlet::Outlet;
-use crate::positions::Reached;
+use crate::positions::is_in_line;
 use std::alloc::Global;
 use std::io::Write;
 use swc_ecma_codegen_common::{Answer, BytePos, Error, LineCol, Refusal, Result, Span};
@@ -23,8 +25,10 @@ use swc_ecma_codegen_common::{Answer, BytePos, Error, LineCol, Refusal, Result, 
 const DEFAULT_INDENT: &str = "    ";
 
 /// What some levels of the usual indentation write, up to eight of them.
+#[tactic(auto, unfolding(crate::specs::Reach::is_one_column))]
 fn blanks(levels: u32) -> Option<&'static str>
-    ensures { IfSome result (λ text. text.now ≡ repeat levels (codes "    ")) }
+    ensures text { IfSome result (λ text. text.now ≡ repeat levels (codes "    ")) }
+    ensures looked { IfSome result (λ text. is_in_line text.now ≡ true) }
 {
     match levels {
         1 => Some("    "),
@@ -55,8 +59,8 @@ pub struct Lines<'a, W: Write, K: KeepsPositions> {
     // A text is only sent: nothing was refused, no line starts, no positions are kept, and no lines are filled.
     plain: bool,
     kept: K,
-    // Where all that went out ends, for lines that are filled.
-    reached: Reached,
+    // The column where all that went out ends, for lines that are filled.
+    column: Column,
     // While lines are filled, what was written since the last allowed break.
     held: Option<Held>,
     ghost usual: { usual_indent ≡ true → indent_str.now ≡ codes "    " } by { Prim.hlevel props },
@@ -66,7 +70,7 @@ pub struct Lines<'a, W: Write, K: KeepsPositions> {
     ghost plain_flowing: { plain ≡ true → held ≡ None } by { Prim.hlevel props },
     ghost held_bare: { K.keeps kept ≡ false → length (notes_in held) ≡ 0 } by { Prim.hlevel props },
     ghost shown: { failed ≡ false →
-        Shows reached (after_text outlet.log.bytes origin) } by { Prim.hlevel props },
+        Stands column.units (after_text outlet.log.bytes origin) } by { Prim.hlevel props },
     ghost counted: { failed ≡ false → IsCounted (K.keeps kept) (K.reached kept)
         (after_text outlet.log.bytes origin) } by { Prim.hlevel props },
 }
@@ -158,7 +162,7 @@ impl<'a, W: Write> PositionsWriter<'a, W> {
             failed: _,
             plain: _,
             kept,
-            reached: _,
+            column: _,
             held: _,
         } = self;
         (outlet.into_inner(), kept.into_list())
@@ -193,7 +197,7 @@ impl<'a, W: Write, K: KeepsPositions> Lines<'a, W, K> {
             failed: false,
             plain: false,
             kept,
-            reached: Reached::origin(),
+            column: Column::origin(),
             held: None,
         }
     }
@@ -246,7 +250,7 @@ impl<'a, W: Write, K: KeepsPositions> Lines<'a, W, K> {
             failed: _,
             plain: _,
             kept: _,
-            reached: _,
+            column: _,
             held: _,
         } = self;
         outlet.into_inner()
@@ -281,6 +285,20 @@ impl<'a, W: Write, K: KeepsPositions> Lines<'a, W, K> {
         self.hand_on(text)
     }
 
+    /// The same of a text that stays in its line, as blanks do.
+    #[inline(always)]
+    fn send_in_line(&mut self, text: &str) -> Answer
+        requires fresh { (sheet_of self.old).refused ≡ false }
+        requires looked { is_in_line text.now ≡ true }
+        ensures { Reaches (appended text.now (sheet_of self.old)) (sheet_of self.old)
+            (sheet_of self.new) result }
+    {
+        if self.held.is_some() {
+            return self.send(text);
+        }
+        self.release_known(text, true)
+    }
+
     /// The same, where it is called: while lines are filled it is held.
     #[inline(always)]
     fn hand_on(&mut self, text: &str) -> Answer
@@ -308,10 +326,21 @@ impl<'a, W: Write, K: KeepsPositions> Lines<'a, W, K> {
         ensures { Reaches (released text.now (sheet_of self.old)) (sheet_of self.old)
             (sheet_of self.new) result }
     {
+        self.release_known(text, is_in_line(text.as_bytes()))
+    }
+
+    /// The same of a text of which is known whether it stays in its line.
+    #[inline(always)]
+    fn release_known(&mut self, text: &str, stays_in_line: bool) -> Answer
+        requires fresh { (sheet_of self.old).refused ≡ false }
+        requires looked { stays_in_line ≡ is_in_line text.now }
+        ensures { Reaches (released text.now (sheet_of self.old)) (sheet_of self.old)
+            (sheet_of self.new) result }
+    {
         match self.outlet.write_text(text) {
             Ok(()) => {
                 self.kept.pass(text);
-                self.reached = self.reached.past(text);
+                self.column.pass_known(text, stays_in_line);
                 Ok(())
             }
             Err(_) => {
@@ -331,7 +360,7 @@ impl<'a, W: Write, K: KeepsPositions> Lines<'a, W, K> {
     {
         match self.outlet.write_text(text) {
             Ok(()) => {
-                self.reached = self.reached.past(text);
+                self.column.pass_sent(text);
                 Ok(())
             }
             Err(_) => {
@@ -363,7 +392,7 @@ impl<'a, W: Write, K: KeepsPositions> Lines<'a, W, K> {
             (sheet_of self.old) (sheet_of self.new) result }
     {
         match blanks(self.indent) {
-            Some(text) if self.usual_indent => self.send(text),
+            Some(text) if self.usual_indent => self.send_in_line(text),
             _ => self.indent_by_levels(),
         }
     }
@@ -434,7 +463,7 @@ impl<'a, W: Write, K: KeepsPositions> Lines<'a, W, K> {
     }
 
     /// Records the position that is pending.
-    #[inline(never)]
+    #[inline(always)]
     fn record_pending(&mut self) -> Answer
         requires { (sheet_of self.old).refused ≡ false }
         ensures { Reaches (pending_recorded (sheet_of self.old).pending (sheet_of self.old))
@@ -442,8 +471,18 @@ impl<'a, W: Write, K: KeepsPositions> Lines<'a, W, K> {
     {
         match self.kept.take_pending() {
             None => Ok(()),
-            Some(pos) => self.record(pos),
+            Some(pos) => self.record_taken(pos),
         }
+    }
+
+    /// Records the position that was pending.
+    #[inline(never)]
+    fn record_taken(&mut self, pos: BytePos) -> Answer
+        requires { (sheet_of self.old).refused ≡ false }
+        ensures { Reaches (recorded pos (sheet_of self.old)) (sheet_of self.old) (sheet_of self.new)
+            result }
+    {
+        self.record(pos)
     }
 
     /// Forgets the position that is pending.

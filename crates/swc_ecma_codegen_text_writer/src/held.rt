@@ -7,7 +7,8 @@ ghost use Rattle.std.proofs.Props.{props};
 ghost use Rattle.swc_ecma_codegen_common.specs.declared.errors.Refusal.TheVariants.{OutOfMemory};
 ghost use Rattle.swc_ecma_codegen_text_writer.specs.Notes.{are_in_order, AreBoundaries};
 
-use crate::filling::first_units;
+use crate::filling::{first_units, units_in_line};
+use crate::positions::is_in_line;
 use std::alloc::Global;
 use swc_ecma_codegen_common::{Answer, BytePos, Refusal};
 
@@ -30,6 +31,7 @@ pub struct HeldText {
 impl HeldText {
     ghost use Rattle.std.specs.Prelude.{◌^◌, min};
     ghost use Rattle.swc_ecma_codegen_text_writer.specs.Filling.{first_units};
+    ghost use Rattle.swc_ecma_codegen_text_writer.specs.Reach.{is_in_line};
     ghost use Rattle.swc_ecma_codegen_text_writer.specs.Sheet.{no_segment, text_in, with_text, with_note};
     ghost use Rattle.swc_ecma_codegen_text_writer.specs.Held.{segment_in};
 
@@ -55,14 +57,29 @@ impl HeldText {
         self.text.clear();
     }
 
+    /// Whether all of it stays in its line.
+    #[inline(always)]
+    pub fn stays_in_line(&self) -> bool
+        ensures { result ≡ is_in_line (string_bytes self.now.text) }
+    {
+        is_in_line(self.text.as_bytes())
+    }
+
     /// The UTF-16 units of its first line, as far as they are counted.
-    pub fn first_units(&self) -> u64
+    #[inline(always)]
+    pub fn first_units(&self, stays_in_line: bool) -> u64
+        requires { stays_in_line ≡ is_in_line (string_bytes self.now.text) }
         ensures { result ≡ min (first_units (text_in (segment_in self.now))) (2 ^ 32) }
     {
-        first_units(self.text.as_str())
+        let text = self.text.as_str();
+        if stays_in_line {
+            return units_in_line(text);
+        }
+        first_units(text)
     }
 
     /// A text more.
+    #[inline(always)]
     pub fn push_text(&mut self, text: &str) -> Answer
         ensures ok { OnOk result (segment_in self.new ≡ with_text text.now (segment_in self.old)) }
         ensures err { IfErr result (λ e. e ≡ OutOfMemory) }

@@ -7,6 +7,7 @@ ghost use Rattle.swc_ecma_codegen_text_writer.specs.Sheet.{Sheet, holds_semicolo
 
 mod basic_impl;
 mod boxed;
+mod columns;
 mod filling;
 mod held;
 mod kept;

@@ -1,13 +1,14 @@
 //! Positions in a source text, and where in the printed text they stand.
 
-ghost use Rattle.std.specs.Prelude.{◌≡◌, ◌≤◌, ◌<◌, ◌^◌, true, List, [], ◌∷◌, ◌++◌, length, Some, None, OnOk, OnErr};
+ghost use Rattle.std.specs.Prelude.{◌≡◌, ◌≤◌, ◌<◌, ◌+◌, ◌*◌, ◌^◌, take, drop, List, [], ◌∷◌, ◌++◌, length, Some, None, OnOk, OnErr};
 ghost use Rattle.std.specs.List.{AllWithin};
 ghost use Rattle.std.proofs.Props.{props};
-ghost use Rattle.swc_ecma_codegen_text_writer.specs.Places.{Place, origin, units_of, after_byte, after_text, next_line};
+ghost use Rattle.swc_ecma_codegen_text_writer.specs.Places.{Place, units_of, after_byte, after_text, next_line};
 ghost use Rattle.swc_ecma_codegen_text_writer.specs.Sheet.{Pair, is_same_pair, has_pair};
 ghost use Rattle.swc_ecma_codegen_text_writer.specs.Reach.{Shows, IsFrom, IsAt, IsBefore, further, is_one_column, is_in_line};
 
 use std::alloc::AllocError;
+use std::simd::prelude::*;
 use swc_ecma_codegen_common::{Answer, BytePos, LineCol, Refusal};
 
 /// A count stays here: from here on no `LineCol` tells it.
@@ -32,17 +33,80 @@ pub fn units(byte: u8) -> u64
 
 /// Whether a byte is a character that takes one column and ends no line.
 #[tactic(auto, unfolding(crate::specs::Reach::is_one_column))]
-fn is_one_column(byte: u8) -> bool
+#[inline(always)]
+pub fn is_one_column(byte: u8) -> bool
     ensures { result ≡ is_one_column byte }
 {
     0x0e <= byte && byte <= 0x7f
 }
 
-/// Whether each character of a text is one of these, as all of `typeof` are.
-fn is_in_line(text: &[u8]) -> bool
+/// Whether each character of a text is one of these, as all of `typeof` are. To 16 bytes it has no loop.
+#[inline(always)]
+pub fn is_in_line(text: &[u8]) -> bool
     ensures { result ≡ is_in_line text.now }
 {
-    text.iter().all(|byte| is_one_column(*byte))
+    let count = text.len();
+    if count < 4 {
+        return count == 0 || is_few_in_line(text);
+    }
+    if count <= 8 {
+        return ends_in_line::<4>(text);
+    }
+    if count <= 16 {
+        return ends_in_line::<8>(text);
+    }
+    is_long_in_line(text)
+}
+
+/// The same of one to three bytes: the first, the last, and one between them. In `if` that is `i`, `f` and `f`.
+#[inline(always)]
+fn is_few_in_line(text: &[u8]) -> bool
+    requires some { 0 < length text.now }
+    requires few { length text.now ≤ 3 }
+    ensures { result ≡ is_in_line text.now }
+{
+    let count = text.len();
+    is_one_column(text[0]) & is_one_column(text[count / 2]) & is_one_column(text[count - 1])
+}
+
+/// The same of N to 2 * N bytes: the first N and the last N. With four, in `typeof` that is `type` and `peof`.
+#[inline(always)]
+fn ends_in_line<const N: usize>(text: &[u8]) -> bool
+    requires lanes { (0 < N) × (N ≤ 32) }
+    requires whole { (N ≤ length text.now) × (length text.now ≤ 2 * N) }
+    ensures { result ≡ is_in_line text.now }
+{
+    run_in_line::<N>(text, 0) & run_in_line::<N>(text, text.len() - N)
+}
+
+/// The same of at least 16 bytes: 16 at a time, and then the last 16.
+#[inline(never)]
+fn is_long_in_line(text: &[u8]) -> bool
+    requires { 16 ≤ length text.now }
+    ensures { result ≡ is_in_line text.now }
+{
+    let last = text.len() - 16;
+    let mut at = 0;
+    while at < last {
+        if !run_in_line::<16>(text, at) {
+            return false;
+        }
+        at += 16;
+    }
+    run_in_line::<16>(text, last)
+}
+
+/// The same of N bytes from a place on, at once.
+#[inline(always)]
+fn run_in_line<const N: usize>(text: &[u8], at: usize) -> bool
+    requires lanes { (0 < N) × (N ≤ 64) }
+    requires within { at + N ≤ length text.now }
+    ensures { result ≡ is_in_line (take N (drop at text.now)) }
+{
+    let lanes = Simd::<u8, N>::from_slice(&text[at..]);
+    let early = lanes.simd_lt(Simd::splat(0x0e)).to_bitmask();
+    let late = lanes.simd_gt(Simd::splat(0x7f)).to_bitmask();
+    (early == 0) & (late == 0)
 }
 
 #[tactic(auto, unfolding(crate::specs::Sheet::is_same_pair))]
@@ -134,36 +198,6 @@ impl Reached {
             reached = reached.after(*byte);
         }
         reached
-    }
-
-    /// The place after a text. Most stay in their line: "typeof" takes six columns.
-    #[inline(always)]
-    pub fn past(self, text: &str) -> Reached
-        ensures shows { (p : Place) → Shows self p → Shows result (after_text text.now p) }
-        ensures order { IsFrom self result }
-    {
-        if !text.is_empty() && is_in_line(text.as_bytes()) {
-            return self.after_units(text.len() as u64);
-        }
-        self.after_text(text)
-    }
-
-    /// Where a text begins.
-    pub fn origin() -> Reached
-        ensures { Shows result origin }
-    {
-        Reached {
-            line: 0,
-            column: 0,
-            after_cr: false,
-        }
-    }
-
-    /// The UTF-16 units of the line.
-    pub fn units(self) -> u64
-        ensures { result ≡ self.column }
-    {
-        self.column
     }
 }
 

@@ -10,21 +10,29 @@ use std::io::Write;
 use swc_ecma_codegen_common::{Answer, BytePos, Refusal};
 
 impl<W: Write, K: KeepsPositions> Lines<'_, W, K> {
-    ghost use Rattle.std.specs.Prelude.{length};
-    ghost use Rattle.swc_ecma_codegen_text_writer.specs.Held.{segment_in};
-    ghost use Rattle.swc_ecma_codegen_text_writer.specs.Sheet.{Writes, BeginLines, AllowBreak, EndLines, Filling, released, noted, notes_released, ends_before, line_ended, segment_released, allowed_by};
+    ghost use Rattle.std.specs.Prelude.{length, string_bytes, Some, IfSome};
+    ghost use Rattle.swc_ecma_codegen_text_writer.specs.Held.{segment_in, GoesOn};
+    ghost use Rattle.swc_ecma_codegen_text_writer.specs.InPlace.{GoesInLine, IsHeldInLine, held_released};
+    ghost use Rattle.swc_ecma_codegen_text_writer.specs.Reach.{is_in_line};
+    ghost use Rattle.swc_ecma_codegen_text_writer.specs.Sheet.{Writes, BeginLines, AllowBreak, EndLines, Filling, released, noted, notes_released, ends_before, line_ended, segment_released, allowed_by, allowed};
     ghost use Rattle.swc_ecma_codegen_text_writer.specs.View.{sheet_of, Reaches};
 
     /// Whether a line end is due before what is held.
-    fn ends_before(&self, held: &Held) -> bool
-        requires { (sheet_of self.now).refused ≡ false }
+    #[inline(always)]
+    fn ends_before(&self, held: &Held, stays_in_line: bool) -> bool
+        requires fresh { (sheet_of self.now).refused ≡ false }
+        requires looked { stays_in_line ≡ is_in_line (string_bytes held.now.segment.text) }
         ensures { result ≡ ends_before held.now.max held.now.first (segment_in held.now.segment)
             (sheet_of self.now) }
     {
         if held.first {
             return false;
         }
-        is_due(held.max, self.reached.units(), held.segment.first_units())
+        is_due(
+            held.max,
+            self.column.units(),
+            held.segment.first_units(stays_in_line),
+        )
     }
 
     /// Sends a line end out where one is due.
@@ -79,9 +87,40 @@ impl<W: Write, K: KeepsPositions> Lines<'_, W, K> {
             (segment_in held.now.segment) (sheet_of self.old)) (sheet_of self.old)
             (sheet_of self.new) result }
     {
-        let due = self.ends_before(held);
+        let stays_in_line = held.segment.stays_in_line();
+        let due = self.ends_before(held, stays_in_line);
         self.release_line_end(due)?;
-        self.release_held(&held.segment)
+        self.release_segment(&held.segment, stays_in_line)
+    }
+
+    /// Sends a text out that was held, with its positions. Most stay in their line and have none.
+    #[inline(always)]
+    fn release_segment(&mut self, held: &HeldText, stays_in_line: bool) -> Answer
+        requires fresh { (sheet_of self.old).refused ≡ false }
+        requires looked { stays_in_line ≡ is_in_line (string_bytes held.now.text) }
+        requires bare { (sheet_of self.old).keeps_positions ≡ false →
+            length held.now.notes.items ≡ 0 }
+        ensures { Reaches (released (segment_in held.now).rest
+            (notes_released (segment_in held.now).noted (sheet_of self.old)))
+            (sheet_of self.old) (sheet_of self.new) result }
+    {
+        if stays_in_line && held.notes.is_empty() {
+            return self.release_in_line(held);
+        }
+        self.release_held(held)
+    }
+
+    /// Sends a text out that was held, that stays in its line and has no positions.
+    #[inline(always)]
+    fn release_in_line(&mut self, held: &HeldText) -> Answer
+        requires fresh { (sheet_of self.old).refused ≡ false }
+        requires looked { is_in_line (string_bytes held.now.text) ≡ true }
+        requires bare { length held.now.notes.items ≡ 0 }
+        ensures { Reaches (released (segment_in held.now).rest
+            (notes_released (segment_in held.now).noted (sheet_of self.old)))
+            (sheet_of self.old) (sheet_of self.new) result }
+    {
+        self.release_known(held.text.as_str(), true)
     }
 
     /// Lines are filled from here on.
@@ -108,16 +147,205 @@ impl<W: Write, K: KeepsPositions> Lines<'_, W, K> {
         }
     }
 
-    /// Here a line may end.
+    /// Here a line may end. Mostly what is held stays in its line, and goes out where it stands.
+    #[inline(never)]
     pub(super) fn allow(&mut self) -> Answer
         ensures { Writes AllowBreak (sheet_of self.old) (sheet_of self.new) result }
     {
         if self.failed {
             return Err(Refusal::Failed);
         }
+        match self.goes_in_line() {
+            None => self.allow_any(),
+            Some(due) => self.allow_in_line(due),
+        }
+    }
+
+    /// Whether a line end is due before what is held, where that stays in its line and no positions are kept.
+    #[inline(always)]
+    fn goes_in_line(&self) -> Option<bool>
+        requires { (sheet_of self.now).refused ≡ false }
+        ensures { IfSome result (λ due. GoesInLine due self.now.held (sheet_of self.now)) }
+    {
+        match &self.held {
+            None => None,
+            Some(held) => self.goes_in_line_with(held),
+        }
+    }
+
+    /// The same of what is held.
+    #[inline(always)]
+    fn goes_in_line_with(&self, held: &Held) -> Option<bool>
+        requires fresh { (sheet_of self.now).refused ≡ false }
+        requires bare { (sheet_of self.now).keeps_positions ≡ false →
+            length held.now.segment.notes.items ≡ 0 }
+        ensures { IfSome result (λ due. GoesInLine due (Some held.now) (sheet_of self.now)) }
+    {
+        if self.kept.is_kept() || !held.segment.stays_in_line() {
+            return None;
+        }
+        Some(self.ends_before(held, true))
+    }
+
+    /// Sends a line end out where one is due, and then what was held, where it stands.
+    #[inline(always)]
+    fn allow_in_line(&mut self, due: bool) -> Answer
+        requires fresh { (sheet_of self.old).refused ≡ false }
+        requires goes { GoesInLine due self.old.held (sheet_of self.old) }
+        ensures { Reaches (allowed (sheet_of self.old)) (sheet_of self.old) (sheet_of self.new)
+            result }
+    {
+        if due {
+            return self.allow_in_next_line();
+        }
+        self.release_in_place()
+    }
+
+    /// Sends a line end out, and then what was held, where it stands.
+    #[inline(never)]
+    fn allow_in_next_line(&mut self) -> Answer
+        requires fresh { (sheet_of self.old).refused ≡ false }
+        requires goes { GoesInLine true self.old.held (sheet_of self.old) }
+        ensures { Reaches (allowed (sheet_of self.old)) (sheet_of self.old) (sheet_of self.new)
+            result }
+    {
+        self.end_due_line()?;
+        self.release_in_place()
+    }
+
+    /// Sends a line end out. What is held stays held.
+    #[inline(always)]
+    fn end_due_line(&mut self) -> Answer
+        requires { (sheet_of self.old).refused ≡ false }
+        ensures sent { Reaches (line_ended true (sheet_of self.old)) (sheet_of self.old)
+            (sheet_of self.new) result }
+        ensures held { self.new.held ≡ self.old.held }
+    {
+        let text = self.new_line;
+        match self.outlet.write_text(text) {
+            Ok(()) => {
+                self.kept.pass(text);
+                self.column.pass_sent(text);
+                Ok(())
+            }
+            Err(_) => {
+                self.failed = true;
+                self.plain = false;
+                Err(Refusal::Writer)
+            }
+        }
+    }
+
+    /// Sends out what is held, where it stands: no positions are kept.
+    #[inline(always)]
+    fn release_in_place(&mut self) -> Answer
+        requires fresh { (sheet_of self.old).refused ≡ false }
+        requires goes { IsHeldInLine self.old.held (sheet_of self.old) }
+        ensures { Reaches (held_released self.old.held (sheet_of self.old)) (sheet_of self.old)
+            (sheet_of self.new) result }
+    {
+        match &mut self.held {
+            None => Ok(()),
+            Some(held) => {
+                held.first = false;
+                let text = held.segment.text.as_str();
+                self.column.pass_known(text, true);
+                match self.outlet.write_text(text) {
+                    Ok(()) => {
+                        held.segment.clear();
+                        Ok(())
+                    }
+                    Err(_) => {
+                        self.failed = true;
+                        self.plain = false;
+                        Err(Refusal::Writer)
+                    }
+                }
+            }
+        }
+    }
+
+    /// An allowed break, whatever is held.
+    #[inline(never)]
+    fn allow_any(&mut self) -> Answer
+        requires { (sheet_of self.old).refused ≡ false }
+        ensures { Writes AllowBreak (sheet_of self.old) (sheet_of self.new) result }
+    {
+        match self.goes_on() {
+            None => self.allow_taking(),
+            Some(stays_in_line) => self.allow_here(stays_in_line),
+        }
+    }
+
+    /// The same, also where a line end is due.
+    #[inline(never)]
+    fn allow_taking(&mut self) -> Answer
+        requires { (sheet_of self.old).refused ≡ false }
+        ensures { Writes AllowBreak (sheet_of self.old) (sheet_of self.new) result }
+    {
         match self.held.take() {
             None => Ok(()),
             Some(held) => self.allow_after(held),
+        }
+    }
+
+    /// Where what is held goes out as it is, whether it stays in its line: it has no positions, and no line end is due before it.
+    #[inline(always)]
+    fn goes_on(&self) -> Option<bool>
+        requires { (sheet_of self.now).refused ≡ false }
+        ensures { IfSome result (λ stays_in_line. GoesOn stays_in_line self.now.held
+            (sheet_of self.now)) }
+    {
+        match &self.held {
+            None => None,
+            Some(held) => self.goes_on_with(held),
+        }
+    }
+
+    /// The same of what is held.
+    #[inline(always)]
+    fn goes_on_with(&self, held: &Held) -> Option<bool>
+        requires { (sheet_of self.now).refused ≡ false }
+        ensures { IfSome result (λ stays_in_line. GoesOn stays_in_line (Some held.now)
+            (sheet_of self.now)) }
+    {
+        if !held.segment.notes.is_empty() {
+            return None;
+        }
+        let stays_in_line = held.segment.stays_in_line();
+        if self.ends_before(held, stays_in_line) {
+            return None;
+        }
+        Some(stays_in_line)
+    }
+
+    /// Sends out what was held, as it is, where it stands.
+    #[inline(always)]
+    fn allow_here(&mut self, stays_in_line: bool) -> Answer
+        requires fresh { (sheet_of self.old).refused ≡ false }
+        requires goes { GoesOn stays_in_line self.old.held (sheet_of self.old) }
+        ensures { Reaches (allowed (sheet_of self.old)) (sheet_of self.old) (sheet_of self.new)
+            result }
+    {
+        match &mut self.held {
+            None => Ok(()),
+            Some(held) => {
+                let text = held.segment.text.as_str();
+                match self.outlet.write_text(text) {
+                    Ok(()) => {
+                        self.kept.pass(text);
+                        self.column.pass_known(text, stays_in_line);
+                        held.first = false;
+                        held.segment.clear();
+                        Ok(())
+                    }
+                    Err(_) => {
+                        self.failed = true;
+                        self.plain = false;
+                        Err(Refusal::Writer)
+                    }
+                }
+            }
         }
     }
 

@@ -1,6 +1,6 @@
 //! Texts, literals and line ends, each written in the shortest way: most are only sent.
 
-ghost use Rattle.std.specs.Prelude.{◌≡◌, true, false};
+ghost use Rattle.std.specs.Prelude.{◌≡◌, ◌<◌, true, false};
 
 use crate::basic_impl::Lines;
 use crate::kept::KeepsPositions;
@@ -80,8 +80,9 @@ impl<W: Write, K: KeepsPositions> Lines<'_, W, K> {
         self.send_plainly(text)
     }
 
-    /// The same at a line's start, where positions are kept, or after a refusal.
+    /// The same at a line's start, where positions are kept, while lines are filled, or after a refusal.
     #[inline(never)]
+    #[tactic(auto, unfolding(crate::specs::View::sheet_of))]
     fn write_first_byte(&mut self, text: &str) -> Answer
         requires { length text.now ≡ 1 }
         ensures { WritesText None text.now (sheet_of self.old) (sheet_of self.new) result }
@@ -89,6 +90,60 @@ impl<W: Write, K: KeepsPositions> Lines<'_, W, K> {
         if text.len() != 1 {
             unreachable!();
         }
+        if self.failed || self.line_start {
+            return self.write_byte_anyhow(text);
+        }
+        self.write_begun(text)
+    }
+
+    /// Writes a text that isn't empty in a line that has begun: while lines are filled it is held.
+    #[inline(always)]
+    fn write_begun(&mut self, text: &str) -> Answer
+        requires fresh { (sheet_of self.old).refused ≡ false }
+        requires begun { (sheet_of self.old).at_line_start ≡ false }
+        requires some { 0 < length text.now }
+        ensures { WritesText None text.now (sheet_of self.old) (sheet_of self.new) result }
+    {
+        self.hold(text)
+    }
+
+    /// Holds a text, and sends it out where lines aren't filled.
+    #[inline(always)]
+    fn hold(&mut self, text: &str) -> Answer
+        requires { (sheet_of self.old).refused ≡ false }
+        ensures { Reaches (appended text.now (sheet_of self.old)) (sheet_of self.old)
+            (sheet_of self.new) result }
+    {
+        match &mut self.held {
+            None => self.send(text),
+            Some(held) => match held.segment.push_text(text) {
+                Ok(()) => Ok(()),
+                Err(refusal) => {
+                    self.failed = true;
+                    self.plain = false;
+                    Err(refusal)
+                }
+            },
+        }
+    }
+
+    /// Writes a text of one byte, also at a line's start or after a refusal.
+    #[inline(never)]
+    fn write_byte_anyhow(&mut self, text: &str) -> Answer
+        requires { length text.now ≡ 1 }
+        ensures { WritesText None text.now (sheet_of self.old) (sheet_of self.new) result }
+    {
+        if text.len() != 1 {
+            unreachable!();
+        }
+        self.write_here(None, text)
+    }
+
+    /// Writes a text, also at a line's start or after a refusal.
+    #[inline(never)]
+    fn write_anyhow(&mut self, text: &str) -> Answer
+        ensures { WritesText None text.now (sheet_of self.old) (sheet_of self.new) result }
+    {
         self.write_here(None, text)
     }
 
@@ -119,15 +174,19 @@ impl<W: Write, K: KeepsPositions> Lines<'_, W, K> {
         self.send_plainly(text)
     }
 
-    /// The same at a line's start, where positions are kept, or after a refusal.
+    /// The same at a line's start, where positions are kept, while lines are filled, or after a refusal.
     #[inline(never)]
+    #[tactic(auto, unfolding(crate::specs::View::sheet_of))]
     fn write_first_bytes(&mut self, text: &str) -> Answer
         ensures { WritesText None text.now (sheet_of self.old) (sheet_of self.new) result }
     {
         if text.len() == 1 {
             return self.write_first_byte(text);
         }
-        self.write_here(None, text)
+        if text.is_empty() || self.failed || self.line_start {
+            return self.write_anyhow(text);
+        }
+        self.write_begun(text)
     }
 
     /// Writes a text, and records its span.

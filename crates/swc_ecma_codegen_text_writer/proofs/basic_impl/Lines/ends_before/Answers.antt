@@ -19,10 +19,12 @@ returns g c =
     let h = c.args.held.now in
     let s : Sheet = sheet_of c.args.self.now in
     let x : Segment = segment_in h.segment in
-    let column : c.units.result ≡ min s.place.column (2 ^ 32) = c.units.ensures ∙ (c.args.self.now.shown c.requires).1.0 in
+    let column : c.units.result ≡ min s.place.column (2 ^ 32) = c.units.ensures s.place (c.args.self.now.shown c.requires.fresh) in
     c.is_due.ensures ∙ (ap (λ z. is_due h.max z c.first_units.result) column ∙ (ap (is_due h.max (min s.place.column (2 ^ 32))) c.first_units.ensures ∙ (due_counted h.max s.place.column (first_units (text_in x)) (omega arith)
     ∙ sym (ap (λ f. ends_before h.max f x s) c.if-held.false ∙ ends-later h.max x s))))
 
 pub is_due-requires-clause-column : goal.is_due-requires-clause-column
 unfolding sheet_of
-is_due-requires-clause-column g c = let a = c.units.ensures in let b = (c.args.self.now.shown c.requires).1.0 in omega arith
+is_due-requires-clause-column g c =
+    let s : Sheet = sheet_of c.args.self.now in
+    let a = c.units.ensures s.place (c.args.self.now.shown c.requires.fresh) in omega (arith, a)

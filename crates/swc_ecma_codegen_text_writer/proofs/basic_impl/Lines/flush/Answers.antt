@@ -18,13 +18,13 @@ returns-in_err-release_line_end g c =
     let p = err_from_is_err_and c.from_residual.result c.from_residual.ensures.1 in
     rw (p.1, p.2) (first_halted _ _ _ _ _ (subst (λ b. Alike (line_ended b s) (released x.rest (notes_released x.noted a))) (sym c.ends_before-due.ensures) (alike_trans a _ _ (notes_alike x.noted a) (released_alike x.rest _))) c.in_err-release_line_end.ensures)
 
-pub release_held-requires-clause-fresh : goal.release_held-requires-clause-fresh
+pub release_segment-requires-clause-fresh : goal.release_segment-requires-clause-fresh
 unfolding Reaches
-release_held-requires-clause-fresh g c = ap (λ (s : Sheet). s.refused) c.in_ok-release_line_end.ensures ∙ (alike_same _ _ (line_alike c.ends_before-due.result (sheet_of c.args.self.now))).refused ∙ c.requires.fresh
+release_segment-requires-clause-fresh g c = ap (λ (s : Sheet). s.refused) c.in_ok-release_line_end.ensures ∙ (alike_same _ _ (line_alike c.ends_before-due.result (sheet_of c.args.self.now))).refused ∙ c.requires.fresh
 
-pub release_held-requires-clause-bare : goal.release_held-requires-clause-bare
+pub release_segment-requires-clause-bare : goal.release_segment-requires-clause-bare
 unfolding Reaches
-release_held-requires-clause-bare g c = λ b. c.requires.bare (sym (ap (λ (s : Sheet). s.keeps_positions) c.in_ok-release_line_end.ensures ∙ (alike_same _ _ (line_alike c.ends_before-due.result (sheet_of c.args.self.now))).keeps_positions) ∙ b)
+release_segment-requires-clause-bare g c = λ b. c.requires.bare (sym (ap (λ (s : Sheet). s.keeps_positions) c.in_ok-release_line_end.ensures ∙ (alike_same _ _ (line_alike c.ends_before-due.result (sheet_of c.args.self.now))).keeps_positions) ∙ b)
 
 pub returns : goal.returns
 unfolding segment_released
@@ -34,4 +34,4 @@ returns g c =
     let x : Segment = segment_in h.segment in
     let due : line_ended c.ends_before-due.result s ≡ line_ended (ends_before h.max h.first x s) s = ap (λ b. line_ended b s) c.ends_before-due.ensures in
     reaches_then _ _ _ _ _ _ (reached _ _ _ _ c.in_ok-release_line_end.ensures) (line_alike c.ends_before-due.result s) (line_stays c.ends_before-due.result s)
-    (λ e. reaches_to _ _ _ _ _ (ap (λ (z : Sheet). released x.rest (notes_released x.noted z)) (e ∙ due)) c.release_held.ensures)
+    (λ e. reaches_to _ _ _ _ _ (ap (λ (z : Sheet). released x.rest (notes_released x.noted z)) (e ∙ due)) c.release_segment.ensures)

@@ -2,7 +2,7 @@ use Rattle.std.proofs.Common.{refl, sym, ◌∙◌, ap, subst, Err}
 use Rattle.std.proofs.lemmas.Bool.{true≢false}
 use Rattle.swc_ecma_codegen_text_writer.specs.Sheet.{released}
 use Rattle.swc_ecma_codegen_text_writer.specs.Held.{flow_of}
-use Rattle.swc_ecma_codegen_text_writer.specs.Reach.{Shows}
+use Rattle.swc_ecma_codegen_text_writer.specs.Columns.{Stands}
 use Rattle.swc_ecma_codegen_text_writer.specs.View.{sheet_of, Reaches, HasReason}
 use Rattle.swc_ecma_codegen_text_writer.proofs.Sheets.{front_refl}
 use Rattle.swc_ecma_codegen_text_writer.proofs.Steps.{sent_sheet, reaches_to, appended_flowing, place_on, place_since}
@@ -27,7 +27,7 @@ returns-in-Err g c = reaches_to _ _ _ _ (Err _) (sym (appended_flowing c.args.te
 })
 
 pub invariant_of-self-clause-shown : goal.invariant_of-self-clause-shown
-invariant_of-self-clause-shown g c = λ f. subst (λ z. Shows c.past-self.result z) (sym (place_on _ _ _ c.in-Ok.ensures.logged)) (c.past-self.ensures.shows _ (c.args.self.now.shown f))
+invariant_of-self-clause-shown g c = λ f. subst (λ z. Stands c.pass_sent.new.self.units z) (sym (place_on _ _ _ c.in-Ok.ensures.logged)) (c.pass_sent.ensures _ (c.args.self.now.shown f))
 
 -- no positions are kept, so none are counted
 pub invariant_of-self-clause-counted : goal.invariant_of-self-clause-counted

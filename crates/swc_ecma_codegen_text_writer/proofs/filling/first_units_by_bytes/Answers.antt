@@ -2,7 +2,7 @@ use Rattle.std.proofs.Common.{◌≡◌, get_or, true, false, sym, ap, ◌∙◌
 use Rattle.swc_ecma_codegen_text_writer.specs.Places.{units_of}
 use Rattle.swc_ecma_codegen_text_writer.specs.Characters.{is_line_end}
 use Rattle.swc_ecma_codegen_text_writer.proofs.Reaching.{first_drop, first_stop, first_all}
-use Rattle.swc_ecma_codegen_text_writer.proofs.filling.first_units.Goals as goal
+use Rattle.swc_ecma_codegen_text_writer.proofs.filling.first_units_by_bytes.Goals as goal
 
 pub returns-then-is_line_end : goal.returns-then-is_line_end
 returns-then-is_line_end c =

@@ -1,10 +1,11 @@
 use Rattle.std.proofs.Common.{refl, sym, subst, ◌∙◌}
 use Rattle.swc_ecma_codegen_text_writer.specs.Sheet.{released}
+use Rattle.swc_ecma_codegen_text_writer.specs.Columns.{Stands}
 use Rattle.swc_ecma_codegen_text_writer.specs.Reach.{Shows}
 use Rattle.swc_ecma_codegen_text_writer.specs.View.{sheet_of, Reaches, HasReason}
 use Rattle.swc_ecma_codegen_text_writer.proofs.Sheets.{front_refl}
 use Rattle.swc_ecma_codegen_text_writer.proofs.Steps.{sent_sheet, place_on, place_since}
-use Rattle.swc_ecma_codegen_text_writer.proofs.basic_impl.Lines.release.Goals as goal
+use Rattle.swc_ecma_codegen_text_writer.proofs.basic_impl.Lines.release_known.Goals as goal
 
 pub returns-in-Ok : goal.returns-in-Ok
 unfolding sheet_of Reaches
@@ -28,7 +29,7 @@ pub invariant_of-self-clause-counted : goal.invariant_of-self-clause-counted
 invariant_of-self-clause-counted g c = λ f e. subst (λ z. Shows (g.K.KeepsPositions.reached c.pass.new.self) z) (sym (place_on _ _ _ c.in-Ok.ensures.logged)) (c.pass.ensures.counted _ (c.args.self.now.counted f) e)
 
 pub invariant_of-self-clause-shown : goal.invariant_of-self-clause-shown
-invariant_of-self-clause-shown g c = λ f. subst (λ z. Shows c.past-self.result z) (sym (place_on _ _ _ c.in-Ok.ensures.logged)) (c.past-self.ensures.shows _ (c.args.self.now.shown f))
+invariant_of-self-clause-shown g c = λ f. subst (λ z. Stands c.pass_known.new.self.units z) (sym (place_on _ _ _ c.in-Ok.ensures.logged)) (c.pass_known.ensures _ (c.args.self.now.shown f))
 
 pub invariant_of-self-clause-plain_bare : goal.invariant_of-self-clause-plain_bare
 invariant_of-self-clause-plain_bare g c = λ p. c.pass.ensures.keeps ∙ c.args.self.now.plain_bare p

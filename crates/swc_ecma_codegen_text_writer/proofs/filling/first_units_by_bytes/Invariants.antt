@@ -1,6 +1,6 @@
 use Rattle.std.proofs.Common.{◌≡◌, ◌+◌, ◌≤◌, ◌^◌, min, drop}
 use Rattle.swc_ecma_codegen_text_writer.specs.Filling.{first_units}
-use Rattle.swc_ecma_codegen_text_writer.proofs.filling.first_units.Given as goal
+use Rattle.swc_ecma_codegen_text_writer.proofs.filling.first_units_by_bytes.Given as goal
 
 abbrev pub invariant-loop-byte : goal.invariant-loop-byte
 invariant-loop-byte l = record {

@@ -1,0 +1,70 @@
+use Rattle.std.proofs.Common.{◌≡◌, refl, sym, subst, ap, ◌∙◌, false, Err, string_bytes}
+use Rattle.swc_ecma_codegen_text_writer.specs.Held.{flow_of, segment_in, GoesOn}
+use Rattle.swc_ecma_codegen_text_writer.specs.Reach.{Shows, is_in_line}
+use Rattle.swc_ecma_codegen_text_writer.specs.Columns.{Stands}
+use Rattle.swc_ecma_codegen_text_writer.specs.Sheet.{Sheet, Filling, no_segment, released}
+use Rattle.swc_ecma_codegen_text_writer.specs.View.{sheet_of, Reaches, HasReason}
+use Rattle.swc_ecma_codegen_text_writer.proofs.Flushes.{allowed_on, goes, goes_nowhere, none_some}
+use Rattle.swc_ecma_codegen_text_writer.proofs.Sheets.{front_refl, other_lines}
+use Rattle.swc_ecma_codegen_text_writer.proofs.Steps.{sent_sheet, place_on, place_since, first_halted, reaches_to}
+use Rattle.swc_ecma_codegen_text_writer.proofs.basic_impl.Lines.allow_here.Goals as goal
+
+pub returns-in-None : goal.returns-in-None
+returns-in-None g c = absurd (goes_nowhere _ _ _ c.in-None.is c.requires.goes)
+
+pub pass_known-requires : goal.pass_known-requires
+unfolding GoesOn
+pass_known-requires g c =
+    let h = c.in-Some.held in
+    let q = goes c.args.stays_in_line _ h (sheet_of c.args.self.now) c.in-Some.is c.requires.goes in
+    q.0 ∙ sym (ap is_in_line c.as_str-text.ensures.value)
+
+pub invariant_of-self-in-Ok-clause-plain_flowing : goal.invariant_of-self-in-Ok-clause-plain_flowing
+invariant_of-self-in-Ok-clause-plain_flowing g c = λ p. absurd (none_some _ _ (c.args.self.now.plain_flowing p) c.in-Some.is)
+
+pub invariant_of-self-in-Ok-clause-plain_bare : goal.invariant_of-self-in-Ok-clause-plain_bare
+invariant_of-self-in-Ok-clause-plain_bare g c = λ p. c.pass.ensures.keeps ∙ c.args.self.now.plain_bare p
+
+pub invariant_of-self-in-Ok-clause-held_bare : goal.invariant_of-self-in-Ok-clause-held_bare
+invariant_of-self-in-Ok-clause-held_bare g c = λ b. c.clear.ensures.notes
+
+pub invariant_of-self-in-Ok-clause-counted : goal.invariant_of-self-in-Ok-clause-counted
+invariant_of-self-in-Ok-clause-counted g c = λ f e. subst (λ z. Shows (g.K.KeepsPositions.reached c.pass.new.self) z) (sym (place_on _ _ _ c.in-Ok.ensures.logged)) (c.pass.ensures.counted _ (c.args.self.now.counted f) e)
+
+pub invariant_of-self-in-Ok-clause-shown : goal.invariant_of-self-in-Ok-clause-shown
+invariant_of-self-in-Ok-clause-shown g c = λ f. subst (λ z. Stands c.pass_known.new.self.units z) (sym (place_on _ _ _ c.in-Ok.ensures.logged)) (c.pass_known.ensures _ (c.args.self.now.shown f))
+
+pub returns-in-Ok : goal.returns-in-Ok
+unfolding sheet_of Reaches GoesOn
+returns-in-Ok g c =
+    let h = c.in-Some.held in
+    let s : Sheet = sheet_of c.args.self.now in
+    let q = goes c.args.stays_in_line _ h s c.in-Some.is c.requires.goes in
+    let text = string_bytes h.segment.text in
+    let some : s.lines ≡ Filling h.max h.first (segment_in h.segment) = ap flow_of c.in-Some.is in
+    let out = sent_sheet c.as_str-text.result.now s _ _ _ _ _ _ _ _ c.in-Ok.ensures.sent c.in-Ok.ensures.whole c.in-Ok.ensures.faults (place_on _ _ _ c.in-Ok.ensures.logged) c.pass.ensures.keeps c.pass.ensures.keeps c.pass.ensures.pairs c.pass.ensures.pending in
+    ap (λ (z : Sheet). record z { lines = Filling h.max false (segment_in c.clear.new.self) }) out
+    ∙ ap (λ t. record (released t s) { lines = Filling h.max false (segment_in c.clear.new.self) }) c.as_str-text.ensures.value
+    ∙ allowed_on h.max h.first text h.segment.notes.items (segment_in c.clear.new.self) s some q.1.0 q.1.1 c.clear.ensures.segment
+
+pub returns-in-Err : goal.returns-in-Err
+unfolding sheet_of Reaches HasReason released GoesOn
+returns-in-Err g c =
+    let h = c.in-Some.held in
+    let s : Sheet = sheet_of c.args.self.now in
+    let q = goes c.args.stays_in_line _ h s c.in-Some.is c.requires.goes in
+    let text = string_bytes h.segment.text in
+    let some : s.lines ≡ Filling h.max h.first (segment_in h.segment) = ap flow_of c.in-Some.is in
+    let to =
+    ap (λ t. record (released t s) { lines = Filling h.max false no_segment }) c.as_str-text.ensures.value
+    ∙ allowed_on h.max h.first text h.segment.notes.items no_segment s some q.1.0 q.1.1 refl in
+    reaches_to _ _ _ _ (Err _) to
+    (first_halted _ _ _ _ _ (other_lines _ (released c.as_str-text.result.now s)) (record {
+      reason = c.in-Err.ensures.counted;
+      grows = c.in-Err.ensures.grows;
+      front = c.in-Err.ensures.front;
+      place = place_since c.args.self.now.outlet c.write_text.new.self c.in-Err.ensures.before c.in-Err.ensures.grows;
+      more_pairs = front_refl _;
+      front_pairs = front_refl _;
+      same = refl;
+    }))
