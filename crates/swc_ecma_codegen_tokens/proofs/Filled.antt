@@ -16,11 +16,11 @@ use Rattle.swc_ecma_codegen_tokens.specs.Named.{AllStand, PlacesNames}
 use Rattle.swc_ecma_codegen_tokens.specs.Settings.{settings_of}
 use Rattle.swc_ecma_codegen_tokens.specs.Targets.{is_out}
 use Rattle.swc_ecma_codegen_tokens.specs.Words.{begin_lines, end_lines, in_lines}
-use Rattle.swc_ecma_codegen_tokens.specs.Written.{IsLineEnd, IsNew, IsAtMargin, AddsReading, taken_remarks}
+use Rattle.swc_ecma_codegen_tokens.specs.Written.{Spot, IsLineEnd, IsNew, IsAtMargin, AddsReading, taken_remarks}
 use Rattle.swc_ecma_codegen_tokens.proofs.CutReads.{cut_reads}
 use Rattle.swc_ecma_codegen_tokens.proofs.Fronts.{is_inner_step, are_inner_steps}
-use Rattle.swc_ecma_codegen_tokens.proofs.PartSteps.{steps_of_chain, steps_of_more}
-use Rattle.swc_ecma_codegen_tokens.proofs.Phrased.{Printed, PrintsAt, enters_new, new_at_rest, taken_closed}
+use Rattle.swc_ecma_codegen_tokens.proofs.PartSteps.{steps_alone, steps_of_more}
+use Rattle.swc_ecma_codegen_tokens.proofs.Phrased.{PrintsOn, PrintsAt, enters_new, new_at_rest, taken_closed}
 use Rattle.swc_ecma_codegen_tokens.proofs.CutStanding.{AllHere, each_holds}
 use Rattle.swc_ecma_codegen_tokens.proofs.FilledNames.{filled_name}
 use Rattle.swc_ecma_codegen_tokens.proofs.Standing.{reached_first}
@@ -135,7 +135,7 @@ unfolding nothing
 filled_reads max anywhere p f a n flows m closed prints w o =
     let h = prints.where_possible w o a.env.maps in
     let steps : List Step = h.writes.steps in
-    let same : steps_of (p nothing a.env) ≡ steps = ap steps_of (h.writes.is_steps nothing) ∙ steps_of_chain steps in
+    let same : steps_of (p nothing a.env) ≡ steps = steps_alone h.writes in
     let c : State = cut_state a in
     let l = h.writes.lays c (new_at_rest c (cut_new a n)) (taken_closed steps a.env.maps closed) in
     let fills = steps_fill max steps a h.writes.inner n flows in
@@ -154,7 +154,7 @@ unfolding nothing
 filled_places max anywhere p f a n flows m closed prints w o k =
     let h = prints.where_possible w o a.env.maps in
     let steps : List Step = h.writes.steps in
-    let same : steps_of (p nothing a.env) ≡ steps = ap steps_of (h.writes.is_steps nothing) ∙ steps_of_chain steps in
+    let same : steps_of (p nothing a.env) ≡ steps = steps_alone h.writes in
     let c : State = cut_state a in
     let new = cut_new a n in
     let l = h.writes.lays c (new_at_rest c new) (taken_closed steps a.env.maps closed) in
@@ -177,15 +177,16 @@ filled_places max anywhere p f a n flows m closed prints w o k =
     })
 
 -- the steps of a part in lines
-lined_steps : {i : Shape} (max : ℕ) (p : Part) (f : Phrase) (env : Env) (h : Printed i env p f) → steps_of (in_lines max p nothing env) ≡ filled max (steps_of (p nothing env))
+pub lined_steps : {v w : Spot} {i : Shape} (max : ℕ) (p : Part) (f : Phrase) (env : Env) → PrintsOn v w i env p f → is_possible f ≡ true → is_out env.config f ≡ false → steps_of (in_lines max p nothing env) ≡ filled max (steps_of (p nothing env))
 unfolding in_lines begin_lines end_lines step steps_of nothing after_step
-lined_steps max p f env h =
-    ap (λ z. Plain (BeginLines max) ∷ steps_of z) (h.writes.is_steps (end_lines nothing))
-    ∙ ap (λ z. Plain (BeginLines max) ∷ z) (steps_of_more h.writes.steps _)
-    ∙ ap (λ z. filled max z) (sym (ap steps_of (h.writes.is_steps nothing) ∙ steps_of_chain h.writes.steps))
+lined_steps max p f env prints w o =
+    let h = (prints.where_possible w o env.maps).writes in
+    ap (λ z. Plain (BeginLines max) ∷ steps_of z) (h.is_steps (end_lines nothing))
+    ∙ ap (λ z. Plain (BeginLines max) ∷ z) (steps_of_more h.steps _)
+    ∙ ap (λ z. filled max z) (sym (steps_alone h))
 
 -- where they come to no name that can't be written
-lined_not_out : {i : Shape} (max : ℕ) (p : Part) (f : Phrase) (env : Env) → PrintsAt i env p f → is_possible f ≡ true → unprintable_in (in_lines max p nothing env) ≡ None → is_out env.config f ≡ false
+pub lined_not_out : {v w : Spot} {i : Shape} (max : ℕ) (p : Part) (f : Phrase) (env : Env) → PrintsOn v w i env p f → is_possible f ≡ true → unprintable_in (in_lines max p nothing env) ≡ None → is_out env.config f ≡ false
 unfolding in_lines begin_lines end_lines step after_step unprintable_in
 lined_not_out max p f env prints w end = false_from_ne_true (is_out env.config f) (λ o. let z = sym end ∙ prints.where_out w o env.maps (end_lines nothing) in absurd (cc))
 
@@ -202,12 +203,11 @@ printed_filled max anywhere p f a b (Ok u) n flows m closed prints w k =
     let o = lined_not_out max p f a.env prints w k.0 in
     let h = prints.where_possible w o a.env.maps in
     let steps : List Step = steps_of (p nothing a.env) in
-    let alone : steps ≡ h.writes.steps = ap steps_of (h.writes.is_steps nothing) ∙ steps_of_chain h.writes.steps in
-    let same : run (filled max steps) a ≡ b = ap (λ z. run z a) (sym (lined_steps max p f a.env h)) ∙ sym k.1 in
+    let same : run (filled max steps) a ≡ b = ap (λ z. run z a) (sym (lined_steps max p f a.env prints w o)) ∙ sym k.1 in
     let P : State → Type 0 = λ z. FillsPart max p f a z.sheet in
     subst P same (record {
       reads = filled_reads max anywhere p f a n flows m closed prints w o;
       places = λ v. filled_places max anywhere p f a n flows m closed prints w o v;
-      fills = steps_fill max steps a (ap are_inner_steps alone ∙ h.writes.inner) n flows;
+      fills = steps_fill max steps a (ap are_inner_steps (steps_alone h.writes) ∙ h.writes.inner) n flows;
     })
 printed_filled max anywhere p f a b (Err e) n flows m closed prints w k = tt

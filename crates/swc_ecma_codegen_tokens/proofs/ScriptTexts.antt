@@ -1,121 +1,70 @@
 -- Where the strings that an emission prints by their value stand in a text, and that they are safe inside a script.
-use Rattle.std.proofs.Common.{◌≡◌, ℕ, Bool, true, false, cond, ◌&&◌, List, [], ◌∷◌, ◌++◌, refl, sym, ap, ◌∙◌, subst, append_assoc, append-nil, inl, inr, Result, Ok, Err, OnOk}
+use Rattle.std.proofs.Common.{◌≡◌, ℕ, Bool, true, false, cond, ◌&&◌, List, [], ◌∷◌, ◌++◌, sym, ap, ◌∙◌, subst, append_assoc, append-nil, inl, inr, Result, Ok, Err, OnOk}
 use Rattle.std.proofs.lemmas.Bool.{and_parts, cases_Bool, true≢false}
 use Rattle.swc_ecma_codegen_common.specs.declared.errors.Refusal.{Refusal}
-use Rattle.swc_ecma_codegen_common.specs.declared.positions.Span.{Span}
 use Rattle.swc_ecma_codegen_grammar.specs.declared.kinds.Kind.{Kind}
 use Rattle.swc_ecma_codegen_grammar.specs.Phrases.{Phrase, is_possible}
-use Rattle.swc_ecma_codegen_tokens.proofs.Fronts.{is_inner_step, are_inner_steps, put_fills}
-use Rattle.swc_ecma_codegen_tokens.proofs.AsciiTexts.{part_inner}
-use Rattle.swc_ecma_codegen_text_writer.proofs.Stays.{settled_stays}
-use Rattle.swc_ecma_codegen_text_writer.specs.Recorded.{RecordsTruly}
-use Rattle.swc_ecma_codegen_text_writer.specs.Sheet.{Item, Semi, Space, Keyword, Operator, Param, Property, Line, Lit, Comment, StrLit, Str, Symbol, Punct, Position, Commit, Deeper, Shallower, Sheet, literal_written, settled, effect, BeginLines, AllowBreak, EndLines, fills_lines}
-use Rattle.swc_ecma_codegen_text_writer.proofs.Pairs.{effect_records}
+use Rattle.swc_ecma_codegen_tokens.proofs.AsciiTexts.{part_fills}
+use Rattle.swc_ecma_codegen_tokens.proofs.HeldTexts.{Stands, AddsTexts, Goes, call_goes, call_still, guard_goes, goes_first, goes_last}
+use Rattle.swc_ecma_codegen_text_writer.specs.Sheet.{Item, Comment, Sheet, effect, fills_lines}
 use Rattle.swc_ecma_codegen_tokens.specs.Run.{Part, State, Step, Guard, Token, Plain, Ends, Remake, Take, CommentText, put, run, steps_of, nothing, text_of, Follows}
 use Rattle.swc_ecma_codegen_tokens.specs.Scripts.{is_string_call, string_by_value, strings_after, value_strings, AreSafe, StandIn, AddsSafe}
 use Rattle.swc_ecma_codegen_tokens.specs.Targets.{is_out}
 use Rattle.swc_ecma_codegen_tokens.specs.Written.{Spot}
-use Rattle.swc_ecma_codegen_tokens.proofs.PendingSemi.{front}
 use Rattle.swc_ecma_codegen_tokens.proofs.PartSteps.{IsSafe}
 use Rattle.swc_ecma_codegen_tokens.proofs.Phrased.{made_not_out, PrintsOn}
-use Rattle.swc_ecma_codegen_tokens.proofs.Positions.{put_records}
-use Rattle.swc_ecma_codegen_tokens.proofs.Texts.{adds_literal}
 use Rattle.swc_ecma_codegen_tokens.proofs.Shapes.{Shape}
 
--- ---- texts in a text
+-- ---- strings that stand in a text
 
-stand_later : (t u : List ℕ) (ts : List (List ℕ)) → StandIn u ts → StandIn (t ++ u) ts
+abbrev HasTexts : List (List ℕ) → List ℕ → Type 0
+HasTexts ts t = StandIn t ts
+
+texts_later : (us : List (List ℕ)) (t u : List ℕ) → StandIn u us → StandIn (t ++ u) us
 unfolding StandIn
-stand_later t u [] h = tt
-stand_later t u (x ∷ ts) h = (t ++ h.0, h.1, ap (λ z. t ++ z) h.2 ∙ sym (append_assoc t h.0 (x ++ h.1)), h.3)
+texts_later [] t u h = tt
+texts_later (c ∷ cs) t u h = (t ++ h.0, h.1, ap (λ z. t ++ z) h.2 ∙ sym (append_assoc t h.0 (c ++ h.1)), h.3)
 
--- texts of a text, and then those of the text after it
-stand_both : (t u : List ℕ) (ts us : List (List ℕ)) → StandIn t ts → StandIn u us → StandIn (t ++ u) (ts ++ us)
+texts_both : (ts us : List (List ℕ)) (t u : List ℕ) → StandIn t ts → StandIn u us → StandIn (t ++ u) (ts ++ us)
 unfolding StandIn
-stand_both t u [] us h k = stand_later t u us k
-stand_both t u (x ∷ ts) us h k =
-    (h.0, h.1 ++ u, ap (λ z. z ++ u) h.2 ∙ append_assoc h.0 (x ++ h.1) u ∙ ap (λ z. h.0 ++ z) (append_assoc x h.1 u), stand_both h.1 u ts us h.3 k)
+texts_both [] us t u h k = texts_later us t u k
+texts_both (c ∷ cs) us t u h k = (h.0, h.1 ++ u, ap (λ z. z ++ u) h.2 ∙ append_assoc h.0 (c ++ h.1) u ∙ ap (λ z. h.0 ++ z) (append_assoc c h.1 u), texts_both cs us h.1 u h.3 k)
 
--- what a text is longer by holds these
-record Holds (ts : List (List ℕ)) (old new : List ℕ) : Type 0 where
-  pub added : List ℕ
-  pub is_added : new ≡ old ++ added
-  pub stand : StandIn added ts
-
-holds_then : (ts us : List (List ℕ)) (a b c : List ℕ) → Holds ts a b → Holds us b c → Holds (ts ++ us) a c
-holds_then ts us a b c h k = record {
-  added = h.added ++ k.added;
-  is_added = k.is_added ∙ ap (λ z. z ++ k.added) h.is_added ∙ append_assoc a h.added k.added;
-  stand = stand_both h.added k.added ts us h.stand k.stand;
-}
-
-holds_none : (a b : Sheet) → RecordsTruly a b → Holds [] a.text b.text
+text_itself : (t : List ℕ) → StandIn t (t ∷ [])
 unfolding StandIn
-holds_none a b h = record { added = h.text; is_added = h.is_text; stand = tt }
+text_itself t = ([], [], sym (append-nil t), tt)
 
--- ---- a call that writes a string
+texts_stand : Stands HasTexts
+unfolding StandIn
+texts_stand = record { nothing = tt; both = texts_both; blank = tt; semicolon = tt }
 
-literal_holds : (span : Span) (t : List ℕ) (s : Sheet) → fills_lines s.lines ≡ false → Holds (t ∷ []) s.text (literal_written span t s).text
-unfolding literal_written StandIn
-literal_holds span [] s n = record { added = []; is_added = sym (append-nil s.text); stand = ([], [], refl, tt) }
-literal_holds span (c ∷ cs) s n = record {
-  added = front s ++ (c ∷ cs);
-  is_added = (adds_literal span c cs s n).text;
-  stand = (front s, [], ap (λ z. front s ++ z) (sym (append-nil (c ∷ cs))), tt);
-}
-
-string_holds : (span : Span) (t : List ℕ) (s : Sheet) → fills_lines s.lines ≡ false → Holds (t ∷ []) s.text (effect (StrLit span t) s).text
-unfolding effect
-string_holds span t s n = holds_then [] (t ∷ []) s.text (settled s).text _ (holds_none s (settled s) (effect_records Commit s)) (literal_holds span t (settled s) ((settled_stays s).fills ∙ n))
-
-no_call : {P : Type 0} → false ≡ true → P
-no_call h = absurd (true≢false (sym h))
-
-call_holds : (kind : Kind) (x : Item) (s : Sheet) → fills_lines s.lines ≡ false → is_string_call kind x ≡ true → Holds (text_of x ∷ []) s.text (effect x s).text
-unfolding is_string_call text_of
-call_holds kind (StrLit span t) s n h = string_holds span t s n
-call_holds kind (Semi span) s n h = no_call h
-call_holds kind Space s n h = no_call h
-call_holds kind (Keyword span t) s n h = no_call h
-call_holds kind (Operator span t) s n h = no_call h
-call_holds kind (Param t) s n h = no_call h
-call_holds kind (Property t) s n h = no_call h
-call_holds kind Line s n h = no_call h
-call_holds kind (Lit span t) s n h = no_call h
-call_holds kind (Comment t) s n h = no_call h
-call_holds kind (Str t) s n h = no_call h
-call_holds kind (Symbol span t) s n h = no_call h
-call_holds kind (Punct span t) s n h = no_call h
-call_holds kind (Position pos) s n h = no_call h
-call_holds kind Commit s n h = no_call h
-call_holds kind Deeper s n h = no_call h
-call_holds kind Shallower s n h = no_call h
-call_holds kind (BeginLines max) s n h = no_call h
-call_holds kind AllowBreak s n h = no_call h
-call_holds kind EndLines s n h = no_call h
-
-token_holds : (anew : Bool) (kind : Kind) (x : Item) (s : Sheet) → fills_lines s.lines ≡ false → Holds (string_by_value anew kind x) s.text (effect x s).text
-unfolding string_by_value
-token_holds anew kind x s n =
-    let b : Bool = anew && is_string_call kind x in
-    let P : Bool → Type 0 = λ z. Holds (cond z (text_of x ∷ []) []) s.text (effect x s).text in
-    elim (cases_Bool b) [
-      | inl h ↦ subst P (sym h) (call_holds kind x s n (and_parts anew (is_string_call kind x) h).1)
-      | inr h ↦ subst P (sym h) (holds_none s (effect x s) (effect_records x s))
+string_call : {ts : List (List ℕ)} {old : List ℕ} (anew : Bool) (kind : Kind) (x : Item) (s : Sheet) → Goes HasTexts ts old s → Goes HasTexts (ts ++ string_by_value anew kind x) old (effect x s)
+unfolding string_by_value is_string_call StandIn
+string_call {ts} {old} anew kind x s g =
+    let P : Bool → Type 0 = λ z. Goes HasTexts (ts ++ cond z (text_of x ∷ []) []) old (effect x s) in
+    elim (cases_Bool (anew && is_string_call kind x)) [
+      | inl h ↦ subst P (sym h) (call_goes texts_stand x s (text_itself (text_of x)) (λ span q. absurd (true≢false (sym (and_parts anew (is_string_call kind x) h).1 ∙ ap (is_string_call kind) q))) g)
+      | inr h ↦ subst P (sym h) (call_goes texts_stand x s tt (λ span q. tt) g)
     ]
 
--- ---- steps
-
-run_holds : (anew : Bool) (xs : List Step) (a : State) → are_inner_steps xs ≡ true → fills_lines a.sheet.lines ≡ false → Holds (strings_after anew xs) a.sheet.text (run xs a).sheet.text
+run_strings : {ts : List (List ℕ)} {old : List ℕ} (anew : Bool) (xs : List Step) (a : State) → Goes HasTexts ts old a.sheet → Goes HasTexts (ts ++ strings_after anew xs) old (run xs a).sheet
 unfolding run put strings_after StandIn
-run_holds anew [] a i n = record { added = []; is_added = sym (append-nil a.sheet.text); stand = tt }
-run_holds anew (Guard t ∷ xs) a i n = let p = and_parts (is_inner_step (Guard t)) (are_inner_steps xs) i in holds_then [] _ _ _ _ (holds_none _ _ (put_records (Guard t) a)) (run_holds anew xs (put (Guard t) a) p.1 (put_fills (Guard t) a p.0 ∙ n))
-run_holds anew (Token kind x ∷ xs) a i n = let p = and_parts (is_inner_step (Token kind x)) (are_inner_steps xs) i in holds_then (string_by_value anew kind x) _ _ _ _ (token_holds anew kind x a.sheet n) (run_holds anew xs (put (Token kind x) a) p.1 (put_fills (Token kind x) a p.0 ∙ n))
-run_holds anew (Plain x ∷ xs) a i n = let p = and_parts (is_inner_step (Plain x)) (are_inner_steps xs) i in holds_then [] _ _ _ _ (holds_none _ _ (put_records (Plain x) a)) (run_holds anew xs (put (Plain x) a) p.1 (put_fills (Plain x) a p.0 ∙ n))
-run_holds anew (Ends tokens x ∷ xs) a i n = let p = and_parts (is_inner_step (Ends tokens x)) (are_inner_steps xs) i in holds_then [] _ _ _ _ (holds_none _ _ (put_records (Ends tokens x) a)) (run_holds anew xs (put (Ends tokens x) a) p.1 (put_fills (Ends tokens x) a p.0 ∙ n))
-run_holds anew (Remake due ∷ xs) a i n = let p = and_parts (is_inner_step (Remake due)) (are_inner_steps xs) i in holds_then [] _ _ _ _ (holds_none _ _ (put_records (Remake due) a)) (run_holds due xs (put (Remake due) a) p.1 (put_fills (Remake due) a p.0 ∙ n))
-run_holds anew (Take side at ∷ xs) a i n = let p = and_parts (is_inner_step (Take side at)) (are_inner_steps xs) i in holds_then [] _ _ _ _ (holds_none _ _ (put_records (Take side at) a)) (run_holds anew xs (put (Take side at) a) p.1 (put_fills (Take side at) a p.0 ∙ n))
-run_holds anew (CommentText t ∷ xs) a i n = let p = and_parts (is_inner_step (CommentText t)) (are_inner_steps xs) i in holds_then [] _ _ _ _ (holds_none _ _ (put_records (CommentText t) a)) (run_holds anew xs (put (CommentText t) a) p.1 (put_fills (CommentText t) a p.0 ∙ n))
+run_strings {ts} {old} anew [] a g = subst (λ z. Goes HasTexts z old a.sheet) (sym (append-nil ts)) g
+run_strings anew (Guard t ∷ xs) a g = run_strings anew xs (put (Guard t) a) (guard_goes texts_stand t a g)
+run_strings {ts} {old} anew (Token kind x ∷ xs) a g =
+    let here : List (List ℕ) = string_by_value anew kind x in
+    let k : Goes HasTexts ((ts ++ here) ++ strings_after anew xs) old (run xs (put (Token kind x) a)).sheet = run_strings {ts = ts ++ here} anew xs (put (Token kind x) a) (string_call anew kind x a.sheet g) in
+    subst (λ z. Goes HasTexts z old (run xs (put (Token kind x) a)).sheet) (append_assoc ts here (strings_after anew xs)) k
+run_strings anew (Plain x ∷ xs) a g = run_strings anew xs (put (Plain x) a) (call_still texts_stand x a.sheet tt g)
+run_strings anew (Ends tokens x ∷ xs) a g = run_strings anew xs (put (Ends tokens x) a) (call_still texts_stand x a.sheet tt g)
+run_strings anew (Remake due ∷ xs) a g = run_strings due xs (put (Remake due) a) g
+run_strings anew (Take side at ∷ xs) a g = run_strings anew xs (put (Take side at) a) g
+run_strings anew (CommentText t ∷ xs) a g = run_strings anew xs (put (CommentText t) a) (call_still texts_stand (Comment t) a.sheet tt g)
+
+-- The strings that steps print by their value stand in what they add, also where lines begin and end among them.
+pub steps_strings : (xs : List Step) (a : State) → fills_lines a.sheet.lines ≡ false → fills_lines (run xs a).sheet.lines ≡ false → AddsTexts HasTexts (value_strings xs) a.sheet.text (run xs a).sheet.text
+unfolding StandIn
+steps_strings xs a n m = goes_last texts_stand (run xs a).sheet m (run_strings false xs a (goes_first texts_stand a.sheet tt tt n))
 
 -- ---- what an emission adds
 
@@ -129,7 +78,7 @@ unfolding Follows
 printed_safe p f a b (Ok u) prints w e n k =
     let xs : List Step = steps_of (p nothing a.env) in
     let o = made_not_out p f a.env prints w k.0 in
-    let h = run_holds false xs a (part_inner prints w o) n in
+    let h = steps_strings xs a n (part_fills a prints w o ∙ n) in
     let P : State → Type 0 = λ z. AddsSafe (value_strings xs) a.sheet.text z.sheet.text in
     subst P (sym k.1) (record { added = h.added; is_added = h.is_added; stand = h.stand; safe = part_safe a prints w o e })
 printed_safe p f a b (Err x) prints w e n k = tt
