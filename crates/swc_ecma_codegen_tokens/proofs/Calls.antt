@@ -1,6 +1,7 @@
 -- Calls of a writer, as steps of an emission.
-use Rattle.std.proofs.Common.{◌≡◌, ◌+◌, ◌-◌, ◌<◌, arith, true, false, cond, List, ℕ, Result, Ok, Err, OnOk, OnErr, refl, sym, ◌∙◌, ap, subst, Bool}
+use Rattle.std.proofs.Common.{inl, inr, ◌≡◌, ◌+◌, ◌-◌, ◌<◌, arith, true, false, cond, List, ℕ, Result, Ok, Err, OnOk, OnErr, refl, sym, ◌∙◌, ap, subst, Bool}
 use Rattle.std.specs.Str.{chars}
+use Rattle.std.proofs.lemmas.Bool.{cases_Bool}
 use Rattle.swc_ecma_codegen_common.specs.declared.errors.Refusal.{Refusal}
 use Rattle.swc_ecma_codegen_util.specs.declared.config.Config.{Config}
 use Rattle.swc_ecma_codegen_grammar.specs.declared.kinds.Kind.{Kind}
@@ -238,3 +239,10 @@ pub has_break : (t : List ℕ) (a b : State) (r : Result (Unit {0}) Refusal) →
 unfolding with_source
 has_break t a b (Ok u) h k = λ lines maps rest c r f. follows_same (break_behind t rest) (allow_break rest) (with_source lines maps a) c r (ap (λ z. cond z (allow_break rest) rest (with_source lines maps a).env) h) (k lines maps rest c r f)
 has_break t a b (Err e) h k = λ lines maps rest. follows_same (break_behind t rest) (allow_break rest) (with_source lines maps a) (with_source lines maps b) (Err e) (ap (λ z. cond z (allow_break rest) rest (with_source lines maps a).env) h) (k lines maps rest)
+
+-- behind a punctuator where lines aren't bounded
+pub unbounded_behind : (t : List ℕ) (a : State) → is_bounded a.env ≡ false → Does (break_behind t) a a (Ok tt)
+unbounded_behind t a h = elim (cases_Bool (allows_break t)) [
+  | inl y ↦ has_break t a a (Ok tt) y (passes_break a h)
+  | inr n ↦ no_break t a n
+]

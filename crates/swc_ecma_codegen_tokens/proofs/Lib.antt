@@ -6,6 +6,7 @@ pub mod StepAscii
 pub mod ValueStrings
 pub mod Calls
 pub mod Spelled
+pub mod ShortNames
 pub mod RewrittenLiterals
 pub mod ListCommas
 pub mod RawTexts

@@ -22,4 +22,5 @@ pub mod Scripts
 pub mod Named
 pub mod Ready
 pub mod Starts
+pub mod ShortNames
 pub mod Classes

@@ -23,6 +23,7 @@ mod previous;
 mod private_names;
 mod raws;
 mod refusals;
+mod short_names;
 mod starts;
 mod tags;
 mod templates;

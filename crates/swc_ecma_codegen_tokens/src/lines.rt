@@ -101,7 +101,7 @@ impl LowerEmitter {
 
     /// The same behind a punctuator: a line may be ended behind `,` and not behind `.`.
     #[inline(always)]
-    #[tactic(auto, using(crate::proofs::Calls::no_break, crate::proofs::Calls::has_break))]
+    #[tactic(auto, using(crate::proofs::Calls::unbounded_behind, crate::proofs::Calls::no_break, crate::proofs::Calls::has_break))]
     pub(crate) fn break_behind<W: WriteJs>(
         &mut self,
         cfg: &Config,
@@ -113,6 +113,10 @@ impl LowerEmitter {
             (state_of cfg.now (W.sheet wr.new) self.new) result }
         ensures level { OnOk result ((W.sheet wr.new).indentation ≡ (W.sheet wr.old).indentation) }
     {
+        // Asked first, since mostly lines aren't bounded.
+        if !is_bounded(cfg) {
+            return Ok(());
+        }
         if !allows_break(mark) {
             return Ok(());
         }

@@ -17,10 +17,11 @@ ghost use Rattle.swc_ecma_codegen_tokens.specs.View.{state_of, env_of};
 use crate::LowerEmitter;
 use crate::guard::blank_due_after;
 use crate::raws::is_ascii;
+use crate::short_names::has_backslash;
 use crate::starts::StartClass;
 use swc_ecma_codegen_common::{Answer, Refusal, Span};
 use swc_ecma_codegen_grammar::comments::Comments;
-use swc_ecma_codegen_literals::{Punctuator, ascii_only_ident, holds_backslash, valid_name};
+use swc_ecma_codegen_literals::{Punctuator, ascii_only_ident, valid_name};
 use swc_ecma_codegen_text_writer::WriteJs;
 use swc_ecma_codegen_util::config::Config;
 
@@ -155,7 +156,7 @@ impl LowerEmitter {
             (state_of cfg.now (W.sheet wr.new) self.new) result }
         ensures level { OnOk result ((W.sheet wr.new).indentation ≡ (W.sheet wr.old).indentation) }
     {
-        if !holds_backslash(name) {
+        if !has_backslash(name) {
             return self.spelled_symbol(cfg, wr, span, name);
         }
         self.mended_symbol(cfg, wr, span, name)
