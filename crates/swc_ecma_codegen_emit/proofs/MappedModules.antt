@@ -37,19 +37,19 @@ use Rattle.swc_ecma_codegen_emit.proofs.MappedTsDecls.{extends_mapped}
 abbrev as_decl : {X : Type 0} → Box (ModuleDecl X) Global → ModuleDecl X → AnyNode-F X
 as_decl b n = nodes.StmtPart (stmt_parts.ModuleDecl (record b { value = n }))
 
-import_by : {X Y : Type 0} (g : X → Y) (asks : Y → Answers) (items : Y → Place → Part) (b : Box (ModuleDecl X) Global) (n : ImportDecl X) (with_ : Option (ObjectLitBox X)) (place : Place) (rest : Plan) → node_items asks items (map-AnyNode X Y g (as_decl b (module_decls.Import (record n { with_ = with_ })))) place rest ≡ module_decl (λ x. asks (g x)) (λ x. items (g x)) (module_decls.Import (record n { with_ = with_ })) rest
+import_by : {X Y : Type 0} (g : X → Y) (asks : Y → Answers) (items : Y → Place → Part) (b : Box (ModuleDecl X) Global) (n : ImportDecl X) (with_ : Option (ObjectLitBox X)) (place : Place) (rest : Plan) → node_items asks items (map-AnyNode X Y g (as_decl b (module_decls.Import (record n { with = with_ })))) place rest ≡ module_decl (λ x. asks (g x)) (λ x. items (g x)) (module_decls.Import (record n { with = with_ })) rest
 unfolding node_items stmt_part module_decl module_decl_by module_decl_span import_decl import_parts import_tail source_end attributes
 import_by g asks items b n None place rest = refl
 import_by g asks items b n (Some w) place rest = refl
 
-named_by : {X Y : Type 0} (g : X → Y) (asks : Y → Answers) (items : Y → Place → Part) (b : Box (ModuleDecl X) Global) (n : NamedExport X) (src : Option Str) (with_ : Option (ObjectLitBox X)) (place : Place) (rest : Plan) → node_items asks items (map-AnyNode X Y g (as_decl b (module_decls.ExportNamed (record n { src = src; with_ = with_ })))) place rest ≡ module_decl (λ x. asks (g x)) (λ x. items (g x)) (module_decls.ExportNamed (record n { src = src; with_ = with_ })) rest
+named_by : {X Y : Type 0} (g : X → Y) (asks : Y → Answers) (items : Y → Place → Part) (b : Box (ModuleDecl X) Global) (n : NamedExport X) (src : Option Str) (with_ : Option (ObjectLitBox X)) (place : Place) (rest : Plan) → node_items asks items (map-AnyNode X Y g (as_decl b (module_decls.ExportNamed (record n { src = src; with = with_ })))) place rest ≡ module_decl (λ x. asks (g x)) (λ x. items (g x)) (module_decls.ExportNamed (record n { src = src; with = with_ })) rest
 unfolding node_items stmt_part module_decl module_decl_by module_decl_span export_named export_tail from_clause attributes
 named_by g asks items b n None None place rest = refl
 named_by g asks items b n None (Some w) place rest = refl
 named_by g asks items b n (Some s) None place rest = refl
 named_by g asks items b n (Some s) (Some w) place rest = refl
 
-all_by : {X Y : Type 0} (g : X → Y) (asks : Y → Answers) (items : Y → Place → Part) (b : Box (ModuleDecl X) Global) (n : ExportAll X) (with_ : Option (ObjectLitBox X)) (place : Place) (rest : Plan) → node_items asks items (map-AnyNode X Y g (as_decl b (module_decls.ExportAll (record n { with_ = with_ })))) place rest ≡ module_decl (λ x. asks (g x)) (λ x. items (g x)) (module_decls.ExportAll (record n { with_ = with_ })) rest
+all_by : {X Y : Type 0} (g : X → Y) (asks : Y → Answers) (items : Y → Place → Part) (b : Box (ModuleDecl X) Global) (n : ExportAll X) (with_ : Option (ObjectLitBox X)) (place : Place) (rest : Plan) → node_items asks items (map-AnyNode X Y g (as_decl b (module_decls.ExportAll (record n { with = with_ })))) place rest ≡ module_decl (λ x. asks (g x)) (λ x. items (g x)) (module_decls.ExportAll (record n { with = with_ })) rest
 unfolding node_items stmt_part module_decl module_decl_by module_decl_span export_all all_tail source_end attributes
 all_by g asks items b n None place rest = refl
 all_by g asks items b n (Some w) place rest = refl
@@ -72,9 +72,9 @@ equals_by g asks items b n (module_refs.TsExternalModuleRef name) place rest = r
 
 decl_by : {X Y : Type 0} (g : X → Y) (asks : Y → Answers) (items : Y → Place → Part) (b : Box (ModuleDecl X) Global) (n : ModuleDecl X) (place : Place) (rest : Plan) → node_items asks items (map-AnyNode X Y g (as_decl b n)) place rest ≡ module_decl (λ x. asks (g x)) (λ x. items (g x)) n rest
 unfolding node_items stmt_part module_decl module_decl_by module_decl_span export_decl export_default_expr ts_export_assignment
-decl_by g asks items b (module_decls.Import n) place rest = import_by g asks items b n n.with_ place rest
-decl_by g asks items b (module_decls.ExportNamed n) place rest = named_by g asks items b n n.src n.with_ place rest
-decl_by g asks items b (module_decls.ExportAll n) place rest = all_by g asks items b n n.with_ place rest
+decl_by g asks items b (module_decls.Import n) place rest = import_by g asks items b n n.with place rest
+decl_by g asks items b (module_decls.ExportNamed n) place rest = named_by g asks items b n n.src n.with place rest
+decl_by g asks items b (module_decls.ExportAll n) place rest = all_by g asks items b n n.with place rest
 decl_by g asks items b (module_decls.ExportDefaultDecl n) place rest = default_by g asks items b n n.decl place rest
 decl_by g asks items b (module_decls.TsImportEquals n) place rest = equals_by g asks items b n n.module_ref place rest
 decl_by g asks items b n place rest = refl

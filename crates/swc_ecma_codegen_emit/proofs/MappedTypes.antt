@@ -199,14 +199,14 @@ unfolding node_items ts_part ts_type ts_union_or_intersection_type ts_union_type
 joined_mapped {X} g asks items (joined_types.TsUnionType n) place rest = ap (leading_comments n.span.lo) (children_mapped {A = TsTypeBox X} _ (child_of (type_place asks) (type_items items)) (child_of (type_place (λ x. asks (g x))) (type_items (λ x. items (g x)))) (λ x. refl) union_format n.span n.types.items rest)
 joined_mapped {X} g asks items (joined_types.TsIntersectionType n) place rest = ap (leading_comments n.span.lo) (children_mapped {A = TsTypeBox X} _ (child_of (type_place asks) (type_items items)) (child_of (type_place (λ x. asks (g x))) (type_items (λ x. items (g x)))) (λ x. refl) intersection_format n.span n.types.items rest)
 
-infer_mapped : {X Y : Type 0} (g : X → Y) (asks : Y → Answers) (items : Y → Place → Part) (b : Box (TsInferType X) Global) (n : TsInferType X) (constraint default_ : Option (TsTypeBox X)) (place : Place) (rest : Plan) → node_items asks items (map-AnyNode X Y g (as_type (types.TsInferType (with_value b (record n { type_param = record n.type_param { constraint = constraint; default_ = default_ } }))))) place rest ≡ ts_infer_type (λ x. items (g x)) (record n { type_param = record n.type_param { constraint = constraint; default_ = default_ } }) rest
+infer_mapped : {X Y : Type 0} (g : X → Y) (asks : Y → Answers) (items : Y → Place → Part) (b : Box (TsInferType X) Global) (n : TsInferType X) (constraint default_ : Option (TsTypeBox X)) (place : Place) (rest : Plan) → node_items asks items (map-AnyNode X Y g (as_type (types.TsInferType (with_value b (record n { type_param = record n.type_param { constraint = constraint; default = default_ } }))))) place rest ≡ ts_infer_type (λ x. items (g x)) (record n { type_param = record n.type_param { constraint = constraint; default = default_ } }) rest
 unfolding node_items ts_part ts_type ts_infer_type ts_type_param type_behind default_type
 infer_mapped g asks items b n None None place rest = refl
 infer_mapped g asks items b n None (Some d) place rest = refl
 infer_mapped g asks items b n (Some c) None place rest = refl
 infer_mapped g asks items b n (Some c) (Some d) place rest = refl
 
-mapped_mapped : {X Y : Type 0} (g : X → Y) (asks : Y → Answers) (items : Y → Place → Part) (b : Box (TsMappedType X) Global) (n : TsMappedType X) (constraint default_ name_type type_ann : Option (TsTypeBox X)) (place : Place) (rest : Plan) → node_items asks items (map-AnyNode X Y g (as_type (types.TsMappedType (with_value b (record n { type_param = record n.type_param { constraint = constraint; default_ = default_ }; name_type = name_type; type_ann = type_ann }))))) place rest ≡ ts_mapped_type (λ x. items (g x)) (record n { type_param = record n.type_param { constraint = constraint; default_ = default_ }; name_type = name_type; type_ann = type_ann }) rest
+mapped_mapped : {X Y : Type 0} (g : X → Y) (asks : Y → Answers) (items : Y → Place → Part) (b : Box (TsMappedType X) Global) (n : TsMappedType X) (constraint default_ name_type type_ann : Option (TsTypeBox X)) (place : Place) (rest : Plan) → node_items asks items (map-AnyNode X Y g (as_type (types.TsMappedType (with_value b (record n { type_param = record n.type_param { constraint = constraint; default = default_ }; name_type = name_type; type_ann = type_ann }))))) place rest ≡ ts_mapped_type (λ x. items (g x)) (record n { type_param = record n.type_param { constraint = constraint; default = default_ }; name_type = name_type; type_ann = type_ann }) rest
 unfolding node_items ts_part ts_type ts_mapped_type mapped_parts mapped_param mapped_type_ann type_behind default_type
 mapped_mapped g asks items b n None None None None place rest = refl
 mapped_mapped g asks items b n None None None (Some t) place rest = refl
@@ -238,8 +238,8 @@ type_mapped g asks items (types.TsTypeQuery n) place rest = query_mapped g asks 
 type_mapped g asks items (types.TsTypeLit n) place rest = object_mapped g asks items n place rest
 type_mapped g asks items (types.TsTupleType n) place rest = tuple_mapped g asks items n place rest
 type_mapped g asks items (types.TsUnionOrIntersectionType n) place rest = joined_mapped g asks items n place rest
-type_mapped g asks items (types.TsInferType n) place rest = infer_mapped g asks items n n.value n.value.type_param.constraint n.value.type_param.default_ place rest
-type_mapped g asks items (types.TsMappedType n) place rest = mapped_mapped g asks items n n.value n.value.type_param.constraint n.value.type_param.default_ n.value.name_type n.value.type_ann place rest
+type_mapped g asks items (types.TsInferType n) place rest = infer_mapped g asks items n n.value n.value.type_param.constraint n.value.type_param.default place rest
+type_mapped g asks items (types.TsMappedType n) place rest = mapped_mapped g asks items n n.value n.value.type_param.constraint n.value.type_param.default n.value.name_type n.value.type_ann place rest
 type_mapped g asks items (types.TsLitType n) place rest = lit_mapped g asks items n n.value n.value.lit place rest
 type_mapped g asks items (types.TsTypePredicate n) place rest = predicate_mapped g asks items n n.value n.value.type_ann place rest
 type_mapped g asks items (types.TsImportType n) place rest = import_mapped g asks items n n.value n.value.qualifier n.value.type_args place rest

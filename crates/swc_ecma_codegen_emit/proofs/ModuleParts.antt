@@ -276,7 +276,7 @@ import_prints l n = unless_crowded (words.is_crowded n.specifiers.items) (import
     (then (type_word_prints l.env n.type_only)
     (then (phase_prints l.env n.phase)
     (after (writes_blank l.env (words.begins_default n.specifiers.items))
-    (then (import_clause_prints l n.span n.specifiers.items) (source_end_prints l n.src n.with_ n.span))))))))
+    (then (import_clause_prints l n.span n.specifiers.items) (source_end_prints l n.src n.with n.span))))))))
 
 -- ---- exports
 
@@ -382,7 +382,7 @@ export_named_prints l n =
     (then (type_word_prints l.env n.type_only)
     (after (writes_formatting_space l.env)
     (then (export_clause_prints l n.span n.specifiers.items)
-    (then (from_clause_prints l n.with_ (words.ends_with_name n.specifiers.items) n.src) (before (prints_semi l.env) (writes_position l.env n.span.hi))))))))
+    (then (from_clause_prints l n.with (words.ends_with_name n.specifiers.items) n.src) (before (prints_semi l.env) (writes_position l.env n.span.hi))))))))
 
 all_word_prints : (env : Env) (type_only : Bool) → PrintsAt open_ env (words.all_word type_only) (lists.type_word type_only)
 unfolding words.all_word lists.type_word word_if
@@ -398,7 +398,7 @@ export_all_prints l n =
     (then (all_word_prints l.env n.type_only)
     (then (prints_punct l.env (codes "*") marks.star)
     (after (writes_formatting_space l.env)
-    (then (from_prints l.env) (source_end_prints l n.src n.with_ n.span)))))))
+    (then (from_prints l.env) (source_end_prints l n.src n.with n.span)))))))
 
 export_decl_prints : {X : Type 0} (l : Linked X) (n : ExportDecl X) → PrintsAt ended l.env (words.export_decl l.items n) (lists.export_decl l.reads n)
 unfolding words.export_decl lists.export_decl

@@ -158,7 +158,7 @@ param_prints l n =
     (then (word_before_prints l.env n.is_in (codes "in") marks.in_word)
     (then (word_before_prints l.env n.is_out (codes "out") type_words.out_word)
     (then (ident_prints l n.name)
-    (then (behind_prints l (codes "extends") marks.extends_word n.constraint) (default_prints l n.default_))))))
+    (then (behind_prints l (codes "extends") marks.extends_word n.constraint) (default_prints l n.default))))))
 
 pub params_print : {X : Type 0} (l : Linked X) (n : TsTypeParamDecl X) → Prints l.env (words.ts_type_param_decl l.items n) (lists.ts_type_param_decl l.reads n)
 unfolding words.ts_type_param_decl lists.ts_type_param_decl
@@ -337,7 +337,7 @@ signed_question_prints env (Some signs.Minus) = prints_wider open_ refl (then (p
 mapped_param_prints : {X : Type 0} (l : Linked X) (n : TsTypeParam X) (name_type : Option (TsTypeBox X)) → Prints l.env (words.mapped_param l.items n name_type) (lists.mapped_param l.reads n name_type)
 unfolding words.mapped_param lists.mapped_param
 mapped_param_prints l n name_type = prints_where (not (n.is_in || (n.is_out || n.is_const))) (λ h.
-    then (ident_prints l n.name) (then (behind_prints l (codes "in") marks.in_word n.constraint) (then (default_prints l n.default_) (behind_prints l (codes "as") marks.as_word name_type))))
+    then (ident_prints l n.name) (then (behind_prints l (codes "in") marks.in_word n.constraint) (then (default_prints l n.default) (behind_prints l (codes "as") marks.as_word name_type))))
 
 mapped_ann_prints : {X : Type 0} (l : Linked X) (n : Option (TsTypeBox X)) → PrintsAt open_ l.env (words.mapped_type_ann l.items n) (lists.type_behind l.reads (mark (codes ":")) n)
 unfolding words.mapped_type_ann lists.type_behind

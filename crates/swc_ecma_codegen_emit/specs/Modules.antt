@@ -152,7 +152,7 @@ source_end items src with_ span rest = str_lit src (attributes items with_ (semi
 
 -- `{ a } from 'b';`
 unfoldable pub import_tail : {X : Type 0} → (X → Place → Part) → ImportDecl X → Part
-import_tail items n rest = import_clause n.span n.specifiers.items (source_end items n.src n.with_ n.span rest)
+import_tail items n rest = import_clause n.span n.specifiers.items (source_end items n.src n.with n.span rest)
 
 -- `import { a } from 'b';`
 unfoldable pub import_parts : {X : Type 0} → (X → Place → Part) → ImportDecl X → Part
@@ -229,7 +229,7 @@ from_clause items with_ needed None rest = rest
 from_clause items with_ needed (Some n) rest = blank needed (from_word (str_lit n (attributes items with_ rest)))
 
 unfoldable pub export_tail : {X : Type 0} → (X → Place → Part) → NamedExport X → Part
-export_tail items n rest = export_clause n.span n.specifiers.items (from_clause items n.with_ (ends_with_name n.specifiers.items) n.src (semi (end_of n.span rest)))
+export_tail items n rest = export_clause n.span n.specifiers.items (from_clause items n.with (ends_with_name n.specifiers.items) n.src (semi (end_of n.span rest)))
 
 -- `export { a, b as c } from 'd';`
 unfoldable pub export_named : {X : Type 0} → (X → Place → Part) → NamedExport X → Part
@@ -239,7 +239,7 @@ export_named items n rest =
 
 -- `* from 'a';`
 unfoldable pub all_tail : {X : Type 0} → (X → Place → Part) → ExportAll X → Part
-all_tail items n rest = punct (codes "*") (formatting_space (from_word (source_end items n.src n.with_ n.span rest)))
+all_tail items n rest = punct (codes "*") (formatting_space (from_word (source_end items n.src n.with n.span rest)))
 
 -- ` type ` of `export type * from 'a'`, with its blanks minified too, or the blank in its place
 unfoldable pub all_word : Bool → Part

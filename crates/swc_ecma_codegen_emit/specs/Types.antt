@@ -125,7 +125,7 @@ ts_type_param items n rest =
     (word_before n.is_out (codes "out")
     (ident n.name
     (type_behind items (codes "extends") n.constraint
-    (default_type items n.default_ rest))))))
+    (default_type items n.default rest))))))
 
 abbrev pub param_place : {X : Type 0} → TsTypeParam X → Span
 param_place n = n.span
@@ -285,7 +285,7 @@ signed_question (Some s) rest = sign s (punct (codes "?") rest)
 -- `A in B = C as D`
 unfoldable pub mapped_param : {X : Type 0} → (X → Place → Part) → TsTypeParam X → Option (TsTypeBox X) → Part
 mapped_param items n name_type rest =
-    ident n.name (type_behind items (codes "in") n.constraint (default_type items n.default_ (type_behind items (codes "as") name_type rest)))
+    ident n.name (type_behind items (codes "in") n.constraint (default_type items n.default (type_behind items (codes "as") name_type rest)))
 
 -- `: A`, with a blank always
 unfoldable pub mapped_type_ann : {X : Type 0} → (X → Place → Part) → Option (TsTypeBox X) → Part

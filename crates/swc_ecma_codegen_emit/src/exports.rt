@@ -306,11 +306,11 @@ impl<W: WriteJs, S: SourceMapper, C: Comments> Emitter<'_, W, S, C> {
     #[tactic(auto, unfolding(crate::specs::Modules::from_clause))]
     fn from_clause<N: LinkTarget>(
         &mut self,
-        with_: &Option<ObjectLitBox<N>>,
+        with: &Option<ObjectLitBox<N>>,
         needed: bool,
         src: &Option<Str>,
     )
-        ensures items { Performs (from_clause N.items with_.now needed src.now)
+        ensures items { Performs (from_clause N.items with.now needed src.now)
             S.lines C.maps W.sheet self.old self.new }
         ensures level { KeepsLevel S.lines C.maps W.sheet self.old self.new }
     {
@@ -319,7 +319,7 @@ impl<W: WriteJs, S: SourceMapper, C: Comments> Emitter<'_, W, S, C> {
                 self.blank(needed);
                 self.from_word();
                 src.emit_at(self, Place::Plain);
-                self.attributes(with_)
+                self.attributes(with)
             }
             None => {}
         }
@@ -333,7 +333,7 @@ impl<W: WriteJs, S: SourceMapper, C: Comments> Emitter<'_, W, S, C> {
         ensures level { KeepsLevel S.lines C.maps W.sheet self.old self.new }
     {
         self.export_clause(node.span, &node.specifiers);
-        self.from_clause(&node.with_, ends_with_name(&node.specifiers), &node.src);
+        self.from_clause(&node.with, ends_with_name(&node.specifiers), &node.src);
         self.semi();
         self.end_of(node.span);
     }
@@ -362,7 +362,7 @@ impl<W: WriteJs, S: SourceMapper, C: Comments> Emitter<'_, W, S, C> {
         self.punct(Punctuator::Star);
         self.formatting_space();
         self.from_word();
-        self.source_end(&node.src, &node.with_, node.span)
+        self.source_end(&node.src, &node.with, node.span)
     }
 
     /// Writes `export default`.

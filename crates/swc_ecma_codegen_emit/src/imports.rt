@@ -271,6 +271,6 @@ impl<W: WriteJs, S: SourceMapper, C: Comments> Emitter<'_, W, S, C> {
         ensures level { KeepsLevel S.lines C.maps W.sheet self.old self.new }
     {
         self.import_clause(node.span, &node.specifiers);
-        self.source_end(&node.src, &node.with_, node.span)
+        self.source_end(&node.src, &node.with, node.span)
     }
 }

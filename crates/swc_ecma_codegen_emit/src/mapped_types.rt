@@ -85,7 +85,7 @@ impl<W: WriteJs, S: SourceMapper, C: Comments> Emitter<'_, W, S, C> {
     {
         node.name.emit_at(self, Place::Plain);
         self.type_behind("in", &node.constraint);
-        self.default_type(&node.default_);
+        self.default_type(&node.default);
         self.type_behind("as", name_type);
     }
 

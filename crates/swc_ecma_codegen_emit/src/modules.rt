@@ -203,17 +203,17 @@ impl<W: WriteJs, S: SourceMapper, C: Comments> Emitter<'_, W, S, C> {
 
     /// Writes `with { type: 'json' }` behind a blank, where there is such.
     #[tactic(auto, unfolding(crate::specs::Modules::attributes))]
-    pub(crate) fn attributes<N: LinkTarget>(&mut self, with_: &Option<ObjectLitBox<N>>)
-        ensures items { Performs (attributes N.items with_.now)
+    pub(crate) fn attributes<N: LinkTarget>(&mut self, with: &Option<ObjectLitBox<N>>)
+        ensures items { Performs (attributes N.items with.now)
             S.lines C.maps W.sheet self.old self.new }
         ensures level { KeepsLevel S.lines C.maps W.sheet self.old self.new }
     {
-        match with_ {
-            Some(with_) => {
+        match with {
+            Some(with) => {
                 self.formatting_space();
                 self.attributes_word();
                 self.formatting_space();
-                with_.target().emit_at(self, Place::Plain)
+                with.target().emit_at(self, Place::Plain)
             }
             None => {}
         }
@@ -224,15 +224,15 @@ impl<W: WriteJs, S: SourceMapper, C: Comments> Emitter<'_, W, S, C> {
     pub(crate) fn source_end<N: LinkTarget>(
         &mut self,
         src: &Str,
-        with_: &Option<ObjectLitBox<N>>,
+        with: &Option<ObjectLitBox<N>>,
         span: Span,
     )
-        ensures items { Performs (source_end N.items src.now with_.now span)
+        ensures items { Performs (source_end N.items src.now with.now span)
             S.lines C.maps W.sheet self.old self.new }
         ensures level { KeepsLevel S.lines C.maps W.sheet self.old self.new }
     {
         src.emit_at(self, Place::Plain);
-        self.attributes(with_);
+        self.attributes(with);
         self.semi();
         self.end_of(span);
     }

@@ -107,7 +107,7 @@ impl<N: LinkTarget> EmitAt for TsTypeParam<N> {
         e.word_before(self.is_out, "out");
         self.name.emit_at(e, Place::Plain);
         e.type_behind("extends", &self.constraint);
-        e.default_type(&self.default_);
+        e.default_type(&self.default);
     }
 }
 

@@ -38,19 +38,19 @@ use Rattle.swc_ecma_codegen_grammar.proofs.MappedTsDecls.{extends_mapped, by_arg
 abbrev as_decl : {X : Type 0} → Box (ModuleDecl X) Global → ModuleDecl X → AnyNode-F X
 as_decl b n = nodes.StmtPart (stmt_parts.ModuleDecl (record b { value = n }))
 
-import_by : {X Y : Type 0} (g : X → Y) (f : Y → Role → Phrase) (b : Box (ModuleDecl X) Global) (n : ImportDecl X) (with_ : Option (ObjectLitBox X)) → node_phrase f (map-AnyNode X Y g (as_decl b (module_decls.Import (record n { with_ = with_ })))) ModuleDeclaration ≡ import_decl (λ x. f (g x)) (record n { with_ = with_ })
+import_by : {X Y : Type 0} (g : X → Y) (f : Y → Role → Phrase) (b : Box (ModuleDecl X) Global) (n : ImportDecl X) (with_ : Option (ObjectLitBox X)) → node_phrase f (map-AnyNode X Y g (as_decl b (module_decls.Import (record n { with = with_ })))) ModuleDeclaration ≡ import_decl (λ x. f (g x)) (record n { with = with_ })
 unfolding node_phrase stmt_part module_decl import_decl attributes
 import_by g f b n None = refl
 import_by g f b n (Some w) = refl
 
-named_by : {X Y : Type 0} (g : X → Y) (f : Y → Role → Phrase) (b : Box (ModuleDecl X) Global) (n : NamedExport X) (src : Option Str) (with_ : Option (ObjectLitBox X)) → node_phrase f (map-AnyNode X Y g (as_decl b (module_decls.ExportNamed (record n { src = src; with_ = with_ })))) ModuleDeclaration ≡ export_named (λ x. f (g x)) (record n { src = src; with_ = with_ })
+named_by : {X Y : Type 0} (g : X → Y) (f : Y → Role → Phrase) (b : Box (ModuleDecl X) Global) (n : NamedExport X) (src : Option Str) (with_ : Option (ObjectLitBox X)) → node_phrase f (map-AnyNode X Y g (as_decl b (module_decls.ExportNamed (record n { src = src; with = with_ })))) ModuleDeclaration ≡ export_named (λ x. f (g x)) (record n { src = src; with = with_ })
 unfolding node_phrase stmt_part module_decl export_named from_clause attributes
 named_by g f b n None None = refl
 named_by g f b n None (Some w) = refl
 named_by g f b n (Some s) None = refl
 named_by g f b n (Some s) (Some w) = refl
 
-all_by : {X Y : Type 0} (g : X → Y) (f : Y → Role → Phrase) (b : Box (ModuleDecl X) Global) (n : ExportAll X) (with_ : Option (ObjectLitBox X)) → node_phrase f (map-AnyNode X Y g (as_decl b (module_decls.ExportAll (record n { with_ = with_ })))) ModuleDeclaration ≡ export_all (λ x. f (g x)) (record n { with_ = with_ })
+all_by : {X Y : Type 0} (g : X → Y) (f : Y → Role → Phrase) (b : Box (ModuleDecl X) Global) (n : ExportAll X) (with_ : Option (ObjectLitBox X)) → node_phrase f (map-AnyNode X Y g (as_decl b (module_decls.ExportAll (record n { with = with_ })))) ModuleDeclaration ≡ export_all (λ x. f (g x)) (record n { with = with_ })
 unfolding node_phrase stmt_part module_decl export_all attributes
 all_by g f b n None = refl
 all_by g f b n (Some w) = refl
@@ -73,9 +73,9 @@ equals_by g f b n (module_refs.TsExternalModuleRef name) = refl
 
 decl_by : {X Y : Type 0} (g : X → Y) (f : Y → Role → Phrase) (b : Box (ModuleDecl X) Global) (n : ModuleDecl X) → node_phrase f (map-AnyNode X Y g (as_decl b n)) ModuleDeclaration ≡ module_decl (λ x. f (g x)) n
 unfolding node_phrase stmt_part module_decl export_decl export_default_expr ts_export_assignment
-decl_by g f b (module_decls.Import n) = import_by g f b n n.with_
-decl_by g f b (module_decls.ExportNamed n) = named_by g f b n n.src n.with_
-decl_by g f b (module_decls.ExportAll n) = all_by g f b n n.with_
+decl_by g f b (module_decls.Import n) = import_by g f b n n.with
+decl_by g f b (module_decls.ExportNamed n) = named_by g f b n n.src n.with
+decl_by g f b (module_decls.ExportAll n) = all_by g f b n n.with
 decl_by g f b (module_decls.ExportDefaultDecl n) = default_by g f b n n.decl
 decl_by g f b (module_decls.TsImportEquals n) = equals_by g f b n n.module_ref
 decl_by g f b n = refl

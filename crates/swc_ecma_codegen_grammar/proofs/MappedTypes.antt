@@ -77,23 +77,23 @@ arguments_mapped {X} g f n = ap (λ ps. mark (codes "<") > some_listed (codes ",
 
 -- what holds of each parameter, by the types that it has
 by_types : {X : Type 0} (P : TsTypeParam X → Type 0) (n : TsTypeParam X) (constraint default_ : Option (TsTypeBox X))
-    → P (record n { constraint = None; default_ = None })
-    → ((c : TsTypeBox X) → P (record n { constraint = Some c; default_ = None }))
-    → ((d : TsTypeBox X) → P (record n { constraint = None; default_ = Some d }))
-    → ((c d : TsTypeBox X) → P (record n { constraint = Some c; default_ = Some d }))
-    → P (record n { constraint = constraint; default_ = default_ })
+    → P (record n { constraint = None; default = None })
+    → ((c : TsTypeBox X) → P (record n { constraint = Some c; default = None }))
+    → ((d : TsTypeBox X) → P (record n { constraint = None; default = Some d }))
+    → ((c d : TsTypeBox X) → P (record n { constraint = Some c; default = Some d }))
+    → P (record n { constraint = constraint; default = default_ })
 by_types P n None None neither bound given both = neither
 by_types P n (Some c) None neither bound given both = bound c
 by_types P n None (Some d) neither bound given both = given d
 by_types P n (Some c) (Some d) neither bound given both = both c d
 
 pub by_param : {X : Type 0} (P : TsTypeParam X → Type 0)
-    → ((n : TsTypeParam X) → P (record n { constraint = None; default_ = None }))
-    → ((n : TsTypeParam X) (c : TsTypeBox X) → P (record n { constraint = Some c; default_ = None }))
-    → ((n : TsTypeParam X) (d : TsTypeBox X) → P (record n { constraint = None; default_ = Some d }))
-    → ((n : TsTypeParam X) (c d : TsTypeBox X) → P (record n { constraint = Some c; default_ = Some d }))
+    → ((n : TsTypeParam X) → P (record n { constraint = None; default = None }))
+    → ((n : TsTypeParam X) (c : TsTypeBox X) → P (record n { constraint = Some c; default = None }))
+    → ((n : TsTypeParam X) (d : TsTypeBox X) → P (record n { constraint = None; default = Some d }))
+    → ((n : TsTypeParam X) (c d : TsTypeBox X) → P (record n { constraint = Some c; default = Some d }))
     → (n : TsTypeParam X) → P n
-by_param P neither bound given both n = by_types P n n.constraint n.default_ (neither n) (bound n) (given n) (both n)
+by_param P neither bound given both n = by_types P n n.constraint n.default (neither n) (bound n) (given n) (both n)
 
 params_mapped : {X Y : Type 0} (g : X → Y) (f : Y → Role → Phrase) (n : TsTypeParamDecl X) → node_phrase f (map-AnyNode X Y g (nodes.TsPart (ts_parts.TsTypeParamDecl n))) TypeParameters ≡ ts_type_param_decl (λ x. f (g x)) n
 unfolding node_phrase ts_part ts_type_param_decl ts_type_param type_behind
@@ -209,14 +209,14 @@ unfolding node_phrase ts_part ts_type ts_union_or_intersection_type ts_union_typ
 joined_mapped {X} g f (joined_types.TsUnionType n) = ap (some_listed (codes "|")) (list_mapped {A = TsTypeBox X} _ (type_at f) (type_at (λ x. f (g x))) (λ x. refl) n.types.items)
 joined_mapped {X} g f (joined_types.TsIntersectionType n) = ap (some_listed (codes "&")) (list_mapped {A = TsTypeBox X} _ (type_at f) (type_at (λ x. f (g x))) (λ x. refl) n.types.items)
 
-infer_mapped : {X Y : Type 0} (g : X → Y) (f : Y → Role → Phrase) (b : Box (TsInferType X) Global) (n : TsInferType X) (constraint default_ : Option (TsTypeBox X)) → node_phrase f (map-AnyNode X Y g (as_type (types.TsInferType (with_value b (record n { type_param = record n.type_param { constraint = constraint; default_ = default_ } }))))) AnyType ≡ ts_infer_type (λ x. f (g x)) (record n { type_param = record n.type_param { constraint = constraint; default_ = default_ } })
+infer_mapped : {X Y : Type 0} (g : X → Y) (f : Y → Role → Phrase) (b : Box (TsInferType X) Global) (n : TsInferType X) (constraint default_ : Option (TsTypeBox X)) → node_phrase f (map-AnyNode X Y g (as_type (types.TsInferType (with_value b (record n { type_param = record n.type_param { constraint = constraint; default = default_ } }))))) AnyType ≡ ts_infer_type (λ x. f (g x)) (record n { type_param = record n.type_param { constraint = constraint; default = default_ } })
 unfolding node_phrase ts_part ts_type ts_infer_type ts_type_param type_behind
 infer_mapped g f b n None None = refl
 infer_mapped g f b n None (Some d) = refl
 infer_mapped g f b n (Some c) None = refl
 infer_mapped g f b n (Some c) (Some d) = refl
 
-mapped_mapped : {X Y : Type 0} (g : X → Y) (f : Y → Role → Phrase) (b : Box (TsMappedType X) Global) (n : TsMappedType X) (constraint default_ name_type type_ann : Option (TsTypeBox X)) → node_phrase f (map-AnyNode X Y g (as_type (types.TsMappedType (with_value b (record n { type_param = record n.type_param { constraint = constraint; default_ = default_ }; name_type = name_type; type_ann = type_ann }))))) AnyType ≡ ts_mapped_type (λ x. f (g x)) (record n { type_param = record n.type_param { constraint = constraint; default_ = default_ }; name_type = name_type; type_ann = type_ann })
+mapped_mapped : {X Y : Type 0} (g : X → Y) (f : Y → Role → Phrase) (b : Box (TsMappedType X) Global) (n : TsMappedType X) (constraint default_ name_type type_ann : Option (TsTypeBox X)) → node_phrase f (map-AnyNode X Y g (as_type (types.TsMappedType (with_value b (record n { type_param = record n.type_param { constraint = constraint; default = default_ }; name_type = name_type; type_ann = type_ann }))))) AnyType ≡ ts_mapped_type (λ x. f (g x)) (record n { type_param = record n.type_param { constraint = constraint; default = default_ }; name_type = name_type; type_ann = type_ann })
 unfolding node_phrase ts_part ts_type ts_mapped_type mapped_param type_behind
 mapped_mapped g f b n None None None None = refl
 mapped_mapped g f b n None None None (Some t) = refl
@@ -248,8 +248,8 @@ type_mapped g f (types.TsTypeQuery n) = query_mapped g f n n.value n.value.expr_
 type_mapped g f (types.TsTypeLit n) = object_mapped g f n
 type_mapped g f (types.TsTupleType n) = tuple_mapped g f n
 type_mapped g f (types.TsUnionOrIntersectionType n) = joined_mapped g f n
-type_mapped g f (types.TsInferType n) = infer_mapped g f n n.value n.value.type_param.constraint n.value.type_param.default_
-type_mapped g f (types.TsMappedType n) = mapped_mapped g f n n.value n.value.type_param.constraint n.value.type_param.default_ n.value.name_type n.value.type_ann
+type_mapped g f (types.TsInferType n) = infer_mapped g f n n.value n.value.type_param.constraint n.value.type_param.default
+type_mapped g f (types.TsMappedType n) = mapped_mapped g f n n.value n.value.type_param.constraint n.value.type_param.default n.value.name_type n.value.type_ann
 type_mapped g f (types.TsLitType n) = lit_mapped g f n n.value n.value.lit
 type_mapped g f (types.TsTypePredicate n) = predicate_mapped g f n n.value n.value.type_ann
 type_mapped g f (types.TsImportType n) = import_mapped g f n n.value n.value.qualifier n.value.type_args

@@ -93,7 +93,7 @@ attributes f (Some n) = Chosen AttributesWord > f n.node.value ObjectLiteral
 -- `import a, { b as c } from 'd' with { type: 'json' };`, or `import type a from 'b';`
 unfoldable pub import_decl : {X : Type 0} → (X → Role → Phrase) → ImportDecl X → Phrase
 import_decl f n =
-    word (codes "import") > type_word n.type_only > import_phase n.phase > import_clause n.specifiers.items > str_lit n.src > attributes f n.with_ > ending
+    word (codes "import") > type_word n.type_only > import_phase n.phase > import_clause n.specifiers.items > str_lit n.src > attributes f n.with > ending
 
 -- ---- exports
 
@@ -133,12 +133,12 @@ from_clause f (Some n) None = Never
 
 -- `export { a, b as c } from 'd';`, or `export type { a };`
 unfoldable pub export_named : {X : Type 0} → (X → Role → Phrase) → NamedExport X → Phrase
-export_named f n = word (codes "export") > type_word n.type_only > export_clause n.specifiers.items > from_clause f n.with_ n.src > ending
+export_named f n = word (codes "export") > type_word n.type_only > export_clause n.specifiers.items > from_clause f n.with n.src > ending
 
 -- `export * from 'a';`, or `export type * from 'a';`
 unfoldable pub export_all : {X : Type 0} → (X → Role → Phrase) → ExportAll X → Phrase
 export_all f n =
-    word (codes "export") > type_word n.type_only > mark (codes "*") > word (codes "from") > str_lit n.src > attributes f n.with_ > ending
+    word (codes "export") > type_word n.type_only > mark (codes "*") > word (codes "from") > str_lit n.src > attributes f n.with > ending
 
 -- what of a declaration stands before `export`: `@a` of `@a export class B {}`
 unfoldable pub exported_head : {X : Type 0} → (X → Role → Phrase) → Decl X → Phrase

@@ -108,7 +108,7 @@ ts_type_param_instantiation f n = mark (codes "<") > some_listed (codes ",") (ma
 unfoldable pub ts_type_param : {X : Type 0} → (X → Role → Phrase) → TsTypeParam X → Phrase
 ts_type_param f n =
     word_if n.is_const (word (codes "const")) > word_if n.is_in (word (codes "in")) > word_if n.is_out (word (codes "out")) > ident n.name
-    > type_behind f (word (codes "extends")) n.constraint > type_behind f (mark (codes "=")) n.default_
+    > type_behind f (word (codes "extends")) n.constraint > type_behind f (mark (codes "=")) n.default
 
 -- `<A, B extends C>`
 unfoldable pub ts_type_param_decl : {X : Type 0} → (X → Role → Phrase) → TsTypeParamDecl X → Phrase
@@ -238,7 +238,7 @@ signed (Some signs.Minus) phrase = mark (codes "-") > phrase
 unfoldable pub mapped_param : {X : Type 0} → (X → Role → Phrase) → TsTypeParam X → Option (TsTypeBox X) → Phrase
 mapped_param f n name_type =
     where_ (not (n.is_in || (n.is_out || n.is_const)))
-    (ident n.name > type_behind f (word (codes "in")) n.constraint > type_behind f (mark (codes "=")) n.default_ > type_behind f (word (codes "as")) name_type)
+    (ident n.name > type_behind f (word (codes "in")) n.constraint > type_behind f (mark (codes "=")) n.default > type_behind f (word (codes "as")) name_type)
 
 -- `{ readonly [A in B as C]?: D; }`
 unfoldable pub ts_mapped_type : {X : Type 0} → (X → Role → Phrase) → TsMappedType X → Phrase

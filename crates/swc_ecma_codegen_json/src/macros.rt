@@ -1,27 +1,16 @@
 //! The bodies of the readers.
 
-/// Names, as they stand in the input: those of fields or variants, unless they are given.
+/// The names of fields or variants, as they stand in the input.
 #[macro_export]
 macro_rules! names {
-    ($($own:ident $(= $key:literal)?),* $(,)?) => {
+    ($($own:ident),* $(,)?) => {
         &[$(serde::Name {
-            name: $crate::name_of!($own $($key)?),
+            name: stringify!($own),
             kind: serde::NameKind::Field,
             case: serde::Case::AsIs,
             aliases: &[],
             skipped: false,
         }),*]
-    };
-}
-
-/// The name of a member.
-#[macro_export]
-macro_rules! name_of {
-    ($own:ident) => {
-        stringify!($own)
-    };
-    ($own:ident $key:literal) => {
-        $key
     };
 }
 

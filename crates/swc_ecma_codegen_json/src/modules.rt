@@ -20,7 +20,7 @@ impl<N: Drop> ReadFrom<N> for ImportDecl<N> {
     >;
 
     fn names() -> &'static [Name<'static>] {
-        names!(span, specifiers, src, type_only, with_ = "with", phase)
+        names!(span, specifiers, src, type_only, with, phase)
     }
 
     fn of<S: Source, M: Make<N>>(
@@ -28,7 +28,7 @@ impl<N: Drop> ReadFrom<N> for ImportDecl<N> {
         _source: &mut S,
         _make: &M,
     ) -> Result<ImportDecl<N>, Failed> {
-        made!(values => ImportDecl { span, specifiers, src; type_only, with_, phase })
+        made!(values => ImportDecl { span, specifiers, src; type_only, with, phase })
     }
 }
 
@@ -119,7 +119,7 @@ impl<N: Drop> ReadFrom<N> for NamedExport<N> {
     >;
 
     fn names() -> &'static [Name<'static>] {
-        names!(span, specifiers, src, type_only, with_ = "with")
+        names!(span, specifiers, src, type_only, with)
     }
 
     fn of<S: Source, M: Make<N>>(
@@ -127,7 +127,7 @@ impl<N: Drop> ReadFrom<N> for NamedExport<N> {
         _source: &mut S,
         _make: &M,
     ) -> Result<NamedExport<N>, Failed> {
-        made!(values => NamedExport { span, specifiers, src; type_only, with_ })
+        made!(values => NamedExport { span, specifiers, src; type_only, with })
     }
 }
 
@@ -268,7 +268,7 @@ impl<N: Drop> ReadFrom<N> for ExportAll<N> {
     type Parts = (Span, (Str, (bool, (Option<ObjectLitBox<N>>, ()))));
 
     fn names() -> &'static [Name<'static>] {
-        names!(span, src, type_only, with_ = "with")
+        names!(span, src, type_only, with)
     }
 
     fn of<S: Source, M: Make<N>>(
@@ -276,6 +276,6 @@ impl<N: Drop> ReadFrom<N> for ExportAll<N> {
         _source: &mut S,
         _make: &M,
     ) -> Result<ExportAll<N>, Failed> {
-        made!(values => ExportAll { span, src, type_only, with_ })
+        made!(values => ExportAll { span, src, type_only, with })
     }
 }

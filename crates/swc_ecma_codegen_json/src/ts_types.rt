@@ -484,16 +484,8 @@ impl<N: Drop> ReadFrom<N> for TsTypeParam<N> {
         source: &mut S,
         make: &M,
     ) -> Result<TsTypeParam<N>, Failed> {
-        let values!(span, name, is_in, is_out, is_const, constraint, default_) = members(
-            names!(
-                span,
-                name,
-                is_in,
-                is_out,
-                is_const,
-                constraint,
-                default_ = "default"
-            ),
+        let values!(span, name, is_in, is_out, is_const, constraint, default) = members(
+            names!(span, name, is_in, is_out, is_const, constraint, default),
             source,
             make,
         )?;
@@ -504,7 +496,7 @@ impl<N: Drop> ReadFrom<N> for TsTypeParam<N> {
             is_out,
             is_const,
             constraint,
-            default_,
+            default,
         })
     }
 }

@@ -19,7 +19,7 @@ pub struct ImportDecl<N = AnyNode> {
     /// TypeScript: whether it imports types only, `import type { a } from "b";`.
     pub type_only: bool,
     /// `{ type: "json" }` of `import a from "b" with { type: "json" };`, or none without `with`.
-    pub with_: Option<ObjectLitBox<N>>,
+    pub with: Option<ObjectLitBox<N>>,
     /// `defer` of `import defer * as a from "b";`, or evaluation where no such word stands.
     pub phase: ImportPhase,
 }
@@ -93,7 +93,7 @@ pub struct NamedExport<N = AnyNode> {
     /// TypeScript: whether it exports types only, `export type { a };`.
     pub type_only: bool,
     /// `{ type: "json" }` of `export { a } from "b" with { type: "json" };`, or none without `with`.
-    pub with_: Option<ObjectLitBox<N>>,
+    pub with: Option<ObjectLitBox<N>>,
 }
 
 /// `a` or `b as c` of `export { a, b as c };`. ECMA-262, section 16.2.3.
@@ -180,5 +180,5 @@ pub struct ExportAll<N = AnyNode> {
     /// TypeScript: whether it exports types only, `export type * from "a";`.
     pub type_only: bool,
     /// `{ type: "json" }` of `export * from "a" with { type: "json" };`, or none without `with`.
-    pub with_: Option<ObjectLitBox<N>>,
+    pub with: Option<ObjectLitBox<N>>,
 }

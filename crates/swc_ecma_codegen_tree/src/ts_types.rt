@@ -466,5 +466,5 @@ pub struct TsTypeParam<N = AnyNode> {
     /// `B` of `<A extends B = C>`; None where there is no `extends`.
     pub constraint: Option<TsTypeBox<N>>,
     /// `C` of `<A extends B = C>`; None where there is no `=`.
-    pub default_: Option<TsTypeBox<N>>,
+    pub default: Option<TsTypeBox<N>>,
 }

@@ -78,11 +78,11 @@ phase_possible Evaluation = refl
 phase_possible Source = refl
 phase_possible Defer = refl
 
-pub import_decl_possible : {X : Type 0} (f : X → Role → Phrase) (n : ImportDecl X) → is_possible (import_decl f n) ≡ (imports_fit n.specifiers.items && (is_possible (str_lit n.src) && is_possible (attributes f n.with_)))
+pub import_decl_possible : {X : Type 0} (f : X → Role → Phrase) (n : ImportDecl X) → is_possible (import_decl f n) ≡ (imports_fit n.specifiers.items && (is_possible (str_lit n.src) && is_possible (attributes f n.with)))
 unfolding is_possible import_decl
 import_decl_possible f n =
     let src : Bool = is_possible (str_lit n.src) in
-    let with_ : Bool = is_possible (attributes f n.with_) in
+    let with_ : Bool = is_possible (attributes f n.with) in
     past_type n.type_only _
     ∙ ap (λ b. b && (is_possible (import_clause n.specifiers.items) && (src && (with_ && true)))) (phase_possible n.phase)
     ∙ ap (λ b. b && (src && (with_ && true))) (imports_possible n.specifiers.items)
@@ -108,17 +108,17 @@ unfolding is_possible from_clause
 no_module_possible f None = refl
 no_module_possible f (Some n) = refl
 
-pub export_named_possible : {X : Type 0} (f : X → Role → Phrase) (n : NamedExport X) → is_possible (export_named f n) ≡ (exports_fit n.specifiers.items && is_possible (from_clause f n.with_ n.src))
+pub export_named_possible : {X : Type 0} (f : X → Role → Phrase) (n : NamedExport X) → is_possible (export_named f n) ≡ (exports_fit n.specifiers.items && is_possible (from_clause f n.with n.src))
 unfolding is_possible export_named
 export_named_possible f n =
-    let from : Bool = is_possible (from_clause f n.with_ n.src) in
+    let from : Bool = is_possible (from_clause f n.with n.src) in
     past_type n.type_only _
     ∙ ap (λ b. b && (from && true)) (exports_possible n.specifiers.items)
     ∙ ap (λ b. exports_fit n.specifiers.items && b) (and_true from)
 
-pub export_all_possible : {X : Type 0} (f : X → Role → Phrase) (n : ExportAll X) → is_possible (export_all f n) ≡ (is_possible (str_lit n.src) && is_possible (attributes f n.with_))
+pub export_all_possible : {X : Type 0} (f : X → Role → Phrase) (n : ExportAll X) → is_possible (export_all f n) ≡ (is_possible (str_lit n.src) && is_possible (attributes f n.with))
 unfolding is_possible export_all
-export_all_possible f n = past_type n.type_only _ ∙ ap (λ b. is_possible (str_lit n.src) && b) (and_true (is_possible (attributes f n.with_)))
+export_all_possible f n = past_type n.type_only _ ∙ ap (λ b. is_possible (str_lit n.src) && b) (and_true (is_possible (attributes f n.with)))
 
 pub exported_class_possible : {X : Type 0} (f : X → Role → Phrase) (n : ClassDecl X) → is_possible (exported_tail f (decls.Class n)) ≡ (is_possible (f n.class.node.value ClassWord) && (is_possible (ident n.ident) && is_possible (f n.class.node.value ClassTail)))
 unfolding is_possible exported_tail

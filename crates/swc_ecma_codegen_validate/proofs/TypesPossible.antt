@@ -68,15 +68,15 @@ pub arguments_possible : {X : Type 0} (f : X → Role → Phrase) (n : TsTypePar
 unfolding is_possible ts_type_param_instantiation
 arguments_possible f n = and_true _ ∙ some_or_never (codes ",") (type_at f) n.params.items
 
-pub param_possible : {X : Type 0} (f : X → Role → Phrase) (n : TsTypeParam X) → is_possible (ts_type_param f n) ≡ (is_possible (ident n.name) && (is_possible (element (type_at f) n.constraint) && is_possible (element (type_at f) n.default_)))
+pub param_possible : {X : Type 0} (f : X → Role → Phrase) (n : TsTypeParam X) → is_possible (ts_type_param f n) ≡ (is_possible (ident n.name) && (is_possible (element (type_at f) n.constraint) && is_possible (element (type_at f) n.default)))
 unfolding is_possible ts_type_param
 param_possible f n =
-    let rest : Bool = is_possible (ident n.name) && (is_possible (type_behind f (word (codes "extends")) n.constraint) && is_possible (type_behind f (mark (codes "=")) n.default_)) in
+    let rest : Bool = is_possible (ident n.name) && (is_possible (type_behind f (word (codes "extends")) n.constraint) && is_possible (type_behind f (mark (codes "=")) n.default)) in
     ap (λ b. b && (is_possible (word_if n.is_in (word (codes "in"))) && (is_possible (word_if n.is_out (word (codes "out"))) && rest))) (wanted n.is_const (word (codes "const")) refl)
     ∙ ap (λ b. b && (is_possible (word_if n.is_out (word (codes "out"))) && rest)) (wanted n.is_in (word (codes "in")) refl)
     ∙ ap (λ b. b && rest) (wanted n.is_out (word (codes "out")) refl)
-    ∙ ap (λ b. is_possible (ident n.name) && (b && is_possible (type_behind f (mark (codes "=")) n.default_))) (behind_possible f (word (codes "extends")) n.constraint refl)
-    ∙ ap (λ b. is_possible (ident n.name) && (is_possible (element (type_at f) n.constraint) && b)) (behind_possible f (mark (codes "=")) n.default_ refl)
+    ∙ ap (λ b. is_possible (ident n.name) && (b && is_possible (type_behind f (mark (codes "=")) n.default))) (behind_possible f (word (codes "extends")) n.constraint refl)
+    ∙ ap (λ b. is_possible (ident n.name) && (is_possible (element (type_at f) n.constraint) && b)) (behind_possible f (mark (codes "=")) n.default refl)
 
 pub params_possible : {X : Type 0} (f : X → Role → Phrase) (n : TsTypeParamDecl X) → is_possible (ts_type_param_decl f n) ≡ (not (length n.params.items == 0) && all_possible (ts_type_param f) n.params.items)
 unfolding is_possible ts_type_param_decl
@@ -156,15 +156,15 @@ signed_possible (Some signs.True) p h = h
 signed_possible (Some signs.Plus) p h = h
 signed_possible (Some signs.Minus) p h = h
 
-pub mapped_param_possible : {X : Type 0} (f : X → Role → Phrase) (n : TsTypeParam X) (name_type : Option (TsTypeBox X)) → is_possible (mapped_param f n name_type) ≡ (not (n.is_in || (n.is_out || n.is_const)) && (is_possible (ident n.name) && (is_possible (element (type_at f) n.constraint) && (is_possible (element (type_at f) n.default_) && is_possible (element (type_at f) name_type)))))
+pub mapped_param_possible : {X : Type 0} (f : X → Role → Phrase) (n : TsTypeParam X) (name_type : Option (TsTypeBox X)) → is_possible (mapped_param f n name_type) ≡ (not (n.is_in || (n.is_out || n.is_const)) && (is_possible (ident n.name) && (is_possible (element (type_at f) n.constraint) && (is_possible (element (type_at f) n.default) && is_possible (element (type_at f) name_type)))))
 unfolding is_possible mapped_param
 mapped_param_possible f n name_type =
     let name : Bool = is_possible (ident n.name) in
     where_possible (not (n.is_in || (n.is_out || n.is_const))) _
     ∙ ap (λ b. not (n.is_in || (n.is_out || n.is_const)) && b)
-    (ap (λ b. name && (b && (is_possible (type_behind f (mark (codes "=")) n.default_) && is_possible (type_behind f (word (codes "as")) name_type)))) (behind_possible f (word (codes "in")) n.constraint refl)
-    ∙ ap (λ b. name && (is_possible (element (type_at f) n.constraint) && (b && is_possible (type_behind f (word (codes "as")) name_type)))) (behind_possible f (mark (codes "=")) n.default_ refl)
-    ∙ ap (λ b. name && (is_possible (element (type_at f) n.constraint) && (is_possible (element (type_at f) n.default_) && b))) (behind_possible f (word (codes "as")) name_type refl))
+    (ap (λ b. name && (b && (is_possible (type_behind f (mark (codes "=")) n.default) && is_possible (type_behind f (word (codes "as")) name_type)))) (behind_possible f (word (codes "in")) n.constraint refl)
+    ∙ ap (λ b. name && (is_possible (element (type_at f) n.constraint) && (b && is_possible (type_behind f (word (codes "as")) name_type)))) (behind_possible f (mark (codes "=")) n.default refl)
+    ∙ ap (λ b. name && (is_possible (element (type_at f) n.constraint) && (is_possible (element (type_at f) n.default) && b))) (behind_possible f (word (codes "as")) name_type refl))
 
 pub mapped_type_possible : {X : Type 0} (f : X → Role → Phrase) (n : TsMappedType X) → is_possible (ts_mapped_type f n) ≡ (is_possible (mapped_param f n.type_param n.name_type) && is_possible (element (type_at f) n.type_ann))
 unfolding is_possible ts_mapped_type

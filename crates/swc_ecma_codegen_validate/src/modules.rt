@@ -97,11 +97,11 @@ fn imports_fit(specifiers: &[ImportSpecifier]) -> bool
 
 /// Whether the attributes of an import or an export are well-formed, or there are none.
 #[tactic(auto, unfolding(swc_ecma_codegen_grammar::specs::ModulePhrases::attributes, swc_ecma_codegen_grammar::specs::Phrases::is_possible))]
-fn are_attributes<N: Fits>(with_: &Option<ObjectLitBox<N>>) -> bool
-    ensures { result ≡ is_possible (attributes N.reads with_.now) }
+fn are_attributes<N: Fits>(with: &Option<ObjectLitBox<N>>) -> bool
+    ensures { result ≡ is_possible (attributes N.reads with.now) }
 {
-    match with_ {
-        Some(with_) => with_.is_well_formed(),
+    match with {
+        Some(with) => with.is_well_formed(),
         None => true,
     }
 }
@@ -111,7 +111,7 @@ impl<N: Fits> WellFormed for ImportDecl<N> {
 
     #[tactic(auto, using(crate::proofs::ModulesPossible::import_decl_possible))]
     fn is_well_formed(&self) -> bool {
-        imports_fit(&self.specifiers) && self.src.is_well_formed() && are_attributes(&self.with_)
+        imports_fit(&self.specifiers) && self.src.is_well_formed() && are_attributes(&self.with)
     }
 }
 
@@ -163,12 +163,12 @@ fn exports_fit(specifiers: &[ExportSpecifier]) -> bool
 
 /// Whether the name of another module, with its attributes, is well-formed, or there is none.
 #[tactic(auto, using(crate::proofs::ModulesPossible::no_module_possible), unfolding(swc_ecma_codegen_grammar::specs::ModulePhrases::from_clause, swc_ecma_codegen_grammar::specs::Phrases::is_possible))]
-fn is_from_clause<N: Fits>(with_: &Option<ObjectLitBox<N>>, src: &Option<Str>) -> bool
-    ensures { result ≡ is_possible (from_clause N.reads with_.now src.now) }
+fn is_from_clause<N: Fits>(with: &Option<ObjectLitBox<N>>, src: &Option<Str>) -> bool
+    ensures { result ≡ is_possible (from_clause N.reads with.now src.now) }
 {
     match src {
-        Some(src) => src.is_well_formed() && are_attributes(with_),
-        None => with_.is_none(),
+        Some(src) => src.is_well_formed() && are_attributes(with),
+        None => with.is_none(),
     }
 }
 
@@ -177,7 +177,7 @@ impl<N: Fits> WellFormed for NamedExport<N> {
 
     #[tactic(auto, using(crate::proofs::ModulesPossible::export_named_possible))]
     fn is_well_formed(&self) -> bool {
-        exports_fit(&self.specifiers) && is_from_clause(&self.with_, &self.src)
+        exports_fit(&self.specifiers) && is_from_clause(&self.with, &self.src)
     }
 }
 
@@ -186,7 +186,7 @@ impl<N: Fits> WellFormed for ExportAll<N> {
 
     #[tactic(auto, using(crate::proofs::ModulesPossible::export_all_possible))]
     fn is_well_formed(&self) -> bool {
-        self.src.is_well_formed() && are_attributes(&self.with_)
+        self.src.is_well_formed() && are_attributes(&self.with)
     }
 }
 

@@ -62,7 +62,7 @@ impl<N: Fits> WellFormed for TsTypeParam<N> {
     fn is_well_formed(&self) -> bool {
         self.name.is_well_formed()
             && self.constraint.is_well_formed()
-            && self.default_.is_well_formed()
+            && self.default.is_well_formed()
     }
 }
 
@@ -252,7 +252,7 @@ fn is_mapped_param<N: Fits>(node: &TsTypeParam<N>, name_type: &Option<TsTypeBox<
     !(node.is_in || node.is_out || node.is_const)
         && node.name.is_well_formed()
         && node.constraint.is_well_formed()
-        && node.default_.is_well_formed()
+        && node.default.is_well_formed()
         && name_type.is_well_formed()
 }
 
