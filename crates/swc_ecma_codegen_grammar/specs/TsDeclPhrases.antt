@@ -18,7 +18,7 @@ use Rattle.swc_ecma_codegen_tree.specs.declared.ts_decls.TsModuleRef.{TsModuleRe
 use Rattle.swc_ecma_codegen_tree.specs.declared.ts_decls.TsModuleRef.TheVariants as module_refs
 use Rattle.swc_ecma_codegen_tree.specs.declared.ts_decls.TsNamespaceExportDecl.{TsNamespaceExportDecl}
 use Rattle.swc_ecma_codegen_tree.specs.declared.ts_decls.TsTypeAliasDecl.{TsTypeAliasDecl}
-use Rattle.swc_ecma_codegen_grammar.specs.Phrases.{Phrase, Nothing, ◌>◌, word, mark, ending, listed}
+use Rattle.swc_ecma_codegen_grammar.specs.Phrases.{Phrase, Nothing, ◌>◌, word, mark, ending, listed, where_, is_possible}
 use Rattle.swc_ecma_codegen_grammar.specs.AnnotationPhrases.{type_args, type_params}
 use Rattle.swc_ecma_codegen_grammar.specs.FunctionPhrases.{word_if}
 use Rattle.swc_ecma_codegen_grammar.specs.LitPhrases.{str_lit}
@@ -77,9 +77,9 @@ unfoldable pub ts_module_name : TsModuleName → Phrase
 ts_module_name (module_names.Ident n) = word (codes "namespace") > ident n
 ts_module_name (module_names.Str n) = word (codes "module") > str_lit n
 
--- `namespace a`, `module "a"` or `global`
+-- `namespace a`, `module "a"` or `global`, which stands there for the name; that is a name or a string all the same
 unfoldable pub module_head : Bool → TsModuleName → Phrase
-module_head true n = word (codes "global")
+module_head true n = where_ (is_possible (ts_module_name n)) (word (codes "global"))
 module_head false n = ts_module_name n
 
 -- `{ a; }` or `.b { a; }`, or the semicolon in its place
