@@ -16,7 +16,6 @@ pub use swc_ecma_codegen_common::UpdateOp;
 pub use swc_ecma_codegen_grammar::ListFormat;
 pub use swc_ecma_codegen_grammar::comments;
 pub use swc_ecma_codegen_grammar::mapper;
-pub use swc_ecma_codegen_spans::SpanEnds;
 pub use swc_ecma_codegen_spans::Spanned;
 pub use swc_ecma_codegen_tree::Accessibility;
 pub use swc_ecma_codegen_tree::AnyNode;

@@ -18,4 +18,4 @@ mod ts_exprs;
 mod ts_members;
 mod ts_types;
 
-pub use crate::spanned::{SpanEnds, Spanned};
+pub use crate::spanned::Spanned;

@@ -14,33 +14,28 @@ pub trait Spanned {
     /// Where it stands.
     fn span(&self) -> Span
         ensures { result ≡ place self.now };
-}
 
-/// The ends of what stands somewhere, in bytes.
-pub trait SpanEnds: Spanned {
-    /// Where it begins.
-    fn span_lo(&self) -> BytePos
-        ensures { result ≡ (Self.place self.now).lo }
+    /// Where it begins, in bytes: `lo` of its span.
+    final fn span_lo(&self) -> BytePos
+        ensures { result ≡ (place self.now).lo }
     {
         self.span().lo
     }
 
-    /// Where it ends.
-    fn span_hi(&self) -> BytePos
-        ensures { result ≡ (Self.place self.now).hi }
+    /// Where it ends, in bytes: `hi` of its span, which is behind its last byte.
+    final fn span_hi(&self) -> BytePos
+        ensures { result ≡ (place self.now).hi }
     {
         self.span().hi
     }
 
     /// Where its comments stand: before its start, and after its end.
-    fn comment_range(&self) -> Span
-        ensures { result ≡ Self.place self.now }
+    final fn comment_range(&self) -> Span
+        ensures { result ≡ place self.now }
     {
         self.span()
     }
 }
-
-impl<T: Spanned> SpanEnds for T {}
 
 impl Spanned for Span {
     ghost place = { λ n. n };

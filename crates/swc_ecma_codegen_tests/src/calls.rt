@@ -13,7 +13,7 @@ use swc_ecma_codegen::util::{EndsWithAlphaNum, StartsWithAlphaNum};
 use swc_ecma_codegen::{Node, to_code};
 use swc_ecma_codegen_common::{BinaryOp, DUMMY_SP, Error, UpdateOp};
 use swc_ecma_codegen_emit::operands::{Operand, OperandKind, SpaceBefore};
-use swc_ecma_codegen_spans::{SpanEnds, Spanned};
+use swc_ecma_codegen_spans::Spanned;
 use swc_ecma_codegen_tree::{
     EmptyStmt, Expr, ExprBox, ExprStmt, Ident, IdentName, Invalid, MemberExpr, MemberExprBox,
     MemberProp, Program, Stmt, StmtBox, VarDeclKind,

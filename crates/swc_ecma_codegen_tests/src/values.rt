@@ -9,7 +9,7 @@ use swc_ecma_codegen_common::{
     AssignOp, BytePos, DUMMY_SP, Decimal, Error, EsVersion, LineCol, Span,
 };
 use swc_ecma_codegen_json::ReadError;
-use swc_ecma_codegen_spans::{SpanEnds, Spanned};
+use swc_ecma_codegen_spans::Spanned;
 
 pub(crate) fn place(lo: u32, hi: u32) -> Span {
     Span {
