@@ -1,5 +1,5 @@
 -- What is written of the parts of templates. ECMA-262, section 12.9.6; `emit_quasi` of swc, and what it does for a tagged template.
-use Rattle.std.specs.Prelude.{ℕ, ◌==◌, Bool, not, ◌&&◌, ◌||◌, if◌then◌else◌, List, [], ◌∷◌, None, string_bytes}
+use Rattle.std.specs.Prelude.{ℕ, ◌==◌, Bool, not, ◌&&◌, ◌||◌, false, if◌then◌else◌, List, [], ◌∷◌, None, string_bytes}
 use Rattle.std.specs.Str.{chars, encode_utf8_all}
 use Rattle.swc_ecma_codegen_common.specs.declared.positions.Span.{Span}
 use Rattle.swc_ecma_codegen_tree.specs.declared.exprs.TplElement.{TplElement}
@@ -63,3 +63,8 @@ cooked_part first part n rest env =
 
 unfoldable pub tpl_element : Bool → TemplatePart → TplElement → Part
 tpl_element first part n rest = if part.tagged then part_by first part n.span (string_bytes n.raw) rest else cooked_part first part n rest
+
+-- What is written of a part by itself, which is no token: its text, as in a template without a tag, and no mark round it.
+unfoldable pub quasi : TplElement → Part
+quasi n rest env =
+    step (Remake (makes_cooked env.config (string_bytes n.raw))) (placed_inside false n.span (cooked_text env.config (string_bytes n.raw)) rest) env

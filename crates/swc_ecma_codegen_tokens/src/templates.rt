@@ -14,7 +14,7 @@ ghost use Rattle.swc_ecma_codegen_literals.specs.ValidNames.{has_byte};
 ghost use Rattle.swc_ecma_codegen_tokens.specs.Adds.{AddsList};
 ghost use Rattle.swc_ecma_codegen_tokens.specs.Run.{Does, step, Guard, Plain, Ends};
 ghost use Rattle.swc_ecma_codegen_tokens.specs.Starts.{start_class};
-ghost use Rattle.swc_ecma_codegen_tokens.specs.Templates.{with_line_feeds, is_respelled, cooked_text, makes_cooked, inside, placed_inside, closed, part_by, cooked_part, tpl_element};
+ghost use Rattle.swc_ecma_codegen_tokens.specs.Templates.{with_line_feeds, is_respelled, cooked_text, makes_cooked, inside, placed_inside, closed, part_by, cooked_part, tpl_element, quasi};
 ghost use Rattle.swc_ecma_codegen_tokens.specs.View.{state_of};
 
 use crate::LowerEmitter;
@@ -268,6 +268,25 @@ impl LowerEmitter {
         }
         match cooked_text(self.alloc, cfg, &n.raw) {
             Ok(text) => self.part_by(cfg, wr, first, part, n.span, &text),
+            Err(error) => {
+                self.failed = true;
+                Err(error.refusal())
+            }
+        }
+    }
+
+    /// Writes the text of a part of a template by itself, as of a template without a tag, and no mark round it: `b` of
+    /// `` `a${c}b` ``. swc's `emit_quasi`.
+    pub fn quasi<W: WriteJs>(&mut self, cfg: &Config, wr: &mut W, n: &TplElement) -> Answer
+        ensures items { Does (quasi n.now) (state_of cfg.now (W.sheet wr.old) self.old)
+            (state_of cfg.now (W.sheet wr.new) self.new) result }
+        ensures level { OnOk result ((W.sheet wr.new).indentation ≡ (W.sheet wr.old).indentation) }
+    {
+        if self.failed {
+            return Err(Refusal::Failed);
+        }
+        match cooked_text(self.alloc, cfg, &n.raw) {
+            Ok(text) => self.placed_inside(cfg, wr, false, n.span, &text),
             Err(error) => {
                 self.failed = true;
                 Err(error.refusal())
