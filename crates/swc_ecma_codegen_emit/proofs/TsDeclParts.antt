@@ -18,13 +18,13 @@ use Rattle.swc_ecma_codegen_tree.specs.declared.ts_decls.TsModuleRef.{TsModuleRe
 use Rattle.swc_ecma_codegen_tree.specs.declared.ts_decls.TsModuleRef.TheVariants as module_refs
 use Rattle.swc_ecma_codegen_tree.specs.declared.ts_decls.TsNamespaceExportDecl.{TsNamespaceExportDecl}
 use Rattle.swc_ecma_codegen_tree.specs.declared.ts_decls.TsTypeAliasDecl.{TsTypeAliasDecl}
-use Rattle.swc_ecma_codegen_grammar.specs.Phrases.{mark}
+use Rattle.swc_ecma_codegen_grammar.specs.Phrases.{mark, is_possible}
 use Rattle.swc_ecma_codegen_grammar.specs.TsDeclPhrases as lists
 use Rattle.swc_ecma_codegen_grammar.specs.declared.roles.Role.TheVariants.{InterfaceBody, DottedBody}
 use Rattle.swc_ecma_codegen_tokens.specs.Run.{Env}
 use Rattle.swc_ecma_codegen_tokens.specs.Words.{punct}
 use Rattle.swc_ecma_codegen_tokens.proofs.ListLaws.{prints_list, prints_bracketed}
-use Rattle.swc_ecma_codegen_tokens.proofs.Phrased.{Prints, PrintsAt, prints_wider, loosened, then, after, prints_nothing, prints_keyword, prints_punct, prints_semi}
+use Rattle.swc_ecma_codegen_tokens.proofs.Phrased.{Prints, PrintsAt, prints_wider, loosened, then, after, prints_nothing, prints_keyword, prints_punct, prints_semi, prints_where}
 use Rattle.swc_ecma_codegen_tokens.proofs.Printed.{writes_space, writes_formatting_space}
 use Rattle.swc_ecma_codegen_tokens.proofs.CommentPrints.{writes_leading}
 use Rattle.swc_ecma_codegen_tokens.proofs.Shapes.{open_, ended_if_any, ended}
@@ -111,7 +111,7 @@ module_name_prints l (module_names.Str n) = then (word_space_prints l.env (codes
 
 module_head_prints : {X : Type 0} (l : Linked X) (global : Bool) (n : TsModuleName) → Prints l.env (words.module_head global n) (lists.module_head global n)
 unfolding words.module_head lists.module_head
-module_head_prints l true n = prints_keyword l.env None (codes "global") decl_words.global_word
+module_head_prints l true n = prints_where (is_possible (lists.ts_module_name n)) (λ h. prints_keyword l.env None (codes "global") decl_words.global_word)
 module_head_prints l false n = module_name_prints l n
 
 module_tail_prints : {X : Type 0} (l : Linked X) (n : Option (TsNamespaceBodyBox X)) → PrintsAt ended l.env (words.module_tail l.items n) (lists.module_tail l.reads n)

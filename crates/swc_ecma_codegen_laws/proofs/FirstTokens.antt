@@ -432,7 +432,7 @@ class_word_begins n = word_first n.is_abstract (codes "abstract") _ (begins_true
 
 module_head_begins : (global : Bool) (n : TsModuleName) → Begins (ts_decl_lists.module_head global n) true
 unfolding ts_decl_lists.module_head ts_decl_lists.ts_module_name
-module_head_begins true n = begins_true _
+module_head_begins true n = begins_where _ _ _ (begins_true _)
 module_head_begins false (module_names.Ident n) = begins_then _ _ _ (begins_true _)
 module_head_begins false (module_names.Str n) = begins_then _ _ _ (begins_true _)
 

@@ -1,5 +1,5 @@
 -- When declarations of TypeScript are well-formed.
-use Rattle.std.proofs.Common.{◌≡◌, ◌∙◌, refl, ap, Bool, true, not, ◌&&◌, List, [], ◌∷◌, codes}
+use Rattle.std.proofs.Common.{◌≡◌, ◌∙◌, refl, ap, Bool, true, false, not, ◌&&◌, List, [], ◌∷◌, codes}
 use Rattle.swc_ecma_codegen_tree.specs.declared.ts_decls.TsEnumDecl.{TsEnumDecl}
 use Rattle.swc_ecma_codegen_tree.specs.declared.ts_decls.TsExportAssignment.{TsExportAssignment}
 use Rattle.swc_ecma_codegen_tree.specs.declared.ts_decls.TsExprWithTypeArgs.{TsExprWithTypeArgs}
@@ -8,6 +8,7 @@ use Rattle.swc_ecma_codegen_tree.specs.declared.ts_decls.TsImportEqualsDecl.{TsI
 use Rattle.swc_ecma_codegen_tree.specs.declared.ts_decls.TsInterfaceDecl.{TsInterfaceDecl}
 use Rattle.swc_ecma_codegen_tree.specs.declared.ts_decls.TsModuleBlock.{TsModuleBlock}
 use Rattle.swc_ecma_codegen_tree.specs.declared.ts_decls.TsModuleDecl.{TsModuleDecl}
+use Rattle.swc_ecma_codegen_tree.specs.declared.ts_decls.TsModuleName.{TsModuleName}
 use Rattle.swc_ecma_codegen_tree.specs.declared.ts_decls.TsNamespaceDecl.{TsNamespaceDecl}
 use Rattle.swc_ecma_codegen_tree.specs.declared.ts_decls.TsNamespaceExportDecl.{TsNamespaceExportDecl}
 use Rattle.swc_ecma_codegen_tree.specs.declared.ts_decls.TsTypeAliasDecl.{TsTypeAliasDecl}
@@ -19,7 +20,7 @@ use Rattle.swc_ecma_codegen_grammar.specs.NamespacePhrases.{ts_module_block, dot
 use Rattle.swc_ecma_codegen_grammar.specs.PatPhrases.{value_at}
 use Rattle.swc_ecma_codegen_grammar.specs.Phrases.{Phrase, is_possible}
 use Rattle.swc_ecma_codegen_grammar.specs.StmtPhrases.{module_item}
-use Rattle.swc_ecma_codegen_grammar.specs.TsDeclPhrases.{declare_word, ts_expr_with_type_args, extends_clause, ts_interface_decl, ts_type_alias_decl, ts_enum_member, ts_enum_decl, module_head, module_tail, ts_module_decl, ts_external_module_ref, ts_module_ref, ts_import_equals_decl, ts_export_assignment, ts_namespace_export_decl}
+use Rattle.swc_ecma_codegen_grammar.specs.TsDeclPhrases.{declare_word, ts_expr_with_type_args, extends_clause, ts_interface_decl, ts_type_alias_decl, ts_enum_member, ts_enum_decl, ts_module_name, module_head, module_tail, ts_module_decl, ts_external_module_ref, ts_module_ref, ts_import_equals_decl, ts_export_assignment, ts_namespace_export_decl}
 use Rattle.swc_ecma_codegen_grammar.specs.TypePhrases.{type_at, args_at, params_at}
 use Rattle.swc_ecma_codegen_grammar.specs.declared.roles.Role.{Role}
 use Rattle.swc_ecma_codegen_grammar.specs.declared.roles.Role.TheVariants.{DottedBody}
@@ -71,9 +72,15 @@ enum_possible f n =
 
 -- ---- namespaces and modules
 
-pub module_decl_possible : {X : Type 0} (f : X → Role → Phrase) (n : TsModuleDecl X) → is_possible (ts_module_decl f n) ≡ (is_possible (module_head n.global n.id) && is_possible (module_tail f n.body))
+-- the name is asked for, whether it is written or `global` stands there
+head_possible : (global : Bool) (n : TsModuleName) → is_possible (module_head global n) ≡ is_possible (ts_module_name n)
+unfolding is_possible module_head
+head_possible true n = where_possible (is_possible (ts_module_name n)) _ ∙ and_true _
+head_possible false n = refl
+
+pub module_decl_possible : {X : Type 0} (f : X → Role → Phrase) (n : TsModuleDecl X) → is_possible (ts_module_decl f n) ≡ (is_possible (ts_module_name n.id) && is_possible (module_tail f n.body))
 unfolding is_possible ts_module_decl
-module_decl_possible f n = past_declare n.declare _
+module_decl_possible f n = past_declare n.declare _ ∙ ap (λ b. b && is_possible (module_tail f n.body)) (head_possible n.global n.id)
 
 pub module_block_possible : {X : Type 0} (f : X → Role → Phrase) (n : TsModuleBlock X) → is_possible (ts_module_block f n) ≡ all_possible (module_item f) n.body.items
 unfolding is_possible ts_module_block

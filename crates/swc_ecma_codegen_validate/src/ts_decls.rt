@@ -3,7 +3,7 @@
 ghost use Rattle.std.specs.Prelude.{◌≡◌};
 ghost use Rattle.swc_ecma_codegen_grammar.specs.Phrases.{is_possible};
 ghost use Rattle.swc_ecma_codegen_grammar.specs.NamespacePhrases.{dotted_namespace, dotted_body, ts_module_block, ts_namespace_body};
-ghost use Rattle.swc_ecma_codegen_grammar.specs.TsDeclPhrases.{ts_expr_with_type_args, extends_clause, ts_interface_decl, ts_type_alias_decl, ts_enum_member_id, ts_enum_member, ts_enum_decl, ts_module_name, module_head, module_tail, ts_module_decl, ts_external_module_ref, ts_module_ref, ts_import_equals_decl, ts_export_assignment, ts_namespace_export_decl};
+ghost use Rattle.swc_ecma_codegen_grammar.specs.TsDeclPhrases.{ts_expr_with_type_args, extends_clause, ts_interface_decl, ts_type_alias_decl, ts_enum_member_id, ts_enum_member, ts_enum_decl, ts_module_name, module_tail, ts_module_decl, ts_external_module_ref, ts_module_ref, ts_import_equals_decl, ts_export_assignment, ts_namespace_export_decl};
 
 use crate::forms::{Fits, WellFormed, all_well_formed};
 use crate::pats::is_initializer;
@@ -89,14 +89,6 @@ impl WellFormed for TsModuleName {
     }
 }
 
-/// Whether the name of a module is well-formed, or it is the global one.
-#[tactic(auto, unfolding(swc_ecma_codegen_grammar::specs::TsDeclPhrases::module_head, swc_ecma_codegen_grammar::specs::Phrases::is_possible))]
-fn is_module_head(global: bool, name: &TsModuleName) -> bool
-    ensures { result ≡ is_possible (module_head global name.now) }
-{
-    global || name.is_well_formed()
-}
-
 /// Whether the body of a module is well-formed, or there is none.
 #[tactic(auto, unfolding(swc_ecma_codegen_grammar::specs::TsDeclPhrases::module_tail, swc_ecma_codegen_grammar::specs::Phrases::is_possible))]
 fn is_module_tail<N: Fits>(body: &Option<TsNamespaceBodyBox<N>>) -> bool
@@ -113,7 +105,7 @@ impl<N: Fits> WellFormed for TsModuleDecl<N> {
 
     #[tactic(auto, using(crate::proofs::TsDeclsPossible::module_decl_possible))]
     fn is_well_formed(&self) -> bool {
-        is_module_head(self.global, &self.id) && is_module_tail(&self.body)
+        self.id.is_well_formed() && is_module_tail(&self.body)
     }
 }
 
