@@ -9,7 +9,6 @@ pub use swc_ecma_codegen_common::Decimal;
 pub use swc_ecma_codegen_common::Error;
 pub use swc_ecma_codegen_common::EsVersion;
 pub use swc_ecma_codegen_common::LineCol;
-pub use swc_ecma_codegen_common::Result;
 pub use swc_ecma_codegen_common::Span;
 pub use swc_ecma_codegen_common::UnaryOp;
 pub use swc_ecma_codegen_common::UpdateOp;
