@@ -3,7 +3,7 @@
 ghost use Rattle.std.specs.Prelude.{◌≡◌, true};
 ghost use Rattle.swc_ecma_codegen_grammar.specs.TemplatePhrases.{is_counted, part_before};
 ghost use Rattle.swc_ecma_codegen_emit.specs.Standing.{Performs, KeepsLevel};
-ghost use Rattle.swc_ecma_codegen_tokens.specs.Templates.{tpl_element};
+ghost use Rattle.swc_ecma_codegen_tokens.specs.Templates.{tpl_element, quasi};
 ghost use Rattle.swc_ecma_codegen_emit.specs.Lists.{plainly};
 ghost use Rattle.swc_ecma_codegen_emit.specs.Exprs.{held};
 ghost use Rattle.swc_ecma_codegen_emit.specs.Templates.{tpl_rest, tpl_all, tpl_parts, bad_shape, tpl, is_tagged, tagged_tpl};
@@ -62,6 +62,23 @@ impl<N: LinkTarget> EmitAt for Tpl<N> {
         e.start_of(self.span);
         e.tpl_exprs(is_tagged(place), &self.exprs, &self.quasis);
         e.end_of(self.span);
+    }
+}
+
+/// Only the text of the part, as of a template without a tag: `b` of `` `a${c}b` ``. swc's `emit_quasi`.
+impl EmitAt for TplElement {
+    ghost items = { λ n _. quasi n };
+
+    #[tactic(auto, using(crate::proofs::Standings::refused_makes))]
+    fn emit_at<W: WriteJs, S: SourceMapper, C: Comments>(
+        &self,
+        e: &mut Emitter<'_, W, S, C>,
+        place: Place,
+    ) {
+        if e.refusal.is_some() {
+            return;
+        }
+        keep(&mut e.refusal, e.lower.quasi(&e.cfg, &mut e.wr, self));
     }
 }
 
