@@ -210,7 +210,7 @@ program_last env e (OfLink n role) h max w o wanted s = absurd (true≢false (sy
 
 -- A root prints its phrase, or does so in lines: a program where these are bounded.
 abbrev pub Stands : Root → Env → Part → Type 0
-Stands n env p = PrintsAt (root_shape n) env p (root_phrase n) ⊎ InLines (root_shape n) env p (root_phrase n)
+Stands n env p = PrintsAt (root_shape n) env p (root_phrase n) ⊎ ((is_program n ≡ true) × InLines (root_shape n) env p (root_phrase n))
 
 program_plain : (env : Env) → env.keeps_invalid ≡ false → (n : Root) → is_program n ≡ true → is_bounded env ≡ false → PrintsAt (root_shape n) env (root_items n) (root_phrase n)
 program_plain env e n h b =
@@ -237,7 +237,7 @@ root_prints env e n b = elim (cases_Bool (is_program n)) [
 ]
 
 program_stands : (env : Env) → env.keeps_invalid ≡ false → (n : Root) → is_program n ≡ true → is_bounded env ≡ true → Stands n env (root_items n)
-program_stands env e n h b = let here = alone_lines env b in inr (program_in env here.0 e n h b here.1)
+program_stands env e n h b = let here = alone_lines env b in inr (h, program_in env here.0 e n h b here.1)
 
 program_where : (env : Env) → env.keeps_invalid ≡ false → (n : Root) → is_program n ≡ true → Stands n env (root_items n)
 program_where env e n h = elim (cases_Bool (is_bounded env)) [

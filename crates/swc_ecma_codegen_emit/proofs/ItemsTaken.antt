@@ -1,8 +1,8 @@
 -- After the emission of a module no comment is left before one of its items.
 use Rattle.std.proofs.Common.{◌≡◌, ◌∙◌, ℕ, ◌==◌, ◌||◌, arith, Bool, true, false, cond, List, [], ◌∷◌, map, refl, sym, ap, subst, ◌⊎◌, Some, None, Result, Ok, Err, OnOk, inl, inr, All}
+use Rattle.std.specs.Prelude.{⊤}
 use Rattle.std.proofs.lemmas.Bool.{cases_Bool, and_from, and_parts, or_parts, eq-eqb, ne_eqb}
 use Rattle.std.proofs.lemmas.List.Elements.{All-cons}
-use Rattle.swc_ecma_codegen_common.specs.declared.errors.Error.{Error}
 use Rattle.swc_ecma_codegen_common.specs.declared.errors.Refusal.{Refusal}
 use Rattle.swc_ecma_codegen_common.specs.declared.positions.BytePos.{BytePos}
 use Rattle.swc_ecma_codegen_common.specs.declared.positions.Span.{Span}
@@ -28,14 +28,15 @@ use Rattle.swc_ecma_codegen_tokens.proofs.Phrased.{prints_nothing, prints_wider,
 use Rattle.swc_ecma_codegen_tokens.proofs.Shapes.{Shape, loose}
 use Rattle.swc_ecma_codegen_tokens.proofs.Short.{on_ok_in_short}
 use Rattle.swc_ecma_codegen_emit.specs.Answers.{any_answers, place_of}
-use Rattle.swc_ecma_codegen_emit.specs.Left.{NoneBefore, NoneBeforeItems, NoneBeforeBody}
+use Rattle.swc_ecma_codegen_emit.specs.Emission.{Outcome, LeavesNone}
+use Rattle.swc_ecma_codegen_emit.specs.Left.{NoneBefore, NoneBeforeItems}
 use Rattle.swc_ecma_codegen_emit.specs.Lists.{in_order}
 use Rattle.swc_ecma_codegen_emit.specs.Modules.{module_item, module_item_by}
 use Rattle.swc_ecma_codegen_emit.specs.Programs.{last_semi, module_parts, program, whole_module}
 use Rattle.swc_ecma_codegen_emit.specs.declared.nodes.Place.{Place}
 use Rattle.swc_ecma_codegen_emit.specs.declared.nodes.Place.TheVariants.{Plain, Lines}
 use Rattle.swc_ecma_codegen_emit.specs.Places.{alone, by_itself}
-use Rattle.swc_ecma_codegen_emit.specs.Roots.{OfModule}
+use Rattle.swc_ecma_codegen_emit.specs.Roots.{Root, OfExpr, OfStmt, OfItem, OfModule, OfScript, OfProgram, OfLink, root_items}
 use Rattle.swc_ecma_codegen_emit.specs.Tree.{any_items}
 use Rattle.swc_ecma_codegen_emit.proofs.ByItself.{alone_or}
 use Rattle.swc_ecma_codegen_emit.proofs.Linked.{Linked}
@@ -128,11 +129,20 @@ followed_left n a b (Ok u) w e h =
     subst (NoneBeforeItems n) (sym (maps_followed _ a b (Ok tt) h)) (module_left_at n (alone a.env) nothing a.env e w (root_in_target (OfModule n) a b w e h) (alone_or a.env))
 followed_left n a b (Err x) w e h = tt
 
-pub module_leaves : (n : Module AnyNode) (a b : State) (r : Result (Unit {0}) Error) → is_well_formed (programs.Module n) ≡ true → a.env.keeps_invalid ≡ false → Follows (by_itself (whole_module any_answers any_items n) nothing) a b (in_short r) → OnOk r (NoneBeforeItems n b.env.maps)
+module_leaves : (n : Module AnyNode) (a b : State) (r : Outcome) → is_well_formed (programs.Module n) ≡ true → a.env.keeps_invalid ≡ false → Follows (by_itself (whole_module any_answers any_items n) nothing) a b (in_short r) → OnOk r (NoneBeforeItems n b.env.maps)
 module_leaves n a b r w e h = on_ok_in_short _ r (followed_left n a b (in_short r) w e h)
 
-pub program_leaves : (n : Program AnyNode) (a b : State) (r : Result (Unit {0}) Error) → is_well_formed n ≡ true → a.env.keeps_invalid ≡ false → Follows (by_itself (program any_answers any_items n) nothing) a b (in_short r) → OnOk r (NoneBeforeBody n b.env.maps)
+none_left : (r : Outcome) → OnOk r ⊤
+none_left (Ok u) = tt
+none_left (Err x) = tt
+
+pub root_leaves : (n : Root) (a b : State) (r : Outcome) → Follows (root_items n nothing) a b (in_short r) → LeavesNone n a b r
 unfolding program
-program_leaves (programs.Module n) a b r w e h = module_leaves n a b r w e h
-program_leaves (programs.Script n) a b (Ok u) w e h = tt
-program_leaves (programs.Script n) a b (Err x) w e h = tt
+root_leaves (OfModule n) a b r h = λ w e. module_leaves n a b r w e h
+root_leaves (OfProgram (programs.Module n)) a b r h = λ w e. module_leaves n a b r w e h
+root_leaves (OfProgram (programs.Script n)) a b r h = λ w e. none_left r
+root_leaves (OfScript n) a b r h = λ w e. none_left r
+root_leaves (OfItem n) a b r h = λ w e. none_left r
+root_leaves (OfStmt n) a b r h = λ w e. none_left r
+root_leaves (OfExpr n) a b r h = λ w e. none_left r
+root_leaves (OfLink n role) a b r h = λ w e. none_left r

@@ -22,7 +22,7 @@ use Rattle.swc_ecma_codegen_tokens.proofs.Phrased.{PrintsAt, before, prints_wide
 use Rattle.swc_ecma_codegen_tokens.proofs.Positions.{recorded_more}
 use Rattle.swc_ecma_codegen_tokens.proofs.Printed.{env_after, writes_commit, remarks_both}
 use Rattle.swc_ecma_codegen_tokens.proofs.Shapes.{unbroken_at, open_, join, is_within}
-use Rattle.swc_ecma_codegen_emit.specs.Roots.{Root, root_items, root_phrase, is_well_formed_root, root_hashbang, MayBegin}
+use Rattle.swc_ecma_codegen_emit.specs.Roots.{Root, is_program, root_items, root_phrase, is_well_formed_root, root_hashbang, MayBegin}
 use Rattle.swc_ecma_codegen_emit.specs.Texts.{sheet_by, sheet_with, start_with, with_last}
 use Rattle.swc_ecma_codegen_emit.specs.Lined.{CanFill}
 use Rattle.swc_ecma_codegen_emit.proofs.ByItself.{Stands, root_shape}
@@ -141,19 +141,19 @@ plain_reads_last n p a prints w s closed none =
     ]
 
 -- in lines none is held back at the end but where the settings leave it out
-lined_last : (n : Root) (p : Part) (a : State) → InLines (root_shape n) a.env p (root_phrase n) → is_well_formed_root n ≡ true → MayBegin n a → unprintable_in (p nothing a.env) ≡ None → with_last a.env.config (run (steps_of (p nothing a.env)) a).sheet ≡ (run (steps_of (p nothing a.env)) a).sheet
-lined_last n p a h w s none =
+lined_last : (n : Root) (p : Part) (a : State) → is_program n ≡ true → InLines (root_shape n) a.env p (root_phrase n) → is_well_formed_root n ≡ true → MayBegin n a → unprintable_in (p nothing a.env) ≡ None → with_last a.env.config (run (steps_of (p nothing a.env)) a).sheet ≡ (run (steps_of (p nothing a.env)) a).sheet
+lined_last n p a whole h w s none =
     let b : State = run (steps_of (p nothing a.env)) a in
     elim (cases_Bool a.env.config.omit_last_semi) [
       | inl left ↦ left_out a.env.config b.sheet left
-      | inr wanted ↦ written_last a.env.config b.sheet wanted ∙ lines_settle p (root_phrase n) a h w s.flows s.is_new.line_end none wanted
+      | inr wanted ↦ written_last a.env.config b.sheet wanted ∙ lines_settle p (root_phrase n) a h w (s.flows whole) s.is_new.line_end none wanted
     ]
 
 stands_reads_last : (n : Root) (p : Part) (a : State) → Stands n a.env p → is_well_formed_root n ≡ true → MayBegin n a → AreClosed a.env.maps → unprintable_in (p nothing a.env) ≡ None → AddsReading a.env.config (root_phrase n) (taken_remarks p a.env) a.sheet (with_last a.env.config (run (steps_of (p nothing a.env)) a).sheet)
 unfolding Follows
 stands_reads_last n p a (inl h) w s closed none = plain_reads_last n p a h w s closed none
 stands_reads_last n p a (inr h) w s closed none =
-    subst (AddsReading a.env.config (root_phrase n) (taken_remarks p a.env) a.sheet) (sym (lined_last n p a h w s none))
+    subst (AddsReading a.env.config (root_phrase n) (taken_remarks p a.env) a.sheet) (sym (lined_last n p a h.0 h.1 w s none))
     (stands_read n p a (run (steps_of (p nothing a.env)) a) (Ok tt) (inr h) w s closed (none, refl))
 
 root_reads_last : (n : Root) (p : Part) (a : State) → p ≡ root_items n → is_well_formed_root n ≡ true → MayBegin n a → AreClosed a.env.maps → unprintable_in (p nothing a.env) ≡ None → AddsReading a.env.config (root_phrase n) (taken_remarks p a.env) a.sheet (with_last a.env.config (run (steps_of (p nothing a.env)) a).sheet)
@@ -161,8 +161,8 @@ root_reads_last n p a same w s closed none = stands_reads_last n p a (stands n p
 
 begins_by : (n : Root) (lines : Lines) (maps : Maps) (config : Config) (b : Bool) → MayBegin n (start lines maps config (sheet_by b))
 unfolding sheet_by all_indent is_indent holds_one
-begins_by n lines maps config true = record { is_new = record { nothing_written = refl; nothing_held = refl; indent_text = refl; line_end = inl refl; flowing = refl; leaves_out = refl }; flows = refl; at_margin = λ hashbang line. refl }
-begins_by n lines maps config false = record { is_new = record { nothing_written = refl; nothing_held = refl; indent_text = refl; line_end = inl refl; flowing = refl; leaves_out = refl }; flows = refl; at_margin = λ hashbang line. refl }
+begins_by n lines maps config true = record { is_new = record { nothing_written = refl; nothing_held = refl; indent_text = refl; line_end = inl refl; flowing = refl; leaves_out = refl }; flows = λ whole. refl; at_margin = λ hashbang line. refl }
+begins_by n lines maps config false = record { is_new = record { nothing_written = refl; nothing_held = refl; indent_text = refl; line_end = inl refl; flowing = refl; leaves_out = refl }; flows = λ whole. refl; at_margin = λ hashbang line. refl }
 
 holds_by : (b : Bool) → holds_semicolons (sheet_by b).semicolons ≡ b
 unfolding sheet_by
@@ -213,7 +213,7 @@ names_with lines maps config n p same w none =
     let f = root_phrase n in
     let xs = names_in f in
     let here = stands n p a.env (leaves_by lines maps config config.minify) same in
-    let h : RecordsNames (unlined config) xs a.sheet (printed p a).sheet = stands_name n p a (printed p a) (Ok tt) here w (keeps_by config.minify) (flows_by config.minify) (λ b. fills_by lines maps config config.minify) (none, refl) in
+    let h : RecordsNames (unlined config) xs a.sheet (printed p a).sheet = stands_name n p a (printed p a) (Ok tt) here w (keeps_by config.minify) (flows_by config.minify) (λ whole b. fills_by lines maps config config.minify) (none, refl) in
     let k = last_records config (printed p a).sheet in
     let s = sheet_with lines maps config p in
     let text : s.text ≡ h.text ++ k.text = k.is_text ∙ ap (λ z. z ++ k.text) (h.is_text ∙ ap (λ z. z ++ h.text) (no_text config.minify)) in

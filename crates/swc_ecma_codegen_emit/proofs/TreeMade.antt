@@ -1,17 +1,9 @@
 -- When the emission of a tree is made.
-use Rattle.std.proofs.Common.{◌≡◌, ◌⊎◌, ◌&&◌, is_some, inl, inr, ℕ, ◌^◌, ◌<◌, true, false, not, [], refl, sym, ap, ◌∙◌, subst, List, ◌∷◌, Option, Some, Result, None, IsOk, Err, arith}
+use Rattle.std.proofs.Common.{◌≡◌, ◌⊎◌, ◌&&◌, is_some, inl, inr, ℕ, ◌^◌, ◌<◌, true, false, not, [], refl, sym, ap, ◌∙◌, subst, List, ◌∷◌, Option, Some, None, Err, arith}
 use Rattle.std.proofs.lemmas.Bool.{not-false, true≢false}
 use Rattle.swc_ecma_codegen_common.specs.declared.errors.Error.{Error}
 use Rattle.swc_ecma_codegen_common.specs.Refusals.{in_short, reason_of}
 use Rattle.swc_ecma_codegen_common.specs.declared.errors.Error.TheVariants.{Writer, OutOfMemory, UnsupportedNode, BadShape, NameOutOfTarget, PositionTooLarge, Failed}
-use Rattle.swc_ecma_codegen_tree.specs.declared.links.AnyNode.{AnyNode}
-use Rattle.swc_ecma_codegen_tree.specs.declared.programs.Program.{Program}
-use Rattle.swc_ecma_codegen_tree.specs.declared.programs.Program.TheVariants.{Module as a_module, Script as a_script}
-use Rattle.swc_ecma_codegen_tree.specs.declared.programs.Module.{Module}
-use Rattle.swc_ecma_codegen_tree.specs.declared.programs.ModuleItem.{ModuleItem}
-use Rattle.swc_ecma_codegen_tree.specs.declared.programs.Script.{Script}
-use Rattle.swc_ecma_codegen_grammar.specs.TreePhrases.{phrase, program_phrase}
-use Rattle.swc_ecma_codegen_grammar.specs.StmtPhrases as stmt_lists
 use Rattle.swc_ecma_codegen_util.specs.declared.config.Config.{Config}
 use Rattle.swc_ecma_codegen_util.specs.Defaults.{default_config}
 use Rattle.swc_ecma_codegen_text_writer.specs.View.{new_sheet}
@@ -23,37 +15,21 @@ use Rattle.swc_ecma_codegen_tokens.proofs.NoneTaken.{none_taken, no_maps_bare, n
 use Rattle.swc_ecma_codegen_tokens.specs.Run.{Part, is_bounded, State, nothing, unprintable_in, Follows, HasCause, PassesLimit, IsTooFar, start, steps_in, steps_of}
 use Rattle.swc_ecma_codegen_tokens.specs.declared.refusals.Unprintable.{Unprintable}
 use Rattle.swc_ecma_codegen_tokens.specs.Targets.{is_out}
-use Rattle.swc_ecma_codegen_tokens.specs.Ready.{token_count, IsPlainTree, IsReady}
+use Rattle.swc_ecma_codegen_tokens.specs.Ready.{token_count, IsReady}
 use Rattle.swc_ecma_codegen_tokens.specs.Written.{ReadsAs, taken_remarks}
 use Rattle.swc_ecma_codegen_tokens.proofs.Short.{is_ok_in_short}
 use Rattle.swc_ecma_codegen_tokens.proofs.Phrased.{steps_read, whole_reads}
 use Rattle.swc_ecma_codegen_tokens.proofs.Made.{plain_made, printable, within}
 use Rattle.swc_ecma_codegen_tokens.proofs.Targets.{bare_not_out}
-use Rattle.swc_ecma_codegen_emit.specs.Answers.{any_answers}
-use Rattle.swc_ecma_codegen_emit.specs.Modules.{module_item}
-use Rattle.swc_ecma_codegen_emit.specs.Places.{by_itself}
-use Rattle.swc_ecma_codegen_emit.specs.Programs as programs
-use Rattle.swc_ecma_codegen_emit.specs.Tree.{any_items}
 use Rattle.swc_ecma_codegen_tokens.proofs.Fronts.{follows_cause}
+use Rattle.swc_ecma_codegen_emit.specs.Emission.{Outcome, MakesPlainTrees}
 use Rattle.swc_ecma_codegen_emit.specs.Texts.{blank_sheet, text_of, text_over, IsOfWriter, GivesCause}
-use Rattle.swc_ecma_codegen_emit.specs.Roots.{Root, OfItem, OfModule, OfScript, OfProgram, root_items, root_phrase, is_well_formed_root, root_hashbang}
+use Rattle.swc_ecma_codegen_emit.specs.Roots.{Root, root_items, root_phrase, is_well_formed_root, root_hashbang}
 use Rattle.swc_ecma_codegen_emit.proofs.TreeReads.{new_begins, stands_plain}
+use Rattle.swc_ecma_codegen_emit.proofs.ByItself.{root_prints}
 
--- whatever the root is, and whatever refers to it
-pub root_made : (n : Root) (p : Part) (a b : State) (r : Result (Unit {0}) Error) → p ≡ root_items n → IsPlainTree a.env.config (root_phrase n) a.sheet.indentation → IsReady a → b.sheet.faults ≡ a.sheet.faults → Follows (p nothing) a b (in_short r) → IsOk r
-root_made n p a b r same t s e h = is_ok_in_short r (plain_made p (root_phrase n) a b (in_short r) (stands_plain n p a.env s.leaves_out s.unbounded same) t s e h)
-
-pub item_made : (n : ModuleItem AnyNode) (a b : State) (r : Result (Unit {0}) Error) → IsPlainTree a.env.config (stmt_lists.module_item phrase n) a.sheet.indentation → IsReady a → b.sheet.faults ≡ a.sheet.faults → Follows (by_itself (λ place. module_item any_answers any_items n) nothing) a b (in_short r) → IsOk r
-item_made n a b r t s e h = root_made (OfItem n) _ a b r refl t s e h
-
-pub module_made : (n : Module AnyNode) (a b : State) (r : Result (Unit {0}) Error) → IsPlainTree a.env.config (program_phrase (a_module n)) a.sheet.indentation → IsReady a → b.sheet.faults ≡ a.sheet.faults → Follows (by_itself (programs.whole_module any_answers any_items n) nothing) a b (in_short r) → IsOk r
-module_made n a b r t s e h = root_made (OfModule n) _ a b r refl t s e h
-
-pub script_made : (n : Script AnyNode) (a b : State) (r : Result (Unit {0}) Error) → IsPlainTree a.env.config (program_phrase (a_script n)) a.sheet.indentation → IsReady a → b.sheet.faults ≡ a.sheet.faults → Follows (by_itself (programs.script any_answers any_items n) nothing) a b (in_short r) → IsOk r
-script_made n a b r t s e h = root_made (OfScript n) _ a b r refl t s e h
-
-pub program_made : (n : Program AnyNode) (a b : State) (r : Result (Unit {0}) Error) → IsPlainTree a.env.config (program_phrase n) a.sheet.indentation → IsReady a → b.sheet.faults ≡ a.sheet.faults → Follows (by_itself (programs.program any_answers any_items n) nothing) a b (in_short r) → IsOk r
-program_made n a b r t s e h = root_made (OfProgram n) _ a b r refl t s e h
+pub root_made : (n : Root) (a b : State) (r : Outcome) → Follows (root_items n nothing) a b (in_short r) → MakesPlainTrees n a b r
+root_made n a b r h = λ t s e. is_ok_in_short r (plain_made (root_items n) (root_phrase n) a b (in_short r) (root_prints a.env s.leaves_out n s.unbounded) t s e h)
 
 -- a new emitter over a new writer, whose lines aren't bounded
 pub new_is_ready : (lines : Lines) (maps : Maps) (config : Config) (bytes line_end : List ℕ) → (is_some config.max_line && config.minify) ≡ false → IsReady (start lines maps config (new_sheet bytes line_end))

@@ -1,4 +1,4 @@
--- What an emission of a well-formed tree adds to a text reads as one of the tree's token lists.
+-- What an emission of a root does: a lemma a clause.
 use Rattle.std.proofs.Common.{◌≡◌, ℕ, Bool, true, false, not, cond, if◌then◌else◌, List, refl, sym, ap, ◌∙◌, subst, inl, inr, Some, None, Result, Ok, Err, OnOk}
 use Rattle.std.proofs.lemmas.Bool.{not-false, true≢false}
 use Rattle.swc_ecma_codegen_common.specs.declared.errors.Error.{Error}
@@ -6,14 +6,7 @@ use Rattle.swc_ecma_codegen_common.specs.Refusals.{in_short}
 use Rattle.swc_ecma_codegen_tree.specs.declared.links.AnyNode.{AnyNode}
 use Rattle.swc_ecma_codegen_tree.specs.declared.exprs.Tpl.{Tpl}
 use Rattle.swc_ecma_codegen_tree.specs.declared.modules.ImportDecl.{ImportDecl}
-use Rattle.swc_ecma_codegen_tree.specs.declared.programs.Program.{Program}
-use Rattle.swc_ecma_codegen_tree.specs.declared.programs.Program.TheVariants.{Module as a_module, Script as a_script}
-use Rattle.swc_ecma_codegen_tree.specs.declared.programs.Module.{Module}
-use Rattle.swc_ecma_codegen_tree.specs.declared.programs.ModuleItem.{ModuleItem}
-use Rattle.swc_ecma_codegen_tree.specs.declared.programs.Script.{Script}
-use Rattle.swc_ecma_codegen_grammar.specs.StmtPhrases as stmt_lists
 use Rattle.swc_ecma_codegen_grammar.specs.TemplatePhrases.{is_counted}
-use Rattle.swc_ecma_codegen_grammar.specs.TreePhrases.{phrase, program_phrase, is_well_formed}
 use Rattle.swc_ecma_codegen_util.specs.declared.config.Config.{Config}
 use Rattle.swc_ecma_codegen_text_writer.specs.View.{new_sheet}
 use Rattle.swc_ecma_codegen_common.specs.declared.errors.Refusal.TheVariants as refusals
@@ -32,22 +25,19 @@ use Rattle.swc_ecma_codegen_tokens.specs.Scripts.{value_strings, AddsSafe}
 use Rattle.swc_ecma_codegen_tokens.proofs.AsciiTexts.{printed_ascii, printed_keeps, none_other}
 use Rattle.swc_ecma_codegen_tokens.proofs.ScriptTexts.{printed_safe}
 use Rattle.swc_ecma_codegen_text_writer.specs.Recorded.{RecordsTruly}
-use Rattle.swc_ecma_codegen_grammar.specs.Phrases.{is_possible, names_in}
+use Rattle.swc_ecma_codegen_grammar.specs.Phrases.{names_in}
 use Rattle.swc_ecma_codegen_text_writer.specs.Sheet.{Flowing, HoldsNone, fills_lines}
 use Rattle.swc_ecma_codegen_tokens.specs.Written.{IsAtMargin, IsLineEnd, IsNew, AddsReading, taken_remarks, all_indent, is_indent, holds_one}
 use Rattle.swc_ecma_codegen_tokens.proofs.Short.{on_ok_in_short}
 use Rattle.swc_ecma_codegen_tokens.proofs.Phrased.{made_not_out, printed_reads, printed_tells, printed_remakes, printed_names, printed_places, follows_records, PrintsAt}
 use Rattle.swc_ecma_codegen_tokens.proofs.Made.{printable, run_env}
-use Rattle.swc_ecma_codegen_emit.specs.Answers.{any_answers}
-use Rattle.swc_ecma_codegen_emit.specs.Modules.{is_crowded, import_parts, import_decl, module_item}
-use Rattle.swc_ecma_codegen_emit.specs.Places.{by_itself}
-use Rattle.swc_ecma_codegen_emit.specs.Programs as programs
+use Rattle.swc_ecma_codegen_emit.specs.Emission.{Outcome, AddsOnlyAscii, AddsSafeStrings, FillsItsLines, PlacesEachName, ReadsAsRoot, RecordsEachName, TakesComments, WritesTaken}
+use Rattle.swc_ecma_codegen_emit.specs.Modules.{is_crowded, import_parts, import_decl}
 use Rattle.swc_ecma_codegen_emit.specs.Templates.{tpl_placed, bad_shape, tpl}
 use Rattle.swc_ecma_codegen_emit.specs.Tree.{any_items}
-use Rattle.swc_ecma_codegen_emit.specs.Roots.{Root, OfItem, OfModule, OfScript, OfProgram, is_program, root_at, root_items, root_phrase, is_well_formed_root, root_hashbang, MayBegin}
-use Rattle.swc_ecma_codegen_tokens.proofs.Shapes.{unbroken}
+use Rattle.swc_ecma_codegen_emit.specs.Roots.{Root, is_program, root_at, root_items, root_phrase, is_well_formed_root, root_hashbang, MayBegin}
 use Rattle.swc_ecma_codegen_emit.specs.Lined.{CanFill, FillsLinesOf}
-use Rattle.swc_ecma_codegen_emit.proofs.ByItself.{Stands, alone_at, bounded_at, part_prints, program_in, root_prints, root_shape, root_stands}
+use Rattle.swc_ecma_codegen_emit.proofs.ByItself.{Stands, alone_at, bounded_at, program_in, root_prints, root_shape, root_stands}
 use Rattle.swc_ecma_codegen_emit.proofs.InLines.{Ends, ends_so, goes_in_target, goes_out_of_target, goes_shaped, goes_supported, lines_ascii, lines_fill, lines_keep, lines_names, lines_not_out, lines_out, lines_place, lines_printable, lines_read, lines_safe, lines_tell}
 
 -- a root, whatever refers to it
@@ -58,46 +48,34 @@ stands n p env e same = subst (Stands n env) (sym same) (root_stands env e n)
 pub stands_plain : (n : Root) (p : Part) (env : Env) → env.keeps_invalid ≡ false → is_bounded env ≡ false → p ≡ root_items n → PrintsAt (root_shape n) env p (root_phrase n)
 stands_plain n p env e b same = subst (λ z. PrintsAt (root_shape n) env z (root_phrase n)) (sym same) (root_prints env e n b)
 
-item_prints : (n : ModuleItem AnyNode) (env : Env) → env.keeps_invalid ≡ false → PrintsAt unbroken env (root_items (OfItem n)) (root_phrase (OfItem n))
-item_prints n env e = part_prints env e (OfItem n) refl
-
 abbrev margin : (n : Root) (a : State) → MayBegin n a → not (root_hashbang n) ≡ false → IsAtMargin a
 margin n a s e = s.at_margin (not-false (root_hashbang n) e)
 
 stands_not_out : (n : Root) (p : Part) (env : Env) → Stands n env p → is_well_formed_root n ≡ true → unprintable_in (p nothing env) ≡ None → is_out env.config (root_phrase n) ≡ false
 stands_not_out n p env (inl h) w k = made_not_out p (root_phrase n) env h w k
-stands_not_out n p env (inr h) w k = lines_not_out p (root_phrase n) env h w k
+stands_not_out n p env (inr h) w k = lines_not_out p (root_phrase n) env h.1 w k
 
 stands_end : (n : Root) (p : Part) (env : Env) → Stands n env p → is_well_formed_root n ≡ true → Ends env p (root_phrase n)
 stands_end n p env (inl h) w = record { printable = printable p (root_phrase n) env h w; out = λ o. h.where_out w o env.maps nothing }
-stands_end n p env (inr h) w = record { printable = lines_printable p (root_phrase n) env h w; out = lines_out p (root_phrase n) env h w }
+stands_end n p env (inr h) w = record { printable = lines_printable p (root_phrase n) env h.1 w; out = lines_out p (root_phrase n) env h.1 w }
 
 root_end : (n : Root) (env : Env) → env.keeps_invalid ≡ false → is_well_formed_root n ≡ true → Ends env (root_items n) (root_phrase n)
 root_end n env e w = stands_end n (root_items n) env (root_stands env e n) w
 
 pub stands_read : (n : Root) (p : Part) (a b : State) (r : Result (Unit {0}) Refusal) → Stands n a.env p → is_well_formed_root n ≡ true → MayBegin n a → AreClosed a.env.maps → Follows (p nothing) a b r → OnOk r (AddsReading a.env.config (root_phrase n) (taken_remarks p a.env) a.sheet b.sheet)
 stands_read n p a b r (inl h) w s closed k = printed_reads (not (root_hashbang n)) p (root_phrase n) a b r s.is_new (margin n a s) closed h w k
-stands_read n p a b r (inr h) w s closed k = lines_read (not (root_hashbang n)) p (root_phrase n) a b h w s.is_new s.flows (margin n a s) closed r k
+stands_read n p a b r (inr h) w s closed k = lines_read (not (root_hashbang n)) p (root_phrase n) a b h.1 w s.is_new (s.flows h.0) (margin n a s) closed r k
 
--- whatever the root is, and whatever refers to it
-pub root_reads : (n : Root) (p : Part) (a b : State) (r : Result (Unit {0}) Error) → p ≡ root_items n → is_well_formed_root n ≡ true → MayBegin n a → AreClosed a.env.maps → Follows (p nothing) a b (in_short r) → OnOk r (AddsReading a.env.config (root_phrase n) (taken_remarks p a.env) a.sheet b.sheet)
-root_reads n p a b r same w s closed h = on_ok_in_short _ r (stands_read n p a b (in_short r) (stands n p a.env s.is_new.leaves_out same) w s closed h)
+pub root_reads : (n : Root) (a b : State) (r : Outcome) → Follows (root_items n nothing) a b (in_short r) → ReadsAsRoot n a b r
+root_reads n a b r h = λ w s closed. on_ok_in_short _ r (stands_read n (root_items n) a b (in_short r) (root_stands a.env s.is_new.leaves_out n) w s closed h)
+
+-- what is written of what refers to a root is what is written of that
+pub as_root : (n : Root) (p : Part) (a b : State) (r : Outcome) → p ≡ root_items n → Follows (p nothing) a b (in_short r) → Follows (root_items n nothing) a b (in_short r)
+as_root n p a b r same h = subst (λ z. Follows (z nothing) a b (in_short r)) same h
 
 -- what begins with no hashbang may stand anywhere
 pub may_begin : (n : Root) (a : State) → root_hashbang n ≡ false → a.sheet.lines ≡ Flowing → IsNew a → MayBegin n a
-may_begin n a h flows s = record { is_new = s; flows = flows; at_margin = λ e. absurd (true≢false (sym e ∙ h)) }
-
-pub item_reads : (n : ModuleItem AnyNode) (a b : State) (r : Result (Unit {0}) Error) → is_possible (stmt_lists.module_item phrase n) ≡ true → IsNew a → AreClosed a.env.maps → Follows (by_itself (λ place. module_item any_answers any_items n) nothing) a b (in_short r) → OnOk r (AddsReading a.env.config (stmt_lists.module_item phrase n) (taken_remarks (by_itself (λ place. module_item any_answers any_items n)) a.env) a.sheet b.sheet)
-item_reads n a b r w s closed h = on_ok_in_short _ r (printed_reads true _ (root_phrase (OfItem n)) a b (in_short r) s (λ e. absurd (true≢false e)) closed (item_prints n a.env s.leaves_out) w h)
-
-pub module_reads : (n : Module AnyNode) (a b : State) (r : Result (Unit {0}) Error) → is_well_formed (a_module n) ≡ true → MayBegin (OfModule n) a → AreClosed a.env.maps → Follows (by_itself (programs.whole_module any_answers any_items n) nothing) a b (in_short r) → OnOk r (AddsReading a.env.config (program_phrase (a_module n)) (taken_remarks (by_itself (programs.whole_module any_answers any_items n)) a.env) a.sheet b.sheet)
-module_reads n a b r w s closed h = root_reads (OfModule n) _ a b r refl w s closed h
-
-pub script_reads : (n : Script AnyNode) (a b : State) (r : Result (Unit {0}) Error) → is_well_formed (a_script n) ≡ true → MayBegin (OfScript n) a → AreClosed a.env.maps → Follows (by_itself (programs.script any_answers any_items n) nothing) a b (in_short r) → OnOk r (AddsReading a.env.config (program_phrase (a_script n)) (taken_remarks (by_itself (programs.script any_answers any_items n)) a.env) a.sheet b.sheet)
-script_reads n a b r w s closed h = root_reads (OfScript n) _ a b r refl w s closed h
-
-pub program_reads : (n : Program AnyNode) (a b : State) (r : Result (Unit {0}) Error) → is_well_formed n ≡ true → MayBegin (OfProgram n) a → AreClosed a.env.maps → Follows (by_itself (programs.program any_answers any_items n) nothing) a b (in_short r) → OnOk r (AddsReading a.env.config (program_phrase n) (taken_remarks (by_itself (programs.program any_answers any_items n)) a.env) a.sheet b.sheet)
-program_reads n a b r w s closed h = root_reads (OfProgram n) _ a b r refl w s closed h
+may_begin n a h flows s = record { is_new = s; flows = λ whole. flows; at_margin = λ e. absurd (true≢false (sym e ∙ h)) }
 
 pub maps_followed : (p : Plan) (a b : State) (r : Result (Unit {0}) Refusal) → Follows p a b r → OnOk r (b.env.maps ≡ maps_after (steps_of (p a.env)) a.env.maps)
 unfolding Follows
@@ -105,123 +83,66 @@ maps_followed p a b (Ok u) h = ap (λ (s : State). s.env.maps) h.1 ∙ ap (λ (e
 maps_followed p a b (Err e) h = tt
 
 -- what is gone from the maps is what was taken
-pub steps_taken : (p : Plan) (a b : State) (r : Result (Unit {0}) Error) → Follows p a b (in_short r) → OnOk r (b.env.maps ≡ maps_after (steps_of (p a.env)) a.env.maps)
-steps_taken p a b r h = on_ok_in_short _ r (maps_followed p a b (in_short r) h)
+pub steps_taken : (p : Part) (a b : State) (r : Outcome) → Follows (p nothing) a b (in_short r) → TakesComments p a b r
+steps_taken p a b r h = on_ok_in_short _ r (maps_followed (p nothing) a b (in_short r) h)
+
+pub root_taken : (n : Root) (a b : State) (r : Outcome) → Follows (root_items n nothing) a b (in_short r) → TakesComments (root_items n) a b r
+root_taken n a b r h = steps_taken (root_items n) a b r h
 
 -- each of them is written once, in order of taking
 stands_tell : (n : Root) (p : Part) (env : Env) → Stands n env p → is_well_formed_root n ≡ true → is_out env.config (root_phrase n) ≡ false → spoken (steps_of (p nothing env)) ≡ texts_of (taken_in (steps_of (p nothing env)) env.maps)
 stands_tell n p env (inl h) w o = printed_tells p (root_phrase n) env h w o
-stands_tell n p env (inr h) w o = lines_tell p (root_phrase n) env h w o
-
-pub root_tells : (n : Root) (s : State) → is_well_formed_root n ≡ true → s.env.keeps_invalid ≡ false → is_out s.env.config (root_phrase n) ≡ false → spoken (steps_of (steps_in (root_items n) s)) ≡ texts_of (taken_in (steps_of (steps_in (root_items n) s)) s.env.maps)
-root_tells n s w e o = stands_tell n (root_items n) s.env (root_stands s.env e n) w o
+stands_tell n p env (inr h) w o = lines_tell p (root_phrase n) env h.1 w o
 
 -- what is recorded is true
 pub steps_recorded : (p : Plan) (a b : State) (r : Result (Unit {0}) Error) → Follows p a b (in_short r) → OnOk r (RecordsTruly a.sheet b.sheet)
 steps_recorded p a b r h = on_ok_in_short _ r (follows_records p a b (in_short r) h)
 
-pub stands_name : (n : Root) (p : Part) (a b : State) (r : Result (Unit {0}) Refusal) → Stands n a.env p → is_well_formed_root n ≡ true → a.sheet.keeps_positions ≡ true → fills_lines a.sheet.lines ≡ false → (is_bounded a.env ≡ true → CanFill a) → Follows (p nothing) a b r → OnOk r (RecordsNames a.env.config (names_in (root_phrase n)) a.sheet b.sheet)
+pub stands_name : (n : Root) (p : Part) (a b : State) (r : Result (Unit {0}) Refusal) → Stands n a.env p → is_well_formed_root n ≡ true → a.sheet.keeps_positions ≡ true → fills_lines a.sheet.lines ≡ false → (is_program n ≡ true → is_bounded a.env ≡ true → CanFill a) → Follows (p nothing) a b r → OnOk r (RecordsNames a.env.config (names_in (root_phrase n)) a.sheet b.sheet)
 stands_name n p a b r (inl h) w k flows fill f = printed_names p (root_phrase n) a b r h w k flows f
-stands_name n p a b r (inr h) w k flows fill f = lines_names p (root_phrase n) a b h w r k (fill h.bounded).flows (fill h.bounded).line_end f
+stands_name n p a b r (inr h) w k flows fill f = let can = fill h.0 h.1.bounded in lines_names p (root_phrase n) a b h.1 w r k can.flows can.line_end f
 
 -- where positions are kept, each name has its own where it begins
-pub root_names : (n : Root) (p : Part) (a b : State) (r : Result (Unit {0}) Error) → p ≡ root_items n → is_well_formed_root n ≡ true → a.sheet.keeps_positions ≡ true → a.env.keeps_invalid ≡ false → fills_lines a.sheet.lines ≡ false → (is_bounded a.env ≡ true → CanFill a) → Follows (p nothing) a b (in_short r) → OnOk r (RecordsNames a.env.config (names_in (root_phrase n)) a.sheet b.sheet)
-root_names n p a b r same w k e flows fill h = on_ok_in_short _ r (stands_name n p a b (in_short r) (stands n p a.env e same) w k flows fill h)
+pub root_names : (n : Root) (a b : State) (r : Outcome) → Follows (root_items n nothing) a b (in_short r) → RecordsEachName n a b r
+root_names n a b r h = λ w k e flows fill. on_ok_in_short _ r (stands_name n (root_items n) a b (in_short r) (root_stands a.env e n) w k flows fill h)
 
 stands_place : (n : Root) (p : Part) (a b : State) (r : Result (Unit {0}) Refusal) → Stands n a.env p → is_well_formed_root n ≡ true → MayBegin n a → AreClosed a.env.maps → a.sheet.keeps_positions ≡ true → Follows (p nothing) a b r → OnOk r (PlacesNames a.env.config (root_phrase n) (taken_remarks p a.env) a.sheet b.sheet)
 stands_place n p a b r (inl h) w s closed k f = printed_places (not (root_hashbang n)) p (root_phrase n) a b r s.is_new (margin n a s) closed h w k f
-stands_place n p a b r (inr h) w s closed k f = lines_place (not (root_hashbang n)) p (root_phrase n) a b h w s.is_new s.flows (margin n a s) closed r k f
+stands_place n p a b r (inr h) w s closed k f = lines_place (not (root_hashbang n)) p (root_phrase n) a b h.1 w s.is_new (s.flows h.0) (margin n a s) closed r k f
 
 -- of a new emitter, each name stands as its own token, with its position where it begins
-pub root_places : (n : Root) (p : Part) (a b : State) (r : Result (Unit {0}) Error) → p ≡ root_items n → is_well_formed_root n ≡ true → MayBegin n a → AreClosed a.env.maps → a.sheet.keeps_positions ≡ true → Follows (p nothing) a b (in_short r) → OnOk r (PlacesNames a.env.config (root_phrase n) (taken_remarks p a.env) a.sheet b.sheet)
-root_places n p a b r same w s closed k h = on_ok_in_short _ r (stands_place n p a b (in_short r) (stands n p a.env s.is_new.leaves_out same) w s closed k h)
-
-pub item_places : (n : ModuleItem AnyNode) (a b : State) (r : Result (Unit {0}) Error) → is_possible (stmt_lists.module_item phrase n) ≡ true → IsNew a → AreClosed a.env.maps → a.sheet.keeps_positions ≡ true → Follows (by_itself (λ place. module_item any_answers any_items n) nothing) a b (in_short r) → OnOk r (PlacesNames a.env.config (stmt_lists.module_item phrase n) (taken_remarks (by_itself (λ place. module_item any_answers any_items n)) a.env) a.sheet b.sheet)
-item_places n a b r w s closed k h = on_ok_in_short _ r (printed_places true _ (root_phrase (OfItem n)) a b (in_short r) s (λ e. absurd (true≢false e)) closed (item_prints n a.env s.leaves_out) w k h)
-
-pub module_places : (n : Module AnyNode) (a b : State) (r : Result (Unit {0}) Error) → is_well_formed (a_module n) ≡ true → MayBegin (OfModule n) a → AreClosed a.env.maps → a.sheet.keeps_positions ≡ true → Follows (by_itself (programs.whole_module any_answers any_items n) nothing) a b (in_short r) → OnOk r (PlacesNames a.env.config (program_phrase (a_module n)) (taken_remarks (by_itself (programs.whole_module any_answers any_items n)) a.env) a.sheet b.sheet)
-module_places n a b r w s closed k h = root_places (OfModule n) _ a b r refl w s closed k h
-
-pub script_places : (n : Script AnyNode) (a b : State) (r : Result (Unit {0}) Error) → is_well_formed (a_script n) ≡ true → MayBegin (OfScript n) a → AreClosed a.env.maps → a.sheet.keeps_positions ≡ true → Follows (by_itself (programs.script any_answers any_items n) nothing) a b (in_short r) → OnOk r (PlacesNames a.env.config (program_phrase (a_script n)) (taken_remarks (by_itself (programs.script any_answers any_items n)) a.env) a.sheet b.sheet)
-script_places n a b r w s closed k h = root_places (OfScript n) _ a b r refl w s closed k h
-
-pub program_places : (n : Program AnyNode) (a b : State) (r : Result (Unit {0}) Error) → is_well_formed n ≡ true → MayBegin (OfProgram n) a → AreClosed a.env.maps → a.sheet.keeps_positions ≡ true → Follows (by_itself (programs.program any_answers any_items n) nothing) a b (in_short r) → OnOk r (PlacesNames a.env.config (program_phrase n) (taken_remarks (by_itself (programs.program any_answers any_items n)) a.env) a.sheet b.sheet)
-program_places n a b r w s closed k h = root_places (OfProgram n) _ a b r refl w s closed k h
-
-pub item_names : (n : ModuleItem AnyNode) (a b : State) (r : Result (Unit {0}) Error) → is_possible (stmt_lists.module_item phrase n) ≡ true → a.sheet.keeps_positions ≡ true → a.env.keeps_invalid ≡ false → fills_lines a.sheet.lines ≡ false → Follows (by_itself (λ place. module_item any_answers any_items n) nothing) a b (in_short r) → OnOk r (RecordsNames a.env.config (names_in (stmt_lists.module_item phrase n)) a.sheet b.sheet)
-item_names n a b r w k e flows h = on_ok_in_short _ r (printed_names _ (root_phrase (OfItem n)) a b (in_short r) (item_prints n a.env e) w k flows h)
-
-pub module_names : (n : Module AnyNode) (a b : State) (r : Result (Unit {0}) Error) → is_well_formed (a_module n) ≡ true → a.sheet.keeps_positions ≡ true → a.env.keeps_invalid ≡ false → fills_lines a.sheet.lines ≡ false → (is_bounded a.env ≡ true → CanFill a) → Follows (by_itself (programs.whole_module any_answers any_items n) nothing) a b (in_short r) → OnOk r (RecordsNames a.env.config (names_in (program_phrase (a_module n))) a.sheet b.sheet)
-module_names n a b r w k e flows fill h = root_names (OfModule n) _ a b r refl w k e flows fill h
-
-pub script_names : (n : Script AnyNode) (a b : State) (r : Result (Unit {0}) Error) → is_well_formed (a_script n) ≡ true → a.sheet.keeps_positions ≡ true → a.env.keeps_invalid ≡ false → fills_lines a.sheet.lines ≡ false → (is_bounded a.env ≡ true → CanFill a) → Follows (by_itself (programs.script any_answers any_items n) nothing) a b (in_short r) → OnOk r (RecordsNames a.env.config (names_in (program_phrase (a_script n))) a.sheet b.sheet)
-script_names n a b r w k e flows fill h = root_names (OfScript n) _ a b r refl w k e flows fill h
-
-pub program_names : (n : Program AnyNode) (a b : State) (r : Result (Unit {0}) Error) → is_well_formed n ≡ true → a.sheet.keeps_positions ≡ true → a.env.keeps_invalid ≡ false → fills_lines a.sheet.lines ≡ false → (is_bounded a.env ≡ true → CanFill a) → Follows (by_itself (programs.program any_answers any_items n) nothing) a b (in_short r) → OnOk r (RecordsNames a.env.config (names_in (program_phrase n)) a.sheet b.sheet)
-program_names n a b r w k e flows fill h = root_names (OfProgram n) _ a b r refl w k e flows fill h
+pub root_places : (n : Root) (a b : State) (r : Outcome) → Follows (root_items n nothing) a b (in_short r) → PlacesEachName n a b r
+root_places n a b r h = λ w s closed k. on_ok_in_short _ r (stands_place n (root_items n) a b (in_short r) (root_stands a.env s.is_new.leaves_out n) w s closed k h)
 
 stands_ascii : (n : Root) (p : Part) (a b : State) (r : Result (Unit {0}) Refusal) → Stands n a.env p → is_well_formed_root n ≡ true → WantsAscii a → Follows (p nothing) a b r → OnOk r (AddsAscii (other_texts (steps_of (p nothing a.env))) a.sheet.text b.sheet.text)
 stands_ascii n p a b r (inl h) w s k = printed_ascii p (root_phrase n) a b r h w s k
-stands_ascii n p a b r (inr h) w s k = lines_ascii p (root_phrase n) a b h w r s k
+stands_ascii n p a b r (inr h) w s k = lines_ascii p (root_phrase n) a b h.1 w r s k
 
 -- under ASCII only what is added is ASCII, save what stands as it is
-pub root_ascii : (n : Root) (p : Part) (a b : State) (r : Result (Unit {0}) Error) → p ≡ root_items n → is_well_formed_root n ≡ true → WantsAscii a → Follows (p nothing) a b (in_short r) → OnOk r (AddsAscii (other_texts (steps_of (p nothing a.env))) a.sheet.text b.sheet.text)
-root_ascii n p a b r same w s h = on_ok_in_short _ r (stands_ascii n p a b (in_short r) (stands n p a.env s.leaves_out same) w s h)
-
-pub item_ascii : (n : ModuleItem AnyNode) (a b : State) (r : Result (Unit {0}) Error) → is_possible (stmt_lists.module_item phrase n) ≡ true → WantsAscii a → Follows (by_itself (λ place. module_item any_answers any_items n) nothing) a b (in_short r) → OnOk r (AddsAscii (other_texts (steps_of (by_itself (λ place. module_item any_answers any_items n) nothing a.env))) a.sheet.text b.sheet.text)
-item_ascii n a b r w s h = root_ascii (OfItem n) _ a b r refl w s h
-
-pub module_ascii : (n : Module AnyNode) (a b : State) (r : Result (Unit {0}) Error) → is_well_formed (a_module n) ≡ true → WantsAscii a → Follows (by_itself (programs.whole_module any_answers any_items n) nothing) a b (in_short r) → OnOk r (AddsAscii (other_texts (steps_of (by_itself (programs.whole_module any_answers any_items n) nothing a.env))) a.sheet.text b.sheet.text)
-module_ascii n a b r w s h = root_ascii (OfModule n) _ a b r refl w s h
-
-pub script_ascii : (n : Script AnyNode) (a b : State) (r : Result (Unit {0}) Error) → is_well_formed (a_script n) ≡ true → WantsAscii a → Follows (by_itself (programs.script any_answers any_items n) nothing) a b (in_short r) → OnOk r (AddsAscii (other_texts (steps_of (by_itself (programs.script any_answers any_items n) nothing a.env))) a.sheet.text b.sheet.text)
-script_ascii n a b r w s h = root_ascii (OfScript n) _ a b r refl w s h
-
-pub program_ascii : (n : Program AnyNode) (a b : State) (r : Result (Unit {0}) Error) → is_well_formed n ≡ true → WantsAscii a → Follows (by_itself (programs.program any_answers any_items n) nothing) a b (in_short r) → OnOk r (AddsAscii (other_texts (steps_of (by_itself (programs.program any_answers any_items n) nothing a.env))) a.sheet.text b.sheet.text)
-program_ascii n a b r w s h = root_ascii (OfProgram n) _ a b r refl w s h
+pub root_ascii : (n : Root) (a b : State) (r : Outcome) → Follows (root_items n nothing) a b (in_short r) → AddsOnlyAscii n a b r
+root_ascii n a b r h = λ w s. on_ok_in_short _ r (stands_ascii n (root_items n) a b (in_short r) (root_stands a.env s.leaves_out n) w s h)
 
 stands_safe : (n : Root) (p : Part) (a b : State) (r : Result (Unit {0}) Refusal) → Stands n a.env p → is_well_formed_root n ≡ true → a.env.config.inline_script ≡ true → fills_lines a.sheet.lines ≡ false → Follows (p nothing) a b r → OnOk r (AddsSafe (value_strings (steps_of (p nothing a.env))) a.sheet.text b.sheet.text)
 stands_safe n p a b r (inl h) w i flows k = printed_safe p (root_phrase n) a b r h w i flows k
-stands_safe n p a b r (inr h) w i flows k = lines_safe p (root_phrase n) a b h w r i flows k
+stands_safe n p a b r (inr h) w i flows k = lines_safe p (root_phrase n) a b h.1 w r i flows k
 
 -- under `inline_script` each string that is printed by its value is safe inside a script
-pub root_safe : (n : Root) (p : Part) (a b : State) (r : Result (Unit {0}) Error) → p ≡ root_items n → is_well_formed_root n ≡ true → a.env.config.inline_script ≡ true → a.env.keeps_invalid ≡ false → fills_lines a.sheet.lines ≡ false → Follows (p nothing) a b (in_short r) → OnOk r (AddsSafe (value_strings (steps_of (p nothing a.env))) a.sheet.text b.sheet.text)
-root_safe n p a b r same w i e flows h = on_ok_in_short _ r (stands_safe n p a b (in_short r) (stands n p a.env e same) w i flows h)
-
-pub item_safe : (n : ModuleItem AnyNode) (a b : State) (r : Result (Unit {0}) Error) → is_possible (stmt_lists.module_item phrase n) ≡ true → a.env.config.inline_script ≡ true → a.env.keeps_invalid ≡ false → fills_lines a.sheet.lines ≡ false → Follows (by_itself (λ place. module_item any_answers any_items n) nothing) a b (in_short r) → OnOk r (AddsSafe (value_strings (steps_of (by_itself (λ place. module_item any_answers any_items n) nothing a.env))) a.sheet.text b.sheet.text)
-item_safe n a b r w i e flows h = root_safe (OfItem n) _ a b r refl w i e flows h
-
-pub module_safe : (n : Module AnyNode) (a b : State) (r : Result (Unit {0}) Error) → is_well_formed (a_module n) ≡ true → a.env.config.inline_script ≡ true → a.env.keeps_invalid ≡ false → fills_lines a.sheet.lines ≡ false → Follows (by_itself (programs.whole_module any_answers any_items n) nothing) a b (in_short r) → OnOk r (AddsSafe (value_strings (steps_of (by_itself (programs.whole_module any_answers any_items n) nothing a.env))) a.sheet.text b.sheet.text)
-module_safe n a b r w i e flows h = root_safe (OfModule n) _ a b r refl w i e flows h
-
-pub script_safe : (n : Script AnyNode) (a b : State) (r : Result (Unit {0}) Error) → is_well_formed (a_script n) ≡ true → a.env.config.inline_script ≡ true → a.env.keeps_invalid ≡ false → fills_lines a.sheet.lines ≡ false → Follows (by_itself (programs.script any_answers any_items n) nothing) a b (in_short r) → OnOk r (AddsSafe (value_strings (steps_of (by_itself (programs.script any_answers any_items n) nothing a.env))) a.sheet.text b.sheet.text)
-script_safe n a b r w i e flows h = root_safe (OfScript n) _ a b r refl w i e flows h
-
-pub program_safe : (n : Program AnyNode) (a b : State) (r : Result (Unit {0}) Error) → is_well_formed n ≡ true → a.env.config.inline_script ≡ true → a.env.keeps_invalid ≡ false → fills_lines a.sheet.lines ≡ false → Follows (by_itself (programs.program any_answers any_items n) nothing) a b (in_short r) → OnOk r (AddsSafe (value_strings (steps_of (by_itself (programs.program any_answers any_items n) nothing a.env))) a.sheet.text b.sheet.text)
-program_safe n a b r w i e flows h = root_safe (OfProgram n) _ a b r refl w i e flows h
+pub root_safe : (n : Root) (a b : State) (r : Outcome) → Follows (root_items n nothing) a b (in_short r) → AddsSafeStrings n a b r
+root_safe n a b r h = λ w i e flows. on_ok_in_short _ r (stands_safe n (root_items n) a b (in_short r) (root_stands a.env e n) w i flows h)
 
 -- where lines are bounded, those of a module or script are filled
-stands_fill : (n : Root) (p : Part) (a b : State) (r : Result (Unit {0}) Refusal) (max : ℕ) → p ≡ root_items n → is_program n ≡ true → is_well_formed_root n ≡ true → a.env.config.minify ≡ true → a.env.max_line ≡ Some max → a.env.keeps_invalid ≡ false → CanFill a → Follows (p nothing) a b r → OnOk r (FillsLinesOf max (root_at n) a b.sheet)
+fill : (n : Root) (a b : State) (r : Result (Unit {0}) Refusal) (max : ℕ) → is_program n ≡ true → is_well_formed_root n ≡ true → a.env.config.minify ≡ true → a.env.max_line ≡ Some max → a.env.keeps_invalid ≡ false → CanFill a → Follows (root_items n nothing) a b r → OnOk r (FillsLinesOf max (root_at n) a b.sheet)
 unfolding program_in
-stands_fill n p a b r max same whole w m l e fill k =
+fill n a b r max whole w m l e can k =
     let here = program_in a.env max e n whole (bounded_at a.env max m l) (alone_at a.env max m l) in
-    lines_fill (root_items n) (root_phrase n) a b here w r fill.flows fill.line_end (subst (λ z. Follows (z nothing) a b r) same k)
+    lines_fill (root_items n) (root_phrase n) a b here w r can.flows can.line_end k
 
-pub root_fills : (n : Root) (p : Part) (a b : State) (r : Result (Unit {0}) Error) (max : ℕ) → p ≡ root_items n → is_program n ≡ true → is_well_formed_root n ≡ true → a.env.config.minify ≡ true → a.env.max_line ≡ Some max → a.env.keeps_invalid ≡ false → CanFill a → Follows (p nothing) a b (in_short r) → OnOk r (FillsLinesOf max (root_at n) a b.sheet)
-root_fills n p a b r max same whole w m l e fill h = on_ok_in_short _ r (stands_fill n p a b (in_short r) max same whole w m l e fill h)
-
-pub module_fills : (n : Module AnyNode) (a b : State) (r : Result (Unit {0}) Error) (max : ℕ) → is_well_formed (a_module n) ≡ true → a.env.config.minify ≡ true → a.env.max_line ≡ Some max → a.env.keeps_invalid ≡ false → CanFill a → Follows (by_itself (programs.whole_module any_answers any_items n) nothing) a b (in_short r) → OnOk r (FillsLinesOf max (programs.whole_module any_answers any_items n) a b.sheet)
-module_fills n a b r max w m l e fill h = root_fills (OfModule n) _ a b r max refl refl w m l e fill h
-
-pub script_fills : (n : Script AnyNode) (a b : State) (r : Result (Unit {0}) Error) (max : ℕ) → is_well_formed (a_script n) ≡ true → a.env.config.minify ≡ true → a.env.max_line ≡ Some max → a.env.keeps_invalid ≡ false → CanFill a → Follows (by_itself (programs.script any_answers any_items n) nothing) a b (in_short r) → OnOk r (FillsLinesOf max (programs.script any_answers any_items n) a b.sheet)
-script_fills n a b r max w m l e fill h = root_fills (OfScript n) _ a b r max refl refl w m l e fill h
-
-pub program_fills : (n : Program AnyNode) (a b : State) (r : Result (Unit {0}) Error) (max : ℕ) → is_well_formed n ≡ true → a.env.config.minify ≡ true → a.env.max_line ≡ Some max → a.env.keeps_invalid ≡ false → CanFill a → Follows (by_itself (programs.program any_answers any_items n) nothing) a b (in_short r) → OnOk r (FillsLinesOf max (programs.program any_answers any_items n) a b.sheet)
-program_fills n a b r max w m l e fill h = root_fills (OfProgram n) _ a b r max refl refl w m l e fill h
+pub root_fills : (n : Root) (a b : State) (r : Outcome) → Follows (root_items n nothing) a b (in_short r) → FillsItsLines n a b r
+root_fills n a b r h = λ max whole w m l e can. on_ok_in_short _ r (fill n a b (in_short r) max whole w m l e can h)
 
 stands_keep : (n : Root) (p : Part) (env : Env) → Stands n env p → is_well_formed_root n ≡ true → is_out env.config (root_phrase n) ≡ false → may_keep_other (root_phrase n) ≡ false → other_texts (steps_of (p nothing env)) ≡ spoken (steps_of (p nothing env))
 stands_keep n p env (inl h) w o none = none_other (steps_of (p nothing env)) (printed_keeps p (root_phrase n) env h w o none)
-stands_keep n p env (inr h) w o none = lines_keep p (root_phrase n) env h w o none
+stands_keep n p env (inr h) w o none = lines_keep p (root_phrase n) env h.1 w o none
 
 -- only texts of comments aren't ASCII, where no token is in the tree that stands as it is and isn't
 pub root_keeps : (n : Root) (s : State) → is_well_formed_root n ≡ true → s.env.keeps_invalid ≡ false → is_out s.env.config (root_phrase n) ≡ false → may_keep_other (root_phrase n) ≡ false → other_texts (steps_of (steps_in (root_items n) s)) ≡ spoken (steps_of (steps_in (root_items n) s))
@@ -276,33 +197,21 @@ holding_is_new lines maps config bytes line_end h = record { nothing_written = r
 
 -- what a new emitter over a new writer begins may be any root
 pub new_begins : (n : Root) (lines : Lines) (maps : Maps) (config : Config) (bytes line_end : List ℕ) → IsLineEnd line_end → MayBegin n (start lines maps config (new_sheet bytes line_end))
-new_begins n lines maps config bytes line_end h = record { is_new = new_is_new lines maps config bytes line_end h; flows = refl; at_margin = λ e at. refl }
+new_begins n lines maps config bytes line_end h = record { is_new = new_is_new lines maps config bytes line_end h; flows = λ whole. refl; at_margin = λ e at. refl }
 
 pub indented_begins : (n : Root) (lines : Lines) (maps : Maps) (config : Config) (bytes line_end indent : List ℕ) → IsLineEnd line_end → all_indent indent ≡ true → MayBegin n (start lines maps config (record (new_sheet bytes line_end) { indent_text = indent }))
-indented_begins n lines maps config bytes line_end indent h k = record { is_new = indented_is_new lines maps config bytes line_end indent h k; flows = refl; at_margin = λ e at. refl }
+indented_begins n lines maps config bytes line_end indent h k = record { is_new = indented_is_new lines maps config bytes line_end indent h k; flows = λ whole. refl; at_margin = λ e at. refl }
 
 pub holding_begins : (n : Root) (lines : Lines) (maps : Maps) (config : Config) (bytes line_end : List ℕ) → IsLineEnd line_end → MayBegin n (start lines maps config (record (new_sheet bytes line_end) { semicolons = HoldsNone }))
-holding_begins n lines maps config bytes line_end h = record { is_new = holding_is_new lines maps config bytes line_end h; flows = refl; at_margin = λ e at. refl }
+holding_begins n lines maps config bytes line_end h = record { is_new = holding_is_new lines maps config bytes line_end h; flows = λ whole. refl; at_margin = λ e at. refl }
 
 -- what an emission took it wrote, once, in order of taking
-told : (n : Root) (p : Part) (a b : State) (r : Result (Unit {0}) Refusal) → p ≡ root_items n → is_well_formed_root n ≡ true → a.env.keeps_invalid ≡ false → Follows (p nothing) a b r → OnOk r (spoken (steps_of (p nothing a.env)) ≡ texts_of (taken_in (steps_of (p nothing a.env)) a.env.maps))
+told : (n : Root) (a b : State) (r : Result (Unit {0}) Refusal) → is_well_formed_root n ≡ true → a.env.keeps_invalid ≡ false → Follows (root_items n nothing) a b r → OnOk r (spoken (steps_of (steps_in (root_items n) a)) ≡ texts_of (taken_in (steps_of (steps_in (root_items n) a)) a.env.maps))
 unfolding Follows
-told n p a b (Ok u) same w e h =
-    let here = stands n p a.env e same in
-    stands_tell n p a.env here w (stands_not_out n p a.env here w h.0)
-told n p a b (Err x) same w e h = tt
+told n a b (Ok u) w e h =
+    let here = root_stands a.env e n in
+    stands_tell n (root_items n) a.env here w (stands_not_out n (root_items n) a.env here w h.0)
+told n a b (Err x) w e h = tt
 
-pub root_told : (n : Root) (p : Part) (a b : State) (r : Result (Unit {0}) Error) → p ≡ root_items n → is_well_formed_root n ≡ true → a.env.keeps_invalid ≡ false → Follows (p nothing) a b (in_short r) → OnOk r (spoken (steps_of (p nothing a.env)) ≡ texts_of (taken_in (steps_of (p nothing a.env)) a.env.maps))
-root_told n p a b r same w e h = on_ok_in_short _ r (told n p a b (in_short r) same w e h)
-
-pub item_told : (n : ModuleItem AnyNode) (a b : State) (r : Result (Unit {0}) Error) → is_possible (stmt_lists.module_item phrase n) ≡ true → a.env.keeps_invalid ≡ false → Follows (by_itself (λ place. module_item any_answers any_items n) nothing) a b (in_short r) → OnOk r (spoken (steps_of (by_itself (λ place. module_item any_answers any_items n) nothing a.env)) ≡ texts_of (taken_in (steps_of (by_itself (λ place. module_item any_answers any_items n) nothing a.env)) a.env.maps))
-item_told n a b r w e h = root_told (OfItem n) _ a b r refl w e h
-
-pub module_told : (n : Module AnyNode) (a b : State) (r : Result (Unit {0}) Error) → is_well_formed (a_module n) ≡ true → a.env.keeps_invalid ≡ false → Follows (by_itself (programs.whole_module any_answers any_items n) nothing) a b (in_short r) → OnOk r (spoken (steps_of (by_itself (programs.whole_module any_answers any_items n) nothing a.env)) ≡ texts_of (taken_in (steps_of (by_itself (programs.whole_module any_answers any_items n) nothing a.env)) a.env.maps))
-module_told n a b r w e h = root_told (OfModule n) _ a b r refl w e h
-
-pub script_told : (n : Script AnyNode) (a b : State) (r : Result (Unit {0}) Error) → is_well_formed (a_script n) ≡ true → a.env.keeps_invalid ≡ false → Follows (by_itself (programs.script any_answers any_items n) nothing) a b (in_short r) → OnOk r (spoken (steps_of (by_itself (programs.script any_answers any_items n) nothing a.env)) ≡ texts_of (taken_in (steps_of (by_itself (programs.script any_answers any_items n) nothing a.env)) a.env.maps))
-script_told n a b r w e h = root_told (OfScript n) _ a b r refl w e h
-
-pub program_told : (n : Program AnyNode) (a b : State) (r : Result (Unit {0}) Error) → is_well_formed n ≡ true → a.env.keeps_invalid ≡ false → Follows (by_itself (programs.program any_answers any_items n) nothing) a b (in_short r) → OnOk r (spoken (steps_of (by_itself (programs.program any_answers any_items n) nothing a.env)) ≡ texts_of (taken_in (steps_of (by_itself (programs.program any_answers any_items n) nothing a.env)) a.env.maps))
-program_told n a b r w e h = root_told (OfProgram n) _ a b r refl w e h
+pub root_told : (n : Root) (a b : State) (r : Outcome) → Follows (root_items n nothing) a b (in_short r) → WritesTaken n a r
+root_told n a b r h = λ w e. on_ok_in_short _ r (told n a b (in_short r) w e h)

@@ -38,3 +38,4 @@ pub mod Namespaces
 pub mod Texts
 pub mod Roots
 pub mod Lined
+pub mod Emission

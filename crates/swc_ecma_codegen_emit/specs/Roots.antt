@@ -83,8 +83,9 @@ root_hashbang (OfScript n) = is_some n.shebang
 root_hashbang (OfProgram n) = has_hashbang n
 root_hashbang n = false
 
--- An emission begins where the root may stand: what is written goes out at once, and one with a hashbang stands first of all in a text.
+-- An emission begins where the root may stand: what is written of a module or script goes out at once, and one with a hashbang stands first of
+-- all in a text.
 pub record MayBegin (n : Root) (s : State) : Type 0 where
   pub is_new : IsNew s
-  pub flows : s.sheet.lines ≡ Flowing
+  pub flows : is_program n ≡ true → s.sheet.lines ≡ Flowing
   pub at_margin : root_hashbang n ≡ true → IsAtMargin s

@@ -1,5 +1,5 @@
 -- A text that is made in memory.
-use Rattle.std.specs.Prelude.{◌≡◌, ◌⊎◌, ℕ, Bool, true, false, if◌then◌else◌, List, [], ◌∷◌, Err}
+use Rattle.std.specs.Prelude.{◌≡◌, ◌⊎◌, ℕ, Bool, true, false, if◌then◌else◌, List, [], ◌∷◌, Ok, Err}
 use Rattle.swc_ecma_codegen_common.specs.declared.errors.Error.{Error}
 use Rattle.swc_ecma_codegen_common.specs.declared.errors.Error.TheVariants.{Writer}
 use Rattle.swc_ecma_codegen_common.specs.Refusals.{reason_of}
@@ -32,6 +32,10 @@ IsOfWriter e = ⊥
 -- an emission of a part from a state can end with an error
 abbrev pub GivesCause : Part → State → Error → Type 0
 GivesCause part a error = (b : State) × Follows (part nothing) a b (Err (reason_of error))
+
+-- An emission of a part from a state comes to its end: it meets no node that can't be printed.
+abbrev pub IsPrinted : Part → State → Type 0
+IsPrinted part a = Follows (part nothing) a (printed part a) (Ok tt)
 
 -- ---- a text with its positions
 

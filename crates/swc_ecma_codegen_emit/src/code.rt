@@ -17,7 +17,7 @@ ghost use Rattle.swc_ecma_codegen_text_writer.specs.View.{sheet_of};
 ghost use Rattle.swc_ecma_codegen_grammar.specs.Phrases.{names_in};
 ghost use Rattle.swc_ecma_codegen_tokens.specs.Named.{NamesStand};
 ghost use Rattle.swc_ecma_codegen_tokens.specs.Run.{steps_in, unlined, unprintable_in};
-ghost use Rattle.swc_ecma_codegen_emit.specs.Texts.{blank_sheet, sheet_with, start_with, text_of, text_over, unheld, with_last, GivesCause, GivesCauseOrLast, IsOfWriter};
+ghost use Rattle.swc_ecma_codegen_emit.specs.Texts.{blank_sheet, sheet_with, start_with, text_of, text_over, unheld, with_last, GivesCause, GivesCauseOrLast, IsOfWriter, IsPrinted};
 
 use crate::emitter::Emitter;
 use crate::node::Node;
@@ -39,6 +39,8 @@ fn print_to<N: Node, S: SourceMapper, C: Comments + Drop, W: WriteJs + Drop>(
     ensures sheet { IfOk result (λ w. W.sheet w
         ≡ (printed (N.part node.now) (start (S.lines cm.now) (maps_in C.maps comments)
         default_config (W.sheet wr))).sheet) }
+    ensures printed { IfOk result (λ w. IsPrinted (N.part node.now)
+        (start (S.lines cm.now) (maps_in C.maps comments) default_config (W.sheet wr))) }
     ensures cause { IfErr result (GivesCause (N.part node.now)
         (start (S.lines cm.now) (maps_in C.maps comments) default_config (W.sheet wr))) }
 {
@@ -58,6 +60,9 @@ pub fn to_code_default<N: Node, S: SourceMapper, C: Comments + Drop>(
 ) -> std::result::Result<String, Error>
     ensures text { IfOk result (λ text. string_bytes text
         ≡ text_over (S.lines cm.now) (maps_in C.maps comments) (N.part node.now)) }
+    // Its steps were made: what a root's steps do, `swc_ecma_codegen_laws::emissions_of_roots` says.
+    ensures printed { IfOk result (λ text. IsPrinted (N.part node.now)
+        (start (S.lines cm.now) (maps_in C.maps comments) default_config blank_sheet)) }
     // Where each comment can be read back, the text of a well-formed tree is UTF-8, and reads as one of the tree's token lists
     // with the comments that were taken between the tokens, in order.
     ensures reads { (root : Root) → N.part node.now ≡ root_items root →
@@ -92,6 +97,8 @@ pub fn to_code_with_comments<N: Node, C: Comments + Drop>(
 ) -> std::result::Result<String, Error>
     ensures text { IfOk result (λ text. string_bytes text
         ≡ text_over no_lines (maps_in C.maps comments) (N.part node.now)) }
+    ensures printed { IfOk result (λ text. IsPrinted (N.part node.now)
+        (start no_lines (maps_in C.maps comments) default_config blank_sheet)) }
     // Where each comment can be read back, the text of a well-formed tree reads as one of the tree's token lists with the
     // comments that were taken between the tokens, in order.
     ensures reads { (root : Root) → N.part node.now ≡ root_items root →
@@ -115,6 +122,8 @@ pub fn to_code_with_comments<N: Node, C: Comments + Drop>(
 #[tactic(auto, unfolding(swc_ecma_codegen_grammar::specs::Comments::maps_in))]
 pub fn to_code<N: Node>(alloc: Global, node: &N) -> std::result::Result<String, Error>
     ensures text { IfOk result (λ text. string_bytes text ≡ text_of (N.part node.now)) }
+    ensures printed { IfOk result (λ text. IsPrinted (N.part node.now)
+        (start no_lines no_maps default_config blank_sheet)) }
     // The text of a well-formed tree is UTF-8, and reads as one of the tree's token lists, with no comments.
     ensures reads { (root : Root) → N.part node.now ≡ root_items root →
         is_well_formed_root root ≡ true →
@@ -220,6 +229,9 @@ pub fn to_code_with_positions<N: Node, S: SourceMapper, C: Comments + Drop>(
 ) -> std::result::Result<(String, Vec<(BytePos, LineCol)>), Error>
     ensures text { IfOk result (λ made. string_bytes made.0
         ≡ (sheet_with (S.lines cm.now) (maps_in C.maps comments) cfg (N.part node.now)).text) }
+    // Its steps were made: what a root's steps do, `swc_ecma_codegen_laws::emissions_of_roots` says.
+    ensures printed { IfOk result (λ made. IsPrinted (N.part node.now)
+        (start_with (S.lines cm.now) (maps_in C.maps comments) cfg)) }
     // The list is that of the sheet.
     ensures positions { IfOk result (λ made. made.1.items
         ≡ (sheet_with (S.lines cm.now) (maps_in C.maps comments) cfg (N.part node.now)).pairs) }

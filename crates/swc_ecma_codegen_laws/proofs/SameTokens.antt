@@ -15,7 +15,7 @@ use Rattle.swc_ecma_codegen_util.specs.declared.config.Config.{Config}
 use Rattle.swc_ecma_codegen_tokens.specs.Run.{Env, State, Step, Follows, nothing, run, steps_of}
 use Rattle.swc_ecma_codegen_tokens.specs.Settings.{settings_of}
 use Rattle.swc_ecma_codegen_tokens.specs.Written.{ReadsAs, IsNew, IsAtMargin, AddsReading, AddsText, taken_remarks}
-use Rattle.swc_ecma_codegen_emit.specs.Roots.{Root, root_items, root_phrase, is_well_formed_root, MayBegin}
+use Rattle.swc_ecma_codegen_emit.specs.Roots.{Root, is_program, root_items, root_phrase, is_well_formed_root, MayBegin}
 use Rattle.swc_ecma_codegen_tokens.specs.Targets.{is_out}
 use Rattle.swc_ecma_codegen_tokens.proofs.CutReads.{cut_reads}
 use Rattle.swc_ecma_codegen_tokens.proofs.Filled.{filled, run_calls, steps_fill}
@@ -42,9 +42,9 @@ pub emissions_alike : (root : Root) (a b c d : State) → is_well_formed_root ro
     → Follows (root_items root nothing) a b (Ok tt) → Follows (root_items root nothing) c d (Ok tt)
     → AddTokensAlike c.env.config (root_phrase root) (taken_remarks (root_items root) a.env) (taken_remarks (root_items root) c.env) a.sheet b.sheet c.sheet d.sheet
 emissions_alike root a b c d w s t k m e f g =
-    let x = root_reads root (root_items root) a b (Ok tt) refl w s k f in
+    let x = root_reads root a b (Ok tt) f w s k in
     let one = subst (λ z. AddsReading z (root_phrase root) (taken_remarks (root_items root) a.env) a.sheet b.sheet) e x in
-    let other = root_reads root (root_items root) c d (Ok tt) refl w t m g in
+    let other = root_reads root c d (Ok tt) g w t m in
     record {
       one = one;
       other = other;
@@ -122,8 +122,8 @@ cut_new : (s : State) → IsNew s → IsNew (cut_state s)
 cut_new s n = record { nothing_written = n.nothing_written; nothing_held = n.nothing_held; indent_text = n.indent_text; line_end = n.line_end; flowing = refl; leaves_out = n.leaves_out }
 
 -- in lines: the text is cut where lines may be ended, and reads as without
-lined_adds : (root : Root) (env : Env) → is_well_formed_root root ≡ true → is_out env.config (root_phrase root) ≡ false → AreClosed env.maps → InLines (root_shape root) env (root_items root) (root_phrase root) → AddsOne root env (steps_of (root_items root nothing env))
-lined_adds root env w o k lines =
+lined_adds : (root : Root) (env : Env) → is_program root ≡ true → is_well_formed_root root ≡ true → is_out env.config (root_phrase root) ≡ false → AreClosed env.maps → InLines (root_shape root) env (root_items root) (root_phrase root) → AddsOne root env (steps_of (root_items root nothing env))
+lined_adds root env program w o k lines =
     let config : Config = env.config in
     let f : Phrase = root_phrase root in
     let h = lines.prints.where_possible w o env.maps in
@@ -137,7 +137,7 @@ lined_adds root env w o k lines =
       each = λ s t.
           let c : State = cut_state s in
           let new = cut_new s t.is_new in
-          let fills = steps_fill lines.max steps s h.writes.inner t.is_new t.flows in
+          let fills = steps_fill lines.max steps s h.writes.inner t.is_new (t.flows program) in
           let cut = ap (λ (z : Sheet). z.lines) (run_calls steps c) ∙ fills.cut in
           let x = cut_reads (not (root_hashbang root)) config f h.tokens c (run steps c) h.generated new (margin root s t) (h.writes.lays c (new_at_rest c new) (taken_closed steps env.maps k)) fills.done fills.begun refl cut fills.first fills.parts fills.segments in
           let there : AddsThese config f (remarks_by steps env) h.tokens s.sheet (run (filled lines.max steps) s).sheet =
@@ -148,7 +148,7 @@ lined_adds root env w o k lines =
 root_adds : (root : Root) (env : Env) → env.keeps_invalid ≡ false → is_well_formed_root root ≡ true → is_out env.config (root_phrase root) ≡ false → AreClosed env.maps → AddsOne root env (steps_of (root_items root nothing env))
 root_adds root env e w o k = elim (root_stands env e root) [
   | inl prints ↦ plain_adds root env w o k prints
-  | inr lines ↦ lined_adds root env w o k lines
+  | inr lines ↦ lined_adds root env lines.0 w o k lines.1
 ]
 
 pub emissions_same : (root : Root) (a b c d : State) → is_well_formed_root root ≡ true → MayBegin root a → MayBegin root c → AreClosed a.env.maps → a.env ≡ c.env

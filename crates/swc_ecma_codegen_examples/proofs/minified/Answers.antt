@@ -26,7 +26,7 @@ returns-clause-reads g c = λ root same well.
     let begun : held ≡ blank =
     c.omit_trailing_semi.ensures ∙ ap (λ (s : Sheet). record s { semicolons = HoldsNone }) (c.new-writer.ensures.sheet refl ∙ ap (λ t. new_sheet t (10 ∷ [])) c.new.ensures.items) in
     let fresh : MayBegin root (start no_lines no_maps config held) =
-    subst (λ s. MayBegin root (start no_lines no_maps config s)) (sym begun) (record { is_new = record { nothing_written = refl; nothing_held = refl; indent_text = refl; line_end = inl refl; leaves_out = refl; flowing = refl }; flows = refl; at_margin = λ hashbang line. refl }) in
+    subst (λ s. MayBegin root (start no_lines no_maps config s)) (sym begun) (record { is_new = record { nothing_written = refl; nothing_held = refl; indent_text = refl; line_end = inl refl; leaves_out = refl; flowing = refl }; flows = λ whole. refl; at_margin = λ hashbang line. refl }) in
     let added : AddsReading (unlined config) phrase [] blank end = subst (λ s. AddsReading (unlined config) phrase [] s end) begun (c.in_ok-printed.ensures.reads root same well fresh) in
     let all : c.into_inner.result.items ≡ end.text = ap told (c.into_inner.ensures.text refl) ∙ ap (λ (s : Sheet). s.text) c.into_inner-plain.ensures.sheet in
     let reading = subst (λ t. ReadsAs (unlined config) true phrase [] t) (sym (all ∙ added.is_added)) added.reading in

@@ -10,7 +10,7 @@ use Rattle.swc_ecma_codegen_text_writer.specs.Told.{told}
 use Rattle.swc_ecma_codegen_text_writer.specs.View.{sheet_of, new_sheet}
 use Rattle.swc_ecma_codegen_tokens.specs.Run.{State, maps_after, start, steps_in, steps_of}
 use Rattle.swc_ecma_codegen_tokens.specs.Written.{AddsReading, ReadsAs, taken_remarks}
-use Rattle.swc_ecma_codegen_emit.specs.Roots.{root_phrase, MayBegin}
+use Rattle.swc_ecma_codegen_emit.specs.Roots.{root_items, root_phrase, MayBegin}
 use Rattle.swc_ecma_codegen_emit.specs.Texts.{blank_sheet, GivesCause}
 use Rattle.swc_ecma_codegen_emit.proofs.TreeReads.{new_begins}
 use Rattle.swc_ecma_codegen_examples.specs.Causes.{commented_start}
@@ -24,17 +24,17 @@ begins maps s config sheet h e f = h ∙ ap (λ k. start no_lines maps k sheet) 
 pub returns-clause-reads : goal.returns-clause-reads
 unfolding maps_in
 returns-clause-reads g c = λ root same well closed.
-    let part = g.P.Node.part c.args.node.now in
     let maps = g.C.Comments.maps c.args.comments in
-    let remarks = taken_remarks part (commented_start maps).env in
+    let remarks = taken_remarks (root_items root) (commented_start maps).env in
     let end = sheet_of c.emit_with.new.e.wr in
     let begun = begins maps _ _ _ c.new-emitter.ensures.state c.default.ensures (c.new-writer.ensures.sheet refl ∙ ap (λ t. new_sheet t (10 ∷ [])) c.new.ensures.items) in
     let fresh = subst (MayBegin root) (sym begun) (new_begins root no_lines maps default_config [] (10 ∷ []) (inl refl)) in
     let added : AddsReading default_config (root_phrase root) remarks blank_sheet end =
-    subst (λ (s : State). AddsReading s.env.config (root_phrase root) (taken_remarks part s.env) s.sheet end) begun
+    subst (λ (s : State). AddsReading s.env.config (root_phrase root) (taken_remarks (root_items root) s.env) s.sheet end) begun
     (c.in_ok-emit_with.ensures.reads root same well fresh (subst (λ (s : State). AreClosed s.env.maps) (sym begun) closed)) in
     let all : c.into_inner.result.items ≡ end.text = ap told (c.into_inner.ensures.text refl) in
-    subst (λ t. ReadsAs default_config false (root_phrase root) remarks t) (sym (all ∙ added.is_added)) added.reading
+    let reading = subst (λ t. ReadsAs default_config false (root_phrase root) remarks t) (sym (all ∙ added.is_added)) added.reading in
+    subst (λ p. ReadsAs default_config false (root_phrase root) (taken_remarks p (commented_start maps).env) c.into_inner.result.items) (sym same) reading
 
 -- those that are left in the emitter are given back
 pub returns-clause-left : goal.returns-clause-left

@@ -19,7 +19,7 @@ returns-clause-reads g c = λ root same well.
     let blank : Sheet = keeping c.args.pairs.now.items blank_sheet in
     let begun : sheet_of c.new-writer.result ≡ blank = c.new-writer.ensures.positions _ refl ∙ ap (λ t. keeping c.args.pairs.now.items (new_sheet t (10 ∷ []))) c.new.ensures.items in
     let fresh : MayBegin root (start no_lines no_maps c.default.result (sheet_of c.new-writer.result)) =
-    subst (λ s. MayBegin root (start no_lines no_maps c.default.result s)) (sym begun) (record { is_new = record { nothing_written = refl; nothing_held = refl; indent_text = refl; line_end = inl refl; leaves_out = refl; flowing = refl }; flows = refl; at_margin = λ hashbang line. refl }) in
+    subst (λ s. MayBegin root (start no_lines no_maps c.default.result s)) (sym begun) (record { is_new = record { nothing_written = refl; nothing_held = refl; indent_text = refl; line_end = inl refl; leaves_out = refl; flowing = refl }; flows = λ whole. refl; at_margin = λ hashbang line. refl }) in
     let added = subst (λ s. IfOk c.printed_on.result (λ writer. AddsReading (unlined c.default.result) (root_phrase root) [] s (sheet_of writer))) begun (c.printed_on.ensures.reads root same well fresh) in
     let over = subst (λ k. IfOk c.printed_on.result (λ writer. AddsReading (unlined k) (root_phrase root) [] blank (sheet_of writer))) c.default.ensures added in
     IfOk-weaker c.printed_on.result _ _ (λ writer (h : AddsReading default_config (root_phrase root) [] blank (sheet_of writer)). subst (λ t. ReadsAs default_config false (root_phrase root) [] t) (sym h.is_added) h.reading) over

@@ -5,14 +5,14 @@ use Rattle.swc_ecma_codegen_tokens.proofs.NoneTaken.{no_maps_bare, no_maps_close
 use Rattle.swc_ecma_codegen_tokens.specs.Run.{State, start, unlined}
 use Rattle.swc_ecma_codegen_tokens.specs.Written.{AddsReading, taken_remarks}
 use Rattle.swc_ecma_codegen_text_writer.specs.Recorded.{RecordsTruly}
-use Rattle.swc_ecma_codegen_emit.specs.Roots.{root_phrase, MayBegin}
+use Rattle.swc_ecma_codegen_emit.specs.Roots.{root_items, root_phrase, MayBegin}
 use Rattle.swc_ecma_codegen_examples.proofs.printed_on.Goals as goal
 
 -- a new emitter stands at the start, over the sheet that was handed in, under these settings and without comments, of which it takes none
 pub returns-clause-reads : goal.returns-clause-reads
 unfolding maps_in
 returns-clause-reads g c = λ root same well fresh.
-    let part = g.P.Node.part c.args.node.now in
+    let part = root_items root in
     let old = g.W.WriteJs.sheet c.args.wr in
     let end = g.W.WriteJs.sheet c.emit_with.new.e.wr in
     let begun = c.new-emitter.ensures.state in

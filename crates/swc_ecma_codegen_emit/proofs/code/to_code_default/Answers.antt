@@ -8,7 +8,7 @@ use Rattle.swc_ecma_codegen_text_writer.specs.View.{sheet_of, new_sheet}
 use Rattle.swc_ecma_codegen_grammar.specs.Comments.{maps_in}
 use Rattle.swc_ecma_codegen_tokens.specs.Run.{steps_of, steps_in, printed, start}
 use Rattle.swc_ecma_codegen_tokens.proofs.Fronts.{run_whole}
-use Rattle.swc_ecma_codegen_emit.specs.Texts.{blank_sheet, GivesCause, IsOfWriter}
+use Rattle.swc_ecma_codegen_emit.specs.Texts.{blank_sheet, GivesCause, IsOfWriter, IsPrinted}
 use Rattle.swc_ecma_codegen_tokens.specs.Written.{ReadsAs, taken_remarks}
 use Rattle.swc_ecma_codegen_emit.specs.Roots.{root_phrase}
 use Rattle.swc_ecma_codegen_emit.proofs.TreeMade.{code_reads_over, code_cause}
@@ -52,3 +52,8 @@ returns-in-Err-clause-made g c = λ root same well room.
     let given : GivesCause part (start (g.S.SourceMapper.lines c.args.cm.now) (maps_in g.C.Comments.maps c.args.comments) default_config blank_sheet) c.in-Err.error = subst (λ s. GivesCause part (start (g.S.SourceMapper.lines c.args.cm.now) (maps_in g.C.Comments.maps c.args.comments) default_config s) c.in-Err.error) (c.new-writer.ensures.sheet refl ∙ blank) c.in-Err.ensures.cause in
     let other : IsOfWriter c.in-Err.error → ⊥ = search rules in
     code_cause (g.S.SourceMapper.lines c.args.cm.now) (maps_in g.C.Comments.maps c.args.comments) root part same well c.in-Err.error room given other
+
+pub returns-in-Ok-clause-printed : goal.returns-in-Ok-clause-printed
+returns-in-Ok-clause-printed g c =
+    let blank = ap (λ t. new_sheet t (10 ∷ [])) c.new.ensures.items in
+    subst (λ s. IsPrinted (g.N.Node.part c.args.node.now) (start (g.S.SourceMapper.lines c.args.cm.now) (maps_in g.C.Comments.maps c.args.comments) default_config s)) (c.new-writer.ensures.sheet refl ∙ blank) c.in-Ok.ensures.printed

@@ -9,7 +9,7 @@ use Rattle.swc_ecma_codegen_text_writer.specs.View.{sheet_of}
 use Rattle.swc_ecma_codegen_grammar.specs.Comments.{maps_in}
 use Rattle.swc_ecma_codegen_grammar.specs.Phrases.{names_in}
 use Rattle.swc_ecma_codegen_tokens.specs.Named.{NamesStand}
-use Rattle.swc_ecma_codegen_tokens.specs.Run.{unlined}
+use Rattle.swc_ecma_codegen_tokens.specs.Run.{Follows, unlined}
 use Rattle.swc_ecma_codegen_tokens.specs.Written.{ReadsAs, taken_remarks}
 use Rattle.swc_ecma_codegen_emit.specs.Roots.{root_phrase}
 use Rattle.swc_ecma_codegen_emit.specs.Texts.{sheet_with, start_with}
@@ -67,3 +67,7 @@ returns-in-Ok-clause-names g c = λ root same well.
     let sheet = sheet_with lines maps config part in
     let names = names_in (root_phrase root) in
     subst (λ t. NamesStand (unlined config) origin t c.into_parts-text.result.1.items names) (sym (returns-in-Ok-clause-text g c)) (subst (λ t. NamesStand (unlined config) origin sheet.text t names) (sym (returns-in-Ok-clause-positions g c)) (names_with lines maps config root part same well c.in-Ok.ensures.printable))
+
+pub returns-in-Ok-clause-printed : goal.returns-in-Ok-clause-printed
+unfolding Follows
+returns-in-Ok-clause-printed g c = (c.in-Ok.ensures.printable, refl)

@@ -1,59 +1,30 @@
-use Rattle.swc_ecma_codegen_tokens.specs.Run.{State}
-use Rattle.swc_ecma_codegen_emit.specs.View.{state_of}
-use Rattle.swc_ecma_codegen_emit.proofs.TreeReads.{program_ascii, program_fills, program_names, program_reads, program_told, steps_taken, program_safe, program_places}
-use Rattle.swc_ecma_codegen_emit.proofs.ItemsTaken.{program_leaves}
+use Rattle.std.proofs.Common.{refl}
+use Rattle.swc_ecma_codegen_emit.specs.Roots.{Root, OfProgram}
 use Rattle.swc_ecma_codegen_emit.proofs.emitter.Emitter.emit_program.Goals as goal
 
-pub returns-clause-reads : goal.returns-clause-reads
-returns-clause-reads g c =
-    let a : State = state_of g.S.SourceMapper.lines g.C.Comments.maps g.W.WriteJs.sheet c.args.self.now in
-    let b : State = state_of g.S.SourceMapper.lines g.C.Comments.maps g.W.WriteJs.sheet c.emit.new.self in
-    λ well fresh closed. program_reads c.args.node.now a b c.emit.result well fresh closed c.emit.ensures.items
-
-pub returns-clause-inline : goal.returns-clause-inline
-returns-clause-inline g c =
-    let a : State = state_of g.S.SourceMapper.lines g.C.Comments.maps g.W.WriteJs.sheet c.args.self.now in
-    let b : State = state_of g.S.SourceMapper.lines g.C.Comments.maps g.W.WriteJs.sheet c.emit.new.self in
-    λ well inline left_out flows. program_safe c.args.node.now a b c.emit.result well inline left_out flows c.emit.ensures.items
-
-pub returns-clause-taken : goal.returns-clause-taken
-returns-clause-taken g c =
-    let a : State = state_of g.S.SourceMapper.lines g.C.Comments.maps g.W.WriteJs.sheet c.args.self.now in
-    let b : State = state_of g.S.SourceMapper.lines g.C.Comments.maps g.W.WriteJs.sheet c.emit.new.self in
-    steps_taken _ a b c.emit.result c.emit.ensures.items
-
-pub returns-clause-told : goal.returns-clause-told
-returns-clause-told g c =
-    let a : State = state_of g.S.SourceMapper.lines g.C.Comments.maps g.W.WriteJs.sheet c.args.self.now in
-    let b : State = state_of g.S.SourceMapper.lines g.C.Comments.maps g.W.WriteJs.sheet c.emit.new.self in
-    λ well left_out. program_told c.args.node.now a b c.emit.result well left_out c.emit.ensures.items
-
-pub returns-clause-places : goal.returns-clause-places
-returns-clause-places g c =
-    let a : State = state_of g.S.SourceMapper.lines g.C.Comments.maps g.W.WriteJs.sheet c.args.self.now in
-    let b : State = state_of g.S.SourceMapper.lines g.C.Comments.maps g.W.WriteJs.sheet c.emit.new.self in
-    λ well fresh closed kept. program_places c.args.node.now a b c.emit.result well fresh closed kept c.emit.ensures.items
-
-pub returns-clause-left : goal.returns-clause-left
-returns-clause-left g c =
-    let a : State = state_of g.S.SourceMapper.lines g.C.Comments.maps g.W.WriteJs.sheet c.args.self.now in
-    let b : State = state_of g.S.SourceMapper.lines g.C.Comments.maps g.W.WriteJs.sheet c.emit.new.self in
-    λ well left_out. program_leaves c.args.node.now a b c.emit.result well left_out c.emit.ensures.items
-
-pub returns-clause-fills : goal.returns-clause-fills
-returns-clause-fills g c =
-    let a : State = state_of g.S.SourceMapper.lines g.C.Comments.maps g.W.WriteJs.sheet c.args.self.now in
-    let b : State = state_of g.S.SourceMapper.lines g.C.Comments.maps g.W.WriteJs.sheet c.emit.new.self in
-    λ max well minified bounded left_out fill. program_fills c.args.node.now a b c.emit.result max well minified bounded left_out fill c.emit.ensures.items
-
-pub returns-clause-names : goal.returns-clause-names
-returns-clause-names g c =
-    let a : State = state_of g.S.SourceMapper.lines g.C.Comments.maps g.W.WriteJs.sheet c.args.self.now in
-    let b : State = state_of g.S.SourceMapper.lines g.C.Comments.maps g.W.WriteJs.sheet c.emit.new.self in
-    λ well kept left_out flows fill. program_names c.args.node.now a b c.emit.result well kept left_out flows fill c.emit.ensures.items
-
-pub returns-clause-ascii : goal.returns-clause-ascii
-returns-clause-ascii g c =
-    let a : State = state_of g.S.SourceMapper.lines g.C.Comments.maps g.W.WriteJs.sheet c.args.self.now in
-    let b : State = state_of g.S.SourceMapper.lines g.C.Comments.maps g.W.WriteJs.sheet c.emit.new.self in
-    λ well wants. program_ascii c.args.node.now a b c.emit.result well wants c.emit.ensures.items
+-- what is said of whatever is printed, of this root
+pub returns : goal.returns
+returns g c =
+    let root : Root = OfProgram c.args.node.now in
+    record {
+      items = c.emit_with.ensures.items;
+      reads = c.emit_with.ensures.reads root refl;
+      recorded = c.emit_with.ensures.recorded;
+      taken = c.emit_with.ensures.taken;
+      told = c.emit_with.ensures.told root refl;
+      left = c.emit_with.ensures.left root refl;
+      names = c.emit_with.ensures.names root refl;
+      places = c.emit_with.ensures.places root refl;
+      ascii = c.emit_with.ensures.ascii root refl;
+      inline = c.emit_with.ensures.inline root refl;
+      fills = c.emit_with.ensures.fills root refl;
+      front = c.emit_with.ensures.front;
+      cause = c.emit_with.ensures.cause;
+      no_memory = c.emit_with.ensures.no_memory;
+      succeeds = c.emit_with.ensures.succeeds;
+      made = c.emit_with.ensures.made root refl;
+      ready = c.emit_with.ensures.ready;
+      marked = c.emit_with.ensures.marked;
+      failed = c.emit_with.ensures.failed;
+      level = c.emit_with.ensures.level;
+    }
