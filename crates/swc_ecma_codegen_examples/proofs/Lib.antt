@@ -1,1 +1,2 @@
 mod Negations
+mod Options

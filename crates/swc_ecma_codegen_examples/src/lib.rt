@@ -23,6 +23,11 @@ ghost use Rattle.swc_ecma_codegen_emit.specs.Texts.{blank_sheet, GivesCause};
 ghost use Rattle.swc_ecma_codegen_examples.specs.Causes.{commented_start, minified_config, minified_start, IsOfMachine, IsUnread, LacksText};
 ghost use Rattle.swc_ecma_codegen_examples.specs.Negation.{negation_tokens, IsNegation};
 
+mod links;
+
+pub use crate::links::{
+    emitted_box_reads, emitted_link_reads, emitted_option_reads, emitted_ref_reads,
+};
 use std::alloc::{AllocError, Global};
 use std::io::Write;
 use swc_ecma_codegen::{Config, Emitter, Node, is_well_formed, to_code};

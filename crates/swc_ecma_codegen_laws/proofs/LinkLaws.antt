@@ -1,6 +1,5 @@
 -- What is written of what a link holds, by its sort, and what it reads as.
-use Rattle.std.proofs.Common.{◌≡◌, sym, ap, ◌∙◌, subst, ℕ, Bool, List, Option, Some, None, Result, OnOk}
-use Rattle.swc_ecma_codegen_common.specs.declared.errors.Refusal.{Refusal}
+use Rattle.std.proofs.Common.{◌≡◌, sym, ap, ◌∙◌}
 use Rattle.swc_ecma_codegen_tree.specs.declared.links.AnyNode.{AnyNode}
 use Rattle.swc_ecma_codegen_tree.specs.declared.links.AnyNode.TheVariants as whole
 use Rattle.swc_ecma_codegen_tree.specs.declared.exprs.MemberExpr.{MemberExpr}
@@ -10,14 +9,9 @@ use Rattle.swc_ecma_codegen_tree.specs.declared.pats.AssignTarget.{AssignTarget}
 use Rattle.swc_ecma_codegen_grammar.specs.ExprPhrases.{member_expr}
 use Rattle.swc_ecma_codegen_grammar.specs.AssignPhrases as target_lists
 use Rattle.swc_ecma_codegen_grammar.specs.PartPhrases as part_lists
-use Rattle.swc_ecma_codegen_grammar.specs.Phrases.{Phrase}
 use Rattle.swc_ecma_codegen_grammar.specs.TreePhrases.{node_phrase, phrase}
 use Rattle.swc_ecma_codegen_grammar.specs.declared.roles.Role.TheVariants.{MemberExpression, AssignmentTarget}
 use Rattle.swc_ecma_codegen_grammar.proofs.TreeLaws.{phrase_member_expr, phrase_expr_part}
-use Rattle.swc_ecma_codegen_util.specs.declared.config.Config.{Config}
-use Rattle.swc_ecma_codegen_tokens.specs.Run.{Env, Part, State, Follows, nothing, with_max_line}
-use Rattle.swc_ecma_codegen_tokens.specs.Written.{AddsText, taken_remarks}
-use Rattle.swc_ecma_codegen_emit.specs.declared.nodes.Place.{Place}
 use Rattle.swc_ecma_codegen_emit.specs.declared.nodes.Place.TheVariants.{Plain, Lines}
 use Rattle.swc_ecma_codegen_emit.specs.Places.{by_itself, placed}
 use Rattle.swc_ecma_codegen_emit.specs.AnyExpr.{expr}
@@ -25,7 +19,6 @@ use Rattle.swc_ecma_codegen_emit.specs.Exprs.{member, member_at}
 use Rattle.swc_ecma_codegen_emit.specs.Answers.{any_answers}
 use Rattle.swc_ecma_codegen_emit.specs.Targets.{assign_target}
 use Rattle.swc_ecma_codegen_emit.specs.Parts.{expr_part}
-use Rattle.swc_ecma_codegen_emit.specs.Lists.{if_some_at}
 use Rattle.swc_ecma_codegen_emit.specs.Stmts.{stmt}
 use Rattle.swc_ecma_codegen_emit.specs.Roots.{Root, OfExpr, OfStmt, OfItem, OfModule, OfScript, OfProgram, OfLink, root_items}
 use Rattle.swc_ecma_codegen_laws.specs.HeldRoots.{IsHeld}
@@ -54,22 +47,6 @@ unfolding expr_part
 assign_target_written n m h =
     let part : ExprPart AnyNode = expr_parts.AssignTarget m in
     ap (λ z. by_itself (any_items z)) h ∙ by_itself_same (any_items (whole.ExprPart part)) (λ place. assign_target any_answers any_items m) (any_items_expr_part part Plain) (λ max. any_items_expr_part part (Lines max))
-
-pub some_written : {A : Type 0} (items : A → Place → Part) (o : Option A) (x : A) → o ≡ Some x → by_itself (if_some_at items o) ≡ by_itself (items x)
-unfolding if_some_at
-some_written items o x h = ap (λ z. by_itself (if_some_at items z)) h ∙ (λ i. by_itself (λ place rest. items x place rest))
-
-pub none_written : {A : Type 0} (items : A → Place → Part) (o : Option A) → o ≡ None → by_itself (if_some_at items o) ≡ (λ rest. rest)
-unfolding if_some_at by_itself with_max_line
-none_written items o h = ap (λ z. by_itself (if_some_at items z)) h ∙ (λ i. λ rest env. rest env)
-
--- what is done of one is done of the other
-pub follows_part : (p q : Part) (a b : State) (r : Result (Unit {0}) Refusal) → p ≡ q → Follows (p nothing) a b r → Follows (q nothing) a b r
-follows_part p q a b r e h = subst (λ z. Follows (z nothing) a b r) e h
-
--- and what is taken for one is taken for the other
-pub reads_part : {T E : Type 0} (p q : Part) (env : Env) (r : Result T E) (config : Config) (holds : Bool) (phrase : Phrase) (old new : List ℕ) → p ≡ q → OnOk r (AddsText config holds phrase (taken_remarks p env) old new) → OnOk r (AddsText config holds phrase (taken_remarks q env) old new)
-reads_part p q env r config holds phrase old new e h = subst (λ z. OnOk r (AddsText config holds phrase (taken_remarks z env) old new)) e h
 
 -- ---- what it reads as
 

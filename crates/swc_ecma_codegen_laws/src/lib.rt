@@ -1,5 +1,5 @@
-//! Laws for callers. Each is the contract of a function that does nothing, or no more than call what it speaks of, and
-//! takes no memory: a proof cites the function, and a program has no need to call it.
+//! Laws for callers. Each is the contract of a function without parameters that does nothing: a proof cites the function,
+//! and a program has no need to call it.
 //!
 //! What is printed of a well-formed tree reads back as the tree's tokens, by longest match: `a < !--b` isn't printed as
 //! the start of a comment, nor `a - -b` as a decrement.
@@ -7,9 +7,11 @@
 
 ghost use Rattle.std.specs.Prelude.{◌≡◌, ◌&&◌, is_some, ℕ, Bool, true, false, if◌then◌else◌, List, [], ◌∷◌, Ok, Err, Some, None};
 ghost use Rattle.swc_ecma_codegen_common.specs.declared.errors.Refusal.TheVariants as refusals;
+ghost use Rattle.swc_ecma_codegen_common.specs.Refusals.{in_short};
 ghost use Rattle.std.specs.String.{string_bytes};
 ghost use Rattle.swc_ecma_codegen_tree.specs.declared.exprs.Tpl.{Tpl};
 ghost use Rattle.swc_ecma_codegen_tree.specs.declared.ts_types.TsTplLitType.{TsTplLitType};
+ghost use Rattle.swc_ecma_codegen_tree.specs.declared.exprs.Expr.{Expr};
 ghost use Rattle.swc_ecma_codegen_tree.specs.declared.stmts.Stmt.{Stmt};
 ghost use Rattle.swc_ecma_codegen_tree.specs.declared.links.AnyNode.{AnyNode};
 ghost use Rattle.swc_ecma_codegen_tree.specs.declared.lits.Str.{Str};
@@ -38,6 +40,7 @@ ghost use Rattle.swc_ecma_codegen_tokens.specs.Settings.{settings_of};
 ghost use Rattle.swc_ecma_codegen_tokens.specs.Written.{IsLineEnd, IsNew, ReadsAs, all_indent, taken_remarks};
 ghost use Rattle.swc_ecma_codegen_tokens.specs.Ready.{IsReady};
 ghost use Rattle.swc_ecma_codegen_util.specs.Starts.{expr_starts, any_starts};
+ghost use Rattle.swc_ecma_codegen_emit.specs.Emission.{Outcome, AddsOnlyAscii, AddsSafeStrings, FillsItsLines, LeavesNone, PlacesEachName, ReadsAsRoot, RecordsEachName, TakesComments, WritesTaken};
 ghost use Rattle.swc_ecma_codegen_emit.specs.Places.{by_itself};
 ghost use Rattle.swc_ecma_codegen_emit.specs.Answers.{any_answers};
 ghost use Rattle.swc_ecma_codegen_emit.specs.AnyExpr.{expr as expr_items};
@@ -56,15 +59,10 @@ mod basic;
 mod links;
 
 pub use crate::basic::{basic_nodes_take_no_memory, basic_trees_take_no_memory};
-pub use crate::links::{
-    emitted_box_reads, emitted_link_reads, emitted_option_reads, emitted_ref_reads,
-    links_write_members, links_write_targets, links_write_their_roots,
-};
+pub use crate::links::{links_write_members, links_write_targets, links_write_their_roots};
 pub use swc_ecma_codegen_grammar::reading_laws::{
     one_reading, reduced_tokens_read, spaced_tokens_read,
 };
-use swc_ecma_codegen_tree::Expr;
-use swc_ecma_codegen_util::util::StartsWithAlphaNum;
 
 /// What is written of an expression, and of a statement, by itself is what is written of the root that it is, which may begin wherever an
 /// emission is new. So the clauses of `emit_with` that speak of roots speak of these.
@@ -115,17 +113,40 @@ pub fn added_comments_can_be_read_back()
 {}
 
 /// Where an expression begins with a word, a name or a number, by the first token of a list that
-/// syntax gives it, `starts_with_alpha_num` is true: of `a + b`, `typeof a` and `this.a`, but not only of these.
+/// syntax gives it, `starts_with_alpha_num` is true, which answers `expr_starts any_starts`: of `a + b`, `typeof a` and
+/// `this.a`, but not only of these.
 #[tactic(auto, using(crate::proofs::FirstTokens::first_told))]
-pub fn first_token_is_told(expr: &Expr) -> bool
-    // It is what `starts_with_alpha_num` answers.
-    ensures answer { result ≡ expr_starts any_starts expr.now }
-    ensures told { (settings : Settings) (first : Token) (rest : List Token) →
-        Generates settings (expr_phrase expr.now) (first ∷ rest) → joins_a_word first.kind ≡ true →
-        result ≡ true }
-{
-    expr.starts_with_alpha_num()
-}
+pub fn first_token_is_told()
+    ensures { (expr : Expr AnyNode) (settings : Settings) (first : Token) (rest : List Token) →
+        Generates settings (expr_phrase expr) (first ∷ rest) → joins_a_word first.kind ≡ true →
+        expr_starts any_starts expr ≡ true }
+{}
+
+/// What an emission of a root does, by the state where it begins, the one where it ends, and what it answers: what `emit_with`
+/// says in its clauses follows from the root's steps alone. So it is said of the `to_code` calls too, whose clause `printed`
+/// says that the steps were made, and whose clauses `text` and `positions` tell what was written.
+#[tactic(auto, using(swc_ecma_codegen_emit::proofs::TreeReads::root_reads, swc_ecma_codegen_emit::proofs::TreeReads::root_told, swc_ecma_codegen_emit::proofs::ItemsTaken::root_leaves, swc_ecma_codegen_emit::proofs::TreeReads::root_names, swc_ecma_codegen_emit::proofs::TreeReads::root_places, swc_ecma_codegen_emit::proofs::TreeReads::root_ascii, swc_ecma_codegen_emit::proofs::TreeReads::root_safe, swc_ecma_codegen_emit::proofs::TreeReads::root_fills, swc_ecma_codegen_emit::proofs::TreeReads::root_taken))]
+pub fn emissions_of_roots()
+    ensures reads { (root : Root) (a b : State) (answer : Outcome) →
+        Follows (root_items root nothing) a b (in_short answer) → ReadsAsRoot root a b answer }
+    ensures taken { (root : Root) (a b : State) (answer : Outcome) →
+        Follows (root_items root nothing) a b (in_short answer) →
+        TakesComments (root_items root) a b answer }
+    ensures told { (root : Root) (a b : State) (answer : Outcome) →
+        Follows (root_items root nothing) a b (in_short answer) → WritesTaken root a answer }
+    ensures left { (root : Root) (a b : State) (answer : Outcome) →
+        Follows (root_items root nothing) a b (in_short answer) → LeavesNone root a b answer }
+    ensures names { (root : Root) (a b : State) (answer : Outcome) →
+        Follows (root_items root nothing) a b (in_short answer) → RecordsEachName root a b answer }
+    ensures places { (root : Root) (a b : State) (answer : Outcome) →
+        Follows (root_items root nothing) a b (in_short answer) → PlacesEachName root a b answer }
+    ensures ascii { (root : Root) (a b : State) (answer : Outcome) →
+        Follows (root_items root nothing) a b (in_short answer) → AddsOnlyAscii root a b answer }
+    ensures inline { (root : Root) (a b : State) (answer : Outcome) →
+        Follows (root_items root nothing) a b (in_short answer) → AddsSafeStrings root a b answer }
+    ensures fills { (root : Root) (a b : State) (answer : Outcome) →
+        Follows (root_items root nothing) a b (in_short answer) → FillsItsLines root a b answer }
+{}
 
 /// No step of an emission of a well-formed tree makes a text anew, in memory, where no name of the tree holds a backslash, or
 /// isn't ASCII under `ascii_only`, no number, no big integer and no string stands in it, and lines have no greatest length, over a
