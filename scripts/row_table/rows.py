@@ -1,4 +1,4 @@
-"""The files of rows of crates/swc_ecma_codegen_cases, by subject, and the table that is made of them.
+"""The files of rows of tests/swc_ecma_codegen_cases, by subject, and the table that is made of them.
 
 The head of a file is its lines that begin with `##`: what its rows are about, and then a line for each of their words, with the
 names of its columns as a row has its fields. A name that ends with ` ..` stands for any number of fields. The head isn't in the table;
@@ -7,7 +7,7 @@ lines that begin with one `#` are.
 
 import os
 
-CRATE = os.path.join(os.path.dirname(os.path.abspath(__file__)), "../../crates/swc_ecma_codegen_cases")
+CRATE = os.path.join(os.path.dirname(os.path.abspath(__file__)), "../../tests/swc_ecma_codegen_cases")
 ROWS = os.path.join(CRATE, "rows")
 # in the order of the table; only that of the steps means something: rows `nestings` have a text for each, in this order
 SUBJECTS = [

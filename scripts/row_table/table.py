@@ -1,4 +1,4 @@
-"""The rows of the table of crates/swc_ecma_codegen_cases: trees, and the texts that they ask for."""
+"""The rows of the table of tests/swc_ecma_codegen_cases: trees, and the texts that they ask for."""
 
 import collections
 import itertools
@@ -6,7 +6,7 @@ import json
 import os
 import re
 
-TABLE = os.path.join(os.path.dirname(os.path.abspath(__file__)), "../../crates/swc_ecma_codegen_cases/stdin")
+TABLE = os.path.join(os.path.dirname(os.path.abspath(__file__)), "../../tests/swc_ecma_codegen_cases/stdin")
 NOWHERE = '{"lo":0,"hi":0}'
 A = '{"Ident":{"span":{"lo":0,"hi":0},"sym":"a","optional":false}}'
 NAMES = ["a", "in_", "$", "\u00e9"]

@@ -1,20 +1,21 @@
-//! Source texts of one answer: whether positions stand on one line, and what the text of a span is.
+//! A source text of one answer: whether positions stand on one line, and what the text of a span is. A map of a source text says by
+//! its own `lines` what it answers: here is one that does.
 
 ghost use Rattle.std.specs.Prelude.{◌≡◌, ◌==◌, option_map, IfOk, IfErr, if◌then◌else◌};
 ghost use Rattle.std.specs.Int.RustNames.{bit_and};
 ghost use Rattle.std.specs.String.{string_bytes};
 ghost use Rattle.swc_ecma_codegen_common.specs.declared.errors.Error.TheVariants.{OutOfMemory};
 
-use std::alloc::{AllocError, Global};
+use std::alloc::Global;
 use swc_ecma_codegen_common::{BytePos, Error, Span};
 use swc_ecma_codegen_grammar::mapper::SourceMapper;
 
 /// A source text that says of two positions what it says of all whose first is even, or odd, and has one text for all spans.
 #[derive(Drop)]
 pub struct Source {
-    even: bool,
-    odd: bool,
-    snippet: Option<String>,
+    pub even: bool,
+    pub odd: bool,
+    pub snippet: Option<String>,
 }
 
 impl SourceMapper for Source {
@@ -40,17 +41,4 @@ impl SourceMapper for Source {
             None => Ok(None),
         }
     }
-}
-
-/// A source text by the names of its answers: `same` line, lines `apart`, or one line where the first position is `even`, or
-/// `odd`. With `apart` and no text for spans it answers as if there were none.
-pub fn source_of(alloc: Global, lines: &str, snippet: Option<&str>) -> Result<Source, AllocError> {
-    Ok(Source {
-        even: matches!(lines, "same" | "even"),
-        odd: matches!(lines, "same" | "odd"),
-        snippet: match snippet {
-            Some(text) => Some(String::from_str(alloc, text)?),
-            None => None,
-        },
-    })
 }

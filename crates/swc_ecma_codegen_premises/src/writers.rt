@@ -1,0 +1,30 @@
+//! Calls of writers, and of what writes tokens, that ask for a level of indentation or for a text of some form.
+
+use bitflags::Flags;
+use swc_ecma_codegen_common::{Answer, Result};
+use swc_ecma_codegen_grammar::ListFormat;
+use swc_ecma_codegen_text_writer::WriteJs;
+use swc_ecma_codegen_tokens::LowerEmitter;
+use swc_ecma_codegen_util::config::Config;
+
+/// A level of indentation more, and one less.
+pub fn there_and_back<W: WriteJs>(wr: &mut W) -> Result {
+    wr.increase_indent()?;
+    wr.decrease_indent()
+}
+
+/// `var in 1.`, and a level of indentation more and less.
+pub fn write_tokens<W: WriteJs>(e: &mut LowerEmitter, cfg: &Config, wr: &mut W) -> Answer {
+    e.keyword(cfg, wr, None, "var")?;
+    e.word_operator(cfg, wr, "in")?;
+    e.dotted_number(cfg, wr, "1")?;
+    e.deeper(cfg, wr)?;
+    e.shallower(cfg, wr)
+}
+
+/// What stands before and after the children of an indented list, whose first and last line end.
+pub fn write_list<W: WriteJs>(e: &mut LowerEmitter, cfg: &Config, wr: &mut W) -> Answer {
+    let format = ListFormat::MultiLine.union(ListFormat::Indented);
+    e.list_opening(cfg, wr, format, true)?;
+    e.list_closing(cfg, wr, format, true)
+}

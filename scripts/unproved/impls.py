@@ -1,0 +1,44 @@
+"""How functions are called by what reads their sources."""
+
+import re
+
+FUNCTION = re.compile(r"^( *)(?:pub(?:\([^)]*\))? )?(?:const )?(?:unsafe )?fn (\w+)")
+
+
+def implemented(line):
+    """The type of an `impl`, with the trait's name behind it where there is one, as LLVM's code names both; else `None`."""
+    if not re.match(r"(unsafe )?impl\b", line):
+        return None
+    line, depth = re.sub(r"^(unsafe )?impl\s*", "", line), 0
+    if line.startswith("<"):
+        for at, c in enumerate(line):
+            depth += (c == "<") - (c == ">" and line[at - 1] != "-")
+            if depth == 0:
+                line = line[at + 1 :]
+                break
+    of, is_trait, on = line.partition(" for ")
+    on = re.sub(r"^\s*&?('\w+ )?(mut )?", "", on if is_trait else of)
+    return last(on) + (last(of) if is_trait else "")
+
+
+def last(text):
+    """The last name of a path."""
+    return (re.match(r"\s*([\w:]+)", text) or ["", ""])[1].split("::")[-1]
+
+
+def function_at(text, at):
+    """The function that holds a place of a module's text, the type of its `impl` as `implemented` gives it, and the type that its trait is
+    for, as `AllocError` of `impl From<AllocError> for Error`. Each is `None`, or empty, where there is none."""
+    function, on, more = None, None, ""
+    for line in text[: text.find("\n", at) + 1].splitlines():
+        if implemented(line):
+            trait = re.search(r"<([^<>]*(?:<[^<>]*>)?)> for ", line)
+            on, more = implemented(line), last(trait[1]) if trait else ""
+        elif line.startswith("}"):
+            on, more = None, ""
+        found = FUNCTION.match(line)
+        if found:
+            function = found[2]
+        elif line.startswith("}") or line == "    }":
+            function = None
+    return function, on, more
