@@ -662,24 +662,3 @@ impl<'a, W: Write, K: KeepsPositions> Lines<'a, W, K> {
         refusal.with_fault(self.outlet.take_fault())
     }
 }
-
-#[cfg(test)]
-mod tests {
-    use super::*;
-    use crate::WriteJs;
-    use std::test::Fail;
-
-    #[test]
-    fn levels_above_32_bits(rt: HostRuntime) -> std::result::Result<(), Fail> {
-        let alloc = rt.alloc();
-        let mut writer = PositionsWriter::keeping_positions(alloc, &(), "\n", Vec::new(alloc));
-        writer.indent = 4294967294;
-        writer.increase_indent()?;
-        let answer = writer.increase_indent();
-        assert!(rt; matches!(answer, Err(Error::PositionTooLarge)));
-        assert!(rt; matches!(writer.write_str("a"), Err(Error::Failed)));
-        let (text, positions) = writer.into_parts();
-        assert!(rt; text.is_empty() && positions.is_empty());
-        Ok(())
-    }
-}
