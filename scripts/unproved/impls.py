@@ -29,7 +29,7 @@ def last(text):
 def function_at(text, at):
     """The function that holds a place of a module's text, the type of its `impl` as `implemented` gives it, and the type that its trait is
     for, as `AllocError` of `impl From<AllocError> for Error`. Each is `None`, or empty, where there is none."""
-    function, on, more = None, None, ""
+    function, on, more, end = None, None, "", "}"
     for line in text[: text.find("\n", at) + 1].splitlines():
         if implemented(line):
             trait = re.search(r"<([^<>]*(?:<[^<>]*>)?)> for ", line)
@@ -38,7 +38,7 @@ def function_at(text, at):
             on, more = None, ""
         found = FUNCTION.match(line)
         if found:
-            function = found[2]
-        elif line.startswith("}") or line == "    }":
+            function, end = found[2], f"{found[1]}}}"
+        elif line == end:
             function = None
     return function, on, more
