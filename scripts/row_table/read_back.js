@@ -3,6 +3,7 @@
 // with who told the tokens of each text, how many texts Babel parsed, how many elements and fragments the tree holds, whether it
 // holds types, and a fault or null. With `isRow` a text may be no program; with `typed` in place of `tree` only the texts are compared,
 // by the plugin for TypeScript where that holds types. See scripts/read-back and scripts/fuzz.
+const { PROPOSALS } = require('../tree_of/parser.js');
 const { holdsTypes, isReadAs } = require('./typed.js');
 let acorn, babel;
 try {
@@ -15,7 +16,7 @@ try {
 // Inside of a class, so that each of `super`, `#a`, `await`, `yield` and `new.target` has a meaning.
 const OPEN = 'class A extends B { #a; #\u00e9; #\u{1d4ab}; async *a() {';
 const CLOSE = '\n}}';
-const PLUGINS = ['jsx', 'decorators', 'decoratorAutoAccessors', 'importReflection', ['optionalChainingAssign', { version: '2023-07' }], 'sourcePhaseImports', 'deferredImportEvaluation', 'createImportExpressions'];
+const PLUGINS = ['jsx', 'decorators', ...PROPOSALS, ['optionalChainingAssign', { version: '2023-07' }], 'sourcePhaseImports', 'deferredImportEvaluation', 'createImportExpressions'];
 
 const ESCAPE = /\\u(?:\{([0-9a-fA-F]+)\}|([0-9a-fA-F]{4}))/g;
 const unescaped = (name) => name.replace(ESCAPE, (_, braces, four) => String.fromCodePoint(parseInt(braces || four, 16)));

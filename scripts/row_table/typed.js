@@ -25,6 +25,7 @@ function bare(node) {
   if (Array.isArray(node)) return node.filter((held) => !isEmpty(held)).map(bare);
   if (node === null || typeof node !== 'object') return node;
   if (isSpan(node)) return true;
+  if (node.JSXText) return { JSXText: /[{}<>]/.test(node.JSXText.value) ? node.JSXText.raw : node.JSXText.value };
   const joined = node.TsUnionOrIntersectionType && Object.values(node.TsUnionOrIntersectionType)[0].types;
   if (joined && joined.length === 1) return bare(joined[0]);
   const names = Object.keys(node).filter((name) => name !== 'span').sort();

@@ -3,6 +3,9 @@
 const { wellFormed } = require('./source.js');
 const { numberOf, bigIntegerOf } = require('./numbers.js');
 
+// What a tree takes for the surrogate itself.
+const SPELLED_SURROGATE = /\\u(?:d[89a-f][0-9a-f]{2}|\{d[89a-f][0-9a-f]{2}\})/i;
+
 const SPELLED_NAME = /(?:\\u\{[0-9a-fA-F]+\}|\\u[0-9a-fA-F]{4}|[$_\u200c\u200d\p{ID_Continue}])+/uy;
 
 // Where a name ends that begins here: Babel's node goes on to its type and its `?`.
@@ -46,12 +49,20 @@ const leaves = {
   },
 
   string(node) {
+    this.warnOfSurrogate(node, node.value);
     return { span: this.span(node), value: wellFormed(node.value), raw: wellFormed(this.spelled(node)) };
+  },
+
+  // Its value and its raw are two strings then.
+  warnOfSurrogate(node, value) {
+    if (!SPELLED_SURROGATE.test(value)) return;
+    this.warn(node.loc.start.line, 'this string spells a surrogate in plain characters, so ecmagen answers `not well-formed` without --any');
   },
 
   // The string of a directive: Babel's value of it is its spelling.
   directiveString(node) {
     const value = node.extra && node.extra.expressionValue !== undefined ? node.extra.expressionValue : node.value;
+    this.warnOfSurrogate(node, value);
     return { span: this.span(node), value: wellFormed(value), raw: wellFormed(this.spelled(node)) };
   },
 

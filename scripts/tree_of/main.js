@@ -1,23 +1,8 @@
 'use strict';
 // See scripts/tree-of.
-const { readFileSync, writeFileSync } = require('fs');
+const { writeFileSync } = require('fs');
+const { FLAGS, Fault, byName, textOf, located, titleOf } = require('./files.js');
 const { treeOf } = require('./tree.js');
-
-const FLAGS = {
-  '--module': { sourceType: 'module' },
-  '--script': { sourceType: 'script' },
-  '--ts': { typescript: true, jsx: false },
-  '--tsx': { typescript: true, jsx: true },
-  '--nowhere': { nowhere: true },
-};
-
-// What the name of a file says of its text.
-function byName(path) {
-  const [, module, typescript, x] = /\.([cm]?)(?:j|(t))s(x?)$/.exec(path) || [];
-  return {
-    typescript: !!typescript, jsx: !typescript || !!x, declarations: /\.d\.[cm]?ts$/.test(path), ...(module === 'm' ? { sourceType: 'module' } : {}),
-  };
-}
 
 function options(words) {
   const given = {};
@@ -34,19 +19,22 @@ function options(words) {
 function main() {
   const asked = options(process.argv.slice(2));
   if (asked === null) {
-    console.error('usage: scripts/tree-of [OPTIONS] FILE');
+    console.error('usage: scripts/tree-of [OPTIONS] FILE (--help tells more)');
     process.exit(2);
   }
-  // (swc's parser leaves a byte order mark out, too)
-  const text = readFileSync(asked.path === '-' ? 0 : asked.path, 'utf8').replace(/^\ufeff/, '');
-  const { tree, comments } = treeOf(text, asked);
-  writeFileSync(1, JSON.stringify(tree) + '\n');
-  if (asked.comments !== null) writeFileSync(asked.comments, JSON.stringify(comments) + '\n');
+  try {
+    const { tree, comments, warnings } = treeOf(textOf(asked.path), asked);
+    writeFileSync(1, JSON.stringify(tree) + '\n');
+    if (asked.comments !== null) writeFileSync(asked.comments, JSON.stringify(comments) + '\n');
+    warnings.forEach((warning) => console.error(`${titleOf(asked.path)}:${warning}`));
+  } catch (error) {
+    throw located(error, asked.path);
+  }
 }
 
 try {
   main();
 } catch (error) {
-  console.error(error.message);
+  console.error(error instanceof Fault || error.code ? error.message : error.stack);
   process.exit(1);
 }

@@ -1,6 +1,7 @@
 'use strict';
 // Babel's parser, as `apt-get install node-babel7` gives it, or by the path in BABEL_PARSER.
 const { existsSync } = require('fs');
+const { Fault } = require('./files.js');
 
 const PATHS = [process.env.BABEL_PARSER, '@babel/parser', '/usr/share/nodejs/@babel/parser', '/usr/lib/nodejs/@babel/parser'];
 
@@ -13,13 +14,14 @@ function parser() {
       // (another may be there)
     }
   }
-  throw new Error('no Babel here: apt-get install node-babel7');
+  throw new Fault('no Babel here: apt-get install node-babel7');
 }
+
+const PROPOSALS = ['decoratorAutoAccessors', 'explicitResourceManagement', 'importAssertions', 'exportDefaultFrom', 'regexpUnicodeSets', 'importReflection'];
 
 // TypeScript's old decorators stand before parameters too.
 function plugins({ typescript, declarations, jsx }) {
-  const all = ['decoratorAutoAccessors', 'explicitResourceManagement', 'importAssertions', 'exportDefaultFrom', 'regexpUnicodeSets', 'importReflection'];
-  if (jsx) all.push('jsx');
+  const all = jsx ? [...PROPOSALS, 'jsx'] : PROPOSALS;
   return typescript
     ? ['decorators-legacy', ['typescript', { dts: declarations, disallowAmbiguousJSXLike: false }], ...all]
     : [['decorators', { decoratorsBeforeExport: true }], ...all];
@@ -39,4 +41,4 @@ function parsed(text, options) {
   });
 }
 
-module.exports = { parsed };
+module.exports = { parsed, PROPOSALS };

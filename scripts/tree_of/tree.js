@@ -4,8 +4,20 @@
 const { Source } = require('./source.js');
 const { parsed } = require('./parser.js');
 const { commentsOf } = require('./comments.js');
+const { deepest } = require('./levels.js');
+
+const MOST_LEVELS = 127; // of JSON, that `serde_json` reads
 
 class Tree extends Source {
+  constructor(text, options) {
+    super(text, options);
+    this.warnings = []; // each with its line
+  }
+
+  warn(line, what) {
+    this.warnings.push(`${line}: warning: ${what}`);
+  }
+
   // A node of a list each, by the method of this name.
   list(nodes, method) {
     return nodes.map((node) => this[method](node));
@@ -17,7 +29,7 @@ class Tree extends Source {
 
   refuse(node, wanted) {
     const { line, column } = node.loc.start;
-    throw new Error(`${line}:${column + 1}: ${node.type} is not ${wanted}`);
+    throw Object.assign(new Error(`${node.type} is not ${wanted}`), { loc: { line, column } });
   }
 }
 
@@ -25,11 +37,21 @@ for (const area of ['leaves', 'expressions', 'patterns', 'functions', 'statement
   Object.assign(Tree.prototype, require(`./${area}.js`));
 }
 
-// The tree of a text and its comments, by the kind of its file.
+// Warns where a tree nests deeper than its JSON is read.
+function warnOfDepth(source, tree, text, file) {
+  if (deepest(tree, MOST_LEVELS).levels <= MOST_LEVELS) return;
+  // (of a tree that stands nowhere another tells where)
+  const { levels, at } = deepest(new Tree(text).program(file), MOST_LEVELS);
+  source.warn(source.placeAt(source.offsetOf(at)).line, `the JSON nests ${levels} levels deep, and here past the ${MOST_LEVELS} that ecmagen reads`);
+}
+
+// The tree of a text, and its comments, by the kind of its file, with warnings of what is refused.
 function treeOf(text, options) {
   const file = parsed(text, options);
-  const tree = new Tree(text, options);
-  return { tree: tree.program(file), comments: commentsOf(tree, file) };
+  const source = new Tree(text, options);
+  const tree = source.program(file), comments = commentsOf(source, file);
+  warnOfDepth(source, tree, text, file);
+  return { tree, comments, source, warnings: source.warnings };
 }
 
 module.exports = { treeOf };
