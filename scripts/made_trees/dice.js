@@ -1,13 +1,28 @@
 'use strict';
 // What scripts/jsx-trees and scripts/ts-trees make trees with: the words that they are given, chance, and how much may still be made.
 const DEEPEST = 118; // the program reads 127 levels of JSON, some of which stand round a tree
+const ROOTS = ['Expr', 'Stmt', 'ModuleItem', 'Program'];
 const options = { seed: 1, n: 10, size: 40, root: 'Expr', plain: false };
-for (let at = 2; at < process.argv.length; at++) {
-  const name = process.argv[at].slice(2);
-  if (name === 'plain') options.plain = true;
-  else options[name] = name === 'root' ? process.argv[++at] : Number(process.argv[++at]);
+
+// Ends with what the words are to be: the comment at the head of the script.
+function tellWords(status) {
+  const [, said] = /'use strict';\n((?:\/\/.*\n)+)/.exec(require('fs').readFileSync(process.argv[1], 'utf8'));
+  (status === 0 ? console.log : console.error)(said.replace(/^\/\/ ?/gm, '').trim());
+  process.exit(status);
 }
 
+function take(words) {
+  if (words.includes('-h') || words.includes('--help')) tellWords(0);
+  for (let at = 0; at < words.length; at++) {
+    const name = words[at].slice(2), value = words[at + 1];
+    if (words[at] === '--plain') options.plain = true;
+    else if (words[at] === '--root' && ROOTS.includes(value)) options.root = words[++at];
+    else if (['--seed', '--n', '--size'].includes(words[at]) && /^\d+$/.test(value)) options[name] = Number(words[++at]);
+    else tellWords(2);
+  }
+}
+
+take(process.argv.slice(2));
 let state = (options.seed * 2654435761) >>> 0 || 1;
 function below(count) {
   state ^= state << 13;
