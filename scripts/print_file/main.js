@@ -1,0 +1,51 @@
+'use strict';
+// See scripts/print.
+const { writeFileSync } = require('fs');
+const { Fault, textOf, located, titleOf } = require('../tree_of/files.js');
+const { treeOf } = require('../tree_of/tree.js');
+const { asked } = require('./words.js');
+const { printed } = require('./programs.js');
+const { withMap } = require('./maps.js');
+
+function parsed(options) {
+  try {
+    return treeOf(textOf(options.path), options);
+  } catch (error) {
+    throw located(error, options.path);
+  }
+}
+
+function written(path, text) {
+  try {
+    writeFileSync(path === null ? 1 : path, text);
+  } catch (error) {
+    if (error.code === 'EPIPE') process.exit(1); // (whoever read the text has enough of it)
+    throw new Fault(`${path === null ? 'standard output' : path}: ${error.message}`);
+  }
+}
+
+function main() {
+  const options = asked(process.argv.slice(2));
+  if (options === null) {
+    console.error('usage: scripts/print [OPTIONS] FILE (--help tells more)');
+    process.exit(2);
+  }
+  const file = parsed(options);
+  file.warnings.forEach((warning) => console.error(`${titleOf(options.path)}:${warning}`));
+  const { text, positions } = printed(file, options);
+  if (options.map) {
+    const { text: marked, map } = withMap(text, positions, file, options);
+    if (map !== null) written(`${options.out}.map`, map);
+    written(options.out, marked);
+  } else {
+    written(options.out, text);
+  }
+  if (options.positions) positions.forEach((pair) => console.error(pair.join(' ')));
+}
+
+try {
+  main();
+} catch (error) {
+  console.error(error instanceof Fault ? error.message : error.stack);
+  process.exit(error.status || 1);
+}
