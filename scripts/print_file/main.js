@@ -1,7 +1,7 @@
 'use strict';
 // See scripts/print.
 const { writeFileSync } = require('fs');
-const { Fault, textOf, located, titleOf } = require('../tree_of/files.js');
+const { Fault, faultOf, textOf, located, titleOf } = require('../tree_of/files.js');
 const { treeOf } = require('../tree_of/tree.js');
 const { asked } = require('./words.js');
 const { printed } = require('./programs.js');
@@ -20,7 +20,7 @@ function written(path, text) {
     writeFileSync(path === null ? 1 : path, text);
   } catch (error) {
     if (error.code === 'EPIPE') process.exit(1); // (whoever read the text has enough of it)
-    throw new Fault(`${path === null ? 'standard output' : path}: ${error.message}`);
+    throw faultOf(path === null ? 'standard output' : path, error);
   }
 }
 

@@ -3,7 +3,7 @@
 const { spawnSync } = require('child_process');
 const { existsSync } = require('fs');
 const { join, relative } = require('path');
-const { Fault, titleOf } = require('../tree_of/files.js');
+const { Fault, faultOf, titleOf } = require('../tree_of/files.js');
 
 const TOP = join(__dirname, '../..');
 
@@ -20,7 +20,7 @@ function made(name, crate) {
 // What a program answers to a text on its standard input.
 function ran(program, words, input) {
   const answer = spawnSync(program, words, { input, encoding: 'utf8', maxBuffer: Infinity });
-  if (answer.error && answer.error.code !== 'EPIPE') throw new Fault(`${program}: ${answer.error.message}`);
+  if (answer.error && answer.error.code !== 'EPIPE') throw faultOf(program, answer.error);
   if (answer.signal) throw new Fault(`${program}: ended by ${answer.signal}`);
   return answer;
 }

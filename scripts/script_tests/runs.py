@@ -36,6 +36,13 @@ def write(folder, name, text):
     return path
 
 
+def write_program(folder, name, text):
+    """A program of the shell."""
+    path = write(folder, name, f"#!/bin/sh\n{text}\n")
+    os.chmod(path, 0o755)
+    return path
+
+
 def text_of(path):
     with open(path, encoding="utf-8", newline="") as file:
         return file.read()

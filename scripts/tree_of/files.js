@@ -24,13 +24,16 @@ class Fault extends Error {}
 
 const titleOf = (path) => (path === '-' ? 'standard input' : path);
 
-const REASONS = { ENOENT: 'no such file', EISDIR: 'it is a folder', EACCES: 'it may not be read' };
+const REASONS = { ENOENT: 'no such file', EISDIR: 'it is a folder', EACCES: 'permission denied', ENOTDIR: 'no such file' };
+
+// A fault of a file, or of a program that can't be run.
+const faultOf = (path, error) => new Fault(`${titleOf(path)}: ${REASONS[error.code] || error.message}`);
 
 function bytesOf(path) {
   try {
     return readFileSync(path === '-' ? 0 : path);
   } catch (error) {
-    throw new Fault(`${titleOf(path)}: ${REASONS[error.code] || error.message}`);
+    throw faultOf(path, error);
   }
 }
 
@@ -56,4 +59,4 @@ function located(error, path) {
   return error;
 }
 
-module.exports = { FLAGS, Fault, byName, textOf, located, titleOf };
+module.exports = { FLAGS, Fault, byName, faultOf, textOf, located, titleOf };

@@ -27,6 +27,7 @@ function plugins({ typescript, declarations, jsx }) {
     : [['decorators', { decoratorsBeforeExport: true }], ...all];
 }
 
+// With `recovers` what has no bearing on the tree, as a name that is declared twice, is listed in the file's `errors`.
 function parsed(text, options) {
   return parser().parse(text, {
     sourceType: options.sourceType || 'unambiguous',
@@ -37,6 +38,7 @@ function parsed(text, options) {
     allowNewTargetOutsideFunction: true,
     allowUndeclaredExports: true,
     attachComment: false,
+    errorRecovery: !!options.recovers,
     tokens: true,
   });
 }

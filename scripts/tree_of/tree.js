@@ -51,7 +51,7 @@ function treeOf(text, options) {
   const source = new Tree(text, options);
   const tree = source.program(file), comments = commentsOf(source, file);
   warnOfDepth(source, tree, text, file);
-  return { tree, comments, source, warnings: source.warnings };
+  return { tree, comments, source, warnings: source.warnings, errors: file.errors || [] };
 }
 
 module.exports = { treeOf };

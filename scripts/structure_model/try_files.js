@@ -1,0 +1,109 @@
+'use strict';
+// Real files: the tree of each is a derivation; without its parentheses, with those of the pass, it is printed and read back.
+const { readdirSync, statSync } = require('fs');
+const { join } = require('path');
+const { check, parenthesize, bare } = require('./structure.js');
+const { dice } = require('./random.js');
+const { printed, read, areSame } = require('./texts.js');
+const { Fault, textOf } = require('../tree_of/files.js');
+
+const SIZES = [1_000, 150_000];
+
+// The files of JavaScript that are given, and those of a middle size in folders that are.
+function filesIn(path, isGiven = true) {
+  const status = statSync(path, { throwIfNoEntry: false });
+  if (!status && isGiven) throw new Fault(`${path}: no such file`);
+  if (!status) return [];
+  if (status.isDirectory()) return readdirSync(path).sort().flatMap((name) => filesIn(join(path, name), false));
+  return isGiven || (/\.[cm]?js$/.test(path) && status.size > SIZES[0] && status.size < SIZES[1]) ? [path] : [];
+}
+
+// Some of them by chance.
+function chosen(paths, count, seed) {
+  const next = dice(seed), left = [...paths], found = [];
+  while (found.length < count && left.length) found.push(...left.splice(next() % left.length, 1));
+  return found;
+}
+
+const countParens = (tree) => (JSON.stringify(tree).match(/"Paren":/g) || []).length;
+
+class Trial {
+  constructor({ program, minified }) {
+    Object.assign(this, { program, minified, words: minified ? ['--minify'] : [], found: new Map() });
+    this.counts = {
+      files: 0, bytes: 0, unparsed: 0, outOfScope: 0, unprinted: 0, derivations: 0, same: 0, sameAsFile: 0, inFiles: 0, byPass: 0, bareSame: 0, bareOther: 0,
+      disagreements: 0,
+    };
+  }
+
+  note(what, path) {
+    this.found.set(what, [...(this.found.get(what) || []), path]);
+    this.counts.disagreements++;
+  }
+
+  faults(tree, options = {}) {
+    return check(tree, { annexB: true, strictWords: false, ...options });
+  }
+
+  // The file as a script, or else as a module.
+  parsed(path) {
+    const text = textOf(path), asScript = read(text, false);
+    if (!asScript.error && !asScript.errors.length) return { text, isModule: false, ...asScript };
+    return { text, isModule: true, ...read(text, true) };
+  }
+
+  look(path) {
+    const { text, isModule, tree, error } = this.parsed(path);
+    if (error) return this.counts.unparsed++;
+    const faults = this.faults(tree);
+    if (faults.some(({ kind }) => kind === 'scope')) return this.counts.outOfScope++;
+    const stripped = bare(tree), mended = parenthesize(stripped), made = printed(this.program, this.words, mended);
+    if (made === null) return this.counts.unprinted++;
+    this.counts.files++;
+    this.counts.bytes += text.length;
+    this.counts.inFiles += countParens(tree);
+    this.counts.byPass += countParens(mended);
+    if (faults.length === 0) this.counts.derivations++;
+    else this.note(`its own tree has a fault: ${faults[0].kind}, ${faults[0].what}`, path);
+    if (!faults.length && this.faults(mended).length) this.note('a fault is left by the pass', path);
+    this.lookAtMended(path, made, mended, stripped, isModule);
+    return this.lookAtBare(path, stripped, isModule);
+  }
+
+  lookAtMended(path, text, mended, stripped, isModule) {
+    const again = read(text, isModule);
+    if (again.error) return this.note(`the text after the pass is none: ${again.error}`, path);
+    if (areSame(again.tree, mended, this.minified)) this.counts.same++;
+    else this.note('the text after the pass is read as another tree', path);
+    if (areSame(bare(again.tree), stripped, this.minified)) this.counts.sameAsFile++;
+    else this.note('the text after the pass is another program', path);
+    return null;
+  }
+
+  // Without the pass the table tells which files break.
+  lookAtBare(path, stripped, isModule) {
+    const text = printed(this.program, this.words, stripped);
+    if (text === null) return;
+    const derives = this.faults(stripped, { minified: this.minified }).length === 0, again = read(text, isModule);
+    const isSame = !again.error && areSame(again.tree, stripped, this.minified);
+    this.counts[isSame ? 'bareSame' : 'bareOther']++;
+    if (isSame !== derives) this.note(`without parentheses: ${derives ? 'no fault' : 'a fault'} by the table, ${isSame ? 'the same' : 'another'} tree by Babel`, path);
+  }
+}
+
+// Tries the files, and says whether the table and Babel agree.
+function tryFiles(paths, options) {
+  const all = [...new Set(paths.flatMap((path) => filesIn(path)))], trial = new Trial(options);
+  if (all.length === 0) throw new Fault(`no files of JavaScript in ${paths.join(' ')}`);
+  (options.files ? chosen(all, options.files, options.from || 1) : all).forEach((path) => trial.look(path));
+  const { counts } = trial;
+  console.log(`${counts.files} files, ${(counts.bytes / 1e6).toFixed(1)} MB (besides ${counts.unparsed} not parsed, ${counts.outOfScope} out of scope, `
+    + `${counts.unprinted} not printed): ${counts.derivations} are derivations; without their parentheses and after the pass ${counts.same} are read as the same tree, `
+    + `${counts.sameAsFile} as that of the file but for parentheses`);
+  console.log(`${counts.inFiles} pairs of parentheses in the files, ${counts.byPass} by the pass; without any ${counts.bareSame} are read as the same tree, `
+    + `${counts.bareOther} as another or none; ${counts.disagreements} disagreements`);
+  for (const [what, at] of trial.found) console.log(`  ${at.length} x ${what}: ${at.slice(0, 3).join(' ')}`);
+  return counts.disagreements === 0;
+}
+
+module.exports = { tryFiles };
