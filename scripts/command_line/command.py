@@ -3,6 +3,7 @@
 import json
 import os
 import re
+import shutil
 import subprocess
 import sys
 
@@ -57,6 +58,13 @@ def words_of(usage):
     first = next(at for at, line in enumerate(lines) if line.startswith("usage:"))
     last = next((at for at in range(first, len(lines)) if not lines[at].strip()), len(lines))
     return "\n".join(lines[first:last])
+
+
+def program(path):
+    """The path of a program that can be run; there is no answer for another."""
+    if shutil.which(path) is None:
+        sys.exit(f"{path}: no such program")
+    return path
 
 
 def text_of(path):

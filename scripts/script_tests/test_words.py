@@ -14,7 +14,7 @@ ALL = sorted(
 BUSY = ["build", "build-bench", "jsx-trees", "make-cases", "read-back", "test", "try-links", "try-runs", "try-tests", "try-trees", "ts-trees"]
 
 
-MISSING = "/missing/file"
+MISSING = f"{os.path.abspath(__file__)}/missing"  # below a file nothing can be made either
 
 
 def answers(asked):
