@@ -1,6 +1,7 @@
 'use strict';
 // The tree of a source text: what Babel's parser makes of it, in the JSON that `ecmagen` reads. Each file beside this one has
 // the methods for an area of the tree; those for a sum go by Babel's name of the node.
+const { NoTree } = require('./files.js');
 const { Source } = require('./source.js');
 const { parsed } = require('./parser.js');
 const { commentsOf } = require('./comments.js');
@@ -14,8 +15,9 @@ class Tree extends Source {
     this.warnings = []; // each with its line
   }
 
+  // (of an AST alone the line may be unknown)
   warn(line, what) {
-    this.warnings.push(`${line}: warning: ${what}`);
+    this.warnings.push(`${line ? `${line}:` : ''} warning: ${what}`);
   }
 
   // A node of a list each, by the method of this name.
@@ -28,8 +30,7 @@ class Tree extends Source {
   }
 
   refuse(node, wanted) {
-    const { line, column } = node.loc.start;
-    throw Object.assign(new Error(`${node.type} is not ${wanted}`), { loc: { line, column } });
+    throw new NoTree(`${node.type} is not ${wanted}`, node.loc ? node.loc.start : null);
   }
 }
 
@@ -54,4 +55,4 @@ function treeOf(text, options) {
   return { tree, comments, source, warnings: source.warnings, errors: file.errors || [] };
 }
 
-module.exports = { treeOf };
+module.exports = { Tree, MOST_LEVELS, treeOf };
