@@ -4,6 +4,7 @@ const { writeFileSync } = require('fs');
 const { Fault, faultOf, textOf, located, titleOf } = require('../tree_of/files.js');
 const { treeOf } = require('../tree_of/tree.js');
 const { asked } = require('./words.js');
+const { keepLines } = require('./lines.js');
 const { printed } = require('./programs.js');
 const { withMap } = require('./maps.js');
 
@@ -32,6 +33,7 @@ function main() {
   }
   const file = parsed(options);
   file.warnings.forEach((warning) => console.error(`${titleOf(options.path)}:${warning}`));
+  keepLines(file, options);
   const { text, positions } = printed(file, options);
   if (options.map) {
     const { text: marked, map } = withMap(text, positions, file, options);

@@ -48,6 +48,11 @@ class Printing(unittest.TestCase):
         ran = run("print", "-", "--comments", "--any", given="a = '\\\\ud800'")
         self.assertEqual((ran.returncode, ran.stdout), (0, "a = '\\\\ud800';\n"))
 
+    def test_lines_of_arrays_are_those_of_the_source(self):
+        text = "a = [1, 2];\nb = [\n    [c, d],\n    [\n        e // f\n    ], ...[g]\n];\n"
+        self.assertEqual(self.printed("a.js", text, "--comments"), text)
+        self.assertEqual(self.printed("a.js", text), text.replace(" // f", ""))
+
     def test_target(self):
         self.assertEqual(self.printed("a.js", "a = 1_000", "--target", "es2020"), "a = 1000;\n")
 
