@@ -60,11 +60,11 @@ def words_of(usage):
     return "\n".join(lines[first:last])
 
 
-def program(path):
-    """The path of a program that can be run; there is no answer for another."""
-    if shutil.which(path) is None:
-        sys.exit(f"{path}: no such program")
-    return path
+def check_programs(*commands):
+    """Ends where one of these is no program that can be run. Behind its path a command may have words."""
+    for path in (command.split()[0] for command in commands if command.strip()):
+        if shutil.which(path) is None:
+            sys.exit(f"{path}: no such program")
 
 
 def text_of(path):

@@ -71,7 +71,7 @@ class Trees(unittest.TestCase):
             path = write(folder, "program", "")
             for name in ("try-inputs", "try-depth", "try-places"):
                 with self.subTest(script=name):
-                    self.assertEqual(run(name, path).stderr, f"{path}: Permission denied\n")
+                    self.assertEqual(run(name, path).stderr, f"{path}: no such program\n")
 
 
 if __name__ == "__main__":
