@@ -32,9 +32,11 @@ function main() {
     process.exit(2);
   }
   const file = parsed(options);
-  file.warnings.forEach((warning) => console.error(`${titleOf(options.path)}:${warning}`));
+  const warn = (warning) => console.error(`${titleOf(options.path)}:${warning}`);
+  file.warnings.forEach(warn);
   keepLines(file, options);
-  const { text, positions } = printed(file, options);
+  const { text, positions, warnings } = printed(file, options);
+  warnings.forEach(warn);
   if (options.map) {
     const { text: marked, map } = withMap(text, positions, file, options);
     if (map !== null) written(`${options.out}.map`, map);

@@ -28,13 +28,18 @@ function namesOf(tree) {
   return found;
 }
 
-// Where a place that the program tells, in its lines, stands in the text by the lines that readers of maps have.
+// What a name may begin with in a text: as a key it may be a string.
+const NAME_START = /[\p{ID_Start}$_\\"]/u;
+
+// Where a place that the program tells, in its lines, stands in the text by the lines that readers of maps have, and whether a name may begin there: where
+// a semicolon was held back a statement begins before it.
 function placesIn(text) {
   const counted = [0, ...Array.from(text.matchAll(COUNTED_LINE_END), (found) => found.index + found[0].length)];
   const lines = lineStarts(text);
   return (line, column) => {
     const at = counted[line] + column, real = countUpTo(lines, at);
-    return { line: real, column: at - lines[real - 1] };
+    const isName = at < text.length && NAME_START.test(String.fromCodePoint(text.codePointAt(at)));
+    return { generated: { line: real, column: at - lines[real - 1] }, isName };
   };
 }
 
@@ -45,8 +50,8 @@ function mapOf(text, positions, { source, tree }, { path, out }) {
   const placeOf = placesIn(text), names = namesOf(tree);
   map.setSourceContent(title, source.text);
   for (const [position, line, column] of positions) {
-    const original = source.placeAt(source.offsetOf(position));
-    map.addMapping({ source: title, original, generated: placeOf(line, column), name: names.get(position) });
+    const original = source.placeAt(source.offsetOf(position)), { generated, isName } = placeOf(line, column);
+    map.addMapping({ source: title, original, generated, name: isName ? names.get(position) : undefined });
   }
   return map.toString();
 }

@@ -27,24 +27,33 @@ function ran(program, words, input) {
 
 const pairsOf = (lines) => lines.split('\n').filter((line) => line).map((line) => line.split(' ').map(Number));
 
-// A text and its positions by `ecmagen`, of a tree without comments.
+// A text and its positions, with warnings, by `ecmagen`, of a tree without comments.
 function withoutComments({ tree }, { program, path, settings, map, positions }) {
   const words = map || positions ? [...settings, '--positions'] : settings;
   const answer = ran(program || made('ecmagen', 'ecmagen'), words, JSON.stringify(tree));
   if (answer.status === 2) throw Object.assign(new Fault(`wrong words: ${settings.join(' ')}`), { status: 2 });
   if (answer.status !== 0) throw new Fault(`${titleOf(path)}: ${answer.stderr.trim()}`);
-  return { text: answer.stdout, positions: pairsOf(answer.stderr) };
+  return { text: answer.stdout, positions: pairsOf(answer.stderr), warnings: [] };
+}
+
+// A warning for each comment that nothing took: where it would stand the grammar has no place, or swc takes none.
+function warningsOf(left, source) {
+  return Object.values(left).flatMap((places) => Object.entries(places)).flatMap(([position, texts]) => texts.map((text) => {
+    const { line } = source.placeAt(source.offsetOf(Number(position)));
+    return `${line}: warning: a comment here has no place in the text, and is left out: ${JSON.stringify(text.trim().slice(0, 40))}`;
+  }));
 }
 
 // The same with comments, by a request in a line of JSON.
-function withComments({ tree, comments }, { program, path, settings, map, positions }) {
+function withComments({ tree, comments, source }, { program, path, settings, map, positions }) {
   const args = map || positions ? [...settings, '--positions'] : settings;
   const answer = ran(program || made('comments', 'swc_ecma_codegen_comments'), [], JSON.stringify({ args, tree, comments }) + '\n');
   if (answer.status !== 0 || !answer.stdout) throw new Fault(`${titleOf(path)}: ${answer.stderr.trim() || 'no answer'}`);
-  const { status, out, err, positions: pairs } = JSON.parse(answer.stdout);
+  const { status, out, err, positions: pairs, left } = JSON.parse(answer.stdout);
   if (err === 'wrong words') throw Object.assign(new Fault(`wrong words: ${settings.join(' ')}`), { status: 2 });
-  if (status !== 0) throw new Fault(`${titleOf(path)}: ${err}`);
-  return { text: out, positions: pairs };
+  // (a request that nests too deep is none)
+  if (status !== 0) throw new Fault(`${titleOf(path)}: ${err.replace('bad request', 'bad tree')}`);
+  return { text: out, positions: pairs, warnings: warningsOf(left, source) };
 }
 
 const printed = (file, options) => (options.comments ? withComments : withoutComments)(file, options);

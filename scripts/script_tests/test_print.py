@@ -38,6 +38,11 @@ class Printing(unittest.TestCase):
         self.assertEqual(self.printed("a.js", text, "--comments"), "// one\na(/* two */ b); // three\n")
         self.assertNotIn("one", self.printed("a.js", text))
 
+    def test_comments_that_have_no_place_are_told(self):
+        ran = run("print", "-", "--comments", given="a;\nb(/* c */)")
+        self.assertEqual((ran.returncode, ran.stdout), (0, "a;\nb();\n"))
+        self.assertEqual(ran.stderr, 'standard input:2: warning: a comment here has no place in the text, and is left out: "c"\n')
+
     def test_words_of_ecmagen_with_comments(self):
         text = self.printed("a.js", "/* c */ aaaaaaaa(bbbbbbbb, cccccccc, dddddddd)", "--comments", "--minify", "--max-line", "20")
         self.assertEqual(max(len(line) for line in text.split("\n")), 18)
