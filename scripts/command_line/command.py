@@ -78,12 +78,33 @@ def text_of(path):
 
 def json_of(path):
     """The value of a file of JSON, or of standard input where the path is `-`."""
+    try:
+        return parsed(text_of(path), path)
+    except json.JSONDecodeError as error:
+        sys.exit(f"{path}:{error.lineno}:{error.colno}: no JSON: {error.msg}")
+
+
+def trees_of(path):
+    """The trees of a file, each with a name: one of JSON, or one a line, as `{"tree":..}` too."""
     text = text_of(path)
+    try:
+        found = [(path, parsed(text, path))]
+    except json.JSONDecodeError as error:
+        found, whole = [], error
+        for at, line in enumerate(text.split("\n"), 1):
+            try:
+                found += [(f"{path}:{at}", parsed(line, path))] if line else []
+            except json.JSONDecodeError as of_line:
+                # (where none of its lines is JSON it is one text)
+                where = whole if not found else of_line
+                sys.exit(f"{path}:{where.lineno if not found else at}:{where.colno}: no JSON: {where.msg}")
+    return [(name, tree.get("tree", tree) if isinstance(tree, dict) else tree) for name, tree in found]
+
+
+def parsed(text, path):
     if text.startswith("\ufeff"):
         sys.exit(f"{path}: it begins with a byte order mark, which JSON has none of")
     try:
         return json.loads(text)
-    except json.JSONDecodeError as error:
-        sys.exit(f"{path}:{error.lineno}:{error.colno}: no JSON: {error.msg}")
     except RecursionError:
         sys.exit(f"{path}: its JSON nests too deep")

@@ -5,6 +5,7 @@ import os
 import random
 import subprocess
 
+import command
 from varied import varied
 
 TOGETHER = 200  # statements in a script that is made
@@ -179,15 +180,8 @@ def given(paths):
     for path in paths:
         names = sorted(os.path.join(path, name) for name in os.listdir(path)) if os.path.isdir(path) else [path]
         for name in names:
-            with open(name, encoding="utf-8") as file:
-                text = file.read()
-            try:
-                yield json.loads(text)
-            except json.JSONDecodeError:
-                for line in text.split("\n"):
-                    if line:
-                        tree = json.loads(line)
-                        yield tree.get("tree", tree)
+            for _, tree in command.trees_of(name):
+                yield tree
 
 
 def option(words, name, default):

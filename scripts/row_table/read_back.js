@@ -61,7 +61,7 @@ function frames(text, isTyped, isFile) {
 // and files of declarations alone.
 function plugins(isTyped, isFile) {
   const others = PLUGINS.slice(1), old = PLUGINS.map((name) => (name === 'decorators' ? 'decorators-legacy' : name));
-  const typed = [['typescript', ...PLUGINS], ['typescript', ...old], ['typescript', ...others], [['typescript', { dts: true }], ...others]];
+  const typed = [['typescript', ...PLUGINS], ['typescript', ...old], ['typescript', ...others], ['typescript', ...old.slice(1)], [['typescript', { dts: true }], ...others]];
   if (isTyped) return typed;
   return isFile ? [PLUGINS, ...typed] : [PLUGINS];
 }

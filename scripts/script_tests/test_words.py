@@ -54,7 +54,7 @@ class Trees(unittest.TestCase):
     def test_a_byte_order_mark_before_json(self):
         with tempfile.TemporaryDirectory() as folder:
             path = write(folder, "a.json", '\ufeff{"Script":{"span":{"lo":0,"hi":0},"body":[],"shebang":null}}')
-            for name, words in (("print-with-comments", [path, path]), ("join-trees", ["1", path])):
+            for name, words in (("print-with-comments", [path, path]), ("join-trees", ["1", path]), ("read-back", ["true", path]), ("try-lines", ["true", path])):
                 with self.subTest(script=name):
                     ran = run(name, *words)
                     self.assertEqual((ran.returncode, ran.stdout), (1, ""))
@@ -65,6 +65,9 @@ class Trees(unittest.TestCase):
             path = write(folder, "a.json", '{"Script":\n  nix}')
             ran = run("print-with-comments", path, path)
             self.assertEqual(ran.stderr, f"{path}:2:3: no JSON: Expecting value\n")
+            self.assertEqual(run("read-back", "true", path).stderr, f"{path}:2:3: no JSON: Expecting value\n")
+            path = write(folder, "b.json", '{"tree":{}}\n{"tree":nix}\n')
+            self.assertEqual(run("try-lines", "true", path).stderr, f"{path}:2:9: no JSON: Expecting value\n")
 
     def test_programs_that_cannot_be_run(self):
         with tempfile.TemporaryDirectory() as folder:
