@@ -4,21 +4,23 @@ const DEEPEST = 118; // the program reads 127 levels of JSON, some of which stan
 const ROOTS = ['Expr', 'Stmt', 'ModuleItem', 'Program'];
 const options = { seed: 1, n: 10, size: 40, root: 'Expr', plain: false };
 
-// Ends with what the words are to be: the comment at the head of the script.
-function tellWords(status) {
-  const [, said] = /'use strict';\n((?:\/\/.*\n)+)/.exec(require('fs').readFileSync(process.argv[1], 'utf8'));
-  (status === 0 ? console.log : console.error)(said.replace(/^\/\/ ?/gm, '').trim());
-  process.exit(status);
+// Ends with the comment at the head of the script, or with its line of words where they are wrong.
+function tellWords(areWrong) {
+  const [, head] = /'use strict';\n((?:\/\/.*\n)+)/.exec(require('fs').readFileSync(process.argv[1], 'utf8'));
+  const text = head.replace(/^\/\/ ?/gm, '').trim();
+  if (areWrong) console.error(`${/^usage:.*/m.exec(text)[0]} (--help tells more)`);
+  else console.log(text);
+  process.exit(areWrong ? 2 : 0);
 }
 
 function take(words) {
-  if (words.includes('-h') || words.includes('--help')) tellWords(0);
+  if (words.includes('-h') || words.includes('--help')) tellWords(false);
   for (let at = 0; at < words.length; at++) {
     const name = words[at].slice(2), value = words[at + 1];
     if (words[at] === '--plain') options.plain = true;
     else if (words[at] === '--root' && ROOTS.includes(value)) options.root = words[++at];
     else if (['--seed', '--n', '--size'].includes(words[at]) && /^\d+$/.test(value)) options[name] = Number(words[++at]);
-    else tellWords(2);
+    else tellWords(true);
   }
 }
 
