@@ -7,10 +7,11 @@ const { Fault, faultOf, titleOf } = require('../tree_of/files.js');
 
 const TOP = join(__dirname, '../..');
 
-// The program of this name in out/, which is built where it isn't there yet.
+// The program of this name, unproved or as `rt ci` leaves it; it is built where neither is there.
 function made(name, crate) {
-  const path = join(TOP, 'out', crate);
+  const path = join(TOP, 'out', crate), proved = join(TOP, 'crates', crate, 'out', crate);
   if (existsSync(path)) return path;
+  if (existsSync(proved)) return proved;
   console.error(`${relative('', path) || path} is not there yet, and is built now`);
   const built = spawnSync(join(TOP, 'scripts/build'), [name], { stdio: ['ignore', 2, 2] });
   if (built.status !== 0) throw new Fault(`no program to print with: scripts/build ${name} failed`);

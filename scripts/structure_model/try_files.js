@@ -45,9 +45,15 @@ class Trial {
     return check(tree, { annexB: true, strictWords: false, ...options });
   }
 
-  // The file as a script, or else as a module.
+  // The file as a script, or else as a module, or why it is neither.
   parsed(path) {
-    const text = textOf(path), asScript = read(text, false);
+    let text;
+    try {
+      text = textOf(path);
+    } catch (error) {
+      return { error };
+    }
+    const asScript = read(text, false);
     if (!asScript.error && !asScript.errors.length) return { text, isModule: false, ...asScript };
     return { text, isModule: true, ...read(text, true) };
   }
