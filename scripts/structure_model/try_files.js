@@ -93,7 +93,8 @@ class Trial {
     const derives = this.faults(stripped, { minified: this.minified }).length === 0, again = read(text, isModule);
     const isSame = !again.error && areSame(again.tree, stripped, this.minified);
     this.counts[isSame ? 'bareSame' : 'bareOther']++;
-    if (isSame !== derives) this.note(`without parentheses: ${derives ? 'no fault' : 'a fault'} by the table, ${isSame ? 'the same' : 'another'} tree by Babel`, path);
+    if (isSame === derives) return;
+    this.note(`without parentheses: ${derives ? 'no fault' : 'a fault'} by the table, ${isSame ? 'the same' : 'another'} tree by Babel`, path);
   }
 }
 
@@ -104,7 +105,8 @@ function tryFiles(paths, options) {
   (options.files ? chosen(all, options.files, options.from || 1) : all).forEach((path) => trial.look(path));
   const { counts } = trial;
   console.log(`${counts.files} files, ${(counts.bytes / 1e6).toFixed(1)} MB (besides ${counts.unparsed} not parsed, ${counts.outOfScope} out of scope, `
-    + `${counts.unprinted} not printed): ${counts.derivations} are derivations; without their parentheses and after the pass ${counts.same} are read as the same tree, `
+    + `${counts.unprinted} not printed): ${counts.derivations} are derivations; `
+    + `without their parentheses and after the pass ${counts.same} are read as the same tree, `
     + `${counts.sameAsFile} as that of the file but for parentheses`);
   console.log(`${counts.inFiles} pairs of parentheses in the files, ${counts.byPass} by the pass; without any ${counts.bareSame} are read as the same tree, `
     + `${counts.bareOther} as another or none; ${counts.disagreements} disagreements`);

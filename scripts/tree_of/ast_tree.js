@@ -23,6 +23,9 @@ function rawOf(node) {
   return read && read.type === node.type && areWorthTheSame(node, read) ? raw : null;
 }
 
+// Where the AST says that a node stands.
+const placeOf = (node) => (node && node.loc ? node.loc.start : null);
+
 const REFERENCES = { '&': '&amp;', '<': '&lt;', '>': '&gt;', '{': '&#123;', '}': '&#125;', '"': '&quot;' };
 const referenced = (text, marks) => text.replace(marks, (mark) => REFERENCES[mark]);
 
@@ -66,7 +69,7 @@ class AstTree extends Tree {
   number(node) {
     const raw = rawOf(node);
     if (raw !== null) return { span: this.span(node), ...numberOf(raw, node.value === null ? Infinity : node.value) };
-    if (!Number.isFinite(node.value)) throw new NoTree('a number has no value', node.loc ? node.loc.start : null);
+    if (!Number.isFinite(node.value)) throw new NoTree('a number has no value', placeOf(node));
     const { value } = numberOf(String(Math.abs(node.value)), Math.abs(node.value));
     return { span: this.span(node), value: node.value < 0 ? { Finite: { ...value.Finite, negative: true } } : value, raw: null };
   }
@@ -79,14 +82,16 @@ class AstTree extends Tree {
   jsxString(node) {
     const raw = `"${referenced(node.value, /[&"]/g)}"`, given = node.extra && node.extra.raw;
     const read = given ? expressionOf(`<a b=${given}/>`) : null;
-    const isSame = read && read.type === 'JSXElement' && read.openingElement.attributes.length === 1 && read.openingElement.attributes[0].value.value === node.value;
+    const attributes = read && read.type === 'JSXElement' ? read.openingElement.attributes : [];
+    const isSame = attributes.length === 1 && attributes[0].value.value === node.value;
     return { span: this.span(node), value: wellFormed(node.value), raw: wellFormed(isSame ? given : raw) };
   }
 
   jsxText(node) {
     const given = typeof node.raw === 'string' ? node.raw : node.extra && node.extra.raw;
     const read = given ? expressionOf(`<>${given}</>`) : null;
-    const isSame = read && read.type === 'JSXFragment' && read.children.length === 1 && read.children[0].type === 'JSXText' && read.children[0].value === node.value;
+    const children = read && read.type === 'JSXFragment' ? read.children : [];
+    const isSame = children.length === 1 && children[0].type === 'JSXText' && children[0].value === node.value;
     const spelled = wellFormed(isSame ? referenced(given, /[>}]/g) : referenced(node.value, /[&<>{}]/g));
     return { span: this.span(node), value: spelled, raw: spelled };
   }
@@ -99,7 +104,7 @@ class AstTree extends Tree {
 
 for (const name of ['expr', 'stmt', 'pat', 'type', 'moduleItem', 'classMember', 'property', 'jsxChild']) {
   AstTree.prototype[name] = function kept(node) {
-    if (!isNode(node)) throw new NoTree(`${this.at ? this.at.type : 'the AST'} lacks a node that belongs there`, this.at && this.at.loc ? this.at.loc.start : null);
+    if (!isNode(node)) throw new NoTree(`${this.at ? this.at.type : 'the AST'} lacks a node that belongs there`, placeOf(this.at));
     this.at = node;
     return Tree.prototype[name].call(this, node);
   };
@@ -120,7 +125,7 @@ function treeOfAst(value, options) {
     tree = source.program({ program });
   } catch (error) {
     if (!(error instanceof TypeError)) throw error;
-    throw new NoTree(`${source.at ? source.at.type : 'Program'} lacks a part that its type has: ${error.message}`, source.at && source.at.loc ? source.at.loc.start : null);
+    throw new NoTree(`${source.at ? source.at.type : 'Program'} lacks a part that its type has: ${error.message}`, placeOf(source.at));
   }
   const { levels } = deepest(tree, MOST_LEVELS);
   if (levels > MOST_LEVELS) source.warn(null, `the JSON nests ${levels} levels deep, past the ${MOST_LEVELS} that ecmagen reads`);
