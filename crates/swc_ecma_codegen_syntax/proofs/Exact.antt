@@ -1,0 +1,275 @@
+-- The check is exact: what is told of a tree decides which lists are derived with it.
+use Rattle.std.proofs.Common.{◌≡◌, ◌↔◌, ◌⊎◌, inl, inr, ℕ, Bool, true, false, ◌&&◌, ◌||◌, not, List, [], ◌∷◌, ◌++◌, refl, sym, subst, ◌∙◌, ap, ap₂}
+use Rattle.std.proofs.lemmas.Bool.{true≢false, and_parts, and_from, or_cases}
+use Rattle.swc_ecma_codegen_tree.specs.declared.links.AnyNode.{AnyNode, AnyNode-F, map-AnyNode, roll-AnyNode, out-AnyNode, ind-AnyNode}
+use Rattle.swc_ecma_codegen_tree.specs.declared.links.AnyNode.TheOpen as nodes
+use Rattle.swc_ecma_codegen_tree.specs.declared.links.AnyNode.TheViews.{roll-out-AnyNode, out-roll-AnyNode}
+use Rattle.swc_ecma_codegen_tree.specs.declared.links.AnyNode.TheVariants as whole
+use Rattle.swc_ecma_codegen_tree.specs.declared.exprs.Expr.{Expr}
+use Rattle.swc_ecma_codegen_tree.specs.declared.exprs.Expr.TheVariants as exprs
+use Rattle.swc_ecma_codegen_tree.specs.declared.parts.ExprPart.{ExprPart}
+use Rattle.swc_ecma_codegen_grammar.specs.Phrases.{Phrase, Closing, Never, Nothing, One, NameOf, KeyOf, PrivateOf, TagNameOf, Then, CommaBefore, OptionalParentheses, Chosen, Generates, closing_mark, mark}
+use Rattle.swc_ecma_codegen_grammar.specs.Settings.{Settings}
+use Rattle.swc_ecma_codegen_grammar.specs.Tokens.{Token}
+use Rattle.swc_ecma_codegen_grammar.specs.TreePhrases.{node_phrase, phrase}
+use Rattle.swc_ecma_codegen_grammar.specs.declared.roles.Role.{Role}
+use Rattle.swc_ecma_codegen_grammar.specs.declared.roles.Role.TheVariants.{Expression, Callee, ChainMember, TaggedTemplate}
+use Rattle.swc_ecma_codegen_grammar.proofs.TreeLaws.{phrase_of, phrase_at}
+use Rattle.swc_ecma_codegen_syntax.specs.declared.nonterminals.Nonterminal.{Nonterminal}
+use Rattle.swc_ecma_codegen_syntax.specs.declared.nonterminals.Nonterminal.TheVariants as nt
+use Rattle.swc_ecma_codegen_syntax.specs.declared.parameters.Parameters.{Parameters}
+use Rattle.swc_ecma_codegen_syntax.specs.declared.verdicts.Facts.{Facts}
+use Rattle.swc_ecma_codegen_syntax.specs.declared.verdicts.Verdict.{Verdict}
+use Rattle.swc_ecma_codegen_syntax.specs.Nonterminals.{takes, is_member, is_new, is_call, is_callee, is_chained, is_left_hand_side, is_update, is_unary, is_exponentiation, is_multiplicative, is_additive, is_shift, is_relational, is_in_left, is_equality, is_bitwise_and, is_bitwise_xor, is_bitwise_or, is_logical_and, is_logical_or, is_coalesce_head, is_short_circuit, is_conditional, is_assignment, is_expression, is_assignment_target, is_pattern_target, is_pattern_element, is_last_element, is_coalesce, is_private, is_optional, is_primary, is_template, is_property_name, is_chain_link, is_assignment_pattern, is_pattern_name, is_rest, is_uncovered}
+use Rattle.swc_ecma_codegen_syntax.specs.Verdicts.{unasked, by_scope, holds, is_mended}
+use Rattle.swc_ecma_codegen_syntax.specs.Parameters.{with_in}
+use Rattle.swc_ecma_codegen_syntax.specs.Forms.{Form, Fixed, Part, Simple, Both, Provided, NoComma, Bare, Cure, map_form, forget, asked, judge, keeps, is_met, stands, is_target}
+use Rattle.swc_ecma_codegen_syntax.specs.MemberForms.{prop_form, member_form, type_args_form, tagged_form}
+use Rattle.swc_ecma_codegen_syntax.specs.ExprForms.{call_or_member, expr_form, expr_nonterminal}
+use Rattle.swc_ecma_codegen_syntax.specs.NodeForms.{node_form, node_nonterminal, part_form, part_nonterminal, is_simple_expr, is_simple_node, is_simple, is_name_node, is_name_expr, is_called, is_called_node, simple_told, expr_facts, part_facts, node_facts, facts}
+use Rattle.swc_ecma_codegen_syntax.specs.Derives.{Derives, fixed, part, simple, both, provided, no_comma, bare, bare_phrase}
+use Rattle.swc_ecma_codegen_syntax.proofs.Judged.{judged, keeps_mapped, forget_mapped}
+use Rattle.swc_ecma_codegen_syntax.proofs.TreeFacts.{node_mapped, sort_mapped, name_mapped, facts_of, facts_at, simple_of}
+use Rattle.swc_ecma_codegen_syntax.proofs.PatForgets.{node_forgets}
+
+-- ---- what is told of a node is what its form says
+
+told_nonterminal : {X : Type 0} (f : X → Role → Parameters → Facts) (n : AnyNode-F X) (role : Role) (c : Parameters) → (node_facts f n role c).nonterminal ≡ node_nonterminal (is_called_node f c n) c n role
+unfolding node_facts expr_facts part_facts node_nonterminal is_called_node
+told_nonterminal f (nodes.Expr n) Expression c = refl
+told_nonterminal f (nodes.Expr n) Callee c = refl
+told_nonterminal f (nodes.MemberExpr n) (ChainMember optional) c = refl
+told_nonterminal f (nodes.ExprPart n) role c = refl
+told_nonterminal f n role c = refl
+
+told_verdict : {X : Type 0} (f : X → Role → Parameters → Facts) (n : AnyNode-F X) (role : Role) (c : Parameters) → (node_facts f n role c).verdict ≡ judge f unasked (node_form (is_called_node f c n) c n role)
+unfolding node_facts expr_facts part_facts node_form is_called_node judge asked by_scope
+told_verdict f (nodes.Expr n) Expression c = refl
+told_verdict f (nodes.Expr n) Callee c = refl
+told_verdict f (nodes.MemberExpr n) (ChainMember optional) c = refl
+told_verdict f (nodes.ExprPart n) role c = refl
+told_verdict f n role c = refl
+
+or_same : (b : Bool) → (b || false) ≡ true → b ≡ true
+or_same true h = refl
+or_same false h = h
+
+pub unasked_holds : (places : Bool) → holds places unasked ≡ true
+unfolding holds
+unasked_holds true = refl
+unasked_holds false = refl
+
+told_keeps : {X : Type 0} (places : Bool) (f : X → Role → Parameters → Facts) (n : AnyNode-F X) (role : Role) (c : Parameters) → holds places (node_facts f n role c).verdict ≡ keeps places f (node_form (is_called_node f c n) c n role)
+told_keeps places f n role c =
+    ap (holds places) (told_verdict f n role c) ∙ judged places f unasked (node_form (is_called_node f c n) c n role)
+    ∙ ap (λ b. b && keeps places f (node_form (is_called_node f c n) c n role)) (unasked_holds places)
+
+-- ---- of the two productions of a member, what is told takes the one that its object has
+
+call_no_member : (t : Nonterminal) → is_call t ≡ true → takes nt.MemberExpression t ≡ false
+unfolding is_call takes is_member
+call_no_member nt.CallExpression h = refl
+call_no_member t h = absurd (true≢false (sym h))
+
+member_primary : (place : Nonterminal) → takes place nt.MemberExpression ≡ true → takes place nt.PrimaryExpression ≡ true
+unfolding takes is_member is_new is_call is_callee is_chained is_left_hand_side is_update is_unary is_exponentiation is_multiplicative is_additive is_shift is_relational is_in_left is_equality is_bitwise_and is_bitwise_xor is_bitwise_or is_logical_and is_logical_or is_coalesce_head is_short_circuit is_conditional is_assignment is_expression is_assignment_target is_pattern_target is_pattern_element is_last_element is_coalesce is_private is_optional is_primary is_template is_property_name is_chain_link is_assignment_pattern is_pattern_name is_rest is_uncovered
+member_primary nt.PrimaryExpression h = refl
+member_primary place h = h
+
+or_right : (a b : Bool) → b ≡ true → (a || b) ≡ true
+or_right true b h = refl
+or_right false b h = h
+
+or_left : (a b : Bool) → a ≡ true → (a || b) ≡ true
+or_left true b h = refl
+or_left false b h = absurd (true≢false (sym h))
+
+-- a place that takes a member, or is mended for one, takes what stands in parentheses
+place_primary : (place : Nonterminal) → (takes place nt.MemberExpression ≡ true) ⊎ (is_mended place nt.MemberExpression ≡ true) → takes place nt.PrimaryExpression ≡ true
+unfolding is_mended
+place_primary place (inl h) = member_primary place h
+place_primary place (inr h) = (and_parts (takes place nt.PrimaryExpression) (takes nt.Expression nt.MemberExpression) h).0
+
+call_mended : (place : Nonterminal) → takes place nt.PrimaryExpression ≡ true → is_mended place nt.CallExpression ≡ true
+unfolding is_mended takes is_expression is_assignment is_conditional is_short_circuit is_logical_or is_logical_and is_bitwise_or is_bitwise_xor is_bitwise_and is_equality is_relational is_shift is_additive is_multiplicative is_exponentiation is_unary is_update is_left_hand_side
+call_mended place h = and_from (takes place nt.PrimaryExpression) true h refl
+
+abbrev Chosen2 : Bool → Nonterminal → Bool → Nonterminal → Type 0
+Chosen2 places place called t = (stands places place (call_or_member called) ≡ true) × (stands places (call_or_member called) t ≡ true)
+
+chosen_call : (places : Bool) (place t : Nonterminal) (b : Bool) → is_call t ≡ b → stands places place nt.MemberExpression ≡ true → stands places nt.MemberExpression t ≡ true → Chosen2 places place b t
+unfolding stands takes is_call
+chosen_call places place t false e s k = (s, k)
+chosen_call true place t true e s k = absurd (true≢false (sym (or_same (takes nt.MemberExpression t) k) ∙ call_no_member t e))
+chosen_call false place t true e s k = (
+  or_right (takes place nt.CallExpression) (is_mended place nt.CallExpression) (call_mended place (place_primary place (or_cases (takes place nt.MemberExpression) (is_mended place nt.MemberExpression) s))),
+  or_left (takes nt.CallExpression t) (is_mended nt.CallExpression t) e,
+)
+
+is_call_of : (places : Bool) (t : Nonterminal) → stands places nt.CallExpression t ≡ true → is_call t ≡ true
+unfolding stands is_mended takes is_call
+is_call_of true t k = or_same (is_call t) k
+is_call_of false t k = or_same (is_call t) k
+
+switched : (places : Bool) (place : Nonterminal) (called : Bool) (t : Nonterminal) → stands places place (call_or_member called) ≡ true → stands places (call_or_member called) t ≡ true → Chosen2 places place (is_call t) t
+switched places place false t s k = chosen_call places place t (is_call t) refl s k
+switched places place true t s k = subst (λ b. Chosen2 places place b t) (sym (is_call_of places t k)) (s, k)
+
+abbrev Stood : {X : Type 0} → Bool → (X → Role → Parameters → Facts) → Nonterminal → Nonterminal → Form X → Type 0
+Stood places f place t a = (stands places place t ≡ true) × (keeps places f a ≡ true)
+
+expr_chosen : {X : Type 0} (places : Bool) (f : X → Role → Parameters → Facts) (place : Nonterminal) (stays called : Bool) (c : Parameters) (n : Expr X) →
+    Stood places f place (expr_nonterminal stays called c n) (expr_form stays called c n) →
+    Stood places f place (expr_nonterminal stays (is_called f c n) c n) (expr_form stays (is_called f c n) c n)
+unfolding expr_nonterminal expr_form is_called member_form tagged_form keeps
+expr_chosen places f place stays called c (exprs.Member n) (s, k) =
+    let told : Facts = f n.obj.node.value Callee (with_in c) in
+    let (h, l) = and_parts (stands places (call_or_member called) told.nonterminal && holds places told.verdict) (keeps places f (prop_form c n.prop)) k in
+    let (i, j) = and_parts (stands places (call_or_member called) told.nonterminal) (holds places told.verdict) h in
+    let (u, v) = switched places place called told.nonterminal s i in
+    (u, and_from _ _ (and_from _ _ v j) l)
+expr_chosen places f place stays called c (exprs.TaggedTpl n) (s, k) =
+    let told : Facts = f n.tag.node.value Callee (with_in c) in
+    let (h, l) = and_parts (stands places (call_or_member called) told.nonterminal && holds places told.verdict) (keeps places f (type_args_form c n.type_params) && keeps places f (Part nt.TemplateLiteral (with_in c) TaggedTemplate n.tpl.node.value)) k in
+    let (i, j) = and_parts (stands places (call_or_member called) told.nonterminal) (holds places told.verdict) h in
+    let (u, v) = switched places place called told.nonterminal s i in
+    (u, and_from _ _ (and_from _ _ v j) l)
+expr_chosen places f place stays called c n w = w
+
+chosen : {X : Type 0} (places : Bool) (f : X → Role → Parameters → Facts) (place : Nonterminal) (called : Bool) (c : Parameters) (n : AnyNode-F X) (role : Role) →
+    Stood places f place (node_nonterminal called c n role) (node_form called c n role) →
+    Stood places f place (node_nonterminal (is_called_node f c n) c n role) (node_form (is_called_node f c n) c n role)
+unfolding node_nonterminal node_form is_called_node
+chosen places f place called c (nodes.Expr n) Expression w = expr_chosen places f place false called c n w
+chosen places f place called c (nodes.Expr n) Callee w = expr_chosen places f place true called c n w
+chosen places f place called c (nodes.MemberExpr n) (ChainMember optional) w = w
+chosen places f place called c (nodes.ExprPart n) role w = w
+chosen places f place called c n role w = w
+
+-- ---- AssignmentTargetType
+
+simple_facts : {X : Type 0} (f : X → Role → Parameters → Facts) (n : AnyNode-F X) (c : Parameters) → (node_facts f n Expression c).is_simple ≡ is_simple_node (simple_told f c) n
+unfolding node_facts expr_facts part_facts is_simple_node
+simple_facts f (nodes.Expr n) c = refl
+simple_facts f n c = refl
+
+name_facts : {X : Type 0} (f : X → Role → Parameters → Facts) (n : AnyNode-F X) (c : Parameters) → (node_facts f n Expression c).is_name ≡ is_name_node n
+unfolding node_facts expr_facts part_facts is_name_node
+name_facts f (nodes.Expr n) c = refl
+name_facts f n c = refl
+
+simple_same : {X : Type 0} (d e : X → Bool) → ((x : X) → d x ≡ e x) → (n : AnyNode-F X) → is_simple_node d n ≡ is_simple_node e n
+unfolding is_simple_node is_simple_expr
+simple_same d e same (nodes.Expr (exprs.Paren n)) = same n.expr.node.value
+simple_same d e same (nodes.Expr n) = refl
+simple_same d e same n = refl
+
+abbrev SimpleLaw : AnyNode → Type 0
+SimpleLaw n = (c : Parameters) → (facts n Expression c).is_simple ≡ is_simple n
+
+simple_told_at : (n : AnyNode) → SimpleLaw n
+simple_told_at = ind-AnyNode SimpleLaw (λ x y q. subst (λ z. SimpleLaw (roll-AnyNode z)) q (λ c.
+    ap (λ z. z.is_simple) (facts_of (λ z. z.0) y Expression c) ∙ simple_facts (λ z. facts z.0) y c
+    ∙ simple_same (simple_told (λ z. facts z.0) c) (λ z. is_simple z.0) (λ z. z.1 (with_in c)) y ∙ sym (simple_of (λ z. z.0) y)))
+
+name_told_at : (n : AnyNode) (c : Parameters) → (facts n Expression c).is_name ≡ is_name_node (out-AnyNode n)
+name_told_at n c = ap (λ z. z.is_name) (facts_at n Expression c) ∙ name_facts facts (out-AnyNode n) c
+
+target_told : (named : Bool) (n : AnyNode) (c : Parameters) → is_target named (facts n Expression c) ≡ (is_simple n && (named || not (is_name_node (out-AnyNode n))))
+target_told named n c = ap₂ (λ a b. a && (named || not b)) (simple_told_at n c) (name_told_at n c)
+
+-- ---- what is derived keeps its structure, and is read as it is today
+
+sort_at : (n : AnyNode) (role : Role) (c : Parameters) → (facts n role c).nonterminal ≡ node_nonterminal (is_called_node facts c (out-AnyNode n)) c (out-AnyNode n) role
+sort_at n role c = ap (λ z. z.nonterminal) (facts_at n role c) ∙ told_nonterminal facts (out-AnyNode n) role c
+
+holds_at : (places : Bool) (n : AnyNode) (role : Role) (c : Parameters) → holds places (facts n role c).verdict ≡ keeps places facts (node_form (is_called_node facts c (out-AnyNode n)) c (out-AnyNode n) role)
+holds_at places n role c = ap (λ z. holds places z.verdict) (facts_at n role c) ∙ told_keeps places facts (out-AnyNode n) role c
+
+abbrev Kept : Bool → Settings → Form AnyNode → List Token → Type 0
+Kept places s a ts = (keeps places facts a ≡ true) × Generates s (forget phrase a) ts
+
+part_kept : (places : Bool) (s : Settings) (place : Nonterminal) (c : Parameters) (role : Role) (n : AnyNode) (ts : List Token) (called : Bool) →
+    stands places place (node_nonterminal called c (out-AnyNode n) role) ≡ true → Kept places s (node_form called c (out-AnyNode n) role) ts → Kept places s (Part place c role n) ts
+unfolding keeps forget
+part_kept places s place c role n ts called st (k, x) =
+    let (u, v) = chosen places facts place called c (out-AnyNode n) role (st, k) in
+    let t : stands places place (facts n role c).nonterminal ≡ true = ap (stands places place) (sort_at n role c) ∙ u in
+    let h : holds places (facts n role c).verdict ≡ true = holds_at places n role c ∙ v in
+    (and_from _ _ t h, subst (λ p. Generates s p ts) (node_forgets places facts phrase called c (out-AnyNode n) role k ∙ sym (phrase_at n role)) x)
+
+pub derived_kept : (places : Bool) (s : Settings) (a : Form AnyNode) (ts : List Token) → Derives places s a ts → Kept places s a ts
+unfolding keeps forget Generates
+derived_kept places s a ts (fixed x) = (refl, x)
+derived_kept places s a ts (part {place = place} {c = c} {role = role} {n = n} called st d) =
+    part_kept places s place c role n ts called st (derived_kept places s (node_form called c (out-AnyNode n) role) ts d)
+derived_kept places s a ts (simple {named = named} {place = place} {c = c} {n = n} h d) =
+    let (k, x) = derived_kept places s (Part place c Expression n) ts d in
+    (and_from (is_target named (facts n Expression c)) _ (target_told named n c ∙ h) k, x)
+derived_kept places s a ts (both {a = b} {b = e} {ts = us} {us = vs} d g) =
+    let (k, x) = derived_kept places s b us d in
+    let (l, y) = derived_kept places s e vs g in
+    (and_from (keeps places facts b) (keeps places facts e) k l, (us, vs, x, y, refl))
+derived_kept places s a ts (provided {cure = cure} {condition = condition} {a = b} h d) =
+    let (k, x) = derived_kept places s b ts d in
+    (and_from (is_met places cure condition) (keeps places facts b) h k, x)
+derived_kept places s a ts no_comma = (refl, inl refl)
+derived_kept places s a ts (bare {a = b} d) =
+    let (k, x) = derived_kept places s b ts d in
+    (k, inl x)
+
+-- ---- what keeps its structure derives each of its lists without what syntax leaves open
+
+bare_generates : (s : Settings) (p : Phrase) (ts : List Token) → Generates s (bare_phrase p) ts → Generates s p ts
+unfolding Generates bare_phrase
+bare_generates s (Then a b) ts (us, vs, x, y, q) = (us, vs, bare_generates s a us x, bare_generates s b vs y, q)
+bare_generates s (CommaBefore close) ts x = inl x
+bare_generates s (OptionalParentheses a) ts x = inl (bare_generates s a ts x)
+bare_generates s p ts x = x
+
+abbrev DerivesLaw : Bool → Settings → AnyNode → Type 0
+DerivesLaw places s n = (role : Role) (c : Parameters) → holds places (facts n role c).verdict ≡ true → (ts : List Token) → Generates s (bare_phrase (phrase n role)) ts →
+    Derives places s (node_form (is_called_node facts c (out-AnyNode n)) c (out-AnyNode n) role) ts
+
+part_built : (places : Bool) (s : Settings) (place : Nonterminal) (c : Parameters) (role : Role) (n : AnyNode) → DerivesLaw places s n →
+    (stands places place (facts n role c).nonterminal && holds places (facts n role c).verdict) ≡ true → (ts : List Token) → Generates s (bare_phrase (phrase n role)) ts → Derives places s (Part place c role n) ts
+part_built places s place c role n law k ts x =
+    let (t, h) = and_parts (stands places place (facts n role c).nonterminal) (holds places (facts n role c).verdict) k in
+    part (is_called_node facts c (out-AnyNode n)) (ap (stands places place) (sym (sort_at n role c)) ∙ t) (law role c h ts x)
+
+built : {X : Type 0} (places : Bool) (s : Settings) (g : X → AnyNode) → ((x : X) → DerivesLaw places s (g x)) → (a : Form X) → keeps places (λ x. facts (g x)) a ≡ true → (ts : List Token) →
+    Generates s (bare_phrase (forget (λ x. phrase (g x)) a)) ts → Derives places s (map_form g a) ts
+unfolding keeps forget map_form bare_phrase Generates
+built places s g law (Fixed p) k ts x = fixed (bare_generates s p ts x)
+built places s g law (Part place c role n) k ts x = part_built places s place c role (g n) (law n) k ts x
+built places s g law (Simple named place c n) k ts x =
+    let (h, l) = and_parts (is_target named (facts (g n) Expression c)) (stands places place (facts (g n) Expression c).nonterminal && holds places (facts (g n) Expression c).verdict) k in
+    simple (sym (target_told named (g n) c) ∙ h) (part_built places s place c Expression (g n) (law n) l ts x)
+built places s g law (Both a b) k ts (us, vs, x, y, q) =
+    let (h, l) = and_parts (keeps places (λ z. facts (g z)) a) (keeps places (λ z. facts (g z)) b) k in
+    subst (λ z. Derives places s (Both (map_form g a) (map_form g b)) z) (sym q) (both (built places s g law a h us x) (built places s g law b l vs y))
+built places s g law (Provided cure condition a) k ts x =
+    let (h, l) = and_parts (is_met places cure condition) (keeps places (λ z. facts (g z)) a) k in
+    provided h (built places s g law a l ts x)
+built places s g law (NoComma close) k ts x = subst (λ z. Derives places s (NoComma close) z) (sym x) no_comma
+built places s g law (Bare a) k ts x = bare (built places s g law a k ts x)
+
+-- a node, by what its links hold
+layer_derives : {X : Type 0} (places : Bool) (s : Settings) (g : X → AnyNode) → ((x : X) → DerivesLaw places s (g x)) → (y : AnyNode-F X) → DerivesLaw places s (roll-AnyNode (map-AnyNode X AnyNode g y))
+layer_derives {X} places s g law y role c h ts x =
+    let m : AnyNode-F AnyNode = map-AnyNode X AnyNode g y in
+    let b : Bool = is_called_node facts c (out-AnyNode (roll-AnyNode m)) in
+    let o : out-AnyNode (roll-AnyNode m) ≡ m = out-roll-AnyNode m in
+    let e : node_form b c (out-AnyNode (roll-AnyNode m)) role ≡ map_form g (node_form b c y role) = ap (λ z. node_form b c z role) o ∙ node_mapped g b c y role in
+    let k : keeps places (λ z. facts (g z)) (node_form b c y role) ≡ true =
+    sym (keeps_mapped places g facts (node_form b c y role)) ∙ sym (ap (keeps places facts) e) ∙ sym (holds_at places (roll-AnyNode m) role c) ∙ h in
+    let p : phrase (roll-AnyNode m) role ≡ forget (λ z. phrase (g z)) (node_form b c y role) =
+    phrase_of g y role ∙ sym (node_forgets places (λ z. facts (g z)) (λ z. phrase (g z)) b c y role k) in
+    subst (λ a. Derives places s a ts) (sym e) (built places s g law (node_form b c y role) k ts (subst (λ q. Generates s (bare_phrase q) ts) p x))
+
+derives_at : (places : Bool) (s : Settings) (n : AnyNode) → DerivesLaw places s n
+derives_at places s = ind-AnyNode (DerivesLaw places s) (λ x y q. subst (λ z. DerivesLaw places s (roll-AnyNode z)) q (layer_derives places s (λ z. z.0) (λ z. z.1) y))
+
+pub kept_derives : (places : Bool) (s : Settings) (place : Nonterminal) (c : Parameters) (role : Role) (n : AnyNode) →
+    (stands places place (facts n role c).nonterminal && holds places (facts n role c).verdict) ≡ true → (ts : List Token) → Generates s (bare_phrase (phrase n role)) ts → Derives places s (Part place c role n) ts
+kept_derives places s place c role n k ts x = part_built places s place c role n (derives_at places s n) k ts x

@@ -1,0 +1,278 @@
+-- Without nonterminals a form is today's production, where it keeps its structure.
+use Rattle.std.proofs.Common.{◌≡◌, ℕ, Bool, true, false, ◌&&◌, cond, refl, sym, ◌∙◌, ap, ap₂, List, [], ◌∷◌, map, codes, Option, Some, None}
+use Rattle.std.specs.declared.vec.Vec.{Vec}
+use Rattle.std.proofs.lemmas.Bool.{true≢false, and_parts}
+use Rattle.swc_ecma_codegen_tree.specs.Links.{ExprBox, PatBox, TsTypeAnnBox, TsTypeParamInstantiationBox}
+use Rattle.swc_ecma_codegen_tree.specs.declared.links.AnyNode.{AnyNode-F}
+use Rattle.swc_ecma_codegen_tree.specs.declared.links.AnyNode.TheOpen as nodes
+use Rattle.swc_ecma_codegen_tree.specs.declared.idents.Ident.{Ident}
+use Rattle.swc_ecma_codegen_tree.specs.declared.idents.BindingIdent.{BindingIdent}
+use Rattle.swc_ecma_codegen_tree.specs.declared.exprs.Expr.{Expr}
+use Rattle.swc_ecma_codegen_tree.specs.declared.exprs.Expr.TheVariants as exprs
+use Rattle.swc_ecma_codegen_tree.specs.declared.exprs.UpdateExpr.{UpdateExpr}
+use Rattle.swc_ecma_codegen_tree.specs.declared.exprs.MemberExpr.{MemberExpr}
+use Rattle.swc_ecma_codegen_tree.specs.declared.exprs.MemberProp.{MemberProp}
+use Rattle.swc_ecma_codegen_tree.specs.declared.exprs.MemberProp.TheVariants as member_props
+use Rattle.swc_ecma_codegen_tree.specs.declared.exprs.SuperPropExpr.{SuperPropExpr}
+use Rattle.swc_ecma_codegen_tree.specs.declared.exprs.OptChainExpr.{OptChainExpr}
+use Rattle.swc_ecma_codegen_tree.specs.declared.exprs.SuperProp.{SuperProp}
+use Rattle.swc_ecma_codegen_tree.specs.declared.exprs.SuperProp.TheVariants as super_props
+use Rattle.swc_ecma_codegen_tree.specs.declared.exprs.OptChainBase.{OptChainBase}
+use Rattle.swc_ecma_codegen_tree.specs.declared.exprs.OptChainBase.TheVariants as chain_bases
+use Rattle.swc_ecma_codegen_tree.specs.declared.exprs.TaggedTpl.{TaggedTpl}
+use Rattle.swc_ecma_codegen_tree.specs.declared.exprs.Tpl.{Tpl}
+use Rattle.swc_ecma_codegen_tree.specs.declared.exprs.TplElement.{TplElement}
+use Rattle.swc_ecma_codegen_tree.specs.declared.exprs.ArrayLit.{ArrayLit}
+use Rattle.swc_ecma_codegen_tree.specs.declared.exprs.ExprOrSpread.{ExprOrSpread}
+use Rattle.swc_ecma_codegen_tree.specs.declared.exprs.CallExpr.{CallExpr}
+use Rattle.swc_ecma_codegen_tree.specs.declared.exprs.Callee.{Callee}
+use Rattle.swc_ecma_codegen_tree.specs.declared.exprs.Callee.TheVariants as callees
+use Rattle.swc_ecma_codegen_tree.specs.declared.exprs.NewExpr.{NewExpr}
+use Rattle.swc_ecma_codegen_tree.specs.declared.exprs.OptCall.{OptCall}
+use Rattle.swc_ecma_codegen_tree.specs.declared.exprs.YieldExpr.{YieldExpr}
+use Rattle.swc_ecma_codegen_tree.specs.declared.exprs.ObjectLit.{ObjectLit}
+use Rattle.swc_ecma_codegen_tree.specs.declared.exprs.PropOrSpread.{PropOrSpread}
+use Rattle.swc_ecma_codegen_tree.specs.declared.exprs.PropOrSpread.TheVariants as prop_or_spreads
+use Rattle.swc_ecma_codegen_tree.specs.declared.exprs.Prop.{Prop}
+use Rattle.swc_ecma_codegen_tree.specs.declared.exprs.Prop.TheVariants as props
+use Rattle.swc_ecma_codegen_tree.specs.declared.exprs.PropName.{PropName}
+use Rattle.swc_ecma_codegen_tree.specs.declared.exprs.PropName.TheVariants as prop_names
+use Rattle.swc_ecma_codegen_tree.specs.declared.exprs.KeyValueProp.{KeyValueProp}
+use Rattle.swc_ecma_codegen_grammar.specs.Phrases.{Phrase, Never, Then, OptionalParentheses, ◌>◌, word, mark}
+use Rattle.swc_ecma_codegen_grammar.specs.Phrases as phrases
+use Rattle.swc_ecma_codegen_grammar.specs.AnnotationPhrases.{annotation, type_args}
+use Rattle.swc_ecma_codegen_grammar.specs.ElementPhrases as elements
+use Rattle.swc_ecma_codegen_grammar.specs.NamePhrases.{binding_ident}
+use Rattle.swc_ecma_codegen_grammar.specs.LitPhrases.{lit}
+use Rattle.swc_ecma_codegen_grammar.specs.KeyPhrases.{computed_prop_name, prop_name}
+use Rattle.swc_ecma_codegen_grammar.specs.CallPhrases.{spread_mark, callee_at, expr_or_spread, array_elements, array_lit, arguments, callee, call_expr, listed_arguments, new_arguments, new_expr, call_mark, chain_call}
+use Rattle.swc_ecma_codegen_grammar.specs.TemplatePhrases.{tpl_element, part_before, is_counted, tpl_rest, tpl_parts, tpl, tagged_tpl}
+use Rattle.swc_ecma_codegen_grammar.specs.PropPhrases.{key_value_prop, assign_prop, prop, spread_element, prop_or_spread, object_lit}
+use Rattle.swc_ecma_codegen_grammar.specs.ExprPhrases.{expr_at, unary_expr, update_expr, bin_expr, member_prop, member_expr, super_prop, super_prop_expr, chain_mark, chain_prop, chain_member, chain_base, opt_chain_expr, assign_expr, yield_arg, yield_rest, yield_expr, await_expr, cond_expr, seq_expr, paren_expr, expr, expr_in}
+use Rattle.swc_ecma_codegen_grammar.specs.declared.roles.Role.{Role}
+use Rattle.swc_ecma_codegen_grammar.specs.declared.roles.Role.TheVariants.{Expression, TaggedTemplate}
+use Rattle.swc_ecma_codegen_syntax.specs.declared.nonterminals.Nonterminal.{Nonterminal}
+use Rattle.swc_ecma_codegen_syntax.specs.declared.nonterminals.Nonterminal.TheVariants as nt
+use Rattle.swc_ecma_codegen_syntax.specs.declared.parameters.Parameters.{Parameters}
+use Rattle.swc_ecma_codegen_syntax.specs.declared.verdicts.Facts.{Facts}
+use Rattle.swc_ecma_codegen_syntax.specs.Parameters.{with_in}
+use Rattle.swc_ecma_codegen_syntax.specs.Forms.{Form, Fixed, Provided, ByRule, ByScope, forget, keeps, is_met, each_after, listed, some_listed, element}
+use Rattle.swc_ecma_codegen_syntax.specs.NameForms.{name_form, lit_form}
+use Rattle.swc_ecma_codegen_syntax.specs.MemberForms.{expr_part, computed_form, prop_form, member_form, super_form, super_prop_form, annotation_form, type_args_form, tagged_form, chain_prop_form, chain_member_form, chain_base_form, opt_chain_form}
+use Rattle.swc_ecma_codegen_syntax.specs.CallForms.{argument_form, elements_form, array_form, arguments_form, callee_form, call_form, listed_form, new_arguments_form, new_form, chain_call_form}
+use Rattle.swc_ecma_codegen_syntax.specs.TemplateForms.{tpl_rest_form, tpl_parts_form, tpl_form}
+use Rattle.swc_ecma_codegen_syntax.specs.ObjectForms.{prop_name_form, key_value_form, assign_prop_form, property_form, spread_form, prop_or_spread_form, object_form}
+use Rattle.swc_ecma_codegen_syntax.specs.ExprForms.{unary_form, update_form, bin_form, cond_form, assign_form, yield_arg_form, yield_rest_form, yield_form, await_form, seq_form, paren_form, expr_form}
+use Rattle.swc_ecma_codegen_syntax.proofs.Judged.{listed_forgets, some_forgets, map_same, element_forgets}
+
+-- ---- types
+
+pub annotation_forgets : {X : Type 0} (p : X → Role → Phrase) (c : Parameters) (n : Option (TsTypeAnnBox X)) → forget p (annotation_form c n) ≡ annotation p n
+unfolding forget annotation_form annotation
+annotation_forgets p c None = refl
+annotation_forgets p c (Some n) = refl
+
+pub args_forget : {X : Type 0} (p : X → Role → Phrase) (c : Parameters) (n : Option (TsTypeParamInstantiationBox X)) → forget p (type_args_form c n) ≡ type_args p n
+unfolding forget type_args_form type_args
+args_forget p c None = refl
+args_forget p c (Some n) = refl
+
+-- ---- members
+
+prop_forgets : {X : Type 0} (p : X → Role → Phrase) (c : Parameters) (n : MemberProp X) → forget p (prop_form c n) ≡ member_prop p n
+unfolding forget prop_form computed_form member_prop computed_prop_name
+prop_forgets p c (member_props.Ident n) = refl
+prop_forgets p c (member_props.PrivateName n) = refl
+prop_forgets p c (member_props.Computed n) = refl
+
+pub member_forgets : {X : Type 0} (p : X → Role → Phrase) (place : Nonterminal) (c : Parameters) (n : MemberExpr X) → forget p (member_form place c n) ≡ member_expr p n
+unfolding forget member_form member_expr
+member_forgets p place c n = ap (Then (callee_at p n.obj)) (prop_forgets p c n.prop)
+
+super_forgets : {X : Type 0} (p : X → Role → Phrase) (c : Parameters) (n : SuperProp X) → forget p (super_form c n) ≡ super_prop p n
+unfolding forget super_form computed_form super_prop computed_prop_name
+super_forgets p c (super_props.Ident n) = refl
+super_forgets p c (super_props.Computed n) = refl
+
+pub super_prop_forgets : {X : Type 0} (p : X → Role → Phrase) (c : Parameters) (n : SuperPropExpr X) → forget p (super_prop_form c n) ≡ super_prop_expr p n
+unfolding forget super_prop_form super_prop_expr
+super_prop_forgets p c n = ap (Then (word (codes "super"))) (super_forgets p c n.prop)
+
+chain_prop_forgets : {X : Type 0} (p : X → Role → Phrase) (c : Parameters) (n : MemberProp X) → forget p (chain_prop_form c n) ≡ chain_prop p n
+unfolding forget chain_prop_form computed_form chain_prop computed_prop_name
+chain_prop_forgets p c (member_props.Ident n) = refl
+chain_prop_forgets p c (member_props.PrivateName n) = refl
+chain_prop_forgets p c (member_props.Computed n) = refl
+
+pub chain_member_forgets : {X : Type 0} (p : X → Role → Phrase) (c : Parameters) (optional : Bool) (n : MemberExpr X) → forget p (chain_member_form c optional n) ≡ chain_member p optional n
+unfolding forget chain_member_form chain_member
+chain_member_forgets p c optional n = ap (λ q. callee_at p n.obj > chain_mark optional n.prop > q) (chain_prop_forgets p c n.prop)
+
+base_forgets : {X : Type 0} (p : X → Role → Phrase) (c : Parameters) (optional : Bool) (n : OptChainBase X) → forget p (chain_base_form c optional n) ≡ chain_base p optional n
+unfolding forget chain_base_form chain_base
+base_forgets p c optional (chain_bases.Member n) = refl
+base_forgets p c optional (chain_bases.Call n) = refl
+
+pub chain_forgets : {X : Type 0} (p : X → Role → Phrase) (c : Parameters) (n : OptChainExpr X) → forget p (opt_chain_form c n) ≡ opt_chain_expr p n
+unfolding opt_chain_form opt_chain_expr
+chain_forgets p c n = base_forgets p c n.optional n.base
+
+pub tagged_forgets : {X : Type 0} (p : X → Role → Phrase) (place : Nonterminal) (c : Parameters) (n : TaggedTpl X) → forget p (tagged_form place c n) ≡ tagged_tpl p n
+unfolding forget tagged_form tagged_tpl
+tagged_forgets p place c n = ap (λ q. callee_at p n.tag > q > p n.tpl.node.value TaggedTemplate) (args_forget p c n.type_params)
+
+-- ---- arrays, calls and `new`
+
+elements_forget : {X : Type 0} (p : X → Role → Phrase) (c : Parameters) (hole : Bool) (xs : List (Option (ExprOrSpread X))) → forget p (elements_form c hole xs) ≡ array_elements p hole xs
+unfolding forget elements_form array_elements argument_form expr_or_spread
+elements_forget p c true xs = ap (λ q. q > mark (codes ",")) (listed_forgets p (codes ",") (element (argument_form c)) xs ∙ ap (phrases.listed (codes ",")) (map_same _ _ (element_forgets p (argument_form c) (expr_or_spread p) (λ x. refl)) xs))
+elements_forget p c false xs = listed_forgets p (codes ",") (element (argument_form c)) xs ∙ ap (phrases.listed (codes ",")) (map_same _ _ (element_forgets p (argument_form c) (expr_or_spread p) (λ x. refl)) xs)
+
+pub array_forgets : {X : Type 0} (p : X → Role → Phrase) (c : Parameters) (n : ArrayLit X) → forget p (array_form c n) ≡ array_lit p n
+unfolding forget array_form array_lit
+array_forgets p c n = ap (λ q. mark (codes "[") > q > mark (codes "]")) (elements_forget p c (elements.last_is_hole n.elems.items) n.elems.items)
+
+arguments_forget : {X : Type 0} (p : X → Role → Phrase) (c : Parameters) (xs : List (ExprOrSpread X)) → forget p (arguments_form c xs) ≡ arguments p xs
+unfolding forget arguments_form arguments argument_form expr_or_spread
+arguments_forget p c xs = ap (λ q. mark (codes "(") > q > mark (codes ")")) (listed_forgets p (codes ",") (argument_form c) xs)
+
+callee_forgets : {X : Type 0} (p : X → Role → Phrase) (c : Parameters) (n : Callee X) (xs : List (ExprOrSpread X)) → forget p (callee_form c n xs) ≡ callee p n
+unfolding forget callee_form callee
+callee_forgets p c (callees.Super n) xs = refl
+callee_forgets p c (callees.Import n) xs = refl
+callee_forgets p c (callees.Expr n) xs = refl
+
+pub call_forgets : {X : Type 0} (p : X → Role → Phrase) (c : Parameters) (n : CallExpr X) → forget p (call_form c n) ≡ call_expr p n
+unfolding forget call_form call_expr
+call_forgets p c n = ap₂ Then (callee_forgets p c n.callee n.args.items) (ap₂ Then (args_forget p c n.type_args) (arguments_forget p c n.args.items))
+
+listed_arguments_forget : {X : Type 0} (p : X → Role → Phrase) (c : Parameters) (stays : Bool) (xs : List (ExprOrSpread X)) → forget p (listed_form c stays xs) ≡ listed_arguments p stays xs
+unfolding forget listed_form listed_arguments
+listed_arguments_forget p c false [] = refl
+listed_arguments_forget p c false (x ∷ xs) = arguments_forget p c (x ∷ xs)
+listed_arguments_forget p c true xs = arguments_forget p c xs
+
+new_arguments_forget : {X Z : Type 0} (p : X → Role → Phrase) (c : Parameters) (stays : Bool) (n : Option (Vec (ExprOrSpread X) Z)) → forget p (new_arguments_form c stays n) ≡ new_arguments p stays n
+unfolding forget new_arguments_form new_arguments
+new_arguments_forget p c stays None = refl
+new_arguments_forget p c stays (Some xs) = listed_arguments_forget p c stays xs.items
+
+pub new_forgets : {X : Type 0} (p : X → Role → Phrase) (c : Parameters) (stays : Bool) (n : NewExpr X) → forget p (new_form c stays n) ≡ new_expr p stays n
+unfolding forget new_form new_expr
+new_forgets p c stays n = ap₂ (λ a b. word (codes "new") > expr_at p n.callee > a > b) (args_forget p c n.type_args) (new_arguments_forget p c stays n.args)
+
+pub chain_call_forgets : {X : Type 0} (p : X → Role → Phrase) (c : Parameters) (optional : Bool) (n : OptCall X) → forget p (chain_call_form c optional n) ≡ chain_call p optional n
+unfolding forget chain_call_form chain_call
+chain_call_forgets p c optional n = ap₂ (λ a b. callee_at p n.callee > call_mark optional > a > b) (args_forget p c n.type_args) (arguments_forget p c n.args.items)
+
+-- ---- templates
+
+rest_forgets : {X A : Type 0} (p : X → Role → Phrase) (e : A → Form X) (tagged : Bool) (es : List A) (qs : List TplElement) → forget p (tpl_rest_form e tagged es qs) ≡ tpl_rest (λ x. forget p (e x)) tagged es qs
+unfolding forget tpl_rest_form tpl_rest
+rest_forgets p e tagged [] qs = refl
+rest_forgets p e tagged (x ∷ es) [] = refl
+rest_forgets p e tagged (x ∷ es) (q ∷ qs) = ap (λ r. forget p (e x) > tpl_element false (part_before tagged qs) q > r) (rest_forgets p e tagged es qs)
+
+parts_forget : {X A : Type 0} (p : X → Role → Phrase) (e : A → Form X) (tagged : Bool) (es : List A) (qs : List TplElement) → forget p (tpl_parts_form e tagged es qs) ≡ tpl_parts (λ x. forget p (e x)) tagged es qs
+unfolding forget tpl_parts_form tpl_parts
+parts_forget p e tagged es [] = refl
+parts_forget p e tagged es (q ∷ qs) = ap (λ r. tpl_element true (part_before tagged qs) q > r) (rest_forgets p e tagged es qs)
+
+counted_forgets : {X : Type 0} (p : X → Role → Phrase) (b : Bool) (a : Form X) (q : Phrase) → forget p a ≡ q → forget p (cond b a (Provided ByRule false (Fixed Never))) ≡ cond b q Never
+unfolding forget
+counted_forgets p true a q same = same
+counted_forgets p false a q same = refl
+
+pub tpl_forgets : {X : Type 0} (p : X → Role → Phrase) (c : Parameters) (tagged : Bool) (n : Tpl X) → forget p (tpl_form c tagged n) ≡ tpl p tagged n
+unfolding forget tpl_form tpl
+tpl_forgets p c tagged n = counted_forgets p (is_counted n.exprs.items n.quasis.items) _ _ (parts_forget p (expr_part nt.Expression (with_in c)) tagged n.exprs.items n.quasis.items)
+
+-- ---- objects: those whose properties have productions here
+
+pub prop_name_forgets : {X : Type 0} (p : X → Role → Phrase) (c : Parameters) (n : PropName X) → forget p (prop_name_form c n) ≡ prop_name p n
+unfolding forget prop_name_form computed_form prop_name computed_prop_name
+prop_name_forgets p c (prop_names.Ident n) = refl
+prop_name_forgets p c (prop_names.Str n) = refl
+prop_name_forgets p c (prop_names.Num n) = refl
+prop_name_forgets p c (prop_names.BigInt n) = refl
+prop_name_forgets p c (prop_names.Computed n) = refl
+
+key_value_forgets : {X : Type 0} (p : X → Role → Phrase) (c : Parameters) (n : KeyValueProp X) → forget p (key_value_form c n) ≡ key_value_prop p n
+unfolding forget key_value_form key_value_prop
+key_value_forgets p c n = ap (λ q. q > mark (codes ":") > p n.value.node.value Expression) (prop_name_forgets p c n.key)
+
+property_forgets : {X : Type 0} (places : Bool) (f : X → Role → Parameters → Facts) (p : X → Role → Phrase) (c : Parameters) (n : Prop X) → keeps places f (property_form c n) ≡ true → forget p (property_form c n) ≡ prop p n
+unfolding forget keeps is_met property_form assign_prop_form name_form prop assign_prop
+property_forgets places f p c (props.Shorthand n) k = refl
+property_forgets places f p c (props.KeyValue n) k = key_value_forgets p c n
+property_forgets places f p c (props.Assign n) k = refl
+property_forgets places f p c n k = absurd (true≢false (sym k))
+
+spread_or_forgets : {X : Type 0} (places : Bool) (f : X → Role → Parameters → Facts) (p : X → Role → Phrase) (c : Parameters) (n : PropOrSpread X) → keeps places f (prop_or_spread_form c n) ≡ true → forget p (prop_or_spread_form c n) ≡ prop_or_spread p n
+unfolding forget prop_or_spread_form spread_form prop_or_spread spread_element
+spread_or_forgets places f p c (prop_or_spreads.Spread n) k = refl
+spread_or_forgets places f p c (prop_or_spreads.Prop n) k = property_forgets places f p c n k
+
+-- lists of what keeps its structure
+kept_after : {X A : Type 0} (places : Bool) (f : X → Role → Parameters → Facts) (p : X → Role → Phrase) (t : List ℕ) (e : A → Form X) (d : A → Phrase) → ((x : A) → keeps places f (e x) ≡ true → forget p (e x) ≡ d x) →
+    (xs : List A) → keeps places f (each_after t e xs) ≡ true → forget p (each_after t e xs) ≡ phrases.each_after t (map d xs)
+unfolding forget keeps each_after phrases.each_after
+kept_after places f p t e d same [] k = refl
+kept_after places f p t e d same (x ∷ xs) k =
+    let (h, l) = and_parts (keeps places f (e x)) (keeps places f (each_after t e xs)) k in
+    ap₂ (λ a b. mark t > a > b) (same x h) (kept_after places f p t e d same xs l)
+
+kept_listed : {X A : Type 0} (places : Bool) (f : X → Role → Parameters → Facts) (p : X → Role → Phrase) (t : List ℕ) (e : A → Form X) (d : A → Phrase) → ((x : A) → keeps places f (e x) ≡ true → forget p (e x) ≡ d x) →
+    (xs : List A) → keeps places f (listed t e xs) ≡ true → forget p (listed t e xs) ≡ phrases.listed t (map d xs)
+unfolding forget keeps listed phrases.listed
+kept_listed places f p t e d same [] k = refl
+kept_listed places f p t e d same (x ∷ xs) k =
+    let (h, l) = and_parts (keeps places f (e x)) (keeps places f (each_after t e xs)) k in
+    ap₂ (λ a b. a > b) (same x h) (kept_after places f p t e d same xs l)
+
+pub object_forgets : {X : Type 0} (places : Bool) (f : X → Role → Parameters → Facts) (p : X → Role → Phrase) (c : Parameters) (n : ObjectLit X) → keeps places f (object_form c n) ≡ true → forget p (object_form c n) ≡ object_lit p n
+unfolding forget keeps object_form object_lit
+object_forgets places f p c n k =
+    ap (λ q. mark (codes "{") > q > mark (codes "}")) (kept_listed places f p (codes ",") (prop_or_spread_form c) (prop_or_spread p) (spread_or_forgets places f p c) n.props.items
+    (and_parts (keeps places f (listed (codes ",") (prop_or_spread_form c) n.props.items)) true k).0)
+
+-- ---- operators
+
+pub update_forgets : {X : Type 0} (p : X → Role → Phrase) (c : Parameters) (n : UpdateExpr X) (prefix : Bool) → forget p (update_form c (record n { prefix = prefix })) ≡ update_expr p (record n { prefix = prefix })
+unfolding forget update_form update_expr
+update_forgets p c n true = refl
+update_forgets p c n false = refl
+
+pub yield_forgets : {X : Type 0} (p : X → Role → Phrase) (c : Parameters) (delegate : Bool) (arg : Option (ExprBox X)) → forget p (yield_rest_form c delegate arg) ≡ yield_rest p delegate arg
+unfolding forget yield_rest_form yield_arg_form yield_rest yield_arg
+yield_forgets p c true None = refl
+yield_forgets p c true (Some x) = refl
+yield_forgets p c false None = refl
+yield_forgets p c false (Some x) = refl
+
+pub expr_forgets : {X : Type 0} (places : Bool) (f : X → Role → Parameters → Facts) (p : X → Role → Phrase) (called : Bool) (c : Parameters) (n : Expr X) → keeps places f (expr_form false called c n) ≡ true → forget p (expr_form false called c n) ≡ expr p n
+unfolding forget keeps is_met expr_form expr unary_form bin_form cond_form assign_form yield_form await_form seq_form paren_form name_form lit_form unary_expr bin_expr cond_expr assign_expr yield_expr await_expr seq_expr paren_expr
+expr_forgets places f p called c (exprs.This n) k = refl
+expr_forgets places f p called c (exprs.Array n) k = array_forgets p c n
+expr_forgets places f p called c (exprs.Object n) k = object_forgets places f p c n k
+expr_forgets places f p called c (exprs.Unary n) k = refl
+expr_forgets places f p called c (exprs.Update n) k = update_forgets p c n n.prefix
+expr_forgets places f p called c (exprs.Bin n) k = refl
+expr_forgets places f p called c (exprs.Assign n) k = refl
+expr_forgets places f p called c (exprs.Member n) k = member_forgets p _ c n
+expr_forgets places f p called c (exprs.SuperProp n) k = super_prop_forgets p c n
+expr_forgets places f p called c (exprs.Cond n) k = refl
+expr_forgets places f p called c (exprs.Call n) k = call_forgets p c n
+expr_forgets places f p called c (exprs.New n) k = new_forgets p c false n
+expr_forgets places f p called c (exprs.Seq n) k = some_forgets p (codes ",") (expr_part nt.AssignmentExpression c) n.exprs.items
+expr_forgets places f p called c (exprs.Ident n) k = refl
+expr_forgets places f p called c (exprs.Lit n) k = refl
+expr_forgets places f p called c (exprs.Tpl n) k = refl
+expr_forgets places f p called c (exprs.TaggedTpl n) k = tagged_forgets p _ c n
+expr_forgets places f p called c (exprs.Yield n) k = ap (Then (word (codes "yield"))) (yield_forgets p c n.delegate n.arg)
+expr_forgets places f p called c (exprs.MetaProp n) k = refl
+expr_forgets places f p called c (exprs.Await n) k = refl
+expr_forgets places f p called c (exprs.Paren n) k = refl
+expr_forgets places f p called c (exprs.PrivateName n) k = refl
+expr_forgets places f p called c (exprs.OptChain n) k = chain_forgets p c n
+expr_forgets places f p called c n k = absurd (true≢false (sym k))

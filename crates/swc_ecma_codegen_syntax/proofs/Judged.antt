@@ -1,0 +1,137 @@
+-- What the check says of a form, and over what its parts are told by.
+use Rattle.std.proofs.Common.{◌≡◌, ℕ, Bool, true, false, ◌&&◌, ◌||◌, not, List, [], ◌∷◌, map, Option, Some, None, refl, sym, ◌∙◌, ap, ap₂}
+use Rattle.swc_ecma_codegen_grammar.specs.Phrases.{Phrase, Nothing, Then, OptionalParentheses, mark}
+use Rattle.swc_ecma_codegen_grammar.specs.Phrases as phrases
+use Rattle.swc_ecma_codegen_grammar.specs.ElementPhrases as elements
+use Rattle.swc_ecma_codegen_grammar.specs.declared.roles.Role.{Role}
+use Rattle.swc_ecma_codegen_grammar.specs.declared.roles.Role.TheVariants.{Expression}
+use Rattle.swc_ecma_codegen_syntax.specs.declared.nonterminals.Nonterminal.{Nonterminal}
+use Rattle.swc_ecma_codegen_syntax.specs.declared.parameters.Parameters.{Parameters}
+use Rattle.swc_ecma_codegen_syntax.specs.declared.verdicts.Facts.{Facts}
+use Rattle.swc_ecma_codegen_syntax.specs.declared.verdicts.Verdict.{Verdict}
+use Rattle.swc_ecma_codegen_syntax.specs.Verdicts.{meet, by_rule, standing, holds}
+use Rattle.swc_ecma_codegen_syntax.specs.Forms.{Form, Fixed, Part, Simple, Both, Provided, NoComma, Bare, ByRule, forget, map_form, is_target, asked, of_part, judge, is_met, stands, keeps, each_after, listed, some_listed, element, verdict_all}
+use Rattle.swc_ecma_codegen_syntax.proofs.VerdictLaws.{and_true, and_assoc, holds_meet, holds_rule, holds_asked, holds_standing}
+
+part_judged : (places : Bool) (v : Verdict) (place : Nonterminal) (told : Facts) →
+    holds places (of_part place v told) ≡ (holds places v && (stands places place told.nonterminal && holds places told.verdict))
+part_judged places v place told =
+    holds_meet places (standing v place told.nonterminal) told.verdict
+    ∙ ap (λ b. b && holds places told.verdict) (holds_standing places v place told.nonterminal)
+    ∙ and_assoc (holds places v) (stands places place told.nonterminal) (holds places told.verdict)
+
+-- the verdict of a form holds where the one before it did and the form keeps its structure
+pub judged : {X : Type 0} (places : Bool) (f : X → Role → Parameters → Facts) (v : Verdict) (a : Form X) → holds places (judge f v a) ≡ (holds places v && keeps places f a)
+unfolding judge keeps
+judged places f v (Fixed p) = sym (and_true (holds places v))
+judged places f v (Part place c role n) = part_judged places v place (f n role c)
+judged places f v (Simple named place c n) =
+    let t = f n Expression c in
+    let b = is_target named t in
+    part_judged places (by_rule v b) place t
+    ∙ ap (λ k. k && (stands places place t.nonterminal && holds places t.verdict)) (holds_rule places v b)
+    ∙ and_assoc (holds places v) b (stands places place t.nonterminal && holds places t.verdict)
+judged places f v (Both a b) =
+    judged places f (judge f v a) b ∙ ap (λ k. k && keeps places f b) (judged places f v a) ∙ and_assoc (holds places v) (keeps places f a) (keeps places f b)
+judged places f v (Provided cure condition a) =
+    judged places f (asked cure v condition) a ∙ ap (λ k. k && keeps places f a) (holds_asked places cure v condition)
+    ∙ and_assoc (holds places v) (is_met places cure condition) (keeps places f a)
+judged places f v (NoComma close) = sym (and_true (holds places v))
+judged places f v (Bare a) = judged places f v a
+
+-- ---- over what links hold as something else
+
+pub judge_mapped : {X Y : Type 0} (g : X → Y) (f : Y → Role → Parameters → Facts) (v : Verdict) (a : Form X) → judge f v (map_form g a) ≡ judge (λ x. f (g x)) v a
+unfolding judge map_form
+judge_mapped g f v (Fixed p) = refl
+judge_mapped g f v (Part place c role n) = refl
+judge_mapped g f v (Simple named place c n) = refl
+judge_mapped g f v (Both a b) = judge_mapped g f (judge f v (map_form g a)) b ∙ ap (λ w. judge (λ x. f (g x)) w b) (judge_mapped g f v a)
+judge_mapped g f v (Provided cure condition a) = judge_mapped g f (asked cure v condition) a
+judge_mapped g f v (NoComma close) = refl
+judge_mapped g f v (Bare a) = judge_mapped g f v a
+
+pub keeps_mapped : {X Y : Type 0} (places : Bool) (g : X → Y) (f : Y → Role → Parameters → Facts) (a : Form X) → keeps places f (map_form g a) ≡ keeps places (λ x. f (g x)) a
+unfolding keeps map_form
+keeps_mapped places g f (Fixed p) = refl
+keeps_mapped places g f (Part place c role n) = refl
+keeps_mapped places g f (Simple named place c n) = refl
+keeps_mapped places g f (Both a b) = ap₂ (λ x y. x && y) (keeps_mapped places g f a) (keeps_mapped places g f b)
+keeps_mapped places g f (Provided cure condition a) = ap (λ x. is_met places cure condition && x) (keeps_mapped places g f a)
+keeps_mapped places g f (NoComma close) = refl
+keeps_mapped places g f (Bare a) = keeps_mapped places g f a
+
+pub forget_mapped : {X Y : Type 0} (g : X → Y) (f : Y → Role → Phrase) (a : Form X) → forget f (map_form g a) ≡ forget (λ x. f (g x)) a
+unfolding forget map_form
+forget_mapped g f (Fixed p) = refl
+forget_mapped g f (Part place c role n) = refl
+forget_mapped g f (Simple named place c n) = refl
+forget_mapped g f (Both a b) = ap₂ Then (forget_mapped g f a) (forget_mapped g f b)
+forget_mapped g f (Provided cure condition a) = forget_mapped g f a
+forget_mapped g f (NoComma close) = refl
+forget_mapped g f (Bare a) = ap OptionalParentheses (forget_mapped g f a)
+
+-- ---- lists
+
+pub after_judged : {X A : Type 0} (f : X → Role → Parameters → Facts) (t : List ℕ) (e : A → Form X) (v : Verdict) (xs : List A) →
+    judge f v (each_after t e xs) ≡ verdict_all (λ x w. judge f w (e x)) v xs
+unfolding judge each_after verdict_all
+after_judged f t e v [] = refl
+after_judged f t e v (x ∷ xs) = after_judged f t e (judge f v (e x)) xs
+
+pub listed_judged : {X A : Type 0} (f : X → Role → Parameters → Facts) (t : List ℕ) (e : A → Form X) (v : Verdict) (xs : List A) →
+    judge f v (listed t e xs) ≡ verdict_all (λ x w. judge f w (e x)) v xs
+unfolding judge listed verdict_all
+listed_judged f t e v [] = refl
+listed_judged f t e v (x ∷ xs) = after_judged f t e (judge f v (e x)) xs
+
+pub after_forgets : {X A : Type 0} (f : X → Role → Phrase) (t : List ℕ) (e : A → Form X) (xs : List A) → forget f (each_after t e xs) ≡ phrases.each_after t (map (λ x. forget f (e x)) xs)
+unfolding forget each_after phrases.each_after
+after_forgets f t e [] = refl
+after_forgets f t e (x ∷ xs) = ap (λ p. Then (mark t) (Then (forget f (e x)) p)) (after_forgets f t e xs)
+
+pub listed_forgets : {X A : Type 0} (f : X → Role → Phrase) (t : List ℕ) (e : A → Form X) (xs : List A) → forget f (listed t e xs) ≡ phrases.listed t (map (λ x. forget f (e x)) xs)
+unfolding forget listed phrases.listed
+listed_forgets f t e [] = refl
+listed_forgets f t e (x ∷ xs) = ap (λ p. Then (forget f (e x)) p) (after_forgets f t e xs)
+
+pub some_forgets : {X A : Type 0} (f : X → Role → Phrase) (t : List ℕ) (e : A → Form X) (xs : List A) → forget f (some_listed t e xs) ≡ phrases.some_listed t (map (λ x. forget f (e x)) xs)
+unfolding forget some_listed phrases.some_listed phrases.each_after
+some_forgets f t e [] = refl
+some_forgets f t e (x ∷ []) = refl
+some_forgets f t e (x ∷ y ∷ xs) = ap (λ p. Then (forget f (e x)) p) (after_forgets f t e (y ∷ xs))
+
+-- the same where each is read as something equal
+pub map_same : {A B : Type 0} (e d : A → B) → ((x : A) → e x ≡ d x) → (xs : List A) → map e xs ≡ map d xs
+map_same e d same [] = refl
+map_same e d same (x ∷ xs) = ap₂ (λ y ys. y ∷ ys) (same x) (map_same e d same xs)
+
+pub element_forgets : {X A : Type 0} (f : X → Role → Phrase) (e : A → Form X) (d : A → Phrase) → ((x : A) → forget f (e x) ≡ d x) → (o : Option A) → forget f (element e o) ≡ elements.element d o
+unfolding forget element elements.element
+element_forgets f e d same None = refl
+element_forgets f e d same (Some x) = same x
+
+pub after_mapped : {X Y A B : Type 0} (g : X → Y) (h : A → B) (t : List ℕ) (e : A → Form X) (d : B → Form Y) → ((x : A) → d (h x) ≡ map_form g (e x)) → (xs : List A) →
+    each_after t d (map h xs) ≡ map_form g (each_after t e xs)
+unfolding map_form each_after
+after_mapped g h t e d same [] = refl
+after_mapped g h t e d same (x ∷ xs) = ap₂ (λ a b. Both (Fixed (mark t)) (Both a b)) (same x) (after_mapped g h t e d same xs)
+
+pub listed_mapped : {X Y A B : Type 0} (g : X → Y) (h : A → B) (t : List ℕ) (e : A → Form X) (d : B → Form Y) → ((x : A) → d (h x) ≡ map_form g (e x)) → (xs : List A) →
+    listed t d (map h xs) ≡ map_form g (listed t e xs)
+unfolding map_form listed
+listed_mapped g h t e d same [] = refl
+listed_mapped g h t e d same (x ∷ xs) = ap₂ (λ a b. Both a b) (same x) (after_mapped g h t e d same xs)
+
+pub some_mapped : {X Y A B : Type 0} (g : X → Y) (h : A → B) (t : List ℕ) (e : A → Form X) (d : B → Form Y) → ((x : A) → d (h x) ≡ map_form g (e x)) → (xs : List A) →
+    some_listed t d (map h xs) ≡ map_form g (some_listed t e xs)
+unfolding map_form some_listed
+some_mapped g h t e d same [] = refl
+some_mapped g h t e d same (x ∷ []) = ap (λ a. Provided ByRule false (Both a (Fixed Nothing))) (same x)
+some_mapped g h t e d same (x ∷ y ∷ xs) = ap₂ (λ a b. Both a b) (same x) (after_mapped g h t e d same (y ∷ xs))
+
+pub element_mapped : {X Y A B : Type 0} (g : X → Y) (k : Option A → Option B) (h : A → B) (e : A → Form X) (d : B → Form Y) → k None ≡ None → ((x : A) → k (Some x) ≡ Some (h x)) →
+    ((x : A) → d (h x) ≡ map_form g (e x)) → (o : Option A) → element d (k o) ≡ map_form g (element e o)
+unfolding map_form element
+element_mapped g k h e d none some same None = ap (element d) none
+element_mapped g k h e d none some same (Some x) = ap (element d) (some x) ∙ same x

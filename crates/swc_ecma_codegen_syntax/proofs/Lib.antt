@@ -1,0 +1,14 @@
+pub mod CallsJudged
+pub mod EachForgets
+pub mod Exact
+pub mod ExprsJudged
+pub mod Forgets
+pub mod Judged
+pub mod MappedCalls
+pub mod MappedExprs
+pub mod MappedPats
+pub mod PatForgets
+pub mod PatsJudged
+pub mod TreeFacts
+pub mod VerdictLaws
+pub mod Wholes

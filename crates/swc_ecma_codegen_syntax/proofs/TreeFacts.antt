@@ -1,0 +1,140 @@
+-- What is told of a whole node, by its sort.
+use Rattle.std.proofs.Common.{◌≡◌, Bool, true, false, refl, sym, ◌∙◌, ap}
+use Rattle.swc_ecma_codegen_tree.specs.declared.links.AnyNode.{AnyNode, AnyNode-F, map-AnyNode, roll-AnyNode, out-AnyNode, ind-AnyNode}
+use Rattle.swc_ecma_codegen_tree.specs.declared.links.AnyNode.TheOpen as nodes
+use Rattle.swc_ecma_codegen_tree.specs.declared.links.AnyNode.TheViews.{roll-out-AnyNode}
+use Rattle.swc_ecma_codegen_tree.specs.declared.links.AnyNode.TheVariants as whole
+use Rattle.swc_ecma_codegen_tree.specs.declared.links.AnyNode.TheFolds.{fold-roll-AnyNode}
+use Rattle.swc_ecma_codegen_tree.specs.declared.exprs.Expr.{Expr}
+use Rattle.swc_ecma_codegen_tree.specs.declared.exprs.Expr.TheVariants as exprs
+use Rattle.swc_ecma_codegen_tree.specs.declared.exprs.MemberExpr.{MemberExpr}
+use Rattle.swc_ecma_codegen_tree.specs.declared.parts.ExprPart.{ExprPart}
+use Rattle.swc_ecma_codegen_grammar.specs.declared.roles.Role.{Role}
+use Rattle.swc_ecma_codegen_grammar.specs.declared.roles.Role.TheVariants.{Expression, Callee, ChainMember}
+use Rattle.swc_ecma_codegen_syntax.specs.declared.nonterminals.Nonterminal.{Nonterminal}
+use Rattle.swc_ecma_codegen_syntax.specs.declared.nonterminals.Nonterminal.TheVariants as nt
+use Rattle.swc_ecma_codegen_syntax.specs.declared.parameters.Parameters.{Parameters}
+use Rattle.swc_ecma_codegen_syntax.specs.declared.verdicts.Facts.{Facts}
+use Rattle.swc_ecma_codegen_syntax.specs.declared.verdicts.Verdict.{Verdict}
+use Rattle.swc_ecma_codegen_syntax.specs.Verdicts.{unasked, by_scope}
+use Rattle.swc_ecma_codegen_syntax.specs.Forms.{Form, map_form, judge, asked}
+use Rattle.swc_ecma_codegen_syntax.specs.MemberForms.{chain_member_form}
+use Rattle.swc_ecma_codegen_syntax.specs.ExprForms.{expr_form, expr_nonterminal}
+use Rattle.swc_ecma_codegen_syntax.specs.NodeForms.{part_form, part_nonterminal, node_form, node_nonterminal, is_simple_expr, is_simple_node, is_simple, is_name_expr, is_name_node, is_called, is_called_node, simple_told, expr_facts, other_facts, part_facts, node_facts, facts}
+use Rattle.swc_ecma_codegen_syntax.proofs.Judged.{judge_mapped}
+use Rattle.swc_ecma_codegen_syntax.proofs.MappedCalls.{form_in, nonterminal_in}
+use Rattle.swc_ecma_codegen_syntax.proofs.MappedExprs.{expr_mapped, nonterminal_mapped, chain_member_mapped}
+use Rattle.swc_ecma_codegen_syntax.proofs.MappedPats.{part_mapped, part_sort_mapped}
+
+-- ---- over what links hold as something else
+
+pub node_mapped : {X Y : Type 0} (g : X → Y) (called : Bool) (c : Parameters) (n : AnyNode-F X) (role : Role) → node_form called c (map-AnyNode X Y g n) role ≡ map_form g (node_form called c n role)
+unfolding node_form map_form
+node_mapped g called c (nodes.Expr n) Expression = expr_mapped g false called c n
+node_mapped g called c (nodes.Expr n) Callee = expr_mapped g true called c n
+node_mapped g called c (nodes.MemberExpr n) (ChainMember optional) = chain_member_mapped g called c optional n.span n.obj n.prop
+node_mapped g called c (nodes.ExprPart n) role = part_mapped g called c n role
+node_mapped g called c n role = refl
+
+pub sort_mapped : {X Y : Type 0} (g : X → Y) (called : Bool) (c : Parameters) (n : AnyNode-F X) (role : Role) → node_nonterminal called c (map-AnyNode X Y g n) role ≡ node_nonterminal called c n role
+unfolding node_nonterminal
+sort_mapped g called c (nodes.Expr n) Expression = nonterminal_mapped g false called c n
+sort_mapped g called c (nodes.Expr n) Callee = nonterminal_mapped g true called c n
+sort_mapped g called c (nodes.MemberExpr n) (ChainMember optional) = refl
+sort_mapped g called c (nodes.ExprPart n) role = part_sort_mapped g called c n role
+sort_mapped g called c n role = refl
+
+called_mapped : {X Y : Type 0} (g : X → Y) (f : Y → Role → Parameters → Facts) (c : Parameters) (n : Expr X) → is_called_node f c (map-AnyNode X Y g (nodes.Expr n)) ≡ is_called (λ x. f (g x)) c n
+unfolding is_called_node is_called
+called_mapped g f c (exprs.Member n) = refl
+called_mapped g f c n = refl
+
+simple_expr_mapped : {X Y : Type 0} (g : X → Y) (f : Y → Bool) (n : Expr X) → is_simple_node f (map-AnyNode X Y g (nodes.Expr n)) ≡ is_simple_expr (λ x. f (g x)) n
+unfolding is_simple_node is_simple_expr
+simple_expr_mapped g f (exprs.Paren n) = refl
+simple_expr_mapped g f n = refl
+
+simple_mapped : {X Y : Type 0} (g : X → Y) (f : Y → Bool) (n : AnyNode-F X) → is_simple_node f (map-AnyNode X Y g n) ≡ is_simple_node (λ x. f (g x)) n
+unfolding is_simple_node
+simple_mapped g f (nodes.Expr n) = simple_expr_mapped g f n
+simple_mapped g f n = refl
+
+name_expr_mapped : {X Y : Type 0} (g : X → Y) (n : Expr X) → is_name_node (map-AnyNode X Y g (nodes.Expr n)) ≡ is_name_expr n
+unfolding is_name_node is_name_expr
+name_expr_mapped g (exprs.Ident n) = refl
+name_expr_mapped g n = refl
+
+pub name_mapped : {X Y : Type 0} (g : X → Y) (n : AnyNode-F X) → is_name_node (map-AnyNode X Y g n) ≡ is_name_node n
+unfolding is_name_node
+name_mapped g (nodes.Expr n) = name_expr_mapped g n
+name_mapped g n = refl
+
+abbrev facts_in : {X : Type 0} → (X → Role → Parameters → Facts) → Bool → Bool → Parameters → AnyNode-F X → Facts
+facts_in f keeps called c n = record {
+  nonterminal = nonterminal_in keeps called c n;
+  is_simple = is_simple_node (simple_told f c) n;
+  is_name = is_name_node n;
+  verdict = judge f unasked (form_in keeps called c n);
+}
+
+abbrev four : Nonterminal → Bool → Bool → Verdict → Facts
+four t s b v = record { nonterminal = t; is_simple = s; is_name = b; verdict = v }
+
+expr_facts_mapped : {X Y : Type 0} (g : X → Y) (f : Y → Role → Parameters → Facts) (keeps : Bool) (c : Parameters) (n : Expr X) →
+    facts_in f keeps (is_called_node f c (map-AnyNode X Y g (nodes.Expr n))) c (map-AnyNode X Y g (nodes.Expr n)) ≡ expr_facts (λ x. f (g x)) keeps c n
+unfolding expr_facts
+expr_facts_mapped {X} {Y} g f keeps c n =
+    let m : AnyNode-F Y = map-AnyNode X Y g (nodes.Expr n) in
+    let b : Bool = is_called (λ x. f (g x)) c n in
+    let v : judge f unasked (form_in keeps b c m) ≡ judge (λ x. f (g x)) unasked (expr_form keeps b c n) =
+    ap (judge f unasked) (expr_mapped g keeps b c n) ∙ judge_mapped g f unasked (expr_form keeps b c n) in
+    ap (λ k. facts_in f keeps k c m) (called_mapped g f c n)
+    ∙ ap (λ t. four t (is_simple_node (simple_told f c) m) (is_name_node m) (judge f unasked (form_in keeps b c m))) (nonterminal_mapped g keeps b c n)
+    ∙ ap (λ s. four (expr_nonterminal keeps b c n) s (is_name_node m) (judge f unasked (form_in keeps b c m))) (simple_expr_mapped g (simple_told f c) n)
+    ∙ ap (λ k. four (expr_nonterminal keeps b c n) (is_simple_expr (simple_told (λ x. f (g x)) c) n) k (judge f unasked (form_in keeps b c m))) (name_expr_mapped g n)
+    ∙ ap (λ w. four (expr_nonterminal keeps b c n) (is_simple_expr (simple_told (λ x. f (g x)) c) n) (is_name_expr n) w) v
+
+part_facts_mapped : {X Y : Type 0} (g : X → Y) (f : Y → Role → Parameters → Facts) (c : Parameters) (n : ExprPart X) (role : Role) →
+    other_facts (node_nonterminal false c (map-AnyNode X Y g (nodes.ExprPart n)) role) (judge f unasked (node_form false c (map-AnyNode X Y g (nodes.ExprPart n)) role)) ≡ part_facts (λ x. f (g x)) c n role
+unfolding part_facts
+part_facts_mapped {X} {Y} g f c n role =
+    ap (λ t. other_facts t (judge f unasked (node_form false c (map-AnyNode X Y g (nodes.ExprPart n)) role))) (part_sort_mapped g false c n role)
+    ∙ ap (other_facts (part_nonterminal n role)) (ap (judge f unasked) (part_mapped g false c n role) ∙ judge_mapped g f unasked (part_form c n role))
+
+pub facts_mapped : {X Y : Type 0} (g : X → Y) (f : Y → Role → Parameters → Facts) (n : AnyNode-F X) (role : Role) (c : Parameters) → node_facts f (map-AnyNode X Y g n) role c ≡ node_facts (λ x. f (g x)) n role c
+unfolding node_facts expr_facts part_facts is_called_node is_simple_node is_name_node node_form node_nonterminal
+facts_mapped g f (nodes.Expr n) Expression c = expr_facts_mapped g f false c n
+facts_mapped g f (nodes.Expr n) Callee c = expr_facts_mapped g f true c n
+facts_mapped g f (nodes.MemberExpr n) (ChainMember optional) c =
+    ap (other_facts nt.OptionalChain) (ap (judge f unasked) (chain_member_mapped g false c optional n.span n.obj n.prop) ∙ judge_mapped g f unasked (chain_member_form c optional n))
+facts_mapped g f (nodes.ExprPart n) role c = part_facts_mapped g f c n role
+facts_mapped g f n role c = refl
+
+-- ---- whole nodes
+
+facts_of_layer : (n : AnyNode-F AnyNode) (role : Role) (c : Parameters) → facts (roll-AnyNode n) role c ≡ node_facts facts n role c
+unfolding facts
+facts_of_layer n role c = ap (λ f. f role c) (fold-roll-AnyNode (Role → Parameters → Facts) (node_facts (λ known. known)) n) ∙ facts_mapped facts (λ known. known) n role c
+
+pub facts_of : {X : Type 0} (g : X → AnyNode) (n : AnyNode-F X) (role : Role) (c : Parameters) → facts (roll-AnyNode (map-AnyNode X AnyNode g n)) role c ≡ node_facts (λ x. facts (g x)) n role c
+facts_of {X} g n role c = facts_of_layer (map-AnyNode X AnyNode g n) role c ∙ facts_mapped g facts n role c
+
+pub facts_at : (n : AnyNode) (role : Role) (c : Parameters) → facts n role c ≡ node_facts facts (out-AnyNode n) role c
+facts_at n role c = ap (λ x. facts x role c) (sym (roll-out-AnyNode n)) ∙ facts_of_layer (out-AnyNode n) role c
+
+pub facts_expr : (n : Expr AnyNode) (role : Role) (c : Parameters) → facts (whole.Expr n) role c ≡ node_facts facts (nodes.Expr n) role c
+facts_expr n role c = ap (λ x. facts x role c) (sym (whole.rolls-Expr n)) ∙ facts_of_layer (nodes.Expr n) role c
+
+pub facts_member_expr : (n : MemberExpr AnyNode) (role : Role) (c : Parameters) → facts (whole.MemberExpr n) role c ≡ node_facts facts (nodes.MemberExpr n) role c
+facts_member_expr n role c = ap (λ x. facts x role c) (sym (whole.rolls-MemberExpr n)) ∙ facts_of_layer (nodes.MemberExpr n) role c
+
+pub facts_expr_part : (n : ExprPart AnyNode) (role : Role) (c : Parameters) → facts (whole.ExprPart n) role c ≡ node_facts facts (nodes.ExprPart n) role c
+facts_expr_part n role c = ap (λ x. facts x role c) (sym (whole.rolls-ExprPart n)) ∙ facts_of_layer (nodes.ExprPart n) role c
+
+-- the same of AssignmentTargetType
+simple_of_layer : (n : AnyNode-F AnyNode) → is_simple (roll-AnyNode n) ≡ is_simple_node is_simple n
+unfolding is_simple
+simple_of_layer n = fold-roll-AnyNode Bool (is_simple_node (λ known. known)) n ∙ simple_mapped is_simple (λ known. known) n
+
+pub simple_of : {X : Type 0} (g : X → AnyNode) (n : AnyNode-F X) → is_simple (roll-AnyNode (map-AnyNode X AnyNode g n)) ≡ is_simple_node (λ x. is_simple (g x)) n
+simple_of {X} g n = simple_of_layer (map-AnyNode X AnyNode g n) ∙ simple_mapped g is_simple n

@@ -1,0 +1,12 @@
+use Rattle.std.proofs.Common.{◌≡◌, ◌∙◌}
+use Rattle.swc_ecma_codegen_syntax.specs.declared.nonterminals.Nonterminal.TheVariants.{PatternElement}
+use Rattle.swc_ecma_codegen_syntax.specs.Forms.{judge}
+use Rattle.swc_ecma_codegen_syntax.specs.PatForms.{pat_element_form}
+use Rattle.swc_ecma_codegen_syntax.proofs.CallsJudged.{all_next}
+use Rattle.swc_ecma_codegen_syntax.proofs.pats.front_elements.Goals as goal
+
+pub loop-node-preserved : goal.loop-node-preserved
+loop-node-preserved g c =
+    c.loop-node.invariant
+    ∙ all_next (λ n v. judge g.N.Answers.answers v (pat_element_form PatternElement c.args.parameters n)) c.loop-node.verdict c.element-verdict.result c.args.elements.now c.loop-node.node-index c.node-item.result
+    c.loop-node-test.true c.node-item.is c.element-verdict.ensures

@@ -1,0 +1,47 @@
+-- Which lists of tokens the syntactic grammar derives with a tree as the derivation.
+use Rattle.std.specs.Prelude.{◌≡◌, Bool, true, false, ◌||◌, ◌&&◌, not, List, [], ◌∷◌, ◌++◌}
+use Rattle.swc_ecma_codegen_tree.specs.declared.links.AnyNode.{AnyNode, out-AnyNode}
+use Rattle.swc_ecma_codegen_tree.specs.declared.links.AnyNode.TheVariants as whole
+use Rattle.swc_ecma_codegen_tree.specs.declared.exprs.Expr.{Expr}
+use Rattle.swc_ecma_codegen_grammar.specs.Phrases.{Phrase, Closing, Choice, Never, Nothing, One, NameOf, KeyOf, PrivateOf, TagNameOf, Then, CommaBefore, OptionalParentheses, Chosen, closing_mark, closing_token, mark, Generates}
+use Rattle.swc_ecma_codegen_grammar.specs.Settings.{Settings}
+use Rattle.swc_ecma_codegen_grammar.specs.Tokens.{Token}
+use Rattle.swc_ecma_codegen_grammar.specs.declared.roles.Role.{Role}
+use Rattle.swc_ecma_codegen_grammar.specs.declared.roles.Role.TheVariants.{Expression}
+use Rattle.swc_ecma_codegen_syntax.specs.declared.nonterminals.Nonterminal.{Nonterminal}
+use Rattle.swc_ecma_codegen_syntax.specs.declared.parameters.Parameters.{Parameters}
+use Rattle.swc_ecma_codegen_syntax.specs.declared.verdicts.Verdict.{Verdict}
+use Rattle.swc_ecma_codegen_syntax.specs.Verdicts.{unasked}
+use Rattle.swc_ecma_codegen_syntax.specs.Forms.{of_part, Form, Fixed, Part, Simple, Both, Provided, NoComma, Bare, Cure, is_met, stands}
+use Rattle.swc_ecma_codegen_syntax.specs.NodeForms.{node_nonterminal, node_form, is_simple, is_name_node, expr_facts, facts}
+
+-- A form derives a list. A part is derived by a production of its node, whose nonterminal stands where the place wants one: by unit productions.
+-- Where `places` is false a part may stand where only parentheses would let it.
+pub data Derives (places : Bool) (s : Settings) : Form AnyNode → List Token → Type 0 where
+  fixed : {p : Phrase} {ts : List Token} → Generates s p ts → Derives places s (Fixed p) ts
+  part : {place : Nonterminal} {c : Parameters} {role : Role} {n : AnyNode} {ts : List Token} → (called : Bool) →
+      stands places place (node_nonterminal called c (out-AnyNode n) role) ≡ true → Derives places s (node_form called c (out-AnyNode n) role) ts →
+      Derives places s (Part place c role n) ts
+  simple : {named : Bool} {place : Nonterminal} {c : Parameters} {n : AnyNode} {ts : List Token} →
+      (is_simple n && (named || not (is_name_node (out-AnyNode n)))) ≡ true → Derives places s (Part place c Expression n) ts →
+      Derives places s (Simple named place c n) ts
+  both : {a b : Form AnyNode} {ts us : List Token} → Derives places s a ts → Derives places s b us → Derives places s (Both a b) (ts ++ us)
+  provided : {cure : Cure} {condition : Bool} {a : Form AnyNode} {ts : List Token} → is_met places cure condition ≡ true → Derives places s a ts →
+      Derives places s (Provided cure condition a) ts
+  no_comma : {close : Closing} → Derives places s (NoComma close) (closing_token close ∷ [])
+  bare : {a : Form AnyNode} {ts : List Token} → Derives places s a ts → Derives places s (Bare a) ts
+
+-- an expression by itself, as a nonterminal with its parameters
+abbrev pub DerivesExpr : Bool → Settings → Nonterminal → Parameters → Expr AnyNode → List Token → Type 0
+DerivesExpr places s place c n ts = Derives places s (Part place c Expression (whole.Expr n)) ts
+
+-- what a tree reads as, without what syntax leaves open: no comma before a closing mark, and no parentheses that the tree hasn't
+unfoldable pub bare_phrase : Phrase → Phrase
+bare_phrase (Then a b) = Then (bare_phrase a) (bare_phrase b)
+bare_phrase (CommaBefore close) = mark (closing_mark close)
+bare_phrase (OptionalParentheses a) = bare_phrase a
+bare_phrase p = p
+
+-- what is said of an expression by itself, as a nonterminal with its parameters
+abbrev pub expr_verdict : Nonterminal → Parameters → Expr AnyNode → Verdict
+expr_verdict place c n = of_part place unasked (expr_facts facts false c n)

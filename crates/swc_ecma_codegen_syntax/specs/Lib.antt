@@ -1,0 +1,14 @@
+pub mod CallForms
+pub mod Derives
+pub mod ExprForms
+pub mod Forms
+pub mod MemberForms
+pub mod NameForms
+pub mod NodeForms
+pub mod Nonterminals
+pub mod ObjectForms
+pub mod Parameters
+pub mod PatForms
+pub mod TargetForms
+pub mod TemplateForms
+pub mod Verdicts

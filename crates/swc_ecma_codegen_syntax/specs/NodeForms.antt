@@ -1,0 +1,137 @@
+-- What a whole node is, in a role, and what is told of it: a fold over the tree.
+use Rattle.std.specs.Prelude.{Bool, true, false, if◌then◌else◌}
+use Rattle.swc_ecma_codegen_tree.specs.declared.links.AnyNode.{AnyNode, AnyNode-F, fold-AnyNode}
+use Rattle.swc_ecma_codegen_tree.specs.declared.links.AnyNode.TheOpen as nodes
+use Rattle.swc_ecma_codegen_tree.specs.declared.exprs.Expr.{Expr}
+use Rattle.swc_ecma_codegen_tree.specs.declared.exprs.Expr.TheVariants as exprs
+use Rattle.swc_ecma_codegen_tree.specs.declared.parts.ExprPart.{ExprPart}
+use Rattle.swc_ecma_codegen_tree.specs.declared.parts.ExprPart.TheVariants as expr_parts
+use Rattle.swc_ecma_codegen_grammar.specs.Phrases.{Never}
+use Rattle.swc_ecma_codegen_grammar.specs.declared.roles.Role.{Role}
+use Rattle.swc_ecma_codegen_grammar.specs.declared.roles.Role.TheVariants.{Expression, Callee, ChainMember, ChainCall, Pattern, PropertyName, ObjectLiteral, AssignmentTarget, Template, TaggedTemplate}
+use Rattle.swc_ecma_codegen_syntax.specs.declared.nonterminals.Nonterminal.{Nonterminal}
+use Rattle.swc_ecma_codegen_syntax.specs.declared.nonterminals.Nonterminal.TheVariants as nt
+use Rattle.swc_ecma_codegen_syntax.specs.declared.parameters.Parameters.{Parameters}
+use Rattle.swc_ecma_codegen_syntax.specs.declared.verdicts.Facts.{Facts}
+use Rattle.swc_ecma_codegen_syntax.specs.declared.verdicts.Verdict.{Verdict}
+use Rattle.swc_ecma_codegen_syntax.specs.Nonterminals.{is_call}
+use Rattle.swc_ecma_codegen_syntax.specs.Verdicts.{unasked}
+use Rattle.swc_ecma_codegen_syntax.specs.Parameters.{with_in}
+use Rattle.swc_ecma_codegen_syntax.specs.Forms.{Form, Fixed, Provided, ByScope, judge}
+use Rattle.swc_ecma_codegen_syntax.specs.MemberForms.{chain_member_form}
+use Rattle.swc_ecma_codegen_syntax.specs.CallForms.{chain_call_form}
+use Rattle.swc_ecma_codegen_syntax.specs.TemplateForms.{tpl_form}
+use Rattle.swc_ecma_codegen_syntax.specs.ObjectForms.{prop_name_form, object_form}
+use Rattle.swc_ecma_codegen_syntax.specs.PatForms.{pat_form, pat_nonterminal}
+use Rattle.swc_ecma_codegen_syntax.specs.TargetForms.{target_form, target_nonterminal}
+use Rattle.swc_ecma_codegen_syntax.specs.ExprForms.{expr_form, expr_nonterminal}
+
+abbrev pub missing_form : {X : Type 0} → Form X
+missing_form = Provided ByScope false (Fixed Never)
+
+unfoldable pub part_nonterminal : {X : Type 0} → ExprPart X → Role → Nonterminal
+part_nonterminal (expr_parts.Pat n) Pattern = pat_nonterminal n
+part_nonterminal (expr_parts.ObjectLit n) ObjectLiteral = nt.PrimaryExpression
+part_nonterminal (expr_parts.PropName n) PropertyName = nt.PropertyName
+part_nonterminal (expr_parts.OptCall n) (ChainCall optional) = nt.OptionalChain
+part_nonterminal (expr_parts.AssignTarget n) AssignmentTarget = target_nonterminal n
+part_nonterminal (expr_parts.Tpl n) Template = nt.TemplateLiteral
+part_nonterminal (expr_parts.Tpl n) TaggedTemplate = nt.TemplateLiteral
+part_nonterminal n role = nt.Uncovered
+
+unfoldable pub part_form : {X : Type 0} → Parameters → ExprPart X → Role → Form X
+part_form c (expr_parts.Pat n) Pattern = pat_form c n
+part_form c (expr_parts.ObjectLit n) ObjectLiteral = object_form c n
+part_form c (expr_parts.PropName n) PropertyName = prop_name_form c n
+part_form c (expr_parts.OptCall n) (ChainCall optional) = chain_call_form c optional n
+part_form c (expr_parts.AssignTarget n) AssignmentTarget = target_form c n
+part_form c (expr_parts.Tpl n) Template = tpl_form c false n
+part_form c (expr_parts.Tpl n) TaggedTemplate = tpl_form c true n
+part_form c n role = missing_form
+
+-- The nonterminal whose production derives a node, and the production. `called` chooses between the two that a member has.
+unfoldable pub node_nonterminal : {X : Type 0} → Bool → Parameters → AnyNode-F X → Role → Nonterminal
+node_nonterminal called c (nodes.Expr n) Expression = expr_nonterminal false called c n
+node_nonterminal called c (nodes.Expr n) Callee = expr_nonterminal true called c n
+node_nonterminal called c (nodes.MemberExpr n) (ChainMember optional) = nt.OptionalChain
+node_nonterminal called c (nodes.ExprPart n) role = part_nonterminal n role
+node_nonterminal called c n role = nt.Uncovered
+
+unfoldable pub node_form : {X : Type 0} → Bool → Parameters → AnyNode-F X → Role → Form X
+node_form called c (nodes.Expr n) Expression = expr_form false called c n
+node_form called c (nodes.Expr n) Callee = expr_form true called c n
+node_form called c (nodes.MemberExpr n) (ChainMember optional) = chain_member_form c optional n
+node_form called c (nodes.ExprPart n) role = part_form c n role
+node_form called c n role = missing_form
+
+-- ---- AssignmentTargetType, section 8.6.4
+
+unfoldable pub is_simple_expr : {X : Type 0} → (X → Bool) → Expr X → Bool
+is_simple_expr f (exprs.Ident n) = true
+is_simple_expr f (exprs.Member n) = true
+is_simple_expr f (exprs.SuperProp n) = true
+is_simple_expr f (exprs.Paren n) = f n.expr.node.value
+is_simple_expr f n = false
+
+unfoldable pub is_simple_node : {X : Type 0} → (X → Bool) → AnyNode-F X → Bool
+is_simple_node f (nodes.Expr n) = is_simple_expr f n
+is_simple_node f n = false
+
+-- a tree's AssignmentTargetType is simple
+unfoldable pub is_simple : AnyNode → Bool
+is_simple = fold-AnyNode Bool (is_simple_node (λ known. known))
+
+unfoldable pub is_name_expr : {X : Type 0} → Expr X → Bool
+is_name_expr (exprs.Ident n) = true
+is_name_expr n = false
+
+unfoldable pub is_name_node : {X : Type 0} → AnyNode-F X → Bool
+is_name_node (nodes.Expr n) = is_name_expr n
+is_name_node n = false
+
+-- ---- what is told of a node, where f says it of what its links hold
+
+-- a member, or a tag, is a CallExpression
+unfoldable pub is_called : {X : Type 0} → (X → Role → Parameters → Facts) → Parameters → Expr X → Bool
+is_called f c (exprs.Member n) = is_call (f n.obj.node.value Callee (with_in c)).nonterminal
+is_called f c (exprs.TaggedTpl n) = is_call (f n.tag.node.value Callee (with_in c)).nonterminal
+is_called f c n = false
+
+unfoldable pub is_called_node : {X : Type 0} → (X → Role → Parameters → Facts) → Parameters → AnyNode-F X → Bool
+is_called_node f c (nodes.Expr n) = is_called f c n
+is_called_node f c n = false
+
+abbrev pub simple_told : {X : Type 0} → (X → Role → Parameters → Facts) → Parameters → X → Bool
+simple_told f c n = (f n Expression (with_in c)).is_simple
+
+unfoldable pub expr_facts : {X : Type 0} → (X → Role → Parameters → Facts) → Bool → Parameters → Expr X → Facts
+expr_facts f keeps c n = record {
+  nonterminal = expr_nonterminal keeps (is_called f c n) c n;
+  is_simple = is_simple_expr (simple_told f c) n;
+  is_name = is_name_expr n;
+  verdict = judge f unasked (expr_form keeps (is_called f c n) c n);
+}
+
+-- what is no expression
+abbrev pub other_facts : Nonterminal → Verdict → Facts
+other_facts nonterminal verdict = record { nonterminal = nonterminal; is_simple = false; is_name = false; verdict = verdict }
+
+-- what is assigned to
+abbrev pub target_facts : Nonterminal → Verdict → Facts
+target_facts nonterminal verdict = record { nonterminal = nonterminal; is_simple = true; is_name = false; verdict = verdict }
+
+unfoldable pub part_facts : {X : Type 0} → (X → Role → Parameters → Facts) → Parameters → ExprPart X → Role → Facts
+part_facts f c n role = other_facts (part_nonterminal n role) (judge f unasked (part_form c n role))
+
+abbrev pub no_facts : Facts
+no_facts = other_facts nt.Uncovered (record { covered = false; curable = true; parenthesized = true })
+
+unfoldable pub node_facts : {X : Type 0} → (X → Role → Parameters → Facts) → AnyNode-F X → Role → Parameters → Facts
+node_facts f (nodes.Expr n) Expression c = expr_facts f false c n
+node_facts f (nodes.Expr n) Callee c = expr_facts f true c n
+node_facts f (nodes.MemberExpr n) (ChainMember optional) c = other_facts nt.OptionalChain (judge f unasked (chain_member_form c optional n))
+node_facts f (nodes.ExprPart n) role c = part_facts f c n role
+node_facts f n role c = no_facts
+
+unfoldable pub facts : AnyNode → Role → Parameters → Facts
+facts = fold-AnyNode (Role → Parameters → Facts) (node_facts (λ known. known))

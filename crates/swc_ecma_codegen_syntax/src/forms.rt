@@ -1,0 +1,117 @@
+//! What is asked of a node.
+
+ghost use Rattle.std.specs.Prelude.{◌≡◌, List, Option};
+ghost use Rattle.swc_ecma_codegen_grammar.specs.declared.roles.Role.{Role as InRole};
+ghost use Rattle.swc_ecma_codegen_syntax.specs.declared.parameters.Parameters.{Parameters as Given};
+ghost use Rattle.swc_ecma_codegen_syntax.specs.declared.verdicts.Facts.{Facts as Told};
+ghost use Rattle.swc_ecma_codegen_syntax.specs.declared.verdicts.Verdict.{Verdict as Judged};
+ghost use Rattle.swc_ecma_codegen_syntax.specs.Forms.{Part, Simple, of_part, judge, verdict_all, verdict_of};
+ghost use Rattle.swc_ecma_codegen_syntax.specs.MemberForms.{expr_part};
+
+use crate::nonterminals::Nonterminal;
+use crate::parameters::Parameters;
+use crate::verdicts::{Facts, Verdict};
+use swc_ecma_codegen_grammar::roles::Role;
+use swc_ecma_codegen_tree::{ExprBox, Link};
+
+/// What a link holds.
+pub trait Answers {
+    ghost answers: { Self → InRole → Given → Told };
+
+    /// What is told of it, as a node in this role.
+    fn answer(&self, role: Role, parameters: Parameters) -> Facts
+        ensures { result ≡ answers self.now role parameters };
+}
+
+/// A node.
+pub trait Stands {
+    ghost judged: { Given → Self → Judged → Judged };
+
+    /// The verdict so far, and of this node.
+    fn judge(&self, so_far: Verdict, parameters: Parameters) -> Verdict
+        ensures { result ≡ judged parameters self.now so_far };
+}
+
+impl Verdict {
+    /// The same of a part, by what is told of it.
+    #[inline]
+    pub(crate) fn of_part(self, place: Nonterminal, facts: Facts) -> Verdict
+        ensures { result ≡ of_part place self facts }
+    {
+        self.standing(place, facts.nonterminal).meet(facts.verdict)
+    }
+
+    /// The same of what a link holds.
+    #[tactic(auto, unfolding(crate::specs::Forms::judge))]
+    pub(crate) fn part<K, N: Answers>(
+        self,
+        link: &Link<K, N>,
+        place: Nonterminal,
+        parameters: Parameters,
+        role: Role,
+    ) -> Verdict
+        ensures { result ≡ judge N.answers self (Part place parameters role link.now.node.value) }
+    {
+        self.of_part(place, link.target().answer(role, parameters))
+    }
+
+    /// The same of an expression whose AssignmentTargetType is simple, and which is no name unless `named`.
+    #[tactic(auto, unfolding(crate::specs::Forms::judge))]
+    pub(crate) fn simple<N: Answers>(
+        self,
+        link: &ExprBox<N>,
+        named: bool,
+        place: Nonterminal,
+        parameters: Parameters,
+    ) -> Verdict
+        ensures { result
+            ≡ judge N.answers self (Simple named place parameters link.now.node.value) }
+    {
+        let facts = link.target().answer(Role::Expression, parameters);
+        self.by_rule(facts.is_simple && (named || !facts.is_name))
+            .of_part(place, facts)
+    }
+}
+
+/// The verdict so far, and of each.
+#[tactic(auto, unfolding(crate::specs::Forms::verdict_all))]
+pub(crate) fn all<T: Stands>(so_far: Verdict, nodes: &[T], parameters: Parameters) -> Verdict
+    ensures { result ≡ verdict_all (T.judged parameters) so_far nodes.now }
+{
+    let mut verdict = so_far;
+    for node in nodes {
+        verdict = node.judge(verdict, parameters);
+    }
+    verdict
+}
+
+/// The verdict so far, and of each expression.
+#[tactic(auto, unfolding(crate::specs::Forms::verdict_all, crate::specs::Forms::judge))]
+pub(crate) fn all_exprs<N: Answers>(
+    so_far: Verdict,
+    exprs: &[ExprBox<N>],
+    place: Nonterminal,
+    parameters: Parameters,
+) -> Verdict
+    ensures { result
+        ≡ verdict_all (λ n v. judge N.answers v (expr_part place parameters n)) so_far exprs.now }
+{
+    let mut verdict = so_far;
+    for expr in exprs {
+        verdict = verdict.part(expr, place, parameters, Role::Expression);
+    }
+    verdict
+}
+
+/// A hole among elements is nothing.
+impl<T: Stands> Stands for Option<T> {
+    ghost judged = { λ c n v. verdict_of (T.judged c) n v };
+
+    #[tactic(auto, unfolding(crate::specs::Forms::verdict_of))]
+    fn judge(&self, so_far: Verdict, parameters: Parameters) -> Verdict {
+        match self {
+            Some(node) => node.judge(so_far, parameters),
+            None => so_far,
+        }
+    }
+}

@@ -1,0 +1,134 @@
+//! Objects and the names of properties.
+
+ghost use Rattle.std.specs.Prelude.{◌≡◌};
+ghost use Rattle.swc_ecma_codegen_syntax.specs.Forms.{judge};
+ghost use Rattle.swc_ecma_codegen_syntax.specs.Parameters.{with_in};
+ghost use Rattle.swc_ecma_codegen_syntax.specs.declared.nonterminals.Nonterminal.TheVariants.{AssignmentExpression};
+ghost use Rattle.swc_ecma_codegen_syntax.specs.MemberForms.{expr_part, computed_form};
+ghost use Rattle.swc_ecma_codegen_syntax.specs.ObjectForms.{prop_name_form, key_value_form, assign_prop_form, property_form, spread_form, prop_or_spread_form, object_form};
+
+use crate::forms::{Answers, Stands, all};
+use crate::names::{is_literal_number, name};
+use crate::nonterminals::Nonterminal;
+use crate::parameters::{Parameters, with_in};
+use crate::verdicts::Verdict;
+use swc_ecma_codegen_grammar::roles::Role;
+use swc_ecma_codegen_tree::{
+    AssignProp, ComputedPropName, ExprBox, KeyValueProp, ObjectLit, Prop, PropName, PropOrSpread,
+    SpreadElement,
+};
+
+/// An AssignmentExpression, between what parts it from others.
+pub(crate) fn assigned<N: Answers>(
+    so_far: Verdict,
+    expr: &ExprBox<N>,
+    parameters: Parameters,
+) -> Verdict
+    ensures { result
+        ≡ judge N.answers so_far (expr_part AssignmentExpression (with_in parameters) expr.now) }
+{
+    so_far.part(
+        expr,
+        Nonterminal::AssignmentExpression,
+        with_in(parameters),
+        Role::Expression,
+    )
+}
+
+/// What stands between brackets.
+#[tactic(auto, unfolding(crate::specs::MemberForms::computed_form, crate::specs::Forms::judge))]
+pub(crate) fn computed<N: Answers>(
+    so_far: Verdict,
+    name: &ComputedPropName<N>,
+    place: Nonterminal,
+    parameters: Parameters,
+) -> Verdict
+    ensures { result ≡ judge N.answers so_far (computed_form place parameters name.now) }
+{
+    so_far.part(&name.expr, place, with_in(parameters), Role::Expression)
+}
+
+impl<N: Answers> Stands for PropName<N> {
+    ghost judged = { λ c n v. judge N.answers v (prop_name_form c n) };
+
+    #[tactic(auto, unfolding(crate::specs::ObjectForms::prop_name_form, crate::specs::Forms::judge, crate::specs::Forms::asked))]
+    fn judge(&self, so_far: Verdict, parameters: Parameters) -> Verdict {
+        match self {
+            PropName::Ident(_) | PropName::Str(_) => so_far,
+            PropName::Num(number) => so_far.by_rule(is_literal_number(number)),
+            PropName::BigInt(number) => so_far.by_rule(!number.negative),
+            PropName::Computed(name) => computed(
+                so_far,
+                name,
+                Nonterminal::AssignmentExpression,
+                parameters,
+            ),
+        }
+    }
+}
+
+impl<N: Answers> Stands for KeyValueProp<N> {
+    ghost judged = { λ c n v. judge N.answers v (key_value_form c n) };
+
+    #[tactic(auto, unfolding(crate::specs::ObjectForms::key_value_form, crate::specs::Forms::judge))]
+    fn judge(&self, so_far: Verdict, parameters: Parameters) -> Verdict {
+        assigned(self.key.judge(so_far, parameters), &self.value, parameters)
+    }
+}
+
+impl<N: Answers> Stands for AssignProp<N> {
+    ghost judged = { λ c n v. judge N.answers v (assign_prop_form c n) };
+
+    #[tactic(auto, unfolding(crate::specs::ObjectForms::assign_prop_form, crate::specs::Forms::judge, crate::specs::Forms::asked))]
+    fn judge(&self, so_far: Verdict, parameters: Parameters) -> Verdict {
+        assigned(
+            name::<N>(so_far.by_rule(false), &self.key, parameters),
+            &self.value,
+            parameters,
+        )
+    }
+}
+
+impl<N: Answers> Stands for Prop<N> {
+    ghost judged = { λ c n v. judge N.answers v (property_form c n) };
+
+    #[tactic(auto, unfolding(crate::specs::ObjectForms::property_form, crate::specs::Forms::judge, crate::specs::Forms::asked))]
+    fn judge(&self, so_far: Verdict, parameters: Parameters) -> Verdict {
+        match self {
+            Prop::Shorthand(node) => name::<N>(so_far, node, parameters),
+            Prop::KeyValue(node) => node.judge(so_far, parameters),
+            Prop::Assign(node) => node.judge(so_far, parameters),
+            Prop::Getter(_) | Prop::Setter(_) | Prop::Method(_) => so_far.by_scope(false),
+        }
+    }
+}
+
+impl<N: Answers> Stands for SpreadElement<N> {
+    ghost judged = { λ c n v. judge N.answers v (spread_form c n) };
+
+    #[tactic(auto, unfolding(crate::specs::ObjectForms::spread_form, crate::specs::Forms::judge))]
+    fn judge(&self, so_far: Verdict, parameters: Parameters) -> Verdict {
+        assigned(so_far, &self.expr, parameters)
+    }
+}
+
+impl<N: Answers> Stands for PropOrSpread<N> {
+    ghost judged = { λ c n v. judge N.answers v (prop_or_spread_form c n) };
+
+    #[tactic(auto, unfolding(crate::specs::ObjectForms::prop_or_spread_form))]
+    fn judge(&self, so_far: Verdict, parameters: Parameters) -> Verdict {
+        match self {
+            PropOrSpread::Spread(node) => node.judge(so_far, parameters),
+            PropOrSpread::Prop(node) => node.judge(so_far, parameters),
+        }
+    }
+}
+
+impl<N: Answers> Stands for ObjectLit<N> {
+    ghost judged = { λ c n v. judge N.answers v (object_form c n) };
+
+    #[tactic(auto, using(crate::proofs::CallsJudged::object_judged))]
+    fn judge(&self, so_far: Verdict, parameters: Parameters) -> Verdict {
+        all(so_far, &self.props, parameters)
+    }
+}

@@ -1,0 +1,154 @@
+//! The whole tree.
+
+ghost use Rattle.std.specs.Prelude.{◌≡◌, ◌↔◌, ◌&&◌, Bool, true, false, List};
+ghost use Rattle.swc_ecma_codegen_grammar.specs.Phrases.{Generates, is_possible};
+ghost use Rattle.swc_ecma_codegen_grammar.specs.Settings.{Settings};
+ghost use Rattle.swc_ecma_codegen_grammar.specs.Tokens.{Token};
+ghost use Rattle.swc_ecma_codegen_grammar.specs.TreePhrases.{expr_phrase};
+ghost use Rattle.swc_ecma_codegen_syntax.specs.Derives.{DerivesExpr, bare_phrase, expr_verdict};
+ghost use Rattle.swc_ecma_codegen_syntax.specs.NodeForms.{part_facts, facts};
+ghost use Rattle.swc_ecma_codegen_syntax.specs.Verdicts.{holds};
+
+use crate::calls::chain_call;
+use crate::exprs::{chain_member, expr_facts, told};
+use crate::forms::{Answers, Stands};
+use crate::nonterminals::Nonterminal;
+use crate::parameters::Parameters;
+use crate::pats::pat_nonterminal;
+use crate::targets::target_nonterminal;
+use crate::templates::tpl;
+use crate::verdicts::{Facts, Verdict};
+use swc_ecma_codegen_grammar::roles::Role;
+use swc_ecma_codegen_tree::{AnyNode, Expr, ExprPart};
+
+/// What a part of an expression tells, in its role.
+#[tactic(auto, unfolding(crate::specs::NodeForms::part_facts, crate::specs::NodeForms::part_form, crate::specs::NodeForms::part_nonterminal, crate::specs::Forms::judge, crate::specs::Forms::asked))]
+fn part_facts<N: Answers>(part: &ExprPart<N>, role: Role, parameters: Parameters) -> Facts
+    ensures { result ≡ part_facts N.answers parameters part.now role }
+{
+    let start = Verdict::unasked();
+    match (part, role) {
+        (ExprPart::Pat(node), Role::Pattern) => told(
+            pat_nonterminal(node),
+            node.judge(start, parameters),
+        ),
+        (ExprPart::ObjectLit(node), Role::ObjectLiteral) => {
+            told(
+                Nonterminal::PrimaryExpression,
+                node.judge(start, parameters),
+            )
+        }
+        (ExprPart::PropName(node), Role::PropertyName) => {
+            told(Nonterminal::PropertyName, node.judge(start, parameters))
+        }
+        (ExprPart::OptCall(node), Role::ChainCall(optional)) => {
+            told(
+                Nonterminal::OptionalChain,
+                chain_call(start, optional, node, parameters),
+            )
+        }
+        (ExprPart::AssignTarget(node), Role::AssignmentTarget) => {
+            told(target_nonterminal(node), node.judge(start, parameters))
+        }
+        (ExprPart::Tpl(node), Role::Template) => {
+            told(
+                Nonterminal::TemplateLiteral,
+                tpl(start, false, node, parameters),
+            )
+        }
+        (ExprPart::Tpl(node), Role::TaggedTemplate) => {
+            told(
+                Nonterminal::TemplateLiteral,
+                tpl(start, true, node, parameters),
+            )
+        }
+        _ => told(Nonterminal::Uncovered, start.by_scope(false)),
+    }
+}
+
+impl Answers for AnyNode {
+    ghost answers = { facts };
+
+    #[tactic(auto, using(crate::proofs::TreeFacts::facts_at, crate::proofs::TreeFacts::facts_expr, crate::proofs::TreeFacts::facts_member_expr, crate::proofs::TreeFacts::facts_expr_part), unfolding(crate::specs::NodeForms::node_facts, crate::specs::Verdicts::by_scope))]
+    fn answer(&self, role: Role, parameters: Parameters) -> Facts {
+        match (self, role) {
+            (AnyNode::Expr(node), Role::Expression) => expr_facts(node, false, parameters),
+            (AnyNode::Expr(node), Role::Callee) => expr_facts(node, true, parameters),
+            (AnyNode::MemberExpr(node), Role::ChainMember(optional)) => told(
+                Nonterminal::OptionalChain,
+                chain_member(Verdict::unasked(), optional, node, parameters),
+            ),
+            (AnyNode::ExprPart(node), role) => part_facts(node, role, parameters),
+            _ => told(Nonterminal::Uncovered, Verdict::unasked().by_scope(false)),
+        }
+    }
+}
+
+/// What is said of an expression where this nonterminal with these parameters stands. Takes no memory, and no more stack than the tree is deep.
+///
+/// `(a + b) * c` without its parentheses, as an Expression of a script, is covered and curable, and not parenthesized.
+pub fn verdict_expr(expr: &Expr, place: Nonterminal, parameters: Parameters) -> Verdict
+    ensures { result ≡ expr_verdict place parameters expr.now }
+{
+    Verdict::unasked().of_part(place, expr_facts(expr, false, parameters))
+}
+
+/// Whether an expression keeps its structure where this nonterminal with these parameters stands: true exactly where the
+/// syntactic grammar of ECMA-262, 2024, derives a list of the tree's tokens with this very tree as the derivation.
+///
+/// What has no production here has no derivation: functions, classes, arrow functions, methods, JSX and TypeScript, and names
+/// spelled with escapes. `is_covered_expr` tells them apart. Each list that is derived is one of the tree's; where the
+/// answer is true all of them are derived but those with parentheses round what `yield` has, and those with a comma
+/// before the bracket of a pattern. `parameters.minify` has to be that of the settings: `new (new A())()` is `new new A` then. Takes no memory.
+pub fn keeps_structure_expr(expr: &Expr, place: Nonterminal, parameters: Parameters) -> bool
+    ensures sound { (s : Settings) (ts : List Token)
+        → DerivesExpr true s place parameters expr.now ts
+        → (result ≡ true) × Generates s (expr_phrase expr.now) ts }
+    ensures complete { result ≡ true → (s : Settings) (ts : List Token)
+        → Generates s (bare_phrase (expr_phrase expr.now)) ts
+        → DerivesExpr true s place parameters expr.now ts }
+    ensures exactly { is_possible (expr_phrase expr.now) ≡ true → (s : Settings)
+        → (result ≡ true)
+        ↔ ((ts : List Token) × DerivesExpr true s place parameters expr.now ts) }
+    ensures told { result ≡ holds true (expr_verdict place parameters expr.now) }
+{
+    verdict_expr(expr, place, parameters).is_derivation()
+}
+
+/// Whether nothing is wrong with an expression but parentheses that are missing: true exactly where the grammar derives a list of its
+/// tokens if any part may stand where it would stand in parentheses. `a + b * c` for the product of a sum is curable, `a() = b` isn't. Takes no memory.
+pub fn is_curable_expr(expr: &Expr, place: Nonterminal, parameters: Parameters) -> bool
+    ensures sound { (s : Settings) (ts : List Token)
+        → DerivesExpr false s place parameters expr.now ts
+        → (result ≡ true) × Generates s (expr_phrase expr.now) ts }
+    ensures complete { result ≡ true → (s : Settings) (ts : List Token)
+        → Generates s (bare_phrase (expr_phrase expr.now)) ts
+        → DerivesExpr false s place parameters expr.now ts }
+    ensures exactly { is_possible (expr_phrase expr.now) ≡ true → (s : Settings)
+        → (result ≡ true)
+        ↔ ((ts : List Token) × DerivesExpr false s place parameters expr.now ts) }
+    ensures told { result ≡ holds false (expr_verdict place parameters expr.now) }
+{
+    verdict_expr(expr, place, parameters).is_curable()
+}
+
+/// Whether no part of an expression wants parentheses that it hasn't. With `is_curable_expr` it is `keeps_structure_expr`. Takes no memory.
+#[tactic(auto, using(crate::proofs::VerdictLaws::holds_both))]
+pub fn is_parenthesized_expr(expr: &Expr, place: Nonterminal, parameters: Parameters) -> bool
+    ensures told { result ≡ (expr_verdict place parameters expr.now).parenthesized }
+    ensures both { holds true (expr_verdict place parameters expr.now)
+        ≡ (holds false (expr_verdict place parameters expr.now) && result) }
+{
+    verdict_expr(expr, place, parameters).parenthesized
+}
+
+/// Whether each node of an expression has a production here, so that the other answers mean what they say. It is false of TypeScript, of what has no
+/// production here yet, and of names that are spelled with escapes; then no part is a derivation, and it isn't curable. Takes no memory.
+#[tactic(auto, using(crate::proofs::VerdictLaws::uncovered_holds))]
+pub fn is_covered_expr(expr: &Expr, place: Nonterminal, parameters: Parameters) -> bool
+    ensures told { result ≡ (expr_verdict place parameters expr.now).covered }
+    ensures uncovered { result ≡ false → (places : Bool)
+        → holds places (expr_verdict place parameters expr.now) ≡ false }
+{
+    verdict_expr(expr, place, parameters).covered
+}
