@@ -8,16 +8,16 @@ use swc_ecma_codegen_tokens::LowerEmitter;
 use swc_ecma_codegen_util::config::Config;
 
 /// A level of indentation more, and one less.
+#[tactic(auto, unfolding(swc_ecma_codegen_text_writer::specs::Sheet::Writes, swc_ecma_codegen_text_writer::specs::Sheet::effect))]
 pub fn there_and_back<W: WriteJs>(wr: &mut W) -> Result {
     wr.increase_indent()?;
     wr.decrease_indent()
 }
 
-/// `var in 1.`, and a level of indentation more and less.
+/// `var in`, and a level of indentation more and less.
 pub fn write_tokens<W: WriteJs>(e: &mut LowerEmitter, cfg: &Config, wr: &mut W) -> Answer {
     e.keyword(cfg, wr, None, "var")?;
     e.word_operator(cfg, wr, "in")?;
-    e.dotted_number(cfg, wr, "1")?;
     e.deeper(cfg, wr)?;
     e.shallower(cfg, wr)
 }
