@@ -1,54 +1,53 @@
--- What is said of an expression by itself decides which lists are derived with it.
+-- What is said of an expression or a pattern by itself decides which lists are derived with it.
 use Rattle.std.proofs.Common.{◌≡◌, ◌↔◌, inl, inr, Bool, true, false, ◌&&◌, List, [], ◌∷◌, ◌++◌, refl, sym, subst, ◌∙◌, ap}
 use Rattle.std.proofs.lemmas.Bool.{true≢false, and_parts}
 use Rattle.swc_ecma_codegen_tree.specs.declared.links.AnyNode.{AnyNode}
 use Rattle.swc_ecma_codegen_tree.specs.declared.links.AnyNode.TheOpen as nodes
 use Rattle.swc_ecma_codegen_tree.specs.declared.links.AnyNode.TheVariants as whole
 use Rattle.swc_ecma_codegen_tree.specs.declared.exprs.Expr.{Expr}
+use Rattle.swc_ecma_codegen_tree.specs.declared.parts.ExprPart.TheVariants as expr_parts
+use Rattle.swc_ecma_codegen_tree.specs.declared.pats.Pat.{Pat}
 use Rattle.swc_ecma_codegen_grammar.specs.Phrases.{Phrase, Never, Nothing, One, NameOf, KeyOf, PrivateOf, TagNameOf, Then, CommaBefore, OptionalParentheses, Chosen, Generates, is_possible}
 use Rattle.swc_ecma_codegen_grammar.specs.Settings.{Settings}
 use Rattle.swc_ecma_codegen_grammar.specs.Tokens.{Token}
 use Rattle.swc_ecma_codegen_grammar.specs.TreePhrases.{node_phrase, phrase, expr_phrase}
-use Rattle.swc_ecma_codegen_grammar.specs.declared.roles.Role.TheVariants.{Expression}
-use Rattle.swc_ecma_codegen_grammar.proofs.TreeLaws.{phrase_expr}
+use Rattle.swc_ecma_codegen_grammar.specs.PartPhrases.{expr_part}
+use Rattle.swc_ecma_codegen_grammar.specs.PatPhrases.{pat}
+use Rattle.swc_ecma_codegen_grammar.specs.declared.roles.Role.{Role}
+use Rattle.swc_ecma_codegen_grammar.specs.declared.roles.Role.TheVariants.{Expression, Pattern}
+use Rattle.swc_ecma_codegen_grammar.proofs.TreeLaws.{phrase_expr, phrase_expr_part}
 use Rattle.swc_ecma_codegen_syntax.specs.declared.nonterminals.Nonterminal.{Nonterminal}
 use Rattle.swc_ecma_codegen_syntax.specs.declared.parameters.Parameters.{Parameters}
 use Rattle.swc_ecma_codegen_syntax.specs.declared.verdicts.Verdict.{Verdict}
 use Rattle.swc_ecma_codegen_syntax.specs.Verdicts.{unasked, holds}
 use Rattle.swc_ecma_codegen_syntax.specs.Forms.{Part, of_part, judge, keeps, forget, stands}
-use Rattle.swc_ecma_codegen_syntax.specs.NodeForms.{expr_facts, node_facts, facts}
-use Rattle.swc_ecma_codegen_syntax.specs.Derives.{Derives, DerivesExpr, bare_phrase, expr_verdict}
+use Rattle.swc_ecma_codegen_syntax.specs.NodeForms.{expr_facts, part_facts, node_facts, facts}
+use Rattle.swc_ecma_codegen_syntax.specs.Derives.{Derives, DerivesExpr, DerivesPat, bare_phrase, expr_verdict, pat_verdict}
 use Rattle.swc_ecma_codegen_syntax.proofs.Judged.{judged}
-use Rattle.swc_ecma_codegen_syntax.proofs.TreeFacts.{facts_expr}
+use Rattle.swc_ecma_codegen_syntax.proofs.TreeFacts.{facts_expr, facts_expr_part}
 use Rattle.swc_ecma_codegen_syntax.proofs.Exact.{unasked_holds, derived_kept, kept_derives}
 
-expr_told : (n : Expr AnyNode) (c : Parameters) → facts (whole.Expr n) Expression c ≡ expr_facts facts false c n
-unfolding node_facts
-expr_told n c = facts_expr n Expression c
+-- ---- of any node in a role
 
-expr_read : (n : Expr AnyNode) → phrase (whole.Expr n) Expression ≡ expr_phrase n
-unfolding node_phrase
-expr_read n = phrase_expr n Expression
+abbrev said : Nonterminal → Parameters → Role → AnyNode → Verdict
+said place c role n = of_part place unasked (facts n role c)
 
-verdict_kept : (places : Bool) (place : Nonterminal) (c : Parameters) (n : Expr AnyNode) → holds places (expr_verdict place c n) ≡ keeps places facts (Part place c Expression (whole.Expr n))
+said_kept : (places : Bool) (place : Nonterminal) (c : Parameters) (role : Role) (n : AnyNode) → holds places (said place c role n) ≡ keeps places facts (Part place c role n)
 unfolding judge
-verdict_kept places place c n =
-    ap (λ t. holds places (of_part place unasked t)) (sym (expr_told n c))
-    ∙ judged places facts unasked (Part place c Expression (whole.Expr n))
-    ∙ ap (λ b. b && keeps places facts (Part place c Expression (whole.Expr n))) (unasked_holds places)
+said_kept places place c role n =
+    judged places facts unasked (Part place c role n) ∙ ap (λ b. b && keeps places facts (Part place c role n)) (unasked_holds places)
 
-pub sound : (places : Bool) (place : Nonterminal) (c : Parameters) (n : Expr AnyNode) (b : Bool) → b ≡ holds places (expr_verdict place c n) → (s : Settings) (ts : List Token) →
-    DerivesExpr places s place c n ts → (b ≡ true) × Generates s (expr_phrase n) ts
+node_sound : (places : Bool) (place : Nonterminal) (c : Parameters) (role : Role) (n : AnyNode) (b : Bool) → b ≡ holds places (said place c role n) → (s : Settings) (ts : List Token) →
+    Derives places s (Part place c role n) ts → (b ≡ true) × Generates s (phrase n role) ts
 unfolding forget
-sound places place c n b e s ts d =
-    let (k, x) = derived_kept places s (Part place c Expression (whole.Expr n)) ts d in
-    (e ∙ verdict_kept places place c n ∙ k, subst (λ p. Generates s p ts) (expr_read n) x)
+node_sound places place c role n b e s ts d =
+    let (k, x) = derived_kept places s (Part place c role n) ts d in
+    (e ∙ said_kept places place c role n ∙ k, x)
 
-pub complete : (places : Bool) (place : Nonterminal) (c : Parameters) (n : Expr AnyNode) (b : Bool) → b ≡ holds places (expr_verdict place c n) → b ≡ true → (s : Settings) (ts : List Token) →
-    Generates s (bare_phrase (expr_phrase n)) ts → DerivesExpr places s place c n ts
+node_complete : (places : Bool) (place : Nonterminal) (c : Parameters) (role : Role) (n : AnyNode) (b : Bool) → b ≡ holds places (said place c role n) → b ≡ true → (s : Settings) (ts : List Token) →
+    Generates s (bare_phrase (phrase n role)) ts → Derives places s (Part place c role n) ts
 unfolding keeps
-complete places place c n b e h s ts x =
-    kept_derives places s place c Expression (whole.Expr n) (sym (verdict_kept places place c n) ∙ sym e ∙ h) ts (subst (λ p. Generates s (bare_phrase p) ts) (sym (expr_read n)) x)
+node_complete places place c role n b e h s ts x = kept_derives places s place c role n (sym (said_kept places place c role n) ∙ sym e ∙ h) ts x
 
 -- a well-formed tree has a list, under any settings
 listed : (s : Settings) (p : Phrase) → is_possible p ≡ true → (ts : List Token) × Generates s (bare_phrase p) ts
@@ -69,9 +68,69 @@ listed s (CommaBefore close) h = (_, refl)
 listed s (OptionalParentheses a) h = listed s a h
 listed s (Chosen choice) h = (_, refl)
 
-pub exactly : (places : Bool) (place : Nonterminal) (c : Parameters) (n : Expr AnyNode) (b : Bool) → b ≡ holds places (expr_verdict place c n) → is_possible (expr_phrase n) ≡ true → (s : Settings) →
-    (b ≡ true) ↔ ((ts : List Token) × DerivesExpr places s place c n ts)
-exactly places place c n b e w s =
-    let there : b ≡ true → (ts : List Token) × DerivesExpr places s place c n ts = λ h. let (ts, x) = listed s (expr_phrase n) w in (ts, complete places place c n b e h s ts x) in
-    let back : ((ts : List Token) × DerivesExpr places s place c n ts) → b ≡ true = λ d. (sound places place c n b e s d.0 d.1).0 in
+node_exactly : (places : Bool) (place : Nonterminal) (c : Parameters) (role : Role) (n : AnyNode) (b : Bool) → b ≡ holds places (said place c role n) → is_possible (phrase n role) ≡ true → (s : Settings) →
+    (b ≡ true) ↔ ((ts : List Token) × Derives places s (Part place c role n) ts)
+node_exactly places place c role n b e w s =
+    let there : b ≡ true → (ts : List Token) × Derives places s (Part place c role n) ts = λ h. let (ts, x) = listed s (phrase n role) w in (ts, node_complete places place c role n b e h s ts x) in
+    let back : ((ts : List Token) × Derives places s (Part place c role n) ts) → b ≡ true = λ d. (node_sound places place c role n b e s d.0 d.1).0 in
     (there, back)
+
+-- ---- expressions
+
+told : (n : Expr AnyNode) (c : Parameters) → facts (whole.Expr n) Expression c ≡ expr_facts facts false c n
+unfolding node_facts
+told n c = facts_expr n Expression c
+
+read : (n : Expr AnyNode) → phrase (whole.Expr n) Expression ≡ expr_phrase n
+unfolding node_phrase
+read n = phrase_expr n Expression
+
+expr_said : (places : Bool) (place : Nonterminal) (c : Parameters) (n : Expr AnyNode) → holds places (expr_verdict place c n) ≡ holds places (said place c Expression (whole.Expr n))
+expr_said places place c n = ap (λ t. holds places (of_part place unasked t)) (sym (told n c))
+
+pub sound : (places : Bool) (place : Nonterminal) (c : Parameters) (n : Expr AnyNode) (b : Bool) → b ≡ holds places (expr_verdict place c n) → (s : Settings) (ts : List Token) →
+    DerivesExpr places s place c n ts → (b ≡ true) × Generates s (expr_phrase n) ts
+sound places place c n b e s ts (m, d) =
+    let (k, x) = node_sound places place c Expression (whole.Expr n) b (e ∙ expr_said places place c n) s ts d in
+    (k, subst (λ p. Generates s p ts) (read n) x)
+
+pub complete : (places : Bool) (place : Nonterminal) (c : Parameters) (n : Expr AnyNode) (b : Bool) → b ≡ holds places (expr_verdict place c n) → b ≡ true → (s : Settings) (ts : List Token) →
+    s.minify ≡ c.minify → Generates s (bare_phrase (expr_phrase n)) ts → DerivesExpr places s place c n ts
+complete places place c n b e h s ts m x =
+    (m, node_complete places place c Expression (whole.Expr n) b (e ∙ expr_said places place c n) h s ts (subst (λ p. Generates s (bare_phrase p) ts) (sym (read n)) x))
+
+pub exactly : (places : Bool) (place : Nonterminal) (c : Parameters) (n : Expr AnyNode) (b : Bool) → b ≡ holds places (expr_verdict place c n) → is_possible (expr_phrase n) ≡ true → (s : Settings) →
+    s.minify ≡ c.minify → (b ≡ true) ↔ ((ts : List Token) × DerivesExpr places s place c n ts)
+exactly places place c n b e w s m =
+    let (there, back) = node_exactly places place c Expression (whole.Expr n) b (e ∙ expr_said places place c n) (ap is_possible (read n) ∙ w) s in
+    ((λ h. let (ts, d) = there h in (ts, (m, d))), (λ d. back (d.0, d.1.1)))
+
+-- ---- patterns
+
+pat_told : (n : Pat AnyNode) (c : Parameters) → facts (whole.ExprPart (expr_parts.Pat n)) Pattern c ≡ part_facts facts c (expr_parts.Pat n) Pattern
+unfolding node_facts
+pat_told n c = facts_expr_part (expr_parts.Pat n) Pattern c
+
+pat_read : (n : Pat AnyNode) → phrase (whole.ExprPart (expr_parts.Pat n)) Pattern ≡ pat phrase n
+unfolding node_phrase expr_part
+pat_read n = phrase_expr_part (expr_parts.Pat n) Pattern
+
+pat_said : (places : Bool) (place : Nonterminal) (c : Parameters) (n : Pat AnyNode) → holds places (pat_verdict place c n) ≡ holds places (said place c Pattern (whole.ExprPart (expr_parts.Pat n)))
+pat_said places place c n = ap (λ t. holds places (of_part place unasked t)) (sym (pat_told n c))
+
+pub pat_sound : (places : Bool) (place : Nonterminal) (c : Parameters) (n : Pat AnyNode) (b : Bool) → b ≡ holds places (pat_verdict place c n) → (s : Settings) (ts : List Token) →
+    DerivesPat places s place c n ts → (b ≡ true) × Generates s (pat phrase n) ts
+pat_sound places place c n b e s ts (m, d) =
+    let (k, x) = node_sound places place c Pattern (whole.ExprPart (expr_parts.Pat n)) b (e ∙ pat_said places place c n) s ts d in
+    (k, subst (λ p. Generates s p ts) (pat_read n) x)
+
+pub pat_complete : (places : Bool) (place : Nonterminal) (c : Parameters) (n : Pat AnyNode) (b : Bool) → b ≡ holds places (pat_verdict place c n) → b ≡ true → (s : Settings) (ts : List Token) →
+    s.minify ≡ c.minify → Generates s (bare_phrase (pat phrase n)) ts → DerivesPat places s place c n ts
+pat_complete places place c n b e h s ts m x =
+    (m, node_complete places place c Pattern (whole.ExprPart (expr_parts.Pat n)) b (e ∙ pat_said places place c n) h s ts (subst (λ p. Generates s (bare_phrase p) ts) (sym (pat_read n)) x))
+
+pub pat_exactly : (places : Bool) (place : Nonterminal) (c : Parameters) (n : Pat AnyNode) (b : Bool) → b ≡ holds places (pat_verdict place c n) → is_possible (pat phrase n) ≡ true → (s : Settings) →
+    s.minify ≡ c.minify → (b ≡ true) ↔ ((ts : List Token) × DerivesPat places s place c n ts)
+pat_exactly places place c n b e w s m =
+    let (there, back) = node_exactly places place c Pattern (whole.ExprPart (expr_parts.Pat n)) b (e ∙ pat_said places place c n) (ap is_possible (pat_read n) ∙ w) s in
+    ((λ h. let (ts, d) = there h in (ts, (m, d))), (λ d. back (d.0, d.1.1)))

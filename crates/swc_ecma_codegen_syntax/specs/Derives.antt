@@ -3,17 +3,21 @@ use Rattle.std.specs.Prelude.{◌≡◌, Bool, true, false, ◌||◌, ◌&&◌, 
 use Rattle.swc_ecma_codegen_tree.specs.declared.links.AnyNode.{AnyNode, out-AnyNode}
 use Rattle.swc_ecma_codegen_tree.specs.declared.links.AnyNode.TheVariants as whole
 use Rattle.swc_ecma_codegen_tree.specs.declared.exprs.Expr.{Expr}
+use Rattle.swc_ecma_codegen_tree.specs.declared.parts.ExprPart.TheVariants as expr_parts
+use Rattle.swc_ecma_codegen_tree.specs.declared.pats.Pat.{Pat}
 use Rattle.swc_ecma_codegen_grammar.specs.Phrases.{Phrase, Closing, Choice, Never, Nothing, One, NameOf, KeyOf, PrivateOf, TagNameOf, Then, CommaBefore, OptionalParentheses, Chosen, closing_mark, closing_token, mark, Generates}
+use Rattle.swc_ecma_codegen_grammar.specs.PatPhrases.{pat}
 use Rattle.swc_ecma_codegen_grammar.specs.Settings.{Settings}
 use Rattle.swc_ecma_codegen_grammar.specs.Tokens.{Token}
+use Rattle.swc_ecma_codegen_grammar.specs.TreePhrases.{phrase}
 use Rattle.swc_ecma_codegen_grammar.specs.declared.roles.Role.{Role}
-use Rattle.swc_ecma_codegen_grammar.specs.declared.roles.Role.TheVariants.{Expression}
+use Rattle.swc_ecma_codegen_grammar.specs.declared.roles.Role.TheVariants.{Expression, Pattern}
 use Rattle.swc_ecma_codegen_syntax.specs.declared.nonterminals.Nonterminal.{Nonterminal}
 use Rattle.swc_ecma_codegen_syntax.specs.declared.parameters.Parameters.{Parameters}
 use Rattle.swc_ecma_codegen_syntax.specs.declared.verdicts.Verdict.{Verdict}
 use Rattle.swc_ecma_codegen_syntax.specs.Verdicts.{unasked}
 use Rattle.swc_ecma_codegen_syntax.specs.Forms.{of_part, Form, Fixed, Part, Simple, Both, Provided, NoComma, Bare, Cure, is_met, stands}
-use Rattle.swc_ecma_codegen_syntax.specs.NodeForms.{node_nonterminal, node_form, is_simple, is_name_node, expr_facts, facts}
+use Rattle.swc_ecma_codegen_syntax.specs.NodeForms.{node_nonterminal, node_form, is_simple, is_name_node, expr_facts, part_facts, facts}
 
 -- A form derives a list. A part is derived by a production of its node, whose nonterminal stands where the place wants one: by unit productions.
 -- Where `places` is false a part may stand where only parentheses would let it.
@@ -31,9 +35,17 @@ pub data Derives (places : Bool) (s : Settings) : Form AnyNode → List Token �
   no_comma : {close : Closing} → Derives places s (NoComma close) (closing_token close ∷ [])
   bare : {a : Form AnyNode} {ts : List Token} → Derives places s a ts → Derives places s (Bare a) ts
 
--- an expression by itself, as a nonterminal with its parameters
+-- an expression by itself, as a nonterminal with its parameters, under settings that minify where these say so
 abbrev pub DerivesExpr : Bool → Settings → Nonterminal → Parameters → Expr AnyNode → List Token → Type 0
-DerivesExpr places s place c n ts = Derives places s (Part place c Expression (whole.Expr n)) ts
+DerivesExpr places s place c n ts = (s.minify ≡ c.minify) × Derives places s (Part place c Expression (whole.Expr n)) ts
+
+-- a pattern by itself: `parameters` say whether it is one of a binding
+abbrev pub DerivesPat : Bool → Settings → Nonterminal → Parameters → Pat AnyNode → List Token → Type 0
+DerivesPat places s place c n ts = (s.minify ≡ c.minify) × Derives places s (Part place c Pattern (whole.ExprPart (expr_parts.Pat n))) ts
+
+-- what a pattern by itself reads as
+abbrev pub pat_phrase : Pat AnyNode → Phrase
+pat_phrase n = pat phrase n
 
 -- what a tree reads as, without what syntax leaves open: no comma before a closing mark, and no parentheses that the tree hasn't
 unfoldable pub bare_phrase : Phrase → Phrase
@@ -42,6 +54,9 @@ bare_phrase (CommaBefore close) = mark (closing_mark close)
 bare_phrase (OptionalParentheses a) = bare_phrase a
 bare_phrase p = p
 
--- what is said of an expression by itself, as a nonterminal with its parameters
+-- what is said of an expression and of a pattern by itself, as a nonterminal with its parameters
 abbrev pub expr_verdict : Nonterminal → Parameters → Expr AnyNode → Verdict
 expr_verdict place c n = of_part place unasked (expr_facts facts false c n)
+
+abbrev pub pat_verdict : Nonterminal → Parameters → Pat AnyNode → Verdict
+pat_verdict place c n = of_part place unasked (part_facts facts c (expr_parts.Pat n) Pattern)

@@ -1,7 +1,11 @@
 //! Expressions.
 
 ghost use Rattle.std.specs.Prelude.{◌≡◌};
-ghost use Rattle.swc_ecma_codegen_syntax.specs.Forms.{judge, verdict_all};
+ghost use Rattle.swc_ecma_codegen_grammar.specs.declared.roles.Role.TheVariants.{Template};
+ghost use Rattle.swc_ecma_codegen_syntax.specs.declared.nonterminals.Nonterminal.TheVariants.{PrimaryExpression, TemplateLiteral};
+ghost use Rattle.swc_ecma_codegen_syntax.specs.Forms.{Part, judge};
+ghost use Rattle.swc_ecma_codegen_syntax.specs.Parameters.{with_in};
+ghost use Rattle.swc_ecma_codegen_syntax.specs.Verdicts.{unasked};
 ghost use Rattle.swc_ecma_codegen_syntax.specs.MemberForms.{prop_form, super_form, super_prop_form, chain_prop_form, chain_member_form, opt_chain_form, member_form, tagged_form};
 ghost use Rattle.swc_ecma_codegen_syntax.specs.ExprForms.{unary_form, update_form, is_in, binary_nonterminal, left_nonterminal, right_nonterminal, bin_form, cond_form, target_of, assign_form, yield_rest_form, yield_form, await_form, seq_form, paren_form, call_or_member};
 ghost use Rattle.swc_ecma_codegen_syntax.specs.NodeForms.{expr_facts, other_facts, target_facts};
@@ -17,9 +21,9 @@ use crate::parameters::{Parameters, with_in};
 use crate::verdicts::{Facts, Verdict};
 use swc_ecma_codegen_grammar::roles::Role;
 use swc_ecma_codegen_tree::{
-    AssignExpr, AwaitExpr, BinExpr, CondExpr, Expr, MemberExpr, MemberProp, OptChainBase,
-    OptChainExpr, ParenExpr, SeqExpr, SuperProp, SuperPropExpr, TaggedTpl, UnaryExpr, UpdateExpr,
-    YieldExpr,
+    AssignExpr, AwaitExpr, BinExpr, CondExpr, Expr, Ident, MemberExpr, MemberProp, NewExpr,
+    OptChainBase, OptChainExpr, ParenExpr, SeqExpr, SuperProp, SuperPropExpr, TaggedTpl, TplBox,
+    UnaryExpr, UpdateExpr, YieldExpr,
 };
 
 impl<N: Answers> Stands for UnaryExpr<N> {
@@ -347,6 +351,53 @@ fn paren_facts<N: Answers>(paren: &ParenExpr<N>, keeps: bool, parameters: Parame
     }
 }
 
+/// What a node tells that is no target.
+fn plain<T: Stands>(node: &T, nonterminal: Nonterminal, parameters: Parameters) -> Facts
+    ensures { result ≡ other_facts nonterminal (T.judged parameters node.now unasked) }
+{
+    told(nonterminal, node.judge(Verdict::unasked(), parameters))
+}
+
+/// What a name tells.
+#[tactic(auto, unfolding(crate::specs::NodeForms::expr_facts, crate::specs::NodeForms::is_called, crate::specs::NodeForms::is_simple_expr, crate::specs::NodeForms::is_name_expr, crate::specs::ExprForms::expr_nonterminal, crate::specs::ExprForms::expr_form))]
+fn name_facts<N: Answers>(ident: &Ident, keeps: bool, parameters: Parameters) -> Facts
+    ensures { result ≡ expr_facts N.answers keeps parameters (exprs.Ident ident.now) }
+{
+    Facts {
+        nonterminal: Nonterminal::PrimaryExpression,
+        is_simple: true,
+        is_name: true,
+        verdict: name::<N>(Verdict::unasked(), ident, parameters),
+    }
+}
+
+/// What `new` tells.
+#[tactic(auto, unfolding(crate::specs::NodeForms::expr_facts, crate::specs::NodeForms::is_called, crate::specs::NodeForms::is_simple_expr, crate::specs::NodeForms::is_name_expr, crate::specs::ExprForms::expr_nonterminal, crate::specs::ExprForms::expr_form))]
+fn new_facts<N: Answers>(node: &NewExpr<N>, keeps: bool, parameters: Parameters) -> Facts
+    ensures { result ≡ expr_facts N.answers keeps parameters (exprs.New node.now) }
+{
+    told(
+        new_nonterminal(keeps, node, parameters),
+        new(Verdict::unasked(), keeps, node, parameters),
+    )
+}
+
+/// What a template tells.
+#[tactic(auto, unfolding(crate::specs::Forms::judge))]
+fn tpl_facts<N: Answers>(link: &TplBox<N>, parameters: Parameters) -> Facts
+    ensures { result ≡ other_facts PrimaryExpression
+        (judge N.answers unasked
+        (Part TemplateLiteral (with_in parameters) Template link.now.node.value)) }
+{
+    let verdict = Verdict::unasked().part(
+        link,
+        Nonterminal::TemplateLiteral,
+        with_in(parameters),
+        Role::Template,
+    );
+    told(Nonterminal::PrimaryExpression, verdict)
+}
+
 /// What an expression tells; `keeps` says that it is called, or has a property.
 #[tactic(auto, unfolding(crate::specs::NodeForms::expr_facts, crate::specs::NodeForms::is_called, crate::specs::NodeForms::is_simple_expr, crate::specs::NodeForms::is_name_expr, crate::specs::ExprForms::expr_nonterminal, crate::specs::ExprForms::expr_form, crate::specs::Forms::judge, crate::specs::Forms::asked))]
 pub(crate) fn expr_facts<N: Answers>(expr: &Expr<N>, keeps: bool, parameters: Parameters) -> Facts
@@ -357,60 +408,25 @@ pub(crate) fn expr_facts<N: Answers>(expr: &Expr<N>, keeps: bool, parameters: Pa
         Expr::Member(node) => member_facts(node, keeps, parameters),
         Expr::TaggedTpl(node) => tagged_facts(node, keeps, parameters),
         Expr::Paren(node) => paren_facts(node, keeps, parameters),
-        Expr::Ident(node) => Facts {
-            nonterminal: Nonterminal::PrimaryExpression,
-            is_simple: true,
-            is_name: true,
-            verdict: name::<N>(start, node, parameters),
-        },
-        Expr::SuperProp(node) => told_target(
-            Nonterminal::MemberExpression,
-            node.judge(start, parameters),
-        ),
-        Expr::Array(node) => told(
-            Nonterminal::PrimaryExpression,
-            node.judge(start, parameters),
-        ),
-        Expr::Object(node) => told(
-            Nonterminal::PrimaryExpression,
-            node.judge(start, parameters),
-        ),
-        Expr::Unary(node) => told(Nonterminal::UnaryExpression, node.judge(start, parameters)),
-        Expr::Update(node) => told(Nonterminal::UpdateExpression, node.judge(start, parameters)),
-        Expr::Bin(node) => told(binary_nonterminal(node.op), node.judge(start, parameters)),
-        Expr::Assign(node) => told(
-            Nonterminal::AssignmentExpression,
-            node.judge(start, parameters),
-        ),
-        Expr::Cond(node) => told(
-            Nonterminal::ConditionalExpression,
-            node.judge(start, parameters),
-        ),
-        Expr::Call(node) => told(Nonterminal::CallExpression, node.judge(start, parameters)),
-        Expr::New(node) => told(
-            new_nonterminal(keeps, node, parameters),
-            new(start, keeps, node, parameters),
-        ),
-        Expr::Seq(node) => told(Nonterminal::Expression, node.judge(start, parameters)),
+        Expr::Ident(node) => name_facts::<N>(node, keeps, parameters),
+        Expr::New(node) => new_facts(node, keeps, parameters),
+        Expr::Tpl(node) => tpl_facts(node, parameters),
+        Expr::SuperProp(node) => {
+            told_target(Nonterminal::MemberExpression, node.judge(start, parameters))
+        }
+        Expr::Array(node) => plain(node, Nonterminal::PrimaryExpression, parameters),
+        Expr::Object(node) => plain(node, Nonterminal::PrimaryExpression, parameters),
+        Expr::Unary(node) => plain(node, Nonterminal::UnaryExpression, parameters),
+        Expr::Update(node) => plain(node, Nonterminal::UpdateExpression, parameters),
+        Expr::Bin(node) => plain(node, binary_nonterminal(node.op), parameters),
+        Expr::Assign(node) => plain(node, Nonterminal::AssignmentExpression, parameters),
+        Expr::Cond(node) => plain(node, Nonterminal::ConditionalExpression, parameters),
+        Expr::Call(node) => plain(node, Nonterminal::CallExpression, parameters),
+        Expr::Seq(node) => plain(node, Nonterminal::Expression, parameters),
+        Expr::Yield(node) => plain(node, Nonterminal::AssignmentExpression, parameters),
+        Expr::Await(node) => plain(node, Nonterminal::UnaryExpression, parameters),
+        Expr::OptChain(node) => plain(node, Nonterminal::OptionalExpression, parameters),
         Expr::Lit(node) => told(Nonterminal::PrimaryExpression, lit::<N>(start, node)),
-        Expr::Tpl(node) => told(
-            Nonterminal::PrimaryExpression,
-            start.part(
-                node,
-                Nonterminal::TemplateLiteral,
-                with_in(parameters),
-                Role::Template,
-            ),
-        ),
-        Expr::Yield(node) => told(
-            Nonterminal::AssignmentExpression,
-            node.judge(start, parameters),
-        ),
-        Expr::Await(node) => told(Nonterminal::UnaryExpression, node.judge(start, parameters)),
-        Expr::OptChain(node) => told(
-            Nonterminal::OptionalExpression,
-            node.judge(start, parameters),
-        ),
         Expr::This(_) => told(Nonterminal::PrimaryExpression, start),
         Expr::MetaProp(_) => told(Nonterminal::MemberExpression, start),
         Expr::PrivateName(_) => told(Nonterminal::PrivateIdentifier, start),

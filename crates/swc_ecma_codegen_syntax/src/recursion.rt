@@ -5,9 +5,11 @@ ghost use Rattle.swc_ecma_codegen_grammar.specs.Phrases.{Generates, is_possible}
 ghost use Rattle.swc_ecma_codegen_grammar.specs.Settings.{Settings};
 ghost use Rattle.swc_ecma_codegen_grammar.specs.Tokens.{Token};
 ghost use Rattle.swc_ecma_codegen_grammar.specs.TreePhrases.{expr_phrase};
-ghost use Rattle.swc_ecma_codegen_syntax.specs.Derives.{DerivesExpr, bare_phrase, expr_verdict};
-ghost use Rattle.swc_ecma_codegen_syntax.specs.NodeForms.{part_facts, facts};
-ghost use Rattle.swc_ecma_codegen_syntax.specs.Verdicts.{holds};
+ghost use Rattle.swc_ecma_codegen_syntax.specs.Derives.{DerivesExpr, DerivesPat, bare_phrase, pat_phrase, expr_verdict, pat_verdict};
+ghost use Rattle.swc_ecma_codegen_syntax.specs.NodeForms.{other_facts, part_facts, facts};
+ghost use Rattle.swc_ecma_codegen_syntax.specs.Forms.{judge};
+ghost use Rattle.swc_ecma_codegen_syntax.specs.PatForms.{pat_nonterminal, pat_form};
+ghost use Rattle.swc_ecma_codegen_syntax.specs.Verdicts.{unasked, holds};
 
 use crate::calls::chain_call;
 use crate::exprs::{chain_member, expr_facts, told};
@@ -19,7 +21,18 @@ use crate::targets::target_nonterminal;
 use crate::templates::tpl;
 use crate::verdicts::{Facts, Verdict};
 use swc_ecma_codegen_grammar::roles::Role;
-use swc_ecma_codegen_tree::{AnyNode, Expr, ExprPart};
+use swc_ecma_codegen_tree::{AnyNode, Expr, ExprPart, Pat};
+
+/// What a pattern tells.
+fn pat_facts<N: Answers>(pat: &Pat<N>, parameters: Parameters) -> Facts
+    ensures { result ≡ other_facts (pat_nonterminal pat.now)
+        (judge N.answers unasked (pat_form parameters pat.now)) }
+{
+    told(
+        pat_nonterminal(pat),
+        pat.judge(Verdict::unasked(), parameters),
+    )
+}
 
 /// What a part of an expression tells, in its role.
 #[tactic(auto, unfolding(crate::specs::NodeForms::part_facts, crate::specs::NodeForms::part_form, crate::specs::NodeForms::part_nonterminal, crate::specs::Forms::judge, crate::specs::Forms::asked))]
@@ -84,30 +97,36 @@ impl Answers for AnyNode {
     }
 }
 
-/// What is said of an expression where this nonterminal with these parameters stands. Takes no memory, and no more stack than the tree is deep.
+/// What is said of an expression where this nonterminal with these parameters stands. Takes no memory, and no more
+/// stack than the tree is deep.
 ///
-/// `(a + b) * c` without its parentheses, as an Expression of a script, is covered and curable, and not parenthesized.
+/// `(a + b) * c` without its parentheses, as an Expression of a script, is covered and curable, and not
+/// parenthesized.
 pub fn verdict_expr(expr: &Expr, place: Nonterminal, parameters: Parameters) -> Verdict
     ensures { result ≡ expr_verdict place parameters expr.now }
 {
     Verdict::unasked().of_part(place, expr_facts(expr, false, parameters))
 }
 
-/// Whether an expression keeps its structure where this nonterminal with these parameters stands: true exactly where the
-/// syntactic grammar of ECMA-262, 2024, derives a list of the tree's tokens with this very tree as the derivation.
+/// Whether an expression keeps its structure where this nonterminal with these parameters stands: true exactly
+/// where the syntactic grammar of ECMA-262, 2024, derives a list of the tree's tokens with this very tree as the
+/// derivation.
 ///
-/// What has no production here has no derivation: functions, classes, arrow functions, methods, JSX and TypeScript, and names
-/// spelled with escapes. `is_covered_expr` tells them apart. Each list that is derived is one of the tree's; where the
-/// answer is true all of them are derived but those with parentheses round what `yield` has, and those with a comma
-/// before the bracket of a pattern. `parameters.minify` has to be that of the settings: `new (new A())()` is `new new A` then. Takes no memory.
+/// What has no production here has no derivation: functions, classes, arrow functions, methods, JSX and TypeScript,
+/// and names spelled with escapes. `is_covered_expr` tells them apart. Each list that is derived is one of the
+/// tree's; where the answer is true all of them are derived but those with parentheses round what `yield` has, and
+/// those with a comma before the bracket of a pattern. `parameters.minify` has to be that of the settings: `new
+/// (new A())()` is `new new A` then. Takes no memory.
 pub fn keeps_structure_expr(expr: &Expr, place: Nonterminal, parameters: Parameters) -> bool
     ensures sound { (s : Settings) (ts : List Token)
         → DerivesExpr true s place parameters expr.now ts
         → (result ≡ true) × Generates s (expr_phrase expr.now) ts }
     ensures complete { result ≡ true → (s : Settings) (ts : List Token)
+        → s.minify ≡ parameters.minify
         → Generates s (bare_phrase (expr_phrase expr.now)) ts
         → DerivesExpr true s place parameters expr.now ts }
     ensures exactly { is_possible (expr_phrase expr.now) ≡ true → (s : Settings)
+        → s.minify ≡ parameters.minify
         → (result ≡ true)
         ↔ ((ts : List Token) × DerivesExpr true s place parameters expr.now ts) }
     ensures told { result ≡ holds true (expr_verdict place parameters expr.now) }
@@ -115,16 +134,19 @@ pub fn keeps_structure_expr(expr: &Expr, place: Nonterminal, parameters: Paramet
     verdict_expr(expr, place, parameters).is_derivation()
 }
 
-/// Whether nothing is wrong with an expression but parentheses that are missing: true exactly where the grammar derives a list of its
-/// tokens if any part may stand where it would stand in parentheses. `a + b * c` for the product of a sum is curable, `a() = b` isn't. Takes no memory.
+/// Whether nothing is wrong with an expression but parentheses that are missing: true exactly where the grammar
+/// derives a list of its tokens if any part may stand where it would stand in parentheses. `a + b * c` for the
+/// product of a sum is curable, `a() = b` isn't. Takes no memory.
 pub fn is_curable_expr(expr: &Expr, place: Nonterminal, parameters: Parameters) -> bool
     ensures sound { (s : Settings) (ts : List Token)
         → DerivesExpr false s place parameters expr.now ts
         → (result ≡ true) × Generates s (expr_phrase expr.now) ts }
     ensures complete { result ≡ true → (s : Settings) (ts : List Token)
+        → s.minify ≡ parameters.minify
         → Generates s (bare_phrase (expr_phrase expr.now)) ts
         → DerivesExpr false s place parameters expr.now ts }
     ensures exactly { is_possible (expr_phrase expr.now) ≡ true → (s : Settings)
+        → s.minify ≡ parameters.minify
         → (result ≡ true)
         ↔ ((ts : List Token) × DerivesExpr false s place parameters expr.now ts) }
     ensures told { result ≡ holds false (expr_verdict place parameters expr.now) }
@@ -132,7 +154,8 @@ pub fn is_curable_expr(expr: &Expr, place: Nonterminal, parameters: Parameters) 
     verdict_expr(expr, place, parameters).is_curable()
 }
 
-/// Whether no part of an expression wants parentheses that it hasn't. With `is_curable_expr` it is `keeps_structure_expr`. Takes no memory.
+/// Whether no part of an expression wants parentheses that it hasn't. With `is_curable_expr` it is
+/// `keeps_structure_expr`. Takes no memory.
 #[tactic(auto, using(crate::proofs::VerdictLaws::holds_both))]
 pub fn is_parenthesized_expr(expr: &Expr, place: Nonterminal, parameters: Parameters) -> bool
     ensures told { result ≡ (expr_verdict place parameters expr.now).parenthesized }
@@ -142,8 +165,9 @@ pub fn is_parenthesized_expr(expr: &Expr, place: Nonterminal, parameters: Parame
     verdict_expr(expr, place, parameters).parenthesized
 }
 
-/// Whether each node of an expression has a production here, so that the other answers mean what they say. It is false of TypeScript, of what has no
-/// production here yet, and of names that are spelled with escapes; then no part is a derivation, and it isn't curable. Takes no memory.
+/// Whether each node of an expression has a production here, so that the other answers mean what they say. It is
+/// false of TypeScript, of what has no production here yet, and of names that are spelled with escapes; then the
+/// expression neither keeps its structure nor is curable. Takes no memory.
 #[tactic(auto, using(crate::proofs::VerdictLaws::uncovered_holds))]
 pub fn is_covered_expr(expr: &Expr, place: Nonterminal, parameters: Parameters) -> bool
     ensures told { result ≡ (expr_verdict place parameters expr.now).covered }
@@ -151,4 +175,52 @@ pub fn is_covered_expr(expr: &Expr, place: Nonterminal, parameters: Parameters) 
         → holds places (expr_verdict place parameters expr.now) ≡ false }
 {
     verdict_expr(expr, place, parameters).covered
+}
+
+/// The same of a pattern, as `verdict_expr` says it of an expression. `parameters.is_binding` says whether the
+/// pattern is one of a binding, as in `let [a] = b`, or one of an assignment, as `[a.b] = c`. Takes no memory.
+#[tactic(auto, unfolding(crate::specs::NodeForms::part_facts, crate::specs::NodeForms::part_nonterminal, crate::specs::NodeForms::part_form))]
+pub fn verdict_pat(pat: &Pat, place: Nonterminal, parameters: Parameters) -> Verdict
+    ensures { result ≡ pat_verdict place parameters pat.now }
+{
+    Verdict::unasked().of_part(place, pat_facts(pat, parameters))
+}
+
+/// Whether a pattern keeps its structure, where this nonterminal with these parameters stands: PatternTarget, or
+/// PatternElement where a value may stand behind it, or LastElement where it may be a rest. See
+/// `keeps_structure_expr`. Takes no memory.
+pub fn keeps_structure_pat(pat: &Pat, place: Nonterminal, parameters: Parameters) -> bool
+    ensures sound { (s : Settings) (ts : List Token)
+        → DerivesPat true s place parameters pat.now ts
+        → (result ≡ true) × Generates s (pat_phrase pat.now) ts }
+    ensures complete { result ≡ true → (s : Settings) (ts : List Token)
+        → s.minify ≡ parameters.minify
+        → Generates s (bare_phrase (pat_phrase pat.now)) ts
+        → DerivesPat true s place parameters pat.now ts }
+    ensures exactly { is_possible (pat_phrase pat.now) ≡ true → (s : Settings)
+        → s.minify ≡ parameters.minify
+        → (result ≡ true)
+        ↔ ((ts : List Token) × DerivesPat true s place parameters pat.now ts) }
+    ensures told { result ≡ holds true (pat_verdict place parameters pat.now) }
+{
+    verdict_pat(pat, place, parameters).is_derivation()
+}
+
+/// Whether nothing is wrong with a pattern but parentheses that are missing. See `is_curable_expr`. Takes no
+/// memory.
+pub fn is_curable_pat(pat: &Pat, place: Nonterminal, parameters: Parameters) -> bool
+    ensures sound { (s : Settings) (ts : List Token)
+        → DerivesPat false s place parameters pat.now ts
+        → (result ≡ true) × Generates s (pat_phrase pat.now) ts }
+    ensures complete { result ≡ true → (s : Settings) (ts : List Token)
+        → s.minify ≡ parameters.minify
+        → Generates s (bare_phrase (pat_phrase pat.now)) ts
+        → DerivesPat false s place parameters pat.now ts }
+    ensures exactly { is_possible (pat_phrase pat.now) ≡ true → (s : Settings)
+        → s.minify ≡ parameters.minify
+        → (result ≡ true)
+        ↔ ((ts : List Token) × DerivesPat false s place parameters pat.now ts) }
+    ensures told { result ≡ holds false (pat_verdict place parameters pat.now) }
+{
+    verdict_pat(pat, place, parameters).is_curable()
 }
