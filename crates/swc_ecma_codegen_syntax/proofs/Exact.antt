@@ -148,7 +148,7 @@ chosen places f place called c n role w = w
 
 -- ---- AssignmentTargetType
 
-simple_facts : {X : Type 0} (f : X → Role → Parameters → Facts) (n : AnyNode-F X) (c : Parameters) → (node_facts f n Expression c).is_simple ≡ is_simple_node (simple_told f c) n
+simple_facts : {X : Type 0} (f : X → Role → Parameters → Facts) (n : AnyNode-F X) (c : Parameters) → (node_facts f n Expression c).is_simple ≡ is_simple_node (simple_told f c) c.is_strict n
 unfolding node_facts expr_facts part_facts is_simple_node
 simple_facts f (nodes.Expr n) c = refl
 simple_facts f n c = refl
@@ -158,24 +158,24 @@ unfolding node_facts expr_facts part_facts is_name_node
 name_facts f (nodes.Expr n) c = refl
 name_facts f n c = refl
 
-simple_same : {X : Type 0} (d e : X → Bool) → ((x : X) → d x ≡ e x) → (n : AnyNode-F X) → is_simple_node d n ≡ is_simple_node e n
+simple_same : {X : Type 0} (d e : X → Bool) → ((x : X) → d x ≡ e x) → (strict : Bool) (n : AnyNode-F X) → is_simple_node d strict n ≡ is_simple_node e strict n
 unfolding is_simple_node is_simple_expr
-simple_same d e same (nodes.Expr (exprs.Paren n)) = same n.expr.node.value
-simple_same d e same (nodes.Expr n) = refl
-simple_same d e same n = refl
+simple_same d e same strict (nodes.Expr (exprs.Paren n)) = same n.expr.node.value
+simple_same d e same strict (nodes.Expr n) = refl
+simple_same d e same strict n = refl
 
 abbrev SimpleLaw : AnyNode → Type 0
-SimpleLaw n = (c : Parameters) → (facts n Expression c).is_simple ≡ is_simple n
+SimpleLaw n = (c : Parameters) → (facts n Expression c).is_simple ≡ is_simple n c.is_strict
 
 simple_told_at : (n : AnyNode) → SimpleLaw n
 simple_told_at = ind-AnyNode SimpleLaw (λ x y q. subst (λ z. SimpleLaw (roll-AnyNode z)) q (λ c.
     ap (λ z. z.is_simple) (facts_of (λ z. z.0) y Expression c) ∙ simple_facts (λ z. facts z.0) y c
-    ∙ simple_same (simple_told (λ z. facts z.0) c) (λ z. is_simple z.0) (λ z. z.1 (with_in c)) y ∙ sym (simple_of (λ z. z.0) y)))
+    ∙ simple_same (simple_told (λ z. facts z.0) c) (λ z. is_simple z.0 c.is_strict) (λ z. z.1 (with_in c)) c.is_strict y ∙ sym (simple_of (λ z. z.0) y c.is_strict)))
 
 name_told_at : (n : AnyNode) (c : Parameters) → (facts n Expression c).is_name ≡ is_name_node (out-AnyNode n)
 name_told_at n c = ap (λ z. z.is_name) (facts_at n Expression c) ∙ name_facts facts (out-AnyNode n) c
 
-target_told : (named : Bool) (n : AnyNode) (c : Parameters) → is_target named (facts n Expression c) ≡ (is_simple n && (named || not (is_name_node (out-AnyNode n))))
+target_told : (named : Bool) (n : AnyNode) (c : Parameters) → is_target named (facts n Expression c) ≡ (is_simple n c.is_strict && (named || not (is_name_node (out-AnyNode n))))
 target_told named n c = ap₂ (λ a b. a && (named || not b)) (simple_told_at n c) (name_told_at n c)
 
 -- ---- what is derived keeps its structure, and is read as it is today

@@ -1,4 +1,5 @@
 pub mod CallsJudged
+pub mod Chains
 pub mod EachForgets
 pub mod Exact
 pub mod ExprsJudged

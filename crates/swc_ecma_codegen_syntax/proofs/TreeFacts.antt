@@ -49,15 +49,15 @@ unfolding is_called_node is_called
 called_mapped g f c (exprs.Member n) = refl
 called_mapped g f c n = refl
 
-simple_expr_mapped : {X Y : Type 0} (g : X → Y) (f : Y → Bool) (n : Expr X) → is_simple_node f (map-AnyNode X Y g (nodes.Expr n)) ≡ is_simple_expr (λ x. f (g x)) n
+simple_expr_mapped : {X Y : Type 0} (g : X → Y) (f : Y → Bool) (strict : Bool) (n : Expr X) → is_simple_node f strict (map-AnyNode X Y g (nodes.Expr n)) ≡ is_simple_expr (λ x. f (g x)) strict n
 unfolding is_simple_node is_simple_expr
-simple_expr_mapped g f (exprs.Paren n) = refl
-simple_expr_mapped g f n = refl
+simple_expr_mapped g f strict (exprs.Paren n) = refl
+simple_expr_mapped g f strict n = refl
 
-simple_mapped : {X Y : Type 0} (g : X → Y) (f : Y → Bool) (n : AnyNode-F X) → is_simple_node f (map-AnyNode X Y g n) ≡ is_simple_node (λ x. f (g x)) n
+simple_mapped : {X Y : Type 0} (g : X → Y) (f : Y → Bool) (strict : Bool) (n : AnyNode-F X) → is_simple_node f strict (map-AnyNode X Y g n) ≡ is_simple_node (λ x. f (g x)) strict n
 unfolding is_simple_node
-simple_mapped g f (nodes.Expr n) = simple_expr_mapped g f n
-simple_mapped g f n = refl
+simple_mapped g f strict (nodes.Expr n) = simple_expr_mapped g f strict n
+simple_mapped g f strict n = refl
 
 name_expr_mapped : {X Y : Type 0} (g : X → Y) (n : Expr X) → is_name_node (map-AnyNode X Y g (nodes.Expr n)) ≡ is_name_expr n
 unfolding is_name_node is_name_expr
@@ -72,7 +72,7 @@ name_mapped g n = refl
 abbrev facts_in : {X : Type 0} → (X → Role → Parameters → Facts) → Bool → Bool → Parameters → AnyNode-F X → Facts
 facts_in f keeps called c n = record {
   nonterminal = nonterminal_in keeps called c n;
-  is_simple = is_simple_node (simple_told f c) n;
+  is_simple = is_simple_node (simple_told f c) c.is_strict n;
   is_name = is_name_node n;
   verdict = judge f unasked (form_in keeps called c n);
 }
@@ -89,10 +89,10 @@ expr_facts_mapped {X} {Y} g f keeps c n =
     let v : judge f unasked (form_in keeps b c m) ≡ judge (λ x. f (g x)) unasked (expr_form keeps b c n) =
     ap (judge f unasked) (expr_mapped g keeps b c n) ∙ judge_mapped g f unasked (expr_form keeps b c n) in
     ap (λ k. facts_in f keeps k c m) (called_mapped g f c n)
-    ∙ ap (λ t. four t (is_simple_node (simple_told f c) m) (is_name_node m) (judge f unasked (form_in keeps b c m))) (nonterminal_mapped g keeps b c n)
-    ∙ ap (λ s. four (expr_nonterminal keeps b c n) s (is_name_node m) (judge f unasked (form_in keeps b c m))) (simple_expr_mapped g (simple_told f c) n)
-    ∙ ap (λ k. four (expr_nonterminal keeps b c n) (is_simple_expr (simple_told (λ x. f (g x)) c) n) k (judge f unasked (form_in keeps b c m))) (name_expr_mapped g n)
-    ∙ ap (λ w. four (expr_nonterminal keeps b c n) (is_simple_expr (simple_told (λ x. f (g x)) c) n) (is_name_expr n) w) v
+    ∙ ap (λ t. four t (is_simple_node (simple_told f c) c.is_strict m) (is_name_node m) (judge f unasked (form_in keeps b c m))) (nonterminal_mapped g keeps b c n)
+    ∙ ap (λ s. four (expr_nonterminal keeps b c n) s (is_name_node m) (judge f unasked (form_in keeps b c m))) (simple_expr_mapped g (simple_told f c) c.is_strict n)
+    ∙ ap (λ k. four (expr_nonterminal keeps b c n) (is_simple_expr (simple_told (λ x. f (g x)) c) c.is_strict n) k (judge f unasked (form_in keeps b c m))) (name_expr_mapped g n)
+    ∙ ap (λ w. four (expr_nonterminal keeps b c n) (is_simple_expr (simple_told (λ x. f (g x)) c) c.is_strict n) (is_name_expr n) w) v
 
 part_facts_mapped : {X Y : Type 0} (g : X → Y) (f : Y → Role → Parameters → Facts) (c : Parameters) (n : ExprPart X) (role : Role) →
     other_facts (node_nonterminal false c (map-AnyNode X Y g (nodes.ExprPart n)) role) (judge f unasked (node_form false c (map-AnyNode X Y g (nodes.ExprPart n)) role)) ≡ part_facts (λ x. f (g x)) c n role
@@ -132,9 +132,10 @@ pub facts_expr_part : (n : ExprPart AnyNode) (role : Role) (c : Parameters) → 
 facts_expr_part n role c = ap (λ x. facts x role c) (sym (whole.rolls-ExprPart n)) ∙ facts_of_layer (nodes.ExprPart n) role c
 
 -- the same of AssignmentTargetType
-simple_of_layer : (n : AnyNode-F AnyNode) → is_simple (roll-AnyNode n) ≡ is_simple_node is_simple n
+simple_of_layer : (n : AnyNode-F AnyNode) (strict : Bool) → is_simple (roll-AnyNode n) strict ≡ is_simple_node (λ x. is_simple x strict) strict n
 unfolding is_simple
-simple_of_layer n = fold-roll-AnyNode Bool (is_simple_node (λ known. known)) n ∙ simple_mapped is_simple (λ known. known) n
+simple_of_layer n strict =
+    ap (λ f. f strict) (fold-roll-AnyNode (Bool → Bool) (λ m b. is_simple_node (λ known. known b) b m) n) ∙ simple_mapped is_simple (λ known. known strict) strict n
 
-pub simple_of : {X : Type 0} (g : X → AnyNode) (n : AnyNode-F X) → is_simple (roll-AnyNode (map-AnyNode X AnyNode g n)) ≡ is_simple_node (λ x. is_simple (g x)) n
-simple_of {X} g n = simple_of_layer (map-AnyNode X AnyNode g n) ∙ simple_mapped g is_simple n
+pub simple_of : {X : Type 0} (g : X → AnyNode) (n : AnyNode-F X) (strict : Bool) → is_simple (roll-AnyNode (map-AnyNode X AnyNode g n)) strict ≡ is_simple_node (λ x. is_simple (g x) strict) strict n
+simple_of {X} g n strict = simple_of_layer (map-AnyNode X AnyNode g n) strict ∙ simple_mapped g (λ x. is_simple x strict) strict n

@@ -27,7 +27,7 @@ pub data Derives (places : Bool) (s : Settings) : Form AnyNode → List Token �
       stands places place (node_nonterminal called c (out-AnyNode n) role) ≡ true → Derives places s (node_form called c (out-AnyNode n) role) ts →
       Derives places s (Part place c role n) ts
   simple : {named : Bool} {place : Nonterminal} {c : Parameters} {n : AnyNode} {ts : List Token} →
-      (is_simple n && (named || not (is_name_node (out-AnyNode n)))) ≡ true → Derives places s (Part place c Expression n) ts →
+      (is_simple n c.is_strict && (named || not (is_name_node (out-AnyNode n)))) ≡ true → Derives places s (Part place c Expression n) ts →
       Derives places s (Simple named place c n) ts
   both : {a b : Form AnyNode} {ts us : List Token} → Derives places s a ts → Derives places s b us → Derives places s (Both a b) (ts ++ us)
   provided : {cure : Cure} {condition : Bool} {a : Form AnyNode} {ts : List Token} → is_met places cure condition ≡ true → Derives places s a ts →

@@ -11,4 +11,5 @@ pub mod Parameters
 pub mod PatForms
 pub mod TargetForms
 pub mod TemplateForms
+pub mod UnitProductions
 pub mod Verdicts

@@ -49,6 +49,10 @@ is_free c text =
     && (not (c.is_strict && is_one_of strict_words text)
     && (not (c.has_yield && bytes_eq text (codes "yield")) && not ((c.has_await || c.reserves_await) && bytes_eq text (codes "await"))))
 
+-- Section 13.1.3: `eval` and `arguments` are no targets in strict code, and no names that are bound there: 13.1.1.
+unfoldable pub is_assignable : Bool → List ℕ → Bool
+is_assignable strict text = not (strict && (bytes_eq text (codes "eval") || bytes_eq text (codes "arguments")))
+
 -- Whether a name is spelled without escapes: of one with an escape it isn't asked here what it stands for.
 unfoldable pub has_no_escape : List ℕ → Bool
 has_no_escape [] = true

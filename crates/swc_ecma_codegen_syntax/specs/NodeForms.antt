@@ -1,5 +1,5 @@
 -- What a whole node is, in a role, and what is told of it: a fold over the tree.
-use Rattle.std.specs.Prelude.{Bool, true, false, if◌then◌else◌}
+use Rattle.std.specs.Prelude.{Bool, true, false, if◌then◌else◌, string_bytes}
 use Rattle.swc_ecma_codegen_tree.specs.declared.links.AnyNode.{AnyNode, AnyNode-F, fold-AnyNode}
 use Rattle.swc_ecma_codegen_tree.specs.declared.links.AnyNode.TheOpen as nodes
 use Rattle.swc_ecma_codegen_tree.specs.declared.exprs.Expr.{Expr}
@@ -18,6 +18,7 @@ use Rattle.swc_ecma_codegen_syntax.specs.Nonterminals.{is_call}
 use Rattle.swc_ecma_codegen_syntax.specs.Verdicts.{unasked}
 use Rattle.swc_ecma_codegen_syntax.specs.Parameters.{with_in}
 use Rattle.swc_ecma_codegen_syntax.specs.Forms.{Form, Fixed, Provided, ByScope, judge}
+use Rattle.swc_ecma_codegen_syntax.specs.NameForms.{is_assignable}
 use Rattle.swc_ecma_codegen_syntax.specs.MemberForms.{chain_member_form}
 use Rattle.swc_ecma_codegen_syntax.specs.CallForms.{chain_call_form}
 use Rattle.swc_ecma_codegen_syntax.specs.TemplateForms.{tpl_form}
@@ -66,20 +67,20 @@ node_form called c n role = missing_form
 
 -- ---- AssignmentTargetType, section 8.6.4
 
-unfoldable pub is_simple_expr : {X : Type 0} → (X → Bool) → Expr X → Bool
-is_simple_expr f (exprs.Ident n) = true
-is_simple_expr f (exprs.Member n) = true
-is_simple_expr f (exprs.SuperProp n) = true
-is_simple_expr f (exprs.Paren n) = f n.expr.node.value
-is_simple_expr f n = false
+unfoldable pub is_simple_expr : {X : Type 0} → (X → Bool) → Bool → Expr X → Bool
+is_simple_expr f strict (exprs.Ident n) = is_assignable strict (string_bytes n.sym)
+is_simple_expr f strict (exprs.Member n) = true
+is_simple_expr f strict (exprs.SuperProp n) = true
+is_simple_expr f strict (exprs.Paren n) = f n.expr.node.value
+is_simple_expr f strict n = false
 
-unfoldable pub is_simple_node : {X : Type 0} → (X → Bool) → AnyNode-F X → Bool
-is_simple_node f (nodes.Expr n) = is_simple_expr f n
-is_simple_node f n = false
+unfoldable pub is_simple_node : {X : Type 0} → (X → Bool) → Bool → AnyNode-F X → Bool
+is_simple_node f strict (nodes.Expr n) = is_simple_expr f strict n
+is_simple_node f strict n = false
 
--- a tree's AssignmentTargetType is simple
-unfoldable pub is_simple : AnyNode → Bool
-is_simple = fold-AnyNode Bool (is_simple_node (λ known. known))
+-- a tree's AssignmentTargetType is simple, in strict code or in other
+unfoldable pub is_simple : AnyNode → Bool → Bool
+is_simple = fold-AnyNode (Bool → Bool) (λ n strict. is_simple_node (λ known. known strict) strict n)
 
 unfoldable pub is_name_expr : {X : Type 0} → Expr X → Bool
 is_name_expr (exprs.Ident n) = true
@@ -107,7 +108,7 @@ simple_told f c n = (f n Expression (with_in c)).is_simple
 unfoldable pub expr_facts : {X : Type 0} → (X → Role → Parameters → Facts) → Bool → Parameters → Expr X → Facts
 expr_facts f keeps c n = record {
   nonterminal = expr_nonterminal keeps (is_called f c n) c n;
-  is_simple = is_simple_expr (simple_told f c) n;
+  is_simple = is_simple_expr (simple_told f c) c.is_strict n;
   is_name = is_name_expr n;
   verdict = judge f unasked (expr_form keeps (is_called f c n) c n);
 }

@@ -140,9 +140,8 @@ is_expression n = is_assignment n
 -- what stands before `=`: LeftHandSideExpression or AssignmentPattern
 unfoldable pub is_assignment_target : Nonterminal → Bool
 is_assignment_target nt.AssignmentTarget = true
-is_assignment_target nt.LeftHandSideExpression = true
 is_assignment_target nt.AssignmentPattern = true
-is_assignment_target n = false
+is_assignment_target n = is_left_hand_side n
 
 -- a name is what a pattern binds or assigns to
 unfoldable pub is_pattern_target : Nonterminal → Bool

@@ -1,5 +1,5 @@
 -- Patterns: one production a node, with nonterminals. ECMA-262, sections 13.15.5 and 14.3.3.
-use Rattle.std.specs.Prelude.{ℕ, Bool, true, false, not, codes, List, [], ◌∷◌, Option, Some, None, if◌then◌else◌}
+use Rattle.std.specs.Prelude.{ℕ, Bool, true, false, not, codes, string_bytes, List, [], ◌∷◌, Option, Some, None, if◌then◌else◌}
 use Rattle.swc_ecma_codegen_tree.specs.Links.{ExprBox, PatBox}
 use Rattle.swc_ecma_codegen_tree.specs.declared.pats.Pat.{Pat}
 use Rattle.swc_ecma_codegen_tree.specs.declared.pats.Pat.TheVariants as pats
@@ -21,7 +21,7 @@ use Rattle.swc_ecma_codegen_syntax.specs.declared.nonterminals.Nonterminal.TheVa
 use Rattle.swc_ecma_codegen_syntax.specs.declared.parameters.Parameters.{Parameters}
 use Rattle.swc_ecma_codegen_syntax.specs.Parameters.{with_in}
 use Rattle.swc_ecma_codegen_syntax.specs.Forms.{Form, Fixed, Part, Simple, Provided, NoComma, ByRule, ByScope, ◌⇢◌}
-use Rattle.swc_ecma_codegen_syntax.specs.NameForms.{name_form}
+use Rattle.swc_ecma_codegen_syntax.specs.NameForms.{name_form, is_assignable}
 use Rattle.swc_ecma_codegen_syntax.specs.MemberForms.{expr_part, annotation_form}
 use Rattle.swc_ecma_codegen_syntax.specs.ObjectForms.{prop_name_form}
 
@@ -29,7 +29,7 @@ abbrev pub pat_part : {X : Type 0} → Nonterminal → Parameters → PatBox X �
 pat_part place c n = Part place c Pattern n.node.value
 
 unfoldable pub binding_form : {X : Type 0} → Parameters → BindingIdent X → Form X
-binding_form c n = name_form c n.id ⇢ annotation_form c n.type_ann
+binding_form c n = Provided ByRule (is_assignable c.is_strict (string_bytes n.id.sym)) (name_form c n.id ⇢ annotation_form c n.type_ann)
 
 -- Initializer: `= AssignmentExpression`
 unfoldable pub initializer_form : {X : Type 0} → Parameters → Option (ExprBox X) → Form X

@@ -13,7 +13,7 @@ ghost use Rattle.swc_ecma_codegen_tree.specs.declared.exprs.Expr.TheVariants as 
 
 use crate::calls::{chained, new, new_nonterminal, type_args};
 use crate::forms::{Answers, Stands, all_exprs};
-use crate::names::{lit, name};
+use crate::names::{is_assignable, lit, name};
 use crate::nonterminals::{Nonterminal, is_call};
 use crate::objects::computed;
 use crate::operators::{binary_nonterminal, is_in, left_nonterminal, right_nonterminal, target_of};
@@ -365,7 +365,7 @@ fn name_facts<N: Answers>(ident: &Ident, keeps: bool, parameters: Parameters) ->
 {
     Facts {
         nonterminal: Nonterminal::PrimaryExpression,
-        is_simple: true,
+        is_simple: is_assignable(&ident.sym, parameters.is_strict),
         is_name: true,
         verdict: name::<N>(Verdict::unasked(), ident, parameters),
     }

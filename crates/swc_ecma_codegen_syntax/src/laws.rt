@@ -16,6 +16,8 @@ ghost use Rattle.swc_ecma_codegen_syntax.specs.declared.nonterminals.Nonterminal
 ghost use Rattle.swc_ecma_codegen_syntax.specs.declared.parameters.Parameters.{Parameters as Given};
 ghost use Rattle.swc_ecma_codegen_syntax.specs.declared.verdicts.Facts.{Facts as Told};
 ghost use Rattle.swc_ecma_codegen_syntax.specs.Forms.{forget, keeps};
+ghost use Rattle.swc_ecma_codegen_syntax.specs.Nonterminals.{takes};
+ghost use Rattle.swc_ecma_codegen_syntax.specs.UnitProductions.{Chain};
 ghost use Rattle.swc_ecma_codegen_syntax.specs.NameForms.{name_form, lit_form};
 ghost use Rattle.swc_ecma_codegen_syntax.specs.MemberForms.{member_form, super_prop_form, tagged_form, chain_member_form, opt_chain_form};
 ghost use Rattle.swc_ecma_codegen_syntax.specs.CallForms.{array_form, call_form, new_form, chain_call_form};
@@ -123,4 +125,11 @@ pub fn parts_forget<N>()
         (b : Bool) (c : Given) (n : Expr N)
         → keeps p t (expr_form false b c n) ≡ true
         → forget f (expr_form false b c n) ≡ expr f n }
+{}
+
+/// One nonterminal takes another where a chain of unit productions leads from it to that one.
+#[tactic(auto, using(crate::proofs::Chains::takes_chain, crate::proofs::Chains::chain_takes))]
+pub fn unit_productions_are_taken()
+    ensures chain { (a c : Place) → takes a c ≡ true → Chain a c }
+    ensures takes { (a c : Place) → Chain a c → takes a c ≡ true }
 {}

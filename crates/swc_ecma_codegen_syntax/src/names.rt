@@ -2,7 +2,7 @@
 
 ghost use Rattle.std.specs.Prelude.{◌≡◌, bytes_eq};
 ghost use Rattle.swc_ecma_codegen_syntax.specs.Forms.{judge};
-ghost use Rattle.swc_ecma_codegen_syntax.specs.NameForms.{is_one_of, statement_words, declaration_words, expression_words, is_reserved, strict_words, is_free, has_no_escape, name_form, is_literal_value, is_literal_number, is_literal, lit_form};
+ghost use Rattle.swc_ecma_codegen_syntax.specs.NameForms.{is_one_of, statement_words, declaration_words, expression_words, is_reserved, strict_words, is_free, is_assignable, has_no_escape, name_form, is_literal_value, is_literal_number, is_literal, lit_form};
 
 use crate::forms::Answers;
 use crate::parameters::Parameters;
@@ -106,6 +106,14 @@ fn is_free(text: &str, parameters: Parameters) -> bool
         && !(parameters.is_strict && is_strict_word(text))
         && !(parameters.has_yield && is(text, "yield"))
         && !((parameters.has_await || parameters.reserves_await) && is(text, "await"))
+}
+
+/// Whether a name may be assigned to, or bound: not `eval` and `arguments` in strict code. ECMA-262, section 13.1.3.
+#[tactic(auto, unfolding(crate::specs::NameForms::is_assignable))]
+pub(crate) fn is_assignable(text: &str, is_strict: bool) -> bool
+    ensures { result ≡ is_assignable is_strict text.now }
+{
+    !(is_strict && (is(text, "eval") || is(text, "arguments")))
 }
 
 /// Whether a name is spelled without escapes.

@@ -273,10 +273,8 @@ fn is_assignment_target(n: Nonterminal) -> bool
 {
     matches!(
         n,
-        Nonterminal::AssignmentTarget
-            | Nonterminal::LeftHandSideExpression
-            | Nonterminal::AssignmentPattern
-    )
+        Nonterminal::AssignmentTarget | Nonterminal::AssignmentPattern
+    ) || is_left_hand_side(n)
 }
 
 #[tactic(auto, unfolding(crate::specs::Nonterminals::is_pattern_target))]

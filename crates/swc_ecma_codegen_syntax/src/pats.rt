@@ -7,7 +7,7 @@ ghost use Rattle.swc_ecma_codegen_syntax.specs.declared.nonterminals.Nonterminal
 ghost use Rattle.swc_ecma_codegen_syntax.specs.PatForms.{binding_form, initializer_form, question_form, pat_element_form, pat_elements_form, array_pat_form, rest_form, assign_pat_form, key_value_pat_form, assign_pat_prop_form, pat_prop_form, pat_props_form, object_pat_form, pat_form, pat_nonterminal};
 
 use crate::forms::{Answers, Stands};
-use crate::names::name;
+use crate::names::{is_assignable, name};
 use crate::nonterminals::Nonterminal;
 use crate::objects::assigned;
 use crate::parameters::{Parameters, with_in};
@@ -41,10 +41,11 @@ fn annotation<N: Answers>(
 impl<N: Answers> Stands for BindingIdent<N> {
     ghost judged = { λ c n v. judge N.answers v (binding_form c n) };
 
-    #[tactic(auto, unfolding(crate::specs::PatForms::binding_form, crate::specs::Forms::judge))]
+    #[tactic(auto, unfolding(crate::specs::PatForms::binding_form, crate::specs::Forms::judge, crate::specs::Forms::asked))]
     fn judge(&self, so_far: Verdict, parameters: Parameters) -> Verdict {
+        let verdict = so_far.by_rule(is_assignable(&self.id.sym, parameters.is_strict));
         annotation(
-            name::<N>(so_far, &self.id, parameters),
+            name::<N>(verdict, &self.id, parameters),
             &self.type_ann,
             parameters,
         )
