@@ -9,7 +9,7 @@ use Rattle.swc_ecma_codegen_grammar.specs.Phrases.{Phrase, is_possible}
 use Rattle.swc_ecma_codegen_grammar.specs.StmtPhrases as stmt_lists
 use Rattle.swc_ecma_codegen_grammar.specs.TreePhrases.{phrase}
 use Rattle.swc_ecma_codegen_grammar.specs.declared.roles.Role.{Role}
-use Rattle.swc_ecma_codegen_grammar.specs.declared.roles.Role.TheVariants.{Statement, VariableDeclaration, MethodHead, MethodDecorators, MethodTail, AccessorTail, ClassHead, Declaration, ExportedHead, ExportedTail, Member, ModuleDeclaration, Element, Child, TagObject, TypeArguments}
+use Rattle.swc_ecma_codegen_grammar.specs.declared.roles.Role.TheVariants.{Function, Statement, VariableDeclaration, MethodHead, MethodDecorators, MethodTail, AccessorTail, ClassHead, Declaration, ExportedHead, ExportedTail, Member, ModuleDeclaration, Element, Child, TagObject, TypeArguments}
 use Rattle.swc_ecma_codegen_tokens.specs.Run.{Env, Plan, Part, State, Plain as Call, done, after_step, is_bounded, nothing, put, run, step, steps_of, unbounded, with_max_line}
 use Rattle.swc_ecma_codegen_tokens.specs.Targets.{is_out}
 use Rattle.swc_ecma_codegen_tokens.specs.Words.{begin_lines, bounded, commit_pending_semi, end_lines, in_lines, trailing_comments}
@@ -24,7 +24,7 @@ use Rattle.swc_ecma_codegen_tokens.proofs.Printed.{env_after}
 use Rattle.swc_ecma_codegen_tokens.proofs.Shapes.{Shape, is_within, loose, loose_at, unbroken, unbroken_at}
 use Rattle.swc_ecma_codegen_tokens.proofs.TagPrints.{prints_spots}
 use Rattle.swc_ecma_codegen_emit.specs.declared.nodes.Place.{Place}
-use Rattle.swc_ecma_codegen_emit.specs.declared.nodes.Place.TheVariants.{Plain, Lines}
+use Rattle.swc_ecma_codegen_emit.specs.declared.nodes.Place.TheVariants.{Plain, DeclarationTail, Lines}
 use Rattle.swc_ecma_codegen_emit.specs.Calls.{keeps_arguments}
 use Rattle.swc_ecma_codegen_emit.specs.Lined.{unfilled}
 use Rattle.swc_ecma_codegen_emit.specs.Lists.{in_order}
@@ -36,7 +36,7 @@ use Rattle.swc_ecma_codegen_emit.specs.Stmts.{stmt}
 use Rattle.swc_ecma_codegen_emit.specs.Tree.{any_items}
 use Rattle.swc_ecma_codegen_emit.proofs.AnyExprParts.{plain_expr_prints}
 use Rattle.swc_ecma_codegen_emit.proofs.Asked.{committed_same}
-use Rattle.swc_ecma_codegen_emit.proofs.Linked.{Linked, role_shape}
+use Rattle.swc_ecma_codegen_emit.proofs.Linked.{Linked, function_shape, role_shape}
 use Rattle.swc_ecma_codegen_emit.proofs.ListParts.{in_order_prints}
 use Rattle.swc_ecma_codegen_emit.proofs.ModuleParts.{module_item_prints}
 use Rattle.swc_ecma_codegen_emit.proofs.ProgramParts.{module_prints, opened_prints, script_prints}
@@ -95,20 +95,25 @@ lines_alone items env max here same rest =
 
 -- ---- roots that are no program
 
-role_within : (role : Role) → is_within (role_shape role) unbroken ≡ true
-role_within Statement = refl
-role_within VariableDeclaration = refl
-role_within MethodHead = refl
-role_within MethodDecorators = refl
-role_within MethodTail = refl
-role_within AccessorTail = refl
-role_within ClassHead = refl
-role_within Declaration = refl
-role_within ExportedHead = refl
-role_within ExportedTail = refl
-role_within Member = refl
-role_within ModuleDeclaration = refl
-role_within role = refl
+function_within : (place : Place) → is_within (function_shape place) unbroken ≡ true
+function_within DeclarationTail = refl
+function_within place = refl
+
+role_within : (role : Role) (place : Place) → is_within (role_shape role place) unbroken ≡ true
+role_within Statement place = refl
+role_within VariableDeclaration place = refl
+role_within MethodHead place = refl
+role_within MethodDecorators place = refl
+role_within MethodTail place = refl
+role_within AccessorTail place = refl
+role_within ClassHead place = refl
+role_within Declaration place = refl
+role_within ExportedHead place = refl
+role_within ExportedTail place = refl
+role_within Member place = refl
+role_within ModuleDeclaration place = refl
+role_within Function place = function_within place
+role_within role place = refl
 
 abbrev pub root_shape : Root → Shape
 root_shape n = unbroken_at (not (root_hashbang n))
@@ -119,7 +124,7 @@ link_prints env e n place Child = prints_never
 link_prints env e n place TagObject = prints_never
 link_prints env e n place Element = prints_wider unbroken refl (prints_spots Anything Anything refl refl (prints env e n place Element))
 link_prints env e n place TypeArguments = prints_wider unbroken refl (prints_spots Anything Anything refl refl (prints env e n place TypeArguments))
-link_prints env e n place role = prints_wider unbroken (role_within role) (prints env e n place role)
+link_prints env e n place role = prints_wider unbroken (role_within role place) (prints env e n place role)
 
 abbrev none_of : Env → Env
 none_of env = at_length None env

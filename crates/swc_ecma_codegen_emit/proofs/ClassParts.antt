@@ -42,7 +42,7 @@ use Rattle.swc_ecma_codegen_tokens.proofs.Printed.{makes_wider, writes_nothing, 
 use Rattle.swc_ecma_codegen_tokens.proofs.CommentPrints.{writes_leading}
 use Rattle.swc_ecma_codegen_tokens.proofs.Shapes.{open_, ended_if_any, closed, loose, joining_if_any, ended}
 use Rattle.swc_ecma_codegen_emit.specs.declared.nodes.Place.{Place}
-use Rattle.swc_ecma_codegen_emit.specs.declared.nodes.Place.TheVariants.{Plain, MethodHead, StaticHead, MethodTail}
+use Rattle.swc_ecma_codegen_emit.specs.declared.nodes.Place.TheVariants.{Plain, MethodHead, DeclarationTail, StaticHead, MethodTail}
 use Rattle.swc_ecma_codegen_emit.specs.Classes as words
 use Rattle.swc_ecma_codegen_emit.specs.Classes.{implemented_format}
 use Rattle.swc_ecma_codegen_emit.specs.TsDecls.{extended_place, ts_expr_with_type_args}
@@ -253,7 +253,7 @@ private_method_prints l n =
     (then (l.law n.function.node.value Plain DecoratorsOfMethod)
     (then (accessibility_prints l.env n.accessibility)
     (then (private_words_print l n)
-    (then (private_name_prints l n.key) (then (question_prints l.env n.is_optional) (tail_prints l n.function Plain n.kind)))))))
+    (then (private_name_prints l n.key) (then (question_prints l.env n.is_optional) (tail_prints l n.function DeclarationTail n.kind)))))))
 
 value_prints : {X : Type 0} (l : Linked X) (n : Option (ExprBox X)) → PrintsAt open_ l.env (words.prop_value l.items n) (lists.prop_value l.reads n)
 unfolding words.prop_value lists.prop_value

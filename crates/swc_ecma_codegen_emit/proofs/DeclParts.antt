@@ -22,7 +22,7 @@ use Rattle.swc_ecma_codegen_tokens.proofs.Phrased.{Prints, then, after, before, 
 use Rattle.swc_ecma_codegen_tokens.proofs.Printed.{writes_nothing, writes_space, writes_commit, writes_position, Fills}
 use Rattle.swc_ecma_codegen_tokens.proofs.CommentPrints.{writes_leading}
 use Rattle.swc_ecma_codegen_emit.specs.declared.nodes.Place.{Place}
-use Rattle.swc_ecma_codegen_emit.specs.declared.nodes.Place.TheVariants.{Plain, DeclarationHead, ExportedHead, ExportedTail, Statement}
+use Rattle.swc_ecma_codegen_emit.specs.declared.nodes.Place.TheVariants.{Plain, DeclarationHead, DeclarationTail, ExportedHead, ExportedTail, Statement}
 use Rattle.swc_ecma_codegen_emit.specs.Places.{declared}
 use Rattle.swc_ecma_codegen_emit.specs.Decls as words
 use Rattle.swc_ecma_codegen_emit.specs.Decls.{declarators_format, declarator_place}
@@ -35,7 +35,7 @@ use Rattle.swc_ecma_codegen_emit.proofs.MarkWords as marks
 use Rattle.swc_ecma_codegen_emit.proofs.PatParts.{declared_prints, initializer_prints}
 use Rattle.swc_ecma_codegen_tokens.proofs.Shapes.{ended, ended_if_any}
 
-fn_decl_prints : {X : Type 0} (l : Linked X) (n : FnDecl X) → Prints l.env (words.fn_decl l.asks l.items n) (lists.fn_decl l.reads n)
+fn_decl_prints : {X : Type 0} (l : Linked X) (n : FnDecl X) → PrintsAt ended l.env (words.fn_decl l.asks l.items n) (lists.fn_decl l.reads n)
 unfolding words.fn_decl lists.fn_decl
 fn_decl_prints l n =
     after (writes_leading l.env (l.asks n.function.node.value).place.lo)
@@ -43,7 +43,7 @@ fn_decl_prints l n =
     (after (writes_position l.env (l.asks n.function.node.value).place.lo)
     (then (declare_prints l.env n.declare)
     (then (l.law n.function.node.value DeclarationHead FunctionHead)
-    (then (ident_prints l n.ident) (l.law n.function.node.value Plain Function))))))
+    (then (ident_prints l n.ident) (l.law n.function.node.value DeclarationTail Function))))))
 
 -- ---- variables
 
@@ -103,7 +103,7 @@ by_prints env place head tail h = h
 pub decl_prints : {X : Type 0} (l : Linked X) (n : Decl X) (place : Place) → PrintsAt ended l.env (words.decl l.asks l.items n (declared place)) (lists.decl l.reads n)
 unfolding words.decl words.without_head words.variables words.resources lists.decl
 decl_prints l (decls.Class n) place = by_prints l.env place _ _ (prints_wider ended refl (class_decl_prints l n))
-decl_prints l (decls.Fn n) place = by_prints l.env place _ _ (prints_wider ended refl (fn_decl_prints l n))
+decl_prints l (decls.Fn n) place = by_prints l.env place _ _ (fn_decl_prints l n)
 decl_prints l (decls.Var n) place = by_prints l.env place _ _ (then (var_decl_prints l n) (before (prints_semi l.env) (writes_decl_end l.env (declared place) n.span)))
 decl_prints l (decls.Using n) place = by_prints l.env place _ _ (then (using_decl_prints l n) (prints_semi l.env))
 decl_prints l (decls.TsInterface n) place = by_prints l.env place _ _ (prints_wider ended refl (interface_prints l n.value))
@@ -130,7 +130,7 @@ exported_class_prints l n =
 pub exported_tail_prints : {X : Type 0} (l : Linked X) (n : Decl X) → PrintsAt ended l.env (words.decl l.asks l.items n ExportedTail) (module_lists.exported_tail l.reads n)
 unfolding words.decl words.without_head words.by_export words.variables words.resources words.decl_end lists.decl module_lists.exported_tail
 exported_tail_prints l (decls.Class n) = prints_wider ended refl (exported_class_prints l n)
-exported_tail_prints l (decls.Fn n) = prints_wider ended refl (fn_decl_prints l n)
+exported_tail_prints l (decls.Fn n) = fn_decl_prints l n
 exported_tail_prints l (decls.Var n) = then (var_decl_prints l n) (before (prints_semi l.env) (writes_position l.env n.span.hi))
 exported_tail_prints l (decls.Using n) = then (using_decl_prints l n) (prints_semi l.env)
 exported_tail_prints l (decls.TsInterface n) = prints_wider ended refl (interface_prints l n.value)

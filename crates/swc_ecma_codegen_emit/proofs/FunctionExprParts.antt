@@ -31,7 +31,7 @@ use Rattle.swc_ecma_codegen_tokens.proofs.ListLaws.{children_of, prints_list, pr
 use Rattle.swc_ecma_codegen_tokens.proofs.Phrased.{Prints, prints_by_maps, then, after, before, prints_nothing, prints_same, prints_punct, prints_ident, mark_spelled, PrintsAt, prints_wider, loosened, joined_then, joined_mark, prints_joined_punct, prints_regrouped}
 use Rattle.swc_ecma_codegen_tokens.proofs.Printed.{with_room, within_then, deeper_within, writes_same, writes_if, writes_nothing, writes_space, writes_formatting_space, writes_commit, writes_position, writes_shallower, Fills, joined_punct_within, punct_shape}
 use Rattle.swc_ecma_codegen_tokens.proofs.CommentPrints.{writes_leading}
-use Rattle.swc_ecma_codegen_emit.specs.declared.nodes.Place.TheVariants.{Plain, Body}
+use Rattle.swc_ecma_codegen_emit.specs.declared.nodes.Place.TheVariants.{Plain, Body, DeclarationTail}
 use Rattle.swc_ecma_codegen_emit.specs.ClassExprs as class_words
 use Rattle.swc_ecma_codegen_emit.specs.FunctionExprs as words
 use Rattle.swc_ecma_codegen_emit.specs.Commented.{has_comment_after}
@@ -41,7 +41,7 @@ use Rattle.swc_ecma_codegen_emit.proofs.Impossible.{prints_impossible, never_imp
 use Rattle.swc_ecma_codegen_emit.proofs.AnnotationParts.{type_params_print}
 use Rattle.swc_ecma_codegen_emit.proofs.Linked.{Linked, expr_at, pat_at, block_at}
 use Rattle.swc_ecma_codegen_emit.proofs.MarkWords as marks
-use Rattle.swc_ecma_codegen_tokens.proofs.Shapes.{open_, loose, joined}
+use Rattle.swc_ecma_codegen_tokens.proofs.Shapes.{open_, loose, ended, joined}
 use Rattle.swc_ecma_codegen_text_writer.specs.Sheet.{is_ending}
 
 pub star_prints : (env : Env) (wanted : Bool) → PrintsAt open_ env (words.star wanted) (lists.word_if wanted (mark (codes "*")))
@@ -54,7 +54,7 @@ unfolding words.optional_name lists.optional_name names.ident
 name_prints l None = prints_nothing
 name_prints l (Some n) = prints_wider open_ refl (after (writes_space l.env) (prints_ident l.env n.span (string_bytes n.sym) n.optional l.leaves_out))
 
-pub fn_expr_prints : {X : Type 0} (l : Linked X) (n : FnExpr X) → Prints l.env (words.fn_expr l.asks l.items n) (lists.fn_expr l.reads n)
+pub fn_expr_prints : {X : Type 0} (l : Linked X) (n : FnExpr X) → Prints l.env (words.fn_expr l.asks l.items n Plain) (lists.fn_expr l.reads n)
 unfolding words.fn_expr lists.fn_expr
 fn_expr_prints l n =
     after (writes_leading l.env (l.asks n.function.node.value).place.lo)
@@ -62,6 +62,16 @@ fn_expr_prints l n =
     (after (writes_position l.env (l.asks n.function.node.value).place.lo)
     (then (l.law n.function.node.value Plain FunctionHead)
     (then (name_prints l n.ident) (l.law n.function.node.value Plain Function)))))
+
+-- one that is exported by default is declared
+pub default_fn_prints : {X : Type 0} (l : Linked X) (n : FnExpr X) → PrintsAt ended l.env (words.fn_expr l.asks l.items n DeclarationTail) (lists.fn_expr l.reads n)
+unfolding words.fn_expr lists.fn_expr
+default_fn_prints l n =
+    after (writes_leading l.env (l.asks n.function.node.value).place.lo)
+    (after (writes_commit l.env)
+    (after (writes_position l.env (l.asks n.function.node.value).place.lo)
+    (then (l.law n.function.node.value Plain FunctionHead)
+    (then (name_prints l n.ident) (l.law n.function.node.value DeclarationTail Function)))))
 
 -- ---- arrow functions
 

@@ -8,25 +8,27 @@ use Rattle.swc_ecma_codegen_grammar.specs.Phrases.{Phrase, Never, mark, word}
 use Rattle.swc_ecma_codegen_grammar.specs.ClassPhrases as classes
 use Rattle.swc_ecma_codegen_grammar.specs.FunctionPhrases as lists
 use Rattle.swc_ecma_codegen_grammar.specs.FunctionPhrases.{is_some_listed}
+use Rattle.swc_ecma_codegen_grammar.specs.declared.roles.Role.TheVariants.{Function}
 use Rattle.swc_ecma_codegen_tokens.specs.Run.{Env, Part}
-use Rattle.swc_ecma_codegen_tokens.specs.Words.{space, formatting_space, line_end, position}
+use Rattle.swc_ecma_codegen_tokens.specs.Words.{punct, semi, space, formatting_space, line_end, position}
 use Rattle.swc_ecma_codegen_tokens.proofs.ListLaws.{IsUndelimited, prints_list, prints_in_order}
 use Rattle.swc_ecma_codegen_tokens.proofs.Phrased.{prints_bare_semi, Prints, then, after, before, prints_nothing, prints_never, prints_keyword, prints_punct, prints_semi, PrintsAt, prints_wider, joined_then}
 use Rattle.swc_ecma_codegen_tokens.proofs.Printed.{writes_then, writes_if, writes_space, writes_formatting_space, writes_line, writes_position, Fills}
 use Rattle.swc_ecma_codegen_tokens.proofs.CommentPrints.{writes_leading}
 use Rattle.swc_ecma_codegen_emit.specs.declared.nodes.Place.{Place}
-use Rattle.swc_ecma_codegen_emit.specs.declared.nodes.Place.TheVariants.{Plain, Body, DeclarationHead, StaticHead, MethodTail}
-use Rattle.swc_ecma_codegen_emit.specs.Places.{before_name, before_method, behind_key}
+use Rattle.swc_ecma_codegen_emit.specs.declared.nodes.Place.TheVariants.{Plain, Body, DeclarationHead, DeclarationTail, StaticHead, MethodTail}
+use Rattle.swc_ecma_codegen_emit.specs.Places.{before_name, before_method, behind_key, behind_name}
+use Rattle.swc_ecma_codegen_emit.specs.Annotations.{annotation, type_params}
 use Rattle.swc_ecma_codegen_emit.specs.Functions as words
 use Rattle.swc_ecma_codegen_emit.specs.FunctionExprs.{comma_list_format}
 use Rattle.swc_ecma_codegen_emit.specs.Functions.{decorators_format, decorator_place, param_place}
 use Rattle.swc_ecma_codegen_emit.proofs.AnnotationParts.{annotation_prints, type_params_print}
 use Rattle.swc_ecma_codegen_emit.proofs.FunctionExprParts.{star_prints}
-use Rattle.swc_ecma_codegen_emit.proofs.Linked.{Linked, expr_at, block_at}
+use Rattle.swc_ecma_codegen_emit.proofs.Linked.{Linked, PrintsIn, expr_at, block_at}
 use Rattle.swc_ecma_codegen_emit.proofs.ListParts.{in_order_prints}
 use Rattle.swc_ecma_codegen_emit.proofs.MarkWords as marks
 use Rattle.swc_ecma_codegen_emit.proofs.PatParts.{pat_prints}
-use Rattle.swc_ecma_codegen_tokens.proofs.Shapes.{open_, loose, ended, ended_if_any, closed, joining_if_any}
+use Rattle.swc_ecma_codegen_tokens.proofs.Shapes.{Shape, open_, loose, ended, ended_if_any, closed, joining_if_any}
 
 -- ---- parameters
 
@@ -67,14 +69,44 @@ private_tail_prints l n =
     (then (prints_punct l.env (codes ")") marks.right_parenthesis)
     (then (annotation_prints l n.return_type) (body_prints l n.body)))))
 
+-- with a place where a line may be ended, behind the semicolon that stands for a body
+declared_body_prints : {X : Type 0} (l : Linked X) (body : Option (BlockStmtBox X)) → PrintsAt ended l.env (λ rest. words.function_body l.items body (words.break_without_body body rest)) (lists.function_body l.reads body)
+unfolding words.function_body words.break_without_body semi lists.function_body
+declared_body_prints l None = prints_semi l.env
+declared_body_prints l (Some n) = prints_wider ended refl (after (writes_formatting_space l.env) (block_at l n Body))
+
+method_body_prints : {X : Type 0} (l : Linked X) (body : Option (BlockStmtBox X)) → PrintsAt ended l.env (words.method_body l.items body) (lists.function_body l.reads body)
+unfolding words.method_body lists.function_body
+method_body_prints l None = prints_semi l.env
+method_body_prints l (Some n) = prints_wider ended refl (after (writes_formatting_space l.env) (block_at l n Plain))
+
+-- the parameters, the result, and what is written of the body
+tail_prints : {X : Type 0} (l : Linked X) (n : functions.Function X) (body : Part) → PrintsAt ended l.env body (lists.function_body l.reads n.body) → PrintsAt ended l.env (λ rest. type_params l.items n.type_params (punct (codes "(") (words.parameters l.asks l.items n (punct (codes ")") (annotation l.items n.return_type (body rest)))))) (classes.method_tail l.reads n)
+unfolding classes.method_tail
+tail_prints l n body h =
+    then (type_params_print l n.type_params)
+    (then (prints_punct l.env (codes "(") marks.left_parenthesis)
+    (then (prints_list l.env comma_list_format n.span param_place (words.param l.asks l.items) (lists.param l.reads) (λ p. prints_wider loose refl (param_prints l p)) refl refl refl refl n.params.items)
+    (then (prints_punct l.env (codes ")") marks.right_parenthesis) (then (annotation_prints l n.return_type) h))))
+
+declared_tail_prints : {X : Type 0} (l : Linked X) (n : functions.Function X) → PrintsAt ended l.env (words.declaration_tail l.asks l.items n) (classes.method_tail l.reads n)
+unfolding words.declaration_tail words.fn_trailing
+declared_tail_prints l n = tail_prints l n (λ rest. words.function_body l.items n.body (words.break_without_body n.body rest)) (declared_body_prints l n.body)
+
+plain_tail_prints : {X : Type 0} (l : Linked X) (n : functions.Function X) → PrintsAt ended l.env (words.method_tail l.asks l.items n) (classes.method_tail l.reads n)
+unfolding words.method_tail
+plain_tail_prints l n = tail_prints l n (words.method_body l.items n.body) (method_body_prints l n.body)
+
 -- decorators are passed over, and no function that isn't a method's has any
-unless_decorated : {env : Env} {p : Part} {f : Phrase} (decorated : Bool) → Prints env p f → Prints env p (cond decorated Never f)
+unless_decorated : {i : Shape} {env : Env} {p : Part} {f : Phrase} (decorated : Bool) → PrintsAt i env p f → PrintsAt i env p (cond decorated Never f)
 unless_decorated true h = prints_never
 unless_decorated false h = h
 
-pub fn_trailing_prints : {X : Type 0} (l : Linked X) (n : functions.Function X) → Prints l.env (words.fn_trailing l.asks l.items n) (lists.function l.reads n)
-unfolding lists.function classes.method_tail
-fn_trailing_prints l n = unless_decorated (is_some_listed n.decorators.items) (private_tail_prints l n)
+-- a function, or one that is declared
+pub fn_tail_prints : {X : Type 0} (l : Linked X) (n : functions.Function X) (place : Place) → PrintsIn Function place l.env (words.function l.asks l.items n (behind_name place)) (lists.function l.reads n)
+unfolding words.function lists.function classes.method_tail
+fn_tail_prints l n DeclarationTail = unless_decorated (is_some_listed n.decorators.items) (declared_tail_prints l n)
+fn_tail_prints l n place = unless_decorated (is_some_listed n.decorators.items) (private_tail_prints l n)
 
 async_prints : (env : Env) (wanted : Bool) → PrintsAt open_ env (words.async_word wanted) (lists.word_if wanted (word (codes "async")))
 unfolding words.async_word lists.word_if
@@ -138,24 +170,11 @@ pub method_decorators_print : {X : Type 0} (l : Linked X) (n : functions.Functio
 unfolding classes.method_decorators
 method_decorators_print l n = decorators_print l n.decorators.items
 
-method_body_prints : {X : Type 0} (l : Linked X) (body : Option (BlockStmtBox X)) → PrintsAt ended l.env (words.method_body l.items body) (lists.function_body l.reads body)
-unfolding words.method_body lists.function_body
-method_body_prints l None = prints_semi l.env
-method_body_prints l (Some n) = prints_wider ended refl (after (writes_formatting_space l.env) (block_at l n Plain))
-
-plain_tail_prints : {X : Type 0} (l : Linked X) (n : functions.Function X) → PrintsAt ended l.env (words.method_tail l.asks l.items n) (classes.method_tail l.reads n)
-unfolding words.method_tail classes.method_tail
-plain_tail_prints l n =
-    then (type_params_print l n.type_params)
-    (then (prints_punct l.env (codes "(") marks.left_parenthesis)
-    (then (prints_list l.env comma_list_format n.span param_place (words.param l.asks l.items) (lists.param l.reads) (λ p. prints_wider loose refl (param_prints l p)) refl refl refl refl n.params.items)
-    (then (prints_punct l.env (codes ")") marks.right_parenthesis)
-    (then (annotation_prints l n.return_type) (method_body_prints l n.body)))))
-
 -- what of a method stands behind its key, private or not
 pub method_tail_prints : {X : Type 0} (l : Linked X) (n : functions.Function X) (place : Place) → PrintsAt ended l.env (words.function l.asks l.items n (behind_key place)) (classes.method_tail l.reads n)
 unfolding words.function
 method_tail_prints l n MethodTail = plain_tail_prints l n
+method_tail_prints l n DeclarationTail = declared_tail_prints l n
 method_tail_prints l n place = prints_wider ended refl (private_tail_prints l n)
 
 never_or : {env : Env} {p : Part} {f : Phrase} (never : Bool) → PrintsAt ended env p f → PrintsAt ended env p (cond never Never f)

@@ -319,7 +319,7 @@ fragment_prints l is_child n = prints_at_length None l.env (words.jsx_fragment_p
 
 -- ---- what links hold, in its role
 
-pub jsx_part_prints : {X : Type 0} (l : Linked X) (n : JSXPart X) (place : Place) (role : Role) → PrintsIn role l.env (words.jsx_part l.asks l.items n (placed role place)) (lists.jsx_part l.reads n role)
+pub jsx_part_prints : {X : Type 0} (l : Linked X) (n : JSXPart X) (place : Place) (role : Role) → PrintsIn role place l.env (words.jsx_part l.asks l.items n (placed role place)) (lists.jsx_part l.reads n role)
 unfolding words.jsx_part lists.jsx_part
 jsx_part_prints l (jsx_parts.JSXElement n) place Element = element_prints l false n.value
 jsx_part_prints l (jsx_parts.JSXElement n) place IsChild = element_prints l true n.value

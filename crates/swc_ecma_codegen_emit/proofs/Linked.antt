@@ -2,36 +2,42 @@
 use Rattle.std.proofs.Common.{◌≡◌, false, cond, None}
 use Rattle.swc_ecma_codegen_grammar.specs.Phrases.{Phrase, Never}
 use Rattle.swc_ecma_codegen_grammar.specs.declared.roles.Role.{Role}
-use Rattle.swc_ecma_codegen_grammar.specs.declared.roles.Role.TheVariants.{Expression, Statement, Pattern, PlainParameter, PropertyName, Block, Declaration, VariableDeclaration, MethodHead, MethodTail, AccessorTail, ClassHead, MethodDecorators, Member, ExportedHead, ExportedTail, ModuleDeclaration, Element, Child, TagObject, TypeArguments}
+use Rattle.swc_ecma_codegen_grammar.specs.declared.roles.Role.TheVariants.{Expression, Function, Statement, Pattern, PlainParameter, PropertyName, Block, Declaration, VariableDeclaration, MethodHead, MethodTail, AccessorTail, ClassHead, MethodDecorators, Member, ExportedHead, ExportedTail, ModuleDeclaration, Element, Child, TagObject, TypeArguments}
 use Rattle.swc_ecma_codegen_tree.specs.Links.{BlockStmtBox, ExprBox, PatBox, PropNameBox, StmtBox, VarDeclBox}
 use Rattle.swc_ecma_codegen_tokens.specs.Run.{Env, Part}
 use Rattle.swc_ecma_codegen_tokens.specs.Written.{Spot, Anything, Between, InText, InName}
 use Rattle.swc_ecma_codegen_tokens.proofs.Lengths.{at_length}
 use Rattle.swc_ecma_codegen_tokens.proofs.Phrased.{Prints, PrintsAt, PrintsOn}
 use Rattle.swc_ecma_codegen_emit.specs.declared.nodes.Place.{Place}
-use Rattle.swc_ecma_codegen_emit.specs.declared.nodes.Place.TheVariants.{Plain}
+use Rattle.swc_ecma_codegen_emit.specs.declared.nodes.Place.TheVariants.{Plain, DeclarationTail}
 use Rattle.swc_ecma_codegen_emit.specs.Answers.{Answers}
 use Rattle.swc_ecma_codegen_emit.specs.FunctionExprs.{is_plain}
 use Rattle.swc_ecma_codegen_emit.specs.Places.{placed}
 use Rattle.swc_ecma_codegen_tokens.proofs.Shapes.{Shape, whole, loose, ended, ended_if_any, joining_if_any}
 
+-- a function that is declared may end behind its semicolon
+abbrev pub function_shape : Place → Shape
+function_shape DeclarationTail = ended
+function_shape place = whole
+
 -- A statement may end with the end of its line or behind its semicolon, as declarations and members of classes do, and declarations of
 -- variables with a list; decorators stand on lines of their own, where there are some; of a method there may be `async` before its name,
 -- on the line of that name, or nothing. All else begins and ends with a token.
-abbrev pub role_shape : Role → Shape
-role_shape Statement = ended
-role_shape VariableDeclaration = ended
-role_shape ModuleDeclaration = ended
-role_shape ClassHead = ended_if_any
-role_shape ExportedHead = ended_if_any
-role_shape MethodDecorators = ended_if_any
-role_shape MethodHead = joining_if_any
-role_shape Member = loose
-role_shape MethodTail = ended
-role_shape AccessorTail = ended
-role_shape Declaration = ended
-role_shape ExportedTail = ended
-role_shape role = whole
+abbrev pub role_shape : Role → Place → Shape
+role_shape Statement place = ended
+role_shape VariableDeclaration place = ended
+role_shape ModuleDeclaration place = ended
+role_shape ClassHead place = ended_if_any
+role_shape ExportedHead place = ended_if_any
+role_shape MethodDecorators place = ended_if_any
+role_shape MethodHead place = joining_if_any
+role_shape Member place = loose
+role_shape MethodTail place = ended
+role_shape AccessorTail place = ended
+role_shape Declaration place = ended
+role_shape ExportedTail place = ended
+role_shape Function place = function_shape place
+role_shape role place = whole
 
 -- What may come before it, and behind it: a child of an element stands right behind a tag or text, and behind an element another child may;
 -- behind the object of a name in a tag no dash, and type arguments stand behind such a name.
@@ -46,8 +52,8 @@ role_behind Child = Between
 role_behind TagObject = InName
 role_behind role = Anything
 
-abbrev pub PrintsIn : Role → Env → Part → Phrase → Type 0
-PrintsIn role env part phrase = PrintsOn (role_before role) (role_behind role) (role_shape role) env part phrase
+abbrev pub PrintsIn : Role → Place → Env → Part → Phrase → Type 0
+PrintsIn role place env part phrase = PrintsOn (role_before role) (role_behind role) (role_shape role place) env part phrase
 
 -- What it answers, what is written of it, and what it reads as, in each role; that it is said to be a name alone where it may stand
 -- without parentheses; and that what is written is what it reads as, also inside of what no line may be ended in.
@@ -58,8 +64,8 @@ pub record Linked (X : Type 0) : Type 0 where
   pub items : X → Place → Part
   pub reads : X → Role → Phrase
   pub plain : (x : X) → reads x PlainParameter ≡ cond (is_plain (asks x).pattern) (reads x Pattern) Never
-  pub law : (x : X) (place : Place) (role : Role) → PrintsIn role env (items x (placed role place)) (reads x role)
-  pub inside : (x : X) (place : Place) (role : Role) → PrintsIn role (at_length None env) (items x (placed role place)) (reads x role)
+  pub law : (x : X) (place : Place) (role : Role) → PrintsIn role place env (items x (placed role place)) (reads x role)
+  pub inside : (x : X) (place : Place) (role : Role) → PrintsIn role place (at_length None env) (items x (placed role place)) (reads x role)
 
 -- the same where no line may be ended
 abbrev pub unbounded_linked : {X : Type 0} → Linked X → Linked X

@@ -20,9 +20,9 @@ use Rattle.swc_ecma_codegen_grammar.proofs.MappedFunctions.{some_mapped}
 use Rattle.swc_ecma_codegen_grammar.specs.TreePhrases.{is_sequence}
 use Rattle.swc_ecma_codegen_tokens.specs.Run.{Plan, Part}
 use Rattle.swc_ecma_codegen_tokens.specs.Lists.{ListChild, list}
-use Rattle.swc_ecma_codegen_tokens.specs.Words.{by_maps, punct, leading_comments, start_of, end_of}
+use Rattle.swc_ecma_codegen_tokens.specs.Words.{allow_break, by_maps, punct, leading_comments, start_of, end_of}
 use Rattle.swc_ecma_codegen_emit.specs.declared.nodes.Place.{Place}
-use Rattle.swc_ecma_codegen_emit.specs.declared.nodes.Place.TheVariants.{Plain, FunctionHead, MethodHead, DeclarationHead, StaticHead, MethodDecorators, MethodTail}
+use Rattle.swc_ecma_codegen_emit.specs.declared.nodes.Place.TheVariants.{Plain, FunctionHead, MethodHead, DeclarationHead, DeclarationTail, StaticHead, MethodDecorators, MethodTail}
 use Rattle.swc_ecma_codegen_emit.specs.declared.patterns.PatternKind.{PatternKind}
 use Rattle.swc_ecma_codegen_emit.specs.Annotations.{annotation, type_params}
 use Rattle.swc_ecma_codegen_emit.specs.Answers.{Answers, place_of}
@@ -31,7 +31,7 @@ use Rattle.swc_ecma_codegen_emit.specs.AnyExpr.{expr, expr_parts, expr_closed, l
 use Rattle.swc_ecma_codegen_emit.specs.Commented.{has_comment_after}
 use Rattle.swc_ecma_codegen_grammar.specs.CommentMaps.{Maps}
 use Rattle.swc_ecma_codegen_emit.specs.FunctionExprs.{comma_list_format, is_plain, is_name, is_only, async_arrow, star, has_comment_behind, arrow_within, arrow_parameters, arrow_body, arrow_result, arrow_expr}
-use Rattle.swc_ecma_codegen_emit.specs.Functions.{decorators_format, decorator, decorator_place, param, function_body, fn_trailing, function_head, declaration_head, method_head, static_head, decorator_lines, method_body, method_tail, function}
+use Rattle.swc_ecma_codegen_emit.specs.Functions.{decorators_format, decorator, decorator_place, param, function_body, fn_trailing, break_without_body, declaration_tail, function_head, declaration_head, method_head, static_head, decorator_lines, method_body, method_tail, function}
 use Rattle.swc_ecma_codegen_emit.specs.Lists.{child_of, in_order}
 use Rattle.swc_ecma_codegen_emit.specs.Parts.{expr_part, stmt_part}
 use Rattle.swc_ecma_codegen_emit.specs.Stmts.{stmt}
@@ -65,6 +65,11 @@ trailing_mapped {X} {Y} g asks items b n (Some body) None (Some t) rest = ap (λ
 trailing_mapped {X} {Y} g asks items b n (Some body) (Some q) None rest = ap (λ z. items (g q.node.value) Plain (punct (codes "(") z)) (children_mapped {A = Param X} _ _ _ (λ p. param_same p.span _ _ _ _ (list_mapped {A = Decorator X} _ _ (child_of decorator_place (λ d place. decorator (λ x. items (g x)) d)) (λ d. refl) p.decorators.items) (pat_mapped g asks items p.pat Plain)) comma_list_format n.span n.params.items _)
 trailing_mapped {X} {Y} g asks items b n (Some body) (Some q) (Some t) rest = ap (λ z. items (g q.node.value) Plain (punct (codes "(") z)) (children_mapped {A = Param X} _ _ _ (λ p. param_same p.span _ _ _ _ (list_mapped {A = Decorator X} _ _ (child_of decorator_place (λ d place. decorator (λ x. items (g x)) d)) (λ d. refl) p.decorators.items) (pat_mapped g asks items p.pat Plain)) comma_list_format n.span n.params.items _)
 
+declared_mapped : {X Y : Type 0} (g : X → Y) (asks : Y → Answers) (items : Y → Place → Part) (b : Box (functions.Function X) Global) (n : functions.Function X) (body : Option (BlockStmtBox X)) (type_params : Option (TsTypeParamDeclBox X)) (return_type : Option (TsTypeAnnBox X)) (rest : Plan) → node_items asks items (map-AnyNode X Y g (nodes.StmtPart (stmt_parts.Function (record b { value = with_parts n body type_params return_type })))) DeclarationTail rest ≡ declaration_tail (λ x. asks (g x)) (λ x. items (g x)) (with_parts n body type_params return_type) rest
+unfolding node_items stmt_part function declaration_tail break_without_body
+declared_mapped g asks items b n None ps r rest = trailing_mapped g asks items b n None ps r (allow_break rest)
+declared_mapped g asks items b n (Some body) ps r rest = trailing_mapped g asks items b n (Some body) ps r rest
+
 in_order_mapped : {A B : Type 0} (g : A → B) (e : B → Part) (d : A → Part) → ((x : A) → e (g x) ≡ d x) → (xs : List A) (rest : Plan) → in_order e (map g xs) rest ≡ in_order d xs rest
 unfolding in_order
 in_order_mapped g e d same [] rest = refl
@@ -93,6 +98,7 @@ unfolding node_items stmt_part function function_head declaration_head method_he
 function_mapped g asks items b FunctionHead rest = refl
 function_mapped g asks items b MethodHead rest = refl
 function_mapped g asks items b DeclarationHead rest = refl
+function_mapped g asks items b DeclarationTail rest = declared_mapped g asks items b b.value b.value.body b.value.type_params b.value.return_type rest
 function_mapped g asks items b (StaticHead starts) rest = refl
 function_mapped g asks items b MethodDecorators rest = method_decorators_mapped g asks items b rest
 function_mapped g asks items b MethodTail rest = tail_mapped g asks items b b.value b.value.body b.value.type_params b.value.return_type rest

@@ -14,7 +14,7 @@ use Rattle.swc_ecma_codegen_tokens.specs.Run.{Plan, Part}
 use Rattle.swc_ecma_codegen_tokens.specs.Lists.{ListChild}
 use Rattle.swc_ecma_codegen_tokens.specs.Words.{punct, formatting_space}
 use Rattle.swc_ecma_codegen_emit.specs.declared.nodes.Place.{Place}
-use Rattle.swc_ecma_codegen_emit.specs.declared.nodes.Place.TheVariants.{Plain, MethodHead}
+use Rattle.swc_ecma_codegen_emit.specs.declared.nodes.Place.TheVariants.{Plain, MethodHead, DeclarationTail}
 use Rattle.swc_ecma_codegen_emit.specs.Answers.{Answers, place_of}
 use Rattle.swc_ecma_codegen_emit.specs.Exprs.{opened, spread_element}
 use Rattle.swc_ecma_codegen_emit.specs.Lists.{child_at, child_of}
@@ -46,4 +46,4 @@ unfolding node_items node_span expr_part expr_part_span object_lit object_childr
 object_lit_mapped {X} g asks items n place rest = object_same n _ _ _ _ _ (some_mapped _ n.props.items) (list_mapped {A = PropOrSpread X} _ _ (child_of (prop_or_spread_span (place_of (λ x. asks (g x)))) (λ p place. prop_or_spread (λ x. asks (g x)) (λ x. items (g x)) p)) (each_prop {X = X} _ (λ m. refl) (by_prop {X = X} _
     (λ m. refl) (λ m. key_value_same _ _ (asks (g m.value.node.value)).place _ _ (items (g m.value.node.value) Plain) (prop_name_placed g asks m.key) (prop_name_mapped g asks items m.key Plain))
     (λ m. refl) (λ m. refl) (λ m body. refl) (λ m t. refl) (λ m t body. refl) (λ m. refl) (λ m body. refl) (λ m this. refl) (λ m this body. refl)
-    (λ m. method_same _ _ (asks (g m.function.node.value)).place (items (g m.function.node.value) MethodHead) _ _ (items (g m.function.node.value) Plain) (prop_name_placed g asks m.key) (prop_name_mapped g asks items m.key Plain)))) n.props.items)
+    (λ m. method_same _ _ (asks (g m.function.node.value)).place (items (g m.function.node.value) MethodHead) _ _ (items (g m.function.node.value) DeclarationTail) (prop_name_placed g asks m.key) (prop_name_mapped g asks items m.key Plain)))) n.props.items)

@@ -57,7 +57,7 @@ use Rattle.swc_ecma_codegen_emit.specs.Modules as words
 use Rattle.swc_ecma_codegen_emit.specs.Templates.{bad_shape}
 use Rattle.swc_ecma_codegen_emit.proofs.AnnotationParts.{word_before_prints}
 use Rattle.swc_ecma_codegen_emit.proofs.ExprParts.{ident_prints, writes_blank}
-use Rattle.swc_ecma_codegen_emit.proofs.FunctionExprParts.{class_expr_prints, fn_expr_prints}
+use Rattle.swc_ecma_codegen_emit.proofs.FunctionExprParts.{class_expr_prints, default_fn_prints}
 use Rattle.swc_ecma_codegen_emit.proofs.Impossible.{if_possible, prints_impossible}
 use Rattle.swc_ecma_codegen_emit.proofs.TsDeclParts.{interface_prints, import_equals_prints, export_assignment_prints, namespace_export_prints}
 use Rattle.swc_ecma_codegen_emit.proofs.TsDeclWords as decl_words
@@ -410,7 +410,7 @@ export_decl_prints l n =
 default_decl_prints : {X : Type 0} (l : Linked X) (n : DefaultDecl X) → PrintsAt ended l.env (words.default_decl l.asks l.items n) (lists.default_decl l.reads n)
 unfolding words.default_decl lists.default_decl
 default_decl_prints l (default_decls.Class n) = prints_wider ended refl (class_expr_prints l n)
-default_decl_prints l (default_decls.Fn n) = prints_wider ended refl (fn_expr_prints l n)
+default_decl_prints l (default_decls.Fn n) = default_fn_prints l n
 default_decl_prints l (default_decls.TsInterfaceDecl n) = prints_wider ended refl (interface_prints l n)
 
 default_prints : (env : Env) {p : Part} {f : Phrase} → PrintsAt ended env p f → PrintsAt ended env (λ rest. words.export_default (p rest)) (word (codes "export") > word (codes "default") > f)

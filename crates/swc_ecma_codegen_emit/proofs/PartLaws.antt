@@ -17,7 +17,7 @@ use Rattle.swc_ecma_codegen_emit.specs.Functions.{function}
 use Rattle.swc_ecma_codegen_emit.proofs.BlockParts.{block_stmt_prints}
 use Rattle.swc_ecma_codegen_emit.proofs.DeclParts.{decl_prints, exported_head_prints, exported_tail_prints, var_decl_prints}
 use Rattle.swc_ecma_codegen_emit.proofs.ClassParts.{class_head_prints, class_word_prints, class_tail_prints, class_member_prints}
-use Rattle.swc_ecma_codegen_emit.proofs.FunctionParts.{fn_trailing_prints, head_prints, before_method_prints, method_decorators_print, method_tail_prints, accessor_tail_prints}
+use Rattle.swc_ecma_codegen_emit.proofs.FunctionParts.{fn_tail_prints, head_prints, before_method_prints, method_decorators_print, method_tail_prints, accessor_tail_prints}
 use Rattle.swc_ecma_codegen_emit.proofs.Linked.{Linked, PrintsIn}
 use Rattle.swc_ecma_codegen_emit.proofs.ModuleParts.{module_decl_prints}
 use Rattle.swc_ecma_codegen_emit.proofs.PatParts.{pat_prints, plain_prints}
@@ -32,7 +32,7 @@ use Rattle.swc_ecma_codegen_emit.proofs.NamespaceParts.{dotted_body_prints, name
 use Rattle.swc_ecma_codegen_emit.proofs.TsMemberParts.{interface_body_prints}
 use Rattle.swc_ecma_codegen_emit.proofs.TypeParts.{type_prints, ann_prints, params_print, arguments_print, fn_param_prints, entity_prints}
 
-pub part_prints : {X : Type 0} (l : Linked X) (n : ExprPart X) (place : Place) (role : Role) → PrintsIn role l.env (words.expr_part l.asks l.items n (placed role place)) (lists.expr_part l.reads n role)
+pub part_prints : {X : Type 0} (l : Linked X) (n : ExprPart X) (place : Place) (role : Role) → PrintsIn role place l.env (words.expr_part l.asks l.items n (placed role place)) (lists.expr_part l.reads n role)
 unfolding words.expr_part lists.expr_part
 part_prints l (expr_parts.Pat n) place Pattern = pat_prints l n
 part_prints l (expr_parts.Pat n) place PlainParameter = plain_prints l n
@@ -44,9 +44,9 @@ part_prints l (expr_parts.Tpl n) place Template = tpl_prints l false n
 part_prints l (expr_parts.Tpl n) place TaggedTemplate = tpl_prints l true n
 part_prints l n place role = prints_never_on
 
-pub stmt_part_prints : {X : Type 0} (l : Linked X) (n : StmtPart X) (place : Place) (role : Role) → PrintsIn role l.env (words.stmt_part l.asks l.items n (placed role place)) (lists.stmt_part l.reads n role)
+pub stmt_part_prints : {X : Type 0} (l : Linked X) (n : StmtPart X) (place : Place) (role : Role) → PrintsIn role place l.env (words.stmt_part l.asks l.items n (placed role place)) (lists.stmt_part l.reads n role)
 unfolding words.stmt_part lists.stmt_part function class
-stmt_part_prints l (stmt_parts.Function n) place Function = fn_trailing_prints l n.value
+stmt_part_prints l (stmt_parts.Function n) place Function = fn_tail_prints l n.value place
 stmt_part_prints l (stmt_parts.Function n) place FunctionHead = head_prints l n.value place
 stmt_part_prints l (stmt_parts.Function n) place MethodHead = before_method_prints l n.value place
 stmt_part_prints l (stmt_parts.Function n) place MethodDecorators = method_decorators_print l n.value
@@ -64,7 +64,7 @@ stmt_part_prints l (stmt_parts.ModuleDecl n) place ModuleDeclaration = module_de
 stmt_part_prints l (stmt_parts.VarDecl n) place VariableDeclaration = var_decl_prints l n
 stmt_part_prints l n place role = prints_never_on
 
-pub ts_part_prints : {X : Type 0} (l : Linked X) (n : TsPart X) (place : Place) (role : Role) → PrintsIn role l.env (words.ts_part l.asks l.items n (placed role place)) (lists.ts_part l.reads n role)
+pub ts_part_prints : {X : Type 0} (l : Linked X) (n : TsPart X) (place : Place) (role : Role) → PrintsIn role place l.env (words.ts_part l.asks l.items n (placed role place)) (lists.ts_part l.reads n role)
 unfolding words.ts_part lists.ts_part ts_namespace_body
 ts_part_prints l (ts_parts.TsType n) place AnyType = type_prints l n
 ts_part_prints l (ts_parts.TsTypeAnn n) place Annotation = ann_prints l n place

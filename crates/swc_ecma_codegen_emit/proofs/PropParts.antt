@@ -29,9 +29,9 @@ use Rattle.swc_ecma_codegen_tokens.specs.Words.{by_maps, punct, line_end, positi
 use Rattle.swc_ecma_codegen_tokens.specs.Written.{IsWord}
 use Rattle.swc_ecma_codegen_tokens.proofs.Emitting.{minified_same, pretty_same}
 use Rattle.swc_ecma_codegen_tokens.proofs.ListLaws.{children_of, prints_list, prints_bracketed}
-use Rattle.swc_ecma_codegen_tokens.proofs.Phrased.{Prints, then, after, before, prints_nothing, prints_same, prints_by_maps, prints_keyword, prints_punct, PrintsAt, prints_wider, loosened}
+use Rattle.swc_ecma_codegen_tokens.proofs.Phrased.{Prints, then, after, before, prints_nothing, prints_same, prints_by_maps, prints_keyword, prints_punct, PrintsAt, prints_wider}
 use Rattle.swc_ecma_codegen_tokens.proofs.Printed.{writes_if, writes_nothing, writes_formatting_space, writes_line, writes_position, writes_position_before, Fills}
-use Rattle.swc_ecma_codegen_emit.specs.declared.nodes.Place.TheVariants.{Plain}
+use Rattle.swc_ecma_codegen_emit.specs.declared.nodes.Place.TheVariants.{Plain, DeclarationTail}
 use Rattle.swc_ecma_codegen_emit.specs.Answers.{place_of}
 use Rattle.swc_ecma_codegen_emit.specs.Props as words
 use Rattle.swc_ecma_codegen_emit.specs.Props.{object_format, flat_object_format}
@@ -40,7 +40,7 @@ use Rattle.swc_ecma_codegen_emit.proofs.ExprParts.{ident_prints, spread_element_
 use Rattle.swc_ecma_codegen_emit.proofs.Linked.{Linked, expr_at, pat_at, prop_name_at, block_at}
 use Rattle.swc_ecma_codegen_emit.proofs.MarkWords as marks
 use Rattle.swc_ecma_codegen_emit.proofs.NameParts.{prop_name_prints}
-use Rattle.swc_ecma_codegen_tokens.proofs.Shapes.{open_, ended_if_any}
+use Rattle.swc_ecma_codegen_tokens.proofs.Shapes.{open_, loose, ended, ended_if_any}
 use Rattle.swc_ecma_codegen_emit.proofs.Between.{punct_in}
 
 -- ---- properties
@@ -107,25 +107,25 @@ setter_prints l n =
     (then (this_prints l n.this_param)
     (then (pat_at l n.param) (then (prints_punct l.env (codes ")") marks.right_parenthesis) (body_prints l n.body)))))))
 
-method_prints : {X : Type 0} (l : Linked X) (n : MethodProp X) → Prints l.env (words.method_prop l.asks l.items n) (lists.method_prop l.reads n)
+method_prints : {X : Type 0} (l : Linked X) (n : MethodProp X) → PrintsAt ended l.env (words.method_prop l.asks l.items n) (lists.method_prop l.reads n)
 unfolding words.method_prop lists.method_prop
 method_prints l n =
     after (writes_opened l.env (prop_name_span n.key))
     (then (l.law n.function.node.value Plain MethodHead)
-    (then (before (prop_name_prints l n.key) (writes_formatting_space l.env)) (l.law n.function.node.value Plain Function)))
+    (then (before (prop_name_prints l n.key) (writes_formatting_space l.env)) (l.law n.function.node.value DeclarationTail Function)))
 
-prop_prints : {X : Type 0} (l : Linked X) (n : Prop X) → Prints l.env (words.prop l.asks l.items n) (lists.prop l.reads n)
+prop_prints : {X : Type 0} (l : Linked X) (n : Prop X) → PrintsAt ended l.env (words.prop l.asks l.items n) (lists.prop l.reads n)
 unfolding words.prop lists.prop
-prop_prints l (props.Shorthand n) = ident_prints l n
-prop_prints l (props.KeyValue n) = key_value_prints l n
-prop_prints l (props.Assign n) = assign_prints l n
-prop_prints l (props.Getter n) = getter_prints l n
-prop_prints l (props.Setter n) = setter_prints l n
+prop_prints l (props.Shorthand n) = prints_wider ended refl (ident_prints l n)
+prop_prints l (props.KeyValue n) = prints_wider ended refl (key_value_prints l n)
+prop_prints l (props.Assign n) = prints_wider ended refl (assign_prints l n)
+prop_prints l (props.Getter n) = prints_wider ended refl (getter_prints l n)
+prop_prints l (props.Setter n) = prints_wider ended refl (setter_prints l n)
 prop_prints l (props.Method n) = method_prints l n
 
-prop_or_spread_prints : {X : Type 0} (l : Linked X) (n : PropOrSpread X) → Prints l.env (words.prop_or_spread l.asks l.items n) (lists.prop_or_spread l.reads n)
+prop_or_spread_prints : {X : Type 0} (l : Linked X) (n : PropOrSpread X) → PrintsAt ended l.env (words.prop_or_spread l.asks l.items n) (lists.prop_or_spread l.reads n)
 unfolding words.prop_or_spread lists.prop_or_spread
-prop_or_spread_prints l (prop_or_spreads.Spread n) = spread_element_prints l n
+prop_or_spread_prints l (prop_or_spreads.Spread n) = prints_wider ended refl (spread_element_prints l n)
 prop_or_spread_prints l (prop_or_spreads.Prop n) = prop_prints l n
 
 -- ---- objects
@@ -146,13 +146,13 @@ closing_prints env n = after (writes_position_before env n.span.hi) (prints_punc
 flat_prints : {X : Type 0} (l : Linked X) (n : ObjectLit X) → Prints l.env (λ rest. punct (codes "{") (props_by l flat_object_format n (closing n rest))) (whole l n)
 flat_prints l n =
     then (prints_punct l.env (codes "{") marks.left_brace)
-    (then (prints_list l.env flat_object_format n.span (prop_or_spread_span (place_of l.asks)) (words.prop_or_spread l.asks l.items) (lists.prop_or_spread l.reads) (λ n. loosened (prop_or_spread_prints l n)) refl refl refl refl n.props.items) (closing_prints l.env n))
+    (then (prints_list l.env flat_object_format n.span (prop_or_spread_span (place_of l.asks)) (words.prop_or_spread l.asks l.items) (lists.prop_or_spread l.reads) (λ n. prints_wider loose refl (prop_or_spread_prints l n)) refl refl refl refl n.props.items) (closing_prints l.env n))
 
 -- over several lines
 lines_prints : {X : Type 0} (l : Linked X) (n : ObjectLit X) → Prints l.env (λ rest. punct (codes "{") (line_end (props_by l object_format n (line_end (closing n rest))))) (whole l n)
 lines_prints l n =
     prints_bracketed l.env (codes "{") marks.left_brace line_end (writes_line l.env) object_format n.span (prop_or_spread_span (place_of l.asks)) (words.prop_or_spread l.asks l.items) (lists.prop_or_spread l.reads) (mark (codes "}")) (λ rest. line_end (closing n rest))
-    (λ n. loosened (prop_or_spread_prints l n)) refl refl refl (after (writes_line l.env) (closing_prints l.env n)) n.props.items
+    (λ n. prints_wider loose refl (prop_or_spread_prints l n)) refl refl refl (after (writes_line l.env) (closing_prints l.env n)) n.props.items
 
 either_prints : {X : Type 0} (l : Linked X) (n : ObjectLit X) (some : Bool) → Prints l.env (λ rest. punct (codes "{") (words.object_lines some n.span (children_of (prop_or_spread_span (place_of l.asks)) (words.prop_or_spread l.asks l.items) n.props.items) (closing n rest))) (whole l n)
 unfolding words.object_lines words.lined_object_list

@@ -59,7 +59,7 @@ inside_elsewhere (DottedObject prop) = refl
 inside_elsewhere place = refl
 
 -- one node, in its role: in any other it is Never
-node_prints : {X : Type 0} (l : Linked X) (n : AnyNode-F X) (place : Place) (role : Role) → PrintsIn role l.env (node_items l.asks l.items n (placed role place)) (node_phrase l.reads n role)
+node_prints : {X : Type 0} (l : Linked X) (n : AnyNode-F X) (place : Place) (role : Role) → PrintsIn role place l.env (node_items l.asks l.items n (placed role place)) (node_phrase l.reads n role)
 unfolding node_items node_phrase member_at
 node_prints l (nodes.Expr n) place Expression = unwrapped_prints l n (outside place) (outside_elsewhere place) (plain_expr_prints l n (outside place) (outside_leaves place))
 node_prints l (nodes.Expr n) place IsCallee = unwrapped_prints l n (inside place) (inside_elsewhere place) (callee_expr_prints l n (inside place) (inside_keeps place))
@@ -75,7 +75,7 @@ node_prints l n place role = prints_never_on
 
 -- whatever the greatest length of lines, or where there is none
 abbrev Law : Env → AnyNode → Type 0
-Law env n = (max : Option ℕ) (place : Place) (role : Role) → PrintsIn role (at_length max env) (any_items n (placed role place)) (phrase n role)
+Law env n = (max : Option ℕ) (place : Place) (role : Role) → PrintsIn role place (at_length max env) (any_items n (placed role place)) (phrase n role)
 
 -- nodes that a link of the tree holds, with the law of each
 abbrev children : (max : Option ℕ) (env : Env) → env.keeps_invalid ≡ false → Linked (Such the_family (claims (Law env)) member-AnyNode)
@@ -84,11 +84,11 @@ children max env e = record { env = at_length max env; leaves_out = e; asks = λ
 prints_at : (env : Env) → env.keeps_invalid ≡ false → (n : AnyNode) → Law env n
 prints_at env e = ind-AnyNode (Law env) (λ x y q. subst (λ z. Law env (roll-AnyNode z)) q (λ max place role.
     let here = node_prints (children max env e) y place role in
-    let P : Phrase → Type 0 = λ f. PrintsIn role (at_length max env) (node_items (λ z. any_answers z.0) (λ z. any_items z.0) y (placed role place)) f in
-    let Q : Part → Type 0 = λ p. PrintsIn role (at_length max env) p (phrase (roll-AnyNode (map-AnyNode _ _ (λ z. z.0) y)) role) in
+    let P : Phrase → Type 0 = λ f. PrintsIn role place (at_length max env) (node_items (λ z. any_answers z.0) (λ z. any_items z.0) y (placed role place)) f in
+    let Q : Part → Type 0 = λ p. PrintsIn role place (at_length max env) p (phrase (roll-AnyNode (map-AnyNode _ _ (λ z. z.0) y)) role) in
     subst Q (sym (items_of (λ z. z.0) y (placed role place))) (subst P (sym (phrase_of (λ z. z.0) y role)) here)))
 
-pub prints : (env : Env) → env.keeps_invalid ≡ false → (n : AnyNode) (place : Place) (role : Role) → PrintsIn role env (any_items n (placed role place)) (phrase n role)
+pub prints : (env : Env) → env.keeps_invalid ≡ false → (n : AnyNode) (place : Place) (role : Role) → PrintsIn role place env (any_items n (placed role place)) (phrase n role)
 prints env e n = prints_at env e n env.max_line
 
 -- the nodes of a whole tree

@@ -24,7 +24,7 @@ use Rattle.swc_ecma_codegen_emit.specs.TsExprs.{ts_as_expr, ts_const_assertion, 
 unfoldable pub expr_parts : {X : Type 0} → (X → Answers) → (X → Place → Part) → Expr X → Place → Part
 expr_parts asks items (exprs.This n) place rest = this n rest
 expr_parts asks items (exprs.Object n) place rest = object_lit asks items n rest
-expr_parts asks items (exprs.Fn n) place rest = fn_expr asks items n rest
+expr_parts asks items (exprs.Fn n) place rest = fn_expr asks items n Plain rest
 expr_parts asks items (exprs.Array n) place rest = array_lit asks items n rest
 expr_parts asks items (exprs.Unary n) place rest = unary asks items n rest
 expr_parts asks items (exprs.Update n) place rest = update items n rest

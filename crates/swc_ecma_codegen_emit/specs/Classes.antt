@@ -31,7 +31,7 @@ use Rattle.swc_ecma_codegen_tokens.specs.Run.{Part}
 use Rattle.swc_ecma_codegen_tokens.specs.Lists.{list}
 use Rattle.swc_ecma_codegen_tokens.specs.Words.{keyword, punct, question, semi, space, formatting_space, start_of, end_of, last_of, leading_comments}
 use Rattle.swc_ecma_codegen_emit.specs.declared.nodes.Place.{Place}
-use Rattle.swc_ecma_codegen_emit.specs.declared.nodes.Place.TheVariants.{Plain, ClassHead, ClassWord, MethodHead, StaticHead, MethodDecorators, MethodTail, FieldValue}
+use Rattle.swc_ecma_codegen_emit.specs.declared.nodes.Place.TheVariants.{Plain, ClassHead, ClassWord, MethodHead, DeclarationTail, StaticHead, MethodDecorators, MethodTail, FieldValue}
 use Rattle.swc_ecma_codegen_emit.specs.Answers.{Answers}
 use Rattle.swc_ecma_codegen_emit.specs.FunctionExprs.{comma_list_format}
 use Rattle.swc_ecma_codegen_emit.specs.Functions.{decorator, decorator_lines, decorators_format, decorator_place, param}
@@ -206,7 +206,7 @@ private_words n rest = static_word n.is_static (method_modifiers n.is_abstract n
 
 -- `#b?(c) { d; }`
 unfoldable pub private_rest : {X : Type 0} → (X → Place → Part) → PrivateMethod X → Part
-private_rest items n rest = private_name n.key (question n.is_optional (items n.function.node.value Plain rest))
+private_rest items n rest = private_name n.key (question n.is_optional (items n.function.node.value DeclarationTail rest))
 
 -- `@a static async *#b?(c) { d; }`
 unfoldable pub private_method : {X : Type 0} → (X → Place → Part) → PrivateMethod X → Part

@@ -14,7 +14,7 @@ use Rattle.swc_ecma_codegen_tokens.specs.Run.{Part}
 use Rattle.swc_ecma_codegen_tokens.specs.Lists.{list}
 use Rattle.swc_ecma_codegen_tokens.specs.Words.{keyword, semi, space, commit_pending_semi, start_of, end_of, leading_comments}
 use Rattle.swc_ecma_codegen_emit.specs.declared.nodes.Place.{Place}
-use Rattle.swc_ecma_codegen_emit.specs.declared.nodes.Place.TheVariants.{Plain, ClassHead, ClassWord, DeclarationHead, ExportedHead, ExportedTail, Statement}
+use Rattle.swc_ecma_codegen_emit.specs.declared.nodes.Place.TheVariants.{Plain, ClassHead, ClassWord, DeclarationHead, DeclarationTail, ExportedHead, ExportedTail, Statement}
 use Rattle.swc_ecma_codegen_emit.specs.declared.patterns.PatternKind.{PatternKind}
 use Rattle.swc_ecma_codegen_emit.specs.declared.patterns.PatternKind.TheVariants.{Marked}
 use Rattle.swc_ecma_codegen_emit.specs.Answers.{Answers}
@@ -36,7 +36,7 @@ fn_decl asks items n rest =
     leading_comments (asks function).place.lo
     (commit_pending_semi
     (start_of (asks function).place
-    (declare_word n.declare (items function DeclarationHead (ident n.ident (items function Plain rest))))))
+    (declare_word n.declare (items function DeclarationHead (ident n.ident (items function DeclarationTail rest))))))
 
 -- `a`, `a = b`, `a!: A`
 unfoldable pub var_declarator : {X : Type 0} → (X → Answers) → (X → Place → Part) → VarDeclarator X → Part

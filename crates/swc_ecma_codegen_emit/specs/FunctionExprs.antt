@@ -34,12 +34,12 @@ unfoldable pub optional_name : Option Ident → Part
 optional_name None rest = rest
 optional_name (Some n) rest = space (name n.span (string_bytes n.sym) n.optional rest)
 
-unfoldable pub fn_expr : {X : Type 0} → (X → Answers) → (X → Place → Part) → FnExpr X → Part
-fn_expr asks items n rest =
+unfoldable pub fn_expr : {X : Type 0} → (X → Answers) → (X → Place → Part) → FnExpr X → Place → Part
+fn_expr asks items n tail rest =
     let function = n.function.node.value in
     leading_comments (asks function).place.lo
     (commit_pending_semi
-    (start_of (asks function).place (items function FunctionHead (optional_name n.ident (items function Plain rest)))))
+    (start_of (asks function).place (items function FunctionHead (optional_name n.ident (items function tail rest)))))
 
 -- ---- arrow functions
 

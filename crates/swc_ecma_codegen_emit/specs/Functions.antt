@@ -7,9 +7,9 @@ use Rattle.swc_ecma_codegen_tree.specs.declared.decls.Param.{Param}
 use Rattle.swc_ecma_codegen_tree.specs.declared.decls.Function as functions
 use Rattle.swc_ecma_codegen_tokens.specs.Run.{Part}
 use Rattle.swc_ecma_codegen_tokens.specs.Lists.{list}
-use Rattle.swc_ecma_codegen_tokens.specs.Words.{keyword, punct, bare_semi, semi, space, formatting_space, line_end, start_of, end_of, leading_comments}
+use Rattle.swc_ecma_codegen_tokens.specs.Words.{allow_break, keyword, punct, bare_semi, semi, space, formatting_space, line_end, start_of, end_of, leading_comments}
 use Rattle.swc_ecma_codegen_emit.specs.declared.nodes.Place.{Place}
-use Rattle.swc_ecma_codegen_emit.specs.declared.nodes.Place.TheVariants.{Plain, Body, FunctionHead, MethodHead, DeclarationHead, StaticHead, MethodDecorators, MethodTail}
+use Rattle.swc_ecma_codegen_emit.specs.declared.nodes.Place.TheVariants.{Plain, Body, FunctionHead, MethodHead, DeclarationHead, DeclarationTail, StaticHead, MethodDecorators, MethodTail}
 use Rattle.swc_ecma_codegen_emit.specs.Annotations.{annotation, type_params}
 use Rattle.swc_ecma_codegen_emit.specs.Answers.{Answers}
 use Rattle.swc_ecma_codegen_emit.specs.FunctionExprs.{comma_list_format, star}
@@ -42,7 +42,7 @@ param asks items n rest =
 abbrev pub param_place : {X : Type 0} → Param X → Span
 param_place n = n.span
 
--- `{ a; }`, or the semicolon in its place: a function without a body may be an expression, so no line may be ended behind it
+-- `{ a; }`, or the semicolon in its place: a function without a body may be an expression, so no line is ended behind it
 unfoldable pub function_body : {X : Type 0} → (X → Place → Part) → Option (BlockStmtBox X) → Part
 function_body items None rest = bare_semi rest
 function_body items (Some n) rest = formatting_space (items n.node.value Body rest)
@@ -58,6 +58,15 @@ fn_trailing asks items n rest =
     (punct (codes "(")
     (parameters asks items n
     (punct (codes ")") (annotation items n.return_type (function_body items n.body rest)))))
+
+-- behind the semicolon that stands for a body a line may be ended, where no operator may follow
+unfoldable pub break_without_body : {X : Type 0} → Option (BlockStmtBox X) → Part
+break_without_body None rest = allow_break rest
+break_without_body (Some n) rest = rest
+
+-- `<A>(a): B { c; }` of a function that is declared or a private method: neither is an expression
+unfoldable pub declaration_tail : {X : Type 0} → (X → Answers) → (X → Place → Part) → functions.Function X → Part
+declaration_tail asks items n rest = fn_trailing asks items n (break_without_body n.body rest)
 
 -- `async` and a blank, where it is so
 unfoldable pub async_word : Bool → Part
@@ -108,6 +117,7 @@ unfoldable pub function : {X : Type 0} → (X → Answers) → (X → Place → 
 function asks items n FunctionHead rest = function_head n rest
 function asks items n MethodHead rest = method_head n rest
 function asks items n DeclarationHead rest = declaration_head n rest
+function asks items n DeclarationTail rest = declaration_tail asks items n rest
 function asks items n (StaticHead starts) rest = static_head starts n rest
 function asks items n MethodDecorators rest = decorator_lines items n.decorators.items rest
 function asks items n MethodTail rest = method_tail asks items n rest

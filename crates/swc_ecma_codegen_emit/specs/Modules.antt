@@ -34,7 +34,7 @@ use Rattle.swc_ecma_codegen_tokens.specs.Lists.{list}
 use Rattle.swc_ecma_codegen_tokens.specs.Lits.{str_lit}
 use Rattle.swc_ecma_codegen_tokens.specs.Words.{keyword, punct, semi, space, formatting_space, formatting_line, start_of, end_of, leading_comments, trailing_comments}
 use Rattle.swc_ecma_codegen_emit.specs.declared.nodes.Place.{Place}
-use Rattle.swc_ecma_codegen_emit.specs.declared.nodes.Place.TheVariants.{Plain, ExportedHead, ExportedTail}
+use Rattle.swc_ecma_codegen_emit.specs.declared.nodes.Place.TheVariants.{Plain, DeclarationTail, ExportedHead, ExportedTail}
 use Rattle.swc_ecma_codegen_emit.specs.Answers.{Answers, place_of}
 use Rattle.swc_ecma_codegen_emit.specs.ClassExprs.{class_expr}
 use Rattle.swc_ecma_codegen_emit.specs.Exprs.{blank, ident}
@@ -256,7 +256,7 @@ export_decl items n rest = start_of n.span (items n.decl.node.value ExportedHead
 -- `class {}` of `export default class {}`
 unfoldable pub default_decl : {X : Type 0} → (X → Answers) → (X → Place → Part) → DefaultDecl X → Part
 default_decl asks items (default_decls.Class n) rest = class_expr asks items n rest
-default_decl asks items (default_decls.Fn n) rest = fn_expr asks items n rest
+default_decl asks items (default_decls.Fn n) rest = fn_expr asks items n DeclarationTail rest
 default_decl asks items (default_decls.TsInterfaceDecl n) rest = ts_interface_decl items n rest
 
 -- `export default`

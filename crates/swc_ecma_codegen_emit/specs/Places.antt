@@ -4,7 +4,7 @@ use Rattle.swc_ecma_codegen_grammar.specs.declared.roles.Role.{Role}
 use Rattle.swc_ecma_codegen_grammar.specs.declared.roles.Role.TheVariants.{MemberExpression, ChainMember, Function, FunctionHead as HeadOfFunction, MethodHead as HeadOfMethod, Expression, Callee as IsCallee, ChainCall, Template, TaggedTemplate, ClassHead as HeadOfClass, ClassWord as WordOfClass, ClassTail, MethodDecorators as DecoratorsOfMethod, MethodTail as TailOfMethod, AccessorTail as TailOfAccessor, FieldValue as ValueOfField, ModuleDeclaration, Declaration, ExportedHead as HeadOfExported, ExportedTail as TailOfExported, Element, Child as IsChild, NamespaceBody, DottedBody}
 use Rattle.swc_ecma_codegen_tokens.specs.Run.{Env, Part, unbounded}
 use Rattle.swc_ecma_codegen_emit.specs.declared.nodes.Place.{Place}
-use Rattle.swc_ecma_codegen_emit.specs.declared.nodes.Place.TheVariants.{Plain, Chain, FunctionHead, MethodHead, DeclarationHead, Object, DottedObject, Callee, Tagged, ClassHead, ClassWord, StaticHead, MethodDecorators, MethodTail, FieldValue, ExportedHead, ExportedTail, Child, Dotted, Lines}
+use Rattle.swc_ecma_codegen_emit.specs.declared.nodes.Place.TheVariants.{Plain, Chain, FunctionHead, MethodHead, DeclarationHead, DeclarationTail, Object, DottedObject, Callee, Tagged, ClassHead, ClassWord, StaticHead, MethodDecorators, MethodTail, FieldValue, ExportedHead, ExportedTail, Child, Dotted, Lines}
 
 -- a place where nothing is asked of an expression, and one inside of a callee
 abbrev pub outside : Place → Place
@@ -29,10 +29,15 @@ abbrev pub before_method : Place → Place
 before_method (StaticHead starts) = StaticHead starts
 before_method place = MethodHead
 
+-- what of a function stands behind its name: of one that is declared, with a place where a line may be ended
+abbrev pub behind_name : Place → Place
+behind_name DeclarationTail = DeclarationTail
+behind_name place = Plain
+
 -- what of a method stands behind its key: of a private one as of any function
 abbrev pub behind_key : Place → Place
 behind_key MethodTail = MethodTail
-behind_key place = Plain
+behind_key place = behind_name place
 
 -- a declaration that isn't exported
 abbrev pub declared : Place → Place
@@ -49,7 +54,7 @@ placed Expression place = outside place
 placed IsCallee place = inside place
 placed MemberExpression place = Plain
 placed (ChainMember optional) place = Chain optional
-placed Function place = Plain
+placed Function place = behind_name place
 placed HeadOfFunction place = before_name place
 placed HeadOfMethod place = before_method place
 placed HeadOfClass place = ClassHead

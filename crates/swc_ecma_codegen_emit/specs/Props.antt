@@ -19,7 +19,7 @@ use Rattle.swc_ecma_codegen_tokens.specs.Run.{Part, when_minified}
 use Rattle.swc_ecma_codegen_emit.specs.Commented.{has_comment_inside}
 use Rattle.swc_ecma_codegen_tokens.specs.Words.{by_maps, keyword, punct, formatting_space, line_end, position, last_of}
 use Rattle.swc_ecma_codegen_emit.specs.declared.nodes.Place.{Place}
-use Rattle.swc_ecma_codegen_emit.specs.declared.nodes.Place.TheVariants.{Plain, MethodHead}
+use Rattle.swc_ecma_codegen_emit.specs.declared.nodes.Place.TheVariants.{Plain, MethodHead, DeclarationTail}
 use Rattle.swc_ecma_codegen_emit.specs.Answers.{Answers, place_of}
 use Rattle.swc_ecma_codegen_emit.specs.Exprs.{blank, opened, ident, spread_element}
 use Rattle.swc_ecma_codegen_emit.specs.Lists.{child_of}
@@ -81,7 +81,7 @@ unfoldable pub method_prop : {X : Type 0} → (X → Answers) → (X → Place �
 method_prop asks items n rest =
     let function = n.function.node.value in
     opened (prop_name_span n.key)
-    (items function MethodHead (prop_name items n.key (formatting_space (items function Plain rest))))
+    (items function MethodHead (prop_name items n.key (formatting_space (items function DeclarationTail rest))))
 
 unfoldable pub prop : {X : Type 0} → (X → Answers) → (X → Place → Part) → Prop X → Part
 prop asks items (props.Shorthand n) rest = ident n rest

@@ -583,7 +583,7 @@ impl<W: WriteJs, S: SourceMapper, C: Comments> Emitter<'_, W, S, C> {
     {
         node.key.emit_at(self, Place::Plain);
         self.question(node.is_optional);
-        node.function.target().emit_at(self, Place::Plain);
+        node.function.target().emit_at(self, Place::DeclarationTail);
     }
 
     /// Writes what stands between the modifiers of a private method and its name.

@@ -104,7 +104,7 @@ impl<N: LinkTarget> EmitAt for FnDecl<N> {
         e.declare_word(self.declare);
         self.function.target().emit_at(e, Place::DeclarationHead);
         self.ident.emit_at(e, Place::Plain);
-        self.function.target().emit_at(e, Place::Plain);
+        self.function.target().emit_at(e, Place::DeclarationTail);
     }
 }
 

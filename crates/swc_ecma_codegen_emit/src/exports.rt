@@ -171,7 +171,7 @@ impl<N: LinkTarget> EmitAt for DefaultDecl<N> {
     ) {
         match self {
             DefaultDecl::Class(node) => node.emit_at(e, Place::Plain),
-            DefaultDecl::Fn(node) => node.emit_at(e, Place::Plain),
+            DefaultDecl::Fn(node) => node.emit_at(e, Place::DeclarationTail),
             DefaultDecl::TsInterfaceDecl(node) => node.emit_at(e, Place::Plain),
         }
     }

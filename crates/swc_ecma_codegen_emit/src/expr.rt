@@ -78,7 +78,7 @@ fn expr_parts<N: LinkTarget, W: WriteJs, S: SourceMapper, C: Comments>(
     match node {
         Expr::This(node) => node.emit_at(e, place),
         Expr::Object(node) => node.emit_at(e, Place::Plain),
-        Expr::Fn(node) => node.emit_at(e, place),
+        Expr::Fn(node) => node.emit_at(e, Place::Plain),
         Expr::Array(node) => node.emit_at(e, place),
         Expr::Unary(node) => node.emit_at(e, place),
         Expr::Update(node) => node.emit_at(e, place),

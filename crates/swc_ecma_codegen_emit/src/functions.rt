@@ -6,7 +6,7 @@ ghost use Rattle.swc_ecma_codegen_grammar.specs.FunctionPhrases.{is_typed_arrow}
 ghost use Rattle.swc_ecma_codegen_literals.specs.Punctuators.{spelling};
 ghost use Rattle.swc_ecma_codegen_emit.specs.Standing.{Performs, KeepsLevel};
 ghost use Rattle.swc_ecma_codegen_emit.specs.FunctionExprs.{comma_list_format, star, optional_name, fn_expr, is_plain, is_name, is_only, async_arrow, parenthesis, has_comment_behind, arrow_children, arrow_list, arrow_within, arrow_parameters, arrow_body, arrow_result, arrow_expr};
-ghost use Rattle.swc_ecma_codegen_emit.specs.Functions.{decorators_format, decorator, decorators, decorator_lines, param, function_body, parameters, fn_trailing, static_gap, static_head, method_body, method_tail, async_word, function_head, star_or_space, declaration_head, method_head, function};
+ghost use Rattle.swc_ecma_codegen_emit.specs.Functions.{decorators_format, decorator, decorators, decorator_lines, param, function_body, parameters, fn_trailing, break_without_body, declaration_tail, static_gap, static_head, method_body, method_tail, async_word, function_head, star_or_space, declaration_head, method_head, function};
 
 use crate::commented::has_comment_after;
 use crate::emitter::Emitter;
@@ -149,7 +149,7 @@ impl<N: LinkTarget> Child for Decorator<N> {
 }
 
 impl<N: LinkTarget> EmitAt for FnExpr<N> {
-    ghost items = { λ n _. fn_expr N.answers N.items n };
+    ghost items = { fn_expr N.answers N.items };
 
     #[tactic(auto, unfolding(crate::specs::FunctionExprs::fn_expr))]
     fn emit_at<W: WriteJs, S: SourceMapper, C: Comments>(
@@ -163,7 +163,7 @@ impl<N: LinkTarget> EmitAt for FnExpr<N> {
         e.start_of(span);
         self.function.target().emit_at(e, Place::FunctionHead);
         e.optional_name(&self.ident);
-        self.function.target().emit_at(e, Place::Plain);
+        self.function.target().emit_at(e, place);
     }
 }
 
@@ -180,6 +180,7 @@ impl<N: LinkTarget> EmitAt for Function<N> {
             Place::FunctionHead => e.function_head(self),
             Place::MethodHead => e.method_head(self),
             Place::DeclarationHead => e.declaration_head(self),
+            Place::DeclarationTail => e.declaration_tail(self),
             Place::StaticHead(starts) => e.static_head(starts, self),
             Place::MethodDecorators => e.decorator_lines(&self.decorators),
             Place::MethodTail => e.method_tail(self),
@@ -312,7 +313,32 @@ impl<W: WriteJs, S: SourceMapper, C: Comments> Emitter<'_, W, S, C> {
         self.star(node.is_generator);
     }
 
-    /// Writes `<A>(a): B { c; }` of a function, and of a private method, without decorators. swc's `emit_fn_trailing`.
+    /// Lets a line end behind the semicolon that stands for a body.
+    #[tactic(auto, unfolding(crate::specs::Functions::break_without_body))]
+    fn break_without_body<N>(&mut self, body: &Option<BlockStmtBox<N>>)
+        ensures items { Performs (break_without_body body.now)
+            S.lines C.maps W.sheet self.old self.new }
+        ensures level { KeepsLevel S.lines C.maps W.sheet self.old self.new }
+    {
+        match body {
+            Some(_) => {}
+            None => self.allow_break(),
+        }
+    }
+
+    /// Writes `<A>(a): B { c; }` of a function that is declared, and of a private method. Where `;` stands for a body, a line may end
+    /// behind it.
+    #[tactic(auto, unfolding(crate::specs::Functions::declaration_tail))]
+    fn declaration_tail<N: LinkTarget>(&mut self, node: &Function<N>)
+        ensures items { Performs (declaration_tail N.answers N.items node.now)
+            S.lines C.maps W.sheet self.old self.new }
+        ensures level { KeepsLevel S.lines C.maps W.sheet self.old self.new }
+    {
+        self.fn_trailing(node);
+        self.break_without_body(&node.body);
+    }
+
+    /// Writes `<A>(a): B { c; }` of a function, without decorators. swc's `emit_fn_trailing`.
     #[tactic(auto, unfolding(crate::specs::Functions::fn_trailing))]
     fn fn_trailing<N: LinkTarget>(&mut self, node: &Function<N>)
         ensures items { Performs (fn_trailing N.answers N.items node.now)

@@ -41,6 +41,9 @@ pub enum Place {
     MethodHead,
     /// What of a function that is declared stands before its name: `async function*` and a blank
     DeclarationHead,
+    /// What of a function that is declared, or of a private method, stands behind its name: `(a) { b; }`, and `(a);` where it has no body.
+    /// Behind that semicolon a line may be ended, since neither is an expression.
+    DeclarationTail,
     /// A declaration as a statement: where one of variables ends isn't recorded there.
     Statement,
     /// A template after its tag.

@@ -188,7 +188,7 @@ impl<N: LinkTarget> EmitAt for MethodProp<N> {
         self.function.target().emit_at(e, Place::MethodHead);
         self.key.emit_at(e, Place::Plain);
         e.formatting_space();
-        self.function.target().emit_at(e, Place::Plain);
+        self.function.target().emit_at(e, Place::DeclarationTail);
     }
 }
 
