@@ -1,6 +1,8 @@
 //! The tree, where its nodes stand, the map of its source text and its comments; and which trees are well-formed. The
 //! reference has these in crates of their own.
 
+pub mod mapper;
+
 pub use swc_ecma_codegen_common::AssignOp;
 pub use swc_ecma_codegen_common::BinaryOp;
 pub use swc_ecma_codegen_common::BytePos;
@@ -14,7 +16,6 @@ pub use swc_ecma_codegen_common::UnaryOp;
 pub use swc_ecma_codegen_common::UpdateOp;
 pub use swc_ecma_codegen_grammar::ListFormat;
 pub use swc_ecma_codegen_grammar::comments;
-pub use swc_ecma_codegen_grammar::mapper;
 pub use swc_ecma_codegen_spans::Spanned;
 pub use swc_ecma_codegen_tree::Accessibility;
 pub use swc_ecma_codegen_tree::AnyNode;

@@ -19,7 +19,8 @@ ghost use Rattle.swc_ecma_codegen_tokens.specs.Ready.{token_count};
 ghost use Rattle.swc_ecma_codegen_tokens.specs.Run.{maps_after, start, steps_in, steps_of, unlined};
 ghost use Rattle.swc_ecma_codegen_tokens.specs.Written.{AddsReading, AddsText, ReadsAs, taken_remarks};
 ghost use Rattle.swc_ecma_codegen_emit.specs.Roots.{Root, root_items, root_phrase, is_well_formed_root, MayBegin};
-ghost use Rattle.swc_ecma_codegen_emit.specs.Texts.{blank_sheet, GivesCause};
+ghost use Rattle.swc_ecma_codegen_source.specs.SourceTexts.{lines_of};
+ghost use Rattle.swc_ecma_codegen_emit.specs.Texts.{blank_sheet, text_over, GivesCause};
 ghost use Rattle.swc_ecma_codegen_examples.specs.Causes.{commented_start, minified_config, minified_start, IsOfMachine, IsUnread, LacksText};
 ghost use Rattle.swc_ecma_codegen_examples.specs.Negation.{negation_tokens, IsNegation};
 
@@ -30,7 +31,8 @@ pub use crate::links::{
 };
 use std::alloc::{AllocError, Global};
 use std::io::Write;
-use swc_ecma_codegen::{Config, Emitter, Node, is_well_formed, to_code};
+use swc_ecma_codegen::ast::mapper::SourceText;
+use swc_ecma_codegen::{Config, Emitter, Node, is_well_formed, to_code, to_code_default};
 use swc_ecma_codegen_common::{BytePos, DUMMY_SP, Error, LineCol, UnaryOp};
 use swc_ecma_codegen_grammar::comments::{CommentMaps, Comments};
 use swc_ecma_codegen_grammar::mapper::NoSource;
@@ -208,6 +210,21 @@ pub fn print_with_comments<P: Node, C: Comments + Drop>(
     let mut emitter = Emitter::new(alloc, Config::default(), &NoSource, Some(comments), writer);
     node.emit_with(&mut emitter)?;
     Ok((emitter.wr.into_inner(), emitter.comments))
+}
+
+/// The text of a node over the source text that it was read from, whose first byte stands at 1. In lists that keep their lines, as those
+/// of arrays do, a line ends where one ends there: `[` LF `a, b]` is printed `[` LF `    a, b` LF `]`.
+pub fn print_over_source<P: Node>(alloc: Global, node: &P, text: &str) -> Result<String, Error>
+    // It asks this source text where lines end, and which lists end with a comma.
+    ensures text { IfOk result (λ printed. string_bytes printed
+        ≡ text_over (lines_of text.now 1) no_maps (P.part node.now)) }
+    ensures reads { (root : Root) → P.part node.now ≡ root_items root →
+        is_well_formed_root root ≡ true →
+        IfOk result (λ printed.
+        ReadsAs default_config false (root_phrase root) [] (string_bytes printed)) }
+{
+    let source = SourceText::new(alloc, text, BytePos(1))?;
+    to_code_default(alloc, &source, None::<CommentMaps>, node)
 }
 
 /// The text of a node, minified, without semicolons that aren't needed: `{a;}` is `{a}`.
