@@ -1,5 +1,5 @@
 -- The check is exact: what is told of a tree decides which lists are derived with it.
-use Rattle.std.proofs.Common.{◌≡◌, ◌↔◌, ◌⊎◌, inl, inr, ℕ, Bool, true, false, ◌&&◌, ◌||◌, not, List, [], ◌∷◌, ◌++◌, refl, sym, subst, ◌∙◌, ap, ap₂}
+use Rattle.std.proofs.Common.{◌≡◌, ◌↔◌, ◌⊎◌, inl, inr, ℕ, Bool, true, false, ◌&&◌, ◌||◌, not, List, [], ◌∷◌, ◌++◌, Option, Some, None, refl, sym, subst, ◌∙◌, ap, ap₂}
 use Rattle.std.proofs.lemmas.Bool.{true≢false, and_parts, and_from, or_cases}
 use Rattle.swc_ecma_codegen_tree.specs.declared.links.AnyNode.{AnyNode, AnyNode-F, map-AnyNode, roll-AnyNode, out-AnyNode, ind-AnyNode}
 use Rattle.swc_ecma_codegen_tree.specs.declared.links.AnyNode.TheOpen as nodes
@@ -7,13 +7,26 @@ use Rattle.swc_ecma_codegen_tree.specs.declared.links.AnyNode.TheViews.{roll-out
 use Rattle.swc_ecma_codegen_tree.specs.declared.links.AnyNode.TheVariants as whole
 use Rattle.swc_ecma_codegen_tree.specs.declared.exprs.Expr.{Expr}
 use Rattle.swc_ecma_codegen_tree.specs.declared.exprs.Expr.TheVariants as exprs
+use Rattle.swc_ecma_codegen_tree.specs.Links.{PatBox}
+use Rattle.swc_ecma_codegen_tree.specs.declared.pats.Pat.{Pat}
+use Rattle.swc_ecma_codegen_tree.specs.declared.pats.Pat.TheVariants as pats
+use Rattle.swc_ecma_codegen_tree.specs.declared.pats.ArrayPat.{ArrayPat}
+use Rattle.swc_ecma_codegen_tree.specs.declared.pats.ObjectPat.{ObjectPat}
+use Rattle.swc_ecma_codegen_tree.specs.declared.pats.ObjectPatProp.{ObjectPatProp}
+use Rattle.swc_ecma_codegen_tree.specs.declared.pats.ObjectPatProp.TheVariants as pat_props
+use Rattle.swc_ecma_codegen_tree.specs.declared.pats.AssignTarget.{AssignTarget}
+use Rattle.swc_ecma_codegen_tree.specs.declared.pats.AssignTarget.TheVariants as targets
+use Rattle.swc_ecma_codegen_tree.specs.declared.pats.AssignTargetPat.{AssignTargetPat}
+use Rattle.swc_ecma_codegen_tree.specs.declared.pats.AssignTargetPat.TheVariants as target_pats
 use Rattle.swc_ecma_codegen_tree.specs.declared.parts.ExprPart.{ExprPart}
-use Rattle.swc_ecma_codegen_grammar.specs.Phrases.{Phrase, Closing, Never, Nothing, One, NameOf, KeyOf, PrivateOf, TagNameOf, Then, CommaBefore, OptionalParentheses, Chosen, Generates, closing_mark, mark}
+use Rattle.swc_ecma_codegen_tree.specs.declared.parts.ExprPart.TheVariants as expr_parts
+use Rattle.swc_ecma_codegen_grammar.specs.ElementPhrases.{last_is_hole}
+use Rattle.swc_ecma_codegen_grammar.specs.Phrases.{Phrase, Closing, RightBrace, Never, Nothing, One, NameOf, KeyOf, PrivateOf, TagNameOf, Then, CommaBefore, OptionalParentheses, Chosen, Generates, closing_mark, mark}
 use Rattle.swc_ecma_codegen_grammar.specs.Settings.{Settings}
 use Rattle.swc_ecma_codegen_grammar.specs.Tokens.{Token}
 use Rattle.swc_ecma_codegen_grammar.specs.TreePhrases.{node_phrase, phrase}
 use Rattle.swc_ecma_codegen_grammar.specs.declared.roles.Role.{Role}
-use Rattle.swc_ecma_codegen_grammar.specs.declared.roles.Role.TheVariants.{Expression, Callee, ChainMember, TaggedTemplate}
+use Rattle.swc_ecma_codegen_grammar.specs.declared.roles.Role.TheVariants.{Expression, Callee, ChainMember, TaggedTemplate, Pattern, AssignmentTarget}
 use Rattle.swc_ecma_codegen_grammar.proofs.TreeLaws.{phrase_of, phrase_at}
 use Rattle.swc_ecma_codegen_syntax.specs.declared.nonterminals.Nonterminal.{Nonterminal}
 use Rattle.swc_ecma_codegen_syntax.specs.declared.nonterminals.Nonterminal.TheVariants as nt
@@ -22,12 +35,14 @@ use Rattle.swc_ecma_codegen_syntax.specs.declared.verdicts.Facts.{Facts}
 use Rattle.swc_ecma_codegen_syntax.specs.declared.verdicts.Verdict.{Verdict}
 use Rattle.swc_ecma_codegen_syntax.specs.Nonterminals.{takes, is_member, is_new, is_call, is_callee, is_chained, is_left_hand_side, is_update, is_unary, is_exponentiation, is_multiplicative, is_additive, is_shift, is_relational, is_in_left, is_equality, is_bitwise_and, is_bitwise_xor, is_bitwise_or, is_logical_and, is_logical_or, is_coalesce_head, is_short_circuit, is_conditional, is_assignment, is_expression, is_assignment_target, is_pattern_target, is_pattern_element, is_last_element, is_coalesce, is_private, is_optional, is_primary, is_template, is_property_name, is_chain_link, is_assignment_pattern, is_pattern_name, is_rest, is_uncovered}
 use Rattle.swc_ecma_codegen_syntax.specs.Verdicts.{unasked, by_scope, holds, is_mended}
-use Rattle.swc_ecma_codegen_syntax.specs.Parameters.{with_in}
-use Rattle.swc_ecma_codegen_syntax.specs.Forms.{Form, Fixed, Part, Simple, Both, Provided, NoComma, Bare, Cure, map_form, forget, asked, judge, keeps, is_met, stands, is_target}
+use Rattle.swc_ecma_codegen_syntax.specs.Parameters.{with_in, of_targets}
+use Rattle.swc_ecma_codegen_syntax.specs.Forms.{Form, Fixed, Part, Simple, Both, Provided, Closed, Bare, Cure, map_form, forget, asked, judge, keeps, is_met, stands, is_target}
 use Rattle.swc_ecma_codegen_syntax.specs.MemberForms.{prop_form, member_form, type_args_form, tagged_form}
+use Rattle.swc_ecma_codegen_syntax.specs.PatForms.{pat_element_form, pat_elements_after, pat_elements_form, closing_form, elements_end_form, array_pat_form, pat_prop_form, pat_props_after, pat_props_form, object_pat_form, pat_form}
+use Rattle.swc_ecma_codegen_syntax.specs.TargetForms.{target_pat_form, target_form}
 use Rattle.swc_ecma_codegen_syntax.specs.ExprForms.{call_or_member, expr_form, expr_nonterminal}
 use Rattle.swc_ecma_codegen_syntax.specs.NodeForms.{node_form, node_nonterminal, part_form, part_nonterminal, is_simple_expr, is_simple_node, is_simple, is_name_node, is_name_expr, is_called, is_called_node, simple_told, expr_facts, part_facts, node_facts, facts}
-use Rattle.swc_ecma_codegen_syntax.specs.Derives.{Derives, fixed, part, simple, both, provided, no_comma, bare, bare_phrase}
+use Rattle.swc_ecma_codegen_syntax.specs.Derives.{Derives, fixed, part, simple, both, provided, closed, comma_closed, bare, bare_phrase}
 use Rattle.swc_ecma_codegen_syntax.proofs.Judged.{judged, keeps_mapped, forget_mapped}
 use Rattle.swc_ecma_codegen_syntax.proofs.TreeFacts.{node_mapped, sort_mapped, name_mapped, facts_of, facts_at, simple_of}
 use Rattle.swc_ecma_codegen_syntax.proofs.PatForgets.{node_forgets}
@@ -136,6 +151,123 @@ expr_chosen places f place stays called c (exprs.TaggedTpl n) (s, k) =
     (u, and_from _ _ (and_from _ _ v j) l)
 expr_chosen places f place stays called c n w = w
 
+-- ---- of the two productions of a pattern, what is told takes the one without a comma
+
+last_stands : (places : Bool) (t : Nonterminal) → stands places nt.PatternElement t ≡ true → stands places nt.LastElement t ≡ true
+unfolding stands is_mended takes is_last_element is_pattern_element is_pattern_target
+last_stands places nt.LastElement h = refl
+last_stands places nt.RestElement h = refl
+last_stands places t h = h
+
+element_chosen : {X : Type 0} (places : Bool) (f : X → Role → Parameters → Facts) (c : Parameters) (o : Option (PatBox X)) →
+    keeps places f (pat_element_form nt.PatternElement c o) ≡ true → keeps places f (pat_element_form nt.LastElement c o) ≡ true
+unfolding keeps pat_element_form
+element_chosen places f c None k = k
+element_chosen places f c (Some n) k =
+    let told : Facts = f n.node.value Pattern c in
+    let (h, l) = and_parts (stands places nt.PatternElement told.nonterminal) (holds places told.verdict) k in
+    and_from _ _ (last_stands places told.nonterminal h) l
+
+elements_after_chosen : {X : Type 0} (places : Bool) (f : X → Role → Parameters → Facts) (c : Parameters) (xs : List (Option (PatBox X))) →
+    keeps places f (pat_elements_after true c xs) ≡ true → keeps places f (pat_elements_after false c xs) ≡ true
+unfolding keeps pat_elements_after
+elements_after_chosen places f c [] k = k
+elements_after_chosen places f c (x ∷ []) k =
+    let (h, l) = and_parts (keeps places f (pat_element_form nt.PatternElement c x)) true k in
+    and_from _ _ (element_chosen places f c x h) l
+elements_after_chosen places f c (x ∷ y ∷ xs) k =
+    let (h, l) = and_parts (keeps places f (pat_element_form nt.PatternElement c x)) (keeps places f (pat_elements_after true c (y ∷ xs))) k in
+    and_from _ _ h (elements_after_chosen places f c (y ∷ xs) l)
+
+elements_chosen : {X : Type 0} (places : Bool) (f : X → Role → Parameters → Facts) (c : Parameters) (xs : List (Option (PatBox X))) →
+    keeps places f (pat_elements_form true c xs) ≡ true → keeps places f (pat_elements_form false c xs) ≡ true
+unfolding keeps pat_elements_form
+elements_chosen places f c [] k = k
+elements_chosen places f c (x ∷ []) k =
+    let (h, l) = and_parts (keeps places f (pat_element_form nt.PatternElement c x)) true k in
+    and_from _ _ (element_chosen places f c x h) l
+elements_chosen places f c (x ∷ y ∷ xs) k =
+    let (h, l) = and_parts (keeps places f (pat_element_form nt.PatternElement c x)) (keeps places f (pat_elements_after true c (y ∷ xs))) k in
+    and_from _ _ h (elements_after_chosen places f c (y ∷ xs) l)
+
+prop_chosen : {X : Type 0} (places : Bool) (f : X → Role → Parameters → Facts) (c : Parameters) (n : ObjectPatProp X) →
+    keeps places f (pat_prop_form false c n) ≡ true → keeps places f (pat_prop_form true c n) ≡ true
+unfolding keeps is_met pat_prop_form
+prop_chosen places f c (pat_props.KeyValue n) k = k
+prop_chosen places f c (pat_props.Assign n) k = k
+prop_chosen places f c (pat_props.Rest n) k = absurd (true≢false (sym k))
+
+props_after_chosen : {X : Type 0} (places : Bool) (f : X → Role → Parameters → Facts) (c : Parameters) (xs : List (ObjectPatProp X)) →
+    keeps places f (pat_props_after true c xs) ≡ true → keeps places f (pat_props_after false c xs) ≡ true
+unfolding keeps pat_props_after
+props_after_chosen places f c [] k = k
+props_after_chosen places f c (x ∷ []) k =
+    let (h, l) = and_parts (keeps places f (pat_prop_form false c x)) true k in
+    and_from _ _ (prop_chosen places f c x h) l
+props_after_chosen places f c (x ∷ y ∷ xs) k =
+    let (h, l) = and_parts (keeps places f (pat_prop_form false c x)) (keeps places f (pat_props_after true c (y ∷ xs))) k in
+    and_from _ _ h (props_after_chosen places f c (y ∷ xs) l)
+
+props_chosen : {X : Type 0} (places : Bool) (f : X → Role → Parameters → Facts) (c : Parameters) (xs : List (ObjectPatProp X)) →
+    keeps places f (pat_props_form true c xs) ≡ true → keeps places f (pat_props_form false c xs) ≡ true
+unfolding keeps pat_props_form
+props_chosen places f c [] k = k
+props_chosen places f c (x ∷ []) k =
+    let (h, l) = and_parts (keeps places f (pat_prop_form false c x)) true k in
+    and_from _ _ (prop_chosen places f c x h) l
+props_chosen places f c (x ∷ y ∷ xs) k =
+    let (h, l) = and_parts (keeps places f (pat_prop_form false c x)) (keeps places f (pat_props_after true c (y ∷ xs))) k in
+    and_from _ _ h (props_after_chosen places f c (y ∷ xs) l)
+
+closing_keeps : {X A : Type 0} (places : Bool) (f : X → Role → Parameters → Facts) (comma : Bool) (close : Closing) (xs : List A) → keeps places f (closing_form comma close xs) ≡ true
+unfolding keeps closing_form
+closing_keeps places f comma close [] = refl
+closing_keeps places f comma close (x ∷ xs) = refl
+
+end_keeps : {X A : Type 0} (places : Bool) (f : X → Role → Parameters → Facts) (comma hole : Bool) (xs : List A) → keeps places f (elements_end_form comma hole xs) ≡ true
+unfolding keeps elements_end_form
+end_keeps places f comma true xs = refl
+end_keeps places f comma false xs = closing_keeps places f comma _ xs
+
+array_chosen : {X : Type 0} (places : Bool) (f : X → Role → Parameters → Facts) (c : Parameters) (n : ArrayPat X) → keeps places f (array_pat_form true c n) ≡ true → keeps places f (array_pat_form false c n) ≡ true
+unfolding keeps array_pat_form
+array_chosen places f c n k =
+    let (h, l) = and_parts (keeps places f (pat_elements_form true c n.elems.items)) _ k in
+    let (i, j) = and_parts (keeps places f (elements_end_form true (last_is_hole n.elems.items) n.elems.items)) _ l in
+    and_from _ _ (elements_chosen places f c n.elems.items h) (and_from _ _ (end_keeps places f false (last_is_hole n.elems.items) n.elems.items) j)
+
+object_chosen : {X : Type 0} (places : Bool) (f : X → Role → Parameters → Facts) (c : Parameters) (n : ObjectPat X) → keeps places f (object_pat_form true c n) ≡ true → keeps places f (object_pat_form false c n) ≡ true
+unfolding keeps object_pat_form
+object_chosen places f c n k =
+    let (h, l) = and_parts (keeps places f (pat_props_form true c n.props.items)) _ k in
+    let (i, j) = and_parts (keeps places f (closing_form true RightBrace n.props.items)) _ l in
+    and_from _ _ (props_chosen places f c n.props.items h) (and_from _ _ (closing_keeps places f false RightBrace n.props.items) j)
+
+pat_chosen : {X : Type 0} (places : Bool) (f : X → Role → Parameters → Facts) (c : Parameters) (n : Pat X) → keeps places f (pat_form true c n) ≡ true → keeps places f (pat_form false c n) ≡ true
+unfolding pat_form
+pat_chosen places f c (pats.Array n) k = array_chosen places f c n k
+pat_chosen places f c (pats.Object n) k = object_chosen places f c n k
+pat_chosen places f c n k = k
+
+target_pat_chosen : {X : Type 0} (places : Bool) (f : X → Role → Parameters → Facts) (c : Parameters) (n : AssignTargetPat X) → keeps places f (target_pat_form true c n) ≡ true → keeps places f (target_pat_form false c n) ≡ true
+unfolding target_pat_form
+target_pat_chosen places f c (target_pats.Array n) k = array_chosen places f c n k
+target_pat_chosen places f c (target_pats.Object n) k = object_chosen places f c n k
+target_pat_chosen places f c (target_pats.Invalid n) k = k
+
+target_chosen : {X : Type 0} (places : Bool) (f : X → Role → Parameters → Facts) (c : Parameters) (n : AssignTarget X) → keeps places f (target_form true c n) ≡ true → keeps places f (target_form false c n) ≡ true
+unfolding target_form
+target_chosen places f c (targets.Simple n) k = k
+target_chosen places f c (targets.Pat n) k = target_pat_chosen places f (of_targets c) n k
+
+part_chosen : {X : Type 0} (places : Bool) (f : X → Role → Parameters → Facts) (called : Bool) (c : Parameters) (n : ExprPart X) (role : Role) →
+    keeps places f (part_form called c n role) ≡ true → keeps places f (part_form false c n role) ≡ true
+unfolding part_form
+part_chosen places f false c n role k = k
+part_chosen places f true c (expr_parts.Pat n) Pattern k = pat_chosen places f c n k
+part_chosen places f true c (expr_parts.AssignTarget n) AssignmentTarget k = target_chosen places f c n k
+part_chosen places f true c n role k = k
+
 chosen : {X : Type 0} (places : Bool) (f : X → Role → Parameters → Facts) (place : Nonterminal) (called : Bool) (c : Parameters) (n : AnyNode-F X) (role : Role) →
     Stood places f place (node_nonterminal called c n role) (node_form called c n role) →
     Stood places f place (node_nonterminal (is_called_node f c n) c n role) (node_form (is_called_node f c n) c n role)
@@ -143,7 +275,7 @@ unfolding node_nonterminal node_form is_called_node
 chosen places f place called c (nodes.Expr n) Expression w = expr_chosen places f place false called c n w
 chosen places f place called c (nodes.Expr n) Callee w = expr_chosen places f place true called c n w
 chosen places f place called c (nodes.MemberExpr n) (ChainMember optional) w = w
-chosen places f place called c (nodes.ExprPart n) role w = w
+chosen places f place called c (nodes.ExprPart n) role (s, k) = (s, part_chosen places f called c n role k)
 chosen places f place called c n role w = w
 
 -- ---- AssignmentTargetType
@@ -213,7 +345,8 @@ derived_kept places s a ts (both {a = b} {b = e} {ts = us} {us = vs} d g) =
 derived_kept places s a ts (provided {cure = cure} {condition = condition} {a = b} h d) =
     let (k, x) = derived_kept places s b ts d in
     (and_from (is_met places cure condition) (keeps places facts b) h k, x)
-derived_kept places s a ts no_comma = (refl, inl refl)
+derived_kept places s a ts closed = (refl, inl refl)
+derived_kept places s a ts comma_closed = (refl, inr refl)
 derived_kept places s a ts (bare {a = b} d) =
     let (k, x) = derived_kept places s b ts d in
     (k, inl x)
@@ -251,7 +384,7 @@ built places s g law (Both a b) k ts (us, vs, x, y, q) =
 built places s g law (Provided cure condition a) k ts x =
     let (h, l) = and_parts (is_met places cure condition) (keeps places (λ z. facts (g z)) a) k in
     provided h (built places s g law a l ts x)
-built places s g law (NoComma close) k ts x = subst (λ z. Derives places s (NoComma close) z) (sym x) no_comma
+built places s g law (Closed comma close) k ts x = subst (λ z. Derives places s (Closed comma close) z) (sym x) closed
 built places s g law (Bare a) k ts x = bare (built places s g law a k ts x)
 
 -- a node, by what its links hold

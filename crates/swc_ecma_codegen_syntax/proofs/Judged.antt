@@ -10,7 +10,7 @@ use Rattle.swc_ecma_codegen_syntax.specs.declared.parameters.Parameters.{Paramet
 use Rattle.swc_ecma_codegen_syntax.specs.declared.verdicts.Facts.{Facts}
 use Rattle.swc_ecma_codegen_syntax.specs.declared.verdicts.Verdict.{Verdict}
 use Rattle.swc_ecma_codegen_syntax.specs.Verdicts.{meet, by_rule, standing, holds}
-use Rattle.swc_ecma_codegen_syntax.specs.Forms.{Form, Fixed, Part, Simple, Both, Provided, NoComma, Bare, ByRule, forget, map_form, is_target, asked, of_part, judge, is_met, stands, keeps, each_after, listed, some_listed, element, verdict_all}
+use Rattle.swc_ecma_codegen_syntax.specs.Forms.{Form, Fixed, Part, Simple, Both, Provided, Closed, Bare, ByRule, forget, map_form, is_target, asked, of_part, judge, is_met, stands, keeps, each_after, listed, some_listed, element, verdict_all}
 use Rattle.swc_ecma_codegen_syntax.proofs.VerdictLaws.{and_true, and_assoc, holds_meet, holds_rule, holds_asked, holds_standing}
 
 part_judged : (places : Bool) (v : Verdict) (place : Nonterminal) (told : Facts) →
@@ -36,7 +36,7 @@ judged places f v (Both a b) =
 judged places f v (Provided cure condition a) =
     judged places f (asked cure v condition) a ∙ ap (λ k. k && keeps places f a) (holds_asked places cure v condition)
     ∙ and_assoc (holds places v) (is_met places cure condition) (keeps places f a)
-judged places f v (NoComma close) = sym (and_true (holds places v))
+judged places f v (Closed comma close) = sym (and_true (holds places v))
 judged places f v (Bare a) = judged places f v a
 
 -- ---- over what links hold as something else
@@ -48,7 +48,7 @@ judge_mapped g f v (Part place c role n) = refl
 judge_mapped g f v (Simple named place c n) = refl
 judge_mapped g f v (Both a b) = judge_mapped g f (judge f v (map_form g a)) b ∙ ap (λ w. judge (λ x. f (g x)) w b) (judge_mapped g f v a)
 judge_mapped g f v (Provided cure condition a) = judge_mapped g f (asked cure v condition) a
-judge_mapped g f v (NoComma close) = refl
+judge_mapped g f v (Closed comma close) = refl
 judge_mapped g f v (Bare a) = judge_mapped g f v a
 
 pub keeps_mapped : {X Y : Type 0} (places : Bool) (g : X → Y) (f : Y → Role → Parameters → Facts) (a : Form X) → keeps places f (map_form g a) ≡ keeps places (λ x. f (g x)) a
@@ -58,7 +58,7 @@ keeps_mapped places g f (Part place c role n) = refl
 keeps_mapped places g f (Simple named place c n) = refl
 keeps_mapped places g f (Both a b) = ap₂ (λ x y. x && y) (keeps_mapped places g f a) (keeps_mapped places g f b)
 keeps_mapped places g f (Provided cure condition a) = ap (λ x. is_met places cure condition && x) (keeps_mapped places g f a)
-keeps_mapped places g f (NoComma close) = refl
+keeps_mapped places g f (Closed comma close) = refl
 keeps_mapped places g f (Bare a) = keeps_mapped places g f a
 
 pub forget_mapped : {X Y : Type 0} (g : X → Y) (f : Y → Role → Phrase) (a : Form X) → forget f (map_form g a) ≡ forget (λ x. f (g x)) a
@@ -68,7 +68,7 @@ forget_mapped g f (Part place c role n) = refl
 forget_mapped g f (Simple named place c n) = refl
 forget_mapped g f (Both a b) = ap₂ Then (forget_mapped g f a) (forget_mapped g f b)
 forget_mapped g f (Provided cure condition a) = forget_mapped g f a
-forget_mapped g f (NoComma close) = refl
+forget_mapped g f (Closed comma close) = refl
 forget_mapped g f (Bare a) = ap OptionalParentheses (forget_mapped g f a)
 
 -- ---- lists

@@ -1,5 +1,5 @@
 -- The forms of patterns and targets over what links hold as something else.
-use Rattle.std.proofs.Common.{◌≡◌, Bool, true, false, refl, ◌∙◌, ap, ap₂, List, [], ◌∷◌, map, codes, Option, Some, None}
+use Rattle.std.proofs.Common.{◌≡◌, Bool, true, false, not, refl, ◌∙◌, ap, ap₂, List, [], ◌∷◌, map, codes, Option, Some, None}
 use Rattle.swc_ecma_codegen_common.specs.declared.positions.Span.{Span}
 use Rattle.swc_ecma_codegen_tree.specs.declared.links.AnyNode.{AnyNode-F, map-AnyNode}
 use Rattle.swc_ecma_codegen_tree.specs.declared.links.AnyNode.TheOpen as nodes
@@ -40,7 +40,7 @@ use Rattle.swc_ecma_codegen_syntax.specs.Parameters.{of_targets}
 use Rattle.swc_ecma_codegen_syntax.specs.Forms.{Form, Fixed, Both, Provided, ByRule, ◌⇢◌, map_form}
 use Rattle.swc_ecma_codegen_syntax.specs.NameForms.{name_form}
 use Rattle.swc_ecma_codegen_syntax.specs.MemberForms.{computed_form, prop_form, member_form, super_form, super_prop_form, annotation_form, chain_base_form, opt_chain_form}
-use Rattle.swc_ecma_codegen_syntax.specs.PatForms.{pat_part, binding_form, initializer_form, question_form, pat_element_form, pat_elements_after, pat_elements_form, closing_form, elements_end_form, array_pat_form, rest_form, assign_pat_form, key_value_pat_form, assign_pat_prop_form, pat_prop_form, pat_props_after, pat_props_form, object_pat_form, pat_form, pat_nonterminal}
+use Rattle.swc_ecma_codegen_syntax.specs.PatForms.{last_place, pat_part, binding_form, initializer_form, question_form, pat_element_form, pat_elements_after, pat_elements_form, closing_form, elements_end_form, array_pat_form, rest_form, assign_pat_form, key_value_pat_form, assign_pat_prop_form, pat_prop_form, pat_props_after, pat_props_form, object_pat_form, pat_form, pat_nonterminal}
 use Rattle.swc_ecma_codegen_syntax.specs.TargetForms.{paren_target_form, simple_target_form, target_pat_form, target_form, target_nonterminal}
 use Rattle.swc_ecma_codegen_syntax.specs.NodeForms.{node_form, part_form, node_nonterminal, part_nonterminal}
 use Rattle.swc_ecma_codegen_syntax.proofs.MappedCalls.{chain_call_mapped}
@@ -48,19 +48,19 @@ use Rattle.swc_ecma_codegen_syntax.proofs.MappedExprs.{prop_name_mapped, object_
 
 -- ---- elements
 
-elements_after_mapped : {X Y : Type 0} (g : X → Y) (k : Option (PatBox X) → Option (PatBox Y)) (c : Parameters) → ((place : Nonterminal) (o : Option (PatBox X)) → pat_element_form place c (k o) ≡ map_form g (pat_element_form place c o)) →
-    (xs : List (Option (PatBox X))) → pat_elements_after c (map k xs) ≡ map_form g (pat_elements_after c xs)
+elements_after_mapped : {X Y : Type 0} (g : X → Y) (comma : Bool) (k : Option (PatBox X) → Option (PatBox Y)) (c : Parameters) → ((place : Nonterminal) (o : Option (PatBox X)) → pat_element_form place c (k o) ≡ map_form g (pat_element_form place c o)) →
+    (xs : List (Option (PatBox X))) → pat_elements_after comma c (map k xs) ≡ map_form g (pat_elements_after comma c xs)
 unfolding pat_elements_after map_form
-elements_after_mapped g k c same [] = refl
-elements_after_mapped g k c same (x ∷ []) = ap (λ a. Fixed (mark (codes ",")) ⇢ a ⇢ Fixed Nothing) (same nt.LastElement x)
-elements_after_mapped g k c same (x ∷ y ∷ xs) = ap₂ (λ a b. Fixed (mark (codes ",")) ⇢ a ⇢ b) (same nt.PatternElement x) (elements_after_mapped g k c same (y ∷ xs))
+elements_after_mapped g comma k c same [] = refl
+elements_after_mapped g comma k c same (x ∷ []) = ap (λ a. Fixed (mark (codes ",")) ⇢ a ⇢ Fixed Nothing) (same (last_place comma) x)
+elements_after_mapped g comma k c same (x ∷ y ∷ xs) = ap₂ (λ a b. Fixed (mark (codes ",")) ⇢ a ⇢ b) (same nt.PatternElement x) (elements_after_mapped g comma k c same (y ∷ xs))
 
-elements_mapped : {X Y : Type 0} (g : X → Y) (k : Option (PatBox X) → Option (PatBox Y)) (c : Parameters) → ((place : Nonterminal) (o : Option (PatBox X)) → pat_element_form place c (k o) ≡ map_form g (pat_element_form place c o)) →
-    (xs : List (Option (PatBox X))) → pat_elements_form c (map k xs) ≡ map_form g (pat_elements_form c xs)
+elements_mapped : {X Y : Type 0} (g : X → Y) (comma : Bool) (k : Option (PatBox X) → Option (PatBox Y)) (c : Parameters) → ((place : Nonterminal) (o : Option (PatBox X)) → pat_element_form place c (k o) ≡ map_form g (pat_element_form place c o)) →
+    (xs : List (Option (PatBox X))) → pat_elements_form comma c (map k xs) ≡ map_form g (pat_elements_form comma c xs)
 unfolding pat_elements_form map_form
-elements_mapped g k c same [] = refl
-elements_mapped g k c same (x ∷ []) = ap (λ a. a ⇢ Fixed Nothing) (same nt.LastElement x)
-elements_mapped g k c same (x ∷ y ∷ xs) = ap₂ (λ a b. a ⇢ b) (same nt.PatternElement x) (elements_after_mapped g k c same (y ∷ xs))
+elements_mapped g comma k c same [] = refl
+elements_mapped g comma k c same (x ∷ []) = ap (λ a. a ⇢ Fixed Nothing) (same (last_place comma) x)
+elements_mapped g comma k c same (x ∷ y ∷ xs) = ap₂ (λ a b. a ⇢ b) (same nt.PatternElement x) (elements_after_mapped g comma k c same (y ∷ xs))
 
 element_mapped : {X Y : Type 0} (g : X → Y) (k : Option (PatBox X) → Option (PatBox Y)) (h : PatBox X → PatBox Y) (c : Parameters) → k None ≡ None → ((x : PatBox X) → k (Some x) ≡ Some (h x)) →
     ((place : Nonterminal) (x : PatBox X) → pat_part place c (h x) ≡ map_form g (pat_part place c x)) → (place : Nonterminal) (o : Option (PatBox X)) → pat_element_form place c (k o) ≡ map_form g (pat_element_form place c o)
@@ -68,48 +68,48 @@ unfolding pat_element_form map_form
 element_mapped g k h c none some same place None = ap (pat_element_form place c) none
 element_mapped g k h c none some same place (Some x) = ap (pat_element_form place c) (some x) ∙ same place x
 
-closing_mapped : {X Y A B : Type 0} (g : X → Y) (close : Closing) (h : A → B) (xs : List A) → closing_form close (map h xs) ≡ map_form g (closing_form close xs)
+closing_mapped : {X Y A B : Type 0} (g : X → Y) (comma : Bool) (close : Closing) (h : A → B) (xs : List A) → closing_form comma close (map h xs) ≡ map_form g (closing_form comma close xs)
 unfolding closing_form map_form
-closing_mapped g close h [] = refl
-closing_mapped g close h (x ∷ xs) = refl
+closing_mapped g comma close h [] = refl
+closing_mapped g comma close h (x ∷ xs) = refl
 
-end_mapped : {X Y A B : Type 0} (g : X → Y) (hole : Bool) (h : A → B) (xs : List A) → elements_end_form hole (map h xs) ≡ map_form g (elements_end_form hole xs)
+end_mapped : {X Y A B : Type 0} (g : X → Y) (comma : Bool) (hole : Bool) (h : A → B) (xs : List A) → elements_end_form comma hole (map h xs) ≡ map_form g (elements_end_form comma hole xs)
 unfolding elements_end_form map_form
-end_mapped g true h xs = refl
-end_mapped g false h xs = closing_mapped g _ h xs
+end_mapped g comma true h xs = refl
+end_mapped g comma false h xs = closing_mapped g comma _ h xs
 
 abbrev bracketed : {X : Type 0} → Form X → Form X → Form X → Form X → Form X
 bracketed elements end optional typed = Fixed (mark (codes "[")) ⇢ elements ⇢ end ⇢ optional ⇢ typed
 
-bracketed_mapped : {X Y : Type 0} (g : X → Y) (k : Option (PatBox X) → Option (PatBox Y)) (h : PatBox X → PatBox Y) (c : Parameters) (optional typed : Form Y) → k None ≡ None → ((x : PatBox X) → k (Some x) ≡ Some (h x)) →
+bracketed_mapped : {X Y : Type 0} (g : X → Y) (comma : Bool) (k : Option (PatBox X) → Option (PatBox Y)) (h : PatBox X → PatBox Y) (c : Parameters) (optional typed : Form Y) → k None ≡ None → ((x : PatBox X) → k (Some x) ≡ Some (h x)) →
     ((place : Nonterminal) (x : PatBox X) → pat_part place c (h x) ≡ map_form g (pat_part place c x)) → (xs : List (Option (PatBox X))) →
-    bracketed (pat_elements_form c (map k xs)) (elements_end_form (last_is_hole (map k xs)) (map k xs)) optional typed ≡ bracketed (map_form g (pat_elements_form c xs)) (map_form g (elements_end_form (last_is_hole xs) xs)) optional typed
-bracketed_mapped g k h c optional typed none some same xs =
-    ap₂ (λ a b. bracketed a b optional typed) (elements_mapped g k c (element_mapped g k h c none some same) xs)
-    (ap (λ b. elements_end_form b (map k xs)) (hole_mapped k h none some xs) ∙ end_mapped g (last_is_hole xs) k xs)
+    bracketed (pat_elements_form comma c (map k xs)) (elements_end_form comma (last_is_hole (map k xs)) (map k xs)) optional typed ≡ bracketed (map_form g (pat_elements_form comma c xs)) (map_form g (elements_end_form comma (last_is_hole xs) xs)) optional typed
+bracketed_mapped g comma k h c optional typed none some same xs =
+    ap₂ (λ a b. bracketed a b optional typed) (elements_mapped g comma k c (element_mapped g k h c none some same) xs)
+    (ap (λ b. elements_end_form comma b (map k xs)) (hole_mapped k h none some xs) ∙ end_mapped g comma (last_is_hole xs) k xs)
 
 -- ---- properties
 
-props_after_mapped : {X Y : Type 0} (g : X → Y) (h : ObjectPatProp X → ObjectPatProp Y) (c : Parameters) → ((last : Bool) (n : ObjectPatProp X) → pat_prop_form last c (h n) ≡ map_form g (pat_prop_form last c n)) →
-    (xs : List (ObjectPatProp X)) → pat_props_after c (map h xs) ≡ map_form g (pat_props_after c xs)
+props_after_mapped : {X Y : Type 0} (g : X → Y) (comma : Bool) (h : ObjectPatProp X → ObjectPatProp Y) (c : Parameters) → ((last : Bool) (n : ObjectPatProp X) → pat_prop_form last c (h n) ≡ map_form g (pat_prop_form last c n)) →
+    (xs : List (ObjectPatProp X)) → pat_props_after comma c (map h xs) ≡ map_form g (pat_props_after comma c xs)
 unfolding pat_props_after map_form
-props_after_mapped g h c same [] = refl
-props_after_mapped g h c same (x ∷ []) = ap (λ a. Fixed (mark (codes ",")) ⇢ a ⇢ Fixed Nothing) (same true x)
-props_after_mapped g h c same (x ∷ y ∷ xs) = ap₂ (λ a b. Fixed (mark (codes ",")) ⇢ a ⇢ b) (same false x) (props_after_mapped g h c same (y ∷ xs))
+props_after_mapped g comma h c same [] = refl
+props_after_mapped g comma h c same (x ∷ []) = ap (λ a. Fixed (mark (codes ",")) ⇢ a ⇢ Fixed Nothing) (same (not comma) x)
+props_after_mapped g comma h c same (x ∷ y ∷ xs) = ap₂ (λ a b. Fixed (mark (codes ",")) ⇢ a ⇢ b) (same false x) (props_after_mapped g comma h c same (y ∷ xs))
 
-props_mapped : {X Y : Type 0} (g : X → Y) (h : ObjectPatProp X → ObjectPatProp Y) (c : Parameters) → ((last : Bool) (n : ObjectPatProp X) → pat_prop_form last c (h n) ≡ map_form g (pat_prop_form last c n)) →
-    (xs : List (ObjectPatProp X)) → pat_props_form c (map h xs) ≡ map_form g (pat_props_form c xs)
+props_mapped : {X Y : Type 0} (g : X → Y) (comma : Bool) (h : ObjectPatProp X → ObjectPatProp Y) (c : Parameters) → ((last : Bool) (n : ObjectPatProp X) → pat_prop_form last c (h n) ≡ map_form g (pat_prop_form last c n)) →
+    (xs : List (ObjectPatProp X)) → pat_props_form comma c (map h xs) ≡ map_form g (pat_props_form comma c xs)
 unfolding pat_props_form map_form
-props_mapped g h c same [] = refl
-props_mapped g h c same (x ∷ []) = ap (λ a. a ⇢ Fixed Nothing) (same true x)
-props_mapped g h c same (x ∷ y ∷ xs) = ap₂ (λ a b. a ⇢ b) (same false x) (props_after_mapped g h c same (y ∷ xs))
+props_mapped g comma h c same [] = refl
+props_mapped g comma h c same (x ∷ []) = ap (λ a. a ⇢ Fixed Nothing) (same (not comma) x)
+props_mapped g comma h c same (x ∷ y ∷ xs) = ap₂ (λ a b. a ⇢ b) (same false x) (props_after_mapped g comma h c same (y ∷ xs))
 
 abbrev braced : {X : Type 0} → Form X → Form X → Form X → Form X → Form X
 braced props end optional typed = Fixed (mark (codes "{")) ⇢ props ⇢ end ⇢ optional ⇢ typed
 
-braced_mapped : {X Y : Type 0} (g : X → Y) (h : ObjectPatProp X → ObjectPatProp Y) (c : Parameters) (optional typed : Form Y) → ((last : Bool) (n : ObjectPatProp X) → pat_prop_form last c (h n) ≡ map_form g (pat_prop_form last c n)) →
-    (xs : List (ObjectPatProp X)) → braced (pat_props_form c (map h xs)) (closing_form RightBrace (map h xs)) optional typed ≡ braced (map_form g (pat_props_form c xs)) (map_form g (closing_form RightBrace xs)) optional typed
-braced_mapped g h c optional typed same xs = ap₂ (λ a b. braced a b optional typed) (props_mapped g h c same xs) (closing_mapped g RightBrace h xs)
+braced_mapped : {X Y : Type 0} (g : X → Y) (comma : Bool) (h : ObjectPatProp X → ObjectPatProp Y) (c : Parameters) (optional typed : Form Y) → ((last : Bool) (n : ObjectPatProp X) → pat_prop_form last c (h n) ≡ map_form g (pat_prop_form last c n)) →
+    (xs : List (ObjectPatProp X)) → braced (pat_props_form comma c (map h xs)) (closing_form comma RightBrace (map h xs)) optional typed ≡ braced (map_form g (pat_props_form comma c xs)) (map_form g (closing_form comma RightBrace xs)) optional typed
+braced_mapped g comma h c optional typed same xs = ap₂ (λ a b. braced a b optional typed) (props_mapped g comma h c same xs) (closing_mapped g comma RightBrace h xs)
 
 -- ---- patterns
 
@@ -120,10 +120,10 @@ ident_mapped g called c id None = refl
 ident_mapped g called c id (Some t) = refl
 
 array_mapped : {X Y : Type 0} (g : X → Y) (called : Bool) (c : Parameters) (n : ArrayPat X) (type_ann : Option (TsTypeAnnBox X)) →
-    node_form called c (map-AnyNode X Y g (nodes.ExprPart (expr_parts.Pat (pats.Array (record n { type_ann = type_ann }))))) Pattern ≡ map_form g (array_pat_form c (record n { type_ann = type_ann }))
+    node_form called c (map-AnyNode X Y g (nodes.ExprPart (expr_parts.Pat (pats.Array (record n { type_ann = type_ann }))))) Pattern ≡ map_form g (array_pat_form called c (record n { type_ann = type_ann }))
 unfolding node_form part_form pat_form array_pat_form question_form annotation_form map_form
-array_mapped {X} {Y} g called c n None = bracketed_mapped {X = X} {Y = Y} g _ _ c _ _ refl (λ x. refl) (λ place x. refl) n.elems.items
-array_mapped {X} {Y} g called c n (Some t) = bracketed_mapped {X = X} {Y = Y} g _ _ c _ _ refl (λ x. refl) (λ place x. refl) n.elems.items
+array_mapped {X} {Y} g called c n None = bracketed_mapped {X = X} {Y = Y} g called _ _ c _ _ refl (λ x. refl) (λ place x. refl) n.elems.items
+array_mapped {X} {Y} g called c n (Some t) = bracketed_mapped {X = X} {Y = Y} g called _ _ c _ _ refl (λ x. refl) (λ place x. refl) n.elems.items
 
 rest_mapped : {X Y : Type 0} (g : X → Y) (called : Bool) (c : Parameters) (n : RestPat X) (type_ann : Option (TsTypeAnnBox X)) →
     node_form called c (map-AnyNode X Y g (nodes.ExprPart (expr_parts.Pat (pats.Rest (record n { type_ann = type_ann }))))) Pattern ≡ map_form g (rest_form nt.PatternTarget c (record n { type_ann = type_ann }))
@@ -132,14 +132,14 @@ rest_mapped g called c n None = refl
 rest_mapped g called c n (Some t) = refl
 
 object_mapped : {X Y : Type 0} (g : X → Y) (called : Bool) (c : Parameters) (n : ObjectPat X) (type_ann : Option (TsTypeAnnBox X)) →
-    node_form called c (map-AnyNode X Y g (nodes.ExprPart (expr_parts.Pat (pats.Object (record n { type_ann = type_ann }))))) Pattern ≡ map_form g (object_pat_form c (record n { type_ann = type_ann }))
+    node_form called c (map-AnyNode X Y g (nodes.ExprPart (expr_parts.Pat (pats.Object (record n { type_ann = type_ann }))))) Pattern ≡ map_form g (object_pat_form called c (record n { type_ann = type_ann }))
 unfolding node_form part_form pat_form object_pat_form question_form pat_prop_form key_value_pat_form assign_pat_prop_form rest_form initializer_form binding_form name_form annotation_form map_form
-object_mapped {X} {Y} g called c n None = braced_mapped {X = X} {Y = Y} g _ c _ _ (λ last. by_cases {X = X} _
+object_mapped {X} {Y} g called c n None = braced_mapped {X = X} {Y = Y} g called _ c _ _ (λ last. by_cases {X = X} _
     (λ p. ap (λ a. a ⇢ Fixed (mark (codes ":")) ⇢ map_form g (pat_part nt.PatternElement c p.value)) (prop_name_mapped g called c p.key)) (λ span id. refl) (λ span id x. refl) (λ span id t. refl) (λ span id t x. refl) (λ span dots arg. refl) (λ span dots arg t. refl)) n.props.items
-object_mapped {X} {Y} g called c n (Some t) = braced_mapped {X = X} {Y = Y} g _ c _ _ (λ last. by_cases {X = X} _
+object_mapped {X} {Y} g called c n (Some t) = braced_mapped {X = X} {Y = Y} g called _ c _ _ (λ last. by_cases {X = X} _
     (λ p. ap (λ a. a ⇢ Fixed (mark (codes ":")) ⇢ map_form g (pat_part nt.PatternElement c p.value)) (prop_name_mapped g called c p.key)) (λ span id. refl) (λ span id x. refl) (λ span id t. refl) (λ span id t x. refl) (λ span dots arg. refl) (λ span dots arg t. refl)) n.props.items
 
-pat_mapped : {X Y : Type 0} (g : X → Y) (called : Bool) (c : Parameters) (n : Pat X) → node_form called c (map-AnyNode X Y g (nodes.ExprPart (expr_parts.Pat n))) Pattern ≡ map_form g (pat_form c n)
+pat_mapped : {X Y : Type 0} (g : X → Y) (called : Bool) (c : Parameters) (n : Pat X) → node_form called c (map-AnyNode X Y g (nodes.ExprPart (expr_parts.Pat n))) Pattern ≡ map_form g (pat_form called c n)
 unfolding node_form part_form pat_form assign_pat_form map_form
 pat_mapped g called c (pats.Ident n) = ident_mapped g called c n.id n.type_ann
 pat_mapped g called c (pats.Array n) = array_mapped g called c n n.type_ann
@@ -191,33 +191,33 @@ simple_target_mapped g called c (simple_targets.OptChain n) = chain_target_mappe
 simple_target_mapped g called c n = refl
 
 target_array_mapped : {X Y : Type 0} (g : X → Y) (called : Bool) (c : Parameters) (n : ArrayPat X) (type_ann : Option (TsTypeAnnBox X)) →
-    node_form called c (map-AnyNode X Y g (as_pattern (target_pats.Array (record n { type_ann = type_ann })))) AssignmentTarget ≡ map_form g (array_pat_form (of_targets c) (record n { type_ann = type_ann }))
+    node_form called c (map-AnyNode X Y g (as_pattern (target_pats.Array (record n { type_ann = type_ann })))) AssignmentTarget ≡ map_form g (array_pat_form called (of_targets c) (record n { type_ann = type_ann }))
 unfolding node_form part_form target_form target_pat_form array_pat_form question_form annotation_form map_form
-target_array_mapped {X} {Y} g called c n None = bracketed_mapped {X = X} {Y = Y} g _ _ (of_targets c) _ _ refl (λ x. refl) (λ place x. refl) n.elems.items
-target_array_mapped {X} {Y} g called c n (Some t) = bracketed_mapped {X = X} {Y = Y} g _ _ (of_targets c) _ _ refl (λ x. refl) (λ place x. refl) n.elems.items
+target_array_mapped {X} {Y} g called c n None = bracketed_mapped {X = X} {Y = Y} g called _ _ (of_targets c) _ _ refl (λ x. refl) (λ place x. refl) n.elems.items
+target_array_mapped {X} {Y} g called c n (Some t) = bracketed_mapped {X = X} {Y = Y} g called _ _ (of_targets c) _ _ refl (λ x. refl) (λ place x. refl) n.elems.items
 
 target_object_mapped : {X Y : Type 0} (g : X → Y) (called : Bool) (c : Parameters) (n : ObjectPat X) (type_ann : Option (TsTypeAnnBox X)) →
-    node_form called c (map-AnyNode X Y g (as_pattern (target_pats.Object (record n { type_ann = type_ann })))) AssignmentTarget ≡ map_form g (object_pat_form (of_targets c) (record n { type_ann = type_ann }))
+    node_form called c (map-AnyNode X Y g (as_pattern (target_pats.Object (record n { type_ann = type_ann })))) AssignmentTarget ≡ map_form g (object_pat_form called (of_targets c) (record n { type_ann = type_ann }))
 unfolding node_form part_form target_form target_pat_form object_pat_form question_form pat_prop_form key_value_pat_form assign_pat_prop_form rest_form initializer_form binding_form name_form annotation_form map_form
-target_object_mapped {X} {Y} g called c n None = braced_mapped {X = X} {Y = Y} g _ (of_targets c) _ _ (λ last. by_cases {X = X} _
+target_object_mapped {X} {Y} g called c n None = braced_mapped {X = X} {Y = Y} g called _ (of_targets c) _ _ (λ last. by_cases {X = X} _
     (λ p. ap (λ a. a ⇢ Fixed (mark (codes ":")) ⇢ map_form g (pat_part nt.PatternElement (of_targets c) p.value)) (prop_name_mapped g called (of_targets c) p.key)) (λ span id. refl) (λ span id x. refl) (λ span id t. refl) (λ span id t x. refl) (λ span dots arg. refl) (λ span dots arg t. refl)) n.props.items
-target_object_mapped {X} {Y} g called c n (Some t) = braced_mapped {X = X} {Y = Y} g _ (of_targets c) _ _ (λ last. by_cases {X = X} _
+target_object_mapped {X} {Y} g called c n (Some t) = braced_mapped {X = X} {Y = Y} g called _ (of_targets c) _ _ (λ last. by_cases {X = X} _
     (λ p. ap (λ a. a ⇢ Fixed (mark (codes ":")) ⇢ map_form g (pat_part nt.PatternElement (of_targets c) p.value)) (prop_name_mapped g called (of_targets c) p.key)) (λ span id. refl) (λ span id x. refl) (λ span id t. refl) (λ span id t x. refl) (λ span dots arg. refl) (λ span dots arg t. refl)) n.props.items
 
-target_pat_mapped : {X Y : Type 0} (g : X → Y) (called : Bool) (c : Parameters) (n : AssignTargetPat X) → node_form called c (map-AnyNode X Y g (as_pattern n)) AssignmentTarget ≡ map_form g (target_pat_form (of_targets c) n)
+target_pat_mapped : {X Y : Type 0} (g : X → Y) (called : Bool) (c : Parameters) (n : AssignTargetPat X) → node_form called c (map-AnyNode X Y g (as_pattern n)) AssignmentTarget ≡ map_form g (target_pat_form called (of_targets c) n)
 unfolding node_form part_form target_form target_pat_form map_form
 target_pat_mapped g called c (target_pats.Array n) = target_array_mapped g called c n n.type_ann
 target_pat_mapped g called c (target_pats.Object n) = target_object_mapped g called c n n.type_ann
 target_pat_mapped g called c (target_pats.Invalid n) = refl
 
-target_mapped : {X Y : Type 0} (g : X → Y) (called : Bool) (c : Parameters) (n : AssignTarget X) → node_form called c (map-AnyNode X Y g (nodes.ExprPart (expr_parts.AssignTarget n))) AssignmentTarget ≡ map_form g (target_form c n)
+target_mapped : {X Y : Type 0} (g : X → Y) (called : Bool) (c : Parameters) (n : AssignTarget X) → node_form called c (map-AnyNode X Y g (nodes.ExprPart (expr_parts.AssignTarget n))) AssignmentTarget ≡ map_form g (target_form called c n)
 unfolding node_form part_form target_form
 target_mapped g called c (targets.Simple n) = simple_target_mapped g called c n
 target_mapped g called c (targets.Pat n) = target_pat_mapped g called c n
 
 -- ---- parts
 
-pub part_mapped : {X Y : Type 0} (g : X → Y) (called : Bool) (c : Parameters) (n : ExprPart X) (role : Role) → node_form called c (map-AnyNode X Y g (nodes.ExprPart n)) role ≡ map_form g (part_form c n role)
+pub part_mapped : {X Y : Type 0} (g : X → Y) (called : Bool) (c : Parameters) (n : ExprPart X) (role : Role) → node_form called c (map-AnyNode X Y g (nodes.ExprPart n)) role ≡ map_form g (part_form called c n role)
 unfolding node_form part_form map_form
 part_mapped g called c (expr_parts.Pat n) Pattern = pat_mapped g called c n
 part_mapped g called c (expr_parts.ObjectLit n) ObjectLiteral = object_part_mapped g called c n

@@ -1,5 +1,5 @@
 -- Without nonterminals the forms of patterns, of targets and of whole nodes are today's productions, where they keep their structure.
-use Rattle.std.proofs.Common.{◌≡◌, Bool, true, false, ◌&&◌, refl, sym, ◌∙◌, ap, ap₂, List, [], ◌∷◌, map, codes, Option, Some, None}
+use Rattle.std.proofs.Common.{◌≡◌, Bool, true, false, not, ◌&&◌, refl, sym, ◌∙◌, ap, ap₂, List, [], ◌∷◌, map, codes, Option, Some, None}
 use Rattle.std.proofs.lemmas.Bool.{true≢false, and_parts}
 use Rattle.swc_ecma_codegen_tree.specs.Links.{ExprBox, PatBox}
 use Rattle.swc_ecma_codegen_tree.specs.declared.links.AnyNode.{AnyNode-F}
@@ -43,7 +43,7 @@ use Rattle.swc_ecma_codegen_syntax.specs.Parameters.{of_targets}
 use Rattle.swc_ecma_codegen_syntax.specs.Forms.{Form, forget, keeps, is_met}
 use Rattle.swc_ecma_codegen_syntax.specs.NameForms.{name_form}
 use Rattle.swc_ecma_codegen_syntax.specs.MemberForms.{annotation_form}
-use Rattle.swc_ecma_codegen_syntax.specs.PatForms.{binding_form, initializer_form, question_form, pat_element_form, pat_elements_after, pat_elements_form, closing_form, elements_end_form, array_pat_form, rest_form, assign_pat_form, key_value_pat_form, assign_pat_prop_form, pat_prop_form, pat_props_after, pat_props_form, object_pat_form, pat_form}
+use Rattle.swc_ecma_codegen_syntax.specs.PatForms.{last_place, binding_form, initializer_form, question_form, pat_element_form, pat_elements_after, pat_elements_form, closing_form, elements_end_form, array_pat_form, rest_form, assign_pat_form, key_value_pat_form, assign_pat_prop_form, pat_prop_form, pat_props_after, pat_props_form, object_pat_form, pat_form}
 use Rattle.swc_ecma_codegen_syntax.specs.TargetForms.{paren_target_form, simple_target_form, target_pat_form, target_form}
 use Rattle.swc_ecma_codegen_syntax.specs.ExprForms.{expr_form}
 use Rattle.swc_ecma_codegen_syntax.specs.NodeForms.{part_form, node_form}
@@ -65,33 +65,33 @@ unfolding forget pat_element_form elements.element
 element_forgets p place c None = refl
 element_forgets p place c (Some n) = refl
 
-elements_after_forget : {X : Type 0} (p : X → Role → Phrase) (c : Parameters) (xs : List (Option (PatBox X))) → forget p (pat_elements_after c xs) ≡ phrases.each_after (codes ",") (map (elements.element (pat_at p)) xs)
+elements_after_forget : {X : Type 0} (p : X → Role → Phrase) (comma : Bool) (c : Parameters) (xs : List (Option (PatBox X))) → forget p (pat_elements_after comma c xs) ≡ phrases.each_after (codes ",") (map (elements.element (pat_at p)) xs)
 unfolding forget pat_elements_after phrases.each_after
-elements_after_forget p c [] = refl
-elements_after_forget p c (x ∷ []) = ap (λ q. mark (codes ",") > q > phrases.Nothing) (element_forgets p nt.LastElement c x)
-elements_after_forget p c (x ∷ y ∷ xs) = ap₂ (λ q r. mark (codes ",") > q > r) (element_forgets p nt.PatternElement c x) (elements_after_forget p c (y ∷ xs))
+elements_after_forget p comma c [] = refl
+elements_after_forget p comma c (x ∷ []) = ap (λ q. mark (codes ",") > q > phrases.Nothing) (element_forgets p (last_place comma) c x)
+elements_after_forget p comma c (x ∷ y ∷ xs) = ap₂ (λ q r. mark (codes ",") > q > r) (element_forgets p nt.PatternElement c x) (elements_after_forget p comma c (y ∷ xs))
 
-elements_forget : {X : Type 0} (p : X → Role → Phrase) (c : Parameters) (xs : List (Option (PatBox X))) → forget p (pat_elements_form c xs) ≡ phrases.listed (codes ",") (map (elements.element (pat_at p)) xs)
+elements_forget : {X : Type 0} (p : X → Role → Phrase) (comma : Bool) (c : Parameters) (xs : List (Option (PatBox X))) → forget p (pat_elements_form comma c xs) ≡ phrases.listed (codes ",") (map (elements.element (pat_at p)) xs)
 unfolding forget pat_elements_form phrases.listed phrases.each_after
-elements_forget p c [] = refl
-elements_forget p c (x ∷ []) = ap (λ q. q > phrases.Nothing) (element_forgets p nt.LastElement c x)
-elements_forget p c (x ∷ y ∷ xs) = ap₂ (λ q r. q > r) (element_forgets p nt.PatternElement c x) (elements_after_forget p c (y ∷ xs))
+elements_forget p comma c [] = refl
+elements_forget p comma c (x ∷ []) = ap (λ q. q > phrases.Nothing) (element_forgets p (last_place comma) c x)
+elements_forget p comma c (x ∷ y ∷ xs) = ap₂ (λ q r. q > r) (element_forgets p nt.PatternElement c x) (elements_after_forget p comma c (y ∷ xs))
 
-closing_forgets : {X A : Type 0} (p : X → Role → Phrase) (close : Closing) (xs : List A) → forget p (closing_form close xs) ≡ closing_of close xs
+closing_forgets : {X A : Type 0} (p : X → Role → Phrase) (comma : Bool) (close : Closing) (xs : List A) → forget p (closing_form comma close xs) ≡ closing_of close xs
 unfolding forget closing_form closing_of
-closing_forgets p close [] = refl
-closing_forgets p close (x ∷ xs) = refl
+closing_forgets p comma close [] = refl
+closing_forgets p comma close (x ∷ xs) = refl
 
-end_forgets : {X A : Type 0} (p : X → Role → Phrase) (hole : Bool) (xs : List A) → forget p (elements_end_form hole xs) ≡ elements_end hole xs
+end_forgets : {X A : Type 0} (p : X → Role → Phrase) (comma : Bool) (hole : Bool) (xs : List A) → forget p (elements_end_form comma hole xs) ≡ elements_end hole xs
 unfolding forget elements_end_form elements_end
-end_forgets p true xs = refl
-end_forgets p false xs = closing_forgets p RightBracket xs
+end_forgets p comma true xs = refl
+end_forgets p comma false xs = closing_forgets p comma RightBracket xs
 
-array_forgets : {X : Type 0} (p : X → Role → Phrase) (c : Parameters) (n : ArrayPat X) → forget p (array_pat_form c n) ≡ array_pat p n
+array_forgets : {X : Type 0} (p : X → Role → Phrase) (comma : Bool) (c : Parameters) (n : ArrayPat X) → forget p (array_pat_form comma c n) ≡ array_pat p n
 unfolding forget array_pat_form question_form array_pat
-array_forgets p c n =
-    ap₂ (λ q r. mark (codes "[") > q > r) (elements_forget p c n.elems.items)
-    (ap₂ (λ q r. q > question n.optional > r) (end_forgets p (last_is_hole n.elems.items) n.elems.items) (annotation_forgets p c n.type_ann))
+array_forgets p comma c n =
+    ap₂ (λ q r. mark (codes "[") > q > r) (elements_forget p comma c n.elems.items)
+    (ap₂ (λ q r. q > question n.optional > r) (end_forgets p comma (last_is_hole n.elems.items) n.elems.items) (annotation_forgets p c n.type_ann))
 
 -- ---- properties
 
@@ -105,41 +105,41 @@ prop_forgets p last c (pat_props.KeyValue n) = ap (λ q. q > mark (codes ":") > 
 prop_forgets p last c (pat_props.Assign n) = ap₂ Then (binding_forgets p c n.key) (initializer_forgets p c n.value)
 prop_forgets p last c (pat_props.Rest n) = rest_forgets p nt.PatternName c n
 
-props_after_forget : {X : Type 0} (p : X → Role → Phrase) (c : Parameters) (xs : List (ObjectPatProp X)) → forget p (pat_props_after c xs) ≡ phrases.each_after (codes ",") (map (object_pat_prop p) xs)
+props_after_forget : {X : Type 0} (p : X → Role → Phrase) (comma : Bool) (c : Parameters) (xs : List (ObjectPatProp X)) → forget p (pat_props_after comma c xs) ≡ phrases.each_after (codes ",") (map (object_pat_prop p) xs)
 unfolding forget pat_props_after phrases.each_after
-props_after_forget p c [] = refl
-props_after_forget p c (x ∷ []) = ap (λ q. mark (codes ",") > q > phrases.Nothing) (prop_forgets p true c x)
-props_after_forget p c (x ∷ y ∷ xs) = ap₂ (λ q r. mark (codes ",") > q > r) (prop_forgets p false c x) (props_after_forget p c (y ∷ xs))
+props_after_forget p comma c [] = refl
+props_after_forget p comma c (x ∷ []) = ap (λ q. mark (codes ",") > q > phrases.Nothing) (prop_forgets p (not comma) c x)
+props_after_forget p comma c (x ∷ y ∷ xs) = ap₂ (λ q r. mark (codes ",") > q > r) (prop_forgets p false c x) (props_after_forget p comma c (y ∷ xs))
 
-props_forget : {X : Type 0} (p : X → Role → Phrase) (c : Parameters) (xs : List (ObjectPatProp X)) → forget p (pat_props_form c xs) ≡ phrases.listed (codes ",") (map (object_pat_prop p) xs)
+props_forget : {X : Type 0} (p : X → Role → Phrase) (comma : Bool) (c : Parameters) (xs : List (ObjectPatProp X)) → forget p (pat_props_form comma c xs) ≡ phrases.listed (codes ",") (map (object_pat_prop p) xs)
 unfolding forget pat_props_form phrases.listed phrases.each_after
-props_forget p c [] = refl
-props_forget p c (x ∷ []) = ap (λ q. q > phrases.Nothing) (prop_forgets p true c x)
-props_forget p c (x ∷ y ∷ xs) = ap₂ (λ q r. q > r) (prop_forgets p false c x) (props_after_forget p c (y ∷ xs))
+props_forget p comma c [] = refl
+props_forget p comma c (x ∷ []) = ap (λ q. q > phrases.Nothing) (prop_forgets p (not comma) c x)
+props_forget p comma c (x ∷ y ∷ xs) = ap₂ (λ q r. q > r) (prop_forgets p false c x) (props_after_forget p comma c (y ∷ xs))
 
-object_pat_forgets : {X : Type 0} (p : X → Role → Phrase) (c : Parameters) (n : ObjectPat X) → forget p (object_pat_form c n) ≡ object_pat p n
+object_pat_forgets : {X : Type 0} (p : X → Role → Phrase) (comma : Bool) (c : Parameters) (n : ObjectPat X) → forget p (object_pat_form comma c n) ≡ object_pat p n
 unfolding forget object_pat_form question_form object_pat
-object_pat_forgets p c n =
-    ap₂ (λ q r. mark (codes "{") > q > r) (props_forget p c n.props.items)
-    (ap₂ (λ q r. q > question n.optional > r) (closing_forgets p RightBrace n.props.items) (annotation_forgets p c n.type_ann))
+object_pat_forgets p comma c n =
+    ap₂ (λ q r. mark (codes "{") > q > r) (props_forget p comma c n.props.items)
+    (ap₂ (λ q r. q > question n.optional > r) (closing_forgets p comma RightBrace n.props.items) (annotation_forgets p c n.type_ann))
 
 -- ---- patterns and targets
 
-pub pat_forgets : {X : Type 0} (p : X → Role → Phrase) (c : Parameters) (n : Pat X) → forget p (pat_form c n) ≡ pat p n
+pub pat_forgets : {X : Type 0} (p : X → Role → Phrase) (comma : Bool) (c : Parameters) (n : Pat X) → forget p (pat_form comma c n) ≡ pat p n
 unfolding forget pat_form assign_pat_form pat assign_pat
-pat_forgets p c (pats.Ident n) = binding_forgets p c n
-pat_forgets p c (pats.Array n) = array_forgets p c n
-pat_forgets p c (pats.Rest n) = rest_forgets p nt.PatternTarget c n
-pat_forgets p c (pats.Object n) = object_pat_forgets p c n
-pat_forgets p c (pats.Assign n) = refl
-pat_forgets p c (pats.Invalid n) = refl
-pat_forgets p c (pats.Expr n) = refl
+pat_forgets p comma c (pats.Ident n) = binding_forgets p c n
+pat_forgets p comma c (pats.Array n) = array_forgets p comma c n
+pat_forgets p comma c (pats.Rest n) = rest_forgets p nt.PatternTarget c n
+pat_forgets p comma c (pats.Object n) = object_pat_forgets p comma c n
+pat_forgets p comma c (pats.Assign n) = refl
+pat_forgets p comma c (pats.Invalid n) = refl
+pat_forgets p comma c (pats.Expr n) = refl
 
-pub target_pat_forgets : {X : Type 0} (p : X → Role → Phrase) (c : Parameters) (n : AssignTargetPat X) → forget p (target_pat_form c n) ≡ assign_target_pat p n
+pub target_pat_forgets : {X : Type 0} (p : X → Role → Phrase) (comma : Bool) (c : Parameters) (n : AssignTargetPat X) → forget p (target_pat_form comma c n) ≡ assign_target_pat p n
 unfolding forget target_pat_form assign_target_pat
-target_pat_forgets p c (target_pats.Array n) = array_forgets p c n
-target_pat_forgets p c (target_pats.Object n) = object_pat_forgets p c n
-target_pat_forgets p c (target_pats.Invalid n) = refl
+target_pat_forgets p comma c (target_pats.Array n) = array_forgets p comma c n
+target_pat_forgets p comma c (target_pats.Object n) = object_pat_forgets p comma c n
+target_pat_forgets p comma c (target_pats.Invalid n) = refl
 
 simple_forgets : {X : Type 0} (places : Bool) (f : X → Role → Parameters → Facts) (p : X → Role → Phrase) (c : Parameters) (n : SimpleAssignTarget X) → keeps places f (simple_target_form c n) ≡ true → forget p (simple_target_form c n) ≡ simple_assign_target p n
 unfolding forget keeps is_met simple_target_form paren_target_form simple_assign_target paren_expr
@@ -151,23 +151,23 @@ simple_forgets places f p c (simple_targets.OptChain n) k = chain_forgets p c n
 simple_forgets places f p c (simple_targets.Invalid n) k = refl
 simple_forgets places f p c n k = absurd (true≢false (sym k))
 
-pub target_forgets : {X : Type 0} (places : Bool) (f : X → Role → Parameters → Facts) (p : X → Role → Phrase) (c : Parameters) (n : AssignTarget X) → keeps places f (target_form c n) ≡ true → forget p (target_form c n) ≡ assign_target p n
+pub target_forgets : {X : Type 0} (comma places : Bool) (f : X → Role → Parameters → Facts) (p : X → Role → Phrase) (c : Parameters) (n : AssignTarget X) → keeps places f (target_form comma c n) ≡ true → forget p (target_form comma c n) ≡ assign_target p n
 unfolding target_form assign_target
-target_forgets places f p c (targets.Simple n) k = simple_forgets places f p (of_targets c) n k
-target_forgets places f p c (targets.Pat n) k = target_pat_forgets p (of_targets c) n
+target_forgets comma places f p c (targets.Simple n) k = simple_forgets places f p (of_targets c) n k
+target_forgets comma places f p c (targets.Pat n) k = target_pat_forgets p comma (of_targets c) n
 
 -- ---- nodes
 
-part_forgets : {X : Type 0} (places : Bool) (f : X → Role → Parameters → Facts) (p : X → Role → Phrase) (c : Parameters) (n : ExprPart X) (role : Role) → keeps places f (part_form c n role) ≡ true → forget p (part_form c n role) ≡ expr_part p n role
+part_forgets : {X : Type 0} (comma places : Bool) (f : X → Role → Parameters → Facts) (p : X → Role → Phrase) (c : Parameters) (n : ExprPart X) (role : Role) → keeps places f (part_form comma c n role) ≡ true → forget p (part_form comma c n role) ≡ expr_part p n role
 unfolding keeps is_met part_form expr_part
-part_forgets places f p c (expr_parts.Pat n) Pattern k = pat_forgets p c n
-part_forgets places f p c (expr_parts.ObjectLit n) ObjectLiteral k = object_forgets places f p c n k
-part_forgets places f p c (expr_parts.PropName n) PropertyName k = prop_name_forgets p c n
-part_forgets places f p c (expr_parts.OptCall n) (ChainCall optional) k = chain_call_forgets p c optional n
-part_forgets places f p c (expr_parts.AssignTarget n) AssignmentTarget k = target_forgets places f p c n k
-part_forgets places f p c (expr_parts.Tpl n) Template k = tpl_forgets p c false n
-part_forgets places f p c (expr_parts.Tpl n) TaggedTemplate k = tpl_forgets p c true n
-part_forgets places f p c n role k = absurd (true≢false (sym k))
+part_forgets comma places f p c (expr_parts.Pat n) Pattern k = pat_forgets p comma c n
+part_forgets comma places f p c (expr_parts.ObjectLit n) ObjectLiteral k = object_forgets places f p c n k
+part_forgets comma places f p c (expr_parts.PropName n) PropertyName k = prop_name_forgets p c n
+part_forgets comma places f p c (expr_parts.OptCall n) (ChainCall optional) k = chain_call_forgets p c optional n
+part_forgets comma places f p c (expr_parts.AssignTarget n) AssignmentTarget k = target_forgets comma places f p c n k
+part_forgets comma places f p c (expr_parts.Tpl n) Template k = tpl_forgets p c false n
+part_forgets comma places f p c (expr_parts.Tpl n) TaggedTemplate k = tpl_forgets p c true n
+part_forgets comma places f p c n role k = absurd (true≢false (sym k))
 
 callee_forgets : {X : Type 0} (places : Bool) (f : X → Role → Parameters → Facts) (p : X → Role → Phrase) (called : Bool) (c : Parameters) (n : Expr X) → keeps places f (expr_form true called c n) ≡ true → forget p (expr_form true called c n) ≡ expr_in p true n
 unfolding expr_form expr_in
@@ -180,5 +180,5 @@ unfolding keeps is_met node_form node_phrase
 node_forgets places f p called c (nodes.Expr n) Expression k = expr_forgets places f p called c n k
 node_forgets places f p called c (nodes.Expr n) Callee k = callee_forgets places f p called c n k
 node_forgets places f p called c (nodes.MemberExpr n) (ChainMember optional) k = chain_member_forgets p c optional n
-node_forgets places f p called c (nodes.ExprPart n) role k = part_forgets places f p c n role k
+node_forgets places f p called c (nodes.ExprPart n) role k = part_forgets called places f p c n role k
 node_forgets places f p called c n role k = absurd (true≢false (sym k))

@@ -99,7 +99,7 @@ part_facts_mapped : {X Y : Type 0} (g : X → Y) (f : Y → Role → Parameters 
 unfolding part_facts
 part_facts_mapped {X} {Y} g f c n role =
     ap (λ t. other_facts t (judge f unasked (node_form false c (map-AnyNode X Y g (nodes.ExprPart n)) role))) (part_sort_mapped g false c n role)
-    ∙ ap (other_facts (part_nonterminal n role)) (ap (judge f unasked) (part_mapped g false c n role) ∙ judge_mapped g f unasked (part_form c n role))
+    ∙ ap (other_facts (part_nonterminal n role)) (ap (judge f unasked) (part_mapped g false c n role) ∙ judge_mapped g f unasked (part_form false c n role))
 
 pub facts_mapped : {X Y : Type 0} (g : X → Y) (f : Y → Role → Parameters → Facts) (n : AnyNode-F X) (role : Role) (c : Parameters) → node_facts f (map-AnyNode X Y g n) role c ≡ node_facts (λ x. f (g x)) n role c
 unfolding node_facts expr_facts part_facts is_called_node is_simple_node is_name_node node_form node_nonterminal

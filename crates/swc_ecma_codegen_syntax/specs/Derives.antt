@@ -6,6 +6,7 @@ use Rattle.swc_ecma_codegen_tree.specs.declared.exprs.Expr.{Expr}
 use Rattle.swc_ecma_codegen_tree.specs.declared.parts.ExprPart.TheVariants as expr_parts
 use Rattle.swc_ecma_codegen_tree.specs.declared.pats.Pat.{Pat}
 use Rattle.swc_ecma_codegen_grammar.specs.Phrases.{Phrase, Closing, Choice, Never, Nothing, One, NameOf, KeyOf, PrivateOf, TagNameOf, Then, CommaBefore, OptionalParentheses, Chosen, closing_mark, closing_token, mark, Generates}
+use Rattle.swc_ecma_codegen_grammar.specs.Phrases as phrases
 use Rattle.swc_ecma_codegen_grammar.specs.PatPhrases.{pat}
 use Rattle.swc_ecma_codegen_grammar.specs.Settings.{Settings}
 use Rattle.swc_ecma_codegen_grammar.specs.Tokens.{Token}
@@ -16,10 +17,11 @@ use Rattle.swc_ecma_codegen_syntax.specs.declared.nonterminals.Nonterminal.{Nont
 use Rattle.swc_ecma_codegen_syntax.specs.declared.parameters.Parameters.{Parameters}
 use Rattle.swc_ecma_codegen_syntax.specs.declared.verdicts.Verdict.{Verdict}
 use Rattle.swc_ecma_codegen_syntax.specs.Verdicts.{unasked}
-use Rattle.swc_ecma_codegen_syntax.specs.Forms.{of_part, Form, Fixed, Part, Simple, Both, Provided, NoComma, Bare, Cure, is_met, stands}
+use Rattle.swc_ecma_codegen_syntax.specs.Forms.{of_part, Form, Fixed, Part, Simple, Both, Provided, Closed, Bare, Cure, is_met, stands}
 use Rattle.swc_ecma_codegen_syntax.specs.NodeForms.{node_nonterminal, node_form, is_simple, is_name_node, expr_facts, part_facts, facts}
 
--- A form derives a list. A part is derived by a production of its node, whose nonterminal stands where the place wants one: by unit productions.
+-- A form derives a list. A part is derived by a production of its node (`other` chooses between two: a member's, by a MemberExpression or a
+-- CallExpression, and a pattern's, where no comma may stand before its closing mark, or one may), whose nonterminal stands where the place wants one: by unit productions.
 -- Where `places` is false a part may stand where only parentheses would let it.
 pub data Derives (places : Bool) (s : Settings) : Form AnyNode → List Token → Type 0 where
   fixed : {p : Phrase} {ts : List Token} → Generates s p ts → Derives places s (Fixed p) ts
@@ -32,7 +34,8 @@ pub data Derives (places : Bool) (s : Settings) : Form AnyNode → List Token �
   both : {a b : Form AnyNode} {ts us : List Token} → Derives places s a ts → Derives places s b us → Derives places s (Both a b) (ts ++ us)
   provided : {cure : Cure} {condition : Bool} {a : Form AnyNode} {ts : List Token} → is_met places cure condition ≡ true → Derives places s a ts →
       Derives places s (Provided cure condition a) ts
-  no_comma : {close : Closing} → Derives places s (NoComma close) (closing_token close ∷ [])
+  closed : {comma : Bool} {close : Closing} → Derives places s (Closed comma close) (closing_token close ∷ [])
+  comma_closed : {close : Closing} → Derives places s (Closed true close) (phrases.comma ∷ closing_token close ∷ [])
   bare : {a : Form AnyNode} {ts : List Token} → Derives places s a ts → Derives places s (Bare a) ts
 
 -- an expression by itself, as a nonterminal with its parameters, under settings that minify where these say so

@@ -17,7 +17,8 @@ pub data Cure : Type 0 where
   ByScope : Cure
 
 -- What has no parts; a part, by what a link holds, as a nonterminal with its parameters; an expression whose AssignmentTargetType is simple,
--- and which is no name unless `named`; one and then another; on a condition; `[a, ...b]`, whose bracket no comma stands before; what
+-- and which is no name unless `named`; one and then another; on a condition; a closing mark, and whether a comma may stand before
+-- it, as in `[a,] = b`; what
 -- may stand in parentheses that no production has.
 pub data Form (X : Type 0) : Type 0 where
   Fixed : (phrase : Phrase) → Form X
@@ -25,7 +26,7 @@ pub data Form (X : Type 0) : Type 0 where
   Simple : (named : Bool) → (place : Nonterminal) → (parameters : Parameters) → (node : X) → Form X
   Both : (first second : Form X) → Form X
   Provided : (cure : Cure) → (condition : Bool) → (form : Form X) → Form X
-  NoComma : (close : Closing) → Form X
+  Closed : (comma : Bool) → (close : Closing) → Form X
   Bare : (form : Form X) → Form X
 
 infixr 20 ◌⇢◌
@@ -39,7 +40,7 @@ forget f (Part place parameters role n) = f n role
 forget f (Simple named place parameters n) = f n Expression
 forget f (Both a b) = Then (forget f a) (forget f b)
 forget f (Provided cure condition a) = forget f a
-forget f (NoComma close) = CommaBefore close
+forget f (Closed comma close) = CommaBefore close
 forget f (Bare a) = OptionalParentheses (forget f a)
 
 -- the same over what links hold as something else
@@ -49,7 +50,7 @@ map_form g (Part place parameters role n) = Part place parameters role (g n)
 map_form g (Simple named place parameters n) = Simple named place parameters (g n)
 map_form g (Both a b) = Both (map_form g a) (map_form g b)
 map_form g (Provided cure condition a) = Provided cure condition (map_form g a)
-map_form g (NoComma close) = NoComma close
+map_form g (Closed comma close) = Closed comma close
 map_form g (Bare a) = Bare (map_form g a)
 
 -- ---- what the check says of a form, where f says what is told of a part
@@ -72,7 +73,7 @@ judge f v (Part place parameters role n) = of_part place v (f n role parameters)
 judge f v (Simple named place parameters n) = of_part place (by_rule v (is_target named (f n Expression parameters))) (f n Expression parameters)
 judge f v (Both a b) = judge f (judge f v a) b
 judge f v (Provided cure condition a) = judge f (asked cure v condition) a
-judge f v (NoComma close) = v
+judge f v (Closed comma close) = v
 judge f v (Bare a) = judge f v a
 
 -- the same, as a condition; `places` says whether a missing parenthesis counts
@@ -92,7 +93,7 @@ keeps places f (Simple named place parameters n) =
     && (stands places place (f n Expression parameters).nonterminal && holds places (f n Expression parameters).verdict)
 keeps places f (Both a b) = keeps places f a && keeps places f b
 keeps places f (Provided cure condition a) = is_met places cure condition && keeps places f a
-keeps places f (NoComma close) = true
+keeps places f (Closed comma close) = true
 keeps places f (Bare a) = keeps places f a
 
 -- ---- lists

@@ -40,17 +40,18 @@ part_nonterminal (expr_parts.Tpl n) Template = nt.TemplateLiteral
 part_nonterminal (expr_parts.Tpl n) TaggedTemplate = nt.TemplateLiteral
 part_nonterminal n role = nt.Uncovered
 
-unfoldable pub part_form : {X : Type 0} → Parameters → ExprPart X → Role → Form X
-part_form c (expr_parts.Pat n) Pattern = pat_form c n
-part_form c (expr_parts.ObjectLit n) ObjectLiteral = object_form c n
-part_form c (expr_parts.PropName n) PropertyName = prop_name_form c n
-part_form c (expr_parts.OptCall n) (ChainCall optional) = chain_call_form c optional n
-part_form c (expr_parts.AssignTarget n) AssignmentTarget = target_form c n
-part_form c (expr_parts.Tpl n) Template = tpl_form c false n
-part_form c (expr_parts.Tpl n) TaggedTemplate = tpl_form c true n
-part_form c n role = missing_form
+unfoldable pub part_form : {X : Type 0} → Bool → Parameters → ExprPart X → Role → Form X
+part_form comma c (expr_parts.Pat n) Pattern = pat_form comma c n
+part_form comma c (expr_parts.ObjectLit n) ObjectLiteral = object_form c n
+part_form comma c (expr_parts.PropName n) PropertyName = prop_name_form c n
+part_form comma c (expr_parts.OptCall n) (ChainCall optional) = chain_call_form c optional n
+part_form comma c (expr_parts.AssignTarget n) AssignmentTarget = target_form comma c n
+part_form comma c (expr_parts.Tpl n) Template = tpl_form c false n
+part_form comma c (expr_parts.Tpl n) TaggedTemplate = tpl_form c true n
+part_form comma c n role = missing_form
 
--- The nonterminal whose production derives a node, and the production. `called` chooses between the two that a member has.
+-- The nonterminal whose production derives a node, and the production. `called` chooses between the two
+-- that a member has, and says of a pattern whether a comma stands before its closing mark.
 unfoldable pub node_nonterminal : {X : Type 0} → Bool → Parameters → AnyNode-F X → Role → Nonterminal
 node_nonterminal called c (nodes.Expr n) Expression = expr_nonterminal false called c n
 node_nonterminal called c (nodes.Expr n) Callee = expr_nonterminal true called c n
@@ -62,7 +63,7 @@ unfoldable pub node_form : {X : Type 0} → Bool → Parameters → AnyNode-F X 
 node_form called c (nodes.Expr n) Expression = expr_form false called c n
 node_form called c (nodes.Expr n) Callee = expr_form true called c n
 node_form called c (nodes.MemberExpr n) (ChainMember optional) = chain_member_form c optional n
-node_form called c (nodes.ExprPart n) role = part_form c n role
+node_form called c (nodes.ExprPart n) role = part_form called c n role
 node_form called c n role = missing_form
 
 -- ---- AssignmentTargetType, section 8.6.4
@@ -122,7 +123,7 @@ abbrev pub target_facts : Nonterminal → Verdict → Facts
 target_facts nonterminal verdict = record { nonterminal = nonterminal; is_simple = true; is_name = false; verdict = verdict }
 
 unfoldable pub part_facts : {X : Type 0} → (X → Role → Parameters → Facts) → Parameters → ExprPart X → Role → Facts
-part_facts f c n role = other_facts (part_nonterminal n role) (judge f unasked (part_form c n role))
+part_facts f c n role = other_facts (part_nonterminal n role) (judge f unasked (part_form false c n role))
 
 abbrev pub no_facts : Facts
 no_facts = other_facts nt.Uncovered (record { covered = false; curable = true; parenthesized = true })

@@ -20,7 +20,7 @@ use Rattle.swc_ecma_codegen_syntax.specs.declared.nonterminals.Nonterminal.{Nont
 use Rattle.swc_ecma_codegen_syntax.specs.declared.nonterminals.Nonterminal.TheVariants as nt
 use Rattle.swc_ecma_codegen_syntax.specs.declared.parameters.Parameters.{Parameters}
 use Rattle.swc_ecma_codegen_syntax.specs.Parameters.{with_in}
-use Rattle.swc_ecma_codegen_syntax.specs.Forms.{Form, Fixed, Part, Simple, Provided, NoComma, ByRule, ByScope, ◌⇢◌}
+use Rattle.swc_ecma_codegen_syntax.specs.Forms.{Form, Fixed, Part, Simple, Provided, Closed, ByRule, ByScope, ◌⇢◌}
 use Rattle.swc_ecma_codegen_syntax.specs.NameForms.{name_form, is_assignable}
 use Rattle.swc_ecma_codegen_syntax.specs.MemberForms.{expr_part, annotation_form}
 use Rattle.swc_ecma_codegen_syntax.specs.ObjectForms.{prop_name_form}
@@ -40,34 +40,37 @@ initializer_form c (Some n) = Fixed (mark (codes "=")) ⇢ expr_part nt.Assignme
 unfoldable pub question_form : {X : Type 0} → Bool → Form X
 question_form optional = Provided ByScope (not optional) (Fixed (question optional))
 
--- an element that isn't last; the last, which may be a rest; a hole
+-- an element or a hole; the last, which may be a rest where no comma stands behind it
+abbrev pub last_place : Bool → Nonterminal
+last_place comma = if comma then nt.PatternElement else nt.LastElement
+
 unfoldable pub pat_element_form : {X : Type 0} → Nonterminal → Parameters → Option (PatBox X) → Form X
 pat_element_form place c None = Fixed Nothing
 pat_element_form place c (Some n) = pat_part place c n
 
-unfoldable pub pat_elements_after : {X : Type 0} → Parameters → List (Option (PatBox X)) → Form X
-pat_elements_after c [] = Fixed Nothing
-pat_elements_after c (x ∷ []) = Fixed (mark (codes ",")) ⇢ pat_element_form nt.LastElement c x ⇢ Fixed Nothing
-pat_elements_after c (x ∷ y ∷ xs) = Fixed (mark (codes ",")) ⇢ pat_element_form nt.PatternElement c x ⇢ pat_elements_after c (y ∷ xs)
+unfoldable pub pat_elements_after : {X : Type 0} → Bool → Parameters → List (Option (PatBox X)) → Form X
+pat_elements_after comma c [] = Fixed Nothing
+pat_elements_after comma c (x ∷ []) = Fixed (mark (codes ",")) ⇢ pat_element_form (last_place comma) c x ⇢ Fixed Nothing
+pat_elements_after comma c (x ∷ y ∷ xs) = Fixed (mark (codes ",")) ⇢ pat_element_form nt.PatternElement c x ⇢ pat_elements_after comma c (y ∷ xs)
 
-unfoldable pub pat_elements_form : {X : Type 0} → Parameters → List (Option (PatBox X)) → Form X
-pat_elements_form c [] = Fixed Nothing
-pat_elements_form c (x ∷ []) = pat_element_form nt.LastElement c x ⇢ Fixed Nothing
-pat_elements_form c (x ∷ y ∷ xs) = pat_element_form nt.PatternElement c x ⇢ pat_elements_after c (y ∷ xs)
+unfoldable pub pat_elements_form : {X : Type 0} → Bool → Parameters → List (Option (PatBox X)) → Form X
+pat_elements_form comma c [] = Fixed Nothing
+pat_elements_form comma c (x ∷ []) = pat_element_form (last_place comma) c x ⇢ Fixed Nothing
+pat_elements_form comma c (x ∷ y ∷ xs) = pat_element_form nt.PatternElement c x ⇢ pat_elements_after comma c (y ∷ xs)
 
--- No comma stands behind a rest. Which element is one isn't seen here, so none is taken for a derivation behind any last element.
-unfoldable pub closing_form : {X A : Type 0} → Closing → List A → Form X
-closing_form close [] = Fixed (mark (closing_mark close))
-closing_form close (x ∷ xs) = NoComma close
+-- behind what is in a pattern: a comma may stand there, or none
+unfoldable pub closing_form : {X A : Type 0} → Bool → Closing → List A → Form X
+closing_form comma close [] = Fixed (mark (closing_mark close))
+closing_form comma close (x ∷ xs) = Closed comma close
 
-unfoldable pub elements_end_form : {X A : Type 0} → Bool → List A → Form X
-elements_end_form true xs = Fixed (mark (codes ",")) ⇢ Fixed (mark (codes "]"))
-elements_end_form false xs = closing_form RightBracket xs
+unfoldable pub elements_end_form : {X A : Type 0} → Bool → Bool → List A → Form X
+elements_end_form comma true xs = Fixed (mark (codes ",")) ⇢ Fixed (mark (codes "]"))
+elements_end_form comma false xs = closing_form comma RightBracket xs
 
 -- ArrayAssignmentPattern, ArrayBindingPattern
-unfoldable pub array_pat_form : {X : Type 0} → Parameters → ArrayPat X → Form X
-array_pat_form c n =
-    Fixed (mark (codes "[")) ⇢ pat_elements_form c n.elems.items ⇢ elements_end_form (last_is_hole n.elems.items) n.elems.items
+unfoldable pub array_pat_form : {X : Type 0} → Bool → Parameters → ArrayPat X → Form X
+array_pat_form comma c n =
+    Fixed (mark (codes "[")) ⇢ pat_elements_form comma c n.elems.items ⇢ elements_end_form comma (last_is_hole n.elems.items) n.elems.items
     ⇢ question_form n.optional ⇢ annotation_form c n.type_ann
 
 -- `... DestructuringAssignmentTarget`, `... BindingIdentifier`, `... BindingPattern`
@@ -92,31 +95,31 @@ pat_prop_form last c (pat_props.KeyValue n) = key_value_pat_form c n
 pat_prop_form last c (pat_props.Assign n) = assign_pat_prop_form c n
 pat_prop_form last c (pat_props.Rest n) = Provided ByRule last (rest_form nt.PatternName c n)
 
-unfoldable pub pat_props_after : {X : Type 0} → Parameters → List (ObjectPatProp X) → Form X
-pat_props_after c [] = Fixed Nothing
-pat_props_after c (x ∷ []) = Fixed (mark (codes ",")) ⇢ pat_prop_form true c x ⇢ Fixed Nothing
-pat_props_after c (x ∷ y ∷ xs) = Fixed (mark (codes ",")) ⇢ pat_prop_form false c x ⇢ pat_props_after c (y ∷ xs)
+unfoldable pub pat_props_after : {X : Type 0} → Bool → Parameters → List (ObjectPatProp X) → Form X
+pat_props_after comma c [] = Fixed Nothing
+pat_props_after comma c (x ∷ []) = Fixed (mark (codes ",")) ⇢ pat_prop_form (not comma) c x ⇢ Fixed Nothing
+pat_props_after comma c (x ∷ y ∷ xs) = Fixed (mark (codes ",")) ⇢ pat_prop_form false c x ⇢ pat_props_after comma c (y ∷ xs)
 
-unfoldable pub pat_props_form : {X : Type 0} → Parameters → List (ObjectPatProp X) → Form X
-pat_props_form c [] = Fixed Nothing
-pat_props_form c (x ∷ []) = pat_prop_form true c x ⇢ Fixed Nothing
-pat_props_form c (x ∷ y ∷ xs) = pat_prop_form false c x ⇢ pat_props_after c (y ∷ xs)
+unfoldable pub pat_props_form : {X : Type 0} → Bool → Parameters → List (ObjectPatProp X) → Form X
+pat_props_form comma c [] = Fixed Nothing
+pat_props_form comma c (x ∷ []) = pat_prop_form (not comma) c x ⇢ Fixed Nothing
+pat_props_form comma c (x ∷ y ∷ xs) = pat_prop_form false c x ⇢ pat_props_after comma c (y ∷ xs)
 
 -- ObjectAssignmentPattern, ObjectBindingPattern
-unfoldable pub object_pat_form : {X : Type 0} → Parameters → ObjectPat X → Form X
-object_pat_form c n =
-    Fixed (mark (codes "{")) ⇢ pat_props_form c n.props.items ⇢ closing_form RightBrace n.props.items ⇢ question_form n.optional
+unfoldable pub object_pat_form : {X : Type 0} → Bool → Parameters → ObjectPat X → Form X
+object_pat_form comma c n =
+    Fixed (mark (codes "{")) ⇢ pat_props_form comma c n.props.items ⇢ closing_form comma RightBrace n.props.items ⇢ question_form n.optional
     ⇢ annotation_form c n.type_ann
 
 -- An expression that is assigned to is no name, since a name is a pattern itself, and none stands in a binding.
-unfoldable pub pat_form : {X : Type 0} → Parameters → Pat X → Form X
-pat_form c (pats.Ident n) = binding_form c n
-pat_form c (pats.Array n) = array_pat_form c n
-pat_form c (pats.Rest n) = rest_form nt.PatternTarget c n
-pat_form c (pats.Object n) = object_pat_form c n
-pat_form c (pats.Assign n) = assign_pat_form c n
-pat_form c (pats.Invalid n) = Provided ByRule false (Fixed Never)
-pat_form c (pats.Expr n) = Provided ByRule (not c.is_binding) (Simple false nt.LeftHandSideExpression (with_in c) n.node.value)
+unfoldable pub pat_form : {X : Type 0} → Bool → Parameters → Pat X → Form X
+pat_form comma c (pats.Ident n) = binding_form c n
+pat_form comma c (pats.Array n) = array_pat_form comma c n
+pat_form comma c (pats.Rest n) = rest_form nt.PatternTarget c n
+pat_form comma c (pats.Object n) = object_pat_form comma c n
+pat_form comma c (pats.Assign n) = assign_pat_form c n
+pat_form comma c (pats.Invalid n) = Provided ByRule false (Fixed Never)
+pat_form comma c (pats.Expr n) = Provided ByRule (not c.is_binding) (Simple false nt.LeftHandSideExpression (with_in c) n.node.value)
 
 -- the nonterminal of each
 unfoldable pub pat_nonterminal : {X : Type 0} → Pat X → Nonterminal

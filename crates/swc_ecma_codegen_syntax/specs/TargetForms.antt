@@ -33,14 +33,14 @@ simple_target_form c (simple_targets.Invalid n) = Provided ByRule false (Fixed N
 simple_target_form c n = Provided ByScope false (Fixed Never)
 
 -- AssignmentPattern
-unfoldable pub target_pat_form : {X : Type 0} → Parameters → AssignTargetPat X → Form X
-target_pat_form c (target_pats.Array n) = array_pat_form c n
-target_pat_form c (target_pats.Object n) = object_pat_form c n
-target_pat_form c (target_pats.Invalid n) = Provided ByRule false (Fixed Never)
+unfoldable pub target_pat_form : {X : Type 0} → Bool → Parameters → AssignTargetPat X → Form X
+target_pat_form comma c (target_pats.Array n) = array_pat_form comma c n
+target_pat_form comma c (target_pats.Object n) = object_pat_form comma c n
+target_pat_form comma c (target_pats.Invalid n) = Provided ByRule false (Fixed Never)
 
-unfoldable pub target_form : {X : Type 0} → Parameters → AssignTarget X → Form X
-target_form c (targets.Simple n) = simple_target_form (of_targets c) n
-target_form c (targets.Pat n) = target_pat_form (of_targets c) n
+unfoldable pub target_form : {X : Type 0} → Bool → Parameters → AssignTarget X → Form X
+target_form comma c (targets.Simple n) = simple_target_form (of_targets c) n
+target_form comma c (targets.Pat n) = target_pat_form comma (of_targets c) n
 
 unfoldable pub target_nonterminal : {X : Type 0} → AssignTarget X → Nonterminal
 target_nonterminal (targets.Simple n) = nt.LeftHandSideExpression

@@ -109,18 +109,18 @@ pub fn members_forget<N>()
 pub fn parts_forget<N>()
     ensures key { (f : N → Role → Phrase) (c : Given) (n : PropName N)
         → forget f (prop_name_form c n) ≡ prop_name f n }
-    ensures pattern { (f : N → Role → Phrase) (c : Given) (n : Pat N)
-        → forget f (pat_form c n) ≡ pat f n }
-    ensures target_pattern { (f : N → Role → Phrase) (c : Given) (n : AssignTargetPat N)
-        → forget f (target_pat_form c n) ≡ assign_target_pat f n }
+    ensures pattern { (f : N → Role → Phrase) (b : Bool) (c : Given) (n : Pat N)
+        → forget f (pat_form b c n) ≡ pat f n }
+    ensures target_pattern { (f : N → Role → Phrase) (b : Bool) (c : Given) (n : AssignTargetPat N)
+        → forget f (target_pat_form b c n) ≡ assign_target_pat f n }
     ensures object { (p : Bool) (t : N → Role → Given → Told) (f : N → Role → Phrase)
         (c : Given) (n : ObjectLit N)
         → keeps p t (object_form c n) ≡ true
         → forget f (object_form c n) ≡ object_lit f n }
-    ensures target { (p : Bool) (t : N → Role → Given → Told) (f : N → Role → Phrase)
+    ensures target { (b p : Bool) (t : N → Role → Given → Told) (f : N → Role → Phrase)
         (c : Given) (n : AssignTarget N)
-        → keeps p t (target_form c n) ≡ true
-        → forget f (target_form c n) ≡ assign_target f n }
+        → keeps p t (target_form b c n) ≡ true
+        → forget f (target_form b c n) ≡ assign_target f n }
     ensures expression { (p : Bool) (t : N → Role → Given → Told) (f : N → Role → Phrase)
         (b : Bool) (c : Given) (n : Expr N)
         → keeps p t (expr_form false b c n) ≡ true

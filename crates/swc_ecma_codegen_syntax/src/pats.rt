@@ -108,7 +108,7 @@ fn elements<N: Answers>(
     elements: &[Option<PatBox<N>>],
     parameters: Parameters,
 ) -> Verdict
-    ensures { result ≡ judge N.answers so_far (pat_elements_form parameters elements.now) }
+    ensures { result ≡ judge N.answers so_far (pat_elements_form false parameters elements.now) }
 {
     match elements.split_last() {
         Some((last, front)) => {
@@ -120,7 +120,7 @@ fn elements<N: Answers>(
 }
 
 impl<N: Answers> Stands for ArrayPat<N> {
-    ghost judged = { λ c n v. judge N.answers v (array_pat_form c n) };
+    ghost judged = { λ c n v. judge N.answers v (array_pat_form false c n) };
 
     #[tactic(auto, using(crate::proofs::PatsJudged::array_pat_judged))]
     fn judge(&self, so_far: Verdict, parameters: Parameters) -> Verdict {
@@ -223,7 +223,7 @@ fn front_props<N: Answers>(
 /// Properties, of which the last may be a rest.
 #[tactic(auto, using(crate::proofs::PatsJudged::props_judged, crate::proofs::PatsJudged::no_props_judged, crate::proofs::PatsJudged::nil_props_judged))]
 fn props<N: Answers>(so_far: Verdict, props: &[ObjectPatProp<N>], parameters: Parameters) -> Verdict
-    ensures { result ≡ judge N.answers so_far (pat_props_form parameters props.now) }
+    ensures { result ≡ judge N.answers so_far (pat_props_form false parameters props.now) }
 {
     match props.split_last() {
         Some((last, front)) => prop(
@@ -237,7 +237,7 @@ fn props<N: Answers>(so_far: Verdict, props: &[ObjectPatProp<N>], parameters: Pa
 }
 
 impl<N: Answers> Stands for ObjectPat<N> {
-    ghost judged = { λ c n v. judge N.answers v (object_pat_form c n) };
+    ghost judged = { λ c n v. judge N.answers v (object_pat_form false c n) };
 
     #[tactic(auto, using(crate::proofs::PatsJudged::object_pat_judged))]
     fn judge(&self, so_far: Verdict, parameters: Parameters) -> Verdict {
@@ -247,7 +247,7 @@ impl<N: Answers> Stands for ObjectPat<N> {
 }
 
 impl<N: Answers> Stands for Pat<N> {
-    ghost judged = { λ c n v. judge N.answers v (pat_form c n) };
+    ghost judged = { λ c n v. judge N.answers v (pat_form false c n) };
 
     #[tactic(auto, unfolding(crate::specs::PatForms::pat_form, crate::specs::Forms::judge, crate::specs::Forms::asked))]
     fn judge(&self, so_far: Verdict, parameters: Parameters) -> Verdict {

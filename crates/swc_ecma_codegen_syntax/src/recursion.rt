@@ -26,7 +26,7 @@ use swc_ecma_codegen_tree::{AnyNode, Expr, ExprPart, Pat};
 /// What a pattern tells.
 fn pat_facts<N: Answers>(pat: &Pat<N>, parameters: Parameters) -> Facts
     ensures { result ≡ other_facts (pat_nonterminal pat.now)
-        (judge N.answers unasked (pat_form parameters pat.now)) }
+        (judge N.answers unasked (pat_form false parameters pat.now)) }
 {
     told(
         pat_nonterminal(pat),
@@ -114,9 +114,9 @@ pub fn verdict_expr(expr: &Expr, place: Nonterminal, parameters: Parameters) -> 
 ///
 /// What has no production here has no derivation: functions, classes, arrow functions, methods, JSX and TypeScript,
 /// and names spelled with escapes. `is_covered_expr` tells them apart. Each list that is derived is one of the
-/// tree's; where the answer is true all of them are derived but those with parentheses round what `yield` has, and
-/// those with a comma before the bracket of a pattern. `parameters.minify` has to be that of the settings: `new
-/// (new A())()` is `new new A` then. Takes no memory.
+/// tree's; where the answer is true each of them is derived that has neither parentheses round what `yield` has nor
+/// a comma before the bracket that closes a pattern. `parameters.minify` has to be that of the settings: `new (new
+/// A())()` is `new new A` then. Takes no memory.
 pub fn keeps_structure_expr(expr: &Expr, place: Nonterminal, parameters: Parameters) -> bool
     ensures sound { (s : Settings) (ts : List Token)
         → DerivesExpr true s place parameters expr.now ts

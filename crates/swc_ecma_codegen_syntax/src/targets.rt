@@ -1,6 +1,6 @@
 //! What is assigned to.
 
-ghost use Rattle.std.specs.Prelude.{◌≡◌};
+ghost use Rattle.std.specs.Prelude.{◌≡◌, false};
 ghost use Rattle.swc_ecma_codegen_syntax.specs.Forms.{judge};
 ghost use Rattle.swc_ecma_codegen_syntax.specs.TargetForms.{paren_target_form, simple_target_form, target_pat_form, target_form, target_nonterminal};
 
@@ -44,7 +44,7 @@ impl<N: Answers> Stands for SimpleAssignTarget<N> {
 }
 
 impl<N: Answers> Stands for AssignTargetPat<N> {
-    ghost judged = { λ c n v. judge N.answers v (target_pat_form c n) };
+    ghost judged = { λ c n v. judge N.answers v (target_pat_form false c n) };
 
     #[tactic(auto, unfolding(crate::specs::TargetForms::target_pat_form, crate::specs::Forms::judge, crate::specs::Forms::asked))]
     fn judge(&self, so_far: Verdict, parameters: Parameters) -> Verdict {
@@ -57,7 +57,7 @@ impl<N: Answers> Stands for AssignTargetPat<N> {
 }
 
 impl<N: Answers> Stands for AssignTarget<N> {
-    ghost judged = { λ c n v. judge N.answers v (target_form c n) };
+    ghost judged = { λ c n v. judge N.answers v (target_form false c n) };
 
     #[tactic(auto, unfolding(crate::specs::TargetForms::target_form))]
     fn judge(&self, so_far: Verdict, parameters: Parameters) -> Verdict {
