@@ -17,10 +17,10 @@ def run(main, usage):
     go to standard error, with status 2. A file that can't be read, JSON that is none, and a program that can't be run or fails, give a
     line and status 1.
     """
-    if any(word in ("-h", "--help") for word in sys.argv[1:]):
-        print(usage.strip())
-        sys.exit(0)
     try:
+        if any(word in ("-h", "--help") for word in sys.argv[1:]):
+            print(usage.strip(), flush=True)
+            sys.exit(0)
         sys.exit(main())
     except SystemExit as ended:
         if ended.code is not usage:
