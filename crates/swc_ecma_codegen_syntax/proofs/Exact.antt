@@ -1,10 +1,9 @@
 -- The check is exact: what is told of a tree decides which lists are derived with it.
-use Rattle.std.proofs.Common.{◌≡◌, ◌↔◌, ◌⊎◌, inl, inr, ℕ, Bool, true, false, ◌&&◌, ◌||◌, not, List, [], ◌∷◌, ◌++◌, Option, Some, None, refl, sym, subst, ◌∙◌, ap, ap₂}
+use Rattle.std.proofs.Common.{◌≡◌, ◌⊎◌, inl, inr, Bool, true, false, ◌&&◌, ◌||◌, not, List, [], ◌∷◌, Option, Some, None, refl, sym, subst, ◌∙◌, ap, ap₂}
 use Rattle.std.proofs.lemmas.Bool.{true≢false, and_parts, and_from, or_cases}
 use Rattle.swc_ecma_codegen_tree.specs.declared.links.AnyNode.{AnyNode, AnyNode-F, map-AnyNode, roll-AnyNode, out-AnyNode, ind-AnyNode}
 use Rattle.swc_ecma_codegen_tree.specs.declared.links.AnyNode.TheOpen as nodes
-use Rattle.swc_ecma_codegen_tree.specs.declared.links.AnyNode.TheViews.{roll-out-AnyNode, out-roll-AnyNode}
-use Rattle.swc_ecma_codegen_tree.specs.declared.links.AnyNode.TheVariants as whole
+use Rattle.swc_ecma_codegen_tree.specs.declared.links.AnyNode.TheViews.{out-roll-AnyNode}
 use Rattle.swc_ecma_codegen_tree.specs.declared.exprs.Expr.{Expr}
 use Rattle.swc_ecma_codegen_tree.specs.declared.exprs.Expr.TheVariants as exprs
 use Rattle.swc_ecma_codegen_tree.specs.Links.{PatBox}
@@ -21,10 +20,10 @@ use Rattle.swc_ecma_codegen_tree.specs.declared.pats.AssignTargetPat.TheVariants
 use Rattle.swc_ecma_codegen_tree.specs.declared.parts.ExprPart.{ExprPart}
 use Rattle.swc_ecma_codegen_tree.specs.declared.parts.ExprPart.TheVariants as expr_parts
 use Rattle.swc_ecma_codegen_grammar.specs.ElementPhrases.{last_is_hole}
-use Rattle.swc_ecma_codegen_grammar.specs.Phrases.{Phrase, Closing, RightBrace, Never, Nothing, One, NameOf, KeyOf, PrivateOf, TagNameOf, Then, CommaBefore, OptionalParentheses, Chosen, Generates, closing_mark, mark}
+use Rattle.swc_ecma_codegen_grammar.specs.Phrases.{Phrase, Closing, RightBrace, Then, CommaBefore, OptionalParentheses, Generates}
 use Rattle.swc_ecma_codegen_grammar.specs.Settings.{Settings}
 use Rattle.swc_ecma_codegen_grammar.specs.Tokens.{Token}
-use Rattle.swc_ecma_codegen_grammar.specs.TreePhrases.{node_phrase, phrase}
+use Rattle.swc_ecma_codegen_grammar.specs.TreePhrases.{phrase}
 use Rattle.swc_ecma_codegen_grammar.specs.declared.roles.Role.{Role}
 use Rattle.swc_ecma_codegen_grammar.specs.declared.roles.Role.TheVariants.{Expression, Callee, ChainMember, TaggedTemplate, Pattern, AssignmentTarget}
 use Rattle.swc_ecma_codegen_grammar.proofs.TreeLaws.{phrase_of, phrase_at}
@@ -32,19 +31,18 @@ use Rattle.swc_ecma_codegen_syntax.specs.declared.nonterminals.Nonterminal.{Nont
 use Rattle.swc_ecma_codegen_syntax.specs.declared.nonterminals.Nonterminal.TheVariants as nt
 use Rattle.swc_ecma_codegen_syntax.specs.declared.parameters.Parameters.{Parameters}
 use Rattle.swc_ecma_codegen_syntax.specs.declared.verdicts.Facts.{Facts}
-use Rattle.swc_ecma_codegen_syntax.specs.declared.verdicts.Verdict.{Verdict}
 use Rattle.swc_ecma_codegen_syntax.specs.Nonterminals.{takes, is_member, is_new, is_call, is_callee, is_chained, is_left_hand_side, is_update, is_unary, is_exponentiation, is_multiplicative, is_additive, is_shift, is_relational, is_in_left, is_equality, is_bitwise_and, is_bitwise_xor, is_bitwise_or, is_logical_and, is_logical_or, is_coalesce_head, is_short_circuit, is_conditional, is_assignment, is_expression, is_assignment_target, is_pattern_target, is_pattern_element, is_last_element, is_coalesce, is_private, is_optional, is_primary, is_template, is_property_name, is_chain_link, is_assignment_pattern, is_pattern_name, is_rest, is_uncovered}
 use Rattle.swc_ecma_codegen_syntax.specs.Verdicts.{unasked, by_scope, holds, is_mended}
 use Rattle.swc_ecma_codegen_syntax.specs.Parameters.{with_in, of_targets}
-use Rattle.swc_ecma_codegen_syntax.specs.Forms.{Form, Fixed, Part, Simple, Both, Provided, Closed, Bare, Cure, map_form, forget, asked, judge, keeps, is_met, stands, is_target}
+use Rattle.swc_ecma_codegen_syntax.specs.Forms.{Form, Fixed, Part, Simple, Both, Provided, Closed, Bare, map_form, forget, asked, judge, keeps, is_met, stands, is_target}
 use Rattle.swc_ecma_codegen_syntax.specs.MemberForms.{prop_form, member_form, type_args_form, tagged_form}
 use Rattle.swc_ecma_codegen_syntax.specs.PatForms.{pat_element_form, pat_elements_after, pat_elements_form, closing_form, elements_end_form, array_pat_form, pat_prop_form, pat_props_after, pat_props_form, object_pat_form, pat_form}
 use Rattle.swc_ecma_codegen_syntax.specs.TargetForms.{target_pat_form, target_form}
 use Rattle.swc_ecma_codegen_syntax.specs.ExprForms.{call_or_member, expr_form, expr_nonterminal}
-use Rattle.swc_ecma_codegen_syntax.specs.NodeForms.{node_form, node_nonterminal, part_form, part_nonterminal, is_simple_expr, is_simple_node, is_simple, is_name_node, is_name_expr, is_called, is_called_node, simple_told, expr_facts, part_facts, node_facts, facts}
+use Rattle.swc_ecma_codegen_syntax.specs.NodeForms.{node_form, node_nonterminal, part_form, is_simple_expr, is_simple_node, is_simple, is_name_node, is_called, is_called_node, simple_told, expr_facts, part_facts, node_facts, facts}
 use Rattle.swc_ecma_codegen_syntax.specs.Derives.{Derives, fixed, part, simple, both, provided, closed, comma_closed, bare, bare_phrase}
-use Rattle.swc_ecma_codegen_syntax.proofs.Judged.{judged, keeps_mapped, forget_mapped}
-use Rattle.swc_ecma_codegen_syntax.proofs.TreeFacts.{node_mapped, sort_mapped, name_mapped, facts_of, facts_at, simple_of}
+use Rattle.swc_ecma_codegen_syntax.proofs.Judged.{judged, keeps_mapped}
+use Rattle.swc_ecma_codegen_syntax.proofs.TreeFacts.{node_mapped, facts_of, facts_at, simple_of}
 use Rattle.swc_ecma_codegen_syntax.proofs.PatForgets.{node_forgets}
 
 -- ---- what is told of a node is what its form says

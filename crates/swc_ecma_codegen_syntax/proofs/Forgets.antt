@@ -1,12 +1,8 @@
 -- Without nonterminals a form is today's production, where it keeps its structure.
-use Rattle.std.proofs.Common.{◌≡◌, ℕ, Bool, true, false, ◌&&◌, cond, refl, sym, ◌∙◌, ap, ap₂, List, [], ◌∷◌, map, codes, Option, Some, None}
+use Rattle.std.proofs.Common.{◌≡◌, ℕ, Bool, true, false, cond, refl, sym, ◌∙◌, ap, ap₂, List, [], ◌∷◌, map, codes, Option, Some, None}
 use Rattle.std.specs.declared.vec.Vec.{Vec}
 use Rattle.std.proofs.lemmas.Bool.{true≢false, and_parts}
-use Rattle.swc_ecma_codegen_tree.specs.Links.{ExprBox, PatBox, TsTypeAnnBox, TsTypeParamInstantiationBox}
-use Rattle.swc_ecma_codegen_tree.specs.declared.links.AnyNode.{AnyNode-F}
-use Rattle.swc_ecma_codegen_tree.specs.declared.links.AnyNode.TheOpen as nodes
-use Rattle.swc_ecma_codegen_tree.specs.declared.idents.Ident.{Ident}
-use Rattle.swc_ecma_codegen_tree.specs.declared.idents.BindingIdent.{BindingIdent}
+use Rattle.swc_ecma_codegen_tree.specs.Links.{ExprBox, TsTypeAnnBox, TsTypeParamInstantiationBox}
 use Rattle.swc_ecma_codegen_tree.specs.declared.exprs.Expr.{Expr}
 use Rattle.swc_ecma_codegen_tree.specs.declared.exprs.Expr.TheVariants as exprs
 use Rattle.swc_ecma_codegen_tree.specs.declared.exprs.UpdateExpr.{UpdateExpr}
@@ -29,7 +25,6 @@ use Rattle.swc_ecma_codegen_tree.specs.declared.exprs.Callee.{Callee}
 use Rattle.swc_ecma_codegen_tree.specs.declared.exprs.Callee.TheVariants as callees
 use Rattle.swc_ecma_codegen_tree.specs.declared.exprs.NewExpr.{NewExpr}
 use Rattle.swc_ecma_codegen_tree.specs.declared.exprs.OptCall.{OptCall}
-use Rattle.swc_ecma_codegen_tree.specs.declared.exprs.YieldExpr.{YieldExpr}
 use Rattle.swc_ecma_codegen_tree.specs.declared.exprs.ObjectLit.{ObjectLit}
 use Rattle.swc_ecma_codegen_tree.specs.declared.exprs.PropOrSpread.{PropOrSpread}
 use Rattle.swc_ecma_codegen_tree.specs.declared.exprs.PropOrSpread.TheVariants as prop_or_spreads
@@ -42,13 +37,11 @@ use Rattle.swc_ecma_codegen_grammar.specs.Phrases.{Phrase, Never, Then, Optional
 use Rattle.swc_ecma_codegen_grammar.specs.Phrases as phrases
 use Rattle.swc_ecma_codegen_grammar.specs.AnnotationPhrases.{annotation, type_args}
 use Rattle.swc_ecma_codegen_grammar.specs.ElementPhrases as elements
-use Rattle.swc_ecma_codegen_grammar.specs.NamePhrases.{binding_ident}
-use Rattle.swc_ecma_codegen_grammar.specs.LitPhrases.{lit}
 use Rattle.swc_ecma_codegen_grammar.specs.KeyPhrases.{computed_prop_name, prop_name}
-use Rattle.swc_ecma_codegen_grammar.specs.CallPhrases.{spread_mark, callee_at, expr_or_spread, array_elements, array_lit, arguments, callee, call_expr, listed_arguments, new_arguments, new_expr, call_mark, chain_call}
+use Rattle.swc_ecma_codegen_grammar.specs.CallPhrases.{callee_at, expr_or_spread, array_elements, array_lit, arguments, callee, call_expr, listed_arguments, new_arguments, new_expr, call_mark, chain_call}
 use Rattle.swc_ecma_codegen_grammar.specs.TemplatePhrases.{tpl_element, part_before, is_counted, tpl_rest, tpl_parts, tpl, tagged_tpl}
 use Rattle.swc_ecma_codegen_grammar.specs.PropPhrases.{key_value_prop, assign_prop, prop, spread_element, prop_or_spread, object_lit}
-use Rattle.swc_ecma_codegen_grammar.specs.ExprPhrases.{expr_at, unary_expr, update_expr, bin_expr, member_prop, member_expr, super_prop, super_prop_expr, chain_mark, chain_prop, chain_member, chain_base, opt_chain_expr, assign_expr, yield_arg, yield_rest, yield_expr, await_expr, cond_expr, seq_expr, paren_expr, expr, expr_in}
+use Rattle.swc_ecma_codegen_grammar.specs.ExprPhrases.{expr_at, unary_expr, update_expr, bin_expr, member_prop, member_expr, super_prop, super_prop_expr, chain_mark, chain_prop, chain_member, chain_base, opt_chain_expr, assign_expr, yield_arg, yield_rest, yield_expr, await_expr, cond_expr, seq_expr, paren_expr, expr}
 use Rattle.swc_ecma_codegen_grammar.specs.declared.roles.Role.{Role}
 use Rattle.swc_ecma_codegen_grammar.specs.declared.roles.Role.TheVariants.{Expression, TaggedTemplate}
 use Rattle.swc_ecma_codegen_syntax.specs.declared.nonterminals.Nonterminal.{Nonterminal}
@@ -56,7 +49,7 @@ use Rattle.swc_ecma_codegen_syntax.specs.declared.nonterminals.Nonterminal.TheVa
 use Rattle.swc_ecma_codegen_syntax.specs.declared.parameters.Parameters.{Parameters}
 use Rattle.swc_ecma_codegen_syntax.specs.declared.verdicts.Facts.{Facts}
 use Rattle.swc_ecma_codegen_syntax.specs.Parameters.{with_in}
-use Rattle.swc_ecma_codegen_syntax.specs.Forms.{Form, Fixed, Provided, ByRule, ByScope, forget, keeps, is_met, each_after, listed, some_listed, element}
+use Rattle.swc_ecma_codegen_syntax.specs.Forms.{Form, Fixed, Provided, ByRule, forget, keeps, is_met, each_after, listed, element}
 use Rattle.swc_ecma_codegen_syntax.specs.NameForms.{name_form, lit_form}
 use Rattle.swc_ecma_codegen_syntax.specs.MemberForms.{expr_part, computed_form, prop_form, member_form, super_form, super_prop_form, annotation_form, type_args_form, tagged_form, chain_prop_form, chain_member_form, chain_base_form, opt_chain_form}
 use Rattle.swc_ecma_codegen_syntax.specs.CallForms.{argument_form, elements_form, array_form, arguments_form, callee_form, call_form, listed_form, new_arguments_form, new_form, chain_call_form}

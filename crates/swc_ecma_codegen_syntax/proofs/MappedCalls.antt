@@ -1,5 +1,5 @@
 -- The forms of arrays, calls and `new` over what links hold as something else.
-use Rattle.std.proofs.Common.{◌≡◌, ◌==◌, ◌&&◌, ◌||◌, cond, ℕ, suc, Bool, true, false, not, is_some, refl, ◌∙◌, ap, ap₂, List, [], ◌∷◌, length, map, codes, Option, Some, None, Global}
+use Rattle.std.proofs.Common.{◌≡◌, ◌==◌, ◌&&◌, ◌||◌, cond, Bool, true, false, not, is_some, refl, ◌∙◌, ap, ap₂, List, [], ◌∷◌, map, codes, Option, Some, None, Global}
 use Rattle.std.specs.declared.vec.Vec.{Vec}
 use Rattle.swc_ecma_codegen_tree.specs.declared.links.AnyNode.{AnyNode-F, map-AnyNode}
 use Rattle.swc_ecma_codegen_tree.specs.declared.links.AnyNode.TheOpen as nodes
@@ -23,7 +23,7 @@ use Rattle.swc_ecma_codegen_syntax.specs.declared.nonterminals.Nonterminal.{Nont
 use Rattle.swc_ecma_codegen_syntax.specs.declared.nonterminals.Nonterminal.TheVariants as nt
 use Rattle.swc_ecma_codegen_syntax.specs.declared.parameters.Parameters.{Parameters}
 use Rattle.swc_ecma_codegen_syntax.specs.Parameters.{with_in}
-use Rattle.swc_ecma_codegen_syntax.specs.Forms.{Form, Fixed, Both, Provided, ByRule, ByScope, ◌⇢◌, map_form, element, listed}
+use Rattle.swc_ecma_codegen_syntax.specs.Forms.{Form, Fixed, Provided, ByRule, ByScope, ◌⇢◌, map_form, element}
 use Rattle.swc_ecma_codegen_syntax.specs.MemberForms.{expr_part, callee_part, type_args_form, chained}
 use Rattle.swc_ecma_codegen_syntax.specs.CallForms.{argument_form, elements_form, array_form, arguments_form, no_spread, is_evaluation, are_import_arguments, callee_form, call_form, drops_arguments, has_arguments, new_nonterminal, listed_form, new_arguments_form, new_form, chain_call_form}
 use Rattle.swc_ecma_codegen_syntax.specs.ExprForms.{expr_form, expr_nonterminal}

@@ -1,13 +1,12 @@
 -- The forms of expressions, templates and objects over what links hold as something else.
 use Rattle.std.proofs.Common.{◌≡◌, ◌+◌, ◌==◌, cond, Bool, true, false, refl, ◌∙◌, ap, ap₂, List, [], ◌∷◌, length, map, codes, Option, Some, None}
 use Rattle.swc_ecma_codegen_common.specs.declared.positions.Span.{Span}
-use Rattle.swc_ecma_codegen_tree.specs.declared.links.AnyNode.{AnyNode-F, map-AnyNode}
+use Rattle.swc_ecma_codegen_tree.specs.declared.links.AnyNode.{map-AnyNode}
 use Rattle.swc_ecma_codegen_tree.specs.declared.links.AnyNode.TheOpen as nodes
 use Rattle.swc_ecma_codegen_tree.specs.Links.{ExprBox, TsTypeParamInstantiationBox}
 use Rattle.swc_ecma_codegen_tree.specs.declared.exprs.Expr.{Expr}
 use Rattle.swc_ecma_codegen_tree.specs.declared.exprs.Expr.TheVariants as exprs
 use Rattle.swc_ecma_codegen_tree.specs.declared.exprs.UpdateExpr.{UpdateExpr}
-use Rattle.swc_ecma_codegen_tree.specs.declared.exprs.MemberExpr.{MemberExpr}
 use Rattle.swc_ecma_codegen_tree.specs.declared.exprs.MemberProp.{MemberProp}
 use Rattle.swc_ecma_codegen_tree.specs.declared.exprs.MemberProp.TheVariants as member_props
 use Rattle.swc_ecma_codegen_tree.specs.declared.exprs.SuperPropExpr.{SuperPropExpr}
@@ -34,7 +33,7 @@ use Rattle.swc_ecma_codegen_grammar.proofs.MappedProps.{by_prop, each_prop}
 use Rattle.swc_ecma_codegen_syntax.specs.declared.nonterminals.Nonterminal.TheVariants as nt
 use Rattle.swc_ecma_codegen_syntax.specs.declared.parameters.Parameters.{Parameters}
 use Rattle.swc_ecma_codegen_syntax.specs.Parameters.{with_in}
-use Rattle.swc_ecma_codegen_syntax.specs.Forms.{Form, Fixed, Both, Provided, ByRule, ◌⇢◌, map_form, listed}
+use Rattle.swc_ecma_codegen_syntax.specs.Forms.{Form, Fixed, Provided, ByRule, ◌⇢◌, map_form}
 use Rattle.swc_ecma_codegen_syntax.specs.NameForms.{name_form, lit_form}
 use Rattle.swc_ecma_codegen_syntax.specs.MemberForms.{expr_part, computed_form, prop_form, member_form, super_form, super_prop_form, type_args_form, tagged_form, chain_prop_form, chain_member_form, chain_base_form, opt_chain_form}
 use Rattle.swc_ecma_codegen_syntax.specs.TemplateForms.{tpl_rest_form, tpl_parts_form, tpl_form}

@@ -1,6 +1,6 @@
 -- Without nonterminals the forms of patterns, of targets and of whole nodes are today's productions, where they keep their structure.
-use Rattle.std.proofs.Common.{◌≡◌, Bool, true, false, not, ◌&&◌, refl, sym, ◌∙◌, ap, ap₂, List, [], ◌∷◌, map, codes, Option, Some, None}
-use Rattle.std.proofs.lemmas.Bool.{true≢false, and_parts}
+use Rattle.std.proofs.Common.{◌≡◌, Bool, true, false, not, refl, sym, ap, ap₂, List, [], ◌∷◌, map, codes, Option, Some, None}
+use Rattle.std.proofs.lemmas.Bool.{true≢false}
 use Rattle.swc_ecma_codegen_tree.specs.Links.{ExprBox, PatBox}
 use Rattle.swc_ecma_codegen_tree.specs.declared.links.AnyNode.{AnyNode-F}
 use Rattle.swc_ecma_codegen_tree.specs.declared.links.AnyNode.TheOpen as nodes
@@ -24,13 +24,13 @@ use Rattle.swc_ecma_codegen_tree.specs.declared.parts.ExprPart.{ExprPart}
 use Rattle.swc_ecma_codegen_tree.specs.declared.parts.ExprPart.TheVariants as expr_parts
 use Rattle.swc_ecma_codegen_grammar.specs.Phrases.{Phrase, Closing, RightBracket, RightBrace, Then, ◌>◌, mark}
 use Rattle.swc_ecma_codegen_grammar.specs.Phrases as phrases
-use Rattle.swc_ecma_codegen_grammar.specs.AnnotationPhrases.{question, annotation}
+use Rattle.swc_ecma_codegen_grammar.specs.AnnotationPhrases.{question}
 use Rattle.swc_ecma_codegen_grammar.specs.ElementPhrases.{last_is_hole, closing_of, elements_end}
 use Rattle.swc_ecma_codegen_grammar.specs.ElementPhrases as elements
 use Rattle.swc_ecma_codegen_grammar.specs.NamePhrases.{ident, binding_ident}
 use Rattle.swc_ecma_codegen_grammar.specs.PatPhrases.{pat_at, initializer, array_pat, rest_pat, assign_pat, key_value_pat_prop, assign_pat_prop, object_pat_prop, object_pat, pat, assign_target_pat}
 use Rattle.swc_ecma_codegen_grammar.specs.AssignPhrases.{simple_assign_target, assign_target}
-use Rattle.swc_ecma_codegen_grammar.specs.ExprPhrases.{expr, expr_in, paren_expr}
+use Rattle.swc_ecma_codegen_grammar.specs.ExprPhrases.{expr_in, paren_expr}
 use Rattle.swc_ecma_codegen_grammar.specs.PartPhrases.{expr_part}
 use Rattle.swc_ecma_codegen_grammar.specs.TreePhrases.{node_phrase}
 use Rattle.swc_ecma_codegen_grammar.specs.declared.roles.Role.{Role}
@@ -40,9 +40,8 @@ use Rattle.swc_ecma_codegen_syntax.specs.declared.nonterminals.Nonterminal.TheVa
 use Rattle.swc_ecma_codegen_syntax.specs.declared.parameters.Parameters.{Parameters}
 use Rattle.swc_ecma_codegen_syntax.specs.declared.verdicts.Facts.{Facts}
 use Rattle.swc_ecma_codegen_syntax.specs.Parameters.{of_targets}
-use Rattle.swc_ecma_codegen_syntax.specs.Forms.{Form, forget, keeps, is_met}
+use Rattle.swc_ecma_codegen_syntax.specs.Forms.{forget, keeps, is_met}
 use Rattle.swc_ecma_codegen_syntax.specs.NameForms.{name_form}
-use Rattle.swc_ecma_codegen_syntax.specs.MemberForms.{annotation_form}
 use Rattle.swc_ecma_codegen_syntax.specs.PatForms.{last_place, binding_form, initializer_form, question_form, pat_element_form, pat_elements_after, pat_elements_form, closing_form, elements_end_form, array_pat_form, rest_form, assign_pat_form, key_value_pat_form, assign_pat_prop_form, pat_prop_form, pat_props_after, pat_props_form, object_pat_form, pat_form}
 use Rattle.swc_ecma_codegen_syntax.specs.TargetForms.{paren_target_form, simple_target_form, target_pat_form, target_form}
 use Rattle.swc_ecma_codegen_syntax.specs.ExprForms.{expr_form}

@@ -1,5 +1,5 @@
 -- What the check says of patterns, whose last element or property may be a rest.
-use Rattle.std.proofs.Common.{◌≡◌, Bool, true, false, not, List, [], ◌∷◌, ◌++◌, length, arith, codes, Option, Some, None, refl, ◌∙◌, ap}
+use Rattle.std.proofs.Common.{◌≡◌, Bool, true, false, not, List, [], ◌∷◌, ◌++◌, length, arith, Option, refl, ap}
 use Rattle.swc_ecma_codegen_tree.specs.Links.{PatBox}
 use Rattle.swc_ecma_codegen_tree.specs.declared.pats.ArrayPat.{ArrayPat}
 use Rattle.swc_ecma_codegen_tree.specs.declared.pats.ObjectPat.{ObjectPat}
@@ -12,7 +12,7 @@ use Rattle.swc_ecma_codegen_syntax.specs.declared.parameters.Parameters.{Paramet
 use Rattle.swc_ecma_codegen_syntax.specs.declared.verdicts.Facts.{Facts}
 use Rattle.swc_ecma_codegen_syntax.specs.declared.verdicts.Verdict.{Verdict}
 use Rattle.swc_ecma_codegen_syntax.specs.Verdicts.{by_scope}
-use Rattle.swc_ecma_codegen_syntax.specs.Forms.{Form, asked, judge, verdict_all}
+use Rattle.swc_ecma_codegen_syntax.specs.Forms.{asked, judge, verdict_all}
 use Rattle.swc_ecma_codegen_syntax.specs.MemberForms.{annotation_form}
 use Rattle.swc_ecma_codegen_syntax.specs.PatForms.{pat_element_form, pat_elements_after, pat_elements_form, question_form, closing_form, elements_end_form, array_pat_form, pat_prop_form, pat_props_after, pat_props_form, object_pat_form}
 

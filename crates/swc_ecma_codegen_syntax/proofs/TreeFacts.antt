@@ -1,6 +1,6 @@
 -- What is told of a whole node, by its sort.
 use Rattle.std.proofs.Common.{◌≡◌, Bool, true, false, refl, sym, ◌∙◌, ap}
-use Rattle.swc_ecma_codegen_tree.specs.declared.links.AnyNode.{AnyNode, AnyNode-F, map-AnyNode, roll-AnyNode, out-AnyNode, ind-AnyNode}
+use Rattle.swc_ecma_codegen_tree.specs.declared.links.AnyNode.{AnyNode, AnyNode-F, map-AnyNode, roll-AnyNode, out-AnyNode}
 use Rattle.swc_ecma_codegen_tree.specs.declared.links.AnyNode.TheOpen as nodes
 use Rattle.swc_ecma_codegen_tree.specs.declared.links.AnyNode.TheViews.{roll-out-AnyNode}
 use Rattle.swc_ecma_codegen_tree.specs.declared.links.AnyNode.TheVariants as whole
@@ -16,8 +16,8 @@ use Rattle.swc_ecma_codegen_syntax.specs.declared.nonterminals.Nonterminal.TheVa
 use Rattle.swc_ecma_codegen_syntax.specs.declared.parameters.Parameters.{Parameters}
 use Rattle.swc_ecma_codegen_syntax.specs.declared.verdicts.Facts.{Facts}
 use Rattle.swc_ecma_codegen_syntax.specs.declared.verdicts.Verdict.{Verdict}
-use Rattle.swc_ecma_codegen_syntax.specs.Verdicts.{unasked, by_scope}
-use Rattle.swc_ecma_codegen_syntax.specs.Forms.{Form, map_form, judge, asked}
+use Rattle.swc_ecma_codegen_syntax.specs.Verdicts.{unasked}
+use Rattle.swc_ecma_codegen_syntax.specs.Forms.{map_form, judge}
 use Rattle.swc_ecma_codegen_syntax.specs.MemberForms.{chain_member_form}
 use Rattle.swc_ecma_codegen_syntax.specs.ExprForms.{expr_form, expr_nonterminal}
 use Rattle.swc_ecma_codegen_syntax.specs.NodeForms.{part_form, part_nonterminal, node_form, node_nonterminal, is_simple_expr, is_simple_node, is_simple, is_name_expr, is_name_node, is_called, is_called_node, simple_told, expr_facts, other_facts, part_facts, node_facts, facts}

@@ -1,8 +1,7 @@
 -- What is said of an expression or a pattern by itself decides which lists are derived with it.
-use Rattle.std.proofs.Common.{◌≡◌, ◌↔◌, inl, inr, Bool, true, false, ◌&&◌, List, [], ◌∷◌, ◌++◌, refl, sym, subst, ◌∙◌, ap}
+use Rattle.std.proofs.Common.{◌≡◌, ◌↔◌, Bool, true, false, ◌&&◌, List, ◌++◌, refl, sym, subst, ◌∙◌, ap}
 use Rattle.std.proofs.lemmas.Bool.{true≢false, and_parts}
 use Rattle.swc_ecma_codegen_tree.specs.declared.links.AnyNode.{AnyNode}
-use Rattle.swc_ecma_codegen_tree.specs.declared.links.AnyNode.TheOpen as nodes
 use Rattle.swc_ecma_codegen_tree.specs.declared.links.AnyNode.TheVariants as whole
 use Rattle.swc_ecma_codegen_tree.specs.declared.exprs.Expr.{Expr}
 use Rattle.swc_ecma_codegen_tree.specs.declared.parts.ExprPart.TheVariants as expr_parts
@@ -20,7 +19,7 @@ use Rattle.swc_ecma_codegen_syntax.specs.declared.nonterminals.Nonterminal.{Nont
 use Rattle.swc_ecma_codegen_syntax.specs.declared.parameters.Parameters.{Parameters}
 use Rattle.swc_ecma_codegen_syntax.specs.declared.verdicts.Verdict.{Verdict}
 use Rattle.swc_ecma_codegen_syntax.specs.Verdicts.{unasked, holds}
-use Rattle.swc_ecma_codegen_syntax.specs.Forms.{Part, of_part, judge, keeps, forget, stands}
+use Rattle.swc_ecma_codegen_syntax.specs.Forms.{Part, of_part, judge, keeps, forget}
 use Rattle.swc_ecma_codegen_syntax.specs.NodeForms.{expr_facts, part_facts, node_facts, facts}
 use Rattle.swc_ecma_codegen_syntax.specs.Derives.{Derives, DerivesExpr, DerivesPat, bare_phrase, expr_verdict, pat_verdict}
 use Rattle.swc_ecma_codegen_syntax.proofs.Judged.{judged}

@@ -1,5 +1,5 @@
 -- Expressions: one production a node, with nonterminals. ECMA-262, section 13.
-use Rattle.std.specs.Prelude.{ℕ, Bool, true, false, ◌||◌, ◌&&◌, not, codes, Option, Some, None, if◌then◌else◌}
+use Rattle.std.specs.Prelude.{Bool, true, false, ◌||◌, not, codes, Option, Some, None, if◌then◌else◌}
 use Rattle.swc_ecma_codegen_common.specs.declared.operators.BinaryOp.{BinaryOp}
 use Rattle.swc_ecma_codegen_common.specs.declared.operators.BinaryOp.TheVariants as binary
 use Rattle.swc_ecma_codegen_common.specs.declared.operators.AssignOp.{AssignOp}
@@ -19,7 +19,7 @@ use Rattle.swc_ecma_codegen_tree.specs.declared.exprs.ParenExpr.{ParenExpr}
 use Rattle.swc_ecma_codegen_grammar.specs.Phrases.{Never, Nothing, One, word, mark, same_line}
 use Rattle.swc_ecma_codegen_grammar.specs.ExprPhrases.{this_expr, unary_op, update_op, binary_op, assign_op, meta_prop_expr}
 use Rattle.swc_ecma_codegen_grammar.specs.NamePhrases.{private_name}
-use Rattle.swc_ecma_codegen_grammar.specs.declared.roles.Role.TheVariants.{Expression, AssignmentTarget, Template}
+use Rattle.swc_ecma_codegen_grammar.specs.declared.roles.Role.TheVariants.{AssignmentTarget, Template}
 use Rattle.swc_ecma_codegen_syntax.specs.declared.nonterminals.Nonterminal.{Nonterminal}
 use Rattle.swc_ecma_codegen_syntax.specs.declared.nonterminals.Nonterminal.TheVariants as nt
 use Rattle.swc_ecma_codegen_syntax.specs.declared.parameters.Parameters.{Parameters}

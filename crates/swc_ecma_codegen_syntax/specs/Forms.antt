@@ -1,6 +1,6 @@
 -- Productions with nonterminals at their parts.
-use Rattle.std.specs.Prelude.{ℕ, Bool, true, false, ◌&&◌, ◌||◌, not, List, [], ◌∷◌, Option, Some, None, if◌then◌else◌}
-use Rattle.swc_ecma_codegen_grammar.specs.Phrases.{Phrase, Closing, Never, Nothing, Then, CommaBefore, OptionalParentheses, closing_mark, mark}
+use Rattle.std.specs.Prelude.{ℕ, Bool, true, false, ◌&&◌, ◌||◌, not, List, [], ◌∷◌, Option, Some, None}
+use Rattle.swc_ecma_codegen_grammar.specs.Phrases.{Phrase, Closing, Never, Nothing, Then, CommaBefore, OptionalParentheses, mark}
 use Rattle.swc_ecma_codegen_grammar.specs.declared.roles.Role.{Role}
 use Rattle.swc_ecma_codegen_grammar.specs.declared.roles.Role.TheVariants.{Expression}
 use Rattle.swc_ecma_codegen_syntax.specs.declared.nonterminals.Nonterminal.{Nonterminal}

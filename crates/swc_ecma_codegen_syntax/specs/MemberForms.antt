@@ -1,5 +1,5 @@
 -- Members and their properties, templates and tags: one production a node, with nonterminals. ECMA-262, section 13.3.
-use Rattle.std.specs.Prelude.{Bool, true, false, codes, Option, Some, None, if◌then◌else◌}
+use Rattle.std.specs.Prelude.{Bool, false, codes, Option, Some, None, if◌then◌else◌}
 use Rattle.swc_ecma_codegen_tree.specs.Links.{ExprBox, TsTypeAnnBox, TsTypeParamInstantiationBox}
 use Rattle.swc_ecma_codegen_tree.specs.declared.exprs.MemberExpr.{MemberExpr}
 use Rattle.swc_ecma_codegen_tree.specs.declared.exprs.MemberProp.{MemberProp}

@@ -1,5 +1,5 @@
 -- What a whole node is, in a role, and what is told of it: a fold over the tree.
-use Rattle.std.specs.Prelude.{Bool, true, false, if◌then◌else◌, string_bytes}
+use Rattle.std.specs.Prelude.{Bool, true, false, string_bytes}
 use Rattle.swc_ecma_codegen_tree.specs.declared.links.AnyNode.{AnyNode, AnyNode-F, fold-AnyNode}
 use Rattle.swc_ecma_codegen_tree.specs.declared.links.AnyNode.TheOpen as nodes
 use Rattle.swc_ecma_codegen_tree.specs.declared.exprs.Expr.{Expr}

@@ -1,5 +1,5 @@
 -- Objects and the names of properties: one production a node, with nonterminals. ECMA-262, section 13.2.5.
-use Rattle.std.specs.Prelude.{Bool, true, false, not, codes, string_bytes}
+use Rattle.std.specs.Prelude.{false, not, codes, string_bytes}
 use Rattle.swc_ecma_codegen_tree.specs.declared.exprs.ObjectLit.{ObjectLit}
 use Rattle.swc_ecma_codegen_tree.specs.declared.exprs.SpreadElement.{SpreadElement}
 use Rattle.swc_ecma_codegen_tree.specs.declared.exprs.PropOrSpread.{PropOrSpread}

@@ -1,5 +1,5 @@
 -- Patterns: one production a node, with nonterminals. ECMA-262, sections 13.15.5 and 14.3.3.
-use Rattle.std.specs.Prelude.{ℕ, Bool, true, false, not, codes, string_bytes, List, [], ◌∷◌, Option, Some, None, if◌then◌else◌}
+use Rattle.std.specs.Prelude.{Bool, true, false, not, codes, string_bytes, List, [], ◌∷◌, Option, Some, None, if◌then◌else◌}
 use Rattle.swc_ecma_codegen_tree.specs.Links.{ExprBox, PatBox}
 use Rattle.swc_ecma_codegen_tree.specs.declared.pats.Pat.{Pat}
 use Rattle.swc_ecma_codegen_tree.specs.declared.pats.Pat.TheVariants as pats
@@ -12,10 +12,10 @@ use Rattle.swc_ecma_codegen_tree.specs.declared.pats.ObjectPatProp.TheVariants a
 use Rattle.swc_ecma_codegen_tree.specs.declared.pats.KeyValuePatProp.{KeyValuePatProp}
 use Rattle.swc_ecma_codegen_tree.specs.declared.pats.AssignPatProp.{AssignPatProp}
 use Rattle.swc_ecma_codegen_tree.specs.declared.idents.BindingIdent.{BindingIdent}
-use Rattle.swc_ecma_codegen_grammar.specs.Phrases.{Closing, RightBracket, RightBrace, Never, Nothing, CommaBefore, closing_mark, mark}
+use Rattle.swc_ecma_codegen_grammar.specs.Phrases.{Closing, RightBracket, RightBrace, Never, Nothing, closing_mark, mark}
 use Rattle.swc_ecma_codegen_grammar.specs.AnnotationPhrases.{question}
 use Rattle.swc_ecma_codegen_grammar.specs.ElementPhrases.{last_is_hole}
-use Rattle.swc_ecma_codegen_grammar.specs.declared.roles.Role.TheVariants.{Expression, Pattern}
+use Rattle.swc_ecma_codegen_grammar.specs.declared.roles.Role.TheVariants.{Pattern}
 use Rattle.swc_ecma_codegen_syntax.specs.declared.nonterminals.Nonterminal.{Nonterminal}
 use Rattle.swc_ecma_codegen_syntax.specs.declared.nonterminals.Nonterminal.TheVariants as nt
 use Rattle.swc_ecma_codegen_syntax.specs.declared.parameters.Parameters.{Parameters}

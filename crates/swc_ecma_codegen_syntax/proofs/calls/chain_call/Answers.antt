@@ -1,4 +1,4 @@
-use Rattle.std.proofs.Common.{◌≡◌, ◌∙◌, sym, ap}
+use Rattle.std.proofs.Common.{◌∙◌, sym, ap}
 use Rattle.swc_ecma_codegen_syntax.specs.Forms.{judge, verdict_all}
 use Rattle.swc_ecma_codegen_syntax.specs.CallForms.{argument_form}
 use Rattle.swc_ecma_codegen_syntax.specs.MemberForms.{type_args_form}

@@ -1,4 +1,4 @@
-use Rattle.std.proofs.Common.{◌≡◌, ◌∙◌}
+use Rattle.std.proofs.Common.{◌∙◌}
 use Rattle.swc_ecma_codegen_syntax.specs.Forms.{judge}
 use Rattle.swc_ecma_codegen_syntax.specs.MemberForms.{expr_part}
 use Rattle.swc_ecma_codegen_syntax.proofs.CallsJudged.{all_next}

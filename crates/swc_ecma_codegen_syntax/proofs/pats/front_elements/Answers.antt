@@ -1,4 +1,4 @@
-use Rattle.std.proofs.Common.{◌≡◌, ◌∙◌}
+use Rattle.std.proofs.Common.{◌∙◌}
 use Rattle.swc_ecma_codegen_syntax.specs.declared.nonterminals.Nonterminal.TheVariants.{PatternElement}
 use Rattle.swc_ecma_codegen_syntax.specs.Forms.{judge}
 use Rattle.swc_ecma_codegen_syntax.specs.PatForms.{pat_element_form}

@@ -1,4 +1,4 @@
-use Rattle.std.proofs.Common.{◌≡◌, false, ◌∙◌}
+use Rattle.std.proofs.Common.{false, ◌∙◌}
 use Rattle.swc_ecma_codegen_syntax.specs.Forms.{judge}
 use Rattle.swc_ecma_codegen_syntax.specs.PatForms.{pat_prop_form}
 use Rattle.swc_ecma_codegen_syntax.proofs.CallsJudged.{all_next}

@@ -1,4 +1,4 @@
-use Rattle.std.proofs.Common.{◌≡◌, false, ◌∙◌, ap}
+use Rattle.std.proofs.Common.{false, ◌∙◌, ap}
 use Rattle.swc_ecma_codegen_syntax.specs.Verdicts.{holds}
 use Rattle.swc_ecma_codegen_syntax.proofs.Wholes.{sound, complete, exactly}
 use Rattle.swc_ecma_codegen_syntax.proofs.recursion.is_curable_expr.Goals as goal

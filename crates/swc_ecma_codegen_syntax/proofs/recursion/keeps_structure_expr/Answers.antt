@@ -1,4 +1,4 @@
-use Rattle.std.proofs.Common.{◌≡◌, true, ◌∙◌, ap}
+use Rattle.std.proofs.Common.{true, ◌∙◌, ap}
 use Rattle.swc_ecma_codegen_syntax.specs.Verdicts.{holds}
 use Rattle.swc_ecma_codegen_syntax.proofs.Wholes.{sound, complete, exactly}
 use Rattle.swc_ecma_codegen_syntax.proofs.recursion.keeps_structure_expr.Goals as goal

@@ -1,4 +1,4 @@
-use Rattle.std.proofs.Common.{◌≡◌, true, ◌∙◌, ap}
+use Rattle.std.proofs.Common.{true, ◌∙◌, ap}
 use Rattle.swc_ecma_codegen_syntax.specs.Verdicts.{holds}
 use Rattle.swc_ecma_codegen_syntax.proofs.Wholes.{pat_sound, pat_complete, pat_exactly}
 use Rattle.swc_ecma_codegen_syntax.proofs.recursion.keeps_structure_pat.Goals as goal
