@@ -2,6 +2,7 @@
 #![tactic(auto)]
 
 pub mod ast;
+pub mod prelude;
 pub mod text_writer;
 
 pub use swc_ecma_codegen_common::{Error, Result};
