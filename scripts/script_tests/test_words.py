@@ -11,7 +11,7 @@ ALL = sorted(
     name for name in os.listdir(SCRIPTS) if os.path.isfile(f"{SCRIPTS}/{name}") and os.access(f"{SCRIPTS}/{name}", os.X_OK)
 )  # fmt: skip
 # these do their work without words
-BUSY = ["build", "build-bench", "jsx-trees", "make-cases", "read-back", "test", "try-links", "try-runs", "try-tests", "try-trees", "ts-trees"]
+BUSY = ["build", "build-bench", "jsx-trees", "make-cases", "make-map", "read-back", "test", "try-runs", "try-tests", "try-trees", "ts-trees"]
 
 
 MISSING = f"{os.path.abspath(__file__)}/missing"  # below a file nothing can be made either
