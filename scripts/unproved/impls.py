@@ -2,7 +2,8 @@
 
 import re
 
-FUNCTION = re.compile(r"^( *)(?:pub(?:\([^)]*\))? )?(?:const )?(?:unsafe )?fn (\w+)")
+FUNCTION = re.compile(r"^( *)(?:pub(?:\([^)]*\))? )?(?:final )?(?:const )?(?:unsafe )?fn (\w+)")
+TRAIT = re.compile(r"^(?:pub(?:\([^)]*\))? )?(?:unsafe )?trait (\w+)")
 
 
 def implemented(line):
@@ -27,18 +28,20 @@ def last(text):
 
 
 def function_at(text, at):
-    """The function that holds a place of a module's text, the type of its `impl` as `implemented` gives it, and the type that its trait is
-    for, as `AllocError` of `impl From<AllocError> for Error`. Each is `None`, or empty, where there is none."""
-    function, on, more, end = None, None, "", "}"
+    """The function that holds a place of a module's text, the type of its `impl` as `implemented` gives it, or its trait, and the words of the
+    trait's own types, as `AllocError` of `impl From<AllocError> for Error`. Each is `None`, or empty, where there is none."""
+    function, on, words, end = None, None, (), "}"
     for line in text[: text.find("\n", at) + 1].splitlines():
         if implemented(line):
-            trait = re.search(r"<([^<>]*(?:<[^<>]*>)?)> for ", line)
-            on, more = implemented(line), last(trait[1]) if trait else ""
+            trait = re.search(r"<([^<>]*(?:<[^<>]*>[^<>]*)*)> for ", line)
+            on, words = implemented(line), tuple(re.findall(r"\w+", trait[1])) if trait else ()
+        elif TRAIT.match(line):
+            on, words = TRAIT.match(line)[1], ()
         elif line.startswith("}"):
-            on, more = None, ""
+            on, words = None, ()
         found = FUNCTION.match(line)
         if found:
             function, end = found[2], f"{found[1]}}}"
         elif line == end:
             function = None
-    return function, on, more
+    return function, on, words
