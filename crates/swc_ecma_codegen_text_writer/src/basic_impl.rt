@@ -24,25 +24,6 @@ use swc_ecma_codegen_common::{Answer, BytePos, Error, LineCol, Refusal, Result, 
 
 const DEFAULT_INDENT: &str = "    ";
 
-/// What some levels of the usual indentation write, up to eight of them.
-#[tactic(auto, unfolding(crate::specs::Reach::is_one_column))]
-fn blanks(levels: u32) -> Option<&'static str>
-    ensures text { IfSome result (λ text. text.now ≡ repeat levels (codes "    ")) }
-    ensures looked { IfSome result (λ text. is_in_line text.now ≡ true) }
-{
-    match levels {
-        1 => Some("    "),
-        2 => Some("        "),
-        3 => Some("            "),
-        4 => Some("                "),
-        5 => Some("                    "),
-        6 => Some("                        "),
-        7 => Some("                            "),
-        8 => Some("                                "),
-        _ => None,
-    }
-}
-
 /// A `JsWriter` with any `K` that keeps its positions, or keeps none. Since `K` is a parameter, its own functions know of
 /// no `&mut` in it, and `into_inner` may take it by value.
 #[derive(Drop)]
@@ -339,7 +320,7 @@ impl<'a, W: Write, K: KeepsPositions> Lines<'a, W, K> {
     {
         match self.outlet.write_text(text) {
             Ok(()) => {
-                self.kept.pass(text);
+                self.kept.pass_known(text, stays_in_line);
                 self.column.pass_known(text, stays_in_line);
                 Ok(())
             }
@@ -386,15 +367,40 @@ impl<'a, W: Write, K: KeepsPositions> Lines<'a, W, K> {
 
     /// The same of any number of levels: up to eight of four blanks at once.
     #[inline(never)]
+    #[tactic(auto, unfolding(crate::specs::Reach::is_one_column))]
     fn indent_at_once(&mut self) -> Answer
         requires { (sheet_of self.old).refused ≡ false }
         ensures { Reaches (indented (sheet_of self.old).indentation (sheet_of self.old))
             (sheet_of self.old) (sheet_of self.new) result }
     {
-        match blanks(self.indent) {
-            Some(text) if self.usual_indent => self.send_in_line(text),
+        if !self.usual_indent {
+            return self.indent_by_levels();
+        }
+        match self.indent {
+            1 => self.send_blanks("    "),
+            2 => self.send_blanks("        "),
+            3 => self.send_blanks("            "),
+            4 => self.send_blanks("                "),
+            5 => self.send_blanks("                    "),
+            6 => self.send_blanks("                        "),
+            7 => self.send_blanks("                            "),
+            8 => self.send_blanks("                                "),
             _ => self.indent_by_levels(),
         }
+    }
+
+    /// The same of as many levels as these blanks are. It is called with texts of known lengths, so that each takes no call that copies
+    /// bytes.
+    #[inline(always)]
+    fn send_blanks(&mut self, blanks: &'static str) -> Answer
+        requires fresh { (sheet_of self.old).refused ≡ false }
+        requires looked { is_in_line blanks.now ≡ true }
+        requires usual { self.old.usual_indent ≡ true }
+        requires levels { blanks.now ≡ repeat self.old.indent (codes "    ") }
+        ensures { Reaches (indented (sheet_of self.old).indentation (sheet_of self.old))
+            (sheet_of self.old) (sheet_of self.new) result }
+    {
+        self.send_in_line(blanks)
     }
 
     /// The same, level by level.
@@ -639,8 +645,8 @@ impl<'a, W: Write, K: KeepsPositions> Lines<'a, W, K> {
         Ok(())
     }
 
-    /// The answer of a call, with the error that the writer under it gave.
-    #[inline(always)]
+    /// The answer of a call, with the error that the writer under it gave. LLVM inlines it late, which is wanted: where it comes early, the
+    /// room of an error is filled with zeros also where there is none.
     fn answer(&mut self, answer: Answer) -> Result
         ensures answer { in_short result ≡ answer }
         ensures same { sheet_of self.new ≡ sheet_of self.old }

@@ -3,6 +3,7 @@
 ghost use Rattle.std.specs.Prelude.{◌≡◌, Bool, true, false, [], List, is_some, Option, Some, None};
 ghost use Rattle.swc_ecma_codegen_common.specs.declared.positions.BytePos.{BytePos};
 ghost use Rattle.swc_ecma_codegen_text_writer.specs.Places.{Place, origin, after_text};
+ghost use Rattle.swc_ecma_codegen_text_writer.specs.Reach.{is_in_line};
 ghost use Rattle.swc_ecma_codegen_text_writer.specs.Sheet.{Pair};
 ghost use Rattle.swc_ecma_codegen_text_writer.specs.declared.positions.Reached.{Reached};
 ghost use Rattle.swc_ecma_codegen_text_writer.specs.Kept.{IsCounted, RecordsIn};
@@ -27,6 +28,15 @@ pub trait KeepsPositions: Drop {
 
     /// A text was written.
     fn pass(&mut self, text: &str)
+        ensures counted { (p : Place) → IsCounted (keeps self.old) (reached self.old) p →
+            IsCounted (keeps self.new) (reached self.new) (after_text text.now p) }
+        ensures keeps { keeps self.new ≡ keeps self.old }
+        ensures pairs { pairs self.new ≡ pairs self.old }
+        ensures pending { pending self.new ≡ pending self.old };
+
+    /// The same where it is known whether it stays in its line.
+    fn pass_known(&mut self, text: &str, stays_in_line: bool)
+        requires { stays_in_line ≡ is_in_line text.now }
         ensures counted { (p : Place) → IsCounted (keeps self.old) (reached self.old) p →
             IsCounted (keeps self.new) (reached self.new) (after_text text.now p) }
         ensures keeps { keeps self.new ≡ keeps self.old }
@@ -112,6 +122,14 @@ impl KeepsPositions for Kept<'_> {
 
     #[tactic(auto, unfolding(crate::specs::Kept::pairs_in, crate::specs::Kept::pending_in, crate::specs::Kept::reached_in, crate::specs::Kept::RecordsIn))]
     #[inline(always)]
+    fn pass_known(&mut self, text: &str, stays_in_line: bool) {
+        if let Some(positions) = &mut self.positions {
+            positions.pass_known(text, stays_in_line);
+        }
+    }
+
+    #[tactic(auto, unfolding(crate::specs::Kept::pairs_in, crate::specs::Kept::pending_in, crate::specs::Kept::reached_in, crate::specs::Kept::RecordsIn))]
+    #[inline(always)]
     fn record(&mut self, pos: BytePos) -> Answer {
         match &mut self.positions {
             None => Ok(()),
@@ -183,6 +201,11 @@ impl KeepsPositions for OwnedPositions {
     #[inline(always)]
     fn pass(&mut self, text: &str) {
         self.positions.pass(text);
+    }
+
+    #[inline(always)]
+    fn pass_known(&mut self, text: &str, stays_in_line: bool) {
+        self.positions.pass_known(text, stays_in_line);
     }
 
     #[inline(always)]

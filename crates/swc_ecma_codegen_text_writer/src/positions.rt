@@ -290,14 +290,25 @@ impl<L: HoldsPairs> Positions<L> {
         }
     }
 
-    /// A text was written. Most stay in their line: "typeof" takes six columns.
+    /// A text was written.
     #[inline(always)]
     pub fn pass(&mut self, text: &str)
         ensures place { (p : Place) → Counts self.old p → Counts self.new (after_text text.now p) }
         ensures pairs { pairs self.new ≡ pairs self.old }
         ensures pending { self.new.pending ≡ self.old.pending }
     {
-        if !text.is_empty() && is_in_line(text.as_bytes()) {
+        self.pass_known(text, is_in_line(text.as_bytes()));
+    }
+
+    /// The same where it is known whether it stays in its line. Most stay in their line: "typeof" takes six columns.
+    #[inline(always)]
+    pub fn pass_known(&mut self, text: &str, stays_in_line: bool)
+        requires { stays_in_line ≡ is_in_line text.now }
+        ensures place { (p : Place) → Counts self.old p → Counts self.new (after_text text.now p) }
+        ensures pairs { pairs self.new ≡ pairs self.old }
+        ensures pending { self.new.pending ≡ self.old.pending }
+    {
+        if !text.is_empty() && stays_in_line {
             let reached = self.reached.after_units(text.len() as u64);
             self.move_to(reached);
             return;

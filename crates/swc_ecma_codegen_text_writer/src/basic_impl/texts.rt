@@ -61,20 +61,21 @@ impl<W: Write, K: KeepsPositions> Lines<'_, W, K> {
         ensures { WritesText None text.now (sheet_of self.old) (sheet_of self.new) result }
     {
         if self.plain {
-            self.send_byte(text)
+            self.send_few::<1>(text)
         } else {
             self.write_first_byte(text)
         }
     }
 
-    /// The same where it is only sent: that of one byte takes no call that copies bytes.
+    /// The same where it is only sent, of a text of a known length: that takes no call that copies bytes.
     #[inline(always)]
-    fn send_byte(&mut self, text: &str) -> Answer
+    fn send_few<const N: usize>(&mut self, text: &str) -> Answer
         requires plain { self.old.plain ≡ true }
-        requires byte { length text.now ≡ 1 }
+        requires some { 0 < N }
+        requires length { length text.now ≡ N }
         ensures { WritesText None text.now (sheet_of self.old) (sheet_of self.new) result }
     {
-        if text.len() != 1 {
+        if text.len() != N {
             unreachable!();
         }
         self.send_plainly(text)
@@ -115,7 +116,7 @@ impl<W: Write, K: KeepsPositions> Lines<'_, W, K> {
             (sheet_of self.new) result }
     {
         match &mut self.held {
-            None => self.send(text),
+            None => self.send_counted(text),
             Some(held) => match held.segment.push_text(text) {
                 Ok(()) => Ok(()),
                 Err(refusal) => {
@@ -125,6 +126,33 @@ impl<W: Write, K: KeepsPositions> Lines<'_, W, K> {
                 }
             },
         }
+    }
+
+    /// Sends a text out where positions are kept: of one byte, as most are, in a function of its own.
+    #[inline(always)]
+    fn send_counted(&mut self, text: &str) -> Answer
+        requires { (sheet_of self.old).refused ≡ false }
+        ensures { Reaches (appended text.now (sheet_of self.old)) (sheet_of self.old)
+            (sheet_of self.new) result }
+    {
+        if text.len() == 1 {
+            return self.send_one(text);
+        }
+        self.send(text)
+    }
+
+    /// The same of a text of one byte: that takes no call that copies bytes.
+    #[inline(never)]
+    fn send_one(&mut self, text: &str) -> Answer
+        requires fresh { (sheet_of self.old).refused ≡ false }
+        requires byte { length text.now ≡ 1 }
+        ensures { Reaches (appended text.now (sheet_of self.old)) (sheet_of self.old)
+            (sheet_of self.new) result }
+    {
+        if text.len() != 1 {
+            unreachable!();
+        }
+        self.hand_on(text)
     }
 
     /// Writes a text of one byte, also at a line's start or after a refusal.
@@ -159,18 +187,35 @@ impl<W: Write, K: KeepsPositions> Lines<'_, W, K> {
         }
     }
 
-    /// The same where it is only sent.
+    /// The same where it is only sent. Most names and keywords have up to ten bytes.
     #[inline(never)]
     fn send_bytes(&mut self, text: &str) -> Answer
         requires { self.old.plain ≡ true }
         ensures { WritesText None text.now (sheet_of self.old) (sheet_of self.new) result }
     {
-        if text.len() == 1 {
-            return self.send_byte(text);
+        match text.len() {
+            0 => Ok(()),
+            1 => self.send_few::<1>(text),
+            2 => self.send_few::<2>(text),
+            3 => self.send_few::<3>(text),
+            4 => self.send_few::<4>(text),
+            5 => self.send_few::<5>(text),
+            6 => self.send_few::<6>(text),
+            7 => self.send_few::<7>(text),
+            8 => self.send_few::<8>(text),
+            9 => self.send_few::<9>(text),
+            10 => self.send_few::<10>(text),
+            _ => self.send_many(text),
         }
-        if text.is_empty() {
-            return Ok(());
-        }
+    }
+
+    /// The same of a text of any length that isn't empty.
+    #[inline(never)]
+    fn send_many(&mut self, text: &str) -> Answer
+        requires plain { self.old.plain ≡ true }
+        requires some { 0 < length text.now }
+        ensures { WritesText None text.now (sheet_of self.old) (sheet_of self.new) result }
+    {
         self.send_plainly(text)
     }
 

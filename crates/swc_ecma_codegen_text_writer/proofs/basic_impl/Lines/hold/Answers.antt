@@ -7,9 +7,9 @@ use Rattle.swc_ecma_codegen_text_writer.proofs.Sheets.{appended_alike}
 use Rattle.swc_ecma_codegen_text_writer.proofs.Steps.{appended_filling, refused_here}
 use Rattle.swc_ecma_codegen_text_writer.proofs.basic_impl.Lines.hold.Goals as goal
 
-pub send-requires : goal.send-requires
+pub send_counted-requires : goal.send_counted-requires
 unfolding sheet_of
-send-requires g c = c.requires
+send_counted-requires g c = c.requires
 
 pub invariant_of-self-in-Ok-clause-plain_flowing : goal.invariant_of-self-in-Ok-clause-plain_flowing
 invariant_of-self-in-Ok-clause-plain_flowing g c = λ p. absurd (none_some _ _ (c.args.self.now.plain_flowing p) c.in-Some.is)
@@ -37,4 +37,4 @@ returns-in-Err g c =
 
 pub returns-in-None : goal.returns-in-None
 unfolding sheet_of
-returns-in-None g c = c.send.ensures
+returns-in-None g c = c.send_counted.ensures

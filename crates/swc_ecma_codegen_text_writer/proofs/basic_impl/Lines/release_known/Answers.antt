@@ -10,7 +10,7 @@ use Rattle.swc_ecma_codegen_text_writer.proofs.basic_impl.Lines.release_known.Go
 pub returns-in-Ok : goal.returns-in-Ok
 unfolding sheet_of Reaches
 returns-in-Ok g c =
-    sent_sheet c.args.text.now (sheet_of c.args.self.now) _ _ _ _ _ _ _ _ c.in-Ok.ensures.sent c.in-Ok.ensures.whole c.in-Ok.ensures.faults (place_on _ _ _ c.in-Ok.ensures.logged) c.pass.ensures.keeps c.pass.ensures.keeps c.pass.ensures.pairs c.pass.ensures.pending
+    sent_sheet c.args.text.now (sheet_of c.args.self.now) _ _ _ _ _ _ _ _ c.in-Ok.ensures.sent c.in-Ok.ensures.whole c.in-Ok.ensures.faults (place_on _ _ _ c.in-Ok.ensures.logged) c.pass_known.ensures.keeps c.pass_known.ensures.keeps c.pass_known.ensures.pairs c.pass_known.ensures.pending
 
 pub returns-in-Err : goal.returns-in-Err
 unfolding sheet_of Reaches HasReason released
@@ -26,10 +26,10 @@ returns-in-Err g c = record {
 
 -- the place is that after what went out before and the text
 pub invariant_of-self-clause-counted : goal.invariant_of-self-clause-counted
-invariant_of-self-clause-counted g c = λ f e. subst (λ z. Shows (g.K.KeepsPositions.reached c.pass.new.self) z) (sym (place_on _ _ _ c.in-Ok.ensures.logged)) (c.pass.ensures.counted _ (c.args.self.now.counted f) e)
+invariant_of-self-clause-counted g c = λ f e. subst (λ z. Shows (g.K.KeepsPositions.reached c.pass_known.new.self) z) (sym (place_on _ _ _ c.in-Ok.ensures.logged)) (c.pass_known.ensures.counted _ (c.args.self.now.counted f) e)
 
 pub invariant_of-self-clause-shown : goal.invariant_of-self-clause-shown
-invariant_of-self-clause-shown g c = λ f. subst (λ z. Stands c.pass_known.new.self.units z) (sym (place_on _ _ _ c.in-Ok.ensures.logged)) (c.pass_known.ensures _ (c.args.self.now.shown f))
+invariant_of-self-clause-shown g c = λ f. subst (λ z. Stands c.pass_known-in-Ok.new.self.units z) (sym (place_on _ _ _ c.in-Ok.ensures.logged)) (c.pass_known-in-Ok.ensures _ (c.args.self.now.shown f))
 
 pub invariant_of-self-clause-plain_bare : goal.invariant_of-self-clause-plain_bare
-invariant_of-self-clause-plain_bare g c = λ p. c.pass.ensures.keeps ∙ c.args.self.now.plain_bare p
+invariant_of-self-clause-plain_bare g c = λ p. c.pass_known.ensures.keeps ∙ c.args.self.now.plain_bare p

@@ -1,12 +1,12 @@
 use Rattle.std.proofs.Common.{◌≡◌, ◌<◌, length, false, refl, sym, arith}
 use Rattle.swc_ecma_codegen_text_writer.specs.View.{sheet_of}
 use Rattle.swc_ecma_codegen_text_writer.proofs.Steps.{reaches_to, writes_way, written_in_line}
-use Rattle.swc_ecma_codegen_text_writer.proofs.basic_impl.Lines.send_byte.Goals as goal
+use Rattle.swc_ecma_codegen_text_writer.proofs.basic_impl.Lines.send_few.Goals as goal
 
 pub returns : goal.returns
 returns g c x e =
     let s = sheet_of c.args.self.now in
-    let some : 0 < length c.args.text.now = omega (arith, c.requires.byte) in
+    let some : 0 < length c.args.text.now = omega (arith, c.requires.some, c.requires.length) in
     let in_line : s.at_line_start ≡ false = unfold sheet_of in c.args.self.now.plain_in_line c.requires.plain in
     let fresh : s.refused ≡ false = unfold sheet_of in c.args.self.now.plain_fresh c.requires.plain in
     writes_way x _ _ _ _ (sym (e (unfold sheet_of in refl))) (unfold sheet_of in refl) (unfold sheet_of in refl) fresh
