@@ -4,7 +4,7 @@
 ghost use Rattle.std.specs.Prelude.{◌≡◌, ◌<◌, ℕ, List};
 ghost use Rattle.swc_ecma_codegen_grammar.specs.GapRules.{fuses};
 ghost use Rattle.swc_ecma_codegen_tokens.specs.Starts.{start_class};
-ghost use Rattle.swc_ecma_codegen_tokens.specs.Classes.{row_of};
+ghost use Rattle.swc_ecma_codegen_tokens.specs.Classes.{IsRowOf, place_of};
 ghost use Rattle.swc_ecma_codegen_tokens.specs.PreviousToken.{class_of, last_at};
 ghost use Rattle.swc_ecma_codegen_tokens.specs.declared.previous.PreviousToken.{PreviousToken};
 
@@ -22,19 +22,26 @@ pub fn blank_due(last: TokenClass, next: StartClass) -> bool
 
 /// The same, by the row of the token's class.
 #[inline(always)]
-pub(crate) fn blank_due_after(row: usize, next: StartClass) -> bool
-    requires { row < 63 }
-    ensures { (token : PreviousToken) (text : List ℕ) → row ≡ row_of (class_of token) →
-        start_class text ≡ next → result ≡ fuses (last_at token) text }
+pub(crate) fn blank_due_after(row: u32, next: StartClass) -> bool
+    ensures { (class : TokenClass) (token : PreviousToken) (text : List ℕ) → IsRowOf class row →
+        class_of token ≡ class → start_class text ≡ next → result ≡ fuses (last_at token) text }
 {
-    BLANKS[row][next.place()]
+    (row >> next.place() as u32) & 1 == 1
 }
 
 /// The row of a class.
 #[inline(always)]
-#[tactic(auto, unfolding(crate::specs::Classes::row_of))]
-pub(crate) fn row(class: TokenClass) -> usize
-    ensures value { result ≡ row_of class }
+pub(crate) fn row(class: TokenClass) -> u32
+    ensures { IsRowOf class result }
+{
+    BLANKS[place(class)]
+}
+
+/// The place of a class in the table.
+#[inline(always)]
+#[tactic(auto, unfolding(crate::specs::Classes::place_of))]
+fn place(class: TokenClass) -> usize
+    ensures value { result ≡ place_of class }
     ensures below { result < 63 }
 {
     match class {
@@ -51,21 +58,43 @@ const PUNCTUATORS: usize = Punctuator::At as usize + 1;
 
 const TOKEN_CLASSES: usize = PUNCTUATORS + 5;
 
-const START_CLASSES: usize = StartClass::Rest as usize + 1;
-
 const _: () = prove!(BLANKS.len() == TOKEN_CLASSES);
 
-const _: () = prove!(BLANKS[0].len() == START_CLASSES);
+const NAME_CHARACTER: u32 = 1 << StartClass::NameCharacter as u32;
 
-const T: bool = true;
+const DIGIT: u32 = 1 << StartClass::Digit as u32;
 
-const F: bool = false;
+const DOT_DIGIT: u32 = 1 << StartClass::DotDigit as u32;
+
+const DOT: u32 = 1 << StartClass::Dot as u32;
+
+const MINUS_MINUS: u32 = 1 << StartClass::MinusMinus as u32;
+
+const LESS: u32 = 1 << StartClass::Less as u32;
+
+const GREATER: u32 = 1 << StartClass::Greater as u32;
+
+const EQUAL: u32 = 1 << StartClass::Equal as u32;
+
+const PLUS: u32 = 1 << StartClass::Plus as u32;
+
+const MINUS: u32 = 1 << StartClass::Minus as u32;
+
+const STAR: u32 = 1 << StartClass::Star as u32;
+
+const AMPERSAND: u32 = 1 << StartClass::Ampersand as u32;
+
+const BAR: u32 = 1 << StartClass::Bar as u32;
+
+const QUESTION: u32 = 1 << StartClass::Question as u32;
+
+const SLASH: u32 = 1 << StartClass::Slash as u32;
 
 /// The row of a class that nothing fuses with.
-const NONE: [bool; 30] = [F; 30];
+const NONE: u32 = 0;
 
-/// Whether a blank is due: a row for each class of tokens, in their order, and a column for each class of texts.
-const BLANKS: [[bool; 30]; 63] = [
+/// The classes of texts before which a blank is due, as a set of bits for each class of tokens, in their order.
+const BLANKS: [u32; 63] = [
     // `{`
     NONE,
     // `}`
@@ -79,9 +108,7 @@ const BLANKS: [[bool; 30]; 63] = [
     // `]`
     NONE,
     // `.`
-    [
-        F, T, T, T, F, F, F, F, F, F, F, F, F, F, F, F, F, F, F, F, F, F, F, F, F, F, F, F, F, F,
-    ],
+    DIGIT | DOT_DIGIT | DOT,
     // `...`
     NONE,
     // `;`
@@ -89,107 +116,63 @@ const BLANKS: [[bool; 30]; 63] = [
     // `,`
     NONE,
     // `<`
-    [
-        F, F, F, F, F, F, F, F, F, F, F, F, F, T, F, T, F, F, F, F, F, F, F, F, F, F, F, F, F, F,
-    ],
+    LESS | EQUAL,
     // `>`
-    [
-        F, F, F, F, F, F, F, F, F, F, F, F, F, F, T, T, F, F, F, F, F, F, F, F, F, F, F, F, F, F,
-    ],
+    GREATER | EQUAL,
     // `<=`
     NONE,
     // `>=`
     NONE,
     // `==`
-    [
-        F, F, F, F, F, F, F, F, F, F, F, F, F, F, F, T, F, F, F, F, F, F, F, F, F, F, F, F, F, F,
-    ],
+    EQUAL,
     // `!=`
-    [
-        F, F, F, F, F, F, F, F, F, F, F, F, F, F, F, T, F, F, F, F, F, F, F, F, F, F, F, F, F, F,
-    ],
+    EQUAL,
     // `===`
     NONE,
     // `!==`
     NONE,
     // `+`
-    [
-        F, F, F, F, F, F, F, F, F, F, F, F, F, F, F, T, F, T, F, F, F, F, F, F, F, F, F, F, F, F,
-    ],
+    EQUAL | PLUS,
     // `-`
-    [
-        F, F, F, F, T, F, F, F, F, F, F, F, F, F, F, T, F, F, T, F, F, F, F, F, F, F, F, F, F, F,
-    ],
+    MINUS_MINUS | EQUAL | MINUS,
     // `*`
-    [
-        F, F, F, F, F, F, F, F, F, F, F, F, F, F, F, T, F, F, F, T, F, F, F, F, F, F, F, F, F, F,
-    ],
+    EQUAL | STAR,
     // `%`
-    [
-        F, F, F, F, F, F, F, F, F, F, F, F, F, F, F, T, F, F, F, F, F, F, F, F, F, F, F, F, F, F,
-    ],
+    EQUAL,
     // `**`
-    [
-        F, F, F, F, F, F, F, F, F, F, F, F, F, F, F, T, F, F, F, F, F, F, F, F, F, F, F, F, F, F,
-    ],
+    EQUAL,
     // `++`
     NONE,
     // `--`
-    [
-        F, F, F, F, F, F, F, F, F, F, F, F, F, F, T, F, F, F, F, F, F, F, F, F, F, F, F, F, F, F,
-    ],
+    GREATER,
     // `<<`
-    [
-        F, F, F, F, F, F, F, F, F, F, F, F, F, F, F, T, F, F, F, F, F, F, F, F, F, F, F, F, F, F,
-    ],
+    EQUAL,
     // `>>`
-    [
-        F, F, F, F, F, F, F, F, F, F, F, F, F, F, T, T, F, F, F, F, F, F, F, F, F, F, F, F, F, F,
-    ],
+    GREATER | EQUAL,
     // `>>>`
-    [
-        F, F, F, F, F, F, F, F, F, F, F, F, F, F, F, T, F, F, F, F, F, F, F, F, F, F, F, F, F, F,
-    ],
+    EQUAL,
     // `&`
-    [
-        F, F, F, F, F, F, F, F, F, F, F, F, F, F, F, T, F, F, F, F, F, T, F, F, F, F, F, F, F, F,
-    ],
+    EQUAL | AMPERSAND,
     // `|`
-    [
-        F, F, F, F, F, F, F, F, F, F, F, F, F, F, F, T, F, F, F, F, F, F, T, F, F, F, F, F, F, F,
-    ],
+    EQUAL | BAR,
     // `^`
-    [
-        F, F, F, F, F, F, F, F, F, F, F, F, F, F, F, T, F, F, F, F, F, F, F, F, F, F, F, F, F, F,
-    ],
+    EQUAL,
     // `!`
-    [
-        F, F, F, F, F, F, F, F, F, F, F, F, F, F, F, T, F, F, F, F, F, F, F, F, F, F, F, F, F, F,
-    ],
+    EQUAL,
     // `~`
     NONE,
     // `&&`
-    [
-        F, F, F, F, F, F, F, F, F, F, F, F, F, F, F, T, F, F, F, F, F, F, F, F, F, F, F, F, F, F,
-    ],
+    EQUAL,
     // `||`
-    [
-        F, F, F, F, F, F, F, F, F, F, F, F, F, F, F, T, F, F, F, F, F, F, F, F, F, F, F, F, F, F,
-    ],
+    EQUAL,
     // `??`
-    [
-        F, F, F, F, F, F, F, F, F, F, F, F, F, F, F, T, F, F, F, F, F, F, F, F, F, F, F, F, F, F,
-    ],
+    EQUAL,
     // `?`
-    [
-        F, F, F, T, F, F, F, F, F, F, F, F, F, F, F, F, F, F, F, F, F, F, F, F, F, T, F, F, F, F,
-    ],
+    DOT | QUESTION,
     // `:`
     NONE,
     // `=`
-    [
-        F, F, F, F, F, F, F, F, F, F, F, F, F, F, T, T, F, F, F, F, F, F, F, F, F, F, F, F, F, F,
-    ],
+    GREATER | EQUAL,
     // `+=`
     NONE,
     // `-=`
@@ -221,29 +204,19 @@ const BLANKS: [[bool; 30]; 63] = [
     // `=>`
     NONE,
     // `/`
-    [
-        F, F, F, F, F, F, F, F, F, F, F, F, F, F, F, T, F, F, F, T, F, F, F, F, F, F, F, T, F, F,
-    ],
+    EQUAL | STAR | SLASH,
     // `/=`
     NONE,
     // `?.`
-    [
-        F, T, F, F, F, F, F, F, F, F, F, F, F, F, F, F, F, F, F, F, F, F, F, F, F, F, F, F, F, F,
-    ],
+    DIGIT,
     // `@`
     NONE,
     // `!` right after `<`
-    [
-        F, F, F, F, T, F, F, F, F, F, F, F, F, F, F, T, F, F, F, F, F, F, F, F, F, F, F, F, F, F,
-    ],
+    MINUS_MINUS | EQUAL,
     // a word
-    [
-        T, T, F, F, F, F, F, F, F, F, F, F, F, F, F, F, F, F, F, F, F, F, F, F, F, F, F, F, F, F,
-    ],
+    NAME_CHARACTER | DIGIT,
     // a decimal integer
-    [
-        T, T, T, T, F, F, F, F, F, F, F, F, F, F, F, F, F, F, F, F, F, F, F, F, F, F, F, F, F, F,
-    ],
+    NAME_CHARACTER | DIGIT | DOT_DIGIT | DOT,
     // a closing `>`
     NONE,
     // the rest

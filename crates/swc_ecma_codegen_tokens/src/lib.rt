@@ -1,9 +1,9 @@
 //! The lower emitter: it writes tokens, and what stands between them, and never calls a node's function.
 #![tactic(auto)]
 
-ghost use Rattle.std.specs.Prelude.{◌≡◌, ◌<◌, false};
+ghost use Rattle.std.specs.Prelude.{◌≡◌, false};
 ghost use Rattle.swc_ecma_codegen_common.specs.Refusals.{reason_of};
-ghost use Rattle.swc_ecma_codegen_tokens.specs.Classes.{row_of};
+ghost use Rattle.swc_ecma_codegen_tokens.specs.Classes.{IsRowOf};
 ghost use Rattle.swc_ecma_codegen_tokens.specs.PreviousToken.{class_of};
 
 mod answers;
@@ -47,13 +47,12 @@ use swc_ecma_codegen_literals::TokenClass;
 pub struct LowerEmitter {
     alloc: Global,
     last: TokenClass,
-    row: usize,
+    row: u32,
     token: Snapshot<PreviousToken>,
     failed: bool,
     fault: Option<io::Error>,
     ghost class: { failed ≡ false → class_of token.value ≡ last },
-    ghost of_class: { row ≡ row_of last },
-    ghost below: { row < 63 },
+    ghost of_class: { IsRowOf last row },
 }
 
 impl LowerEmitter {

@@ -1,14 +1,8 @@
-use Rattle.std.proofs.Common.{refl, sym, ap, ◌∙◌}
-use Rattle.swc_ecma_codegen_grammar.specs.Chars.{is_part, is_letter, is_digit, begins_digit}
-use Rattle.swc_ecma_codegen_grammar.specs.Texts.{is_same, begins, some_begins}
-use Rattle.swc_ecma_codegen_grammar.specs.Punctuators.{punctuators}
-use Rattle.swc_ecma_codegen_grammar.specs.GapRules.{fuses, grows, is_choice, mark_fuses}
+use Rattle.std.proofs.Common.{sym, ap, ◌∙◌, ◌==◌}
+use Rattle.std.specs.Int.{bit_at}
+use Rattle.std.proofs.lemmas.Nat.Bits.{shr_and_one}
 use Rattle.swc_ecma_codegen_tokens.specs.Starts.{order}
-use Rattle.swc_ecma_codegen_tokens.proofs.Starting.{samples}
-use Rattle.swc_ecma_codegen_tokens.proofs.Entries.{entry, entries, tokens}
 use Rattle.swc_ecma_codegen_tokens.proofs.guard.blank_due_after.Goals as goal
 
--- the table is computed from the gap rules
 pub returns : goal.returns
-unfolding entries tokens samples fuses mark_fuses grows is_choice is_part is_letter is_digit begins_digit is_same begins some_begins punctuators
-returns c = λ token text row start. entry _ _ _ token text refl c.requires c.place.ensures.below row (c.place.ensures.value ∙ ap order (sym start))
+returns c = λ class token text row same start. ap (λ n. n == 1) (shr_and_one c.args.row c.place.result ∙ ap (bit_at c.args.row) (c.place.ensures.value ∙ ap order (sym start))) ∙ row token text same
