@@ -4,6 +4,7 @@ ghost use Rattle.std.specs.Prelude.{◌≡◌, OnOk, IfOk, IfErr, true, string_b
 ghost use Rattle.std.specs.Cow.{cow_str_bytes};
 ghost use Rattle.swc_ecma_codegen_common.specs.declared.errors.Error.TheVariants.{OutOfMemory};
 ghost use Rattle.swc_ecma_codegen_grammar.specs.Comments.{maps_in};
+ghost use Rattle.swc_ecma_codegen_grammar.specs.DecimalValues.{decimal_digits};
 ghost use Rattle.swc_ecma_codegen_tokens.specs.Run.{DoesTaking, Does};
 ghost use Rattle.swc_ecma_codegen_tokens.specs.Lits.{prints_number_raw, is_finite, by_value, decimal_text, number_text, makes_number, is_named, infinity_text, infinity, not_a_number, named_number, number_by, spelled_number, number_at, number_lit, between_dots, before_property, object_by, spelled_object, number_object, prints_big_raw, big_int_text, makes_big_int, big_int_parts, big_int_by, big_int_at, big_int_lit};
 ghost use Rattle.swc_ecma_codegen_grammar.specs.LitPhrases as phrases;
@@ -53,8 +54,22 @@ fn decimal_text(alloc: Global, minify: bool, number: &Decimal) -> std::result::R
     }
 }
 
+/// Whether the digits of a number are all that is printed of it: of `12`, and of `123` where no shorter text is sought.
+#[inline(always)]
+#[tactic(auto, using(crate::proofs::OwnDigits::own_digits, crate::proofs::OwnDigits::few_digits))]
+fn is_own_digits(minify: bool, number: &Decimal) -> bool
+    ensures { result ≡ true → decimal_digits number.now ≡ decimal_text minify number.now }
+{
+    if number.negative() || number.exponent() != 0 {
+        return false;
+    }
+    if minify {
+        return number.digits().len() <= 2;
+    }
+    true
+}
+
 /// A finite number by its value. Where its digits are all that is printed of it, as of `12`, they are lent.
-#[tactic(auto, using(crate::proofs::OwnDigits::own_digits))]
 fn number_by_value<'a>(
     alloc: Global,
     minify: bool,
@@ -63,10 +78,10 @@ fn number_by_value<'a>(
     ensures exactly { IfOk result (λ text. cow_str_bytes text ≡ decimal_text minify number.now) }
     ensures refused { IfErr result (λ error. error ≡ OutOfMemory) }
 {
-    if minify || number.negative() || number.exponent() != 0 {
-        return Ok(CowStr::Owned(decimal_text(alloc, minify, number)?));
+    if is_own_digits(minify, number) {
+        return Ok(CowStr::Borrowed(number.digits()));
     }
-    Ok(CowStr::Borrowed(number.digits()))
+    Ok(CowStr::Owned(decimal_text(alloc, minify, number)?))
 }
 
 /// A number by its value. Of one that is infinite the raw stays.
