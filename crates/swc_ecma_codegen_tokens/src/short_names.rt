@@ -19,7 +19,7 @@ pub(crate) fn has_backslash(name: &str) -> bool
     holds_backslash(name)
 }
 
-/// Whether a name has at most 16 bytes and none of them is a backslash: `foo`, and not `\u0061`.
+/// Whether a name has at most 32 bytes and none of them is a backslash: `foo`, and not `\u0061`.
 #[inline(always)]
 fn is_short_without_backslash(name: &[u8]) -> bool
     ensures { OnTrue result (has_byte 92 name.now ≡ false) }
@@ -39,6 +39,8 @@ fn lacks_backslash(text: &[u8]) -> bool
         four_lack_backslash(text, 0) & four_lack_backslash(text, len - 4)
     } else if len <= 16 {
         eight_lack_backslash(text, 0) & eight_lack_backslash(text, len - 8)
+    } else if len <= 32 {
+        sixteen_lack_backslash(text, 0) & sixteen_lack_backslash(text, len - 16)
     } else {
         false
     }
@@ -75,4 +77,14 @@ fn eight_lack_backslash(text: &[u8], at: usize) -> bool
 {
     let lanes = u8x8::from_slice(&text[at..]);
     lanes.simd_eq(u8x8::splat(b'\\')).to_bitmask() == 0
+}
+
+/// The same of sixteen bytes.
+#[inline(always)]
+fn sixteen_lack_backslash(text: &[u8], at: usize) -> bool
+    requires { at + 16 ≤ length text.now }
+    ensures { OnTrue result (LacksBetween 92 text.now at (at + 16)) }
+{
+    let lanes = u8x16::from_slice(&text[at..]);
+    lanes.simd_eq(u8x16::splat(b'\\')).to_bitmask() == 0
 }
