@@ -1,4 +1,4 @@
-"""scripts/tree-of: its warnings, and what becomes of texts of JSX."""
+"""scripts/tree-of: its warnings, flat forms, and what becomes of texts of JSX."""
 
 import json
 import os
@@ -46,6 +46,48 @@ class Warnings(unittest.TestCase):
         for string in (r"'\ud800'", r"'\\ud7ff'", r"'\\u{1d800}'", r"'\\u d800'", r"`\\ud800`", r"/\\ud800/", "'\U0001F600'"):
             self.assertEqual(self.warned(string), [])
             self.assertEqual(ecmagen(run("tree-of", "-", given=string).stdout).returncode, 0, string)
+
+
+class Flat(unittest.TestCase):
+    def numbers(self, tree, flat, nodes):
+        """The numbers of a flat node in order, each with those of the node that it leads to before it: put back they make the tree."""
+        if isinstance(flat, int) and not isinstance(tree, int):
+            ((_, node),) = nodes[flat].items()
+            return [*self.numbers(tree, node, nodes), flat]
+        self.assertEqual(type(tree), type(flat))
+        if isinstance(tree, dict):
+            self.assertEqual(list(tree), list(flat))
+            return [number for name in tree for number in self.numbers(tree[name], flat[name], nodes)]
+        if isinstance(tree, list):
+            self.assertEqual(len(tree), len(flat))
+            return [number for pair in zip(tree, flat) for number in self.numbers(*pair, nodes)]
+        self.assertEqual(tree, flat)
+        return []
+
+    def flat(self, *words, given=""):
+        ran = run("tree-of", "--flat", *words, given=given)
+        self.assertEqual((ran.returncode, ran.stderr), (0, ""))
+        return json.loads(ran.stdout)["nodes"]
+
+    def test_links_are_numbers_of_earlier_nodes(self):
+        texts = {
+            "-": "a = -(b + c) ? function d() { return {e: [f, ...g]} } : `h${i}`; x: for (var [j, {k}] of l) m ??= (await, n?.o)",
+            "a.jsx": JSX,
+            "a.ts": "class A<B extends C> extends D<E> { @f g: H[] = <I>j } type K = {[l in M]: N} | [o?: P]; namespace Q { enum R { s } }",
+        }
+        with tempfile.TemporaryDirectory() as folder:
+            for name, text in texts.items():
+                path = name if name == "-" else write(folder, name, text)
+                tree = json.loads(run("tree-of", path, given=text).stdout)
+                *nodes, last = self.flat(path, given=text)
+                self.assertGreater(len(nodes), 8)
+                self.assertEqual(self.numbers(tree, last["Program"], nodes), list(range(len(nodes))))
+
+    def test_depth(self):
+        nodes = self.flat("-", given="!" * 2000 + "a")
+        self.assertEqual(nodes[0], {"Expr": {"Ident": {"span": {"lo": 2001, "hi": 2002}, "sym": "a", "optional": False}}})
+        self.assertEqual(nodes[2000]["Expr"]["Unary"]["arg"], 1999)
+        self.assertEqual(len(nodes), 2002)
 
 
 class Jsx(unittest.TestCase):

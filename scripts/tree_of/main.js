@@ -4,10 +4,10 @@ const { writeFileSync } = require('fs');
 const { FLAGS, Fault, byName, faultOf, textOf, located, titleOf } = require('./files.js');
 const { treeOf } = require('./tree.js');
 
-const OWN = { '--estree': 'estree', '--without-parentheses': 'bare', '--parenthesize': 'mends' };
+const OWN = { '--estree': 'estree', '--without-parentheses': 'bare', '--parenthesize': 'mends', '--flat': 'flat' };
 
 function options(words) {
-  const given = { estree: false, bare: false, mends: false };
+  const given = { estree: false, bare: false, mends: false, flat: false };
   let path = null, comments = null;
   for (let at = 0; at < words.length; at++) {
     const word = words[at];
@@ -61,7 +61,8 @@ function main() {
     process.exit(2);
   }
   const { tree, comments, warnings } = made(asked);
-  written(1, reshaped(tree, asked));
+  const shaped = reshaped(tree, asked);
+  written(1, asked.flat ? require('./flat.js').flat(shaped) : shaped);
   if (asked.comments !== null) written(asked.comments, comments);
   warnings.forEach((warning) => console.error(`${titleOf(asked.path)}:${warning}`));
 }

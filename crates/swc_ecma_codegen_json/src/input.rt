@@ -33,6 +33,14 @@ impl<'a, 'de, 's, F: Format> Input<'a, 'de, 's, F> {
         }
     }
 
+    /// What is wrong with the node of this number.
+    fn of_node(&self, before: &str, number: u32, after: &str) -> F::Error {
+        match format!(in self.alloc; "{before} {number}{after}") {
+            Ok(message) => self.from.custom(&message),
+            Err(_) => self.from.no_memory(),
+        }
+    }
+
     /// What was read, or the error is kept: the first.
     #[inline(always)]
     fn keep<T: Drop>(&mut self, read: Result<T, F::Error>) -> Result<T, Failed> {
@@ -150,6 +158,13 @@ impl<'a, 'de, 's, F: Format> Source for Input<'a, 'de, 's, F> {
             Fault::NotInItsForm => self.from.custom("a number that isn't in its one form"),
             Fault::NoMemory => self.from.no_memory(),
             Fault::TooDeep => self.from.custom("recursion limit exceeded"),
+            // (serde_json keeps 32 bytes of a message)
+            Fault::NoSuchNode(number) => self.of_node("no earlier node", number, ""),
+            Fault::LinkedTwice(number) => self.of_node("node", number, " linked twice"),
+            Fault::OtherSort(number) => self.of_node("node", number, " of another sort"),
+            Fault::NeverLinked(number) => self.of_node("node", number, " never linked"),
+            Fault::NoProgram => self.from.custom("no program at the end"),
+            Fault::PastProgram => self.from.custom("a node behind the program"),
         });
         Failed
     }

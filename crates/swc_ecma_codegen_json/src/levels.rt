@@ -31,23 +31,33 @@ impl Readable for AnyNode {
     fn maker(alloc: Global) -> Result<Levels, AllocError> {
         all_levels(alloc)
     }
+
+    fn read_sorted<S: Source, M: Make<AnyNode>>(
+        sort: Sort,
+        source: &mut S,
+        make: &M,
+    ) -> Result<AnyNode, Failed> {
+        read_node(sort, source, make)
+    }
 }
 
 impl Make<AnyNode> for Levels {
-    #[cycle(tie)]
     #[inline(always)]
     fn make<S: Source>(&self, sort: Sort, source: &mut S) -> Result<AnyNode, Failed> {
         match self {
-            Levels::More(fewer) => read_node(sort, source, fewer),
+            Levels::More(fewer) => read_node::<S, Levels>(sort, source, fewer),
             Levels::Out => Err(source.fail(Fault::TooDeep)),
         }
     }
 }
 
-/// A node of a sort, and all that lies below it, read by its area. What a link holds is made of it here, by its variant: that a
-/// link may hold a sort, said to a reader of that sort, would be compared with the whole tree.
-#[cycle(tie)]
-fn read_node<S: Source>(sort: Sort, source: &mut S, make: &Levels) -> Result<AnyNode, Failed> {
+/// A node of a sort, read by its area. What its links hold is made by `make`. What a link holds is made of it here, by its
+/// variant: that a link may hold a sort, said to a reader of that sort, would be compared with the whole tree.
+fn read_node<S: Source, M: Make<AnyNode>>(
+    sort: Sort,
+    source: &mut S,
+    make: &M,
+) -> Result<AnyNode, Failed> {
     Ok(match sort {
         Sort::Expr => AnyNode::Expr(read_expr(source, make)?),
         Sort::Stmt => AnyNode::Stmt(read_stmt(source, make)?),

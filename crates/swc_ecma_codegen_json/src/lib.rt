@@ -16,6 +16,7 @@ mod errors;
 mod expr;
 mod expr_nodes;
 mod exprs;
+mod flat;
 mod idents;
 mod input;
 mod jsx;
@@ -47,6 +48,7 @@ mod ts_types;
 mod values;
 
 pub use crate::errors::{Read, ReadError};
+pub use crate::flat::FlatTree;
 pub use crate::trees::Tree;
 use std::alloc::Global;
 use swc_ecma_codegen_tree::Program;

@@ -71,6 +71,13 @@ pub trait Readable: Drop {
     type Maker: Make<Self> + Drop;
 
     fn maker(alloc: Global) -> Result<Self::Maker, AllocError>;
+
+    /// A node of a sort. What its links hold is made by `make`.
+    fn read_sorted<S: Source, M: Make<Self>>(
+        sort: Sort,
+        source: &mut S,
+        make: &M,
+    ) -> Result<Self, Failed>;
 }
 
 /// What can be read, by the readers of the area `A`. What a link holds is made by `make`.

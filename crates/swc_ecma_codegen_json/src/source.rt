@@ -24,6 +24,18 @@ pub enum Fault<'a> {
     NoMemory,
     /// Too many links lie below one another.
     TooDeep,
+    /// A link in the flat form has the number of a node that doesn't stand before it.
+    NoSuchNode(u32),
+    /// A second link leads to the node of this number.
+    LinkedTwice(u32),
+    /// A link leads to the node of this number, which isn't of its sort.
+    OtherSort(u32),
+    /// No link leads to the node of this number.
+    NeverLinked(u32),
+    /// A list of nodes ends without a program.
+    NoProgram,
+    /// A node stands behind the program.
+    PastProgram,
 }
 
 /// A text that is read once, from its beginning to its end. Once a call has failed, so does each later one.
