@@ -53,13 +53,14 @@ const BEGINNINGS = {
   headOfForOf: ({ first, isName }) => first === 'let' && isName,
 };
 
-// What holds the element of JSX that ends an expression, and under which key; nothing where none does.
-function elementAtEnd(holder, key) {
+// What holds the element of JSX that ends an expression, and under which key; nothing where none does. Minified, `new A()` is `new A`.
+function elementAtEnd(holder, key, minified) {
   const node = holder[key], kind = tag(node), part = node[kind];
   if (kind === 'JSXElement' || kind === 'JSXFragment') return { holder, key };
-  if (kind === 'Bin') return elementAtEnd(part, 'right');
-  if (kind === 'Unary' || kind === 'Await' || (kind === 'Update' && part.prefix)) return elementAtEnd(part, 'arg');
-  return kind === 'New' && part.args === null ? elementAtEnd(part, 'callee') : null;
+  if (kind === 'Bin') return elementAtEnd(part, 'right', minified);
+  if (kind === 'Unary' || kind === 'Await' || (kind === 'Update' && part.prefix)) return elementAtEnd(part, 'arg', minified);
+  const isBare = kind === 'New' && (part.args === null || (minified && part.args.length === 0));
+  return isBare ? elementAtEnd(part, 'callee', minified) : null;
 }
 
 const WITH_BODY = ['Labeled', 'While', 'For', 'ForIn', 'ForOf', 'With'];

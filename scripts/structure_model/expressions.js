@@ -54,7 +54,7 @@ const EXPRESSIONS = {
   Member: (walk, part, context, within) => walk.member(part, 'Callee', within),
   SuperProp: (walk, part, context, within) => ({ ...part, prop: walk.memberProp(part.prop, within) }),
   Call: (walk, part, context, within) => walk.call(part, within),
-  New: (walk, part, context, within) => walk.newExpr(part, within),
+  New: (walk, part, context, within, isCalled) => walk.newExpr(part, within, isCalled),
   OptChain: (walk, part, context, within) => walk.chain(part, within),
   Tpl: (walk, part, context, within) => walk.template(part, within),
   TaggedTpl: (walk, part, context, within) => {
@@ -90,10 +90,10 @@ const PROPERTIES = {
 };
 
 const expressions = {
-  // An expression whose level its place takes.
-  inside(node, context) {
+  // An expression whose level its place takes; `isCalled` where it is called, or has a member.
+  inside(node, context, isCalled) {
     const kind = tag(node), made = EXPRESSIONS[kind];
-    if (made) return { [kind]: made(this, node[kind], context, { ...context, in: true }) };
+    if (made) return { [kind]: made(this, node[kind], context, { ...context, in: true }, isCalled) };
     this.scope(kind);
     return node;
   },
@@ -109,7 +109,7 @@ const expressions = {
     const isPrivate = part.op === 'In' && tag(part.left) === 'PrivateName';
     const made = { ...part, left: isPrivate ? part.left : this.expr(part.left, LEFT_GOALS[level] || level, context) };
     // Babel and TypeScript take `<a/> < b` for an element beside another
-    const element = part.op === 'Lt' ? elementAtEnd(made, 'left') : null;
+    const element = part.op === 'Lt' ? elementAtEnd(made, 'left', this.minified) : null;
     if (element && this.mends) element.holder[element.key] = paren(element.holder[element.key]);
     else if (element) this.fault('lookahead', '< behind an element of JSX');
     return { ...made, right: this.expr(part.right, rightGoal, context) };
@@ -140,12 +140,13 @@ const expressions = {
     return { ...part, callee: made, args: this.arguments(args, context) };
   },
 
-  // Minified, `new A()` may lose its parentheses where it is the callee of another `new`: it is New there, and not Member.
-  newExpr(part, context) {
+  // Minified, `new A()` loses its parentheses, but where it is called or has a member. As the callee of a `new` that keeps its own it is New then,
+  // and not Member.
+  newExpr(part, context, isCalled) {
     const { callee, args, type_args } = part;
     if (type_args) this.scope('type arguments');
     let made;
-    if (args === null || args.length === 0 || !isEmptyNew(callee)) made = this.expr(callee, args === null ? 'NewCallee' : 'MemberOnly', context);
+    if (args === null || (args.length === 0 && !isCalled) || !isEmptyNew(callee)) made = this.expr(callee, args === null ? 'NewCallee' : 'MemberOnly', context);
     else if (this.mends) made = paren(this.inside(callee, context));
     else {
       if (this.minified) this.fault('level', 'New without arguments as Member, minified');

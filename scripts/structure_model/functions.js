@@ -90,10 +90,9 @@ const functions = {
   },
 
   method(part, context, isPrivate) {
-    const { params, is_generator, is_async } = part.function;
+    const { params } = part.function;
     this.checkMarks(part);
-    const isPlain = part.kind === 'Method' && !part.is_static && !is_generator && !is_async;
-    if (!isPrivate && isPlain && isConstructorName(part.key)) this.fault('grammar', 'method of the name constructor');
+    if (!isPrivate && !part.is_static && isConstructorName(part.key)) this.fault('grammar', 'method of the name constructor');
     if (part.kind === 'Getter' && params.length !== 0) this.fault('grammar', 'parameters of a getter');
     if (part.kind === 'Setter' && (params.length !== 1 || params[0].pat.Rest)) this.fault('grammar', 'parameters of a setter');
     const made = { ...this.function(part.function, context), decorators: this.decorators(part.function.decorators, context) };

@@ -13,8 +13,9 @@ const ITEMS = {
   ExportDefaultExpr: (walk, part, context) => ({
     ...part, expr: walk.exprNot(part.expr, 'Assignment', { ...context, in: true }, BEGINNINGS.defaultExport, 'export default'),
   }),
-  ExportNamed: (walk, part) => {
+  ExportNamed: (walk, part, context) => {
     if (part.specifiers.some(({ Namespace }) => Namespace) && (!part.src || part.specifiers.length !== 1)) walk.fault('grammar', 'export * as');
+    if (!part.src) part.specifiers.forEach(({ Named }) => walk.declaredName(Named, context));
     return part;
   },
   ExportAll: (walk, part) => part,
@@ -28,6 +29,13 @@ const modules = {
     if (made) return { ModuleDecl: { [kind]: made(this, part, context) } };
     this.scope(kind);
     return item;
+  },
+
+  // Without `from` a module exports names that it declares.
+  declaredName(named, context) {
+    if (!named) return;
+    if (named.orig.Str) this.fault('grammar', 'a string as a declared name');
+    else this.name(named.orig.Ident, context);
   },
 
   defaultDecl(decl, context) {

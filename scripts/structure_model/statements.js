@@ -10,7 +10,10 @@ const STATEMENTS = {
   Empty: (walk, part) => part,
   Debugger: (walk, part) => part,
   Expr: (walk, part, context, within) => ({ ...part, expr: walk.exprNot(part.expr, 'Expression', within, BEGINNINGS.statement, 'a statement') }),
-  With: (walk, part, context, within) => ({ ...part, obj: walk.expr(part.obj, 'Expression', within), body: walk.body(part.body, context) }),
+  With: (walk, part, context, within) => {
+    if (context.strict) walk.fault('grammar', 'with in strict code');
+    return { ...part, obj: walk.expr(part.obj, 'Expression', within), body: walk.body(part.body, context) };
+  },
   Return: (walk, part, context, within) => {
     if (!context.return) walk.fault('grammar', 'return without [Return]');
     return { ...part, arg: walk.optionalExpr(part.arg, 'Expression', within) };
@@ -138,6 +141,7 @@ const statements = {
 
   variables(part, context) {
     if (part.declare) this.scope('declare');
+    if (part.kind === 'Const' && part.decls.some(({ init }) => !init)) this.fault('grammar', 'const without a value');
     return { ...part, decls: part.decls.map((each) => this.declarator(each, context, false)) };
   },
 

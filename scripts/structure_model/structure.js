@@ -5,10 +5,10 @@ const { bare } = require('./bare.js');
 
 // The faults of a program that is no derivation of ECMA-262's syntactic grammar, each of a kind: `level`, `in`, `lookahead` and `else`, which
 // parentheses cure (or a block, before `else`), `grammar`, which nothing cures, and `scope`, for which the table has no productions. A `return`
-// may stand anywhere, as parsers can be told.
+// may stand anywhere, as parsers can be told, but for `returnsAnywhere: false`.
 function check(program, options = {}) {
   const walk = new Walk(options);
-  walk.returnsAnywhere = true;
+  walk.returnsAnywhere = options.returnsAnywhere !== false;
   walk.program(program);
   return walk.faults;
 }

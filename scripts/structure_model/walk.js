@@ -8,6 +8,8 @@ const { leftmost } = require('./edges.js');
 const RESERVED = new Set((
   'break case catch class const continue debugger default delete do else enum export extends false finally for function if import in instanceof new null return '
   + 'super switch this throw true try typeof var void while with').split(' '));
+// where an expression is called or has a member
+const CALLED = new Set(['Callee', 'ChainBase', 'ChainLink']);
 const STRICT = new Set('implements interface let package private protected public static yield'.split(' '));
 
 // A context has the parameters of a goal, [In], [Yield], [Await] and [Return], and whether the code is strict, a module's or a static block's.
@@ -36,7 +38,7 @@ class Walk {
       if (this.mends) return paren(this.inside(node, { ...context, in: true }));
       this.fault('in', '`in` before `in` or `;`');
     }
-    return this.inside(node, context);
+    return this.inside(node, context, CALLED.has(goal));
   }
 
   optionalExpr(node, goal, context) {

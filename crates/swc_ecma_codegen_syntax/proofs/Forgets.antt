@@ -1,10 +1,8 @@
 -- Without nonterminals a form is today's production, where it keeps its structure.
-use Rattle.std.proofs.Common.{◌≡◌, ℕ, Bool, true, false, cond, refl, sym, ◌∙◌, ap, ap₂, List, [], ◌∷◌, map, codes, Option, Some, None}
+use Rattle.std.proofs.Common.{◌≡◌, ℕ, Bool, true, false, cond, refl, ◌∙◌, ap, ap₂, List, [], ◌∷◌, map, codes, Option, Some, None}
 use Rattle.std.specs.declared.vec.Vec.{Vec}
-use Rattle.std.proofs.lemmas.Bool.{true≢false, and_parts}
-use Rattle.swc_ecma_codegen_tree.specs.Links.{ExprBox, TsTypeAnnBox, TsTypeParamInstantiationBox}
-use Rattle.swc_ecma_codegen_tree.specs.declared.exprs.Expr.{Expr}
-use Rattle.swc_ecma_codegen_tree.specs.declared.exprs.Expr.TheVariants as exprs
+use Rattle.std.proofs.lemmas.Bool.{and_parts}
+use Rattle.swc_ecma_codegen_tree.specs.Links.{BlockStmtBox, ExprBox, PatBox, TsTypeAnnBox, TsTypeParamInstantiationBox}
 use Rattle.swc_ecma_codegen_tree.specs.declared.exprs.UpdateExpr.{UpdateExpr}
 use Rattle.swc_ecma_codegen_tree.specs.declared.exprs.MemberExpr.{MemberExpr}
 use Rattle.swc_ecma_codegen_tree.specs.declared.exprs.MemberProp.{MemberProp}
@@ -33,30 +31,35 @@ use Rattle.swc_ecma_codegen_tree.specs.declared.exprs.Prop.TheVariants as props
 use Rattle.swc_ecma_codegen_tree.specs.declared.exprs.PropName.{PropName}
 use Rattle.swc_ecma_codegen_tree.specs.declared.exprs.PropName.TheVariants as prop_names
 use Rattle.swc_ecma_codegen_tree.specs.declared.exprs.KeyValueProp.{KeyValueProp}
-use Rattle.swc_ecma_codegen_grammar.specs.Phrases.{Phrase, Never, Then, OptionalParentheses, ◌>◌, word, mark}
+use Rattle.swc_ecma_codegen_tree.specs.declared.exprs.GetterProp.{GetterProp}
+use Rattle.swc_ecma_codegen_tree.specs.declared.exprs.SetterProp.{SetterProp}
+use Rattle.swc_ecma_codegen_tree.specs.declared.exprs.MethodProp.{MethodProp}
+use Rattle.swc_ecma_codegen_grammar.specs.PatPhrases.{pat_at, prop_name_at}
+use Rattle.swc_ecma_codegen_grammar.specs.FunctionPhrases.{function_at}
+use Rattle.swc_ecma_codegen_grammar.specs.Phrases.{Phrase, Never, Then, ◌>◌, word, mark}
 use Rattle.swc_ecma_codegen_grammar.specs.Phrases as phrases
 use Rattle.swc_ecma_codegen_grammar.specs.AnnotationPhrases.{annotation, type_args}
 use Rattle.swc_ecma_codegen_grammar.specs.ElementPhrases as elements
 use Rattle.swc_ecma_codegen_grammar.specs.KeyPhrases.{computed_prop_name, prop_name}
 use Rattle.swc_ecma_codegen_grammar.specs.CallPhrases.{callee_at, expr_or_spread, array_elements, array_lit, arguments, callee, call_expr, listed_arguments, new_arguments, new_expr, call_mark, chain_call}
 use Rattle.swc_ecma_codegen_grammar.specs.TemplatePhrases.{tpl_element, part_before, is_counted, tpl_rest, tpl_parts, tpl, tagged_tpl}
-use Rattle.swc_ecma_codegen_grammar.specs.PropPhrases.{key_value_prop, assign_prop, prop, spread_element, prop_or_spread, object_lit}
-use Rattle.swc_ecma_codegen_grammar.specs.ExprPhrases.{expr_at, unary_expr, update_expr, bin_expr, member_prop, member_expr, super_prop, super_prop_expr, chain_mark, chain_prop, chain_member, chain_base, opt_chain_expr, assign_expr, yield_arg, yield_rest, yield_expr, await_expr, cond_expr, seq_expr, paren_expr, expr}
+use Rattle.swc_ecma_codegen_grammar.specs.PropPhrases.{key_value_prop, assign_prop, optional_body, getter_prop, this_param, setter_prop, method_prop, prop, spread_element, prop_or_spread, object_lit}
+use Rattle.swc_ecma_codegen_grammar.specs.ExprPhrases.{expr_at, update_expr, member_prop, member_expr, super_prop, super_prop_expr, chain_mark, chain_prop, chain_member, chain_base, opt_chain_expr, yield_arg, yield_rest}
 use Rattle.swc_ecma_codegen_grammar.specs.declared.roles.Role.{Role}
-use Rattle.swc_ecma_codegen_grammar.specs.declared.roles.Role.TheVariants.{Expression, TaggedTemplate}
+use Rattle.swc_ecma_codegen_grammar.specs.declared.roles.Role.TheVariants.{Expression, MethodHead, TaggedTemplate}
 use Rattle.swc_ecma_codegen_syntax.specs.declared.nonterminals.Nonterminal.{Nonterminal}
 use Rattle.swc_ecma_codegen_syntax.specs.declared.nonterminals.Nonterminal.TheVariants as nt
 use Rattle.swc_ecma_codegen_syntax.specs.declared.parameters.Parameters.{Parameters}
-use Rattle.swc_ecma_codegen_syntax.specs.declared.verdicts.Facts.{Facts}
+use Rattle.swc_ecma_codegen_syntax.specs.Told.{Told}
 use Rattle.swc_ecma_codegen_syntax.specs.Parameters.{with_in}
 use Rattle.swc_ecma_codegen_syntax.specs.Forms.{Form, Fixed, Provided, ByRule, forget, keeps, is_met, each_after, listed, element}
-use Rattle.swc_ecma_codegen_syntax.specs.NameForms.{name_form, lit_form}
+use Rattle.swc_ecma_codegen_syntax.specs.NameForms.{name_form}
 use Rattle.swc_ecma_codegen_syntax.specs.MemberForms.{expr_part, computed_form, prop_form, member_form, super_form, super_prop_form, annotation_form, type_args_form, tagged_form, chain_prop_form, chain_member_form, chain_base_form, opt_chain_form}
 use Rattle.swc_ecma_codegen_syntax.specs.CallForms.{argument_form, elements_form, array_form, arguments_form, callee_form, call_form, listed_form, new_arguments_form, new_form, chain_call_form}
 use Rattle.swc_ecma_codegen_syntax.specs.TemplateForms.{tpl_rest_form, tpl_parts_form, tpl_form}
-use Rattle.swc_ecma_codegen_syntax.specs.ObjectForms.{prop_name_form, key_value_form, assign_prop_form, property_form, spread_form, prop_or_spread_form, object_form}
-use Rattle.swc_ecma_codegen_syntax.specs.ExprForms.{unary_form, update_form, bin_form, cond_form, assign_form, yield_arg_form, yield_rest_form, yield_form, await_form, seq_form, paren_form, expr_form}
-use Rattle.swc_ecma_codegen_syntax.proofs.Judged.{listed_forgets, some_forgets, map_same, element_forgets}
+use Rattle.swc_ecma_codegen_syntax.specs.ObjectForms.{prop_name_form, key_value_form, assign_prop_form, accessor_body_form, getter_form, this_param_form, setter_form, method_prop_form, property_form, spread_form, prop_or_spread_form, object_form}
+use Rattle.swc_ecma_codegen_syntax.specs.ExprForms.{update_form, yield_arg_form, yield_rest_form}
+use Rattle.swc_ecma_codegen_syntax.proofs.Judged.{listed_forgets, map_same, element_forgets}
 
 -- ---- types
 
@@ -194,20 +197,46 @@ key_value_forgets : {X : Type 0} (p : X → Role → Phrase) (c : Parameters) (n
 unfolding forget key_value_form key_value_prop
 key_value_forgets p c n = ap (λ q. q > mark (codes ":") > p n.value.node.value Expression) (prop_name_forgets p c n.key)
 
-property_forgets : {X : Type 0} (places : Bool) (f : X → Role → Parameters → Facts) (p : X → Role → Phrase) (c : Parameters) (n : Prop X) → keeps places f (property_form c n) ≡ true → forget p (property_form c n) ≡ prop p n
+accessor_body_forgets : {X : Type 0} (p : X → Role → Phrase) (c : Parameters) (n : Option (BlockStmtBox X)) → forget p (accessor_body_form c n) ≡ optional_body p n
+unfolding forget accessor_body_form optional_body
+accessor_body_forgets p c None = refl
+accessor_body_forgets p c (Some n) = refl
+
+getter_forgets : {X : Type 0} (p : X → Role → Phrase) (c : Parameters) (n : GetterProp X) → forget p (getter_form c n) ≡ getter_prop p n
+unfolding forget getter_form getter_prop
+getter_forgets p c n =
+    ap₂ (λ q r. word (codes "get") > prop_name_at p n.key > mark (codes "(") > mark (codes ")") > q > r) (annotation_forgets p c n.type_ann) (accessor_body_forgets p c n.body)
+
+this_forgets : {X : Type 0} (p : X → Role → Phrase) (c : Parameters) (n : Option (PatBox X)) → forget p (this_param_form c n) ≡ this_param p n
+unfolding forget this_param_form this_param
+this_forgets p c None = refl
+this_forgets p c (Some n) = refl
+
+setter_forgets : {X : Type 0} (p : X → Role → Phrase) (c : Parameters) (n : SetterProp X) → forget p (setter_form c n) ≡ setter_prop p n
+unfolding forget setter_form setter_prop
+setter_forgets p c n =
+    ap₂ (λ q r. word (codes "set") > prop_name_at p n.key > mark (codes "(") > q > pat_at p n.param > mark (codes ")") > r) (this_forgets p c n.this_param) (accessor_body_forgets p c n.body)
+
+method_forgets : {X : Type 0} (p : X → Role → Phrase) (c : Parameters) (n : MethodProp X) → forget p (method_prop_form c n) ≡ method_prop p n
+unfolding forget method_prop_form method_prop
+method_forgets p c n = ap (λ q. p n.function.node.value MethodHead > q > function_at p n.function) (prop_name_forgets p c n.key)
+
+property_forgets : {X : Type 0} (places : Bool) (f : X → Role → Parameters → Told) (p : X → Role → Phrase) (c : Parameters) (n : Prop X) → keeps places f (property_form c n) ≡ true → forget p (property_form c n) ≡ prop p n
 unfolding forget keeps is_met property_form assign_prop_form name_form prop assign_prop
 property_forgets places f p c (props.Shorthand n) k = refl
 property_forgets places f p c (props.KeyValue n) k = key_value_forgets p c n
 property_forgets places f p c (props.Assign n) k = refl
-property_forgets places f p c n k = absurd (true≢false (sym k))
+property_forgets places f p c (props.Getter n) k = getter_forgets p c n
+property_forgets places f p c (props.Setter n) k = setter_forgets p c n
+property_forgets places f p c (props.Method n) k = method_forgets p c n
 
-spread_or_forgets : {X : Type 0} (places : Bool) (f : X → Role → Parameters → Facts) (p : X → Role → Phrase) (c : Parameters) (n : PropOrSpread X) → keeps places f (prop_or_spread_form c n) ≡ true → forget p (prop_or_spread_form c n) ≡ prop_or_spread p n
+spread_or_forgets : {X : Type 0} (places : Bool) (f : X → Role → Parameters → Told) (p : X → Role → Phrase) (c : Parameters) (n : PropOrSpread X) → keeps places f (prop_or_spread_form c n) ≡ true → forget p (prop_or_spread_form c n) ≡ prop_or_spread p n
 unfolding forget prop_or_spread_form spread_form prop_or_spread spread_element
 spread_or_forgets places f p c (prop_or_spreads.Spread n) k = refl
 spread_or_forgets places f p c (prop_or_spreads.Prop n) k = property_forgets places f p c n k
 
 -- lists of what keeps its structure
-kept_after : {X A : Type 0} (places : Bool) (f : X → Role → Parameters → Facts) (p : X → Role → Phrase) (t : List ℕ) (e : A → Form X) (d : A → Phrase) → ((x : A) → keeps places f (e x) ≡ true → forget p (e x) ≡ d x) →
+pub kept_after : {X A : Type 0} (places : Bool) (f : X → Role → Parameters → Told) (p : X → Role → Phrase) (t : List ℕ) (e : A → Form X) (d : A → Phrase) → ((x : A) → keeps places f (e x) ≡ true → forget p (e x) ≡ d x) →
     (xs : List A) → keeps places f (each_after t e xs) ≡ true → forget p (each_after t e xs) ≡ phrases.each_after t (map d xs)
 unfolding forget keeps each_after phrases.each_after
 kept_after places f p t e d same [] k = refl
@@ -215,7 +244,7 @@ kept_after places f p t e d same (x ∷ xs) k =
     let (h, l) = and_parts (keeps places f (e x)) (keeps places f (each_after t e xs)) k in
     ap₂ (λ a b. mark t > a > b) (same x h) (kept_after places f p t e d same xs l)
 
-kept_listed : {X A : Type 0} (places : Bool) (f : X → Role → Parameters → Facts) (p : X → Role → Phrase) (t : List ℕ) (e : A → Form X) (d : A → Phrase) → ((x : A) → keeps places f (e x) ≡ true → forget p (e x) ≡ d x) →
+pub kept_listed : {X A : Type 0} (places : Bool) (f : X → Role → Parameters → Told) (p : X → Role → Phrase) (t : List ℕ) (e : A → Form X) (d : A → Phrase) → ((x : A) → keeps places f (e x) ≡ true → forget p (e x) ≡ d x) →
     (xs : List A) → keeps places f (listed t e xs) ≡ true → forget p (listed t e xs) ≡ phrases.listed t (map d xs)
 unfolding forget keeps listed phrases.listed
 kept_listed places f p t e d same [] k = refl
@@ -223,7 +252,7 @@ kept_listed places f p t e d same (x ∷ xs) k =
     let (h, l) = and_parts (keeps places f (e x)) (keeps places f (each_after t e xs)) k in
     ap₂ (λ a b. a > b) (same x h) (kept_after places f p t e d same xs l)
 
-pub object_forgets : {X : Type 0} (places : Bool) (f : X → Role → Parameters → Facts) (p : X → Role → Phrase) (c : Parameters) (n : ObjectLit X) → keeps places f (object_form c n) ≡ true → forget p (object_form c n) ≡ object_lit p n
+pub object_forgets : {X : Type 0} (places : Bool) (f : X → Role → Parameters → Told) (p : X → Role → Phrase) (c : Parameters) (n : ObjectLit X) → keeps places f (object_form c n) ≡ true → forget p (object_form c n) ≡ object_lit p n
 unfolding forget keeps object_form object_lit
 object_forgets places f p c n k =
     ap (λ q. mark (codes "{") > q > mark (codes "}")) (kept_listed places f p (codes ",") (prop_or_spread_form c) (prop_or_spread p) (spread_or_forgets places f p c) n.props.items
@@ -242,30 +271,3 @@ yield_forgets p c true None = refl
 yield_forgets p c true (Some x) = refl
 yield_forgets p c false None = refl
 yield_forgets p c false (Some x) = refl
-
-pub expr_forgets : {X : Type 0} (places : Bool) (f : X → Role → Parameters → Facts) (p : X → Role → Phrase) (called : Bool) (c : Parameters) (n : Expr X) → keeps places f (expr_form false called c n) ≡ true → forget p (expr_form false called c n) ≡ expr p n
-unfolding forget keeps is_met expr_form expr unary_form bin_form cond_form assign_form yield_form await_form seq_form paren_form name_form lit_form unary_expr bin_expr cond_expr assign_expr yield_expr await_expr seq_expr paren_expr
-expr_forgets places f p called c (exprs.This n) k = refl
-expr_forgets places f p called c (exprs.Array n) k = array_forgets p c n
-expr_forgets places f p called c (exprs.Object n) k = object_forgets places f p c n k
-expr_forgets places f p called c (exprs.Unary n) k = refl
-expr_forgets places f p called c (exprs.Update n) k = update_forgets p c n n.prefix
-expr_forgets places f p called c (exprs.Bin n) k = refl
-expr_forgets places f p called c (exprs.Assign n) k = refl
-expr_forgets places f p called c (exprs.Member n) k = member_forgets p _ c n
-expr_forgets places f p called c (exprs.SuperProp n) k = super_prop_forgets p c n
-expr_forgets places f p called c (exprs.Cond n) k = refl
-expr_forgets places f p called c (exprs.Call n) k = call_forgets p c n
-expr_forgets places f p called c (exprs.New n) k = new_forgets p c false n
-expr_forgets places f p called c (exprs.Seq n) k = some_forgets p (codes ",") (expr_part nt.AssignmentExpression c) n.exprs.items
-expr_forgets places f p called c (exprs.Ident n) k = refl
-expr_forgets places f p called c (exprs.Lit n) k = refl
-expr_forgets places f p called c (exprs.Tpl n) k = refl
-expr_forgets places f p called c (exprs.TaggedTpl n) k = tagged_forgets p _ c n
-expr_forgets places f p called c (exprs.Yield n) k = ap (Then (word (codes "yield"))) (yield_forgets p c n.delegate n.arg)
-expr_forgets places f p called c (exprs.MetaProp n) k = refl
-expr_forgets places f p called c (exprs.Await n) k = refl
-expr_forgets places f p called c (exprs.Paren n) k = refl
-expr_forgets places f p called c (exprs.PrivateName n) k = refl
-expr_forgets places f p called c (exprs.OptChain n) k = chain_forgets p c n
-expr_forgets places f p called c n k = absurd (true≢false (sym k))

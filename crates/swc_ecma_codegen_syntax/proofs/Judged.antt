@@ -1,16 +1,19 @@
 -- What the check says of a form, and over what its parts are told by.
-use Rattle.std.proofs.Common.{◌≡◌, ℕ, Bool, false, ◌&&◌, List, [], ◌∷◌, map, Option, Some, None, refl, sym, ◌∙◌, ap, ap₂}
+use Rattle.std.proofs.Common.{◌≡◌, ℕ, Bool, false, ◌&&◌, not, List, [], ◌∷◌, map, Option, Some, None, refl, sym, ◌∙◌, ap, ap₂}
 use Rattle.swc_ecma_codegen_grammar.specs.Phrases.{Phrase, Nothing, Then, OptionalParentheses, mark}
 use Rattle.swc_ecma_codegen_grammar.specs.Phrases as phrases
 use Rattle.swc_ecma_codegen_grammar.specs.ElementPhrases as elements
 use Rattle.swc_ecma_codegen_grammar.specs.declared.roles.Role.{Role}
-use Rattle.swc_ecma_codegen_grammar.specs.declared.roles.Role.TheVariants.{Expression}
+use Rattle.swc_ecma_codegen_grammar.specs.declared.roles.Role.TheVariants.{Expression, Statement, Pattern}
 use Rattle.swc_ecma_codegen_syntax.specs.declared.nonterminals.Nonterminal.{Nonterminal}
 use Rattle.swc_ecma_codegen_syntax.specs.declared.parameters.Parameters.{Parameters}
 use Rattle.swc_ecma_codegen_syntax.specs.declared.verdicts.Facts.{Facts}
+use Rattle.swc_ecma_codegen_syntax.specs.Told.{Told, begins_in, empty_in}
 use Rattle.swc_ecma_codegen_syntax.specs.declared.verdicts.Verdict.{Verdict}
 use Rattle.swc_ecma_codegen_syntax.specs.Verdicts.{by_rule, standing, holds}
-use Rattle.swc_ecma_codegen_syntax.specs.Forms.{Form, Fixed, Part, Simple, Both, Provided, Closed, Bare, ByRule, forget, map_form, is_target, asked, of_part, judge, is_met, stands, keeps, each_after, listed, some_listed, element, verdict_all}
+use Rattle.swc_ecma_codegen_syntax.specs.Parameters.{before}
+use Rattle.swc_ecma_codegen_syntax.specs.Lookahead.{excludes}
+use Rattle.swc_ecma_codegen_syntax.specs.Forms.{Form, Fixed, Part, Simple, Restricted, ByPlace, role_in, Both, Provided, Closed, Bare, Followed, ByRule, forget, map_form, is_target, asked, of_part, judge, is_met, stands, keeps, each_after, listed, some_listed, in_order, element, verdict_all, Lone}
 use Rattle.swc_ecma_codegen_syntax.proofs.VerdictLaws.{and_true, and_assoc, holds_meet, holds_rule, holds_asked, holds_standing}
 
 part_judged : (places : Bool) (v : Verdict) (place : Nonterminal) (told : Facts) →
@@ -21,16 +24,23 @@ part_judged places v place told =
     ∙ and_assoc (holds places v) (stands places place told.nonterminal) (holds places told.verdict)
 
 -- the verdict of a form holds where the one before it did and the form keeps its structure
-pub judged : {X : Type 0} (places : Bool) (f : X → Role → Parameters → Facts) (v : Verdict) (a : Form X) → holds places (judge f v a) ≡ (holds places v && keeps places f a)
+pub judged : {X : Type 0} (places : Bool) (f : X → Role → Parameters → Told) (v : Verdict) (a : Form X) → holds places (judge f v a) ≡ (holds places v && keeps places f a)
 unfolding judge keeps
 judged places f v (Fixed p) = sym (and_true (holds places v))
-judged places f v (Part place c role n) = part_judged places v place (f n role c)
+judged places f v (Part place c role n) = part_judged places v place (f n role c).facts
 judged places f v (Simple named place c n) =
-    let t = f n Expression c in
+    let t = (f n Expression c).facts in
     let b = is_target named t in
     part_judged places (by_rule v b) place t
     ∙ ap (λ k. k && (stands places place t.nonterminal && holds places t.verdict)) (holds_rule places v b)
     ∙ and_assoc (holds places v) b (stands places place t.nonterminal && holds places t.verdict)
+judged places f v (Restricted lookahead place c as_pattern n) =
+    let t = (f n (role_in as_pattern) c).facts in
+    let b = not (excludes lookahead (begins_in f n (role_in as_pattern))) in
+    part_judged places (asked ByPlace v b) place t
+    ∙ ap (λ k. k && (stands places place t.nonterminal && holds places t.verdict)) (holds_asked places ByPlace v b)
+    ∙ and_assoc (holds places v) (is_met places ByPlace b) (stands places place t.nonterminal && holds places t.verdict)
+judged places f v (Lone place c n) = part_judged places v place (f n Pattern c).facts
 judged places f v (Both a b) =
     judged places f (judge f v a) b ∙ ap (λ k. k && keeps places f b) (judged places f v a) ∙ and_assoc (holds places v) (keeps places f a) (keeps places f b)
 judged places f v (Provided cure condition a) =
@@ -38,52 +48,68 @@ judged places f v (Provided cure condition a) =
     ∙ and_assoc (holds places v) (is_met places cure condition) (keeps places f a)
 judged places f v (Closed comma close) = sym (and_true (holds places v))
 judged places f v (Bare a) = judged places f v a
+judged places f v (Followed place c n next) = part_judged places v place (f n Statement (before (empty_in f next) c)).facts
 
 -- ---- over what links hold as something else
 
-pub judge_mapped : {X Y : Type 0} (g : X → Y) (f : Y → Role → Parameters → Facts) (v : Verdict) (a : Form X) → judge f v (map_form g a) ≡ judge (λ x. f (g x)) v a
+pub judge_mapped : {X Y : Type 0} (g : X → Y) (f : Y → Role → Parameters → Told) (v : Verdict) (a : Form X) → judge f v (map_form g a) ≡ judge (λ x. f (g x)) v a
 unfolding judge map_form
 judge_mapped g f v (Fixed p) = refl
 judge_mapped g f v (Part place c role n) = refl
 judge_mapped g f v (Simple named place c n) = refl
+judge_mapped g f v (Restricted lookahead place c as_pattern n) = refl
+judge_mapped g f v (Lone place c n) = refl
 judge_mapped g f v (Both a b) = judge_mapped g f (judge f v (map_form g a)) b ∙ ap (λ w. judge (λ x. f (g x)) w b) (judge_mapped g f v a)
 judge_mapped g f v (Provided cure condition a) = judge_mapped g f (asked cure v condition) a
 judge_mapped g f v (Closed comma close) = refl
 judge_mapped g f v (Bare a) = judge_mapped g f v a
+judge_mapped g f v (Followed place c n next) = refl
 
-pub keeps_mapped : {X Y : Type 0} (places : Bool) (g : X → Y) (f : Y → Role → Parameters → Facts) (a : Form X) → keeps places f (map_form g a) ≡ keeps places (λ x. f (g x)) a
+pub keeps_mapped : {X Y : Type 0} (places : Bool) (g : X → Y) (f : Y → Role → Parameters → Told) (a : Form X) → keeps places f (map_form g a) ≡ keeps places (λ x. f (g x)) a
 unfolding keeps map_form
 keeps_mapped places g f (Fixed p) = refl
 keeps_mapped places g f (Part place c role n) = refl
 keeps_mapped places g f (Simple named place c n) = refl
+keeps_mapped places g f (Restricted lookahead place c as_pattern n) = refl
+keeps_mapped places g f (Lone place c n) = refl
 keeps_mapped places g f (Both a b) = ap₂ (λ x y. x && y) (keeps_mapped places g f a) (keeps_mapped places g f b)
 keeps_mapped places g f (Provided cure condition a) = ap (λ x. is_met places cure condition && x) (keeps_mapped places g f a)
 keeps_mapped places g f (Closed comma close) = refl
 keeps_mapped places g f (Bare a) = keeps_mapped places g f a
+keeps_mapped places g f (Followed place c n next) = refl
 
 pub forget_mapped : {X Y : Type 0} (g : X → Y) (f : Y → Role → Phrase) (a : Form X) → forget f (map_form g a) ≡ forget (λ x. f (g x)) a
 unfolding forget map_form
 forget_mapped g f (Fixed p) = refl
 forget_mapped g f (Part place c role n) = refl
 forget_mapped g f (Simple named place c n) = refl
+forget_mapped g f (Restricted lookahead place c as_pattern n) = refl
+forget_mapped g f (Lone place c n) = refl
 forget_mapped g f (Both a b) = ap₂ Then (forget_mapped g f a) (forget_mapped g f b)
 forget_mapped g f (Provided cure condition a) = forget_mapped g f a
 forget_mapped g f (Closed comma close) = refl
 forget_mapped g f (Bare a) = ap OptionalParentheses (forget_mapped g f a)
+forget_mapped g f (Followed place c n next) = refl
 
 -- ---- lists
 
-pub after_judged : {X A : Type 0} (f : X → Role → Parameters → Facts) (t : List ℕ) (e : A → Form X) (v : Verdict) (xs : List A) →
+pub after_judged : {X A : Type 0} (f : X → Role → Parameters → Told) (t : List ℕ) (e : A → Form X) (v : Verdict) (xs : List A) →
     judge f v (each_after t e xs) ≡ verdict_all (λ x w. judge f w (e x)) v xs
 unfolding judge each_after verdict_all
 after_judged f t e v [] = refl
 after_judged f t e v (x ∷ xs) = after_judged f t e (judge f v (e x)) xs
 
-pub listed_judged : {X A : Type 0} (f : X → Role → Parameters → Facts) (t : List ℕ) (e : A → Form X) (v : Verdict) (xs : List A) →
+pub listed_judged : {X A : Type 0} (f : X → Role → Parameters → Told) (t : List ℕ) (e : A → Form X) (v : Verdict) (xs : List A) →
     judge f v (listed t e xs) ≡ verdict_all (λ x w. judge f w (e x)) v xs
 unfolding judge listed verdict_all
 listed_judged f t e v [] = refl
 listed_judged f t e v (x ∷ xs) = after_judged f t e (judge f v (e x)) xs
+
+pub order_judged : {X A : Type 0} (f : X → Role → Parameters → Told) (e : A → Form X) (v : Verdict) (xs : List A) →
+    judge f v (in_order e xs) ≡ verdict_all (λ x w. judge f w (e x)) v xs
+unfolding judge in_order verdict_all
+order_judged f e v [] = refl
+order_judged f e v (x ∷ xs) = order_judged f e (judge f v (e x)) xs
 
 pub after_forgets : {X A : Type 0} (f : X → Role → Phrase) (t : List ℕ) (e : A → Form X) (xs : List A) → forget f (each_after t e xs) ≡ phrases.each_after t (map (λ x. forget f (e x)) xs)
 unfolding forget each_after phrases.each_after
@@ -94,6 +120,11 @@ pub listed_forgets : {X A : Type 0} (f : X → Role → Phrase) (t : List ℕ) (
 unfolding forget listed phrases.listed
 listed_forgets f t e [] = refl
 listed_forgets f t e (x ∷ xs) = ap (λ p. Then (forget f (e x)) p) (after_forgets f t e xs)
+
+pub order_forgets : {X A : Type 0} (f : X → Role → Phrase) (e : A → Form X) (xs : List A) → forget f (in_order e xs) ≡ phrases.in_order (map (λ x. forget f (e x)) xs)
+unfolding forget in_order phrases.in_order
+order_forgets f e [] = refl
+order_forgets f e (x ∷ xs) = ap (λ p. Then (forget f (e x)) p) (order_forgets f e xs)
 
 pub some_forgets : {X A : Type 0} (f : X → Role → Phrase) (t : List ℕ) (e : A → Form X) (xs : List A) → forget f (some_listed t e xs) ≡ phrases.some_listed t (map (λ x. forget f (e x)) xs)
 unfolding forget some_listed phrases.some_listed phrases.each_after
@@ -122,6 +153,12 @@ pub listed_mapped : {X Y A B : Type 0} (g : X → Y) (h : A → B) (t : List ℕ
 unfolding map_form listed
 listed_mapped g h t e d same [] = refl
 listed_mapped g h t e d same (x ∷ xs) = ap₂ (λ a b. Both a b) (same x) (after_mapped g h t e d same xs)
+
+pub order_mapped : {X Y A B : Type 0} (g : X → Y) (h : A → B) (e : A → Form X) (d : B → Form Y) → ((x : A) → d (h x) ≡ map_form g (e x)) → (xs : List A) →
+    in_order d (map h xs) ≡ map_form g (in_order e xs)
+unfolding map_form in_order
+order_mapped g h e d same [] = refl
+order_mapped g h e d same (x ∷ xs) = ap₂ (λ a b. Both a b) (same x) (order_mapped g h e d same xs)
 
 pub some_mapped : {X Y A B : Type 0} (g : X → Y) (h : A → B) (t : List ℕ) (e : A → Form X) (d : B → Form Y) → ((x : A) → d (h x) ≡ map_form g (e x)) → (xs : List A) →
     some_listed t d (map h xs) ≡ map_form g (some_listed t e xs)

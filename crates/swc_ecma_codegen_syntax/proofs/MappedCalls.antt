@@ -22,10 +22,10 @@ use Rattle.swc_ecma_codegen_grammar.proofs.MappedTemplates.{length_mapped}
 use Rattle.swc_ecma_codegen_syntax.specs.declared.nonterminals.Nonterminal.{Nonterminal}
 use Rattle.swc_ecma_codegen_syntax.specs.declared.nonterminals.Nonterminal.TheVariants as nt
 use Rattle.swc_ecma_codegen_syntax.specs.declared.parameters.Parameters.{Parameters}
-use Rattle.swc_ecma_codegen_syntax.specs.Parameters.{with_in}
+use Rattle.swc_ecma_codegen_syntax.specs.Parameters.{with_in, to_end}
 use Rattle.swc_ecma_codegen_syntax.specs.Forms.{Form, Fixed, Provided, ByRule, ByScope, ◌⇢◌, map_form, element}
 use Rattle.swc_ecma_codegen_syntax.specs.MemberForms.{expr_part, callee_part, type_args_form, chained}
-use Rattle.swc_ecma_codegen_syntax.specs.CallForms.{argument_form, elements_form, array_form, arguments_form, no_spread, is_evaluation, are_import_arguments, callee_form, call_form, drops_arguments, has_arguments, new_nonterminal, listed_form, new_arguments_form, new_form, chain_call_form}
+use Rattle.swc_ecma_codegen_syntax.specs.CallForms.{argument_form, elements_form, array_form, arguments_form, no_spread, is_evaluation, are_import_arguments, callee_form, call_form, drops_arguments, has_arguments, new_nonterminal, new_parameters, listed_form, new_arguments_form, new_form, chain_call_form}
 use Rattle.swc_ecma_codegen_syntax.specs.ExprForms.{expr_form, expr_nonterminal}
 use Rattle.swc_ecma_codegen_syntax.specs.NodeForms.{node_form, part_form, missing_form}
 use Rattle.swc_ecma_codegen_syntax.proofs.Judged.{listed_mapped, element_mapped}
@@ -116,14 +116,14 @@ new_nonterminal_mapped g keeps called c n = new_nonterminal_by g keeps called c 
 
 new_by : {X Y : Type 0} (g : X → Y) (keeps called : Bool) (c : Parameters) (n : NewExpr X) (args : Option (Vec (ExprOrSpread X) Global)) (types : Option (TsTypeParamInstantiationBox X)) →
     form_in keeps called c (map-AnyNode X Y g (nodes.Expr (exprs.New (record n { args = args; type_args = types })))) ≡ map_form g (new_form c keeps (record n { args = args; type_args = types }))
-unfolding expr_form new_form new_nonterminal has_arguments new_arguments_form argument_form type_args_form map_form
+unfolding expr_form new_form new_nonterminal new_parameters has_arguments new_arguments_form argument_form type_args_form map_form
 new_by g keeps called c n None None = refl
 new_by g keeps called c n None (Some t) = refl
 new_by g keeps called c n (Some args) None =
-    ap₂ (λ b a. Fixed (word (codes "new")) ⇢ map_form g (expr_part (cond (not b) nt.MemberExpression nt.NewExpression) (with_in c) n.callee) ⇢ type_args_form c None ⇢ a)
+    ap₂ (λ b a. Fixed (word (codes "new")) ⇢ map_form g (expr_part (cond (not b) nt.MemberExpression nt.NewExpression) (cond (not b) (with_in c) (to_end c)) n.callee) ⇢ type_args_form c None ⇢ a)
     (drops_mapped _ c keeps args.items) (listed_arguments_mapped g _ c (λ x. refl) keeps args.items)
 new_by g keeps called c n (Some args) (Some t) =
-    ap₂ (λ b a. Fixed (word (codes "new")) ⇢ map_form g (expr_part (cond (not b) nt.MemberExpression nt.NewExpression) (with_in c) n.callee) ⇢ map_form g (type_args_form c (Some t)) ⇢ a)
+    ap₂ (λ b a. Fixed (word (codes "new")) ⇢ map_form g (expr_part (cond (not b) nt.MemberExpression nt.NewExpression) (cond (not b) (with_in c) (to_end c)) n.callee) ⇢ map_form g (type_args_form c (Some t)) ⇢ a)
     (drops_mapped _ c keeps args.items) (listed_arguments_mapped g _ c (λ x. refl) keeps args.items)
 
 pub new_mapped : {X Y : Type 0} (g : X → Y) (keeps called : Bool) (c : Parameters) (n : NewExpr X) → form_in keeps called c (map-AnyNode X Y g (nodes.Expr (exprs.New n))) ≡ map_form g (new_form c keeps n)

@@ -4,7 +4,6 @@ use Rattle.swc_ecma_codegen_common.specs.declared.positions.Span.{Span}
 use Rattle.swc_ecma_codegen_tree.specs.declared.links.AnyNode.{map-AnyNode}
 use Rattle.swc_ecma_codegen_tree.specs.declared.links.AnyNode.TheOpen as nodes
 use Rattle.swc_ecma_codegen_tree.specs.Links.{ExprBox, TsTypeParamInstantiationBox}
-use Rattle.swc_ecma_codegen_tree.specs.declared.exprs.Expr.{Expr}
 use Rattle.swc_ecma_codegen_tree.specs.declared.exprs.Expr.TheVariants as exprs
 use Rattle.swc_ecma_codegen_tree.specs.declared.exprs.UpdateExpr.{UpdateExpr}
 use Rattle.swc_ecma_codegen_tree.specs.declared.exprs.MemberProp.{MemberProp}
@@ -27,21 +26,21 @@ use Rattle.swc_ecma_codegen_tree.specs.declared.parts.ExprPart.TheVariants as ex
 use Rattle.swc_ecma_codegen_grammar.specs.Phrases.{Never, mark}
 use Rattle.swc_ecma_codegen_grammar.specs.ExprPhrases.{chain_mark}
 use Rattle.swc_ecma_codegen_grammar.specs.TemplatePhrases.{tpl_element, part_before, is_counted}
-use Rattle.swc_ecma_codegen_grammar.specs.declared.roles.Role.TheVariants.{Template, TaggedTemplate, PropertyName, ObjectLiteral, ChainMember}
+use Rattle.swc_ecma_codegen_grammar.specs.declared.roles.Role.TheVariants.{Template, TaggedTemplate, PropertyName, ObjectLiteral, ChainMember, MethodHead, Function}
 use Rattle.swc_ecma_codegen_grammar.proofs.MappedTemplates.{length_mapped}
 use Rattle.swc_ecma_codegen_grammar.proofs.MappedProps.{by_prop, each_prop}
 use Rattle.swc_ecma_codegen_syntax.specs.declared.nonterminals.Nonterminal.TheVariants as nt
 use Rattle.swc_ecma_codegen_syntax.specs.declared.parameters.Parameters.{Parameters}
 use Rattle.swc_ecma_codegen_syntax.specs.Parameters.{with_in}
-use Rattle.swc_ecma_codegen_syntax.specs.Forms.{Form, Fixed, Provided, ByRule, ◌⇢◌, map_form}
-use Rattle.swc_ecma_codegen_syntax.specs.NameForms.{name_form, lit_form}
-use Rattle.swc_ecma_codegen_syntax.specs.MemberForms.{expr_part, computed_form, prop_form, member_form, super_form, super_prop_form, type_args_form, tagged_form, chain_prop_form, chain_member_form, chain_base_form, opt_chain_form}
+use Rattle.swc_ecma_codegen_syntax.specs.Forms.{Form, Fixed, Part, Provided, ByRule, ◌⇢◌, map_form}
+use Rattle.swc_ecma_codegen_syntax.specs.NameForms.{name_form}
+use Rattle.swc_ecma_codegen_syntax.specs.MemberForms.{expr_part, computed_form, prop_form, member_form, super_form, super_prop_form, annotation_form, type_args_form, tagged_form, chain_prop_form, chain_member_form, chain_base_form, opt_chain_form}
 use Rattle.swc_ecma_codegen_syntax.specs.TemplateForms.{tpl_rest_form, tpl_parts_form, tpl_form}
-use Rattle.swc_ecma_codegen_syntax.specs.ObjectForms.{prop_name_form, key_value_form, assign_prop_form, property_form, spread_form, prop_or_spread_form, object_form}
-use Rattle.swc_ecma_codegen_syntax.specs.ExprForms.{unary_form, update_form, bin_form, cond_form, assign_form, yield_arg_form, yield_rest_form, yield_form, await_form, seq_form, paren_form, call_or_member, expr_form, expr_nonterminal}
+use Rattle.swc_ecma_codegen_syntax.specs.ObjectForms.{prop_name_form, key_value_form, assign_prop_form, accessor_body_form, getter_form, this_param_form, setter_form, method_prop_form, property_form, spread_form, prop_or_spread_form, object_form}
+use Rattle.swc_ecma_codegen_syntax.specs.ExprForms.{update_form, yield_arg_form, yield_rest_form, yield_form, call_or_member, expr_form}
 use Rattle.swc_ecma_codegen_syntax.specs.NodeForms.{node_form, part_form}
-use Rattle.swc_ecma_codegen_syntax.proofs.Judged.{listed_mapped, some_mapped}
-use Rattle.swc_ecma_codegen_syntax.proofs.MappedCalls.{form_in, nonterminal_in, array_mapped, call_mapped, new_mapped, new_nonterminal_mapped}
+use Rattle.swc_ecma_codegen_syntax.proofs.Judged.{listed_mapped}
+use Rattle.swc_ecma_codegen_syntax.proofs.MappedCalls.{form_in}
 
 -- ---- objects
 
@@ -54,13 +53,14 @@ prop_name_mapped g called c (prop_names.BigInt n) = refl
 prop_name_mapped g called c (prop_names.Computed n) = refl
 
 pub object_part_mapped : {X Y : Type 0} (g : X → Y) (called : Bool) (c : Parameters) (n : ObjectLit X) → node_form called c (map-AnyNode X Y g (nodes.ExprPart (expr_parts.ObjectLit n))) ObjectLiteral ≡ map_form g (object_form c n)
-unfolding node_form part_form object_form prop_or_spread_form spread_form property_form key_value_form assign_prop_form name_form map_form
+unfolding node_form part_form object_form prop_or_spread_form spread_form property_form key_value_form assign_prop_form accessor_body_form getter_form this_param_form setter_form method_prop_form annotation_form name_form map_form
 object_part_mapped {X} g called c n = ap (λ a. Fixed (mark (codes "{")) ⇢ a ⇢ Fixed (mark (codes "}"))) (listed_mapped {A = PropOrSpread X} g _ (codes ",") (prop_or_spread_form c) (prop_or_spread_form c) (each_prop {X = X} _ (λ m. refl) (by_prop {X = X} _
     (λ m. refl) (λ m. ap (λ a. a ⇢ Fixed (mark (codes ":")) ⇢ map_form g (expr_part nt.AssignmentExpression (with_in c) m.value)) (prop_name_mapped g called c m.key)) (λ m. refl)
-    (λ m. refl) (λ m body. refl) (λ m t. refl) (λ m t body. refl) (λ m. refl) (λ m body. refl) (λ m this. refl) (λ m this body. refl) (λ m. refl))) n.props.items)
+    (λ m. refl) (λ m body. refl) (λ m t. refl) (λ m t body. refl) (λ m. refl) (λ m body. refl) (λ m this. refl) (λ m this body. refl)
+    (λ m. ap (λ a. Part nt.MethodHead c MethodHead (g m.function.node.value) ⇢ a ⇢ Part nt.FunctionTail c Function (g m.function.node.value)) (prop_name_mapped g called c m.key)))) n.props.items)
 
-object_mapped : {X Y : Type 0} (g : X → Y) (keeps called : Bool) (c : Parameters) (n : ObjectLit X) → form_in keeps called c (map-AnyNode X Y g (nodes.Expr (exprs.Object n))) ≡ map_form g (object_form c n)
-unfolding expr_form node_form part_form object_form prop_or_spread_form spread_form property_form key_value_form assign_prop_form name_form map_form
+pub object_mapped : {X Y : Type 0} (g : X → Y) (keeps called : Bool) (c : Parameters) (n : ObjectLit X) → form_in keeps called c (map-AnyNode X Y g (nodes.Expr (exprs.Object n))) ≡ map_form g (object_form c n)
+unfolding expr_form node_form part_form object_form prop_or_spread_form spread_form property_form key_value_form assign_prop_form accessor_body_form getter_form this_param_form setter_form method_prop_form annotation_form name_form map_form
 object_mapped g keeps called c n = object_part_mapped g called c n
 
 -- ---- templates
@@ -97,26 +97,26 @@ tagged_mapped {X} {Y} g called c n = counted_mapped {A = ExprBox X} {B = ExprBox
 
 -- ---- members
 
-member_mapped : {X Y : Type 0} (g : X → Y) (keeps called : Bool) (c : Parameters) (span : Span) (obj : ExprBox X) (prop : MemberProp X) →
+pub member_mapped : {X Y : Type 0} (g : X → Y) (keeps called : Bool) (c : Parameters) (span : Span) (obj : ExprBox X) (prop : MemberProp X) →
     form_in keeps called c (map-AnyNode X Y g (nodes.Expr (exprs.Member (record { span = span; obj = obj; prop = prop })))) ≡ map_form g (member_form (call_or_member called) c (record { span = span; obj = obj; prop = prop }))
 unfolding expr_form member_form prop_form computed_form map_form
 member_mapped g keeps called c span obj (member_props.Ident n) = refl
 member_mapped g keeps called c span obj (member_props.Computed n) = refl
 member_mapped g keeps called c span obj (member_props.PrivateName n) = refl
 
-super_mapped : {X Y : Type 0} (g : X → Y) (keeps called : Bool) (c : Parameters) (n : SuperPropExpr X) (prop : SuperProp X) →
+pub super_mapped : {X Y : Type 0} (g : X → Y) (keeps called : Bool) (c : Parameters) (n : SuperPropExpr X) (prop : SuperProp X) →
     form_in keeps called c (map-AnyNode X Y g (nodes.Expr (exprs.SuperProp (record n { prop = prop })))) ≡ map_form g (super_prop_form c (record n { prop = prop }))
 unfolding expr_form super_prop_form super_form computed_form map_form
 super_mapped g keeps called c n (super_props.Ident p) = refl
 super_mapped g keeps called c n (super_props.Computed p) = refl
 
-tagged_by : {X Y : Type 0} (g : X → Y) (keeps called : Bool) (c : Parameters) (n : TaggedTpl X) (types : Option (TsTypeParamInstantiationBox X)) →
+pub tagged_by : {X Y : Type 0} (g : X → Y) (keeps called : Bool) (c : Parameters) (n : TaggedTpl X) (types : Option (TsTypeParamInstantiationBox X)) →
     form_in keeps called c (map-AnyNode X Y g (nodes.Expr (exprs.TaggedTpl (record n { type_params = types })))) ≡ map_form g (tagged_form (call_or_member called) c (record n { type_params = types }))
 unfolding expr_form tagged_form type_args_form map_form
 tagged_by g keeps called c n None = refl
 tagged_by g keeps called c n (Some t) = refl
 
-chain_mapped : {X Y : Type 0} (g : X → Y) (keeps called : Bool) (c : Parameters) (n : OptChainExpr X) (base : OptChainBase X) →
+pub chain_mapped : {X Y : Type 0} (g : X → Y) (keeps called : Bool) (c : Parameters) (n : OptChainExpr X) (base : OptChainBase X) →
     form_in keeps called c (map-AnyNode X Y g (nodes.Expr (exprs.OptChain (record n { base = base })))) ≡ map_form g (opt_chain_form c (record n { base = base }))
 unfolding expr_form opt_chain_form chain_base_form map_form
 chain_mapped g keeps called c n (chain_bases.Member b) = refl
@@ -134,36 +134,16 @@ chain_member_mapped g called c false span obj (member_props.PrivateName n) = ref
 
 -- ---- operators
 
-update_mapped : {X Y : Type 0} (g : X → Y) (keeps called : Bool) (c : Parameters) (n : UpdateExpr X) (prefix : Bool) →
+pub update_mapped : {X Y : Type 0} (g : X → Y) (keeps called : Bool) (c : Parameters) (n : UpdateExpr X) (prefix : Bool) →
     form_in keeps called c (map-AnyNode X Y g (nodes.Expr (exprs.Update (record n { prefix = prefix })))) ≡ map_form g (update_form c (record n { prefix = prefix }))
 unfolding expr_form update_form map_form
 update_mapped g keeps called c n true = refl
 update_mapped g keeps called c n false = refl
 
-yield_mapped : {X Y : Type 0} (g : X → Y) (keeps called : Bool) (c : Parameters) (n : YieldExpr X) (delegate : Bool) (arg : Option (ExprBox X)) →
+pub yield_mapped : {X Y : Type 0} (g : X → Y) (keeps called : Bool) (c : Parameters) (n : YieldExpr X) (delegate : Bool) (arg : Option (ExprBox X)) →
     form_in keeps called c (map-AnyNode X Y g (nodes.Expr (exprs.Yield (record n { delegate = delegate; arg = arg })))) ≡ map_form g (yield_form c (record n { delegate = delegate; arg = arg }))
 unfolding expr_form yield_form yield_rest_form yield_arg_form map_form
 yield_mapped g keeps called c n true None = refl
 yield_mapped g keeps called c n true (Some x) = refl
 yield_mapped g keeps called c n false None = refl
 yield_mapped g keeps called c n false (Some x) = refl
-
-pub expr_mapped : {X Y : Type 0} (g : X → Y) (keeps called : Bool) (c : Parameters) (n : Expr X) → form_in keeps called c (map-AnyNode X Y g (nodes.Expr n)) ≡ map_form g (expr_form keeps called c n)
-unfolding expr_form unary_form bin_form cond_form assign_form await_form seq_form paren_form name_form lit_form map_form
-expr_mapped {X} g keeps called c (exprs.Seq n) = some_mapped {A = ExprBox X} g _ (codes ",") (expr_part nt.AssignmentExpression c) (expr_part nt.AssignmentExpression c) (λ x. refl) n.exprs.items
-expr_mapped g keeps called c (exprs.Array n) = array_mapped g keeps called c n
-expr_mapped g keeps called c (exprs.Object n) = object_mapped g keeps called c n
-expr_mapped g keeps called c (exprs.Update n) = update_mapped g keeps called c n n.prefix
-expr_mapped g keeps called c (exprs.Member n) = member_mapped g keeps called c n.span n.obj n.prop
-expr_mapped g keeps called c (exprs.SuperProp n) = super_mapped g keeps called c n n.prop
-expr_mapped g keeps called c (exprs.Call n) = call_mapped g keeps called c n
-expr_mapped g keeps called c (exprs.New n) = new_mapped g keeps called c n
-expr_mapped g keeps called c (exprs.TaggedTpl n) = tagged_by g keeps called c n n.type_params
-expr_mapped g keeps called c (exprs.Yield n) = yield_mapped g keeps called c n n.delegate n.arg
-expr_mapped g keeps called c (exprs.OptChain n) = chain_mapped g keeps called c n n.base
-expr_mapped g keeps called c n = refl
-
-pub nonterminal_mapped : {X Y : Type 0} (g : X → Y) (keeps called : Bool) (c : Parameters) (n : Expr X) → nonterminal_in keeps called c (map-AnyNode X Y g (nodes.Expr n)) ≡ expr_nonterminal keeps called c n
-unfolding expr_nonterminal
-nonterminal_mapped g keeps called c (exprs.New n) = new_nonterminal_mapped g keeps called c n
-nonterminal_mapped g keeps called c n = refl

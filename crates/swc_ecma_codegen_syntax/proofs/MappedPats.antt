@@ -27,6 +27,8 @@ use Rattle.swc_ecma_codegen_tree.specs.declared.pats.AssignTargetPat.{AssignTarg
 use Rattle.swc_ecma_codegen_tree.specs.declared.pats.AssignTargetPat.TheVariants as target_pats
 use Rattle.swc_ecma_codegen_tree.specs.declared.parts.ExprPart.{ExprPart}
 use Rattle.swc_ecma_codegen_tree.specs.declared.parts.ExprPart.TheVariants as expr_parts
+use Rattle.swc_ecma_codegen_tree.specs.declared.exprs.PropName.{PropName}
+use Rattle.swc_ecma_codegen_tree.specs.declared.exprs.PropName.TheVariants as prop_names
 use Rattle.swc_ecma_codegen_grammar.specs.Phrases.{Closing, RightBrace, Nothing, mark}
 use Rattle.swc_ecma_codegen_grammar.specs.ElementPhrases.{last_is_hole}
 use Rattle.swc_ecma_codegen_grammar.specs.declared.roles.Role.{Role}
@@ -45,6 +47,7 @@ use Rattle.swc_ecma_codegen_syntax.specs.TargetForms.{paren_target_form, simple_
 use Rattle.swc_ecma_codegen_syntax.specs.NodeForms.{node_form, part_form, node_nonterminal, part_nonterminal}
 use Rattle.swc_ecma_codegen_syntax.proofs.MappedCalls.{chain_call_mapped}
 use Rattle.swc_ecma_codegen_syntax.proofs.MappedExprs.{prop_name_mapped, object_part_mapped, tpl_mapped, tagged_mapped}
+use Rattle.swc_ecma_codegen_syntax.specs.ClassForms.{prop_name_nonterminal, is_constructor_name}
 
 -- ---- elements
 
@@ -139,7 +142,7 @@ object_mapped {X} {Y} g called c n None = braced_mapped {X = X} {Y = Y} g called
 object_mapped {X} {Y} g called c n (Some t) = braced_mapped {X = X} {Y = Y} g called _ c _ _ (λ last. by_cases {X = X} _
     (λ p. ap (λ a. a ⇢ Fixed (mark (codes ":")) ⇢ map_form g (pat_part nt.PatternElement c p.value)) (prop_name_mapped g called c p.key)) (λ span id. refl) (λ span id x. refl) (λ span id t. refl) (λ span id t x. refl) (λ span dots arg. refl) (λ span dots arg t. refl)) n.props.items
 
-pat_mapped : {X Y : Type 0} (g : X → Y) (called : Bool) (c : Parameters) (n : Pat X) → node_form called c (map-AnyNode X Y g (nodes.ExprPart (expr_parts.Pat n))) Pattern ≡ map_form g (pat_form called c n)
+pub pat_mapped : {X Y : Type 0} (g : X → Y) (called : Bool) (c : Parameters) (n : Pat X) → node_form called c (map-AnyNode X Y g (nodes.ExprPart (expr_parts.Pat n))) Pattern ≡ map_form g (pat_form called c n)
 unfolding node_form part_form pat_form assign_pat_form map_form
 pat_mapped g called c (pats.Ident n) = ident_mapped g called c n.id n.type_ann
 pat_mapped g called c (pats.Array n) = array_mapped g called c n n.type_ann
@@ -228,7 +231,7 @@ part_mapped g called c (expr_parts.Tpl n) Template = tpl_mapped g called c n
 part_mapped g called c (expr_parts.Tpl n) TaggedTemplate = tagged_mapped g called c n
 part_mapped g called c n role = refl
 
-pat_sort_mapped : {X Y : Type 0} (g : X → Y) (called : Bool) (c : Parameters) (n : Pat X) → node_nonterminal called c (map-AnyNode X Y g (nodes.ExprPart (expr_parts.Pat n))) Pattern ≡ pat_nonterminal n
+pub pat_sort_mapped : {X Y : Type 0} (g : X → Y) (called : Bool) (c : Parameters) (n : Pat X) → node_nonterminal called c (map-AnyNode X Y g (nodes.ExprPart (expr_parts.Pat n))) Pattern ≡ pat_nonterminal n
 unfolding node_nonterminal part_nonterminal pat_nonterminal
 pat_sort_mapped g called c (pats.Ident n) = refl
 pat_sort_mapped g called c n = refl
@@ -238,8 +241,17 @@ unfolding node_nonterminal part_nonterminal target_nonterminal
 target_sort_mapped g called c (targets.Simple n) = refl
 target_sort_mapped g called c (targets.Pat n) = refl
 
+key_sort_mapped : {X Y : Type 0} (g : X → Y) (called : Bool) (c : Parameters) (n : PropName X) → node_nonterminal called c (map-AnyNode X Y g (nodes.ExprPart (expr_parts.PropName n))) PropertyName ≡ prop_name_nonterminal n
+unfolding node_nonterminal part_nonterminal prop_name_nonterminal is_constructor_name
+key_sort_mapped g called c (prop_names.Ident n) = refl
+key_sort_mapped g called c (prop_names.Str n) = refl
+key_sort_mapped g called c (prop_names.Num n) = refl
+key_sort_mapped g called c (prop_names.BigInt n) = refl
+key_sort_mapped g called c (prop_names.Computed n) = refl
+
 pub part_sort_mapped : {X Y : Type 0} (g : X → Y) (called : Bool) (c : Parameters) (n : ExprPart X) (role : Role) → node_nonterminal called c (map-AnyNode X Y g (nodes.ExprPart n)) role ≡ part_nonterminal n role
 unfolding node_nonterminal part_nonterminal
 part_sort_mapped g called c (expr_parts.Pat n) Pattern = pat_sort_mapped g called c n
 part_sort_mapped g called c (expr_parts.AssignTarget n) AssignmentTarget = target_sort_mapped g called c n
+part_sort_mapped g called c (expr_parts.PropName n) PropertyName = key_sort_mapped g called c n
 part_sort_mapped g called c n role = refl

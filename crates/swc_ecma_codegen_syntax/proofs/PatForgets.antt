@@ -1,11 +1,7 @@
--- Without nonterminals the forms of patterns, of targets and of whole nodes are today's productions, where they keep their structure.
+-- Without nonterminals the forms of patterns and of targets are today's productions, where they keep their structure.
 use Rattle.std.proofs.Common.{◌≡◌, Bool, true, false, not, refl, sym, ap, ap₂, List, [], ◌∷◌, map, codes, Option, Some, None}
 use Rattle.std.proofs.lemmas.Bool.{true≢false}
 use Rattle.swc_ecma_codegen_tree.specs.Links.{ExprBox, PatBox}
-use Rattle.swc_ecma_codegen_tree.specs.declared.links.AnyNode.{AnyNode-F}
-use Rattle.swc_ecma_codegen_tree.specs.declared.links.AnyNode.TheOpen as nodes
-use Rattle.swc_ecma_codegen_tree.specs.declared.exprs.Expr.{Expr}
-use Rattle.swc_ecma_codegen_tree.specs.declared.exprs.Expr.TheVariants as exprs
 use Rattle.swc_ecma_codegen_tree.specs.declared.idents.BindingIdent.{BindingIdent}
 use Rattle.swc_ecma_codegen_tree.specs.declared.pats.Pat.{Pat}
 use Rattle.swc_ecma_codegen_tree.specs.declared.pats.Pat.TheVariants as pats
@@ -20,8 +16,6 @@ use Rattle.swc_ecma_codegen_tree.specs.declared.pats.SimpleAssignTarget.{SimpleA
 use Rattle.swc_ecma_codegen_tree.specs.declared.pats.SimpleAssignTarget.TheVariants as simple_targets
 use Rattle.swc_ecma_codegen_tree.specs.declared.pats.AssignTargetPat.{AssignTargetPat}
 use Rattle.swc_ecma_codegen_tree.specs.declared.pats.AssignTargetPat.TheVariants as target_pats
-use Rattle.swc_ecma_codegen_tree.specs.declared.parts.ExprPart.{ExprPart}
-use Rattle.swc_ecma_codegen_tree.specs.declared.parts.ExprPart.TheVariants as expr_parts
 use Rattle.swc_ecma_codegen_grammar.specs.Phrases.{Phrase, Closing, RightBracket, RightBrace, Then, ◌>◌, mark}
 use Rattle.swc_ecma_codegen_grammar.specs.Phrases as phrases
 use Rattle.swc_ecma_codegen_grammar.specs.AnnotationPhrases.{question}
@@ -30,23 +24,18 @@ use Rattle.swc_ecma_codegen_grammar.specs.ElementPhrases as elements
 use Rattle.swc_ecma_codegen_grammar.specs.NamePhrases.{ident, binding_ident}
 use Rattle.swc_ecma_codegen_grammar.specs.PatPhrases.{pat_at, initializer, array_pat, rest_pat, assign_pat, key_value_pat_prop, assign_pat_prop, object_pat_prop, object_pat, pat, assign_target_pat}
 use Rattle.swc_ecma_codegen_grammar.specs.AssignPhrases.{simple_assign_target, assign_target}
-use Rattle.swc_ecma_codegen_grammar.specs.ExprPhrases.{expr_in, paren_expr}
-use Rattle.swc_ecma_codegen_grammar.specs.PartPhrases.{expr_part}
-use Rattle.swc_ecma_codegen_grammar.specs.TreePhrases.{node_phrase}
+use Rattle.swc_ecma_codegen_grammar.specs.ExprPhrases.{paren_expr}
 use Rattle.swc_ecma_codegen_grammar.specs.declared.roles.Role.{Role}
-use Rattle.swc_ecma_codegen_grammar.specs.declared.roles.Role.TheVariants.{Expression, Callee, ChainMember, ChainCall, Pattern, PropertyName, ObjectLiteral, AssignmentTarget, Template, TaggedTemplate}
 use Rattle.swc_ecma_codegen_syntax.specs.declared.nonterminals.Nonterminal.{Nonterminal}
 use Rattle.swc_ecma_codegen_syntax.specs.declared.nonterminals.Nonterminal.TheVariants as nt
 use Rattle.swc_ecma_codegen_syntax.specs.declared.parameters.Parameters.{Parameters}
-use Rattle.swc_ecma_codegen_syntax.specs.declared.verdicts.Facts.{Facts}
+use Rattle.swc_ecma_codegen_syntax.specs.Told.{Told}
 use Rattle.swc_ecma_codegen_syntax.specs.Parameters.{of_targets}
 use Rattle.swc_ecma_codegen_syntax.specs.Forms.{forget, keeps, is_met}
 use Rattle.swc_ecma_codegen_syntax.specs.NameForms.{name_form}
 use Rattle.swc_ecma_codegen_syntax.specs.PatForms.{last_place, binding_form, initializer_form, question_form, pat_element_form, pat_elements_after, pat_elements_form, closing_form, elements_end_form, array_pat_form, rest_form, assign_pat_form, key_value_pat_form, assign_pat_prop_form, pat_prop_form, pat_props_after, pat_props_form, object_pat_form, pat_form}
 use Rattle.swc_ecma_codegen_syntax.specs.TargetForms.{paren_target_form, simple_target_form, target_pat_form, target_form}
-use Rattle.swc_ecma_codegen_syntax.specs.ExprForms.{expr_form}
-use Rattle.swc_ecma_codegen_syntax.specs.NodeForms.{part_form, node_form}
-use Rattle.swc_ecma_codegen_syntax.proofs.Forgets.{annotation_forgets, member_forgets, super_prop_forgets, chain_forgets, chain_member_forgets, chain_call_forgets, tpl_forgets, prop_name_forgets, object_forgets, new_forgets, expr_forgets}
+use Rattle.swc_ecma_codegen_syntax.proofs.Forgets.{annotation_forgets, member_forgets, super_prop_forgets, chain_forgets, prop_name_forgets}
 
 binding_forgets : {X : Type 0} (p : X → Role → Phrase) (c : Parameters) (n : BindingIdent X) → forget p (binding_form c n) ≡ binding_ident p n
 unfolding forget binding_form name_form binding_ident
@@ -140,7 +129,7 @@ target_pat_forgets p comma c (target_pats.Array n) = array_forgets p comma c n
 target_pat_forgets p comma c (target_pats.Object n) = object_pat_forgets p comma c n
 target_pat_forgets p comma c (target_pats.Invalid n) = refl
 
-simple_forgets : {X : Type 0} (places : Bool) (f : X → Role → Parameters → Facts) (p : X → Role → Phrase) (c : Parameters) (n : SimpleAssignTarget X) → keeps places f (simple_target_form c n) ≡ true → forget p (simple_target_form c n) ≡ simple_assign_target p n
+simple_forgets : {X : Type 0} (places : Bool) (f : X → Role → Parameters → Told) (p : X → Role → Phrase) (c : Parameters) (n : SimpleAssignTarget X) → keeps places f (simple_target_form c n) ≡ true → forget p (simple_target_form c n) ≡ simple_assign_target p n
 unfolding forget keeps is_met simple_target_form paren_target_form simple_assign_target paren_expr
 simple_forgets places f p c (simple_targets.Ident n) k = binding_forgets p c n
 simple_forgets places f p c (simple_targets.Member n) k = member_forgets p nt.CallOrMember c n
@@ -150,34 +139,7 @@ simple_forgets places f p c (simple_targets.OptChain n) k = chain_forgets p c n
 simple_forgets places f p c (simple_targets.Invalid n) k = refl
 simple_forgets places f p c n k = absurd (true≢false (sym k))
 
-pub target_forgets : {X : Type 0} (comma places : Bool) (f : X → Role → Parameters → Facts) (p : X → Role → Phrase) (c : Parameters) (n : AssignTarget X) → keeps places f (target_form comma c n) ≡ true → forget p (target_form comma c n) ≡ assign_target p n
+pub target_forgets : {X : Type 0} (comma places : Bool) (f : X → Role → Parameters → Told) (p : X → Role → Phrase) (c : Parameters) (n : AssignTarget X) → keeps places f (target_form comma c n) ≡ true → forget p (target_form comma c n) ≡ assign_target p n
 unfolding target_form assign_target
 target_forgets comma places f p c (targets.Simple n) k = simple_forgets places f p (of_targets c) n k
 target_forgets comma places f p c (targets.Pat n) k = target_pat_forgets p comma (of_targets c) n
-
--- ---- nodes
-
-part_forgets : {X : Type 0} (comma places : Bool) (f : X → Role → Parameters → Facts) (p : X → Role → Phrase) (c : Parameters) (n : ExprPart X) (role : Role) → keeps places f (part_form comma c n role) ≡ true → forget p (part_form comma c n role) ≡ expr_part p n role
-unfolding keeps is_met part_form expr_part
-part_forgets comma places f p c (expr_parts.Pat n) Pattern k = pat_forgets p comma c n
-part_forgets comma places f p c (expr_parts.ObjectLit n) ObjectLiteral k = object_forgets places f p c n k
-part_forgets comma places f p c (expr_parts.PropName n) PropertyName k = prop_name_forgets p c n
-part_forgets comma places f p c (expr_parts.OptCall n) (ChainCall optional) k = chain_call_forgets p c optional n
-part_forgets comma places f p c (expr_parts.AssignTarget n) AssignmentTarget k = target_forgets comma places f p c n k
-part_forgets comma places f p c (expr_parts.Tpl n) Template k = tpl_forgets p c false n
-part_forgets comma places f p c (expr_parts.Tpl n) TaggedTemplate k = tpl_forgets p c true n
-part_forgets comma places f p c n role k = absurd (true≢false (sym k))
-
-callee_forgets : {X : Type 0} (places : Bool) (f : X → Role → Parameters → Facts) (p : X → Role → Phrase) (called : Bool) (c : Parameters) (n : Expr X) → keeps places f (expr_form true called c n) ≡ true → forget p (expr_form true called c n) ≡ expr_in p true n
-unfolding expr_form expr_in
-callee_forgets places f p called c (exprs.New n) k = new_forgets p c true n
-callee_forgets places f p called c n k = expr_forgets places f p called c n k
-
-pub node_forgets : {X : Type 0} (places : Bool) (f : X → Role → Parameters → Facts) (p : X → Role → Phrase) (called : Bool) (c : Parameters) (n : AnyNode-F X) (role : Role) →
-    keeps places f (node_form called c n role) ≡ true → forget p (node_form called c n role) ≡ node_phrase p n role
-unfolding keeps is_met node_form node_phrase
-node_forgets places f p called c (nodes.Expr n) Expression k = expr_forgets places f p called c n k
-node_forgets places f p called c (nodes.Expr n) Callee k = callee_forgets places f p called c n k
-node_forgets places f p called c (nodes.MemberExpr n) (ChainMember optional) k = chain_member_forgets p c optional n
-node_forgets places f p called c (nodes.ExprPart n) role k = part_forgets called places f p c n role k
-node_forgets places f p called c n role k = absurd (true≢false (sym k))

@@ -20,36 +20,37 @@ use Rattle.swc_ecma_codegen_syntax.specs.declared.parameters.Parameters.{Paramet
 use Rattle.swc_ecma_codegen_syntax.specs.declared.verdicts.Verdict.{Verdict}
 use Rattle.swc_ecma_codegen_syntax.specs.Verdicts.{unasked, holds}
 use Rattle.swc_ecma_codegen_syntax.specs.Forms.{Part, of_part, judge, keeps, forget}
-use Rattle.swc_ecma_codegen_syntax.specs.NodeForms.{expr_facts, part_facts, node_facts, facts}
+use Rattle.swc_ecma_codegen_syntax.specs.NodeForms.{expr_facts, part_facts, node_facts, told_of, facts}
 use Rattle.swc_ecma_codegen_syntax.specs.Derives.{Derives, DerivesExpr, DerivesPat, bare_phrase, expr_verdict, pat_verdict}
 use Rattle.swc_ecma_codegen_syntax.proofs.Judged.{judged}
 use Rattle.swc_ecma_codegen_syntax.proofs.TreeFacts.{facts_expr, facts_expr_part}
-use Rattle.swc_ecma_codegen_syntax.proofs.Exact.{unasked_holds, derived_kept, kept_derives}
+use Rattle.swc_ecma_codegen_syntax.proofs.Exact.{derived_kept, kept_derives}
+use Rattle.swc_ecma_codegen_syntax.proofs.ToldForms.{unasked_holds}
 
 -- ---- of any node in a role
 
-abbrev said : Nonterminal → Parameters → Role → AnyNode → Verdict
+abbrev pub said : Nonterminal → Parameters → Role → AnyNode → Verdict
 said place c role n = of_part place unasked (facts n role c)
 
-said_kept : (places : Bool) (place : Nonterminal) (c : Parameters) (role : Role) (n : AnyNode) → holds places (said place c role n) ≡ keeps places facts (Part place c role n)
+said_kept : (places : Bool) (place : Nonterminal) (c : Parameters) (role : Role) (n : AnyNode) → holds places (said place c role n) ≡ keeps places told_of (Part place c role n)
 unfolding judge
 said_kept places place c role n =
-    judged places facts unasked (Part place c role n) ∙ ap (λ b. b && keeps places facts (Part place c role n)) (unasked_holds places)
+    judged places told_of unasked (Part place c role n) ∙ ap (λ b. b && keeps places told_of (Part place c role n)) (unasked_holds places)
 
-node_sound : (places : Bool) (place : Nonterminal) (c : Parameters) (role : Role) (n : AnyNode) (b : Bool) → b ≡ holds places (said place c role n) → (s : Settings) (ts : List Token) →
+pub node_sound : (places : Bool) (place : Nonterminal) (c : Parameters) (role : Role) (n : AnyNode) (b : Bool) → b ≡ holds places (said place c role n) → (s : Settings) (ts : List Token) →
     Derives places s (Part place c role n) ts → (b ≡ true) × Generates s (phrase n role) ts
 unfolding forget
 node_sound places place c role n b e s ts d =
     let (k, x) = derived_kept places s (Part place c role n) ts d in
     (e ∙ said_kept places place c role n ∙ k, x)
 
-node_complete : (places : Bool) (place : Nonterminal) (c : Parameters) (role : Role) (n : AnyNode) (b : Bool) → b ≡ holds places (said place c role n) → b ≡ true → (s : Settings) (ts : List Token) →
+pub node_complete : (places : Bool) (place : Nonterminal) (c : Parameters) (role : Role) (n : AnyNode) (b : Bool) → b ≡ holds places (said place c role n) → b ≡ true → (s : Settings) (ts : List Token) →
     Generates s (bare_phrase (phrase n role)) ts → Derives places s (Part place c role n) ts
 unfolding keeps
 node_complete places place c role n b e h s ts x = kept_derives places s place c role n (sym (said_kept places place c role n) ∙ sym e ∙ h) ts x
 
 -- a well-formed tree has a list, under any settings
-listed : (s : Settings) (p : Phrase) → is_possible p ≡ true → (ts : List Token) × Generates s (bare_phrase p) ts
+pub listed : (s : Settings) (p : Phrase) → is_possible p ≡ true → (ts : List Token) × Generates s (bare_phrase p) ts
 unfolding is_possible bare_phrase Generates
 listed s Never h = absurd (true≢false (sym h))
 listed s Nothing h = (_, refl)
@@ -67,7 +68,7 @@ listed s (CommaBefore close) h = (_, refl)
 listed s (OptionalParentheses a) h = listed s a h
 listed s (Chosen choice) h = (_, refl)
 
-node_exactly : (places : Bool) (place : Nonterminal) (c : Parameters) (role : Role) (n : AnyNode) (b : Bool) → b ≡ holds places (said place c role n) → is_possible (phrase n role) ≡ true → (s : Settings) →
+pub node_exactly : (places : Bool) (place : Nonterminal) (c : Parameters) (role : Role) (n : AnyNode) (b : Bool) → b ≡ holds places (said place c role n) → is_possible (phrase n role) ≡ true → (s : Settings) →
     (b ≡ true) ↔ ((ts : List Token) × Derives places s (Part place c role n) ts)
 node_exactly places place c role n b e w s =
     let there : b ≡ true → (ts : List Token) × Derives places s (Part place c role n) ts = λ h. let (ts, x) = listed s (phrase n role) w in (ts, node_complete places place c role n b e h s ts x) in
@@ -76,7 +77,7 @@ node_exactly places place c role n b e w s =
 
 -- ---- expressions
 
-told : (n : Expr AnyNode) (c : Parameters) → facts (whole.Expr n) Expression c ≡ expr_facts facts false c n
+told : (n : Expr AnyNode) (c : Parameters) → facts (whole.Expr n) Expression c ≡ expr_facts told_of false c n
 unfolding node_facts
 told n c = facts_expr n Expression c
 
@@ -106,7 +107,7 @@ exactly places place c n b e w s m =
 
 -- ---- patterns
 
-pat_told : (n : Pat AnyNode) (c : Parameters) → facts (whole.ExprPart (expr_parts.Pat n)) Pattern c ≡ part_facts facts c (expr_parts.Pat n) Pattern
+pat_told : (n : Pat AnyNode) (c : Parameters) → facts (whole.ExprPart (expr_parts.Pat n)) Pattern c ≡ part_facts told_of c (expr_parts.Pat n) Pattern
 unfolding node_facts
 pat_told n c = facts_expr_part (expr_parts.Pat n) Pattern c
 

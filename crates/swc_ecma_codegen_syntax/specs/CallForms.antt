@@ -16,7 +16,7 @@ use Rattle.swc_ecma_codegen_grammar.specs.ElementPhrases.{last_is_hole}
 use Rattle.swc_ecma_codegen_syntax.specs.declared.nonterminals.Nonterminal.{Nonterminal}
 use Rattle.swc_ecma_codegen_syntax.specs.declared.nonterminals.Nonterminal.TheVariants as nt
 use Rattle.swc_ecma_codegen_syntax.specs.declared.parameters.Parameters.{Parameters}
-use Rattle.swc_ecma_codegen_syntax.specs.Parameters.{with_in}
+use Rattle.swc_ecma_codegen_syntax.specs.Parameters.{with_in, to_end}
 use Rattle.swc_ecma_codegen_syntax.specs.Forms.{Form, Fixed, Provided, ByRule, ByScope, ◌⇢◌, listed, element}
 use Rattle.swc_ecma_codegen_syntax.specs.MemberForms.{expr_part, callee_part, type_args_form, chained}
 
@@ -72,6 +72,10 @@ has_arguments c keeps (Some xs) = not (drops_arguments c keeps xs.items)
 unfoldable pub new_nonterminal : {X : Type 0} → Parameters → Bool → NewExpr X → Nonterminal
 new_nonterminal c keeps n = if has_arguments c keeps n.args then nt.MemberExpression else nt.NewExpression
 
+-- without arguments what is called ends the expression
+unfoldable pub new_parameters : {X : Type 0} → Parameters → Bool → NewExpr X → Parameters
+new_parameters c keeps n = if has_arguments c keeps n.args then with_in c else to_end c
+
 unfoldable pub listed_form : {X : Type 0} → Parameters → Bool → List (ExprOrSpread X) → Form X
 listed_form c false [] = Fixed (Chosen EmptyArguments)
 listed_form c keeps xs = arguments_form c xs
@@ -82,7 +86,7 @@ new_arguments_form c keeps (Some xs) = listed_form c keeps xs.items
 
 unfoldable pub new_form : {X : Type 0} → Parameters → Bool → NewExpr X → Form X
 new_form c keeps n =
-    Fixed (word (codes "new")) ⇢ expr_part (new_nonterminal c keeps n) (with_in c) n.callee ⇢ type_args_form c n.type_args
+    Fixed (word (codes "new")) ⇢ expr_part (new_nonterminal c keeps n) (new_parameters c keeps n) n.callee ⇢ type_args_form c n.type_args
     ⇢ new_arguments_form c keeps n.args
 
 -- 13.3.9: `a?.(b)`, and `(c)` of `a?.b(c)`

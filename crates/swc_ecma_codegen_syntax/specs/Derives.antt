@@ -5,20 +5,30 @@ use Rattle.swc_ecma_codegen_tree.specs.declared.links.AnyNode.TheVariants as who
 use Rattle.swc_ecma_codegen_tree.specs.declared.exprs.Expr.{Expr}
 use Rattle.swc_ecma_codegen_tree.specs.declared.parts.ExprPart.TheVariants as expr_parts
 use Rattle.swc_ecma_codegen_tree.specs.declared.pats.Pat.{Pat}
-use Rattle.swc_ecma_codegen_grammar.specs.Phrases.{Phrase, Closing, Choice, Never, Nothing, One, NameOf, KeyOf, PrivateOf, TagNameOf, Then, CommaBefore, OptionalParentheses, Chosen, closing_mark, closing_token, mark, Generates}
+use Rattle.swc_ecma_codegen_tree.specs.declared.programs.ModuleItem.{ModuleItem}
+use Rattle.swc_ecma_codegen_tree.specs.declared.programs.Program.{Program}
+use Rattle.swc_ecma_codegen_tree.specs.declared.stmts.Stmt.{Stmt}
+use Rattle.swc_ecma_codegen_grammar.specs.Phrases.{Phrase, Closing, Then, CommaBefore, OptionalParentheses, closing_mark, closing_token, in_parentheses, mark, Generates}
+use Rattle.swc_ecma_codegen_grammar.specs.FunctionPhrases.{is_never}
 use Rattle.swc_ecma_codegen_grammar.specs.Phrases as phrases
 use Rattle.swc_ecma_codegen_grammar.specs.PatPhrases.{pat}
+use Rattle.swc_ecma_codegen_grammar.specs.StmtPhrases.{module_item}
 use Rattle.swc_ecma_codegen_grammar.specs.Settings.{Settings}
 use Rattle.swc_ecma_codegen_grammar.specs.Tokens.{Token}
 use Rattle.swc_ecma_codegen_grammar.specs.TreePhrases.{phrase}
 use Rattle.swc_ecma_codegen_grammar.specs.declared.roles.Role.{Role}
-use Rattle.swc_ecma_codegen_grammar.specs.declared.roles.Role.TheVariants.{Expression, Pattern}
+use Rattle.swc_ecma_codegen_grammar.specs.declared.roles.Role.TheVariants.{Expression, PlainParameter, Statement, Pattern}
 use Rattle.swc_ecma_codegen_syntax.specs.declared.nonterminals.Nonterminal.{Nonterminal}
 use Rattle.swc_ecma_codegen_syntax.specs.declared.parameters.Parameters.{Parameters}
 use Rattle.swc_ecma_codegen_syntax.specs.declared.verdicts.Verdict.{Verdict}
-use Rattle.swc_ecma_codegen_syntax.specs.Verdicts.{unasked}
-use Rattle.swc_ecma_codegen_syntax.specs.Forms.{of_part, Form, Fixed, Part, Simple, Both, Provided, Closed, Bare, Cure, is_met, stands}
-use Rattle.swc_ecma_codegen_syntax.specs.NodeForms.{node_nonterminal, node_form, is_simple, is_name_node, expr_facts, part_facts, facts}
+use Rattle.swc_ecma_codegen_syntax.specs.Verdicts.{unasked, meet}
+use Rattle.swc_ecma_codegen_syntax.specs.declared.lookahead.Lookahead.{Lookahead}
+use Rattle.swc_ecma_codegen_syntax.specs.Lookahead.{beginning, excludes}
+use Rattle.swc_ecma_codegen_syntax.specs.Forms.{of_part, judge, Form, Fixed, Part, Simple, Restricted, Both, Provided, Closed, Bare, Followed, Cure, ByPlace, role_in, is_met, stands, Lone}
+use Rattle.swc_ecma_codegen_syntax.specs.NodeForms.{node_nonterminal, node_form, is_simple, is_name_node, expr_facts, part_facts, stmt_facts, told_of}
+use Rattle.swc_ecma_codegen_syntax.specs.Parameters.{before}
+use Rattle.swc_ecma_codegen_syntax.specs.StmtForms.{is_empty_node}
+use Rattle.swc_ecma_codegen_syntax.specs.ModuleForms.{item_form, program_form}
 
 -- A form derives a list. A part is derived by a production of its node (`other` chooses between two: a member's, by a MemberExpression or a
 -- CallExpression, and a pattern's, where no comma may stand before its closing mark, or one may), whose nonterminal stands where the place wants one: by unit productions.
@@ -31,11 +41,21 @@ pub data Derives (places : Bool) (s : Settings) : Form AnyNode → List Token �
   simple : {named : Bool} {place : Nonterminal} {c : Parameters} {n : AnyNode} {ts : List Token} →
       (is_simple n c.is_strict && (named || not (is_name_node (out-AnyNode n)))) ≡ true → Derives places s (Part place c Expression n) ts →
       Derives places s (Simple named place c n) ts
+  restricted : {lookahead : Lookahead} {place : Nonterminal} {c : Parameters} {as_pattern : Bool} {n : AnyNode} {ts : List Token} →
+      is_met places ByPlace (not (excludes lookahead (beginning ts))) ≡ true → Derives places s (Part place c (role_in as_pattern) n) ts →
+      Derives places s (Restricted lookahead place c as_pattern n) ts
+  -- 15.3: ArrowParameters is a BindingIdentifier, or stands in parentheses
+  lone : {place : Nonterminal} {c : Parameters} {n : AnyNode} {ts : List Token} → is_never (phrase n PlainParameter) ≡ false →
+      Derives places s (Part place c Pattern n) ts → Derives places s (Lone place c n) ts
+  lone_in_parentheses : {place : Nonterminal} {c : Parameters} {n : AnyNode} {ts : List Token} → Derives places s (Part place c Pattern n) ts →
+      Derives places s (Lone place c n) (in_parentheses ts)
   both : {a b : Form AnyNode} {ts us : List Token} → Derives places s a ts → Derives places s b us → Derives places s (Both a b) (ts ++ us)
   provided : {cure : Cure} {condition : Bool} {a : Form AnyNode} {ts : List Token} → is_met places cure condition ≡ true → Derives places s a ts →
       Derives places s (Provided cure condition a) ts
   closed : {comma : Bool} {close : Closing} → Derives places s (Closed comma close) (closing_token close ∷ [])
   comma_closed : {close : Closing} → Derives places s (Closed true close) (phrases.comma ∷ closing_token close ∷ [])
+  followed : {place : Nonterminal} {c : Parameters} {n next : AnyNode} {ts : List Token} →
+      Derives places s (Part place (before (is_empty_node (out-AnyNode next)) c) Statement n) ts → Derives places s (Followed place c n next) ts
   bare : {a : Form AnyNode} {ts : List Token} → Derives places s a ts → Derives places s (Bare a) ts
 
 -- an expression by itself, as a nonterminal with its parameters, under settings that minify where these say so
@@ -45,6 +65,21 @@ DerivesExpr places s place c n ts = (s.minify ≡ c.minify) × Derives places s 
 -- a pattern by itself: `parameters` say whether it is one of a binding
 abbrev pub DerivesPat : Bool → Settings → Nonterminal → Parameters → Pat AnyNode → List Token → Type 0
 DerivesPat places s place c n ts = (s.minify ≡ c.minify) × Derives places s (Part place c Pattern (whole.ExprPart (expr_parts.Pat n))) ts
+
+-- a statement by itself, and an item of a module
+abbrev pub DerivesStmt : Bool → Settings → Nonterminal → Parameters → Stmt AnyNode → List Token → Type 0
+DerivesStmt places s place c n ts = (s.minify ≡ c.minify) × Derives places s (Part place c Statement (whole.Stmt n)) ts
+
+abbrev pub DerivesItem : Bool → Settings → Parameters → ModuleItem AnyNode → List Token → Type 0
+DerivesItem places s c n ts = (s.minify ≡ c.minify) × Derives places s (item_form c n) ts
+
+-- a program, from Script or Module
+abbrev pub DerivesProgram : Bool → Settings → Program AnyNode → List Token → Type 0
+DerivesProgram places s n ts = Derives places s (program_form s.minify n) ts
+
+-- what an item of a module reads as
+abbrev pub item_phrase : ModuleItem AnyNode → Phrase
+item_phrase n = module_item phrase n
 
 -- what a pattern by itself reads as
 abbrev pub pat_phrase : Pat AnyNode → Phrase
@@ -59,7 +94,17 @@ bare_phrase p = p
 
 -- what is said of an expression and of a pattern by itself, as a nonterminal with its parameters
 abbrev pub expr_verdict : Nonterminal → Parameters → Expr AnyNode → Verdict
-expr_verdict place c n = of_part place unasked (expr_facts facts false c n)
+expr_verdict place c n = of_part place unasked (expr_facts told_of false c n)
 
 abbrev pub pat_verdict : Nonterminal → Parameters → Pat AnyNode → Verdict
-pat_verdict place c n = of_part place unasked (part_facts facts c (expr_parts.Pat n) Pattern)
+pat_verdict place c n = of_part place unasked (part_facts told_of c (expr_parts.Pat n) Pattern)
+
+abbrev pub stmt_verdict : Nonterminal → Parameters → Stmt AnyNode → Verdict
+stmt_verdict place c n = of_part place unasked (stmt_facts told_of c n)
+
+abbrev pub item_verdict : Parameters → ModuleItem AnyNode → Verdict
+item_verdict c n = judge told_of unasked (item_form c n)
+
+-- of a program, what holds both of an emission that doesn't minify and of one that does
+abbrev pub program_verdict : Program AnyNode → Verdict
+program_verdict n = meet (judge told_of unasked (program_form false n)) (judge told_of unasked (program_form true n))

@@ -19,20 +19,22 @@ use Rattle.swc_ecma_codegen_tree.specs.declared.exprs.ParenExpr.{ParenExpr}
 use Rattle.swc_ecma_codegen_grammar.specs.Phrases.{Never, Nothing, One, word, mark, same_line}
 use Rattle.swc_ecma_codegen_grammar.specs.ExprPhrases.{this_expr, unary_op, update_op, binary_op, assign_op, meta_prop_expr}
 use Rattle.swc_ecma_codegen_grammar.specs.NamePhrases.{private_name}
-use Rattle.swc_ecma_codegen_grammar.specs.declared.roles.Role.TheVariants.{AssignmentTarget, Template}
+use Rattle.swc_ecma_codegen_grammar.specs.declared.roles.Role.TheVariants.{AssignmentTarget, Template, Element}
 use Rattle.swc_ecma_codegen_syntax.specs.declared.nonterminals.Nonterminal.{Nonterminal}
 use Rattle.swc_ecma_codegen_syntax.specs.declared.nonterminals.Nonterminal.TheVariants as nt
 use Rattle.swc_ecma_codegen_syntax.specs.declared.parameters.Parameters.{Parameters}
-use Rattle.swc_ecma_codegen_syntax.specs.Parameters.{with_in}
+use Rattle.swc_ecma_codegen_syntax.specs.Parameters.{with_in, to_end, before_operator}
 use Rattle.swc_ecma_codegen_syntax.specs.Forms.{Form, Fixed, Part, Simple, Provided, Bare, ByPlace, ByRule, ByScope, ◌⇢◌, some_listed}
 use Rattle.swc_ecma_codegen_syntax.specs.NameForms.{name_form, lit_form}
 use Rattle.swc_ecma_codegen_syntax.specs.MemberForms.{expr_part, member_form, super_prop_form, tagged_form, opt_chain_form}
 use Rattle.swc_ecma_codegen_syntax.specs.CallForms.{array_form, call_form, new_form, new_nonterminal}
 use Rattle.swc_ecma_codegen_syntax.specs.ObjectForms.{object_form}
+use Rattle.swc_ecma_codegen_syntax.specs.FunctionForms.{fn_expr_form, arrow_form}
+use Rattle.swc_ecma_codegen_syntax.specs.ClassForms.{class_expr_form}
 
 -- 13.5: UnaryExpression : delete UnaryExpression, .. , ! UnaryExpression
 unfoldable pub unary_form : {X : Type 0} → Parameters → UnaryExpr X → Form X
-unary_form c n = Fixed (One (unary_op n.op)) ⇢ expr_part nt.UnaryExpression (with_in c) n.arg
+unary_form c n = Fixed (One (unary_op n.op)) ⇢ expr_part nt.UnaryExpression (to_end c) n.arg
 
 -- 13.4: LeftHandSideExpression ++, ++ UnaryExpression, whose AssignmentTargetType is simple
 unfoldable pub update_form : {X : Type 0} → Parameters → UpdateExpr X → Form X
@@ -108,10 +110,14 @@ unfoldable pub is_in : BinaryOp → Bool
 is_in binary.In = true
 is_in op = false
 
+unfoldable pub is_less : BinaryOp → Bool
+is_less binary.Lt = true
+is_less op = false
+
 unfoldable pub bin_form : {X : Type 0} → Parameters → BinExpr X → Form X
 bin_form c n =
     Provided ByPlace (not (is_in n.op) || c.has_in)
-    (expr_part (left_nonterminal n.op) c n.left ⇢ Fixed (One (binary_op n.op)) ⇢ expr_part (right_nonterminal n.op) c n.right)
+    (expr_part (left_nonterminal n.op) (before_operator (is_less n.op) c) n.left ⇢ Fixed (One (binary_op n.op)) ⇢ expr_part (right_nonterminal n.op) c n.right)
 
 -- 13.14: ShortCircuitExpression ? AssignmentExpression[+In] : AssignmentExpression
 unfoldable pub cond_form : {X : Type 0} → Parameters → CondExpr X → Form X
@@ -143,7 +149,7 @@ yield_form c n = Provided ByRule c.has_yield (Fixed (word (codes "yield")) ⇢ y
 
 -- 15.8: await UnaryExpression
 unfoldable pub await_form : {X : Type 0} → Parameters → AwaitExpr X → Form X
-await_form c n = Provided ByRule c.has_await (Fixed (word (codes "await")) ⇢ expr_part nt.UnaryExpression (with_in c) n.arg)
+await_form c n = Provided ByRule c.has_await (Fixed (word (codes "await")) ⇢ expr_part nt.UnaryExpression (to_end c) n.arg)
 
 -- 13.16: Expression , AssignmentExpression
 unfoldable pub seq_form : {X : Type 0} → Parameters → SeqExpr X → Form X
@@ -175,9 +181,10 @@ expr_nonterminal keeps called c (exprs.Await n) = nt.UnaryExpression
 expr_nonterminal keeps called c (exprs.MetaProp n) = nt.MemberExpression
 expr_nonterminal keeps called c (exprs.OptChain n) = nt.OptionalExpression
 expr_nonterminal keeps called c (exprs.PrivateName n) = nt.PrivateIdentifier
+expr_nonterminal keeps called c (exprs.Arrow n) = nt.AssignmentExpression
 expr_nonterminal keeps called c n = nt.PrimaryExpression
 
--- The production. Functions, classes, arrows, JSX and TypeScript have none here yet.
+-- The production. No element of JSX stands right before the operator `<`, as parsers have it. TypeScript has none here.
 unfoldable pub expr_form : {X : Type 0} → Bool → Bool → Parameters → Expr X → Form X
 expr_form keeps called c (exprs.This n) = Fixed (this_expr n)
 expr_form keeps called c (exprs.Array n) = array_form c n
@@ -202,4 +209,9 @@ expr_form keeps called c (exprs.Await n) = await_form c n
 expr_form keeps called c (exprs.Paren n) = paren_form c n
 expr_form keeps called c (exprs.PrivateName n) = Fixed (private_name n)
 expr_form keeps called c (exprs.OptChain n) = opt_chain_form c n
+expr_form keeps called c (exprs.JSXElement n) = Provided ByPlace (not c.before_less) (Part nt.JSXElement (with_in c) Element n.node.value)
+expr_form keeps called c (exprs.JSXFragment n) = Provided ByPlace (not c.before_less) (Part nt.JSXElement (with_in c) Element n.node.value)
+expr_form keeps called c (exprs.Fn n) = fn_expr_form c n
+expr_form keeps called c (exprs.Arrow n) = arrow_form c n.value
+expr_form keeps called c (exprs.Class n) = class_expr_form c n
 expr_form keeps called c n = Provided ByScope false (Fixed Never)

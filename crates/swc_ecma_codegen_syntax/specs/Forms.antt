@@ -1,13 +1,19 @@
 -- Productions with nonterminals at their parts.
-use Rattle.std.specs.Prelude.{ℕ, Bool, true, false, ◌&&◌, ◌||◌, not, List, [], ◌∷◌, Option, Some, None}
-use Rattle.swc_ecma_codegen_grammar.specs.Phrases.{Phrase, Closing, Never, Nothing, Then, CommaBefore, OptionalParentheses, mark}
+use Rattle.std.specs.Prelude.{ℕ, Bool, true, false, ◌&&◌, ◌||◌, not, codes, List, [], ◌∷◌, Option, Some, None, if◌then◌else◌}
+use Rattle.swc_ecma_codegen_grammar.specs.Phrases.{Phrase, Closing, Never, Nothing, Then, CommaBefore, OptionalParentheses, ◌>◌, mark}
+use Rattle.swc_ecma_codegen_grammar.specs.FunctionPhrases.{is_never}
 use Rattle.swc_ecma_codegen_grammar.specs.declared.roles.Role.{Role}
-use Rattle.swc_ecma_codegen_grammar.specs.declared.roles.Role.TheVariants.{Expression}
+use Rattle.swc_ecma_codegen_grammar.specs.declared.roles.Role.TheVariants.{Expression, Pattern, Statement, PlainParameter}
 use Rattle.swc_ecma_codegen_syntax.specs.declared.nonterminals.Nonterminal.{Nonterminal}
+use Rattle.swc_ecma_codegen_syntax.specs.declared.nonterminals.Nonterminal.TheVariants as nt
 use Rattle.swc_ecma_codegen_syntax.specs.declared.parameters.Parameters.{Parameters}
+use Rattle.swc_ecma_codegen_syntax.specs.Parameters.{before}
 use Rattle.swc_ecma_codegen_syntax.specs.declared.verdicts.Facts.{Facts}
+use Rattle.swc_ecma_codegen_syntax.specs.Told.{Told, begins_in, empty_in}
 use Rattle.swc_ecma_codegen_syntax.specs.declared.verdicts.Verdict.{Verdict}
 use Rattle.swc_ecma_codegen_syntax.specs.Nonterminals.{takes}
+use Rattle.swc_ecma_codegen_syntax.specs.declared.lookahead.Lookahead.{Lookahead}
+use Rattle.swc_ecma_codegen_syntax.specs.Lookahead.{excludes}
 use Rattle.swc_ecma_codegen_syntax.specs.Verdicts.{meet, by_place, by_rule, by_scope, standing, is_mended, holds}
 
 -- what it means where a condition fails: parentheses mend it; nothing does; there is no production here
@@ -17,17 +23,29 @@ pub data Cure : Type 0 where
   ByScope : Cure
 
 -- What has no parts; a part, by what a link holds, as a nonterminal with its parameters; an expression whose AssignmentTargetType is simple,
--- and which is no name unless `named`; one and then another; on a condition; a closing mark, and whether a comma may stand before
+-- and which is no name unless `named`; an expression or a pattern whose
+-- tokens may not begin with what a lookahead restriction names; the only parameter of an arrow function, which stands in parentheses, or bare where
+-- it is a name alone; one and then another; on a condition; a closing mark, and whether a comma may stand before
 -- it, as in `[a,] = b`; what
--- may stand in parentheses that no production has.
+-- may stand in parentheses that no production has; a statement, and the one right behind it.
 pub data Form (X : Type 0) : Type 0 where
   Fixed : (phrase : Phrase) → Form X
   Part : (place : Nonterminal) → (parameters : Parameters) → (role : Role) → (node : X) → Form X
   Simple : (named : Bool) → (place : Nonterminal) → (parameters : Parameters) → (node : X) → Form X
+  Restricted : (lookahead : Lookahead) → (place : Nonterminal) → (parameters : Parameters) → (as_pattern : Bool) → (node : X) → Form X
+  Lone : (place : Nonterminal) → (parameters : Parameters) → (node : X) → Form X
   Both : (first second : Form X) → Form X
   Provided : (cure : Cure) → (condition : Bool) → (form : Form X) → Form X
   Closed : (comma : Bool) → (close : Closing) → Form X
   Bare : (form : Form X) → Form X
+  Followed : (place : Nonterminal) → (parameters : Parameters) → (node next : X) → Form X
+
+abbrev pub role_in : Bool → Role
+role_in as_pattern = if as_pattern then Pattern else Expression
+
+-- the only parameter of an arrow function: a name alone, or another
+abbrev pub only_phrase : Bool → Phrase → Phrase
+only_phrase is_other p = if is_other then mark (codes "(") > p > mark (codes ")") else OptionalParentheses p
 
 infixr 20 ◌⇢◌
 abbrev pub ◌⇢◌ : {X : Type 0} → Form X → Form X → Form X
@@ -38,20 +56,26 @@ unfoldable pub forget : {X : Type 0} → (X → Role → Phrase) → Form X → 
 forget f (Fixed p) = p
 forget f (Part place parameters role n) = f n role
 forget f (Simple named place parameters n) = f n Expression
+forget f (Restricted lookahead place parameters as_pattern n) = f n (role_in as_pattern)
+forget f (Lone place parameters n) = only_phrase (is_never (f n PlainParameter)) (f n Pattern)
 forget f (Both a b) = Then (forget f a) (forget f b)
 forget f (Provided cure condition a) = forget f a
 forget f (Closed comma close) = CommaBefore close
 forget f (Bare a) = OptionalParentheses (forget f a)
+forget f (Followed place parameters n next) = f n Statement
 
 -- the same over what links hold as something else
 unfoldable pub map_form : {X Y : Type 0} → (X → Y) → Form X → Form Y
 map_form g (Fixed p) = Fixed p
 map_form g (Part place parameters role n) = Part place parameters role (g n)
 map_form g (Simple named place parameters n) = Simple named place parameters (g n)
+map_form g (Restricted lookahead place parameters as_pattern n) = Restricted lookahead place parameters as_pattern (g n)
+map_form g (Lone place parameters n) = Lone place parameters (g n)
 map_form g (Both a b) = Both (map_form g a) (map_form g b)
 map_form g (Provided cure condition a) = Provided cure condition (map_form g a)
 map_form g (Closed comma close) = Closed comma close
 map_form g (Bare a) = Bare (map_form g a)
+map_form g (Followed place parameters n next) = Followed place parameters (g n) (g next)
 
 -- ---- what the check says of a form, where f says what is told of a part
 
@@ -67,14 +91,19 @@ abbrev pub of_part : Nonterminal → Verdict → Facts → Verdict
 of_part place v facts = meet (standing v place facts.nonterminal) facts.verdict
 
 -- the verdict so far, and of the form
-unfoldable pub judge : {X : Type 0} → (X → Role → Parameters → Facts) → Verdict → Form X → Verdict
+unfoldable pub judge : {X : Type 0} → (X → Role → Parameters → Told) → Verdict → Form X → Verdict
 judge f v (Fixed p) = v
-judge f v (Part place parameters role n) = of_part place v (f n role parameters)
-judge f v (Simple named place parameters n) = of_part place (by_rule v (is_target named (f n Expression parameters))) (f n Expression parameters)
+judge f v (Part place parameters role n) = of_part place v (f n role parameters).facts
+judge f v (Simple named place parameters n) =
+    of_part place (by_rule v (is_target named (f n Expression parameters).facts)) (f n Expression parameters).facts
+judge f v (Restricted lookahead place parameters as_pattern n) =
+    of_part place (asked ByPlace v (not (excludes lookahead (begins_in f n (role_in as_pattern))))) (f n (role_in as_pattern) parameters).facts
+judge f v (Lone place parameters n) = of_part place v (f n Pattern parameters).facts
 judge f v (Both a b) = judge f (judge f v a) b
 judge f v (Provided cure condition a) = judge f (asked cure v condition) a
 judge f v (Closed comma close) = v
 judge f v (Bare a) = judge f v a
+judge f v (Followed place parameters n next) = of_part place v (f n Statement (before (empty_in f next) parameters)).facts
 
 -- the same, as a condition; `places` says whether a missing parenthesis counts
 unfoldable pub is_met : Bool → Cure → Bool → Bool
@@ -85,16 +114,25 @@ is_met places ByScope condition = condition
 unfoldable pub stands : Bool → Nonterminal → Nonterminal → Bool
 stands places place part = takes place part || (not places && is_mended place part)
 
-unfoldable pub keeps : {X : Type 0} → Bool → (X → Role → Parameters → Facts) → Form X → Bool
+unfoldable pub keeps : {X : Type 0} → Bool → (X → Role → Parameters → Told) → Form X → Bool
 keeps places f (Fixed p) = true
-keeps places f (Part place parameters role n) = stands places place (f n role parameters).nonterminal && holds places (f n role parameters).verdict
+keeps places f (Part place parameters role n) =
+    stands places place (f n role parameters).facts.nonterminal && holds places (f n role parameters).facts.verdict
 keeps places f (Simple named place parameters n) =
-    is_target named (f n Expression parameters)
-    && (stands places place (f n Expression parameters).nonterminal && holds places (f n Expression parameters).verdict)
+    is_target named (f n Expression parameters).facts
+    && (stands places place (f n Expression parameters).facts.nonterminal && holds places (f n Expression parameters).facts.verdict)
+keeps places f (Restricted lookahead place parameters as_pattern n) =
+    is_met places ByPlace (not (excludes lookahead (begins_in f n (role_in as_pattern))))
+    && (stands places place (f n (role_in as_pattern) parameters).facts.nonterminal && holds places (f n (role_in as_pattern) parameters).facts.verdict)
+keeps places f (Lone place parameters n) =
+    stands places place (f n Pattern parameters).facts.nonterminal && holds places (f n Pattern parameters).facts.verdict
 keeps places f (Both a b) = keeps places f a && keeps places f b
 keeps places f (Provided cure condition a) = is_met places cure condition && keeps places f a
 keeps places f (Closed comma close) = true
 keeps places f (Bare a) = keeps places f a
+keeps places f (Followed place parameters n next) =
+    stands places place (f n Statement (before (empty_in f next) parameters)).facts.nonterminal
+    && holds places (f n Statement (before (empty_in f next) parameters)).facts.verdict
 
 -- ---- lists
 
@@ -108,11 +146,27 @@ unfoldable pub listed : {X A : Type 0} → List ℕ → (A → Form X) → List 
 listed between each [] = Fixed Nothing
 listed between each (x ∷ xs) = each x ⇢ each_after between each xs
 
--- the same, of two at least
+-- one after another
+unfoldable pub in_order : {X A : Type 0} → (A → Form X) → List A → Form X
+in_order each [] = Fixed Nothing
+in_order each (x ∷ xs) = each x ⇢ in_order each xs
+
+-- the same with a mark between, of two at least
 unfoldable pub some_listed : {X A : Type 0} → List ℕ → (A → Form X) → List A → Form X
 some_listed between each [] = Provided ByRule false (Fixed Never)
 some_listed between each (x ∷ []) = Provided ByRule false (each x ⇢ Fixed Nothing)
 some_listed between each (x ∷ y ∷ xs) = each x ⇢ each_after between each (y ∷ xs)
+
+-- one after another, with commas between; the last may be a rest
+unfoldable pub ending_after : {X A : Type 0} → (Nonterminal → A → Form X) → List A → Form X
+ending_after each [] = Fixed Nothing
+ending_after each (x ∷ []) = Fixed (mark (codes ",")) ⇢ each nt.LastElement x ⇢ Fixed Nothing
+ending_after each (x ∷ y ∷ xs) = Fixed (mark (codes ",")) ⇢ each nt.PatternElement x ⇢ ending_after each (y ∷ xs)
+
+unfoldable pub ending_listed : {X A : Type 0} → (Nonterminal → A → Form X) → List A → Form X
+ending_listed each [] = Fixed Nothing
+ending_listed each (x ∷ []) = each nt.LastElement x ⇢ Fixed Nothing
+ending_listed each (x ∷ y ∷ xs) = each nt.PatternElement x ⇢ ending_after each (y ∷ xs)
 
 -- a hole among elements has no token
 unfoldable pub element : {X A : Type 0} → (A → Form X) → Option A → Form X

@@ -201,6 +201,138 @@ unfoldable pub is_rest : Nonterminal → Bool
 is_rest nt.RestElement = true
 is_rest n = false
 
+unfoldable pub is_statement : Nonterminal → Bool
+is_statement nt.Statement = true
+is_statement n = false
+
+unfoldable pub is_hoistable_declaration : Nonterminal → Bool
+is_hoistable_declaration nt.HoistableDeclaration = true
+is_hoistable_declaration n = false
+
+unfoldable pub is_block : Nonterminal → Bool
+is_block nt.Block = true
+is_block n = false
+
+unfoldable pub is_variable_declarations : Nonterminal → Bool
+is_variable_declarations nt.VariableDeclarations = true
+is_variable_declarations n = false
+
+-- 14: Declaration : HoistableDeclaration
+unfoldable pub is_declaration : Nonterminal → Bool
+is_declaration nt.Declaration = true
+is_declaration n = is_hoistable_declaration n
+
+-- 14.2: StatementListItem : Statement, Declaration
+unfoldable pub is_statement_list_item : Nonterminal → Bool
+is_statement_list_item nt.StatementListItem = true
+is_statement_list_item nt.Statement = true
+is_statement_list_item n = is_declaration n
+
+-- 14.13: LabelledItem : Statement, FunctionDeclaration
+unfoldable pub is_labelled_item : Nonterminal → Bool
+is_labelled_item nt.LabelledItem = true
+is_labelled_item nt.Statement = true
+is_labelled_item n = is_hoistable_declaration n
+
+unfoldable pub is_module_declaration : Nonterminal → Bool
+is_module_declaration nt.ModuleDeclaration = true
+is_module_declaration n = false
+
+unfoldable pub is_exported_head : Nonterminal → Bool
+is_exported_head nt.ExportedHead = true
+is_exported_head n = false
+
+-- functions and classes
+unfoldable pub is_function_head : Nonterminal → Bool
+is_function_head nt.FunctionHead = true
+is_function_head n = false
+
+unfoldable pub is_generator_head : Nonterminal → Bool
+is_generator_head nt.GeneratorHead = true
+is_generator_head n = false
+
+unfoldable pub is_async_function_head : Nonterminal → Bool
+is_async_function_head nt.AsyncFunctionHead = true
+is_async_function_head n = false
+
+unfoldable pub is_async_generator_head : Nonterminal → Bool
+is_async_generator_head nt.AsyncGeneratorHead = true
+is_async_generator_head n = false
+
+unfoldable pub is_function_tail : Nonterminal → Bool
+is_function_tail nt.FunctionTail = true
+is_function_tail n = false
+
+unfoldable pub is_getter_tail : Nonterminal → Bool
+is_getter_tail nt.GetterTail = true
+is_getter_tail n = false
+
+unfoldable pub is_setter_tail : Nonterminal → Bool
+is_setter_tail nt.SetterTail = true
+is_setter_tail n = false
+
+unfoldable pub is_method_head : Nonterminal → Bool
+is_method_head nt.MethodHead = true
+is_method_head n = false
+
+unfoldable pub is_decorator_list : Nonterminal → Bool
+is_decorator_list nt.DecoratorList = true
+is_decorator_list n = false
+
+unfoldable pub is_class_head : Nonterminal → Bool
+is_class_head nt.ClassHead = true
+is_class_head n = false
+
+unfoldable pub is_class_tail : Nonterminal → Bool
+is_class_tail nt.ClassTail = true
+is_class_tail n = false
+
+unfoldable pub is_class_element : Nonterminal → Bool
+is_class_element nt.ClassElement = true
+is_class_element n = false
+
+unfoldable pub is_constructor_name : Nonterminal → Bool
+is_constructor_name nt.ConstructorName = true
+is_constructor_name n = false
+
+-- the words before any function
+unfoldable pub is_any_function_head : Nonterminal → Bool
+is_any_function_head nt.AnyFunctionHead = true
+is_any_function_head nt.FunctionHead = true
+is_any_function_head nt.GeneratorHead = true
+is_any_function_head nt.AsyncFunctionHead = true
+is_any_function_head nt.AsyncGeneratorHead = true
+is_any_function_head n = false
+
+-- those before a function that is no generator: its name may be `yield`
+unfoldable pub is_head_without_yield : Nonterminal → Bool
+is_head_without_yield nt.HeadWithoutYield = true
+is_head_without_yield nt.FunctionHead = true
+is_head_without_yield nt.AsyncFunctionHead = true
+is_head_without_yield n = false
+
+-- those before a function that isn't async: its name may be `await`
+unfoldable pub is_head_without_await : Nonterminal → Bool
+is_head_without_await nt.HeadWithoutAwait = true
+is_head_without_await nt.FunctionHead = true
+is_head_without_await nt.GeneratorHead = true
+is_head_without_await n = false
+
+-- propertyName, whichever it is: section 13.2.5
+unfoldable pub is_any_property_name : Nonterminal → Bool
+is_any_property_name nt.AnyPropertyName = true
+is_any_property_name nt.PropertyName = true
+is_any_property_name nt.ConstructorName = true
+is_any_property_name n = false
+
+unfoldable pub is_jsx_element : Nonterminal → Bool
+is_jsx_element nt.JSXElement = true
+is_jsx_element n = false
+
+unfoldable pub is_jsx_object : Nonterminal → Bool
+is_jsx_object nt.JSXObject = true
+is_jsx_object n = false
+
 unfoldable pub is_uncovered : Nonterminal → Bool
 is_uncovered nt.Uncovered = true
 is_uncovered n = false
@@ -246,4 +378,32 @@ takes nt.PatternTarget = is_pattern_target
 takes nt.PatternElement = is_pattern_element
 takes nt.RestElement = is_rest
 takes nt.LastElement = is_last_element
+takes nt.Statement = is_statement
+takes nt.HoistableDeclaration = is_hoistable_declaration
+takes nt.Declaration = is_declaration
+takes nt.Block = is_block
+takes nt.StatementListItem = is_statement_list_item
+takes nt.VariableDeclarations = is_variable_declarations
+takes nt.LabelledItem = is_labelled_item
+takes nt.ModuleDeclaration = is_module_declaration
+takes nt.ExportedHead = is_exported_head
+takes nt.FunctionHead = is_function_head
+takes nt.GeneratorHead = is_generator_head
+takes nt.AsyncFunctionHead = is_async_function_head
+takes nt.AsyncGeneratorHead = is_async_generator_head
+takes nt.FunctionTail = is_function_tail
+takes nt.GetterTail = is_getter_tail
+takes nt.SetterTail = is_setter_tail
+takes nt.MethodHead = is_method_head
+takes nt.DecoratorList = is_decorator_list
+takes nt.ClassHead = is_class_head
+takes nt.ClassTail = is_class_tail
+takes nt.ClassElement = is_class_element
+takes nt.ConstructorName = is_constructor_name
+takes nt.AnyFunctionHead = is_any_function_head
+takes nt.HeadWithoutYield = is_head_without_yield
+takes nt.HeadWithoutAwait = is_head_without_await
+takes nt.AnyPropertyName = is_any_property_name
+takes nt.JSXElement = is_jsx_element
+takes nt.JSXObject = is_jsx_object
 takes nt.Uncovered = is_uncovered

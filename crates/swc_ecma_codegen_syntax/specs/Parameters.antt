@@ -1,6 +1,8 @@
 -- The parameters of nonterminals. ECMA-262, section 5.1.5.
-use Rattle.std.specs.Prelude.{true, false}
+use Rattle.std.specs.Prelude.{Bool, true, false, ◌||◌, ◌&&◌, not}
 use Rattle.swc_ecma_codegen_syntax.specs.declared.parameters.Parameters.{Parameters}
+use Rattle.swc_ecma_codegen_syntax.specs.declared.parameters.Position.{Position}
+use Rattle.swc_ecma_codegen_syntax.specs.declared.parameters.Position.TheVariants.{Item, Labelled, Inner}
 
 -- a script, and a module, outside functions: sections 16.1 and 16.2
 abbrev pub of_script : Parameters
@@ -11,7 +13,13 @@ of_script = record {
   has_return = false;
   is_strict = false;
   reserves_await = false;
+  in_static_block = false;
   is_binding = false;
+  is_loop_head = false;
+  position = Item;
+  before_else = false;
+  before_empty = false;
+  before_less = false;
   minify = false;
 }
 
@@ -20,8 +28,87 @@ of_module = record of_script { has_await = true; is_strict = true; reserves_awai
 
 -- [+In], as between brackets
 abbrev pub with_in : Parameters → Parameters
-with_in c = record c { has_in = true }
+with_in c = record c { has_in = true; before_less = false }
+
+-- [+In], for what ends the expression, as `b` of `a + -b`
+abbrev pub to_end : Parameters → Parameters
+to_end c = record c { has_in = true }
+
+-- what stands before an operator: `<`, or another
+abbrev pub before_operator : Bool → Parameters → Parameters
+before_operator less c = record c { before_less = less }
 
 -- what is assigned to binds nothing
 abbrev pub of_targets : Parameters → Parameters
-of_targets c = record c { has_in = true; is_binding = false }
+of_targets c = record c { has_in = true; before_less = false; is_binding = false }
+
+-- BindingIdentifier, BindingPattern
+abbrev pub of_bindings : Parameters → Parameters
+of_bindings c = record c { is_binding = true }
+
+-- what is declared by a statement, in the head of `for (a; b; c) {}`, and in that of `for (a of b) {}`
+abbrev pub of_declarations : Parameters → Parameters
+of_declarations c = record c { has_in = true; is_loop_head = false }
+
+abbrev pub of_for : Parameters → Parameters
+of_for c = record c { has_in = false; is_loop_head = false }
+
+abbrev pub of_loop : Parameters → Parameters
+of_loop c = record c { has_in = false; is_loop_head = true }
+
+-- an item of a StatementList, and whether an empty statement stands right behind it
+abbrev pub in_list : Bool → Parameters → Parameters
+in_list empty c = record c { position = Item; before_else = false; before_empty = empty; before_less = false }
+
+-- whether an empty statement stands right behind
+abbrev pub before : Bool → Parameters → Parameters
+before empty c = record c { before_empty = empty }
+
+-- the statement of another that ends with it, as `b;` of `while (a) b;`; `b;` of `do b; while (a)`; `b;` of `if (a) b; else c;`
+
+abbrev pub in_statement : Parameters → Parameters
+in_statement c = record c { position = Inner }
+
+abbrev pub in_do_while : Parameters → Parameters
+in_do_while c = record c { position = Inner; before_else = false; before_empty = false }
+
+abbrev pub in_if_else : Parameters → Parameters
+in_if_else c = record c { position = Inner; before_else = true; before_empty = false }
+
+-- the statement behind a label
+unfoldable pub labelled : Position → Position
+labelled Inner = Inner
+labelled position = Labelled
+
+abbrev pub behind_label : Parameters → Parameters
+behind_label c = record c { position = labelled c.position }
+
+-- parameters and body of a function: sections 15.2 to 15.6 and 15.8
+abbrev pub of_function : Bool → Bool → Parameters → Parameters
+of_function generator is_async c =
+    record c { has_in = true; has_yield = generator; has_await = is_async; has_return = true; in_static_block = false; is_binding = true }
+
+-- the name of a function expression
+abbrev pub of_function_name : Parameters → Parameters
+of_function_name c = record c { has_yield = false; has_await = false }
+
+-- what an arrow function has before `=>`, and behind it: sections 15.3 and 15.9
+abbrev pub of_arrow_parameters : Bool → Parameters → Parameters
+of_arrow_parameters is_async c =
+    record c { has_in = true; has_yield = c.has_yield && not is_async; has_await = is_async || c.has_await; is_binding = true }
+
+abbrev pub of_arrow_value : Bool → Parameters → Parameters
+of_arrow_value is_async c = record c { has_yield = false; has_await = is_async }
+
+abbrev pub of_arrow_block : Bool → Parameters → Parameters
+of_arrow_block is_async c = record c { has_in = true; has_yield = false; has_await = is_async; has_return = true; in_static_block = false }
+
+-- what stands in a class, its fields and its static blocks: section 15.7
+abbrev pub of_class : Parameters → Parameters
+of_class c = record c { has_in = true; before_less = false; is_strict = true }
+
+abbrev pub of_field : Parameters → Parameters
+of_field c = record c { has_in = true; has_yield = false; has_await = false }
+
+abbrev pub of_static_block : Parameters → Parameters
+of_static_block c = record c { has_in = true; has_yield = false; has_await = true; has_return = false; in_static_block = true }

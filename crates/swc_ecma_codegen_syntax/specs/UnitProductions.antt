@@ -71,6 +71,28 @@ pub data UnitProduction : Nonterminal → Nonterminal → Type 0 where
   -- what stands last among elements: one of them, or a rest
   last_element_is_pattern_element : UnitProduction nt.LastElement nt.PatternElement
   last_element_is_rest_element : UnitProduction nt.LastElement nt.RestElement
+  -- 14: Declaration : HoistableDeclaration
+  declaration_is_hoistable_declaration : UnitProduction nt.Declaration nt.HoistableDeclaration
+  -- 14.2: StatementListItem : Statement, Declaration
+  statement_list_item_is_statement : UnitProduction nt.StatementListItem nt.Statement
+  statement_list_item_is_declaration : UnitProduction nt.StatementListItem nt.Declaration
+  -- 14.13: LabelledItem : Statement, FunctionDeclaration
+  labelled_item_is_statement : UnitProduction nt.LabelledItem nt.Statement
+  labelled_item_is_hoistable_declaration : UnitProduction nt.LabelledItem nt.HoistableDeclaration
+  -- the words before any function
+  any_function_head_is_function_head : UnitProduction nt.AnyFunctionHead nt.FunctionHead
+  any_function_head_is_generator_head : UnitProduction nt.AnyFunctionHead nt.GeneratorHead
+  any_function_head_is_async_function_head : UnitProduction nt.AnyFunctionHead nt.AsyncFunctionHead
+  any_function_head_is_async_generator_head : UnitProduction nt.AnyFunctionHead nt.AsyncGeneratorHead
+  -- those before a function that is no generator: its name may be `yield`
+  head_without_yield_is_function_head : UnitProduction nt.HeadWithoutYield nt.FunctionHead
+  head_without_yield_is_async_function_head : UnitProduction nt.HeadWithoutYield nt.AsyncFunctionHead
+  -- those before a function that isn't async: its name may be `await`
+  head_without_await_is_function_head : UnitProduction nt.HeadWithoutAwait nt.FunctionHead
+  head_without_await_is_generator_head : UnitProduction nt.HeadWithoutAwait nt.GeneratorHead
+  -- propertyName, whichever it is: section 13.2.5
+  any_property_name_is_property_name : UnitProduction nt.AnyPropertyName nt.PropertyName
+  any_property_name_is_constructor_name : UnitProduction nt.AnyPropertyName nt.ConstructorName
 
 -- none of them, or one and more
 pub data Chain : Nonterminal → Nonterminal → Type 0 where

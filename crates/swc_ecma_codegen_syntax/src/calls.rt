@@ -2,13 +2,13 @@
 
 ghost use Rattle.std.specs.Prelude.{◌≡◌};
 ghost use Rattle.swc_ecma_codegen_syntax.specs.Forms.{judge};
-ghost use Rattle.swc_ecma_codegen_syntax.specs.CallForms.{argument_form, array_form, arguments_form, no_spread, is_evaluation, are_import_arguments, callee_form, call_form, has_arguments, new_nonterminal, new_arguments_form, new_form, chain_call_form};
+ghost use Rattle.swc_ecma_codegen_syntax.specs.CallForms.{argument_form, array_form, arguments_form, no_spread, is_evaluation, are_import_arguments, callee_form, call_form, has_arguments, new_nonterminal, new_parameters, new_arguments_form, new_form, chain_call_form};
 ghost use Rattle.swc_ecma_codegen_syntax.specs.MemberForms.{callee_part, type_args_form, chained};
 ghost use Rattle.swc_ecma_codegen_syntax.specs.Parameters.{with_in};
 
 use crate::forms::{Answers, Stands, all};
 use crate::nonterminals::Nonterminal;
-use crate::parameters::{Parameters, with_in};
+use crate::parameters::{Parameters, to_end, with_in};
 use crate::verdicts::Verdict;
 use swc_ecma_codegen_grammar::roles::Role;
 use swc_ecma_codegen_tree::{
@@ -72,8 +72,16 @@ fn no_spread<N: Answers>(args: &[ExprOrSpread<N>]) -> bool
     true
 }
 
+/// Whether what is imported is evaluated: `source` and `defer` are proposals.
+#[tactic(auto, unfolding(crate::specs::CallForms::is_evaluation))]
+pub(crate) fn is_evaluation(phase: ImportPhase) -> bool
+    ensures { result ≡ is_evaluation phase }
+{
+    matches!(phase, ImportPhase::Evaluation)
+}
+
 /// What is called.
-#[tactic(auto, unfolding(crate::specs::CallForms::callee_form, crate::specs::CallForms::are_import_arguments, crate::specs::CallForms::is_evaluation, crate::specs::Forms::judge, crate::specs::Forms::asked))]
+#[tactic(auto, unfolding(crate::specs::CallForms::callee_form, crate::specs::CallForms::are_import_arguments, crate::specs::Forms::judge, crate::specs::Forms::asked))]
 fn callee<N: Answers>(
     so_far: Verdict,
     callee: &Callee<N>,
@@ -86,7 +94,7 @@ fn callee<N: Answers>(
         Callee::Super(_) => so_far,
         Callee::Import(import) => so_far
             .by_rule((args.len() == 1 || args.len() == 2) && no_spread(args))
-            .by_scope(matches!(import.phase, ImportPhase::Evaluation)),
+            .by_scope(is_evaluation(import.phase)),
         Callee::Expr(expr) => so_far.part(
             expr,
             Nonterminal::CallOrMember,
@@ -122,6 +130,18 @@ fn has_arguments<N: Answers>(
     match args {
         Some(args) => keeps || !args.is_empty() || !parameters.minify,
         None => false,
+    }
+}
+
+/// The parameters of what `new` calls.
+#[tactic(auto, unfolding(crate::specs::CallForms::new_parameters))]
+fn new_parameters<N: Answers>(keeps: bool, new: &NewExpr<N>, parameters: Parameters) -> Parameters
+    ensures { result ≡ new_parameters parameters keeps new.now }
+{
+    if has_arguments(keeps, &new.args, parameters) {
+        with_in(parameters)
+    } else {
+        to_end(parameters)
     }
 }
 
@@ -169,7 +189,7 @@ pub(crate) fn new<N: Answers>(
     let verdict = so_far.part(
         &new.callee,
         new_nonterminal(keeps, new, parameters),
-        with_in(parameters),
+        new_parameters(keeps, new, parameters),
         Role::Expression,
     );
     let verdict = type_args(verdict, &new.type_args, parameters);

@@ -1,9 +1,9 @@
 //! Expressions.
 
-ghost use Rattle.std.specs.Prelude.{◌≡◌};
-ghost use Rattle.swc_ecma_codegen_grammar.specs.declared.roles.Role.TheVariants.{Template};
-ghost use Rattle.swc_ecma_codegen_syntax.specs.declared.nonterminals.Nonterminal.TheVariants.{PrimaryExpression, TemplateLiteral};
-ghost use Rattle.swc_ecma_codegen_syntax.specs.Forms.{Part, judge};
+ghost use Rattle.std.specs.Prelude.{◌≡◌, not};
+ghost use Rattle.swc_ecma_codegen_grammar.specs.declared.roles.Role.TheVariants.{Template, Element};
+ghost use Rattle.swc_ecma_codegen_syntax.specs.declared.nonterminals.Nonterminal.TheVariants.{PrimaryExpression, TemplateLiteral, JSXElement};
+ghost use Rattle.swc_ecma_codegen_syntax.specs.Forms.{Part, Provided, ByPlace, judge};
 ghost use Rattle.swc_ecma_codegen_syntax.specs.Parameters.{with_in};
 ghost use Rattle.swc_ecma_codegen_syntax.specs.Verdicts.{unasked};
 ghost use Rattle.swc_ecma_codegen_syntax.specs.MemberForms.{prop_form, super_form, super_prop_form, chain_prop_form, chain_member_form, opt_chain_form, member_form, tagged_form};
@@ -16,12 +16,14 @@ use crate::forms::{Answers, Stands, all_exprs};
 use crate::names::{is_assignable, lit, name};
 use crate::nonterminals::{Nonterminal, is_call};
 use crate::objects::computed;
-use crate::operators::{binary_nonterminal, is_in, left_nonterminal, right_nonterminal, target_of};
-use crate::parameters::{Parameters, with_in};
+use crate::operators::{
+    binary_nonterminal, is_in, is_less, left_nonterminal, right_nonterminal, target_of,
+};
+use crate::parameters::{Parameters, before_operator, to_end, with_in};
 use crate::verdicts::{Facts, Verdict};
 use swc_ecma_codegen_grammar::roles::Role;
 use swc_ecma_codegen_tree::{
-    AssignExpr, AwaitExpr, BinExpr, CondExpr, Expr, Ident, MemberExpr, MemberProp, NewExpr,
+    AssignExpr, AwaitExpr, BinExpr, CondExpr, Expr, Ident, Link, MemberExpr, MemberProp, NewExpr,
     OptChainBase, OptChainExpr, ParenExpr, SeqExpr, SuperProp, SuperPropExpr, TaggedTpl, TplBox,
     UnaryExpr, UpdateExpr, YieldExpr,
 };
@@ -34,7 +36,7 @@ impl<N: Answers> Stands for UnaryExpr<N> {
         so_far.part(
             &self.arg,
             Nonterminal::UnaryExpression,
-            with_in(parameters),
+            to_end(parameters),
             Role::Expression,
         )
     }
@@ -73,7 +75,7 @@ impl<N: Answers> Stands for BinExpr<N> {
             .part(
                 &self.left,
                 left_nonterminal(self.op),
-                parameters,
+                before_operator(is_less(self.op), parameters),
                 Role::Expression,
             )
             .part(
@@ -256,7 +258,7 @@ impl<N: Answers> Stands for AwaitExpr<N> {
         so_far.by_rule(parameters.has_await).part(
             &self.arg,
             Nonterminal::UnaryExpression,
-            with_in(parameters),
+            to_end(parameters),
             Role::Expression,
         )
     }
@@ -398,6 +400,21 @@ fn tpl_facts<N: Answers>(link: &TplBox<N>, parameters: Parameters) -> Facts
     told(Nonterminal::PrimaryExpression, verdict)
 }
 
+/// The verdict so far, and of an element of JSX.
+#[tactic(auto, unfolding(crate::specs::Forms::judge, crate::specs::Forms::asked))]
+fn jsx_expr<K, N: Answers>(so_far: Verdict, link: &Link<K, N>, parameters: Parameters) -> Verdict
+    ensures { result ≡ judge N.answers so_far
+        (Provided ByPlace (not parameters.before_less)
+        (Part JSXElement (with_in parameters) Element link.now.node.value)) }
+{
+    so_far.by_place(!parameters.before_less).part(
+        link,
+        Nonterminal::JSXElement,
+        with_in(parameters),
+        Role::Element,
+    )
+}
+
 /// What an expression tells; `keeps` says that it is called, or has a property.
 #[tactic(auto, unfolding(crate::specs::NodeForms::expr_facts, crate::specs::NodeForms::is_called, crate::specs::NodeForms::is_simple_expr, crate::specs::NodeForms::is_name_expr, crate::specs::ExprForms::expr_nonterminal, crate::specs::ExprForms::expr_form, crate::specs::Forms::judge, crate::specs::Forms::asked))]
 pub(crate) fn expr_facts<N: Answers>(expr: &Expr<N>, keeps: bool, parameters: Parameters) -> Facts
@@ -415,6 +432,14 @@ pub(crate) fn expr_facts<N: Answers>(expr: &Expr<N>, keeps: bool, parameters: Pa
             told_target(Nonterminal::MemberExpression, node.judge(start, parameters))
         }
         Expr::Array(node) => plain(node, Nonterminal::PrimaryExpression, parameters),
+        Expr::JSXElement(link) => told(
+            Nonterminal::PrimaryExpression,
+            jsx_expr(start, link, parameters),
+        ),
+        Expr::JSXFragment(link) => told(
+            Nonterminal::PrimaryExpression,
+            jsx_expr(start, link, parameters),
+        ),
         Expr::Object(node) => plain(node, Nonterminal::PrimaryExpression, parameters),
         Expr::Unary(node) => plain(node, Nonterminal::UnaryExpression, parameters),
         Expr::Update(node) => plain(node, Nonterminal::UpdateExpression, parameters),
@@ -426,6 +451,12 @@ pub(crate) fn expr_facts<N: Answers>(expr: &Expr<N>, keeps: bool, parameters: Pa
         Expr::Yield(node) => plain(node, Nonterminal::AssignmentExpression, parameters),
         Expr::Await(node) => plain(node, Nonterminal::UnaryExpression, parameters),
         Expr::OptChain(node) => plain(node, Nonterminal::OptionalExpression, parameters),
+        Expr::Fn(node) => plain(node, Nonterminal::PrimaryExpression, parameters),
+        Expr::Class(node) => plain(node, Nonterminal::PrimaryExpression, parameters),
+        Expr::Arrow(node) => told(
+            Nonterminal::AssignmentExpression,
+            node.judge(start, parameters),
+        ),
         Expr::Lit(node) => told(Nonterminal::PrimaryExpression, lit::<N>(start, node)),
         Expr::This(_) => told(Nonterminal::PrimaryExpression, start),
         Expr::MetaProp(_) => told(Nonterminal::MemberExpression, start),

@@ -1,18 +1,21 @@
 //! What is asked of a node.
 
-ghost use Rattle.std.specs.Prelude.{◌≡◌, List, Option};
+ghost use Rattle.std.specs.Prelude.{◌≡◌, true, false, List, Option};
 ghost use Rattle.swc_ecma_codegen_grammar.specs.declared.roles.Role.{Role as InRole};
+ghost use Rattle.swc_ecma_codegen_grammar.specs.declared.roles.Role.TheVariants.{Statement};
 ghost use Rattle.swc_ecma_codegen_syntax.specs.declared.parameters.Parameters.{Parameters as Given};
-ghost use Rattle.swc_ecma_codegen_syntax.specs.declared.verdicts.Facts.{Facts as Told};
+ghost use Rattle.swc_ecma_codegen_syntax.specs.Told.{Told};
 ghost use Rattle.swc_ecma_codegen_syntax.specs.declared.verdicts.Verdict.{Verdict as Judged};
-ghost use Rattle.swc_ecma_codegen_syntax.specs.Forms.{Part, Simple, of_part, judge, verdict_all, verdict_of};
+ghost use Rattle.swc_ecma_codegen_syntax.specs.Parameters.{of_script};
+ghost use Rattle.swc_ecma_codegen_syntax.specs.Forms.{Part, Simple, Restricted, Followed, of_part, judge, verdict_all, verdict_of};
 ghost use Rattle.swc_ecma_codegen_syntax.specs.MemberForms.{expr_part};
 
+use crate::lookahead::{Beginning, Lookahead};
 use crate::nonterminals::Nonterminal;
-use crate::parameters::Parameters;
+use crate::parameters::{Parameters, before};
 use crate::verdicts::{Facts, Verdict};
 use swc_ecma_codegen_grammar::roles::Role;
-use swc_ecma_codegen_tree::{ExprBox, Link};
+use swc_ecma_codegen_tree::{ExprBox, Link, PatBox, StmtBox};
 
 /// What a link holds.
 pub trait Answers {
@@ -20,7 +23,15 @@ pub trait Answers {
 
     /// What is told of it, as a node in this role.
     fn answer(&self, role: Role, parameters: Parameters) -> Facts
-        ensures { result ≡ answers self.now role parameters };
+        ensures { result ≡ (answers self.now role parameters).facts };
+
+    /// Whether it is an empty statement.
+    fn is_empty(&self) -> bool
+        ensures { result ≡ (answers self.now Statement of_script).is_empty };
+
+    /// What its text begins with, as a node in this role.
+    fn begins(&self, role: Role) -> Beginning
+        ensures { result ≡ (answers self.now role of_script).begins };
 }
 
 /// A node.
@@ -70,6 +81,56 @@ impl Verdict {
         let facts = link.target().answer(Role::Expression, parameters);
         self.by_rule(facts.is_simple && (named || !facts.is_name))
             .of_part(place, facts)
+    }
+
+    /// The same of an expression whose text may not begin with what a restriction names.
+    #[tactic(auto, unfolding(crate::specs::Forms::judge, crate::specs::Forms::asked))]
+    pub(crate) fn restricted_expr<N: Answers>(
+        self,
+        link: &ExprBox<N>,
+        lookahead: Lookahead,
+        place: Nonterminal,
+        parameters: Parameters,
+    ) -> Verdict
+        ensures { result ≡ judge N.answers self
+            (Restricted lookahead place parameters false link.now.node.value) }
+    {
+        let beginning = link.target().begins(Role::Expression);
+        self.by_place(!lookahead.excludes(beginning))
+            .part(link, place, parameters, Role::Expression)
+    }
+
+    /// The same of a statement, by what stands right behind it.
+    #[tactic(auto, unfolding(crate::specs::Forms::judge))]
+    pub(crate) fn followed<N: Answers>(
+        self,
+        link: &StmtBox<N>,
+        next: &StmtBox<N>,
+        place: Nonterminal,
+        parameters: Parameters,
+    ) -> Verdict
+        ensures { result ≡ judge N.answers self
+            (Followed place parameters link.now.node.value next.now.node.value) }
+    {
+        let parameters = before(next.target().is_empty(), parameters);
+        self.part(link, place, parameters, Role::Statement)
+    }
+
+    /// The same of a pattern.
+    #[tactic(auto, unfolding(crate::specs::Forms::judge, crate::specs::Forms::asked))]
+    pub(crate) fn restricted_pat<N: Answers>(
+        self,
+        link: &PatBox<N>,
+        lookahead: Lookahead,
+        place: Nonterminal,
+        parameters: Parameters,
+    ) -> Verdict
+        ensures { result ≡ judge N.answers self
+            (Restricted lookahead place parameters true link.now.node.value) }
+    {
+        let beginning = link.target().begins(Role::Pattern);
+        self.by_place(!lookahead.excludes(beginning))
+            .part(link, place, parameters, Role::Pattern)
     }
 }
 

@@ -10,11 +10,14 @@ ghost use Rattle.swc_ecma_codegen_grammar.specs.LitPhrases.{lit};
 ghost use Rattle.swc_ecma_codegen_grammar.specs.NamePhrases.{ident};
 ghost use Rattle.swc_ecma_codegen_grammar.specs.PatPhrases.{pat, assign_target_pat};
 ghost use Rattle.swc_ecma_codegen_grammar.specs.PropPhrases.{object_lit};
+ghost use Rattle.swc_ecma_codegen_grammar.specs.DeclPhrases.{var_decl, fn_decl};
+ghost use Rattle.swc_ecma_codegen_grammar.specs.ModulePhrases.{module_decl};
+ghost use Rattle.swc_ecma_codegen_grammar.specs.StmtPhrases.{stmt, block_stmt, module_item, program};
 ghost use Rattle.swc_ecma_codegen_grammar.specs.TemplatePhrases.{tpl, tagged_tpl};
 ghost use Rattle.swc_ecma_codegen_grammar.specs.declared.roles.Role.{Role};
 ghost use Rattle.swc_ecma_codegen_syntax.specs.declared.nonterminals.Nonterminal.{Nonterminal as Place};
 ghost use Rattle.swc_ecma_codegen_syntax.specs.declared.parameters.Parameters.{Parameters as Given};
-ghost use Rattle.swc_ecma_codegen_syntax.specs.declared.verdicts.Facts.{Facts as Told};
+ghost use Rattle.swc_ecma_codegen_syntax.specs.Told.{Told};
 ghost use Rattle.swc_ecma_codegen_syntax.specs.Forms.{forget, keeps};
 ghost use Rattle.swc_ecma_codegen_syntax.specs.Nonterminals.{takes};
 ghost use Rattle.swc_ecma_codegen_syntax.specs.UnitProductions.{Chain};
@@ -25,7 +28,15 @@ ghost use Rattle.swc_ecma_codegen_syntax.specs.TemplateForms.{tpl_form};
 ghost use Rattle.swc_ecma_codegen_syntax.specs.ObjectForms.{prop_name_form, object_form};
 ghost use Rattle.swc_ecma_codegen_syntax.specs.PatForms.{pat_form};
 ghost use Rattle.swc_ecma_codegen_syntax.specs.TargetForms.{target_form, target_pat_form};
+ghost use Rattle.swc_ecma_codegen_syntax.specs.DeclForms.{var_decl_form};
+ghost use Rattle.swc_ecma_codegen_syntax.specs.StmtForms.{stmt_form, block_form};
+ghost use Rattle.swc_ecma_codegen_syntax.specs.JsxForms.{element_form, fragment_form, tag_object_form};
+ghost use Rattle.swc_ecma_codegen_syntax.specs.ModuleForms.{module_decl_form, item_form, program_form};
 ghost use Rattle.swc_ecma_codegen_syntax.specs.ExprForms.{unary_form, update_form, bin_form, cond_form, assign_form, yield_form, await_form, seq_form, paren_form, expr_form};
+ghost use Rattle.swc_ecma_codegen_grammar.specs.JsxPhrases.{jsx_element, jsx_fragment, jsx_object};
+ghost use Rattle.swc_ecma_codegen_tree.specs.declared.jsx.JSXElement.{JSXElement};
+ghost use Rattle.swc_ecma_codegen_tree.specs.declared.jsx.JSXFragment.{JSXFragment};
+ghost use Rattle.swc_ecma_codegen_tree.specs.declared.jsx.JSXObject.{JSXObject};
 ghost use Rattle.swc_ecma_codegen_tree.specs.declared.idents.Ident.{Ident};
 ghost use Rattle.swc_ecma_codegen_tree.specs.declared.lits.Lit.{Lit};
 ghost use Rattle.swc_ecma_codegen_tree.specs.declared.exprs.ArrayLit.{ArrayLit};
@@ -52,6 +63,24 @@ ghost use Rattle.swc_ecma_codegen_tree.specs.declared.exprs.YieldExpr.{YieldExpr
 ghost use Rattle.swc_ecma_codegen_tree.specs.declared.pats.AssignTarget.{AssignTarget};
 ghost use Rattle.swc_ecma_codegen_tree.specs.declared.pats.AssignTargetPat.{AssignTargetPat};
 ghost use Rattle.swc_ecma_codegen_tree.specs.declared.pats.Pat.{Pat};
+ghost use Rattle.swc_ecma_codegen_tree.specs.declared.decls.VarDecl.{VarDecl};
+ghost use Rattle.swc_ecma_codegen_tree.specs.declared.programs.ModuleDecl.{ModuleDecl};
+ghost use Rattle.swc_ecma_codegen_tree.specs.declared.programs.ModuleItem.{ModuleItem};
+ghost use Rattle.swc_ecma_codegen_tree.specs.declared.programs.Program.{Program};
+ghost use Rattle.swc_ecma_codegen_tree.specs.declared.stmts.BlockStmt.{BlockStmt};
+ghost use Rattle.swc_ecma_codegen_tree.specs.declared.stmts.Stmt.{Stmt};
+ghost use Rattle.swc_ecma_codegen_grammar.specs.FunctionPhrases.{fn_expr, function, arrow_expr};
+ghost use Rattle.swc_ecma_codegen_grammar.specs.ClassPhrases.{class_expr, class_decl, accessor_tail, method_tail, class_tail, class_member};
+ghost use Rattle.swc_ecma_codegen_syntax.specs.FunctionForms.{fn_expr_form, fn_decl_form, function_form, rest_of_function, arrow_form};
+ghost use Rattle.swc_ecma_codegen_syntax.specs.ClassForms.{class_expr_form, class_decl_form, accessor_form, class_tail_form, member_of_class_form};
+ghost use Rattle.swc_ecma_codegen_tree.specs.declared.exprs.FnExpr.{FnExpr};
+ghost use Rattle.swc_ecma_codegen_tree.specs.declared.exprs.ArrowExpr.{ArrowExpr};
+ghost use Rattle.swc_ecma_codegen_tree.specs.declared.exprs.ClassExpr.{ClassExpr};
+ghost use Rattle.swc_ecma_codegen_tree.specs.declared.decls.FnDecl.{FnDecl};
+ghost use Rattle.swc_ecma_codegen_tree.specs.declared.decls.ClassDecl.{ClassDecl};
+ghost use Rattle.swc_ecma_codegen_tree.specs.declared.decls.Function.{Function};
+ghost use Rattle.swc_ecma_codegen_tree.specs.declared.classes.Class.{Class};
+ghost use Rattle.swc_ecma_codegen_tree.specs.declared.classes.ClassMember.{ClassMember};
 
 /// Without its nonterminals a production with operators is the one that says which tokens a tree reads as.
 #[tactic(auto, using(crate::proofs::EachForgets::name_law, crate::proofs::EachForgets::lit_law, crate::proofs::EachForgets::unary_law, crate::proofs::EachForgets::update_law, crate::proofs::EachForgets::bin_law, crate::proofs::EachForgets::cond_law, crate::proofs::EachForgets::assign_law, crate::proofs::EachForgets::yield_law, crate::proofs::EachForgets::await_law, crate::proofs::EachForgets::seq_law, crate::proofs::EachForgets::paren_law))]
@@ -105,7 +134,7 @@ pub fn members_forget<N>()
 {}
 
 /// The same of patterns and keys; and of objects, of targets and of any expression, where nothing in them lacks a production.
-#[tactic(auto, using(crate::proofs::Forgets::prop_name_forgets, crate::proofs::PatForgets::pat_forgets, crate::proofs::PatForgets::target_pat_forgets, crate::proofs::Forgets::object_forgets, crate::proofs::PatForgets::target_forgets, crate::proofs::Forgets::expr_forgets))]
+#[tactic(auto, using(crate::proofs::Forgets::prop_name_forgets, crate::proofs::PatForgets::pat_forgets, crate::proofs::PatForgets::target_pat_forgets, crate::proofs::Forgets::object_forgets, crate::proofs::PatForgets::target_forgets, crate::proofs::ExprForgets::expr_forgets))]
 pub fn parts_forget<N>()
     ensures key { (f : N → Role → Phrase) (c : Given) (n : PropName N)
         → forget f (prop_name_form c n) ≡ prop_name f n }
@@ -127,8 +156,82 @@ pub fn parts_forget<N>()
         → forget f (expr_form false b c n) ≡ expr f n }
 {}
 
+/// The same of functions and arrow functions, and of their parts.
+#[tactic(auto, using(crate::proofs::FunctionForgets::fn_expr_forgets, crate::proofs::FunctionForgets::fn_decl_forgets, crate::proofs::FunctionForgets::function_forgets, crate::proofs::FunctionForgets::rest_forgets, crate::proofs::FunctionForgets::arrow_forgets))]
+pub fn functions_forget<N>()
+    ensures expression { (f : N → Role → Phrase) (c : Given) (n : FnExpr N)
+        → forget f (fn_expr_form c n) ≡ fn_expr f n }
+    ensures declaration { (f : N → Role → Phrase) (place : Place) (c : Given) (n : FnDecl N)
+        → forget f (fn_decl_form place c n) ≡ fn_decl f n }
+    ensures function { (f : N → Role → Phrase) (c : Given) (n : Function N)
+        → forget f (function_form c n) ≡ function f n }
+    ensures method { (f : N → Role → Phrase) (c : Given) (n : Function N)
+        → forget f (rest_of_function c n) ≡ method_tail f n }
+    ensures arrow { (f : N → Role → Phrase) (c : Given) (n : ArrowExpr N)
+        → forget f (arrow_form c n) ≡ arrow_expr f n }
+{}
+
+/// The same of classes; and of what stands in them, where nothing in it lacks a production.
+#[tactic(auto, using(crate::proofs::ClassForgets::class_expr_forgets, crate::proofs::ClassForgets::class_decl_forgets, crate::proofs::ClassForgets::accessor_forgets, crate::proofs::ClassForgets::class_tail_forgets, crate::proofs::ClassForgets::class_member_forgets))]
+pub fn classes_forget<N>()
+    ensures expression { (f : N → Role → Phrase) (c : Given) (n : ClassExpr N)
+        → forget f (class_expr_form c n) ≡ class_expr f n }
+    ensures declaration { (f : N → Role → Phrase) (c : Given) (n : ClassDecl N)
+        → forget f (class_decl_form c n) ≡ class_decl f n }
+    ensures accessor { (f : N → Role → Phrase) (c : Given) (n : Function N)
+        → forget f (accessor_form c n) ≡ accessor_tail f n }
+    ensures tail { (p : Bool) (t : N → Role → Given → Told) (f : N → Role → Phrase)
+        (c : Given) (n : Class N)
+        → keeps p t (class_tail_form c n) ≡ true
+        → forget f (class_tail_form c n) ≡ class_tail f n }
+    ensures member { (p : Bool) (t : N → Role → Given → Told) (f : N → Role → Phrase)
+        (c : Given) (n : ClassMember N)
+        → keeps p t (member_of_class_form c n) ≡ true
+        → forget f (member_of_class_form c n) ≡ class_member f n }
+{}
+
+/// The same of JSX: elements and fragments, the outermost or a child, and names of members.
+#[tactic(auto, using(crate::proofs::JsxForgets::element_forgets, crate::proofs::JsxForgets::fragment_forgets, crate::proofs::JsxForgets::tag_object_forgets))]
+pub fn elements_forget<N>()
+    ensures element { (f : N → Role → Phrase) (c : Given) (b : Bool) (n : JSXElement N)
+        → forget f (element_form c b n) ≡ jsx_element f b n }
+    ensures fragment { (f : N → Role → Phrase) (c : Given) (b : Bool) (n : JSXFragment N)
+        → forget f (fragment_form c b n) ≡ jsx_fragment f b n }
+    ensures object { (f : N → Role → Phrase) (c : Given) (n : JSXObject N)
+        → forget f (tag_object_form c n) ≡ jsx_object f n }
+{}
+
+/// The same of statements, declarations of variables, blocks, items of modules and programs, where nothing in them lacks a production.
+#[tactic(auto, using(crate::proofs::StmtForgets::stmt_forgets, crate::proofs::StmtForgets::var_decl_forgets, crate::proofs::StmtForgets::block_forgets, crate::proofs::ModuleForgets::module_decl_forgets, crate::proofs::ModuleForgets::item_forgets, crate::proofs::ModuleForgets::program_forgets))]
+pub fn statements_forget<N>()
+    ensures statement { (p : Bool) (t : N → Role → Given → Told) (f : N → Role → Phrase)
+        (c : Given) (n : Stmt N)
+        → keeps p t (stmt_form c n) ≡ true
+        → forget f (stmt_form c n) ≡ stmt f n }
+    ensures variables { (p : Bool) (t : N → Role → Given → Told) (f : N → Role → Phrase)
+        (c : Given) (n : VarDecl N)
+        → keeps p t (var_decl_form c n) ≡ true
+        → forget f (var_decl_form c n) ≡ var_decl f n }
+    ensures block { (p : Bool) (t : N → Role → Given → Told) (f : N → Role → Phrase)
+        (c : Given) (n : BlockStmt N)
+        → keeps p t (block_form c n) ≡ true
+        → forget f (block_form c n) ≡ block_stmt f n }
+    ensures declaration { (p : Bool) (t : N → Role → Given → Told) (f : N → Role → Phrase)
+        (c : Given) (n : ModuleDecl N)
+        → keeps p t (module_decl_form c n) ≡ true
+        → forget f (module_decl_form c n) ≡ module_decl f n }
+    ensures item { (p : Bool) (t : N → Role → Given → Told) (f : N → Role → Phrase)
+        (c : Given) (n : ModuleItem N)
+        → keeps p t (item_form c n) ≡ true
+        → forget f (item_form c n) ≡ module_item f n }
+    ensures program { (p m : Bool) (t : N → Role → Given → Told) (f : N → Role → Phrase)
+        (n : Program N)
+        → keeps p t (program_form m n) ≡ true
+        → forget f (program_form m n) ≡ program f n }
+{}
+
 /// One nonterminal takes another where a chain of unit productions leads from it to that one.
-#[tactic(auto, using(crate::proofs::Chains::takes_chain, crate::proofs::Chains::chain_takes))]
+#[tactic(auto, using(crate::proofs::Chains::takes_chain, crate::proofs::Taken::chain_takes))]
 pub fn unit_productions_are_taken()
     ensures chain { (a c : Place) → takes a c ≡ true → Chain a c }
     ensures takes { (a c : Place) → Chain a c → takes a c ≡ true }

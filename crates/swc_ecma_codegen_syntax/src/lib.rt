@@ -4,30 +4,46 @@
 //! that says which tokens the tree reads as. A node tells the one above it by which nonterminal's production it is derived, and
 //! a verdict; what a link holds is asked once, so the check takes time as the tree has nodes.
 //!
-//! So far there are expressions and patterns. What has no production yet isn't covered, and is no derivation: functions, classes, arrow
-//! functions, methods, getters and setters, JSX, TypeScript, and names that are spelled with escapes.
+//! What has no production isn't covered, and is no derivation: TypeScript, proposals (decorators, `accessor`, `using`, attributes of imports),
+//! and names that are spelled with escapes.
 #![tactic(auto)]
 
 mod calls;
+mod classes;
+mod decls;
 mod exprs;
 mod forms;
+mod functions;
+mod jsx;
 pub mod laws;
+mod lookahead;
+mod loops;
+mod modules;
 mod names;
 mod nonterminals;
 mod objects;
 mod operators;
 mod parameters;
 mod pats;
+mod programs;
 mod recursion;
+mod roots;
+mod stmts;
 mod targets;
 mod templates;
+mod unit_productions;
 mod verdicts;
 
 pub use crate::forms::{Answers, Stands};
+pub use crate::lookahead::{Beginning, Lookahead};
 pub use crate::nonterminals::Nonterminal;
-pub use crate::parameters::Parameters;
+pub use crate::parameters::{Parameters, Position};
 pub use crate::recursion::{
     is_covered_expr, is_curable_expr, is_curable_pat, is_parenthesized_expr, keeps_structure_expr,
     keeps_structure_pat, verdict_expr, verdict_pat,
+};
+pub use crate::roots::{
+    is_covered, is_curable, is_curable_item, is_curable_stmt, is_parenthesized, keeps_structure,
+    keeps_structure_item, keeps_structure_stmt, verdict, verdict_item, verdict_stmt,
 };
 pub use crate::verdicts::{Facts, Verdict};

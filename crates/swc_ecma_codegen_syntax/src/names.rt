@@ -10,7 +10,7 @@ use crate::verdicts::Verdict;
 use swc_ecma_codegen_tree::{Ident, Lit, Number, NumberValue};
 
 /// Whether a text is this word.
-fn is(text: &str, word: &str) -> bool
+pub(crate) fn is(text: &str, word: &str) -> bool
     ensures { result ≡ bytes_eq text.now word.now }
 {
     text == word
@@ -99,13 +99,14 @@ fn is_strict_word(text: &str) -> bool
 
 /// Whether a text is a name here.
 #[tactic(auto, unfolding(crate::specs::NameForms::is_free))]
-fn is_free(text: &str, parameters: Parameters) -> bool
+pub(crate) fn is_free(text: &str, parameters: Parameters) -> bool
     ensures { result ≡ is_free parameters text.now }
 {
     !is_reserved(text)
         && !(parameters.is_strict && is_strict_word(text))
         && !(parameters.has_yield && is(text, "yield"))
-        && !((parameters.has_await || parameters.reserves_await) && is(text, "await"))
+        && !((parameters.has_await || parameters.reserves_await || parameters.in_static_block)
+            && is(text, "await"))
 }
 
 /// Whether a name may be assigned to, or bound: not `eval` and `arguments` in strict code. ECMA-262, section 13.1.3.
@@ -118,7 +119,7 @@ pub(crate) fn is_assignable(text: &str, is_strict: bool) -> bool
 
 /// Whether a name is spelled without escapes.
 #[tactic(auto, unfolding(crate::specs::NameForms::has_no_escape))]
-fn has_no_escape(text: &str) -> bool
+pub(crate) fn has_no_escape(text: &str) -> bool
     ensures { result ≡ has_no_escape text.now }
 {
     for byte in text.as_bytes() {

@@ -1,7 +1,16 @@
 //! The nonterminals of the syntactic grammar, and which of them derive others by productions of one nonterminal alone.
 
 ghost use Rattle.std.specs.Prelude.{◌≡◌, ◌||◌};
-ghost use Rattle.swc_ecma_codegen_syntax.specs.Nonterminals.{is_member, is_new, is_call, is_left_hand_side, is_update, is_unary, is_exponentiation, is_multiplicative, is_additive, is_shift, is_relational, is_in_left, is_equality, is_bitwise_and, is_bitwise_xor, is_bitwise_or, is_logical_and, is_logical_or, is_coalesce_head, is_short_circuit, is_conditional, is_assignment, is_expression, is_callee, is_chained, is_assignment_target, is_pattern_target, is_pattern_element, is_last_element, is_coalesce, is_private, is_optional, is_primary, is_template, is_property_name, is_chain_link, is_assignment_pattern, is_pattern_name, is_rest, is_uncovered, takes};
+ghost use Rattle.swc_ecma_codegen_syntax.specs.Nonterminals.{is_member, is_new, is_call, is_left_hand_side, is_update, is_unary, is_exponentiation, is_multiplicative, is_additive, is_shift, is_relational, is_in_left, is_equality, is_bitwise_and, is_bitwise_xor, is_bitwise_or, is_logical_and, is_logical_or, is_coalesce_head, is_short_circuit, is_conditional, is_assignment, is_expression, is_callee, is_chained, is_assignment_target, is_pattern_target, is_pattern_element, is_last_element, is_coalesce, is_private, is_optional, is_primary, is_template, is_property_name, is_chain_link, is_assignment_pattern, is_pattern_name, is_rest, is_statement, is_hoistable_declaration, is_declaration, is_block, is_statement_list_item, is_variable_declarations, is_labelled_item, is_module_declaration, is_exported_head, is_function_head, is_generator_head, is_async_function_head, is_async_generator_head, is_function_tail, is_getter_tail, is_setter_tail, is_method_head, is_decorator_list, is_class_head, is_class_tail, is_class_element, is_constructor_name, is_any_function_head, is_head_without_yield, is_head_without_await, is_any_property_name, is_jsx_element, is_jsx_object, is_uncovered, takes};
+
+use crate::unit_productions::{
+    is_any_function_head, is_any_property_name, is_async_function_head, is_async_generator_head,
+    is_block, is_class_element, is_class_head, is_class_tail, is_constructor_name, is_declaration,
+    is_decorator_list, is_exported_head, is_function_head, is_function_tail, is_generator_head,
+    is_getter_tail, is_head_without_await, is_head_without_yield, is_hoistable_declaration,
+    is_jsx_element, is_jsx_object, is_labelled_item, is_method_head, is_module_declaration,
+    is_setter_tail, is_statement, is_statement_list_item, is_variable_declarations,
+};
 
 /// A nonterminal of ECMA-262. Those that its grammar writes as alternatives of one place have a name here too.
 #[derive(Clone, Copy, Debug, PartialEq, Eq)]
@@ -71,6 +80,59 @@ pub enum Nonterminal {
     RestElement,
     /// What stands last among elements: PatternElement or RestElement.
     LastElement,
+    /// Section 14.
+    Statement,
+    HoistableDeclaration,
+    Declaration,
+    /// Section 14.2.
+    Block,
+    StatementListItem,
+    /// VariableDeclarationList, LexicalDeclaration without its semicolon, ForBinding or ForDeclaration: section 14.3, and 14.7.5.
+    VariableDeclarations,
+    /// Section 14.13.
+    LabelledItem,
+    /// ImportDeclaration and ExportDeclaration: sections 16.2.2 and 16.2.3.
+    ModuleDeclaration,
+    /// What stands before `export`: decorators, which are a proposal, or nothing.
+    ExportedHead,
+    /// `function`: the words before a FunctionDeclaration. Section 15.2.
+    FunctionHead,
+    /// `function *`. Section 15.5.
+    GeneratorHead,
+    /// `async function`. Section 15.8.
+    AsyncFunctionHead,
+    /// `async function *`. Section 15.6.
+    AsyncGeneratorHead,
+    /// `( FormalParameters ) { FunctionBody }`. Section 15.2.
+    FunctionTail,
+    /// The same without parameters, as a getter has it. Section 15.4.
+    GetterTail,
+    /// The same with one parameter, as a setter has it. Section 15.4.
+    SetterTail,
+    /// `async *` of a method, or a part of it, or none of it. Section 15.4.
+    MethodHead,
+    /// Decorators, a proposal, of which none has a production here.
+    DecoratorList,
+    /// `class`. Section 15.7.
+    ClassHead,
+    /// Section 15.7.
+    ClassTail,
+    /// Section 15.7.
+    ClassElement,
+    /// A PropertyName that is `constructor`. Section 15.7.1.
+    ConstructorName,
+    /// The words before any function.
+    AnyFunctionHead,
+    /// Those before a function that is no generator: its name may be `yield`.
+    HeadWithoutYield,
+    /// Those before a function that isn't async: its name may be `await`.
+    HeadWithoutAwait,
+    /// PropertyName, whichever it is. Section 13.2.5.
+    AnyPropertyName,
+    /// JSXElement and JSXFragment of the JSX specification.
+    JSXElement,
+    /// What has a property in the name of a tag, as `a` of `<a.b />`: JSXIdentifier or JSXMemberExpression.
+    JSXObject,
     /// TypeScript, and what has no production here.
     Uncovered,
 }
@@ -420,6 +482,34 @@ pub fn takes(place: Nonterminal, part: Nonterminal) -> bool
         Nonterminal::PatternElement => is_pattern_element(part),
         Nonterminal::RestElement => is_rest(part),
         Nonterminal::LastElement => is_last_element(part),
+        Nonterminal::Statement => is_statement(part),
+        Nonterminal::HoistableDeclaration => is_hoistable_declaration(part),
+        Nonterminal::Declaration => is_declaration(part),
+        Nonterminal::Block => is_block(part),
+        Nonterminal::StatementListItem => is_statement_list_item(part),
+        Nonterminal::VariableDeclarations => is_variable_declarations(part),
+        Nonterminal::LabelledItem => is_labelled_item(part),
+        Nonterminal::ModuleDeclaration => is_module_declaration(part),
+        Nonterminal::ExportedHead => is_exported_head(part),
+        Nonterminal::FunctionHead => is_function_head(part),
+        Nonterminal::GeneratorHead => is_generator_head(part),
+        Nonterminal::AsyncFunctionHead => is_async_function_head(part),
+        Nonterminal::AsyncGeneratorHead => is_async_generator_head(part),
+        Nonterminal::FunctionTail => is_function_tail(part),
+        Nonterminal::GetterTail => is_getter_tail(part),
+        Nonterminal::SetterTail => is_setter_tail(part),
+        Nonterminal::MethodHead => is_method_head(part),
+        Nonterminal::DecoratorList => is_decorator_list(part),
+        Nonterminal::ClassHead => is_class_head(part),
+        Nonterminal::ClassTail => is_class_tail(part),
+        Nonterminal::ClassElement => is_class_element(part),
+        Nonterminal::ConstructorName => is_constructor_name(part),
+        Nonterminal::AnyFunctionHead => is_any_function_head(part),
+        Nonterminal::HeadWithoutYield => is_head_without_yield(part),
+        Nonterminal::HeadWithoutAwait => is_head_without_await(part),
+        Nonterminal::AnyPropertyName => is_any_property_name(part),
+        Nonterminal::JSXElement => is_jsx_element(part),
+        Nonterminal::JSXObject => is_jsx_object(part),
         Nonterminal::Uncovered => is_uncovered(part),
     }
 }

@@ -1,7 +1,7 @@
 //! The nonterminals of operators and of their operands.
 
 ghost use Rattle.std.specs.Prelude.{◌≡◌};
-ghost use Rattle.swc_ecma_codegen_syntax.specs.ExprForms.{is_in, binary_nonterminal, left_nonterminal, right_nonterminal, target_of};
+ghost use Rattle.swc_ecma_codegen_syntax.specs.ExprForms.{is_in, is_less, binary_nonterminal, left_nonterminal, right_nonterminal, target_of};
 
 use crate::nonterminals::Nonterminal;
 use swc_ecma_codegen_common::{AssignOp, BinaryOp};
@@ -12,6 +12,14 @@ pub(crate) fn is_in(op: BinaryOp) -> bool
     ensures { result ≡ is_in op }
 {
     matches!(op, BinaryOp::In)
+}
+
+/// Whether it is `<`.
+#[tactic(auto, unfolding(crate::specs::ExprForms::is_less))]
+pub(crate) fn is_less(op: BinaryOp) -> bool
+    ensures { result ≡ is_less op }
+{
+    matches!(op, BinaryOp::Lt)
 }
 
 /// What a node with this operator is. ECMA-262, sections 13.6 to 13.13.

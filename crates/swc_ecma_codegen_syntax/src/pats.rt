@@ -20,7 +20,7 @@ use swc_ecma_codegen_tree::{
 
 /// A type, which has no production here.
 #[tactic(auto, unfolding(crate::specs::MemberForms::annotation_form, crate::specs::Forms::judge, crate::specs::Forms::asked))]
-fn annotation<N: Answers>(
+pub(crate) fn annotation<N: Answers>(
     so_far: Verdict,
     annotation: &Option<TsTypeAnnBox<N>>,
     parameters: Parameters,

@@ -6,22 +6,31 @@ ghost use Rattle.swc_ecma_codegen_grammar.specs.Settings.{Settings};
 ghost use Rattle.swc_ecma_codegen_grammar.specs.Tokens.{Token};
 ghost use Rattle.swc_ecma_codegen_grammar.specs.TreePhrases.{expr_phrase};
 ghost use Rattle.swc_ecma_codegen_syntax.specs.Derives.{DerivesExpr, DerivesPat, bare_phrase, pat_phrase, expr_verdict, pat_verdict};
-ghost use Rattle.swc_ecma_codegen_syntax.specs.NodeForms.{other_facts, part_facts, facts};
+ghost use Rattle.swc_ecma_codegen_syntax.specs.NodeForms.{other_facts, part_facts, stmt_facts, stmt_part_facts, jsx_part_facts, told_of};
 ghost use Rattle.swc_ecma_codegen_syntax.specs.Forms.{judge};
 ghost use Rattle.swc_ecma_codegen_syntax.specs.PatForms.{pat_nonterminal, pat_form};
 ghost use Rattle.swc_ecma_codegen_syntax.specs.Verdicts.{unasked, holds};
 
 use crate::calls::chain_call;
+use crate::classes::{accessor, accessor_nonterminal, prop_name_nonterminal};
+use crate::decls::decl_nonterminal;
 use crate::exprs::{chain_member, expr_facts, told};
 use crate::forms::{Answers, Stands};
+use crate::functions::{decorators, function_head_nonterminal, rest_of_function};
+use crate::jsx::{element, fragment};
+use crate::lookahead::{
+    Beginning, chain_begins, expr_begins, jsx_part_begins, part_begins, stmt_part_begins,
+};
+use crate::modules::{exported_head, exported_tail};
 use crate::nonterminals::Nonterminal;
 use crate::parameters::Parameters;
 use crate::pats::pat_nonterminal;
+use crate::stmts::{is_empty, stmt_nonterminal};
 use crate::targets::target_nonterminal;
 use crate::templates::tpl;
 use crate::verdicts::{Facts, Verdict};
 use swc_ecma_codegen_grammar::roles::Role;
-use swc_ecma_codegen_tree::{AnyNode, Expr, ExprPart, Pat};
+use swc_ecma_codegen_tree::{AnyNode, Expr, ExprPart, JSXPart, Pat, Stmt, StmtPart};
 
 /// What a pattern tells.
 fn pat_facts<N: Answers>(pat: &Pat<N>, parameters: Parameters) -> Facts
@@ -52,7 +61,7 @@ fn part_facts<N: Answers>(part: &ExprPart<N>, role: Role, parameters: Parameters
             )
         }
         (ExprPart::PropName(node), Role::PropertyName) => {
-            told(Nonterminal::PropertyName, node.judge(start, parameters))
+            told(prop_name_nonterminal(node), node.judge(start, parameters))
         }
         (ExprPart::OptCall(node), Role::ChainCall(optional)) => {
             told(
@@ -79,20 +88,157 @@ fn part_facts<N: Answers>(part: &ExprPart<N>, role: Role, parameters: Parameters
     }
 }
 
-impl Answers for AnyNode {
-    ghost answers = { facts };
+/// What a statement tells.
+#[tactic(auto, unfolding(crate::specs::NodeForms::stmt_facts))]
+pub(crate) fn stmt_facts<N: Answers>(stmt: &Stmt<N>, parameters: Parameters) -> Facts
+    ensures { result ≡ stmt_facts N.answers parameters stmt.now }
+{
+    told(
+        stmt_nonterminal(stmt),
+        stmt.judge(Verdict::unasked(), parameters),
+    )
+}
 
-    #[tactic(auto, using(crate::proofs::TreeFacts::facts_at, crate::proofs::TreeFacts::facts_expr, crate::proofs::TreeFacts::facts_member_expr, crate::proofs::TreeFacts::facts_expr_part), unfolding(crate::specs::NodeForms::node_facts, crate::specs::Verdicts::by_scope))]
+/// What a part of a statement tells, in its role.
+#[tactic(auto, unfolding(crate::specs::NodeForms::stmt_part_facts, crate::specs::NodeForms::stmt_part_form, crate::specs::NodeForms::stmt_part_nonterminal, crate::specs::ClassForms::class_word_form, crate::specs::Forms::judge, crate::specs::Forms::asked))]
+fn stmt_part_facts<N: Answers>(part: &StmtPart<N>, role: Role, parameters: Parameters) -> Facts
+    ensures { result ≡ stmt_part_facts N.answers parameters part.now role }
+{
+    let start = Verdict::unasked();
+    match (part, role) {
+        (StmtPart::BlockStmt(node), Role::Block) => {
+            told(Nonterminal::Block, node.judge(start, parameters))
+        }
+        (StmtPart::VarDecl(node), Role::VariableDeclaration) => told(
+            Nonterminal::VariableDeclarations,
+            node.judge(start, parameters),
+        ),
+        (StmtPart::Decl(node), Role::ExportedHead) => {
+            told(
+                Nonterminal::ExportedHead,
+                exported_head(start, node, parameters),
+            )
+        }
+        (StmtPart::Decl(node), Role::ExportedTail) => {
+            told(
+                decl_nonterminal(node),
+                exported_tail(start, node, parameters),
+            )
+        }
+        (StmtPart::ModuleDecl(node), Role::ModuleDeclaration) => {
+            told(
+                Nonterminal::ModuleDeclaration,
+                node.judge(start, parameters),
+            )
+        }
+        (StmtPart::Function(node), Role::Function) => {
+            told(Nonterminal::FunctionTail, node.judge(start, parameters))
+        }
+        (StmtPart::Function(node), Role::FunctionHead) => told(
+            function_head_nonterminal(node.is_generator, node.is_async),
+            start,
+        ),
+        (StmtPart::Function(_), Role::MethodHead) => told(Nonterminal::MethodHead, start),
+        (StmtPart::Function(node), Role::MethodTail) => told(
+            Nonterminal::FunctionTail,
+            rest_of_function(start, node, parameters),
+        ),
+        (StmtPart::Function(node), Role::MethodDecorators) => told(
+            Nonterminal::DecoratorList,
+            decorators(start, &node.decorators, parameters),
+        ),
+        (StmtPart::Function(node), Role::AccessorTail) => told(
+            accessor_nonterminal(&node.params),
+            accessor(start, node, parameters),
+        ),
+        (StmtPart::Class(node), Role::ClassHead) => told(
+            Nonterminal::DecoratorList,
+            decorators(start, &node.decorators, parameters),
+        ),
+        (StmtPart::Class(node), Role::ClassWord) => {
+            told(Nonterminal::ClassHead, start.by_scope(!node.is_abstract))
+        }
+        (StmtPart::Class(node), Role::ClassTail) => {
+            told(Nonterminal::ClassTail, node.judge(start, parameters))
+        }
+        (StmtPart::ClassMember(node), Role::Member) => {
+            told(Nonterminal::ClassElement, node.judge(start, parameters))
+        }
+        _ => told(Nonterminal::Uncovered, start.by_scope(false)),
+    }
+}
+
+/// What a part of JSX tells, in its role.
+#[tactic(auto, unfolding(crate::specs::NodeForms::jsx_part_facts, crate::specs::NodeForms::jsx_part_form, crate::specs::NodeForms::jsx_part_nonterminal, crate::specs::Forms::judge, crate::specs::Forms::asked))]
+fn jsx_part_facts<N: Answers>(part: &JSXPart<N>, role: Role, parameters: Parameters) -> Facts
+    ensures { result ≡ jsx_part_facts N.answers parameters part.now role }
+{
+    let start = Verdict::unasked();
+    let sort = Nonterminal::JSXElement;
+    match (part, role) {
+        (JSXPart::JSXElement(node), Role::Element) => {
+            told(sort, element(start, false, node, parameters))
+        }
+        (JSXPart::JSXElement(node), Role::Child) => {
+            told(sort, element(start, true, node, parameters))
+        }
+        (JSXPart::JSXFragment(node), Role::Element) => {
+            told(sort, fragment(start, false, node, parameters))
+        }
+        (JSXPart::JSXFragment(node), Role::Child) => {
+            told(sort, fragment(start, true, node, parameters))
+        }
+        (JSXPart::JSXObject(node), Role::TagObject) => {
+            told(Nonterminal::JSXObject, node.judge(start, parameters))
+        }
+        _ => told(Nonterminal::Uncovered, start.by_scope(false)),
+    }
+}
+
+impl Answers for AnyNode {
+    ghost answers = { told_of };
+
+    #[tactic(auto, using(crate::proofs::TreeFacts::facts_at, crate::proofs::TreeFacts::facts_expr, crate::proofs::TreeFacts::facts_member_expr, crate::proofs::TreeFacts::facts_expr_part, crate::proofs::TreeFacts::facts_stmt, crate::proofs::TreeFacts::facts_stmt_part, crate::proofs::TreeFacts::facts_jsx_part), unfolding(crate::specs::NodeForms::node_facts, crate::specs::Verdicts::by_scope))]
+    #[cycle(answers)]
     fn answer(&self, role: Role, parameters: Parameters) -> Facts {
         match (self, role) {
             (AnyNode::Expr(node), Role::Expression) => expr_facts(node, false, parameters),
             (AnyNode::Expr(node), Role::Callee) => expr_facts(node, true, parameters),
+            (AnyNode::Expr(node), Role::FieldValue) => expr_facts(node, false, parameters),
             (AnyNode::MemberExpr(node), Role::ChainMember(optional)) => told(
                 Nonterminal::OptionalChain,
                 chain_member(Verdict::unasked(), optional, node, parameters),
             ),
             (AnyNode::ExprPart(node), role) => part_facts(node, role, parameters),
+            (AnyNode::Stmt(node), Role::Statement) => stmt_facts(node, parameters),
+            (AnyNode::StmtPart(node), role) => stmt_part_facts(node, role, parameters),
+            (AnyNode::JSXPart(node), role) => jsx_part_facts(node, role, parameters),
             _ => told(Nonterminal::Uncovered, Verdict::unasked().by_scope(false)),
+        }
+    }
+
+    #[tactic(auto, using(crate::proofs::TreeFacts::empty_at, crate::proofs::TreeFacts::empty_stmt), unfolding(crate::specs::StmtForms::is_empty_node))]
+    #[cycle(answers)]
+    fn is_empty(&self) -> bool {
+        match self {
+            AnyNode::Stmt(node) => is_empty(node),
+            _ => false,
+        }
+    }
+
+    #[tactic(auto, using(crate::proofs::TreeFacts::begins_at, crate::proofs::TreeFacts::begins_expr, crate::proofs::TreeFacts::begins_member_expr, crate::proofs::TreeFacts::begins_expr_part, crate::proofs::TreeFacts::begins_stmt_part, crate::proofs::TreeFacts::begins_jsx_part), unfolding(crate::specs::Beginnings::node_begins))]
+    #[cycle(answers)]
+    fn begins(&self, role: Role) -> Beginning {
+        match (self, role) {
+            (AnyNode::Expr(node), Role::Expression | Role::Callee) => expr_begins(node),
+            (AnyNode::MemberExpr(node), Role::ChainMember(optional)) => {
+                let object = node.obj.target().begins(Role::Callee);
+                chain_begins(optional, object, &node.prop)
+            }
+            (AnyNode::ExprPart(node), role) => part_begins(node, role),
+            (AnyNode::StmtPart(node), role) => stmt_part_begins(node, role),
+            (AnyNode::JSXPart(node), role) => jsx_part_begins(node, role),
+            _ => Beginning::Nothing,
         }
     }
 }
@@ -112,11 +258,11 @@ pub fn verdict_expr(expr: &Expr, place: Nonterminal, parameters: Parameters) -> 
 /// where the syntactic grammar of ECMA-262, 2024, derives a list of the tree's tokens with this very tree as the
 /// derivation.
 ///
-/// What has no production here has no derivation: functions, classes, arrow functions, methods, JSX and TypeScript,
-/// and names spelled with escapes. `is_covered_expr` tells them apart. Each list that is derived is one of the
-/// tree's; where the answer is true each of them is derived that has neither parentheses round what `yield` has nor
-/// a comma before the bracket that closes a pattern. `parameters.minify` has to be that of the settings: `new (new
-/// A())()` is `new new A` then. Takes no memory.
+/// What has no production here has no derivation: TypeScript, decorators, and names spelled with escapes.
+/// `is_covered_expr` tells them apart. Each list that is derived is one of the tree's; where the answer is true each
+/// of them is derived that has no parentheses round what `yield`, `return` and `throw` have and round the only
+/// parameter of an arrow function, and no comma before the bracket that closes a pattern. `parameters.minify` has to
+/// be that of the settings: `new (new A())()` is `new new A` then. Takes no memory.
 pub fn keeps_structure_expr(expr: &Expr, place: Nonterminal, parameters: Parameters) -> bool
     ensures sound { (s : Settings) (ts : List Token)
         → DerivesExpr true s place parameters expr.now ts
@@ -166,7 +312,7 @@ pub fn is_parenthesized_expr(expr: &Expr, place: Nonterminal, parameters: Parame
 }
 
 /// Whether each node of an expression has a production here, so that the other answers mean what they say. It is
-/// false of TypeScript, of what has no production here yet, and of names that are spelled with escapes; then the
+/// false of TypeScript, of decorators, and of names that are spelled with escapes; then the
 /// expression neither keeps its structure nor is curable. Takes no memory.
 #[tactic(auto, using(crate::proofs::VerdictLaws::uncovered_holds))]
 pub fn is_covered_expr(expr: &Expr, place: Nonterminal, parameters: Parameters) -> bool

@@ -1,0 +1,21 @@
+-- What is told of a node in a role.
+use Rattle.std.specs.Prelude.{Bool}
+use Rattle.swc_ecma_codegen_grammar.specs.declared.roles.Role.{Role}
+use Rattle.swc_ecma_codegen_grammar.specs.declared.roles.Role.TheVariants.{Statement}
+use Rattle.swc_ecma_codegen_syntax.specs.declared.lookahead.Beginning.{Beginning}
+use Rattle.swc_ecma_codegen_syntax.specs.declared.parameters.Parameters.{Parameters}
+use Rattle.swc_ecma_codegen_syntax.specs.declared.verdicts.Facts.{Facts}
+use Rattle.swc_ecma_codegen_syntax.specs.Parameters.{of_script}
+
+-- what its production says of it, under parameters, what its text begins with, and whether it is an empty statement
+pub record Told : Type 0 where
+  pub facts : Facts
+  pub begins : Beginning
+  pub is_empty : Bool
+
+-- What a text begins with hangs on no parameters, so it is asked under any.
+abbrev pub begins_in : {X : Type 0} → (X → Role → Parameters → Told) → X → Role → Beginning
+begins_in f n role = (f n role of_script).begins
+
+abbrev pub empty_in : {X : Type 0} → (X → Role → Parameters → Told) → X → Bool
+empty_in f n = (f n Statement of_script).is_empty
