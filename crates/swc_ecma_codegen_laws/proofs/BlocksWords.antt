@@ -1,14 +1,13 @@
 -- Blocks: what holds of the words that a definition is made of holds of it.
 use Rattle.swc_ecma_codegen_laws.proofs.Children.{children_hold}
 use Rattle.swc_ecma_codegen_laws.proofs.Children.{ChildrenHold}
-use Rattle.std.specs.Prelude.{Bool, ◌||◌, if◌then◌else◌, List, codes}
+use Rattle.std.specs.Prelude.{Bool, ◌||◌, List, codes}
 use Rattle.swc_ecma_codegen_common.specs.declared.positions.Span.{Span}
 use Rattle.swc_ecma_codegen_tree.specs.declared.stmts.BlockStmt.{BlockStmt}
 use Rattle.swc_ecma_codegen_spans.specs.Spans.{stmt_span}
 use Rattle.swc_ecma_codegen_grammar.specs.FunctionPhrases.{is_some_listed}
 use Rattle.swc_ecma_codegen_tokens.specs.Lists.{ListChild}
 use Rattle.swc_ecma_codegen_tokens.specs.Run.{Part}
-use Rattle.swc_ecma_codegen_tokens.specs.Words.{by_maps, comments_before_end, punct, last_of, leading_comments}
 use Rattle.swc_ecma_codegen_emit.specs.declared.nodes.Place.{Place}
 use Rattle.swc_ecma_codegen_emit.specs.declared.nodes.Place.TheVariants.{Body}
 use Rattle.swc_ecma_codegen_emit.specs.Answers.{place_of}

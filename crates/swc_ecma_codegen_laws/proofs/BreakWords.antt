@@ -1,5 +1,5 @@
 -- Lines may be ended right behind the marks of each word.
-use Rattle.std.proofs.Common.{ℕ, Bool, true, false, List, codes, Some, refl}
+use Rattle.std.proofs.Common.{Bool, codes, Some, refl}
 use Rattle.swc_ecma_codegen_common.specs.declared.positions.Span.{Span}
 use Rattle.swc_ecma_codegen_grammar.specs.declared.kinds.Kind.TheVariants.{Punctuator}
 use Rattle.swc_ecma_codegen_grammar.specs.Texts.{is_among, is_same}

@@ -1,23 +1,21 @@
 -- Where lines may be ended in what is written of a root.
-use Rattle.std.proofs.Common.{◌≡◌, ◌⊎◌, ℕ, Bool, true, false, cond, ◌&&◌, is_some, List, [], ◌∷◌, ◌++◌, Option, Some, None, refl, sym, ap, ◌∙◌, subst, append-nil, inl, inr}
+use Rattle.std.proofs.Common.{◌≡◌, ◌⊎◌, ℕ, Bool, true, false, cond, ◌&&◌, is_some, List, [], Option, Some, None, refl, sym, ap, ◌∙◌, subst, append-nil, inl, inr}
 use Rattle.std.proofs.lemmas.Bool.{cases_Bool}
 use Rattle.swc_ecma_codegen_tree.specs.declared.programs.Program.TheVariants as programs
 use Rattle.swc_ecma_codegen_text_writer.specs.Sheet.{BeginLines, EndLines}
 use Rattle.swc_ecma_codegen_tokens.specs.declared.refusals.Unprintable.{Unprintable}
-use Rattle.swc_ecma_codegen_tokens.specs.Run.{Env, Part, Plan, State, Step, Plain as Call, done, is_bounded, nothing, after_step, step, steps_in, steps_of, unbounded, with_max_line}
+use Rattle.swc_ecma_codegen_tokens.specs.Run.{Env, Part, Plan, State, Step, Plain as Call, is_bounded, nothing, after_step, step, steps_in, steps_of, unbounded, with_max_line}
 use Rattle.swc_ecma_codegen_tokens.specs.Words.{begin_lines, end_lines, in_lines, bounded}
 use Rattle.swc_ecma_codegen_tokens.proofs.Printed.{chain, env_after}
 use Rattle.swc_ecma_codegen_emit.specs.declared.nodes.Place.{Place}
 use Rattle.swc_ecma_codegen_emit.specs.declared.nodes.Place.TheVariants.{Plain, Lines}
-use Rattle.swc_ecma_codegen_emit.specs.Answers.{any_answers}
 use Rattle.swc_ecma_codegen_emit.specs.Lined.{unfilled}
 use Rattle.swc_ecma_codegen_emit.specs.Places.{alone, by_itself, placed, with_lines}
 use Rattle.swc_ecma_codegen_emit.specs.Programs.{whole_module, script, program}
 use Rattle.swc_ecma_codegen_emit.specs.Roots.{Root, OfExpr, OfStmt, OfItem, OfModule, OfScript, OfProgram, OfLink, is_program, root_at, root_items}
-use Rattle.swc_ecma_codegen_emit.specs.Tree.{any_items}
 use Rattle.swc_ecma_codegen_laws.specs.Breaks.{EndsBehindMarks, no_more, other, holds_break, is_mark, is_break}
 use Rattle.swc_ecma_codegen_laws.proofs.AnyExprWords.{expr_holds}
-use Rattle.swc_ecma_codegen_laws.proofs.BreakSteps.{Breaks, Fits, on, ends_append, holds_append, steps_on}
+use Rattle.swc_ecma_codegen_laws.proofs.BreakSteps.{Breaks, on, ends_append, holds_append, steps_on}
 use Rattle.swc_ecma_codegen_laws.proofs.BreakWords.{break_words}
 use Rattle.swc_ecma_codegen_laws.proofs.ModulesWords.{module_item_holds}
 use Rattle.swc_ecma_codegen_laws.proofs.NodeWords.{in_trees, tree_holds}

@@ -1,6 +1,6 @@
 -- Calls: what holds of the words that a definition is made of holds of it.
 use Rattle.swc_ecma_codegen_laws.proofs.Children.{children_hold}
-use Rattle.std.specs.Prelude.{ℕ, Bool, false, if◌then◌else◌, List, [], map, codes, Option, Some, None}
+use Rattle.std.specs.Prelude.{ℕ, Bool, false, List, [], map, codes, Option, Some, None}
 use Rattle.std.specs.declared.vec.Vec.{Vec}
 use Rattle.swc_ecma_codegen_common.specs.declared.positions.Span.{Span}
 use Rattle.swc_ecma_codegen_tree.specs.declared.modules.ImportPhase.{ImportPhase}
@@ -17,13 +17,9 @@ use Rattle.swc_ecma_codegen_tree.specs.declared.exprs.Super.{Super}
 use Rattle.swc_ecma_codegen_spans.specs.Spans.{option_span, expr_or_spread_span}
 use Rattle.swc_ecma_codegen_grammar.specs.ElementPhrases.{last_is_hole}
 use Rattle.swc_ecma_codegen_tokens.specs.Run.{Part}
-use Rattle.swc_ecma_codegen_tokens.specs.Choices.{empty_arguments}
-use Rattle.swc_ecma_codegen_tokens.specs.Lists.{list}
-use Rattle.swc_ecma_codegen_tokens.specs.Words.{keyword, punct, space, formatting_space, commit_pending_semi, leading_comments}
 use Rattle.swc_ecma_codegen_emit.specs.declared.nodes.Place.{Place}
 use Rattle.swc_ecma_codegen_emit.specs.declared.nodes.Place.TheVariants.{Plain, Callee}
 use Rattle.swc_ecma_codegen_emit.specs.Answers.{place_of}
-use Rattle.swc_ecma_codegen_emit.specs.Annotations.{type_args}
 use Rattle.swc_ecma_codegen_emit.specs.Lists.{child_of, if_some_at}
 use Rattle.swc_ecma_codegen_laws.proofs.OfWords.{OfWords, Known, asks_in, items_in, either}
 use Rattle.swc_ecma_codegen_emit.specs.Calls.{spread_mark, expr_or_spread, argument_place, argument_items, array_format, array_elements, array_lit, call_format, new_format, arguments, import_phase, import_callee, super_keyword, callee, call_expr, parentheses, listed_arguments, new_arguments, new_gap, new_expr, call_mark, chain_call}

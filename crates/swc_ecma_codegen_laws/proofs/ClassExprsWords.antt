@@ -2,7 +2,6 @@
 use Rattle.std.proofs.Common.{Bool}
 use Rattle.swc_ecma_codegen_tree.specs.declared.exprs.ClassExpr.{ClassExpr}
 use Rattle.swc_ecma_codegen_tokens.specs.Run.{Part}
-use Rattle.swc_ecma_codegen_tokens.specs.Words.{leading_comments}
 use Rattle.swc_ecma_codegen_emit.specs.declared.nodes.Place.TheVariants.{Plain, ClassHead, ClassWord}
 use Rattle.swc_ecma_codegen_laws.proofs.OfWords.{Known, asks_in, items_in}
 use Rattle.swc_ecma_codegen_emit.specs.ClassExprs.{class_expr}

@@ -1,6 +1,6 @@
 -- Decls: what holds of the words that a definition is made of holds of it.
 use Rattle.swc_ecma_codegen_laws.proofs.Children.{children_hold}
-use Rattle.std.specs.Prelude.{Bool, if◌then◌else◌, List, [], ◌∷◌, map, codes, None}
+use Rattle.std.specs.Prelude.{Bool, List, map, codes, None}
 use Rattle.swc_ecma_codegen_common.specs.declared.positions.Span.{Span}
 use Rattle.swc_ecma_codegen_tree.specs.declared.decls.ClassDecl.{ClassDecl}
 use Rattle.swc_ecma_codegen_tree.specs.declared.decls.Decl.{Decl}
@@ -12,12 +12,9 @@ use Rattle.swc_ecma_codegen_tree.specs.declared.decls.VarDeclKind.{VarDeclKind}
 use Rattle.swc_ecma_codegen_tree.specs.declared.decls.VarDeclKind.TheVariants.{Var, Let, Const}
 use Rattle.swc_ecma_codegen_tree.specs.declared.decls.VarDeclarator.{VarDeclarator}
 use Rattle.swc_ecma_codegen_tokens.specs.Run.{Part}
-use Rattle.swc_ecma_codegen_tokens.specs.Lists.{list}
-use Rattle.swc_ecma_codegen_tokens.specs.Words.{keyword, semi, space, commit_pending_semi, leading_comments}
 use Rattle.swc_ecma_codegen_emit.specs.declared.nodes.Place.{Place}
 use Rattle.swc_ecma_codegen_emit.specs.declared.nodes.Place.TheVariants.{Plain, ClassHead, ClassWord, DeclarationHead, DeclarationTail, ExportedHead, ExportedTail, Statement}
 use Rattle.swc_ecma_codegen_emit.specs.Classes.{class_decl}
-use Rattle.swc_ecma_codegen_emit.specs.Exprs.{ident}
 use Rattle.swc_ecma_codegen_emit.specs.Lists.{child_of}
 use Rattle.swc_ecma_codegen_emit.specs.TsDecls.{ts_interface_decl, ts_type_alias_decl, ts_enum_decl, ts_module_decl}
 use Rattle.swc_ecma_codegen_laws.proofs.OfWords.{OfWords, Known, asks_in, items_in, either}

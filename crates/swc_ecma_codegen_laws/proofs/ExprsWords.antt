@@ -35,11 +35,10 @@ use Rattle.swc_ecma_codegen_common.specs.Operators.{unary_text}
 use Rattle.swc_ecma_codegen_spans.specs.Spans.{spread_element_span}
 use Rattle.swc_ecma_codegen_util.specs.Starts as starts
 use Rattle.swc_ecma_codegen_tokens.specs.Run.{Part}
-use Rattle.swc_ecma_codegen_tokens.specs.Words.{by_maps, keyword, punct, space, formatting_space, commit_pending_semi, last_of, leading_comments, name}
 use Rattle.swc_ecma_codegen_emit.specs.declared.nodes.Place.{Place}
 use Rattle.swc_ecma_codegen_emit.specs.declared.nodes.Place.TheVariants.{Plain, LeftOperand, Callee, Chain}
 use Rattle.swc_ecma_codegen_emit.specs.Answers.{Answers, place_of}
-use Rattle.swc_ecma_codegen_emit.specs.Operands.{is_word_op, operand_space}
+use Rattle.swc_ecma_codegen_emit.specs.Operands.{operand_space}
 use Rattle.swc_ecma_codegen_emit.specs.Exprs.{before_op, after_op}
 use Rattle.swc_ecma_codegen_laws.proofs.OfWords.{OfWords, Known, asks_in, items_in, either, optional_parentheses_hold}
 use Rattle.swc_ecma_codegen_emit.specs.Exprs.{blank, space_if, spaced_punct, opened, ident, ident_name, private_name, this, unary_op, unary_gap, unary, update_parts, update, bin_operator, bin_trailing, bin_opened, bin, comments_before, computed_prop_name, member_prop, object_place, member, super_prop, super_prop_expr, chain_mark, chain_prop, chain_member, member_at, chain_base, opt_chain, meta_prop, meta_prop_expr, assign, yield_argument_in, yield_argument, yield_arg, yield_expr, spread_element, await_expr, choice, held, seq, paren}

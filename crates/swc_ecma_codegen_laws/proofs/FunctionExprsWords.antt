@@ -1,7 +1,7 @@
 -- FunctionExprs: what holds of the words that a definition is made of holds of it.
 use Rattle.swc_ecma_codegen_laws.proofs.Children.{children_hold}
 use Rattle.swc_ecma_codegen_laws.proofs.Children.{ChildrenHold}
-use Rattle.std.specs.Prelude.{◌&&◌, not, Bool, true, false, if◌then◌else◌, [], ◌∷◌, codes, string_bytes, Option, Some, None}
+use Rattle.std.specs.Prelude.{◌&&◌, not, Bool, true, false, codes, string_bytes, Option, Some, None}
 use Rattle.swc_ecma_codegen_tree.specs.Links.{TsTypeAnnBox}
 use Rattle.swc_ecma_codegen_tree.specs.declared.exprs.FnExpr.{FnExpr}
 use Rattle.swc_ecma_codegen_tree.specs.declared.exprs.ArrowExpr.{ArrowExpr}
@@ -9,13 +9,10 @@ use Rattle.swc_ecma_codegen_tree.specs.declared.exprs.BlockStmtOrExpr.{BlockStmt
 use Rattle.swc_ecma_codegen_tree.specs.declared.exprs.BlockStmtOrExpr.TheVariants as bodies
 use Rattle.swc_ecma_codegen_tree.specs.declared.idents.Ident.{Ident}
 use Rattle.swc_ecma_codegen_tokens.specs.Run.{Part}
-use Rattle.swc_ecma_codegen_tokens.specs.Lists.{deeper, shallower}
-use Rattle.swc_ecma_codegen_tokens.specs.Words.{keyword, punct, space, formatting_space, commit_pending_semi, leading_comments, name}
 use Rattle.swc_ecma_codegen_emit.specs.declared.nodes.Place.{Place}
 use Rattle.swc_ecma_codegen_emit.specs.declared.nodes.Place.TheVariants.{Plain, Body, FunctionHead}
 use Rattle.swc_ecma_codegen_emit.specs.Answers.{Answers}
 use Rattle.swc_ecma_codegen_grammar.specs.FunctionPhrases.{is_typed_arrow}
-use Rattle.swc_ecma_codegen_emit.specs.Annotations.{type_params}
 use Rattle.std.proofs.Common.{◌≡◌, ◌||◌, is_some, refl}
 use Rattle.swc_ecma_codegen_emit.specs.FunctionExprs.{is_only, is_name, is_plain, has_comment_behind}
 use Rattle.swc_ecma_codegen_tokens.specs.Run.{Plan}

@@ -1,20 +1,18 @@
 -- Functions: what holds of the words that a definition is made of holds of it.
 use Rattle.std.proofs.Common.{true}
 use Rattle.swc_ecma_codegen_laws.proofs.Children.{children_hold}
-use Rattle.std.specs.Prelude.{◌||◌, ◌&&◌, not, Bool, if◌then◌else◌, List, map, codes, Option, Some, None}
+use Rattle.std.specs.Prelude.{◌||◌, ◌&&◌, not, Bool, List, map, codes, Option, Some, None}
 use Rattle.swc_ecma_codegen_tree.specs.Links.{BlockStmtBox}
 use Rattle.swc_ecma_codegen_tree.specs.declared.decls.Decorator.{Decorator}
 use Rattle.swc_ecma_codegen_tree.specs.declared.decls.Param.{Param}
 use Rattle.swc_ecma_codegen_tree.specs.declared.decls.Function as functions
 use Rattle.swc_ecma_codegen_tokens.specs.Run.{Part}
-use Rattle.swc_ecma_codegen_tokens.specs.Lists.{list}
-use Rattle.swc_ecma_codegen_tokens.specs.Words.{keyword, punct, semi, space, formatting_space, line_end, leading_comments}
+use Rattle.swc_ecma_codegen_tokens.specs.Words.{punct, semi}
 use Rattle.swc_ecma_codegen_emit.specs.declared.nodes.Place.{Place}
 use Rattle.swc_ecma_codegen_emit.specs.declared.nodes.Place.TheVariants.{Plain, Body, FunctionHead, MethodHead, DeclarationHead, DeclarationTail, StaticHead, MethodDecorators, MethodTail}
 use Rattle.swc_ecma_codegen_emit.specs.Annotations.{annotation, type_params}
 use Rattle.swc_ecma_codegen_emit.specs.FunctionExprs.{comma_list_format}
 use Rattle.swc_ecma_codegen_emit.specs.Lists.{child_of}
-use Rattle.swc_ecma_codegen_emit.specs.Pats.{pat}
 use Rattle.std.proofs.Common.{refl}
 use Rattle.std.proofs.Common.{◌≡◌, subst, sym, ap, ◌∙◌}
 use Rattle.swc_ecma_codegen_emit.specs.Tree.{any_items}

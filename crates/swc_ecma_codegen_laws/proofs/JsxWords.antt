@@ -1,5 +1,5 @@
 -- Jsx: what holds of the words that a definition is made of holds of it.
-use Rattle.std.specs.Prelude.{ℕ, Bool, true, false, if◌then◌else◌, List, [], ◌∷◌, codes, Option, Some, None, string_bytes}
+use Rattle.std.specs.Prelude.{ℕ, Bool, true, false, List, [], ◌∷◌, codes, Option, Some, None, string_bytes}
 use Rattle.swc_ecma_codegen_tree.specs.declared.idents.Ident.{Ident}
 use Rattle.swc_ecma_codegen_tree.specs.declared.idents.IdentName.{IdentName}
 use Rattle.swc_ecma_codegen_tree.specs.declared.lits.Lit.{Lit}
@@ -28,12 +28,8 @@ use Rattle.swc_ecma_codegen_tree.specs.declared.jsx.JSXObject.TheVariants as obj
 use Rattle.swc_ecma_codegen_tree.specs.declared.jsx.JSXOpeningElement.{JSXOpeningElement}
 use Rattle.swc_ecma_codegen_tree.specs.declared.jsx.JSXSpreadChild.{JSXSpreadChild}
 use Rattle.swc_ecma_codegen_tokens.specs.Run.{Part}
-use Rattle.swc_ecma_codegen_tokens.specs.Attributes.{attribute_string, jsx_text_node}
-use Rattle.swc_ecma_codegen_tokens.specs.Tags.{tag_name, child_open, close}
-use Rattle.swc_ecma_codegen_tokens.specs.Words.{bare_punct, punct}
 use Rattle.swc_ecma_codegen_emit.specs.declared.nodes.Place.{Place}
 use Rattle.swc_ecma_codegen_emit.specs.declared.nodes.Place.TheVariants.{Plain, Child}
-use Rattle.swc_ecma_codegen_emit.specs.Annotations.{type_args}
 use Rattle.swc_ecma_codegen_laws.proofs.OfWords.{OfWords, Known, asks_in, items_in, either}
 use Rattle.swc_ecma_codegen_emit.specs.Jsx.{tag_ident, tag_ident_name, jsx_member_expr, jsx_namespaced_name, jsx_object, jsx_element_name, jsx_attr_name, open_at, jsx_expr, jsx_expr_container, jsx_spread_child, jsx_attr_lit, jsx_attr_value, attr_initializer, jsx_attr, jsx_attr_or_spread, jsx_attributes, self_closing, jsx_opening_element, jsx_closing_element, jsx_element_child, jsx_children, optional_closing, jsx_element_parts, opening_fragment, closing_fragment, jsx_fragment_parts}
 use Rattle.swc_ecma_codegen_laws.proofs.AnnotationsWords.{type_args_holds}

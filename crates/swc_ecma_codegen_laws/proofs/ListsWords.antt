@@ -1,12 +1,11 @@
 -- Lists: what holds of the words that a definition is made of holds of it.
 use Rattle.swc_ecma_codegen_laws.proofs.Children.{ChildrenHold}
-use Rattle.std.specs.Prelude.{ℕ, Bool, false, if◌then◌else◌, List, [], ◌∷◌, Option, Some, None, codes}
+use Rattle.std.specs.Prelude.{ℕ, Bool, false, List, [], ◌∷◌, Option, Some, None, codes}
 use Rattle.swc_ecma_codegen_tokens.specs.Run.{Part}
 use Rattle.swc_ecma_codegen_common.specs.declared.positions.Span.{Span}
 use Rattle.swc_ecma_codegen_emit.specs.declared.nodes.Place.{Place}
 use Rattle.swc_ecma_codegen_emit.specs.declared.nodes.Place.TheVariants.{Plain}
-use Rattle.swc_ecma_codegen_tokens.specs.Lists.{ListChild, first_child, next_child, list_after, list}
-use Rattle.swc_ecma_codegen_tokens.specs.Words.{punct, formatting_space}
+use Rattle.swc_ecma_codegen_tokens.specs.Lists.{ListChild}
 use Rattle.swc_ecma_codegen_laws.proofs.OfWords.{OfWords, either}
 use Rattle.swc_ecma_codegen_emit.specs.Lists.{comma, listed, plainly, in_order, if_some_at, braced_child, braced_rest}
 

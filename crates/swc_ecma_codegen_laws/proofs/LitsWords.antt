@@ -3,8 +3,6 @@ use Rattle.std.specs.Prelude.{Bool}
 use Rattle.swc_ecma_codegen_tree.specs.declared.lits.Lit.{Lit}
 use Rattle.swc_ecma_codegen_tree.specs.declared.lits.Lit.TheVariants as lits
 use Rattle.swc_ecma_codegen_tokens.specs.Run.{Part}
-use Rattle.swc_ecma_codegen_tokens.specs.Attributes.{jsx_text_lit}
-use Rattle.swc_ecma_codegen_tokens.specs.Lits.{number_lit, number_object, lit}
 use Rattle.swc_ecma_codegen_emit.specs.declared.nodes.Place.{Place}
 use Rattle.swc_ecma_codegen_emit.specs.declared.nodes.Place.TheVariants.{Object, DottedObject}
 use Rattle.swc_ecma_codegen_laws.proofs.OfWords.{OfWords}

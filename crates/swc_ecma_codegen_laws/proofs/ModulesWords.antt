@@ -1,6 +1,6 @@
 -- Modules: what holds of the words that a definition is made of holds of it.
 use Rattle.swc_ecma_codegen_laws.proofs.Children.{children_hold}
-use Rattle.std.specs.Prelude.{Bool, true, not, ◌&&◌, if◌then◌else◌, List, [], ◌∷◌, map, filter, codes, Option, Some, None}
+use Rattle.std.specs.Prelude.{Bool, true, not, ◌&&◌, List, [], ◌∷◌, map, filter, codes, Option, Some, None}
 use Rattle.std.specs.List.{list_any}
 use Rattle.swc_ecma_codegen_common.specs.declared.positions.Span.{Span}
 use Rattle.swc_ecma_codegen_tree.specs.Links.{ObjectLitBox}
@@ -29,11 +29,7 @@ use Rattle.swc_ecma_codegen_tree.specs.declared.programs.ModuleDecl.TheVariants 
 use Rattle.swc_ecma_codegen_tree.specs.declared.programs.ModuleItem.{ModuleItem}
 use Rattle.swc_ecma_codegen_tree.specs.declared.programs.ModuleItem.TheVariants as module_items
 use Rattle.swc_ecma_codegen_spans.specs.Spans.{import_specifier_span, export_specifier_span, module_item_span, module_decl_span}
-use Rattle.swc_ecma_codegen_tokens.specs.Choices.{attributes_word}
 use Rattle.swc_ecma_codegen_tokens.specs.Run.{Part}
-use Rattle.swc_ecma_codegen_tokens.specs.Lists.{list}
-use Rattle.swc_ecma_codegen_tokens.specs.Lits.{str_lit}
-use Rattle.swc_ecma_codegen_tokens.specs.Words.{keyword, punct, semi, space, formatting_space, formatting_line, leading_comments, trailing_comments}
 use Rattle.swc_ecma_codegen_emit.specs.declared.nodes.Place.TheVariants.{Plain, DeclarationTail, ExportedHead, ExportedTail}
 use Rattle.swc_ecma_codegen_emit.specs.Answers.{place_of}
 use Rattle.swc_ecma_codegen_emit.specs.Lists.{child_of, unsupported}

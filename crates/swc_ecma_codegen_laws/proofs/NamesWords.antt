@@ -4,8 +4,6 @@ use Rattle.std.specs.Prelude.{string_bytes}
 use Rattle.swc_ecma_codegen_tree.specs.declared.exprs.PropName.{PropName}
 use Rattle.swc_ecma_codegen_tree.specs.declared.exprs.PropName.TheVariants as prop_names
 use Rattle.swc_ecma_codegen_tree.specs.declared.idents.BindingIdent.{BindingIdent}
-use Rattle.swc_ecma_codegen_tokens.specs.Keys.{key}
-use Rattle.swc_ecma_codegen_tokens.specs.Lits.{str_lit, number_lit, big_int_lit}
 use Rattle.swc_ecma_codegen_tokens.specs.Run.{Part}
 use Rattle.swc_ecma_codegen_laws.proofs.OfWords.{Known, items_in}
 use Rattle.swc_ecma_codegen_emit.specs.Names.{binding_ident, prop_name}

@@ -8,8 +8,6 @@ use Rattle.swc_ecma_codegen_tree.specs.declared.ts_decls.TsNamespaceBody.TheVari
 use Rattle.swc_ecma_codegen_tree.specs.declared.ts_decls.TsNamespaceDecl.{TsNamespaceDecl}
 use Rattle.swc_ecma_codegen_spans.specs.Spans.{module_item_span, ts_namespace_body_span}
 use Rattle.swc_ecma_codegen_tokens.specs.Run.{Part}
-use Rattle.swc_ecma_codegen_tokens.specs.Lists.{list, deeper, shallower}
-use Rattle.swc_ecma_codegen_tokens.specs.Words.{keyword, punct, space, formatting_space, leading_comments}
 use Rattle.swc_ecma_codegen_emit.specs.declared.nodes.Place.{Place}
 use Rattle.swc_ecma_codegen_emit.specs.declared.nodes.Place.TheVariants.{Plain, Dotted}
 use Rattle.swc_ecma_codegen_emit.specs.Answers.{place_of}

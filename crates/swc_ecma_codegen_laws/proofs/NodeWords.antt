@@ -1,5 +1,5 @@
 -- What holds of words holds of what is written of each node, and so of whole trees.
-use Rattle.std.proofs.Common.{◌≡◌, Bool, true, sym, subst, ap}
+use Rattle.std.proofs.Common.{◌≡◌, Bool, sym, subst, ap}
 use denote.Hole.Holds.{Such}
 use Rattle.swc_ecma_codegen_tree.specs.declared.links.AnyNode.{AnyNode, AnyNode-F, ind-AnyNode, map-AnyNode, roll-AnyNode}
 use Rattle.swc_ecma_codegen_tree.specs.declared.links.AnyNode.TheOpen as nodes
@@ -16,7 +16,6 @@ use Rattle.swc_ecma_codegen_tree.specs.declared.parts.TsPart.{TsPart}
 use Rattle.swc_ecma_codegen_tree.specs.declared.parts.TsPart.TheVariants as ts_parts
 use Rattle.swc_ecma_codegen_tokens.specs.Run.{Part}
 use Rattle.swc_ecma_codegen_emit.specs.declared.nodes.Place.{Place}
-use Rattle.swc_ecma_codegen_emit.specs.Answers.{Answers}
 use Rattle.swc_ecma_codegen_emit.specs.Calls.{is_optional}
 use Rattle.swc_ecma_codegen_emit.specs.Jsx.{jsx_part, jsx_element, jsx_fragment, jsx_element_parts, jsx_fragment_parts}
 use Rattle.swc_ecma_codegen_emit.specs.Parts.{expr_part, stmt_part, ts_part}

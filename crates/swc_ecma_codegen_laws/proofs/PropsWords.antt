@@ -1,7 +1,7 @@
 -- Props: what holds of the words that a definition is made of holds of it.
 use Rattle.swc_ecma_codegen_laws.proofs.Children.{children_hold}
 use Rattle.swc_ecma_codegen_laws.proofs.Children.{ChildrenHold}
-use Rattle.std.specs.Prelude.{ℕ, ◌==◌, Bool, ◌||◌, if◌then◌else◌, List, codes, Option, Some, None}
+use Rattle.std.specs.Prelude.{ℕ, ◌==◌, Bool, ◌||◌, List, codes, Option, Some, None}
 use Rattle.swc_ecma_codegen_common.specs.declared.positions.Span.{Span}
 use Rattle.swc_ecma_codegen_tree.specs.Links.{BlockStmtBox, PatBox, TsTypeAnnBox}
 use Rattle.swc_ecma_codegen_tree.specs.declared.exprs.ObjectLit.{ObjectLit}
@@ -19,7 +19,6 @@ use Rattle.swc_ecma_codegen_grammar.specs.FunctionPhrases.{is_some_listed}
 use Rattle.swc_ecma_codegen_tokens.specs.Lists.{ListChild}
 use Rattle.swc_ecma_codegen_tokens.specs.Run.{Part}
 use Rattle.swc_ecma_codegen_emit.specs.Commented.{has_comment_inside}
-use Rattle.swc_ecma_codegen_tokens.specs.Words.{by_maps, keyword, punct, formatting_space, position, last_of}
 use Rattle.swc_ecma_codegen_emit.specs.declared.nodes.Place.TheVariants.{Plain, MethodHead, DeclarationTail}
 use Rattle.swc_ecma_codegen_emit.specs.Answers.{place_of}
 use Rattle.swc_ecma_codegen_laws.proofs.OfWords.{OfWords, Known, asks_in, items_in, either}

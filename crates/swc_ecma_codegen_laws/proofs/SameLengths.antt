@@ -1,9 +1,7 @@
 -- What a part writes is the same for any greatest length of lines, but for the places where a line may be ended.
 use Rattle.std.proofs.Common.{◌≡◌, ℕ, Bool, true, false, not, cond, ◌&&◌, ◌||◌, List, [], ◌∷◌, ◌++◌, codes, Option, Some, None, refl, sym, ap, ◌∙◌, subst, append_assoc}
 use Rattle.std.proofs.lemmas.Bool.{and_from}
-use Rattle.swc_ecma_codegen_common.specs.declared.operators.AssignOp.{AssignOp}
 use Rattle.swc_ecma_codegen_common.specs.declared.operators.BinaryOp.{BinaryOp}
-use Rattle.swc_ecma_codegen_common.specs.declared.operators.UpdateOp.{UpdateOp}
 use Rattle.swc_ecma_codegen_common.specs.declared.positions.Span.{Span}
 use Rattle.swc_ecma_codegen_common.specs.Operators.{assign_text, binary_text, update_text}
 use Rattle.swc_ecma_codegen_grammar.specs.declared.kinds.Kind.TheVariants.{Word, Punctuator, Ending}
@@ -12,11 +10,11 @@ use Rattle.swc_ecma_codegen_grammar.specs.CommentMaps.{Maps}
 use Rattle.swc_ecma_codegen_grammar.specs.TemplatePhrases.{part_before}
 use Rattle.swc_ecma_codegen_tree.specs.declared.exprs.TplElement.{TplElement}
 use Rattle.swc_ecma_codegen_tree.specs.declared.links.AnyNode.{AnyNode}
-use Rattle.swc_ecma_codegen_text_writer.specs.Sheet.{Item, AllowBreak, Keyword, Operator, Punct, Semi}
+use Rattle.swc_ecma_codegen_text_writer.specs.Sheet.{Item, Keyword, Operator, Punct, Semi}
 use Rattle.swc_ecma_codegen_tokens.specs.declared.refusals.Unprintable.{Unprintable}
 use Rattle.swc_ecma_codegen_tokens.specs.Calls.{calls_by, calls_of, last_by}
-use Rattle.swc_ecma_codegen_tokens.specs.Run.{Env, Part, Plan, Step, Guard, Token, Plain, Steps, next, refused, is_bounded, at_maps, after_plain, after_step, maps_after, refuse, step, unbounded, with_max_line}
-use Rattle.swc_ecma_codegen_tokens.specs.Words.{allow_break, allows_break, bare_punct, bare_semi, break_behind, keyword, operator, placed_punct, punct, semi, word_operator}
+use Rattle.swc_ecma_codegen_tokens.specs.Run.{Env, Part, Plan, Step, Guard, Token, is_bounded, at_maps, after_plain, after_step, maps_after, refuse, step, unbounded, with_max_line}
+use Rattle.swc_ecma_codegen_tokens.specs.Words.{allow_break, allows_break, bare_punct, bare_semi, keyword, operator, placed_punct, punct, semi, word_operator}
 use Rattle.swc_ecma_codegen_tokens.proofs.Fronts.{is_inner_step, are_inner_steps, inner_append}
 use Rattle.swc_ecma_codegen_tokens.proofs.Printed.{chain, chain_append, env_after, maps_append}
 use Rattle.swc_ecma_codegen_emit.specs.declared.nodes.Place.{Place}
@@ -29,7 +27,7 @@ use Rattle.swc_ecma_codegen_laws.specs.Enclosing.{is_element, is_function}
 use Rattle.swc_ecma_codegen_laws.specs.Lengths.{is_break_call, unbroken_calls}
 use Rattle.swc_ecma_codegen_laws.proofs.BreakSteps.{behind, broken, on}
 use Rattle.swc_ecma_codegen_laws.proofs.Children.{PartsHold}
-use Rattle.swc_ecma_codegen_laws.proofs.OfSteps.{OfSteps, is_other, either}
+use Rattle.swc_ecma_codegen_laws.proofs.OfSteps.{OfSteps, is_other}
 use Rattle.swc_ecma_codegen_laws.proofs.OfWords.{OfWords}
 use Rattle.swc_ecma_codegen_laws.proofs.StepsOfTemplates.{tpl_element_holds}
 use Rattle.swc_ecma_codegen_laws.proofs.WordsOfSteps.{words_of}

@@ -2,13 +2,13 @@
 use Rattle.swc_ecma_codegen_laws.specs.Breaks.{is_mark, is_break}
 use Rattle.swc_ecma_codegen_laws.proofs.OfSteps.{is_other}
 use Rattle.std.proofs.Common.{refl}
-use Rattle.std.specs.Prelude.{ℕ, Bool, ◌&&◌, if◌then◌else◌, is_none, List}
+use Rattle.std.specs.Prelude.{ℕ, Bool, is_none, List}
 use Rattle.swc_ecma_codegen_common.specs.declared.positions.Span.{Span}
 use Rattle.swc_ecma_codegen_spans.specs.Spans.{dummy_span}
 use Rattle.swc_ecma_codegen_tree.specs.declared.lits.JSXText.{JSXText}
 use Rattle.swc_ecma_codegen_tree.specs.declared.lits.Str.{Str}
 use Rattle.swc_ecma_codegen_grammar.specs.declared.kinds.Kind.TheVariants.{JsxString}
-use Rattle.swc_ecma_codegen_grammar.specs.JsxPhrases.{holds, jsx_spelling, text_spelling}
+use Rattle.swc_ecma_codegen_grammar.specs.JsxPhrases.{jsx_spelling, text_spelling}
 use Rattle.swc_ecma_codegen_text_writer.specs.Sheet.{StrLit}
 use Rattle.swc_ecma_codegen_tokens.specs.Run as run
 use Rattle.swc_ecma_codegen_tokens.specs.Run.{Part, step, Guard, Remake, refuse}

@@ -7,8 +7,7 @@ use Rattle.std.specs.Prelude.{ℕ, ◌==◌, ◌&&◌, Bool, true, false, not, i
 use Rattle.swc_ecma_codegen_common.specs.declared.positions.Span.{Span}
 use Rattle.swc_ecma_codegen_text_writer.specs.Sheet.{Deeper, Shallower}
 use Rattle.swc_ecma_codegen_grammar.specs.ListFormats.{multi_line, bar_delimited, ampersand_delimited, comma_delimited, allows_trailing_comma, indented, space_between_braces, space_between_siblings, optional_if_empty, no_intervening_comments, no_space_if_empty, forces_trailing_comma, leading_line, separating_line, closing_line}
-use Rattle.swc_ecma_codegen_tokens.specs.Run.{Part, step, Plain, Remake, no_part}
-use Rattle.swc_ecma_codegen_tokens.specs.Words.{punct}
+use Rattle.swc_ecma_codegen_tokens.specs.Run.{Part, Plain, Remake, no_part}
 use Rattle.swc_ecma_codegen_laws.proofs.OfSteps.{OfSteps, when_minified_holds, by_lines_holds, either, either_at}
 use Rattle.swc_ecma_codegen_tokens.specs.Lists.{ListChild}
 use Rattle.swc_ecma_codegen_tokens.specs.Lists.{blank_if, line_or_blank, deeper, formatting_deeper, deeper_if, shallower, formatting_shallower, shallower_if, opening, delimiter, separator, child_comments, first_child_after, first_child, next_child_after, next_child, source_has_comma, comma_if, source_comma, wanted_comma, may_have_comma, trailing_comma, closing, list_end, list_closing, empty_list, more_children, last_place, list_after, list}

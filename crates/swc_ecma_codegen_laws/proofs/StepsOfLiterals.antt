@@ -2,13 +2,13 @@
 use Rattle.swc_ecma_codegen_laws.specs.Breaks.{is_mark, is_break}
 use Rattle.swc_ecma_codegen_laws.proofs.OfSteps.{is_other}
 use Rattle.std.proofs.Common.{refl}
-use Rattle.std.specs.Prelude.{ℕ, ◌==◌, Bool, if◌then◌else◌, List, [], ◌∷◌, ◌++◌, codes, None}
+use Rattle.std.specs.Prelude.{ℕ, Bool, List, [], ◌∷◌, ◌++◌, codes, None}
 use Rattle.swc_ecma_codegen_common.specs.declared.positions.Span.{Span}
 use Rattle.swc_ecma_codegen_spans.specs.Spans.{dummy_span}
 use Rattle.swc_ecma_codegen_grammar.specs.declared.kinds.Kind.TheVariants.{Name, Punctuator, Number, BigInt, Str, Regex, Hashbang}
 use Rattle.swc_ecma_codegen_text_writer.specs.Sheet as calls
 use Rattle.swc_ecma_codegen_text_writer.specs.Sheet.{Lit, StrLit, Punct}
-use Rattle.swc_ecma_codegen_tokens.specs.Run.{Part, step, Guard, Token, Plain, Ends}
+use Rattle.swc_ecma_codegen_tokens.specs.Run.{Part, Guard, Token, Plain, Ends}
 use Rattle.swc_ecma_codegen_laws.proofs.OfSteps.{OfSteps, either}
 use Rattle.swc_ecma_codegen_tokens.specs.Literals.{begun, settled_begun, string, signed, number, dotted_number, sign, number_name, big_digits, big_integer, regex_text, regex, hashbang}
 use Rattle.swc_ecma_codegen_laws.proofs.StepsOfWords.{commit_pending_semi_holds, leading_comments_holds, line_end_holds, start_of_holds}

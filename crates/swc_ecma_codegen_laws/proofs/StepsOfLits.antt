@@ -2,7 +2,7 @@
 use Rattle.swc_ecma_codegen_laws.specs.Breaks.{is_mark, is_break}
 use Rattle.swc_ecma_codegen_laws.proofs.OfSteps.{is_other}
 use Rattle.std.proofs.Common.{refl}
-use Rattle.std.specs.Prelude.{ℕ, ◌-◌, ◌==◌, Bool, true, false, not, ◌&&◌, ◌||◌, if◌then◌else◌, nat_lt, List, [], ◌∷◌, codes, Some, None, string_bytes}
+use Rattle.std.specs.Prelude.{ℕ, ◌-◌, Bool, true, false, not, nat_lt, List, codes, Some, None, string_bytes}
 use Rattle.std.specs.Str.{chars}
 use Rattle.swc_ecma_codegen_common.specs.declared.positions.BytePos.{BytePos}
 use Rattle.swc_ecma_codegen_common.specs.declared.positions.Span.{Span}
@@ -13,7 +13,7 @@ use Rattle.swc_ecma_codegen_tree.specs.declared.lits.Bool as tree_bool
 use Rattle.swc_ecma_codegen_tree.specs.declared.lits.Null.{Null}
 use Rattle.swc_ecma_codegen_tree.specs.declared.lits.Number.{Number}
 use Rattle.swc_ecma_codegen_tree.specs.declared.lits.NumberValue.{NumberValue}
-use Rattle.swc_ecma_codegen_tree.specs.declared.lits.NumberValue.TheVariants.{Infinity, NegInfinity, NaN}
+use Rattle.swc_ecma_codegen_tree.specs.declared.lits.NumberValue.TheVariants.{Infinity, NegInfinity}
 use Rattle.swc_ecma_codegen_tree.specs.declared.lits.BigInt.{BigInt}
 use Rattle.swc_ecma_codegen_tree.specs.declared.lits.Regex.{Regex}
 use Rattle.swc_ecma_codegen_spans.specs.Spans.{dummy_span}

@@ -7,7 +7,6 @@ use Rattle.std.specs.Prelude.{List, ℕ, codes, None}
 use Rattle.swc_ecma_codegen_common.specs.declared.positions.Span.{Span}
 use Rattle.swc_ecma_codegen_spans.specs.Spans.{dummy_span}
 use Rattle.swc_ecma_codegen_grammar.specs.declared.kinds.Kind.TheVariants.{Close, JsxName, JsxText, JsxOpen}
-use Rattle.swc_ecma_codegen_grammar.specs.Tokens.{Token}
 use Rattle.swc_ecma_codegen_text_writer.specs.Sheet.{Punct, StrLit, Symbol}
 use Rattle.swc_ecma_codegen_tokens.specs.Run as run
 use Rattle.swc_ecma_codegen_tokens.specs.Run.{Part, step, Guard}

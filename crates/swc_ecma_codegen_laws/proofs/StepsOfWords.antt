@@ -2,7 +2,7 @@
 use Rattle.swc_ecma_codegen_laws.specs.Breaks.{is_mark, is_break}
 use Rattle.swc_ecma_codegen_laws.proofs.OfSteps.{is_other}
 use Rattle.std.proofs.Common.{refl}
-use Rattle.std.specs.Prelude.{ℕ, ◌-◌, ◌==◌, nat_lt, ◌||◌, Bool, false, if◌then◌else◌, List, [], ◌∷◌, codes, Option, string_bytes}
+use Rattle.std.specs.Prelude.{ℕ, ◌-◌, ◌==◌, nat_lt, Bool, false, if◌then◌else◌, List, [], ◌∷◌, codes, Option, string_bytes}
 use Rattle.swc_ecma_codegen_common.specs.declared.positions.BytePos.{BytePos}
 use Rattle.swc_ecma_codegen_common.specs.declared.positions.Span.{Span}
 use Rattle.swc_ecma_codegen_spans.specs.Spans.{dummy_span}

@@ -1,10 +1,9 @@
 -- Templates: what holds of the words that a definition is made of holds of it.
-use Rattle.std.specs.Prelude.{Bool, false, if◌then◌else◌, [], ◌∷◌}
+use Rattle.std.specs.Prelude.{Bool, false}
 use Rattle.swc_ecma_codegen_tree.specs.declared.exprs.Tpl.{Tpl}
 use Rattle.swc_ecma_codegen_tree.specs.declared.exprs.TaggedTpl.{TaggedTpl}
 use Rattle.swc_ecma_codegen_grammar.specs.TemplatePhrases.{is_counted}
-use Rattle.swc_ecma_codegen_tokens.specs.Run.{Part, refuse}
-use Rattle.swc_ecma_codegen_tokens.specs.Words.{leading_comments}
+use Rattle.swc_ecma_codegen_tokens.specs.Run.{Part}
 use Rattle.swc_ecma_codegen_tokens.specs.declared.refusals.Unprintable.TheVariants as unprintable
 use Rattle.swc_ecma_codegen_emit.specs.declared.nodes.Place.TheVariants.{Plain, Callee, Tagged}
 use Rattle.swc_ecma_codegen_emit.specs.Exprs.{held}

@@ -1,6 +1,6 @@
 -- TsMembers: what holds of the words that a definition is made of holds of it.
 use Rattle.swc_ecma_codegen_laws.proofs.Children.{children_hold}
-use Rattle.std.specs.Prelude.{Bool, if◌then◌else◌, List, map, codes, Option, Some, None}
+use Rattle.std.specs.Prelude.{Bool, List, map, codes, Option, Some, None}
 use Rattle.swc_ecma_codegen_common.specs.declared.positions.Span.{Span}
 use Rattle.swc_ecma_codegen_tree.specs.Links.{ExprBox, TsFnParamBox, TsTypeAnnBox, TsTypeParamDeclBox}
 use Rattle.swc_ecma_codegen_tree.specs.declared.ts_members.TsCallSignatureDecl.{TsCallSignatureDecl}
@@ -14,12 +14,10 @@ use Rattle.swc_ecma_codegen_tree.specs.declared.ts_members.TsSetterSignature.{Ts
 use Rattle.swc_ecma_codegen_tree.specs.declared.ts_members.TsTypeElement.{TsTypeElement}
 use Rattle.swc_ecma_codegen_tree.specs.declared.ts_members.TsTypeElement.TheVariants as elements
 use Rattle.swc_ecma_codegen_tokens.specs.Run.{Part}
-use Rattle.swc_ecma_codegen_tokens.specs.Lists.{list}
-use Rattle.swc_ecma_codegen_tokens.specs.Words.{keyword, punct, punct_between, question, semi, space, formatting_space, leading_comments}
 use Rattle.swc_ecma_codegen_spans.specs.Spans.{ts_type_element_span}
 use Rattle.swc_ecma_codegen_emit.specs.declared.nodes.Place.{Place}
 use Rattle.swc_ecma_codegen_emit.specs.declared.nodes.Place.TheVariants.{Plain, Reference}
-use Rattle.swc_ecma_codegen_emit.specs.Annotations.{type_params, types_format}
+use Rattle.swc_ecma_codegen_emit.specs.Annotations.{types_format}
 use Rattle.swc_ecma_codegen_emit.specs.Lists.{child_of}
 use Rattle.swc_ecma_codegen_laws.proofs.OfWords.{OfWords, Known, asks_in, items_in, either}
 use Rattle.swc_ecma_codegen_emit.specs.TsMembers.{signature_key, fn_param_place, fn_param_items, fn_params_list, signature_params, annotation_between, ts_call_signature_decl, params_behind_new, ts_construct_signature_decl, ts_property_signature, getter_annotation, ts_getter_signature, ts_setter_signature, ts_method_signature, readonly_index, index_params, ts_index_signature, ts_signature, ts_type_element, member_items, interface_format, interface_members, ts_interface_body}

@@ -1,7 +1,7 @@
 -- Types: what holds of the words that a definition is made of holds of it.
 use Rattle.std.proofs.Common.{Bool}
 use Rattle.swc_ecma_codegen_laws.proofs.Children.{children_hold}
-use Rattle.std.specs.Prelude.{ℕ, false, if◌then◌else◌, is_some, List, map, codes, Option, Some, None}
+use Rattle.std.specs.Prelude.{ℕ, false, is_some, List, map, codes, Option, Some, None}
 use Rattle.swc_ecma_codegen_common.specs.declared.positions.Span.{Span}
 use Rattle.swc_ecma_codegen_tree.specs.Links.{PatBox, TsEntityNameBox, TsFnParamBox, TsTypeAnnBox, TsTypeBox}
 use Rattle.swc_ecma_codegen_tree.specs.declared.ts_types.TruePlusMinus.{TruePlusMinus}
@@ -54,14 +54,10 @@ use Rattle.swc_ecma_codegen_tree.specs.declared.ts_types.TsUnionType.{TsUnionTyp
 use Rattle.swc_ecma_codegen_grammar.specs.TemplatePhrases.{is_counted}
 use Rattle.swc_ecma_codegen_grammar.specs.TypePhrases.{keyword_of, type_operator}
 use Rattle.swc_ecma_codegen_tokens.specs.Run.{Part}
-use Rattle.swc_ecma_codegen_tokens.specs.Lists.{list, deeper, shallower}
-use Rattle.swc_ecma_codegen_tokens.specs.Lits.{str_lit, bool_node, number_lit, big_int_lit}
-use Rattle.swc_ecma_codegen_tokens.specs.Tags.{close}
-use Rattle.swc_ecma_codegen_tokens.specs.Words.{keyword, punct, punct_between, semi, space, formatting_space, line_end, leading_comments}
 use Rattle.swc_ecma_codegen_spans.specs.Spans.{ts_type_element_span}
 use Rattle.swc_ecma_codegen_emit.specs.declared.nodes.Place.{Place}
 use Rattle.swc_ecma_codegen_emit.specs.declared.nodes.Place.TheVariants.{Plain, Reference}
-use Rattle.swc_ecma_codegen_emit.specs.Annotations.{types_format, type_args, type_params}
+use Rattle.swc_ecma_codegen_emit.specs.Annotations.{types_format}
 use Rattle.swc_ecma_codegen_emit.specs.Lists.{child_of}
 use Rattle.swc_ecma_codegen_emit.specs.Templates.{bad_shape}
 use Rattle.swc_ecma_codegen_emit.specs.TsMembers.{member_items}

@@ -1,11 +1,11 @@
 -- Where no lines are filled an allowed break does nothing but to be kept with a semicolon that is held back.
-use Rattle.std.proofs.Common.{◌≡◌, ◌+◌, ◌-◌, ℕ, Bool, true, false, cond, not, ◌&&◌, List, [], ◌∷◌, Option, Some, None, codes, refl, sym, ap, ◌∙◌, ◌==◌, inl, inr}
+use Rattle.std.proofs.Common.{◌≡◌, ◌+◌, ◌-◌, ℕ, Bool, true, false, cond, ◌&&◌, List, [], ◌∷◌, Option, Some, None, codes, refl, sym, ap, ◌∙◌, inl, inr}
 use Rattle.std.specs.List.{repeat}
 use Rattle.std.proofs.lemmas.Bool.{and_parts, cases_Bool, true≢false}
 use Rattle.swc_ecma_codegen_common.specs.declared.positions.BytePos.{BytePos}
 use Rattle.swc_ecma_codegen_common.specs.declared.positions.Span.{Span}
 use Rattle.swc_ecma_codegen_text_writer.specs.Runs.{is_inner, are_inner}
-use Rattle.swc_ecma_codegen_text_writer.specs.Sheet.{Item, Semi, Space, Keyword, Operator, Param, Property, Line, Lit, Comment, StrLit, Str, Symbol, Punct, Position, Commit, Deeper, Shallower, BeginLines, AllowBreak, EndLines, Sheet, Semicolons, AtOnce, HoldsNone, HoldsOne, Flow, Flowing, effect, effects, released, appended_by, appended, indented, noted, recorded_by, is_recorded, recorded, start_recorded, end_recorded, pending_recorded, started, written, literal_written, ended, pointed, allowed_by, allowed, passed_on, settled_by, settled, semicolon_by, dropped, is_ending, before_punct, allowed_at}
+use Rattle.swc_ecma_codegen_text_writer.specs.Sheet.{Item, Semi, Space, Keyword, Operator, Param, Property, Line, Lit, Comment, StrLit, Str, Symbol, Punct, Position, Commit, Deeper, Shallower, BeginLines, AllowBreak, EndLines, Sheet, Semicolons, AtOnce, HoldsNone, HoldsOne, Flowing, effect, effects, released, appended_by, appended, indented, noted, recorded_by, is_recorded, recorded, start_recorded, end_recorded, pending_recorded, started, written, literal_written, ended, pointed, allowed_by, allowed, passed_on, settled_by, settled, semicolon_by, dropped, is_ending, before_punct, allowed_at}
 use Rattle.swc_ecma_codegen_laws.specs.Lengths.{is_break_call, unbroken_calls}
 
 -- ---- lines stay as they are

@@ -1,19 +1,19 @@
 -- The text that lines are filled of is the text for no greatest length.
-use Rattle.std.proofs.Common.{◌≡◌, ℕ, Bool, true, false, cond, List, [], ◌++◌, Option, Some, None, refl, sym, ap, ◌∙◌, subst, append-nil}
-use Rattle.swc_ecma_codegen_text_writer.specs.Sheet.{Sheet, Flowing, effects}
+use Rattle.std.proofs.Common.{◌≡◌, ℕ, Bool, true, false, cond, List, ◌++◌, Option, Some, None, refl, sym, ap, ◌∙◌, append-nil}
+use Rattle.swc_ecma_codegen_text_writer.specs.Sheet.{Sheet, Flowing}
 use Rattle.swc_ecma_codegen_tokens.specs.declared.refusals.Unprintable.{Unprintable}
 use Rattle.swc_ecma_codegen_tokens.specs.Calls.{calls_of}
-use Rattle.swc_ecma_codegen_tokens.specs.Run.{Env, Part, Plan, State, Step, Steps, done, nothing, printed, run, steps_in, steps_of, unbounded, with_max_line}
+use Rattle.swc_ecma_codegen_tokens.specs.Run.{Env, Plan, State, Step, done, nothing, printed, run, steps_in, steps_of, unbounded, with_max_line}
 use Rattle.swc_ecma_codegen_tokens.proofs.Filled.{run_calls, calls_inner}
 use Rattle.swc_ecma_codegen_tokens.proofs.Printed.{chain, env_after}
 use Rattle.swc_ecma_codegen_emit.specs.declared.nodes.Place.TheVariants.{Plain}
 use Rattle.swc_ecma_codegen_emit.specs.Lined.{unfilled}
-use Rattle.swc_ecma_codegen_emit.specs.Places.{alone, by_itself, with_lines}
+use Rattle.swc_ecma_codegen_emit.specs.Places.{by_itself, with_lines}
 use Rattle.swc_ecma_codegen_emit.specs.Roots.{Root, is_program, root_at, root_items}
 use Rattle.swc_ecma_codegen_laws.specs.Lengths.{unlined}
 use Rattle.swc_ecma_codegen_laws.proofs.BreakSteps.{on, steps_on}
 use Rattle.swc_ecma_codegen_laws.proofs.RootWords.{program_parts, program_holds, plain_program}
-use Rattle.swc_ecma_codegen_laws.proofs.SameLengths.{at, IsSame, WritesBoth, same_words}
+use Rattle.swc_ecma_codegen_laws.proofs.SameLengths.{at, WritesBoth, same_words}
 use Rattle.swc_ecma_codegen_laws.proofs.Unkept.{unkept, same_sheet}
 
 ended_steps : (xs : List Step) (stop : Option Unprintable) (rest : Plan) (env : Env) → ((e : Env) → rest e ≡ done) → steps_of (chain xs (on stop rest env)) ≡ xs

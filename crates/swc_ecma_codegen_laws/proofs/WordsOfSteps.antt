@@ -1,5 +1,5 @@
 -- What holds of steps and of marks holds of all words.
-use Rattle.std.proofs.Common.{◌≡◌, ℕ, Bool, true, false, if◌then◌else◌, List, [], ◌∷◌, codes, Some, None, refl}
+use Rattle.std.proofs.Common.{◌≡◌, ℕ, Bool, true, false, if◌then◌else◌, List, codes, None}
 use Rattle.swc_ecma_codegen_common.specs.declared.operators.AssignOp.{AssignOp}
 use Rattle.swc_ecma_codegen_common.specs.declared.operators.BinaryOp.{BinaryOp}
 use Rattle.swc_ecma_codegen_common.specs.declared.operators.UpdateOp.{UpdateOp}
