@@ -18,8 +18,8 @@ def states_of(said):
 
 
 def is_stopped(said):
-    """Whether a check came to no end: its texts can't be read or compiled, say."""
-    return not ENDED.search(said)
+    """Whether a check tells of no function and came to no end: its texts can't be compiled, say."""
+    return not FUNCTION.search(said) and not ENDED.search(said)
 
 
 def errors(said):
