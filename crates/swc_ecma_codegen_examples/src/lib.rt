@@ -25,10 +25,12 @@ ghost use Rattle.swc_ecma_codegen_examples.specs.Causes.{commented_start, minifi
 ghost use Rattle.swc_ecma_codegen_examples.specs.Negation.{negation_tokens, IsNegation};
 
 mod links;
+mod structure;
 
 pub use crate::links::{
     emitted_box_reads, emitted_link_reads, emitted_option_reads, emitted_ref_reads,
 };
+pub use crate::structure::{NoMeaning, text_that_keeps_structure};
 use std::alloc::{AllocError, Global};
 use std::io::Write;
 use swc_ecma_codegen::ast::mapper::SourceText;

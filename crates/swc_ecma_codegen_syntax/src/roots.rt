@@ -25,7 +25,7 @@ pub fn verdict(program: &Program) -> Verdict
 }
 
 /// Whether a program keeps its structure: true exactly where under any settings the syntactic grammar of ECMA-262, 2024, derives a
-/// list of the program's tokens with this very tree as the derivation, from Script or from Module. So a parser reads its text
+/// list of the program's tokens with this very tree as the derivation, from Script or from Module. So its text can be read
 /// as this tree.
 ///
 /// `(a + b) * c` without its parentheses doesn't, nor does `if (a) { if (b) c; } else d;` without its braces. Settings change a derivation only
