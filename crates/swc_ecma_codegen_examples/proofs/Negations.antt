@@ -2,12 +2,15 @@
 use Rattle.std.proofs.Common.{◌≡◌, refl, sym, ap, ◌∙◌, subst, ℕ, ◌<◌, ◌^◌, ◌&&◌, if◌then◌else◌, true, false, List, [], ◌∷◌, ◌++◌, codes, Option, Some, string_bytes, arith}
 use Rattle.std.specs.Str.{chars}
 use Rattle.swc_ecma_codegen_common.specs.declared.positions.BytePos.{BytePos}
+use Rattle.swc_ecma_codegen_common.specs.declared.operators.UnaryOp.{UnaryOp}
+use Rattle.swc_ecma_codegen_common.specs.declared.operators.UnaryOp.TheVariants.{Minus}
 use Rattle.swc_ecma_codegen_common.specs.Operators.{unary_text}
 use Rattle.swc_ecma_codegen_tree.specs.declared.links.AnyNode.{AnyNode, AnyNode-F, out-AnyNode, roll-AnyNode, roll-out-AnyNode}
 use Rattle.swc_ecma_codegen_tree.specs.declared.links.AnyNode.TheOpen as nodes
 use Rattle.swc_ecma_codegen_tree.specs.declared.links.AnyNode.TheVariants as whole
 use Rattle.swc_ecma_codegen_tree.specs.declared.exprs.Expr.{Expr}
 use Rattle.swc_ecma_codegen_tree.specs.declared.exprs.Expr.TheVariants as exprs
+use Rattle.swc_ecma_codegen_tree.specs.declared.exprs.UnaryExpr.{UnaryExpr}
 use Rattle.swc_ecma_codegen_tree.specs.declared.stmts.Stmt.TheVariants as stmts
 use Rattle.swc_ecma_codegen_tree.specs.declared.stmts.ExprStmt.{ExprStmt}
 use Rattle.swc_ecma_codegen_tree.specs.LinkTargets.{sorted_at, sorted_in}
@@ -30,7 +33,7 @@ use Rattle.swc_ecma_codegen_tokens.specs.Ready.{token_count}
 use Rattle.swc_ecma_codegen_tokens.specs.Settings.{settings_of}
 use Rattle.swc_ecma_codegen_tokens.specs.Written.{ReadsAs}
 use Rattle.swc_ecma_codegen_util.specs.Defaults.{default_config}
-use Rattle.swc_ecma_codegen_examples.specs.Negation.{IsNegation, negation_tokens}
+use Rattle.swc_ecma_codegen_examples.specs.Negation.{IsNegation, IsOperation, negation_tokens}
 
 -- the expression that a link holds
 abbrev pub held_expr : AnyNode → Option (Expr AnyNode)
@@ -62,7 +65,7 @@ negation_read bytes n h =
     let name : phrase h.unary.arg.node.value Expression ≡ (NameOf h.ident.span.lo bytes > Nothing) =
     held_read h.unary.arg.node.value (exprs.Ident h.ident) h.is_name ∙ ap (λ b. NameOf h.ident.span.lo (string_bytes h.ident.sym) > (if b then mark (codes "?") else Nothing)) h.is_required ∙ ap (λ t. NameOf h.ident.span.lo t > Nothing) h.is_spelled in
     let minus : phrase n.expr.node.value Expression ≡ (mark (codes "-") > NameOf h.ident.span.lo bytes > Nothing) =
-    held_read n.expr.node.value (exprs.Unary h.unary) h.is_unary ∙ ap (λ op. One (unary_op op) > phrase h.unary.arg.node.value Expression) h.is_minus ∙ ap (λ p. mark (codes "-") > p) name in
+    held_read n.expr.node.value (exprs.Unary h.unary) h.is_unary ∙ ap (λ op. One (unary_op op) > phrase h.unary.arg.node.value Expression) h.has_op ∙ ap (λ p. mark (codes "-") > p) name in
     (h.ident.span.lo, ap (λ p. p > ending) minus)
 
 -- it is well-formed, where the name is one
@@ -97,3 +100,18 @@ negation_reads bytes n text h reading =
     let listed : reading.tokens ≡ negation_tokens bytes =
     negation_listed (settings_of default_config) at bytes reading.tokens (subst (λ p. Generates (settings_of default_config) p reading.tokens) same reading.is_list) in
     subst (λ ts. Reads (chars text) ts []) (reading.whole refl ∙ listed) (reading.keeps_lines refl)
+
+-- where an operator is changed to a minus, the statement is a negation
+pub changed_to_minus : (bytes : List ℕ) (op : UnaryOp) (old new : ExprStmt AnyNode) → IsOperation held_expr op bytes old
+    → ((node : UnaryExpr AnyNode) → held_expr old.expr.node.value ≡ Some (exprs.Unary node) → held_expr new.expr.node.value ≡ Some (exprs.Unary (record node { op = Minus })))
+    → IsNegation held_expr bytes new
+changed_to_minus bytes op old new h set =
+    record {
+      unary = record h.unary { op = Minus };
+      ident = h.ident;
+      is_unary = set h.unary h.is_unary;
+      has_op = refl;
+      is_name = h.is_name;
+      is_spelled = h.is_spelled;
+      is_required = h.is_required;
+    }

@@ -2,9 +2,11 @@
 //! from the clauses of what it calls; docs/CALLING.md quotes them.
 #![tactic(auto)]
 
-ghost use Rattle.std.specs.Prelude.{◌≡◌, ◌≢◌, ◌⊎◌, ◌<◌, ◌^◌, ℕ, List, [], true, false, Err, IfOk, IfErr, IsErrOf, IsSome, OnOk, codes, string_bytes};
+ghost use Rattle.std.specs.Prelude.{◌≡◌, ◌≢◌, ◌⊎◌, ◌<◌, ◌^◌, ℕ, List, [], true, false, Err, IfOk, IfErr, IsErrOf, IsSome, OnOk, Some, codes, string_bytes};
 ghost use Rattle.std.specs.Str.{IsUtf8, chars};
 ghost use Rattle.std.specs.Io.KnownBytes.{Appends};
+ghost use Rattle.swc_ecma_codegen_tree.specs.declared.exprs.Expr.TheVariants.{Unary};
+ghost use Rattle.swc_ecma_codegen_tree.specs.declared.exprs.UnaryExpr.{UnaryExpr as UnaryExprOf};
 ghost use Rattle.swc_ecma_codegen_tree.specs.declared.programs.Program.{Program as ProgramOf};
 ghost use Rattle.swc_ecma_codegen_grammar.specs.Comments.{maps_in, no_maps, AreClosed};
 ghost use Rattle.swc_ecma_codegen_grammar.specs.Reads.{Reads};
@@ -22,7 +24,7 @@ ghost use Rattle.swc_ecma_codegen_emit.specs.Roots.{Root, root_items, root_phras
 ghost use Rattle.swc_ecma_codegen_source.specs.SourceTexts.{lines_of};
 ghost use Rattle.swc_ecma_codegen_emit.specs.Texts.{blank_sheet, text_over, GivesCause};
 ghost use Rattle.swc_ecma_codegen_examples.specs.Causes.{commented_start, minified_config, minified_start, IsOfMachine, IsUnread, LacksText};
-ghost use Rattle.swc_ecma_codegen_examples.specs.Negation.{negation_tokens, IsNegation};
+ghost use Rattle.swc_ecma_codegen_examples.specs.Negation.{negation_tokens, IsOperation};
 
 mod links;
 mod structure;
@@ -41,7 +43,7 @@ use swc_ecma_codegen_grammar::mapper::NoSource;
 use swc_ecma_codegen_json::{ReadError, Tree, program_from_slice};
 use swc_ecma_codegen_text_writer::{JsWriter, WriteJs, omit_trailing_semi};
 use swc_ecma_codegen_tree::{
-    AnyNode, Expr, ExprBox, ExprStmt, Holds, Ident, Program, Stmt, UnaryExpr,
+    AnyNode, Expr, ExprBox, ExprStmt, Holds, HoldsMut, Ident, Program, Stmt, UnaryExpr,
 };
 use thiserror::Error as ThisError;
 
@@ -59,9 +61,13 @@ pub enum NoText {
     Refused(Error),
 }
 
-/// `-a;` of the name `a`, in a tree whose links hold `N`.
-fn negation<N: Holds<Expr<N>> + Drop>(alloc: Global, name: &str) -> Result<ExprStmt<N>, AllocError>
-    ensures { IfOk result (IsNegation N.node_in name.now) }
+/// `-a;` of the operator `-` and the name `a`, in a tree whose links hold `N`.
+fn operation<N: Holds<Expr<N>> + Drop>(
+    alloc: Global,
+    op: UnaryOp,
+    name: &str,
+) -> Result<ExprStmt<N>, AllocError>
+    ensures { IfOk result (IsOperation N.node_in op name.now) }
 {
     let span = DUMMY_SP;
     let sym = String::from_str(alloc, name)?;
@@ -71,7 +77,6 @@ fn negation<N: Holds<Expr<N>> + Drop>(alloc: Global, name: &str) -> Result<ExprS
         optional: false,
     };
     let arg = ExprBox::new(alloc, Expr::Ident(name))?;
-    let op = UnaryOp::Minus;
     let expr = ExprBox::new(alloc, Expr::Unary(UnaryExpr { span, op, arg }))?;
     Ok(ExprStmt { span, expr })
 }
@@ -83,7 +88,32 @@ pub fn negation_text(alloc: Global, name: &str) -> Result<String, Error>
     ensures made { is_well_formed_name name.now ≡ true →
         IfErr result (λ error. error ≡ Error.OutOfMemory) }
 {
-    let statement: Stmt = Stmt::Expr(negation(alloc, name)?);
+    let statement: Stmt = Stmt::Expr(operation(alloc, UnaryOp::Minus, name)?);
+    to_code(alloc, &statement)
+}
+
+/// Changes the operator of a unary expression in place: `+a` with `-` becomes `-a`. Other expressions stay as they are.
+pub fn set_operator<N: HoldsMut<Expr<N>> + Drop>(link: &mut ExprBox<N>, op: UnaryOp)
+    ensures { (node : UnaryExprOf N) → N.node_in link.old.node.value ≡ Some (Unary node) →
+        N.node_in link.new.node.value ≡ Some (Unary (record node { op = op })) }
+{
+    if let Some(expr) = link.get_mut() {
+        if let Expr::Unary(node) = expr {
+            node.op = op;
+        }
+    }
+}
+
+/// The text of `-a;`, of a tree that was made as `+a;` and changed in place.
+pub fn changed_operator_text(alloc: Global, name: &str) -> Result<String, Error>
+    ensures reads { is_well_formed_name name.now ≡ true →
+        IfOk result (λ text. Reads (chars (string_bytes text)) (negation_tokens name.now) []) }
+    ensures made { is_well_formed_name name.now ≡ true →
+        IfErr result (λ error. error ≡ Error.OutOfMemory) }
+{
+    let mut statement = operation(alloc, UnaryOp::Plus, name)?;
+    set_operator(&mut statement.expr, UnaryOp::Minus);
+    let statement: Stmt = Stmt::Expr(statement);
     to_code(alloc, &statement)
 }
 

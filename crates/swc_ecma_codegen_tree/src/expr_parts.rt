@@ -3,7 +3,7 @@
 ghost use Rattle.swc_ecma_codegen_tree.specs.LinkTargets.{pat_in, tpl_in, object_lit_in, prop_name_in, opt_call_in, assign_target_in};
 
 use crate::exprs::{ObjectLit, OptCall, PropName, Tpl};
-use crate::holds::Holds;
+use crate::holds::{Holds, HoldsMut};
 use crate::parts::ExprPart;
 use crate::pats::{AssignTarget, Pat};
 use std::alloc::{AllocError, Global};
@@ -30,6 +30,15 @@ impl<N: Drop> Holds<Pat<N>> for ExprPart<N> {
     }
 }
 
+impl<N: Drop> HoldsMut<Pat<N>> for ExprPart<N> {
+    fn node_mut(&mut self) -> Option<&mut Pat<N>> {
+        match self {
+            ExprPart::Pat(node) => Some(node),
+            _ => None,
+        }
+    }
+}
+
 impl<N: Drop> Holds<Tpl<N>> for ExprPart<N> {
     ghost node_in = { tpl_in };
 
@@ -48,6 +57,15 @@ impl<N: Drop> Holds<Tpl<N>> for ExprPart<N> {
         match self {
             ExprPart::Tpl(node) => Ok(node),
             other => Err(other),
+        }
+    }
+}
+
+impl<N: Drop> HoldsMut<Tpl<N>> for ExprPart<N> {
+    fn node_mut(&mut self) -> Option<&mut Tpl<N>> {
+        match self {
+            ExprPart::Tpl(node) => Some(node),
+            _ => None,
         }
     }
 }
@@ -74,6 +92,15 @@ impl<N: Drop> Holds<ObjectLit<N>> for ExprPart<N> {
     }
 }
 
+impl<N: Drop> HoldsMut<ObjectLit<N>> for ExprPart<N> {
+    fn node_mut(&mut self) -> Option<&mut ObjectLit<N>> {
+        match self {
+            ExprPart::ObjectLit(node) => Some(node),
+            _ => None,
+        }
+    }
+}
+
 impl<N: Drop> Holds<PropName<N>> for ExprPart<N> {
     ghost node_in = { prop_name_in };
 
@@ -92,6 +119,15 @@ impl<N: Drop> Holds<PropName<N>> for ExprPart<N> {
         match self {
             ExprPart::PropName(node) => Ok(node),
             other => Err(other),
+        }
+    }
+}
+
+impl<N: Drop> HoldsMut<PropName<N>> for ExprPart<N> {
+    fn node_mut(&mut self) -> Option<&mut PropName<N>> {
+        match self {
+            ExprPart::PropName(node) => Some(node),
+            _ => None,
         }
     }
 }
@@ -118,6 +154,15 @@ impl<N: Drop> Holds<OptCall<N>> for ExprPart<N> {
     }
 }
 
+impl<N: Drop> HoldsMut<OptCall<N>> for ExprPart<N> {
+    fn node_mut(&mut self) -> Option<&mut OptCall<N>> {
+        match self {
+            ExprPart::OptCall(node) => Some(node),
+            _ => None,
+        }
+    }
+}
+
 impl<N: Drop> Holds<AssignTarget<N>> for ExprPart<N> {
     ghost node_in = { assign_target_in };
 
@@ -136,6 +181,15 @@ impl<N: Drop> Holds<AssignTarget<N>> for ExprPart<N> {
         match self {
             ExprPart::AssignTarget(node) => Ok(node),
             other => Err(other),
+        }
+    }
+}
+
+impl<N: Drop> HoldsMut<AssignTarget<N>> for ExprPart<N> {
+    fn node_mut(&mut self) -> Option<&mut AssignTarget<N>> {
+        match self {
+            ExprPart::AssignTarget(node) => Some(node),
+            _ => None,
         }
     }
 }

@@ -1,7 +1,9 @@
 //! Links, and what they hold: the one type that refers to itself.
 
 ghost use Rattle.std.specs.Prelude.{◌≡◌, IfOk, Some};
-ghost use Rattle.std.specs.Option.{option_copied};
+ghost use Rattle.std.specs.Borrow.{sem};
+ghost use Rattle.std.specs.Option.{option_copied, option_copied_mut};
+ghost use Rattle.swc_ecma_codegen_tree.specs.Lending.{LendsNode};
 ghost use Rattle.swc_ecma_codegen_tree.specs.LinkTargets.{sorted_in};
 ghost use Rattle.swc_ecma_codegen_tree.specs.SortsTell.{sorts_tell};
 
@@ -10,10 +12,11 @@ use crate::drops::{
     let_ts_part_go,
 };
 use crate::exprs::{Expr, MemberExpr};
-use crate::holds::{Holds, hold_in_part, into_node_in_part, node_in_part};
+use crate::holds::{Holds, HoldsMut, hold_in_part, into_node_in_part, node_in_part};
 use crate::parts::{ExprPart, JSXPart, StmtPart, TsPart};
 use crate::recursion::{NodeUnion, Shows};
 use crate::sorts::LinkSort;
+use crate::sorts_mut::LinkSortMut;
 use crate::stmts::Stmt;
 use crate::sums::{
     AsExpr, AsExprPart, AsJSXPart, AsMemberExpr, AsStmt, AsStmtPart, AsTsPart, Sorted,
@@ -76,6 +79,22 @@ impl<K: LinkSort<N>, N: Holds<K::Part> + Drop> Link<K, N> {
     {
         let Link { node, sort: _ } = self;
         into_node_in_part::<K::Part, K::Node, N>(Box::into_inner(node))
+    }
+}
+
+impl<K: LinkSortMut<N>, N: Holds<K::Part>> Link<K, N> {
+    ghost use Rattle.swc_ecma_codegen_tree.specs.contracts.links.Link.{the_row};
+
+    /// The node that is linked to, to be changed in place: with `*node = Expr::Ident(name)` written to what `link.get_mut()`
+    /// lends, `link` is a link to that name. Where `get` is `None` this is, and nothing of the link changes.
+    pub fn get_mut(&mut self) -> Option<&mut K::Node>
+        ensures* lends { sem 𝓛
+            (LendsNode (the_row K.row N.row) K.Node.row
+            (λ link. K.linked (N.node_in link.node.value)) self.entry result) }
+        ensures node { option_copied_mut result ≡ K.linked (N.node_in self.old.node.value) }
+    {
+        let node = &mut *self.node;
+        K::node_mut(node)
     }
 }
 
@@ -202,6 +221,69 @@ impl Shows<AsJSXPart, JSXPart<AnyNode>> for AnyNode {
 
 impl Shows<AsTsPart, TsPart<AnyNode>> for AnyNode {
     fn shown(&self) -> Option<&TsPart> {
+        match self {
+            AnyNode::TsPart(node) => Some(node),
+            _ => None,
+        }
+    }
+}
+
+impl HoldsMut<Expr<AnyNode>> for AnyNode {
+    fn node_mut(&mut self) -> Option<&mut Expr> {
+        match self {
+            AnyNode::Expr(node) => Some(node),
+            _ => None,
+        }
+    }
+}
+
+impl HoldsMut<Stmt<AnyNode>> for AnyNode {
+    fn node_mut(&mut self) -> Option<&mut Stmt> {
+        match self {
+            AnyNode::Stmt(node) => Some(node),
+            _ => None,
+        }
+    }
+}
+
+impl HoldsMut<MemberExpr<AnyNode>> for AnyNode {
+    fn node_mut(&mut self) -> Option<&mut MemberExpr> {
+        match self {
+            AnyNode::MemberExpr(node) => Some(node),
+            _ => None,
+        }
+    }
+}
+
+impl HoldsMut<ExprPart<AnyNode>> for AnyNode {
+    fn node_mut(&mut self) -> Option<&mut ExprPart> {
+        match self {
+            AnyNode::ExprPart(node) => Some(node),
+            _ => None,
+        }
+    }
+}
+
+impl HoldsMut<StmtPart<AnyNode>> for AnyNode {
+    fn node_mut(&mut self) -> Option<&mut StmtPart> {
+        match self {
+            AnyNode::StmtPart(node) => Some(node),
+            _ => None,
+        }
+    }
+}
+
+impl HoldsMut<JSXPart<AnyNode>> for AnyNode {
+    fn node_mut(&mut self) -> Option<&mut JSXPart> {
+        match self {
+            AnyNode::JSXPart(node) => Some(node),
+            _ => None,
+        }
+    }
+}
+
+impl HoldsMut<TsPart<AnyNode>> for AnyNode {
+    fn node_mut(&mut self) -> Option<&mut TsPart> {
         match self {
             AnyNode::TsPart(node) => Some(node),
             _ => None,

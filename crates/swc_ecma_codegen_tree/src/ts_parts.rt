@@ -2,7 +2,7 @@
 
 ghost use Rattle.swc_ecma_codegen_tree.specs.LinkTargets.{ts_type_in, ts_namespace_body_in, ts_type_ann_in, ts_type_param_decl_in, ts_type_param_instantiation_in, ts_fn_param_in, ts_interface_body_in, ts_entity_name_in};
 
-use crate::holds::Holds;
+use crate::holds::{Holds, HoldsMut};
 use crate::parts::TsPart;
 use crate::ts_decls::TsNamespaceBody;
 use crate::ts_members::TsInterfaceBody;
@@ -33,6 +33,15 @@ impl<N: Drop> Holds<TsType<N>> for TsPart<N> {
     }
 }
 
+impl<N: Drop> HoldsMut<TsType<N>> for TsPart<N> {
+    fn node_mut(&mut self) -> Option<&mut TsType<N>> {
+        match self {
+            TsPart::TsType(node) => Some(node),
+            _ => None,
+        }
+    }
+}
+
 impl<N: Drop> Holds<TsNamespaceBody<N>> for TsPart<N> {
     ghost node_in = { ts_namespace_body_in };
 
@@ -51,6 +60,15 @@ impl<N: Drop> Holds<TsNamespaceBody<N>> for TsPart<N> {
         match self {
             TsPart::TsNamespaceBody(node) => Ok(node),
             other => Err(other),
+        }
+    }
+}
+
+impl<N: Drop> HoldsMut<TsNamespaceBody<N>> for TsPart<N> {
+    fn node_mut(&mut self) -> Option<&mut TsNamespaceBody<N>> {
+        match self {
+            TsPart::TsNamespaceBody(node) => Some(node),
+            _ => None,
         }
     }
 }
@@ -77,6 +95,15 @@ impl<N: Drop> Holds<TsTypeAnn<N>> for TsPart<N> {
     }
 }
 
+impl<N: Drop> HoldsMut<TsTypeAnn<N>> for TsPart<N> {
+    fn node_mut(&mut self) -> Option<&mut TsTypeAnn<N>> {
+        match self {
+            TsPart::TsTypeAnn(node) => Some(node),
+            _ => None,
+        }
+    }
+}
+
 impl<N: Drop> Holds<TsTypeParamDecl<N>> for TsPart<N> {
     ghost node_in = { ts_type_param_decl_in };
 
@@ -95,6 +122,15 @@ impl<N: Drop> Holds<TsTypeParamDecl<N>> for TsPart<N> {
         match self {
             TsPart::TsTypeParamDecl(node) => Ok(node),
             other => Err(other),
+        }
+    }
+}
+
+impl<N: Drop> HoldsMut<TsTypeParamDecl<N>> for TsPart<N> {
+    fn node_mut(&mut self) -> Option<&mut TsTypeParamDecl<N>> {
+        match self {
+            TsPart::TsTypeParamDecl(node) => Some(node),
+            _ => None,
         }
     }
 }
@@ -121,6 +157,15 @@ impl<N: Drop> Holds<TsTypeParamInstantiation<N>> for TsPart<N> {
     }
 }
 
+impl<N: Drop> HoldsMut<TsTypeParamInstantiation<N>> for TsPart<N> {
+    fn node_mut(&mut self) -> Option<&mut TsTypeParamInstantiation<N>> {
+        match self {
+            TsPart::TsTypeParamInstantiation(node) => Some(node),
+            _ => None,
+        }
+    }
+}
+
 impl<N: Drop> Holds<TsFnParam<N>> for TsPart<N> {
     ghost node_in = { ts_fn_param_in };
 
@@ -139,6 +184,15 @@ impl<N: Drop> Holds<TsFnParam<N>> for TsPart<N> {
         match self {
             TsPart::TsFnParam(node) => Ok(node),
             other => Err(other),
+        }
+    }
+}
+
+impl<N: Drop> HoldsMut<TsFnParam<N>> for TsPart<N> {
+    fn node_mut(&mut self) -> Option<&mut TsFnParam<N>> {
+        match self {
+            TsPart::TsFnParam(node) => Some(node),
+            _ => None,
         }
     }
 }
@@ -165,6 +219,15 @@ impl<N: Drop> Holds<TsInterfaceBody<N>> for TsPart<N> {
     }
 }
 
+impl<N: Drop> HoldsMut<TsInterfaceBody<N>> for TsPart<N> {
+    fn node_mut(&mut self) -> Option<&mut TsInterfaceBody<N>> {
+        match self {
+            TsPart::TsInterfaceBody(node) => Some(node),
+            _ => None,
+        }
+    }
+}
+
 impl<N: Drop> Holds<TsEntityName<N>> for TsPart<N> {
     ghost node_in = { ts_entity_name_in };
 
@@ -183,6 +246,15 @@ impl<N: Drop> Holds<TsEntityName<N>> for TsPart<N> {
         match self {
             TsPart::TsEntityName(node) => Ok(node),
             other => Err(other),
+        }
+    }
+}
+
+impl<N: Drop> HoldsMut<TsEntityName<N>> for TsPart<N> {
+    fn node_mut(&mut self) -> Option<&mut TsEntityName<N>> {
+        match self {
+            TsPart::TsEntityName(node) => Some(node),
+            _ => None,
         }
     }
 }

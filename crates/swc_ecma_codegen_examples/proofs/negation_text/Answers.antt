@@ -8,12 +8,12 @@ use Rattle.swc_ecma_codegen_examples.proofs.negation_text.Goals as goal
 -- the tree is that of `-a;`, and its text reads so
 pub returns-clause-reads : goal.returns-clause-reads
 returns-clause-reads c = λ name.
-    let n = c.in_ok-negation.field-0 in
-    let made = c.in_ok-negation.ensures in
+    let n = c.in_ok-operation.field-0 in
+    let made = c.in_ok-operation.ensures in
     IfOk-weaker c.to_code.result _ _ (λ text reading. negation_reads c.args.name.now n _ made reading) (c.to_code.ensures.reads (OfStmt (Expr n)) refl (well_formed_negation c.args.name.now n made name))
 
 pub returns-clause-made : goal.returns-clause-made
 returns-clause-made c = λ name.
-    let n = c.in_ok-negation.field-0 in
-    let made = c.in_ok-negation.ensures in
+    let n = c.in_ok-operation.field-0 in
+    let made = c.in_ok-operation.ensures in
     c.to_code.ensures.made (OfStmt (Expr n)) refl (well_formed_negation c.args.name.now n made name) (short_negation c.args.name.now n made)
