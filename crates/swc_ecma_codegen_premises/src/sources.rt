@@ -1,7 +1,7 @@
 //! A source text of one answer: whether positions stand on one line, and what the text of a span is. A map of a source text says by
 //! its own `lines` what it answers: here is one that does.
 
-ghost use Rattle.std.specs.Prelude.{◌≡◌, ◌==◌, option_map, IfOk, IfErr, if◌then◌else◌};
+ghost use Rattle.std.specs.Prelude.{◌==◌, option_map, if◌then◌else◌};
 ghost use Rattle.std.specs.Int.RustNames.{bit_and};
 ghost use Rattle.std.specs.String.{string_bytes};
 ghost use Rattle.swc_ecma_codegen_common.specs.declared.errors.Error.TheVariants.{OutOfMemory};

@@ -22,7 +22,6 @@ use Rattle.swc_ecma_codegen_tree.specs.declared.exprs.MemberProp.{MemberProp}
 use Rattle.swc_ecma_codegen_tree.specs.declared.exprs.MemberProp.TheVariants as member_props
 use Rattle.swc_ecma_codegen_tree.specs.declared.pats.Pat.{Pat}
 use Rattle.swc_ecma_codegen_tree.specs.declared.pats.Pat.TheVariants as pats
-use Rattle.swc_ecma_codegen_tree.specs.declared.stmts.Stmt.{Stmt}
 use Rattle.swc_ecma_codegen_util.specs.Ends.{prop_ends, expr_ends, pat_ends, init_ends, declarator_ends, last_ends, declarators_end, expr_part_ends, stmt_part_ends, node_ends, any_ends}
 
 -- ---- a word sees what links hold through f alone
@@ -97,10 +96,6 @@ any_ends_layer n = fold_out-AnyNode Bool (node_ends (λ known. known)) n ∙ nod
 pub any_ends_expr : (n : Expr AnyNode) → any_ends (whole.Expr n) ≡ expr_ends any_ends n
 unfolding node_ends
 any_ends_expr n = ap any_ends (sym (whole.rolls-Expr n)) ∙ ends_of_layer (nodes.Expr n)
-
-pub any_ends_stmt : (n : Stmt AnyNode) → any_ends (whole.Stmt n) ≡ false
-unfolding node_ends
-any_ends_stmt n = ap any_ends (sym (whole.rolls-Stmt n)) ∙ ends_of_layer (nodes.Stmt n)
 
 pub any_ends_member_expr : (n : MemberExpr AnyNode) → any_ends (whole.MemberExpr n) ≡ prop_ends n.prop
 unfolding node_ends
