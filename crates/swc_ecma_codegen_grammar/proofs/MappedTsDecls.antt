@@ -11,7 +11,7 @@ use Rattle.swc_ecma_codegen_tree.specs.declared.ts_decls.TsExprWithTypeArgs.{TsE
 use Rattle.swc_ecma_codegen_tree.specs.declared.ts_decls.TsInterfaceDecl.{TsInterfaceDecl}
 use Rattle.swc_ecma_codegen_tree.specs.declared.ts_decls.TsModuleDecl.{TsModuleDecl}
 use Rattle.swc_ecma_codegen_tree.specs.declared.ts_decls.TsTypeAliasDecl.{TsTypeAliasDecl}
-use Rattle.swc_ecma_codegen_grammar.specs.Phrases.{Phrase, Nothing, ◌>◌, mark, word, in_order, listed}
+use Rattle.swc_ecma_codegen_grammar.specs.Phrases.{Phrase, Nothing, ◌>◌, mark, word, listed}
 use Rattle.swc_ecma_codegen_grammar.specs.AnnotationPhrases.{type_args, type_params}
 use Rattle.swc_ecma_codegen_grammar.specs.DeclPhrases.{decl}
 use Rattle.swc_ecma_codegen_grammar.specs.FunctionPhrases.{word_if}

@@ -1,5 +1,5 @@
 -- The comments that an emission takes, and what they read as.
-use Rattle.std.specs.Prelude.{◌≡◌, ℕ, Bool, true, false, ◌&&◌, List, [], ◌∷◌, ◌++◌, map, codes, Option, Some, None, string_bytes}
+use Rattle.std.specs.Prelude.{◌≡◌, ℕ, Bool, true, false, ◌&&◌, List, [], ◌∷◌, Option, Some, None, string_bytes}
 use Rattle.std.specs.Str.{chars}
 use Rattle.swc_ecma_codegen_grammar.specs.Chars.{is_one_line}
 use Rattle.swc_ecma_codegen_grammar.specs.CommentMaps.{Maps, listed, without_leading, without_trailing}

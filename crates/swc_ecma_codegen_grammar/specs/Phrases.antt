@@ -140,11 +140,6 @@ ending = One tokens.ending
 abbrev pub same_line : Phrase
 same_line = One tokens.same_line
 
--- what is there
-unfoldable pub if_some : Option Phrase → Phrase
-if_some None = Nothing
-if_some (Some x) = x
-
 -- one after another
 unfoldable pub in_order : List Phrase → Phrase
 in_order [] = Nothing

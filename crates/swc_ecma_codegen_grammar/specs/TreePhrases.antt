@@ -1,14 +1,12 @@
 -- What a whole node is read as, in a role: a fold over the tree.
-use Rattle.std.specs.Prelude.{Bool, true, false, if◌then◌else◌, List, codes}
+use Rattle.std.specs.Prelude.{Bool, true, false, if◌then◌else◌, codes}
 use Rattle.swc_ecma_codegen_tree.specs.declared.links.AnyNode.{AnyNode, AnyNode-F, fold-AnyNode}
 use Rattle.swc_ecma_codegen_tree.specs.declared.links.AnyNode.TheOpen as nodes
 use Rattle.swc_ecma_codegen_tree.specs.declared.exprs.Expr.{Expr}
 use Rattle.swc_ecma_codegen_tree.specs.declared.exprs.Expr.TheVariants as exprs
 use Rattle.swc_ecma_codegen_tree.specs.declared.stmts.Stmt.{Stmt}
 use Rattle.swc_ecma_codegen_tree.specs.declared.programs.Program.{Program}
-use Rattle.swc_ecma_codegen_grammar.specs.Settings.{Settings}
-use Rattle.swc_ecma_codegen_grammar.specs.Tokens.{Token}
-use Rattle.swc_ecma_codegen_grammar.specs.Phrases.{Phrase, Never, ◌>◌, mark, Generates, is_possible}
+use Rattle.swc_ecma_codegen_grammar.specs.Phrases.{Phrase, Never, ◌>◌, mark, is_possible}
 use Rattle.swc_ecma_codegen_grammar.specs.declared.roles.Role.{Role}
 use Rattle.swc_ecma_codegen_grammar.specs.declared.roles.Role.TheVariants.{Expression, Statement, MemberExpression, ChainMember, Callee, FieldValue}
 use Rattle.swc_ecma_codegen_grammar.specs.ExprPhrases.{expr, member_expr, chain_member, expr_in}
@@ -52,10 +50,6 @@ stmt_phrase n = stmt phrase n
 
 abbrev pub program_phrase : Program AnyNode → Phrase
 program_phrase n = program phrase n
-
--- a list of tokens is one of the program's, under these settings
-abbrev pub IsTokenList : Settings → Program AnyNode → List Token → Type 0
-IsTokenList s n ts = Generates s (program_phrase n) ts
 
 -- a program is well-formed
 abbrev pub is_well_formed : Program AnyNode → Bool

@@ -1,6 +1,6 @@
 //! The trivia at the start of a text, as plain programs. ECMA-262, sections 12.2 to 12.4.
 
-ghost use Rattle.std.specs.Prelude.{◌≡◌, ◌++◌};
+ghost use Rattle.std.specs.Prelude.{◌≡◌};
 ghost use Rattle.std.specs.Option.{option_copied};
 ghost use Rattle.swc_ecma_codegen_grammar.specs.Skipping as skipping;
 

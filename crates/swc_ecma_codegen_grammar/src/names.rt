@@ -1,8 +1,6 @@
 //! Names and words, as plain programs.
 
-ghost use Rattle.std.specs.Prelude.{ℕ, List, ◌≡◌, ◌<◌, ◌≤◌, ◌+◌, ◌*◌, ◌++◌, ◌∷◌, [], ◌&&◌, true, false, IfSome, IfNone, IfOk, is_some};
-ghost use Rattle.swc_ecma_codegen_grammar.specs.Chars as chars;
-ghost use Rattle.swc_ecma_codegen_grammar.specs.Numbers as numbers;
+ghost use Rattle.std.specs.Prelude.{ℕ, List, ◌≡◌, ◌<◌, ◌+◌, ◌*◌, ◌++◌, [], ◌&&◌, true, false, IfSome, IfNone, IfOk, is_some};
 ghost use Rattle.swc_ecma_codegen_grammar.specs.Names as names;
 ghost use Rattle.swc_ecma_codegen_grammar.specs.NameTurns.{IsNameTurn, LeadsOn};
 

@@ -3,7 +3,6 @@
 
 ghost use Rattle.std.specs.Prelude.{ℕ, ◌≡◌, ◌<◌, ◌≤◌, List, [], ◌∷◌, drop, true, false};
 ghost use Rattle.swc_ecma_codegen_grammar.specs.declared.units.Place.TheVariants.{Escaped, Due, Unicode, Braced};
-ghost use Rattle.swc_ecma_codegen_grammar.specs.Numbers as numbers;
 ghost use Rattle.swc_ecma_codegen_grammar.specs.Chars as chars;
 ghost use Rattle.swc_ecma_codegen_grammar.specs.StringValues as values;
 ghost use Rattle.swc_ecma_codegen_grammar.specs.Texts as texts;

@@ -19,9 +19,6 @@ use Rattle.swc_ecma_codegen_literals.proofs.Numerals.{zeros_are_digits, zeros_va
 use Rattle.std.proofs.lemmas.Str.Parse.{IsNumeralModel, numerals_by_value, tells_digits, parse_digits}
 use Rattle.std.proofs.lemmas.Str.{digit_value_digit}
 
-is_normal : Decimal → Type 0
-is_normal number = is_decimal (decimal_digits number) number.exponent ≡ true
-
 signed_spells : (number : Decimal) (size : List ℕ) → Spells size (size_value (decimal_digits number) number.exponent) → SpellsDecimal number (sign_text number.negative ++ size)
 unfolding is_number
 signed_spells number size s = record {

@@ -211,9 +211,6 @@ hex_backslash : is_hex 92 ≡ false
 unfolding is_hex is_digit
 hex_backslash = refl
 
-hex_fine : (c : ℕ) (cs : List ℕ) → is_hex c ≡ true → all_fine false (c ∷ cs) ≡ true → all_fine false cs ≡ true
-hex_fine c cs h b = fine_between c cs false (hex_not c 92 h hex_backslash) b
-
 -- where the characters of a place are read alike
 due_same : (q n v c : ℕ) (x y : List ℕ) → (is_hex c ≡ true → (place : Place) → Simple place → is_escaped place ≡ false → Read q place x ≡ Read q place y) → Read q (Due n v) (c ∷ x) ≡ Read q (Due n v) (c ∷ y)
 unfolding string_rest

@@ -25,14 +25,8 @@ run_cut {text = text} {rest = rest} r u = subst (λ n. IsCharBoundary text n) (s
 pub run_front : {test : ℕ → Bool} {text rest : List ℕ} (r : Run test text rest) → take (length text - length rest) text ≡ encodes r.run
 run_front {text = text} {rest = rest} r = ap (λ n. take n text) (run_length r) ∙ (ap (λ t. take (length (encodes r.run)) t) r.is_text ∙ take_at (encodes r.run) rest (length (encodes r.run)) refl)
 
-pub run_back : {test : ℕ → Bool} {text rest : List ℕ} (r : Run test text rest) → drop (length text - length rest) text ≡ rest
-run_back {text = text} {rest = rest} r = ap (λ n. drop n text) (run_length r) ∙ (ap (λ t. drop (length (encodes r.run)) t) r.is_text ∙ drop_at (encodes r.run) rest (length (encodes r.run)) refl)
-
 pub run_each : (test : ℕ → Bool) (text rest front : List ℕ) (r : Run test text rest) → front ≡ take (length text - length rest) text → list_all test (chars front) ≡ true
 run_each test text rest front r e = ap (λ t. list_all test (chars t)) (e ∙ run_front r) ∙ (ap (λ t. list_all test t) (chars-encodes r.run r.are_chars) ∙ r.each)
-
-pub run_none : (test : ℕ → Bool) (text : List ℕ) → Run test text text
-run_none test text = record { run = []; are_chars = refl; each = refl; is_text = refl }
 
 -- the first character of a text is one
 pub first_scalar : (text rest : List ℕ) (c : ℕ) → IsUtf8 text → text ≡ encode_utf8 c ++ rest → scalar c ≡ true

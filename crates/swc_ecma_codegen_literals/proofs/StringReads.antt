@@ -188,9 +188,6 @@ null_escape_reads q v next t h d = by_test (below_es5 v) (begins_digit next) d
     by_test false true e = escapes q (120 ∷ 48 ∷ 48 ∷ t) h
     by_test false false e = escapes q (48 ∷ t) h ∙ rw e refl
 
-letter_reads : (q c : ℕ) (t : List ℕ) → IsQuote q → Read q Escaped (c ∷ t) ≡ before (utf16 (single_escape c)) (Read q Between t) → Read q Between (92 ∷ c ∷ t) ≡ before (utf16 (single_escape c)) (Read q Between t)
-letter_reads q c t h e = escapes q (c ∷ t) h ∙ e
-
 pub escape_reads : (q : ℕ) (v : EsVersion) (c : ℕ) (next t : List ℕ) → IsQuote q → c < 1114112 → begins_digit t ≡ begins_digit next → ((c == 92) ≡ true → nat_lt 0 (escape_length next) ≡ false) →
     Read q Between (escape_text v c next ++ t) ≡ before (utf16 c) (Read q Between t)
 unfolding escape_text backslash_escape string_rest is_hex is_digit is_octal is_either single_escape utf16

@@ -6,7 +6,6 @@ use Rattle.swc_ecma_codegen_tree.specs.declared.links.AnyNode.TheOpen as nodes
 use Rattle.swc_ecma_codegen_tree.specs.declared.links.AnyNode.TheVariants as whole
 use Rattle.swc_ecma_codegen_tree.specs.declared.links.AnyNode.TheFolds.{fold-roll-AnyNode}
 use Rattle.swc_ecma_codegen_tree.specs.declared.pats.AssignTarget.{AssignTarget}
-use Rattle.swc_ecma_codegen_tree.specs.declared.pats.AssignTargetPat.{AssignTargetPat}
 use Rattle.swc_ecma_codegen_tree.specs.declared.stmts.BlockStmt.{BlockStmt}
 use Rattle.swc_ecma_codegen_tree.specs.declared.classes.Class.{Class}
 use Rattle.swc_ecma_codegen_tree.specs.declared.classes.ClassMember.{ClassMember}
@@ -22,7 +21,6 @@ use Rattle.swc_ecma_codegen_tree.specs.declared.exprs.ObjectLit.{ObjectLit}
 use Rattle.swc_ecma_codegen_tree.specs.declared.exprs.OptCall.{OptCall}
 use Rattle.swc_ecma_codegen_tree.specs.declared.pats.Pat.{Pat}
 use Rattle.swc_ecma_codegen_tree.specs.declared.exprs.PropName.{PropName}
-use Rattle.swc_ecma_codegen_tree.specs.declared.pats.SimpleAssignTarget.{SimpleAssignTarget}
 use Rattle.swc_ecma_codegen_tree.specs.declared.stmts.Stmt.{Stmt}
 use Rattle.swc_ecma_codegen_tree.specs.declared.exprs.Tpl.{Tpl}
 use Rattle.swc_ecma_codegen_tree.specs.declared.ts_members.TsInterfaceBody.{TsInterfaceBody}

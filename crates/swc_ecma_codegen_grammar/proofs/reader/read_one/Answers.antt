@@ -1,4 +1,4 @@
-use Rattle.std.proofs.Common.{sym, subst, not, length, ◌∙◌, ◌||◌, ◌-◌, take, Bool, List, ℕ}
+use Rattle.std.proofs.Common.{sym, subst, not, length, ◌∙◌, ◌||◌, ◌-◌, take, List, ℕ}
 use Rattle.std.proofs.lemmas.Bool.{and_from, and_parts, true≢false}
 use Rattle.swc_ecma_codegen_grammar.specs.Chars.{is_one_line}
 use Rattle.swc_ecma_codegen_grammar.specs.Reading.{ReadsOne, fits}

@@ -1,4 +1,4 @@
-use Rattle.std.proofs.Common.{◌≡◌, ◌<◌, sym, ◌∙◌, ap, not, length, arith, true, false, refl}
+use Rattle.std.proofs.Common.{◌<◌, sym, ◌∙◌, ap, not, length, arith, true, false, refl}
 use Rattle.std.proofs.lemmas.Bool.{eqb-true, eqb-false}
 use Rattle.swc_ecma_codegen_grammar.specs.Chars.{is_digit}
 use Rattle.swc_ecma_codegen_literals.proofs.Fronts.{digit_place, no_digit}

@@ -1,4 +1,4 @@
-use Rattle.std.proofs.Common.{◌≡◌, ◌||◌, sym, ◌∙◌, ap}
+use Rattle.std.proofs.Common.{◌||◌, sym, ◌∙◌, ap}
 use Rattle.std.proofs.lemmas.Bool.{or_left}
 use Rattle.swc_ecma_codegen_grammar.specs.CodeUnits.{begins_like, short_escape, long_escape}
 use Rattle.swc_ecma_codegen_literals.proofs.Fronts.{surrogate_place}

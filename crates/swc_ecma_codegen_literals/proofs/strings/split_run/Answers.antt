@@ -1,4 +1,4 @@
-use Rattle.std.proofs.Common.{◌≡◌, sym, ◌∙◌, ap, length, ◌++◌}
+use Rattle.std.proofs.Common.{sym, ◌∙◌, ap, length, ◌++◌}
 use Rattle.std.specs.Char.{encode_utf8}
 use Rattle.swc_ecma_codegen_literals.proofs.Runs.{run_cut, run_each, run_more, run_all}
 use Rattle.swc_ecma_codegen_literals.proofs.strings.split_run.Goals as goal
