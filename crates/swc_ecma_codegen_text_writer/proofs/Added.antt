@@ -4,20 +4,13 @@ use Rattle.swc_ecma_codegen_common.specs.declared.positions.BytePos.{BytePos}
 use Rattle.swc_ecma_codegen_text_writer.specs.Places.{after_text}
 use Rattle.swc_ecma_codegen_text_writer.specs.Filling.{part_text}
 use Rattle.swc_ecma_codegen_text_writer.proofs.Reaching.{after_both}
-use Rattle.swc_ecma_codegen_text_writer.specs.Sheet.{Sheet, Segment, Flow, released, noted, notes_released, notes_text, text_in, ends_before, line_ended, segment_released}
+use Rattle.swc_ecma_codegen_text_writer.specs.Sheet.{Sheet, Segment, released, noted, notes_released, notes_text, text_in, ends_before, line_ended, segment_released}
 
 -- so much text goes out
 pub record Adds (t : List ℕ) (a b : Sheet) : Type 0 where
   pub text : b.text ≡ a.text ++ t
   pub place : b.place ≡ after_text t a.place
   pub line_end : b.line_end ≡ a.line_end
-
--- from a sheet, or from the same but for the lines
-pub adds_from : {t : List ℕ} (l : Flow) (a b : Sheet) → Adds t (record a { lines = l }) b → Adds t a b
-adds_from l a b h = record { text = h.text; place = h.place; line_end = h.line_end }
-
-pub adds_to : {t : List ℕ} (l : Flow) (a b : Sheet) → Adds t a b → Adds t a (record b { lines = l })
-adds_to l a b h = record { text = h.text; place = h.place; line_end = h.line_end }
 
 pub adds_nothing : (a : Sheet) → Adds [] a a
 unfolding after_text

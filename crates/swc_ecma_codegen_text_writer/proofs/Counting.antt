@@ -47,12 +47,6 @@ stands_in_line units more text p h k s =
 
 -- ---- a byte more
 
--- so many units since the last line end of a text, or since `before`, where none is in it
-pub column_more : (before more byte : ℕ) (p : Place) → is_line_end byte ≡ false → min (before + more) (2 ^ 32) ≡ min p.column (2 ^ 32) → min (before + (more + units_of byte)) (2 ^ 32) ≡ min (after_byte byte p).column (2 ^ 32)
-column_more before more byte p h k =
-    let e : (after_byte byte p).column ≡ p.column + units_of byte = ap (λ (q : Place). q.column) (byte_further byte p h) in
-    omega (arith, e, k)
-
 either : {byte : ℕ} → ((byte == 10) ≡ true) ⊎ ((byte == 13) ≡ true) → (byte ≡ 10) ⊎ (byte ≡ 13)
 either {byte = byte} (inl h) = inl (eqb-true byte 10 h)
 either {byte = byte} (inr h) = inr (eqb-true byte 13 h)

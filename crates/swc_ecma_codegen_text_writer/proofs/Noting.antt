@@ -151,11 +151,6 @@ left_alike text from ns all now old h =
     let a : Sheet = notes_released (noted_of text 0 all) old in
     alike_trans now a _ (subst (λ (z : Sheet). Alike now z) h.sheet (notes_alike (noted_of text from ns) now)) (released_alike (drop (last_of 0 all) text) a)
 
--- positions are kept where some are held
-pub keeps_from : (keeps : Bool) (n i : ℕ) → (keeps ≡ false → n ≡ 0) → i < n → keeps ≡ true
-keeps_from true n i h l = refl
-keeps_from false n i h l = let e = h refl in absurd (omega arith)
-
 -- ---- offsets between characters
 
 -- a place between two characters stays one where a text follows

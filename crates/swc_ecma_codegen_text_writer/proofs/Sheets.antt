@@ -1,13 +1,12 @@
 -- What calls do to a sheet, and what they leave alone.
-use Rattle.std.proofs.Common.{◌≡◌, ℕ, ◌+◌, ◌-◌, Bool, true, false, List, [], ◌∷◌, ◌++◌, refl, sym, ◌∙◌, ap, append_assoc, append-nil, cond, codes, subst, Option, Some, None, ◌&&◌, ◌||◌, ◌==◌}
+use Rattle.std.proofs.Common.{◌≡◌, ℕ, ◌+◌, ◌-◌, Bool, true, false, List, [], ◌∷◌, ◌++◌, refl, sym, ◌∙◌, ap, append_assoc, append-nil, cond, codes, Option, Some, None, ◌&&◌, ◌||◌, ◌==◌}
 use Rattle.std.specs.List.{repeat}
-use Rattle.swc_ecma_codegen_common.specs.declared.errors.Refusal.{Refusal}
 use Rattle.swc_ecma_codegen_common.specs.declared.positions.BytePos.{BytePos}
 use Rattle.swc_ecma_codegen_common.specs.declared.positions.Span.{Span}
 use Rattle.swc_ecma_codegen_text_writer.specs.Places.{Place, after_text}
 use Rattle.swc_ecma_codegen_text_writer.proofs.Pairs.{after_both}
 use Rattle.swc_ecma_codegen_text_writer.specs.Told.{IsPrefix}
-use Rattle.swc_ecma_codegen_text_writer.specs.Sheet.{Sheet, Item, Pair, Semi, Space, Keyword, Operator, Param, Property, Line, Lit, Comment, StrLit, Str, Symbol, Punct, Position, Commit, Deeper, Shallower, BeginLines, AllowBreak, EndLines, Semicolons, AtOnce, HoldsNone, HoldsOne, holds_semicolons, Flow, Flowing, Filling, Cutting, Segment, released, noted, notes_released, line_ended, ends_before, segment_released, begun_by, allowed_by, allowed, closed_by, passed_on, allowed_at, appended_by, recorded_by, is_recorded, has_pair, pair_at, with_pair, recorded, start_recorded, end_recorded, pending_recorded, appended, indented, started, written, literal_written, ended, pointed, settled_by, settled, semicolon_by, dropped, is_ending, before_punct, effect, effects, Refuses, earlier, stopped}
+use Rattle.swc_ecma_codegen_text_writer.specs.Sheet.{Sheet, Item, Pair, Semi, Space, Keyword, Operator, Param, Property, Line, Lit, Comment, StrLit, Str, Symbol, Punct, Position, Commit, Deeper, Shallower, BeginLines, AllowBreak, EndLines, Semicolons, AtOnce, HoldsNone, HoldsOne, holds_semicolons, Flow, Flowing, Filling, Cutting, Segment, released, noted, notes_released, line_ended, ends_before, segment_released, begun_by, allowed_by, allowed, closed_by, passed_on, allowed_at, appended_by, recorded_by, is_recorded, has_pair, pair_at, with_pair, recorded, start_recorded, end_recorded, pending_recorded, appended, indented, started, written, literal_written, ended, pointed, settled_by, settled, semicolon_by, dropped, is_ending, before_punct, effect}
 
 -- ---- fronts
 
@@ -272,11 +271,6 @@ effect_alike (BeginLines max) s = begun_by_alike s.lines max s
 effect_alike AllowBreak s = break_alike s.semicolons s refl
 effect_alike EndLines s = closed_by_alike s.lines s
 
-pub effects_alike : (xs : List Item) (s : Sheet) → Alike s (effects xs s)
-unfolding effects
-effects_alike [] s = alike_refl s
-effects_alike (x ∷ xs) s = alike_trans _ _ _ (effect_alike x s) (effects_alike xs (effect x s))
-
 -- ---- what no call changes
 
 -- the two sheets are those of one writer, with the same count of faults and the same mark of a refusal
@@ -311,36 +305,21 @@ started_same s = alike_same s (started s) (started_alike s)
 pub written_same : (span : Option Span) (t : List ℕ) (s : Sheet) → Same (written span t s) s
 written_same span t s = alike_same s (written span t s) (written_alike span t s)
 
-pub ended_same : (s : Sheet) → Same (ended s) s
-ended_same s = alike_same s (ended s) (ended_alike s)
-
 pub settled_same : (s : Sheet) → Same (settled s) s
 settled_same s = alike_same s (settled s) (settled_alike s)
 
 pub effect_same : (x : Item) (s : Sheet) → Same (effect x s) s
 effect_same x s = alike_same s (effect x s) (effect_alike x s)
 
-pub effects_same : (xs : List Item) (s : Sheet) → Same (effects xs s) s
-effects_same xs s = alike_same s (effects xs s) (effects_alike xs s)
-
 -- ---- a text grows
 
 pub effect_grows : (x : Item) (s : Sheet) → IsPrefix s.text (effect x s).text
 effect_grows x s = (effect_alike x s).grows
 
-pub effects_grow : (xs : List Item) (s : Sheet) → IsPrefix s.text (effects xs s).text
-effects_grow xs s = (effects_alike xs s).grows
-
 -- ---- the same, a field at a time
 
 pub effect_whole : (x : Item) (s : Sheet) → (effect x s).whole ≡ s.whole
 effect_whole x s = (effect_same x s).whole
-
-pub effect_line_end : (x : Item) (s : Sheet) → (effect x s).line_end ≡ s.line_end
-effect_line_end x s = (effect_same x s).line_end
-
-pub effect_indent_text : (x : Item) (s : Sheet) → (effect x s).indent_text ≡ s.indent_text
-effect_indent_text x s = (effect_same x s).indent_text
 
 pub effect_faults : (x : Item) (s : Sheet) → (effect x s).faults ≡ s.faults
 effect_faults x s = (effect_same x s).faults
@@ -353,31 +332,3 @@ effect_takes_memory x s = (effect_same x s).takes_memory
 
 pub effect_keeps_positions : (x : Item) (s : Sheet) → (effect x s).keeps_positions ≡ s.keeps_positions
 effect_keeps_positions x s = (effect_same x s).keeps_positions
-
-pub effect_keeps_invalid : (x : Item) (s : Sheet) → (effect x s).keeps_invalid ≡ s.keeps_invalid
-effect_keeps_invalid x s = (effect_same x s).keeps_invalid
-
-pub effect_holds : (x : Item) (s : Sheet) → holds_semicolons (effect x s).semicolons ≡ holds_semicolons s.semicolons
-effect_holds x s = (effect_same x s).holds
-
--- what was text is text after any calls
-pub effects_whole : (xs : List Item) (s : Sheet) → (effects xs s).whole ≡ s.whole
-effects_whole xs s = (effects_same xs s).whole
-
--- ---- refused calls
-
--- what is out stays out
-pub refuses_grows : (x : Item) (e : Refusal) (a b : Sheet) → Refuses x e a b → IsPrefix a.text b.text
-refuses_grows x e a b (earlier h k m) = ([], ap (λ (s : Sheet). s.text) m ∙ sym (append-nil a.text))
-refuses_grows x e a b (stopped h k m) = m.grows
-
--- what is out is a beginning of what the call would have written
-pub refuses_front : (x : Item) (e : Refusal) (a b : Sheet) → Refuses x e a b → IsPrefix b.text (effect x a).text
-refuses_front x e a b (earlier h k m) =
-    let P : Sheet → Type 0 = λ s. IsPrefix s.text (effect x a).text in subst P (sym m) (effect_grows x a)
-refuses_front x e a b (stopped h k m) = m.front
-
--- the writer has its mark from then on
-pub refuses_refused : (x : Item) (e : Refusal) (a b : Sheet) → Refuses x e a b → b.refused ≡ true
-refuses_refused x e a b (earlier h k m) = ap (λ (s : Sheet). s.refused) m ∙ h
-refuses_refused x e a b (stopped h k m) = ap (λ (s : Sheet). s.refused) m.same

@@ -1,13 +1,12 @@
 -- The depth, and whether lines are filled: what calls leave of these.
-use Rattle.std.proofs.Common.{◌≡◌, ℕ, ◌+◌, ◌-◌, Bool, true, false, List, [], ◌∷◌, refl, sym, ◌∙◌, ap, cond, codes, Option, Some, None, Result, Ok, Err, ◌&&◌, ◌||◌}
+use Rattle.std.proofs.Common.{◌≡◌, ℕ, ◌+◌, ◌-◌, Bool, true, false, List, [], ◌∷◌, refl, sym, ◌∙◌, ap, cond, codes, Option, Some, None, ◌&&◌, ◌||◌}
 use Rattle.std.specs.List.{repeat}
 use Rattle.std.proofs.lemmas.Bool.{true≢false}
 use Rattle.std.proofs.Math.Bool.{or-true}
-use Rattle.swc_ecma_codegen_common.specs.declared.errors.Refusal.{Refusal}
 use Rattle.swc_ecma_codegen_common.specs.declared.positions.BytePos.{BytePos}
 use Rattle.swc_ecma_codegen_common.specs.declared.positions.Span.{Span}
 use Rattle.swc_ecma_codegen_text_writer.specs.Runs.{is_inner}
-use Rattle.swc_ecma_codegen_text_writer.specs.Sheet.{Sheet, Item, Semi, Space, Keyword, Operator, Param, Property, Line, Lit, Comment, StrLit, Str, Symbol, Punct, Position, Commit, Deeper, Shallower, BeginLines, AllowBreak, EndLines, Semicolons, AtOnce, HoldsNone, HoldsOne, Flow, Flowing, Filling, Cutting, fills_lines, Segment, released, noted, notes_released, line_ended, ends_before, segment_released, begun_by, allowed_by, allowed, closed_by, passed_on, allowed_at, appended_by, recorded_by, is_recorded, recorded, start_recorded, end_recorded, pending_recorded, appended, indented, started, written, literal_written, ended, pointed, settled_by, settled, semicolon_by, dropped, is_ending, before_punct, effect, Refuses, earlier, stopped, Writes, begins_lines}
+use Rattle.swc_ecma_codegen_text_writer.specs.Sheet.{Sheet, Item, Semi, Space, Keyword, Operator, Param, Property, Line, Lit, Comment, StrLit, Str, Symbol, Punct, Position, Commit, Deeper, Shallower, BeginLines, AllowBreak, EndLines, Semicolons, AtOnce, HoldsNone, HoldsOne, Flow, Flowing, Filling, Cutting, fills_lines, Segment, released, noted, notes_released, line_ended, ends_before, segment_released, begun_by, allowed_by, allowed, closed_by, passed_on, allowed_at, appended_by, recorded_by, is_recorded, recorded, start_recorded, end_recorded, pending_recorded, appended, indented, started, written, literal_written, ended, pointed, settled_by, settled, semicolon_by, dropped, is_ending, before_punct, effect, begins_lines}
 use Rattle.swc_ecma_codegen_text_writer.proofs.Sheets.{begun}
 
 -- ---- the depth, and whether lines are filled
@@ -197,17 +196,8 @@ closed_by_indentation Flowing s = refl
 closed_by_indentation (Filling max first held) s = (segment_stays max first held s).indentation
 closed_by_indentation (Cutting done begun) s = refl
 
-pub recorded_indentation : (pos : BytePos) (s : Sheet) → (recorded pos s).indentation ≡ s.indentation
-recorded_indentation pos s = (recorded_stays pos s).indentation
-
-pub started_indentation : (s : Sheet) → (started s).indentation ≡ s.indentation
-started_indentation s = (started_stays s).indentation
-
 pub written_indentation : (span : Option Span) (t : List ℕ) (s : Sheet) → (written span t s).indentation ≡ s.indentation
 written_indentation span t s = (written_stays span t s).indentation
-
-pub literal_indentation : (span : Span) (t : List ℕ) (s : Sheet) → (literal_written span t s).indentation ≡ s.indentation
-literal_indentation span t s = (literal_stays span t s).indentation
 
 pub ended_indentation : (s : Sheet) → (ended s).indentation ≡ s.indentation
 ended_indentation s = (ended_stays s).indentation
@@ -327,16 +317,3 @@ effect_begins Commit s h = filled_still Commit s refl h
 effect_begins Deeper s h = filled_still Deeper s refl h
 effect_begins Shallower s h = filled_still Shallower s refl h
 effect_begins AllowBreak s h = filled_still AllowBreak s refl h
-
--- ---- refused calls
-
--- the depth stays
-pub refuses_indentation : (x : Item) (e : Refusal) (a b : Sheet) → Refuses x e a b → b.indentation ≡ a.indentation
-refuses_indentation x e a b (earlier h k m) = ap (λ (s : Sheet). s.indentation) m
-refuses_indentation x e a b (stopped h k m) = ap (λ (s : Sheet). s.indentation) m.same
-
--- a call that is no change of the depth leaves it, refused or not
-pub writes_indentation : (x : Item) (a b : Sheet) (r : Result (Unit {0}) Refusal) → depth x a.indentation ≡ a.indentation → Writes x a b r → b.indentation ≡ a.indentation
-unfolding Writes
-writes_indentation x a b (Ok u) h k = ap (λ (s : Sheet). s.indentation) k.1 ∙ effect_indentation x a ∙ h
-writes_indentation x a b (Err e) h k = refuses_indentation x e a b k

@@ -1,6 +1,6 @@
 //! The writer over an `io::Write`.
 
-ghost use Rattle.std.specs.Prelude.{◌≡◌, false, true, length, IfSome, None, codes};
+ghost use Rattle.std.specs.Prelude.{◌≡◌, false, true, length, None, codes};
 ghost use Rattle.std.specs.List.{repeat};
 ghost use Rattle.std.proofs.Props.{props};
 ghost use Rattle.swc_ecma_codegen_text_writer.specs.Places.{origin, after_text};

@@ -1,6 +1,6 @@
 //! Columns, for lines that are filled: the UTF-16 units since the last line end.
 
-ghost use Rattle.std.specs.Prelude.{◌≡◌, ◌≤◌, ◌<◌, ◌+◌, ◌^◌, min, true, length};
+ghost use Rattle.std.specs.Prelude.{◌≡◌, ◌≤◌, ◌<◌, ◌+◌, ◌^◌, min, length};
 ghost use Rattle.std.proofs.Props.{props};
 ghost use Rattle.swc_ecma_codegen_text_writer.specs.Places.{Place, origin, after_text};
 ghost use Rattle.swc_ecma_codegen_text_writer.specs.Reach.{is_in_line};
