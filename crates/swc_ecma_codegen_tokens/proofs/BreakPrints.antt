@@ -7,7 +7,7 @@ use Rattle.swc_ecma_codegen_grammar.specs.Phrases as phrases
 use Rattle.swc_ecma_codegen_grammar.specs.Phrases.{mark}
 use Rattle.swc_ecma_codegen_grammar.specs.Texts.{is_same}
 use Rattle.swc_ecma_codegen_grammar.specs.Tokens as lexical
-use Rattle.swc_ecma_codegen_grammar.specs.Tokens.{token_of, value_of}
+use Rattle.swc_ecma_codegen_grammar.specs.Tokens.{token_of}
 use Rattle.swc_ecma_codegen_grammar.specs.Trivia.{Remark}
 use Rattle.swc_ecma_codegen_text_writer.specs.Sheet.{Operator, AllowBreak, effect}
 use Rattle.swc_ecma_codegen_literals.specs.AsciiNames.{is_ascii_text}

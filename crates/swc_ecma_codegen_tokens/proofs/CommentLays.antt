@@ -401,9 +401,6 @@ guarded g s b e r f =
     let l = named_guard g s r in
     lays_then [] [] s there b l (lays_settled there b [] l.rest (f (settle there) refl (settle_named there l.rest) (settled_none there.sheet) (ap (fuses there.last) (sym e) ∙ after_guard g s)))
 
-slashes : List ℕ
-slashes = codes "//"
-
 -- `// a`
 line_from : (t : List ℕ) (m : State) → IsUtf8 t → is_one_line (chars t) ≡ true → RestsAt InName m → holds_one m.sheet.semicolons ≡ false → fuses m.last (codes "//") ≡ false → LaysWith open_ [] (trivia.Line (chars t) ∷ []) m (put (Plain Line) (put (CommentText t) (put (Plain (Comment (codes "//"))) m)))
 line_from t m k i r o f = line_lays t m _ k i f o r (adds_opened 47 47 t m o r.flowing)

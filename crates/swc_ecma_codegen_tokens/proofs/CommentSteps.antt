@@ -6,7 +6,7 @@ use Rattle.swc_ecma_codegen_common.specs.declared.positions.BytePos.{BytePos}
 use Rattle.swc_ecma_codegen_grammar.specs.CommentMaps.{Maps, without, without_leading, without_trailing}
 use Rattle.swc_ecma_codegen_grammar.specs.SourceLines.{Lines}
 use Rattle.swc_ecma_codegen_grammar.specs.declared.comments.Comment.{Comment}
-use Rattle.swc_ecma_codegen_tokens.specs.Run.{Env, Part, Plan, State, Plain, Take, put, DoesTaking, step, Does, Follows, with_source}
+use Rattle.swc_ecma_codegen_tokens.specs.Run.{Part, Plan, State, Plain, Take, put, DoesTaking, step, Does, Follows, with_source}
 use Rattle.swc_ecma_codegen_tokens.specs.Words.{comment_blank, comment, comments, take_comments, leading_comments, trailing_comments, comments_before_end}
 use Rattle.swc_ecma_codegen_grammar.specs.CommentMaps.{listed}
 use Rattle.swc_ecma_codegen_grammar.specs.Comments.{Side, Leading, Trailing, maps_in, no_maps, comments_at, taken_out}
@@ -66,11 +66,6 @@ pub none_taken : (side : Side) (at : ℕ) → taken_out side at no_maps ≡ no_m
 unfolding taken_out without_leading without_trailing without
 none_taken Leading at = λ i. record { leading = λ q. none_at at q i; trailing = λ q. None }
 none_taken Trailing at = λ i. record { leading = λ q. None; trailing = λ q. none_at at q i }
-
--- what is taken is written
-taken_same : (side : Side) (prefix_space : Bool) (at : ℕ) (rest : Plan) (env : Env) → take_comments side prefix_space at rest env ≡ step (Take side at) (comments prefix_space (comments_at side at env.maps) rest) env
-unfolding take_comments
-taken_same side prefix_space at rest env = refl
 
 takes_written : (side : Side) (prefix_space : Bool) (at : ℕ) (before : Maps) (a b : State) (r : Result (Unit {0}) Refusal) → a.failed ≡ false → Does (comments prefix_space (comments_at side at before)) a b r → DoesTaking (take_comments side prefix_space at) before (taken_out side at before) a b r
 unfolding take_comments with_source put step Follows

@@ -1,5 +1,5 @@
 -- Steps that are made, and steps that are refused.
-use Rattle.std.proofs.Common.{◌≡◌, ℕ, Bool, true, false, cond, [], ◌∷◌, Result, Ok, Err, None, refl, sym, ◌∙◌, ap, subst}
+use Rattle.std.proofs.Common.{◌≡◌, Bool, true, false, cond, [], ◌∷◌, Result, Ok, Err, None, refl, sym, ◌∙◌, ap, subst}
 use Rattle.std.specs.Str.{chars}
 use Rattle.swc_ecma_codegen_common.specs.declared.errors.Refusal.{Refusal}
 use Rattle.swc_ecma_codegen_common.specs.declared.errors.Refusal.TheVariants.{Failed}
@@ -7,7 +7,6 @@ use Rattle.swc_ecma_codegen_grammar.specs.GapRules.{fuses, Separated}
 use Rattle.swc_ecma_codegen_text_writer.specs.Sheet.{Sheet, Space, effect}
 use Rattle.swc_ecma_codegen_grammar.specs.SourceLines.{Lines}
 use Rattle.swc_ecma_codegen_grammar.specs.CommentMaps.{Maps}
-use Rattle.swc_ecma_codegen_grammar.specs.Comments.{Side, taken_out}
 use Rattle.swc_ecma_codegen_tokens.specs.declared.refusals.Unprintable.{Unprintable}
 use Rattle.swc_ecma_codegen_tokens.specs.Run.{Env, Plan, Part, State, Step, Guard, Token, Plain, Ends, Remake, Steps, next, IsRefused, Halts, earlier, stopped, reached, Follows, Emits, Does, at_maps, after_step, at_source, with_source, DoesTaking, Take, CommentText, run, steps_of, refusal_of, unprintable_in, put, step, refuse, nothing, when_minified}
 
@@ -152,11 +151,6 @@ takes_here lines before left p a b (Err e) h = h lines
 pub does_step : (x : Step) (a b : State) → is_taking x ≡ false → a.failed ≡ false → b ≡ put x a → Does (step x) a b (Ok tt)
 unfolding with_source
 does_step x a b n f eq = λ lines maps. emits_step x (with_source lines maps a) (with_source lines maps b) f (ap (with_source lines maps) eq ∙ put_lines x lines maps a n)
-
--- taking comments changes nothing else
-pub takes_step : (side : Side) (at : ℕ) (maps : Maps) (a b : State) → a.failed ≡ false → b ≡ a → DoesTaking (step (Take side at)) maps (taken_out side at maps) a b (Ok tt)
-unfolding with_source put
-takes_step side at maps a b f eq = λ lines. emits_step (Take side at) (with_source lines maps a) (with_source lines (taken_out side at maps) b) f (ap (with_source lines (taken_out side at maps)) eq)
 
 -- an emitter that was refused before
 pub does_failed : (p : Plan) (a : State) → a.failed ≡ true → (lines : Lines) (maps : Maps) → Follows p (with_source lines maps a) (with_source lines maps a) (Err Failed)

@@ -287,7 +287,3 @@ follows_succeeds p a b (Err e) h k = absurd (unhindered_cause (p a.env) e a b k 
 pub follows_failed : (p : Plan) (a : State) → a.failed ≡ true → Follows p a a (Err Failed)
 unfolding Follows
 follows_failed p a h = run.earlier h refl refl
-
-pub on_err : {P : Type 0} (r : Result (Unit {0}) Refusal) → P → OnErr r P
-on_err (Ok u) h = tt
-on_err (Err e) h = h

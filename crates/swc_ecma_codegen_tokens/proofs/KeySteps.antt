@@ -46,22 +46,10 @@ pub key_not_made : (span : Span) (t : List ℕ) (e : Refusal) (a b : State) → 
 key_not_made span t e a b fresh w o marked =
     not_anew (spelled_key span t) true (ascii_key (list_any (wants_quotes a.env.config.target) (chars t)) span (ascii_name true a.env.config.target (chars t))) e a b fresh (λ lines maps rest. escaped_same span t rest (record a.env { lines = lines; maps = maps }) w) o refl marked
 
--- one that holds no escape
-pub key_kept : (span : Span) (t : List ℕ) (a b : State) (r : Result (Unit {0}) Refusal) → wants_escapes a.env.config t ≡ false → Does (plain_key span t) a b r → Does (spelled_key span t) a b r
-key_kept span t a b r k h = does_same (spelled_key span t) (plain_key span t) a b r (λ lines maps rest. plain_same span t rest (record a.env { lines = lines; maps = maps }) k) h
-
 pub key_symbol : (span : Span) (t : List ℕ) (a b : State) (r : Result (Unit {0}) Refusal) → a.env.config.ascii_only ≡ true → Does (symbol span t) a b r → Does (plain_key span t) a b r
 key_symbol span t a b r e h = does_same (plain_key span t) (symbol span t) a b r (λ lines maps rest. symbol_same span t rest (record a.env { lines = lines; maps = maps }) e) h
 
-pub key_bare : (span : Span) (t : List ℕ) (a b : State) (r : Result (Unit {0}) Refusal) → a.env.config.ascii_only ≡ false → Does (bare_key span t) a b r → Does (plain_key span t) a b r
-key_bare span t a b r e h = does_same (plain_key span t) (bare_key span t) a b r (λ lines maps rest. bare_same span t rest (record a.env { lines = lines; maps = maps }) e) h
-
 -- ---- as the writer takes names
-
--- a key whose text is made anew
-pub key_remade : (span : Span) (name text : List ℕ) (a b : State) (r : Result (Unit {0}) Refusal) → a.failed ≡ false → text ≡ turned name → Does (spelled_key span text) a b r → Does (valid_key span name) a b r
-unfolding valid_key
-key_remade span name text a b r fresh eq h = spelled_anew (valid_key span name) (has_backslash name) (spelled_key span) text (turned name) a b r fresh (λ lines maps rest. refl) eq h
 
 -- memory is refused only for a name with a backslash
 pub key_not_remade : (span : Span) (name : List ℕ) (e : Refusal) (a b : State) → a.failed ≡ false → e ≡ OutOfMemory → (has_byte 92 name ≡ false → ⊥) → b ≡ record a { failed = true } → Does (valid_key span name) a b (Err e)
@@ -75,13 +63,6 @@ lent_same span name rest env h = ap (λ b. cond b (spelled_key span name rest en
 pub valid_same : (span : Span) (name : List ℕ) (rest : Plan) (env : Env) → env.keeps_invalid ≡ false → key_text span name rest env ≡ valid_key span name rest env
 unfolding key_text
 valid_same span name rest env h = ap (λ b. cond b (spelled_key span name rest env) (valid_key span name rest env)) h
-
--- a key as it is, and one whose text is made anew
-pub kept_key : (span : Span) (name : List ℕ) (a b : State) (r : Result (Unit {0}) Refusal) → a.env.keeps_invalid ≡ true → Does (spelled_key span name) a b r → Does (key_text span name) a b r
-kept_key span name a b r h k = does_same (key_text span name) (spelled_key span name) a b r (λ lines maps rest. lent_same span name rest (record a.env { lines = lines; maps = maps }) h) k
-
-pub made_key : (span : Span) (name : List ℕ) (a b : State) (r : Result (Unit {0}) Refusal) → a.env.keeps_invalid ≡ false → Does (valid_key span name) a b r → Does (key_text span name) a b r
-made_key span name a b r h k = does_same (key_text span name) (valid_key span name) a b r (λ lines maps rest. valid_same span name rest (record a.env { lines = lines; maps = maps }) h) k
 
 -- ---- with comments
 

@@ -1,9 +1,8 @@
 -- When an emission of a tree is made, and what is left after it.
-use Rattle.std.proofs.Common.{◌≡◌, ◌+◌, ◌^◌, ◌<◌, ◌≤◌, true, false, cond, if◌then◌else◌, inl, inr, List, [], ◌∷◌, ◌++◌, length, length-append, Result, Ok, Err, None, Option, Some, OnOk, IsOk, refl, sym, ap, ◌∙◌, subst, arith}
-use Rattle.std.proofs.lemmas.Bool.{cases_Bool, or_from, or_parts, true_from_ne_false, true≢false}
+use Rattle.std.proofs.Common.{◌≡◌, ◌+◌, ◌^◌, ◌<◌, ◌≤◌, true, false, cond, inl, inr, List, [], ◌∷◌, ◌++◌, length, length-append, Result, Ok, Err, None, Option, Some, OnOk, IsOk, refl, sym, ap, ◌∙◌, subst, arith}
+use Rattle.std.proofs.lemmas.Bool.{or_from, or_parts, true≢false}
 use Rattle.swc_ecma_codegen_common.specs.declared.errors.Error.{Error}
 use Rattle.swc_ecma_codegen_common.specs.declared.errors.Refusal.{Refusal}
-use Rattle.swc_ecma_codegen_common.specs.declared.errors.Refusal.TheVariants as refusals
 use Rattle.swc_ecma_codegen_common.specs.Refusals.{in_short}
 use Rattle.swc_ecma_codegen_tokens.specs.declared.refusals.Unprintable.{Unprintable}
 use Rattle.swc_ecma_codegen_text_writer.specs.Sheet.{fills_lines}
@@ -11,17 +10,16 @@ use Rattle.swc_ecma_codegen_text_writer.proofs.Sheets.{effect_refused, effect_fa
 use Rattle.swc_ecma_codegen_grammar.specs.Tokens.{Token as LexicalToken, ending}
 use Rattle.swc_ecma_codegen_grammar.specs.Settings.{Settings, is_up_to_es5}
 use Rattle.swc_ecma_codegen_grammar.specs.Phrases.{Phrase, Never, Nothing, One, NameOf, KeyOf, PrivateOf, TagNameOf, Then, CommaBefore, OptionalParentheses, Chosen, EmptyArguments, LoopEnding, AttributesWord, in_parentheses, close_parenthesis, Generates, chosen, is_possible}
-use Rattle.swc_ecma_codegen_tokens.specs.declared.refusals.Unprintable.TheVariants.{UnsupportedNode, BadShape, NameOutOfTarget}
 use Rattle.swc_ecma_codegen_tokens.specs.Targets.{is_out}
-use Rattle.swc_ecma_codegen_tokens.specs.Run.{Env, is_bounded, at_maps, maps_after, put, Plan, Part, Step, State, run, steps_of, unprintable_in, nothing, Follows, HasCause, PassesLimit, IsUnhindered, earlier, stopped, reached}
+use Rattle.swc_ecma_codegen_tokens.specs.Run.{Env, is_bounded, at_maps, maps_after, put, Plan, Part, Step, State, run, steps_of, unprintable_in, nothing, Follows, PassesLimit, IsUnhindered, earlier, stopped, reached}
 use Rattle.swc_ecma_codegen_tokens.specs.Settings.{settings_of}
 use Rattle.swc_ecma_codegen_tokens.specs.Ready.{token_count, IsPlainTree, IsReady}
 use Rattle.swc_ecma_codegen_tokens.specs.Written.{Spot}
 use Rattle.swc_ecma_codegen_tokens.proofs.Emitting.{put_failed, put_env}
-use Rattle.swc_ecma_codegen_tokens.proofs.Fronts.{run_sheet, follows_cause, follows_succeeds}
+use Rattle.swc_ecma_codegen_tokens.proofs.Fronts.{run_sheet, follows_succeeds}
 use Rattle.swc_ecma_codegen_tokens.proofs.Levels.{levels, stays_within}
 use Rattle.swc_ecma_codegen_tokens.proofs.PartSteps.{steps_of_chain}
-use Rattle.swc_ecma_codegen_tokens.proofs.Phrased.{goes_on, made_not_out, printed_remakes, PrintsOn}
+use Rattle.swc_ecma_codegen_tokens.proofs.Phrased.{goes_on, printed_remakes, PrintsOn}
 use Rattle.swc_ecma_codegen_tokens.proofs.Targets.{plain_not_out}
 use Rattle.swc_ecma_codegen_tokens.proofs.Shapes.{Shape}
 
@@ -63,41 +61,6 @@ counted s (Chosen AttributesWord) ts g = let e = ap length g in omega (arith, e)
 pub printable : {v w : Spot} {i : Shape} (p : Part) (f : Phrase) (env : Env) → PrintsOn v w i env p f → is_possible f ≡ true → is_out env.config f ≡ false → unprintable_in (p nothing env) ≡ None
 unfolding nothing unprintable_in
 printable p f env prints w o = goes_on (prints.where_possible w o env.maps).writes nothing
-
--- so it comes to such a node exactly where some name can't be
-pub ends_where_out : {v w : Spot} {i : Shape} (p : Part) (f : Phrase) (env : Env) → PrintsOn v w i env p f → is_possible f ≡ true → unprintable_in (p nothing env) ≡ (if is_out env.config f then Some NameOutOfTarget else None)
-ends_where_out p f env prints w = elim (cases_Bool (is_out env.config f)) [
-  | inl o ↦ prints.where_out w o env.maps nothing ∙ ap (λ b. cond b (Some NameOutOfTarget) None) (sym o)
-  | inr o ↦ printable p f env prints w o ∙ ap (λ b. cond b (Some NameOutOfTarget) None) (sym o)
-]
-
--- so where it was made, all could
-pub follows_in_target : {v w : Spot} {i : Shape} (p : Part) (f : Phrase) (a b : State) (r : Result (Unit {0}) Refusal) → PrintsOn v w i a.env p f → is_possible f ≡ true → Follows (p nothing) a b r → OnOk r (is_out a.env.config f ≡ false)
-unfolding Follows
-follows_in_target p f a b (Ok u) prints w h = made_not_out p f a.env prints w h.0
-follows_in_target p f a b (Err e) prints w h = tt
-
--- and where a name was refused, some couldn't
-pub follows_out_of_target : {v w : Spot} {i : Shape} (p : Part) (f : Phrase) (a b : State) → PrintsOn v w i a.env p f → is_possible f ≡ true → Follows (p nothing) a b (Err refusals.NameOutOfTarget) → is_out a.env.config f ≡ true
-unfolding HasCause
-follows_out_of_target p f a b prints w h =
-    let k = (follows_cause (p nothing) a b (Err refusals.NameOutOfTarget) h).refusal in
-    true_from_ne_false (is_out a.env.config f) (λ o. let z = sym k ∙ printable p f a.env prints w o in absurd (cc))
-
--- and no other node of a well-formed tree can't be printed
-pub only_out : {v w : Spot} {i : Shape} (p : Part) (f : Phrase) (env : Env) (r : Unprintable) → PrintsOn v w i env p f → is_possible f ≡ true → unprintable_in (p nothing env) ≡ Some r → r ≡ NameOutOfTarget
-only_out p f env r prints w k = elim (cases_Bool (is_out env.config f)) [
-  | inl o ↦ let z = sym k ∙ prints.where_out w o env.maps nothing in cc
-  | inr o ↦ let z = sym k ∙ printable p f env prints w o in absurd (cc)
-]
-
-pub follows_shaped : {v w : Spot} {i : Shape} (p : Part) (f : Phrase) (a b : State) → PrintsOn v w i a.env p f → is_possible f ≡ true → Follows (p nothing) a b (Err refusals.BadShape) → ⊥
-unfolding HasCause
-follows_shaped p f a b prints w h = let z = only_out p f a.env BadShape prints w (follows_cause (p nothing) a b (Err refusals.BadShape) h).refusal in cc
-
-pub follows_supported : {v w : Spot} {i : Shape} (p : Part) (f : Phrase) (a b : State) → PrintsOn v w i a.env p f → is_possible f ≡ true → Follows (p nothing) a b (Err refusals.UnsupportedNode) → ⊥
-unfolding HasCause
-follows_supported p f a b prints w h = let z = only_out p f a.env UnsupportedNode prints w (follows_cause (p nothing) a b (Err refusals.UnsupportedNode) h).refusal in cc
 
 -- and with room for as many levels as tokens it comes to no limit
 pub within : {v w : Spot} {i : Shape} (p : Part) (f : Phrase) (a : State) → PrintsOn v w i a.env p f → is_possible f ≡ true → is_out a.env.config f ≡ false → a.sheet.indentation + token_count f < 2 ^ 32 → PassesLimit (steps_of (p nothing a.env)) a → ⊥

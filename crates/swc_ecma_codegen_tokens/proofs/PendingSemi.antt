@@ -3,7 +3,7 @@ use Rattle.std.proofs.Common.{◌≡◌, ℕ, Bool, true, false, cond, List, [],
 use Rattle.std.specs.List.{repeat}
 use Rattle.swc_ecma_codegen_common.specs.declared.positions.BytePos.{BytePos}
 use Rattle.swc_ecma_codegen_common.specs.declared.positions.Span.{Span}
-use Rattle.swc_ecma_codegen_text_writer.specs.Sheet.{Sheet, Pair, Semicolons, AtOnce, HoldsNone, HoldsOne, holds_semicolons, Flow, fills_lines, start_recorded, end_recorded, pending_recorded, appended, indented, started, written, pointed, settled, settled_by, dropped, recorded}
+use Rattle.swc_ecma_codegen_text_writer.specs.Sheet.{Sheet, Pair, Semicolons, AtOnce, HoldsNone, HoldsOne, Flow, fills_lines, start_recorded, end_recorded, pending_recorded, appended, indented, started, written, pointed, settled, settled_by, dropped, recorded}
 use Rattle.swc_ecma_codegen_text_writer.specs.Places.{Place}
 use Rattle.swc_ecma_codegen_text_writer.proofs.Flows.{recorded_leaves, appended_leaves, appended_text}
 use Rattle.swc_ecma_codegen_text_writer.proofs.Semicolons.{out_keeps}
@@ -121,23 +121,8 @@ unheld_settled_by (HoldsOne span allowed) s h = absurd (cc)
 pub unheld_settled : (s : Sheet) → holds_one s.semicolons ≡ false → settled s ≡ s
 unheld_settled s h = unheld_settled_by s.semicolons s h
 
-unheld_dropped_by : (x : Semicolons) → holds_one x ≡ false → dropped x ≡ x
-unfolding dropped holds_one
-unheld_dropped_by AtOnce h = refl
-unheld_dropped_by HoldsNone h = refl
-unheld_dropped_by (HoldsOne span allowed) h = absurd (cc)
-
-pub unheld_dropped : (s : Sheet) → holds_one s.semicolons ≡ false → record s { semicolons = dropped s.semicolons } ≡ s
-unheld_dropped s h = ap (λ (x : Semicolons). record s { semicolons = x }) (unheld_dropped_by s.semicolons h)
-
 pub dropped_none : (x : Semicolons) → holds_one (dropped x) ≡ false
 unfolding dropped holds_one
 dropped_none AtOnce = refl
 dropped_none HoldsNone = refl
 dropped_none (HoldsOne span allowed) = refl
-
-pub dropped_holds : (x : Semicolons) → holds_semicolons (dropped x) ≡ holds_semicolons x
-unfolding dropped
-dropped_holds AtOnce = refl
-dropped_holds HoldsNone = refl
-dropped_holds (HoldsOne span allowed) = refl

@@ -18,19 +18,6 @@ pub data Le : OfLine → OfLine → Type 0 where
   line_first : (w : OfLine) → Le OnLine w
   broken_last : (w : OfLine) → Le w Broken
 
-line_is_not_broken : OnLine ≡ Broken → ⊥
-line_is_not_broken e = cc
-
-only_broken : (v w : OfLine) → Le v w → v ≡ Broken → w ≡ Broken
-only_broken v w (same u) e = e
-only_broken v w (line_first u) e = absurd (line_is_not_broken e)
-only_broken v w (broken_last u) e = refl
-
-le_trans : (u v w : OfLine) → Le u v → Le v w → Le u w
-le_trans u v w (same x) k = k
-le_trans u v w (line_first x) k = line_first w
-le_trans u v w (broken_last x) k = subst (λ z. Le u z) (sym (only_broken Broken w k refl)) (broken_last u)
-
 pub not_broken : (v w : OfLine) → Le v w → is_broken w ≡ false → is_broken v ≡ false
 unfolding is_broken
 not_broken v w (same u) h = h
@@ -128,12 +115,6 @@ met_before : (v w : OfLine) (r : Among) → Le v w → meets w r ≡ true → me
 met_before v w r (same u) h = h
 met_before v w r (line_first u) h = refl
 met_before v w r (broken_last u) h = ap (meets u) (only_any r h) ∙ any_met u
-
-pub met_past : (w : OfLine) → meets w ToPast ≡ true → Le w PastLine
-met_past OnLine h = line_first PastLine
-met_past PastLine h = same PastLine
-met_past AtJoint h = absurd (true≢false (sym h))
-met_past Broken h = absurd (true≢false (sym h))
 
 pub met_unbroken : (w : OfLine) → meets w ToEither ≡ true → is_broken w ≡ false
 unfolding is_broken

@@ -41,7 +41,7 @@ use Rattle.swc_ecma_codegen_tokens.proofs.Printed.{unbroken_punct, MakesWithinOn
 use Rattle.swc_ecma_codegen_tokens.proofs.CommentPrints.{nothing_on, writes_on_if, writes_named_commit, writes_named_leading}
 use Rattle.swc_ecma_codegen_tokens.proofs.Emitting.{minified_same, pretty_same}
 use Rattle.swc_ecma_codegen_tokens.proofs.PartSteps.{NamedBy, PlacedOn, no_names, no_strings, placed_none, placed_narrower, placed_wider}
-use Rattle.swc_ecma_codegen_tokens.proofs.Phrased.{PrintsOn, Prints, then_on, after_on, one_on, mark_spelled, prints_punct}
+use Rattle.swc_ecma_codegen_tokens.proofs.Phrased.{PrintsOn, after_on, one_on, mark_spelled}
 use Rattle.swc_ecma_codegen_tokens.specs.Targets.{is_out}
 use Rattle.swc_ecma_codegen_tokens.specs.Escapes.{may_make_text}
 use Rattle.swc_ecma_codegen_tokens.proofs.CutStanding.{StandsHere}
@@ -266,17 +266,6 @@ less_is_mark = record { utf8 = refl; ascii = refl; shape = refl }
 pub slash_is_mark : IsMark (codes "/")
 unfolding is_punctuator is_among is_same punctuators chars is_utf8 lib.Utf8.encode
 slash_is_mark = record { utf8 = refl; ascii = refl; shape = refl }
-
-abbrev pub closing_tag : Span → List ℕ → Part
-closing_tag span name rest = child_open (codes "<") (punct (codes "/") (tag_name span name (close rest)))
-
--- a closing tag stands behind children
-pub prints_closing_tag : (env : Env) (span : Span) (name : List ℕ) → PrintsOn InText Between whole env (closing_tag span name) (One (open_token (codes "<")) > mark (codes "/") > TagNameOf span.lo name > One closing)
-prints_closing_tag env span name = then_on (prints_less_open env) (then_on (prints_spots Anything InName refl refl (prints_punct env (codes "/") slash_is_mark)) (then_on (prints_tag_name env span name) (prints_tag_end env)))
-
--- text and then a container with what is at rest between its braces, `b{c}`
-pub prints_text_and_container : {env : Env} {q : Part} {g : Phrase} (span : Span) (t : List ℕ) → IsToken JsxText t → Prints env q g → PrintsOn Between InText whole env (λ rest. jsx_text span t (child_open (codes "{") (q (punct (codes "}") rest)))) (One (text_token t) > One (open_token (codes "{")) > g > mark (codes "}"))
-prints_text_and_container {env} span t p h = prints_spots Between InText refl refl (then_on (prints_jsx_text env span t p) (then_on (prints_brace_open env) (then_on h (prints_brace_end env))))
 
 -- ---- lists
 

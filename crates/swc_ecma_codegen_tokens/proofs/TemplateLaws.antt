@@ -223,10 +223,6 @@ unfolding begin_steps part_begin run put effect
 begin_adds true s n = adds_written None 96 [] (begun_on true s.sheet) n
 begin_adds false s n = adds_written None 125 [] (begun_on false s.sheet) n
 
-begin_last : (first : Bool) (s : State) → (run (begin_steps first) s).last ≡ s.last
-unfolding begin_steps run put after_plain
-begin_last first s = refl
-
 begin_plain : (first : Bool) → (makes_text (begin_steps first) ≡ false) × (levels (begin_steps first) ≡ 0) × (has_string (begin_steps first) ≡ false) × (are_ascii (begin_steps first) ≡ true) × (keeps_other (begin_steps first) ≡ false)
 unfolding begin_steps part_begin makes_text levels rise has_string are_ascii text_of keeps_other is_other_piece is_kept_piece
 begin_plain true = (refl, refl, refl, refl, refl)

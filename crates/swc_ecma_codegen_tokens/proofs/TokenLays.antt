@@ -218,9 +218,6 @@ ending_begins [] xs h = absurd (true≢false (sym h))
 ending_begins (c ∷ []) xs h = ending_chars c h
 ending_begins (c ∷ d ∷ cs) xs h = absurd (true≢false (sym h))
 
-dropped_state : State → State
-dropped_state s = record s { sheet = record s.sheet { semicolons = dropped s.sheet.semicolons } }
-
 lost_here : (held_span span : Option Span) (kept : Bool) (t : List ℕ) (s : State) → HoldsOne held_span kept ≡ s.sheet.semicolons → is_ending t ≡ true → Spelled Punctuator t → fuses s.last (chars t) ≡ false → AtRest s → Lays (token_of Punctuator (spelling Punctuator t) ∷ []) s (own_here Punctuator span t (record s { sheet = record s.sheet { semicolons = HoldsNone } }))
 unfolding own_here tokens_of remarks_in spelling holds_one
 lost_here held_span span kept [] s e i p f r = absurd (p.some refl)

@@ -192,12 +192,6 @@ adds_list phrase part a b (Ok u) p n d old tokens rs w h =
     (x.0, x.1, so_far_from no_lines no_maps old (tokens ++ x.0) rs b same)
 adds_list phrase part a b (Err e) p n d old tokens rs w h = tt
 
--- one token
-pub adds_one : (x : lexical.Token) (part : Part) (a b : State) (r : Result (Unit {0}) Refusal) → Prints (at_source no_lines no_maps a).env part (One x) → is_same_line x.kind ≡ false → Does part a b r → (old : List ℕ) (tokens : List lexical.Token) (rs : List Remark) → ReadsSoFar old tokens rs a → OnOk r (ReadsSoFar old (tokens ++ x ∷ []) rs b)
-unfolding Generates is_possible is_jointless
-adds_one x part a b (Ok u) p n d old tokens rs h = let y = adds_list (One x) part a b (Ok u) p (ap not n) d old tokens rs refl h in subst (λ z. ReadsSoFar old (tokens ++ z) rs b) y.1 y.2
-adds_one x part a b (Err e) p n d old tokens rs h = tt
-
 -- with the comments that are taken
 pub adds_taking : {v w : Spot} (phrase : Phrase) (part : Part) (before left : Maps) (a b : State) (r : Result (Unit {0}) Refusal) → PrintsOn v w whole (at_source no_lines before a).env part phrase → is_jointless phrase ≡ true → DoesTaking part before left a b r → (old : List ℕ) (tokens : List lexical.Token) (rs : List Remark) → AreClosed before → is_possible phrase ≡ true → ReadsSoFarAt v old tokens rs a → OnOk r ((ts : List lexical.Token) × Generates (settings_of a.env.config) phrase ts × ReadsSoFarAt w old (tokens ++ ts) (rs ++ taken_remarks part (at_source no_lines before a).env) b)
 unfolding with_source

@@ -233,10 +233,6 @@ abbrev pub Emits : Part → State → State → Result (Unit {0}) Refusal → Ty
 Emits part a b (Ok _) = (rest : Plan) (c : State) (r : Result (Unit {0}) Refusal) → Follows rest b c r → Follows (part rest) a c r
 Emits part a b (Err e) = (rest : Plan) → Follows (part rest) a b (Err e)
 
--- where an emission stands, with another map of the source text
-abbrev pub at_lines : Lines → State → State
-at_lines lines s = record s { env = record s.env { lines = lines } }
-
 -- and with other comments to be taken
 abbrev pub at_source : Lines → Maps → State → State
 at_source lines maps s = record s { env = record s.env { lines = lines; maps = maps } }

@@ -1,9 +1,8 @@
 //! Comments that are taken out of the maps and written.
 
-ghost use Rattle.std.specs.Prelude.{◌≡◌, OnOk, codes, string_bytes, option_map};
+ghost use Rattle.std.specs.Prelude.{◌≡◌, OnOk, codes, string_bytes};
 ghost use Rattle.swc_ecma_codegen_grammar.specs.declared.comments.CommentKind.TheVariants.{Line as OfLine, Block as OfBlock};
 ghost use Rattle.swc_ecma_codegen_text_writer.specs.Sheet.{Comment as Piece};
-ghost use Rattle.swc_ecma_codegen_grammar.specs.CommentMaps.{listed};
 ghost use Rattle.swc_ecma_codegen_grammar.specs.Comments.{maps_in};
 ghost use Rattle.swc_ecma_codegen_tokens.specs.Run.{Does, DoesTaking, step, Guard, Plain, CommentText};
 ghost use Rattle.swc_ecma_codegen_tokens.specs.Words.{comment_blank, before_closing, comment_by, comment, comments, leading_comments, trailing_comments, comments_before_end};

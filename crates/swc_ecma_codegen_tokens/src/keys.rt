@@ -1,8 +1,6 @@
 //! Names as keys of properties.
 
 ghost use Rattle.std.specs.Prelude.{◌≡◌, OnOk, false, true};
-ghost use Rattle.std.specs.List.{list_any};
-ghost use Rattle.std.specs.Str.{chars};
 ghost use Rattle.swc_ecma_codegen_spans.specs.Spans.{dummy_span};
 ghost use Rattle.swc_ecma_codegen_grammar.specs.declared.kinds.Kind.TheVariants as kinds;
 ghost use Rattle.swc_ecma_codegen_text_writer.specs.Sheet.{Symbol};

@@ -1,7 +1,7 @@
 //! Laws of the text so far. Each is the contract of a function that does nothing: a proof cites it, and a program has no
 //! need to call it. That a call of a token adds its token is a clause of the call.
 
-ghost use Rattle.std.specs.Prelude.{◌≡◌, ℕ, Bool, false, true, List, [], ◌++◌, Ok};
+ghost use Rattle.std.specs.Prelude.{◌≡◌, ℕ, Bool, true, List, [], ◌++◌, Ok};
 ghost use Rattle.swc_ecma_codegen_common.specs.declared.positions.BytePos.{BytePos};
 ghost use Rattle.swc_ecma_codegen_grammar.specs.Tokens.{Token};
 ghost use Rattle.swc_ecma_codegen_grammar.specs.Trivia.{Remark};

@@ -1,6 +1,6 @@
 //! Strings, regular expressions, the words `true`, `false` and `null`, and a literal as such.
 
-ghost use Rattle.std.specs.Prelude.{◌≡◌, OnOk, IfOk, IfErr, List, [], ◌∷◌, codes, None, true, false, string_bytes};
+ghost use Rattle.std.specs.Prelude.{◌≡◌, OnOk, IfOk, IfErr, None, true, false, string_bytes};
 ghost use Rattle.std.specs.Cow.{cow_str_bytes};
 ghost use Rattle.swc_ecma_codegen_common.specs.declared.errors.Error.TheVariants.{OutOfMemory};
 ghost use Rattle.swc_ecma_codegen_grammar.specs.Comments.{maps_in};

@@ -1,6 +1,6 @@
 //! Parts of templates.
 
-ghost use Rattle.std.specs.Prelude.{◌≡◌, OnOk, IfOk, IfErr, List, [], ◌∷◌, codes, None, true, false, string_bytes};
+ghost use Rattle.std.specs.Prelude.{◌≡◌, OnOk, IfOk, IfErr, [], ◌∷◌, None, true, false, string_bytes};
 ghost use Rattle.std.specs.Cow.{cow_str_bytes};
 ghost use Rattle.std.specs.Str.{chars, encode_utf8_all};
 ghost use Rattle.swc_ecma_codegen_common.specs.declared.errors.Error.TheVariants.{OutOfMemory};
@@ -12,8 +12,7 @@ ghost use Rattle.swc_ecma_codegen_grammar.specs.Texts.{begins};
 ghost use Rattle.swc_ecma_codegen_text_writer.specs.Sheet.{StrLit, Punct};
 ghost use Rattle.swc_ecma_codegen_literals.specs.ValidNames.{has_byte};
 ghost use Rattle.swc_ecma_codegen_tokens.specs.Adds.{AddsList};
-ghost use Rattle.swc_ecma_codegen_tokens.specs.Run.{Does, step, Guard, Plain, Ends};
-ghost use Rattle.swc_ecma_codegen_tokens.specs.Starts.{start_class};
+ghost use Rattle.swc_ecma_codegen_tokens.specs.Run.{Does, step, Plain, Ends};
 ghost use Rattle.swc_ecma_codegen_tokens.specs.Templates.{with_line_feeds, is_respelled, cooked_text, makes_cooked, inside, placed_inside, closed, part_by, cooked_part, tpl_element, quasi};
 ghost use Rattle.swc_ecma_codegen_tokens.specs.View.{state_of};
 
