@@ -4,7 +4,7 @@ use Rattle.swc_ecma_codegen_tree.specs.Links.{BlockStmtBox}
 use Rattle.swc_ecma_codegen_tree.specs.declared.decls.Decorator.{Decorator}
 use Rattle.swc_ecma_codegen_tree.specs.declared.decls.Param.{Param}
 use Rattle.swc_ecma_codegen_tree.specs.declared.decls.Function as functions
-use Rattle.swc_ecma_codegen_grammar.specs.Phrases.{Phrase, Never, mark, word}
+use Rattle.swc_ecma_codegen_grammar.specs.Phrases.{Phrase, Never, mark}
 use Rattle.swc_ecma_codegen_grammar.specs.ClassPhrases as classes
 use Rattle.swc_ecma_codegen_grammar.specs.FunctionPhrases as lists
 use Rattle.swc_ecma_codegen_grammar.specs.FunctionPhrases.{is_some_listed}
@@ -107,11 +107,6 @@ pub fn_tail_prints : {X : Type 0} (l : Linked X) (n : functions.Function X) (pla
 unfolding words.function lists.function classes.method_tail
 fn_tail_prints l n DeclarationTail = unless_decorated (is_some_listed n.decorators.items) (declared_tail_prints l n)
 fn_tail_prints l n place = unless_decorated (is_some_listed n.decorators.items) (private_tail_prints l n)
-
-async_prints : (env : Env) (wanted : Bool) → PrintsAt open_ env (words.async_word wanted) (lists.word_if wanted (word (codes "async")))
-unfolding words.async_word lists.word_if
-async_prints env true = prints_wider open_ refl (before (prints_keyword env None (codes "async") marks.async_word) (writes_space env))
-async_prints env false = prints_nothing
 
 -- behind `async`, where it is so
 async_then : (env : Env) (wanted : Bool) {p : Part} {f : Phrase} → Prints env p f → Prints env (λ rest. words.async_word wanted (p rest)) (lists.after_async wanted f)

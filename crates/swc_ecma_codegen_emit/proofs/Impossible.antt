@@ -38,22 +38,7 @@ and_true : (b : Bool) → (b && true) ≡ b
 and_true true = refl
 and_true false = refl
 
--- a list of one phrase is that phrase
-alone_among : (config : Config) (f : Phrase) → IsAmong config (f > Nothing) f
-unfolding Generates EachName is_possible is_out may_make_text names_in
-alone_among config f = record {
-  generates = λ ts g. subst (λ z. Generates _ f z) (sym (g.4 ∙ ap (λ z. g.0 ++ z) g.3 ∙ append-nil g.0)) g.2;
-  possible = and_true (is_possible f);
-  out = or_false (is_out config f);
-  makes = λ e. sym (or_false (may_make_text config f)) ∙ e;
-  names = append-nil (names_in f);
-  stands = λ a b us ts g. subst (λ z. AllHere config a b us f z) (sym (g.4 ∙ ap (λ z. g.0 ++ z) g.3 ∙ append-nil g.0)) g.2;
-}
-
-pub prints_alone : {i : Shape} {env : Env} {p : Part} {f : Phrase} → PrintsAt i env p (f > Nothing) → PrintsAt i env p f
-prints_alone {env = env} {f = f} h = prints_among (alone_among env.config f) h
-
--- so is one behind a mark
+-- a mark and a phrase that end a list are that mark and that phrase
 last_among : (config : Config) (t : List ℕ) (f : Phrase) → IsAmong config (mark t > f > Nothing) (mark t > f)
 unfolding Generates EachName is_possible is_out may_make_text names_in is_spelled_anew lexical.punctuator
 last_among config t f = record {

@@ -1,5 +1,5 @@
 -- What is written of functions and blocks sees what links hold through `asks` and `items` alone.
-use Rattle.std.proofs.Common.{◌≡◌, not, ◌&&◌, refl, ◌∙◌, ap, List, [], ◌∷◌, map, codes, Bool, false, cond, Option, Some, None, Box, Global}
+use Rattle.std.proofs.Common.{◌≡◌, not, ◌&&◌, refl, ◌∙◌, ap, List, [], ◌∷◌, map, codes, Bool, false, Option, Some, None, Box, Global}
 use Rattle.swc_ecma_codegen_common.specs.declared.positions.Span.{Span}
 use Rattle.swc_ecma_codegen_tree.specs.declared.links.AnyNode.{map-AnyNode}
 use Rattle.swc_ecma_codegen_tree.specs.declared.links.AnyNode.TheOpen as nodes
@@ -47,9 +47,6 @@ param_child span ds pat = record { place = span; part = λ rest. leading_comment
 
 pub param_same : (span : Span) (cs ds : List ListChild) (p q : Part) → cs ≡ ds → ((rest : Plan) → p rest ≡ q rest) → param_child span cs p ≡ param_child span ds q
 param_same span cs ds p q e h = ap (λ z. param_child span z p) e ∙ ap (param_child span ds) (λ i. λ rest. h rest i)
-
-pub either_same : {A : Type 0} (b c : Bool) (r p q : A) → b ≡ c → p ≡ q → cond b r p ≡ cond c r q
-either_same b c r p q e h = ap (λ z. cond z r p) e ∙ ap (λ z. cond c r z) h
 
 abbrev with_parts : {X : Type 0} → functions.Function X → Option (BlockStmtBox X) → Option (TsTypeParamDeclBox X) → Option (TsTypeAnnBox X) → functions.Function X
 with_parts n body type_params return_type = record n { body = body; type_params = type_params; return_type = return_type }

@@ -1,11 +1,9 @@
 -- What is written of programs is what it reads as.
-use Rattle.std.proofs.Common.{◌≡◌, Bool, true, false, not, is_some, List, [], ◌∷◌, string_bytes, refl, inl, inr, Option, Some, None}
+use Rattle.std.proofs.Common.{Bool, true, false, not, is_some, List, [], ◌∷◌, string_bytes, refl, inl, inr, Option, Some, None}
 use Rattle.std.specs.declared.string.String.{String}
 use Rattle.std.proofs.lemmas.Bool.{cases_Bool}
 use Rattle.std.proofs.lemmas.Str.{IsUtf8-string_bytes}
 use Rattle.swc_ecma_codegen_common.specs.declared.positions.Span.{Span}
-use Rattle.swc_ecma_codegen_tree.specs.declared.programs.Program.{Program}
-use Rattle.swc_ecma_codegen_tree.specs.declared.programs.Program.TheVariants as program_variants
 use Rattle.swc_ecma_codegen_tree.specs.declared.programs.Module.{Module}
 use Rattle.swc_ecma_codegen_tree.specs.declared.programs.Script.{Script}
 use Rattle.swc_ecma_codegen_grammar.specs.Phrases.{Phrase, ◌>◌}
@@ -17,8 +15,6 @@ use Rattle.swc_ecma_codegen_tokens.specs.Words.{commit_pending_semi, trailing_co
 use Rattle.swc_ecma_codegen_tokens.proofs.Phrased.{then, after, before, prints_nothing, PrintsAt, prints_wider}
 use Rattle.swc_ecma_codegen_tokens.proofs.Printed.{writes_then, writes_same, writes_nothing, writes_commit, writes_position, Fills, MakesAt}
 use Rattle.swc_ecma_codegen_tokens.proofs.CommentPrints.{writes_leading, writes_trailing}
-use Rattle.swc_ecma_codegen_emit.specs.declared.nodes.Place.{Place}
-use Rattle.swc_ecma_codegen_emit.specs.Answers.{Answers}
 use Rattle.swc_ecma_codegen_emit.specs.Modules.{module_item}
 use Rattle.swc_ecma_codegen_emit.specs.Stmts as words
 use Rattle.swc_ecma_codegen_emit.proofs.ModuleParts.{module_item_prints}
@@ -69,18 +65,3 @@ unfolding programs.module_parts lists.whole_module
 module_prints l n =
     opened_prints l.env n.shebang n.body.items n.span
     (before (prints_wider loose refl (in_order_prints l.env (module_item l.asks l.items) (lists.module_item l.reads) (module_item_prints l) n.body.items)) (writes_program_end l.env n.span))
-
--- a program in lines of whatever length
-abbrev pub program_parts : {X : Type 0} → (X → Answers) → (X → Place → Part) → Program X → Part
-program_parts asks items (program_variants.Module n) = programs.module_parts asks items n
-program_parts asks items (program_variants.Script n) = programs.script_parts asks items n
-
-pub program_lined : {X : Type 0} (asks : X → Answers) (items : X → Place → Part) (n : Program X) (place : Place) → programs.program asks items n place ≡ programs.lined place (program_parts asks items n)
-unfolding programs.program programs.script programs.whole_module
-program_lined asks items (program_variants.Module n) place = refl
-program_lined asks items (program_variants.Script n) place = refl
-
-pub program_prints : {X : Type 0} (l : Linked X) (n : Program X) → PrintsAt (loose_at (not (programs.has_hashbang n))) l.env (program_parts l.asks l.items n) (lists.program l.reads n)
-unfolding programs.has_hashbang lists.program
-program_prints l (program_variants.Module n) = module_prints l n
-program_prints l (program_variants.Script n) = script_prints l n

@@ -2,7 +2,7 @@
 use Rattle.std.proofs.Common.{refl, ℕ, Bool, ◌||◌, true, false, cond, ◌==◌, List, [], map, codes, Option, Some, None, inl, inr}
 use Rattle.std.proofs.lemmas.Bool.{cases_Bool}
 use Rattle.swc_ecma_codegen_common.specs.declared.positions.Span.{Span}
-use Rattle.swc_ecma_codegen_tree.specs.Links.{BlockStmtBox, PatBox, PropNameBox, TsTypeAnnBox}
+use Rattle.swc_ecma_codegen_tree.specs.Links.{BlockStmtBox, PatBox, TsTypeAnnBox}
 use Rattle.swc_ecma_codegen_tree.specs.declared.exprs.ObjectLit.{ObjectLit}
 use Rattle.swc_ecma_codegen_tree.specs.declared.exprs.PropOrSpread.{PropOrSpread}
 use Rattle.swc_ecma_codegen_tree.specs.declared.exprs.PropOrSpread.TheVariants as prop_or_spreads
@@ -15,18 +15,16 @@ use Rattle.swc_ecma_codegen_tree.specs.declared.exprs.SetterProp.{SetterProp}
 use Rattle.swc_ecma_codegen_tree.specs.declared.exprs.MethodProp.{MethodProp}
 use Rattle.swc_ecma_codegen_spans.specs.Spans.{prop_name_span, prop_or_spread_span}
 use Rattle.swc_ecma_codegen_grammar.specs.FunctionPhrases.{is_some_listed}
-use Rattle.swc_ecma_codegen_grammar.specs.Phrases.{Phrase, ◌>◌, mark, word}
+use Rattle.swc_ecma_codegen_grammar.specs.Phrases.{Phrase, ◌>◌, mark}
 use Rattle.swc_ecma_codegen_grammar.specs.Phrases as phrases
 use Rattle.swc_ecma_codegen_grammar.specs.AnnotationPhrases.{annotation}
 use Rattle.swc_ecma_codegen_grammar.specs.PropPhrases as lists
-use Rattle.swc_ecma_codegen_grammar.specs.PatPhrases as heads
 use Rattle.swc_ecma_codegen_grammar.specs.declared.roles.Role.TheVariants.{Annotation, Function, MethodHead}
 use Rattle.swc_ecma_codegen_grammar.specs.CommentMaps.{Maps}
 use Rattle.swc_ecma_codegen_emit.specs.Commented.{has_comment_inside}
 use Rattle.swc_ecma_codegen_tokens.specs.Run.{Env, Part, at_maps, when_minified}
 use Rattle.swc_ecma_codegen_tokens.specs.Lists.{list, ListChild}
 use Rattle.swc_ecma_codegen_tokens.specs.Words.{by_maps, punct, line_end, position, position_before}
-use Rattle.swc_ecma_codegen_tokens.specs.Written.{IsWord}
 use Rattle.swc_ecma_codegen_tokens.proofs.Emitting.{minified_same, pretty_same}
 use Rattle.swc_ecma_codegen_tokens.proofs.ListLaws.{children_of, prints_list, prints_bracketed}
 use Rattle.swc_ecma_codegen_tokens.proofs.Phrased.{Prints, then, after, before, prints_nothing, prints_same, prints_by_maps, prints_keyword, prints_punct, PrintsAt, prints_wider}
@@ -67,10 +65,6 @@ key_value_prints l n =
 assign_prints : {X : Type 0} (l : Linked X) (n : AssignProp X) → Prints l.env (words.assign_prop l.items n) (lists.assign_prop l.reads n)
 unfolding words.assign_prop lists.assign_prop
 assign_prints l n = after (writes_opened l.env n.key.span) (then (ident_prints l n.key) (then (prints_punct l.env (codes "=") marks.equal) (expr_at l n.value Plain)))
-
-accessor_prints : {X : Type 0} (l : Linked X) (t : List ℕ) (n : PropNameBox X) → IsWord t → Prints l.env (words.accessor l.asks l.items t n.node.value) (word t > heads.prop_name_at l.reads n)
-unfolding words.accessor
-accessor_prints l t n w = then (before (prints_keyword l.env None t w) (writes_blank l.env (l.asks n.node.value).starts)) (before (prop_name_at l n) (writes_formatting_space l.env))
 
 body_prints : {X : Type 0} (l : Linked X) (n : Option (BlockStmtBox X)) → PrintsAt open_ l.env (words.optional_body l.items n) (lists.optional_body l.reads n)
 unfolding words.optional_body lists.optional_body

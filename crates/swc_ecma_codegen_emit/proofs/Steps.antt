@@ -1,5 +1,5 @@
 -- The next of a list.
-use Rattle.std.proofs.Common.{◌≡◌, ℕ, ◌+◌, ◌<◌, ◌≤◌, Bool, true, false, not, ◌&&◌, cond, Option, Some, None, List, [], length, get_or, drop, map, ◌∷◌, refl, ◌∙◌, ap, drop-cons, add-one}
+use Rattle.std.proofs.Common.{◌≡◌, ℕ, ◌+◌, ◌<◌, ◌≤◌, Bool, true, false, not, ◌&&◌, cond, Option, Some, None, List, length, get_or, drop, map, ◌∷◌, refl, ◌∙◌, ap, drop-cons, add-one}
 use Rattle.std.specs.List.{filter}
 use Rattle.std.proofs.lemmas.List.{at_drop_all}
 use Rattle.swc_ecma_codegen_grammar.specs.ListFormats.{indented}
@@ -65,10 +65,6 @@ pub braced_passed : {A : Type 0} (test : A → Bool) (xs : List A) (i : ℕ) (d 
 braced_passed test xs i d h t =
     let more = drop (i + 1) xs in
     ap (filter test) (drop_next xs i d h) ∙ ap (λ b. cond b (get_or xs i d ∷ filter test more) (filter test more)) t
-
--- and none is left
-pub braced_ended : {A : Type 0} (format : ℕ) (parent : Span) (previous : Option Span) (place : A → Span) (items : A → Place → Part) (test : A → Bool) (xs : List A) (i : ℕ) (rest : Plan) → length xs ≤ i → braced_rest format parent previous (map (child_of place items) (filter test (drop i xs))) rest ≡ braced_rest format parent previous [] rest
-braced_ended format parent previous place items test xs i rest h = at_drop_all (λ ys. braced_rest format parent previous (map (child_of place items) (filter test ys)) rest) xs i h
 
 -- a list that isn't indented makes no level
 pub no_levels : (format : ℕ) (config : Config) → indented format ≡ false → list_levels format config ≡ 0

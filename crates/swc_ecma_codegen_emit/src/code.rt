@@ -12,7 +12,7 @@ ghost use Rattle.swc_ecma_codegen_emit.specs.Roots.{Root, root_items, root_phras
 ghost use Rattle.swc_ecma_codegen_common.specs.Refusals.{reason_of};
 ghost use Rattle.swc_ecma_codegen_text_writer.specs.Places.{origin};
 ghost use Rattle.swc_ecma_codegen_text_writer.specs.Recorded.{StandIn, AreNew};
-ghost use Rattle.swc_ecma_codegen_text_writer.specs.Sheet.{Sheet, Commit, Refuses, holds_semicolons};
+ghost use Rattle.swc_ecma_codegen_text_writer.specs.Sheet.{Sheet, Commit, Refuses};
 ghost use Rattle.swc_ecma_codegen_text_writer.specs.View.{sheet_of};
 ghost use Rattle.swc_ecma_codegen_grammar.specs.Phrases.{names_in};
 ghost use Rattle.swc_ecma_codegen_tokens.specs.Named.{NamesStand};

@@ -1,6 +1,6 @@
 //! JSX.
 
-ghost use Rattle.std.specs.Prelude.{◌≡◌, true};
+ghost use Rattle.std.specs.Prelude.{true};
 ghost use Rattle.swc_ecma_codegen_literals.specs.Punctuators.{spelling};
 ghost use Rattle.swc_ecma_codegen_tokens.specs.Attributes.{attribute_string, jsx_text_node, jsx_text_lit};
 ghost use Rattle.swc_ecma_codegen_tokens.specs.Tags.{tag_name, child_open, close};

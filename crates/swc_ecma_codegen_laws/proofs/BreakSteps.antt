@@ -107,10 +107,6 @@ breaks_refuse bounded r = record { at = λ env e. record { steps = []; stop = So
 breaks_by_env : (bounded : Bool) (ask : Env → Part) → ((now : Env) → Breaks bounded (ask now)) → Breaks bounded (λ rest env. ask (record env { max_line = None }) rest env)
 breaks_by_env bounded ask h = record { at = λ env e. let x = (h (record env { max_line = None })).at env e in record { steps = x.steps; stop = x.stop; is_steps = x.is_steps; fit = x.fit } }
 
--- a part that is written as another is
-breaks_same : (bounded : Bool) (p q : Part) → p ≡ q → Breaks bounded q → Breaks bounded p
-breaks_same bounded p q e h = subst (λ z. Breaks bounded z) (sym e) h
-
 -- some steps
 steps_break : (bounded : Bool) (part : Part) (xs : List Step) → ((rest : Plan) (env : Env) → is_bounded env ≡ bounded → part rest env ≡ chain xs (rest (env_after xs env))) → Fits bounded xs → Breaks bounded part
 steps_break bounded part xs h fit = record { at = λ env e. record { steps = xs; stop = None; is_steps = λ rest. h rest env e; fit = fit } }

@@ -17,12 +17,11 @@ use Rattle.swc_ecma_codegen_tree.specs.declared.exprs.Super.{Super}
 use Rattle.swc_ecma_codegen_spans.specs.Spans.{option_span, expr_or_spread_span}
 use Rattle.swc_ecma_codegen_grammar.specs.ElementPhrases.{last_is_hole}
 use Rattle.swc_ecma_codegen_tokens.specs.Run.{Part}
-use Rattle.swc_ecma_codegen_emit.specs.declared.nodes.Place.{Place}
 use Rattle.swc_ecma_codegen_emit.specs.declared.nodes.Place.TheVariants.{Plain, Callee}
 use Rattle.swc_ecma_codegen_emit.specs.Answers.{place_of}
 use Rattle.swc_ecma_codegen_emit.specs.Lists.{child_of, if_some_at}
 use Rattle.swc_ecma_codegen_laws.proofs.OfWords.{OfWords, Known, asks_in, items_in, either}
-use Rattle.swc_ecma_codegen_emit.specs.Calls.{spread_mark, expr_or_spread, argument_place, argument_items, array_format, array_elements, array_lit, call_format, new_format, arguments, import_phase, import_callee, super_keyword, callee, call_expr, parentheses, listed_arguments, new_arguments, new_gap, new_expr, call_mark, chain_call}
+use Rattle.swc_ecma_codegen_emit.specs.Calls.{spread_mark, expr_or_spread, argument_place, argument_items, array_format, array_elements, array_lit, call_format, new_format, arguments, import_phase, import_callee, super_keyword, callee, call_expr, listed_arguments, new_arguments, new_gap, new_expr, call_mark, chain_call}
 use Rattle.swc_ecma_codegen_laws.proofs.AnnotationsWords.{type_args_holds}
 use Rattle.swc_ecma_codegen_laws.proofs.ListsWords.{if_some_at_holds}
 
@@ -34,9 +33,6 @@ spread_mark_holds words bounded (Some dots) = words.punct bounded (codes "...")
 pub expr_or_spread_holds : {X : Type 0} {holds : Bool → Part → Type 0} (known : Known holds X) (bounded : Bool) (n : ExprOrSpread X) → holds bounded (expr_or_spread (asks_in known) (items_in known) n)
 unfolding expr_or_spread
 expr_or_spread_holds known bounded n = known.words.and_then bounded (known.words.leading_comments bounded (expr_or_spread_span (place_of (asks_in known)) n).lo) (known.words.and_then bounded (spread_mark_holds known.words bounded n.spread) (known.law bounded n.expr.node.value Plain))
-
-pub argument_items_holds : {X : Type 0} {holds : Bool → Part → Type 0} (known : Known holds X) (bounded : Bool) (n : ExprOrSpread X) (place : Place) → holds bounded (argument_items (asks_in known) (items_in known) n place)
-argument_items_holds known bounded n place = expr_or_spread_holds known bounded n
 
 pub array_elements_holds : {X : Type 0} {holds : Bool → Part → Type 0} (known : Known holds X) (bounded : Bool) (n : ArrayLit X) → holds bounded (array_elements (asks_in known) (items_in known) n)
 array_elements_holds known bounded n = known.words.list bounded (array_format (last_is_hole n.elems.items)) n.span (map (child_of (option_span (argument_place (asks_in known))) (if_some_at (argument_items (asks_in known) (items_in known)))) n.elems.items) (children_hold _ _ (option_span (argument_place (asks_in known))) (if_some_at (argument_items (asks_in known) (items_in known))) (λ x. (if_some_at_holds known.words bounded (argument_items (asks_in known) (items_in known)) (λ x place. (expr_or_spread_holds known bounded x)) x Plain)) n.elems.items)
@@ -72,10 +68,6 @@ callee_holds known bounded (callees.Expr n) = known.law bounded n.node.value Cal
 pub call_expr_holds : {X : Type 0} {holds : Bool → Part → Type 0} (known : Known holds X) (bounded : Bool) (n : CallExpr X) → holds bounded (call_expr (asks_in known) (items_in known) n)
 unfolding call_expr
 call_expr_holds known bounded n = known.words.and_then bounded (known.words.commit_pending_semi bounded) (known.words.and_then bounded (known.words.leading_comments bounded n.span.lo) (known.words.and_then bounded (known.words.position bounded n.span.lo) (known.words.and_then bounded (callee_holds known bounded n.callee) (known.words.and_then bounded (type_args_holds known bounded Plain n.type_args) (arguments_holds known bounded call_format n.span n.args.items)))))
-
-pub parentheses_holds : {holds : Bool → Part → Type 0} (words : OfWords holds) (bounded : Bool) → holds bounded parentheses
-unfolding parentheses
-parentheses_holds words bounded = words.and_then bounded (words.punct bounded (codes "(")) (words.punct bounded (codes ")"))
 
 pub listed_arguments_holds : {X : Type 0} {holds : Bool → Part → Type 0} (known : Known holds X) (bounded : Bool) (parent : Span) (keeps : Bool) (xs : List (ExprOrSpread X)) → holds bounded (listed_arguments (asks_in known) (items_in known) parent keeps xs)
 unfolding listed_arguments

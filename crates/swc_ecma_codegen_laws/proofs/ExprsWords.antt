@@ -216,9 +216,6 @@ pub choice_holds : {X : Type 0} {holds : Bool → Part → Type 0} (known : Know
 unfolding choice
 choice_holds known bounded n = known.words.and_then bounded (opened_holds known.words bounded n.span) (known.words.and_then bounded (known.law bounded n.test.node.value Plain) (known.words.and_then bounded (spaced_punct_holds known.words bounded (codes "?")) (known.words.and_then bounded (known.law bounded n.cons.node.value Plain) (known.words.and_then bounded (spaced_punct_holds known.words bounded (codes ":")) (known.law bounded n.alt.node.value Plain)))))
 
-pub held_holds : {X : Type 0} {holds : Bool → Part → Type 0} (known : Known holds X) (bounded : Bool) (n : ExprBox X) → holds bounded (held (items_in known) n)
-held_holds known bounded n = known.law bounded n.node.value Plain
-
 pub seq_holds : {X : Type 0} {holds : Bool → Part → Type 0} (known : Known holds X) (bounded : Bool) (n : SeqExpr X) → holds bounded (seq (items_in known) n)
 unfolding seq
 seq_holds known bounded n = known.words.and_then bounded (opened_holds known.words bounded n.span) (listed_holds known.words bounded (held (items_in known)) (λ x. (known.law bounded x.node.value Plain)) true n.exprs.items)

@@ -1,13 +1,9 @@
 -- Lists: what holds of the words that a definition is made of holds of it.
-use Rattle.swc_ecma_codegen_laws.proofs.Children.{ChildrenHold}
-use Rattle.std.specs.Prelude.{ℕ, Bool, false, List, [], ◌∷◌, Option, Some, None, codes}
+use Rattle.std.specs.Prelude.{Bool, false, List, [], ◌∷◌, Option, Some, None, codes}
 use Rattle.swc_ecma_codegen_tokens.specs.Run.{Part}
-use Rattle.swc_ecma_codegen_common.specs.declared.positions.Span.{Span}
 use Rattle.swc_ecma_codegen_emit.specs.declared.nodes.Place.{Place}
-use Rattle.swc_ecma_codegen_emit.specs.declared.nodes.Place.TheVariants.{Plain}
-use Rattle.swc_ecma_codegen_tokens.specs.Lists.{ListChild}
 use Rattle.swc_ecma_codegen_laws.proofs.OfWords.{OfWords, either}
-use Rattle.swc_ecma_codegen_emit.specs.Lists.{comma, listed, plainly, in_order, if_some_at, braced_child, braced_rest}
+use Rattle.swc_ecma_codegen_emit.specs.Lists.{comma, listed, in_order, if_some_at}
 
 pub comma_holds : {holds : Bool → Part → Type 0} (words : OfWords holds) (bounded : Bool) (first : Bool) → holds bounded (comma first)
 unfolding comma
@@ -18,9 +14,6 @@ unfolding listed
 listed_holds words bounded each h_each first [] = words.none bounded
 listed_holds words bounded each h_each first (x ∷ xs) = words.and_then bounded (comma_holds words bounded first) (words.and_then bounded (h_each x) (listed_holds words bounded each h_each false xs))
 
-pub plainly_holds : {A : Type 0} {holds : Bool → Part → Type 0} (words : OfWords holds) (bounded : Bool) (items : A → Place → Part) → ((x : A) (place : Place) → holds bounded (items x place)) → (x : A) → holds bounded (plainly items x)
-plainly_holds words bounded items h_items x = h_items x Plain
-
 pub in_order_holds : {A : Type 0} {holds : Bool → Part → Type 0} (words : OfWords holds) (bounded : Bool) (each : A → Part) → ((x : A) → holds bounded (each x)) → (x1 : List A) → holds bounded (in_order each x1)
 unfolding in_order
 in_order_holds words bounded each h_each [] = words.none bounded
@@ -30,13 +23,3 @@ pub if_some_at_holds : {A : Type 0} {holds : Bool → Part → Type 0} (words : 
 unfolding if_some_at
 if_some_at_holds words bounded items h_items None place = words.none bounded
 if_some_at_holds words bounded items h_items (Some x) place = h_items x place
-
-pub braced_child_holds : {holds : Bool → Part → Type 0} (words : OfWords holds) (bounded : Bool) (format : ℕ) (parent : Span) (x2 : Option Span) (x : ListChild) → holds bounded x.part → holds bounded (braced_child format parent x2 x)
-unfolding braced_child
-braced_child_holds words bounded format parent None x h_x = words.first_child bounded format parent x h_x
-braced_child_holds words bounded format parent (Some previous) x h_x = words.next_child bounded format previous x h_x
-
-pub braced_rest_holds : {holds : Bool → Part → Type 0} (words : OfWords holds) (bounded : Bool) (format : ℕ) (parent : Span) (x2 : Option Span) (xs : List ListChild) → ChildrenHold holds bounded xs → holds bounded (braced_rest format parent x2 xs)
-unfolding braced_rest
-braced_rest_holds words bounded format parent None xs h_xs = words.list bounded format parent xs h_xs
-braced_rest_holds words bounded format parent (Some previous) xs h_xs = words.list_after bounded format parent previous xs h_xs

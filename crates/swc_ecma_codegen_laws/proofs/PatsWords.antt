@@ -1,7 +1,7 @@
 -- Pats: what holds of the words that a definition is made of holds of it.
 use Rattle.swc_ecma_codegen_laws.proofs.Children.{children_hold}
 use Rattle.std.specs.Prelude.{Bool, true, map, codes, Option, Some, None}
-use Rattle.swc_ecma_codegen_tree.specs.Links.{ExprBox, PatBox}
+use Rattle.swc_ecma_codegen_tree.specs.Links.{ExprBox}
 use Rattle.swc_ecma_codegen_tree.specs.declared.idents.BindingIdent.{BindingIdent}
 use Rattle.swc_ecma_codegen_tree.specs.declared.pats.Pat.{Pat}
 use Rattle.swc_ecma_codegen_tree.specs.declared.pats.Pat.TheVariants as pats
@@ -18,7 +18,6 @@ use Rattle.swc_ecma_codegen_tree.specs.declared.pats.AssignTargetPat.TheVariants
 use Rattle.swc_ecma_codegen_spans.specs.Spans.{option_span, pat_span, prop_name_span, object_pat_prop_span}
 use Rattle.swc_ecma_codegen_grammar.specs.ElementPhrases.{last_is_hole}
 use Rattle.swc_ecma_codegen_tokens.specs.Run.{Part}
-use Rattle.swc_ecma_codegen_emit.specs.declared.nodes.Place.{Place}
 use Rattle.swc_ecma_codegen_emit.specs.declared.nodes.Place.TheVariants.{Plain}
 use Rattle.swc_ecma_codegen_emit.specs.Answers.{place_of}
 use Rattle.swc_ecma_codegen_emit.specs.Lists.{child_of, if_some_at, unsupported}
@@ -29,9 +28,6 @@ use Rattle.swc_ecma_codegen_laws.proofs.AnnotationsWords.{annotation_holds, spac
 use Rattle.swc_ecma_codegen_laws.proofs.ExprsWords.{ident_holds, opened_holds, spaced_punct_holds}
 use Rattle.swc_ecma_codegen_laws.proofs.ListsWords.{if_some_at_holds}
 use Rattle.swc_ecma_codegen_laws.proofs.NamesWords.{binding_ident_holds, prop_name_holds}
-
-pub pat_items_holds : {X : Type 0} {holds : Bool → Part → Type 0} (known : Known holds X) (bounded : Bool) (n : PatBox X) (place : Place) → holds bounded (pat_items (items_in known) n place)
-pat_items_holds known bounded n place = known.law bounded n.node.value place
 
 pub initializer_holds : {X : Type 0} {holds : Bool → Part → Type 0} (known : Known holds X) (bounded : Bool) (x1 : Option (ExprBox X)) → holds bounded (initializer (items_in known) x1)
 unfolding initializer

@@ -15,7 +15,6 @@ use Rattle.swc_ecma_codegen_tree.specs.declared.ts_members.TsTypeElement.{TsType
 use Rattle.swc_ecma_codegen_tree.specs.declared.ts_members.TsTypeElement.TheVariants as elements
 use Rattle.swc_ecma_codegen_tokens.specs.Run.{Part}
 use Rattle.swc_ecma_codegen_spans.specs.Spans.{ts_type_element_span}
-use Rattle.swc_ecma_codegen_emit.specs.declared.nodes.Place.{Place}
 use Rattle.swc_ecma_codegen_emit.specs.declared.nodes.Place.TheVariants.{Plain, Reference}
 use Rattle.swc_ecma_codegen_emit.specs.Annotations.{types_format}
 use Rattle.swc_ecma_codegen_emit.specs.Lists.{child_of}
@@ -26,9 +25,6 @@ use Rattle.swc_ecma_codegen_laws.proofs.AnnotationsWords.{annotation_holds, spac
 pub signature_key_holds : {X : Type 0} {holds : Bool → Part → Type 0} (known : Known holds X) (bounded : Bool) (computed : Bool) (n : ExprBox X) → holds bounded (signature_key (items_in known) computed n)
 unfolding signature_key
 signature_key_holds known bounded computed n = either known.words bounded computed (known.words.and_then bounded (known.words.punct bounded (codes "[")) (known.words.and_then bounded (known.law bounded n.node.value Plain) (known.words.punct bounded (codes "]")))) (known.law bounded n.node.value Plain)
-
-pub fn_param_items_holds : {X : Type 0} {holds : Bool → Part → Type 0} (known : Known holds X) (bounded : Bool) (n : TsFnParamBox X) (place : Place) → holds bounded (fn_param_items (items_in known) n place)
-fn_param_items_holds known bounded n place = known.law bounded n.node.value place
 
 pub fn_params_list_holds : {X : Type 0} {holds : Bool → Part → Type 0} (known : Known holds X) (bounded : Bool) (span : Span) (ns : List (TsFnParamBox X)) → holds bounded (fn_params_list (asks_in known) (items_in known) span ns)
 fn_params_list_holds known bounded span ns = known.words.list bounded types_format span (map (child_of (fn_param_place (asks_in known)) (fn_param_items (items_in known))) ns) (children_hold _ _ (fn_param_place (asks_in known)) (fn_param_items (items_in known)) (λ x. (known.law bounded x.node.value Plain)) ns)
@@ -100,9 +96,6 @@ ts_signature_holds known bounded (elements.TsIndexSignature n) = ts_index_signat
 pub ts_type_element_holds : {X : Type 0} {holds : Bool → Part → Type 0} (known : Known holds X) (bounded : Bool) (n : TsTypeElement X) → holds bounded (ts_type_element (asks_in known) (items_in known) n)
 unfolding ts_type_element
 ts_type_element_holds known bounded n = known.words.and_then bounded (ts_signature_holds known bounded n) (known.words.semi bounded)
-
-pub member_items_holds : {X : Type 0} {holds : Bool → Part → Type 0} (known : Known holds X) (bounded : Bool) (n : TsTypeElement X) (place : Place) → holds bounded (member_items (asks_in known) (items_in known) n place)
-member_items_holds known bounded n place = ts_type_element_holds known bounded n
 
 pub interface_members_holds : {X : Type 0} {holds : Bool → Part → Type 0} (known : Known holds X) (bounded : Bool) (n : TsInterfaceBody X) → holds bounded (interface_members (asks_in known) (items_in known) n)
 interface_members_holds known bounded n = known.words.list bounded interface_format n.span (map (child_of ts_type_element_span (member_items (asks_in known) (items_in known))) n.body.items) (children_hold _ _ ts_type_element_span (member_items (asks_in known) (items_in known)) (λ x. (ts_type_element_holds known bounded x)) n.body.items)

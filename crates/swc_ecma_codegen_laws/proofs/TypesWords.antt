@@ -70,9 +70,6 @@ use Rattle.swc_ecma_codegen_laws.proofs.NamesWords.{binding_ident_holds}
 use Rattle.swc_ecma_codegen_laws.proofs.PatsWords.{array_pat_holds, object_pat_holds, rest_pat_holds}
 use Rattle.swc_ecma_codegen_laws.proofs.TsMembersWords.{fn_params_list_holds, ts_type_element_holds}
 
-pub type_items_holds : {X : Type 0} {holds : Bool → Part → Type 0} (known : Known holds X) (bounded : Bool) (n : TsTypeBox X) (place : Place) → holds bounded (type_items (items_in known) n place)
-type_items_holds known bounded n place = known.law bounded n.node.value place
-
 pub type_at_holds : {X : Type 0} {holds : Bool → Part → Type 0} (known : Known holds X) (bounded : Bool) (n : TsTypeBox X) → holds bounded (type_at (items_in known) n)
 type_at_holds known bounded n = known.law bounded n.node.value Plain
 

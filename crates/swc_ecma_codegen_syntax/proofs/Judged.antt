@@ -1,6 +1,6 @@
 -- What the check says of a form, and over what its parts are told by.
 use Rattle.std.proofs.Common.{◌≡◌, ℕ, Bool, false, ◌&&◌, not, List, [], ◌∷◌, map, Option, Some, None, refl, sym, ◌∙◌, ap, ap₂}
-use Rattle.swc_ecma_codegen_grammar.specs.Phrases.{Phrase, Nothing, Then, OptionalParentheses, mark}
+use Rattle.swc_ecma_codegen_grammar.specs.Phrases.{Phrase, Nothing, Then, mark}
 use Rattle.swc_ecma_codegen_grammar.specs.Phrases as phrases
 use Rattle.swc_ecma_codegen_grammar.specs.ElementPhrases as elements
 use Rattle.swc_ecma_codegen_grammar.specs.declared.roles.Role.{Role}
@@ -77,19 +77,6 @@ keeps_mapped places g f (Provided cure condition a) = ap (λ x. is_met places cu
 keeps_mapped places g f (Closed comma close) = refl
 keeps_mapped places g f (Bare a) = keeps_mapped places g f a
 keeps_mapped places g f (Followed place c n next) = refl
-
-pub forget_mapped : {X Y : Type 0} (g : X → Y) (f : Y → Role → Phrase) (a : Form X) → forget f (map_form g a) ≡ forget (λ x. f (g x)) a
-unfolding forget map_form
-forget_mapped g f (Fixed p) = refl
-forget_mapped g f (Part place c role n) = refl
-forget_mapped g f (Simple named place c n) = refl
-forget_mapped g f (Restricted lookahead place c as_pattern n) = refl
-forget_mapped g f (Lone place c n) = refl
-forget_mapped g f (Both a b) = ap₂ Then (forget_mapped g f a) (forget_mapped g f b)
-forget_mapped g f (Provided cure condition a) = forget_mapped g f a
-forget_mapped g f (Closed comma close) = refl
-forget_mapped g f (Bare a) = ap OptionalParentheses (forget_mapped g f a)
-forget_mapped g f (Followed place c n next) = refl
 
 -- ---- lists
 

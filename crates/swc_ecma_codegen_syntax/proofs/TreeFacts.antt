@@ -52,18 +52,6 @@ node_mapped g called c (nodes.StmtPart n) role = stmt_part_mapped g called c n r
 node_mapped g called c (nodes.JSXPart n) role = jsx_part_mapped g called c n role
 node_mapped g called c n role = refl
 
-pub sort_mapped : {X Y : Type 0} (g : X → Y) (called : Bool) (c : Parameters) (n : AnyNode-F X) (role : Role) → node_nonterminal called c (map-AnyNode X Y g n) role ≡ node_nonterminal called c n role
-unfolding node_nonterminal
-sort_mapped g called c (nodes.Expr n) Expression = nonterminal_mapped g false called c n
-sort_mapped g called c (nodes.Expr n) Callee = nonterminal_mapped g true called c n
-sort_mapped g called c (nodes.Expr n) FieldValue = nonterminal_mapped g false called c n
-sort_mapped g called c (nodes.MemberExpr n) (ChainMember optional) = refl
-sort_mapped g called c (nodes.ExprPart n) role = part_sort_mapped g called c n role
-sort_mapped g called c (nodes.Stmt n) Statement = stmt_sort_mapped g called c n
-sort_mapped g called c (nodes.StmtPart n) role = stmt_part_sort_mapped g called c n role
-sort_mapped g called c (nodes.JSXPart n) role = jsx_part_sort_mapped g called c n role
-sort_mapped g called c n role = refl
-
 called_mapped : {X Y : Type 0} (g : X → Y) (f : Y → Role → Parameters → Told) (c : Parameters) (n : Expr X) → is_called_node f c (map-AnyNode X Y g (nodes.Expr n)) ≡ is_called (λ x. f (g x)) c n
 unfolding is_called_node is_called
 called_mapped g f c (exprs.Member n) = refl
@@ -83,11 +71,6 @@ name_expr_mapped : {X Y : Type 0} (g : X → Y) (n : Expr X) → is_name_node (m
 unfolding is_name_node is_name_expr
 name_expr_mapped g (exprs.Ident n) = refl
 name_expr_mapped g n = refl
-
-pub name_mapped : {X Y : Type 0} (g : X → Y) (n : AnyNode-F X) → is_name_node (map-AnyNode X Y g n) ≡ is_name_node n
-unfolding is_name_node
-name_mapped g (nodes.Expr n) = name_expr_mapped g n
-name_mapped g n = refl
 
 abbrev facts_in : {X : Type 0} → (X → Role → Parameters → Told) → Bool → Bool → Parameters → AnyNode-F X → Facts
 facts_in f keeps called c n = record {

@@ -2,7 +2,7 @@
 
 ghost use Rattle.std.specs.Prelude.{◌≡◌};
 ghost use Rattle.swc_ecma_codegen_syntax.specs.Forms.{judge};
-ghost use Rattle.swc_ecma_codegen_syntax.specs.CallForms.{argument_form, array_form, arguments_form, no_spread, is_evaluation, are_import_arguments, callee_form, call_form, has_arguments, new_nonterminal, new_parameters, new_arguments_form, new_form, chain_call_form};
+ghost use Rattle.swc_ecma_codegen_syntax.specs.CallForms.{argument_form, array_form, no_spread, is_evaluation, are_import_arguments, callee_form, call_form, has_arguments, new_nonterminal, new_parameters, new_arguments_form, new_form, chain_call_form};
 ghost use Rattle.swc_ecma_codegen_syntax.specs.MemberForms.{callee_part, type_args_form, chained};
 ghost use Rattle.swc_ecma_codegen_syntax.specs.Parameters.{with_in};
 

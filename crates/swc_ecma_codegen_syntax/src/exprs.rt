@@ -6,7 +6,7 @@ ghost use Rattle.swc_ecma_codegen_syntax.specs.declared.nonterminals.Nonterminal
 ghost use Rattle.swc_ecma_codegen_syntax.specs.Forms.{Part, Provided, ByPlace, judge};
 ghost use Rattle.swc_ecma_codegen_syntax.specs.Parameters.{with_in};
 ghost use Rattle.swc_ecma_codegen_syntax.specs.Verdicts.{unasked};
-ghost use Rattle.swc_ecma_codegen_syntax.specs.MemberForms.{prop_form, super_form, super_prop_form, chain_prop_form, chain_member_form, opt_chain_form, member_form, tagged_form};
+ghost use Rattle.swc_ecma_codegen_syntax.specs.MemberForms.{prop_form, super_form, super_prop_form, chain_member_form, opt_chain_form, member_form, tagged_form};
 ghost use Rattle.swc_ecma_codegen_syntax.specs.ExprForms.{unary_form, update_form, is_in, binary_nonterminal, left_nonterminal, right_nonterminal, bin_form, cond_form, target_of, assign_form, yield_rest_form, yield_form, await_form, seq_form, paren_form, call_or_member};
 ghost use Rattle.swc_ecma_codegen_syntax.specs.NodeForms.{expr_facts, other_facts, target_facts};
 ghost use Rattle.swc_ecma_codegen_tree.specs.declared.exprs.Expr.TheVariants as exprs;

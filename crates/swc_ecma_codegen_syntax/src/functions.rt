@@ -2,10 +2,10 @@
 
 ghost use Rattle.std.specs.Prelude.{◌≡◌, false, not};
 ghost use Rattle.swc_ecma_codegen_grammar.specs.FunctionPhrases.{is_some_listed};
-ghost use Rattle.swc_ecma_codegen_syntax.specs.Forms.{Lone, judge, ending_listed};
+ghost use Rattle.swc_ecma_codegen_syntax.specs.Forms.{judge};
 ghost use Rattle.swc_ecma_codegen_syntax.specs.declared.nonterminals.Nonterminal.TheVariants.{PatternElement};
 ghost use Rattle.swc_ecma_codegen_syntax.specs.PatForms.{pat_part};
-ghost use Rattle.swc_ecma_codegen_syntax.specs.FunctionForms.{type_params_form, decorator_form, decorators_form, bound_name_form, optional_name_form, pat_in, param_form, params_form, block_body, body_form, rest_of_function, function_form, function_head_nonterminal, head_before, fn_expr_form, fn_decl_form, arrow_params_form, arrow_body_form, async_form, arrow_form, fn_default_form};
+ghost use Rattle.swc_ecma_codegen_syntax.specs.FunctionForms.{type_params_form, decorator_form, decorators_form, bound_name_form, optional_name_form, pat_in, param_form, params_form, block_body, body_form, rest_of_function, function_form, function_head_nonterminal, head_before, fn_expr_form, fn_decl_form, arrow_params_form, arrow_body_form, arrow_form, fn_default_form};
 ghost use Rattle.swc_ecma_codegen_syntax.specs.Parameters.{of_function};
 
 use crate::forms::{Answers, Stands, all};

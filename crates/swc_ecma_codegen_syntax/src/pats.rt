@@ -4,7 +4,7 @@ ghost use Rattle.std.specs.Prelude.{◌≡◌, false};
 ghost use Rattle.swc_ecma_codegen_syntax.specs.Forms.{judge, verdict_all};
 ghost use Rattle.swc_ecma_codegen_syntax.specs.MemberForms.{annotation_form};
 ghost use Rattle.swc_ecma_codegen_syntax.specs.declared.nonterminals.Nonterminal.TheVariants.{PatternElement};
-ghost use Rattle.swc_ecma_codegen_syntax.specs.PatForms.{binding_form, initializer_form, question_form, pat_element_form, pat_elements_form, array_pat_form, rest_form, assign_pat_form, key_value_pat_form, assign_pat_prop_form, pat_prop_form, pat_props_form, object_pat_form, pat_form, pat_nonterminal};
+ghost use Rattle.swc_ecma_codegen_syntax.specs.PatForms.{binding_form, initializer_form, pat_element_form, pat_elements_form, array_pat_form, rest_form, assign_pat_form, key_value_pat_form, assign_pat_prop_form, pat_prop_form, pat_props_form, object_pat_form, pat_form, pat_nonterminal};
 
 use crate::forms::{Answers, Stands};
 use crate::names::{is_assignable, name};

@@ -1,7 +1,7 @@
 //! Statements but for loops.
 
 ghost use Rattle.std.specs.Prelude.{◌≡◌};
-ghost use Rattle.swc_ecma_codegen_syntax.specs.Forms.{judge, verdict_all};
+ghost use Rattle.swc_ecma_codegen_syntax.specs.Forms.{judge};
 ghost use Rattle.swc_ecma_codegen_syntax.specs.StmtForms.{expression_part, inner_part, block_part, expr_stmt_form, with_form, return_rest_form, return_form, labelled_place, labeled_form, jump_form, branches_form, if_form, case_test_form, clause_item_form, clause_list_form, case_form, switch_form, throw_form, catch_param_form, catch_form, handler_form, finalizer_form, try_form, stmt_form, stmt_nonterminal, is_empty, begins_empty, list_form, block_form};
 
 use crate::decls::decl_nonterminal;

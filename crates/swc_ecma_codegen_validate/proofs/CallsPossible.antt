@@ -1,5 +1,5 @@
 -- When arrays, calls and `new` are well-formed.
-use Rattle.std.proofs.Common.{◌≡◌, Bool, true, false, cond, not, ◌&&◌, is_some, is_none, codes, List, [], ◌∷◌, map, Option, Some, None, refl, sym, ap, ◌∙◌}
+use Rattle.std.proofs.Common.{◌≡◌, Bool, true, false, ◌&&◌, codes, List, [], ◌∷◌, map, Option, Some, None, refl, sym, ap, ◌∙◌}
 use Rattle.std.specs.declared.vec.Vec.{Vec}
 use Rattle.swc_ecma_codegen_common.specs.declared.positions.Span.{Span}
 use Rattle.swc_ecma_codegen_tree.specs.declared.modules.ImportPhase.{ImportPhase}
@@ -14,7 +14,7 @@ use Rattle.swc_ecma_codegen_tree.specs.declared.exprs.NewExpr.{NewExpr}
 use Rattle.swc_ecma_codegen_tree.specs.declared.exprs.OptCall.{OptCall}
 use Rattle.swc_ecma_codegen_grammar.specs.AnnotationPhrases.{type_args}
 use Rattle.swc_ecma_codegen_grammar.specs.TypePhrases.{args_at}
-use Rattle.swc_ecma_codegen_grammar.specs.Phrases.{Phrase, Never, ◌>◌, listed, is_possible}
+use Rattle.swc_ecma_codegen_grammar.specs.Phrases.{Phrase, listed, is_possible}
 use Rattle.swc_ecma_codegen_grammar.specs.ElementPhrases.{element, last_is_hole}
 use Rattle.swc_ecma_codegen_grammar.specs.CallPhrases.{value_at, callee_at, spread_mark, expr_or_spread, array_elements, array_lit, arguments, import_phase, import_callee, callee, call_expr, listed_arguments, new_arguments, new_expr, call_mark, chain_call}
 use Rattle.swc_ecma_codegen_grammar.specs.ExprPhrases.{expr, expr_in}

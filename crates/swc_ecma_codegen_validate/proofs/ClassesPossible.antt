@@ -28,7 +28,7 @@ use Rattle.swc_ecma_codegen_grammar.specs.PatPhrases.{value_at, prop_name_at, in
 use Rattle.swc_ecma_codegen_grammar.specs.FunctionPhrases.{word_if, decorator, param, function_body}
 use Rattle.swc_ecma_codegen_grammar.specs.ClassPhrases.{member_at, decorators, class_head, class_word, heritage, implements_clause, class_tail, class_decl, accessibility, ts_param_prop_param, ts_param_prop, constructor_param, class_constructor, method_decorators, method_tail, accessor_tail, tail_role, kind_head, method_kind, class_method, private_method, prop_value, prop_modifiers, class_prop, private_modifiers, private_prop, accessor_key, accessor_modifiers, auto_accessor, class_member}
 use Rattle.swc_ecma_codegen_grammar.specs.ExprPhrases.{expr}
-use Rattle.swc_ecma_codegen_grammar.specs.TsDeclPhrases.{declare_word, ts_expr_with_type_args}
+use Rattle.swc_ecma_codegen_grammar.specs.TsDeclPhrases.{ts_expr_with_type_args}
 use Rattle.swc_ecma_codegen_grammar.specs.TreePhrases.{is_sequence, field_value}
 use Rattle.swc_ecma_codegen_grammar.specs.declared.roles.Role.{Role}
 use Rattle.swc_ecma_codegen_grammar.specs.declared.roles.Role.TheVariants.{ClassHead, ClassWord, ClassTail, MethodDecorators}

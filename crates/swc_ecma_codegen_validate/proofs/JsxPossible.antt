@@ -1,8 +1,7 @@
 -- When JSX is well-formed.
-use Rattle.std.proofs.Common.{◌≡◌, ℕ, ◌+◌, ◌-◌, ◌≤◌, ◌<◌, ◌==◌, Bool, true, false, cond, not, ◌&&◌, ◌||◌, is_some, is_none, codes, List, [], ◌∷◌, ◌++◌, length, map, Option, Some, None, refl, sym, ap, ◌∙◌, arith, string_bytes}
+use Rattle.std.proofs.Common.{◌≡◌, ℕ, ◌-◌, ◌<◌, ◌==◌, Bool, true, false, cond, not, ◌&&◌, ◌||◌, codes, List, [], ◌∷◌, length, map, Some, None, refl, sym, ap, ◌∙◌, arith, string_bytes}
 use Rattle.std.specs.Prelude.{slice_get}
 use Rattle.std.specs.Str.{chars, IsUtf8}
-use Rattle.std.proofs.lemmas.Bool.{true≢false}
 use Rattle.std.proofs.lemmas.Str.{is_utf8-from_IsUtf8}
 use Rattle.swc_ecma_codegen_tree.specs.declared.lits.JSXText.{JSXText}
 use Rattle.swc_ecma_codegen_tree.specs.declared.jsx.JSXClosingElement.{JSXClosingElement}
@@ -18,7 +17,7 @@ use Rattle.swc_ecma_codegen_grammar.specs.TypePhrases.{args_at}
 use Rattle.swc_ecma_codegen_grammar.specs.Jsx.{is_jsx_name, is_jsx_string, is_jsx_text}
 use Rattle.swc_ecma_codegen_grammar.specs.JsxPhrases.{holds, jsx_quoted, text_spelling, jsx_text, open_mark, jsx_expr, jsx_expr_container, jsx_spread_child, jsx_attr_or_spread, self_close, jsx_opening_element, jsx_closing_element, jsx_element_name, jsx_element_child, is_text, is_parted, ends_in_text, jsx_children, jsx_rest, jsx_element, jsx_opening_fragment, jsx_closing_fragment, jsx_fragment}
 use Rattle.swc_ecma_codegen_grammar.specs.PatPhrases.{value_at}
-use Rattle.swc_ecma_codegen_grammar.specs.Phrases.{Phrase, Never, One, ◌>◌, where_, mark, in_order, is_possible}
+use Rattle.swc_ecma_codegen_grammar.specs.Phrases.{Phrase, One, ◌>◌, where_, mark, in_order, is_possible}
 use Rattle.swc_ecma_codegen_grammar.specs.SpelledNames.{is_well_formed_tag_name}
 use Rattle.swc_ecma_codegen_grammar.specs.Tokens as tokens
 use Rattle.swc_ecma_codegen_grammar.specs.declared.roles.Role.{Role}

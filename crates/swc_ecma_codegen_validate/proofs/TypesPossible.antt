@@ -1,5 +1,5 @@
 -- When types are well-formed.
-use Rattle.std.proofs.Common.{◌≡◌, ℕ, ◌+◌, ◌==◌, ◌∙◌, refl, ap, Bool, true, false, not, ◌&&◌, ◌||◌, List, length, codes, map, Option, Some, None}
+use Rattle.std.proofs.Common.{◌≡◌, ◌+◌, ◌==◌, ◌∙◌, refl, ap, Bool, true, false, not, ◌&&◌, ◌||◌, length, codes, map, Option, Some, None}
 use Rattle.std.proofs.lemmas.Bool.{eqb-true}
 use Rattle.swc_ecma_codegen_tree.specs.Links.{PatBox, TsEntityNameBox, TsTypeAnnBox, TsTypeBox}
 use Rattle.swc_ecma_codegen_tree.specs.declared.ts_types.TruePlusMinus.{TruePlusMinus}
@@ -30,7 +30,7 @@ use Rattle.swc_ecma_codegen_grammar.specs.FunctionPhrases.{word_if}
 use Rattle.swc_ecma_codegen_grammar.specs.LitPhrases.{str_lit}
 use Rattle.swc_ecma_codegen_grammar.specs.NamePhrases.{ident}
 use Rattle.swc_ecma_codegen_grammar.specs.PatPhrases.{pat_at}
-use Rattle.swc_ecma_codegen_grammar.specs.Phrases.{Phrase, ◌>◌, mark, word, in_order, listed, some_listed, is_possible}
+use Rattle.swc_ecma_codegen_grammar.specs.Phrases.{Phrase, mark, word, listed, is_possible}
 use Rattle.swc_ecma_codegen_grammar.specs.TemplatePhrases.{is_counted, tpl_parts}
 use Rattle.swc_ecma_codegen_grammar.specs.MemberPhrases.{signature_param_at, ts_type_element}
 use Rattle.swc_ecma_codegen_grammar.specs.TypePhrases.{type_at, ann_at, args_at, params_at, type_behind, ts_type_ref, ts_type_param_instantiation, ts_type_param, ts_type_param_decl, ts_fn_type, ts_constructor_type, ts_tpl_lit_type, qualifier, ts_import_type, ts_type_query_expr, ts_type_query, ts_type_lit, ts_array_type, label, ts_tuple_element, ts_tuple_type, ts_optional_type, signed, mapped_param, ts_mapped_type, ts_union_type, ts_intersection_type, ts_parenthesized_type, ts_indexed_access_type, ts_this_type_or_ident, is_behind, ts_type_predicate}

@@ -1,6 +1,6 @@
 //! Big integers.
 
-ghost use Rattle.std.specs.Prelude.{◌≡◌, ◌&&◌, [], codes, not, true, false, IfSome, IfNone};
+ghost use Rattle.std.specs.Prelude.{◌≡◌, ◌&&◌, codes, true, false};
 ghost use Rattle.std.specs.List.{list_all};
 ghost use Rattle.std.specs.Str.{chars};
 ghost use Rattle.swc_ecma_codegen_grammar.specs.LitPhrases as lits;

@@ -1,6 +1,6 @@
 //! The code units of the value of a string, one after another.
 
-ghost use Rattle.std.specs.Prelude.{◌≡◌, ◌≤◌, ℕ, List, [], ◌∷◌, ◌++◌, ◌&&◌, is_none, option_to_list, drop, true, false, IfSome, IfNone};
+ghost use Rattle.std.specs.Prelude.{◌≡◌, ◌≤◌, ℕ, List, [], ◌∷◌, ◌++◌, is_none, option_to_list, false, IfSome, IfNone};
 ghost use Rattle.std.specs.Str.{chars};
 ghost use Rattle.swc_ecma_codegen_grammar.specs.CodeUnits as code_units;
 ghost use Rattle.swc_ecma_codegen_grammar.specs.Texts as texts;

@@ -1,6 +1,5 @@
 //! Expressions.
 
-ghost use Rattle.std.specs.Prelude.{◌≡◌};
 ghost use Rattle.swc_ecma_codegen_grammar.specs.KeyPhrases.{computed_prop_name};
 ghost use Rattle.swc_ecma_codegen_grammar.specs.PropPhrases.{spread_element};
 ghost use Rattle.swc_ecma_codegen_grammar.specs.ExprPhrases.{this_expr, unary_expr, update_expr, bin_expr, member_prop, member_expr, super_prop, super_prop_expr, opt_chain_expr, meta_prop_expr, assign_expr, yield_expr, await_expr, cond_expr, seq_expr, paren_expr, expr};

@@ -1,6 +1,6 @@
 //! What is asked of a node.
 
-ghost use Rattle.std.specs.Prelude.{◌≡◌, Bool, List, true};
+ghost use Rattle.std.specs.Prelude.{◌≡◌, true};
 ghost use Rattle.swc_ecma_codegen_grammar.specs.declared.roles.Role.{Role as InRole};
 ghost use Rattle.swc_ecma_codegen_grammar.specs.declared.roles.Role.TheVariants.{Expression, Statement, MemberExpression, AssignmentTarget, Pattern, PropertyName, ObjectLiteral, Function, Block, Declaration, VariableDeclaration, Member, Template, ModuleDeclaration, Element, TagObject, AnyType, Annotation, TypeArguments, TypeParameters, EntityName, SignatureParameter, InterfaceBody, NamespaceBody};
 ghost use Rattle.swc_ecma_codegen_grammar.specs.ElementPhrases.{element};

@@ -1,6 +1,6 @@
 //! JSX.
 
-ghost use Rattle.std.specs.Prelude.{◌≡◌, Bool, false, true};
+ghost use Rattle.std.specs.Prelude.{◌≡◌, false, true};
 ghost use Rattle.swc_ecma_codegen_grammar.specs.Phrases.{is_possible};
 ghost use Rattle.swc_ecma_codegen_grammar.specs.JsxPhrases as phrases;
 ghost use Rattle.swc_ecma_codegen_grammar.specs.JsxPhrases.{tag_ident, tag_ident_name, jsx_namespaced_name, jsx_member_expr, jsx_object, jsx_element_name, jsx_attr_name, jsx_string, jsx_text, jsx_expr, jsx_expr_container, jsx_spread_child, jsx_attr_lit, jsx_attr_value, jsx_attr_init, jsx_attr, jsx_attr_or_spread, jsx_opening_element, jsx_closing_element, jsx_element_child, is_parted, jsx_children, jsx_rest, jsx_element, jsx_fragment, jsx_part};

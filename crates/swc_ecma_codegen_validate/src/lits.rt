@@ -1,6 +1,5 @@
 //! Literals.
 
-ghost use Rattle.std.specs.Prelude.{◌≡◌};
 ghost use Rattle.swc_ecma_codegen_grammar.specs.LitPhrases.{str_lit, bool_lit, null_lit, number, big_int, regex, lit};
 
 use crate::big_integers::{are_digits, spells_digits};

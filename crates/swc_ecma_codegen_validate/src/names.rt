@@ -1,7 +1,6 @@
 //! Names.
 
 ghost use Rattle.std.specs.Prelude.{◌≡◌, ℕ, List, [], ◌∷◌, false, IfSome, IfNone};
-ghost use Rattle.std.specs.Str.{chars};
 ghost use Rattle.swc_ecma_codegen_grammar.specs.Names.{IsSmall};
 ghost use Rattle.swc_ecma_codegen_grammar.specs.SpelledNames.{is_well_formed_name};
 ghost use Rattle.swc_ecma_codegen_grammar.specs.NamePhrases.{ident, ident_name, binding_ident, private_name};

@@ -1,6 +1,6 @@
 //! Regular expressions.
 
-ghost use Rattle.std.specs.Prelude.{◌≡◌, ℕ, List, [], ◌∷◌, ◌++◌, false, IfSome, IfNone, codes};
+ghost use Rattle.std.specs.Prelude.{◌≡◌, ℕ, List, [], ◌∷◌, false, IfSome, IfNone};
 ghost use Rattle.std.specs.Str.{chars};
 ghost use Rattle.swc_ecma_codegen_grammar.specs.LitPhrases.{regex_text};
 ghost use Rattle.swc_ecma_codegen_grammar.specs.Names.{all_part};

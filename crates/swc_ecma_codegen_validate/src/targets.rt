@@ -1,6 +1,5 @@
 //! What is assigned to.
 
-ghost use Rattle.std.specs.Prelude.{◌≡◌};
 ghost use Rattle.swc_ecma_codegen_grammar.specs.AssignPhrases.{simple_assign_target, assign_target};
 
 use crate::forms::{Fits, WellFormed};

@@ -1,6 +1,6 @@
 //! Templates.
 
-ghost use Rattle.std.specs.Prelude.{◌≡◌, ◌+◌, ℕ, List, [], ◌∷◌, ◌&&◌, Bool, is_some, true, false, IfSome, IfNone, length};
+ghost use Rattle.std.specs.Prelude.{◌≡◌, ℕ, List, ◌∷◌, ◌&&◌, is_some, true, false, IfSome, IfNone};
 ghost use Rattle.std.specs.Str.{chars};
 ghost use Rattle.swc_ecma_codegen_grammar.specs.Chars as characters;
 ghost use Rattle.swc_ecma_codegen_grammar.specs.Phrases.{is_possible};

@@ -3,7 +3,7 @@
 ghost use Rattle.std.specs.Prelude.{◌≡◌};
 ghost use Rattle.swc_ecma_codegen_grammar.specs.Phrases.{is_possible};
 ghost use Rattle.swc_ecma_codegen_grammar.specs.NamespacePhrases.{dotted_namespace, dotted_body, ts_module_block, ts_namespace_body};
-ghost use Rattle.swc_ecma_codegen_grammar.specs.TsDeclPhrases.{ts_expr_with_type_args, extends_clause, ts_interface_decl, ts_type_alias_decl, ts_enum_member_id, ts_enum_member, ts_enum_decl, ts_module_name, module_tail, ts_module_decl, ts_external_module_ref, ts_module_ref, ts_import_equals_decl, ts_export_assignment, ts_namespace_export_decl};
+ghost use Rattle.swc_ecma_codegen_grammar.specs.TsDeclPhrases.{ts_expr_with_type_args, ts_interface_decl, ts_type_alias_decl, ts_enum_member_id, ts_enum_member, ts_enum_decl, ts_module_name, module_tail, ts_module_decl, ts_external_module_ref, ts_module_ref, ts_import_equals_decl, ts_export_assignment, ts_namespace_export_decl};
 
 use crate::forms::{Fits, WellFormed, all_well_formed};
 use crate::pats::is_initializer;

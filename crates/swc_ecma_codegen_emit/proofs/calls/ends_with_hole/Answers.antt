@@ -1,4 +1,4 @@
-use Rattle.std.proofs.Common.{◌≡◌, ◌∙◌, ℕ, suc, ◌-◌, ◌≤◌, Bool, true, false, not, refl, sym, is_some, List, [], ◌∷◌, length, get_or, Option, Some, None, is_none, ap, arith}
+use Rattle.std.proofs.Common.{◌≡◌, ◌∙◌, suc, ◌-◌, ◌≤◌, Bool, true, false, not, refl, sym, is_some, List, [], ◌∷◌, length, get_or, Option, Some, None, is_none, ap, arith}
 use Rattle.swc_ecma_codegen_grammar.specs.ElementPhrases.{last_is_hole}
 use Rattle.swc_ecma_codegen_emit.proofs.calls.ends_with_hole.Goals as goal
 

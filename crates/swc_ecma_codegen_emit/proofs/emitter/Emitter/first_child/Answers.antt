@@ -1,4 +1,4 @@
-use Rattle.std.proofs.Common.{Bool, subst, sym, ◌∙◌}
+use Rattle.std.proofs.Common.{Bool, subst, ◌∙◌}
 use Rattle.swc_ecma_codegen_grammar.specs.ListFormats.{leading_line}
 use Rattle.swc_ecma_codegen_emit.specs.Standing.{Makes, standing_of}
 use Rattle.swc_ecma_codegen_tokens.specs.Lists as lists
