@@ -8,7 +8,7 @@ use Rattle.swc_ecma_codegen_grammar.specs.CommentMaps.{Maps}
 use Rattle.swc_ecma_codegen_grammar.specs.Comments.{AreClosed, texts_of}
 use Rattle.swc_ecma_codegen_grammar.specs.Phrases.{names_in}
 use Rattle.swc_ecma_codegen_text_writer.specs.Sheet.{fills_lines, may_take_memory}
-use Rattle.swc_ecma_codegen_text_writer.specs.Told.{IsPrefix}
+use Rattle.swc_ecma_codegen_text_writer.specs.Contents.{IsPrefix}
 use Rattle.swc_ecma_codegen_tokens.specs.Ascii.{other_texts, AddsAscii, WantsAscii}
 use Rattle.swc_ecma_codegen_tokens.specs.Named.{RecordsNames, PlacesNames}
 use Rattle.swc_ecma_codegen_tokens.specs.Ready.{IsPlainTree, IsReady}

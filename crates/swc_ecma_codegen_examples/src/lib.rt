@@ -15,7 +15,7 @@ ghost use Rattle.swc_ecma_codegen_grammar.specs.SpelledNames.{is_well_formed_nam
 ghost use Rattle.swc_ecma_codegen_grammar.specs.TreePhrases.{program_phrase, is_well_formed};
 ghost use Rattle.swc_ecma_codegen_util.specs.Defaults.{default_config};
 ghost use Rattle.swc_ecma_codegen_text_writer.specs.Recorded.{RecordsTruly};
-ghost use Rattle.swc_ecma_codegen_text_writer.specs.Told.{told};
+ghost use Rattle.swc_ecma_codegen_text_writer.specs.Contents.{or_empty};
 ghost use Rattle.swc_ecma_codegen_text_writer.specs.View.{sheet_of, new_sheet, keeping};
 ghost use Rattle.swc_ecma_codegen_tokens.specs.Ready.{token_count};
 ghost use Rattle.swc_ecma_codegen_tokens.specs.Run.{maps_after, start, steps_in, steps_of, unlined};
@@ -188,10 +188,11 @@ pub fn print_into<P: Node, W: Write + Drop>(alloc: Global, node: &P, out: W) -> 
     ensures reads { (root : Root) → P.part node.now ≡ root_items root →
         is_well_formed_root root ≡ true → ((w : W) → IsSome (W.contents w)) →
         IfOk result (λ w.
-        AddsText default_config false (root_phrase root) [] (told (W.contents out))
-        (told (W.contents w))) }
+        AddsText default_config false (root_phrase root) [] (or_empty (W.contents out))
+        (or_empty (W.contents w))) }
     ensures cause { IfErr result (GivesCause (P.part node.now)
-        (start no_lines no_maps default_config (new_sheet (told (W.contents out)) (codes "\n")))) }
+        (start no_lines no_maps default_config
+        (new_sheet (or_empty (W.contents out)) (codes "\n")))) }
 {
     let writer = JsWriter::new(alloc, &NoSource, "\n", out, None);
     let printed = printed_on(alloc, Config::default(), node, writer)?;

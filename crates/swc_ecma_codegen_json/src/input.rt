@@ -88,7 +88,7 @@ impl<'a, 'de, 's, F: Format> Source for Input<'a, 'de, 's, F> {
     }
 
     #[inline(always)]
-    fn takes_null(&mut self) -> Result<bool, Failed> {
+    fn skip_if_null(&mut self) -> Result<bool, Failed> {
         let read = self.from.take_none();
         self.keep(read)
     }

@@ -51,8 +51,8 @@ pub trait Source {
 
     fn unsigned(&mut self) -> Result<u32, Failed>;
 
-    /// Whether `null` comes, which is taken.
-    fn takes_null(&mut self) -> Result<bool, Failed>;
+    /// Skips `null`, and says whether it stood there.
+    fn skip_if_null(&mut self) -> Result<bool, Failed>;
 
     /// Whether a text comes.
     fn is_at_text(&mut self) -> Result<bool, Failed>;

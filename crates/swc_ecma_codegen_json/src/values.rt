@@ -43,7 +43,7 @@ impl<N: Drop, T: ReadFrom<N>> ReadFrom<N> for Option<T> {
         source: &mut S,
         make: &M,
     ) -> Result<Option<T>, Failed> {
-        if source.takes_null()? {
+        if source.skip_if_null()? {
             return Ok(None);
         }
         Ok(Some(T::read_from(source, make)?))

@@ -93,7 +93,7 @@ use Rattle.swc_ecma_codegen_laws.specs.FirstTokens.{joins_a_word}
 -- No list of a phrase is empty, and where one begins with a word, a name or a number, b is true.
 record Begins (f : Phrase) (b : Bool) : Type 0 where
   some : (s : Settings) → Generates s f [] → ⊥
-  told : (s : Settings) (x : Token) (xs : List Token) → Generates s f (x ∷ xs) → joins_a_word x.kind ≡ true → b ≡ true
+  joins : (s : Settings) (x : Token) (xs : List Token) → Generates s f (x ∷ xs) → joins_a_word x.kind ≡ true → b ≡ true
 
 first_of : Token → List Token → Token
 first_of d [] = d
@@ -111,15 +111,15 @@ then_some : (f g : Phrase) (b : Bool) → Begins f b → (s : Settings) (us vs :
 then_some f g b h s [] vs k e = h.some s k
 then_some f g b h s (u ∷ us) vs k e = nothing_first u (us ++ vs) e
 
-then_told : (f g : Phrase) (b : Bool) → Begins f b → (s : Settings) (x : Token) (xs us vs : List Token) → Generates s f us → x ∷ xs ≡ us ++ vs → joins_a_word x.kind ≡ true → b ≡ true
-then_told f g b h s x xs [] vs k e j = absurd (h.some s k)
-then_told f g b h s x xs (u ∷ us) vs k e j = h.told s u us k (subst (λ (z : Token). joins_a_word z.kind ≡ true) (same_first x u xs (us ++ vs) e) j)
+then_joins : (f g : Phrase) (b : Bool) → Begins f b → (s : Settings) (x : Token) (xs us vs : List Token) → Generates s f us → x ∷ xs ≡ us ++ vs → joins_a_word x.kind ≡ true → b ≡ true
+then_joins f g b h s x xs [] vs k e j = absurd (h.some s k)
+then_joins f g b h s x xs (u ∷ us) vs k e j = h.joins s u us k (subst (λ (z : Token). joins_a_word z.kind ≡ true) (same_first x u xs (us ++ vs) e) j)
 
 begins_then : (f g : Phrase) (b : Bool) → Begins f b → Begins (Then f g) b
 unfolding Generates
 begins_then f g b h = record {
   some = λ s k. then_some f g b h s k.0 k.1 k.2 k.4;
-  told = λ s x xs k j. then_told f g b h s x xs k.0 k.1 k.2 k.4 j;
+  joins = λ s x xs k j. then_joins f g b h s x xs k.0 k.1 k.2 k.4 j;
 }
 
 -- a punctuator is no word, and what begins with a word is said to
@@ -127,35 +127,35 @@ begins_mark : (t : List ℕ) (b : Bool) → Begins (mark t) b
 unfolding Generates tokens.punctuator joins_a_word
 begins_mark t b = record {
   some = λ s k. nothing_first _ [] k;
-  told = λ s x xs k j. absurd (true≢false (sym j ∙ ap (λ (z : Token). joins_a_word z.kind) (same_first x (tokens.punctuator t) xs [] k)));
+  joins = λ s x xs k j. absurd (true≢false (sym j ∙ ap (λ (z : Token). joins_a_word z.kind) (same_first x (tokens.punctuator t) xs [] k)));
 }
 
 begins_true : (x : Token) → Begins (One x) true
 unfolding Generates
-begins_true x = record { some = λ s k. nothing_first x [] k; told = λ s y ys k j. refl }
+begins_true x = record { some = λ s k. nothing_first x [] k; joins = λ s y ys k j. refl }
 
 begins_name : (at : BytePos) (bytes : List ℕ) → Begins (NameOf at bytes) true
 unfolding Generates
-begins_name at bytes = record { some = λ s k. nothing_first _ [] k; told = λ s y ys k j. refl }
+begins_name at bytes = record { some = λ s k. nothing_first _ [] k; joins = λ s y ys k j. refl }
 
 -- `#a` is no word
 begins_private : (bytes : List ℕ) (b : Bool) → Begins (PrivateOf bytes) b
 unfolding Generates tokens.private_name joins_a_word
 begins_private bytes b = record {
   some = λ s k. nothing_first _ [] k;
-  told = λ s x xs k j. absurd (true≢false (sym j ∙ ap (λ (z : Token). joins_a_word z.kind) (same_first x _ xs [] k)));
+  joins = λ s x xs k j. absurd (true≢false (sym j ∙ ap (λ (z : Token). joins_a_word z.kind) (same_first x _ xs [] k)));
 }
 
 begins_never : (b : Bool) → Begins Never b
 unfolding Generates
-begins_never b = record { some = λ s k. k; told = λ s y ys k j. absurd k }
+begins_never b = record { some = λ s k. k; joins = λ s y ys k j. absurd k }
 
 -- a token that is no word begins as it likes
 begins_other : (x : Token) (b : Bool) → joins_a_word x.kind ≡ false → Begins (One x) b
 unfolding Generates
 begins_other x b e = record {
   some = λ s k. nothing_first x [] k;
-  told = λ s y ys k j. absurd (true≢false (sym j ∙ ap (λ (z : Token). joins_a_word z.kind) (same_first y x ys [] k) ∙ e));
+  joins = λ s y ys k j. absurd (true≢false (sym j ∙ ap (λ (z : Token). joins_a_word z.kind) (same_first y x ys [] k) ∙ e));
 }
 
 begins_where : (c : Bool) (f : Phrase) (b : Bool) → Begins f b → Begins (phrases.where_ c f) b
@@ -293,15 +293,15 @@ begins_behind : (f : Phrase) (b : Bool) → Begins f b → Begins (Nothing > f) 
 unfolding Generates
 begins_behind f b h = record {
   some = λ s k. h.some s (subst (λ z. Generates s f z) (sym (k.4 ∙ ap (λ z. z ++ k.1) k.2)) k.3);
-  told = λ s x xs k j. h.told s x xs (subst (λ z. Generates s f z) (sym (k.4 ∙ ap (λ z. z ++ k.1) k.2)) k.3) j;
+  joins = λ s x xs k j. h.joins s x xs (subst (λ z. Generates s f z) (sym (k.4 ∙ ap (λ z. z ++ k.1) k.2)) k.3) j;
 }
 
 begins_parentheses : (f : Phrase) (b : Bool) → Begins f b → Begins (OptionalParentheses f) b
 unfolding Generates tokens.punctuator joins_a_word
 begins_parentheses f b h = record {
   some = λ s k. elim k [ inl g ↦ h.some s g | inr g ↦ nothing_first _ _ g.2 ];
-  told = λ s x xs k j. elim k [
-    | inl g ↦ h.told s x xs g j
+  joins = λ s x xs k j. elim k [
+    | inl g ↦ h.joins s x xs g j
     | inr g ↦ absurd (true≢false (sym j ∙ ap (λ (z : Token). joins_a_word z.kind) (same_first x open_parenthesis xs _ g.2)))
   ];
 }
@@ -313,7 +313,7 @@ function_head_begins n false rest = begins_then _ _ _ (begins_true _)
 
 -- what begins with no word
 begins_no_word : (f : Phrase) (b : Bool) → Begins f false → Begins f b
-begins_no_word f b h = record { some = h.some; told = λ s x xs k j. absurd (true≢false (sym (h.told s x xs k j))) }
+begins_no_word f b h = record { some = h.some; joins = λ s x xs k j. absurd (true≢false (sym (h.joins s x xs k j))) }
 
 types_then : {X : Type 0} (reads : X → Role → Phrase) (starts : X → Bool) → Begin reads starts → (ps : Option (TsTypeParamDeclBox X)) (f : Phrase) (b : Bool) → Begins f b → Begins (type_params reads ps > f) b
 unfolding leads begins_as type_params
@@ -352,7 +352,7 @@ begins_before : (f g : Phrase) → Begins g true → Begins (f > g) true
 unfolding Generates
 begins_before f g h = record {
   some = λ s k. either_some s k.0 k.1 k.3 k.4;
-  told = λ s x xs k j. refl;
+  joins = λ s x xs k j. refl;
 }
   where
     either_some : (s : Settings) (us vs : List Token) → Generates s g vs → [] ≡ us ++ vs → ⊥
@@ -511,7 +511,7 @@ plain_parameter_begins reads starts n = begins_never _
 
 begins_key : (at : BytePos) (bytes : List ℕ) → Begins (KeyOf at bytes) true
 unfolding Generates
-begins_key at bytes = record { some = λ s k. nothing_first _ [] k; told = λ s y ys k j. refl }
+begins_key at bytes = record { some = λ s k. nothing_first _ [] k; joins = λ s y ys k j. refl }
 
 prop_name_begins : {X : Type 0} (reads : X → Role → Phrase) (n : PropName X) → Begins (key_lists.prop_name reads n) (prop_name_starts n)
 unfolding prop_name_starts key_lists.prop_name lit_lists.str_lit lit_lists.string_token lit_lists.number lit_lists.big_int key_lists.computed_prop_name joins_a_word
@@ -617,5 +617,5 @@ begins = ind-AnyNode Law (λ x y q. subst (λ z. Law (roll-AnyNode z)) q (λ rol
     (node_begins {X = Lawful} (λ z. phrase z.0) (λ z. any_starts z.0) (λ z. z.1) y role h)))
 
 -- Where an expression begins with a word, a name or a number, it is said to begin with a character of a name.
-pub first_told : (n : Expr AnyNode) (s : Settings) (x : Token) (xs : List Token) → Generates s (expr_phrase n) (x ∷ xs) → joins_a_word x.kind ≡ true → expr_starts any_starts n ≡ true
-first_told n s x xs k j = (expr_begins phrase any_starts begins n).told s x xs k j
+pub first_joins : (n : Expr AnyNode) (s : Settings) (x : Token) (xs : List Token) → Generates s (expr_phrase n) (x ∷ xs) → joins_a_word x.kind ≡ true → expr_starts any_starts n ≡ true
+first_joins n s x xs k j = (expr_begins phrase any_starts begins n).joins s x xs k j

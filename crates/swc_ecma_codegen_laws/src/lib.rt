@@ -117,7 +117,7 @@ pub fn added_comments_can_be_read_back()
 /// Where an expression begins with a word, a name or a number, by the first token of a list that
 /// syntax gives it, `starts_with_alpha_num` is true, which answers `expr_starts any_starts`: of `a + b`, `typeof a` and
 /// `this.a`, but not only of these.
-#[tactic(auto, using(crate::proofs::FirstTokens::first_told))]
+#[tactic(auto, using(crate::proofs::FirstTokens::first_joins))]
 pub fn first_token_is_told()
     ensures { (expr : Expr AnyNode) (settings : Settings) (first : Token) (rest : List Token) →
         Generates settings (expr_phrase expr) (first ∷ rest) → joins_a_word first.kind ≡ true →

@@ -49,8 +49,8 @@ hex_inside c h =
     at g n = and_from (nat_le 48 c) (not (c == 92)) (le-leb 48 c g) (not_from_false (c == 92) (ne_eqb c 92 n))
 
 -- what holds before an escape where it holds after it
-abbrev pub Kept : (List ℕ → Type 0) → Type 0
-Kept P = (x : ℕ) (ps t : List ℕ) → fine x ≡ true → list_all inside ps ≡ true → P t → P (92 ∷ x ∷ (ps ++ t))
+abbrev pub HoldsWithEscape : (List ℕ → Type 0) → Type 0
+HoldsWithEscape P = (x : ℕ) (ps t : List ℕ) → fine x ≡ true → list_all inside ps ≡ true → P t → P (92 ∷ x ∷ (ps ++ t))
 
 glyph_inside : (upper : Bool) (d : ℕ) → d < 16 → inside (digit_glyph upper d) ≡ true
 glyph_inside upper d l = hex_inside (digit_glyph upper d) (glyph_hex upper d l)
@@ -59,26 +59,26 @@ digits_inside : (ds : List ℕ) → AllDigits 16 ds → list_all inside ds ≡ t
 digits_inside [] h = refl
 digits_inside (d ∷ ds) h = and_from (inside d) (list_all inside ds) (hex_inside d (hex_from_value d h.0)) (digits_inside ds h.1)
 
-pub hex_kept : (P : List ℕ → Type 0) → Kept P → (c : ℕ) (t : List ℕ) → c < 256 → P t → P (hex_escape c ++ t)
+pub hex_kept : (P : List ℕ → Type 0) → HoldsWithEscape P → (c : ℕ) (t : List ℕ) → c < 256 → P t → P (hex_escape c ++ t)
 unfolding hex_escape
 hex_kept P k c t l h =
     k 120 (digit_glyph false (c / 16) ∷ digit_glyph false (c % 16) ∷ []) t refl
     (rw (glyph_inside false (c / 16) (omega arith), glyph_inside false (c % 16) (omega arith)) refl) h
 
-pub unit_kept : (P : List ℕ → Type 0) → Kept P → (c : ℕ) (t : List ℕ) → c < 65536 → P t → P (unit_escape c ++ t)
+pub unit_kept : (P : List ℕ → Type 0) → HoldsWithEscape P → (c : ℕ) (t : List ℕ) → c < 65536 → P t → P (unit_escape c ++ t)
 unfolding unit_escape
 unit_kept P k c t l h =
     k 117 (digit_glyph true (c / 4096) ∷ digit_glyph true (c / 256 % 16) ∷ digit_glyph true (c / 16 % 16) ∷ digit_glyph true (c % 16) ∷ []) t refl
     (rw (glyph_inside true (c / 4096) (omega arith), glyph_inside true (c / 256 % 16) (omega arith), glyph_inside true (c / 16 % 16) (omega arith), glyph_inside true (c % 16) (omega arith)) refl) h
 
-pub pair_kept : (P : List ℕ → Type 0) → Kept P → (c : ℕ) (t : List ℕ) → 65536 ≤ c → c < 1114112 → P t → P (pair_escape c ++ t)
+pub pair_kept : (P : List ℕ → Type 0) → HoldsWithEscape P → (c : ℕ) (t : List ℕ) → 65536 ≤ c → c < 1114112 → P t → P (pair_escape c ++ t)
 unfolding pair_escape
 pair_kept P k c t g l h =
     let high = 55296 + (c - 65536) / 1024 in
     let low = 56320 + (c - 65536) % 1024 in
     subst P (sym (append_assoc (unit_escape high) (unit_escape low) t)) (unit_kept P k high (unit_escape low ++ t) (omega arith) (unit_kept P k low t (omega arith) h))
 
-pub braced_kept : (P : List ℕ → Type 0) → Kept P → (c : ℕ) (t : List ℕ) → c < 1114112 → P t → P (braced_escape c ++ t)
+pub braced_kept : (P : List ℕ → Type 0) → HoldsWithEscape P → (c : ℕ) (t : List ℕ) → c < 1114112 → P t → P (braced_escape c ++ t)
 unfolding braced_escape
 braced_kept P k c t l h =
     let big : c < 16 ^ 64 = omega (arith, l) in
@@ -88,7 +88,7 @@ braced_kept P k c t l h =
     (and_from (inside 123) (list_all inside (ds ++ codes "}")) refl
     (list_all-append inside ds (codes "}") ∙ and_from (list_all inside ds) (list_all inside (codes "}")) (digits_inside ds n.0.1) refl)) h
 
-escape_kept : (P : List ℕ → Type 0) → Kept P → (v : EsVersion) (c : ℕ) (next t : List ℕ) → c < 1114112 → ((c == 92) ≡ true → nat_lt 0 (escape_length next) ≡ false) → P t → P (escape_text v c next ++ t)
+escape_kept : (P : List ℕ → Type 0) → HoldsWithEscape P → (v : EsVersion) (c : ℕ) (next t : List ℕ) → c < 1114112 → ((c == 92) ≡ true → nat_lt 0 (escape_length next) ≡ false) → P t → P (escape_text v c next ++ t)
 unfolding escape_text null_escape backslash_escape code_escape
 escape_kept P k v c next t l s h =
     let Q : List ℕ → Type 0 = λ x. P (x ++ t) in
@@ -116,7 +116,7 @@ inside_run (p ∷ ps) t h f =
     let s = and_parts (inside p) (list_all inside ps) h in
     ap (λ b. all_fine b (ps ++ t)) (not-true (p == 92) (and_parts (nat_le 48 p) (not (p == 92)) s.0).1) ∙ inside_run ps t s.1 f
 
-fine_kept : Kept Fine
+fine_kept : HoldsWithEscape Fine
 unfolding all_fine
 fine_kept x ps t f h r = and_from (fine x) (all_fine false (ps ++ t)) f (inside_run ps t h r)
 

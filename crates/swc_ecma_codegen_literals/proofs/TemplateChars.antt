@@ -12,7 +12,7 @@ use Rattle.swc_ecma_codegen_grammar.specs.Numbers.{is_hex}
 use Rattle.swc_ecma_codegen_grammar.specs.Texts.{begins}
 use Rattle.swc_ecma_codegen_literals.specs.StringTexts.{is_unseen, hex_escape, unit_escape, braced_escape}
 use Rattle.swc_ecma_codegen_literals.specs.declared.templates.Piece.{Piece}
-use Rattle.swc_ecma_codegen_literals.specs.declared.templates.Piece.TheVariants.{Bare, Kept, Hex, Gone}
+use Rattle.swc_ecma_codegen_literals.specs.declared.templates.Piece.TheVariants.{Bare, Backslashed, Hex, Gone}
 use Rattle.swc_ecma_codegen_literals.specs.TemplateTexts.{stays_hex, hex_value_piece, hex_digits_piece, hex_piece, is_kept, escape_piece, first_piece, piece_more, pieces_after, pieces, bare_text, piece_text, dollar_after, spelled_pieces, template_text}
 use Rattle.swc_ecma_codegen_literals.proofs.EscapeTexts.{chosen, is_ascii_char, hex_escape_ascii, unit_escape_ascii, braced_escape_ascii}
 use Rattle.swc_ecma_codegen_literals.proofs.QuotedTexts.{scalars_append, ascii_scalars}
@@ -23,7 +23,7 @@ use Rattle.swc_ecma_codegen_literals.proofs.TemplatePieces.{unseen_small, hex_va
 -- the characters of pieces
 abbrev pub Fine : Piece → Type 0
 Fine (Bare c) = scalar c ≡ true
-Fine (Kept c) = c < 128
+Fine (Backslashed c) = c < 128
 Fine (Hex v) = v < 256
 Fine Gone = Unit {0}
 
@@ -105,7 +105,7 @@ bare_ascii d c next l =
 piece_ascii : (d : Bool) (p : Piece) (next : List ℕ) → Fine p → list_all is_ascii_char (piece_text d true p next) ≡ true
 unfolding piece_text
 piece_ascii d (Bare c) next f = bare_ascii d c next (scalar_bound c f)
-piece_ascii d (Kept c) next f = and_from (is_ascii_char 92) (list_all is_ascii_char (c ∷ [])) refl (one_ascii c f)
+piece_ascii d (Backslashed c) next f = and_from (is_ascii_char 92) (list_all is_ascii_char (c ∷ [])) refl (one_ascii c f)
 piece_ascii d (Hex v) next f = hex_escape_ascii v f
 piece_ascii d Gone next f = refl
 
@@ -136,7 +136,7 @@ bare_scalars d a c next s =
 piece_scalars : (d a : Bool) (p : Piece) (next : List ℕ) → Fine p → scalars (piece_text d a p next) ≡ true
 unfolding piece_text
 piece_scalars d a (Bare c) next f = bare_scalars d a c next f
-piece_scalars d a (Kept c) next f = and_from (scalar 92) (scalars (c ∷ [])) refl (and_from (scalar c) true (low_scalar c (omega arith)) refl)
+piece_scalars d a (Backslashed c) next f = and_from (scalar 92) (scalars (c ∷ [])) refl (and_from (scalar c) true (low_scalar c (omega arith)) refl)
 piece_scalars d a (Hex v) next f = ascii_scalars (hex_escape v) (hex_escape_ascii v f)
 piece_scalars d a Gone next f = refl
 

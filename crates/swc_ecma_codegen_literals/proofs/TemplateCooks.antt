@@ -13,7 +13,7 @@ use Rattle.swc_ecma_codegen_grammar.specs.declared.units.Place.TheVariants.{Betw
 use Rattle.swc_ecma_codegen_grammar.specs.StringValues.{before, single_escape}
 use Rattle.swc_ecma_codegen_grammar.specs.TemplateValues.{cooked_rest, cooked_value}
 use Rattle.swc_ecma_codegen_literals.specs.declared.templates.Piece.{Piece}
-use Rattle.swc_ecma_codegen_literals.specs.declared.templates.Piece.TheVariants.{Bare, Kept, Hex, Gone}
+use Rattle.swc_ecma_codegen_literals.specs.declared.templates.Piece.TheVariants.{Bare, Backslashed, Hex, Gone}
 use Rattle.swc_ecma_codegen_literals.specs.TemplateTexts.{first_piece, piece_more, pieces_after, pieces, bare_text, piece_text, dollar_after, spelled_pieces, template_text}
 use Rattle.swc_ecma_codegen_literals.proofs.EscapeTexts.{chosen}
 use Rattle.swc_ecma_codegen_literals.proofs.SpelledTexts.{scalar_bound}
@@ -45,7 +45,7 @@ brace_after : (a : Bool) (ps : List Piece) → begins (123 ∷ []) (spelled_piec
 unfolding spelled_pieces piece_text dollar_after begins hex_escape
 brace_after a [] = refl
 brace_after a (Bare c ∷ ps) = bare_brace a c (spelled_pieces (c == 36) a ps) (spelled_pieces (c == 36) a ps)
-brace_after a (Kept c ∷ ps) = refl
+brace_after a (Backslashed c ∷ ps) = refl
 brace_after a (Hex v ∷ ps) = refl
 brace_after a (Gone ∷ ps) = brace_after a ps
 
@@ -59,7 +59,7 @@ unfolding spelled_pieces piece_text dollar_after
 text_cooks d a (Bare c) ps m f =
     let next = spelled_pieces (c == 36) a ps in
     bare_text_cooks d a c next next (scalar_bound c f) refl m.no_quote m.no_backslash m.no_return (dollar_brace (c == 36) a ps)
-text_cooks d a (Kept c) ps m f = backslash (c ∷ spelled_pieces false a ps)
+text_cooks d a (Backslashed c) ps m f = backslash (c ∷ spelled_pieces false a ps)
 text_cooks d a (Hex v) ps m f = hex_cooks v (spelled_pieces false a ps) f
 text_cooks d a Gone ps m f = refl
 
@@ -109,7 +109,7 @@ kept_alike c next rest x h i = escaped_is c next x ∙ (escaped_alike c next res
 piece_alike : (d : Bool) (p : Piece) (next rest : List ℕ) → Meant p → has (piece_cooks p rest) ≡ true → Alike (dollar_after d p) next rest → piece_cooks p next ≡ piece_cooks p rest
 unfolding dollar_after
 piece_alike d (Bare c) next rest m h i = ap (λ o. before (utf16 c) o) (i Between tt (rest_has (utf16 c) (cooked_rest Between rest) h))
-piece_alike d (Kept c) next rest m h i = kept_alike c next rest m h i
+piece_alike d (Backslashed c) next rest m h i = kept_alike c next rest m h i
 piece_alike d (Hex v) next rest m h i = ap (λ o. before (v ∷ []) o) (i Between tt (rest_has (v ∷ []) (cooked_rest Between rest) h))
 piece_alike d Gone next rest m h i = i Between tt h
 

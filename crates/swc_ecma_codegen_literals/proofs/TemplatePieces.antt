@@ -11,7 +11,7 @@ use Rattle.swc_ecma_codegen_grammar.specs.Chars.{is_digit, begins_digit}
 use Rattle.swc_ecma_codegen_grammar.specs.Numbers.{is_hex}
 use Rattle.swc_ecma_codegen_literals.specs.StringTexts.{is_unseen, hex_escape, unit_escape, braced_escape}
 use Rattle.swc_ecma_codegen_literals.specs.declared.templates.Piece.{Piece}
-use Rattle.swc_ecma_codegen_literals.specs.declared.templates.Piece.TheVariants.{Bare, Kept, Hex, Gone}
+use Rattle.swc_ecma_codegen_literals.specs.declared.templates.Piece.TheVariants.{Bare, Backslashed, Hex, Gone}
 use Rattle.swc_ecma_codegen_literals.specs.TemplateTexts.{hex_more, hex_digits_piece, hex_piece, first_piece, piece_more, pieces_after, pieces, bare_text, piece_text, dollar_after, spelled_pieces, stands_bare, spelled_bytes}
 use Rattle.swc_ecma_codegen_literals.proofs.EscapeTexts.{chosen, hex_escape_ascii, unit_escape_ascii, braced_escape_ascii}
 use Rattle.swc_ecma_codegen_literals.proofs.Numerals as numerals
@@ -204,7 +204,7 @@ pub digit_bare : (c : ℕ) (ps : List Piece) (d a : Bool) → begins_digit (spel
 unfolding spelled_pieces piece_text
 digit_bare c ps d a = bare_digit d a c (spelled_pieces (dollar_after d (Bare c)) a ps) (spelled_pieces (dollar_after d (Bare c)) a ps)
 
-pub digit_kept : (c : ℕ) (ps : List Piece) (d a : Bool) → begins_digit (spelled_pieces d a (Kept c ∷ ps)) ≡ false
+pub digit_kept : (c : ℕ) (ps : List Piece) (d a : Bool) → begins_digit (spelled_pieces d a (Backslashed c ∷ ps)) ≡ false
 unfolding spelled_pieces piece_text begins_digit is_digit
 digit_kept c ps d a = refl
 
@@ -264,20 +264,20 @@ pub hex_front : (a b : ℕ) (cs raw : List ℕ) (p : Piece) → raw ≡ a ∷ b 
 unfolding hex_piece
 hex_front a b cs raw p e f = f ∙ sym (ap hex_piece e)
 
-taken : (p : Piece) → ((x : ℕ) → p ≡ Kept x → ⊥) → hex_more p ≡ 2
+taken : (p : Piece) → ((x : ℕ) → p ≡ Backslashed x → ⊥) → hex_more p ≡ 2
 unfolding hex_more
 taken (Bare c) n = refl
-taken (Kept c) n = absurd (n c refl)
+taken (Backslashed c) n = absurd (n c refl)
 taken (Hex v) n = refl
 taken Gone n = refl
 
-pub hex_rest : (a b : ℕ) (cs raw : List ℕ) (p : Piece) → raw ≡ a ∷ b ∷ cs → p ≡ hex_digits_piece a b → ((x : ℕ) → p ≡ Kept x → ⊥) → pieces_after (hex_more (hex_piece raw)) raw ≡ pieces cs
+pub hex_rest : (a b : ℕ) (cs raw : List ℕ) (p : Piece) → raw ≡ a ∷ b ∷ cs → p ≡ hex_digits_piece a b → ((x : ℕ) → p ≡ Backslashed x → ⊥) → pieces_after (hex_more (hex_piece raw)) raw ≡ pieces cs
 unfolding hex_piece pieces_after
 hex_rest a b cs raw p e f n =
     ap (λ x. pieces_after (hex_more (hex_piece x)) x) e ∙ (ap (λ x. pieces_after (hex_more x) (a ∷ b ∷ cs)) (sym f) ∙ ap (λ k. pieces_after k (a ∷ b ∷ cs)) (taken p n))
 
 pub digit_other : (p : Piece) (ps : List Piece) (d a : Bool) → ((x : ℕ) → p ≡ Bare x → ⊥) → (p ≡ Gone → ⊥) → begins_digit (spelled_pieces d a (p ∷ ps)) ≡ false
 digit_other (Bare c) ps d a n m = absurd (n c refl)
-digit_other (Kept c) ps d a n m = digit_kept c ps d a
+digit_other (Backslashed c) ps d a n m = digit_kept c ps d a
 digit_other (Hex v) ps d a n m = digit_hex v ps d a
 digit_other Gone ps d a n m = absurd (m refl)

@@ -14,7 +14,7 @@ use Rattle.swc_ecma_codegen_grammar.specs.declared.units.Place.TheVariants.{Betw
 use Rattle.swc_ecma_codegen_grammar.specs.StringValues.{before, single_escape}
 use Rattle.swc_ecma_codegen_grammar.specs.TemplateValues.{cooked_rest}
 use Rattle.swc_ecma_codegen_literals.specs.declared.templates.Piece.{Piece}
-use Rattle.swc_ecma_codegen_literals.specs.declared.templates.Piece.TheVariants.{Bare, Kept, Hex, Gone}
+use Rattle.swc_ecma_codegen_literals.specs.declared.templates.Piece.TheVariants.{Bare, Backslashed, Hex, Gone}
 use Rattle.swc_ecma_codegen_literals.specs.TemplateTexts.{stays_hex, hex_more, hex_value_piece, hex_digits_piece, hex_piece, is_kept, escape_piece, escape_more, first_piece, piece_more, bare_text}
 use Rattle.swc_ecma_codegen_literals.proofs.EscapeTexts.{chosen, glyph_hex}
 use Rattle.swc_ecma_codegen_literals.proofs.Numerals.{hex_from_value}
@@ -171,7 +171,7 @@ bare_text_cooks d a c next t l g n b r s =
 -- what a piece stands for, with what follows it
 abbrev pub piece_cooks : Piece → List ℕ → Option (List ℕ)
 piece_cooks (Bare c) t = before (utf16 c) (cooked_rest Between t)
-piece_cooks (Kept c) t = cooked_rest Escaped (c ∷ t)
+piece_cooks (Backslashed c) t = cooked_rest Escaped (c ∷ t)
 piece_cooks (Hex v) t = before (v ∷ []) (cooked_rest Between t)
 piece_cooks Gone t = cooked_rest Between t
 
@@ -187,7 +187,7 @@ pub record Escape (c : ℕ) : Type 0 where
 
 abbrev pub Meant : Piece → Type 0
 Meant (Bare c) = Text c
-Meant (Kept c) = Escape c
+Meant (Backslashed c) = Escape c
 Meant (Hex v) = Unit {0}
 Meant Gone = Unit {0}
 

@@ -7,7 +7,7 @@ use Rattle.swc_ecma_codegen_grammar.specs.Numbers.{is_hex}
 use Rattle.swc_ecma_codegen_grammar.specs.Texts.{begins}
 use Rattle.swc_ecma_codegen_literals.specs.StringTexts.{is_unseen, hex_escape, unit_escape, braced_escape}
 use Rattle.swc_ecma_codegen_literals.specs.declared.templates.Piece.{Piece}
-use Rattle.swc_ecma_codegen_literals.specs.declared.templates.Piece.TheVariants.{Bare, Kept, Hex, Gone}
+use Rattle.swc_ecma_codegen_literals.specs.declared.templates.Piece.TheVariants.{Bare, Backslashed, Hex, Gone}
 
 -- `\x24`, `\x5c`, `\x60` and `\x7b` stay: a bare `$`, backslash, back quote or `{` may mean more
 unfoldable pub stays_hex : ℕ → Bool
@@ -16,18 +16,18 @@ stays_hex value = (value == 36) || ((value == 92) || ((value == 96) || (value ==
 -- `\x41` is `A`, `\x1B` is `\x1b`; where it stays, `\x` is copied and its digits are bare
 unfoldable pub hex_value_piece : ℕ → Piece
 hex_value_piece value =
-    if stays_hex value then Kept 120
+    if stays_hex value then Backslashed 120
     else if (value == 0) || (nat_le 32 value && nat_le value 126) then Bare value
     else Hex value
 
 -- without two digits `\x` is copied
 unfoldable pub hex_digits_piece : ℕ → ℕ → Piece
-hex_digits_piece a b = if is_hex a && is_hex b then hex_value_piece (digit_value a * 16 + digit_value b) else Kept 120
+hex_digits_piece a b = if is_hex a && is_hex b then hex_value_piece (digit_value a * 16 + digit_value b) else Backslashed 120
 
 -- after `\x`
 unfoldable pub hex_piece : List ℕ → Piece
-hex_piece [] = Kept 120
-hex_piece (a ∷ []) = Kept 120
+hex_piece [] = Backslashed 120
+hex_piece (a ∷ []) = Backslashed 120
 hex_piece (a ∷ b ∷ cs) = hex_digits_piece a b
 
 -- after a backslash: `\\`, `\r`, `\v`, `\b`, `\f`, `\u`, a line continuation, a back quote, `\1` to `\7`, and `\$` before `{`
@@ -45,13 +45,13 @@ escape_piece (c ∷ cs) =
     else if c == 48 then Bare 0
     else if c == 120 then hex_piece cs
     else if (c == 8232) || (c == 8233) then Gone
-    else if c == 13 then Kept 10
-    else if is_kept c cs then Kept c
+    else if c == 13 then Backslashed 10
+    else if is_kept c cs then Backslashed c
     else Bare c
 
 -- how many characters after `\x` belong to the piece
 unfoldable pub hex_more : Piece → ℕ
-hex_more (Kept c) = 0
+hex_more (Backslashed c) = 0
 hex_more p = 2
 
 -- how many characters after a backslash belong to the piece
@@ -98,14 +98,14 @@ bare_text dollar ascii c next =
 
 unfoldable pub piece_text : Bool → Bool → Piece → List ℕ → List ℕ
 piece_text dollar ascii (Bare c) next = bare_text dollar ascii c next
-piece_text dollar ascii (Kept c) next = 92 ∷ c ∷ []
+piece_text dollar ascii (Backslashed c) next = 92 ∷ c ∷ []
 piece_text dollar ascii (Hex value) next = hex_escape value
 piece_text dollar ascii Gone next = []
 
 -- whether what follows a piece comes right after a bare `$`
 unfoldable pub dollar_after : Bool → Piece → Bool
 dollar_after dollar (Bare c) = c == 36
-dollar_after dollar (Kept c) = false
+dollar_after dollar (Backslashed c) = false
 dollar_after dollar (Hex value) = false
 dollar_after dollar Gone = dollar
 

@@ -24,7 +24,7 @@ pub(crate) enum Piece {
     /// A character: `a`, and what `\n`, `\x41` or `\a` stand for.
     Bare(char),
     /// A backslash and this character, copied: `\\`, `\r`, the `\u` of an escape.
-    Kept(char),
+    Backslashed(char),
     /// `\x1b`
     Hex(u8),
     /// Nothing: a backslash before U+2028 or U+2029, or a CR before a LF.
@@ -184,8 +184,8 @@ fn split_escape(raw: &str) -> (Piece, &str)
         '0' => (Piece::Bare('\0'), rest),
         'x' => split_hex(rest),
         '\u{2028}' | '\u{2029}' => (Piece::Gone, rest),
-        '\r' => (Piece::Kept('\n'), skip_line_feed(rest)),
-        _ if is_kept(c, rest) => (Piece::Kept(c), rest),
+        '\r' => (Piece::Backslashed('\n'), skip_line_feed(rest)),
+        _ if is_kept(c, rest) => (Piece::Backslashed(c), rest),
         _ => (Piece::Bare(c), rest),
     }
 }
@@ -226,13 +226,13 @@ fn split_hex(raw: &str) -> (Piece, &str)
     ensures shorter { length result.1.now ≤ length raw.now }
 {
     let Some((first, after)) = split_char(raw) else {
-        return (Piece::Kept('x'), raw);
+        return (Piece::Backslashed('x'), raw);
     };
     let Some((second, rest)) = split_char(after) else {
-        return (Piece::Kept('x'), raw);
+        return (Piece::Backslashed('x'), raw);
     };
     match hex_digits_piece(first, second) {
-        Piece::Kept(c) => (Piece::Kept(c), raw),
+        Piece::Backslashed(c) => (Piece::Backslashed(c), raw),
         piece => (piece, rest),
     }
 }
@@ -242,10 +242,10 @@ fn hex_digits_piece(first: char, second: char) -> Piece
     ensures { result ≡ hex_digits_piece first second }
 {
     let Some(high) = hex_value(first) else {
-        return Piece::Kept('x');
+        return Piece::Backslashed('x');
     };
     let Some(low) = hex_value(second) else {
-        return Piece::Kept('x');
+        return Piece::Backslashed('x');
     };
     hex_value_piece(high * 16 + low)
 }
@@ -266,7 +266,7 @@ fn hex_value_piece(value: u8) -> Piece
     ensures { result ≡ hex_value_piece value }
 {
     match value {
-        b'$' | b'\\' | b'`' | b'{' => Piece::Kept('x'),
+        b'$' | b'\\' | b'`' | b'{' => Piece::Backslashed('x'),
         0 | b' '..=b'~' => Piece::Bare(value as char),
         _ => Piece::Hex(value),
     }
@@ -287,7 +287,7 @@ fn push_piece(
 {
     match piece {
         Piece::Bare(c) => push_bare(text, c, next, dollar, ascii_only),
-        Piece::Kept(c) => {
+        Piece::Backslashed(c) => {
             text.push('\\')?;
             text.push(c)
         }

@@ -1,4 +1,4 @@
--- What is told to begin a node is what each of its lists begins with.
+-- The summary of a node says what each of its lists begins with.
 use Rattle.std.proofs.Common.{◌≡◌, ℕ, Bool, true, false, ◌&&◌, not, cond, codes, string_bytes, ◌||◌, is_some, refl, sym, subst, ap, ap₂, ◌∙◌, List, [], ◌∷◌, map, Option, Some, None}
 use Rattle.std.proofs.lemmas.Bool.{true≢false, and_parts}
 use Rattle.std.proofs.lemmas.Str.{IsUtf8-string_bytes}
@@ -65,7 +65,7 @@ use Rattle.swc_ecma_codegen_syntax.specs.declared.lookahead.Beginning.{Beginning
 use Rattle.swc_ecma_codegen_syntax.specs.declared.lookahead.Beginning.TheVariants as begins
 use Rattle.swc_ecma_codegen_syntax.specs.declared.parameters.Parameters.{Parameters}
 use Rattle.swc_ecma_codegen_syntax.specs.Parameters.{with_in, before_operator, of_targets, of_arrow_parameters}
-use Rattle.swc_ecma_codegen_syntax.specs.Told.{Told, begins_in}
+use Rattle.swc_ecma_codegen_syntax.specs.Summary.{Summary, begins_in}
 use Rattle.swc_ecma_codegen_syntax.specs.Verdicts.{holds}
 use Rattle.swc_ecma_codegen_syntax.specs.Lookahead.{Sign, OpenBrace, OpenBracket, AnyToken, sign, sign_of, word_sign, mark_sign, begun, beginning, ClassWord as ClassSign}
 use Rattle.swc_ecma_codegen_syntax.specs.Beginnings.{name_begins, goes_on, prop_begins, chain_begins, base_begins, callee_begins, seq_begins, update_begins, expr_begins, simple_target_begins, target_pat_begins, target_begins, pat_begins, part_begins, stmt_part_begins, node_begins, jsx_part_begins}
@@ -78,10 +78,10 @@ use Rattle.swc_ecma_codegen_syntax.specs.PatForms.{binding_form, assign_pat_form
 use Rattle.swc_ecma_codegen_syntax.specs.TargetForms.{simple_target_form, target_form}
 use Rattle.swc_ecma_codegen_syntax.specs.ExprForms.{update_form, bin_form, cond_form, assign_form, seq_form, expr_form, is_less}
 use Rattle.swc_ecma_codegen_syntax.specs.FunctionForms.{type_params_form, head_before, fn_expr_form, arrow_params_form, async_form, arrow_form, decorators_form}
-use Rattle.swc_ecma_codegen_syntax.specs.NodeForms.{node_form, part_form, stmt_part_form, is_called_node, told_of, facts, jsx_part_form}
+use Rattle.swc_ecma_codegen_syntax.specs.NodeForms.{node_form, part_form, stmt_part_form, is_called_node, summary_of, facts, jsx_part_form}
 use Rattle.swc_ecma_codegen_syntax.proofs.Judged.{keeps_mapped}
 use Rattle.swc_ecma_codegen_syntax.proofs.TreeFacts.{node_mapped, begins_of}
-use Rattle.swc_ecma_codegen_syntax.proofs.ToldForms.{holds_at}
+use Rattle.swc_ecma_codegen_syntax.proofs.SummaryForms.{holds_at}
 use Rattle.swc_ecma_codegen_syntax.proofs.NameSigns.{name_begun}
 use Rattle.swc_ecma_codegen_syntax.proofs.Beginnings.{is_asked, Leads, First, Ends, first_one, first_then, first_nothing, Settled, leads_first, leads_other, leads_behind, leads_settled, leads_goes, leads_brackets, leads_line, leads_alone, ends_nothing, leads_never, leads_after}
 use Rattle.swc_ecma_codegen_syntax.proofs.FunctionBeginnings.{IsPlain, plain_at, params_lead, async_leads, head_leads, head_settled}
@@ -99,7 +99,7 @@ Shown s ClassHead q b = Ends s q
 Shown s ClassWord q b = Leads s q b × Settled b
 Shown s role q b = Leads s q b
 
-abbrev Claim : {X : Type 0} → Settings → (X → Role → Phrase) → (X → Role → Parameters → Told) → X → Role → Type 0
+abbrev Claim : {X : Type 0} → Settings → (X → Role → Phrase) → (X → Role → Parameters → Summary) → X → Role → Type 0
 Claim s p t x role = Shown s role (p x role) (begins_in t x role)
 
 abbrev is_claimed : Role → Bool
@@ -117,10 +117,10 @@ is_claimed ClassHead = true
 is_claimed ClassWord = true
 is_claimed role = false
 
-abbrev Known : {X : Type 0} → Bool → Settings → (X → Role → Phrase) → (X → Role → Parameters → Told) → Type 0
+abbrev Known : {X : Type 0} → Bool → Settings → (X → Role → Phrase) → (X → Role → Parameters → Summary) → Type 0
 Known {X} places s p t = ((x : X) (role : Role) (c : Parameters) → is_claimed role ≡ true → holds places (t x role c).facts.verdict ≡ true → Claim s p t x role) × ((x : X) → IsPlain p (begins_in t) x)
 
-part_known : {X : Type 0} (places : Bool) (s : Settings) (p : X → Role → Phrase) (t : X → Role → Parameters → Told) → Known places s p t → (place : Nonterminal) (c : Parameters) (role : Role) (x : X) →
+part_known : {X : Type 0} (places : Bool) (s : Settings) (p : X → Role → Phrase) (t : X → Role → Parameters → Summary) → Known places s p t → (place : Nonterminal) (c : Parameters) (role : Role) (x : X) →
     is_claimed role ≡ true → keeps places t (Part place c role x) ≡ true → Claim s p t x role
 unfolding keeps
 part_known places s p t known place c role x h k = known.0 x role c h (and_parts (stands places place (t x role c).facts.nonterminal) _ k).1
@@ -136,7 +136,7 @@ not_asked : (s : Settings) (b : Bool) → not b ≡ true → Ends s (cond b (mar
 not_asked s true h = absurd (true≢false (sym h))
 not_asked s false h = ends_nothing s
 
-name_leads : {X : Type 0} (places : Bool) (s : Settings) (t : X → Role → Parameters → Told) (c : Parameters) (n : Ident) → keeps places t (name_form c n) ≡ true → Leads s (ident n) (name_begins (string_bytes n.sym))
+name_leads : {X : Type 0} (places : Bool) (s : Settings) (t : X → Role → Parameters → Summary) (c : Parameters) (n : Ident) → keeps places t (name_form c n) ≡ true → Leads s (ident n) (name_begins (string_bytes n.sym))
 unfolding keeps is_met name_form ident name_begins Generates beginning sign sign_of tokens.name
 name_leads places s t c n k =
     let text = string_bytes n.sym in
@@ -146,12 +146,12 @@ name_leads places s t c n k =
     let named : Leads s (NameOf n.span.lo text) (name_begins text) = λ ts e. (ap beginning e ∙ name_begun c text (IsUtf8-string_bytes n.sym) free none, name_asked _ _) in
     leads_alone s (NameOf n.span.lo text) (cond n.optional (mark (codes "?")) Nothing) (name_begins text) named (not_asked s n.optional plain)
 
-annotation_ends : {X : Type 0} (places : Bool) (s : Settings) (p : X → Role → Phrase) (t : X → Role → Parameters → Told) (c : Parameters) (n : Option (TsTypeAnnBox X)) → keeps places t (annotation_form c n) ≡ true → Ends s (annotation p n)
+annotation_ends : {X : Type 0} (places : Bool) (s : Settings) (p : X → Role → Phrase) (t : X → Role → Parameters → Summary) (c : Parameters) (n : Option (TsTypeAnnBox X)) → keeps places t (annotation_form c n) ≡ true → Ends s (annotation p n)
 unfolding keeps is_met annotation_form annotation
 annotation_ends places s p t c None k = ends_nothing s
 annotation_ends places s p t c (Some n) k = absurd (true≢false (sym k))
 
-binding_leads : {X : Type 0} (places : Bool) (s : Settings) (p : X → Role → Phrase) (t : X → Role → Parameters → Told) (c : Parameters) (n : BindingIdent X) → keeps places t (binding_form c n) ≡ true →
+binding_leads : {X : Type 0} (places : Bool) (s : Settings) (p : X → Role → Phrase) (t : X → Role → Parameters → Summary) (c : Parameters) (n : BindingIdent X) → keeps places t (binding_form c n) ≡ true →
     Leads s (binding_ident p n) (name_begins (string_bytes n.id.sym))
 unfolding keeps is_met binding_form binding_ident
 binding_leads places s p t c n k =
@@ -183,7 +183,7 @@ chain_leads s p q b false (member_props.Ident n) leads = leads_goes s q _ b AnyT
 chain_leads s p q b false (member_props.PrivateName n) leads = leads_goes s q _ b AnyToken refl leads (dot_first s _)
 chain_leads s p q b false (member_props.Computed n) leads = leads_brackets s q _ b leads (first_nothing s _ OpenBracket (open_first s _))
 
-args_first : {X : Type 0} (places : Bool) (s : Settings) (p : X → Role → Phrase) (t : X → Role → Parameters → Told) (c : Parameters) (types : Option (TsTypeParamInstantiationBox X)) (q : Phrase) (z : Sign) →
+args_first : {X : Type 0} (places : Bool) (s : Settings) (p : X → Role → Phrase) (t : X → Role → Parameters → Summary) (c : Parameters) (types : Option (TsTypeParamInstantiationBox X)) (q : Phrase) (z : Sign) →
     keeps places t (type_args_form c types) ≡ true → First s q z → First s (Then (type_args p types) q) z
 unfolding keeps is_met type_args_form type_args
 args_first places s p t c None q z k first = first_nothing s q z first
@@ -193,7 +193,7 @@ parenthesis_first : {X : Type 0} (s : Settings) (p : X → Role → Phrase) (xs 
 unfolding arguments sign sign_of mark_sign tokens.punctuator
 parenthesis_first s p xs = first_then s _ _ AnyToken (first_one s _ AnyToken refl)
 
-callee_leads : {X : Type 0} (places : Bool) (s : Settings) (p : X → Role → Phrase) (t : X → Role → Parameters → Told) → Known places s p t → (c : Parameters) (n : Callee X) (xs : List (ExprOrSpread X)) (q : Phrase) →
+callee_leads : {X : Type 0} (places : Bool) (s : Settings) (p : X → Role → Phrase) (t : X → Role → Parameters → Summary) → Known places s p t → (c : Parameters) (n : Callee X) (xs : List (ExprOrSpread X)) (q : Phrase) →
     keeps places t (callee_form c n xs) ≡ true → First s q AnyToken → Leads s (Then (callee p n) q) (callee_begins (begins_in t) n)
 unfolding callee_form callee callee_begins import_callee sign sign_of word_sign tokens.word
 callee_leads places s p t known c (callees.Super n) xs q k first = leads_other s _ (first_then s _ q AnyToken (first_one s _ AnyToken refl))
@@ -201,7 +201,7 @@ callee_leads places s p t known c (callees.Import n) xs q k first = leads_other 
 callee_leads places s p t known c (callees.Expr n) xs q k first =
     leads_goes s _ q _ AnyToken refl (part_known places s p t known nt.CallOrMember (with_in c) Called n.node.value refl k) first
 
-call_leads : {X : Type 0} (places : Bool) (s : Settings) (p : X → Role → Phrase) (t : X → Role → Parameters → Told) → Known places s p t → (c : Parameters) (n : CallExpr X) → keeps places t (call_form c n) ≡ true →
+call_leads : {X : Type 0} (places : Bool) (s : Settings) (p : X → Role → Phrase) (t : X → Role → Parameters → Summary) → Known places s p t → (c : Parameters) (n : CallExpr X) → keeps places t (call_form c n) ≡ true →
     Leads s (call_expr p n) (callee_begins (begins_in t) n.callee)
 unfolding keeps call_form call_expr
 call_leads places s p t known c n k =
@@ -214,7 +214,7 @@ unfolding call_mark sign sign_of mark_sign tokens.punctuator
 mark_first s true q first = first_then s _ q AnyToken (first_one s _ AnyToken refl)
 mark_first s false q first = first_nothing s q AnyToken first
 
-chain_call_leads : {X : Type 0} (places : Bool) (s : Settings) (p : X → Role → Phrase) (t : X → Role → Parameters → Told) → Known places s p t → (c : Parameters) (optional : Bool) (n : OptCall X) →
+chain_call_leads : {X : Type 0} (places : Bool) (s : Settings) (p : X → Role → Phrase) (t : X → Role → Parameters → Summary) → Known places s p t → (c : Parameters) (optional : Bool) (n : OptCall X) →
     keeps places t (chain_call_form c optional n) ≡ true → Leads s (chain_call p optional n) (goes_on (begins_in t n.callee.node.value Called))
 unfolding keeps chain_call_form chain_call
 chain_call_leads places s p t known c optional n k =
@@ -223,7 +223,7 @@ chain_call_leads places s p t known c optional n k =
     let first = args_first places s p t c n.type_args _ AnyToken typed (parenthesis_first s p n.args.items) in
     leads_goes s _ _ _ AnyToken refl (part_known places s p t known _ (with_in c) Called n.callee.node.value refl called) (mark_first s optional _ first)
 
-tagged_leads : {X : Type 0} (places : Bool) (s : Settings) (p : X → Role → Phrase) (t : X → Role → Parameters → Told) → Known places s p t → (place : Nonterminal) (c : Parameters) (n : TaggedTpl X) →
+tagged_leads : {X : Type 0} (places : Bool) (s : Settings) (p : X → Role → Phrase) (t : X → Role → Parameters → Summary) → Known places s p t → (place : Nonterminal) (c : Parameters) (n : TaggedTpl X) →
     keeps places t (tagged_form place c n) ≡ true → Leads s (tagged_tpl p n) (goes_on (begins_in t n.tag.node.value Called))
 unfolding keeps tagged_form tagged_tpl
 tagged_leads places s p t known place c n k =
@@ -234,7 +234,7 @@ tagged_leads places s p t known place c n k =
 
 -- ---- other expressions
 
-update_leads : {X : Type 0} (places : Bool) (s : Settings) (p : X → Role → Phrase) (t : X → Role → Parameters → Told) → Known places s p t → (c : Parameters) (n : UpdateExpr X) (prefix : Bool) →
+update_leads : {X : Type 0} (places : Bool) (s : Settings) (p : X → Role → Phrase) (t : X → Role → Parameters → Summary) → Known places s p t → (c : Parameters) (n : UpdateExpr X) (prefix : Bool) →
     keeps places t (update_form c (record n { prefix = prefix })) ≡ true → Leads s (update_expr p (record n { prefix = prefix })) (update_begins prefix (begins_in t n.arg.node.value Expression))
 unfolding keeps update_form update_expr update_begins
 update_leads places s p t known c n true k = leads_other s _ (first_then s _ _ AnyToken (first_one s _ AnyToken (update_any n.op)))
@@ -247,7 +247,7 @@ comma_first : (s : Settings) (p : Phrase) (qs : List Phrase) → First s (phrase
 unfolding phrases.each_after sign sign_of mark_sign tokens.punctuator
 comma_first s p qs = first_then s _ _ AnyToken (first_one s _ AnyToken refl)
 
-seq_leads : {X : Type 0} (places : Bool) (s : Settings) (p : X → Role → Phrase) (t : X → Role → Parameters → Told) → Known places s p t → (c : Parameters) (xs : List (ExprBox X)) →
+seq_leads : {X : Type 0} (places : Bool) (s : Settings) (p : X → Role → Phrase) (t : X → Role → Parameters → Summary) → Known places s p t → (c : Parameters) (xs : List (ExprBox X)) →
     keeps places t (some_listed (codes ",") (λ n. Part nt.AssignmentExpression c Expression n.node.value) xs) ≡ true → Leads s (phrases.some_listed (codes ",") (map (λ n. p n.node.value Expression) xs)) (seq_begins (begins_in t) xs)
 unfolding keeps is_met some_listed phrases.some_listed seq_begins
 seq_leads places s p t known c [] k = absurd (true≢false (sym k))
@@ -256,13 +256,13 @@ seq_leads places s p t known c (x ∷ y ∷ xs) k =
     let (first, _) = and_parts (keeps places t (Part nt.AssignmentExpression c Expression x.node.value)) _ k in
     leads_goes s _ _ _ AnyToken refl (part_known places s p t known nt.AssignmentExpression c Expression x.node.value refl first) (comma_first s _ _)
 
-base_leads : {X : Type 0} (places : Bool) (s : Settings) (p : X → Role → Phrase) (t : X → Role → Parameters → Told) → Known places s p t → (c : Parameters) (optional : Bool) (n : OptChainBase X) →
+base_leads : {X : Type 0} (places : Bool) (s : Settings) (p : X → Role → Phrase) (t : X → Role → Parameters → Summary) → Known places s p t → (c : Parameters) (optional : Bool) (n : OptChainBase X) →
     keeps places t (chain_base_form c optional n) ≡ true → Leads s (chain_base p optional n) (base_begins (begins_in t) optional n)
 unfolding chain_base_form chain_base base_begins
 base_leads places s p t known c optional (chain_bases.Member n) k = part_known places s p t known nt.OptionalChain c (ChainMember optional) n.node.value refl k
 base_leads places s p t known c optional (chain_bases.Call n) k = part_known places s p t known nt.OptionalChain c (ChainCall optional) n.node.value refl k
 
-member_leads : {X : Type 0} (places : Bool) (s : Settings) (p : X → Role → Phrase) (t : X → Role → Parameters → Told) → Known places s p t → (place : Nonterminal) (c : Parameters) (n : MemberExpr X) →
+member_leads : {X : Type 0} (places : Bool) (s : Settings) (p : X → Role → Phrase) (t : X → Role → Parameters → Summary) → Known places s p t → (place : Nonterminal) (c : Parameters) (n : MemberExpr X) →
     keeps places t (member_form place c n) ≡ true → Leads s (member_expr p n) (prop_begins (begins_in t n.obj.node.value Called) n.prop)
 unfolding keeps member_form member_expr
 member_leads places s p t known place c n k =
@@ -271,23 +271,23 @@ member_leads places s p t known place c n k =
 
 -- ---- functions
 
-only_known : {X : Type 0} (places : Bool) (s : Settings) (p : X → Role → Phrase) (t : X → Role → Parameters → Told) → Known places s p t → (c : Parameters) (n : PatBox X) →
+only_known : {X : Type 0} (places : Bool) (s : Settings) (p : X → Role → Phrase) (t : X → Role → Parameters → Summary) → Known places s p t → (c : Parameters) (n : PatBox X) →
     keeps places t (arrow_params_form c false (n ∷ [])) ≡ true → Leads s (p n.node.value Pattern) (begins_in t n.node.value Pattern)
 unfolding keeps arrow_params_form
 only_known places s p t known c n k = known.0 n.node.value Pattern c refl (and_parts (stands places nt.LastElement (t n.node.value Pattern c).facts.nonterminal) _ k).1
 
-async_kept : {X : Type 0} (places : Bool) (t : X → Role → Parameters → Told) (is_async : Bool) (a : Form X) → keeps places t (async_form is_async a) ≡ true → keeps places t a ≡ true
+async_kept : {X : Type 0} (places : Bool) (t : X → Role → Parameters → Summary) (is_async : Bool) (a : Form X) → keeps places t (async_form is_async a) ≡ true → keeps places t a ≡ true
 unfolding keeps async_form
 async_kept places t true a k = k
 async_kept places t false a k = k
 
 -- types around an arrow function have no production
-types_gone : {X : Type 0} (places : Bool) (t : X → Role → Parameters → Told) (c : Parameters) (n : Option (TsTypeParamDeclBox X)) → keeps places t (type_params_form c n) ≡ true → n ≡ None
+types_gone : {X : Type 0} (places : Bool) (t : X → Role → Parameters → Summary) (c : Parameters) (n : Option (TsTypeParamDeclBox X)) → keeps places t (type_params_form c n) ≡ true → n ≡ None
 unfolding keeps is_met type_params_form
 types_gone places t c None k = refl
 types_gone places t c (Some n) k = absurd (true≢false (sym k))
 
-result_gone : {X : Type 0} (places : Bool) (t : X → Role → Parameters → Told) (c : Parameters) (n : Option (TsTypeAnnBox X)) → keeps places t (annotation_form c n) ≡ true → n ≡ None
+result_gone : {X : Type 0} (places : Bool) (t : X → Role → Parameters → Summary) (c : Parameters) (n : Option (TsTypeAnnBox X)) → keeps places t (annotation_form c n) ≡ true → n ≡ None
 unfolding keeps is_met annotation_form
 result_gone places t c None k = refl
 result_gone places t c (Some n) k = absurd (true≢false (sym k))
@@ -305,13 +305,13 @@ abbrev rest_of_arrow : {X : Type 0} → (X → Role → Phrase) → Bool → Opt
 rest_of_arrow p star types result ns body =
     Then (word_if star (mark (codes "*"))) (Then (type_params p types) (Then (arrow_parameters p (is_some types || is_some result) ns) (Then (annotation p result) (Then same_line (Then (mark (codes "=>")) body)))))
 
-plain_arrow : {X : Type 0} (places : Bool) (s : Settings) (p : X → Role → Phrase) (t : X → Role → Parameters → Told) → Known places s p t → (c : Parameters) (ns : List (PatBox X)) (body : Phrase) →
+plain_arrow : {X : Type 0} (places : Bool) (s : Settings) (p : X → Role → Phrase) (t : X → Role → Parameters → Summary) → Known places s p t → (c : Parameters) (ns : List (PatBox X)) (body : Phrase) →
     keeps places t (arrow_params_form c false ns) ≡ true → Leads s (rest_of_arrow p false None None ns body) begins.Other
 unfolding word_if type_params annotation
 plain_arrow places s p t known c ns body k =
     leads_behind s _ _ (leads_behind s _ _ (params_lead s p (begins_in t) ns _ (λ n e. only_known places s p t known c n (ap (λ xs. keeps places t (arrow_params_form c false xs)) (sym e) ∙ k)) known.1 (arrow_first s body)))
 
-arrow_leads : {X : Type 0} (places : Bool) (s : Settings) (p : X → Role → Phrase) (t : X → Role → Parameters → Told) → Known places s p t → (c : Parameters) (n : ArrowExpr X) → keeps places t (arrow_form c n) ≡ true →
+arrow_leads : {X : Type 0} (places : Bool) (s : Settings) (p : X → Role → Phrase) (t : X → Role → Parameters → Summary) → Known places s p t → (c : Parameters) (n : ArrowExpr X) → keeps places t (arrow_form c n) ≡ true →
     Leads s (arrow_expr p n) begins.Other
 unfolding keeps is_met arrow_form arrow_expr
 arrow_leads places s p t known c n k =
@@ -344,7 +344,7 @@ private_leads : (s : Settings) (n : PrivateName) → Leads s (private_name n) be
 unfolding private_name Generates begun beginning sign sign_of tokens.private_name
 private_leads s n ts e = (ap beginning e, refl)
 
-expr_leads : {X : Type 0} (places : Bool) (s : Settings) (p : X → Role → Phrase) (t : X → Role → Parameters → Told) → Known places s p t → (stays called : Bool) (c : Parameters) (n : Expr X) →
+expr_leads : {X : Type 0} (places : Bool) (s : Settings) (p : X → Role → Phrase) (t : X → Role → Parameters → Summary) → Known places s p t → (stays called : Bool) (c : Parameters) (n : Expr X) →
     keeps places t (expr_form stays called c n) ≡ true → Leads s (expr_in p stays n) (expr_begins (begins_in t) n)
 unfolding keeps is_met expr_form bin_form cond_form assign_form seq_form opt_chain_form fn_expr_form class_expr_form expr_in expr fn_expr class_expr this_expr array_lit object_lit unary_expr bin_expr cond_expr assign_expr super_prop_expr seq_expr new_expr yield_expr meta_prop_expr await_expr paren_expr opt_chain_expr expr_begins sign sign_of word_sign mark_sign tokens.word tokens.punctuator
 expr_leads places s p t known stays called c (exprs.This n) k = leads_other s _ (first_one s _ AnyToken refl)
@@ -393,7 +393,7 @@ expr_leads places s p t known stays called c n k = absurd (true≢false (sym k))
 
 -- ---- targets and patterns
 
-simple_leads : {X : Type 0} (places : Bool) (s : Settings) (p : X → Role → Phrase) (t : X → Role → Parameters → Told) → Known places s p t → (c : Parameters) (n : SimpleAssignTarget X) →
+simple_leads : {X : Type 0} (places : Bool) (s : Settings) (p : X → Role → Phrase) (t : X → Role → Parameters → Summary) → Known places s p t → (c : Parameters) (n : SimpleAssignTarget X) →
     keeps places t (simple_target_form c n) ≡ true → Leads s (simple_assign_target p n) (simple_target_begins (begins_in t) n)
 unfolding keeps is_met simple_target_form simple_assign_target simple_target_begins super_prop_expr paren_expr sign sign_of word_sign mark_sign tokens.punctuator
 simple_leads places s p t known c (simple_targets.Ident n) k = binding_leads places s p t c n k
@@ -408,13 +408,13 @@ target_pat_leads s p (target_pats.Array n) = bracket_leads s _
 target_pat_leads s p (target_pats.Object n) = brace_leads s _
 target_pat_leads s p (target_pats.Invalid n) = leads_never s begins.Other
 
-target_leads : {X : Type 0} (places : Bool) (s : Settings) (p : X → Role → Phrase) (t : X → Role → Parameters → Told) → Known places s p t → (comma : Bool) (c : Parameters) (n : AssignTarget X) →
+target_leads : {X : Type 0} (places : Bool) (s : Settings) (p : X → Role → Phrase) (t : X → Role → Parameters → Summary) → Known places s p t → (comma : Bool) (c : Parameters) (n : AssignTarget X) →
     keeps places t (target_form comma c n) ≡ true → Leads s (assign_target p n) (target_begins (begins_in t) n)
 unfolding target_form assign_target target_begins
 target_leads places s p t known comma c (targets.Simple n) k = simple_leads places s p t known (of_targets c) n k
 target_leads places s p t known comma c (targets.Pat n) k = target_pat_leads s p n
 
-pat_leads : {X : Type 0} (places : Bool) (s : Settings) (p : X → Role → Phrase) (t : X → Role → Parameters → Told) → Known places s p t → (comma : Bool) (c : Parameters) (n : Pat X) → keeps places t (pat_form comma c n) ≡ true →
+pat_leads : {X : Type 0} (places : Bool) (s : Settings) (p : X → Role → Phrase) (t : X → Role → Parameters → Summary) → Known places s p t → (comma : Bool) (c : Parameters) (n : Pat X) → keeps places t (pat_form comma c n) ≡ true →
     Leads s (pat p n) (pat_begins (begins_in t) n)
 unfolding keeps pat_form pat pat_begins array_pat object_pat rest_pat assign_pat assign_pat_form sign sign_of mark_sign tokens.punctuator
 pat_leads places s p t known comma c (pats.Ident n) k = binding_leads places s p t c n k
@@ -432,7 +432,7 @@ pat_leads places s p t known comma c (pats.Expr n) k =
 
 -- ---- whole nodes
 
-part_claim : {X : Type 0} (places : Bool) (s : Settings) (p : X → Role → Phrase) (t : X → Role → Parameters → Told) → Known places s p t → (called : Bool) (c : Parameters) (n : ExprPart X) (role : Role) → is_claimed role ≡ true →
+part_claim : {X : Type 0} (places : Bool) (s : Settings) (p : X → Role → Phrase) (t : X → Role → Parameters → Summary) → Known places s p t → (called : Bool) (c : Parameters) (n : ExprPart X) (role : Role) → is_claimed role ≡ true →
     keeps places t (part_form called c n role) ≡ true → Shown s role (expr_part p n role) (part_begins (begins_in t) n role)
 unfolding keeps is_met part_form expr_part part_begins tpl_form tpl
 part_claim places s p t known called c (expr_parts.Pat n) Pattern h k = pat_leads places s p t known called c n k
@@ -445,7 +445,7 @@ part_claim places s p t known called c (expr_parts.PropName n) PropertyName h k 
 part_claim places s p t known called c n role h k = absurd (true≢false (sym k))
 
 -- decorators have no production
-decorators_end : {X : Type 0} (places : Bool) (s : Settings) (p : X → Role → Phrase) (t : X → Role → Parameters → Told) (c : Parameters) (ns : List (Decorator X)) → keeps places t (decorators_form {X = X} c ns) ≡ true → Ends s (decorators p ns)
+decorators_end : {X : Type 0} (places : Bool) (s : Settings) (p : X → Role → Phrase) (t : X → Role → Parameters → Summary) (c : Parameters) (ns : List (Decorator X)) → keeps places t (decorators_form {X = X} c ns) ≡ true → Ends s (decorators p ns)
 unfolding keeps is_met decorators_form decorators is_some_listed phrases.in_order
 decorators_end places s p t c [] k = ends_nothing s
 decorators_end places s p t c (n ∷ ns) k = absurd (true≢false (sym k))
@@ -459,7 +459,7 @@ not_abstract : (b : Bool) → not b ≡ true → b ≡ false
 not_abstract true h = absurd (true≢false (sym h))
 not_abstract false h = refl
 
-stmt_part_claim : {X : Type 0} (places : Bool) (s : Settings) (p : X → Role → Phrase) (t : X → Role → Parameters → Told) (c : Parameters) (n : StmtPart X) (role : Role) → is_claimed role ≡ true →
+stmt_part_claim : {X : Type 0} (places : Bool) (s : Settings) (p : X → Role → Phrase) (t : X → Role → Parameters → Summary) (c : Parameters) (n : StmtPart X) (role : Role) → is_claimed role ≡ true →
     keeps places t (stmt_part_form c n role) ≡ true → Shown s role (stmt_part p n role) (stmt_part_begins n role)
 unfolding keeps is_met stmt_part_form stmt_part function_head class_word_form class_word class_head stmt_part_begins
 stmt_part_claim places s p t c (stmt_parts.Function n) FunctionHead h k = (head_leads s n.value.is_async _, head_settled n.value.is_async)
@@ -484,7 +484,7 @@ unfolding expr_in expr
 in_expression p (exprs.New n) = refl
 in_expression p n = refl
 
-chain_member_leads : {X : Type 0} (places : Bool) (s : Settings) (p : X → Role → Phrase) (t : X → Role → Parameters → Told) → Known places s p t → (c : Parameters) (optional : Bool) (n : MemberExpr X) →
+chain_member_leads : {X : Type 0} (places : Bool) (s : Settings) (p : X → Role → Phrase) (t : X → Role → Parameters → Summary) → Known places s p t → (c : Parameters) (optional : Bool) (n : MemberExpr X) →
     keeps places t (chain_member_form c optional n) ≡ true → Leads s (chain_member p optional n) (chain_begins optional (begins_in t n.obj.node.value Called) n.prop)
 unfolding keeps chain_member_form chain_member
 chain_member_leads places s p t known c optional n k =
@@ -492,7 +492,7 @@ chain_member_leads places s p t known c optional n k =
     chain_leads s p _ _ optional n.prop (part_known places s p t known _ (with_in c) Called n.obj.node.value refl called)
 
 -- nothing is claimed of parts of statements
-jsx_part_claim : {X : Type 0} (places : Bool) (s : Settings) (p : X → Role → Phrase) (t : X → Role → Parameters → Told) (c : Parameters) (n : JSXPart X) (role : Role) → is_claimed role ≡ true → keeps places t (jsx_part_form c n role) ≡ true →
+jsx_part_claim : {X : Type 0} (places : Bool) (s : Settings) (p : X → Role → Phrase) (t : X → Role → Parameters → Summary) (c : Parameters) (n : JSXPart X) (role : Role) → is_claimed role ≡ true → keeps places t (jsx_part_form c n role) ≡ true →
     Shown s role (jsx_part p n role) (jsx_part_begins n role)
 unfolding keeps is_met jsx_part_form jsx_part jsx_part_begins jsx_element jsx_opening_element jsx_fragment jsx_opening_fragment open_mark sign sign_of mark_sign tokens.punctuator
 jsx_part_claim places s p t c (jsx_parts.JSXElement n) Element h k = leads_other s _ (first_then s _ _ AnyToken (first_then s _ _ AnyToken (first_one s _ AnyToken refl)))
@@ -502,7 +502,7 @@ jsx_part_claim places s p t c (jsx_parts.JSXFragment n) Child h k = absurd (true
 jsx_part_claim places s p t c (jsx_parts.JSXObject n) TagObject h k = absurd (true≢false (sym h))
 jsx_part_claim places s p t c n role h k = absurd (true≢false (sym k))
 
-node_claim : {X : Type 0} (places : Bool) (s : Settings) (p : X → Role → Phrase) (t : X → Role → Parameters → Told) → Known places s p t → (called : Bool) (c : Parameters) (n : AnyNode-F X) (role : Role) → is_claimed role ≡ true →
+node_claim : {X : Type 0} (places : Bool) (s : Settings) (p : X → Role → Phrase) (t : X → Role → Parameters → Summary) → Known places s p t → (called : Bool) (c : Parameters) (n : AnyNode-F X) (role : Role) → is_claimed role ≡ true →
     keeps places t (node_form called c n role) ≡ true → Shown s role (node_phrase p n role) (node_begins (begins_in t) n role)
 unfolding keeps is_met node_form node_phrase node_begins
 node_claim places s p t known called c (nodes.Expr n) Expression h k = subst (λ q. Leads s q (expr_begins (begins_in t) n)) (in_expression p n) (expr_leads places s p t known false called c n k)
@@ -516,24 +516,24 @@ node_claim places s p t known called c (nodes.JSXPart n) role h k = jsx_part_cla
 node_claim places s p t known called c n role h k = absurd (true≢false (sym k))
 
 abbrev BeginningLaw : Bool → Settings → AnyNode → Type 0
-BeginningLaw places s n = (role : Role) (c : Parameters) → is_claimed role ≡ true → holds places (facts n role c).verdict ≡ true → Claim s phrase told_of n role
+BeginningLaw places s n = (role : Role) (c : Parameters) → is_claimed role ≡ true → holds places (facts n role c).verdict ≡ true → Claim s phrase summary_of n role
 
 layer_claim : {X : Type 0} (places : Bool) (s : Settings) (g : X → AnyNode) → ((x : X) → BeginningLaw places s (g x)) → (y : AnyNode-F X) → BeginningLaw places s (roll-AnyNode (map-AnyNode X AnyNode g y))
 layer_claim {X} places s g law y role c h k =
     let m : AnyNode-F AnyNode = map-AnyNode X AnyNode g y in
-    let b : Bool = is_called_node told_of c (out-AnyNode (roll-AnyNode m)) in
+    let b : Bool = is_called_node summary_of c (out-AnyNode (roll-AnyNode m)) in
     let e : node_form b c (out-AnyNode (roll-AnyNode m)) role ≡ map_form g (node_form b c y role) = ap (λ z. node_form b c z role) (out-roll-AnyNode m) ∙ node_mapped g b c y role in
-    let kept : keeps places (λ z. told_of (g z)) (node_form b c y role) ≡ true =
-    sym (keeps_mapped places g told_of (node_form b c y role)) ∙ sym (ap (keeps places told_of) e) ∙ sym (holds_at places (roll-AnyNode m) role c) ∙ k in
-    let shown = node_claim places s (λ z. phrase (g z)) (λ z. told_of (g z)) ((λ z. law z), (λ z. plain_at (g z))) b c y role h kept in
-    subst (λ q. Shown s role q (begins_in told_of (roll-AnyNode m) role)) (sym (phrase_of g y role))
+    let kept : keeps places (λ z. summary_of (g z)) (node_form b c y role) ≡ true =
+    sym (keeps_mapped places g summary_of (node_form b c y role)) ∙ sym (ap (keeps places summary_of) e) ∙ sym (holds_at places (roll-AnyNode m) role c) ∙ k in
+    let shown = node_claim places s (λ z. phrase (g z)) (λ z. summary_of (g z)) ((λ z. law z), (λ z. plain_at (g z))) b c y role h kept in
+    subst (λ q. Shown s role q (begins_in summary_of (roll-AnyNode m) role)) (sym (phrase_of g y role))
     (subst (λ w. Shown s role (node_phrase (λ z. phrase (g z)) y role) w) (sym (begins_of g y role)) shown)
 
 claim_at : (places : Bool) (s : Settings) (n : AnyNode) → BeginningLaw places s n
 claim_at places s = ind-AnyNode (BeginningLaw places s) (λ x y q. subst (λ z. BeginningLaw places s (roll-AnyNode z)) q (layer_claim places s (λ z. z.0) (λ z. z.1) y))
 
--- an expression or a pattern that keeps its structure: what is told to begin it, each of its lists begins with
-pub begun_as_told : (places : Bool) (s : Settings) (n : AnyNode) (as_pattern : Bool) (c : Parameters) → holds places (facts n (role_in as_pattern) c).verdict ≡ true → (ts : List Token) → Generates s (phrase n (role_in as_pattern)) ts →
-    beginning ts ≡ begins_in told_of n (role_in as_pattern)
-begun_as_told places s n true c k ts x = (claim_at places s n Pattern c refl k ts x).0
-begun_as_told places s n false c k ts x = (claim_at places s n Expression c refl k ts x).0
+-- an expression or a pattern that keeps its structure: what its summary says it begins with, each of its lists begins with
+pub begins_as_summed : (places : Bool) (s : Settings) (n : AnyNode) (as_pattern : Bool) (c : Parameters) → holds places (facts n (role_in as_pattern) c).verdict ≡ true → (ts : List Token) → Generates s (phrase n (role_in as_pattern)) ts →
+    beginning ts ≡ begins_in summary_of n (role_in as_pattern)
+begins_as_summed places s n true c k ts x = (claim_at places s n Pattern c refl k ts x).0
+begins_as_summed places s n false c k ts x = (claim_at places s n Expression c refl k ts x).0

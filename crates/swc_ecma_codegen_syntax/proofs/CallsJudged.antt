@@ -9,7 +9,7 @@ use Rattle.swc_ecma_codegen_grammar.specs.ElementPhrases.{last_is_hole}
 use Rattle.swc_ecma_codegen_grammar.specs.declared.roles.Role.{Role}
 use Rattle.swc_ecma_codegen_grammar.specs.declared.roles.Role.TheVariants.{Callee}
 use Rattle.swc_ecma_codegen_syntax.specs.declared.parameters.Parameters.{Parameters}
-use Rattle.swc_ecma_codegen_syntax.specs.Told.{Told}
+use Rattle.swc_ecma_codegen_syntax.specs.Summary.{Summary}
 use Rattle.swc_ecma_codegen_syntax.specs.declared.verdicts.Verdict.{Verdict}
 use Rattle.swc_ecma_codegen_syntax.specs.Parameters.{with_in}
 use Rattle.swc_ecma_codegen_syntax.specs.Forms.{Form, Part, judge, element, verdict_all, verdict_of}
@@ -24,47 +24,47 @@ unfolding verdict_all
 all_same e d same v [] = refl
 all_same e d same v (x ∷ xs) = ap (λ w. verdict_all e w xs) (same x v) ∙ all_same e d same (d x v) xs
 
-element_judged : {X A : Type 0} (f : X → Role → Parameters → Told) (e : A → Form X) (o : Option A) (v : Verdict) → judge f v (element e o) ≡ verdict_of (λ x w. judge f w (e x)) o v
+element_judged : {X A : Type 0} (f : X → Role → Parameters → Summary) (e : A → Form X) (o : Option A) (v : Verdict) → judge f v (element e o) ≡ verdict_of (λ x w. judge f w (e x)) o v
 unfolding judge element verdict_of
 element_judged f e None v = refl
 element_judged f e (Some x) v = refl
 
-elements_judged : {X : Type 0} (f : X → Role → Parameters → Told) (c : Parameters) (hole : Bool) (v : Verdict) (xs : List (Option (ExprOrSpread X))) →
+elements_judged : {X : Type 0} (f : X → Role → Parameters → Summary) (c : Parameters) (hole : Bool) (v : Verdict) (xs : List (Option (ExprOrSpread X))) →
     judge f v (elements_form c hole xs) ≡ verdict_all (verdict_of (λ x w. judge f w (argument_form c x))) v xs
 unfolding judge elements_form
 elements_judged f c true v xs = listed_judged f (codes ",") (element (argument_form c)) v xs ∙ all_same _ _ (element_judged f (argument_form c)) v xs
 elements_judged f c false v xs = listed_judged f (codes ",") (element (argument_form c)) v xs ∙ all_same _ _ (element_judged f (argument_form c)) v xs
 
-pub array_judged : {X : Type 0} (f : X → Role → Parameters → Told) (c : Parameters) (v : Verdict) (n : ArrayLit X) →
+pub array_judged : {X : Type 0} (f : X → Role → Parameters → Summary) (c : Parameters) (v : Verdict) (n : ArrayLit X) →
     judge f v (array_form c n) ≡ verdict_all (verdict_of (λ x w. judge f w (argument_form c x))) v n.elems.items
 unfolding judge array_form
 array_judged f c v n = elements_judged f c (last_is_hole n.elems.items) v n.elems.items
 
-pub arguments_judged : {X : Type 0} (f : X → Role → Parameters → Told) (c : Parameters) (v : Verdict) (xs : List (ExprOrSpread X)) →
+pub arguments_judged : {X : Type 0} (f : X → Role → Parameters → Summary) (c : Parameters) (v : Verdict) (xs : List (ExprOrSpread X)) →
     judge f v (arguments_form c xs) ≡ verdict_all (λ x w. judge f w (argument_form c x)) v xs
 unfolding judge arguments_form
 arguments_judged f c v xs = listed_judged f (codes ",") (argument_form c) v xs
 
-pub listed_arguments_judged : {X : Type 0} (f : X → Role → Parameters → Told) (c : Parameters) (keeps : Bool) (v : Verdict) (xs : List (ExprOrSpread X)) →
+pub listed_arguments_judged : {X : Type 0} (f : X → Role → Parameters → Summary) (c : Parameters) (keeps : Bool) (v : Verdict) (xs : List (ExprOrSpread X)) →
     judge f v (listed_form c keeps xs) ≡ verdict_all (λ x w. judge f w (argument_form c x)) v xs
 unfolding judge listed_form verdict_all
 listed_arguments_judged f c false v [] = refl
 listed_arguments_judged f c false v (x ∷ xs) = arguments_judged f c v (x ∷ xs)
 listed_arguments_judged f c true v xs = arguments_judged f c v xs
 
-pub call_judged : {X : Type 0} (f : X → Role → Parameters → Told) (c : Parameters) (v : Verdict) (n : CallExpr X) →
+pub call_judged : {X : Type 0} (f : X → Role → Parameters → Summary) (c : Parameters) (v : Verdict) (n : CallExpr X) →
     judge f v (call_form c n) ≡ verdict_all (λ x w. judge f w (argument_form c x)) (judge f (judge f v (callee_form c n.callee n.args.items)) (type_args_form c n.type_args)) n.args.items
 unfolding judge call_form
 call_judged f c v n = arguments_judged f c (judge f (judge f v (callee_form c n.callee n.args.items)) (type_args_form c n.type_args)) n.args.items
 
-pub chain_call_judged : {X : Type 0} (f : X → Role → Parameters → Told) (c : Parameters) (optional : Bool) (v : Verdict) (n : OptCall X) →
+pub chain_call_judged : {X : Type 0} (f : X → Role → Parameters → Summary) (c : Parameters) (optional : Bool) (v : Verdict) (n : OptCall X) →
     judge f v (chain_call_form c optional n)
     ≡ verdict_all (λ x w. judge f w (argument_form c x)) (judge f (judge f v (Part (chained optional) (with_in c) Callee n.callee.node.value)) (type_args_form c n.type_args)) n.args.items
 unfolding judge chain_call_form
 chain_call_judged f c optional v n =
     arguments_judged f c (judge f (judge f v (Part (chained optional) (with_in c) Callee n.callee.node.value)) (type_args_form c n.type_args)) n.args.items
 
-pub object_judged : {X : Type 0} (f : X → Role → Parameters → Told) (c : Parameters) (v : Verdict) (n : ObjectLit X) →
+pub object_judged : {X : Type 0} (f : X → Role → Parameters → Summary) (c : Parameters) (v : Verdict) (n : ObjectLit X) →
     judge f v (object_form c n) ≡ verdict_all (λ x w. judge f w (prop_or_spread_form c x)) v n.props.items
 unfolding judge object_form
 object_judged f c v n = listed_judged f (codes ",") (prop_or_spread_form c) v n.props.items

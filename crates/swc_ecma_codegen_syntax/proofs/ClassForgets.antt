@@ -36,7 +36,7 @@ use Rattle.swc_ecma_codegen_grammar.specs.declared.roles.Role.TheVariants.{Class
 use Rattle.swc_ecma_codegen_syntax.specs.declared.nonterminals.Nonterminal.{Nonterminal}
 use Rattle.swc_ecma_codegen_syntax.specs.declared.nonterminals.Nonterminal.TheVariants as nt
 use Rattle.swc_ecma_codegen_syntax.specs.declared.parameters.Parameters.{Parameters}
-use Rattle.swc_ecma_codegen_syntax.specs.Told.{Told}
+use Rattle.swc_ecma_codegen_syntax.specs.Summary.{Summary}
 use Rattle.swc_ecma_codegen_syntax.specs.Parameters.{of_class, of_function}
 use Rattle.swc_ecma_codegen_syntax.specs.Forms.{Form, Part, forget, keeps, is_met, ending_after, ending_listed}
 use Rattle.swc_ecma_codegen_syntax.specs.NameForms.{name_form}
@@ -53,12 +53,12 @@ unfolding forget heritage_form heritage
 heritage_forgets p c None args = refl
 heritage_forgets p c (Some n) args = ap (λ q. word (codes "extends") > p n.node.value Expression > q) (args_forget p c args)
 
-implements_forgets : {X : Type 0} (places : Bool) (f : X → Role → Parameters → Told) (p : X → Role → Phrase) (ns : List (TsExprWithTypeArgs X)) → keeps places f (implements_form ns) ≡ true → forget p (implements_form ns) ≡ implements_clause p ns
+implements_forgets : {X : Type 0} (places : Bool) (f : X → Role → Parameters → Summary) (p : X → Role → Phrase) (ns : List (TsExprWithTypeArgs X)) → keeps places f (implements_form ns) ≡ true → forget p (implements_form ns) ≡ implements_clause p ns
 unfolding forget keeps is_met implements_form implemented_form is_some_listed implements_clause
 implements_forgets places f p [] k = refl
 implements_forgets places f p (n ∷ ns) k = absurd (true≢false (sym k))
 
-pub class_tail_forgets : {X : Type 0} (places : Bool) (f : X → Role → Parameters → Told) (p : X → Role → Phrase) (c : Parameters) (n : classes.Class X) → keeps places f (class_tail_form c n) ≡ true → forget p (class_tail_form c n) ≡ class_tail p n
+pub class_tail_forgets : {X : Type 0} (places : Bool) (f : X → Role → Parameters → Summary) (p : X → Role → Phrase) (c : Parameters) (n : classes.Class X) → keeps places f (class_tail_form c n) ≡ true → forget p (class_tail_form c n) ≡ class_tail p n
 unfolding forget keeps class_tail_form class_tail
 class_tail_forgets places f p c n k =
     let (_, l) = and_parts (keeps places f (type_params_form c n.type_params)) _ k in
@@ -84,7 +84,7 @@ class_expr_forgets p c n = ap (λ q. p n.class.node.value ClassHead > p n.class.
 
 -- ---- methods
 
-kept_after : {X A : Type 0} (places : Bool) (f : X → Role → Parameters → Told) (p : X → Role → Phrase) (e : Nonterminal → A → Form X) (d : A → Phrase) →
+kept_after : {X A : Type 0} (places : Bool) (f : X → Role → Parameters → Summary) (p : X → Role → Phrase) (e : Nonterminal → A → Form X) (d : A → Phrase) →
     ((place : Nonterminal) (x : A) → keeps places f (e place x) ≡ true → forget p (e place x) ≡ d x) → (xs : List A) → keeps places f (ending_after e xs) ≡ true → forget p (ending_after e xs) ≡ phrases.each_after (codes ",") (map d xs)
 unfolding forget keeps ending_after phrases.each_after
 kept_after places f p e d same [] k = refl
@@ -93,7 +93,7 @@ kept_after places f p e d same (x ∷ y ∷ xs) k =
     let (h, l) = and_parts (keeps places f (e nt.PatternElement x)) (keeps places f (ending_after e (y ∷ xs))) k in
     ap₂ (λ q r. mark (codes ",") > q > r) (same nt.PatternElement x h) (kept_after places f p e d same (y ∷ xs) l)
 
-kept_ending : {X A : Type 0} (places : Bool) (f : X → Role → Parameters → Told) (p : X → Role → Phrase) (e : Nonterminal → A → Form X) (d : A → Phrase) →
+kept_ending : {X A : Type 0} (places : Bool) (f : X → Role → Parameters → Summary) (p : X → Role → Phrase) (e : Nonterminal → A → Form X) (d : A → Phrase) →
     ((place : Nonterminal) (x : A) → keeps places f (e place x) ≡ true → forget p (e place x) ≡ d x) → (xs : List A) → keeps places f (ending_listed e xs) ≡ true → forget p (ending_listed e xs) ≡ phrases.listed (codes ",") (map d xs)
 unfolding forget keeps ending_listed phrases.listed phrases.each_after
 kept_ending places f p e d same [] k = refl
@@ -102,13 +102,13 @@ kept_ending places f p e d same (x ∷ y ∷ xs) k =
     let (h, l) = and_parts (keeps places f (e nt.PatternElement x)) (keeps places f (ending_after e (y ∷ xs))) k in
     ap₂ (λ q r. q > r) (same nt.PatternElement x h) (kept_after places f p e d same (y ∷ xs) l)
 
-constructor_param_forgets : {X : Type 0} (places : Bool) (f : X → Role → Parameters → Told) (p : X → Role → Phrase) (c : Parameters) (place : Nonterminal) (n : ParamOrTsParamProp X) → keeps places f (constructor_param_form c place n) ≡ true →
+constructor_param_forgets : {X : Type 0} (places : Bool) (f : X → Role → Parameters → Summary) (p : X → Role → Phrase) (c : Parameters) (place : Nonterminal) (n : ParamOrTsParamProp X) → keeps places f (constructor_param_form c place n) ≡ true →
     forget p (constructor_param_form c place n) ≡ constructor_param p n
 unfolding keeps is_met constructor_param_form constructor_param
 constructor_param_forgets places f p c place (params.Param n) k = param_forgets p c place n
 constructor_param_forgets places f p c place (params.TsParamProp n) k = absurd (true≢false (sym k))
 
-constructor_forgets : {X : Type 0} (places : Bool) (f : X → Role → Parameters → Told) (p : X → Role → Phrase) (c : Parameters) (n : Constructor X) → keeps places f (constructor_form c n) ≡ true → forget p (constructor_form c n) ≡ class_constructor p n
+constructor_forgets : {X : Type 0} (places : Bool) (f : X → Role → Parameters → Summary) (p : X → Role → Phrase) (c : Parameters) (n : Constructor X) → keeps places f (constructor_form c n) ≡ true → forget p (constructor_form c n) ≡ class_constructor p n
 unfolding forget keeps constructor_form accessibility_form class_constructor
 constructor_forgets places f p c n k =
     let own : Parameters = of_function false false c in
@@ -177,7 +177,7 @@ private_field_forgets p c n =
 
 -- ---- members
 
-pub class_member_forgets : {X : Type 0} (places : Bool) (f : X → Role → Parameters → Told) (p : X → Role → Phrase) (c : Parameters) (n : class_members.ClassMember X) → keeps places f (member_of_class_form c n) ≡ true →
+pub class_member_forgets : {X : Type 0} (places : Bool) (f : X → Role → Parameters → Summary) (p : X → Role → Phrase) (c : Parameters) (n : class_members.ClassMember X) → keeps places f (member_of_class_form c n) ≡ true →
     forget p (member_of_class_form c n) ≡ class_member p n
 unfolding forget keeps is_met member_of_class_form static_block_form class_member static_block
 class_member_forgets places f p c (members.Constructor n) k = constructor_forgets places f p c n k
@@ -197,7 +197,7 @@ unfolding forget field_expr_form field_value is_sequence
 field_expr_forgets p a (exprs.Seq n) same = ap (λ q. mark (codes "(") > q > mark (codes ")")) same
 field_expr_forgets p a n same = same
 
-pub field_expr_keeps : {X : Type 0} (places : Bool) (f : X → Role → Parameters → Told) (a : Form X) (n : Expr X) → keeps places f (field_expr_form a n) ≡ true → keeps places f a ≡ true
+pub field_expr_keeps : {X : Type 0} (places : Bool) (f : X → Role → Parameters → Summary) (a : Form X) (n : Expr X) → keeps places f (field_expr_form a n) ≡ true → keeps places f a ≡ true
 unfolding keeps field_expr_form
 field_expr_keeps places f a (exprs.Seq n) k = (and_parts (keeps places f a) true k).0
 field_expr_keeps places f a n k = k

@@ -8,7 +8,7 @@ use Rattle.swc_ecma_codegen_grammar.specs.ExprPhrases.{unary_expr, bin_expr, ass
 use Rattle.swc_ecma_codegen_grammar.specs.declared.roles.Role.{Role}
 use Rattle.swc_ecma_codegen_syntax.specs.declared.nonterminals.Nonterminal.TheVariants as nt
 use Rattle.swc_ecma_codegen_syntax.specs.declared.parameters.Parameters.{Parameters}
-use Rattle.swc_ecma_codegen_syntax.specs.Told.{Told}
+use Rattle.swc_ecma_codegen_syntax.specs.Summary.{Summary}
 use Rattle.swc_ecma_codegen_syntax.specs.Forms.{forget, keeps, is_met}
 use Rattle.swc_ecma_codegen_syntax.specs.NameForms.{name_form, lit_form}
 use Rattle.swc_ecma_codegen_syntax.specs.MemberForms.{expr_part}
@@ -18,7 +18,7 @@ use Rattle.swc_ecma_codegen_syntax.proofs.Forgets.{array_forgets, object_forgets
 use Rattle.swc_ecma_codegen_syntax.proofs.FunctionForgets.{fn_expr_forgets, arrow_forgets}
 use Rattle.swc_ecma_codegen_syntax.proofs.ClassForgets.{class_expr_forgets}
 
-pub expr_forgets : {X : Type 0} (places : Bool) (f : X → Role → Parameters → Told) (p : X → Role → Phrase) (called : Bool) (c : Parameters) (n : Expr X) → keeps places f (expr_form false called c n) ≡ true → forget p (expr_form false called c n) ≡ expr p n
+pub expr_forgets : {X : Type 0} (places : Bool) (f : X → Role → Parameters → Summary) (p : X → Role → Phrase) (called : Bool) (c : Parameters) (n : Expr X) → keeps places f (expr_form false called c n) ≡ true → forget p (expr_form false called c n) ≡ expr p n
 unfolding forget keeps is_met expr_form expr unary_form bin_form cond_form assign_form yield_form await_form seq_form paren_form name_form lit_form unary_expr bin_expr cond_expr assign_expr yield_expr await_expr seq_expr paren_expr
 expr_forgets places f p called c (exprs.This n) k = refl
 expr_forgets places f p called c (exprs.Array n) k = array_forgets p c n

@@ -21,11 +21,11 @@ use Rattle.swc_ecma_codegen_grammar.specs.declared.roles.Role.TheVariants.{Patte
 use Rattle.swc_ecma_codegen_grammar.proofs.TreeLaws.{phrase_at}
 use Rattle.swc_ecma_codegen_syntax.specs.declared.lookahead.Beginning.{Beginning}
 use Rattle.swc_ecma_codegen_syntax.specs.declared.lookahead.Beginning.TheVariants as begins
-use Rattle.swc_ecma_codegen_syntax.specs.Told.{begins_in}
+use Rattle.swc_ecma_codegen_syntax.specs.Summary.{begins_in}
 use Rattle.swc_ecma_codegen_syntax.specs.Lookahead.{Sign, FunctionWord, AsyncWord, NoLineEnd, AnyToken, sign, sign_of, word_sign, mark_sign, begun, beginning, is_default_start}
 use Rattle.swc_ecma_codegen_syntax.specs.Beginnings.{name_begins, goes_on_in_line, pat_begins, part_begins, node_begins, function_begins}
 use Rattle.swc_ecma_codegen_syntax.specs.Forms.{only_phrase}
-use Rattle.swc_ecma_codegen_syntax.specs.NodeForms.{told_of}
+use Rattle.swc_ecma_codegen_syntax.specs.NodeForms.{summary_of}
 use Rattle.swc_ecma_codegen_syntax.proofs.Beginnings.{is_asked, Leads, First, Settled, first_one, first_then, leads_first, leads_other, list_in_line}
 use Rattle.swc_ecma_codegen_syntax.proofs.TreeFacts.{begins_at}
 use Rattle.swc_ecma_codegen_grammar.specs.JsxPhrases.{jsx_part}
@@ -55,8 +55,8 @@ plain_layer f b (nodes.TsPart (ts_parts.TsType n)) h = absurd (true≢false h)
 plain_layer f b (nodes.TsPart n) h = absurd (true≢false h)
 plain_layer f b n h = absurd (true≢false h)
 
-pub plain_at : (n : AnyNode) → IsPlain phrase (begins_in told_of) n
-plain_at n h = ap goes_on_in_line (begins_at n Pattern) ∙ plain_layer phrase (begins_in told_of) (out-AnyNode n) (ap is_never (sym (phrase_at n PlainParameter)) ∙ h)
+pub plain_at : (n : AnyNode) → IsPlain phrase (begins_in summary_of) n
+plain_at n h = ap goes_on_in_line (begins_at n Pattern) ∙ plain_layer phrase (begins_in summary_of) (out-AnyNode n) (ap is_never (sym (phrase_at n PlainParameter)) ∙ h)
 
 -- ---- parameters and `=>`
 

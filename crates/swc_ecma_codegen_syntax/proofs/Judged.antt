@@ -1,4 +1,4 @@
--- What the check says of a form, and over what its parts are told by.
+-- What the check says of a form, and over whatever gives the summaries of its parts.
 use Rattle.std.proofs.Common.{◌≡◌, ℕ, Bool, false, ◌&&◌, not, List, [], ◌∷◌, map, Option, Some, None, refl, sym, ◌∙◌, ap, ap₂}
 use Rattle.swc_ecma_codegen_grammar.specs.Phrases.{Phrase, Nothing, Then, mark}
 use Rattle.swc_ecma_codegen_grammar.specs.Phrases as phrases
@@ -8,7 +8,7 @@ use Rattle.swc_ecma_codegen_grammar.specs.declared.roles.Role.TheVariants.{Expre
 use Rattle.swc_ecma_codegen_syntax.specs.declared.nonterminals.Nonterminal.{Nonterminal}
 use Rattle.swc_ecma_codegen_syntax.specs.declared.parameters.Parameters.{Parameters}
 use Rattle.swc_ecma_codegen_syntax.specs.declared.verdicts.Facts.{Facts}
-use Rattle.swc_ecma_codegen_syntax.specs.Told.{Told, begins_in, empty_in}
+use Rattle.swc_ecma_codegen_syntax.specs.Summary.{Summary, begins_in, empty_in}
 use Rattle.swc_ecma_codegen_syntax.specs.declared.verdicts.Verdict.{Verdict}
 use Rattle.swc_ecma_codegen_syntax.specs.Verdicts.{by_rule, standing, holds}
 use Rattle.swc_ecma_codegen_syntax.specs.Parameters.{before}
@@ -16,15 +16,15 @@ use Rattle.swc_ecma_codegen_syntax.specs.Lookahead.{excludes}
 use Rattle.swc_ecma_codegen_syntax.specs.Forms.{Form, Fixed, Part, Simple, Restricted, ByPlace, role_in, Both, Provided, Closed, Bare, Followed, ByRule, forget, map_form, is_target, asked, of_part, judge, is_met, stands, keeps, each_after, listed, some_listed, in_order, element, verdict_all, Lone}
 use Rattle.swc_ecma_codegen_syntax.proofs.VerdictLaws.{and_true, and_assoc, holds_meet, holds_rule, holds_asked, holds_standing}
 
-part_judged : (places : Bool) (v : Verdict) (place : Nonterminal) (told : Facts) →
-    holds places (of_part place v told) ≡ (holds places v && (stands places place told.nonterminal && holds places told.verdict))
-part_judged places v place told =
-    holds_meet places (standing v place told.nonterminal) told.verdict
-    ∙ ap (λ b. b && holds places told.verdict) (holds_standing places v place told.nonterminal)
-    ∙ and_assoc (holds places v) (stands places place told.nonterminal) (holds places told.verdict)
+part_judged : (places : Bool) (v : Verdict) (place : Nonterminal) (known : Facts) →
+    holds places (of_part place v known) ≡ (holds places v && (stands places place known.nonterminal && holds places known.verdict))
+part_judged places v place known =
+    holds_meet places (standing v place known.nonterminal) known.verdict
+    ∙ ap (λ b. b && holds places known.verdict) (holds_standing places v place known.nonterminal)
+    ∙ and_assoc (holds places v) (stands places place known.nonterminal) (holds places known.verdict)
 
 -- the verdict of a form holds where the one before it did and the form keeps its structure
-pub judged : {X : Type 0} (places : Bool) (f : X → Role → Parameters → Told) (v : Verdict) (a : Form X) → holds places (judge f v a) ≡ (holds places v && keeps places f a)
+pub judged : {X : Type 0} (places : Bool) (f : X → Role → Parameters → Summary) (v : Verdict) (a : Form X) → holds places (judge f v a) ≡ (holds places v && keeps places f a)
 unfolding judge keeps
 judged places f v (Fixed p) = sym (and_true (holds places v))
 judged places f v (Part place c role n) = part_judged places v place (f n role c).facts
@@ -52,7 +52,7 @@ judged places f v (Followed place c n next) = part_judged places v place (f n St
 
 -- ---- over what links hold as something else
 
-pub judge_mapped : {X Y : Type 0} (g : X → Y) (f : Y → Role → Parameters → Told) (v : Verdict) (a : Form X) → judge f v (map_form g a) ≡ judge (λ x. f (g x)) v a
+pub judge_mapped : {X Y : Type 0} (g : X → Y) (f : Y → Role → Parameters → Summary) (v : Verdict) (a : Form X) → judge f v (map_form g a) ≡ judge (λ x. f (g x)) v a
 unfolding judge map_form
 judge_mapped g f v (Fixed p) = refl
 judge_mapped g f v (Part place c role n) = refl
@@ -65,7 +65,7 @@ judge_mapped g f v (Closed comma close) = refl
 judge_mapped g f v (Bare a) = judge_mapped g f v a
 judge_mapped g f v (Followed place c n next) = refl
 
-pub keeps_mapped : {X Y : Type 0} (places : Bool) (g : X → Y) (f : Y → Role → Parameters → Told) (a : Form X) → keeps places f (map_form g a) ≡ keeps places (λ x. f (g x)) a
+pub keeps_mapped : {X Y : Type 0} (places : Bool) (g : X → Y) (f : Y → Role → Parameters → Summary) (a : Form X) → keeps places f (map_form g a) ≡ keeps places (λ x. f (g x)) a
 unfolding keeps map_form
 keeps_mapped places g f (Fixed p) = refl
 keeps_mapped places g f (Part place c role n) = refl
@@ -80,19 +80,19 @@ keeps_mapped places g f (Followed place c n next) = refl
 
 -- ---- lists
 
-pub after_judged : {X A : Type 0} (f : X → Role → Parameters → Told) (t : List ℕ) (e : A → Form X) (v : Verdict) (xs : List A) →
+pub after_judged : {X A : Type 0} (f : X → Role → Parameters → Summary) (t : List ℕ) (e : A → Form X) (v : Verdict) (xs : List A) →
     judge f v (each_after t e xs) ≡ verdict_all (λ x w. judge f w (e x)) v xs
 unfolding judge each_after verdict_all
 after_judged f t e v [] = refl
 after_judged f t e v (x ∷ xs) = after_judged f t e (judge f v (e x)) xs
 
-pub listed_judged : {X A : Type 0} (f : X → Role → Parameters → Told) (t : List ℕ) (e : A → Form X) (v : Verdict) (xs : List A) →
+pub listed_judged : {X A : Type 0} (f : X → Role → Parameters → Summary) (t : List ℕ) (e : A → Form X) (v : Verdict) (xs : List A) →
     judge f v (listed t e xs) ≡ verdict_all (λ x w. judge f w (e x)) v xs
 unfolding judge listed verdict_all
 listed_judged f t e v [] = refl
 listed_judged f t e v (x ∷ xs) = after_judged f t e (judge f v (e x)) xs
 
-pub order_judged : {X A : Type 0} (f : X → Role → Parameters → Told) (e : A → Form X) (v : Verdict) (xs : List A) →
+pub order_judged : {X A : Type 0} (f : X → Role → Parameters → Summary) (e : A → Form X) (v : Verdict) (xs : List A) →
     judge f v (in_order e xs) ≡ verdict_all (λ x w. judge f w (e x)) v xs
 unfolding judge in_order verdict_all
 order_judged f e v [] = refl

@@ -36,7 +36,7 @@ pub mod RootLaws
 pub mod StmtForgets
 pub mod StmtsJudged
 pub mod Taken
-pub mod ToldForms
+pub mod SummaryForms
 pub mod TreeFacts
 pub mod VerdictLaws
 pub mod Wholes

@@ -158,39 +158,39 @@ fragment_mapped {X} {Y} g called c false n = ap (whole_fragment false) (children
 abbrev as_node : {X : Type 0} → Box (JSXElement X) Global → JSXElement X → AnyNode-F X
 as_node b n = nodes.JSXPart (jsx_parts.JSXElement (record b { value = n }))
 
--- whatever is told of an element that a link holds
-abbrev told_in : {X : Type 0} {A : Type 0} → A → (JSXElement X → A) → AnyNode-F X → A
-told_in none f (nodes.JSXPart (jsx_parts.JSXElement b)) = f b.value
-told_in none f n = none
+-- whatever is said of an element that a link holds
+abbrev if_element : {X : Type 0} {A : Type 0} → A → (JSXElement X → A) → AnyNode-F X → A
+if_element none f (nodes.JSXPart (jsx_parts.JSXElement b)) = f b.value
+if_element none f n = none
 
 name_mapped : {X Y : Type 0} (g : X → Y) (c : Parameters) (b : Box (JSXElement X) Global) (n : JSXElement X) (name : JSXElementName X) →
-    told_in (Fixed Never) (λ e. element_name_form c e.opening.name) (map-AnyNode X Y g (as_node b (record n { opening = record n.opening { name = name } }))) ≡ map_form g (element_name_form c name)
+    if_element (Fixed Never) (λ e. element_name_form c e.opening.name) (map-AnyNode X Y g (as_node b (record n { opening = record n.opening { name = name } }))) ≡ map_form g (element_name_form c name)
 unfolding element_name_form tag_member_form map_form
 name_mapped g c b n (element_names.Ident m) = refl
 name_mapped g c b n (element_names.JSXMemberExpr m) = refl
 name_mapped g c b n (element_names.JSXNamespacedName m) = refl
 
 types_mapped : {X Y : Type 0} (g : X → Y) (c : Parameters) (b : Box (JSXElement X) Global) (n : JSXElement X) (args : Option (TsTypeParamInstantiationBox X)) →
-    told_in (Fixed Never) (λ e. type_args_form c e.opening.type_args) (map-AnyNode X Y g (as_node b (record n { opening = record n.opening { type_args = args } }))) ≡ map_form g (type_args_form c args)
+    if_element (Fixed Never) (λ e. type_args_form c e.opening.type_args) (map-AnyNode X Y g (as_node b (record n { opening = record n.opening { type_args = args } }))) ≡ map_form g (type_args_form c args)
 unfolding type_args_form map_form
 types_mapped g c b n None = refl
 types_mapped g c b n (Some t) = refl
 
 closing_mapped : {X Y : Type 0} (g : X → Y) (c : Parameters) (b : Box (JSXElement X) Global) (n : JSXElement X) (span : Span) (name : JSXElementName X) →
-    told_in (Fixed Never) (λ e. element_rest_form c e.children.items e.closing) (map-AnyNode X Y g (as_node b (record n { closing = Some (record { span = span; name = name }) }))) ≡ map_form g (element_rest_form c n.children.items (Some (record { span = span; name = name })))
+    if_element (Fixed Never) (λ e. element_rest_form c e.children.items e.closing) (map-AnyNode X Y g (as_node b (record n { closing = Some (record { span = span; name = name }) }))) ≡ map_form g (element_rest_form c n.children.items (Some (record { span = span; name = name })))
 unfolding closing_form element_name_form tag_member_form is_text child_form container_form contained_form spread_child_form map_form
 closing_mapped {X} {Y} g c b n span (element_names.Ident m) = closed_mapped {X = X} {Y = Y} g _ c (by_child {X = X} _ (λ m. refl) (λ span m. refl) (λ span m. refl) (λ m. refl) (λ m. refl) (λ m. refl)) (by_child {X = X} _ (λ m. refl) (λ span m. refl) (λ span m. refl) (λ m. refl) (λ m. refl) (λ m. refl)) n.children.items _ (record { span = span; name = element_names.Ident m }) refl
 closing_mapped {X} {Y} g c b n span (element_names.JSXMemberExpr m) = closed_mapped {X = X} {Y = Y} g _ c (by_child {X = X} _ (λ m. refl) (λ span m. refl) (λ span m. refl) (λ m. refl) (λ m. refl) (λ m. refl)) (by_child {X = X} _ (λ m. refl) (λ span m. refl) (λ span m. refl) (λ m. refl) (λ m. refl) (λ m. refl)) n.children.items _ (record { span = span; name = element_names.JSXMemberExpr m }) refl
 closing_mapped {X} {Y} g c b n span (element_names.JSXNamespacedName m) = closed_mapped {X = X} {Y = Y} g _ c (by_child {X = X} _ (λ m. refl) (λ span m. refl) (λ span m. refl) (λ m. refl) (λ m. refl) (λ m. refl)) (by_child {X = X} _ (λ m. refl) (λ span m. refl) (λ span m. refl) (λ m. refl) (λ m. refl) (λ m. refl)) n.children.items _ (record { span = span; name = element_names.JSXNamespacedName m }) refl
 
 rest_mapped : {X Y : Type 0} (g : X → Y) (c : Parameters) (b : Box (JSXElement X) Global) (n : JSXElement X) (closing : Option (JSXClosingElement X)) →
-    told_in (Fixed Never) (λ e. element_rest_form c e.children.items e.closing) (map-AnyNode X Y g (as_node b (record n { closing = closing }))) ≡ map_form g (element_rest_form c n.children.items closing)
+    if_element (Fixed Never) (λ e. element_rest_form c e.children.items e.closing) (map-AnyNode X Y g (as_node b (record n { closing = closing }))) ≡ map_form g (element_rest_form c n.children.items closing)
 unfolding is_text child_form container_form contained_form spread_child_form map_form
 rest_mapped {X} {Y} g c b n None = unclosed_mapped {X = X} {Y = Y} g _ c (by_child {X = X} _ (λ m. refl) (λ span m. refl) (λ span m. refl) (λ m. refl) (λ m. refl) (λ m. refl)) (by_child {X = X} _ (λ m. refl) (λ span m. refl) (λ span m. refl) (λ m. refl) (λ m. refl) (λ m. refl)) n.children.items
 rest_mapped g c b n (Some k) = closing_mapped g c b n k.span k.name
 
 closes_mapped : {X Y : Type 0} (g : X → Y) (b : Box (JSXElement X) Global) (n : JSXElement X) (self : Bool) (closing : Option (JSXClosingElement X)) →
-    told_in false (λ e. is_closed self e.children.items e.closing) (map-AnyNode X Y g (as_node b (record n { closing = closing }))) ≡ is_closed self n.children.items closing
+    if_element false (λ e. is_closed self e.children.items e.closing) (map-AnyNode X Y g (as_node b (record n { closing = closing }))) ≡ is_closed self n.children.items closing
 unfolding is_closed
 closes_mapped g b n true None = ap (λ k. k == 0) (length_mapped _ n.children.items)
 closes_mapped g b n true (Some k) = refl

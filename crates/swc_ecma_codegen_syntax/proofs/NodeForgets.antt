@@ -19,7 +19,7 @@ use Rattle.swc_ecma_codegen_grammar.specs.declared.roles.Role.{Role}
 use Rattle.swc_ecma_codegen_grammar.specs.declared.roles.Role.TheVariants.{Expression, Callee, Statement, ChainMember, ChainCall, Pattern, PropertyName, ObjectLiteral, AssignmentTarget, Template, TaggedTemplate, Block, VariableDeclaration, ModuleDeclaration, ExportedHead, ExportedTail, Function, FunctionHead, MethodHead, MethodTail, FieldValue, MethodDecorators, AccessorTail, ClassHead, ClassWord, ClassTail, Member, Element, Child, TagObject}
 use Rattle.swc_ecma_codegen_grammar.specs.JsxPhrases.{jsx_part}
 use Rattle.swc_ecma_codegen_syntax.specs.declared.parameters.Parameters.{Parameters}
-use Rattle.swc_ecma_codegen_syntax.specs.Told.{Told}
+use Rattle.swc_ecma_codegen_syntax.specs.Summary.{Summary}
 use Rattle.swc_ecma_codegen_syntax.specs.Forms.{forget, keeps, is_met}
 use Rattle.swc_ecma_codegen_syntax.specs.ExprForms.{expr_form}
 use Rattle.swc_ecma_codegen_syntax.specs.NodeForms.{part_form, stmt_part_form, jsx_part_form, node_form}
@@ -34,7 +34,7 @@ use Rattle.swc_ecma_codegen_syntax.specs.ClassForms.{class_word_form}
 use Rattle.swc_ecma_codegen_syntax.proofs.ClassForgets.{class_decorators_forget, accessor_forgets, class_tail_forgets, class_member_forgets, field_expr_forgets, field_expr_keeps}
 use Rattle.swc_ecma_codegen_grammar.specs.ClassPhrases.{method_decorators, class_head}
 
-part_forgets : {X : Type 0} (comma places : Bool) (f : X → Role → Parameters → Told) (p : X → Role → Phrase) (c : Parameters) (n : ExprPart X) (role : Role) → keeps places f (part_form comma c n role) ≡ true → forget p (part_form comma c n role) ≡ expr_part p n role
+part_forgets : {X : Type 0} (comma places : Bool) (f : X → Role → Parameters → Summary) (p : X → Role → Phrase) (c : Parameters) (n : ExprPart X) (role : Role) → keeps places f (part_form comma c n role) ≡ true → forget p (part_form comma c n role) ≡ expr_part p n role
 unfolding keeps is_met part_form expr_part
 part_forgets comma places f p c (expr_parts.Pat n) Pattern k = pat_forgets p comma c n
 part_forgets comma places f p c (expr_parts.ObjectLit n) ObjectLiteral k = object_forgets places f p c n k
@@ -45,12 +45,12 @@ part_forgets comma places f p c (expr_parts.Tpl n) Template k = tpl_forgets p c 
 part_forgets comma places f p c (expr_parts.Tpl n) TaggedTemplate k = tpl_forgets p c true n
 part_forgets comma places f p c n role k = absurd (true≢false (sym k))
 
-callee_forgets : {X : Type 0} (places : Bool) (f : X → Role → Parameters → Told) (p : X → Role → Phrase) (called : Bool) (c : Parameters) (n : Expr X) → keeps places f (expr_form true called c n) ≡ true → forget p (expr_form true called c n) ≡ expr_in p true n
+callee_forgets : {X : Type 0} (places : Bool) (f : X → Role → Parameters → Summary) (p : X → Role → Phrase) (called : Bool) (c : Parameters) (n : Expr X) → keeps places f (expr_form true called c n) ≡ true → forget p (expr_form true called c n) ≡ expr_in p true n
 unfolding expr_form expr_in
 callee_forgets places f p called c (exprs.New n) k = new_forgets p c true n
 callee_forgets places f p called c n k = expr_forgets places f p called c n k
 
-stmt_part_forgets : {X : Type 0} (places : Bool) (f : X → Role → Parameters → Told) (p : X → Role → Phrase) (c : Parameters) (n : StmtPart X) (role : Role) →
+stmt_part_forgets : {X : Type 0} (places : Bool) (f : X → Role → Parameters → Summary) (p : X → Role → Phrase) (c : Parameters) (n : StmtPart X) (role : Role) →
     keeps places f (stmt_part_form c n role) ≡ true → forget p (stmt_part_form c n role) ≡ stmt_part p n role
 unfolding forget keeps is_met stmt_part_form class_word_form stmt_part method_decorators class_head
 stmt_part_forgets places f p c (stmt_parts.BlockStmt n) Block k = block_forgets places f p c n k
@@ -70,10 +70,10 @@ stmt_part_forgets places f p c (stmt_parts.Class n) ClassTail k = class_tail_for
 stmt_part_forgets places f p c (stmt_parts.ClassMember n) Member k = class_member_forgets places f p c n.value k
 stmt_part_forgets places f p c n role k = absurd (true≢false (sym k))
 
-field_same : {X : Type 0} (places : Bool) (f : X → Role → Parameters → Told) (p : X → Role → Phrase) (called : Bool) (c : Parameters) (n : Expr X) → keeps places f (expr_form false called c n) ≡ true → forget p (expr_form false called c n) ≡ expr p n
+field_same : {X : Type 0} (places : Bool) (f : X → Role → Parameters → Summary) (p : X → Role → Phrase) (called : Bool) (c : Parameters) (n : Expr X) → keeps places f (expr_form false called c n) ≡ true → forget p (expr_form false called c n) ≡ expr p n
 field_same places f p called c n k = expr_forgets places f p called c n k
 
-jsx_part_forgets : {X : Type 0} (places : Bool) (f : X → Role → Parameters → Told) (p : X → Role → Phrase) (c : Parameters) (n : JSXPart X) (role : Role) →
+jsx_part_forgets : {X : Type 0} (places : Bool) (f : X → Role → Parameters → Summary) (p : X → Role → Phrase) (c : Parameters) (n : JSXPart X) (role : Role) →
     keeps places f (jsx_part_form c n role) ≡ true → forget p (jsx_part_form c n role) ≡ jsx_part p n role
 unfolding keeps is_met jsx_part_form jsx_part
 jsx_part_forgets places f p c (jsx_parts.JSXElement n) Element k = element_forgets p c false n.value
@@ -83,7 +83,7 @@ jsx_part_forgets places f p c (jsx_parts.JSXFragment n) Child k = fragment_forge
 jsx_part_forgets places f p c (jsx_parts.JSXObject n) TagObject k = tag_object_forgets p c n
 jsx_part_forgets places f p c n role k = absurd (true≢false (sym k))
 
-pub node_forgets : {X : Type 0} (places : Bool) (f : X → Role → Parameters → Told) (p : X → Role → Phrase) (called : Bool) (c : Parameters) (n : AnyNode-F X) (role : Role) →
+pub node_forgets : {X : Type 0} (places : Bool) (f : X → Role → Parameters → Summary) (p : X → Role → Phrase) (called : Bool) (c : Parameters) (n : AnyNode-F X) (role : Role) →
     keeps places f (node_form called c n role) ≡ true → forget p (node_form called c n role) ≡ node_phrase p n role
 unfolding keeps is_met node_form node_phrase
 node_forgets places f p called c (nodes.Expr n) Expression k = expr_forgets places f p called c n k

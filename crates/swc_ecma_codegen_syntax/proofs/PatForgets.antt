@@ -29,7 +29,7 @@ use Rattle.swc_ecma_codegen_grammar.specs.declared.roles.Role.{Role}
 use Rattle.swc_ecma_codegen_syntax.specs.declared.nonterminals.Nonterminal.{Nonterminal}
 use Rattle.swc_ecma_codegen_syntax.specs.declared.nonterminals.Nonterminal.TheVariants as nt
 use Rattle.swc_ecma_codegen_syntax.specs.declared.parameters.Parameters.{Parameters}
-use Rattle.swc_ecma_codegen_syntax.specs.Told.{Told}
+use Rattle.swc_ecma_codegen_syntax.specs.Summary.{Summary}
 use Rattle.swc_ecma_codegen_syntax.specs.Parameters.{of_targets}
 use Rattle.swc_ecma_codegen_syntax.specs.Forms.{forget, keeps, is_met}
 use Rattle.swc_ecma_codegen_syntax.specs.NameForms.{name_form}
@@ -129,7 +129,7 @@ target_pat_forgets p comma c (target_pats.Array n) = array_forgets p comma c n
 target_pat_forgets p comma c (target_pats.Object n) = object_pat_forgets p comma c n
 target_pat_forgets p comma c (target_pats.Invalid n) = refl
 
-simple_forgets : {X : Type 0} (places : Bool) (f : X → Role → Parameters → Told) (p : X → Role → Phrase) (c : Parameters) (n : SimpleAssignTarget X) → keeps places f (simple_target_form c n) ≡ true → forget p (simple_target_form c n) ≡ simple_assign_target p n
+simple_forgets : {X : Type 0} (places : Bool) (f : X → Role → Parameters → Summary) (p : X → Role → Phrase) (c : Parameters) (n : SimpleAssignTarget X) → keeps places f (simple_target_form c n) ≡ true → forget p (simple_target_form c n) ≡ simple_assign_target p n
 unfolding forget keeps is_met simple_target_form paren_target_form simple_assign_target paren_expr
 simple_forgets places f p c (simple_targets.Ident n) k = binding_forgets p c n
 simple_forgets places f p c (simple_targets.Member n) k = member_forgets p nt.CallOrMember c n
@@ -139,7 +139,7 @@ simple_forgets places f p c (simple_targets.OptChain n) k = chain_forgets p c n
 simple_forgets places f p c (simple_targets.Invalid n) k = refl
 simple_forgets places f p c n k = absurd (true≢false (sym k))
 
-pub target_forgets : {X : Type 0} (comma places : Bool) (f : X → Role → Parameters → Told) (p : X → Role → Phrase) (c : Parameters) (n : AssignTarget X) → keeps places f (target_form comma c n) ≡ true → forget p (target_form comma c n) ≡ assign_target p n
+pub target_forgets : {X : Type 0} (comma places : Bool) (f : X → Role → Parameters → Summary) (p : X → Role → Phrase) (c : Parameters) (n : AssignTarget X) → keeps places f (target_form comma c n) ≡ true → forget p (target_form comma c n) ≡ assign_target p n
 unfolding target_form assign_target
 target_forgets comma places f p c (targets.Simple n) k = simple_forgets places f p (of_targets c) n k
 target_forgets comma places f p c (targets.Pat n) k = target_pat_forgets p comma (of_targets c) n

@@ -17,39 +17,39 @@ use Rattle.swc_ecma_codegen_syntax.specs.declared.nonterminals.Nonterminal.{Nont
 use Rattle.swc_ecma_codegen_syntax.specs.declared.parameters.Parameters.{Parameters}
 use Rattle.swc_ecma_codegen_syntax.specs.Verdicts.{unasked, holds}
 use Rattle.swc_ecma_codegen_syntax.specs.Forms.{Form, of_part, judge, keeps, forget}
-use Rattle.swc_ecma_codegen_syntax.specs.NodeForms.{stmt_facts, node_facts, told_of, facts}
+use Rattle.swc_ecma_codegen_syntax.specs.NodeForms.{stmt_facts, node_facts, summary_of, facts}
 use Rattle.swc_ecma_codegen_syntax.specs.ModuleForms.{item_form, program_form}
 use Rattle.swc_ecma_codegen_syntax.specs.Derives.{Derives, DerivesStmt, DerivesItem, DerivesProgram, bare_phrase, item_phrase, stmt_verdict, item_verdict, program_verdict}
 use Rattle.swc_ecma_codegen_syntax.proofs.Judged.{judged}
 use Rattle.swc_ecma_codegen_syntax.proofs.VerdictLaws.{holds_meet}
 use Rattle.swc_ecma_codegen_syntax.proofs.TreeFacts.{facts_stmt}
-use Rattle.swc_ecma_codegen_syntax.proofs.ToldForms.{unasked_holds}
+use Rattle.swc_ecma_codegen_syntax.proofs.SummaryForms.{unasked_holds}
 use Rattle.swc_ecma_codegen_syntax.proofs.Exact.{derived_kept, form_derives}
 use Rattle.swc_ecma_codegen_syntax.proofs.ModuleForgets.{item_forgets, program_forgets}
 use Rattle.swc_ecma_codegen_syntax.proofs.Wholes.{listed, said, node_sound, node_complete, node_exactly}
 
 -- ---- of any form that is read as today
 
-form_kept : (places : Bool) (a : Form AnyNode) → holds places (judge told_of unasked a) ≡ keeps places told_of a
-form_kept places a = judged places told_of unasked a ∙ ap (λ b. b && keeps places told_of a) (unasked_holds places)
+form_kept : (places : Bool) (a : Form AnyNode) → holds places (judge summary_of unasked a) ≡ keeps places summary_of a
+form_kept places a = judged places summary_of unasked a ∙ ap (λ b. b && keeps places summary_of a) (unasked_holds places)
 
 abbrev Reads : Bool → Form AnyNode → Phrase → Type 0
-Reads places a p = keeps places told_of a ≡ true → forget phrase a ≡ p
+Reads places a p = keeps places summary_of a ≡ true → forget phrase a ≡ p
 
-form_sound : (places : Bool) (a : Form AnyNode) (p : Phrase) → Reads places a p → (b : Bool) → b ≡ holds places (judge told_of unasked a) → (s : Settings) (ts : List Token) → Derives places s a ts → (b ≡ true) × Generates s p ts
+form_sound : (places : Bool) (a : Form AnyNode) (p : Phrase) → Reads places a p → (b : Bool) → b ≡ holds places (judge summary_of unasked a) → (s : Settings) (ts : List Token) → Derives places s a ts → (b ≡ true) × Generates s p ts
 form_sound places a p reads b e s ts d =
     let (k, x) = derived_kept places s a ts d in
     (e ∙ form_kept places a ∙ k, subst (λ q. Generates s q ts) (reads k) x)
 
-form_complete : (places : Bool) (a : Form AnyNode) (p : Phrase) → Reads places a p → (b : Bool) → b ≡ holds places (judge told_of unasked a) → b ≡ true → (s : Settings) (ts : List Token) → Generates s (bare_phrase p) ts → Derives places s a ts
+form_complete : (places : Bool) (a : Form AnyNode) (p : Phrase) → Reads places a p → (b : Bool) → b ≡ holds places (judge summary_of unasked a) → b ≡ true → (s : Settings) (ts : List Token) → Generates s (bare_phrase p) ts → Derives places s a ts
 form_complete places a p reads b e h s ts x =
-    let k : keeps places told_of a ≡ true = sym (form_kept places a) ∙ sym e ∙ h in
+    let k : keeps places summary_of a ≡ true = sym (form_kept places a) ∙ sym e ∙ h in
     form_derives places s a k ts (subst (λ q. Generates s (bare_phrase q) ts) (sym (reads k)) x)
 
 -- ---- items
 
 item_reads : (places : Bool) (c : Parameters) (n : ModuleItem AnyNode) → Reads places (item_form c n) (item_phrase n)
-item_reads places c n k = item_forgets places told_of phrase c n k
+item_reads places c n k = item_forgets places summary_of phrase c n k
 
 pub item_sound : (places : Bool) (c : Parameters) (n : ModuleItem AnyNode) (b : Bool) → b ≡ holds places (item_verdict c n) → (s : Settings) (ts : List Token) → DerivesItem places s c n ts → (b ≡ true) × Generates s (item_phrase n) ts
 item_sound places c n b e s ts (m, d) = form_sound places (item_form c n) (item_phrase n) (item_reads places c n) b e s ts d
@@ -68,35 +68,35 @@ item_exactly places c n b e w s m =
 -- ---- programs
 
 program_reads : (places minify : Bool) (n : Program AnyNode) → Reads places (program_form minify n) (program_phrase n)
-program_reads places minify n k = program_forgets places told_of phrase minify n k
+program_reads places minify n k = program_forgets places summary_of phrase minify n k
 
-abbrev told_with : Bool → Bool → Program AnyNode → Bool
-told_with places minify n = holds places (judge told_of unasked (program_form minify n))
+abbrev holds_with : Bool → Bool → Program AnyNode → Bool
+holds_with places minify n = holds places (judge summary_of unasked (program_form minify n))
 
--- what is told of both ways
-both_told : (places : Bool) (n : Program AnyNode) → holds places (program_verdict n) ≡ (told_with places false n && told_with places true n)
-both_told places n = holds_meet places (judge told_of unasked (program_form false n)) (judge told_of unasked (program_form true n))
+-- the verdict of both ways
+both_hold : (places : Bool) (n : Program AnyNode) → holds places (program_verdict n) ≡ (holds_with places false n && holds_with places true n)
+both_hold places n = holds_meet places (judge summary_of unasked (program_form false n)) (judge summary_of unasked (program_form true n))
 
-told_at : (places : Bool) (n : Program AnyNode) (minify : Bool) → holds places (program_verdict n) ≡ true → told_with places minify n ≡ true
-told_at places n false h = (and_parts (told_with places false n) (told_with places true n) (sym (both_told places n) ∙ h)).0
-told_at places n true h = (and_parts (told_with places false n) (told_with places true n) (sym (both_told places n) ∙ h)).1
+holds_in_both : (places : Bool) (n : Program AnyNode) (minify : Bool) → holds places (program_verdict n) ≡ true → holds_with places minify n ≡ true
+holds_in_both places n false h = (and_parts (holds_with places false n) (holds_with places true n) (sym (both_hold places n) ∙ h)).0
+holds_in_both places n true h = (and_parts (holds_with places false n) (holds_with places true n) (sym (both_hold places n) ∙ h)).1
 
-told_by : (places minify : Bool) (n : Program AnyNode) (s : Settings) (ts : List Token) → s.minify ≡ minify → DerivesProgram places s n ts → told_with places minify n ≡ true
-told_by places minify n s ts e d =
-    (form_sound places (program_form minify n) (program_phrase n) (program_reads places minify n) (told_with places minify n) refl s ts (subst (λ b. Derives places s (program_form b n) ts) e d)).0
+holds_by : (places minify : Bool) (n : Program AnyNode) (s : Settings) (ts : List Token) → s.minify ≡ minify → DerivesProgram places s n ts → holds_with places minify n ≡ true
+holds_by places minify n s ts e d =
+    (form_sound places (program_form minify n) (program_phrase n) (program_reads places minify n) (holds_with places minify n) refl s ts (subst (λ b. Derives places s (program_form b n) ts) e d)).0
 
 pub program_sound : (places : Bool) (n : Program AnyNode) (b : Bool) → b ≡ holds places (program_verdict n) → (s t : Settings) (ts us : List Token) →
     s.minify ≡ false → t.minify ≡ true → DerivesProgram places s n ts → DerivesProgram places t n us → b ≡ true
 program_sound places n b e s t ts us h l d g =
-    e ∙ both_told places n ∙ and_from (told_with places false n) (told_with places true n) (told_by places false n s ts h d) (told_by places true n t us l g)
+    e ∙ both_hold places n ∙ and_from (holds_with places false n) (holds_with places true n) (holds_by places false n s ts h d) (holds_by places true n t us l g)
 
 pub program_read : (places : Bool) (n : Program AnyNode) (s : Settings) (ts : List Token) → DerivesProgram places s n ts → Generates s (program_phrase n) ts
-program_read places n s ts d = (form_sound places (program_form s.minify n) (program_phrase n) (program_reads places s.minify n) (told_with places s.minify n) refl s ts d).1
+program_read places n s ts d = (form_sound places (program_form s.minify n) (program_phrase n) (program_reads places s.minify n) (holds_with places s.minify n) refl s ts d).1
 
 pub program_complete : (places : Bool) (n : Program AnyNode) (b : Bool) → b ≡ holds places (program_verdict n) → b ≡ true → (s : Settings) (ts : List Token) →
     Generates s (bare_phrase (program_phrase n)) ts → DerivesProgram places s n ts
 program_complete places n b e h s ts x =
-    form_complete places (program_form s.minify n) (program_phrase n) (program_reads places s.minify n) (told_with places s.minify n) refl (told_at places n s.minify (sym e ∙ h)) s ts x
+    form_complete places (program_form s.minify n) (program_phrase n) (program_reads places s.minify n) (holds_with places s.minify n) refl (holds_in_both places n s.minify (sym e ∙ h)) s ts x
 
 abbrev with_minify : Bool → Settings
 with_minify minify = record { target = Es5; ascii_only = false; minify = minify; assert_for_attributes = false }
@@ -111,16 +111,16 @@ program_exactly places n b e w =
 
 -- ---- statements
 
-stmt_told : (n : Stmt AnyNode) (c : Parameters) → facts (whole.Stmt n) Statement c ≡ stmt_facts told_of c n
+stmt_facts_at : (n : Stmt AnyNode) (c : Parameters) → facts (whole.Stmt n) Statement c ≡ stmt_facts summary_of c n
 unfolding node_facts
-stmt_told n c = facts_stmt n Statement c
+stmt_facts_at n c = facts_stmt n Statement c
 
 stmt_read : (n : Stmt AnyNode) → phrase (whole.Stmt n) Statement ≡ stmt_phrase n
 unfolding node_phrase
 stmt_read n = phrase_stmt n Statement
 
 stmt_said : (places : Bool) (place : Nonterminal) (c : Parameters) (n : Stmt AnyNode) → holds places (stmt_verdict place c n) ≡ holds places (said place c Statement (whole.Stmt n))
-stmt_said places place c n = ap (λ t. holds places (of_part place unasked t)) (sym (stmt_told n c))
+stmt_said places place c n = ap (λ t. holds places (of_part place unasked t)) (sym (stmt_facts_at n c))
 
 pub stmt_sound : (places : Bool) (place : Nonterminal) (c : Parameters) (n : Stmt AnyNode) (b : Bool) → b ≡ holds places (stmt_verdict place c n) → (s : Settings) (ts : List Token) →
     DerivesStmt places s place c n ts → (b ≡ true) × Generates s (stmt_phrase n) ts

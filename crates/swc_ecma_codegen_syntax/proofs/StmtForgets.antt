@@ -34,7 +34,7 @@ use Rattle.swc_ecma_codegen_grammar.specs.declared.roles.Role.{Role}
 use Rattle.swc_ecma_codegen_syntax.specs.declared.lookahead.Lookahead.{Lookahead}
 use Rattle.swc_ecma_codegen_syntax.specs.declared.lookahead.Lookahead.TheVariants.{ForStart}
 use Rattle.swc_ecma_codegen_syntax.specs.declared.parameters.Parameters.{Parameters}
-use Rattle.swc_ecma_codegen_syntax.specs.Told.{Told}
+use Rattle.swc_ecma_codegen_syntax.specs.Summary.{Summary}
 use Rattle.swc_ecma_codegen_syntax.specs.Parameters.{of_bindings, of_declarations, in_list}
 use Rattle.swc_ecma_codegen_syntax.specs.Forms.{ByRule, ByScope, forget, keeps, is_met, each_after}
 use Rattle.swc_ecma_codegen_syntax.specs.NameForms.{name_form}
@@ -53,17 +53,17 @@ unfolding forget value_form initializer
 value_forgets p c None = refl
 value_forgets p c (Some n) = refl
 
-declarator_by : {X : Type 0} (places : Bool) (f : X → Role → Parameters → Told) (p : X → Role → Phrase) (c : Parameters) (constant : Bool) (n : VarDeclarator X) (definite : Bool) →
+declarator_by : {X : Type 0} (places : Bool) (f : X → Role → Parameters → Summary) (p : X → Role → Phrase) (c : Parameters) (constant : Bool) (n : VarDeclarator X) (definite : Bool) →
     keeps places f (declarator_form c constant (record n { definite = definite })) ≡ true → forget p (declarator_form c constant (record n { definite = definite })) ≡ var_declarator p (record n { definite = definite })
 unfolding forget keeps is_met declarator_form var_declarator declared_pat
 declarator_by places f p c constant n false k = ap₂ Then (pat_forgets p false (of_bindings c) n.name) (value_forgets p c n.init)
 declarator_by places f p c constant n true k = absurd (true≢false (sym k))
 
-declarator_forgets : {X : Type 0} (places : Bool) (f : X → Role → Parameters → Told) (p : X → Role → Phrase) (c : Parameters) (constant : Bool) (n : VarDeclarator X) →
+declarator_forgets : {X : Type 0} (places : Bool) (f : X → Role → Parameters → Summary) (p : X → Role → Phrase) (c : Parameters) (constant : Bool) (n : VarDeclarator X) →
     keeps places f (declarator_form c constant n) ≡ true → forget p (declarator_form c constant n) ≡ var_declarator p n
 declarator_forgets places f p c constant n k = declarator_by places f p c constant n n.definite k
 
-declarators_forget : {X : Type 0} (places : Bool) (f : X → Role → Parameters → Told) (p : X → Role → Phrase) (c : Parameters) (constant : Bool) (xs : List (VarDeclarator X)) →
+declarators_forget : {X : Type 0} (places : Bool) (f : X → Role → Parameters → Summary) (p : X → Role → Phrase) (c : Parameters) (constant : Bool) (xs : List (VarDeclarator X)) →
     keeps places f (declarators_form c constant xs) ≡ true → forget p (declarators_form c constant xs) ≡ phrases.some_listed (codes ",") (map (var_declarator p) xs)
 unfolding forget keeps declarators_form phrases.some_listed
 declarators_forget places f p c constant [] k = refl
@@ -71,7 +71,7 @@ declarators_forget places f p c constant (x ∷ xs) k =
     let (h, l) = and_parts (keeps places f (declarator_form c constant x)) (keeps places f (each_after (codes ",") (declarator_form c constant) xs)) k in
     ap₂ Then (declarator_forgets places f p c constant x h) (kept_after places f p (codes ",") (declarator_form c constant) (var_declarator p) (declarator_forgets places f p c constant) xs l)
 
-pub var_decl_forgets : {X : Type 0} (places : Bool) (f : X → Role → Parameters → Told) (p : X → Role → Phrase) (c : Parameters) (n : VarDecl X) →
+pub var_decl_forgets : {X : Type 0} (places : Bool) (f : X → Role → Parameters → Summary) (p : X → Role → Phrase) (c : Parameters) (n : VarDecl X) →
     keeps places f (var_decl_form c n) ≡ true → forget p (var_decl_form c n) ≡ var_decl p n
 unfolding forget keeps var_decl_form var_decl
 var_decl_forgets places f p c n k =
@@ -79,7 +79,7 @@ var_decl_forgets places f p c n k =
     let (i, j) = and_parts (is_met places ByRule (is_single c n)) (keeps places f (declarators_form c (is_const n.kind) n.decls.items)) l in
     ap (λ q. declare_word n.declare > var_kind n.kind > q) (declarators_forget places f p c (is_const n.kind) n.decls.items j)
 
-pub decl_forgets : {X : Type 0} (places : Bool) (f : X → Role → Parameters → Told) (p : X → Role → Phrase) (c : Parameters) (n : Decl X) →
+pub decl_forgets : {X : Type 0} (places : Bool) (f : X → Role → Parameters → Summary) (p : X → Role → Phrase) (c : Parameters) (n : Decl X) →
     keeps places f (decl_form c n) ≡ true → forget p (decl_form c n) ≡ decl p n
 unfolding forget keeps is_met decl_form decl
 decl_forgets places f p c (decls.Var n) k =
@@ -168,19 +168,19 @@ for_forgets p c n =
     ap (λ a. word (codes "for") > mark (codes "(") > a > mark (codes ";") > forget p (optional_form c n.test) > mark (codes ";") > forget p (optional_form c n.update) > mark (codes ")") > stmt_at p n.body) (init_forgets p c n.init)
     ∙ ap₂ (λ a b. word (codes "for") > mark (codes "(") > for_init p n.init > mark (codes ";") > a > mark (codes ";") > b > mark (codes ")") > stmt_at p n.body) (optional_forgets p c n.test) (optional_forgets p c n.update)
 
-head_forgets : {X : Type 0} (places : Bool) (f : X → Role → Parameters → Told) (p : X → Role → Phrase) (l : Lookahead) (c : Parameters) (n : ForHead X) → keeps places f (head_form l c n) ≡ true → forget p (head_form l c n) ≡ for_head p n
+head_forgets : {X : Type 0} (places : Bool) (f : X → Role → Parameters → Summary) (p : X → Role → Phrase) (l : Lookahead) (c : Parameters) (n : ForHead X) → keeps places f (head_form l c n) ≡ true → forget p (head_form l c n) ≡ for_head p n
 unfolding forget keeps is_met head_form for_head
 head_forgets places f p l c (heads.VarDecl n) k = refl
 head_forgets places f p l c (heads.UsingDecl n) k = absurd (true≢false (sym k))
 head_forgets places f p l c (heads.Pat n) k = refl
 
-for_in_forgets : {X : Type 0} (places : Bool) (f : X → Role → Parameters → Told) (p : X → Role → Phrase) (c : Parameters) (n : ForInStmt X) → keeps places f (for_in_form c n) ≡ true → forget p (for_in_form c n) ≡ for_in_stmt p n
+for_in_forgets : {X : Type 0} (places : Bool) (f : X → Role → Parameters → Summary) (p : X → Role → Phrase) (c : Parameters) (n : ForInStmt X) → keeps places f (for_in_form c n) ≡ true → forget p (for_in_form c n) ≡ for_in_stmt p n
 unfolding forget keeps for_in_form for_in_stmt
 for_in_forgets places f p c n k =
     ap (λ a. word (codes "for") > mark (codes "(") > a > word (codes "in") > value_at p n.right > mark (codes ")") > stmt_at p n.body)
     (head_forgets places f p ForStart c n.left (and_parts (keeps places f (head_form ForStart c n.left)) _ k).0)
 
-for_of_forgets : {X : Type 0} (places : Bool) (f : X → Role → Parameters → Told) (p : X → Role → Phrase) (c : Parameters) (n : ForOfStmt X) → keeps places f (for_of_form c n) ≡ true → forget p (for_of_form c n) ≡ for_of_stmt p n
+for_of_forgets : {X : Type 0} (places : Bool) (f : X → Role → Parameters → Summary) (p : X → Role → Phrase) (c : Parameters) (n : ForOfStmt X) → keeps places f (for_of_form c n) ≡ true → forget p (for_of_form c n) ≡ for_of_stmt p n
 unfolding forget keeps for_of_form for_of_stmt
 for_of_forgets places f p c n k =
     let (h, l) = and_parts (is_met places ByRule (not n.is_await || c.has_await)) _ k in
@@ -189,7 +189,7 @@ for_of_forgets places f p c n k =
 
 -- ---- all of them
 
-pub stmt_forgets : {X : Type 0} (places : Bool) (f : X → Role → Parameters → Told) (p : X → Role → Phrase) (c : Parameters) (n : Stmt X) → keeps places f (stmt_form c n) ≡ true → forget p (stmt_form c n) ≡ stmt p n
+pub stmt_forgets : {X : Type 0} (places : Bool) (f : X → Role → Parameters → Summary) (p : X → Role → Phrase) (c : Parameters) (n : Stmt X) → keeps places f (stmt_form c n) ≡ true → forget p (stmt_form c n) ≡ stmt p n
 unfolding forget keeps stmt_form stmt with_form labeled_form break_form continue_form throw_form while_form do_while_form expr_stmt_form name_form with_stmt labeled_stmt break_stmt continue_stmt throw_stmt while_stmt do_while_stmt expr_stmt
 stmt_forgets places f p c (stmts.Block n) k = refl
 stmt_forgets places f p c (stmts.Empty n) k = refl
@@ -211,7 +211,7 @@ stmt_forgets places f p c (stmts.ForOf n) k = for_of_forgets places f p c n k
 stmt_forgets places f p c (stmts.Decl n) k = decl_forgets places f p c n k
 stmt_forgets places f p c (stmts.Expr n) k = refl
 
-pub list_forgets : {X : Type 0} (places : Bool) (f : X → Role → Parameters → Told) (p : X → Role → Phrase) (c : Parameters) (xs : List (Stmt X)) →
+pub list_forgets : {X : Type 0} (places : Bool) (f : X → Role → Parameters → Summary) (p : X → Role → Phrase) (c : Parameters) (xs : List (Stmt X)) →
     keeps places f (list_form c xs) ≡ true → forget p (list_form c xs) ≡ phrases.in_order (map (stmt p) xs)
 unfolding forget keeps list_form phrases.in_order
 list_forgets places f p c [] k = refl
@@ -219,7 +219,7 @@ list_forgets places f p c (x ∷ xs) k =
     let (h, l) = and_parts (keeps places f (stmt_form (in_list (begins_empty xs) c) x)) (keeps places f (list_form c xs)) k in
     ap₂ Then (stmt_forgets places f p (in_list (begins_empty xs) c) x h) (list_forgets places f p c xs l)
 
-pub block_forgets : {X : Type 0} (places : Bool) (f : X → Role → Parameters → Told) (p : X → Role → Phrase) (c : Parameters) (n : BlockStmt X) → keeps places f (block_form c n) ≡ true → forget p (block_form c n) ≡ block_stmt p n
+pub block_forgets : {X : Type 0} (places : Bool) (f : X → Role → Parameters → Summary) (p : X → Role → Phrase) (c : Parameters) (n : BlockStmt X) → keeps places f (block_form c n) ≡ true → forget p (block_form c n) ≡ block_stmt p n
 unfolding forget keeps block_form block_stmt
 block_forgets places f p c n k =
     ap (λ a. mark (codes "{") > a > mark (codes "}")) (list_forgets places f p c n.stmts.items (and_parts (keeps places f (list_form c n.stmts.items)) true k).0)

@@ -8,7 +8,7 @@ use Rattle.swc_ecma_codegen_tree.specs.declared.stmts.Stmt.{Stmt}
 use Rattle.swc_ecma_codegen_tree.specs.declared.stmts.SwitchStmt.{SwitchStmt}
 use Rattle.swc_ecma_codegen_grammar.specs.declared.roles.Role.{Role}
 use Rattle.swc_ecma_codegen_syntax.specs.declared.parameters.Parameters.{Parameters}
-use Rattle.swc_ecma_codegen_syntax.specs.Told.{Told}
+use Rattle.swc_ecma_codegen_syntax.specs.Summary.{Summary}
 use Rattle.swc_ecma_codegen_syntax.specs.declared.verdicts.Verdict.{Verdict}
 use Rattle.swc_ecma_codegen_syntax.specs.Verdicts.{by_rule, by_scope}
 use Rattle.swc_ecma_codegen_syntax.specs.Parameters.{in_list}
@@ -18,39 +18,39 @@ use Rattle.swc_ecma_codegen_syntax.specs.StmtForms.{expression_part, clause_item
 use Rattle.swc_ecma_codegen_syntax.specs.ModuleForms.{item_form, begins_empty_item, items_form}
 use Rattle.swc_ecma_codegen_syntax.proofs.Judged.{after_judged, order_judged}
 
-declarators_judged : {X : Type 0} (f : X → Role → Parameters → Told) (c : Parameters) (constant : Bool) (v : Verdict) (xs : List (VarDeclarator X)) →
+declarators_judged : {X : Type 0} (f : X → Role → Parameters → Summary) (c : Parameters) (constant : Bool) (v : Verdict) (xs : List (VarDeclarator X)) →
     judge f v (declarators_form c constant xs) ≡ verdict_all (λ n w. judge f w (declarator_form c constant n)) v xs
 unfolding judge declarators_form verdict_all
 declarators_judged f c constant v [] = refl
 declarators_judged f c constant v (x ∷ xs) = after_judged f (codes ",") (declarator_form c constant) (judge f v (declarator_form c constant x)) xs
 
-pub var_decl_judged : {X : Type 0} (f : X → Role → Parameters → Told) (c : Parameters) (v : Verdict) (n : VarDecl X) →
+pub var_decl_judged : {X : Type 0} (f : X → Role → Parameters → Summary) (c : Parameters) (v : Verdict) (n : VarDecl X) →
     judge f v (var_decl_form c n)
     ≡ verdict_all (λ x w. judge f w (declarator_form c (is_const n.kind) x)) (by_rule (by_scope v (not n.declare)) (is_single c n)) n.decls.items
 unfolding judge asked var_decl_form
 var_decl_judged f c v n = declarators_judged f c (is_const n.kind) (by_rule (by_scope v (not n.declare)) (is_single c n)) n.decls.items
 
-pub switch_judged : {X : Type 0} (f : X → Role → Parameters → Told) (c : Parameters) (v : Verdict) (n : SwitchStmt X) →
+pub switch_judged : {X : Type 0} (f : X → Role → Parameters → Summary) (c : Parameters) (v : Verdict) (n : SwitchStmt X) →
     judge f v (switch_form c n) ≡ verdict_all (λ x w. judge f w (case_form c x)) (judge f v (expression_part c n.discriminant)) n.cases.items
 unfolding judge switch_form
 switch_judged f c v n = order_judged f (case_form c) (judge f v (expression_part c n.discriminant)) n.cases.items
 
 -- one more
-pub clause_next : {X : Type 0} (f : X → Role → Parameters → Told) (c : Parameters) (v w : Verdict) (xs : List (StmtBox X)) (i : ℕ) (x : StmtBox X) → i < length xs → x ≡ get_or xs i x →
+pub clause_next : {X : Type 0} (f : X → Role → Parameters → Summary) (c : Parameters) (v w : Verdict) (xs : List (StmtBox X)) (i : ℕ) (x : StmtBox X) → i < length xs → x ≡ get_or xs i x →
     w ≡ judge f v (clause_item_form c x (drop (i + 1) xs)) → judge f v (clause_list_form c (drop i xs)) ≡ judge f w (clause_list_form c (drop (i + 1) xs))
 unfolding judge clause_list_form
 clause_next f c v w xs i x h here e =
     let d = rw add-one at e in
     rw (add-one, drop-cons xs i x h) (ap (λ z. judge f (judge f v (clause_item_form c z (drop (suc i) xs))) (clause_list_form c (drop (suc i) xs))) (sym here) ∙ ap (λ z. judge f z (clause_list_form c (drop (suc i) xs))) (sym d))
 
-pub list_next : {X : Type 0} (f : X → Role → Parameters → Told) (c : Parameters) (v w : Verdict) (xs : List (Stmt X)) (i : ℕ) (x : Stmt X) → i < length xs → x ≡ get_or xs i x →
+pub list_next : {X : Type 0} (f : X → Role → Parameters → Summary) (c : Parameters) (v w : Verdict) (xs : List (Stmt X)) (i : ℕ) (x : Stmt X) → i < length xs → x ≡ get_or xs i x →
     w ≡ judge f v (stmt_form (in_list (begins_empty (drop (i + 1) xs)) c) x) → judge f v (list_form c (drop i xs)) ≡ judge f w (list_form c (drop (i + 1) xs))
 unfolding judge list_form
 list_next f c v w xs i x h here e =
     let d = rw add-one at e in
     rw (add-one, drop-cons xs i x h) (ap (λ z. judge f (judge f v (stmt_form (in_list (begins_empty (drop (suc i) xs)) c) z)) (list_form c (drop (suc i) xs))) (sym here) ∙ ap (λ z. judge f z (list_form c (drop (suc i) xs))) (sym d))
 
-pub items_next : {X : Type 0} (f : X → Role → Parameters → Told) (c : Parameters) (v w : Verdict) (xs : List (ModuleItem X)) (i : ℕ) (x : ModuleItem X) → i < length xs → x ≡ get_or xs i x →
+pub items_next : {X : Type 0} (f : X → Role → Parameters → Summary) (c : Parameters) (v w : Verdict) (xs : List (ModuleItem X)) (i : ℕ) (x : ModuleItem X) → i < length xs → x ≡ get_or xs i x →
     w ≡ judge f v (item_form (in_list (begins_empty_item (drop (i + 1) xs)) c) x) → judge f v (items_form c (drop i xs)) ≡ judge f w (items_form c (drop (i + 1) xs))
 unfolding judge items_form
 items_next f c v w xs i x h here e =

@@ -20,22 +20,22 @@ use Rattle.swc_ecma_codegen_syntax.specs.declared.parameters.Parameters.{Paramet
 use Rattle.swc_ecma_codegen_syntax.specs.declared.verdicts.Verdict.{Verdict}
 use Rattle.swc_ecma_codegen_syntax.specs.Verdicts.{unasked, holds}
 use Rattle.swc_ecma_codegen_syntax.specs.Forms.{Part, of_part, judge, keeps, forget}
-use Rattle.swc_ecma_codegen_syntax.specs.NodeForms.{expr_facts, part_facts, node_facts, told_of, facts}
+use Rattle.swc_ecma_codegen_syntax.specs.NodeForms.{expr_facts, part_facts, node_facts, summary_of, facts}
 use Rattle.swc_ecma_codegen_syntax.specs.Derives.{Derives, DerivesExpr, DerivesPat, bare_phrase, expr_verdict, pat_verdict}
 use Rattle.swc_ecma_codegen_syntax.proofs.Judged.{judged}
 use Rattle.swc_ecma_codegen_syntax.proofs.TreeFacts.{facts_expr, facts_expr_part}
 use Rattle.swc_ecma_codegen_syntax.proofs.Exact.{derived_kept, kept_derives}
-use Rattle.swc_ecma_codegen_syntax.proofs.ToldForms.{unasked_holds}
+use Rattle.swc_ecma_codegen_syntax.proofs.SummaryForms.{unasked_holds}
 
 -- ---- of any node in a role
 
 abbrev pub said : Nonterminal → Parameters → Role → AnyNode → Verdict
 said place c role n = of_part place unasked (facts n role c)
 
-said_kept : (places : Bool) (place : Nonterminal) (c : Parameters) (role : Role) (n : AnyNode) → holds places (said place c role n) ≡ keeps places told_of (Part place c role n)
+said_kept : (places : Bool) (place : Nonterminal) (c : Parameters) (role : Role) (n : AnyNode) → holds places (said place c role n) ≡ keeps places summary_of (Part place c role n)
 unfolding judge
 said_kept places place c role n =
-    judged places told_of unasked (Part place c role n) ∙ ap (λ b. b && keeps places told_of (Part place c role n)) (unasked_holds places)
+    judged places summary_of unasked (Part place c role n) ∙ ap (λ b. b && keeps places summary_of (Part place c role n)) (unasked_holds places)
 
 pub node_sound : (places : Bool) (place : Nonterminal) (c : Parameters) (role : Role) (n : AnyNode) (b : Bool) → b ≡ holds places (said place c role n) → (s : Settings) (ts : List Token) →
     Derives places s (Part place c role n) ts → (b ≡ true) × Generates s (phrase n role) ts
@@ -77,16 +77,16 @@ node_exactly places place c role n b e w s =
 
 -- ---- expressions
 
-told : (n : Expr AnyNode) (c : Parameters) → facts (whole.Expr n) Expression c ≡ expr_facts told_of false c n
+expr_facts_at : (n : Expr AnyNode) (c : Parameters) → facts (whole.Expr n) Expression c ≡ expr_facts summary_of false c n
 unfolding node_facts
-told n c = facts_expr n Expression c
+expr_facts_at n c = facts_expr n Expression c
 
 read : (n : Expr AnyNode) → phrase (whole.Expr n) Expression ≡ expr_phrase n
 unfolding node_phrase
 read n = phrase_expr n Expression
 
 expr_said : (places : Bool) (place : Nonterminal) (c : Parameters) (n : Expr AnyNode) → holds places (expr_verdict place c n) ≡ holds places (said place c Expression (whole.Expr n))
-expr_said places place c n = ap (λ t. holds places (of_part place unasked t)) (sym (told n c))
+expr_said places place c n = ap (λ t. holds places (of_part place unasked t)) (sym (expr_facts_at n c))
 
 pub sound : (places : Bool) (place : Nonterminal) (c : Parameters) (n : Expr AnyNode) (b : Bool) → b ≡ holds places (expr_verdict place c n) → (s : Settings) (ts : List Token) →
     DerivesExpr places s place c n ts → (b ≡ true) × Generates s (expr_phrase n) ts
@@ -107,16 +107,16 @@ exactly places place c n b e w s m =
 
 -- ---- patterns
 
-pat_told : (n : Pat AnyNode) (c : Parameters) → facts (whole.ExprPart (expr_parts.Pat n)) Pattern c ≡ part_facts told_of c (expr_parts.Pat n) Pattern
+pat_facts_at : (n : Pat AnyNode) (c : Parameters) → facts (whole.ExprPart (expr_parts.Pat n)) Pattern c ≡ part_facts summary_of c (expr_parts.Pat n) Pattern
 unfolding node_facts
-pat_told n c = facts_expr_part (expr_parts.Pat n) Pattern c
+pat_facts_at n c = facts_expr_part (expr_parts.Pat n) Pattern c
 
 pat_read : (n : Pat AnyNode) → phrase (whole.ExprPart (expr_parts.Pat n)) Pattern ≡ pat phrase n
 unfolding node_phrase expr_part
 pat_read n = phrase_expr_part (expr_parts.Pat n) Pattern
 
 pat_said : (places : Bool) (place : Nonterminal) (c : Parameters) (n : Pat AnyNode) → holds places (pat_verdict place c n) ≡ holds places (said place c Pattern (whole.ExprPart (expr_parts.Pat n)))
-pat_said places place c n = ap (λ t. holds places (of_part place unasked t)) (sym (pat_told n c))
+pat_said places place c n = ap (λ t. holds places (of_part place unasked t)) (sym (pat_facts_at n c))
 
 pub pat_sound : (places : Bool) (place : Nonterminal) (c : Parameters) (n : Pat AnyNode) (b : Bool) → b ≡ holds places (pat_verdict place c n) → (s : Settings) (ts : List Token) →
     DerivesPat places s place c n ts → (b ≡ true) × Generates s (pat phrase n) ts

@@ -25,7 +25,7 @@ use Rattle.swc_ecma_codegen_syntax.specs.Verdicts.{unasked, meet}
 use Rattle.swc_ecma_codegen_syntax.specs.declared.lookahead.Lookahead.{Lookahead}
 use Rattle.swc_ecma_codegen_syntax.specs.Lookahead.{beginning, excludes}
 use Rattle.swc_ecma_codegen_syntax.specs.Forms.{of_part, judge, Form, Fixed, Part, Simple, Restricted, Both, Provided, Closed, Bare, Followed, Cure, ByPlace, role_in, is_met, stands, Lone}
-use Rattle.swc_ecma_codegen_syntax.specs.NodeForms.{node_nonterminal, node_form, is_simple, is_name_node, expr_facts, part_facts, stmt_facts, told_of}
+use Rattle.swc_ecma_codegen_syntax.specs.NodeForms.{node_nonterminal, node_form, is_simple, is_name_node, expr_facts, part_facts, stmt_facts, summary_of}
 use Rattle.swc_ecma_codegen_syntax.specs.Parameters.{before}
 use Rattle.swc_ecma_codegen_syntax.specs.StmtForms.{is_empty_node}
 use Rattle.swc_ecma_codegen_syntax.specs.ModuleForms.{item_form, program_form}
@@ -94,17 +94,17 @@ bare_phrase p = p
 
 -- what is said of an expression and of a pattern by itself, as a nonterminal with its parameters
 abbrev pub expr_verdict : Nonterminal → Parameters → Expr AnyNode → Verdict
-expr_verdict place c n = of_part place unasked (expr_facts told_of false c n)
+expr_verdict place c n = of_part place unasked (expr_facts summary_of false c n)
 
 abbrev pub pat_verdict : Nonterminal → Parameters → Pat AnyNode → Verdict
-pat_verdict place c n = of_part place unasked (part_facts told_of c (expr_parts.Pat n) Pattern)
+pat_verdict place c n = of_part place unasked (part_facts summary_of c (expr_parts.Pat n) Pattern)
 
 abbrev pub stmt_verdict : Nonterminal → Parameters → Stmt AnyNode → Verdict
-stmt_verdict place c n = of_part place unasked (stmt_facts told_of c n)
+stmt_verdict place c n = of_part place unasked (stmt_facts summary_of c n)
 
 abbrev pub item_verdict : Parameters → ModuleItem AnyNode → Verdict
-item_verdict c n = judge told_of unasked (item_form c n)
+item_verdict c n = judge summary_of unasked (item_form c n)
 
 -- of a program, what holds both of an emission that doesn't minify and of one that does
 abbrev pub program_verdict : Program AnyNode → Verdict
-program_verdict n = meet (judge told_of unasked (program_form false n)) (judge told_of unasked (program_form true n))
+program_verdict n = meet (judge summary_of unasked (program_form false n)) (judge summary_of unasked (program_form true n))

@@ -9,7 +9,7 @@ use Rattle.swc_ecma_codegen_syntax.specs.declared.nonterminals.Nonterminal.TheVa
 use Rattle.swc_ecma_codegen_syntax.specs.declared.parameters.Parameters.{Parameters}
 use Rattle.swc_ecma_codegen_syntax.specs.Parameters.{before}
 use Rattle.swc_ecma_codegen_syntax.specs.declared.verdicts.Facts.{Facts}
-use Rattle.swc_ecma_codegen_syntax.specs.Told.{Told, begins_in, empty_in}
+use Rattle.swc_ecma_codegen_syntax.specs.Summary.{Summary, begins_in, empty_in}
 use Rattle.swc_ecma_codegen_syntax.specs.declared.verdicts.Verdict.{Verdict}
 use Rattle.swc_ecma_codegen_syntax.specs.Nonterminals.{takes}
 use Rattle.swc_ecma_codegen_syntax.specs.declared.lookahead.Lookahead.{Lookahead}
@@ -77,7 +77,7 @@ map_form g (Closed comma close) = Closed comma close
 map_form g (Bare a) = Bare (map_form g a)
 map_form g (Followed place parameters n next) = Followed place parameters (g n) (g next)
 
--- ---- what the check says of a form, where f says what is told of a part
+-- ---- what the check says of a form, where f gives the summary of a part
 
 abbrev pub is_target : Bool → Facts → Bool
 is_target named facts = facts.is_simple && (named || not facts.is_name)
@@ -91,7 +91,7 @@ abbrev pub of_part : Nonterminal → Verdict → Facts → Verdict
 of_part place v facts = meet (standing v place facts.nonterminal) facts.verdict
 
 -- the verdict so far, and of the form
-unfoldable pub judge : {X : Type 0} → (X → Role → Parameters → Told) → Verdict → Form X → Verdict
+unfoldable pub judge : {X : Type 0} → (X → Role → Parameters → Summary) → Verdict → Form X → Verdict
 judge f v (Fixed p) = v
 judge f v (Part place parameters role n) = of_part place v (f n role parameters).facts
 judge f v (Simple named place parameters n) =
@@ -114,7 +114,7 @@ is_met places ByScope condition = condition
 unfoldable pub stands : Bool → Nonterminal → Nonterminal → Bool
 stands places place part = takes place part || (not places && is_mended place part)
 
-unfoldable pub keeps : {X : Type 0} → Bool → (X → Role → Parameters → Told) → Form X → Bool
+unfoldable pub keeps : {X : Type 0} → Bool → (X → Role → Parameters → Summary) → Form X → Bool
 keeps places f (Fixed p) = true
 keeps places f (Part place parameters role n) =
     stands places place (f n role parameters).facts.nonterminal && holds places (f n role parameters).facts.verdict

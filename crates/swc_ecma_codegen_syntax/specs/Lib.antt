@@ -19,6 +19,6 @@ pub mod PatForms
 pub mod StmtForms
 pub mod TargetForms
 pub mod TemplateForms
-pub mod Told
+pub mod Summary
 pub mod UnitProductions
 pub mod Verdicts

@@ -1,4 +1,4 @@
--- What a whole node is, in a role, and what is told of it: a fold over the tree.
+-- What a whole node is, in a role, and its summary: a fold over the tree.
 use Rattle.std.specs.Prelude.{Bool, true, false, string_bytes}
 use Rattle.swc_ecma_codegen_tree.specs.declared.links.AnyNode.{AnyNode, AnyNode-F, fold-AnyNode}
 use Rattle.swc_ecma_codegen_tree.specs.declared.links.AnyNode.TheOpen as nodes
@@ -18,7 +18,7 @@ use Rattle.swc_ecma_codegen_syntax.specs.declared.nonterminals.Nonterminal.{Nont
 use Rattle.swc_ecma_codegen_syntax.specs.declared.nonterminals.Nonterminal.TheVariants as nt
 use Rattle.swc_ecma_codegen_syntax.specs.declared.parameters.Parameters.{Parameters}
 use Rattle.swc_ecma_codegen_syntax.specs.declared.verdicts.Facts.{Facts}
-use Rattle.swc_ecma_codegen_syntax.specs.Told.{Told, begins_in}
+use Rattle.swc_ecma_codegen_syntax.specs.Summary.{Summary, begins_in}
 use Rattle.swc_ecma_codegen_syntax.specs.declared.verdicts.Verdict.{Verdict}
 use Rattle.swc_ecma_codegen_syntax.specs.Nonterminals.{is_call}
 use Rattle.swc_ecma_codegen_syntax.specs.Verdicts.{unasked}
@@ -165,25 +165,25 @@ unfoldable pub is_name_node : {X : Type 0} → AnyNode-F X → Bool
 is_name_node (nodes.Expr n) = is_name_expr n
 is_name_node n = false
 
--- ---- what is told of a node, where f says it of what its links hold
+-- ---- the summary of a node, where f gives those of what its links hold
 
 -- a member, or a tag, is a CallExpression
-unfoldable pub is_called : {X : Type 0} → (X → Role → Parameters → Told) → Parameters → Expr X → Bool
+unfoldable pub is_called : {X : Type 0} → (X → Role → Parameters → Summary) → Parameters → Expr X → Bool
 is_called f c (exprs.Member n) = is_call (f n.obj.node.value Callee (with_in c)).facts.nonterminal
 is_called f c (exprs.TaggedTpl n) = is_call (f n.tag.node.value Callee (with_in c)).facts.nonterminal
 is_called f c n = false
 
-unfoldable pub is_called_node : {X : Type 0} → (X → Role → Parameters → Told) → Parameters → AnyNode-F X → Bool
+unfoldable pub is_called_node : {X : Type 0} → (X → Role → Parameters → Summary) → Parameters → AnyNode-F X → Bool
 is_called_node f c (nodes.Expr n) = is_called f c n
 is_called_node f c n = false
 
-abbrev pub simple_told : {X : Type 0} → (X → Role → Parameters → Told) → Parameters → X → Bool
-simple_told f c n = (f n Expression (with_in c)).facts.is_simple
+abbrev pub simple_in : {X : Type 0} → (X → Role → Parameters → Summary) → Parameters → X → Bool
+simple_in f c n = (f n Expression (with_in c)).facts.is_simple
 
-unfoldable pub expr_facts : {X : Type 0} → (X → Role → Parameters → Told) → Bool → Parameters → Expr X → Facts
+unfoldable pub expr_facts : {X : Type 0} → (X → Role → Parameters → Summary) → Bool → Parameters → Expr X → Facts
 expr_facts f keeps c n = record {
   nonterminal = expr_nonterminal keeps (is_called f c n) c n;
-  is_simple = is_simple_expr (simple_told f c) c.is_strict n;
+  is_simple = is_simple_expr (simple_in f c) c.is_strict n;
   is_name = is_name_expr n;
   verdict = judge f unasked (expr_form keeps (is_called f c n) c n);
 }
@@ -196,22 +196,22 @@ other_facts nonterminal verdict = record { nonterminal = nonterminal; is_simple 
 abbrev pub target_facts : Nonterminal → Verdict → Facts
 target_facts nonterminal verdict = record { nonterminal = nonterminal; is_simple = true; is_name = false; verdict = verdict }
 
-unfoldable pub part_facts : {X : Type 0} → (X → Role → Parameters → Told) → Parameters → ExprPart X → Role → Facts
+unfoldable pub part_facts : {X : Type 0} → (X → Role → Parameters → Summary) → Parameters → ExprPart X → Role → Facts
 part_facts f c n role = other_facts (part_nonterminal n role) (judge f unasked (part_form false c n role))
 
-unfoldable pub stmt_facts : {X : Type 0} → (X → Role → Parameters → Told) → Parameters → Stmt X → Facts
+unfoldable pub stmt_facts : {X : Type 0} → (X → Role → Parameters → Summary) → Parameters → Stmt X → Facts
 stmt_facts f c n = other_facts (stmt_nonterminal n) (judge f unasked (stmt_form c n))
 
-unfoldable pub stmt_part_facts : {X : Type 0} → (X → Role → Parameters → Told) → Parameters → StmtPart X → Role → Facts
+unfoldable pub stmt_part_facts : {X : Type 0} → (X → Role → Parameters → Summary) → Parameters → StmtPart X → Role → Facts
 stmt_part_facts f c n role = other_facts (stmt_part_nonterminal n role) (judge f unasked (stmt_part_form c n role))
 
-unfoldable pub jsx_part_facts : {X : Type 0} → (X → Role → Parameters → Told) → Parameters → JSXPart X → Role → Facts
+unfoldable pub jsx_part_facts : {X : Type 0} → (X → Role → Parameters → Summary) → Parameters → JSXPart X → Role → Facts
 jsx_part_facts f c n role = other_facts (jsx_part_nonterminal n role) (judge f unasked (jsx_part_form c n role))
 
 abbrev pub no_facts : Facts
 no_facts = other_facts nt.Uncovered (record { covered = false; curable = true; parenthesized = true })
 
-unfoldable pub node_facts : {X : Type 0} → (X → Role → Parameters → Told) → AnyNode-F X → Role → Parameters → Facts
+unfoldable pub node_facts : {X : Type 0} → (X → Role → Parameters → Summary) → AnyNode-F X → Role → Parameters → Facts
 node_facts f (nodes.Expr n) Expression c = expr_facts f false c n
 node_facts f (nodes.Expr n) Callee c = expr_facts f true c n
 node_facts f (nodes.Expr n) FieldValue c = expr_facts f false c n
@@ -222,11 +222,11 @@ node_facts f (nodes.StmtPart n) role c = stmt_part_facts f c n role
 node_facts f (nodes.JSXPart n) role c = jsx_part_facts f c n role
 node_facts f n role c = no_facts
 
-unfoldable pub node_told : {X : Type 0} → (X → Role → Parameters → Told) → AnyNode-F X → Role → Parameters → Told
-node_told f n role c = record { facts = node_facts f n role c; begins = node_begins (begins_in f) n role; is_empty = is_empty_node n }
+unfoldable pub node_summary : {X : Type 0} → (X → Role → Parameters → Summary) → AnyNode-F X → Role → Parameters → Summary
+node_summary f n role c = record { facts = node_facts f n role c; begins = node_begins (begins_in f) n role; is_empty = is_empty_node n }
 
-unfoldable pub told_of : AnyNode → Role → Parameters → Told
-told_of = fold-AnyNode (Role → Parameters → Told) (node_told (λ known. known))
+unfoldable pub summary_of : AnyNode → Role → Parameters → Summary
+summary_of = fold-AnyNode (Role → Parameters → Summary) (node_summary (λ known. known))
 
 abbrev pub facts : AnyNode → Role → Parameters → Facts
-facts n role c = (told_of n role c).facts
+facts n role c = (summary_of n role c).facts

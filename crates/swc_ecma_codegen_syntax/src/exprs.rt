@@ -275,8 +275,8 @@ fn call_or_member(called: bool) -> Nonterminal
     }
 }
 
-/// What an expression that is no target tells.
-pub(crate) fn told(nonterminal: Nonterminal, verdict: Verdict) -> Facts
+/// The facts of an expression that is no target.
+pub(crate) fn other_facts(nonterminal: Nonterminal, verdict: Verdict) -> Facts
     ensures { result ≡ other_facts nonterminal verdict }
 {
     Facts {
@@ -287,8 +287,8 @@ pub(crate) fn told(nonterminal: Nonterminal, verdict: Verdict) -> Facts
     }
 }
 
-/// What a target by itself tells.
-fn told_target(nonterminal: Nonterminal, verdict: Verdict) -> Facts
+/// The facts of a target by itself.
+fn target_facts(nonterminal: Nonterminal, verdict: Verdict) -> Facts
     ensures { result ≡ target_facts nonterminal verdict }
 {
     Facts {
@@ -310,7 +310,7 @@ fn member_facts<N: Answers>(member: &MemberExpr<N>, keeps: bool, parameters: Par
         .answer(Role::Callee, with_in(parameters));
     let nonterminal = call_or_member(is_call(object.nonterminal));
     let verdict = Verdict::unasked().of_part(nonterminal, object);
-    told_target(nonterminal, member.prop.judge(verdict, parameters))
+    target_facts(nonterminal, member.prop.judge(verdict, parameters))
 }
 
 /// What a template with a tag tells.
@@ -325,7 +325,7 @@ fn tagged_facts<N: Answers>(tagged: &TaggedTpl<N>, keeps: bool, parameters: Para
     let nonterminal = call_or_member(is_call(tag.nonterminal));
     let verdict = Verdict::unasked().of_part(nonterminal, tag);
     let verdict = type_args(verdict, &tagged.type_params, parameters);
-    told(
+    other_facts(
         nonterminal,
         verdict.part(
             &tagged.tpl,
@@ -357,7 +357,7 @@ fn paren_facts<N: Answers>(paren: &ParenExpr<N>, keeps: bool, parameters: Parame
 fn plain<T: Stands>(node: &T, nonterminal: Nonterminal, parameters: Parameters) -> Facts
     ensures { result ≡ other_facts nonterminal (T.judged parameters node.now unasked) }
 {
-    told(nonterminal, node.judge(Verdict::unasked(), parameters))
+    other_facts(nonterminal, node.judge(Verdict::unasked(), parameters))
 }
 
 /// What a name tells.
@@ -378,7 +378,7 @@ fn name_facts<N: Answers>(ident: &Ident, keeps: bool, parameters: Parameters) ->
 fn new_facts<N: Answers>(node: &NewExpr<N>, keeps: bool, parameters: Parameters) -> Facts
     ensures { result ≡ expr_facts N.answers keeps parameters (exprs.New node.now) }
 {
-    told(
+    other_facts(
         new_nonterminal(keeps, node, parameters),
         new(Verdict::unasked(), keeps, node, parameters),
     )
@@ -397,7 +397,7 @@ fn tpl_facts<N: Answers>(link: &TplBox<N>, parameters: Parameters) -> Facts
         with_in(parameters),
         Role::Template,
     );
-    told(Nonterminal::PrimaryExpression, verdict)
+    other_facts(Nonterminal::PrimaryExpression, verdict)
 }
 
 /// The verdict so far, and of an element of JSX.
@@ -429,14 +429,14 @@ pub(crate) fn expr_facts<N: Answers>(expr: &Expr<N>, keeps: bool, parameters: Pa
         Expr::New(node) => new_facts(node, keeps, parameters),
         Expr::Tpl(node) => tpl_facts(node, parameters),
         Expr::SuperProp(node) => {
-            told_target(Nonterminal::MemberExpression, node.judge(start, parameters))
+            target_facts(Nonterminal::MemberExpression, node.judge(start, parameters))
         }
         Expr::Array(node) => plain(node, Nonterminal::PrimaryExpression, parameters),
-        Expr::JSXElement(link) => told(
+        Expr::JSXElement(link) => other_facts(
             Nonterminal::PrimaryExpression,
             jsx_expr(start, link, parameters),
         ),
-        Expr::JSXFragment(link) => told(
+        Expr::JSXFragment(link) => other_facts(
             Nonterminal::PrimaryExpression,
             jsx_expr(start, link, parameters),
         ),
@@ -453,14 +453,14 @@ pub(crate) fn expr_facts<N: Answers>(expr: &Expr<N>, keeps: bool, parameters: Pa
         Expr::OptChain(node) => plain(node, Nonterminal::OptionalExpression, parameters),
         Expr::Fn(node) => plain(node, Nonterminal::PrimaryExpression, parameters),
         Expr::Class(node) => plain(node, Nonterminal::PrimaryExpression, parameters),
-        Expr::Arrow(node) => told(
+        Expr::Arrow(node) => other_facts(
             Nonterminal::AssignmentExpression,
             node.judge(start, parameters),
         ),
-        Expr::Lit(node) => told(Nonterminal::PrimaryExpression, lit::<N>(start, node)),
-        Expr::This(_) => told(Nonterminal::PrimaryExpression, start),
-        Expr::MetaProp(_) => told(Nonterminal::MemberExpression, start),
-        Expr::PrivateName(_) => told(Nonterminal::PrivateIdentifier, start),
-        _ => told(Nonterminal::PrimaryExpression, start.by_scope(false)),
+        Expr::Lit(node) => other_facts(Nonterminal::PrimaryExpression, lit::<N>(start, node)),
+        Expr::This(_) => other_facts(Nonterminal::PrimaryExpression, start),
+        Expr::MetaProp(_) => other_facts(Nonterminal::MemberExpression, start),
+        Expr::PrivateName(_) => other_facts(Nonterminal::PrivateIdentifier, start),
+        _ => other_facts(Nonterminal::PrimaryExpression, start.by_scope(false)),
     }
 }

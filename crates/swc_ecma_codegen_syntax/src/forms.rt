@@ -4,7 +4,7 @@ ghost use Rattle.std.specs.Prelude.{◌≡◌, true, false, Option};
 ghost use Rattle.swc_ecma_codegen_grammar.specs.declared.roles.Role.{Role as InRole};
 ghost use Rattle.swc_ecma_codegen_grammar.specs.declared.roles.Role.TheVariants.{Statement};
 ghost use Rattle.swc_ecma_codegen_syntax.specs.declared.parameters.Parameters.{Parameters as Given};
-ghost use Rattle.swc_ecma_codegen_syntax.specs.Told.{Told};
+ghost use Rattle.swc_ecma_codegen_syntax.specs.Summary.{Summary};
 ghost use Rattle.swc_ecma_codegen_syntax.specs.declared.verdicts.Verdict.{Verdict as Judged};
 ghost use Rattle.swc_ecma_codegen_syntax.specs.Parameters.{of_script};
 ghost use Rattle.swc_ecma_codegen_syntax.specs.Forms.{Part, Simple, Restricted, Followed, of_part, judge, verdict_all, verdict_of};
@@ -19,9 +19,9 @@ use swc_ecma_codegen_tree::{ExprBox, Link, PatBox, StmtBox};
 
 /// What a link holds.
 pub trait Answers {
-    ghost answers: { Self → InRole → Given → Told };
+    ghost answers: { Self → InRole → Given → Summary };
 
-    /// What is told of it, as a node in this role.
+    /// Its facts, as a node in this role.
     fn answer(&self, role: Role, parameters: Parameters) -> Facts
         ensures { result ≡ (answers self.now role parameters).facts };
 
@@ -44,7 +44,7 @@ pub trait Stands {
 }
 
 impl Verdict {
-    /// The same of a part, by what is told of it.
+    /// The same of a part, by its facts.
     #[inline]
     pub(crate) fn of_part(self, place: Nonterminal, facts: Facts) -> Verdict
         ensures { result ≡ of_part place self facts }

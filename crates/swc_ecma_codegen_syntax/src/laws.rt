@@ -17,7 +17,7 @@ ghost use Rattle.swc_ecma_codegen_grammar.specs.TemplatePhrases.{tpl, tagged_tpl
 ghost use Rattle.swc_ecma_codegen_grammar.specs.declared.roles.Role.{Role};
 ghost use Rattle.swc_ecma_codegen_syntax.specs.declared.nonterminals.Nonterminal.{Nonterminal as Place};
 ghost use Rattle.swc_ecma_codegen_syntax.specs.declared.parameters.Parameters.{Parameters as Given};
-ghost use Rattle.swc_ecma_codegen_syntax.specs.Told.{Told};
+ghost use Rattle.swc_ecma_codegen_syntax.specs.Summary.{Summary};
 ghost use Rattle.swc_ecma_codegen_syntax.specs.Forms.{forget, keeps};
 ghost use Rattle.swc_ecma_codegen_syntax.specs.Nonterminals.{takes};
 ghost use Rattle.swc_ecma_codegen_syntax.specs.UnitProductions.{Chain};
@@ -142,15 +142,15 @@ pub fn parts_forget<N>()
         → forget f (pat_form b c n) ≡ pat f n }
     ensures target_pattern { (f : N → Role → Phrase) (b : Bool) (c : Given) (n : AssignTargetPat N)
         → forget f (target_pat_form b c n) ≡ assign_target_pat f n }
-    ensures object { (p : Bool) (t : N → Role → Given → Told) (f : N → Role → Phrase)
+    ensures object { (p : Bool) (t : N → Role → Given → Summary) (f : N → Role → Phrase)
         (c : Given) (n : ObjectLit N)
         → keeps p t (object_form c n) ≡ true
         → forget f (object_form c n) ≡ object_lit f n }
-    ensures target { (b p : Bool) (t : N → Role → Given → Told) (f : N → Role → Phrase)
+    ensures target { (b p : Bool) (t : N → Role → Given → Summary) (f : N → Role → Phrase)
         (c : Given) (n : AssignTarget N)
         → keeps p t (target_form b c n) ≡ true
         → forget f (target_form b c n) ≡ assign_target f n }
-    ensures expression { (p : Bool) (t : N → Role → Given → Told) (f : N → Role → Phrase)
+    ensures expression { (p : Bool) (t : N → Role → Given → Summary) (f : N → Role → Phrase)
         (b : Bool) (c : Given) (n : Expr N)
         → keeps p t (expr_form false b c n) ≡ true
         → forget f (expr_form false b c n) ≡ expr f n }
@@ -180,11 +180,11 @@ pub fn classes_forget<N>()
         → forget f (class_decl_form c n) ≡ class_decl f n }
     ensures accessor { (f : N → Role → Phrase) (c : Given) (n : Function N)
         → forget f (accessor_form c n) ≡ accessor_tail f n }
-    ensures tail { (p : Bool) (t : N → Role → Given → Told) (f : N → Role → Phrase)
+    ensures tail { (p : Bool) (t : N → Role → Given → Summary) (f : N → Role → Phrase)
         (c : Given) (n : Class N)
         → keeps p t (class_tail_form c n) ≡ true
         → forget f (class_tail_form c n) ≡ class_tail f n }
-    ensures member { (p : Bool) (t : N → Role → Given → Told) (f : N → Role → Phrase)
+    ensures member { (p : Bool) (t : N → Role → Given → Summary) (f : N → Role → Phrase)
         (c : Given) (n : ClassMember N)
         → keeps p t (member_of_class_form c n) ≡ true
         → forget f (member_of_class_form c n) ≡ class_member f n }
@@ -204,27 +204,27 @@ pub fn elements_forget<N>()
 /// The same of statements, declarations of variables, blocks, items of modules and programs, where nothing in them lacks a production.
 #[tactic(auto, using(crate::proofs::StmtForgets::stmt_forgets, crate::proofs::StmtForgets::var_decl_forgets, crate::proofs::StmtForgets::block_forgets, crate::proofs::ModuleForgets::module_decl_forgets, crate::proofs::ModuleForgets::item_forgets, crate::proofs::ModuleForgets::program_forgets))]
 pub fn statements_forget<N>()
-    ensures statement { (p : Bool) (t : N → Role → Given → Told) (f : N → Role → Phrase)
+    ensures statement { (p : Bool) (t : N → Role → Given → Summary) (f : N → Role → Phrase)
         (c : Given) (n : Stmt N)
         → keeps p t (stmt_form c n) ≡ true
         → forget f (stmt_form c n) ≡ stmt f n }
-    ensures variables { (p : Bool) (t : N → Role → Given → Told) (f : N → Role → Phrase)
+    ensures variables { (p : Bool) (t : N → Role → Given → Summary) (f : N → Role → Phrase)
         (c : Given) (n : VarDecl N)
         → keeps p t (var_decl_form c n) ≡ true
         → forget f (var_decl_form c n) ≡ var_decl f n }
-    ensures block { (p : Bool) (t : N → Role → Given → Told) (f : N → Role → Phrase)
+    ensures block { (p : Bool) (t : N → Role → Given → Summary) (f : N → Role → Phrase)
         (c : Given) (n : BlockStmt N)
         → keeps p t (block_form c n) ≡ true
         → forget f (block_form c n) ≡ block_stmt f n }
-    ensures declaration { (p : Bool) (t : N → Role → Given → Told) (f : N → Role → Phrase)
+    ensures declaration { (p : Bool) (t : N → Role → Given → Summary) (f : N → Role → Phrase)
         (c : Given) (n : ModuleDecl N)
         → keeps p t (module_decl_form c n) ≡ true
         → forget f (module_decl_form c n) ≡ module_decl f n }
-    ensures item { (p : Bool) (t : N → Role → Given → Told) (f : N → Role → Phrase)
+    ensures item { (p : Bool) (t : N → Role → Given → Summary) (f : N → Role → Phrase)
         (c : Given) (n : ModuleItem N)
         → keeps p t (item_form c n) ≡ true
         → forget f (item_form c n) ≡ module_item f n }
-    ensures program { (p m : Bool) (t : N → Role → Given → Told) (f : N → Role → Phrase)
+    ensures program { (p m : Bool) (t : N → Role → Given → Summary) (f : N → Role → Phrase)
         (n : Program N)
         → keeps p t (program_form m n) ≡ true
         → forget f (program_form m n) ≡ program f n }

@@ -3,7 +3,7 @@
 ghost use Rattle.std.specs.Prelude.{◌≡◌};
 ghost use Rattle.swc_ecma_codegen_syntax.specs.Lookahead.{is_statement_start, is_default_start, is_brace, is_let_bracket, is_let, is_of_start, excludes};
 ghost use Rattle.swc_ecma_codegen_syntax.specs.Beginnings.{name_begins, goes_on, goes_on_in_brackets, goes_on_in_line, prop_begins, chain_begins, base_begins, callee_begins, seq_begins, update_begins, expr_begins, simple_target_begins, target_pat_begins, target_begins, pat_begins, part_begins, function_begins, stmt_part_begins, jsx_part_begins};
-ghost use Rattle.swc_ecma_codegen_syntax.specs.Told.{begins_in};
+ghost use Rattle.swc_ecma_codegen_syntax.specs.Summary.{begins_in};
 
 use crate::forms::Answers;
 use crate::names::is;

@@ -6,7 +6,7 @@ ghost use Rattle.swc_ecma_codegen_grammar.specs.Settings.{Settings};
 ghost use Rattle.swc_ecma_codegen_grammar.specs.Tokens.{Token};
 ghost use Rattle.swc_ecma_codegen_grammar.specs.TreePhrases.{expr_phrase};
 ghost use Rattle.swc_ecma_codegen_syntax.specs.Derives.{DerivesExpr, DerivesPat, bare_phrase, pat_phrase, expr_verdict, pat_verdict};
-ghost use Rattle.swc_ecma_codegen_syntax.specs.NodeForms.{other_facts, part_facts, stmt_facts, stmt_part_facts, jsx_part_facts, told_of};
+ghost use Rattle.swc_ecma_codegen_syntax.specs.NodeForms.{other_facts, part_facts, stmt_facts, stmt_part_facts, jsx_part_facts, summary_of};
 ghost use Rattle.swc_ecma_codegen_syntax.specs.Forms.{judge};
 ghost use Rattle.swc_ecma_codegen_syntax.specs.PatForms.{pat_nonterminal, pat_form};
 ghost use Rattle.swc_ecma_codegen_syntax.specs.Verdicts.{unasked, holds};
@@ -14,7 +14,7 @@ ghost use Rattle.swc_ecma_codegen_syntax.specs.Verdicts.{unasked, holds};
 use crate::calls::chain_call;
 use crate::classes::{accessor, accessor_nonterminal, prop_name_nonterminal};
 use crate::decls::decl_nonterminal;
-use crate::exprs::{chain_member, expr_facts, told};
+use crate::exprs::{chain_member, expr_facts, other_facts};
 use crate::forms::{Answers, Stands};
 use crate::functions::{decorators, function_head_nonterminal, rest_of_function};
 use crate::jsx::{element, fragment};
@@ -37,7 +37,7 @@ fn pat_facts<N: Answers>(pat: &Pat<N>, parameters: Parameters) -> Facts
     ensures { result ≡ other_facts (pat_nonterminal pat.now)
         (judge N.answers unasked (pat_form false parameters pat.now)) }
 {
-    told(
+    other_facts(
         pat_nonterminal(pat),
         pat.judge(Verdict::unasked(), parameters),
     )
@@ -50,41 +50,41 @@ fn part_facts<N: Answers>(part: &ExprPart<N>, role: Role, parameters: Parameters
 {
     let start = Verdict::unasked();
     match (part, role) {
-        (ExprPart::Pat(node), Role::Pattern) => told(
+        (ExprPart::Pat(node), Role::Pattern) => other_facts(
             pat_nonterminal(node),
             node.judge(start, parameters),
         ),
         (ExprPart::ObjectLit(node), Role::ObjectLiteral) => {
-            told(
+            other_facts(
                 Nonterminal::PrimaryExpression,
                 node.judge(start, parameters),
             )
         }
         (ExprPart::PropName(node), Role::PropertyName) => {
-            told(prop_name_nonterminal(node), node.judge(start, parameters))
+            other_facts(prop_name_nonterminal(node), node.judge(start, parameters))
         }
         (ExprPart::OptCall(node), Role::ChainCall(optional)) => {
-            told(
+            other_facts(
                 Nonterminal::OptionalChain,
                 chain_call(start, optional, node, parameters),
             )
         }
         (ExprPart::AssignTarget(node), Role::AssignmentTarget) => {
-            told(target_nonterminal(node), node.judge(start, parameters))
+            other_facts(target_nonterminal(node), node.judge(start, parameters))
         }
         (ExprPart::Tpl(node), Role::Template) => {
-            told(
+            other_facts(
                 Nonterminal::TemplateLiteral,
                 tpl(start, false, node, parameters),
             )
         }
         (ExprPart::Tpl(node), Role::TaggedTemplate) => {
-            told(
+            other_facts(
                 Nonterminal::TemplateLiteral,
                 tpl(start, true, node, parameters),
             )
         }
-        _ => told(Nonterminal::Uncovered, start.by_scope(false)),
+        _ => other_facts(Nonterminal::Uncovered, start.by_scope(false)),
     }
 }
 
@@ -93,7 +93,7 @@ fn part_facts<N: Answers>(part: &ExprPart<N>, role: Role, parameters: Parameters
 pub(crate) fn stmt_facts<N: Answers>(stmt: &Stmt<N>, parameters: Parameters) -> Facts
     ensures { result ≡ stmt_facts N.answers parameters stmt.now }
 {
-    told(
+    other_facts(
         stmt_nonterminal(stmt),
         stmt.judge(Verdict::unasked(), parameters),
     )
@@ -107,64 +107,64 @@ fn stmt_part_facts<N: Answers>(part: &StmtPart<N>, role: Role, parameters: Param
     let start = Verdict::unasked();
     match (part, role) {
         (StmtPart::BlockStmt(node), Role::Block) => {
-            told(Nonterminal::Block, node.judge(start, parameters))
+            other_facts(Nonterminal::Block, node.judge(start, parameters))
         }
-        (StmtPart::VarDecl(node), Role::VariableDeclaration) => told(
+        (StmtPart::VarDecl(node), Role::VariableDeclaration) => other_facts(
             Nonterminal::VariableDeclarations,
             node.judge(start, parameters),
         ),
         (StmtPart::Decl(node), Role::ExportedHead) => {
-            told(
+            other_facts(
                 Nonterminal::ExportedHead,
                 exported_head(start, node, parameters),
             )
         }
         (StmtPart::Decl(node), Role::ExportedTail) => {
-            told(
+            other_facts(
                 decl_nonterminal(node),
                 exported_tail(start, node, parameters),
             )
         }
         (StmtPart::ModuleDecl(node), Role::ModuleDeclaration) => {
-            told(
+            other_facts(
                 Nonterminal::ModuleDeclaration,
                 node.judge(start, parameters),
             )
         }
         (StmtPart::Function(node), Role::Function) => {
-            told(Nonterminal::FunctionTail, node.judge(start, parameters))
+            other_facts(Nonterminal::FunctionTail, node.judge(start, parameters))
         }
-        (StmtPart::Function(node), Role::FunctionHead) => told(
+        (StmtPart::Function(node), Role::FunctionHead) => other_facts(
             function_head_nonterminal(node.is_generator, node.is_async),
             start,
         ),
-        (StmtPart::Function(_), Role::MethodHead) => told(Nonterminal::MethodHead, start),
-        (StmtPart::Function(node), Role::MethodTail) => told(
+        (StmtPart::Function(_), Role::MethodHead) => other_facts(Nonterminal::MethodHead, start),
+        (StmtPart::Function(node), Role::MethodTail) => other_facts(
             Nonterminal::FunctionTail,
             rest_of_function(start, node, parameters),
         ),
-        (StmtPart::Function(node), Role::MethodDecorators) => told(
+        (StmtPart::Function(node), Role::MethodDecorators) => other_facts(
             Nonterminal::DecoratorList,
             decorators(start, &node.decorators, parameters),
         ),
-        (StmtPart::Function(node), Role::AccessorTail) => told(
+        (StmtPart::Function(node), Role::AccessorTail) => other_facts(
             accessor_nonterminal(&node.params),
             accessor(start, node, parameters),
         ),
-        (StmtPart::Class(node), Role::ClassHead) => told(
+        (StmtPart::Class(node), Role::ClassHead) => other_facts(
             Nonterminal::DecoratorList,
             decorators(start, &node.decorators, parameters),
         ),
         (StmtPart::Class(node), Role::ClassWord) => {
-            told(Nonterminal::ClassHead, start.by_scope(!node.is_abstract))
+            other_facts(Nonterminal::ClassHead, start.by_scope(!node.is_abstract))
         }
         (StmtPart::Class(node), Role::ClassTail) => {
-            told(Nonterminal::ClassTail, node.judge(start, parameters))
+            other_facts(Nonterminal::ClassTail, node.judge(start, parameters))
         }
         (StmtPart::ClassMember(node), Role::Member) => {
-            told(Nonterminal::ClassElement, node.judge(start, parameters))
+            other_facts(Nonterminal::ClassElement, node.judge(start, parameters))
         }
-        _ => told(Nonterminal::Uncovered, start.by_scope(false)),
+        _ => other_facts(Nonterminal::Uncovered, start.by_scope(false)),
     }
 }
 
@@ -177,26 +177,26 @@ fn jsx_part_facts<N: Answers>(part: &JSXPart<N>, role: Role, parameters: Paramet
     let sort = Nonterminal::JSXElement;
     match (part, role) {
         (JSXPart::JSXElement(node), Role::Element) => {
-            told(sort, element(start, false, node, parameters))
+            other_facts(sort, element(start, false, node, parameters))
         }
         (JSXPart::JSXElement(node), Role::Child) => {
-            told(sort, element(start, true, node, parameters))
+            other_facts(sort, element(start, true, node, parameters))
         }
         (JSXPart::JSXFragment(node), Role::Element) => {
-            told(sort, fragment(start, false, node, parameters))
+            other_facts(sort, fragment(start, false, node, parameters))
         }
         (JSXPart::JSXFragment(node), Role::Child) => {
-            told(sort, fragment(start, true, node, parameters))
+            other_facts(sort, fragment(start, true, node, parameters))
         }
         (JSXPart::JSXObject(node), Role::TagObject) => {
-            told(Nonterminal::JSXObject, node.judge(start, parameters))
+            other_facts(Nonterminal::JSXObject, node.judge(start, parameters))
         }
-        _ => told(Nonterminal::Uncovered, start.by_scope(false)),
+        _ => other_facts(Nonterminal::Uncovered, start.by_scope(false)),
     }
 }
 
 impl Answers for AnyNode {
-    ghost answers = { told_of };
+    ghost answers = { summary_of };
 
     #[tactic(auto, using(crate::proofs::TreeFacts::facts_at, crate::proofs::TreeFacts::facts_expr, crate::proofs::TreeFacts::facts_member_expr, crate::proofs::TreeFacts::facts_expr_part, crate::proofs::TreeFacts::facts_stmt, crate::proofs::TreeFacts::facts_stmt_part, crate::proofs::TreeFacts::facts_jsx_part), unfolding(crate::specs::NodeForms::node_facts, crate::specs::Verdicts::by_scope))]
     #[cycle(answers)]
@@ -205,7 +205,7 @@ impl Answers for AnyNode {
             (AnyNode::Expr(node), Role::Expression) => expr_facts(node, false, parameters),
             (AnyNode::Expr(node), Role::Callee) => expr_facts(node, true, parameters),
             (AnyNode::Expr(node), Role::FieldValue) => expr_facts(node, false, parameters),
-            (AnyNode::MemberExpr(node), Role::ChainMember(optional)) => told(
+            (AnyNode::MemberExpr(node), Role::ChainMember(optional)) => other_facts(
                 Nonterminal::OptionalChain,
                 chain_member(Verdict::unasked(), optional, node, parameters),
             ),
@@ -213,7 +213,7 @@ impl Answers for AnyNode {
             (AnyNode::Stmt(node), Role::Statement) => stmt_facts(node, parameters),
             (AnyNode::StmtPart(node), role) => stmt_part_facts(node, role, parameters),
             (AnyNode::JSXPart(node), role) => jsx_part_facts(node, role, parameters),
-            _ => told(Nonterminal::Uncovered, Verdict::unasked().by_scope(false)),
+            _ => other_facts(Nonterminal::Uncovered, Verdict::unasked().by_scope(false)),
         }
     }
 
@@ -275,7 +275,7 @@ pub fn keeps_structure_expr(expr: &Expr, place: Nonterminal, parameters: Paramet
         → s.minify ≡ parameters.minify
         → (result ≡ true)
         ↔ ((ts : List Token) × DerivesExpr true s place parameters expr.now ts) }
-    ensures told { result ≡ holds true (expr_verdict place parameters expr.now) }
+    ensures verdict { result ≡ holds true (expr_verdict place parameters expr.now) }
 {
     verdict_expr(expr, place, parameters).is_derivation()
 }
@@ -295,7 +295,7 @@ pub fn is_curable_expr(expr: &Expr, place: Nonterminal, parameters: Parameters) 
         → s.minify ≡ parameters.minify
         → (result ≡ true)
         ↔ ((ts : List Token) × DerivesExpr false s place parameters expr.now ts) }
-    ensures told { result ≡ holds false (expr_verdict place parameters expr.now) }
+    ensures verdict { result ≡ holds false (expr_verdict place parameters expr.now) }
 {
     verdict_expr(expr, place, parameters).is_curable()
 }
@@ -304,7 +304,7 @@ pub fn is_curable_expr(expr: &Expr, place: Nonterminal, parameters: Parameters) 
 /// `keeps_structure_expr`. Takes no memory.
 #[tactic(auto, using(crate::proofs::VerdictLaws::holds_both))]
 pub fn is_parenthesized_expr(expr: &Expr, place: Nonterminal, parameters: Parameters) -> bool
-    ensures told { result ≡ (expr_verdict place parameters expr.now).parenthesized }
+    ensures verdict { result ≡ (expr_verdict place parameters expr.now).parenthesized }
     ensures both { holds true (expr_verdict place parameters expr.now)
         ≡ (holds false (expr_verdict place parameters expr.now) && result) }
 {
@@ -316,7 +316,7 @@ pub fn is_parenthesized_expr(expr: &Expr, place: Nonterminal, parameters: Parame
 /// expression neither keeps its structure nor is curable. Takes no memory.
 #[tactic(auto, using(crate::proofs::VerdictLaws::uncovered_holds))]
 pub fn is_covered_expr(expr: &Expr, place: Nonterminal, parameters: Parameters) -> bool
-    ensures told { result ≡ (expr_verdict place parameters expr.now).covered }
+    ensures verdict { result ≡ (expr_verdict place parameters expr.now).covered }
     ensures uncovered { result ≡ false → (places : Bool)
         → holds places (expr_verdict place parameters expr.now) ≡ false }
 {
@@ -347,7 +347,7 @@ pub fn keeps_structure_pat(pat: &Pat, place: Nonterminal, parameters: Parameters
         → s.minify ≡ parameters.minify
         → (result ≡ true)
         ↔ ((ts : List Token) × DerivesPat true s place parameters pat.now ts) }
-    ensures told { result ≡ holds true (pat_verdict place parameters pat.now) }
+    ensures verdict { result ≡ holds true (pat_verdict place parameters pat.now) }
 {
     verdict_pat(pat, place, parameters).is_derivation()
 }
@@ -366,7 +366,7 @@ pub fn is_curable_pat(pat: &Pat, place: Nonterminal, parameters: Parameters) -> 
         → s.minify ≡ parameters.minify
         → (result ≡ true)
         ↔ ((ts : List Token) × DerivesPat false s place parameters pat.now ts) }
-    ensures told { result ≡ holds false (pat_verdict place parameters pat.now) }
+    ensures verdict { result ≡ holds false (pat_verdict place parameters pat.now) }
 {
     verdict_pat(pat, place, parameters).is_curable()
 }

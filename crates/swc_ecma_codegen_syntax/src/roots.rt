@@ -45,7 +45,7 @@ pub fn keeps_structure(program: &Program) -> bool
     ensures exactly { is_possible (program_phrase program.now) ≡ true
         → (result ≡ true)
         ↔ ((s : Settings) → (ts : List Token) × DerivesProgram true s program.now ts) }
-    ensures told { result ≡ holds true (program_verdict program.now) }
+    ensures verdict { result ≡ holds true (program_verdict program.now) }
 {
     verdict(program).is_derivation()
 }
@@ -63,7 +63,7 @@ pub fn is_curable(program: &Program) -> bool
     ensures exactly { is_possible (program_phrase program.now) ≡ true
         → (result ≡ true)
         ↔ ((s : Settings) → (ts : List Token) × DerivesProgram false s program.now ts) }
-    ensures told { result ≡ holds false (program_verdict program.now) }
+    ensures verdict { result ≡ holds false (program_verdict program.now) }
 {
     verdict(program).is_curable()
 }
@@ -72,7 +72,7 @@ pub fn is_curable(program: &Program) -> bool
 /// `keeps_structure`. Takes no memory.
 #[tactic(auto, using(crate::proofs::VerdictLaws::holds_both))]
 pub fn is_parenthesized(program: &Program) -> bool
-    ensures told { result ≡ (program_verdict program.now).parenthesized }
+    ensures verdict { result ≡ (program_verdict program.now).parenthesized }
     ensures both { holds true (program_verdict program.now)
         ≡ (holds false (program_verdict program.now) && result) }
 {
@@ -83,7 +83,7 @@ pub fn is_parenthesized(program: &Program) -> bool
 /// proposals, and of names that are spelled with escapes; then the program neither keeps its structure nor is curable. Takes no memory.
 #[tactic(auto, using(crate::proofs::VerdictLaws::uncovered_holds))]
 pub fn is_covered(program: &Program) -> bool
-    ensures told { result ≡ (program_verdict program.now).covered }
+    ensures verdict { result ≡ (program_verdict program.now).covered }
     ensures uncovered { result ≡ false → (places : Bool)
         → holds places (program_verdict program.now) ≡ false }
 {
@@ -109,7 +109,7 @@ pub fn keeps_structure_item(item: &ModuleItem, parameters: Parameters) -> bool
     ensures exactly { is_possible (item_phrase item.now) ≡ true → (s : Settings)
         → s.minify ≡ parameters.minify
         → (result ≡ true) ↔ ((ts : List Token) × DerivesItem true s parameters item.now ts) }
-    ensures told { result ≡ holds true (item_verdict parameters item.now) }
+    ensures verdict { result ≡ holds true (item_verdict parameters item.now) }
 {
     verdict_item(item, parameters).is_derivation()
 }
@@ -126,7 +126,7 @@ pub fn is_curable_item(item: &ModuleItem, parameters: Parameters) -> bool
     ensures exactly { is_possible (item_phrase item.now) ≡ true → (s : Settings)
         → s.minify ≡ parameters.minify
         → (result ≡ true) ↔ ((ts : List Token) × DerivesItem false s parameters item.now ts) }
-    ensures told { result ≡ holds false (item_verdict parameters item.now) }
+    ensures verdict { result ≡ holds false (item_verdict parameters item.now) }
 {
     verdict_item(item, parameters).is_curable()
 }
@@ -153,7 +153,7 @@ pub fn keeps_structure_stmt(stmt: &Stmt, place: Nonterminal, parameters: Paramet
         → s.minify ≡ parameters.minify
         → (result ≡ true)
         ↔ ((ts : List Token) × DerivesStmt true s place parameters stmt.now ts) }
-    ensures told { result ≡ holds true (stmt_verdict place parameters stmt.now) }
+    ensures verdict { result ≡ holds true (stmt_verdict place parameters stmt.now) }
 {
     verdict_stmt(stmt, place, parameters).is_derivation()
 }
@@ -171,7 +171,7 @@ pub fn is_curable_stmt(stmt: &Stmt, place: Nonterminal, parameters: Parameters) 
         → s.minify ≡ parameters.minify
         → (result ≡ true)
         ↔ ((ts : List Token) × DerivesStmt false s place parameters stmt.now ts) }
-    ensures told { result ≡ holds false (stmt_verdict place parameters stmt.now) }
+    ensures verdict { result ≡ holds false (stmt_verdict place parameters stmt.now) }
 {
     verdict_stmt(stmt, place, parameters).is_curable()
 }

@@ -1,6 +1,6 @@
 pub mod Characters
 pub mod Pairs
-mod Moves
+mod Commuting
 mod Ways
 pub mod Semicolons
 pub mod Sheets

@@ -6,14 +6,14 @@ use Rattle.swc_ecma_codegen_common.specs.declared.errors.Refusal.{Refusal}
 use Rattle.swc_ecma_codegen_common.specs.declared.errors.Refusal.TheVariants.{Writer, OutOfMemory, UnsupportedNode, BadShape, NameOutOfTarget, PositionTooLarge, Failed}
 use Rattle.swc_ecma_codegen_common.specs.declared.positions.BytePos.{BytePos}
 use Rattle.swc_ecma_codegen_common.specs.declared.positions.Span.{Span}
-use Rattle.swc_ecma_codegen_text_writer.specs.Told.{Rises, IsPrefix}
+use Rattle.swc_ecma_codegen_text_writer.specs.Contents.{Rises, IsPrefix}
 use Rattle.swc_ecma_codegen_text_writer.proofs.Sheets.{front_refl, front_trans, placed_on}
 use Rattle.swc_ecma_codegen_text_writer.specs.Sheet.{Sheet, Item, Semi, Space, Keyword, Operator, Param, Property, Line, Lit, Comment, StrLit, Str, Symbol, Punct, Position, Commit, Deeper, Shallower, BeginLines, AllowBreak, EndLines, Semicolons, AtOnce, HoldsNone, HoldsOne, holds_semicolons, allowed, passed_on, allowed_at, written, literal_written, ended, pointed, settled_by, settled, semicolon_by, dropped, is_ending, before_punct, effect, effects, Causes, Stopped, Refuses, earlier, stopped, Writes}
 use Rattle.swc_ecma_codegen_common.specs.declared.errors.Error.{Error}
 use Rattle.swc_ecma_codegen_common.specs.Refusals.{in_short, reason_of}
 use Rattle.swc_ecma_codegen_text_writer.specs.declared.semicolon.HeldSemi.{HeldSemi}
 use Rattle.swc_ecma_codegen_text_writer.specs.PendingSemi.{semicolons_of, with_held, WritesAtOnce, IsSettled, Settles, break_after}
-use Rattle.swc_ecma_codegen_text_writer.proofs.Moves.{holding, written_moves, literal_moves, ended_moves, pointed_moves, allowed_moves, passed_moves, begun_by_moves, closed_by_moves}
+use Rattle.swc_ecma_codegen_text_writer.proofs.Commuting.{holding, written_commutes, literal_commutes, ended_commutes, pointed_commutes, allowed_commutes, passed_commutes, begun_by_commutes, closed_by_commutes}
 use Rattle.swc_ecma_codegen_text_writer.proofs.Ways.{Way, way_trans, alike_way, written_way, literal_way, ended_way, passed_way, settled_way}
 
 -- ---- writers that write semicolons at once
@@ -36,7 +36,7 @@ unmoved f s h = ap (λ (z : Sheet). z.semicolons) (h s.semicolons)
 -- what a call does once no semicolon is held
 pub record Settling (x : Item) : Type 0 where
   pub act : Sheet → Sheet
-  pub moves : (q : Semicolons) (s : Sheet) → act (holding q s) ≡ holding q (act s)
+  pub commutes : (q : Semicolons) (s : Sheet) → act (holding q s) ≡ holding q (act s)
   pub text : (s : Sheet) → IsPrefix s.text (act s).text
   pub pairs : (s : Sheet) → IsPrefix s.pairs (act s).pairs
   pub is : (s : Sheet) → effect x s ≡ act (settled s)
@@ -45,7 +45,7 @@ text_settling : (x : Item) (span : Option Span) (t : List ℕ) → ((s : Sheet) 
 text_settling x span t h =
     record {
       act = written span t;
-      moves = λ q s. written_moves q span t s;
+      commutes = λ q s. written_commutes q span t s;
       text = λ s. (written_way span t s).text;
       pairs = λ s. (written_way span t s).pairs;
       is = h;
@@ -55,7 +55,7 @@ literal_settling : (x : Item) (span : Span) (t : List ℕ) → ((s : Sheet) → 
 literal_settling x span t h =
     record {
       act = literal_written span t;
-      moves = λ q s. literal_moves q span t s;
+      commutes = λ q s. literal_commutes q span t s;
       text = λ s. (literal_way span t s).text;
       pairs = λ s. (literal_way span t s).pairs;
       is = h;
@@ -86,7 +86,7 @@ unfolding effect
 line_settles =
     record {
       act = ended;
-      moves = ended_moves;
+      commutes = ended_commutes;
       text = λ s. (ended_way s).text;
       pairs = λ s. (ended_way s).pairs;
       is = λ s. refl;
@@ -122,7 +122,7 @@ unfolding effect
 commit_settles =
     record {
       act = λ s. s;
-      moves = λ q s. refl;
+      commutes = λ q s. refl;
       text = λ s. front_refl s.text;
       pairs = λ s. front_refl s.pairs;
       is = λ s. refl;
@@ -137,7 +137,7 @@ unfolding effect
 deeper_settles =
     record {
       act = λ s. record s { indentation = s.indentation + 1 };
-      moves = λ q s. refl;
+      commutes = λ q s. refl;
       text = λ s. front_refl s.text;
       pairs = λ s. front_refl s.pairs;
       is = λ s. ap (λ n. record (settled s) { indentation = n + 1 }) (sym (settled_indentation s));
@@ -148,7 +148,7 @@ unfolding effect
 shallower_settles =
     record {
       act = λ s. record s { indentation = s.indentation - 1 };
-      moves = λ q s. refl;
+      commutes = λ q s. refl;
       text = λ s. front_refl s.text;
       pairs = λ s. front_refl s.pairs;
       is = λ s. ap (λ n. record (settled s) { indentation = n - 1 }) (sym (settled_indentation s));
@@ -158,7 +158,7 @@ shallower_settles =
 
 kept_settling : (x : Item) → Settling x → (s : Sheet) → s.semicolons ≡ AtOnce → (effect x s).semicolons ≡ AtOnce
 kept_settling x m s h =
-    ap (λ (z : Sheet). z.semicolons) (m.is s ∙ ap m.act (settled_at_once s h)) ∙ unmoved m.act s (λ q. m.moves q s) ∙ h
+    ap (λ (z : Sheet). z.semicolons) (m.is s ∙ ap m.act (settled_at_once s h)) ∙ unmoved m.act s (λ q. m.commutes q s) ∙ h
 
 -- before an ending too nothing is done
 punct_at_once : (span : Option Span) (t : List ℕ) (s : Sheet) → s.semicolons ≡ AtOnce → effect (Punct span t) s ≡ written span t s
@@ -177,7 +177,7 @@ unfolding effect allowed_at
 break_at_once s h = ap (λ q. allowed_at q s) h
 
 written_keeps : (span : Option Span) (t : List ℕ) (s : Sheet) → (written span t s).semicolons ≡ s.semicolons
-written_keeps span t s = unmoved (written span t) s (λ q. written_moves q span t s)
+written_keeps span t s = unmoved (written span t) s (λ q. written_commutes q span t s)
 
 effect_at_once : (x : Item) (s : Sheet) → s.semicolons ≡ AtOnce → (effect x s).semicolons ≡ AtOnce
 unfolding effect
@@ -194,13 +194,13 @@ effect_at_once (StrLit span t) s h = kept_settling _ (string_settles span t) s h
 effect_at_once (Str t) s h = kept_settling _ (str_settles t) s h
 effect_at_once (Symbol span t) s h = kept_settling _ (symbol_settles span t) s h
 effect_at_once (Punct span t) s h = ap (λ (z : Sheet). z.semicolons) (punct_at_once span t s h) ∙ written_keeps span t s ∙ h
-effect_at_once (Position pos) s h = unmoved (pointed pos) s (λ q. pointed_moves q pos s) ∙ h
+effect_at_once (Position pos) s h = unmoved (pointed pos) s (λ q. pointed_commutes q pos s) ∙ h
 effect_at_once Commit s h = kept_settling _ commit_settles s h
 effect_at_once Deeper s h = kept_settling _ deeper_settles s h
 effect_at_once Shallower s h = kept_settling _ shallower_settles s h
-effect_at_once (BeginLines max) s h = ap (λ (z : Sheet). z.semicolons) (begun_by_moves s.lines s.semicolons max s) ∙ h
-effect_at_once AllowBreak s h = ap (λ (z : Sheet). z.semicolons) (break_at_once s h) ∙ (unmoved allowed s (λ q. allowed_moves q s) ∙ h)
-effect_at_once EndLines s h = ap (λ (z : Sheet). z.semicolons) (closed_by_moves s.lines s.semicolons s) ∙ h
+effect_at_once (BeginLines max) s h = ap (λ (z : Sheet). z.semicolons) (begun_by_commutes s.lines s.semicolons max s) ∙ h
+effect_at_once AllowBreak s h = ap (λ (z : Sheet). z.semicolons) (break_at_once s h) ∙ (unmoved allowed s (λ q. allowed_commutes q s) ∙ h)
+effect_at_once EndLines s h = ap (λ (z : Sheet). z.semicolons) (closed_by_commutes s.lines s.semicolons s) ∙ h
 
 -- a call of the writer under it leaves that one writing semicolons at once
 pub kept : (x : Item) (a b : Sheet) (r : Result (Unit {0}) Refusal) → WritesAtOnce a → Writes x a b r → WritesAtOnce b
@@ -295,7 +295,7 @@ causes_on x Failed a b c w h = h
 -- the semicolon goes out, and then the break that was kept with it
 semi_then : (semi : HeldSemi) (a : Sheet) → a.semicolons ≡ AtOnce → settled (with_held (Some semi) a) ≡ passed_on semi.allows_break (holding HoldsNone (effect (Semi semi.span) a))
 unfolding settled_by with_held
-semi_then semi a h = ap (passed_on semi.allows_break) (written_moves HoldsNone semi.span (codes ";") a ∙ ap (holding HoldsNone) (sym (semi_at_once semi.span a h)))
+semi_then semi a h = ap (passed_on semi.allows_break) (written_commutes HoldsNone semi.span (codes ";") a ∙ ap (holding HoldsNone) (sym (semi_at_once semi.span a h)))
 
 pub held_plain : (semi : HeldSemi) (a b : Sheet) (u : Unit {0}) → semi.allows_break ≡ false → WritesAtOnce a → Writes (Semi semi.span) a b (Ok u) → IsSettled (with_held (Some semi) a) (with_held None b)
 unfolding IsSettled with_held Writes passed_on
@@ -309,11 +309,11 @@ held_broken semi a b c u v e h k m =
     let one : a.semicolons ≡ AtOnce = at_once _ (h k.0) in
     let d : Sheet = effect (Semi semi.span) a in
     let after : c ≡ allowed d = m.1 ∙ (ap (effect AllowBreak) k.1 ∙ break_at_once d (effect_at_once (Semi semi.span) a one)) in
-    (ap (holding HoldsNone) after ∙ (sym (allowed_moves HoldsNone d) ∙ (sym (ap (λ z. passed_on z (holding HoldsNone d)) e) ∙ sym (unfold with_held in semi_then semi a one))), k.0)
+    (ap (holding HoldsNone) after ∙ (sym (allowed_commutes HoldsNone d) ∙ (sym (ap (λ z. passed_on z (holding HoldsNone d)) e) ∙ sym (unfold with_held in semi_then semi a one))), k.0)
 
 passed_true : (s : Sheet) → passed_on true (holding HoldsNone s) ≡ holding HoldsNone (allowed s)
 unfolding passed_on
-passed_true s = allowed_moves HoldsNone s
+passed_true s = allowed_commutes HoldsNone s
 
 -- what goes out of the semicolon is a beginning of what goes out of both
 semi_front : (semi : HeldSemi) (a : Sheet) → a.semicolons ≡ AtOnce → Way (effect (Semi semi.span) a) (settled (with_held (Some semi) a))
@@ -386,7 +386,7 @@ same_goal x m s h = m.is (settled s) ∙ ap m.act h ∙ sym (m.is s)
 -- after it went out none is held
 pub out_keeps : (span : Option Span) (allowed : Bool) (s : Sheet) → (passed_on allowed (written span (codes ";") (holding HoldsNone s))).semicolons ≡ HoldsNone
 out_keeps span allowed s =
-    let out = written span (codes ";") (holding HoldsNone s) in unmoved (passed_on allowed) out (λ q. passed_moves allowed q out) ∙ written_keeps span (codes ";") (holding HoldsNone s)
+    let out = written span (codes ";") (holding HoldsNone s) in unmoved (passed_on allowed) out (λ q. passed_commutes allowed q out) ∙ written_keeps span (codes ";") (holding HoldsNone s)
 
 settled_by_twice : (q : Semicolons) (s : Sheet) → q ≡ s.semicolons → settled (settled_by q s) ≡ settled_by q s
 unfolding settled_by
@@ -452,7 +452,7 @@ joined x m a b c u (Err e) h (stopped i j k) =
 settling_lifts : (x : Item) → Settling x → (a : Sheet) → Lifts x x HoldsNone HoldsNone a
 unfolding settled_by
 settling_lifts x m a h r =
-    m.is (holding HoldsNone a) ∙ m.moves HoldsNone a ∙ ap (holding HoldsNone) (sym (m.is a ∙ ap m.act (settled_at_once a (at_once _ (h r)))))
+    m.is (holding HoldsNone a) ∙ m.commutes HoldsNone a ∙ ap (holding HoldsNone) (sym (m.is a ∙ ap m.act (settled_at_once a (at_once _ (h r)))))
 
 pub settled_then : (x : Item) → Settling x → (s a b : Sheet) (p : Option HeldSemi) (u : Unit {0}) (r : Result (Unit {0}) Refusal) → Settles s (with_held p a) (Ok u) → p ≡ None → WritesAtOnce a → Writes x a b r → Writes x s (with_held p b) r
 unfolding with_held
@@ -525,7 +525,7 @@ ending_lifts p span t a i h r =
     let s = holding (semicolons_of p) a in
     ap (λ b. written span t (cond b (record s { semicolons = dropped s.semicolons }) (settled s))) i ∙
     ap (λ q. written span t (holding q a)) (dropped_none p) ∙
-    written_moves HoldsNone span t a ∙
+    written_commutes HoldsNone span t a ∙
     ap (holding HoldsNone) (sym (punct_at_once span t a (at_once _ (h r))))
 
 -- before an ending the held semicolon is lost
@@ -541,21 +541,21 @@ ending_err p span t a b e i h k =
 -- a position passes a held semicolon by
 pub position_passes : (p : Option HeldSemi) (pos : BytePos) (a b : Sheet) (r : Result (Unit {0}) Refusal) → WritesAtOnce a → Writes (Position pos) a b r → Writes (Position pos) (with_held p a) (with_held p b) r
 unfolding with_held effect
-position_passes p pos a b r h k = lifted (Position pos) (semicolons_of p) a b r h (λ _ _. pointed_moves (semicolons_of p) pos a) k
+position_passes p pos a b r h k = lifted (Position pos) (semicolons_of p) a b r h (λ _ _. pointed_commutes (semicolons_of p) pos a) k
 
 -- lines begin and end below it
 pub begin_passes : (p : Option HeldSemi) (max : ℕ) (a b : Sheet) (r : Result (Unit {0}) Refusal) → WritesAtOnce a → Writes (BeginLines max) a b r → Writes (BeginLines max) (with_held p a) (with_held p b) r
 unfolding with_held effect
-begin_passes p max a b r h k = lifted (BeginLines max) (semicolons_of p) a b r h (λ _ _. begun_by_moves a.lines (semicolons_of p) max a) k
+begin_passes p max a b r h k = lifted (BeginLines max) (semicolons_of p) a b r h (λ _ _. begun_by_commutes a.lines (semicolons_of p) max a) k
 
 pub end_passes : (p : Option HeldSemi) (a b : Sheet) (r : Result (Unit {0}) Refusal) → WritesAtOnce a → Writes EndLines a b r → Writes EndLines (with_held p a) (with_held p b) r
 unfolding with_held effect
-end_passes p a b r h k = lifted EndLines (semicolons_of p) a b r h (λ _ _. closed_by_moves a.lines (semicolons_of p) a) k
+end_passes p a b r h k = lifted EndLines (semicolons_of p) a b r h (λ _ _. closed_by_commutes a.lines (semicolons_of p) a) k
 
 -- an allowed break too where no semicolon is held
 none_lifts : (a : Sheet) → Lifts AllowBreak AllowBreak HoldsNone HoldsNone a
 unfolding effect allowed_at
-none_lifts a h r = allowed_moves HoldsNone a ∙ ap (holding HoldsNone) (sym (unfold effect allowed_at in break_at_once a (at_once _ (h r))))
+none_lifts a h r = allowed_commutes HoldsNone a ∙ ap (holding HoldsNone) (sym (unfold effect allowed_at in break_at_once a (at_once _ (h r))))
 
 pub break_passes : (p : Option HeldSemi) (a b : Sheet) (r : Result (Unit {0}) Refusal) → p ≡ None → WritesAtOnce a → Writes AllowBreak a b r → Writes AllowBreak (with_held p a) (with_held p b) r
 break_passes p a b r n h k =
@@ -580,18 +580,18 @@ break_err p semi a b e n h k =
 
 at_once_allows : (s : Sheet) → allowed_at AtOnce (holding AtOnce s) ≡ holding AtOnce (allowed s)
 unfolding allowed_at
-at_once_allows s = allowed_moves AtOnce s
+at_once_allows s = allowed_commutes AtOnce s
 
 -- the semicolon goes out, and then the break that was allowed behind it
 pub settled_layers : (span : Option Span) (kept : Bool) (s : Sheet) → settled (holding (HoldsOne span kept) s) ≡ holding HoldsNone (effects (Semi span ∷ break_after kept) (holding AtOnce s))
 unfolding settled_by passed_on break_after effects effect semicolon_by
-settled_layers span false s = written_moves HoldsNone span (codes ";") s ∙ ap (holding HoldsNone) (sym (written_moves AtOnce span (codes ";") s))
+settled_layers span false s = written_commutes HoldsNone span (codes ";") s ∙ ap (holding HoldsNone) (sym (written_commutes AtOnce span (codes ";") s))
 settled_layers span true s =
     let w : Sheet = written span (codes ";") s in
-    ap allowed (written_moves HoldsNone span (codes ";") s)
-    ∙ (allowed_moves HoldsNone w
+    ap allowed (written_commutes HoldsNone span (codes ";") s)
+    ∙ (allowed_commutes HoldsNone w
     ∙ sym (ap (holding HoldsNone)
-    (ap (λ (z : Sheet). allowed_at z.semicolons z) (written_moves AtOnce span (codes ";") s) ∙ at_once_allows w)))
+    (ap (λ (z : Sheet). allowed_at z.semicolons z) (written_commutes AtOnce span (codes ";") s) ∙ at_once_allows w)))
 
 -- an allowed break is kept with a semicolon that is held, and else passed on
 pub kept_layers : (span : Option Span) (kept : Bool) (s : Sheet) → effect AllowBreak (holding (HoldsOne span kept) s) ≡ holding (HoldsOne span true) s
@@ -600,7 +600,7 @@ kept_layers span kept s = refl
 
 pub passed_layers : (s : Sheet) → effect AllowBreak (holding HoldsNone s) ≡ holding HoldsNone (effect AllowBreak (holding AtOnce s))
 unfolding effect allowed_at
-passed_layers s = allowed_moves HoldsNone s ∙ ap (holding HoldsNone) (sym (allowed_moves AtOnce s))
+passed_layers s = allowed_commutes HoldsNone s ∙ ap (holding HoldsNone) (sym (allowed_commutes AtOnce s))
 
 -- it says that it holds semicolons
 pub held_back : (p : Option HeldSemi) → true ≡ holds_semicolons (semicolons_of p)

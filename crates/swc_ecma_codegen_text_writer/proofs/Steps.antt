@@ -9,9 +9,9 @@ use Rattle.swc_ecma_codegen_common.specs.declared.errors.Refusal.TheVariants.{Wr
 use Rattle.swc_ecma_codegen_common.specs.declared.positions.BytePos.{BytePos}
 use Rattle.swc_ecma_codegen_common.specs.declared.positions.Span.{Span}
 use Rattle.swc_ecma_codegen_text_writer.specs.Positions.{Records}
-use Rattle.swc_ecma_codegen_text_writer.specs.Kept.{RecordsIn}
-use Rattle.swc_ecma_codegen_text_writer.specs.Told.{told, IsPrefix}
-use Rattle.swc_ecma_codegen_text_writer.specs.Sent.{sent}
+use Rattle.swc_ecma_codegen_text_writer.specs.KeptPositions.{RecordsIn}
+use Rattle.swc_ecma_codegen_text_writer.specs.Contents.{or_empty, IsPrefix}
+use Rattle.swc_ecma_codegen_text_writer.specs.Outlets.{bytes_so_far}
 use Rattle.swc_ecma_codegen_text_writer.specs.declared.outlet.Outlet.{Outlet}
 use Rattle.swc_ecma_codegen_text_writer.specs.Places.{Place, origin, after_text}
 use Rattle.swc_ecma_codegen_text_writer.specs.Sheet.{Sheet, Pair, Flow, Flowing, Filling, Cutting, Segment, with_text, with_note, released, noted, appended_by, recorded_by, is_recorded, with_pair, pointed, Item, Causes, earlier, stopped, Writes, Semicolons, AtOnce, appended, indented, start_recorded, end_recorded, pending_recorded, recorded, started, written, literal_written, ended, settled, settled_by, semicolon_by, dropped, is_ending, before_punct, effect, Deeper, fills_lines, may_take_memory}
@@ -175,9 +175,9 @@ reaches_then goal a b c next r e h l k =
     reaches_on goal a b c r (subst (λ (z : Sheet). Alike a z) (sym e) h) (subst (λ (z : Sheet). Stays a z) (sym e) l) (k e)
 
 -- one copy of the indentation failed
-pub indent_halted : (e : Refusal) (n m : ℕ) (a c : Sheet) → n < m → Halted e (appended a.indent_text (indented n a)) (indented n a) c → Halted e (indented m a) a c
+pub halted_within_indent : (e : Refusal) (n m : ℕ) (a c : Sheet) → n < m → Halted e (appended a.indent_text (indented n a)) (indented n a) c → Halted e (indented m a) a c
 unfolding indented
-indent_halted e n m a c h s =
+halted_within_indent e n m a c h s =
     let f : Alike (appended a.indent_text (indented n a)) (indented m a) =
     subst (λ (z : Sheet). Alike z (indented m a)) (sym (indented_more n a)) (indented_on (n + 1) m a (omega (arith, h))) in
     halted_on e (indented m a) (appended a.indent_text (indented n a)) a (indented n a) c (indented_alike n a) (indented_stays n a) f s
@@ -281,12 +281,12 @@ pub place_on : (before t after : List ℕ) → after ≡ before ++ t → after_t
 place_on before t after h = ap (λ z. after_text z origin) h ∙ after_append before t origin
 
 -- the place after what an outlet has sent since
-pub place_since : {W : Type 0} {g : io.Ghosts W} (old new : Outlet W g) → new.before ≡ old.before → (h : IsPrefix (sent old) (sent new)) → after_text new.log.bytes origin ≡ after_text h.0 (after_text old.log.bytes origin)
+pub place_since : {W : Type 0} {g : io.Ghosts W} (old new : Outlet W g) → new.before ≡ old.before → (h : IsPrefix (bytes_so_far old) (bytes_so_far new)) → after_text new.log.bytes origin ≡ after_text h.0 (after_text old.log.bytes origin)
 place_since {g = g} old new b h =
-    let told_before = told (g.contents old.before.value) in
-    let e : told_before ++ new.log.bytes ≡ told_before ++ (old.log.bytes ++ h.0) =
-    sym (ap (λ z. told (g.contents z.value) ++ new.log.bytes) b) ∙ h.1 ∙ append_assoc told_before old.log.bytes h.0 in
-    place_on old.log.bytes h.0 new.log.bytes (append_cancel_left told_before new.log.bytes (old.log.bytes ++ h.0) e)
+    let contents_before = or_empty (g.contents old.before.value) in
+    let e : contents_before ++ new.log.bytes ≡ contents_before ++ (old.log.bytes ++ h.0) =
+    sym (ap (λ z. or_empty (g.contents z.value) ++ new.log.bytes) b) ∙ h.1 ∙ append_assoc contents_before old.log.bytes h.0 in
+    place_on old.log.bytes h.0 new.log.bytes (append_cancel_left contents_before new.log.bytes (old.log.bytes ++ h.0) e)
 
 -- the same sheet, by what it has of an outlet
 pub outlet_same : (s : Sheet) (x : List ℕ) (b : Bool) (p : Place) (n : ℕ) → x ≡ s.text → b ≡ s.whole → p ≡ s.place → n ≡ s.faults → record s { text = x; whole = b; place = p; faults = n } ≡ s

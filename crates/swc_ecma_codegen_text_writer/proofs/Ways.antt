@@ -3,11 +3,11 @@ use Rattle.std.proofs.Common.{◌≡◌, ℕ, Bool, true, false, ◌||◌, ◌==
 use Rattle.std.specs.List.{repeat}
 use Rattle.swc_ecma_codegen_common.specs.declared.positions.BytePos.{BytePos}
 use Rattle.swc_ecma_codegen_common.specs.declared.positions.Span.{Span}
-use Rattle.swc_ecma_codegen_text_writer.specs.Told.{IsPrefix}
+use Rattle.swc_ecma_codegen_text_writer.specs.Contents.{IsPrefix}
 use Rattle.swc_ecma_codegen_text_writer.specs.Places.{after_text}
 use Rattle.swc_ecma_codegen_text_writer.proofs.Sheets.{front_refl, front_append, front_trans, placed_on}
 use Rattle.swc_ecma_codegen_text_writer.specs.Sheet.{Sheet, Semicolons, AtOnce, HoldsNone, HoldsOne, Flow, Flowing, Filling, Cutting, fills_lines, Segment, no_segment, released, noted, notes_released, line_ended, ends_before, segment_released, allowed_by, allowed, passed_on, appended_by, recorded_by, is_recorded, appended, indented, with_pair, has_pair, pair_at, recorded, start_recorded, end_recorded, pending_recorded, started, written, literal_written, ended, settled_by, settled}
-use Rattle.swc_ecma_codegen_text_writer.proofs.Moves.{holding, begun}
+use Rattle.swc_ecma_codegen_text_writer.proofs.Commuting.{holding, begun}
 
 -- ---- texts and pairs grow
 

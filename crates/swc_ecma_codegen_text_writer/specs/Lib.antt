@@ -1,7 +1,7 @@
 pub mod PendingSemi
 pub mod Held
 pub mod InPlace
-pub mod Kept
+pub mod KeptPositions
 pub mod Characters
 pub mod Columns
 pub mod Filling
@@ -12,7 +12,7 @@ pub mod Positions
 pub mod Reach
 pub mod Recorded
 pub mod Runs
-pub mod Sent
+pub mod Outlets
 pub mod Sheet
-pub mod Told
+pub mod Contents
 pub mod View

@@ -45,7 +45,7 @@ pub record FillsLines (max : ℕ) (calls : List Item) (old plain new : Sheet) : 
   pub parts : List Part
   pub segments : texts_in (done ++ (begun ∷ [])) ≡ first ∷ segments_of parts
   -- each goes out, and each position is recorded where it stands in its segment
-  pub sent : new.text ≡ (segments_released max true (done ++ (begun ∷ [])) old).text
+  pub released : new.text ≡ (segments_released max true (done ++ (begun ∷ [])) old).text
   pub pairs : new.pairs ≡ (segments_released max true (done ++ (begun ∷ [])) old).pairs
   pub plain_text : plain.text ≡ old.text ++ (first ++ joined (segments_of parts))
   pub text : new.text ≡ old.text ++ (first ++ text_of old.line_end parts)

@@ -8,7 +8,7 @@ use Rattle.swc_ecma_codegen_common.specs.declared.positions.LineCol.{LineCol}
 use Rattle.swc_ecma_codegen_common.specs.declared.positions.Span.{Span}
 use Rattle.swc_ecma_codegen_text_writer.specs.Places.{Place, after_text}
 use Rattle.swc_ecma_codegen_text_writer.specs.Filling.{first_units, is_due}
-use Rattle.swc_ecma_codegen_text_writer.specs.Told.{Rises, IsPrefix}
+use Rattle.swc_ecma_codegen_text_writer.specs.Contents.{Rises, IsPrefix}
 
 -- a call of a writer; texts are UTF-8 bytes
 pub data Item : Type 0 where

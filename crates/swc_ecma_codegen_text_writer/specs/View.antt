@@ -5,8 +5,8 @@ use Rattle.std.specs.declared.io.traits.Write as io
 use Rattle.swc_ecma_codegen_text_writer.specs.declared.kept.KeepsPositions as kept
 use Rattle.swc_ecma_codegen_common.specs.declared.errors.Refusal.{Refusal}
 use Rattle.swc_ecma_codegen_common.specs.declared.errors.Refusal.TheVariants.{Writer, OutOfMemory, UnsupportedNode, BadShape, NameOutOfTarget, PositionTooLarge, Failed}
-use Rattle.swc_ecma_codegen_text_writer.specs.Told.{Rises, IsPrefix}
-use Rattle.swc_ecma_codegen_text_writer.specs.Sent.{sent}
+use Rattle.swc_ecma_codegen_text_writer.specs.Contents.{Rises, IsPrefix}
+use Rattle.swc_ecma_codegen_text_writer.specs.Outlets.{bytes_so_far}
 use Rattle.swc_ecma_codegen_common.specs.declared.positions.BytePos.{BytePos}
 use Rattle.swc_ecma_codegen_common.specs.declared.positions.Span.{Span}
 use Rattle.swc_ecma_codegen_text_writer.specs.Places.{origin, after_text}
@@ -44,8 +44,8 @@ keeping pairs s = record s { keeps_positions = true; pairs = pairs; takes_memory
 unfoldable pub sheet_of : {W : Type 0} {g : io.Ghosts W} {K : Type 0} {k : kept.Ghosts K} → Lines W K g k → Sheet
 sheet_of {k = k} w =
     record {
-      text = sent w.outlet;
-      whole = is_utf8 (sent w.outlet);
+      text = bytes_so_far w.outlet;
+      whole = is_utf8 (bytes_so_far w.outlet);
       at_line_start = w.line_start;
       indentation = w.indent;
       line_end = w.new_line.now;

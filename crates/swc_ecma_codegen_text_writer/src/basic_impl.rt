@@ -6,7 +6,7 @@ ghost use Rattle.std.proofs.Props.{props};
 ghost use Rattle.swc_ecma_codegen_text_writer.specs.Places.{origin, after_text};
 ghost use Rattle.swc_ecma_codegen_text_writer.specs.Columns.{Stands};
 ghost use Rattle.swc_ecma_codegen_text_writer.specs.Reach.{is_in_line};
-ghost use Rattle.swc_ecma_codegen_text_writer.specs.Kept.{IsCounted};
+ghost use Rattle.swc_ecma_codegen_text_writer.specs.KeptPositions.{IsCounted};
 ghost use Rattle.swc_ecma_codegen_text_writer.specs.Held.{notes_in};
 
 mod calls;
@@ -15,7 +15,7 @@ mod texts;
 
 use crate::columns::Column;
 use crate::held::Held;
-use crate::kept::{KeepsPositions, Kept, OwnedPositions};
+use crate::kept::{KeepsPositions, OptionalPositions, OwnedPositions};
 use crate::outlet::Outlet;
 use crate::positions::is_in_line;
 use std::alloc::Global;
@@ -71,11 +71,11 @@ pub struct Lines<'a, W: Write, K: KeepsPositions> {
 /// (`ErrorKind::WriteZero`); `PositionTooLarge` where the indentation would pass 4294967295 levels, or a position to be
 /// recorded has a line or a column above that; `Failed` where an earlier call was refused. swc's
 /// `text_writer::basic_impl::JsWriter`.
-pub type JsWriter<'a, W> = Lines<'a, W, Kept<'a>>;
+pub type JsWriter<'a, W> = Lines<'a, W, OptionalPositions<'a>>;
 
 impl<'a, W: Write> JsWriter<'a, W> {
     ghost use Rattle.std.specs.Prelude.{IsSome, Some, None};
-    ghost use Rattle.swc_ecma_codegen_text_writer.specs.Told.{told};
+    ghost use Rattle.swc_ecma_codegen_text_writer.specs.Contents.{or_empty};
     ghost use Rattle.swc_ecma_codegen_text_writer.specs.View.{sheet_of, new_sheet, keeping, Tells};
 
     /// A writer at a line's start, with no indentation, whose lines end with `new_line`, as `"\n"` or `"\r\n"`.
@@ -88,13 +88,13 @@ impl<'a, W: Write> JsWriter<'a, W> {
         srcmap: Option<&'a mut Vec<(BytePos, LineCol)>>,
     ) -> JsWriter<'a, W>
         ensures sheet { srcmap.entry ≡ None →
-            sheet_of result ≡ new_sheet (told (W.contents wr)) new_line.now }
+            sheet_of result ≡ new_sheet (or_empty (W.contents wr)) new_line.now }
         ensures positions { (list : _) → srcmap.entry ≡ Some list →
             sheet_of result ≡ keeping list.now.items
-            (new_sheet (told (W.contents wr)) new_line.now) }
+            (new_sheet (or_empty (W.contents wr)) new_line.now) }
         ensures tells { IsSome (W.contents wr) → Tells result }
     {
-        Lines::on(alloc, new_line, wr, Kept::new(srcmap))
+        Lines::on(alloc, new_line, wr, OptionalPositions::new(srcmap))
     }
 }
 
@@ -106,7 +106,7 @@ pub type PositionsWriter<'a, W> = Lines<'a, W, OwnedPositions>;
 impl<'a, W: Write> PositionsWriter<'a, W> {
     ghost use Rattle.std.specs.Prelude.{IsSome, Some, []};
     ghost use Rattle.std.specs.Str.{is_utf8};
-    ghost use Rattle.swc_ecma_codegen_text_writer.specs.Told.{told};
+    ghost use Rattle.swc_ecma_codegen_text_writer.specs.Contents.{or_empty};
     ghost use Rattle.swc_ecma_codegen_text_writer.specs.View.{sheet_of, new_sheet, keeping, Tells};
 
     /// A writer as `JsWriter::new` gives it, that records positions in a list of its own, none yet. Takes no memory before
@@ -118,7 +118,7 @@ impl<'a, W: Write> PositionsWriter<'a, W> {
         wr: W,
     ) -> PositionsWriter<'a, W>
         ensures sheet { sheet_of result
-            ≡ keeping [] (new_sheet (told (W.contents wr)) new_line.now) }
+            ≡ keeping [] (new_sheet (or_empty (W.contents wr)) new_line.now) }
         ensures tells { IsSome (W.contents wr) → Tells result }
     {
         Lines::on(alloc, new_line, wr, OwnedPositions::new(alloc))
@@ -154,7 +154,7 @@ impl<'a, W: Write, K: KeepsPositions> Lines<'a, W, K> {
     ghost use Rattle.std.specs.Prelude.{◌<◌, length, IsSome, Some, None, Err};
     ghost use Rattle.std.specs.Str.{is_utf8};
     ghost use Rattle.swc_ecma_codegen_common.specs.Refusals.{in_short, reason_of};
-    ghost use Rattle.swc_ecma_codegen_text_writer.specs.Told.{told};
+    ghost use Rattle.swc_ecma_codegen_text_writer.specs.Contents.{or_empty};
     ghost use Rattle.swc_ecma_codegen_text_writer.specs.Sheet.{Writes, Deeper, Shallower, released, appended, indented, noted, is_recorded, recorded, start_recorded, end_recorded, pending_recorded, started, written, literal_written};
     ghost use Rattle.swc_ecma_codegen_text_writer.specs.View.{sheet_of, new_sheet, keeping, Prefaces, Tells, Reaches, WritesPosition, WritesNothing};
 
@@ -163,7 +163,7 @@ impl<'a, W: Write, K: KeepsPositions> Lines<'a, W, K> {
     fn on(alloc: Global, new_line: &'a str, wr: W, kept: K) -> Lines<'a, W, K>
         requires counted { IsCounted (K.keeps kept) (K.reached kept) origin }
         requires pending { K.pending kept ≡ None }
-        ensures sheet { sheet_of result ≡ record (new_sheet (told (W.contents wr)) new_line.now)
+        ensures sheet { sheet_of result ≡ record (new_sheet (or_empty (W.contents wr)) new_line.now)
             { keeps_positions = K.keeps kept; pairs = K.pairs kept; takes_memory = K.keeps kept } }
         ensures tells { IsSome (W.contents wr) → Tells result }
     {

@@ -6,13 +6,13 @@ ghost use Rattle.swc_ecma_codegen_text_writer.specs.Places.{Place, origin, after
 ghost use Rattle.swc_ecma_codegen_text_writer.specs.Reach.{is_in_line};
 ghost use Rattle.swc_ecma_codegen_text_writer.specs.Sheet.{Pair};
 ghost use Rattle.swc_ecma_codegen_text_writer.specs.declared.positions.Reached.{Reached};
-ghost use Rattle.swc_ecma_codegen_text_writer.specs.Kept.{IsCounted, RecordsIn};
+ghost use Rattle.swc_ecma_codegen_text_writer.specs.KeptPositions.{IsCounted, RecordsIn};
 
 use crate::positions::Positions;
 use std::alloc::Global;
 use swc_ecma_codegen_common::{Answer, BytePos, LineCol};
 
-/// What keeps positions for a writer, or keeps none: it is told what is written, and where it is to record a position.
+/// What keeps positions for a writer, or keeps none: each call says what was written, or where a position is to be recorded.
 pub trait KeepsPositions: Drop {
     ghost keeps: { Self → Bool };
 
@@ -73,16 +73,16 @@ pub trait KeepsPositions: Drop {
 
 /// The positions that are kept, or nothing where none are.
 #[derive(Drop)]
-pub struct Kept<'a> {
+pub struct OptionalPositions<'a> {
     positions: Option<Positions<&'a mut Vec<(BytePos, LineCol)>>>,
 }
 
-impl<'a> Kept<'a> {
-    ghost use Rattle.swc_ecma_codegen_text_writer.specs.Kept.{keeps, kept_pairs, kept_pending, kept_reached};
+impl<'a> OptionalPositions<'a> {
+    ghost use Rattle.swc_ecma_codegen_text_writer.specs.KeptPositions.{keeps, kept_pairs, kept_pending, kept_reached};
 
     /// Nothing is written yet, and nothing is pending.
-    #[tactic(auto, unfolding(crate::specs::Kept::pairs_in, crate::specs::Kept::pending_in, crate::specs::Kept::reached_in))]
-    pub fn new(list: Option<&'a mut Vec<(BytePos, LineCol)>>) -> Kept<'a>
+    #[tactic(auto, unfolding(crate::specs::KeptPositions::pairs_in, crate::specs::KeptPositions::pending_in, crate::specs::KeptPositions::reached_in))]
+    pub fn new(list: Option<&'a mut Vec<(BytePos, LineCol)>>) -> OptionalPositions<'a>
         ensures keeps { keeps result ≡ is_some list.entry }
         ensures none { list.entry ≡ None → kept_pairs result ≡ [] }
         ensures some { (lent : _) → list.entry ≡ Some lent → kept_pairs result ≡ lent.now.items }
@@ -93,12 +93,12 @@ impl<'a> Kept<'a> {
             None => None,
             Some(list) => Some(Positions::new(list)),
         };
-        Kept { positions }
+        OptionalPositions { positions }
     }
 }
 
-impl KeepsPositions for Kept<'_> {
-    ghost use Rattle.swc_ecma_codegen_text_writer.specs.Kept.{keeps, kept_pairs, kept_pending, kept_reached};
+impl KeepsPositions for OptionalPositions<'_> {
+    ghost use Rattle.swc_ecma_codegen_text_writer.specs.KeptPositions.{keeps, kept_pairs, kept_pending, kept_reached};
 
     ghost keeps = { keeps };
 
@@ -112,7 +112,7 @@ impl KeepsPositions for Kept<'_> {
         self.positions.is_some()
     }
 
-    #[tactic(auto, unfolding(crate::specs::Kept::pairs_in, crate::specs::Kept::pending_in, crate::specs::Kept::reached_in, crate::specs::Kept::RecordsIn))]
+    #[tactic(auto, unfolding(crate::specs::KeptPositions::pairs_in, crate::specs::KeptPositions::pending_in, crate::specs::KeptPositions::reached_in, crate::specs::KeptPositions::RecordsIn))]
     #[inline(always)]
     fn pass(&mut self, text: &str) {
         if let Some(positions) = &mut self.positions {
@@ -120,7 +120,7 @@ impl KeepsPositions for Kept<'_> {
         }
     }
 
-    #[tactic(auto, unfolding(crate::specs::Kept::pairs_in, crate::specs::Kept::pending_in, crate::specs::Kept::reached_in, crate::specs::Kept::RecordsIn))]
+    #[tactic(auto, unfolding(crate::specs::KeptPositions::pairs_in, crate::specs::KeptPositions::pending_in, crate::specs::KeptPositions::reached_in, crate::specs::KeptPositions::RecordsIn))]
     #[inline(always)]
     fn pass_known(&mut self, text: &str, stays_in_line: bool) {
         if let Some(positions) = &mut self.positions {
@@ -128,7 +128,7 @@ impl KeepsPositions for Kept<'_> {
         }
     }
 
-    #[tactic(auto, unfolding(crate::specs::Kept::pairs_in, crate::specs::Kept::pending_in, crate::specs::Kept::reached_in, crate::specs::Kept::RecordsIn))]
+    #[tactic(auto, unfolding(crate::specs::KeptPositions::pairs_in, crate::specs::KeptPositions::pending_in, crate::specs::KeptPositions::reached_in, crate::specs::KeptPositions::RecordsIn))]
     #[inline(always)]
     fn record(&mut self, pos: BytePos) -> Answer {
         match &mut self.positions {
@@ -137,14 +137,14 @@ impl KeepsPositions for Kept<'_> {
         }
     }
 
-    #[tactic(auto, unfolding(crate::specs::Kept::pairs_in, crate::specs::Kept::pending_in, crate::specs::Kept::reached_in, crate::specs::Kept::RecordsIn))]
+    #[tactic(auto, unfolding(crate::specs::KeptPositions::pairs_in, crate::specs::KeptPositions::pending_in, crate::specs::KeptPositions::reached_in, crate::specs::KeptPositions::RecordsIn))]
     fn point(&mut self, pos: BytePos) {
         if let Some(positions) = &mut self.positions {
             positions.point(pos);
         }
     }
 
-    #[tactic(auto, unfolding(crate::specs::Kept::pairs_in, crate::specs::Kept::pending_in, crate::specs::Kept::reached_in, crate::specs::Kept::RecordsIn))]
+    #[tactic(auto, unfolding(crate::specs::KeptPositions::pairs_in, crate::specs::KeptPositions::pending_in, crate::specs::KeptPositions::reached_in, crate::specs::KeptPositions::RecordsIn))]
     fn take_pending(&mut self) -> Option<BytePos> {
         match &mut self.positions {
             None => None,
@@ -160,7 +160,7 @@ pub struct OwnedPositions {
 }
 
 impl OwnedPositions {
-    ghost use Rattle.swc_ecma_codegen_text_writer.specs.Kept.{always, owned_pairs, owned_pending, owned_reached};
+    ghost use Rattle.swc_ecma_codegen_text_writer.specs.KeptPositions.{always, owned_pairs, owned_pending, owned_reached};
 
     /// Nothing is written yet, nothing is pending, and the list is empty.
     pub fn new(alloc: Global) -> OwnedPositions
@@ -182,9 +182,9 @@ impl OwnedPositions {
     }
 }
 
-#[tactic(auto, unfolding(crate::specs::Kept::RecordsIn))]
+#[tactic(auto, unfolding(crate::specs::KeptPositions::RecordsIn))]
 impl KeepsPositions for OwnedPositions {
-    ghost use Rattle.swc_ecma_codegen_text_writer.specs.Kept.{always, owned_pairs, owned_pending, owned_reached};
+    ghost use Rattle.swc_ecma_codegen_text_writer.specs.KeptPositions.{always, owned_pairs, owned_pending, owned_reached};
 
     ghost keeps = { always };
 

@@ -3,7 +3,7 @@
 ghost use Rattle.std.specs.Prelude.{◌≡◌, ◌<◌, ◌≤◌, [], ◌++◌, length, take, IfOk, OnOk, OnErr, IsSome};
 ghost use Rattle.std.specs.Str.{is_utf8};
 ghost use Rattle.std.proofs.Props.{props};
-ghost use Rattle.swc_ecma_codegen_text_writer.specs.Told.{Rises, IsPrefix, TellsSince};
+ghost use Rattle.swc_ecma_codegen_text_writer.specs.Contents.{Rises, IsPrefix, TellsSince};
 
 use crate::logs::{Log, Taken};
 use std::io;
@@ -28,12 +28,12 @@ pub struct Outlet<W: Write> {
 }
 
 impl<W: Write> Outlet<W> {
-    ghost use Rattle.swc_ecma_codegen_text_writer.specs.Told.{told};
-    ghost use Rattle.swc_ecma_codegen_text_writer.specs.Sent.{sent};
+    ghost use Rattle.swc_ecma_codegen_text_writer.specs.Contents.{or_empty};
+    ghost use Rattle.swc_ecma_codegen_text_writer.specs.Outlets.{bytes_so_far};
 
     pub fn new(inner: W) -> Outlet<W>
         ensures before { result.before.value ≡ inner }
-        ensures sent { sent result ≡ told (W.contents inner) }
+        ensures bytes { bytes_so_far result ≡ or_empty (W.contents inner) }
         ensures logged { result.log.bytes ≡ [] }
         ensures faults { result.faults ≡ 0 }
     {
@@ -48,7 +48,8 @@ impl<W: Write> Outlet<W> {
     }
 
     pub fn into_inner(self) -> W
-        ensures { IsSome (W.contents self.before.value) → W.contents result ≡ Some (sent self) }
+        ensures { IsSome (W.contents self.before.value) →
+            W.contents result ≡ Some (bytes_so_far self) }
     {
         let Outlet {
             inner,
@@ -65,7 +66,7 @@ impl<W: Write> Outlet<W> {
         ensures kept { result ≡ self.old.fault }
         ensures taken { self.new.fault ≡ None }
         ensures before { self.new.before ≡ self.old.before }
-        ensures sent { sent self.new ≡ sent self.old }
+        ensures bytes { bytes_so_far self.new ≡ bytes_so_far self.old }
         ensures logged { self.new.log.bytes ≡ self.old.log.bytes }
         ensures faults { self.new.faults ≡ self.old.faults }
     {
@@ -92,11 +93,12 @@ impl<W: Write> Outlet<W> {
         requires { 0 < length rest.now }
         ensures taken { IfOk result (λ n. (0 < n) × (n ≤ length rest.now)) }
         ensures before { self.new.before ≡ self.old.before }
-        ensures sent { IfOk result (λ n. sent self.new ≡ sent self.old ++ take n rest.now) }
+        ensures bytes { IfOk result (λ n. bytes_so_far self.new
+            ≡ bytes_so_far self.old ++ take n rest.now) }
         ensures logged { IfOk result (λ n. self.new.log.bytes
             ≡ self.old.log.bytes ++ take n rest.now) }
         ensures faults { OnOk result (self.new.faults ≡ self.old.faults) }
-        ensures nothing { OnErr result (sent self.new ≡ sent self.old) }
+        ensures nothing { OnErr result (bytes_so_far self.new ≡ bytes_so_far self.old) }
         ensures counted { OnErr result (Rises self.old.faults self.new.faults) }
     {
         match self.inner.write(rest) {
@@ -120,14 +122,16 @@ impl<W: Write> Outlet<W> {
     #[inline(always)]
     pub fn write_text(&mut self, text: &str) -> Result<(), Fault>
         ensures before { self.new.before ≡ self.old.before }
-        ensures sent { OnOk result (sent self.new ≡ sent self.old ++ text.now) }
+        ensures bytes { OnOk result (bytes_so_far self.new ≡ bytes_so_far self.old ++ text.now) }
         ensures logged { OnOk result (self.new.log.bytes ≡ self.old.log.bytes ++ text.now) }
         ensures faults { OnOk result (self.new.faults ≡ self.old.faults) }
-        ensures grows { OnErr result (IsPrefix (sent self.old) (sent self.new)) }
-        ensures front { OnErr result (IsPrefix (sent self.new) (sent self.old ++ text.now)) }
+        ensures grows { OnErr result (IsPrefix (bytes_so_far self.old) (bytes_so_far self.new)) }
+        ensures front { OnErr result (IsPrefix (bytes_so_far self.new)
+            (bytes_so_far self.old ++ text.now)) }
         ensures counted { OnErr result (Rises self.old.faults self.new.faults) }
         // What was text stays text, and what wasn't doesn't become it.
-        ensures whole { OnOk result (is_utf8 (sent self.new) ≡ is_utf8 (sent self.old)) }
+        ensures whole { OnOk result (is_utf8 (bytes_so_far self.new)
+            ≡ is_utf8 (bytes_so_far self.old)) }
     {
         let mut rest = text.as_bytes();
         while !rest.is_empty() {

@@ -44,7 +44,7 @@ pub record SaysOn (before behind : Spot) (env : Env) (part : Part) (rs : List Re
   pub deep : levels steps ≡ 0
   pub ascii : are_ascii steps ≡ true
   pub strings : has_string steps ≡ false
-  pub told : spoken steps ≡ texts
+  pub comment_texts : spoken steps ≡ texts
   pub kept : (maps : Maps) → maps_after steps maps ≡ maps
   pub taken : (maps : Maps) → taken_in steps maps ≡ []
   pub anew : (b : Bool) → anew_after b steps ≡ b
@@ -67,18 +67,18 @@ says_then {w = w} env p q {rs} {qs} {ts} {us} h k = record {
   deep = let x = h.deep in let y = k.deep in omega (arith, x, y, levels_append h.steps k.steps);
   ascii = ascii_append h.steps k.steps ∙ and_from (are_ascii h.steps) (are_ascii k.steps) h.ascii k.ascii;
   strings = has_append h.steps k.steps ∙ or_from (has_string h.steps) (has_string k.steps) h.strings k.strings;
-  told = spoken_append h.steps k.steps ∙ ap (λ z. z ++ spoken k.steps) h.told ∙ ap (λ z. ts ++ z) k.told;
+  comment_texts = spoken_append h.steps k.steps ∙ ap (λ z. z ++ spoken k.steps) h.comment_texts ∙ ap (λ z. ts ++ z) k.comment_texts;
   kept = λ maps. maps_append h.steps k.steps maps ∙ ap (maps_after k.steps) (h.kept maps) ∙ k.kept maps;
   taken = λ maps. taken_append h.steps k.steps maps ∙ ap (λ z. z ++ taken_in k.steps (maps_after h.steps maps)) (h.taken maps) ∙ k.taken (maps_after h.steps maps);
   anew = λ b. anew_append b h.steps k.steps ∙ k.anew (anew_after b h.steps) ∙ h.anew b;
 }
 
 says_same : {u v : Spot} (env : Env) (p q : Part) {rs : List Remark} {ts : List (List ℕ)} → ((rest : Plan) → p rest env ≡ q rest env) → SaysOn u v env q rs ts → SaysOn u v env p rs ts
-says_same env p q e h = record { steps = h.steps; is_steps = λ rest. e rest ∙ h.is_steps rest; lays = h.lays; remakes = h.remakes; inner = h.inner; deep = h.deep; ascii = h.ascii; strings = h.strings; told = h.told; kept = h.kept; taken = h.taken; anew = h.anew }
+says_same env p q e h = record { steps = h.steps; is_steps = λ rest. e rest ∙ h.is_steps rest; lays = h.lays; remakes = h.remakes; inner = h.inner; deep = h.deep; ascii = h.ascii; strings = h.strings; comment_texts = h.comment_texts; kept = h.kept; taken = h.taken; anew = h.anew }
 
 -- steps that take nothing
 says_steps : {u v : Spot} (env : Env) (p : Part) (steps : List Step) (rs : List Remark) (ts : List (List ℕ)) → ((rest : Plan) → p rest env ≡ chain steps (rest env)) → ((s : State) → RestsAt u s → all_closed rs ≡ true → LaysTo v open_ [] rs s (run steps s)) → makes_text steps ≡ false → levels steps ≡ 0 → are_ascii steps ≡ true → has_string steps ≡ false → spoken steps ≡ ts → are_inner_steps steps ≡ true → ((maps : Maps) → maps_after steps maps ≡ maps) → ((maps : Maps) → taken_in steps maps ≡ []) → ((b : Bool) → anew_after b steps ≡ b) → SaysOn u v env p rs ts
-says_steps env p steps rs ts i l m d a h t z k n w = record { steps = steps; is_steps = i; lays = l; remakes = m; inner = z; deep = d; ascii = a; strings = h; told = t; kept = k; taken = n; anew = w }
+says_steps env p steps rs ts i l m d a h t z k n w = record { steps = steps; is_steps = i; lays = l; remakes = m; inner = z; deep = d; ascii = a; strings = h; comment_texts = t; kept = k; taken = n; anew = w }
 
 says_nothing : {v : Spot} (env : Env) → SaysOn v v env (λ rest. rest) [] []
 unfolding chain run makes_text levels are_ascii has_string spoken maps_after taken_in anew_after
@@ -150,7 +150,7 @@ says_spots {v} {w} u x env p e k h = record {
   deep = h.deep;
   ascii = h.ascii;
   strings = h.strings;
-  told = h.told;
+  comment_texts = h.comment_texts;
   kept = h.kept;
   taken = h.taken;
   anew = h.anew;
@@ -189,7 +189,7 @@ from_said {v = w} side at env p g h =
       inner = h.inner;
       deep = let x = h.deep in omega (arith, x);
       hands = hands_ascii env _ [] h.ascii (λ e. absurd (true≢false (sym e ∙ h.strings)));
-      told = h.told ∙ ap texts_of (sym taken);
+      comment_texts = h.comment_texts ∙ ap texts_of (sym taken);
     }
 
 writes_taken : (env : Env) (side : Side) (b : Bool) (at : ℕ) → Fills env (take_comments side b at)

@@ -166,7 +166,7 @@ filled_places max anywhere p f a n flows m closed prints w o k =
     let reads = cut_reads anywhere a.env.config f h.tokens c (run steps c) h.generated new m l fills.done fills.begun refl cut fills.first fills.parts fills.segments in
     let P : List Step → Type 0 = λ z. PlacesNames a.env.config f (remarks_by z a.env) a.sheet (run (filled max z) a).sheet in
     let stand : AllStand a.env.config a.sheet (run (filled max steps) a).sheet [] f h.tokens =
-    each_holds (λ us t x s. filled_name max a.env.config a.sheet (run steps c).sheet (run (filled max steps) a).sheet fills.done fills.begun us t x n.line_end cut fills.sent fills.pairs s) (settings_of a.env.config) [] f h.tokens there in
+    each_holds (λ us t x s. filled_name max a.env.config a.sheet (run steps c).sheet (run (filled max steps) a).sheet fills.done fills.begun us t x n.line_end cut fills.released fills.pairs s) (settings_of a.env.config) [] f h.tokens there in
     subst P (sym same) (record {
       reads = record {
         added = fills.first ++ text_of a.sheet.line_end fills.parts;

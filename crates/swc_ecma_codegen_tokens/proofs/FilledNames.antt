@@ -70,19 +70,19 @@ one_in t = refl
 
 -- Some segments went out, and their text, with a text of the next one behind it, reads as the parts whose segments they are.
 record Front (max : ℕ) (old : Sheet) (done : List Segment) : Type 0 where
-  sent : Sheet
+  so_far : Sheet
   first : Bool
   text : List ℕ
-  adds : Adds text old sent
-  goes_on : (g : Segment) (gs : List Segment) → segments_released max true (done ++ (g ∷ gs)) old ≡ segments_released max false gs (segment_released max first g sent)
+  adds : Adds text old so_far
+  goes_on : (g : Segment) (gs : List Segment) → segments_released max true (done ++ (g ∷ gs)) old ≡ segments_released max false gs (segment_released max first g so_far)
   reads :
       (g : Segment) (t : List ℕ) (laid : List parts.Part) → NoneFuse Start laid → EachUtf8 (texts_in done ++ (t ∷ [])) → segments laid [] ≡ each_chars (texts_in done ++ (t ∷ [])) →
-      Reads (chars (text ++ part_text old.line_end (ends_before max first g sent) t)) (without_joints (tokens_of laid)) (remarks_in laid)
+      Reads (chars (text ++ part_text old.line_end (ends_before max first g so_far) t)) (without_joints (tokens_of laid)) (remarks_in laid)
 
 front_none : (max : ℕ) (old : Sheet) → IsLineEnd old.line_end → Front max old []
 unfolding segments_released texts_in each_chars EachUtf8 part_text ends_before segments_in ended_text
 front_none max old e = record {
-  sent = old;
+  so_far = old;
   first = true;
   text = [];
   adds = adds_nothing old;
@@ -105,7 +105,7 @@ front_some max old d ds e =
     let a : Adds (text_in d) old there = front_first max d old in
     let b : Adds (text_of old.line_end xs) there next = adds_same (text_of old.line_end xs) there next (ap (λ z. text_of z xs) a.line_end) (parts_add max ds there) in
     record {
-      sent = next;
+      so_far = next;
       first = false;
       text = text_in d ++ text_of old.line_end xs;
       adds = adds_then old there next a b;
@@ -155,38 +155,38 @@ note_recorded max first pos g gs before s n h =
 pub filled_name : (max : ℕ) (config : Config) (old cut new : Sheet) (ds : List Segment) (last : Segment) (us : List Token) (token : Token) (x : PlacedName) → IsLineEnd old.line_end → cut.lines ≡ Cutting ds last →
     new.text ≡ (segments_released max true (ds ++ (last ∷ [])) old).text → new.pairs ≡ (segments_released max true (ds ++ (last ∷ [])) old).pairs →
     StandsHere config (cut_from_here old) cut us token x → StandsAfter config old new us token x
-filled_name max config old cut new ds last us token x e lines sent pairs s =
+filled_name max config old cut new ds last us token x e lines is_released pairs s =
     let name : List ℕ = written_as config x in
     let h : CutHere x name s.stands.written token s.stands.remarks cut = s.cut refl in
     let q : Among h.done (with_text name h.held) (ds ++ (last ∷ [])) = among h.done (with_text name h.held) ds last (subst (λ z. GoOn h.done (with_text name h.held) z) lines h.goes_on) in
     let f : Front max old h.done = front_of max old h.done e in
     let g : Segment = q.segment in
-    let b : Bool = ends_before max f.first g f.sent in
+    let b : Bool = ends_before max f.first g f.so_far in
     let held : List ℕ = text_in h.held in
     let before : List ℕ = f.text ++ part_text old.line_end b held in
-    let there : Sheet = segment_released max f.first g f.sent in
+    let there : Sheet = segment_released max f.first g f.so_far in
     let all : Sheet = segments_released max false q.later there in
     let is_all : segments_released max true (ds ++ (last ∷ [])) old ≡ all = ap (λ z. segments_released max true z old) q.split ∙ f.goes_on g q.later in
-    let a = segment_adds max f.first g f.sent in
+    let a = segment_adds max f.first g f.so_far in
     let r = parts_add max q.later there in
     let rest : List ℕ = text_of there.line_end (released_parts max q.later there) in
     let in_g : text_in g ≡ held ++ (name ++ q.longer.added) = q.longer.text ∙ ap (λ z. z ++ q.longer.added) (text-more h.held name) ∙ append_assoc held name q.longer.added in
-    let part : part_text f.sent.line_end b (text_in g) ≡ part_text old.line_end b held ++ (name ++ q.longer.added) = ap (λ z. part_text z b (text_in g)) f.adds.line_end ∙ ap (part_text old.line_end b) in_g ∙ part_more old.line_end b held (name ++ q.longer.added) in
-    let whole : Adds (f.text ++ (part_text f.sent.line_end b (text_in g) ++ rest)) old all = adds_then old f.sent all f.adds (adds_then f.sent there all a r) in
-    let spelled : f.text ++ (part_text f.sent.line_end b (text_in g) ++ rest) ≡ before ++ (name ++ (q.longer.added ++ rest)) =
+    let part : part_text f.so_far.line_end b (text_in g) ≡ part_text old.line_end b held ++ (name ++ q.longer.added) = ap (λ z. part_text z b (text_in g)) f.adds.line_end ∙ ap (part_text old.line_end b) in_g ∙ part_more old.line_end b held (name ++ q.longer.added) in
+    let whole : Adds (f.text ++ (part_text f.so_far.line_end b (text_in g) ++ rest)) old all = adds_then old f.so_far all f.adds (adds_then f.so_far there all a r) in
+    let spelled : f.text ++ (part_text f.so_far.line_end b (text_in g) ++ rest) ≡ before ++ (name ++ (q.longer.added ++ rest)) =
     ap (λ z. f.text ++ (z ++ rest)) part
     ∙ ap (λ z. f.text ++ z) (append_assoc (part_text old.line_end b held) (name ++ q.longer.added) rest ∙ ap (λ z. part_text old.line_end b held ++ z) (append_assoc name q.longer.added rest))
     ∙ sym (append_assoc f.text (part_text old.line_end b held) (name ++ (q.longer.added ++ rest))) in
     let note : NoteAt x.at h.held held → NoteAt x.at g held = λ n. q.longer.notes x.at held ((longer_text name h.held).notes x.at held n) in
-    let place : after_text held (line_ended b f.sent).place ≡ after_text before old.place =
-    ended_place b held f.sent ∙ ap (λ z. after_text (part_text z b held) f.sent.place) f.adds.line_end ∙ ap (after_text (part_text old.line_end b held)) f.adds.place ∙ sym (after_both f.text (part_text old.line_end b held) old.place) in
+    let place : after_text held (line_ended b f.so_far).place ≡ after_text before old.place =
+    ended_place b held f.so_far ∙ ap (λ z. after_text (part_text z b held) f.so_far.place) f.adds.line_end ∙ ap (after_text (part_text old.line_end b held)) f.adds.place ∙ sym (after_both f.text (part_text old.line_end b held) old.place) in
     let recorded : IsRecorded x.at (after_text before old.place) all.pairs =
     elim (cases_Bool (x.at.0 == 0)) [
       | inl z ↦ inl (eqb-true x.at.0 0 z)
       | inr z ↦
           elim h.noted [
             | inl y ↦ inl y
-            | inr n ↦ inr (subst (λ (p : Place). has_pair (pair_at x.at p) all.pairs ≡ true) place (note_recorded max f.first x.at g q.later held f.sent z (note n)))
+            | inr n ↦ inr (subst (λ (p : Place). has_pair (pair_at x.at p) all.pairs ≡ true) place (note_recorded max f.first x.at g q.later held f.so_far z (note n)))
           ]
     ] in
     let texts : (t : Segment) → decoded (h.done ++ (t ∷ [])) ≡ each_chars (texts_in h.done ++ (text_in t ∷ [])) = λ t. decoded_texts (h.done ++ (t ∷ [])) ∙ ap each_chars (texts_append h.done (t ∷ []) ∙ ap (λ z. texts_in h.done ++ z) (one_in t)) in
@@ -198,7 +198,7 @@ filled_name max config old cut new ds last us token x e lines sent pairs s =
     record {
       before = before;
       rest = q.longer.added ++ rest;
-      is_text = sent ∙ ap (λ (z : Sheet). z.text) is_all ∙ whole.text ∙ ap (λ z. old.text ++ z) spelled;
+      is_text = is_released ∙ ap (λ (z : Sheet). z.text) is_all ∙ whole.text ∙ ap (λ z. old.text ++ z) spelled;
       written = s.stands.written;
       reduced = s.stands.reduced;
       whole = s.stands.whole;

@@ -27,4 +27,4 @@ filled_names max p f a n flows prints w o k =
     let cut : (run steps c).sheet.lines ≡ Cutting fills.done fills.begun = ap (λ (z : Sheet). z.lines) (run_calls steps c) ∙ fills.cut in
     let named = h.named c k refl in
     let names : NamesCut a.env.config [] no_segment (Cutting fills.done fills.begun) (names_in f) = subst (λ z. NamesCut a.env.config [] no_segment z (names_in f)) cut (named.cut [] no_segment refl) in
-    released_names max a.env.config a.sheet (run (filled max steps) a).sheet fills.done fills.begun (names_in f) fills.sent fills.pairs names
+    released_names max a.env.config a.sheet (run (filled max steps) a).sheet fills.done fills.begun (names_in f) fills.released fills.pairs names

@@ -6,7 +6,7 @@ use Rattle.swc_ecma_codegen_common.specs.declared.errors.Refusal.TheVariants.{Wr
 use Rattle.swc_ecma_codegen_grammar.specs.GapRules.{fuses, Separated}
 use Rattle.std.proofs.lemmas.Bool.{or_cases, and_parts}
 use Rattle.swc_ecma_codegen_text_writer.specs.Runs.{is_inner}
-use Rattle.swc_ecma_codegen_text_writer.specs.Told.{IsPrefix, Rises}
+use Rattle.swc_ecma_codegen_text_writer.specs.Contents.{IsPrefix, Rises}
 use Rattle.swc_ecma_codegen_text_writer.specs.Sheet.{Item, Space, Comment, Deeper, Sheet, effect, Causes, Refuses, earlier, stopped, begins_lines, fills_lines, may_take_memory}
 use Rattle.swc_ecma_codegen_text_writer.proofs.Sheets.{front_refl, front_trans, effect_grows, effect_refused, effect_faults, effect_takes_memory, effect_keeps_positions, effect_whole}
 use Rattle.swc_ecma_codegen_text_writer.proofs.Stays.{effect_begins, effect_fills}

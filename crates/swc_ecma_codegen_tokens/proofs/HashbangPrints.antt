@@ -249,7 +249,7 @@ placed_case env pos false p ts h = record {
         inner = x.inner;
         deep = let d = x.deep in omega (arith, d);
         hands = hands_then (hands_ascii (at_maps maps env) (Plain (Position pos) ∷ []) [] refl no_text) x.hands;
-        told = x.told;
+        comment_texts = x.comment_texts;
       };
 }
 

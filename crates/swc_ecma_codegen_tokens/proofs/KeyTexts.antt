@@ -173,12 +173,12 @@ in_quotes config bytes u n e q =
     let none = not_ascii t (not-true (is_ascii_text t) p.1) in
     let text : List ℕ = 34 ∷ (name_escapes true config.target (chars t) ++ 34 ∷ []) in
     let h : Answer true config.target (chars t) text = quoted_answer true config.target t text utf8 none q refl in
-    let told : is_quoted_key true config.target (chars t) ≡ true = (quoted_text config.target (chars t) (not_ascii_chars t utf8 none) q).0 in
+    let decided : is_quoted_key true config.target (chars t) ≡ true = (quoted_text config.target (chars t) (not_ascii_chars t utf8 none) q).0 in
     let us : List ℕ = all_utf16 (name_value (chars t)) in
     subst (λ z. SpellsKey config Str bytes z) h.exactly
     (record {
-      spelled = spelled_string text (IsUtf8-from_ascii text h.ascii) (h.token told n);
-      token = string_token text us (quoted_value text us (h.key_value told n)) ∙ sym (key_token_quoted (settings_of config) bytes (quoted_by config t utf8 e ∙ q));
+      spelled = spelled_string text (IsUtf8-from_ascii text h.ascii) (h.token decided n);
+      token = string_token text us (quoted_value text us (h.key_value decided n)) ∙ sym (key_token_quoted (settings_of config) bytes (quoted_by config t utf8 e ∙ q));
       ascii = λ _. sym (ascii_is true text h.ascii);
       own = refl;
     })
@@ -196,11 +196,11 @@ escaped_key config bytes u n e q =
     let none = not_ascii t (not-true (is_ascii_text t) p.1) in
     let text : List ℕ = name_escapes true config.target (chars t) in
     let h : Answer true config.target (chars t) text = escaped_answer true config.target t text utf8 none q refl refl in
-    let told : is_quoted_key true config.target (chars t) ≡ false = (escaped_text true config.target (chars t) (not_ascii_chars t utf8 none) q).0 in
+    let decided : is_quoted_key true config.target (chars t) ≡ false = (escaped_text true config.target (chars t) (not_ascii_chars t utf8 none) q).0 in
     subst (λ z. SpellsKey config Name bytes z) h.exactly
     (record {
-      spelled = spelled_name text (is_utf8-from_IsUtf8 text (IsUtf8-from_ascii text h.ascii)) (h.name told ∙ n);
-      token = name_token text t (h.value told n) ∙ sym (key_token_bare (settings_of config) bytes (quoted_by config t utf8 e ∙ q));
+      spelled = spelled_name text (is_utf8-from_IsUtf8 text (IsUtf8-from_ascii text h.ascii)) (h.name decided ∙ n);
+      token = name_token text t (h.value decided n) ∙ sym (key_token_bare (settings_of config) bytes (quoted_by config t utf8 e ∙ q));
       ascii = λ _. sym (ascii_is true text h.ascii);
       own = refl;
     })

@@ -29,7 +29,7 @@ prints_at_length max env p h = record {
           inner = m.inner;
           deep = m.deep;
           hands = record { ascii = m.hands.ascii; keeps = m.hands.keeps; strings = m.hands.strings };
-          told = m.told;
+          comment_texts = m.comment_texts;
         };
         named = b.named;
         placed = record { stands = b.placed.stands };

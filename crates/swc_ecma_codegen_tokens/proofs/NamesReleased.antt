@@ -23,46 +23,46 @@ use Rattle.swc_ecma_codegen_tokens.proofs.NamesCut.{IsNoted, NamesCut, names_end
 
 -- The segments `done` went out, and then comes one that begins with `begun`.
 record Point (max : ℕ) (old : Sheet) (all done : List Segment) (begun : Segment) : Type 0 where
-  sent : Sheet
+  so_far : Sheet
   first : Bool
   text : List ℕ
-  adds : Adds text old sent
+  adds : Adds text old so_far
   segment : Segment
   later : List Segment
   split : all ≡ done ++ (segment ∷ later)
   longer : Longer begun segment
-  goes_on : segments_released max true all old ≡ segments_released max false later (segment_released max first segment sent)
+  goes_on : segments_released max true all old ≡ segments_released max false later (segment_released max first segment so_far)
 
 -- whether a line end goes out before that segment
 abbrev is_ended : {max : ℕ} {old : Sheet} {all done : List Segment} {begun : Segment} → Point max old all done begun → Bool
-is_ended {max = max} p = ends_before max p.first p.segment p.sent
+is_ended {max = max} p = ends_before max p.first p.segment p.so_far
 
 -- what went out, up to the end of `begun`
 abbrev text_to : {max : ℕ} {old : Sheet} {all done : List Segment} {begun : Segment} → Point max old all done begun → List ℕ
-text_to {begun = begun} p = p.text ++ part_text p.sent.line_end (is_ended p) (text_in begun)
+text_to {begun = begun} p = p.text ++ part_text p.so_far.line_end (is_ended p) (text_in begun)
 
 -- the sheet behind that segment
 abbrev sheet_behind : {max : ℕ} {old : Sheet} {all done : List Segment} {begun : Segment} → Point max old all done begun → Sheet
-sheet_behind {max = max} p = segment_released max p.first p.segment p.sent
+sheet_behind {max = max} p = segment_released max p.first p.segment p.so_far
 
 -- what goes out after `begun`
 abbrev text_from : {max : ℕ} {old : Sheet} {all done : List Segment} {begun : Segment} → Point max old all done begun → List ℕ
 text_from {max = max} p = p.longer.added ++ text_of (sheet_behind p).line_end (released_parts max p.later (sheet_behind p))
 
 -- its segment is `begun` and more
-segment_text : {max : ℕ} {old : Sheet} {all done : List Segment} {begun : Segment} (p : Point max old all done begun) → part_text p.sent.line_end (is_ended p) (text_in p.segment) ≡ part_text p.sent.line_end (is_ended p) (text_in begun) ++ p.longer.added
-segment_text {begun = begun} p = ap (part_text p.sent.line_end (is_ended p)) p.longer.text ∙ part_more p.sent.line_end (is_ended p) (text_in begun) p.longer.added
+segment_text : {max : ℕ} {old : Sheet} {all done : List Segment} {begun : Segment} (p : Point max old all done begun) → part_text p.so_far.line_end (is_ended p) (text_in p.segment) ≡ part_text p.so_far.line_end (is_ended p) (text_in begun) ++ p.longer.added
+segment_text {begun = begun} p = ap (part_text p.so_far.line_end (is_ended p)) p.longer.text ∙ part_more p.so_far.line_end (is_ended p) (text_in begun) p.longer.added
 
 -- all that goes out
 whole_text : {max : ℕ} {old : Sheet} {all done : List Segment} {begun : Segment} (p : Point max old all done begun) → Adds (text_to p ++ text_from p) old (segments_released max true all old)
 whole_text {max = max} {old = old} {all = all} {begun = begun} p =
     let there : Sheet = sheet_behind p in
     let next : Sheet = segments_released max false p.later there in
-    let front : List ℕ = part_text p.sent.line_end (is_ended p) (text_in begun) in
+    let front : List ℕ = part_text p.so_far.line_end (is_ended p) (text_in begun) in
     let back : List ℕ = text_of there.line_end (released_parts max p.later there) in
-    let spelled : p.text ++ (part_text p.sent.line_end (is_ended p) (text_in p.segment) ++ back) ≡ text_to p ++ text_from p =
+    let spelled : p.text ++ (part_text p.so_far.line_end (is_ended p) (text_in p.segment) ++ back) ≡ text_to p ++ text_from p =
     ap (λ z. p.text ++ (z ++ back)) (segment_text p) ∙ ap (λ z. p.text ++ z) (append_assoc front p.longer.added back) ∙ sym (append_assoc p.text front (p.longer.added ++ back)) in
-    let adds = adds_then old p.sent next p.adds (adds_then p.sent there next (segment_adds max p.first p.segment p.sent) (parts_add max p.later there)) in
+    let adds = adds_then old p.so_far next p.adds (adds_then p.so_far there next (segment_adds max p.first p.segment p.so_far) (parts_add max p.later there)) in
     subst (λ (z : Sheet). Adds (text_to p ++ text_from p) old z) (sym p.goes_on) (adds_same (text_to p ++ text_from p) old next spelled adds)
 
 -- so that is what the text is longer by
@@ -70,11 +70,11 @@ whole_is : {max : ℕ} {old : Sheet} {all done : List Segment} {begun : Segment}
 whole_is {old = old} p whole e = append_cancel_left old.text whole (text_to p ++ text_from p) (sym e ∙ (whole_text p).text)
 
 -- the place where `begun` ends
-place_at : {max : ℕ} {old : Sheet} {all done : List Segment} {begun : Segment} (p : Point max old all done begun) → after_text (text_in begun) (line_ended (is_ended p) p.sent).place ≡ after_text (text_to p) old.place
+place_at : {max : ℕ} {old : Sheet} {all done : List Segment} {begun : Segment} (p : Point max old all done begun) → after_text (text_in begun) (line_ended (is_ended p) p.so_far).place ≡ after_text (text_to p) old.place
 place_at {old = old} {begun = begun} p =
-    ended_place (is_ended p) (text_in begun) p.sent
-    ∙ ap (after_text (part_text p.sent.line_end (is_ended p) (text_in begun))) p.adds.place
-    ∙ sym (after_both p.text (part_text p.sent.line_end (is_ended p) (text_in begun)) old.place)
+    ended_place (is_ended p) (text_in begun) p.so_far
+    ∙ ap (after_text (part_text p.so_far.line_end (is_ended p) (text_in begun))) p.adds.place
+    ∙ sym (after_both p.text (part_text p.so_far.line_end (is_ended p) (text_in begun)) old.place)
 
 -- a position that is noted there is recorded there
 recorded_at : {max : ℕ} {old : Sheet} {all done : List Segment} {begun : Segment} (p : Point max old all done begun) (pos : BytePos) → IsNoted pos begun → IsRecorded pos (after_text (text_to p) old.place) (segments_released max true all old).pairs
@@ -83,7 +83,7 @@ recorded_at {max = max} {old = old} {all = all} {begun = begun} p pos (inr n) =
     elim (cases_Bool (pos.0 == 0)) [
       | inl z ↦ inl (eqb-true pos.0 0 z)
       | inr z ↦
-          let q = note_recorded max p.first pos p.segment p.later (text_in begun) p.sent z (p.longer.notes pos (text_in begun) n) in
+          let q = note_recorded max p.first pos p.segment p.later (text_in begun) p.so_far z (p.longer.notes pos (text_in begun) n) in
           let P : Sheet → Type 0 = λ s. has_pair (pair_at pos (after_text (text_to p) old.place)) s.pairs ≡ true in
           inr (subst P (sym p.goes_on) (subst (λ (v : Place). has_pair (pair_at pos v) (segments_released max false p.later (sheet_behind p)).pairs ≡ true) (place_at p) q))
     ]
@@ -102,10 +102,10 @@ record Onward {max : ℕ} {old : Sheet} {all done : List Segment} {begun : Segme
 -- the segment goes on by a text
 behind_here : {max : ℕ} {old : Sheet} {all done : List Segment} {begun : Segment} (p : Point max old all done begun) (held : Segment) (t : List ℕ) → text_in held ≡ text_in begun ++ t → Longer held p.segment → Behind p done held t
 behind_here {begun = begun} p held t k j =
-    let e : List ℕ = p.sent.line_end in
+    let e : List ℕ = p.so_far.line_end in
     let b : Bool = is_ended p in
     record {
-      point = record { sent = p.sent; first = p.first; text = p.text; adds = p.adds; segment = p.segment; later = p.later; split = p.split; longer = j; goes_on = p.goes_on };
+      point = record { so_far = p.so_far; first = p.first; text = p.text; adds = p.adds; segment = p.segment; later = p.later; split = p.split; longer = j; goes_on = p.goes_on };
       text = ap (λ z. p.text ++ z) (ap (part_text e b) k ∙ part_more e b (text_in begun) t) ∙ sym (append_assoc p.text (part_text e b (text_in begun)) t);
     }
 
@@ -118,7 +118,7 @@ onward_after : {max : ℕ} {old : Sheet} {all done : List Segment} {begun : Segm
 onward_after {max = max} {old = old} {begun = begun} p ds xs held g gs f split k =
     let there : Sheet = sheet_behind p in
     let next : Sheet = segments_released max false xs there in
-    let e : List ℕ = p.sent.line_end in
+    let e : List ℕ = p.so_far.line_end in
     let b : Bool = is_ended p in
     let front : List ℕ = part_text e b (text_in begun) in
     let back : List ℕ = text_of there.line_end (released_parts max xs there) in
@@ -127,10 +127,10 @@ onward_after {max = max} {old = old} {begun = begun} p ds xs held g gs f split k
       between = p.longer.added ++ (back ++ last);
       behind = record {
         point = record {
-          sent = next;
+          so_far = next;
           first = false;
           text = p.text ++ (part_text e b (text_in p.segment) ++ back);
-          adds = adds_then old p.sent next p.adds (adds_then p.sent there next (segment_adds max p.first p.segment p.sent) (parts_add max xs there));
+          adds = adds_then old p.so_far next p.adds (adds_then p.so_far there next (segment_adds max p.first p.segment p.so_far) (parts_add max xs there));
           segment = g;
           later = gs;
           split = split;
@@ -228,11 +228,11 @@ start_text max g old = text-none
 pub released_names : (max : ℕ) (config : Config) (old new : Sheet) (ds : List Segment) (last : Segment) (xs : List PlacedName) →
     new.text ≡ (segments_released max true (ds ++ (last ∷ [])) old).text → new.pairs ≡ (segments_released max true (ds ++ (last ∷ [])) old).pairs → NamesCut config [] no_segment (Cutting ds last) xs → RecordsNames config xs old new
 unfolding after_text
-released_names max config old new ds last xs sent pairs h =
+released_names max config old new ds last xs is_released pairs h =
     let all : List Segment = ds ++ (last ∷ []) in
     let a : Among [] no_segment all = among [] no_segment ds last (names_end config xs [] no_segment (Cutting ds last) h) in
     let p : Point max old all [] no_segment = record {
-      sent = old;
+      so_far = old;
       first = true;
       text = [];
       adds = adds_nothing old;
@@ -247,6 +247,6 @@ released_names max config old new ds last xs sent pairs h =
     let stand = names_out max config old ds last (text_to p ++ text_from p) w.text xs [] no_segment p (text_from p) refl h in
     record {
       text = text_from p;
-      is_text = sent ∙ w.text ∙ ap (λ z. old.text ++ (z ++ text_from p)) none;
+      is_text = is_released ∙ w.text ∙ ap (λ z. old.text ++ (z ++ text_from p)) none;
       stand = subst (λ (z : List Pair). NamesStand config old.place (text_from p) z xs) (sym pairs) (subst (λ z. NamesStand config (after_text z old.place) (text_from p) (segments_released max true all old).pairs xs) none stand);
     }

@@ -616,7 +616,7 @@ pub printed_tells : {v w : Spot} {i : Shape} (p : Part) (f : Phrase) (env : Env)
 unfolding nothing
 printed_tells p f env prints w none =
     let h = prints.where_possible w none env.maps in
-    subst (λ xs. spoken xs ≡ texts_of (taken_in xs env.maps)) (sym (ap steps_of (h.writes.is_steps nothing) ∙ steps_of_chain h.writes.steps)) h.writes.told
+    subst (λ xs. spoken xs ≡ texts_of (taken_in xs env.maps)) (sym (ap steps_of (h.writes.is_steps nothing) ∙ steps_of_chain h.writes.steps)) h.writes.comment_texts
 
 -- an emission without calls that take memory, and without such a name, isn't refused for want of memory
 pub never_out_of_memory : (p : Part) (a b : State) (r : Result (Unit {0}) Error) → makes_text (steps_of (p nothing a.env)) ≡ false → may_take_memory a.sheet ≡ false → Follows (p nothing) a b (in_short r) → r ≢ Err errors.OutOfMemory

@@ -64,7 +64,7 @@ pub record MakesOn (before behind : Spot) (shape : Shape) (room : ℕ) (env : En
   pub inner : are_inner_steps steps ≡ true
   pub deep : levels steps ≤ room
   pub hands : HandsOverAscii env steps ts
-  pub told : spoken steps ≡ texts_of (taken_in steps env.maps)
+  pub comment_texts : spoken steps ≡ texts_of (taken_in steps env.maps)
 
 -- where any token may come, before it and behind it
 abbrev pub MakesFrom : Shape → ℕ → Env → Part → List lexical.Token → Bool → Type 0
@@ -184,7 +184,7 @@ from_then {i} {j} {u} {v} {w} env p q ts us {m} {n} {a} {b} h k = record {
   inner = inner_append h.steps k.steps ∙ and_from (are_inner_steps h.steps) (are_inner_steps k.steps) h.inner k.inner;
   deep = let x = h.deep in let y = k.deep in omega (arith, x, y, levels_append h.steps k.steps);
   hands = hands_then h.hands (hands_from (maps_after h.steps env.maps) k.hands);
-  told = spoken_append h.steps k.steps ∙ ap (λ z. z ++ spoken k.steps) h.told ∙ ap (λ z. texts_of (taken_in h.steps env.maps) ++ z) k.told ∙ sym (ap texts_of (taken_append h.steps k.steps env.maps) ∙ texts_append (taken_in h.steps env.maps) (taken_in k.steps (maps_after h.steps env.maps)));
+  comment_texts = spoken_append h.steps k.steps ∙ ap (λ z. z ++ spoken k.steps) h.comment_texts ∙ ap (λ z. texts_of (taken_in h.steps env.maps) ++ z) k.comment_texts ∙ sym (ap texts_of (taken_append h.steps k.steps env.maps) ∙ texts_append (taken_in h.steps env.maps) (taken_in k.steps (maps_after h.steps env.maps)));
 }
 
 -- one part after the other
@@ -193,17 +193,17 @@ within_then env p q ts us h k = record { from = λ maps. let x = h.from maps in 
 
 -- with more room, with less known of lines, with memory that may be taken
 pub from_room : {i : Shape} {env : Env} {p : Part} {ts : List lexical.Token} {a : Bool} {v w : Spot} (m n : ℕ) → m ≤ n → MakesOn v w i m env p ts a → MakesOn v w i n env p ts a
-from_room m n le h = record { steps = h.steps; is_steps = h.is_steps; lays = h.lays; remakes = h.remakes; inner = h.inner; deep = let x = h.deep in omega (arith, x, le); hands = h.hands; told = h.told }
+from_room m n le h = record { steps = h.steps; is_steps = h.is_steps; lays = h.lays; remakes = h.remakes; inner = h.inner; deep = let x = h.deep in omega (arith, x, le); hands = h.hands; comment_texts = h.comment_texts }
 
 pub from_wider : {i : Shape} (j : Shape) {env : Env} {p : Part} {ts : List lexical.Token} {a : Bool} {room : ℕ} {v w : Spot} → is_within i j ≡ true → MakesOn v w i room env p ts a → MakesOn v w j room env p ts a
-from_wider j e h = record { steps = h.steps; is_steps = h.is_steps; lays = λ s r c. lays_wider j e (h.lays s r c); remakes = h.remakes; inner = h.inner; deep = h.deep; hands = h.hands; told = h.told }
+from_wider j e h = record { steps = h.steps; is_steps = h.is_steps; lays = λ s r c. lays_wider j e (h.lays s r c); remakes = h.remakes; inner = h.inner; deep = h.deep; hands = h.hands; comment_texts = h.comment_texts }
 
 pub from_where : {i : Shape} {env : Env} {p : Part} {ts : List lexical.Token} {a b : Bool} {room : ℕ} {v w : Spot} → (a ≡ true → b ≡ true) → MakesOn v w i room env p ts a → MakesOn v w i room env p ts b
-from_where k h = record { steps = h.steps; is_steps = h.is_steps; lays = h.lays; remakes = λ e. k (h.remakes e); inner = h.inner; deep = h.deep; hands = h.hands; told = h.told }
+from_where k h = record { steps = h.steps; is_steps = h.is_steps; lays = h.lays; remakes = λ e. k (h.remakes e); inner = h.inner; deep = h.deep; hands = h.hands; comment_texts = h.comment_texts }
 
 -- a part that is written as another is
 pub from_same : {u v : Spot} {i : Shape} (env : Env) (p q : Part) (ts : List lexical.Token) {a : Bool} {room : ℕ} → ((rest : Plan) → p rest env ≡ q rest env) → MakesOn u v i room env q ts a → MakesOn u v i room env p ts a
-from_same env p q ts e h = record { steps = h.steps; is_steps = λ rest. e rest ∙ h.is_steps rest; lays = h.lays; remakes = h.remakes; inner = h.inner; deep = h.deep; hands = h.hands; told = h.told }
+from_same env p q ts e h = record { steps = h.steps; is_steps = λ rest. e rest ∙ h.is_steps rest; lays = h.lays; remakes = h.remakes; inner = h.inner; deep = h.deep; hands = h.hands; comment_texts = h.comment_texts }
 
 -- one after the other, with as much room as tokens
 pub from_both : {i j : Shape} {u v w : Spot} (env : Env) (p q : Part) (ts us : List lexical.Token) {a b : Bool} (h : MakesOn u v i (length ts) env p ts a) → MakesOn v w j (length us) (env_after h.steps env) q us b → MakesOn u w (join i j) (length (ts ++ us)) env (λ rest. p (q rest)) (ts ++ us) (a || b)
@@ -299,7 +299,7 @@ from_silently {i} env p steps ts none is lays remakes deep hands =
       inner = silent_inner steps none;
       deep = deep;
       hands = hands;
-      told = silent_spoken steps none ∙ sym (ap texts_of taken ∙ (unfold texts_of in refl));
+      comment_texts = silent_spoken steps none ∙ sym (ap texts_of taken ∙ (unfold texts_of in refl));
     }
 
 pub makes_silently : {i : Shape} {room : ℕ} {made : Bool} (env : Env) (p : Part) (steps : List Step) (ts : List lexical.Token) → takes_none steps ≡ true → ((maps : Maps) (rest : Plan) → p rest (at_maps maps env) ≡ chain steps (rest (at_maps (maps_after steps maps) env))) → ((s : State) → AtRest s → LaysAt i ts s (run steps s)) → (makes_text steps ≡ true → made ≡ true) → levels steps ≤ room → HandsOverAscii env steps ts → MakesWithin i room env p ts made
@@ -314,7 +314,7 @@ makes_silently {i} env p steps ts none is lays remakes deep hands = record {
         inner = silent_inner steps none;
         deep = deep;
         hands = hands_at maps hands;
-        told = silent_spoken steps none ∙ sym (ap texts_of taken ∙ (unfold texts_of in refl));
+        comment_texts = silent_spoken steps none ∙ sym (ap texts_of taken ∙ (unfold texts_of in refl));
       };
 }
 
@@ -340,7 +340,7 @@ makes_on {v} {w} {i} env p steps ts none is lays remakes deep hands = record {
         inner = silent_inner steps none;
         deep = deep;
         hands = hands_at maps hands;
-        told = silent_spoken steps none ∙ sym (ap texts_of taken ∙ (unfold texts_of in refl));
+        comment_texts = silent_spoken steps none ∙ sym (ap texts_of taken ∙ (unfold texts_of in refl));
       };
 }
 

@@ -56,7 +56,7 @@ prints_spots {v} {w} u x e k h = record {
       record {
         tokens = b.tokens;
         generated = b.generated;
-        writes = record { steps = m.steps; is_steps = m.is_steps; lays = λ s r c. lays_narrower w x s (run m.steps s) k (m.lays s (rests_narrower u v s e r) c); remakes = m.remakes; inner = m.inner; deep = m.deep; hands = m.hands; told = m.told };
+        writes = record { steps = m.steps; is_steps = m.is_steps; lays = λ s r c. lays_narrower w x s (run m.steps s) k (m.lays s (rests_narrower u v s e r) c); remakes = m.remakes; inner = m.inner; deep = m.deep; hands = m.hands; comment_texts = m.comment_texts };
         named = b.named;
         placed = placed_narrower u e b.placed;
         safe = b.safe;
@@ -66,7 +66,7 @@ prints_spots {v} {w} u x e k h = record {
 
 within_narrower : {u : Spot} {i : Shape} {room : ℕ} {env : Env} {p : Part} {ts : List lexical.Token} {made : Bool} (v w : Spot) → is_narrower v w ≡ true → MakesWithinOn u v i room env p ts made → MakesWithinOn u w i room env p ts made
 within_narrower v w e h = record {
-  from = λ maps. let m = h.from maps in record { steps = m.steps; is_steps = m.is_steps; lays = λ s r c. lays_narrower v w s (run m.steps s) e (m.lays s r c); remakes = m.remakes; inner = m.inner; deep = m.deep; hands = m.hands; told = m.told };
+  from = λ maps. let m = h.from maps in record { steps = m.steps; is_steps = m.is_steps; lays = λ s r c. lays_narrower v w s (run m.steps s) e (m.lays s r c); remakes = m.remakes; inner = m.inner; deep = m.deep; hands = m.hands; comment_texts = m.comment_texts };
 }
 
 -- what is never, and a phrase on a condition

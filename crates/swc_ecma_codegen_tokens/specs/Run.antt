@@ -9,7 +9,7 @@ use Rattle.swc_ecma_codegen_grammar.specs.declared.kinds.Kind.TheVariants.{Punct
 use Rattle.swc_ecma_codegen_grammar.specs.SourceLines.{Lines}
 use Rattle.swc_ecma_codegen_grammar.specs.GapRules.{PreviousToken, Start, Separated, fuses, last_after}
 use Rattle.swc_ecma_codegen_text_writer.specs.Sheet.{Item, Semi, Space, Keyword, Operator, Param, Property, Line, Lit, Comment, StrLit, Str, Symbol, Punct, Position, Commit, Deeper, Shallower, Sheet, effect, IsFar, Refuses, BeginLines, AllowBreak, EndLines, begins_lines, may_take_memory}
-use Rattle.swc_ecma_codegen_text_writer.specs.Told.{Rises}
+use Rattle.swc_ecma_codegen_text_writer.specs.Contents.{Rises}
 use Rattle.swc_ecma_codegen_literals.specs.ValidNames.{has_byte}
 use Rattle.swc_ecma_codegen_grammar.specs.CommentMaps.{Maps}
 use Rattle.swc_ecma_codegen_grammar.specs.declared.comments.Comment.{Comment as SourceComment}

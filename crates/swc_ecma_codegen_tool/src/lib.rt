@@ -161,7 +161,7 @@ fn send<O: Write>(text: &[u8], out: &mut O) -> Result<(), Fault>
 }
 
 /// Writes a beginning of some bytes, and says how long it is. A call that was interrupted is a fault, as any other.
-#[tactic(auto, using(crate::proofs::Kept::kept_appends))]
+#[tactic(auto, using(crate::proofs::NothingAdded::kept_appends))]
 fn write_some<O: Write>(bytes: &[u8], out: &mut O) -> Result<usize, Fault>
     ensures taken { IfOk result (λ n. (n ≤ length bytes.now)
         × Appends (O.contents out.old) (O.contents out.new) (take n bytes.now)) }

@@ -3,7 +3,7 @@ use Rattle.std.proofs.lemmas.Result.{err_from_is_err_and}
 use Rattle.swc_ecma_codegen_util.specs.declared.config.Config.{Config}
 use Rattle.swc_ecma_codegen_grammar.specs.Comments.{no_maps}
 use Rattle.swc_ecma_codegen_grammar.specs.SourceLines.{no_lines}
-use Rattle.swc_ecma_codegen_text_writer.specs.Told.{told}
+use Rattle.swc_ecma_codegen_text_writer.specs.Contents.{or_empty}
 use Rattle.swc_ecma_codegen_text_writer.specs.Sheet.{Sheet, HoldsNone}
 use Rattle.swc_ecma_codegen_text_writer.specs.PendingSemi.{with_held}
 use Rattle.swc_ecma_codegen_text_writer.specs.View.{sheet_of, new_sheet}
@@ -28,7 +28,7 @@ returns-clause-reads g c = λ root same well.
     let fresh : MayBegin root (start no_lines no_maps config held) =
     subst (λ s. MayBegin root (start no_lines no_maps config s)) (sym begun) (record { is_new = record { nothing_written = refl; nothing_held = refl; indent_text = refl; line_end = inl refl; leaves_out = refl; flowing = refl }; flows = λ whole. refl; at_margin = λ hashbang line. refl }) in
     let added : AddsReading (unlined config) phrase [] blank end = subst (λ s. AddsReading (unlined config) phrase [] s end) begun (c.in_ok-printed.ensures.reads root same well fresh) in
-    let all : c.into_inner.result.items ≡ end.text = ap told (c.into_inner.ensures.text refl) ∙ ap (λ (s : Sheet). s.text) c.into_inner-plain.ensures.sheet in
+    let all : c.into_inner.result.items ≡ end.text = ap or_empty (c.into_inner.ensures.text refl) ∙ ap (λ (s : Sheet). s.text) c.into_inner-plain.ensures.sheet in
     let reading = subst (λ t. ReadsAs (unlined config) true phrase [] t) (sym (all ∙ added.is_added)) added.reading in
     subst (λ k. ReadsAs (unlined k) true phrase [] c.into_inner.result.items) (c.with_minify-config.ensures ∙ ap (λ (k : Config). record k { minify = true }) c.default.ensures) reading
 

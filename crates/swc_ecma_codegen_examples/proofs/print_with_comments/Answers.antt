@@ -6,7 +6,7 @@ use Rattle.swc_ecma_codegen_grammar.specs.CommentMaps.{Maps}
 use Rattle.swc_ecma_codegen_grammar.specs.Comments.{AreClosed, maps_in}
 use Rattle.swc_ecma_codegen_grammar.specs.SourceLines.{no_lines}
 use Rattle.swc_ecma_codegen_text_writer.specs.Sheet.{Sheet}
-use Rattle.swc_ecma_codegen_text_writer.specs.Told.{told}
+use Rattle.swc_ecma_codegen_text_writer.specs.Contents.{or_empty}
 use Rattle.swc_ecma_codegen_text_writer.specs.View.{sheet_of, new_sheet}
 use Rattle.swc_ecma_codegen_tokens.specs.Run.{State, maps_after, start, steps_in, steps_of}
 use Rattle.swc_ecma_codegen_tokens.specs.Written.{AddsReading, ReadsAs, taken_remarks}
@@ -32,7 +32,7 @@ returns-clause-reads g c = λ root same well closed.
     let added : AddsReading default_config (root_phrase root) remarks blank_sheet end =
     subst (λ (s : State). AddsReading s.env.config (root_phrase root) (taken_remarks (root_items root) s.env) s.sheet end) begun
     (c.in_ok-emit_with.ensures.reads root same well fresh (subst (λ (s : State). AreClosed s.env.maps) (sym begun) closed)) in
-    let all : c.into_inner.result.items ≡ end.text = ap told (c.into_inner.ensures.text refl) in
+    let all : c.into_inner.result.items ≡ end.text = ap or_empty (c.into_inner.ensures.text refl) in
     let reading = subst (λ t. ReadsAs default_config false (root_phrase root) remarks t) (sym (all ∙ added.is_added)) added.reading in
     subst (λ p. ReadsAs default_config false (root_phrase root) (taken_remarks p (commented_start maps).env) c.into_inner.result.items) (sym same) reading
 

@@ -217,7 +217,7 @@ impl<W: Write, K: KeepsPositions> Lines<'_, W, K> {
     #[inline(always)]
     fn end_due_line(&mut self) -> Answer
         requires { (sheet_of self.old).refused ≡ false }
-        ensures sent { Reaches (line_ended true (sheet_of self.old)) (sheet_of self.old)
+        ensures reaches { Reaches (line_ended true (sheet_of self.old)) (sheet_of self.old)
             (sheet_of self.new) result }
         ensures held { self.new.held ≡ self.old.held }
     {

@@ -2,7 +2,7 @@ use Rattle.std.proofs.Common.{refl, false, ◌≡◌, [], ◌∷◌, ◌∙◌, 
 use Rattle.std.proofs.lemmas.Str.{IsUtf8-from_is_utf8, is_utf8-from_IsUtf8, IsUtf8-nil}
 use Rattle.std.specs.Str.{is_utf8}
 use Rattle.swc_ecma_codegen_util.specs.Defaults.{default_config}
-use Rattle.swc_ecma_codegen_text_writer.specs.Told.{told}
+use Rattle.swc_ecma_codegen_text_writer.specs.Contents.{or_empty}
 use Rattle.swc_ecma_codegen_text_writer.specs.Sheet.{Sheet}
 use Rattle.swc_ecma_codegen_text_writer.specs.View.{sheet_of, new_sheet}
 use Rattle.swc_ecma_codegen_grammar.specs.Comments.{maps_in}
@@ -21,7 +21,7 @@ unwrap-requires g c =
     let blank = ap (λ t. new_sheet t (10 ∷ [])) c.new.ensures.items in
     let end : sheet_of c.in-Ok.writer ≡ (printed part (start (g.S.SourceMapper.lines c.args.cm.now) (maps_in g.C.Comments.maps c.args.comments) default_config blank_sheet)).sheet =
     c.in-Ok.ensures.sheet ∙ ap (λ s. (printed part (start (g.S.SourceMapper.lines c.args.cm.now) (maps_in g.C.Comments.maps c.args.comments) default_config s)).sheet) (c.new-writer.ensures.sheet refl ∙ blank) in
-    let all : c.into_inner.result.items ≡ (sheet_of c.in-Ok.writer).text = ap told (c.into_inner.ensures.text refl) in
+    let all : c.into_inner.result.items ≡ (sheet_of c.in-Ok.writer).text = ap or_empty (c.into_inner.ensures.text refl) in
     c.from_utf8.ensures.succeeds
     (IsUtf8-from_is_utf8 _
     (ap is_utf8 all ∙ sym c.into_inner.ensures.whole ∙ ap (λ (s : Sheet). s.whole) end ∙ run_whole (steps_of (steps_in part (start (g.S.SourceMapper.lines c.args.cm.now) (maps_in g.C.Comments.maps c.args.comments) default_config blank_sheet))) (start (g.S.SourceMapper.lines c.args.cm.now) (maps_in g.C.Comments.maps c.args.comments) default_config blank_sheet) ∙ is_utf8-from_IsUtf8 [] IsUtf8-nil))
@@ -33,7 +33,7 @@ returns-in-Ok-clause-text g c =
     let blank = ap (λ t. new_sheet t (10 ∷ [])) c.new.ensures.items in
     let end : sheet_of c.in-Ok.writer ≡ (printed part (start (g.S.SourceMapper.lines c.args.cm.now) (maps_in g.C.Comments.maps c.args.comments) default_config blank_sheet)).sheet =
     c.in-Ok.ensures.sheet ∙ ap (λ s. (printed part (start (g.S.SourceMapper.lines c.args.cm.now) (maps_in g.C.Comments.maps c.args.comments) default_config s)).sheet) (c.new-writer.ensures.sheet refl ∙ blank) in
-    let all : c.into_inner.result.items ≡ (sheet_of c.in-Ok.writer).text = ap told (c.into_inner.ensures.text refl) in
+    let all : c.into_inner.result.items ≡ (sheet_of c.in-Ok.writer).text = ap or_empty (c.into_inner.ensures.text refl) in
     let same : string_bytes c.unwrap.result ≡ c.into_inner.result.items = search rules in
     same ∙ all ∙ ap (λ (s : Sheet). s.text) end
 

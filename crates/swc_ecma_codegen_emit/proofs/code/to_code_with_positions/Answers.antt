@@ -4,7 +4,7 @@ use Rattle.std.specs.Str.{is_utf8}
 use Rattle.swc_ecma_codegen_text_writer.specs.Places.{origin}
 use Rattle.swc_ecma_codegen_text_writer.specs.Recorded.{StandIn, AreNew}
 use Rattle.swc_ecma_codegen_text_writer.specs.Sheet.{Sheet}
-use Rattle.swc_ecma_codegen_text_writer.specs.Told.{told}
+use Rattle.swc_ecma_codegen_text_writer.specs.Contents.{or_empty}
 use Rattle.swc_ecma_codegen_text_writer.specs.View.{sheet_of}
 use Rattle.swc_ecma_codegen_grammar.specs.Comments.{maps_in}
 use Rattle.swc_ecma_codegen_grammar.specs.Phrases.{names_in}
@@ -19,13 +19,13 @@ use Rattle.swc_ecma_codegen_emit.proofs.code.to_code_with_positions.Goals as goa
 -- the text of the sheet is UTF-8, as no bytes are
 pub unwrap-requires : goal.unwrap-requires
 unwrap-requires g c =
-    let all : c.into_parts-text.result.0.items ≡ (sheet_of c.in-Ok.writer).text = ap told (c.into_parts-text.ensures.text refl) in
+    let all : c.into_parts-text.result.0.items ≡ (sheet_of c.in-Ok.writer).text = ap or_empty (c.into_parts-text.ensures.text refl) in
     let whole = whole_with (g.S.SourceMapper.lines c.args.cm.now) (maps_in g.C.Comments.maps c.args.comments) c.args.cfg (g.N.Node.part c.args.node.now) in
     c.from_utf8.ensures.succeeds (IsUtf8-from_is_utf8 _ (ap is_utf8 all ∙ sym c.into_parts-text.ensures.whole ∙ ap (λ (s : Sheet). s.whole) c.in-Ok.ensures.sheet ∙ whole))
 
 pub returns-in-Ok-clause-text : goal.returns-in-Ok-clause-text
 returns-in-Ok-clause-text g c =
-    let all : c.into_parts-text.result.0.items ≡ (sheet_of c.in-Ok.writer).text = ap told (c.into_parts-text.ensures.text refl) in
+    let all : c.into_parts-text.result.0.items ≡ (sheet_of c.in-Ok.writer).text = ap or_empty (c.into_parts-text.ensures.text refl) in
     let same : string_bytes c.unwrap.result ≡ c.into_parts-text.result.0.items = search rules in
     same ∙ all ∙ ap (λ (s : Sheet). s.text) c.in-Ok.ensures.sheet
 

@@ -10,7 +10,7 @@ returns-in_default-hex_digits_piece c =
     let m : length c.in-Some-split_char.rest.now < length c.in-Some.after.now = c.in-Some-split_char.ensures.shorter in
     record {
       piece = hex_front c.in-Some.first c.in-Some-split_char.second (chars c.in-Some-split_char.rest.now) (chars c.args.raw.now) c.hex_digits_piece.result e c.hex_digits_piece.ensures;
-      rest = hex_rest c.in-Some.first c.in-Some-split_char.second (chars c.in-Some-split_char.rest.now) (chars c.args.raw.now) c.hex_digits_piece.result e c.hex_digits_piece.ensures c.in_default-hex_digits_piece.not-Kept;
+      rest = hex_rest c.in-Some.first c.in-Some-split_char.second (chars c.in-Some-split_char.rest.now) (chars c.args.raw.now) c.hex_digits_piece.result e c.hex_digits_piece.ensures c.in_default-hex_digits_piece.not-Backslashed;
       text = c.in-Some-split_char.ensures.text;
       shorter = omega (arith, l, m);
     }

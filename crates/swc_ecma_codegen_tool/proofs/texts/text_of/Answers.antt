@@ -1,7 +1,7 @@
 use Rattle.std.proofs.Common.{◌≡◌, refl, sym, ap, ◌∙◌, subst, Bool, true, false}
 use Rattle.std.proofs.lemmas.Result.{err_from_is_err_and}
 use Rattle.swc_ecma_codegen_util.specs.declared.config.Config.{Config}
-use Rattle.swc_ecma_codegen_text_writer.specs.Told.{told}
+use Rattle.swc_ecma_codegen_text_writer.specs.Contents.{or_empty}
 use Rattle.swc_ecma_codegen_text_writer.specs.Sheet.{Sheet, HoldsNone, holds_semicolons}
 use Rattle.swc_ecma_codegen_text_writer.specs.PendingSemi.{with_held}
 use Rattle.swc_ecma_codegen_text_writer.specs.View.{sheet_of}
@@ -31,7 +31,7 @@ unfolding with_held with_semicolons text_with
 returns-in_ok-writer-clause-text g c =
     let part = g.P.Node.part c.args.tree.now in
     let options = c.args.options in
-    let all : c.into_inner-then-options.result.items ≡ (sheet_of c.into_inner.result).text = ap told (c.into_inner-then-options.ensures.text refl) in
+    let all : c.into_inner-then-options.result.items ≡ (sheet_of c.into_inner.result).text = ap or_empty (c.into_inner-then-options.ensures.text refl) in
     let under : (sheet_of c.into_inner.result).text ≡ (sheet_of c.in_ok-writer.writer.inner).text = ap (λ (s : Sheet). s.text) c.into_inner.ensures.sheet in
     let held : Sheet = with_held c.omit_trailing_semi.result.pending (sheet_of c.omit_trailing_semi.result.inner) in
     let begun : held ≡ sheet_for options =

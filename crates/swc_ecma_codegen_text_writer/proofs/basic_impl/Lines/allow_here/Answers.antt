@@ -42,7 +42,7 @@ returns-in-Ok g c =
     let q = goes c.args.stays_in_line _ h s c.in-Some.is c.requires.goes in
     let text = string_bytes h.segment.text in
     let some : s.lines ≡ Filling h.max h.first (segment_in h.segment) = ap flow_of c.in-Some.is in
-    let out = sent_sheet c.as_str-text.result.now s _ _ _ _ _ _ _ _ c.in-Ok.ensures.sent c.in-Ok.ensures.whole c.in-Ok.ensures.faults (place_on _ _ _ c.in-Ok.ensures.logged) c.pass.ensures.keeps c.pass.ensures.keeps c.pass.ensures.pairs c.pass.ensures.pending in
+    let out = sent_sheet c.as_str-text.result.now s _ _ _ _ _ _ _ _ c.in-Ok.ensures.bytes c.in-Ok.ensures.whole c.in-Ok.ensures.faults (place_on _ _ _ c.in-Ok.ensures.logged) c.pass.ensures.keeps c.pass.ensures.keeps c.pass.ensures.pairs c.pass.ensures.pending in
     ap (λ (z : Sheet). record z { lines = Filling h.max false (segment_in c.clear.new.self) }) out
     ∙ ap (λ t. record (released t s) { lines = Filling h.max false (segment_in c.clear.new.self) }) c.as_str-text.ensures.value
     ∙ allowed_on h.max h.first text h.segment.notes.items (segment_in c.clear.new.self) s some q.1.0 q.1.1 c.clear.ensures.segment

@@ -7,14 +7,14 @@ use Rattle.swc_ecma_codegen_text_writer.proofs.Sheets.{front_refl}
 use Rattle.swc_ecma_codegen_text_writer.proofs.Steps.{sent_sheet, place_on, place_since}
 use Rattle.swc_ecma_codegen_text_writer.proofs.basic_impl.Lines.end_due_line.Goals as goal
 
-pub returns-in-Ok-clause-sent : goal.returns-in-Ok-clause-sent
+pub returns-in-Ok-clause-reaches : goal.returns-in-Ok-clause-reaches
 unfolding sheet_of Reaches line_ended
-returns-in-Ok-clause-sent g c =
-    sent_sheet c.args.self.now.new_line.now (sheet_of c.args.self.now) _ _ _ _ _ _ _ _ c.in-Ok.ensures.sent c.in-Ok.ensures.whole c.in-Ok.ensures.faults (place_on _ _ _ c.in-Ok.ensures.logged) c.pass.ensures.keeps c.pass.ensures.keeps c.pass.ensures.pairs c.pass.ensures.pending
+returns-in-Ok-clause-reaches g c =
+    sent_sheet c.args.self.now.new_line.now (sheet_of c.args.self.now) _ _ _ _ _ _ _ _ c.in-Ok.ensures.bytes c.in-Ok.ensures.whole c.in-Ok.ensures.faults (place_on _ _ _ c.in-Ok.ensures.logged) c.pass.ensures.keeps c.pass.ensures.keeps c.pass.ensures.pairs c.pass.ensures.pending
 
-pub returns-in-Err-clause-sent : goal.returns-in-Err-clause-sent
+pub returns-in-Err-clause-reaches : goal.returns-in-Err-clause-reaches
 unfolding sheet_of Reaches HasReason released line_ended
-returns-in-Err-clause-sent g c = record {
+returns-in-Err-clause-reaches g c = record {
   reason = c.in-Err.ensures.counted;
   grows = c.in-Err.ensures.grows;
   front = c.in-Err.ensures.front;

@@ -3,7 +3,7 @@ use Rattle.std.proofs.lemmas.Result.{err_from_is_err_and}
 use Rattle.swc_ecma_codegen_text_writer.specs.Sheet.{Sheet, appended, indented}
 use Rattle.swc_ecma_codegen_text_writer.specs.View.{sheet_of, Reaches, Halted}
 use Rattle.swc_ecma_codegen_text_writer.proofs.Sheets.{alike_same, indented_alike}
-use Rattle.swc_ecma_codegen_text_writer.proofs.Steps.{indented_zero, indented_more, indent_halted}
+use Rattle.swc_ecma_codegen_text_writer.proofs.Steps.{indented_zero, indented_more, halted_within_indent}
 use Rattle.swc_ecma_codegen_text_writer.proofs.basic_impl.Lines.indent_by_levels.Goals as goal
 
 pub loop-init : goal.loop-init
@@ -29,7 +29,7 @@ unfolding sheet_of Reaches
 returns-in_err-send g c =
     let P : Sheet → Type 0 = λ s. Halted c.in_err-send.field-0.0 (appended (sheet_of c.args.self.now).indent_text s) s (sheet_of c.send.new.self) in
     let p = err_from_is_err_and c.from_residual.result c.from_residual.ensures.1 in
-    rw (p.1, p.2) (indent_halted _ c.loop.counter _ _ _ (omega (arith, c.loop-test.true, c.loop.invariant.end)) (subst P c.loop.invariant.sheet c.in_err-send.ensures))
+    rw (p.1, p.2) (halted_within_indent _ c.loop.counter _ _ _ (omega (arith, c.loop-test.true, c.loop.invariant.end)) (subst P c.loop.invariant.sheet c.in_err-send.ensures))
 
 pub returns : goal.returns
 unfolding Reaches

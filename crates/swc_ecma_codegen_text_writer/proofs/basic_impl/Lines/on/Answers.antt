@@ -8,8 +8,8 @@ use Rattle.swc_ecma_codegen_text_writer.proofs.basic_impl.Lines.on.Goals as goal
 pub returns-clause-sheet : goal.returns-clause-sheet
 unfolding sheet_of
 returns-clause-sheet g c = λ i. record {
-  text = c.new.ensures.sent i;
-  whole = is_utf8 (c.new.ensures.sent i);
+  text = c.new.ensures.bytes i;
+  whole = is_utf8 (c.new.ensures.bytes i);
   at_line_start = true;
   indentation = 0;
   line_end = c.args.new_line.now;

@@ -10,7 +10,7 @@ use Rattle.swc_ecma_codegen_text_writer.proofs.basic_impl.Lines.refuse.Goals as 
 pub returns-clause-same : goal.returns-clause-same
 unfolding sheet_of
 returns-clause-same g c =
-    outlet_same (sheet_of c.args.self.now) _ _ _ _ c.take_fault.ensures.sent (ap is_utf8 c.take_fault.ensures.sent) (ap (λ (t : List ℕ). after_text t origin) c.take_fault.ensures.logged) c.take_fault.ensures.faults
+    outlet_same (sheet_of c.args.self.now) _ _ _ _ c.take_fault.ensures.bytes (ap is_utf8 c.take_fault.ensures.bytes) (ap (λ (t : List ℕ). after_text t origin) c.take_fault.ensures.logged) c.take_fault.ensures.faults
 
 pub invariant_of-self-clause-shown : goal.invariant_of-self-clause-shown
 invariant_of-self-clause-shown g c = λ f. subst (λ z. Stands c.args.self.now.column.units z) (sym (ap (λ (t : List ℕ). after_text t origin) c.take_fault.ensures.logged)) (c.args.self.now.shown f)

@@ -41,7 +41,7 @@ unfolding sheet_of Reaches
 returns-in-Ok g c =
     let h = c.in-Some.held in
     let s : Sheet = sheet_of c.args.self.now in
-    let out = sent_sheet c.as_str-text.result.now s _ _ _ _ _ _ _ _ c.in-Ok.ensures.sent c.in-Ok.ensures.whole c.in-Ok.ensures.faults (place_on _ _ _ c.in-Ok.ensures.logged) refl refl refl refl in
+    let out = sent_sheet c.as_str-text.result.now s _ _ _ _ _ _ _ _ c.in-Ok.ensures.bytes c.in-Ok.ensures.whole c.in-Ok.ensures.faults (place_on _ _ _ c.in-Ok.ensures.logged) refl refl refl refl in
     ap (λ (z : Sheet). record z { lines = Filling h.max false (segment_in c.clear.new.self) }) out
     ∙ ap (λ t. record (released t s) { lines = Filling h.max false (segment_in c.clear.new.self) }) c.as_str-text.ensures.value
     ∙ ap (λ (x : Segment). record (released (string_bytes h.segment.text) s) { lines = Filling h.max false x }) c.clear.ensures.segment

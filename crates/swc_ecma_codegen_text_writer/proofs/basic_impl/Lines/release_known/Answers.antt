@@ -10,7 +10,7 @@ use Rattle.swc_ecma_codegen_text_writer.proofs.basic_impl.Lines.release_known.Go
 pub returns-in-Ok : goal.returns-in-Ok
 unfolding sheet_of Reaches
 returns-in-Ok g c =
-    sent_sheet c.args.text.now (sheet_of c.args.self.now) _ _ _ _ _ _ _ _ c.in-Ok.ensures.sent c.in-Ok.ensures.whole c.in-Ok.ensures.faults (place_on _ _ _ c.in-Ok.ensures.logged) c.pass_known.ensures.keeps c.pass_known.ensures.keeps c.pass_known.ensures.pairs c.pass_known.ensures.pending
+    sent_sheet c.args.text.now (sheet_of c.args.self.now) _ _ _ _ _ _ _ _ c.in-Ok.ensures.bytes c.in-Ok.ensures.whole c.in-Ok.ensures.faults (place_on _ _ _ c.in-Ok.ensures.logged) c.pass_known.ensures.keeps c.pass_known.ensures.keeps c.pass_known.ensures.pairs c.pass_known.ensures.pending
 
 pub returns-in-Err : goal.returns-in-Err
 unfolding sheet_of Reaches HasReason released

@@ -11,7 +11,7 @@ use Rattle.swc_ecma_codegen_text_writer.proofs.basic_impl.Lines.send_plainly.Goa
 pub returns-in-Ok : goal.returns-in-Ok
 unfolding sheet_of Reaches
 returns-in-Ok g c =
-    sent_sheet c.args.text.now (sheet_of c.args.self.now) _ _ _ _ _ _ _ _ c.in-Ok.ensures.sent c.in-Ok.ensures.whole c.in-Ok.ensures.faults (place_on _ _ _ c.in-Ok.ensures.logged) refl refl refl refl
+    sent_sheet c.args.text.now (sheet_of c.args.self.now) _ _ _ _ _ _ _ _ c.in-Ok.ensures.bytes c.in-Ok.ensures.whole c.in-Ok.ensures.faults (place_on _ _ _ c.in-Ok.ensures.logged) refl refl refl refl
     ∙ sym (appended_flowing c.args.text.now (sheet_of c.args.self.now) (ap flow_of (c.args.self.now.plain_flowing c.requires)))
 
 pub returns-in-Err : goal.returns-in-Err

@@ -1,14 +1,14 @@
 use Rattle.std.proofs.Common.{◌≡◌, ◌++◌, length}
-use Rattle.swc_ecma_codegen_text_writer.specs.Told.{IsPrefix}
-use Rattle.swc_ecma_codegen_text_writer.specs.Sent.{sent}
+use Rattle.swc_ecma_codegen_text_writer.specs.Contents.{IsPrefix}
+use Rattle.swc_ecma_codegen_text_writer.specs.Outlets.{bytes_so_far}
 use Rattle.swc_ecma_codegen_text_writer.proofs.outlet.Outlet.write_text.Given as goal
 
 abbrev pub invariant-loop-rest : goal.invariant-loop-rest
 invariant-loop-rest g l = record {
   before : l.self.before ≡ l.fn.self.before;
-  out : sent l.self ++ l.rest ≡ sent l.fn.self ++ l.text;
+  out : bytes_so_far l.self ++ l.rest ≡ bytes_so_far l.fn.self ++ l.text;
   logged : l.self.log.bytes ++ l.rest ≡ l.fn.self.log.bytes ++ l.text;
-  grows : IsPrefix (sent l.fn.self) (sent l.self);
+  grows : IsPrefix (bytes_so_far l.fn.self) (bytes_so_far l.self);
   faults : l.self.faults ≡ l.fn.self.faults;
 }
 

@@ -1,4 +1,4 @@
--- What is told of a node in a role.
+-- The summary of a node in a role.
 use Rattle.std.specs.Prelude.{Bool}
 use Rattle.swc_ecma_codegen_grammar.specs.declared.roles.Role.{Role}
 use Rattle.swc_ecma_codegen_grammar.specs.declared.roles.Role.TheVariants.{Statement}
@@ -8,14 +8,14 @@ use Rattle.swc_ecma_codegen_syntax.specs.declared.verdicts.Facts.{Facts}
 use Rattle.swc_ecma_codegen_syntax.specs.Parameters.{of_script}
 
 -- what its production says of it, under parameters, what its text begins with, and whether it is an empty statement
-pub record Told : Type 0 where
+pub record Summary : Type 0 where
   pub facts : Facts
   pub begins : Beginning
   pub is_empty : Bool
 
 -- What a text begins with hangs on no parameters, so it is asked under any.
-abbrev pub begins_in : {X : Type 0} → (X → Role → Parameters → Told) → X → Role → Beginning
+abbrev pub begins_in : {X : Type 0} → (X → Role → Parameters → Summary) → X → Role → Beginning
 begins_in f n role = (f n role of_script).begins
 
-abbrev pub empty_in : {X : Type 0} → (X → Role → Parameters → Told) → X → Bool
+abbrev pub empty_in : {X : Type 0} → (X → Role → Parameters → Summary) → X → Bool
 empty_in f n = (f n Statement of_script).is_empty

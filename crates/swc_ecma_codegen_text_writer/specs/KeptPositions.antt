@@ -9,7 +9,7 @@ use Rattle.swc_ecma_codegen_text_writer.specs.Positions.{pairs, Records}
 use Rattle.swc_ecma_codegen_text_writer.specs.declared.positions.Reached.{Reached}
 use Rattle.swc_ecma_codegen_text_writer.specs.declared.positions.HoldsPairs as holds
 use Rattle.swc_ecma_codegen_text_writer.specs.declared.positions.Positions.{Positions}
-use Rattle.swc_ecma_codegen_text_writer.specs.declared.kept.Kept.{Kept}
+use Rattle.swc_ecma_codegen_text_writer.specs.declared.kept.OptionalPositions.{OptionalPositions}
 use Rattle.swc_ecma_codegen_text_writer.specs.declared.kept.OwnedPositions.{OwnedPositions}
 
 -- where positions are kept, this place was reached
@@ -35,16 +35,16 @@ reached_in (Some w) = w.reached
 reached_in None = record { line = 0; column = 0; after_cr = false }
 
 -- positions are kept, so many pairs of them, one that is pending, and the place that they count
-abbrev pub keeps : Kept → Bool
+abbrev pub keeps : OptionalPositions → Bool
 keeps k = is_some k.positions
 
-abbrev pub kept_pairs : Kept → List Pair
+abbrev pub kept_pairs : OptionalPositions → List Pair
 kept_pairs k = pairs_in k.positions
 
-abbrev pub kept_pending : Kept → Option BytePos
+abbrev pub kept_pending : OptionalPositions → Option BytePos
 kept_pending k = pending_in k.positions
 
-abbrev pub kept_reached : Kept → Reached
+abbrev pub kept_reached : OptionalPositions → Reached
 kept_reached k = reached_in k.positions
 
 -- the same of a list that is owned: its positions are kept
