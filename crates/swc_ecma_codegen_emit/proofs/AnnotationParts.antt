@@ -10,10 +10,10 @@ use Rattle.swc_ecma_codegen_tokens.specs.Run.{Env}
 use Rattle.swc_ecma_codegen_tokens.specs.Words as parts
 use Rattle.swc_ecma_codegen_tokens.specs.Words.{keyword, punct_between, space, allows_break}
 use Rattle.swc_ecma_codegen_tokens.specs.Written.{IsWord, IsMark, Anything, InName}
-use Rattle.swc_ecma_codegen_tokens.proofs.Phrased.{then, after, before, prints_nothing, prints_where, prints_keyword, prints_punct, Prints, PrintsOn, PrintsAt, prints_wider, prints_unbroken}
-use Rattle.swc_ecma_codegen_tokens.proofs.Printed.{EndsLines, makes_wider, writes_nothing, writes_space, writes_formatting_space}
-use Rattle.swc_ecma_codegen_tokens.proofs.Shapes.{open_, loose}
-use Rattle.swc_ecma_codegen_tokens.proofs.TagPrints.{prints_spots, prints_none, wider_on}
+use Rattle.swc_ecma_codegen_tokens.proofs.Reading.Phrased.{then, after, before, prints_nothing, prints_where, prints_keyword, prints_punct, Prints, PrintsOn, PrintsAt, prints_wider, prints_unbroken}
+use Rattle.swc_ecma_codegen_tokens.proofs.Reading.Printed.{EndsLines, makes_wider, writes_nothing, writes_space, writes_formatting_space}
+use Rattle.swc_ecma_codegen_tokens.proofs.Filling.Shapes.{open_, loose}
+use Rattle.swc_ecma_codegen_tokens.proofs.Jsx.TagPrints.{prints_spots, prints_none, wider_on}
 use Rattle.swc_ecma_codegen_emit.specs.declared.nodes.Place.{Place}
 use Rattle.swc_ecma_codegen_emit.specs.declared.nodes.Place.TheVariants.{Plain}
 use Rattle.swc_ecma_codegen_emit.specs.Annotations as words

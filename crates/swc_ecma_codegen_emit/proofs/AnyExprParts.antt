@@ -12,10 +12,10 @@ use Rattle.swc_ecma_codegen_grammar.specs.declared.roles.Role.TheVariants.{Templ
 use Rattle.swc_ecma_codegen_tokens.specs.Run.{Env}
 use Rattle.swc_ecma_codegen_tokens.specs.Words.{trailing_comments}
 use Rattle.swc_ecma_codegen_tokens.specs.Written.{Anything}
-use Rattle.swc_ecma_codegen_tokens.proofs.Printed.{writes_if, writes_nothing, Fills}
-use Rattle.swc_ecma_codegen_tokens.proofs.CommentPrints.{writes_trailing}
-use Rattle.swc_ecma_codegen_tokens.proofs.Phrased.{Prints, then, before, prints_never, prints_punct}
-use Rattle.swc_ecma_codegen_tokens.proofs.TagPrints.{prints_spots}
+use Rattle.swc_ecma_codegen_tokens.proofs.Reading.Printed.{writes_if, writes_nothing, Fills}
+use Rattle.swc_ecma_codegen_tokens.proofs.Commenting.CommentPrints.{writes_trailing}
+use Rattle.swc_ecma_codegen_tokens.proofs.Reading.Phrased.{Prints, then, before, prints_never, prints_punct}
+use Rattle.swc_ecma_codegen_tokens.proofs.Jsx.TagPrints.{prints_spots}
 use Rattle.swc_ecma_codegen_emit.specs.declared.nodes.Place.{Place}
 use Rattle.swc_ecma_codegen_emit.specs.declared.nodes.Place.TheVariants.{Plain, FieldValue}
 use Rattle.swc_ecma_codegen_emit.specs.Answers.{place_of}

@@ -3,7 +3,7 @@ use Rattle.std.proofs.Common.{◌≡◌, ℕ, List, Bool, true, false, ◌&&◌,
 use Rattle.std.proofs.lemmas.Bool.{true≢false}
 use Rattle.swc_ecma_codegen_tokens.specs.Run.{Env, Plan, Part, when_minified, no_part}
 use Rattle.swc_ecma_codegen_tokens.specs.Words.{by_maps, commit_pending_semi, keyword, punct, semi, trailing_comments}
-use Rattle.swc_ecma_codegen_tokens.proofs.Emitting.{minified_same, pretty_same}
+use Rattle.swc_ecma_codegen_tokens.proofs.Emission.Emitting.{minified_same, pretty_same}
 use Rattle.swc_ecma_codegen_grammar.specs.FunctionPhrases.{is_typed_arrow}
 use Rattle.swc_ecma_codegen_emit.specs.FunctionExprs.{parenthesis, is_only, is_plain, has_comment_behind, arrow_children, arrow_within, arrow_parameters}
 use Rattle.swc_ecma_codegen_grammar.specs.CommentMaps.{Maps}
@@ -18,7 +18,7 @@ use Rattle.swc_ecma_codegen_emit.specs.Stmts.{argument, argument_in}
 use Rattle.swc_ecma_codegen_emit.specs.declared.nodes.Place.{Place}
 use Rattle.swc_ecma_codegen_grammar.specs.Settings.{is_up_to_es5}
 use Rattle.swc_ecma_codegen_tokens.specs.Choices.{empty_arguments, loop_ending, attributes_word}
-use Rattle.swc_ecma_codegen_tokens.proofs.Choices.{ended_same, not_ended_same, assert_same, with_same}
+use Rattle.swc_ecma_codegen_tokens.proofs.Reading.Choices.{ended_same, not_ended_same, assert_same, with_same}
 use Rattle.swc_ecma_codegen_common.specs.declared.positions.Span.{Span}
 use Rattle.swc_ecma_codegen_emit.specs.Calls.{parentheses}
 use Rattle.swc_ecma_codegen_emit.specs.AnyExpr.{expr_closed}

@@ -6,7 +6,7 @@ use Rattle.swc_ecma_codegen_grammar.specs.declared.kinds.Kind.TheVariants.{Word,
 use Rattle.swc_ecma_codegen_text_writer.specs.Sheet.{Space, Operator, Punct, AllowBreak}
 use Rattle.swc_ecma_codegen_tokens.specs.Run.{Env, Plan, Steps, next, Guard, Token, Plain, step, after_step, no_part, is_bounded}
 use Rattle.swc_ecma_codegen_tokens.specs.Words.{operator, word_operator, punct, space, formatting_space, operator_between, punct_between, allow_break, allows_break, bare_punct, break_where}
-use Rattle.swc_ecma_codegen_tokens.proofs.Emitting.{minified_same, pretty_same}
+use Rattle.swc_ecma_codegen_tokens.proofs.Emission.Emitting.{minified_same, pretty_same}
 use Rattle.swc_ecma_codegen_emit.specs.Exprs.{blank, space_if, binary_op, spaced_operator, spaced_punct, formatted_operator}
 use Rattle.swc_ecma_codegen_emit.specs.Operands.{is_word_op}
 use Rattle.swc_ecma_codegen_emit.specs.Standing.{Standing, Makes}

@@ -12,11 +12,11 @@ use Rattle.swc_ecma_codegen_grammar.specs.CommentMaps.{Maps}
 use Rattle.swc_ecma_codegen_tokens.specs.Run.{Env, Plan, Part, at_maps, when_minified}
 use Rattle.swc_ecma_codegen_tokens.specs.Lists.{list, ListChild}
 use Rattle.swc_ecma_codegen_tokens.specs.Words.{by_maps, comments_before_end, punct, position_before}
-use Rattle.swc_ecma_codegen_tokens.proofs.Emitting.{minified_same, pretty_same}
-use Rattle.swc_ecma_codegen_tokens.proofs.ListLaws.{IsUndelimited, children_of, prints_bracketed_in_order}
-use Rattle.swc_ecma_codegen_tokens.proofs.Phrased.{Prints, prints_by_maps, after, prints_same, prints_punct, prints_wider}
-use Rattle.swc_ecma_codegen_tokens.proofs.Printed.{writes_nothing, writes_position, writes_position_before, Fills, makes_wider}
-use Rattle.swc_ecma_codegen_tokens.proofs.CommentPrints.{writes_before_end, writes_leading}
+use Rattle.swc_ecma_codegen_tokens.proofs.Emission.Emitting.{minified_same, pretty_same}
+use Rattle.swc_ecma_codegen_tokens.proofs.Listing.ListLaws.{IsUndelimited, children_of, prints_bracketed_in_order}
+use Rattle.swc_ecma_codegen_tokens.proofs.Reading.Phrased.{Prints, prints_by_maps, after, prints_same, prints_punct, prints_wider}
+use Rattle.swc_ecma_codegen_tokens.proofs.Reading.Printed.{writes_nothing, writes_position, writes_position_before, Fills, makes_wider}
+use Rattle.swc_ecma_codegen_tokens.proofs.Commenting.CommentPrints.{writes_before_end, writes_leading}
 use Rattle.swc_ecma_codegen_emit.specs.declared.nodes.Place.{Place}
 use Rattle.swc_ecma_codegen_emit.specs.declared.nodes.Place.TheVariants.{Body}
 use Rattle.swc_ecma_codegen_emit.specs.Answers.{place_of}
@@ -27,7 +27,7 @@ use Rattle.swc_ecma_codegen_emit.specs.Stmts.{stmt}
 use Rattle.swc_ecma_codegen_emit.proofs.Linked.{Linked}
 use Rattle.swc_ecma_codegen_emit.proofs.MarkWords as marks
 use Rattle.swc_ecma_codegen_emit.proofs.StmtParts.{stmt_prints}
-use Rattle.swc_ecma_codegen_tokens.proofs.Shapes.{loose}
+use Rattle.swc_ecma_codegen_tokens.proofs.Filling.Shapes.{loose}
 use Rattle.swc_ecma_codegen_emit.proofs.Between.{punct_in}
 
 -- what is the same is the same behind a bracket

@@ -15,14 +15,14 @@ use Rattle.swc_ecma_codegen_tokens.specs.Targets.{is_out}
 use Rattle.swc_ecma_codegen_tokens.specs.Words.{begin_lines, bounded, commit_pending_semi, end_lines, in_lines, trailing_comments}
 use Rattle.swc_ecma_codegen_tokens.specs.Written.{Anything, holds_one}
 use Rattle.swc_ecma_codegen_text_writer.specs.Sheet.{Commit, effect}
-use Rattle.swc_ecma_codegen_tokens.proofs.CommentPrints.{writes_trailing}
-use Rattle.swc_ecma_codegen_tokens.proofs.Fronts.{run_append}
+use Rattle.swc_ecma_codegen_tokens.proofs.Commenting.CommentPrints.{writes_trailing}
+use Rattle.swc_ecma_codegen_tokens.proofs.Emission.Fronts.{run_append}
 use Rattle.swc_ecma_codegen_emit.proofs.InLines.{InLines, settled_none}
-use Rattle.swc_ecma_codegen_tokens.proofs.Lengths.{at_length, prints_at_length}
-use Rattle.swc_ecma_codegen_tokens.proofs.Phrased.{before, prints_never, prints_same, prints_wider, steps_of_more, PrintsAt}
-use Rattle.swc_ecma_codegen_tokens.proofs.Printed.{env_after}
-use Rattle.swc_ecma_codegen_tokens.proofs.Shapes.{Shape, is_within, loose, loose_at, unbroken, unbroken_at}
-use Rattle.swc_ecma_codegen_tokens.proofs.TagPrints.{prints_spots}
+use Rattle.swc_ecma_codegen_tokens.proofs.Filling.Lengths.{at_length, prints_at_length}
+use Rattle.swc_ecma_codegen_tokens.proofs.Reading.Phrased.{before, prints_never, prints_same, prints_wider, steps_of_more, PrintsAt}
+use Rattle.swc_ecma_codegen_tokens.proofs.Reading.Printed.{env_after}
+use Rattle.swc_ecma_codegen_tokens.proofs.Filling.Shapes.{Shape, is_within, loose, loose_at, unbroken, unbroken_at}
+use Rattle.swc_ecma_codegen_tokens.proofs.Jsx.TagPrints.{prints_spots}
 use Rattle.swc_ecma_codegen_emit.specs.declared.nodes.Place.{Place}
 use Rattle.swc_ecma_codegen_emit.specs.declared.nodes.Place.TheVariants.{Plain, DeclarationTail, Lines}
 use Rattle.swc_ecma_codegen_emit.specs.Calls.{keeps_arguments}

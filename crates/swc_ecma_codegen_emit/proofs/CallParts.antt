@@ -27,18 +27,18 @@ use Rattle.swc_ecma_codegen_tokens.specs.Run.{Env}
 use Rattle.swc_ecma_codegen_tokens.specs.Lists.{list}
 use Rattle.swc_ecma_codegen_tokens.specs.Words.{punct, space, formatting_space, position}
 use Rattle.swc_ecma_codegen_tokens.specs.Written.{IsWord, IsMark}
-use Rattle.swc_ecma_codegen_tokens.proofs.Printed.{writes_if, writes_nothing, writes_space, writes_formatting_space, writes_commit, writes_position, Fills, makes_wider}
-use Rattle.swc_ecma_codegen_tokens.proofs.CommentPrints.{writes_leading}
-use Rattle.swc_ecma_codegen_tokens.proofs.Phrased.{Prints, then, after, before, prints_nothing, prints_keyword, prints_punct, PrintsAt, prints_wider, loosened}
-use Rattle.swc_ecma_codegen_tokens.proofs.Choices.{prints_empty_arguments}
-use Rattle.swc_ecma_codegen_tokens.proofs.ListLaws.{prints_bracketed, prints_bracketed_some, prints_forced_closing}
+use Rattle.swc_ecma_codegen_tokens.proofs.Reading.Printed.{writes_if, writes_nothing, writes_space, writes_formatting_space, writes_commit, writes_position, Fills, makes_wider}
+use Rattle.swc_ecma_codegen_tokens.proofs.Commenting.CommentPrints.{writes_leading}
+use Rattle.swc_ecma_codegen_tokens.proofs.Reading.Phrased.{Prints, then, after, before, prints_nothing, prints_keyword, prints_punct, PrintsAt, prints_wider, loosened}
+use Rattle.swc_ecma_codegen_tokens.proofs.Reading.Choices.{prints_empty_arguments}
+use Rattle.swc_ecma_codegen_tokens.proofs.Listing.ListLaws.{prints_bracketed, prints_bracketed_some, prints_forced_closing}
 use Rattle.swc_ecma_codegen_emit.specs.declared.nodes.Place.TheVariants.{Plain, Callee}
 use Rattle.swc_ecma_codegen_emit.specs.Answers.{place_of}
 use Rattle.swc_ecma_codegen_emit.specs.Calls as words
 use Rattle.swc_ecma_codegen_emit.specs.Lists.{child_of, if_some_at}
 use Rattle.swc_ecma_codegen_emit.proofs.AnnotationParts.{type_args_print}
 use Rattle.swc_ecma_codegen_emit.proofs.Linked.{Linked, expr_at}
-use Rattle.swc_ecma_codegen_tokens.proofs.Shapes.{open_, loose}
+use Rattle.swc_ecma_codegen_tokens.proofs.Filling.Shapes.{open_, loose}
 
 open_is_mark : IsMark (codes "(")
 unfolding is_punctuator is_among is_same punctuators chars is_utf8 lib.Utf8.encode

@@ -36,11 +36,11 @@ use Rattle.swc_ecma_codegen_grammar.specs.declared.roles.Role.TheVariants.{Class
 use Rattle.swc_ecma_codegen_tokens.specs.Run.{Env, Part}
 use Rattle.swc_ecma_codegen_tokens.specs.Words.{keyword, punct, space, last_of}
 use Rattle.swc_ecma_codegen_tokens.specs.Written.{IsWord}
-use Rattle.swc_ecma_codegen_tokens.proofs.ListLaws.{IsUndelimited, prints_list, prints_in_order, prints_bracketed_in_order}
-use Rattle.swc_ecma_codegen_tokens.proofs.Phrased.{Prints, PrintsAt, prints_wider, loosened, joined_then, then, after, before, prints_nothing, prints_where, prints_keyword, prints_punct, prints_semi}
-use Rattle.swc_ecma_codegen_tokens.proofs.Printed.{makes_wider, writes_nothing, writes_space, writes_formatting_space, writes_position, writes_position_before}
-use Rattle.swc_ecma_codegen_tokens.proofs.CommentPrints.{writes_leading}
-use Rattle.swc_ecma_codegen_tokens.proofs.Shapes.{open_, ended_if_any, closed, loose, joining_if_any, ended}
+use Rattle.swc_ecma_codegen_tokens.proofs.Listing.ListLaws.{IsUndelimited, prints_list, prints_in_order, prints_bracketed_in_order}
+use Rattle.swc_ecma_codegen_tokens.proofs.Reading.Phrased.{Prints, PrintsAt, prints_wider, loosened, joined_then, then, after, before, prints_nothing, prints_where, prints_keyword, prints_punct, prints_semi}
+use Rattle.swc_ecma_codegen_tokens.proofs.Reading.Printed.{makes_wider, writes_nothing, writes_space, writes_formatting_space, writes_position, writes_position_before}
+use Rattle.swc_ecma_codegen_tokens.proofs.Commenting.CommentPrints.{writes_leading}
+use Rattle.swc_ecma_codegen_tokens.proofs.Filling.Shapes.{open_, ended_if_any, closed, loose, joining_if_any, ended}
 use Rattle.swc_ecma_codegen_emit.specs.declared.nodes.Place.{Place}
 use Rattle.swc_ecma_codegen_emit.specs.declared.nodes.Place.TheVariants.{Plain, MethodHead, DeclarationTail, StaticHead, MethodTail}
 use Rattle.swc_ecma_codegen_emit.specs.Classes as words

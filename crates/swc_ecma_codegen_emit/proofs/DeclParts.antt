@@ -17,10 +17,10 @@ use Rattle.swc_ecma_codegen_grammar.specs.NamePhrases.{ident as ident_list}
 use Rattle.swc_ecma_codegen_grammar.specs.ModulePhrases as module_lists
 use Rattle.swc_ecma_codegen_grammar.specs.DeclPhrases as lists
 use Rattle.swc_ecma_codegen_tokens.specs.Run.{Env, Part}
-use Rattle.swc_ecma_codegen_tokens.proofs.ListLaws.{prints_list_on_line}
-use Rattle.swc_ecma_codegen_tokens.proofs.Phrased.{Prints, then, after, before, prints_nothing, prints_never, prints_keyword, prints_semi, PrintsAt, prints_wider, joined_then}
-use Rattle.swc_ecma_codegen_tokens.proofs.Printed.{writes_nothing, writes_space, writes_commit, writes_position, Fills}
-use Rattle.swc_ecma_codegen_tokens.proofs.CommentPrints.{writes_leading}
+use Rattle.swc_ecma_codegen_tokens.proofs.Listing.ListLaws.{prints_list_on_line}
+use Rattle.swc_ecma_codegen_tokens.proofs.Reading.Phrased.{Prints, then, after, before, prints_nothing, prints_never, prints_keyword, prints_semi, PrintsAt, prints_wider, joined_then}
+use Rattle.swc_ecma_codegen_tokens.proofs.Reading.Printed.{writes_nothing, writes_space, writes_commit, writes_position, Fills}
+use Rattle.swc_ecma_codegen_tokens.proofs.Commenting.CommentPrints.{writes_leading}
 use Rattle.swc_ecma_codegen_emit.specs.declared.nodes.Place.{Place}
 use Rattle.swc_ecma_codegen_emit.specs.declared.nodes.Place.TheVariants.{Plain, DeclarationHead, DeclarationTail, ExportedHead, ExportedTail, Statement}
 use Rattle.swc_ecma_codegen_emit.specs.Places.{declared}
@@ -33,7 +33,7 @@ use Rattle.swc_ecma_codegen_grammar.specs.TsDeclPhrases.{declare_word}
 use Rattle.swc_ecma_codegen_emit.proofs.Linked.{Linked}
 use Rattle.swc_ecma_codegen_emit.proofs.MarkWords as marks
 use Rattle.swc_ecma_codegen_emit.proofs.PatParts.{declared_prints, initializer_prints}
-use Rattle.swc_ecma_codegen_tokens.proofs.Shapes.{ended, ended_if_any}
+use Rattle.swc_ecma_codegen_tokens.proofs.Filling.Shapes.{ended, ended_if_any}
 
 fn_decl_prints : {X : Type 0} (l : Linked X) (n : FnDecl X) → PrintsAt ended l.env (words.fn_decl l.asks l.items n) (lists.fn_decl l.reads n)
 unfolding words.fn_decl lists.fn_decl

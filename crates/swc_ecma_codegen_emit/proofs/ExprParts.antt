@@ -58,14 +58,14 @@ use Rattle.swc_ecma_codegen_grammar.specs.LitPhrases as lit_lists
 use Rattle.swc_ecma_codegen_grammar.specs.declared.roles.Role.TheVariants.{ChainMember, AssignmentTarget, Callee as IsCallee, ChainCall}
 use Rattle.swc_ecma_codegen_tokens.specs.Run.{Env, Part, spelling}
 use Rattle.swc_ecma_codegen_tokens.specs.Words.{operator, space, formatting_space, position, leading_comments, keyword, allow_break, allows_break}
-use Rattle.swc_ecma_codegen_tokens.proofs.PrivatePrints.{prints_private}
-use Rattle.swc_ecma_codegen_tokens.proofs.Printed.{writes_then, writes_if, writes_nothing, writes_space, writes_formatting_space, writes_commit, writes_position, writes_position_before, Fills}
-use Rattle.swc_ecma_codegen_tokens.proofs.CommentPrints.{writes_leading}
+use Rattle.swc_ecma_codegen_tokens.proofs.NameTokens.PrivatePrints.{prints_private}
+use Rattle.swc_ecma_codegen_tokens.proofs.Reading.Printed.{writes_then, writes_if, writes_nothing, writes_space, writes_formatting_space, writes_commit, writes_position, writes_position_before, Fills}
+use Rattle.swc_ecma_codegen_tokens.proofs.Commenting.CommentPrints.{writes_leading}
 use Rattle.swc_ecma_codegen_tokens.specs.Written.{IsWord, IsMark}
-use Rattle.swc_ecma_codegen_tokens.proofs.Choices.{prints_bare, prints_optional_parentheses}
-use Rattle.swc_ecma_codegen_tokens.proofs.EachLit.{prints_lit}
-use Rattle.swc_ecma_codegen_tokens.proofs.NumberPrints.{prints_number, prints_number_object}
-use Rattle.swc_ecma_codegen_tokens.proofs.Phrased.{Prints, prints_by_maps, then, after, before, prints_nothing, prints_never, prints_keyword, prints_operator, prints_punct, prints_ident, prints_name, PrintsAt, prints_wider, prints_joined_operator, joined_then, prints_unbroken}
+use Rattle.swc_ecma_codegen_tokens.proofs.Reading.Choices.{prints_bare, prints_optional_parentheses}
+use Rattle.swc_ecma_codegen_tokens.proofs.LiteralTokens.EachLit.{prints_lit}
+use Rattle.swc_ecma_codegen_tokens.proofs.LiteralTokens.NumberPrints.{prints_number, prints_number_object}
+use Rattle.swc_ecma_codegen_tokens.proofs.Reading.Phrased.{Prints, prints_by_maps, then, after, before, prints_nothing, prints_never, prints_keyword, prints_operator, prints_punct, prints_ident, prints_name, PrintsAt, prints_wider, prints_joined_operator, joined_then, prints_unbroken}
 use Rattle.swc_ecma_codegen_emit.specs.declared.nodes.Place.{Place}
 use Rattle.swc_ecma_codegen_emit.specs.declared.nodes.Place.TheVariants.{Plain, LeftOperand, Object, DottedObject, Callee, Chain}
 use Rattle.swc_ecma_codegen_emit.specs.Answers.{Answers, place_of}
@@ -76,9 +76,9 @@ use Rattle.swc_ecma_codegen_emit.specs.Lits.{lit_at}
 use Rattle.swc_ecma_codegen_emit.proofs.CallParts.{super_is_word}
 use Rattle.swc_ecma_codegen_emit.proofs.Linked.{Linked, expr_at}
 use Rattle.swc_ecma_codegen_emit.proofs.ListParts.{some_listed_prints}
-use Rattle.swc_ecma_codegen_tokens.proofs.Shapes.{open_, joined, ended}
+use Rattle.swc_ecma_codegen_tokens.proofs.Filling.Shapes.{open_, joined, ended}
 use Rattle.swc_ecma_codegen_grammar.specs.Phrases as phrases
-use Rattle.swc_ecma_codegen_tokens.proofs.BreakPrints.{prints_operator_break, prints_word_break}
+use Rattle.swc_ecma_codegen_tokens.proofs.Filling.BreakPrints.{prints_operator_break, prints_word_break}
 
 -- ---- blanks and comments
 

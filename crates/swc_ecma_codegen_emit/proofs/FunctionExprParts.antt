@@ -25,12 +25,12 @@ use Rattle.swc_ecma_codegen_tokens.specs.Run.{Env, Part, at_maps, spelling, no_p
 use Rattle.swc_ecma_codegen_tokens.specs.Lists.{list, deeper}
 use Rattle.swc_ecma_codegen_tokens.specs.Words.{punct, space, formatting_space}
 use Rattle.swc_ecma_codegen_tokens.specs.Written.{IsMark}
-use Rattle.swc_ecma_codegen_tokens.proofs.Choices.{prints_bare, prints_parentheses}
-use Rattle.swc_ecma_codegen_tokens.proofs.Emitting.{minified_same, pretty_same}
-use Rattle.swc_ecma_codegen_tokens.proofs.ListLaws.{children_of, prints_list, prints_one_child}
-use Rattle.swc_ecma_codegen_tokens.proofs.Phrased.{Prints, prints_by_maps, then, after, before, prints_nothing, prints_same, prints_punct, prints_ident, mark_spelled, PrintsAt, prints_wider, loosened, joined_then, joined_mark, prints_joined_punct, prints_regrouped}
-use Rattle.swc_ecma_codegen_tokens.proofs.Printed.{with_room, within_then, deeper_within, writes_same, writes_if, writes_nothing, writes_space, writes_formatting_space, writes_commit, writes_position, writes_shallower, Fills, joined_punct_within, punct_shape}
-use Rattle.swc_ecma_codegen_tokens.proofs.CommentPrints.{writes_leading}
+use Rattle.swc_ecma_codegen_tokens.proofs.Reading.Choices.{prints_bare, prints_parentheses}
+use Rattle.swc_ecma_codegen_tokens.proofs.Emission.Emitting.{minified_same, pretty_same}
+use Rattle.swc_ecma_codegen_tokens.proofs.Listing.ListLaws.{children_of, prints_list, prints_one_child}
+use Rattle.swc_ecma_codegen_tokens.proofs.Reading.Phrased.{Prints, prints_by_maps, then, after, before, prints_nothing, prints_same, prints_punct, prints_ident, mark_spelled, PrintsAt, prints_wider, loosened, joined_then, joined_mark, prints_joined_punct, prints_regrouped}
+use Rattle.swc_ecma_codegen_tokens.proofs.Reading.Printed.{with_room, within_then, deeper_within, writes_same, writes_if, writes_nothing, writes_space, writes_formatting_space, writes_commit, writes_position, writes_shallower, Fills, joined_punct_within, punct_shape}
+use Rattle.swc_ecma_codegen_tokens.proofs.Commenting.CommentPrints.{writes_leading}
 use Rattle.swc_ecma_codegen_emit.specs.declared.nodes.Place.TheVariants.{Plain, Body, DeclarationTail}
 use Rattle.swc_ecma_codegen_emit.specs.ClassExprs as class_words
 use Rattle.swc_ecma_codegen_emit.specs.FunctionExprs as words
@@ -41,7 +41,7 @@ use Rattle.swc_ecma_codegen_emit.proofs.Impossible.{prints_impossible, never_imp
 use Rattle.swc_ecma_codegen_emit.proofs.AnnotationParts.{type_params_print}
 use Rattle.swc_ecma_codegen_emit.proofs.Linked.{Linked, expr_at, pat_at, block_at}
 use Rattle.swc_ecma_codegen_emit.proofs.MarkWords as marks
-use Rattle.swc_ecma_codegen_tokens.proofs.Shapes.{open_, loose, ended, joined}
+use Rattle.swc_ecma_codegen_tokens.proofs.Filling.Shapes.{open_, loose, ended, joined}
 use Rattle.swc_ecma_codegen_text_writer.specs.Sheet.{is_ending}
 
 pub star_prints : (env : Env) (wanted : Bool) → PrintsAt open_ env (words.star wanted) (lists.word_if wanted (mark (codes "*")))

@@ -11,10 +11,10 @@ use Rattle.swc_ecma_codegen_grammar.specs.FunctionPhrases.{is_some_listed}
 use Rattle.swc_ecma_codegen_grammar.specs.declared.roles.Role.TheVariants.{Function}
 use Rattle.swc_ecma_codegen_tokens.specs.Run.{Env, Part}
 use Rattle.swc_ecma_codegen_tokens.specs.Words.{punct, semi, space, formatting_space, line_end, position}
-use Rattle.swc_ecma_codegen_tokens.proofs.ListLaws.{IsUndelimited, prints_list, prints_in_order}
-use Rattle.swc_ecma_codegen_tokens.proofs.Phrased.{prints_bare_semi, Prints, then, after, before, prints_nothing, prints_never, prints_keyword, prints_punct, prints_semi, PrintsAt, prints_wider, joined_then}
-use Rattle.swc_ecma_codegen_tokens.proofs.Printed.{writes_then, writes_if, writes_space, writes_formatting_space, writes_line, writes_position, Fills}
-use Rattle.swc_ecma_codegen_tokens.proofs.CommentPrints.{writes_leading}
+use Rattle.swc_ecma_codegen_tokens.proofs.Listing.ListLaws.{IsUndelimited, prints_list, prints_in_order}
+use Rattle.swc_ecma_codegen_tokens.proofs.Reading.Phrased.{prints_bare_semi, Prints, then, after, before, prints_nothing, prints_never, prints_keyword, prints_punct, prints_semi, PrintsAt, prints_wider, joined_then}
+use Rattle.swc_ecma_codegen_tokens.proofs.Reading.Printed.{writes_then, writes_if, writes_space, writes_formatting_space, writes_line, writes_position, Fills}
+use Rattle.swc_ecma_codegen_tokens.proofs.Commenting.CommentPrints.{writes_leading}
 use Rattle.swc_ecma_codegen_emit.specs.declared.nodes.Place.{Place}
 use Rattle.swc_ecma_codegen_emit.specs.declared.nodes.Place.TheVariants.{Plain, Body, DeclarationHead, DeclarationTail, StaticHead, MethodTail}
 use Rattle.swc_ecma_codegen_emit.specs.Places.{before_name, before_method, behind_key, behind_name}
@@ -28,7 +28,7 @@ use Rattle.swc_ecma_codegen_emit.proofs.Linked.{Linked, PrintsIn, expr_at, block
 use Rattle.swc_ecma_codegen_emit.proofs.ListParts.{in_order_prints}
 use Rattle.swc_ecma_codegen_emit.proofs.MarkWords as marks
 use Rattle.swc_ecma_codegen_emit.proofs.PatParts.{pat_prints}
-use Rattle.swc_ecma_codegen_tokens.proofs.Shapes.{Shape, open_, loose, ended, ended_if_any, closed, joining_if_any}
+use Rattle.swc_ecma_codegen_tokens.proofs.Filling.Shapes.{Shape, open_, loose, ended, ended_if_any, closed, joining_if_any}
 
 -- ---- parameters
 

@@ -7,12 +7,12 @@ use Rattle.swc_ecma_codegen_grammar.specs.Phrases.{Phrase, Never, Nothing, ◌>�
 use Rattle.swc_ecma_codegen_grammar.specs.FunctionPhrases.{is_never}
 use Rattle.swc_ecma_codegen_tokens.specs.Escapes.{is_spelled_anew, may_make_text}
 use Rattle.swc_ecma_codegen_tokens.specs.Named.{EachName}
-use Rattle.swc_ecma_codegen_tokens.proofs.CutStanding.{AllHere}
+use Rattle.swc_ecma_codegen_tokens.proofs.Filling.CutStanding.{AllHere}
 use Rattle.swc_ecma_codegen_tokens.specs.Run.{Env, Part}
 use Rattle.swc_ecma_codegen_tokens.specs.Targets.{is_out}
-use Rattle.swc_ecma_codegen_tokens.proofs.Choices.{IsAmong, prints_among}
-use Rattle.swc_ecma_codegen_tokens.proofs.Phrased.{PrintsAt}
-use Rattle.swc_ecma_codegen_tokens.proofs.Shapes.{Shape}
+use Rattle.swc_ecma_codegen_tokens.proofs.Reading.Choices.{IsAmong, prints_among}
+use Rattle.swc_ecma_codegen_tokens.proofs.Reading.Phrased.{PrintsAt}
+use Rattle.swc_ecma_codegen_tokens.proofs.Filling.Shapes.{Shape}
 
 -- whatever is written, no tree is written so
 pub prints_impossible : {i : Shape} {env : Env} {p : Part} {f : Phrase} → is_possible f ≡ false → PrintsAt i env p f

@@ -18,14 +18,14 @@ use Rattle.swc_ecma_codegen_tokens.specs.Scripts.{value_strings, AddsSafe}
 use Rattle.swc_ecma_codegen_tokens.specs.Targets.{is_out}
 use Rattle.swc_ecma_codegen_tokens.specs.Words.{begin_lines, end_lines, in_lines}
 use Rattle.swc_ecma_codegen_tokens.specs.Written.{IsLineEnd, IsNew, IsAtMargin, AddsReading, taken_remarks, holds_one}
-use Rattle.swc_ecma_codegen_tokens.proofs.Emitting.{follows_same}
-use Rattle.swc_ecma_codegen_tokens.proofs.Filled.{filled, steps_filled, printed_filled, FillsPart}
-use Rattle.swc_ecma_codegen_tokens.proofs.FilledRecords.{filled_names}
-use Rattle.swc_ecma_codegen_tokens.proofs.FilledTexts.{lined_steps, lined_not_out, lined_ascii, lined_safe, lined_tells, lined_remarks, lined_others}
-use Rattle.swc_ecma_codegen_tokens.proofs.Fronts.{are_inner_steps, follows_cause}
-use Rattle.swc_ecma_codegen_tokens.proofs.PartSteps.{steps_alone}
-use Rattle.swc_ecma_codegen_tokens.proofs.Phrased.{goes_on, PrintsAt}
-use Rattle.swc_ecma_codegen_tokens.proofs.Shapes.{Shape, unbroken_at}
+use Rattle.swc_ecma_codegen_tokens.proofs.Emission.Emitting.{follows_same}
+use Rattle.swc_ecma_codegen_tokens.proofs.Filling.Filled.{filled, steps_filled, printed_filled, FillsPart}
+use Rattle.swc_ecma_codegen_tokens.proofs.Filling.FilledRecords.{filled_names}
+use Rattle.swc_ecma_codegen_tokens.proofs.Filling.FilledTexts.{lined_steps, lined_not_out, lined_ascii, lined_safe, lined_tells, lined_remarks, lined_others}
+use Rattle.swc_ecma_codegen_tokens.proofs.Emission.Fronts.{are_inner_steps, follows_cause}
+use Rattle.swc_ecma_codegen_tokens.proofs.Emission.PartSteps.{steps_alone}
+use Rattle.swc_ecma_codegen_tokens.proofs.Reading.Phrased.{goes_on, PrintsAt}
+use Rattle.swc_ecma_codegen_tokens.proofs.Filling.Shapes.{Shape, unbroken_at}
 
 -- what holds at the end of an emission
 pub on_end : {A B : Type 0} (r : Result (Unit {0}) Refusal) → (A → B) → OnOk r A → OnOk r B

@@ -21,11 +21,11 @@ use Rattle.swc_ecma_codegen_grammar.specs.TreePhrases.{is_well_formed, phrase}
 use Rattle.swc_ecma_codegen_tokens.specs.Run.{Env, Plan, Part, State, Step, Take, Follows, nothing, step, at_maps, after_step, maps_after, steps_of, unbounded, with_max_line}
 use Rattle.swc_ecma_codegen_tokens.specs.Targets.{is_out}
 use Rattle.swc_ecma_codegen_tokens.specs.Words.{begin_lines, bounded, end_lines, in_lines, leading_comments, trailing_comments, take_comments, comments}
-use Rattle.swc_ecma_codegen_tokens.proofs.Lengths.{at_length}
-use Rattle.swc_ecma_codegen_tokens.proofs.Printed.{MakesFrom, env_after, maps_append}
-use Rattle.swc_ecma_codegen_tokens.proofs.Phrased.{prints_nothing, prints_wider, steps_of_more}
-use Rattle.swc_ecma_codegen_tokens.proofs.Shapes.{Shape, loose}
-use Rattle.swc_ecma_codegen_tokens.proofs.Short.{on_ok_in_short}
+use Rattle.swc_ecma_codegen_tokens.proofs.Filling.Lengths.{at_length}
+use Rattle.swc_ecma_codegen_tokens.proofs.Reading.Printed.{MakesFrom, env_after, maps_append}
+use Rattle.swc_ecma_codegen_tokens.proofs.Reading.Phrased.{prints_nothing, prints_wider, steps_of_more}
+use Rattle.swc_ecma_codegen_tokens.proofs.Filling.Shapes.{Shape, loose}
+use Rattle.swc_ecma_codegen_tokens.proofs.Emission.Short.{on_ok_in_short}
 use Rattle.swc_ecma_codegen_emit.specs.Answers.{any_answers, place_of}
 use Rattle.swc_ecma_codegen_emit.specs.Emission.{Outcome, LeavesNone}
 use Rattle.swc_ecma_codegen_emit.specs.Left.{NoneBefore, NoneBeforeItems}

@@ -43,14 +43,14 @@ use Rattle.swc_ecma_codegen_text_writer.specs.Sheet.{is_ending}
 use Rattle.swc_ecma_codegen_tokens.specs.Run.{Env, Part}
 use Rattle.swc_ecma_codegen_tokens.specs.Tags.{closing, close}
 use Rattle.swc_ecma_codegen_tokens.specs.Words.{bare_punct, punct}
-use Rattle.swc_ecma_codegen_tokens.proofs.Lengths.{prints_at_length}
+use Rattle.swc_ecma_codegen_tokens.proofs.Filling.Lengths.{prints_at_length}
 use Rattle.swc_ecma_codegen_tokens.specs.Written.{IsMark, Spot, Anything, Between, InText, InName}
-use Rattle.swc_ecma_codegen_tokens.proofs.Phrased.{PrintsOn, PrintsAt, Prints, then_on, after_on, prints_nothing, prints_never, prints_bare_punct, prints_punct, prints_wider}
-use Rattle.swc_ecma_codegen_tokens.proofs.Printed.{MakesWithinOn}
-use Rattle.swc_ecma_codegen_tokens.proofs.Shapes.{open_, whole}
-use Rattle.swc_ecma_codegen_tokens.proofs.Spots.{is_narrower}
-use Rattle.swc_ecma_codegen_tokens.proofs.TagPrints.{less_is_mark, slash_is_mark, prints_spots, prints_never_on, prints_where_on, prints_tag_name, prints_named_bare, prints_named_mark, writes_named_gap, prints_tag_end, prints_less_open, prints_opens, prints_brace_end, prints_none, wider_on}
-use Rattle.swc_ecma_codegen_tokens.proofs.TagStrings.{prints_attribute_string, prints_text_node}
+use Rattle.swc_ecma_codegen_tokens.proofs.Reading.Phrased.{PrintsOn, PrintsAt, Prints, then_on, after_on, prints_nothing, prints_never, prints_bare_punct, prints_punct, prints_wider}
+use Rattle.swc_ecma_codegen_tokens.proofs.Reading.Printed.{MakesWithinOn}
+use Rattle.swc_ecma_codegen_tokens.proofs.Filling.Shapes.{open_, whole}
+use Rattle.swc_ecma_codegen_tokens.proofs.Gaps.Spots.{is_narrower}
+use Rattle.swc_ecma_codegen_tokens.proofs.Jsx.TagPrints.{less_is_mark, slash_is_mark, prints_spots, prints_never_on, prints_where_on, prints_tag_name, prints_named_bare, prints_named_mark, writes_named_gap, prints_tag_end, prints_less_open, prints_opens, prints_brace_end, prints_none, wider_on}
+use Rattle.swc_ecma_codegen_tokens.proofs.Jsx.TagStrings.{prints_attribute_string, prints_text_node}
 use Rattle.swc_ecma_codegen_emit.specs.declared.nodes.Place.{Place}
 use Rattle.swc_ecma_codegen_emit.specs.declared.nodes.Place.TheVariants.{Plain, Child}
 use Rattle.swc_ecma_codegen_emit.specs.Exprs.{blank}

@@ -16,12 +16,12 @@ use Rattle.swc_ecma_codegen_tokens.specs.Named.{NamesStand, RecordsNames}
 use Rattle.swc_ecma_codegen_tokens.specs.Targets.{written_as}
 use Rattle.swc_ecma_codegen_tokens.specs.Words.{commit_pending_semi}
 use Rattle.swc_ecma_codegen_tokens.specs.Written.{AddsReading, ReadsAs, taken_remarks, all_indent, is_indent, holds_one}
-use Rattle.swc_ecma_codegen_tokens.proofs.Fronts.{run_append, run_whole}
-use Rattle.swc_ecma_codegen_tokens.proofs.PartSteps.{steps_of_chain, steps_of_more}
-use Rattle.swc_ecma_codegen_tokens.proofs.Phrased.{PrintsAt, before, prints_wider, steps_read, made_not_out, follows_records}
-use Rattle.swc_ecma_codegen_tokens.proofs.Positions.{recorded_more}
-use Rattle.swc_ecma_codegen_tokens.proofs.Printed.{env_after, writes_commit, remarks_both}
-use Rattle.swc_ecma_codegen_tokens.proofs.Shapes.{unbroken_at, open_, join, is_within}
+use Rattle.swc_ecma_codegen_tokens.proofs.Emission.Fronts.{run_append, run_whole}
+use Rattle.swc_ecma_codegen_tokens.proofs.Emission.PartSteps.{steps_of_chain, steps_of_more}
+use Rattle.swc_ecma_codegen_tokens.proofs.Reading.Phrased.{PrintsAt, before, prints_wider, steps_read, made_not_out, follows_records}
+use Rattle.swc_ecma_codegen_tokens.proofs.Emission.Positions.{recorded_more}
+use Rattle.swc_ecma_codegen_tokens.proofs.Reading.Printed.{env_after, writes_commit, remarks_both}
+use Rattle.swc_ecma_codegen_tokens.proofs.Filling.Shapes.{unbroken_at, open_, join, is_within}
 use Rattle.swc_ecma_codegen_emit.specs.Roots.{Root, is_program, root_items, root_phrase, is_well_formed_root, root_hashbang, MayBegin}
 use Rattle.swc_ecma_codegen_emit.specs.Texts.{sheet_by, sheet_with, start_with, with_last}
 use Rattle.swc_ecma_codegen_emit.specs.Lined.{CanFill}

@@ -2,8 +2,8 @@
 use Rattle.std.proofs.Common.{◌≡◌, ℕ, Option, Some, None, refl, sym, ap, ◌∙◌, subst}
 use Rattle.swc_ecma_codegen_common.specs.declared.errors.Refusal.{Refusal}
 use Rattle.swc_ecma_codegen_tokens.specs.Run.{Plan, Part, nothing, with_max_line}
-use Rattle.swc_ecma_codegen_tokens.proofs.Lengths.{at_length}
-use Rattle.swc_ecma_codegen_tokens.proofs.MaxLines.{lengthened, follows_keeps, follows_length}
+use Rattle.swc_ecma_codegen_tokens.proofs.Filling.Lengths.{at_length}
+use Rattle.swc_ecma_codegen_tokens.proofs.Filling.MaxLines.{lengthened, follows_keeps, follows_length}
 use Rattle.swc_ecma_codegen_emit.specs.Standing.{Standing, outcome, Leads, LeadsAfter, Makes}
 use Rattle.swc_ecma_codegen_emit.proofs.Standings.{leads_ended, makes_same}
 use Rattle.swc_ecma_codegen_emit.specs.declared.nodes.Place.{Place}

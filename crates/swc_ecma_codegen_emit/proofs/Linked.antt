@@ -6,14 +6,14 @@ use Rattle.swc_ecma_codegen_grammar.specs.declared.roles.Role.TheVariants.{Expre
 use Rattle.swc_ecma_codegen_tree.specs.Links.{BlockStmtBox, ExprBox, PatBox, PropNameBox, StmtBox, VarDeclBox}
 use Rattle.swc_ecma_codegen_tokens.specs.Run.{Env, Part}
 use Rattle.swc_ecma_codegen_tokens.specs.Written.{Spot, Anything, Between, InText, InName}
-use Rattle.swc_ecma_codegen_tokens.proofs.Lengths.{at_length}
-use Rattle.swc_ecma_codegen_tokens.proofs.Phrased.{Prints, PrintsAt, PrintsOn}
+use Rattle.swc_ecma_codegen_tokens.proofs.Filling.Lengths.{at_length}
+use Rattle.swc_ecma_codegen_tokens.proofs.Reading.Phrased.{Prints, PrintsAt, PrintsOn}
 use Rattle.swc_ecma_codegen_emit.specs.declared.nodes.Place.{Place}
 use Rattle.swc_ecma_codegen_emit.specs.declared.nodes.Place.TheVariants.{Plain, DeclarationTail}
 use Rattle.swc_ecma_codegen_emit.specs.Answers.{Answers}
 use Rattle.swc_ecma_codegen_emit.specs.FunctionExprs.{is_plain}
 use Rattle.swc_ecma_codegen_emit.specs.Places.{placed}
-use Rattle.swc_ecma_codegen_tokens.proofs.Shapes.{Shape, whole, loose, ended, ended_if_any, joining_if_any}
+use Rattle.swc_ecma_codegen_tokens.proofs.Filling.Shapes.{Shape, whole, loose, ended, ended_if_any, joining_if_any}
 
 -- a function that is declared may end behind its semicolon
 abbrev pub function_shape : Place → Shape

@@ -7,10 +7,10 @@ use Rattle.swc_ecma_codegen_grammar.specs.Phrases as phrases
 use Rattle.swc_ecma_codegen_grammar.specs.Phrases.{Phrase, mark}
 use Rattle.swc_ecma_codegen_tokens.specs.Run.{Env, Part}
 use Rattle.swc_ecma_codegen_tokens.specs.Written.{IsMark}
-use Rattle.swc_ecma_codegen_tokens.proofs.Printed.{writes_formatting_space}
-use Rattle.swc_ecma_codegen_tokens.proofs.Phrased.{Prints, then, before, prints_nothing, prints_never, prints_punct, PrintsAt, prints_wider}
+use Rattle.swc_ecma_codegen_tokens.proofs.Reading.Printed.{writes_formatting_space}
+use Rattle.swc_ecma_codegen_tokens.proofs.Reading.Phrased.{Prints, then, before, prints_nothing, prints_never, prints_punct, PrintsAt, prints_wider}
 use Rattle.swc_ecma_codegen_emit.specs.Lists.{comma, listed, in_order}
-use Rattle.swc_ecma_codegen_tokens.proofs.Shapes.{open_, ended, ended_if_any}
+use Rattle.swc_ecma_codegen_tokens.proofs.Filling.Shapes.{open_, ended, ended_if_any}
 
 comma_is_mark : IsMark (codes ",")
 unfolding is_punctuator is_among is_same punctuators chars is_utf8 lib.Utf8.encode

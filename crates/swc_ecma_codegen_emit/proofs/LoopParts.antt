@@ -23,10 +23,10 @@ use Rattle.swc_ecma_codegen_tokens.specs.Lists.{by_lines}
 use Rattle.swc_ecma_codegen_tokens.specs.Run.{Env, Part}
 use Rattle.swc_ecma_codegen_tokens.specs.Words.{punct, position_before}
 use Rattle.swc_ecma_codegen_tokens.specs.Written.{IsWord}
-use Rattle.swc_ecma_codegen_tokens.proofs.Choices.{prints_loop_ending}
-use Rattle.swc_ecma_codegen_tokens.proofs.ListLaws.{IsUndelimited, prints_bracketed_in_order}
-use Rattle.swc_ecma_codegen_tokens.proofs.Phrased.{Prints, then, after, before, prints_nothing, prints_same, prints_keyword, prints_punct, PrintsAt, prints_wider, joined_then}
-use Rattle.swc_ecma_codegen_tokens.proofs.Printed.{writes_nothing, writes_space, writes_formatting_space, writes_commit, writes_position, writes_position_before, makes_wider}
+use Rattle.swc_ecma_codegen_tokens.proofs.Reading.Choices.{prints_loop_ending}
+use Rattle.swc_ecma_codegen_tokens.proofs.Listing.ListLaws.{IsUndelimited, prints_bracketed_in_order}
+use Rattle.swc_ecma_codegen_tokens.proofs.Reading.Phrased.{Prints, then, after, before, prints_nothing, prints_same, prints_keyword, prints_punct, PrintsAt, prints_wider, joined_then}
+use Rattle.swc_ecma_codegen_tokens.proofs.Reading.Printed.{writes_nothing, writes_space, writes_formatting_space, writes_commit, writes_position, writes_position_before, makes_wider}
 use Rattle.swc_ecma_codegen_emit.specs.declared.nodes.Place.TheVariants.{Plain}
 use Rattle.swc_ecma_codegen_emit.specs.Exprs.{space_if}
 use Rattle.swc_ecma_codegen_emit.specs.Stmts as words
@@ -36,7 +36,7 @@ use Rattle.swc_ecma_codegen_emit.proofs.ExprParts.{writes_blank, writes_space_if
 use Rattle.swc_ecma_codegen_emit.proofs.Impossible.{prints_last}
 use Rattle.swc_ecma_codegen_emit.proofs.Linked.{Linked, expr_at, stmt_at, pat_at, var_decl_at}
 use Rattle.swc_ecma_codegen_emit.proofs.MarkWords as marks
-use Rattle.swc_ecma_codegen_tokens.proofs.Shapes.{Shape, open_, ended, loose, on_line, at_joint}
+use Rattle.swc_ecma_codegen_tokens.proofs.Filling.Shapes.{Shape, open_, ended, loose, on_line, at_joint}
 
 -- ---- parts of statements
 

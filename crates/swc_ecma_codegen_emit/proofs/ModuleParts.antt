@@ -42,13 +42,13 @@ use Rattle.swc_ecma_codegen_grammar.specs.declared.roles.Role.TheVariants.{Objec
 use Rattle.swc_ecma_codegen_tokens.specs.Lists.{list}
 use Rattle.swc_ecma_codegen_tokens.specs.Run.{Env, Plan, Part, at_maps}
 use Rattle.swc_ecma_codegen_tokens.specs.Words.{punct, formatting_space}
-use Rattle.swc_ecma_codegen_tokens.proofs.ListLaws.{children_of, writes_no_list, prints_some, prints_optional_closing}
-use Rattle.swc_ecma_codegen_tokens.proofs.Choices.{prints_attributes_word}
-use Rattle.swc_ecma_codegen_tokens.proofs.Shapes.{Shape, open_, closed, ended}
-use Rattle.swc_ecma_codegen_tokens.proofs.Phrased.{Prints, PrintsAt, prints_wider, loosened, then, after, before, prints_nothing, prints_never, prints_same, prints_keyword, prints_punct, prints_semi}
-use Rattle.swc_ecma_codegen_tokens.proofs.Printed.{writes_space, writes_formatting_space, writes_formatting_line, writes_position}
-use Rattle.swc_ecma_codegen_tokens.proofs.CommentPrints.{writes_leading, writes_trailing}
-use Rattle.swc_ecma_codegen_tokens.proofs.StringPrints.{prints_str}
+use Rattle.swc_ecma_codegen_tokens.proofs.Listing.ListLaws.{children_of, writes_no_list, prints_some, prints_optional_closing}
+use Rattle.swc_ecma_codegen_tokens.proofs.Reading.Choices.{prints_attributes_word}
+use Rattle.swc_ecma_codegen_tokens.proofs.Filling.Shapes.{Shape, open_, closed, ended}
+use Rattle.swc_ecma_codegen_tokens.proofs.Reading.Phrased.{Prints, PrintsAt, prints_wider, loosened, then, after, before, prints_nothing, prints_never, prints_same, prints_keyword, prints_punct, prints_semi}
+use Rattle.swc_ecma_codegen_tokens.proofs.Reading.Printed.{writes_space, writes_formatting_space, writes_formatting_line, writes_position}
+use Rattle.swc_ecma_codegen_tokens.proofs.Commenting.CommentPrints.{writes_leading, writes_trailing}
+use Rattle.swc_ecma_codegen_tokens.proofs.LiteralTokens.StringPrints.{prints_str}
 use Rattle.swc_ecma_codegen_emit.specs.declared.nodes.Place.TheVariants.{Plain}
 use Rattle.swc_ecma_codegen_emit.specs.Answers.{place_of}
 use Rattle.swc_ecma_codegen_emit.specs.Exprs.{ident as words_ident}

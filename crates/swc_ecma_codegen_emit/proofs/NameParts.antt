@@ -5,11 +5,11 @@ use Rattle.swc_ecma_codegen_tree.specs.declared.exprs.PropName.TheVariants as pr
 use Rattle.swc_ecma_codegen_tree.specs.declared.idents.BindingIdent.{BindingIdent}
 use Rattle.swc_ecma_codegen_grammar.specs.KeyPhrases as keys
 use Rattle.swc_ecma_codegen_grammar.specs.NamePhrases as names
-use Rattle.swc_ecma_codegen_tokens.proofs.BigPrints.{prints_big_int}
-use Rattle.swc_ecma_codegen_tokens.proofs.KeyPrints.{prints_key}
-use Rattle.swc_ecma_codegen_tokens.proofs.NumberPrints.{prints_number}
-use Rattle.swc_ecma_codegen_tokens.proofs.Phrased.{Prints, then}
-use Rattle.swc_ecma_codegen_tokens.proofs.StringPrints.{prints_str}
+use Rattle.swc_ecma_codegen_tokens.proofs.LiteralTokens.BigPrints.{prints_big_int}
+use Rattle.swc_ecma_codegen_tokens.proofs.NameTokens.KeyPrints.{prints_key}
+use Rattle.swc_ecma_codegen_tokens.proofs.LiteralTokens.NumberPrints.{prints_number}
+use Rattle.swc_ecma_codegen_tokens.proofs.Reading.Phrased.{Prints, then}
+use Rattle.swc_ecma_codegen_tokens.proofs.LiteralTokens.StringPrints.{prints_str}
 use Rattle.swc_ecma_codegen_emit.specs.Names as bound
 use Rattle.swc_ecma_codegen_emit.proofs.AnnotationParts.{annotation_prints}
 use Rattle.swc_ecma_codegen_emit.proofs.Linked.{Linked}

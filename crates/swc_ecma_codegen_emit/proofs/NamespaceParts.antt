@@ -15,11 +15,11 @@ use Rattle.swc_ecma_codegen_grammar.specs.declared.roles.Role.TheVariants.{Dotte
 use Rattle.swc_ecma_codegen_tokens.specs.Run.{Env, spelling}
 use Rattle.swc_ecma_codegen_tokens.specs.Lists.{deeper}
 use Rattle.swc_ecma_codegen_tokens.specs.Words.{punct}
-use Rattle.swc_ecma_codegen_tokens.proofs.ListLaws.{IsUndelimited, prints_in_order}
-use Rattle.swc_ecma_codegen_tokens.proofs.Phrased.{Prints, prints_wider, then, after, prints_never, prints_where, prints_mark, mark_spelled, prints_punct, PrintsAt}
-use Rattle.swc_ecma_codegen_tokens.proofs.Printed.{with_room, within_then, punct_within, deeper_within, writes_formatting_space, writes_shallower, MakesAt}
-use Rattle.swc_ecma_codegen_tokens.proofs.CommentPrints.{writes_leading}
-use Rattle.swc_ecma_codegen_tokens.proofs.Shapes.{loose, ended}
+use Rattle.swc_ecma_codegen_tokens.proofs.Listing.ListLaws.{IsUndelimited, prints_in_order}
+use Rattle.swc_ecma_codegen_tokens.proofs.Reading.Phrased.{Prints, prints_wider, then, after, prints_never, prints_where, prints_mark, mark_spelled, prints_punct, PrintsAt}
+use Rattle.swc_ecma_codegen_tokens.proofs.Reading.Printed.{with_room, within_then, punct_within, deeper_within, writes_formatting_space, writes_shallower, MakesAt}
+use Rattle.swc_ecma_codegen_tokens.proofs.Commenting.CommentPrints.{writes_leading}
+use Rattle.swc_ecma_codegen_tokens.proofs.Filling.Shapes.{loose, ended}
 use Rattle.swc_ecma_codegen_emit.specs.declared.nodes.Place.TheVariants.{Plain}
 use Rattle.swc_ecma_codegen_emit.specs.Answers.{place_of}
 use Rattle.swc_ecma_codegen_emit.specs.Modules as modules

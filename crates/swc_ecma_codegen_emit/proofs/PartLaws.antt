@@ -7,7 +7,7 @@ use Rattle.swc_ecma_codegen_tree.specs.declared.parts.StmtPart.TheVariants as st
 use Rattle.swc_ecma_codegen_grammar.specs.declared.roles.Role.{Role}
 use Rattle.swc_ecma_codegen_grammar.specs.declared.roles.Role.TheVariants.{AssignmentTarget, Pattern, PlainParameter, PropertyName, ObjectLiteral, Function, FunctionHead, MethodHead, Block, Declaration, VariableDeclaration, ChainCall, Template, TaggedTemplate, ClassHead, ClassWord, ClassTail, Member, MethodDecorators, MethodTail, AccessorTail, ModuleDeclaration, ExportedHead, ExportedTail, AnyType, Annotation, TypeArguments, TypeParameters, EntityName, SignatureParameter, InterfaceBody, NamespaceBody, DottedBody}
 use Rattle.swc_ecma_codegen_grammar.specs.PartPhrases as lists
-use Rattle.swc_ecma_codegen_tokens.proofs.TagPrints.{prints_never_on}
+use Rattle.swc_ecma_codegen_tokens.proofs.Jsx.TagPrints.{prints_never_on}
 use Rattle.swc_ecma_codegen_emit.specs.declared.nodes.Place.{Place}
 use Rattle.swc_ecma_codegen_emit.specs.Namespaces.{ts_namespace_body}
 use Rattle.swc_ecma_codegen_emit.specs.Parts as words

@@ -24,10 +24,10 @@ use Rattle.swc_ecma_codegen_grammar.specs.PatPhrases as lists
 use Rattle.swc_ecma_codegen_tokens.specs.Run.{Env, Part}
 use Rattle.swc_ecma_codegen_tokens.specs.Lists.{list, list_closing}
 use Rattle.swc_ecma_codegen_tokens.specs.Words.{punct, position, question}
-use Rattle.swc_ecma_codegen_tokens.proofs.ListLaws.{children_of, writes_no_list, prints_some, prints_forced_closing, prints_optional_closing}
-use Rattle.swc_ecma_codegen_tokens.proofs.Phrased.{Prints, then, after, before, prints_nothing, prints_never, prints_punct, prints_placed_punct, prints_regrouped, PrintsAt, prints_wider, loosened}
-use Rattle.swc_ecma_codegen_tokens.proofs.Printed.{writes_formatting_space, writes_position}
-use Rattle.swc_ecma_codegen_tokens.proofs.CommentPrints.{writes_leading, writes_trailing}
+use Rattle.swc_ecma_codegen_tokens.proofs.Listing.ListLaws.{children_of, writes_no_list, prints_some, prints_forced_closing, prints_optional_closing}
+use Rattle.swc_ecma_codegen_tokens.proofs.Reading.Phrased.{Prints, then, after, before, prints_nothing, prints_never, prints_punct, prints_placed_punct, prints_regrouped, PrintsAt, prints_wider, loosened}
+use Rattle.swc_ecma_codegen_tokens.proofs.Reading.Printed.{writes_formatting_space, writes_position}
+use Rattle.swc_ecma_codegen_tokens.proofs.Commenting.CommentPrints.{writes_leading, writes_trailing}
 use Rattle.swc_ecma_codegen_emit.specs.declared.nodes.Place.TheVariants.{Plain}
 use Rattle.swc_ecma_codegen_emit.specs.Annotations.{spaced_annotation}
 use Rattle.swc_ecma_codegen_emit.specs.Answers.{place_of}
@@ -40,7 +40,7 @@ use Rattle.swc_ecma_codegen_emit.proofs.Linked.{Linked, expr_at, pat_at}
 use Rattle.swc_ecma_codegen_emit.proofs.MarkWords as marks
 use Rattle.swc_ecma_codegen_emit.proofs.NameParts.{binding_ident_prints, prop_name_prints}
 use Rattle.swc_ecma_codegen_emit.proofs.TsExprWords as expr_words
-use Rattle.swc_ecma_codegen_tokens.proofs.Shapes.{open_, loose, closed}
+use Rattle.swc_ecma_codegen_tokens.proofs.Filling.Shapes.{open_, loose, closed}
 
 pub initializer_prints : {X : Type 0} (l : Linked X) (n : Option (ExprBox X)) → PrintsAt open_ l.env (words.initializer l.items n) (lists.initializer l.reads n)
 unfolding words.initializer lists.initializer

@@ -12,9 +12,9 @@ use Rattle.swc_ecma_codegen_grammar.specs.StmtPhrases as lists
 use Rattle.swc_ecma_codegen_tokens.specs.Literals.{hashbang}
 use Rattle.swc_ecma_codegen_tokens.specs.Run.{Env, Part, at_maps}
 use Rattle.swc_ecma_codegen_tokens.specs.Words.{commit_pending_semi, trailing_comments}
-use Rattle.swc_ecma_codegen_tokens.proofs.Phrased.{then, after, before, prints_nothing, PrintsAt, prints_wider}
-use Rattle.swc_ecma_codegen_tokens.proofs.Printed.{writes_then, writes_same, writes_nothing, writes_commit, writes_position, Fills, MakesAt}
-use Rattle.swc_ecma_codegen_tokens.proofs.CommentPrints.{writes_leading, writes_trailing}
+use Rattle.swc_ecma_codegen_tokens.proofs.Reading.Phrased.{then, after, before, prints_nothing, PrintsAt, prints_wider}
+use Rattle.swc_ecma_codegen_tokens.proofs.Reading.Printed.{writes_then, writes_same, writes_nothing, writes_commit, writes_position, Fills, MakesAt}
+use Rattle.swc_ecma_codegen_tokens.proofs.Commenting.CommentPrints.{writes_leading, writes_trailing}
 use Rattle.swc_ecma_codegen_emit.specs.Modules.{module_item}
 use Rattle.swc_ecma_codegen_emit.specs.Stmts as words
 use Rattle.swc_ecma_codegen_emit.proofs.ModuleParts.{module_item_prints}
@@ -23,8 +23,8 @@ use Rattle.swc_ecma_codegen_emit.specs.Programs as programs
 use Rattle.swc_ecma_codegen_emit.proofs.Asked.{kept_same, committed_same}
 use Rattle.swc_ecma_codegen_emit.proofs.Linked.{Linked}
 use Rattle.swc_ecma_codegen_emit.proofs.ListParts.{in_order_prints}
-use Rattle.swc_ecma_codegen_tokens.proofs.Shapes.{Shape, loose, loose_at}
-use Rattle.swc_ecma_codegen_tokens.proofs.HashbangPrints.{prints_hashbang, placed_makes}
+use Rattle.swc_ecma_codegen_tokens.proofs.Filling.Shapes.{Shape, loose, loose_at}
+use Rattle.swc_ecma_codegen_tokens.proofs.Commenting.HashbangPrints.{prints_hashbang, placed_makes}
 
 writes_last_semi : (env : Env) → Fills env programs.last_semi
 writes_last_semi env = elim (cases_Bool env.config.omit_last_semi) [

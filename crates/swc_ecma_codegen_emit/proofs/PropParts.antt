@@ -25,10 +25,10 @@ use Rattle.swc_ecma_codegen_emit.specs.Commented.{has_comment_inside}
 use Rattle.swc_ecma_codegen_tokens.specs.Run.{Env, Part, at_maps, when_minified}
 use Rattle.swc_ecma_codegen_tokens.specs.Lists.{list, ListChild}
 use Rattle.swc_ecma_codegen_tokens.specs.Words.{by_maps, punct, line_end, position, position_before}
-use Rattle.swc_ecma_codegen_tokens.proofs.Emitting.{minified_same, pretty_same}
-use Rattle.swc_ecma_codegen_tokens.proofs.ListLaws.{children_of, prints_list, prints_bracketed}
-use Rattle.swc_ecma_codegen_tokens.proofs.Phrased.{Prints, then, after, before, prints_nothing, prints_same, prints_by_maps, prints_keyword, prints_punct, PrintsAt, prints_wider}
-use Rattle.swc_ecma_codegen_tokens.proofs.Printed.{writes_if, writes_nothing, writes_formatting_space, writes_line, writes_position, writes_position_before, Fills}
+use Rattle.swc_ecma_codegen_tokens.proofs.Emission.Emitting.{minified_same, pretty_same}
+use Rattle.swc_ecma_codegen_tokens.proofs.Listing.ListLaws.{children_of, prints_list, prints_bracketed}
+use Rattle.swc_ecma_codegen_tokens.proofs.Reading.Phrased.{Prints, then, after, before, prints_nothing, prints_same, prints_by_maps, prints_keyword, prints_punct, PrintsAt, prints_wider}
+use Rattle.swc_ecma_codegen_tokens.proofs.Reading.Printed.{writes_if, writes_nothing, writes_formatting_space, writes_line, writes_position, writes_position_before, Fills}
 use Rattle.swc_ecma_codegen_emit.specs.declared.nodes.Place.TheVariants.{Plain, DeclarationTail}
 use Rattle.swc_ecma_codegen_emit.specs.Answers.{place_of}
 use Rattle.swc_ecma_codegen_emit.specs.Props as words
@@ -38,7 +38,7 @@ use Rattle.swc_ecma_codegen_emit.proofs.ExprParts.{ident_prints, spread_element_
 use Rattle.swc_ecma_codegen_emit.proofs.Linked.{Linked, expr_at, pat_at, prop_name_at, block_at}
 use Rattle.swc_ecma_codegen_emit.proofs.MarkWords as marks
 use Rattle.swc_ecma_codegen_emit.proofs.NameParts.{prop_name_prints}
-use Rattle.swc_ecma_codegen_tokens.proofs.Shapes.{open_, loose, ended, ended_if_any}
+use Rattle.swc_ecma_codegen_tokens.proofs.Filling.Shapes.{open_, loose, ended, ended_if_any}
 use Rattle.swc_ecma_codegen_emit.proofs.Between.{punct_in}
 
 -- ---- properties

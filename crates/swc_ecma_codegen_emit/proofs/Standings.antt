@@ -8,9 +8,9 @@ use Rattle.swc_ecma_codegen_grammar.specs.SourceLines.{Lines}
 use Rattle.swc_ecma_codegen_grammar.specs.CommentMaps.{Maps}
 use Rattle.swc_ecma_codegen_tokens.specs.Run.{Env, Plan, Part, State, Follows, Emits, Does, DoesTaking, at_source, nothing}
 use Rattle.swc_ecma_codegen_tokens.specs.Lists.{by_lines}
-use Rattle.swc_ecma_codegen_tokens.proofs.Emitting.{does_here, takes_here, emits_nothing, follows_same}
-use Rattle.swc_ecma_codegen_tokens.proofs.Made.{run_env}
-use Rattle.swc_ecma_codegen_tokens.proofs.Short.{on_ok_in_short}
+use Rattle.swc_ecma_codegen_tokens.proofs.Emission.Emitting.{does_here, takes_here, emits_nothing, follows_same}
+use Rattle.swc_ecma_codegen_tokens.proofs.Emission.Made.{run_env}
+use Rattle.swc_ecma_codegen_tokens.proofs.Emission.Short.{on_ok_in_short}
 use Rattle.swc_ecma_codegen_emit.specs.Standing.{Standing, outcome, refusal_after, Leads, LeadsAfter, Makes, Stays, KeepsSettings}
 
 made : (part : Part) (a b : State) (r : Result (Unit {0}) Refusal) → Emits part a b r → Makes part (record { state = a; refusal = None }) (record { state = b; refusal = refusal_after None r })

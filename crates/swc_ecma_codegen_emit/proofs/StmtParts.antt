@@ -25,10 +25,10 @@ use Rattle.swc_ecma_codegen_grammar.specs.NamePhrases as names
 use Rattle.swc_ecma_codegen_tokens.specs.Lists.{blank_if}
 use Rattle.swc_ecma_codegen_tokens.specs.Run.{Env}
 use Rattle.swc_ecma_codegen_tokens.specs.Words.{formatting_space, formatting_line, trailing_comments, semi}
-use Rattle.swc_ecma_codegen_tokens.proofs.Choices.{prints_bare, prints_optional_parentheses}
-use Rattle.swc_ecma_codegen_tokens.proofs.Phrased.{Prints, prints_by_maps, then, after, before, prints_nothing, prints_keyword, prints_punct, prints_semi, PrintsAt, prints_wider, joined_then, prints_ident}
-use Rattle.swc_ecma_codegen_tokens.proofs.Printed.{writes_then, writes_if, writes_nothing, writes_formatting_space, writes_formatting_line, writes_commit, writes_position, Fills, makes_wider, EndsLines, writes_space}
-use Rattle.swc_ecma_codegen_tokens.proofs.CommentPrints.{writes_leading, writes_trailing}
+use Rattle.swc_ecma_codegen_tokens.proofs.Reading.Choices.{prints_bare, prints_optional_parentheses}
+use Rattle.swc_ecma_codegen_tokens.proofs.Reading.Phrased.{Prints, prints_by_maps, then, after, before, prints_nothing, prints_keyword, prints_punct, prints_semi, PrintsAt, prints_wider, joined_then, prints_ident}
+use Rattle.swc_ecma_codegen_tokens.proofs.Reading.Printed.{writes_then, writes_if, writes_nothing, writes_formatting_space, writes_formatting_line, writes_commit, writes_position, Fills, makes_wider, EndsLines, writes_space}
+use Rattle.swc_ecma_codegen_tokens.proofs.Commenting.CommentPrints.{writes_leading, writes_trailing}
 use Rattle.swc_ecma_codegen_emit.specs.declared.nodes.Place.TheVariants.{Plain, Statement}
 use Rattle.swc_ecma_codegen_emit.specs.Answers.{place_of}
 use Rattle.swc_ecma_codegen_emit.specs.Branches.{is_block}
@@ -38,7 +38,7 @@ use Rattle.swc_ecma_codegen_emit.proofs.ExprParts.{writes_opened, ident_prints}
 use Rattle.swc_ecma_codegen_emit.proofs.Linked.{Linked, expr_at, stmt_at, pat_at, block_at}
 use Rattle.swc_ecma_codegen_emit.proofs.LoopParts.{begun, begun_joined, enclosed_then, spaced_expr, spaced_stmt, switch_prints, while_prints, do_while_prints, for_prints, for_in_prints, for_of_prints}
 use Rattle.swc_ecma_codegen_emit.proofs.MarkWords as marks
-use Rattle.swc_ecma_codegen_tokens.proofs.Shapes.{open_, ended, loose}
+use Rattle.swc_ecma_codegen_tokens.proofs.Filling.Shapes.{open_, ended, loose}
 use Rattle.swc_ecma_codegen_emit.specs.FunctionExprs.{optional_name}
 use Rattle.swc_ecma_codegen_tokens.specs.Written.{IsWord}
 

@@ -4,7 +4,7 @@ use Rattle.swc_ecma_codegen_tree.specs.declared.pats.AssignTarget.TheVariants as
 use Rattle.swc_ecma_codegen_tree.specs.declared.pats.SimpleAssignTarget.{SimpleAssignTarget}
 use Rattle.swc_ecma_codegen_tree.specs.declared.pats.SimpleAssignTarget.TheVariants as simple_targets
 use Rattle.swc_ecma_codegen_grammar.specs.AssignPhrases as lists
-use Rattle.swc_ecma_codegen_tokens.proofs.Phrased.{Prints, prints_never}
+use Rattle.swc_ecma_codegen_tokens.proofs.Reading.Phrased.{Prints, prints_never}
 use Rattle.swc_ecma_codegen_emit.specs.Targets as words
 use Rattle.swc_ecma_codegen_emit.proofs.Linked.{Linked}
 use Rattle.swc_ecma_codegen_emit.proofs.NameParts.{binding_ident_prints}

@@ -8,18 +8,18 @@ use Rattle.swc_ecma_codegen_grammar.specs.TemplatePhrases as lists
 use Rattle.swc_ecma_codegen_grammar.specs.TemplatePhrases.{is_counted, part_before}
 use Rattle.swc_ecma_codegen_grammar.specs.declared.roles.Role.TheVariants.{TaggedTemplate, Callee as IsCallee}
 use Rattle.swc_ecma_codegen_tokens.specs.Run.{Env, Part}
-use Rattle.swc_ecma_codegen_tokens.proofs.Phrased.{Prints, PrintsAt, prints_wider, then, after, before, prints_nothing, prints_never}
-use Rattle.swc_ecma_codegen_tokens.proofs.Shapes.{open_}
-use Rattle.swc_ecma_codegen_tokens.proofs.Printed.{writes_position}
-use Rattle.swc_ecma_codegen_tokens.proofs.CommentPrints.{writes_leading}
-use Rattle.swc_ecma_codegen_tokens.proofs.TemplatePrints.{tpl_element_prints}
+use Rattle.swc_ecma_codegen_tokens.proofs.Reading.Phrased.{Prints, PrintsAt, prints_wider, then, after, before, prints_nothing, prints_never}
+use Rattle.swc_ecma_codegen_tokens.proofs.Filling.Shapes.{open_}
+use Rattle.swc_ecma_codegen_tokens.proofs.Reading.Printed.{writes_position}
+use Rattle.swc_ecma_codegen_tokens.proofs.Commenting.CommentPrints.{writes_leading}
+use Rattle.swc_ecma_codegen_tokens.proofs.LiteralTokens.TemplatePrints.{tpl_element_prints}
 use Rattle.swc_ecma_codegen_emit.specs.declared.nodes.Place.TheVariants.{Plain, Callee}
 use Rattle.swc_ecma_codegen_grammar.specs.CallPhrases.{value_at}
 use Rattle.swc_ecma_codegen_emit.specs.Exprs.{held}
 use Rattle.swc_ecma_codegen_emit.specs.Templates as words
 use Rattle.swc_ecma_codegen_emit.proofs.AnnotationParts.{type_args_print}
 use Rattle.swc_ecma_codegen_emit.proofs.Linked.{Linked, unbounded_linked, expr_at}
-use Rattle.swc_ecma_codegen_tokens.proofs.Lengths.{at_length, prints_at_length}
+use Rattle.swc_ecma_codegen_tokens.proofs.Filling.Lengths.{at_length, prints_at_length}
 
 rest_prints : {A : Type 0} (env : Env) (each : A → Part) (e : A → Phrase) → ((x : A) → Prints env (each x) (e x)) → (tagged : Bool) (xs : List A) (qs : List TplElement) → PrintsAt open_ env (words.tpl_rest each tagged xs qs) (lists.tpl_rest e tagged xs qs)
 unfolding words.tpl_rest lists.tpl_rest

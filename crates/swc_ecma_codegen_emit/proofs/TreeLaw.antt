@@ -11,8 +11,8 @@ use Rattle.swc_ecma_codegen_grammar.specs.declared.roles.Role.TheVariants.{Expre
 use Rattle.swc_ecma_codegen_grammar.specs.TreePhrases.{node_phrase, phrase}
 use Rattle.swc_ecma_codegen_grammar.proofs.TreeLaws.{phrase_of}
 use Rattle.swc_ecma_codegen_tokens.specs.Run.{Env, Part}
-use Rattle.swc_ecma_codegen_tokens.proofs.Lengths.{at_length}
-use Rattle.swc_ecma_codegen_tokens.proofs.TagPrints.{prints_never_on}
+use Rattle.swc_ecma_codegen_tokens.proofs.Filling.Lengths.{at_length}
+use Rattle.swc_ecma_codegen_tokens.proofs.Jsx.TagPrints.{prints_never_on}
 use Rattle.swc_ecma_codegen_emit.specs.declared.nodes.Place.{Place}
 use Rattle.swc_ecma_codegen_emit.specs.declared.nodes.Place.TheVariants.{Object, DottedObject, Callee, FieldValue}
 use Rattle.swc_ecma_codegen_emit.specs.Answers.{any_answers}

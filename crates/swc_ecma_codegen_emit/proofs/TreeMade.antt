@@ -11,17 +11,17 @@ use Rattle.swc_ecma_codegen_grammar.specs.SourceLines.{Lines, no_lines}
 use Rattle.swc_ecma_codegen_grammar.specs.CommentMaps.{Maps}
 use Rattle.swc_ecma_codegen_grammar.specs.Trivia.{Remark}
 use Rattle.swc_ecma_codegen_grammar.specs.Comments.{AreClosed, no_maps, remarks_of}
-use Rattle.swc_ecma_codegen_tokens.proofs.NoneTaken.{none_taken, no_maps_bare, no_maps_closed}
+use Rattle.swc_ecma_codegen_tokens.proofs.Commenting.NoneTaken.{none_taken, no_maps_bare, no_maps_closed}
 use Rattle.swc_ecma_codegen_tokens.specs.Run.{Part, is_bounded, State, nothing, unprintable_in, Follows, HasCause, PassesLimit, IsTooFar, start, steps_in, steps_of}
 use Rattle.swc_ecma_codegen_tokens.specs.declared.refusals.Unprintable.{Unprintable}
 use Rattle.swc_ecma_codegen_tokens.specs.Targets.{is_out}
 use Rattle.swc_ecma_codegen_tokens.specs.Ready.{token_count, IsReady}
 use Rattle.swc_ecma_codegen_tokens.specs.Written.{ReadsAs, taken_remarks}
-use Rattle.swc_ecma_codegen_tokens.proofs.Short.{is_ok_in_short}
-use Rattle.swc_ecma_codegen_tokens.proofs.Phrased.{steps_read, whole_reads}
-use Rattle.swc_ecma_codegen_tokens.proofs.Made.{plain_made, printable, within}
-use Rattle.swc_ecma_codegen_tokens.proofs.Targets.{bare_not_out}
-use Rattle.swc_ecma_codegen_tokens.proofs.Fronts.{follows_cause}
+use Rattle.swc_ecma_codegen_tokens.proofs.Emission.Short.{is_ok_in_short}
+use Rattle.swc_ecma_codegen_tokens.proofs.Reading.Phrased.{steps_read, whole_reads}
+use Rattle.swc_ecma_codegen_tokens.proofs.Emission.Made.{plain_made, printable, within}
+use Rattle.swc_ecma_codegen_tokens.proofs.NameTokens.Targets.{bare_not_out}
+use Rattle.swc_ecma_codegen_tokens.proofs.Emission.Fronts.{follows_cause}
 use Rattle.swc_ecma_codegen_emit.specs.Emission.{Outcome, MakesPlainTrees}
 use Rattle.swc_ecma_codegen_emit.specs.Texts.{blank_sheet, text_of, text_over, IsOfWriter, GivesCause}
 use Rattle.swc_ecma_codegen_emit.specs.Roots.{Root, root_items, root_phrase, is_well_formed_root, root_hashbang}

@@ -22,15 +22,15 @@ use Rattle.swc_ecma_codegen_tokens.specs.Named.{RecordsNames, PlacesNames}
 use Rattle.swc_ecma_codegen_literals.specs.AsciiNames.{is_ascii_text}
 use Rattle.swc_ecma_codegen_tokens.specs.Ascii.{other_texts, may_keep_other, AddsAscii, WantsAscii}
 use Rattle.swc_ecma_codegen_tokens.specs.Scripts.{value_strings, AddsSafe}
-use Rattle.swc_ecma_codegen_tokens.proofs.AsciiTexts.{printed_ascii, printed_keeps, none_other}
-use Rattle.swc_ecma_codegen_tokens.proofs.ScriptTexts.{printed_safe}
+use Rattle.swc_ecma_codegen_tokens.proofs.Emission.AsciiTexts.{printed_ascii, printed_keeps, none_other}
+use Rattle.swc_ecma_codegen_tokens.proofs.LiteralTokens.ScriptTexts.{printed_safe}
 use Rattle.swc_ecma_codegen_text_writer.specs.Recorded.{RecordsTruly}
 use Rattle.swc_ecma_codegen_grammar.specs.Phrases.{names_in}
 use Rattle.swc_ecma_codegen_text_writer.specs.Sheet.{Flowing, HoldsNone, fills_lines}
 use Rattle.swc_ecma_codegen_tokens.specs.Written.{IsAtMargin, IsLineEnd, IsNew, AddsReading, taken_remarks, all_indent, is_indent, holds_one}
-use Rattle.swc_ecma_codegen_tokens.proofs.Short.{on_ok_in_short}
-use Rattle.swc_ecma_codegen_tokens.proofs.Phrased.{made_not_out, printed_reads, printed_tells, printed_remakes, printed_names, printed_places, follows_records, PrintsAt}
-use Rattle.swc_ecma_codegen_tokens.proofs.Made.{printable, run_env}
+use Rattle.swc_ecma_codegen_tokens.proofs.Emission.Short.{on_ok_in_short}
+use Rattle.swc_ecma_codegen_tokens.proofs.Reading.Phrased.{made_not_out, printed_reads, printed_tells, printed_remakes, printed_names, printed_places, follows_records, PrintsAt}
+use Rattle.swc_ecma_codegen_tokens.proofs.Emission.Made.{printable, run_env}
 use Rattle.swc_ecma_codegen_emit.specs.Emission.{Outcome, AddsOnlyAscii, AddsSafeStrings, FillsItsLines, PlacesEachName, ReadsAsRoot, RecordsEachName, TakesComments, WritesTaken}
 use Rattle.swc_ecma_codegen_emit.specs.Modules.{is_crowded, import_parts, import_decl}
 use Rattle.swc_ecma_codegen_emit.specs.Templates.{tpl_placed, bad_shape, tpl}

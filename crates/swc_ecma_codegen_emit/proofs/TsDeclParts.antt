@@ -23,12 +23,12 @@ use Rattle.swc_ecma_codegen_grammar.specs.TsDeclPhrases as lists
 use Rattle.swc_ecma_codegen_grammar.specs.declared.roles.Role.TheVariants.{InterfaceBody, DottedBody}
 use Rattle.swc_ecma_codegen_tokens.specs.Run.{Env}
 use Rattle.swc_ecma_codegen_tokens.specs.Words.{punct}
-use Rattle.swc_ecma_codegen_tokens.proofs.ListLaws.{prints_list, prints_bracketed}
-use Rattle.swc_ecma_codegen_tokens.proofs.Phrased.{Prints, PrintsAt, prints_wider, loosened, then, after, prints_nothing, prints_keyword, prints_punct, prints_semi, prints_where}
-use Rattle.swc_ecma_codegen_tokens.proofs.Printed.{writes_space, writes_formatting_space}
-use Rattle.swc_ecma_codegen_tokens.proofs.CommentPrints.{writes_leading}
-use Rattle.swc_ecma_codegen_tokens.proofs.Shapes.{open_, ended_if_any, ended}
-use Rattle.swc_ecma_codegen_tokens.proofs.StringPrints.{prints_str}
+use Rattle.swc_ecma_codegen_tokens.proofs.Listing.ListLaws.{prints_list, prints_bracketed}
+use Rattle.swc_ecma_codegen_tokens.proofs.Reading.Phrased.{Prints, PrintsAt, prints_wider, loosened, then, after, prints_nothing, prints_keyword, prints_punct, prints_semi, prints_where}
+use Rattle.swc_ecma_codegen_tokens.proofs.Reading.Printed.{writes_space, writes_formatting_space}
+use Rattle.swc_ecma_codegen_tokens.proofs.Commenting.CommentPrints.{writes_leading}
+use Rattle.swc_ecma_codegen_tokens.proofs.Filling.Shapes.{open_, ended_if_any, ended}
+use Rattle.swc_ecma_codegen_tokens.proofs.LiteralTokens.StringPrints.{prints_str}
 use Rattle.swc_ecma_codegen_emit.specs.declared.nodes.Place.TheVariants.{Plain}
 use Rattle.swc_ecma_codegen_emit.specs.TsDecls as words
 use Rattle.swc_ecma_codegen_emit.specs.TsDecls.{extended_format, extended_place, enum_format, enum_member_place}

@@ -9,10 +9,10 @@ use Rattle.swc_ecma_codegen_tree.specs.declared.ts_exprs.TsTypeAssertion.{TsType
 use Rattle.swc_ecma_codegen_grammar.specs.TsExprPhrases as lists
 use Rattle.swc_ecma_codegen_grammar.specs.declared.roles.Role.TheVariants.{TypeArguments}
 use Rattle.swc_ecma_codegen_tokens.specs.Written.{Anything}
-use Rattle.swc_ecma_codegen_tokens.proofs.Phrased.{Prints, then, after, prints_keyword, prints_punct, prints_close}
-use Rattle.swc_ecma_codegen_tokens.proofs.Printed.{writes_space}
-use Rattle.swc_ecma_codegen_tokens.proofs.CommentPrints.{writes_leading}
-use Rattle.swc_ecma_codegen_tokens.proofs.TagPrints.{prints_spots}
+use Rattle.swc_ecma_codegen_tokens.proofs.Reading.Phrased.{Prints, then, after, prints_keyword, prints_punct, prints_close}
+use Rattle.swc_ecma_codegen_tokens.proofs.Reading.Printed.{writes_space}
+use Rattle.swc_ecma_codegen_tokens.proofs.Commenting.CommentPrints.{writes_leading}
+use Rattle.swc_ecma_codegen_tokens.proofs.Jsx.TagPrints.{prints_spots}
 use Rattle.swc_ecma_codegen_emit.specs.declared.nodes.Place.TheVariants.{Plain}
 use Rattle.swc_ecma_codegen_emit.specs.TsExprs as words
 use Rattle.swc_ecma_codegen_emit.proofs.AnnotationParts.{word_space_prints}

@@ -23,11 +23,11 @@ use Rattle.swc_ecma_codegen_tokens.specs.Run.{Env, Part}
 use Rattle.swc_ecma_codegen_tokens.specs.Lists.{list}
 use Rattle.swc_ecma_codegen_tokens.specs.Words.{punct, allows_break}
 use Rattle.swc_ecma_codegen_tokens.specs.Written.{IsMark}
-use Rattle.swc_ecma_codegen_tokens.proofs.ListLaws.{IsUndelimited, prints_bracketed, prints_bracketed_in_order}
-use Rattle.swc_ecma_codegen_tokens.proofs.Phrased.{Prints, PrintsAt, prints_wider, loosened, then, after, before, prints_nothing, prints_keyword, prints_punct, prints_semi, prints_unbroken}
-use Rattle.swc_ecma_codegen_tokens.proofs.Printed.{writes_space, writes_formatting_space}
-use Rattle.swc_ecma_codegen_tokens.proofs.CommentPrints.{writes_leading}
-use Rattle.swc_ecma_codegen_tokens.proofs.Shapes.{open_, ended, loose}
+use Rattle.swc_ecma_codegen_tokens.proofs.Listing.ListLaws.{IsUndelimited, prints_bracketed, prints_bracketed_in_order}
+use Rattle.swc_ecma_codegen_tokens.proofs.Reading.Phrased.{Prints, PrintsAt, prints_wider, loosened, then, after, before, prints_nothing, prints_keyword, prints_punct, prints_semi, prints_unbroken}
+use Rattle.swc_ecma_codegen_tokens.proofs.Reading.Printed.{writes_space, writes_formatting_space}
+use Rattle.swc_ecma_codegen_tokens.proofs.Commenting.CommentPrints.{writes_leading}
+use Rattle.swc_ecma_codegen_tokens.proofs.Filling.Shapes.{open_, ended, loose}
 use Rattle.swc_ecma_codegen_emit.specs.declared.nodes.Place.TheVariants.{Plain, Reference}
 use Rattle.swc_ecma_codegen_emit.specs.TsMembers as words
 use Rattle.swc_ecma_codegen_emit.specs.TsMembers.{interface_format, fn_param_place, fn_param_items}

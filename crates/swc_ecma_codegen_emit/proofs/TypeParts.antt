@@ -70,16 +70,16 @@ use Rattle.swc_ecma_codegen_tokens.specs.Lits.{bool_text, bool_node}
 use Rattle.swc_ecma_codegen_tokens.specs.Tags.{close}
 use Rattle.swc_ecma_codegen_tokens.specs.Words.{punct, space, line_end}
 use Rattle.swc_ecma_codegen_tokens.specs.Written.{IsWord, Anything, InName}
-use Rattle.swc_ecma_codegen_tokens.proofs.BigPrints.{prints_big_int}
-use Rattle.swc_ecma_codegen_tokens.proofs.LitPrints.{bool_is_word}
-use Rattle.swc_ecma_codegen_tokens.proofs.ListLaws.{IsUndelimited, IsJoined, prints_list, prints_bracketed, prints_bracketed_in_order, prints_joined}
-use Rattle.swc_ecma_codegen_tokens.proofs.NumberPrints.{prints_number}
-use Rattle.swc_ecma_codegen_tokens.proofs.Phrased.{Prints, PrintsOn, PrintsAt, prints_wider, loosened, then, then_on, after, after_on, before, prints_nothing, prints_never, prints_where, prints_mark, mark_spelled, prints_keyword, prints_punct, prints_semi, prints_close}
-use Rattle.swc_ecma_codegen_tokens.proofs.Printed.{MakesAt, with_room, within_then, punct_within, deeper_within, writes_space, writes_formatting_space, writes_line, writes_shallower}
-use Rattle.swc_ecma_codegen_tokens.proofs.CommentPrints.{writes_leading, writes_named_leading}
-use Rattle.swc_ecma_codegen_tokens.proofs.Shapes.{open_, whole, ended, closed, loose}
-use Rattle.swc_ecma_codegen_tokens.proofs.StringPrints.{prints_str}
-use Rattle.swc_ecma_codegen_tokens.proofs.TagPrints.{prints_named_mark}
+use Rattle.swc_ecma_codegen_tokens.proofs.LiteralTokens.BigPrints.{prints_big_int}
+use Rattle.swc_ecma_codegen_tokens.proofs.LiteralTokens.LitPrints.{bool_is_word}
+use Rattle.swc_ecma_codegen_tokens.proofs.Listing.ListLaws.{IsUndelimited, IsJoined, prints_list, prints_bracketed, prints_bracketed_in_order, prints_joined}
+use Rattle.swc_ecma_codegen_tokens.proofs.LiteralTokens.NumberPrints.{prints_number}
+use Rattle.swc_ecma_codegen_tokens.proofs.Reading.Phrased.{Prints, PrintsOn, PrintsAt, prints_wider, loosened, then, then_on, after, after_on, before, prints_nothing, prints_never, prints_where, prints_mark, mark_spelled, prints_keyword, prints_punct, prints_semi, prints_close}
+use Rattle.swc_ecma_codegen_tokens.proofs.Reading.Printed.{MakesAt, with_room, within_then, punct_within, deeper_within, writes_space, writes_formatting_space, writes_line, writes_shallower}
+use Rattle.swc_ecma_codegen_tokens.proofs.Commenting.CommentPrints.{writes_leading, writes_named_leading}
+use Rattle.swc_ecma_codegen_tokens.proofs.Filling.Shapes.{open_, whole, ended, closed, loose}
+use Rattle.swc_ecma_codegen_tokens.proofs.LiteralTokens.StringPrints.{prints_str}
+use Rattle.swc_ecma_codegen_tokens.proofs.Jsx.TagPrints.{prints_named_mark}
 use Rattle.swc_ecma_codegen_emit.specs.declared.nodes.Place.{Place}
 use Rattle.swc_ecma_codegen_emit.specs.declared.nodes.Place.TheVariants.{Plain, Reference}
 use Rattle.swc_ecma_codegen_emit.specs.Annotations.{type_params, types_format}

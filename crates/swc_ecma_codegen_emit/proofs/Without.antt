@@ -12,8 +12,8 @@ use Rattle.swc_ecma_codegen_tree.specs.declared.exprs.Expr.{Expr}
 use Rattle.swc_ecma_codegen_tokens.specs.Lists.{child_comments}
 use Rattle.swc_ecma_codegen_tokens.specs.Run.{Env, Plan, Part, State, Follows, maps_after, nothing, steps_of}
 use Rattle.swc_ecma_codegen_tokens.specs.Words.{leading_comments, trailing_comments, comments_before_end}
-use Rattle.swc_ecma_codegen_tokens.proofs.Made.{run_env}
-use Rattle.swc_ecma_codegen_tokens.proofs.NoComments.{IsSilent, silent_leading, silent_trailing, silent_before_end, silent_child, none_after as none_left}
+use Rattle.swc_ecma_codegen_tokens.proofs.Emission.Made.{run_env}
+use Rattle.swc_ecma_codegen_tokens.proofs.Commenting.NoComments.{IsSilent, silent_leading, silent_trailing, silent_before_end, silent_child, none_after as none_left}
 use Rattle.swc_ecma_codegen_emit.specs.declared.nodes.Place.{Place}
 use Rattle.swc_ecma_codegen_emit.specs.Answers.{Answers, place_of}
 use Rattle.swc_ecma_codegen_emit.specs.AnyExpr.{leaves_comments, expr_parts, expr_closed, expr}

@@ -58,7 +58,7 @@ impl<'a, W: WriteJs, S: SourceMapper, C: Comments> Emitter<'a, W, S, C> {
     }
 
     /// Prints a node, unless a call was refused before.
-    #[tactic(auto, using(swc_ecma_codegen_tokens::proofs::Emitting::emits_nothing, swc_ecma_codegen_tokens::proofs::Fronts::follows_failed, swc_ecma_codegen_tokens::proofs::Fronts::follows_front, swc_ecma_codegen_tokens::proofs::Fronts::follows_marked, swc_ecma_codegen_tokens::proofs::Fronts::follows_cause, swc_ecma_codegen_tokens::proofs::Fronts::follows_succeeds))]
+    #[tactic(auto, using(swc_ecma_codegen_tokens::proofs::Emission::Emitting::emits_nothing, swc_ecma_codegen_tokens::proofs::Emission::Fronts::follows_failed, swc_ecma_codegen_tokens::proofs::Emission::Fronts::follows_front, swc_ecma_codegen_tokens::proofs::Emission::Fronts::follows_marked, swc_ecma_codegen_tokens::proofs::Emission::Fronts::follows_cause, swc_ecma_codegen_tokens::proofs::Emission::Fronts::follows_succeeds))]
     pub(crate) fn emit<T: EmitAt>(&mut self, node: &T) -> Result
         // The steps of the tree are made, and it comes to no node that can't be printed; or it halts.
         ensures items { Follows (by_itself (T.items node.now) nothing)
@@ -328,7 +328,7 @@ impl<'a, W: WriteJs, S: SourceMapper, C: Comments> Emitter<'a, W, S, C> {
     }
 
     /// Prints the name of what a module imports or exports: a name, or a string. swc's `emit_module_export_name`.
-    #[tactic(auto, using(crate::proofs::TreeReads::steps_recorded, crate::proofs::TreeReads::steps_taken, swc_ecma_codegen_tokens::proofs::Made::ready_after))]
+    #[tactic(auto, using(crate::proofs::TreeReads::steps_recorded, crate::proofs::TreeReads::steps_taken, swc_ecma_codegen_tokens::proofs::Emission::Made::ready_after))]
     pub fn emit_module_export_name(&mut self, node: &ModuleExportName) -> Result
         ensures items { Follows (by_itself (λ _. module_export_name node.now) nothing)
             (state_of S.lines C.maps W.sheet self.old)

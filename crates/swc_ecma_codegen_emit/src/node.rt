@@ -98,7 +98,7 @@ pub trait Node: Spanned {
 impl<T: EmitAt + Spanned> Node for T {
     ghost part = { λ n. by_itself (T.items n) };
 
-    #[tactic(auto, using(crate::proofs::TreeReads::root_reads, crate::proofs::TreeReads::steps_recorded, crate::proofs::TreeReads::steps_taken, crate::proofs::TreeReads::root_told, crate::proofs::TreeReads::root_names, crate::proofs::TreeReads::root_fills, crate::proofs::TreeReads::root_places, crate::proofs::TreeReads::root_ascii, crate::proofs::TreeReads::root_safe, swc_ecma_codegen_tokens::proofs::Made::ready_after, swc_ecma_codegen_tokens::proofs::Phrased::never_out_of_memory))]
+    #[tactic(auto, using(crate::proofs::TreeReads::root_reads, crate::proofs::TreeReads::steps_recorded, crate::proofs::TreeReads::steps_taken, crate::proofs::TreeReads::root_told, crate::proofs::TreeReads::root_names, crate::proofs::TreeReads::root_fills, crate::proofs::TreeReads::root_places, crate::proofs::TreeReads::root_ascii, crate::proofs::TreeReads::root_safe, swc_ecma_codegen_tokens::proofs::Emission::Made::ready_after, swc_ecma_codegen_tokens::proofs::Reading::Phrased::never_out_of_memory))]
     fn emit_with<W: WriteJs, S: SourceMapper, C: Comments>(
         &self,
         e: &mut Emitter<'_, W, S, C>,

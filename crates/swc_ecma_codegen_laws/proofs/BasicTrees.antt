@@ -38,8 +38,8 @@ use Rattle.swc_ecma_codegen_spans.specs.Spans.{expr_span, stmt_span}
 use Rattle.swc_ecma_codegen_util.specs.Starts as starts
 use Rattle.swc_ecma_codegen_tokens.specs.Run.{Env, Part, at_maps, is_bounded}
 use Rattle.swc_ecma_codegen_tokens.specs.Words.{keyword, operator, word_operator, punct, formatting_line, commit_pending_semi, trailing_comments}
-use Rattle.swc_ecma_codegen_tokens.proofs.Printed.{writes_commit, writes_formatting_line, writes_formatting_space, writes_position, writes_position_before}
-use Rattle.swc_ecma_codegen_tokens.proofs.CommentPrints.{writes_leading, writes_trailing}
+use Rattle.swc_ecma_codegen_tokens.proofs.Reading.Printed.{writes_commit, writes_formatting_line, writes_formatting_space, writes_position, writes_position_before}
+use Rattle.swc_ecma_codegen_tokens.proofs.Commenting.CommentPrints.{writes_leading, writes_trailing}
 use Rattle.swc_ecma_codegen_emit.specs.declared.nodes.Place.{Place}
 use Rattle.swc_ecma_codegen_emit.specs.declared.nodes.Place.TheVariants.{Plain, LeftOperand}
 use Rattle.swc_ecma_codegen_emit.specs.Answers.{Answers, any_answers, place_of}

@@ -18,8 +18,8 @@ use Rattle.swc_ecma_codegen_text_writer.specs.Sheet.{Item, AllowBreak, Keyword, 
 use Rattle.swc_ecma_codegen_tokens.specs.declared.refusals.Unprintable.{Unprintable}
 use Rattle.swc_ecma_codegen_tokens.specs.Run.{Env, Part, Plan, Step, Guard, Token, Plain, Steps, next, refused, is_bounded, at_maps, after_step, maps_after, refuse, step, steps_of, unbounded, with_max_line}
 use Rattle.swc_ecma_codegen_tokens.specs.Words.{allow_break, allows_break, bare_punct, bare_semi, break_where, keyword, operator, word_operator, punct, semi}
-use Rattle.swc_ecma_codegen_tokens.proofs.Fronts.{is_inner_step}
-use Rattle.swc_ecma_codegen_tokens.proofs.Printed.{chain, chain_append, env_after, maps_append}
+use Rattle.swc_ecma_codegen_tokens.proofs.Emission.Fronts.{is_inner_step}
+use Rattle.swc_ecma_codegen_tokens.proofs.Reading.Printed.{chain, chain_append, env_after, maps_append}
 use Rattle.swc_ecma_codegen_emit.specs.declared.nodes.Place.{Place}
 use Rattle.swc_ecma_codegen_emit.specs.Exprs.{binary_op, yield_star}
 use Rattle.swc_ecma_codegen_emit.specs.Operands.{is_word_op}

@@ -6,7 +6,7 @@ use Rattle.swc_ecma_codegen_text_writer.specs.Sheet.{BeginLines, EndLines}
 use Rattle.swc_ecma_codegen_tokens.specs.declared.refusals.Unprintable.{Unprintable}
 use Rattle.swc_ecma_codegen_tokens.specs.Run.{Env, Part, Plan, State, Step, Plain as Call, is_bounded, nothing, after_step, step, steps_in, steps_of, unbounded, with_max_line}
 use Rattle.swc_ecma_codegen_tokens.specs.Words.{begin_lines, end_lines, in_lines, bounded}
-use Rattle.swc_ecma_codegen_tokens.proofs.Printed.{chain, env_after}
+use Rattle.swc_ecma_codegen_tokens.proofs.Reading.Printed.{chain, env_after}
 use Rattle.swc_ecma_codegen_emit.specs.declared.nodes.Place.{Place}
 use Rattle.swc_ecma_codegen_emit.specs.declared.nodes.Place.TheVariants.{Plain, Lines}
 use Rattle.swc_ecma_codegen_emit.specs.Lined.{unfilled}

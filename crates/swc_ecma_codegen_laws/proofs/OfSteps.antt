@@ -7,7 +7,7 @@ use Rattle.swc_ecma_codegen_tokens.specs.Lists.{by_lines}
 use Rattle.swc_ecma_codegen_tokens.specs.Run as run
 use Rattle.swc_ecma_codegen_tokens.specs.Run.{Env, Part, Step, when_minified}
 use Rattle.swc_ecma_codegen_tokens.specs.Words as calls
-use Rattle.swc_ecma_codegen_tokens.proofs.Fronts.{is_inner_step}
+use Rattle.swc_ecma_codegen_tokens.proofs.Emission.Fronts.{is_inner_step}
 use Rattle.swc_ecma_codegen_laws.specs.Breaks.{is_mark, is_break}
 
 -- a step that writes no mark behind which a line may be ended, doesn't say that one may, and neither begins nor ends lines

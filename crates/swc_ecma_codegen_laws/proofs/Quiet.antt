@@ -15,16 +15,16 @@ use Rattle.swc_ecma_codegen_tokens.specs.Targets.{wants_escapes, in_ascii, is_ou
 use Rattle.swc_ecma_codegen_tokens.specs.Words.{allow_break, allows_break, break_where, bare_punct, bare_semi, keyword, operator, word_operator, punct, semi, symbol, spelled_symbol, valid_symbol, name_text, question, name}
 use Rattle.swc_ecma_codegen_tokens.specs.Ready.{IsReady}
 use Rattle.swc_ecma_codegen_tokens.specs.Written.{Spot}
-use Rattle.swc_ecma_codegen_tokens.proofs.Levels.{levels, rise, levels_append, stays_within}
-use Rattle.swc_ecma_codegen_tokens.proofs.Shapes.{Shape}
-use Rattle.swc_ecma_codegen_tokens.proofs.Spelled.{spelled_same}
-use Rattle.swc_ecma_codegen_tokens.proofs.PartSteps.{steps_of_chain}
+use Rattle.swc_ecma_codegen_tokens.proofs.Emission.Levels.{levels, rise, levels_append, stays_within}
+use Rattle.swc_ecma_codegen_tokens.proofs.Filling.Shapes.{Shape}
+use Rattle.swc_ecma_codegen_tokens.proofs.NameTokens.Spelled.{spelled_same}
+use Rattle.swc_ecma_codegen_tokens.proofs.Emission.PartSteps.{steps_of_chain}
 use Rattle.swc_ecma_codegen_emit.specs.declared.nodes.Place.{Place}
 use Rattle.swc_ecma_codegen_emit.specs.declared.nodes.Place.TheVariants.{Plain}
 use Rattle.swc_ecma_codegen_emit.specs.Places.{alone, by_itself, with_lines}
 use Rattle.swc_ecma_codegen_laws.specs.Basic.{TakesNoMemory}
-use Rattle.swc_ecma_codegen_tokens.proofs.Printed.{chain, chain_append, env_after, maps_append, remakes_append, MakesWithinOn, writes_position, writes_commit}
-use Rattle.swc_ecma_codegen_tokens.proofs.CommentPrints.{writes_leading}
+use Rattle.swc_ecma_codegen_tokens.proofs.Reading.Printed.{chain, chain_append, env_after, maps_append, remakes_append, MakesWithinOn, writes_position, writes_commit}
+use Rattle.swc_ecma_codegen_tokens.proofs.Commenting.CommentPrints.{writes_leading}
 
 -- A part is these steps, whatever comes after it; no text of theirs is made anew, and none of them makes the indentation deeper.
 pub record QuietFrom (env : Env) (part : Part) : Type 0 where

@@ -15,8 +15,8 @@ use Rattle.swc_ecma_codegen_tokens.specs.declared.refusals.Unprintable.{Unprinta
 use Rattle.swc_ecma_codegen_tokens.specs.Calls.{calls_by, calls_of, last_by}
 use Rattle.swc_ecma_codegen_tokens.specs.Run.{Env, Part, Plan, Step, Guard, Token, is_bounded, at_maps, after_plain, after_step, maps_after, refuse, step, unbounded, with_max_line}
 use Rattle.swc_ecma_codegen_tokens.specs.Words.{allow_break, allows_break, bare_punct, bare_semi, keyword, operator, placed_punct, punct, semi, word_operator}
-use Rattle.swc_ecma_codegen_tokens.proofs.Fronts.{is_inner_step, are_inner_steps, inner_append}
-use Rattle.swc_ecma_codegen_tokens.proofs.Printed.{chain, chain_append, env_after, maps_append}
+use Rattle.swc_ecma_codegen_tokens.proofs.Emission.Fronts.{is_inner_step, are_inner_steps, inner_append}
+use Rattle.swc_ecma_codegen_tokens.proofs.Reading.Printed.{chain, chain_append, env_after, maps_append}
 use Rattle.swc_ecma_codegen_emit.specs.declared.nodes.Place.{Place}
 use Rattle.swc_ecma_codegen_emit.specs.Exprs.{binary_op, yield_star}
 use Rattle.swc_ecma_codegen_emit.specs.Operands.{is_word_op}

@@ -17,12 +17,12 @@ use Rattle.swc_ecma_codegen_tokens.specs.Settings.{settings_of}
 use Rattle.swc_ecma_codegen_tokens.specs.Written.{ReadsAs, IsNew, IsAtMargin, AddsReading, AddsText, taken_remarks}
 use Rattle.swc_ecma_codegen_emit.specs.Roots.{Root, is_program, root_items, root_phrase, is_well_formed_root, MayBegin}
 use Rattle.swc_ecma_codegen_tokens.specs.Targets.{is_out}
-use Rattle.swc_ecma_codegen_tokens.proofs.CutReads.{cut_reads}
-use Rattle.swc_ecma_codegen_tokens.proofs.Filled.{filled, run_calls, steps_fill}
-use Rattle.swc_ecma_codegen_tokens.proofs.FilledTexts.{lined_steps, lined_remarks}
-use Rattle.swc_ecma_codegen_tokens.proofs.Printed.{remarks_by}
-use Rattle.swc_ecma_codegen_tokens.proofs.Phrased.{laid_reads, new_at_rest, taken_closed, PrintsAt}
-use Rattle.swc_ecma_codegen_tokens.proofs.PartSteps.{steps_alone}
+use Rattle.swc_ecma_codegen_tokens.proofs.Filling.CutReads.{cut_reads}
+use Rattle.swc_ecma_codegen_tokens.proofs.Filling.Filled.{filled, run_calls, steps_fill}
+use Rattle.swc_ecma_codegen_tokens.proofs.Filling.FilledTexts.{lined_steps, lined_remarks}
+use Rattle.swc_ecma_codegen_tokens.proofs.Reading.Printed.{remarks_by}
+use Rattle.swc_ecma_codegen_tokens.proofs.Reading.Phrased.{laid_reads, new_at_rest, taken_closed, PrintsAt}
+use Rattle.swc_ecma_codegen_tokens.proofs.Emission.PartSteps.{steps_alone}
 use Rattle.swc_ecma_codegen_emit.specs.Roots.{root_hashbang}
 use Rattle.swc_ecma_codegen_emit.proofs.ByItself.{root_shape, root_stands}
 use Rattle.swc_ecma_codegen_emit.proofs.InLines.{InLines}

@@ -4,8 +4,8 @@ use Rattle.swc_ecma_codegen_text_writer.specs.Sheet.{Sheet, Flowing}
 use Rattle.swc_ecma_codegen_tokens.specs.declared.refusals.Unprintable.{Unprintable}
 use Rattle.swc_ecma_codegen_tokens.specs.Calls.{calls_of}
 use Rattle.swc_ecma_codegen_tokens.specs.Run.{Env, Plan, State, Step, done, nothing, printed, run, steps_in, steps_of, unbounded, with_max_line}
-use Rattle.swc_ecma_codegen_tokens.proofs.Filled.{run_calls, calls_inner}
-use Rattle.swc_ecma_codegen_tokens.proofs.Printed.{chain, env_after}
+use Rattle.swc_ecma_codegen_tokens.proofs.Filling.Filled.{run_calls, calls_inner}
+use Rattle.swc_ecma_codegen_tokens.proofs.Reading.Printed.{chain, env_after}
 use Rattle.swc_ecma_codegen_emit.specs.declared.nodes.Place.TheVariants.{Plain}
 use Rattle.swc_ecma_codegen_emit.specs.Lined.{unfilled}
 use Rattle.swc_ecma_codegen_emit.specs.Places.{by_itself, with_lines}

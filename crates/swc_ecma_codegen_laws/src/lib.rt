@@ -176,7 +176,7 @@ pub fn plain_trees_keep_no_other_text()
 
 /// A string literal is printed by its value exactly where its raw isn't printed: it is one of the strings that the clause
 /// `inline` of `emit_with` speaks of.
-#[tactic(auto, using(swc_ecma_codegen_tokens::proofs::StringPrints::value_strings_told))]
+#[tactic(auto, using(swc_ecma_codegen_tokens::proofs::LiteralTokens::StringPrints::value_strings_told))]
 pub fn strings_by_value_are_told()
     ensures { (env : Env) (in_lit : Bool) (n : Str) →
         value_strings (steps_of (string_at in_lit n nothing env))

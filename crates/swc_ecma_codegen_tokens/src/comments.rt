@@ -53,7 +53,7 @@ impl LowerEmitter {
     }
 
     /// The blank that is due before a comment up to the end of its line.
-    #[tactic(auto, using(crate::proofs::CommentStarts::line_start))]
+    #[tactic(auto, using(crate::proofs::Commenting::CommentStarts::line_start))]
     fn guard_line_comment<W: WriteJs>(&mut self, cfg: &Config, wr: &mut W) -> Answer
         ensures items { Does (step (Guard (codes "//")))
             (state_of cfg.now (W.sheet wr.old) self.old)
@@ -64,7 +64,7 @@ impl LowerEmitter {
     }
 
     /// The blank that is due before a comment in a line.
-    #[tactic(auto, using(crate::proofs::CommentStarts::block_start))]
+    #[tactic(auto, using(crate::proofs::Commenting::CommentStarts::block_start))]
     fn guard_block_comment<W: WriteJs>(&mut self, cfg: &Config, wr: &mut W) -> Answer
         ensures items { Does (step (Guard (codes "/*")))
             (state_of cfg.now (W.sheet wr.old) self.old)
@@ -121,7 +121,7 @@ impl LowerEmitter {
     }
 
     /// The blank before a comment, unless the settings are to minify.
-    #[tactic(auto, using(crate::proofs::CommentSteps::no_blank, crate::proofs::CommentSteps::skipped_blank, crate::proofs::CommentSteps::blank_written))]
+    #[tactic(auto, using(crate::proofs::Commenting::CommentSteps::no_blank, crate::proofs::Commenting::CommentSteps::skipped_blank, crate::proofs::Commenting::CommentSteps::blank_written))]
     fn comment_blank<W: WriteJs>(&mut self, cfg: &Config, wr: &mut W, wanted: bool) -> Answer
         ensures items { Does (comment_blank wanted) (state_of cfg.now (W.sheet wr.old) self.old)
             (state_of cfg.now (W.sheet wr.new) self.new) result }
@@ -181,7 +181,7 @@ impl LowerEmitter {
 
     /// Takes the comments before a position out of the maps, and writes them. Where there are none, that takes no call.
     #[inline(always)]
-    #[tactic(auto, using(crate::proofs::NoComments::leading_unasked))]
+    #[tactic(auto, using(crate::proofs::Commenting::NoComments::leading_unasked))]
     pub fn leading_comments<W: WriteJs, C: Comments>(
         &mut self,
         cfg: &Config,

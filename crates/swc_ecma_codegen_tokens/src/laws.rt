@@ -16,13 +16,13 @@ ghost use Rattle.swc_ecma_codegen_tokens.specs.Words.{space, formatting_space, l
 ghost use Rattle.swc_ecma_codegen_tokens.specs.Written.{IsNew, ReadsSoFar, AddsText, taken_remarks};
 
 /// A new emission has written no tokens so far.
-#[tactic(auto, using(crate::proofs::SoFar::new_so_far))]
+#[tactic(auto, using(crate::proofs::Reading::SoFar::new_so_far))]
 pub fn nothing_so_far()
     ensures { (s : State) → IsNew s → ReadsSoFar s.sheet.text [] [] s }
 {}
 
 /// Where nothing follows, what was added reads as the tokens so far.
-#[tactic(auto, using(crate::proofs::SoFar::so_far_reads))]
+#[tactic(auto, using(crate::proofs::Reading::SoFar::so_far_reads))]
 pub fn so_far_reads()
     ensures { (config : Config) (phrase : Phrase) (text_before : List ℕ) (tokens : List Token)
         (remarks : List Remark) (s : State) → Generates (settings_of config) phrase tokens →

@@ -87,7 +87,7 @@ impl LowerEmitter {
 
     /// Here a line may be ended, where lines are bounded: right behind a token that was written.
     #[inline(always)]
-    #[tactic(auto, using(crate::proofs::Calls::passes_break, crate::proofs::Calls::allows_one))]
+    #[tactic(auto, using(crate::proofs::Emission::Calls::passes_break, crate::proofs::Emission::Calls::allows_one))]
     pub fn allow_break<W: WriteJs>(&mut self, cfg: &Config, wr: &mut W) -> Answer
         ensures items { Does allow_break (state_of cfg.now (W.sheet wr.old) self.old)
             (state_of cfg.now (W.sheet wr.new) self.new) result }
@@ -101,7 +101,7 @@ impl LowerEmitter {
 
     /// The same behind a punctuator: a line may be ended behind `,` and not behind `.`.
     #[inline(always)]
-    #[tactic(auto, using(crate::proofs::Calls::unbounded_behind, crate::proofs::Calls::no_break, crate::proofs::Calls::has_break))]
+    #[tactic(auto, using(crate::proofs::Emission::Calls::unbounded_behind, crate::proofs::Emission::Calls::no_break, crate::proofs::Emission::Calls::has_break))]
     pub(crate) fn break_behind<W: WriteJs>(
         &mut self,
         cfg: &Config,
@@ -139,7 +139,7 @@ impl LowerEmitter {
     }
 
     /// Ends the line, unless the settings are to minify.
-    #[tactic(auto, unfolding(crate::specs::Words::formatting_line), using(crate::proofs::Calls::skipped, crate::proofs::Calls::not_skipped))]
+    #[tactic(auto, unfolding(crate::specs::Words::formatting_line), using(crate::proofs::Emission::Calls::skipped, crate::proofs::Emission::Calls::not_skipped))]
     pub fn formatting_line<W: WriteJs>(&mut self, cfg: &Config, wr: &mut W) -> Answer
         ensures items { Does formatting_line (state_of cfg.now (W.sheet wr.old) self.old)
             (state_of cfg.now (W.sheet wr.new) self.new) result }

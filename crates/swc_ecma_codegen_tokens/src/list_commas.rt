@@ -151,7 +151,7 @@ impl LowerEmitter {
     }
 
     /// Writes the trailing comma of a list, where it has one.
-    #[tactic(auto, using(crate::proofs::ListCommas::comma_written, crate::proofs::ListCommas::comma_left_out))]
+    #[tactic(auto, using(crate::proofs::Listing::ListCommas::comma_written, crate::proofs::Listing::ListCommas::comma_left_out))]
     pub fn trailing_comma<W: WriteJs, S: SourceMapper>(
         &mut self,
         cfg: &Config,

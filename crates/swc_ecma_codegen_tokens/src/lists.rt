@@ -85,7 +85,7 @@ impl LowerEmitter {
     }
 
     /// One level of indentation more, unless the settings are to minify.
-    #[tactic(auto, unfolding(crate::specs::Lists::formatting_deeper), using(crate::proofs::Calls::skipped, crate::proofs::Calls::not_skipped))]
+    #[tactic(auto, unfolding(crate::specs::Lists::formatting_deeper), using(crate::proofs::Emission::Calls::skipped, crate::proofs::Emission::Calls::not_skipped))]
     fn formatting_deeper<W: WriteJs>(&mut self, cfg: &Config, wr: &mut W) -> Answer
         ensures items { Does formatting_deeper (state_of cfg.now (W.sheet wr.old) self.old)
             (state_of cfg.now (W.sheet wr.new) self.new) result }
@@ -99,7 +99,7 @@ impl LowerEmitter {
     }
 
     /// One level of indentation less, unless the settings are to minify.
-    #[tactic(auto, unfolding(crate::specs::Lists::formatting_shallower), using(crate::proofs::Calls::skipped, crate::proofs::Calls::not_skipped))]
+    #[tactic(auto, unfolding(crate::specs::Lists::formatting_shallower), using(crate::proofs::Emission::Calls::skipped, crate::proofs::Emission::Calls::not_skipped))]
     fn formatting_shallower<W: WriteJs>(&mut self, cfg: &Config, wr: &mut W) -> Answer
         requires { level_if true cfg.now ≤ (W.sheet wr.old).indentation }
         ensures items { Does formatting_shallower (state_of cfg.now (W.sheet wr.old) self.old)

@@ -56,7 +56,7 @@ fn decimal_text(alloc: Global, minify: bool, number: &Decimal) -> std::result::R
 
 /// Whether the digits of a number are all that is printed of it: of `12`, and of `123` where no shorter text is sought.
 #[inline(always)]
-#[tactic(auto, using(crate::proofs::OwnDigits::own_digits, crate::proofs::OwnDigits::few_digits))]
+#[tactic(auto, using(crate::proofs::LiteralTokens::OwnDigits::own_digits, crate::proofs::LiteralTokens::OwnDigits::few_digits))]
 fn is_own_digits(minify: bool, number: &Decimal) -> bool
     ensures { result ≡ true → decimal_digits number.now ≡ decimal_text minify number.now }
 {

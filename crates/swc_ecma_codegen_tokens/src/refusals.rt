@@ -35,7 +35,7 @@ impl Unprintable {
 
 impl LowerEmitter {
     /// Comes to a node that can't be printed: nothing more is written.
-    #[tactic(auto, using(crate::proofs::Emitting::does_refusal, crate::proofs::Emitting::does_failed))]
+    #[tactic(auto, using(crate::proofs::Emission::Emitting::does_refusal, crate::proofs::Emission::Emitting::does_failed))]
     pub fn refuse<W: WriteJs>(&mut self, cfg: &Config, wr: &W, why: Unprintable) -> Answer
         ensures items { Does (refuse why) (state_of cfg.now (W.sheet wr.now) self.old)
             (state_of cfg.now (W.sheet wr.now) self.new) result }

@@ -140,7 +140,7 @@ static MARKS: [StartClass; 58] = [
 impl StartClass {
     /// How a text begins. Most names begin with a small letter of ASCII.
     #[inline(always)]
-    #[tactic(auto, using(crate::proofs::Starting::letter_start))]
+    #[tactic(auto, using(crate::proofs::Gaps::Starting::letter_start))]
     pub fn of_text(text: &str) -> StartClass
         ensures { result ≡ start_class (chars text.now) }
     {
@@ -153,7 +153,7 @@ impl StartClass {
 
     /// The same of a text that mostly is a string or a number: `"a"` or `1`.
     #[inline(always)]
-    #[tactic(auto, using(crate::proofs::Starting::quote_start, crate::proofs::Starting::digit_start))]
+    #[tactic(auto, using(crate::proofs::Gaps::Starting::quote_start, crate::proofs::Gaps::Starting::digit_start))]
     pub fn of_literal(text: &str) -> StartClass
         ensures { result ≡ start_class (chars text.now) }
     {

@@ -98,7 +98,7 @@ impl LowerEmitter {
 
     /// Writes the `<` or `{` that begins a child, or a closing tag.
     #[inline(never)]
-    #[tactic(auto, unfolding(crate::specs::Tags::child_open), using(crate::proofs::Emitting::does_failed))]
+    #[tactic(auto, unfolding(crate::specs::Tags::child_open), using(crate::proofs::Emission::Emitting::does_failed))]
     pub fn child_open<W: WriteJs>(&mut self, cfg: &Config, wr: &mut W, mark: Punctuator) -> Answer
         ensures items { Does (child_open (spelling mark))
             (state_of cfg.now (W.sheet wr.old) self.old)
@@ -137,7 +137,7 @@ impl LowerEmitter {
 
     /// Writes the text between tags.
     #[inline(never)]
-    #[tactic(auto, unfolding(crate::specs::Tags::jsx_text), using(crate::proofs::Emitting::does_failed))]
+    #[tactic(auto, unfolding(crate::specs::Tags::jsx_text), using(crate::proofs::Emission::Emitting::does_failed))]
     pub fn jsx_text<W: WriteJs>(
         &mut self,
         cfg: &Config,

@@ -73,7 +73,7 @@ fn is_respelled(cfg: &Config, raw: &str) -> bool
 }
 
 /// The text of a part of a template without a tag. `Error::OutOfMemory` where there is no room for it; a raw is lent.
-#[tactic(auto, using(crate::proofs::LineFeeds::without_returns), unfolding(crate::specs::Templates::cooked_chars, crate::specs::Templates::makes_cooked))]
+#[tactic(auto, using(crate::proofs::LiteralTokens::LineFeeds::without_returns), unfolding(crate::specs::Templates::cooked_chars, crate::specs::Templates::makes_cooked))]
 fn cooked_text<'a>(
     alloc: Global,
     cfg: &Config,

@@ -45,7 +45,7 @@ impl LowerEmitter {
 
     /// Writes a blank where the last token and `text`, which begins so, would fuse.
     #[inline(always)]
-    #[tactic(auto, using(crate::proofs::Emitting::does_failed))]
+    #[tactic(auto, using(crate::proofs::Emission::Emitting::does_failed))]
     pub(crate) fn guard<W: WriteJs>(
         &mut self,
         cfg: &Config,
@@ -101,7 +101,7 @@ impl LowerEmitter {
     }
 
     /// The same before a word of the grammar.
-    #[tactic(auto, using(crate::proofs::Starting::letter_start))]
+    #[tactic(auto, using(crate::proofs::Gaps::Starting::letter_start))]
     fn guard_word<W: WriteJs>(&mut self, cfg: &Config, wr: &mut W, word: &'static str) -> Answer
         requires { begins_letter word.now ≡ true }
         ensures items { Does (step (Guard word.now)) (state_of cfg.now (W.sheet wr.old) self.old)
@@ -625,7 +625,7 @@ impl LowerEmitter {
     }
 
     /// Writes a blank, unless the settings are to minify.
-    #[tactic(auto, unfolding(crate::specs::Words::formatting_space), using(crate::proofs::Calls::skipped, crate::proofs::Calls::not_skipped))]
+    #[tactic(auto, unfolding(crate::specs::Words::formatting_space), using(crate::proofs::Emission::Calls::skipped, crate::proofs::Emission::Calls::not_skipped))]
     pub fn formatting_space<W: WriteJs>(&mut self, cfg: &Config, wr: &mut W) -> Answer
         ensures items { Does formatting_space (state_of cfg.now (W.sheet wr.old) self.old)
             (state_of cfg.now (W.sheet wr.new) self.new) result }

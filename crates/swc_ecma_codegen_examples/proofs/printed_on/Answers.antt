@@ -1,7 +1,7 @@
 use Rattle.std.proofs.Common.{[], ap, subst, sym}
 use Rattle.swc_ecma_codegen_grammar.specs.Comments.{AreClosed, maps_in, no_maps}
 use Rattle.swc_ecma_codegen_grammar.specs.SourceLines.{no_lines}
-use Rattle.swc_ecma_codegen_tokens.proofs.NoneTaken.{no_maps_bare, no_maps_closed, same_remarks}
+use Rattle.swc_ecma_codegen_tokens.proofs.Commenting.NoneTaken.{no_maps_bare, no_maps_closed, same_remarks}
 use Rattle.swc_ecma_codegen_tokens.specs.Run.{State, start, unlined}
 use Rattle.swc_ecma_codegen_tokens.specs.Written.{AddsReading, taken_remarks}
 use Rattle.swc_ecma_codegen_text_writer.specs.Recorded.{RecordsTruly}

@@ -7,7 +7,7 @@ use Rattle.swc_ecma_codegen_text_writer.specs.Sheet.{Sheet}
 use Rattle.swc_ecma_codegen_text_writer.specs.View.{sheet_of, new_sheet}
 use Rattle.swc_ecma_codegen_grammar.specs.Comments.{maps_in}
 use Rattle.swc_ecma_codegen_tokens.specs.Run.{steps_of, steps_in, printed, start}
-use Rattle.swc_ecma_codegen_tokens.proofs.Fronts.{run_whole}
+use Rattle.swc_ecma_codegen_tokens.proofs.Emission.Fronts.{run_whole}
 use Rattle.swc_ecma_codegen_emit.specs.Texts.{blank_sheet, GivesCause, IsOfWriter, IsPrinted}
 use Rattle.swc_ecma_codegen_tokens.specs.Written.{ReadsAs, taken_remarks}
 use Rattle.swc_ecma_codegen_emit.specs.Roots.{root_phrase}

@@ -1,5 +1,5 @@
 use Rattle.std.proofs.Common.{◌∙◌}
-use Rattle.swc_ecma_codegen_tokens.proofs.Made.{nothing_changes, nothing_made}
+use Rattle.swc_ecma_codegen_tokens.proofs.Emission.Made.{nothing_changes, nothing_made}
 use Rattle.swc_ecma_codegen_emit.specs.Places.{by_itself}
 use Rattle.swc_ecma_codegen_examples.proofs.Options.{some_written, none_written, follows_part}
 use Rattle.swc_ecma_codegen_examples.proofs.links.emitted_option_reads.Goals as goal

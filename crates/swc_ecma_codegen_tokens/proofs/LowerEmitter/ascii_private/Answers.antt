@@ -1,7 +1,7 @@
 use Rattle.std.proofs.Common.{refl, ap, ◌∙◌}
 use Rattle.swc_ecma_codegen_common.specs.Refusals.{reason_of}
-use Rattle.swc_ecma_codegen_tokens.proofs.Emitting.{does_failed}
-use Rattle.swc_ecma_codegen_tokens.proofs.PrivateSteps.{private_in_ascii, private_not_spelled}
+use Rattle.swc_ecma_codegen_tokens.proofs.Emission.Emitting.{does_failed}
+use Rattle.swc_ecma_codegen_tokens.proofs.NameTokens.PrivateSteps.{private_in_ascii, private_not_spelled}
 use Rattle.swc_ecma_codegen_tokens.specs.Targets.{wants_escapes}
 use Rattle.swc_ecma_codegen_tokens.specs.View.{state_of}
 use Rattle.swc_ecma_codegen_tokens.proofs.LowerEmitter.ascii_private.Goals as goal

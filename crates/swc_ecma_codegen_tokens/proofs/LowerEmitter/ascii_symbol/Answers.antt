@@ -1,7 +1,7 @@
 use Rattle.std.proofs.Common.{refl, ap, ◌∙◌}
 use Rattle.swc_ecma_codegen_common.specs.Refusals.{reason_of}
-use Rattle.swc_ecma_codegen_tokens.proofs.Emitting.{does_failed}
-use Rattle.swc_ecma_codegen_tokens.proofs.Spelled.{spelled_in_ascii, not_spelled}
+use Rattle.swc_ecma_codegen_tokens.proofs.Emission.Emitting.{does_failed}
+use Rattle.swc_ecma_codegen_tokens.proofs.NameTokens.Spelled.{spelled_in_ascii, not_spelled}
 use Rattle.swc_ecma_codegen_tokens.specs.Targets.{wants_escapes}
 use Rattle.swc_ecma_codegen_tokens.specs.View.{state_of}
 use Rattle.swc_ecma_codegen_tokens.proofs.LowerEmitter.ascii_symbol.Goals as goal

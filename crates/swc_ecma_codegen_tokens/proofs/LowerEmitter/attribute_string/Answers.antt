@@ -1,8 +1,8 @@
 use Rattle.swc_ecma_codegen_grammar.specs.Comments.{maps_in}
 use Rattle.swc_ecma_codegen_grammar.specs.JsxPhrases.{jsx_string}
 use Rattle.swc_ecma_codegen_tokens.specs.Attributes.{attribute_string}
-use Rattle.swc_ecma_codegen_tokens.proofs.TagStrings.{prints_attribute_string}
-use Rattle.swc_ecma_codegen_tokens.proofs.TokensSoFar.{adds_taking, jsx_string_jointless}
+use Rattle.swc_ecma_codegen_tokens.proofs.Jsx.TagStrings.{prints_attribute_string}
+use Rattle.swc_ecma_codegen_tokens.proofs.Reading.TokensSoFar.{adds_taking, jsx_string_jointless}
 use Rattle.swc_ecma_codegen_tokens.proofs.LowerEmitter.attribute_string.Goals as goal
 
 pub returns-clause-reads : goal.returns-clause-reads

@@ -2,8 +2,8 @@ use Rattle.std.proofs.Common.{refl}
 use Rattle.swc_ecma_codegen_text_writer.specs.Sheet.{BeginLines}
 use Rattle.swc_ecma_codegen_tokens.specs.Run.{after_plain}
 use Rattle.swc_ecma_codegen_tokens.specs.Words.{begin_lines}
-use Rattle.swc_ecma_codegen_tokens.proofs.Calls.{called_kept, level, is_level}
-use Rattle.swc_ecma_codegen_tokens.proofs.Emitting.{does_failed}
+use Rattle.swc_ecma_codegen_tokens.proofs.Emission.Calls.{called_kept, level, is_level}
+use Rattle.swc_ecma_codegen_tokens.proofs.Emission.Emitting.{does_failed}
 use Rattle.swc_ecma_codegen_tokens.proofs.LowerEmitter.begin_lines.Goals as goal
 
 pub returns-then-self-clause-items : goal.returns-then-self-clause-items

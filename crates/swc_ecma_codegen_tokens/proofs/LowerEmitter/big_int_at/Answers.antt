@@ -1,7 +1,7 @@
 use Rattle.swc_ecma_codegen_tokens.specs.Run.{DoesTaking}
 use Rattle.swc_ecma_codegen_grammar.specs.Comments.{maps_in}
-use Rattle.swc_ecma_codegen_tokens.proofs.RewrittenLiterals.{taking_anew, taking_not_anew}
-use Rattle.swc_ecma_codegen_tokens.proofs.CommentSteps.{taking_failed}
+use Rattle.swc_ecma_codegen_tokens.proofs.LiteralTokens.RewrittenLiterals.{taking_anew, taking_not_anew}
+use Rattle.swc_ecma_codegen_tokens.proofs.Commenting.CommentSteps.{taking_failed}
 use Rattle.std.proofs.Common.{Bool, refl, ap, subst, ◌∙◌}
 use Rattle.swc_ecma_codegen_common.specs.Refusals.{reason_of}
 use Rattle.swc_ecma_codegen_tokens.specs.Lits.{big_int_at, big_int_by, prints_big_raw, big_int_text, makes_big_int}

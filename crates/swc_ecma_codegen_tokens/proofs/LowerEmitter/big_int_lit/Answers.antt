@@ -1,8 +1,8 @@
 use Rattle.swc_ecma_codegen_grammar.specs.Comments.{maps_in}
 use Rattle.swc_ecma_codegen_grammar.specs.LitPhrases as phrases
 use Rattle.swc_ecma_codegen_tokens.specs.Lits.{big_int_lit}
-use Rattle.swc_ecma_codegen_tokens.proofs.BigPrints.{prints_big_int}
-use Rattle.swc_ecma_codegen_tokens.proofs.TokensSoFar.{adds_taking, big_int_jointless}
+use Rattle.swc_ecma_codegen_tokens.proofs.LiteralTokens.BigPrints.{prints_big_int}
+use Rattle.swc_ecma_codegen_tokens.proofs.Reading.TokensSoFar.{adds_taking, big_int_jointless}
 use Rattle.swc_ecma_codegen_tokens.proofs.LowerEmitter.big_int_lit.Goals as goal
 
 pub returns-clause-reads : goal.returns-clause-reads

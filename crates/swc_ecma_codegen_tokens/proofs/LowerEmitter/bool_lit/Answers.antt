@@ -2,9 +2,9 @@ use Rattle.std.proofs.Common.{Ok, None}
 use Rattle.swc_ecma_codegen_grammar.specs.LitPhrases as phrases
 use Rattle.swc_ecma_codegen_tokens.specs.Lits.{bool_text, bool_lit}
 use Rattle.swc_ecma_codegen_tokens.specs.Words.{keyword}
-use Rattle.swc_ecma_codegen_tokens.proofs.LitPrints.{prints_bool}
-use Rattle.swc_ecma_codegen_tokens.proofs.NodesSoFar.{does_text}
-use Rattle.swc_ecma_codegen_tokens.proofs.TokensSoFar.{adds_list, bool_jointless}
+use Rattle.swc_ecma_codegen_tokens.proofs.LiteralTokens.LitPrints.{prints_bool}
+use Rattle.swc_ecma_codegen_tokens.proofs.Reading.NodesSoFar.{does_text}
+use Rattle.swc_ecma_codegen_tokens.proofs.Reading.TokensSoFar.{adds_list, bool_jointless}
 use Rattle.swc_ecma_codegen_tokens.proofs.LowerEmitter.bool_lit.Goals as goal
 
 pub returns-clause-reads : goal.returns-clause-reads

@@ -3,7 +3,7 @@ use Rattle.swc_ecma_codegen_grammar.specs.SourceLines.{no_lines}
 use Rattle.swc_ecma_codegen_grammar.specs.Comments.{no_maps}
 use Rattle.swc_ecma_codegen_literals.specs.Punctuators.{spelling}
 use Rattle.swc_ecma_codegen_tokens.specs.Tags as tags
-use Rattle.swc_ecma_codegen_tokens.proofs.SoFar.{open_so_far}
+use Rattle.swc_ecma_codegen_tokens.proofs.Reading.SoFar.{open_so_far}
 use Rattle.swc_ecma_codegen_tokens.proofs.LowerEmitter.child_open.Goals as goal
 
 pub returns-clause-reads : goal.returns-clause-reads

@@ -2,8 +2,8 @@ use Rattle.swc_ecma_codegen_grammar.specs.Comments.{no_maps}
 use Rattle.swc_ecma_codegen_grammar.specs.SourceLines.{no_lines}
 use Rattle.swc_ecma_codegen_tokens.specs.Adds.{comma_tokens}
 use Rattle.swc_ecma_codegen_tokens.specs.Run.{with_source}
-use Rattle.swc_ecma_codegen_tokens.proofs.ListsSoFar.{comma_nowhere, comma_there, no_tokens, other_tokens}
-use Rattle.swc_ecma_codegen_tokens.proofs.SoFar.{formatting_space_so_far}
+use Rattle.swc_ecma_codegen_tokens.proofs.Listing.ListsSoFar.{comma_nowhere, comma_there, no_tokens, other_tokens}
+use Rattle.swc_ecma_codegen_tokens.proofs.Reading.SoFar.{formatting_space_so_far}
 use Rattle.swc_ecma_codegen_tokens.proofs.LowerEmitter.comma_if.Goals as goal
 
 pub returns-in_ok-formatting_space-clause-reads : goal.returns-in_ok-formatting_space-clause-reads

@@ -1,7 +1,7 @@
 use Rattle.std.proofs.Common.{refl}
 use Rattle.swc_ecma_codegen_tokens.specs.PreviousToken.{last_at}
-use Rattle.swc_ecma_codegen_tokens.proofs.Calls.{called_text, level, is_level, noted_ok, noted_err}
-use Rattle.swc_ecma_codegen_tokens.proofs.Emitting.{does_failed}
+use Rattle.swc_ecma_codegen_tokens.proofs.Emission.Calls.{called_text, level, is_level, noted_ok, noted_err}
+use Rattle.swc_ecma_codegen_tokens.proofs.Emission.Emitting.{does_failed}
 use Rattle.swc_ecma_codegen_tokens.proofs.LowerEmitter.comment_text.Goals as goal
 
 pub returns-then-self-clause-items : goal.returns-then-self-clause-items

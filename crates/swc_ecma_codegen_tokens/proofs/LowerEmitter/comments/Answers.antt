@@ -1,5 +1,5 @@
 use Rattle.std.proofs.Common.{rules}
-use Rattle.swc_ecma_codegen_tokens.proofs.CommentSteps.{turned, next_comment, stopped_comment, all_comments}
+use Rattle.swc_ecma_codegen_tokens.proofs.Commenting.CommentSteps.{turned, next_comment, stopped_comment, all_comments}
 use Rattle.swc_ecma_codegen_tokens.proofs.LowerEmitter.comments.Goals as goal
 
 pub returns-in-Err-clause-items : goal.returns-in-Err-clause-items

@@ -1,6 +1,6 @@
 use Rattle.std.proofs.Common.{◌≡◌, drop}
 use Rattle.swc_ecma_codegen_tokens.specs.View.{state_of}
-use Rattle.swc_ecma_codegen_tokens.proofs.CommentSteps.{Continues}
+use Rattle.swc_ecma_codegen_tokens.proofs.Commenting.CommentSteps.{Continues}
 use Rattle.swc_ecma_codegen_tokens.proofs.LowerEmitter.comments.Given as goal
 
 abbrev pub invariant-loop-node : goal.invariant-loop-node

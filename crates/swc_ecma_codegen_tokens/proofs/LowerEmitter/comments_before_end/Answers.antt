@@ -1,6 +1,6 @@
 use Rattle.std.proofs.Common.{refl, Ok, Some, None, [], false}
 use Rattle.swc_ecma_codegen_grammar.specs.CommentMaps.{listed}
-use Rattle.swc_ecma_codegen_tokens.proofs.CommentSteps.{taking_failed, end_nowhere, end_from, end_without, none_written}
+use Rattle.swc_ecma_codegen_tokens.proofs.Commenting.CommentSteps.{taking_failed, end_nowhere, end_from, end_without, none_written}
 use Rattle.swc_ecma_codegen_tokens.proofs.LowerEmitter.comments_before_end.Goals as goal
 
 pub returns-then-self-clause-items : goal.returns-then-self-clause-items

@@ -4,8 +4,8 @@ use Rattle.swc_ecma_codegen_grammar.specs.ListFormats.{ampersand_delimited, bar_
 use Rattle.swc_ecma_codegen_grammar.specs.SourceLines.{no_lines}
 use Rattle.swc_ecma_codegen_tokens.specs.Adds.{tokens_between}
 use Rattle.swc_ecma_codegen_tokens.specs.Run.{with_source}
-use Rattle.swc_ecma_codegen_tokens.proofs.ListsSoFar.{ampersand_between, bar_between, comma_between, no_tokens, none_between, other_tokens}
-use Rattle.swc_ecma_codegen_tokens.proofs.SoFar.{formatting_space_so_far}
+use Rattle.swc_ecma_codegen_tokens.proofs.Listing.ListsSoFar.{ampersand_between, bar_between, comma_between, no_tokens, none_between, other_tokens}
+use Rattle.swc_ecma_codegen_tokens.proofs.Reading.SoFar.{formatting_space_so_far}
 use Rattle.swc_ecma_codegen_tokens.proofs.LowerEmitter.delimiter.Goals as goal
 
 pub returns-in_ok-punct-clause-reads : goal.returns-in_ok-punct-clause-reads

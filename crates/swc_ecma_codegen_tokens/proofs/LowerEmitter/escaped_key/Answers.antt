@@ -1,8 +1,8 @@
 use Rattle.std.proofs.Common.{refl, ap, ◌∙◌}
 use Rattle.swc_ecma_codegen_common.specs.Refusals.{reason_of}
 use Rattle.swc_ecma_codegen_literals.specs.AsciiNames.{is_out_of_target}
-use Rattle.swc_ecma_codegen_tokens.proofs.Emitting.{does_failed}
-use Rattle.swc_ecma_codegen_tokens.proofs.KeySteps.{key_in_ascii, key_not_made}
+use Rattle.swc_ecma_codegen_tokens.proofs.Emission.Emitting.{does_failed}
+use Rattle.swc_ecma_codegen_tokens.proofs.NameTokens.KeySteps.{key_in_ascii, key_not_made}
 use Rattle.swc_ecma_codegen_tokens.specs.Targets.{wants_escapes}
 use Rattle.swc_ecma_codegen_tokens.specs.View.{state_of}
 use Rattle.swc_ecma_codegen_tokens.proofs.LowerEmitter.escaped_key.Goals as goal

@@ -1,6 +1,6 @@
 use Rattle.std.proofs.Common.{sym, ◌∙◌}
 use Rattle.std.specs.Str.{chars}
-use Rattle.swc_ecma_codegen_tokens.proofs.Calls.{passed}
+use Rattle.swc_ecma_codegen_tokens.proofs.Emission.Calls.{passed}
 use Rattle.swc_ecma_codegen_tokens.proofs.LowerEmitter.guard.Goals as goal
 
 pub returns-then-not-blank_due_after-clause-items : goal.returns-then-not-blank_due_after-clause-items

@@ -3,7 +3,7 @@ use Rattle.std.specs.Str.{chars}
 use Rattle.swc_ecma_codegen_tokens.specs.Run.{Does, Guard, step}
 use Rattle.swc_ecma_codegen_tokens.specs.Starts.{start_class}
 use Rattle.swc_ecma_codegen_tokens.specs.View.{state_of}
-use Rattle.swc_ecma_codegen_tokens.proofs.Marks.{mark_chars}
+use Rattle.swc_ecma_codegen_tokens.proofs.Gaps.Marks.{mark_chars}
 use Rattle.swc_ecma_codegen_tokens.proofs.LowerEmitter.guard_mark.Goals as goal
 
 pub guard-requires : goal.guard-requires

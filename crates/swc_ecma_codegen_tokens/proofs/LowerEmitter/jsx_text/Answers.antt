@@ -2,7 +2,7 @@ use Rattle.swc_ecma_codegen_tokens.specs.Run.{with_source}
 use Rattle.swc_ecma_codegen_grammar.specs.SourceLines.{no_lines}
 use Rattle.swc_ecma_codegen_grammar.specs.Comments.{no_maps}
 use Rattle.swc_ecma_codegen_tokens.specs.Tags as tags
-use Rattle.swc_ecma_codegen_tokens.proofs.SoFar.{text_so_far}
+use Rattle.swc_ecma_codegen_tokens.proofs.Reading.SoFar.{text_so_far}
 use Rattle.swc_ecma_codegen_tokens.proofs.LowerEmitter.jsx_text.Goals as goal
 
 pub returns-clause-reads : goal.returns-clause-reads

@@ -1,4 +1,4 @@
-use Rattle.swc_ecma_codegen_tokens.proofs.TagStrings.{node_adds}
+use Rattle.swc_ecma_codegen_tokens.proofs.Jsx.TagStrings.{node_adds}
 use Rattle.swc_ecma_codegen_tokens.proofs.LowerEmitter.jsx_text_node.Goals as goal
 
 pub returns-clause-reads : goal.returns-clause-reads

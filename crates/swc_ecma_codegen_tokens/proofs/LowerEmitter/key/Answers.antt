@@ -2,8 +2,8 @@ use Rattle.std.proofs.Common.{refl, Ok}
 use Rattle.swc_ecma_codegen_grammar.specs.Comments.{maps_in}
 use Rattle.swc_ecma_codegen_grammar.specs.Phrases.{KeyOf}
 use Rattle.swc_ecma_codegen_tokens.specs.Keys as words
-use Rattle.swc_ecma_codegen_tokens.proofs.KeyPrints.{prints_key}
-use Rattle.swc_ecma_codegen_tokens.proofs.TokensSoFar.{is_jointless, adds_taking}
+use Rattle.swc_ecma_codegen_tokens.proofs.NameTokens.KeyPrints.{prints_key}
+use Rattle.swc_ecma_codegen_tokens.proofs.Reading.TokensSoFar.{is_jointless, adds_taking}
 use Rattle.swc_ecma_codegen_tokens.proofs.LowerEmitter.key.Goals as goal
 
 pub returns-clause-reads : goal.returns-clause-reads

@@ -1,4 +1,4 @@
-use Rattle.swc_ecma_codegen_tokens.proofs.KeySteps.{taking_lent, taking_made}
+use Rattle.swc_ecma_codegen_tokens.proofs.NameTokens.KeySteps.{taking_lent, taking_made}
 use Rattle.swc_ecma_codegen_tokens.specs.Run.{DoesTaking}
 use Rattle.swc_ecma_codegen_grammar.specs.Comments.{maps_in}
 use Rattle.std.proofs.Common.{sym, ◌∙◌, subst}

@@ -1,6 +1,6 @@
 use Rattle.std.proofs.Common.{refl, Ok, Some, None, [], false}
 use Rattle.swc_ecma_codegen_grammar.specs.CommentMaps.{listed}
-use Rattle.swc_ecma_codegen_tokens.proofs.CommentSteps.{taking_failed, leading_nowhere, leading_from, leading_without, none_written}
+use Rattle.swc_ecma_codegen_tokens.proofs.Commenting.CommentSteps.{taking_failed, leading_nowhere, leading_from, leading_without, none_written}
 use Rattle.swc_ecma_codegen_tokens.proofs.LowerEmitter.leading_taken.Goals as goal
 
 pub returns-then-self-clause-items : goal.returns-then-self-clause-items

@@ -1,8 +1,8 @@
 use Rattle.swc_ecma_codegen_grammar.specs.Comments.{maps_in}
 use Rattle.swc_ecma_codegen_grammar.specs.LitPhrases as phrases
 use Rattle.swc_ecma_codegen_tokens.specs.Lits.{lit}
-use Rattle.swc_ecma_codegen_tokens.proofs.EachLit.{prints_lit}
-use Rattle.swc_ecma_codegen_tokens.proofs.TokensSoFar.{adds_taking, lit_jointless}
+use Rattle.swc_ecma_codegen_tokens.proofs.LiteralTokens.EachLit.{prints_lit}
+use Rattle.swc_ecma_codegen_tokens.proofs.Reading.TokensSoFar.{adds_taking, lit_jointless}
 use Rattle.swc_ecma_codegen_tokens.proofs.LowerEmitter.lit.Goals as goal
 
 pub returns-clause-reads : goal.returns-clause-reads

@@ -1,7 +1,7 @@
 use Rattle.std.proofs.Common.{refl, ap, ◌∙◌}
 use Rattle.swc_ecma_codegen_common.specs.Refusals.{reason_of}
-use Rattle.swc_ecma_codegen_tokens.proofs.Emitting.{does_failed}
-use Rattle.swc_ecma_codegen_tokens.proofs.PrivateSteps.{private_remade, private_not_remade}
+use Rattle.swc_ecma_codegen_tokens.proofs.Emission.Emitting.{does_failed}
+use Rattle.swc_ecma_codegen_tokens.proofs.NameTokens.PrivateSteps.{private_remade, private_not_remade}
 use Rattle.swc_ecma_codegen_tokens.proofs.LowerEmitter.mended_private.Goals as goal
 
 pub returns-then-self-clause-items : goal.returns-then-self-clause-items

@@ -3,7 +3,7 @@ use Rattle.swc_ecma_codegen_grammar.specs.Comments.{maps_in}
 use Rattle.swc_ecma_codegen_grammar.specs.CommentMaps.{Maps}
 use Rattle.swc_ecma_codegen_grammar.specs.SourceLines.{no_lines}
 use Rattle.swc_ecma_codegen_tokens.specs.Words as words
-use Rattle.swc_ecma_codegen_tokens.proofs.SoFar.{name_so_far, so_far_at, so_far_from}
+use Rattle.swc_ecma_codegen_tokens.proofs.Reading.SoFar.{name_so_far, so_far_at, so_far_from}
 use Rattle.swc_ecma_codegen_tokens.proofs.LowerEmitter.name.Goals as goal
 
 pub returns-clause-reads : goal.returns-clause-reads

@@ -3,7 +3,7 @@ use Rattle.swc_ecma_codegen_text_writer.specs.Sheet.{Sheet}
 use Rattle.swc_ecma_codegen_tokens.specs.View.{state_of}
 use Rattle.swc_ecma_codegen_tokens.specs.Run.{Does}
 use Rattle.swc_ecma_codegen_tokens.specs.Words.{spelled_symbol, valid_symbol}
-use Rattle.swc_ecma_codegen_tokens.proofs.Spelled.{kept_name, made_name}
+use Rattle.swc_ecma_codegen_tokens.proofs.NameTokens.Spelled.{kept_name, made_name}
 use Rattle.swc_ecma_codegen_tokens.proofs.LowerEmitter.name_text.Goals as goal
 
 -- the sheet is what it was before the question

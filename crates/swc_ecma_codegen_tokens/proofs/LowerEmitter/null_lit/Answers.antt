@@ -1,8 +1,8 @@
 use Rattle.std.proofs.Common.{Ok}
 use Rattle.swc_ecma_codegen_grammar.specs.LitPhrases as phrases
 use Rattle.swc_ecma_codegen_tokens.specs.Lits.{null_lit}
-use Rattle.swc_ecma_codegen_tokens.proofs.LitPrints.{prints_null}
-use Rattle.swc_ecma_codegen_tokens.proofs.TokensSoFar.{adds_list, null_jointless}
+use Rattle.swc_ecma_codegen_tokens.proofs.LiteralTokens.LitPrints.{prints_null}
+use Rattle.swc_ecma_codegen_tokens.proofs.Reading.TokensSoFar.{adds_list, null_jointless}
 use Rattle.swc_ecma_codegen_tokens.proofs.LowerEmitter.null_lit.Goals as goal
 
 pub returns-clause-reads : goal.returns-clause-reads

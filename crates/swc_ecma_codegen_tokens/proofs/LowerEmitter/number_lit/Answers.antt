@@ -1,8 +1,8 @@
 use Rattle.swc_ecma_codegen_grammar.specs.Comments.{maps_in}
 use Rattle.swc_ecma_codegen_grammar.specs.LitPhrases as phrases
 use Rattle.swc_ecma_codegen_tokens.specs.Lits.{number_lit}
-use Rattle.swc_ecma_codegen_tokens.proofs.NumberPrints.{prints_number}
-use Rattle.swc_ecma_codegen_tokens.proofs.TokensSoFar.{adds_taking, number_jointless}
+use Rattle.swc_ecma_codegen_tokens.proofs.LiteralTokens.NumberPrints.{prints_number}
+use Rattle.swc_ecma_codegen_tokens.proofs.Reading.TokensSoFar.{adds_taking, number_jointless}
 use Rattle.swc_ecma_codegen_tokens.proofs.LowerEmitter.number_lit.Goals as goal
 
 pub returns-clause-reads : goal.returns-clause-reads

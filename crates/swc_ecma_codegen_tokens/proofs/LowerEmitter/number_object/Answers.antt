@@ -2,9 +2,9 @@ use Rattle.swc_ecma_codegen_grammar.specs.CommentMaps.{Maps}
 use Rattle.swc_ecma_codegen_grammar.specs.Comments.{maps_in}
 use Rattle.swc_ecma_codegen_grammar.specs.LitPhrases as phrases
 use Rattle.swc_ecma_codegen_tokens.specs.Lits.{number_object}
-use Rattle.swc_ecma_codegen_tokens.proofs.NodesSoFar.{literal_object, named_object}
-use Rattle.swc_ecma_codegen_tokens.proofs.NumberPrints.{prints_number_object}
-use Rattle.swc_ecma_codegen_tokens.proofs.TokensSoFar.{adds_taking, number_jointless}
+use Rattle.swc_ecma_codegen_tokens.proofs.Reading.NodesSoFar.{literal_object, named_object}
+use Rattle.swc_ecma_codegen_tokens.proofs.LiteralTokens.NumberPrints.{prints_number_object}
+use Rattle.swc_ecma_codegen_tokens.proofs.Reading.TokensSoFar.{adds_taking, number_jointless}
 use Rattle.swc_ecma_codegen_tokens.proofs.LowerEmitter.number_object.Goals as goal
 
 pub returns-then-is_named-clause-reads : goal.returns-then-is_named-clause-reads

@@ -1,7 +1,7 @@
 use Rattle.swc_ecma_codegen_tokens.specs.Run.{with_source}
 use Rattle.swc_ecma_codegen_grammar.specs.SourceLines.{no_lines}
 use Rattle.swc_ecma_codegen_grammar.specs.Comments.{no_maps}
-use Rattle.swc_ecma_codegen_tokens.proofs.SoFar.{space_so_far}
+use Rattle.swc_ecma_codegen_tokens.proofs.Reading.SoFar.{space_so_far}
 use Rattle.swc_ecma_codegen_tokens.proofs.LowerEmitter.operator_between.Goals as goal
 
 pub returns-clause-reads : goal.returns-clause-reads

@@ -2,9 +2,9 @@ use Rattle.swc_ecma_codegen_tokens.specs.Run.{with_source}
 use Rattle.swc_ecma_codegen_grammar.specs.SourceLines.{no_lines}
 use Rattle.swc_ecma_codegen_grammar.specs.Comments.{no_maps}
 use Rattle.swc_ecma_codegen_literals.specs.Punctuators.{spelling}
-use Rattle.swc_ecma_codegen_tokens.proofs.Marks.{is_mark}
+use Rattle.swc_ecma_codegen_tokens.proofs.Gaps.Marks.{is_mark}
 use Rattle.swc_ecma_codegen_tokens.specs.Words as words
-use Rattle.swc_ecma_codegen_tokens.proofs.SoFar.{operator_so_far}
+use Rattle.swc_ecma_codegen_tokens.proofs.Reading.SoFar.{operator_so_far}
 use Rattle.swc_ecma_codegen_tokens.proofs.LowerEmitter.operator_here.Goals as goal
 
 pub returns-clause-reads : goal.returns-clause-reads

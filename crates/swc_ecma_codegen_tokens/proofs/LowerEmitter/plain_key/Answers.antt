@@ -1,6 +1,6 @@
-use Rattle.swc_ecma_codegen_tokens.proofs.KeySteps.{taking_bare}
-use Rattle.swc_ecma_codegen_tokens.proofs.RewrittenLiterals.{does_takes}
-use Rattle.swc_ecma_codegen_tokens.proofs.KeySteps.{key_symbol}
+use Rattle.swc_ecma_codegen_tokens.proofs.NameTokens.KeySteps.{taking_bare}
+use Rattle.swc_ecma_codegen_tokens.proofs.LiteralTokens.RewrittenLiterals.{does_takes}
+use Rattle.swc_ecma_codegen_tokens.proofs.NameTokens.KeySteps.{key_symbol}
 use Rattle.swc_ecma_codegen_tokens.proofs.LowerEmitter.plain_key.Goals as goal
 
 pub returns-then-cfg-clause-items : goal.returns-then-cfg-clause-items

@@ -2,8 +2,8 @@ use Rattle.std.proofs.Common.{refl, Ok}
 use Rattle.swc_ecma_codegen_grammar.specs.Comments.{maps_in}
 use Rattle.swc_ecma_codegen_grammar.specs.Phrases.{PrivateOf}
 use Rattle.swc_ecma_codegen_tokens.specs.PrivateNames as words
-use Rattle.swc_ecma_codegen_tokens.proofs.PrivatePrints.{prints_private}
-use Rattle.swc_ecma_codegen_tokens.proofs.TokensSoFar.{is_jointless, adds_taking}
+use Rattle.swc_ecma_codegen_tokens.proofs.NameTokens.PrivatePrints.{prints_private}
+use Rattle.swc_ecma_codegen_tokens.proofs.Reading.TokensSoFar.{is_jointless, adds_taking}
 use Rattle.swc_ecma_codegen_tokens.proofs.LowerEmitter.private_name.Goals as goal
 
 pub returns-clause-reads : goal.returns-clause-reads

@@ -3,7 +3,7 @@ use Rattle.swc_ecma_codegen_text_writer.specs.Sheet.{Sheet}
 use Rattle.swc_ecma_codegen_tokens.specs.View.{state_of}
 use Rattle.swc_ecma_codegen_tokens.specs.PrivateNames.{spelled_private, valid_private}
 use Rattle.swc_ecma_codegen_tokens.specs.Run.{Does}
-use Rattle.swc_ecma_codegen_tokens.proofs.PrivateSteps.{kept_private, made_private}
+use Rattle.swc_ecma_codegen_tokens.proofs.NameTokens.PrivateSteps.{kept_private, made_private}
 use Rattle.swc_ecma_codegen_tokens.proofs.LowerEmitter.private_text.Goals as goal
 
 -- the sheet is what it was before the question

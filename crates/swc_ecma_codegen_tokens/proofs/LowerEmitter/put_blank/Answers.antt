@@ -1,5 +1,5 @@
 use Rattle.std.proofs.Common.{refl}
-use Rattle.swc_ecma_codegen_tokens.proofs.Calls.{guarded, level, is_level}
+use Rattle.swc_ecma_codegen_tokens.proofs.Emission.Calls.{guarded, level, is_level}
 use Rattle.swc_ecma_codegen_tokens.proofs.LowerEmitter.put_blank.Goals as goal
 
 pub returns-clause-items : goal.returns-clause-items

@@ -3,8 +3,8 @@ use Rattle.swc_ecma_codegen_grammar.specs.declared.kinds.Kind.TheVariants.{Numbe
 use Rattle.swc_ecma_codegen_text_writer.specs.Sheet.{Punct}
 use Rattle.swc_ecma_codegen_tokens.specs.PreviousToken.{last_at}
 use Rattle.swc_ecma_codegen_tokens.specs.Literals.{signed}
-use Rattle.swc_ecma_codegen_tokens.proofs.NumberEnds.{after_number, dot_end}
-use Rattle.swc_ecma_codegen_tokens.proofs.Calls.{called_ends, level, is_level}
+use Rattle.swc_ecma_codegen_tokens.proofs.LiteralTokens.NumberEnds.{after_number, dot_end}
+use Rattle.swc_ecma_codegen_tokens.proofs.Emission.Calls.{called_ends, level, is_level}
 use Rattle.swc_ecma_codegen_tokens.proofs.LowerEmitter.put_dot.Goals as goal
 
 pub returns-clause-items : goal.returns-clause-items

@@ -5,8 +5,8 @@ use Rattle.swc_ecma_codegen_tokens.specs.PreviousToken.{last_at}
 use Rattle.swc_ecma_codegen_tokens.specs.Run.{Does, Ends, step}
 use Rattle.swc_ecma_codegen_tokens.specs.Templates.{closed}
 use Rattle.swc_ecma_codegen_tokens.specs.View.{state_of}
-use Rattle.swc_ecma_codegen_tokens.proofs.Calls.{called_ends, level, is_level}
-use Rattle.swc_ecma_codegen_tokens.proofs.TemplateLaws.{after_part}
+use Rattle.swc_ecma_codegen_tokens.proofs.Emission.Calls.{called_ends, level, is_level}
+use Rattle.swc_ecma_codegen_tokens.proofs.LiteralTokens.TemplateLaws.{after_part}
 use Rattle.swc_ecma_codegen_tokens.proofs.LowerEmitter.put_end.Goals as goal
 
 pub returns-clause-items : goal.returns-clause-items

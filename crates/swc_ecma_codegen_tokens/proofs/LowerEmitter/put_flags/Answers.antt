@@ -5,7 +5,7 @@ use Rattle.swc_ecma_codegen_text_writer.specs.Sheet.{Str}
 use Rattle.swc_ecma_codegen_tokens.specs.PreviousToken.{last_at}
 use Rattle.swc_ecma_codegen_tokens.specs.Run.{after_token, after_tokens}
 use Rattle.swc_ecma_codegen_tokens.specs.Literals.{regex_text}
-use Rattle.swc_ecma_codegen_tokens.proofs.Calls.{called_ends, level, is_level}
+use Rattle.swc_ecma_codegen_tokens.proofs.Emission.Calls.{called_ends, level, is_level}
 use Rattle.swc_ecma_codegen_tokens.proofs.LowerEmitter.put_flags.Goals as goal
 
 pub returns-clause-items : goal.returns-clause-items

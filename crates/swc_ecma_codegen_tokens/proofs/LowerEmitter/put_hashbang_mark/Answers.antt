@@ -1,8 +1,8 @@
 use Rattle.std.proofs.Common.{refl, None, codes}
 use Rattle.swc_ecma_codegen_text_writer.specs.Sheet.{Punct}
 use Rattle.swc_ecma_codegen_tokens.specs.Run.{after_plain}
-use Rattle.swc_ecma_codegen_tokens.proofs.Calls.{called_kept, level, is_level}
-use Rattle.swc_ecma_codegen_tokens.proofs.Emitting.{does_failed}
+use Rattle.swc_ecma_codegen_tokens.proofs.Emission.Calls.{called_kept, level, is_level}
+use Rattle.swc_ecma_codegen_tokens.proofs.Emission.Emitting.{does_failed}
 use Rattle.swc_ecma_codegen_tokens.proofs.LowerEmitter.put_hashbang_mark.Goals as goal
 
 pub returns-then-self-clause-items : goal.returns-then-self-clause-items

@@ -4,8 +4,8 @@ use Rattle.swc_ecma_codegen_spans.specs.Spans.{dummy_span}
 use Rattle.swc_ecma_codegen_text_writer.specs.Sheet.{StrLit}
 use Rattle.swc_ecma_codegen_tokens.specs.PreviousToken.{last_at}
 use Rattle.swc_ecma_codegen_tokens.specs.Literals.{signed}
-use Rattle.swc_ecma_codegen_tokens.proofs.NumberEnds.{number_end, after_number}
-use Rattle.swc_ecma_codegen_tokens.proofs.Calls.{called_ends, level, is_level}
+use Rattle.swc_ecma_codegen_tokens.proofs.LiteralTokens.NumberEnds.{number_end, after_number}
+use Rattle.swc_ecma_codegen_tokens.proofs.Emission.Calls.{called_ends, level, is_level}
 use Rattle.swc_ecma_codegen_tokens.proofs.LowerEmitter.put_number.Goals as goal
 
 pub returns-clause-items : goal.returns-clause-items

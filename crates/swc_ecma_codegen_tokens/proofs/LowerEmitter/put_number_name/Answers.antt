@@ -4,7 +4,7 @@ use Rattle.swc_ecma_codegen_grammar.specs.GapRules.{last_after}
 use Rattle.swc_ecma_codegen_text_writer.specs.Sheet.{StrLit}
 use Rattle.swc_ecma_codegen_tokens.specs.PreviousToken.{last_at}
 use Rattle.swc_ecma_codegen_tokens.specs.Run.{after_token, text_of}
-use Rattle.swc_ecma_codegen_tokens.proofs.Calls.{called, level, is_level}
+use Rattle.swc_ecma_codegen_tokens.proofs.Emission.Calls.{called, level, is_level}
 use Rattle.swc_ecma_codegen_tokens.proofs.LowerEmitter.put_number_name.Goals as goal
 
 pub returns-clause-items : goal.returns-clause-items

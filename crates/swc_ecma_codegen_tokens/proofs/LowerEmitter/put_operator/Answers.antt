@@ -5,8 +5,8 @@ use Rattle.swc_ecma_codegen_text_writer.specs.Sheet.{Operator}
 use Rattle.swc_ecma_codegen_tokens.specs.PreviousToken.{last_at, after_mark}
 use Rattle.swc_ecma_codegen_tokens.specs.Run.{Does, Token, step, spelling as characters, after_token, text_of}
 use Rattle.swc_ecma_codegen_tokens.specs.View.{state_of}
-use Rattle.swc_ecma_codegen_tokens.proofs.AfterPunctuators.{after_is}
-use Rattle.swc_ecma_codegen_tokens.proofs.Calls.{called, level, is_level, noted_ok, noted_err}
+use Rattle.swc_ecma_codegen_tokens.proofs.Gaps.AfterPunctuators.{after_is}
+use Rattle.swc_ecma_codegen_tokens.proofs.Emission.Calls.{called, level, is_level, noted_ok, noted_err}
 use Rattle.swc_ecma_codegen_tokens.proofs.LowerEmitter.put_operator.Goals as goal
 
 pub returns-clause-items : goal.returns-clause-items

@@ -2,7 +2,7 @@ use Rattle.std.proofs.Common.{refl, []}
 use Rattle.swc_ecma_codegen_spans.specs.Spans.{dummy_span}
 use Rattle.swc_ecma_codegen_text_writer.specs.Sheet.{StrLit}
 use Rattle.swc_ecma_codegen_tokens.specs.Run.{after_tokens}
-use Rattle.swc_ecma_codegen_tokens.proofs.Calls.{called_ends_kept, level, is_level}
+use Rattle.swc_ecma_codegen_tokens.proofs.Emission.Calls.{called_ends_kept, level, is_level}
 use Rattle.swc_ecma_codegen_tokens.proofs.LowerEmitter.put_raw.Goals as goal
 
 pub returns-clause-items : goal.returns-clause-items

@@ -1,7 +1,7 @@
 use Rattle.std.proofs.Common.{refl, None, codes}
 use Rattle.swc_ecma_codegen_text_writer.specs.Sheet.{Punct}
 use Rattle.swc_ecma_codegen_tokens.specs.Run.{after_plain}
-use Rattle.swc_ecma_codegen_tokens.proofs.Calls.{called_kept, level, is_level}
+use Rattle.swc_ecma_codegen_tokens.proofs.Emission.Calls.{called_kept, level, is_level}
 use Rattle.swc_ecma_codegen_tokens.proofs.LowerEmitter.put_slash.Goals as goal
 
 pub returns-clause-items : goal.returns-clause-items

@@ -3,8 +3,8 @@ use Rattle.swc_ecma_codegen_grammar.specs.declared.kinds.Kind.TheVariants.{BigIn
 use Rattle.swc_ecma_codegen_text_writer.specs.Sheet.{Lit}
 use Rattle.swc_ecma_codegen_tokens.specs.PreviousToken.{last_at}
 use Rattle.swc_ecma_codegen_tokens.specs.Literals.{signed}
-use Rattle.swc_ecma_codegen_tokens.proofs.NumberEnds.{after_big, big_end}
-use Rattle.swc_ecma_codegen_tokens.proofs.Calls.{called_ends, level, is_level}
+use Rattle.swc_ecma_codegen_tokens.proofs.LiteralTokens.NumberEnds.{after_big, big_end}
+use Rattle.swc_ecma_codegen_tokens.proofs.Emission.Calls.{called_ends, level, is_level}
 use Rattle.swc_ecma_codegen_tokens.proofs.LowerEmitter.put_suffix.Goals as goal
 
 pub returns-clause-items : goal.returns-clause-items

@@ -5,7 +5,7 @@ use Rattle.swc_ecma_codegen_spans.specs.Spans.{dummy_span}
 use Rattle.swc_ecma_codegen_text_writer.specs.Sheet.{Symbol}
 use Rattle.swc_ecma_codegen_tokens.specs.PreviousToken.{last_at}
 use Rattle.swc_ecma_codegen_tokens.specs.Run.{after_token, text_of}
-use Rattle.swc_ecma_codegen_tokens.proofs.Calls.{called, level, is_level, noted_ok, noted_err}
+use Rattle.swc_ecma_codegen_tokens.proofs.Emission.Calls.{called, level, is_level, noted_ok, noted_err}
 use Rattle.swc_ecma_codegen_tokens.proofs.LowerEmitter.put_symbol.Goals as goal
 
 pub returns-clause-items : goal.returns-clause-items

@@ -1,8 +1,8 @@
 use Rattle.std.proofs.Common.{refl, sym, ap, ◌∙◌, false}
 use Rattle.swc_ecma_codegen_common.specs.Refusals.{reason_of}
 use Rattle.swc_ecma_codegen_tokens.specs.Templates.{quasi, cooked_text, makes_cooked, placed_inside, cooked_chars, is_respelled}
-use Rattle.swc_ecma_codegen_tokens.proofs.RewrittenLiterals.{spelled_anew, not_anew}
-use Rattle.swc_ecma_codegen_tokens.proofs.Emitting.{does_failed}
+use Rattle.swc_ecma_codegen_tokens.proofs.LiteralTokens.RewrittenLiterals.{spelled_anew, not_anew}
+use Rattle.swc_ecma_codegen_tokens.proofs.Emission.Emitting.{does_failed}
 use Rattle.swc_ecma_codegen_tokens.specs.View.{state_of}
 use Rattle.swc_ecma_codegen_tokens.proofs.LowerEmitter.quasi.Goals as goal
 

@@ -2,7 +2,7 @@ use Rattle.std.proofs.Common.{◌≡◌, false, ◌&&◌, ◌==◌, not, cond, S
 use Rattle.swc_ecma_codegen_common.specs.declared.positions.BytePos.{BytePos}
 use Rattle.swc_ecma_codegen_text_writer.specs.Sheet.{Sheet, Position, effect, pointed, recorded, recorded_by}
 use Rattle.swc_ecma_codegen_tokens.specs.Run.{State, Plain, put, after_plain}
-use Rattle.swc_ecma_codegen_tokens.proofs.Emitting.{does_failed, does_step}
+use Rattle.swc_ecma_codegen_tokens.proofs.Emission.Emitting.{does_failed, does_step}
 use Rattle.swc_ecma_codegen_tokens.proofs.LowerEmitter.record.Goals as goal
 
 pub returns-then-self-clause-items : goal.returns-then-self-clause-items

@@ -2,9 +2,9 @@ use Rattle.std.proofs.Common.{List, ℕ, Ok, string_bytes}
 use Rattle.swc_ecma_codegen_grammar.specs.LitPhrases as phrases
 use Rattle.swc_ecma_codegen_tokens.specs.Literals.{regex}
 use Rattle.swc_ecma_codegen_tokens.specs.Lits.{regex_lit}
-use Rattle.swc_ecma_codegen_tokens.proofs.LitPrints.{prints_regex}
-use Rattle.swc_ecma_codegen_tokens.proofs.NodesSoFar.{does_text}
-use Rattle.swc_ecma_codegen_tokens.proofs.TokensSoFar.{adds_list, regex_jointless}
+use Rattle.swc_ecma_codegen_tokens.proofs.LiteralTokens.LitPrints.{prints_regex}
+use Rattle.swc_ecma_codegen_tokens.proofs.Reading.NodesSoFar.{does_text}
+use Rattle.swc_ecma_codegen_tokens.proofs.Reading.TokensSoFar.{adds_list, regex_jointless}
 use Rattle.swc_ecma_codegen_tokens.proofs.LowerEmitter.regex_lit.Goals as goal
 
 pub returns-clause-reads : goal.returns-clause-reads

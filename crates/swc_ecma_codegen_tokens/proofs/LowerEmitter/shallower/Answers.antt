@@ -2,8 +2,8 @@ use Rattle.std.proofs.Common.{refl}
 use Rattle.swc_ecma_codegen_text_writer.specs.Sheet.{Shallower}
 use Rattle.swc_ecma_codegen_tokens.specs.Run.{after_plain}
 use Rattle.swc_ecma_codegen_tokens.specs.Lists.{shallower}
-use Rattle.swc_ecma_codegen_tokens.proofs.Calls.{called_kept, shallower_level}
-use Rattle.swc_ecma_codegen_tokens.proofs.Emitting.{does_failed}
+use Rattle.swc_ecma_codegen_tokens.proofs.Emission.Calls.{called_kept, shallower_level}
+use Rattle.swc_ecma_codegen_tokens.proofs.Emission.Emitting.{does_failed}
 use Rattle.swc_ecma_codegen_tokens.proofs.LowerEmitter.shallower.Goals as goal
 
 pub returns-then-self-clause-items : goal.returns-then-self-clause-items

@@ -3,8 +3,8 @@ use Rattle.swc_ecma_codegen_grammar.specs.SourceLines.{no_lines}
 use Rattle.swc_ecma_codegen_tokens.specs.Adds.{sign_tokens}
 use Rattle.swc_ecma_codegen_tokens.specs.Literals as words
 use Rattle.swc_ecma_codegen_tokens.specs.Run.{with_source}
-use Rattle.swc_ecma_codegen_tokens.proofs.ListsSoFar.{no_sign, no_tokens, other_tokens, sign_there}
-use Rattle.swc_ecma_codegen_tokens.proofs.TokensSoFar.{minus_so_far}
+use Rattle.swc_ecma_codegen_tokens.proofs.Listing.ListsSoFar.{no_sign, no_tokens, other_tokens, sign_there}
+use Rattle.swc_ecma_codegen_tokens.proofs.Reading.TokensSoFar.{minus_so_far}
 use Rattle.swc_ecma_codegen_tokens.proofs.LowerEmitter.sign.Goals as goal
 
 pub returns-in_ok-put_sign-clause-reads : goal.returns-in_ok-put_sign-clause-reads

@@ -2,10 +2,10 @@ use Rattle.std.proofs.Common.{true, refl, ap, ◌∙◌}
 use Rattle.std.proofs.lemmas.Bool.{ne_eqb}
 use Rattle.swc_ecma_codegen_common.specs.Refusals.{reason_of}
 use Rattle.swc_ecma_codegen_tokens.specs.View.{state_of}
-use Rattle.swc_ecma_codegen_tokens.proofs.Emitting.{emits_failed}
-use Rattle.swc_ecma_codegen_tokens.proofs.ListCommas.{comma_read, comma_unread}
+use Rattle.swc_ecma_codegen_tokens.proofs.Emission.Emitting.{emits_failed}
+use Rattle.swc_ecma_codegen_tokens.proofs.Listing.ListCommas.{comma_read, comma_unread}
 use Rattle.swc_ecma_codegen_tokens.specs.Adds.{stands_with_comma}
-use Rattle.swc_ecma_codegen_tokens.proofs.ListsSoFar.{adds_by, no_tokens, nowhere_none, somewhere_same}
+use Rattle.swc_ecma_codegen_tokens.proofs.Listing.ListsSoFar.{adds_by, no_tokens, nowhere_none, somewhere_same}
 use Rattle.swc_ecma_codegen_tokens.proofs.LowerEmitter.source_comma.Goals as goal
 
 pub returns-then-self-clause-items : goal.returns-then-self-clause-items

@@ -3,8 +3,8 @@ use Rattle.swc_ecma_codegen_text_writer.specs.Sheet.{Space}
 use Rattle.swc_ecma_codegen_tokens.specs.PreviousToken.{last_at}
 use Rattle.swc_ecma_codegen_tokens.specs.Run.{after_plain}
 use Rattle.swc_ecma_codegen_tokens.specs.Words.{space}
-use Rattle.swc_ecma_codegen_tokens.proofs.Calls.{called_plain, level, is_level, noted_ok, noted_err}
-use Rattle.swc_ecma_codegen_tokens.proofs.Emitting.{does_failed}
+use Rattle.swc_ecma_codegen_tokens.proofs.Emission.Calls.{called_plain, level, is_level, noted_ok, noted_err}
+use Rattle.swc_ecma_codegen_tokens.proofs.Emission.Emitting.{does_failed}
 use Rattle.swc_ecma_codegen_tokens.proofs.LowerEmitter.space_here.Goals as goal
 
 pub returns-then-self-clause-items : goal.returns-then-self-clause-items

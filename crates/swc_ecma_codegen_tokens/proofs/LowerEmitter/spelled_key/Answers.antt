@@ -1,5 +1,5 @@
-use Rattle.swc_ecma_codegen_tokens.proofs.KeySteps.{taking_kept}
-use Rattle.swc_ecma_codegen_tokens.proofs.RewrittenLiterals.{does_takes}
+use Rattle.swc_ecma_codegen_tokens.proofs.NameTokens.KeySteps.{taking_kept}
+use Rattle.swc_ecma_codegen_tokens.proofs.LiteralTokens.RewrittenLiterals.{does_takes}
 use Rattle.std.proofs.Common.{sym, ◌∙◌}
 use Rattle.swc_ecma_codegen_tokens.specs.Targets.{wants_escapes}
 use Rattle.swc_ecma_codegen_tokens.specs.View.{state_of}

@@ -1,5 +1,5 @@
 use Rattle.std.proofs.Common.{sym, ◌∙◌}
-use Rattle.swc_ecma_codegen_tokens.proofs.PrivateSteps.{private_as_it_is}
+use Rattle.swc_ecma_codegen_tokens.proofs.NameTokens.PrivateSteps.{private_as_it_is}
 use Rattle.swc_ecma_codegen_tokens.specs.Targets.{wants_escapes}
 use Rattle.swc_ecma_codegen_tokens.specs.View.{state_of}
 use Rattle.swc_ecma_codegen_tokens.proofs.LowerEmitter.spelled_private.Goals as goal

@@ -1,8 +1,8 @@
 use Rattle.swc_ecma_codegen_grammar.specs.Comments.{maps_in}
 use Rattle.swc_ecma_codegen_grammar.specs.LitPhrases as phrases
 use Rattle.swc_ecma_codegen_tokens.specs.Lits.{str_lit}
-use Rattle.swc_ecma_codegen_tokens.proofs.StringPrints.{prints_str}
-use Rattle.swc_ecma_codegen_tokens.proofs.TokensSoFar.{adds_taking, str_jointless}
+use Rattle.swc_ecma_codegen_tokens.proofs.LiteralTokens.StringPrints.{prints_str}
+use Rattle.swc_ecma_codegen_tokens.proofs.Reading.TokensSoFar.{adds_taking, str_jointless}
 use Rattle.swc_ecma_codegen_tokens.proofs.LowerEmitter.str_lit.Goals as goal
 
 pub returns-clause-reads : goal.returns-clause-reads

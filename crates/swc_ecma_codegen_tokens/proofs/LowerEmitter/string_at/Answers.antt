@@ -1,5 +1,5 @@
-use Rattle.swc_ecma_codegen_tokens.proofs.RewrittenLiterals.{taking_anew, taking_not_anew}
-use Rattle.swc_ecma_codegen_tokens.proofs.CommentSteps.{taking_failed}
+use Rattle.swc_ecma_codegen_tokens.proofs.LiteralTokens.RewrittenLiterals.{taking_anew, taking_not_anew}
+use Rattle.swc_ecma_codegen_tokens.proofs.Commenting.CommentSteps.{taking_failed}
 use Rattle.std.proofs.Common.{refl, ap, ◌∙◌, not}
 use Rattle.swc_ecma_codegen_common.specs.Refusals.{reason_of}
 use Rattle.swc_ecma_codegen_tokens.specs.Lits.{string_at, string_by, string_text, prints_raw, takes_raw, value_text}

@@ -3,9 +3,9 @@ use Rattle.swc_ecma_codegen_grammar.specs.Comments.{maps_in}
 use Rattle.swc_ecma_codegen_grammar.specs.CommentMaps.{Maps}
 use Rattle.swc_ecma_codegen_grammar.specs.Phrases.{TagNameOf}
 use Rattle.swc_ecma_codegen_tokens.specs.Tags as tags
-use Rattle.swc_ecma_codegen_tokens.proofs.SoFar.{named_so_far}
-use Rattle.swc_ecma_codegen_tokens.proofs.TagPrints.{prints_tag_name}
-use Rattle.swc_ecma_codegen_tokens.proofs.TokensSoFar.{is_jointless, adds_taking}
+use Rattle.swc_ecma_codegen_tokens.proofs.Reading.SoFar.{named_so_far}
+use Rattle.swc_ecma_codegen_tokens.proofs.Jsx.TagPrints.{prints_tag_name}
+use Rattle.swc_ecma_codegen_tokens.proofs.Reading.TokensSoFar.{is_jointless, adds_taking}
 use Rattle.swc_ecma_codegen_tokens.proofs.LowerEmitter.tag_name.Goals as goal
 
 pub returns-clause-in_tag : goal.returns-clause-in_tag

@@ -1,8 +1,8 @@
 use Rattle.swc_ecma_codegen_grammar.specs.TemplatePhrases as phrases
 use Rattle.swc_ecma_codegen_tokens.specs.Templates.{tpl_element}
-use Rattle.swc_ecma_codegen_tokens.proofs.NodesSoFar.{cooked_element, tagged_element}
-use Rattle.swc_ecma_codegen_tokens.proofs.TemplatePrints.{tpl_element_prints}
-use Rattle.swc_ecma_codegen_tokens.proofs.TokensSoFar.{adds_list, tpl_jointless}
+use Rattle.swc_ecma_codegen_tokens.proofs.Reading.NodesSoFar.{cooked_element, tagged_element}
+use Rattle.swc_ecma_codegen_tokens.proofs.LiteralTokens.TemplatePrints.{tpl_element_prints}
+use Rattle.swc_ecma_codegen_tokens.proofs.Reading.TokensSoFar.{adds_list, tpl_jointless}
 use Rattle.swc_ecma_codegen_tokens.proofs.LowerEmitter.tpl_element.Goals as goal
 
 pub returns-then-part-clause-reads : goal.returns-then-part-clause-reads

@@ -1,7 +1,7 @@
 use Rattle.std.proofs.Common.{rules, sym, ◌∙◌}
-use Rattle.swc_ecma_codegen_tokens.proofs.ListCommas.{comma_written}
+use Rattle.swc_ecma_codegen_tokens.proofs.Listing.ListCommas.{comma_written}
 use Rattle.swc_ecma_codegen_tokens.specs.Adds.{ends_with_comma, wants_comma}
-use Rattle.swc_ecma_codegen_tokens.proofs.ListsSoFar.{adds_by, may_end, no_tokens, none_ends}
+use Rattle.swc_ecma_codegen_tokens.proofs.Listing.ListsSoFar.{adds_by, may_end, no_tokens, none_ends}
 use Rattle.swc_ecma_codegen_tokens.proofs.LowerEmitter.trailing_comma.Goals as goal
 
 pub returns-clause-items : goal.returns-clause-items

@@ -1,6 +1,6 @@
 use Rattle.std.proofs.Common.{refl, Ok, Some, None, []}
 use Rattle.swc_ecma_codegen_grammar.specs.CommentMaps.{listed}
-use Rattle.swc_ecma_codegen_tokens.proofs.CommentSteps.{taking_failed, trailing_nowhere, trailing_from, trailing_without, none_written}
+use Rattle.swc_ecma_codegen_tokens.proofs.Commenting.CommentSteps.{taking_failed, trailing_nowhere, trailing_from, trailing_without, none_written}
 use Rattle.swc_ecma_codegen_tokens.proofs.LowerEmitter.trailing_comments.Goals as goal
 
 pub returns-then-self-clause-items : goal.returns-then-self-clause-items

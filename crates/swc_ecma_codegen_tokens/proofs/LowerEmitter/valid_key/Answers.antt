@@ -1,5 +1,5 @@
-use Rattle.swc_ecma_codegen_tokens.proofs.KeySteps.{taking_remade, taking_not_remade}
-use Rattle.swc_ecma_codegen_tokens.proofs.CommentSteps.{taking_failed}
+use Rattle.swc_ecma_codegen_tokens.proofs.NameTokens.KeySteps.{taking_remade, taking_not_remade}
+use Rattle.swc_ecma_codegen_tokens.proofs.Commenting.CommentSteps.{taking_failed}
 use Rattle.std.proofs.Common.{refl, sym, ap, ◌∙◌}
 use Rattle.swc_ecma_codegen_common.specs.Refusals.{reason_of}
 use Rattle.swc_ecma_codegen_literals.proofs.Nulls.{turned_no_backslash}

@@ -1,7 +1,7 @@
 use Rattle.std.proofs.Common.{sym, ◌∙◌}
 use Rattle.swc_ecma_codegen_literals.proofs.Nulls.{turned_no_backslash}
-use Rattle.swc_ecma_codegen_tokens.proofs.Emitting.{does_failed}
-use Rattle.swc_ecma_codegen_tokens.proofs.PrivateSteps.{private_remade}
+use Rattle.swc_ecma_codegen_tokens.proofs.Emission.Emitting.{does_failed}
+use Rattle.swc_ecma_codegen_tokens.proofs.NameTokens.PrivateSteps.{private_remade}
 use Rattle.swc_ecma_codegen_tokens.proofs.LowerEmitter.valid_private.Goals as goal
 
 pub returns-then-self-clause-items : goal.returns-then-self-clause-items

@@ -1,6 +1,6 @@
 use Rattle.std.proofs.Common.{sym, ◌∙◌}
 use Rattle.swc_ecma_codegen_literals.proofs.Nulls.{turned_no_backslash}
-use Rattle.swc_ecma_codegen_tokens.proofs.Spelled.{remade}
+use Rattle.swc_ecma_codegen_tokens.proofs.NameTokens.Spelled.{remade}
 use Rattle.swc_ecma_codegen_tokens.proofs.LowerEmitter.valid_symbol.Goals as goal
 
 pub returns-then-not-has_backslash-clause-items : goal.returns-then-not-has_backslash-clause-items

@@ -1,9 +1,9 @@
 use Rattle.std.proofs.Common.{true, false, ◌≡◌, sym, ◌∙◌}
 use Rattle.swc_ecma_codegen_grammar.specs.ListFormats.{forces_trailing_comma, allows_trailing_comma}
 use Rattle.swc_ecma_codegen_tokens.specs.View.{state_of}
-use Rattle.swc_ecma_codegen_tokens.proofs.ListCommas.{comma_forced, comma_allowed}
+use Rattle.swc_ecma_codegen_tokens.proofs.Listing.ListCommas.{comma_forced, comma_allowed}
 use Rattle.swc_ecma_codegen_tokens.specs.Adds.{stands_with_comma, wants_comma}
-use Rattle.swc_ecma_codegen_tokens.proofs.ListsSoFar.{adds_by, allowed_wants, forced_wants, no_tokens, none_wanted}
+use Rattle.swc_ecma_codegen_tokens.proofs.Listing.ListsSoFar.{adds_by, allowed_wants, forced_wants, no_tokens, none_wanted}
 use Rattle.swc_ecma_codegen_tokens.proofs.LowerEmitter.wanted_comma.Goals as goal
 
 pub returns-then-contains-clause-items : goal.returns-then-contains-clause-items

@@ -3,9 +3,9 @@ use Rattle.swc_ecma_codegen_grammar.specs.Chars.{is_part, is_letter, is_digit, b
 use Rattle.swc_ecma_codegen_grammar.specs.Texts.{is_same, begins, some_begins}
 use Rattle.swc_ecma_codegen_grammar.specs.Punctuators.{punctuators}
 use Rattle.swc_ecma_codegen_grammar.specs.GapRules.{fuses, grows, is_choice, mark_fuses}
-use Rattle.swc_ecma_codegen_tokens.proofs.Starting.{samples}
+use Rattle.swc_ecma_codegen_tokens.proofs.Gaps.Starting.{samples}
 use Rattle.swc_ecma_codegen_tokens.specs.Classes.{place_of}
-use Rattle.swc_ecma_codegen_tokens.proofs.Entries.{entry, entries, tokens, bits, number}
+use Rattle.swc_ecma_codegen_tokens.proofs.Gaps.Entries.{entry, entries, tokens, bits, number}
 use Rattle.swc_ecma_codegen_tokens.proofs.guard.row.Goals as goal
 
 -- the table is computed from the gap rules

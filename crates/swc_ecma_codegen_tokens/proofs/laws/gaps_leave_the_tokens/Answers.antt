@@ -1,5 +1,5 @@
-use Rattle.swc_ecma_codegen_tokens.proofs.SoFar.{space_so_far, formatting_space_so_far, line_so_far, formatting_line_so_far, commit_so_far, position_so_far, position_before_so_far, leading_so_far, trailing_so_far}
-use Rattle.swc_ecma_codegen_tokens.proofs.BreakPrints.{break_so_far}
+use Rattle.swc_ecma_codegen_tokens.proofs.Reading.SoFar.{space_so_far, formatting_space_so_far, line_so_far, formatting_line_so_far, commit_so_far, position_so_far, position_before_so_far, leading_so_far, trailing_so_far}
+use Rattle.swc_ecma_codegen_tokens.proofs.Filling.BreakPrints.{break_so_far}
 use Rattle.swc_ecma_codegen_tokens.proofs.laws.gaps_leave_the_tokens.Goals as goal
 
 pub returns-clause-space : goal.returns-clause-space

@@ -1,4 +1,4 @@
-use Rattle.swc_ecma_codegen_tokens.proofs.RawTexts.{ascii_is}
+use Rattle.swc_ecma_codegen_tokens.proofs.LiteralTokens.RawTexts.{ascii_is}
 use Rattle.swc_ecma_codegen_tokens.proofs.raws.is_ascii.Goals as goal
 
 pub returns : goal.returns

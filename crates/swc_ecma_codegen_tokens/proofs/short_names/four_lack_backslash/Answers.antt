@@ -1,5 +1,5 @@
 use Rattle.std.proofs.Common.{arith}
-use Rattle.swc_ecma_codegen_tokens.proofs.ShortNames.{lacks_from_lanes}
+use Rattle.swc_ecma_codegen_tokens.proofs.NameTokens.ShortNames.{lacks_from_lanes}
 use Rattle.swc_ecma_codegen_tokens.proofs.short_names.four_lack_backslash.Goals as goal
 
 pub returns : goal.returns

@@ -1,6 +1,6 @@
 use Rattle.std.proofs.Common.{◌==◌, codes, sym, ap, ◌∙◌}
 use Rattle.swc_ecma_codegen_grammar.specs.Texts.{begins}
-use Rattle.swc_ecma_codegen_tokens.proofs.NoPunctuator.{and_true, eq_swap}
+use Rattle.swc_ecma_codegen_tokens.proofs.Gaps.NoPunctuator.{and_true, eq_swap}
 use Rattle.swc_ecma_codegen_tokens.proofs.starts.begins_dash.Goals as goal
 
 pub returns-in-Some : goal.returns-in-Some

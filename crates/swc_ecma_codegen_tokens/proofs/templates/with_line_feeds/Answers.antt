@@ -1,5 +1,5 @@
 use Rattle.std.proofs.Common.{rules, sym, ◌∙◌}
-use Rattle.swc_ecma_codegen_tokens.proofs.LineFeeds.{fed_more, fed_kept, fed_turned, fed_dropped, fed_whole}
+use Rattle.swc_ecma_codegen_tokens.proofs.LiteralTokens.LineFeeds.{fed_more, fed_kept, fed_turned, fed_dropped, fed_whole}
 use Rattle.swc_ecma_codegen_tokens.proofs.templates.with_line_feeds.Goals as goal
 
 pub loop-c-preserved-in_ok-push : goal.loop-c-preserved-in_ok-push

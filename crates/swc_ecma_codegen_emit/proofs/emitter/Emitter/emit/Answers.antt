@@ -1,8 +1,8 @@
 use Rattle.std.proofs.Common.{refl, None, Err, ◌∙◌, sym, ◌≡◌, true}
 use Rattle.swc_ecma_codegen_common.specs.declared.errors.Refusal.TheVariants.{Failed}
 use Rattle.swc_ecma_codegen_tokens.specs.Run.{State, HasCause, nothing, steps_in}
-use Rattle.swc_ecma_codegen_tokens.proofs.Fronts.{follows_failed, follows_front, follows_marked, follows_cause, follows_succeeds}
-use Rattle.swc_ecma_codegen_tokens.proofs.Short.{on_err_in_short, if_err_in_short, is_ok_in_short}
+use Rattle.swc_ecma_codegen_tokens.proofs.Emission.Fronts.{follows_failed, follows_front, follows_marked, follows_cause, follows_succeeds}
+use Rattle.swc_ecma_codegen_tokens.proofs.Emission.Short.{on_err_in_short, if_err_in_short, is_ok_in_short}
 use Rattle.swc_ecma_codegen_emit.specs.View.{state_of}
 use Rattle.swc_ecma_codegen_emit.specs.Standing.{Standing, standing_of}
 use Rattle.swc_ecma_codegen_emit.proofs.Standings.{makes_at_length, stays_at_length}

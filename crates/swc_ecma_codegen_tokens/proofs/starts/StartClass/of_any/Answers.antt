@@ -1,6 +1,6 @@
 use Rattle.std.proofs.Common.{◌∙◌, sym, ap}
 use Rattle.swc_ecma_codegen_tokens.specs.Starts.{start_class}
-use Rattle.swc_ecma_codegen_tokens.proofs.Starting.{plain_class}
+use Rattle.swc_ecma_codegen_tokens.proofs.Gaps.Starting.{plain_class}
 use Rattle.swc_ecma_codegen_tokens.proofs.starts.StartClass.of_any.Goals as goal
 
 pub returns-in-Some : goal.returns-in-Some

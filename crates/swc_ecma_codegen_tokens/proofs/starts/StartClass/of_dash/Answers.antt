@@ -1,5 +1,5 @@
 use Rattle.std.proofs.Common.{◌∙◌, sym, true, false}
-use Rattle.swc_ecma_codegen_tokens.proofs.Starting.{dash_class}
+use Rattle.swc_ecma_codegen_tokens.proofs.Gaps.Starting.{dash_class}
 use Rattle.swc_ecma_codegen_tokens.proofs.starts.StartClass.of_dash.Goals as goal
 
 pub returns-then-begins_dash : goal.returns-then-begins_dash

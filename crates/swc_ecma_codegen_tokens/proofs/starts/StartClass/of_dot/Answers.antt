@@ -1,5 +1,5 @@
 use Rattle.std.proofs.Common.{◌∙◌, sym, true, false}
-use Rattle.swc_ecma_codegen_tokens.proofs.Starting.{dot_class}
+use Rattle.swc_ecma_codegen_tokens.proofs.Gaps.Starting.{dot_class}
 use Rattle.swc_ecma_codegen_tokens.proofs.starts.StartClass.of_dot.Goals as goal
 
 pub returns-then-begins_digit : goal.returns-then-begins_digit

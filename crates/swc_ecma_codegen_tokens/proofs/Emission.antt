@@ -1,0 +1,13 @@
+-- The steps of an emission: what each does to a writer, what is refused, and what is recorded.
+pub mod AsciiTexts
+pub mod Calls
+pub mod Emitting
+pub mod Fronts
+pub mod Levels
+pub mod Made
+pub mod PartSteps
+pub mod PendingSemi
+pub mod Positions
+pub mod Remade
+pub mod Short
+pub mod StepAscii

@@ -1,0 +1,19 @@
+-- Literals and templates: what is written of each, and what it reads as.
+pub mod BigPrints
+pub mod EachLit
+pub mod LineFeeds
+pub mod LitPrints
+pub mod LitTexts
+pub mod LiteralParts
+pub mod NumberEnds
+pub mod NumberPrints
+pub mod NumeralTexts
+pub mod OwnDigits
+pub mod OwnDots
+pub mod RawTexts
+pub mod RewrittenLiterals
+pub mod ScriptTexts
+pub mod StringPrints
+pub mod TemplateLaws
+pub mod TemplatePrints
+pub mod ValueStrings
