@@ -83,7 +83,7 @@ class Rounds(unittest.TestCase):
     def test_edits_of_different_functions_stand_together(self):
         with tempfile.TemporaryDirectory() as folder:
             given = [edit_of(*pair, folder) for pair in (("same(a)", "same(0)"), ("!says_no(a)", "a == 0"), ("same(a)", "same(1)"), ("Says no", "Nix"))]
-            named = {place: edits.names_of(place, [])[0] for edit in given for place in edit.places}
+            named = {place: edits.names_of(place, [], {})[0] for edit in given for place in edit.places}
             self.assertEqual([named[edit.places[0]] for edit in given], ["by_another", "says_yes", "by_another", ""])
             # the third is of the first's function, the last of none
             self.assertEqual(edits.rounds_of(given, named), [given[:2], [given[2]], [given[3]]])
@@ -96,12 +96,28 @@ class Rounds(unittest.TestCase):
     def test_a_method_is_named_by_the_module_of_its_type(self):
         place = edits.Place("basic_impl::texts", "end_line", "Lines", ())
         known = ["basic_impl::Lines::end_line", "semicolon::Lines::end_line", "basic_impl::texts::end"]
-        self.assertEqual(edits.names_of(place, known), ["basic_impl::Lines::end_line", "basic_impl::texts"])
+        self.assertEqual(edits.names_of(place, known, {"Lines": ["basic_impl"]}), ["basic_impl::Lines::end_line", "basic_impl::texts"])
+        # (the type's module is not above that of its `impl`, and nothing is known yet)
+        place = edits.Place("forms", "simple", "Verdict", ())
+        names = edits.names_of(place, [], {"Verdict": ["verdicts"]})
+        self.assertEqual(names, ["verdicts::Verdict::simple", "forms::Verdict::simple", "forms"])
+        # (what an `impl` of a trait holds is named by the module of the `impl`)
+        place = edits.Place("calls", "write_line", "LinesWriteJs", ())
+        self.assertEqual(edits.names_of(place, [], {"Lines": ["basic_impl"]}), ["calls::LinesWriteJs::write_line", "calls"])
         place = edits.Place("errors", "from", "ErrorFrom", ("AllocError",))
-        self.assertEqual(edits.names_of(place, ["errors::ErrorFromAllocError::from"]), ["errors::ErrorFromAllocError::from", "errors"])
-        self.assertEqual(edits.names_of(place, []), ["errors::ErrorFrom::from", "errors::ErrorFromAllocError::from", "errors"])
+        self.assertEqual(edits.names_of(place, ["errors::ErrorFromAllocError::from"], {}), ["errors::ErrorFromAllocError::from", "errors"])
+        self.assertEqual(edits.names_of(place, [], {}), ["errors::ErrorFrom::from", "errors::ErrorFromAllocError::from", "errors"])
         place = edits.Place("links", *function_at("impl Shows<AsStmt, Stmt<AnyNode>> for AnyNode {\n    fn shown() {\n", 50))
-        self.assertEqual(edits.names_of(place, ["links::AnyNodeShowsAsStmtStmtAnyNode::shown"])[0], "links::AnyNodeShowsAsStmtStmtAnyNode::shown")
+        self.assertEqual(edits.names_of(place, ["links::AnyNodeShowsAsStmtStmtAnyNode::shown"], {})[0], "links::AnyNodeShowsAsStmtStmtAnyNode::shown")
+
+
+    def test_where_types_are_declared(self):
+        with tempfile.TemporaryDirectory() as folder:
+            os.makedirs(f"{folder}/src/a")
+            write(f"{folder}/src", "lib.rt", "pub struct Top;\n")
+            write(f"{folder}/src/a", "mod.rt", "pub(crate) enum Way<T> {\n    Top,\n}\n")
+            write(f"{folder}/src/a", "b.rt", "trait Way {\n    type Top;\n}\ntype Short = Top;\n")
+            self.assertEqual(edits.declared_in(folder), {"Top": [""], "Way": ["a::b", "a"], "Short": ["a::b"]})
 
 
 class Verdicts(unittest.TestCase):
@@ -145,7 +161,7 @@ class Tried(unittest.TestCase):
             self.assertRegex(said.pop("of_another_type"), r"^BAD EDIT: src/lib\.rt:\d+:\d+: error\[mismatched-types\]")
             self.assertRegex(said.pop("nowhere"), "^BAD EDIT: an 'old:' text is in src/lib.rt 0 times")
             self.assertEqual(said, {})
-            self.assertRegex(ran.stdout, r"\n3 wrong bodies refused, 3 failed, in \d+ minutes\n\Z")
+            self.assertRegex(ran.stdout, r"\ntiny: 3 wrong bodies refused, 3 failed, in \d+ minutes, \d+ of a processor\n3 wrong bodies refused, 3 failed, in \d+ minutes, \d+ of a processor\n\Z")
             self.assertEqual(ran.returncode, 1)
 
 

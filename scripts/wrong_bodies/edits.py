@@ -2,6 +2,8 @@
 
 import collections
 import difflib
+import glob
+import os
 import re
 
 from impls import function_at
@@ -12,6 +14,8 @@ Edit = collections.namedtuple("Edit", "path hunks places of_bodies")
 Hunk = collections.namedtuple("Hunk", "first end lines")
 # A place in a module, as `a::b`: the function that it is in, the type of the `impl`, and the words of its trait's own types.
 Place = collections.namedtuple("Place", "module function on words")
+
+DECLARED = re.compile(r"(?m)^(?:pub(?:\([^)]*\))? )?(?:unsafe )?(?:struct|enum|union|type|trait) (\w+)")
 
 
 def read(path, folder, read_edit):
@@ -58,17 +62,26 @@ def joined(*names):
     return "::".join(name for name in names if name)
 
 
-def names_of(place, known):
+def declared_in(folder):
+    """Where the crate in this folder declares types and traits: by the name of each, the modules that declare one of that name."""
+    found = {}
+    for path in sorted(glob.glob(f"{folder}/src/**/*.rt", recursive=True)):
+        for name in DECLARED.findall(text_of(path)):
+            found.setdefault(name, []).append(path_of(os.path.relpath(path, folder)))
+    return found
+
+
+def names_of(place, known, declared):
     """The names that a function may have, by a place in it; behind them the type or the module, which stands for all functions in it. `known` are
-    names of functions. A method is named by the module of its type, which may be above that of its `impl`."""
+    names of functions, and `declared` is where the crate's types are declared. What an `impl` of a trait holds is named by the module that it stands
+    in. Other methods are named by the module of their type, wherever their `impl` stands."""
     types = list(dict.fromkeys((place.on or "") + "".join(place.words[:count]) for count in (0, 1, len(place.words))))
-    names = [joined(place.module, on, place.function) for on in types]
+    modules = list(dict.fromkeys([*declared.get(place.on, []), place.module]))
+    names = [joined(module, on, place.function) for on in types for module in modules]
     if not place.function:
         return [*names, place.module]
-    ends = [f"::{joined(on, place.function)}" for on in types if on]
-    above = [name for name in known if any(f"::{name}".endswith(end) and f"::{place.module}::".startswith(f"::{name[: -len(end)]}") for end in ends)]
     near = [name for name in known if place.on and name.startswith(f"{place.module}::") and name.endswith(f"::{place.function}")]
-    found = [name for name in names if name in known] or above or (near if len(near) == 1 else [])
+    found = [name for name in names if name in known] or (near if len(near) == 1 else [])
     return [*(found or names), place.module]
 
 
