@@ -15,5 +15,6 @@ pub use swc_ecma_codegen_literals as literals;
 pub use swc_ecma_codegen_util::config::Config;
 pub use swc_ecma_codegen_util::{config, util};
 pub use swc_ecma_codegen_validate::{
-    is_well_formed, is_well_formed_expr, is_well_formed_item, is_well_formed_stmt,
+    Fault, Step, first_fault, is_well_formed, is_well_formed_expr, is_well_formed_item,
+    is_well_formed_stmt,
 };

@@ -18,7 +18,7 @@ use swc_ecma_codegen_tree::{
 
 /// Whether a name may stand in a tag.
 #[tactic(auto, using(crate::proofs::Possible::where_possible), unfolding(swc_ecma_codegen_grammar::specs::JsxPhrases::tag_ident, swc_ecma_codegen_grammar::specs::Phrases::is_possible))]
-fn is_tag_ident(name: &Ident) -> bool
+pub(crate) fn is_tag_ident(name: &Ident) -> bool
     ensures { result ≡ is_possible (tag_ident name.now) }
 {
     !name.optional && is_tag_name(&name.sym)
@@ -26,7 +26,7 @@ fn is_tag_ident(name: &Ident) -> bool
 
 /// The same of a name of an attribute, and of what stands after a dot or a colon.
 #[tactic(auto, unfolding(swc_ecma_codegen_grammar::specs::JsxPhrases::tag_ident_name, swc_ecma_codegen_grammar::specs::Phrases::is_possible))]
-fn is_tag_ident_name(name: &IdentName) -> bool
+pub(crate) fn is_tag_ident_name(name: &IdentName) -> bool
     ensures { result ≡ is_possible (tag_ident_name name.now) }
 {
     is_tag_name(&name.sym)
@@ -100,7 +100,7 @@ fn is_attr_string(node: &Str) -> bool
 
 /// Whether a literal may be: only a string.
 #[tactic(auto, unfolding(swc_ecma_codegen_grammar::specs::JsxPhrases::jsx_attr_lit, swc_ecma_codegen_grammar::specs::Phrases::is_possible))]
-fn is_attr_lit(node: &Lit) -> bool
+pub(crate) fn is_attr_lit(node: &Lit) -> bool
     ensures { result ≡ is_possible (jsx_attr_lit node.now) }
 {
     match node {
@@ -240,7 +240,7 @@ fn is_text<N>(child: &JSXElementChild<N>) -> bool
 
 /// Whether no text stands right behind text.
 #[tactic(auto, unfolding(swc_ecma_codegen_grammar::specs::JsxPhrases::is_parted))]
-fn are_parted<N>(children: &[JSXElementChild<N>]) -> bool
+pub(crate) fn are_parted<N>(children: &[JSXElementChild<N>]) -> bool
     ensures { result ≡ is_parted false children.now }
 {
     let mut after = false;
@@ -255,7 +255,7 @@ fn are_parted<N>(children: &[JSXElementChild<N>]) -> bool
 
 /// Whether text is the last of them.
 #[tactic(auto, using(crate::proofs::JsxPossible::ends_by_last), unfolding(crate::specs::JsxForms::is_some_text))]
-fn ends_in_text<N>(children: &[JSXElementChild<N>]) -> bool
+pub(crate) fn ends_in_text<N>(children: &[JSXElementChild<N>]) -> bool
     ensures { result ≡ phrases.ends_in_text false children.now }
 {
     match children.last() {

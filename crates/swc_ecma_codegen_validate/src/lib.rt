@@ -7,6 +7,7 @@ mod classes;
 mod code_units;
 mod decls;
 pub mod exprs;
+mod faults;
 pub mod forms;
 mod functions;
 mod jsx;
@@ -31,6 +32,7 @@ mod ts_exprs;
 mod ts_members;
 mod types;
 
+pub use crate::faults::{Fault, Step, first_fault};
 pub use crate::forms::{Fits, WellFormed};
 pub use crate::recursion::{
     is_well_formed, is_well_formed_expr, is_well_formed_item, is_well_formed_stmt,

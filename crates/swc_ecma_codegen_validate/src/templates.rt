@@ -120,7 +120,7 @@ fn has_cooked_value(raw: &str) -> bool
 
 /// Whether a raw is the inside of a part of a template: without malformed escapes, unless the template has a tag.
 #[tactic(auto, unfolding(crate::specs::TemplateStates::is_element))]
-fn is_element(tagged: bool, element: &TplElement) -> bool
+pub(crate) fn is_element(tagged: bool, element: &TplElement) -> bool
     ensures { result ≡ is_element tagged element.now }
 {
     is_inside(&element.raw) && (tagged || has_cooked_value(&element.raw))
