@@ -78,8 +78,13 @@ def text_of(path):
 
 def json_of(path):
     """The value of a file of JSON, or of standard input where the path is `-`."""
+    return json_in(text_of(path), path)
+
+
+def json_in(text, path):
+    """The value of a text of JSON, which is that of a file."""
     try:
-        return parsed(text_of(path), path)
+        return parsed(text, path)
     except json.JSONDecodeError as error:
         sys.exit(f"{path}:{error.lineno}:{error.colno}: no JSON: {error.msg}")
 
