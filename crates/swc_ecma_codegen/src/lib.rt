@@ -7,7 +7,8 @@ pub mod text_writer;
 
 pub use swc_ecma_codegen_common::{Error, Result};
 pub use swc_ecma_codegen_emit::{
-    Emitter, Node, to_code, to_code_default, to_code_with_comments, to_code_with_positions,
+    Emitter, Node, to_code, to_code_default, to_code_with, to_code_with_comments,
+    to_code_with_positions,
 };
 pub use swc_ecma_codegen_grammar::ListFormat;
 pub use swc_ecma_codegen_laws as laws;

@@ -4,7 +4,8 @@
 pub use crate::ast::mapper::{NoSource, SourceMapper, SourceText};
 pub use swc_ecma_codegen_common::{BytePos, DUMMY_SP, EsVersion, Span};
 pub use swc_ecma_codegen_emit::{
-    Emitter, Node, to_code, to_code_default, to_code_with_comments, to_code_with_positions,
+    Emitter, Node, to_code, to_code_default, to_code_with, to_code_with_comments,
+    to_code_with_positions,
 };
 pub use swc_ecma_codegen_grammar::comments::{Comment, CommentKind, CommentMaps, Comments};
 pub use swc_ecma_codegen_spans::Spanned;

@@ -23,7 +23,7 @@ use Rattle.swc_ecma_codegen_tokens.proofs.Emission.Positions.{recorded_more}
 use Rattle.swc_ecma_codegen_tokens.proofs.Reading.Printed.{env_after, writes_commit, remarks_both}
 use Rattle.swc_ecma_codegen_tokens.proofs.Filling.Shapes.{unbroken_at, open_, join, is_within}
 use Rattle.swc_ecma_codegen_emit.specs.Roots.{Root, is_program, root_items, root_phrase, is_well_formed_root, root_hashbang, MayBegin}
-use Rattle.swc_ecma_codegen_emit.specs.Texts.{sheet_by, sheet_with, start_with, with_last}
+use Rattle.swc_ecma_codegen_emit.specs.Texts.{blank_sheet, held_by, placed_sheet, sheet_on, sheet_with, start_on, start_with, with_last}
 use Rattle.swc_ecma_codegen_emit.specs.Lined.{CanFill}
 use Rattle.swc_ecma_codegen_emit.proofs.ByItself.{Stands, root_shape}
 use Rattle.swc_ecma_codegen_emit.proofs.InLines.{InLines, lines_settle}
@@ -58,34 +58,41 @@ part_records : (p : Part) (a : State) → unprintable_in (steps_in p a) ≡ None
 unfolding Follows
 part_records p a none = follows_records (p nothing) a (printed p a) (Ok tt) (none, refl)
 
-pub records_with : (lines : Lines) (maps : Maps) (config : Config) (p : Part) → unprintable_in (steps_in p (start_with lines maps config)) ≡ None → RecordsTruly (sheet_by config.minify) (sheet_with lines maps config p)
+pub records_with : (lines : Lines) (maps : Maps) (config : Config) (p : Part) → unprintable_in (steps_in p (start_with lines maps config)) ≡ None → RecordsTruly (held_by config.minify placed_sheet) (sheet_with lines maps config p)
 records_with lines maps config p none =
     let a = start_with lines maps config in
-    records_trans (sheet_by config.minify) (printed p a).sheet (sheet_with lines maps config p) (part_records p a none) (last_records config (printed p a).sheet)
+    records_trans (held_by config.minify placed_sheet) (printed p a).sheet (sheet_with lines maps config p) (part_records p a none) (last_records config (printed p a).sheet)
 
--- the sheet had no text and no pairs before
-no_pairs : (b : Bool) → (sheet_by b).pairs ≡ []
-unfolding sheet_by
+-- the sheet on which a text is made, where positions are kept or not
+abbrev pub first_sheet : Bool → Sheet
+first_sheet true = placed_sheet
+first_sheet false = blank_sheet
+
+-- it had no text and no pairs before
+no_pairs : (b : Bool) → (held_by b placed_sheet).pairs ≡ []
+unfolding held_by
 no_pairs true = refl
 no_pairs false = refl
 
-no_text : (b : Bool) → (sheet_by b).text ≡ []
-unfolding sheet_by
-no_text true = refl
-no_text false = refl
+no_text : (keeps b : Bool) → (held_by b (first_sheet keeps)).text ≡ []
+unfolding held_by
+no_text true true = refl
+no_text true false = refl
+no_text false true = refl
+no_text false false = refl
 
-at_origin : (b : Bool) → (sheet_by b).place ≡ origin
-unfolding sheet_by
+at_origin : (b : Bool) → (held_by b placed_sheet).place ≡ origin
+unfolding held_by
 at_origin true = refl
 at_origin false = refl
 
-pub stand_with : (b : Bool) (s : Sheet) → RecordsTruly (sheet_by b) s → StandIn origin s.text s.pairs
+pub stand_with : (b : Bool) (s : Sheet) → RecordsTruly (held_by b placed_sheet) s → StandIn origin s.text s.pairs
 stand_with b s h =
-    let text : s.text ≡ h.text = h.is_text ∙ ap (λ t. t ++ h.text) (no_text b) in
+    let text : s.text ≡ h.text = h.is_text ∙ ap (λ t. t ++ h.text) (no_text true b) in
     let pairs : s.pairs ≡ h.added = h.is_added ∙ ap (λ (t : List Pair). t ++ h.added) (no_pairs b) in
     subst (λ t. StandIn origin t s.pairs) (sym text) (subst (λ t. StandIn origin h.text t) (sym pairs) (subst (λ q. StandIn q h.text h.added) (at_origin b) h.are_true))
 
-pub new_with : (b : Bool) (s : Sheet) → RecordsTruly (sheet_by b) s → AreNew [] s.pairs
+pub new_with : (b : Bool) (s : Sheet) → RecordsTruly (held_by b placed_sheet) s → AreNew [] s.pairs
 new_with b s h =
     let pairs : s.pairs ≡ h.added = h.is_added ∙ ap (λ (t : List Pair). t ++ h.added) (no_pairs b) in
     subst (AreNew []) (sym pairs) (subst (λ t. AreNew t h.added) (no_pairs b) h.are_new)
@@ -99,15 +106,17 @@ last_whole config s =
       | inr wanted ↦ ap (λ (z : Sheet). z.whole) (written_last config s.sheet wanted ∙ sym (after_last s)) ∙ run_whole last_step s
     ]
 
-whole_at : (b : Bool) → (sheet_by b).whole ≡ true
-unfolding sheet_by
-whole_at true = is_utf8-from_IsUtf8 [] IsUtf8-nil
-whole_at false = is_utf8-from_IsUtf8 [] IsUtf8-nil
+whole_at : (keeps b : Bool) → (held_by b (first_sheet keeps)).whole ≡ true
+unfolding held_by
+whole_at true true = is_utf8-from_IsUtf8 [] IsUtf8-nil
+whole_at true false = is_utf8-from_IsUtf8 [] IsUtf8-nil
+whole_at false true = is_utf8-from_IsUtf8 [] IsUtf8-nil
+whole_at false false = is_utf8-from_IsUtf8 [] IsUtf8-nil
 
-pub whole_with : (lines : Lines) (maps : Maps) (config : Config) (p : Part) → (sheet_with lines maps config p).whole ≡ true
-whole_with lines maps config p =
-    let a = start_with lines maps config in
-    last_whole config (printed p a) ∙ run_whole (steps_of (steps_in p a)) a ∙ whole_at config.minify
+pub whole_on : (keeps : Bool) (lines : Lines) (maps : Maps) (config : Config) (p : Part) → (sheet_on (first_sheet keeps) lines maps config p).whole ≡ true
+whole_on keeps lines maps config p =
+    let a = start_on (first_sheet keeps) lines maps config in
+    last_whole config (printed p a) ∙ run_whole (steps_of (steps_in p a)) a ∙ whole_at keeps config.minify
 
 -- ---- what it reads as
 
@@ -159,23 +168,27 @@ stands_reads_last n p a (inr h) w s closed none =
 root_reads_last : (n : Root) (p : Part) (a : State) → p ≡ root_items n → is_well_formed_root n ≡ true → MayBegin n a → AreClosed a.env.maps → unprintable_in (p nothing a.env) ≡ None → AddsReading a.env.config (root_phrase n) (taken_remarks p a.env) a.sheet (with_last a.env.config (run (steps_of (p nothing a.env)) a).sheet)
 root_reads_last n p a same w s closed none = stands_reads_last n p a (stands n p a.env s.is_new.leaves_out same) w s closed none
 
-begins_by : (n : Root) (lines : Lines) (maps : Maps) (config : Config) (b : Bool) → MayBegin n (start lines maps config (sheet_by b))
-unfolding sheet_by all_indent is_indent holds_one
-begins_by n lines maps config true = record { is_new = record { nothing_written = refl; nothing_held = refl; indent_text = refl; line_end = inl refl; flowing = refl; leaves_out = refl }; flows = λ whole. refl; at_margin = λ hashbang line. refl }
-begins_by n lines maps config false = record { is_new = record { nothing_written = refl; nothing_held = refl; indent_text = refl; line_end = inl refl; flowing = refl; leaves_out = refl }; flows = λ whole. refl; at_margin = λ hashbang line. refl }
+begins_by : (n : Root) (lines : Lines) (maps : Maps) (config : Config) (keeps b : Bool) → MayBegin n (start lines maps config (held_by b (first_sheet keeps)))
+unfolding held_by all_indent is_indent holds_one
+begins_by n lines maps config true true = record { is_new = record { nothing_written = refl; nothing_held = refl; indent_text = refl; line_end = inl refl; flowing = refl; leaves_out = refl }; flows = λ whole. refl; at_margin = λ hashbang line. refl }
+begins_by n lines maps config true false = record { is_new = record { nothing_written = refl; nothing_held = refl; indent_text = refl; line_end = inl refl; flowing = refl; leaves_out = refl }; flows = λ whole. refl; at_margin = λ hashbang line. refl }
+begins_by n lines maps config false true = record { is_new = record { nothing_written = refl; nothing_held = refl; indent_text = refl; line_end = inl refl; flowing = refl; leaves_out = refl }; flows = λ whole. refl; at_margin = λ hashbang line. refl }
+begins_by n lines maps config false false = record { is_new = record { nothing_written = refl; nothing_held = refl; indent_text = refl; line_end = inl refl; flowing = refl; leaves_out = refl }; flows = λ whole. refl; at_margin = λ hashbang line. refl }
 
-holds_by : (b : Bool) → holds_semicolons (sheet_by b).semicolons ≡ b
-unfolding sheet_by
-holds_by true = refl
-holds_by false = refl
+holds_by : (keeps b : Bool) → holds_semicolons (held_by b (first_sheet keeps)).semicolons ≡ b
+unfolding held_by
+holds_by true true = refl
+holds_by true false = refl
+holds_by false true = refl
+holds_by false false = refl
 
-pub code_reads_with : (lines : Lines) (maps : Maps) (config : Config) (n : Root) (p : Part) → p ≡ root_items n → is_well_formed_root n ≡ true → AreClosed maps → unprintable_in (steps_in p (start_with lines maps config)) ≡ None → ReadsAs (unlined config) config.minify (root_phrase n) (taken_remarks p (start_with lines maps config).env) (sheet_with lines maps config p).text
+pub code_reads_on : (keeps : Bool) (lines : Lines) (maps : Maps) (config : Config) (n : Root) (p : Part) → p ≡ root_items n → is_well_formed_root n ≡ true → AreClosed maps → unprintable_in (steps_in p (start_on (first_sheet keeps) lines maps config)) ≡ None → ReadsAs (unlined config) config.minify (root_phrase n) (taken_remarks p (start_on (first_sheet keeps) lines maps config).env) (sheet_on (first_sheet keeps) lines maps config p).text
 unfolding with_last
-code_reads_with lines maps config n p same w closed none =
-    let a = start_with lines maps config in
-    let h = root_reads_last n p a same w (begins_by n lines maps config config.minify) closed none in
-    let added : (sheet_with lines maps config p).text ≡ h.added = h.is_added ∙ ap (λ t. t ++ h.added) (no_text config.minify) in
-    subst (λ t. ReadsAs (unlined config) config.minify (root_phrase n) (taken_remarks p a.env) t) (sym added) (subst (λ b. ReadsAs (unlined config) b (root_phrase n) (taken_remarks p a.env) h.added) (holds_by config.minify) h.reading)
+code_reads_on keeps lines maps config n p same w closed none =
+    let a = start_on (first_sheet keeps) lines maps config in
+    let h = root_reads_last n p a same w (begins_by n lines maps config keeps config.minify) closed none in
+    let added : (sheet_on (first_sheet keeps) lines maps config p).text ≡ h.added = h.is_added ∙ ap (λ t. t ++ h.added) (no_text keeps config.minify) in
+    subst (λ t. ReadsAs (unlined config) config.minify (root_phrase n) (taken_remarks p a.env) t) (sym added) (subst (λ b. ReadsAs (unlined config) b (root_phrase n) (taken_remarks p a.env) h.added) (holds_by keeps config.minify) h.reading)
 
 -- ---- names
 
@@ -186,23 +199,23 @@ names_longer config p t u pairs more [] h = tt
 names_longer config p t u pairs more (x ∷ xs) h =
     (h.0, h.1 ++ u, ap (λ z. z ++ u) h.2 ∙ append_assoc h.0 (written_as config x ++ h.1) u ∙ ap (λ z. h.0 ++ z) (append_assoc (written_as config x) h.1 u), recorded_more x.at (after_text h.0 p) pairs more h.3, names_longer config (after_text (written_as config x) (after_text h.0 p)) h.1 u pairs more xs h.4)
 
-flows_by : (b : Bool) → fills_lines (sheet_by b).lines ≡ false
-unfolding sheet_by
+flows_by : (b : Bool) → fills_lines (held_by b placed_sheet).lines ≡ false
+unfolding held_by
 flows_by true = refl
 flows_by false = refl
 
-fills_by : (lines : Lines) (maps : Maps) (config : Config) (b : Bool) → CanFill (start lines maps config (sheet_by b))
-unfolding sheet_by
+fills_by : (lines : Lines) (maps : Maps) (config : Config) (b : Bool) → CanFill (start lines maps config (held_by b placed_sheet))
+unfolding held_by
 fills_by lines maps config true = record { flows = refl; line_end = inl refl }
 fills_by lines maps config false = record { flows = refl; line_end = inl refl }
 
-keeps_by : (b : Bool) → (sheet_by b).keeps_positions ≡ true
-unfolding sheet_by
+keeps_by : (b : Bool) → (held_by b placed_sheet).keeps_positions ≡ true
+unfolding held_by
 keeps_by true = refl
 keeps_by false = refl
 
-leaves_by : (lines : Lines) (maps : Maps) (config : Config) (b : Bool) → (start lines maps config (sheet_by b)).env.keeps_invalid ≡ false
-unfolding sheet_by
+leaves_by : (lines : Lines) (maps : Maps) (config : Config) (b : Bool) → (start lines maps config (held_by b placed_sheet)).env.keeps_invalid ≡ false
+unfolding held_by
 leaves_by lines maps config true = refl
 leaves_by lines maps config false = refl
 
@@ -216,6 +229,6 @@ names_with lines maps config n p same w none =
     let h : RecordsNames (unlined config) xs a.sheet (printed p a).sheet = stands_name n p a (printed p a) (Ok tt) here w (keeps_by config.minify) (flows_by config.minify) (λ whole b. fills_by lines maps config config.minify) (none, refl) in
     let k = last_records config (printed p a).sheet in
     let s = sheet_with lines maps config p in
-    let text : s.text ≡ h.text ++ k.text = k.is_text ∙ ap (λ z. z ++ k.text) (h.is_text ∙ ap (λ z. z ++ h.text) (no_text config.minify)) in
+    let text : s.text ≡ h.text ++ k.text = k.is_text ∙ ap (λ z. z ++ k.text) (h.is_text ∙ ap (λ z. z ++ h.text) (no_text true config.minify)) in
     let stand = names_longer (unlined config) a.sheet.place h.text k.text (printed p a).sheet.pairs k.added xs h.stand in
     subst (λ z. NamesStand (unlined config) origin z s.pairs xs) (sym text) (subst (λ z. NamesStand (unlined config) origin (h.text ++ k.text) z xs) (sym k.is_added) (subst (λ q. NamesStand (unlined config) q (h.text ++ k.text) ((printed p a).sheet.pairs ++ k.added) xs) (at_origin config.minify) stand))

@@ -37,24 +37,38 @@ GivesCause part a error = (b : State) × Follows (part nothing) a b (Err (reason
 abbrev pub IsPrinted : Part → State → Type 0
 IsPrinted part a = Follows (part nothing) a (printed part a) (Ok tt)
 
--- ---- a text with its positions
+-- ---- a text with settings
 
--- the sheet on which it is made: positions are kept, none yet, and where it is minified semicolons are held back
-unfoldable pub sheet_by : Bool → Sheet
-sheet_by true = record (keeping [] blank_sheet) { semicolons = HoldsNone }
-sheet_by false = keeping [] blank_sheet
+-- a sheet on which semicolons are held back, where a text is minified
+unfoldable pub held_by : Bool → Sheet → Sheet
+held_by true s = record s { semicolons = HoldsNone }
+held_by false s = s
 
--- where its emission begins
-abbrev pub start_with : Lines → Maps → Config → State
-start_with lines maps config = start lines maps config (sheet_by config.minify)
+-- where an emission on a sheet begins
+abbrev pub start_on : Sheet → Lines → Maps → Config → State
+start_on sheet lines maps config = start lines maps config (held_by config.minify sheet)
 
 -- a semicolon that is held back at the end is written, unless the settings leave it out: `a` becomes `a;`
 unfoldable pub with_last : Config → Sheet → Sheet
 with_last config s = if config.omit_last_semi then s else settled s
 
--- the sheet at the end, with the text and the positions of a part
+-- the sheet at the end
+abbrev pub sheet_on : Sheet → Lines → Maps → Config → Part → Sheet
+sheet_on sheet lines maps config part = with_last config (printed part (start_on sheet lines maps config)).sheet
+
+-- the text of a part, where no positions are kept
+abbrev pub text_with : Lines → Maps → Config → Part → List ℕ
+text_with lines maps config part = (sheet_on blank_sheet lines maps config part).text
+
+-- the same with positions: none yet, and at the end those of the part
+abbrev pub placed_sheet : Sheet
+placed_sheet = keeping [] blank_sheet
+
+abbrev pub start_with : Lines → Maps → Config → State
+start_with = start_on placed_sheet
+
 abbrev pub sheet_with : Lines → Maps → Config → Part → Sheet
-sheet_with lines maps config part = with_last config (printed part (start_with lines maps config)).sheet
+sheet_with = sheet_on placed_sheet
 
 -- a sheet without what it holds back
 abbrev pub unheld : Sheet → Sheet

@@ -12,12 +12,12 @@ ghost use Rattle.swc_ecma_codegen_emit.specs.Roots.{Root, root_items, root_phras
 ghost use Rattle.swc_ecma_codegen_common.specs.Refusals.{reason_of};
 ghost use Rattle.swc_ecma_codegen_text_writer.specs.Places.{origin};
 ghost use Rattle.swc_ecma_codegen_text_writer.specs.Recorded.{StandIn, AreNew};
-ghost use Rattle.swc_ecma_codegen_text_writer.specs.Sheet.{Sheet, Commit, Refuses};
+ghost use Rattle.swc_ecma_codegen_text_writer.specs.Sheet.{Sheet, Commit, Refuses, holds_semicolons};
 ghost use Rattle.swc_ecma_codegen_text_writer.specs.View.{sheet_of};
 ghost use Rattle.swc_ecma_codegen_grammar.specs.Phrases.{names_in};
 ghost use Rattle.swc_ecma_codegen_tokens.specs.Named.{NamesStand};
 ghost use Rattle.swc_ecma_codegen_tokens.specs.Run.{steps_in, unlined, unprintable_in};
-ghost use Rattle.swc_ecma_codegen_emit.specs.Texts.{blank_sheet, sheet_with, start_with, text_of, text_over, unheld, with_last, GivesCause, GivesCauseOrLast, IsOfWriter, IsPrinted};
+ghost use Rattle.swc_ecma_codegen_emit.specs.Texts.{blank_sheet, sheet_on, sheet_with, start_on, start_with, text_of, text_over, text_with, unheld, with_last, GivesCause, GivesCauseOrLast, IsOfWriter, IsPrinted};
 
 use crate::emitter::Emitter;
 use crate::node::Node;
@@ -181,6 +181,98 @@ fn print_whole<N: Node, S: SourceMapper, C: Comments + Drop, W: WriteJs + Drop>(
     write_last(cfg, emitter.into_writer())
 }
 
+/// Prints a node to a writer, with a semicolon that is held back at the end, and gives the writer back. Where the settings are to
+/// minify, semicolons that aren't needed are left out.
+fn print_with_settings<N: Node, S: SourceMapper, C: Comments + Drop, W: WriteJs + Drop>(
+    alloc: Global,
+    cfg: Config,
+    cm: &S,
+    comments: Option<C>,
+    node: &N,
+    wr: W,
+) -> std::result::Result<W, Error>
+    requires { holds_semicolons (W.sheet wr).semicolons ≡ false }
+    // A semicolon that is still held back is left out.
+    ensures sheet { IfOk result (λ w. unheld (W.sheet w) ≡ unheld
+        (sheet_on (W.sheet wr) (S.lines cm.now) (maps_in C.maps comments) cfg (N.part node.now))) }
+    ensures printable { IfOk result (λ w.
+        unprintable_in (steps_in (N.part node.now)
+        (start_on (W.sheet wr) (S.lines cm.now) (maps_in C.maps comments) cfg)) ≡ None) }
+    ensures cause { IfErr result (GivesCauseOrLast cfg (N.part node.now)
+        (start_on (W.sheet wr) (S.lines cm.now) (maps_in C.maps comments) cfg)) }
+{
+    if cfg.minify {
+        let held = omit_trailing_semi(wr);
+        match print_whole(alloc, cfg, cm, comments, node, held) {
+            Ok(ended) => Ok(ended.into_inner()),
+            Err(error) => Err(error),
+        }
+    } else {
+        print_whole(alloc, cfg, cm, comments, node, wr)
+    }
+}
+
+/// Prints a node to memory, and gives the writer, which has its text.
+fn print_to_memory<N: Node, S: SourceMapper, C: Comments + Drop>(
+    alloc: Global,
+    cfg: Config,
+    cm: &S,
+    comments: Option<C>,
+    node: &N,
+) -> std::result::Result<JsWriter<'static, Vec<u8>>, Error>
+    ensures sheet { IfOk result (λ w. unheld (sheet_of w) ≡ unheld
+        (sheet_on blank_sheet (S.lines cm.now) (maps_in C.maps comments) cfg (N.part node.now))) }
+    ensures printable { IfOk result (λ w.
+        unprintable_in (steps_in (N.part node.now)
+        (start_on blank_sheet (S.lines cm.now) (maps_in C.maps comments) cfg)) ≡ None) }
+    ensures cause { IfErr result (GivesCauseOrLast cfg (N.part node.now)
+        (start_on blank_sheet (S.lines cm.now) (maps_in C.maps comments) cfg)) }
+{
+    let blank = JsWriter::new(alloc, cm, "\n", Vec::new(alloc), None);
+    print_with_settings(alloc, cfg, cm, comments, node, blank)
+}
+
+/// The text of a node with these settings: `a + b;`, and `a+b;` with `Config::default().with_minify(true)`.
+///
+/// Lines end with LF, and four blanks are a level. With `minify` semicolons that aren't needed are left out before `}` and
+/// `;`; with `omit_last_semi` too, the last one is. `cm` tells where lines end in the source text, and `comments` has its comments:
+/// those that the node takes are written. `to_code_with_positions` gives the positions too, and takes memory for them.
+///
+/// It is refused as the emitter refuses the node; `OutOfMemory` is want of memory for the text too. Then there is no text.
+pub fn to_code_with<N: Node, S: SourceMapper, C: Comments + Drop>(
+    alloc: Global,
+    cfg: Config,
+    cm: &S,
+    comments: Option<C>,
+    node: &N,
+) -> std::result::Result<String, Error>
+    ensures text { IfOk result (λ text. string_bytes text
+        ≡ text_with (S.lines cm.now) (maps_in C.maps comments) cfg (N.part node.now)) }
+    // Its steps were made: what a root's steps do, `swc_ecma_codegen_laws::emissions_of_roots` says.
+    ensures printed { IfOk result (λ text. IsPrinted (N.part node.now)
+        (start_on blank_sheet (S.lines cm.now) (maps_in C.maps comments) cfg)) }
+    // Where each comment can be read back, the text of a well-formed tree is UTF-8, and reads as one of the tree's token lists
+    // with the comments that were taken between the tokens, in order; minified, without some semicolons that aren't needed.
+    ensures reads { (root : Root) → N.part node.now ≡ root_items root →
+        is_well_formed_root root ≡ true → AreClosed (maps_in C.maps comments) →
+        IfOk result (λ text.
+        ReadsAs (unlined cfg) cfg.minify (root_phrase root)
+        (taken_remarks (N.part node.now)
+        (start_on blank_sheet (S.lines cm.now) (maps_in C.maps comments) cfg).env)
+        (string_bytes text)) }
+    // It is refused for want of memory, or for the cause that the error names.
+    ensures cause { IfErr result (λ error. (error ≡ OutOfMemory)
+        ⊎ GivesCauseOrLast cfg (N.part node.now)
+        (start_on blank_sheet (S.lines cm.now) (maps_in C.maps comments) cfg) error) }
+    ensures not_writer { IfErr result (λ error. IsOfWriter error → ⊥) }
+{
+    match print_to_memory(alloc, cfg, cm, comments, node) {
+        Ok(writer) => Ok(String::from_utf8(writer.into_inner()).unwrap()),
+        Err(Error::Writer(_)) => Err(Error::OutOfMemory),
+        Err(error) => Err(error),
+    }
+}
+
 /// Prints a node to memory, and gives the writer, which has its text and its positions.
 fn print_with_positions<N: Node, S: SourceMapper, C: Comments + Drop>(
     alloc: Global,
@@ -189,7 +281,6 @@ fn print_with_positions<N: Node, S: SourceMapper, C: Comments + Drop>(
     comments: Option<C>,
     node: &N,
 ) -> std::result::Result<PositionsWriter<'static, Vec<u8>>, Error>
-    // A semicolon that is still held back is left out.
     ensures sheet { IfOk result (λ w. unheld (sheet_of w) ≡ unheld
         (sheet_with (S.lines cm.now) (maps_in C.maps comments) cfg (N.part node.now))) }
     ensures printable { IfOk result (λ w.
@@ -199,15 +290,7 @@ fn print_with_positions<N: Node, S: SourceMapper, C: Comments + Drop>(
         (start_with (S.lines cm.now) (maps_in C.maps comments) cfg)) }
 {
     let writer = PositionsWriter::keeping_positions(alloc, cm, "\n", Vec::new(alloc));
-    if cfg.minify {
-        let held = omit_trailing_semi(writer);
-        match print_whole(alloc, cfg, cm, comments, node, held) {
-            Ok(ended) => Ok(ended.into_inner()),
-            Err(error) => Err(error),
-        }
-    } else {
-        print_whole(alloc, cfg, cm, comments, node, writer)
-    }
+    print_with_settings(alloc, cfg, cm, comments, node, writer)
 }
 
 /// The text of a node, and its positions: each position of the source with the line and the column, both from 0, where what

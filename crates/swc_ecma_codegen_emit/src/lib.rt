@@ -45,6 +45,8 @@ mod ts_members;
 mod type_params;
 mod types;
 
-pub use crate::code::{to_code, to_code_default, to_code_with_comments, to_code_with_positions};
+pub use crate::code::{
+    to_code, to_code_default, to_code_with, to_code_with_comments, to_code_with_positions,
+};
 pub use crate::emitter::Emitter;
 pub use crate::node::Node;

@@ -1,81 +1,32 @@
-use Rattle.std.proofs.Common.{◌≡◌, ◌∷◌, [], None, IfErr, ap, ◌∙◌, subst, sym}
-use Rattle.std.proofs.lemmas.Result.{IfOk-weaker}
+use Rattle.std.proofs.Common.{◌≡◌, ◌∷◌, [], None, IfOk, IfErr, ap, ◌∙◌, subst}
 use Rattle.swc_ecma_codegen_text_writer.specs.Sheet.{Sheet, holds_semicolons}
-use Rattle.swc_ecma_codegen_text_writer.specs.PendingSemi.{with_held}
 use Rattle.swc_ecma_codegen_text_writer.specs.View.{sheet_of, new_sheet, keeping}
 use Rattle.swc_ecma_codegen_grammar.specs.Comments.{maps_in}
-use Rattle.swc_ecma_codegen_tokens.specs.Run.{printed, start, steps_in, unprintable_in}
-use Rattle.swc_ecma_codegen_emit.specs.Texts.{blank_sheet, sheet_by, unheld, with_last, GivesCauseOrLast}
+use Rattle.swc_ecma_codegen_tokens.specs.Run.{steps_in, unprintable_in}
+use Rattle.swc_ecma_codegen_emit.specs.Texts.{sheet_on, start_on, unheld, GivesCauseOrLast}
 use Rattle.swc_ecma_codegen_emit.proofs.code.print_with_positions.Goals as goal
 
-pub omit_trailing_semi-held-requires : goal.omit_trailing_semi-held-requires
-omit_trailing_semi-held-requires g c = ap (λ (s : Sheet). holds_semicolons s.semicolons) c.keeping_positions-writer.ensures.sheet
+-- the writer begins with a blank sheet, and with no positions
+pub print_with_settings-requires : goal.print_with_settings-requires
+print_with_settings-requires g c = ap (λ (s : Sheet). holds_semicolons s.semicolons) (c.keeping_positions-writer.ensures.sheet ∙ ap (λ t. keeping [] (new_sheet t (10 ∷ []))) c.new.ensures.items)
 
-pub returns-in-Ok-clause-sheet : goal.returns-in-Ok-clause-sheet
-unfolding with_held sheet_by
-returns-in-Ok-clause-sheet g c =
+pub returns-clause-sheet : goal.returns-clause-sheet
+returns-clause-sheet g c =
     let lines = g.S.SourceMapper.lines c.args.cm.now in
     let maps = maps_in g.C.Comments.maps c.args.comments in
     let part = g.N.Node.part c.args.node.now in
-    let config = c.args.cfg in
-    let blank : sheet_of c.keeping_positions-writer.result ≡ keeping [] blank_sheet = c.keeping_positions-writer.ensures.sheet ∙ ap (λ t. keeping [] (new_sheet t (10 ∷ []))) c.new.ensures.items in
-    let begun : with_held c.omit_trailing_semi-held.result.pending (sheet_of c.omit_trailing_semi-held.result.inner) ≡ sheet_by config.minify =
-    c.omit_trailing_semi-held.ensures ∙ ap unheld blank ∙ ap sheet_by (sym c.if-cfg.true) in
-    ap unheld (c.into_inner.ensures.sheet ∙ c.in-Ok.ensures.sheet ∙ ap (λ s. with_last config (printed part (start lines maps config s)).sheet) begun)
+    subst (λ s. IfOk c.print_with_settings.result (λ w. unheld (sheet_of w) ≡ unheld (sheet_on s lines maps c.args.cfg part))) (c.keeping_positions-writer.ensures.sheet ∙ ap (λ t. keeping [] (new_sheet t (10 ∷ []))) c.new.ensures.items) c.print_with_settings.ensures.sheet
 
-pub returns-in-Ok-clause-printable : goal.returns-in-Ok-clause-printable
-unfolding with_held sheet_by
-returns-in-Ok-clause-printable g c =
+pub returns-clause-printable : goal.returns-clause-printable
+returns-clause-printable g c =
     let lines = g.S.SourceMapper.lines c.args.cm.now in
     let maps = maps_in g.C.Comments.maps c.args.comments in
     let part = g.N.Node.part c.args.node.now in
-    let config = c.args.cfg in
-    let blank : sheet_of c.keeping_positions-writer.result ≡ keeping [] blank_sheet = c.keeping_positions-writer.ensures.sheet ∙ ap (λ t. keeping [] (new_sheet t (10 ∷ []))) c.new.ensures.items in
-    let begun : with_held c.omit_trailing_semi-held.result.pending (sheet_of c.omit_trailing_semi-held.result.inner) ≡ sheet_by config.minify =
-    c.omit_trailing_semi-held.ensures ∙ ap unheld blank ∙ ap sheet_by (sym c.if-cfg.true) in
-    subst (λ s. unprintable_in (steps_in part (start lines maps config s)) ≡ None) begun c.in-Ok.ensures.printable
+    subst (λ s. IfOk c.print_with_settings.result (λ w. unprintable_in (steps_in part (start_on s lines maps c.args.cfg)) ≡ None)) (c.keeping_positions-writer.ensures.sheet ∙ ap (λ t. keeping [] (new_sheet t (10 ∷ []))) c.new.ensures.items) c.print_with_settings.ensures.printable
 
-pub returns-in-Err-clause-cause : goal.returns-in-Err-clause-cause
-unfolding with_held sheet_by
-returns-in-Err-clause-cause g c =
+pub returns-clause-cause : goal.returns-clause-cause
+returns-clause-cause g c =
     let lines = g.S.SourceMapper.lines c.args.cm.now in
     let maps = maps_in g.C.Comments.maps c.args.comments in
     let part = g.N.Node.part c.args.node.now in
-    let config = c.args.cfg in
-    let blank : sheet_of c.keeping_positions-writer.result ≡ keeping [] blank_sheet = c.keeping_positions-writer.ensures.sheet ∙ ap (λ t. keeping [] (new_sheet t (10 ∷ []))) c.new.ensures.items in
-    let begun : with_held c.omit_trailing_semi-held.result.pending (sheet_of c.omit_trailing_semi-held.result.inner) ≡ sheet_by config.minify =
-    c.omit_trailing_semi-held.ensures ∙ ap unheld blank ∙ ap sheet_by (sym c.if-cfg.true) in
-    subst (λ s. GivesCauseOrLast config part (start lines maps config s) c.in-Err.error) begun c.in-Err.ensures.cause
-
-pub returns-else-cfg-clause-sheet : goal.returns-else-cfg-clause-sheet
-unfolding sheet_by
-returns-else-cfg-clause-sheet g c =
-    let lines = g.S.SourceMapper.lines c.args.cm.now in
-    let maps = maps_in g.C.Comments.maps c.args.comments in
-    let part = g.N.Node.part c.args.node.now in
-    let config = c.args.cfg in
-    let blank : sheet_of c.keeping_positions-writer.result ≡ keeping [] blank_sheet = c.keeping_positions-writer.ensures.sheet ∙ ap (λ t. keeping [] (new_sheet t (10 ∷ []))) c.new.ensures.items in
-    let begun : sheet_of c.keeping_positions-writer.result ≡ sheet_by config.minify = blank ∙ ap sheet_by (sym c.if-cfg.false) in
-    IfOk-weaker c.print_whole-else-cfg.result _ _ (λ w e. ap unheld (e ∙ ap (λ s. with_last config (printed part (start lines maps config s)).sheet) begun)) c.print_whole-else-cfg.ensures.sheet
-
-pub returns-else-cfg-clause-printable : goal.returns-else-cfg-clause-printable
-unfolding sheet_by
-returns-else-cfg-clause-printable g c =
-    let lines = g.S.SourceMapper.lines c.args.cm.now in
-    let maps = maps_in g.C.Comments.maps c.args.comments in
-    let part = g.N.Node.part c.args.node.now in
-    let config = c.args.cfg in
-    let blank : sheet_of c.keeping_positions-writer.result ≡ keeping [] blank_sheet = c.keeping_positions-writer.ensures.sheet ∙ ap (λ t. keeping [] (new_sheet t (10 ∷ []))) c.new.ensures.items in
-    let begun : sheet_of c.keeping_positions-writer.result ≡ sheet_by config.minify = blank ∙ ap sheet_by (sym c.if-cfg.false) in
-    IfOk-weaker c.print_whole-else-cfg.result _ _ (λ w e. subst (λ s. unprintable_in (steps_in part (start lines maps config s)) ≡ None) begun e) c.print_whole-else-cfg.ensures.printable
-
-pub returns-else-cfg-clause-cause : goal.returns-else-cfg-clause-cause
-unfolding sheet_by
-returns-else-cfg-clause-cause g c =
-    let lines = g.S.SourceMapper.lines c.args.cm.now in
-    let maps = maps_in g.C.Comments.maps c.args.comments in
-    let part = g.N.Node.part c.args.node.now in
-    let config = c.args.cfg in
-    let blank : sheet_of c.keeping_positions-writer.result ≡ keeping [] blank_sheet = c.keeping_positions-writer.ensures.sheet ∙ ap (λ t. keeping [] (new_sheet t (10 ∷ []))) c.new.ensures.items in
-    let begun : sheet_of c.keeping_positions-writer.result ≡ sheet_by config.minify = blank ∙ ap sheet_by (sym c.if-cfg.false) in
-    subst (λ s. IfErr c.print_whole-else-cfg.result (GivesCauseOrLast config part (start lines maps config s))) begun c.print_whole-else-cfg.ensures.cause
+    subst (λ s. IfErr c.print_with_settings.result (GivesCauseOrLast c.args.cfg part (start_on s lines maps c.args.cfg))) (c.keeping_positions-writer.ensures.sheet ∙ ap (λ t. keeping [] (new_sheet t (10 ∷ []))) c.new.ensures.items) c.print_with_settings.ensures.cause

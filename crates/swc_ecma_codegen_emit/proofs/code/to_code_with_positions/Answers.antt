@@ -1,4 +1,4 @@
-use Rattle.std.proofs.Common.{◌≡◌, [], ◌∙◌, ap, refl, rules, string_bytes, subst, sym}
+use Rattle.std.proofs.Common.{◌≡◌, true, [], ◌∙◌, ap, refl, rules, string_bytes, subst, sym}
 use Rattle.std.proofs.lemmas.Str.{IsUtf8-from_is_utf8}
 use Rattle.std.specs.Str.{is_utf8}
 use Rattle.swc_ecma_codegen_text_writer.specs.Places.{origin}
@@ -13,14 +13,14 @@ use Rattle.swc_ecma_codegen_tokens.specs.Run.{Follows, unlined}
 use Rattle.swc_ecma_codegen_tokens.specs.Written.{ReadsAs, taken_remarks}
 use Rattle.swc_ecma_codegen_emit.specs.Roots.{root_phrase}
 use Rattle.swc_ecma_codegen_emit.specs.Texts.{sheet_with, start_with}
-use Rattle.swc_ecma_codegen_emit.proofs.LastSemi.{code_reads_with, names_with, new_with, records_with, stand_with, whole_with}
+use Rattle.swc_ecma_codegen_emit.proofs.LastSemi.{code_reads_on, names_with, new_with, records_with, stand_with, whole_on}
 use Rattle.swc_ecma_codegen_emit.proofs.code.to_code_with_positions.Goals as goal
 
 -- the text of the sheet is UTF-8, as no bytes are
 pub unwrap-requires : goal.unwrap-requires
 unwrap-requires g c =
     let all : c.into_parts-text.result.0.items ≡ (sheet_of c.in-Ok.writer).text = ap or_empty (c.into_parts-text.ensures.text refl) in
-    let whole = whole_with (g.S.SourceMapper.lines c.args.cm.now) (maps_in g.C.Comments.maps c.args.comments) c.args.cfg (g.N.Node.part c.args.node.now) in
+    let whole = whole_on true (g.S.SourceMapper.lines c.args.cm.now) (maps_in g.C.Comments.maps c.args.comments) c.args.cfg (g.N.Node.part c.args.node.now) in
     c.from_utf8.ensures.succeeds (IsUtf8-from_is_utf8 _ (ap is_utf8 all ∙ sym c.into_parts-text.ensures.whole ∙ ap (λ (s : Sheet). s.whole) c.in-Ok.ensures.sheet ∙ whole))
 
 pub returns-in-Ok-clause-text : goal.returns-in-Ok-clause-text
@@ -38,7 +38,7 @@ returns-in-Ok-clause-reads g c = λ root same well closed.
     let maps = maps_in g.C.Comments.maps c.args.comments in
     let part = g.N.Node.part c.args.node.now in
     let config = c.args.cfg in
-    subst (λ z. ReadsAs (unlined config) config.minify (root_phrase root) (taken_remarks part (start_with lines maps config).env) z) (sym (returns-in-Ok-clause-text g c)) (code_reads_with lines maps config root part same well closed c.in-Ok.ensures.printable)
+    subst (λ z. ReadsAs (unlined config) config.minify (root_phrase root) (taken_remarks part (start_with lines maps config).env) z) (sym (returns-in-Ok-clause-text g c)) (code_reads_on true lines maps config root part same well closed c.in-Ok.ensures.printable)
 
 pub returns-in-Ok-clause-recorded : goal.returns-in-Ok-clause-recorded
 returns-in-Ok-clause-recorded g c =
