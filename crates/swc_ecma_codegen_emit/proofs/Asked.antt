@@ -36,7 +36,7 @@ committed_same rest env h = ap (λ b. cond b (rest env) (commit_pending_semi res
 
 -- the last semicolon is left out
 pub kept_back : (a : Standing) → a.state.env.config.omit_last_semi ≡ true → Makes last_semi a a
-kept_back a h = makes_same last_semi (λ rest. rest) a a (λ rest. kept_same rest a.state.env h) (λ rest c k. k)
+kept_back a h = makes_same last_semi (λ rest. rest) a a (λ rest. kept_same rest a.state.env h) (λ level rest c k. k)
 
 -- it is written
 pub committed : (a b : Standing) → a.state.env.config.omit_last_semi ≡ false → Makes commit_pending_semi a b → Makes last_semi a b
@@ -53,19 +53,19 @@ pretty_part part other a b h k = makes_same (when_minified part other) other a b
 -- a parenthesis beside a name alone isn't written there
 pub bare : (a : Standing) (plain : Bool) (t : List ℕ) → plain ≡ true → a.state.env.config.minify ≡ true → Makes (parenthesis plain t) a a
 unfolding parenthesis no_part
-bare a true t p h = minified_part no_part (punct t) a a h (λ rest c k. k)
+bare a true t p h = minified_part no_part (punct t) a a h (λ level rest c k. k)
 bare a false t p h = absurd (true≢false (sym p))
 
 -- beside anything else it is
 pub parenthesized : (a b : Standing) (plain : Bool) (t : List ℕ) → (plain && a.state.env.config.minify) ≡ false → Makes (punct t) a b → Makes (parenthesis plain t) a b
 unfolding parenthesis
 parenthesized a b true t h k = pretty_part no_part (punct t) a b h k
-parenthesized a b false t h k = λ rest c f. k rest c f
+parenthesized a b false t h k = k
 
 -- `()` after `new A` is left out
 pub arguments_left_out : (a : Standing) → a.state.env.config.minify ≡ true → Makes empty_arguments a a
 unfolding empty_arguments no_part parentheses
-arguments_left_out a h = minified_part no_part parentheses a a h (λ rest c k. k)
+arguments_left_out a h = minified_part no_part parentheses a a h (λ level rest c k. k)
 
 -- it is written
 pub arguments_written : (a b : Standing) → a.state.env.config.minify ≡ false → Makes parentheses a b → Makes empty_arguments a b
@@ -78,7 +78,7 @@ loop_ended a b h k = makes_same loop_ending semi a b (λ rest. ended_same rest a
 
 -- for a later one it isn't
 pub loop_not_ended : (a : Standing) → is_up_to_es5 a.state.env.config.target ≡ false → Makes loop_ending a a
-loop_not_ended a h = makes_same loop_ending (λ rest. rest) a a (λ rest. not_ended_same rest a.state.env h) (λ rest c k. k)
+loop_not_ended a h = makes_same loop_ending (λ rest. rest) a a (λ rest. not_ended_same rest a.state.env h) (λ level rest c k. k)
 
 -- the word before import attributes, by the settings
 pub attributes_by_assert : (a b : Standing) → a.state.env.config.emit_assert_for_import_attributes ≡ true → Makes (keyword None (codes "assert")) a b → Makes attributes_word a b
@@ -90,14 +90,14 @@ attributes_by_with a b h k = makes_same attributes_word (keyword None (codes "wi
 -- comments after an expression may be left where they are
 pub closed_left : (left : Bool) (span : Span) (a : Standing) → left ≡ true → Makes (expr_closed left span) a a
 unfolding expr_closed
-closed_left true span a h = λ rest c k. k
+closed_left true span a h = λ level rest c k. k
 closed_left false span a h = absurd (true≢false (sym h))
 
 -- after an expression they are, unless they are left where they are
 pub closed_commented : (left : Bool) (span : Span) (a b : Standing) → left ≡ false → Makes (trailing_comments true span.hi) a b → Makes (expr_closed left span) a b
 unfolding expr_closed
 closed_commented true span a b h k = absurd (true≢false h)
-closed_commented false span a b h k = λ rest c f. k rest c f
+closed_commented false span a b h k = k
 
 -- ---- by the comments that are still to be taken
 

@@ -20,7 +20,7 @@ use Rattle.swc_ecma_codegen_emit.specs.AnyExpr.{leaves_comments, expr_parts, exp
 use Rattle.swc_ecma_codegen_emit.specs.Commented.{has_comment_after, has_comment_inside}
 use Rattle.swc_ecma_codegen_emit.specs.FunctionExprs.{has_comment_behind}
 use Rattle.swc_ecma_codegen_emit.specs.Standing.{Standing, outcome, Leads, LeadsAfter, Makes}
-use Rattle.swc_ecma_codegen_emit.proofs.Standings.{leads_ended}
+use Rattle.swc_ecma_codegen_emit.proofs.Standings.{makes_ended}
 
 -- there are none
 pub none_there : {C : Type 0} (maps : C → Maps) (comments : Option C) → is_some comments ≡ false → maps_in maps comments ≡ no_maps
@@ -47,14 +47,14 @@ none_inside maps (Some c) span h = absurd (let z : true ≡ false = h in cc)
 
 -- ---- a part that does nothing then
 
-leads_on : (old : Option Refusal) (part : Part) (rest : Plan) (a c : Standing) → IsSilent part → (old ≡ None → a.state.env.maps ≡ no_maps) → LeadsAfter old rest a c → LeadsAfter old (part rest) a c
+leads_on : (old : Option Refusal) (level : ℕ) (part : Part) (rest : Plan) (a c : Standing) → IsSilent part → (old ≡ None → a.state.env.maps ≡ no_maps) → LeadsAfter old level rest a c → LeadsAfter old level (part rest) a c
 unfolding LeadsAfter
-leads_on None part rest a c s m h = s rest a.state c.state (outcome c.refusal) (m refl) h
-leads_on (Some e) part rest a c s m h = h
+leads_on None level part rest a c s m h = (s rest a.state c.state (outcome c.refusal) (m refl) h.0, h.1)
+leads_on (Some e) level part rest a c s m h = h
 
 makes_silently : (part : Part) (a : Standing) → IsSilent part → a.state.env.maps ≡ no_maps → Makes part a a
 unfolding Leads
-makes_silently part a s m = λ rest c k. leads_on a.refusal part rest a c s (λ n. m) k
+makes_silently part a s m = λ level rest c k. leads_on a.refusal level part rest a c s (λ n. m) k
 
 pub no_leading : (pos : BytePos) (a : Standing) → a.state.env.maps ≡ no_maps → Makes (leading_comments pos) a a
 no_leading pos a m = makes_silently (leading_comments pos) a (silent_leading pos) m
@@ -70,21 +70,21 @@ none_behind_child format line place a m = makes_silently (child_comments format 
 
 -- ---- behind a part that was made there are none either
 
-left_none : (old now : Option Refusal) (p : Plan) (a b : Standing) → now ≡ None → b.refusal ≡ now → a.state.env.maps ≡ no_maps → LeadsAfter old p a b → b.state.env.maps ≡ no_maps
+left_none : (old now : Option Refusal) (level : ℕ) (p : Plan) (a b : Standing) → now ≡ None → b.refusal ≡ now → a.state.env.maps ≡ no_maps → LeadsAfter old level p a b → b.state.env.maps ≡ no_maps
 unfolding LeadsAfter Follows outcome
-left_none None now p a b none is m h =
-    let followed : Follows p a.state b.state (outcome None) = subst (λ z. Follows p a.state b.state (outcome z)) (is ∙ none) h in
+left_none None now level p a b none is m h =
+    let followed : Follows p a.state b.state (outcome None) = subst (λ z. Follows p a.state b.state (outcome z)) (is ∙ none) h.0 in
     let steps = steps_of (p a.state.env) in
     ap (λ (s : State). s.env.maps) followed.1 ∙ ap (λ (e : Env). e.maps) (run_env steps a.state) ∙ ap (maps_after steps) m ∙ none_left steps
-left_none (Some r) now p a b none is m h = ap (λ (s : Standing). s.state.env.maps) h ∙ m
+left_none (Some r) now level p a b none is m h = ap (λ (s : Standing). s.state.env.maps) h ∙ m
 
 still_none : (part : Part) (a b : Standing) → a.state.env.maps ≡ no_maps → Makes part a b → b.refusal ≡ None → b.state.env.maps ≡ no_maps
 unfolding Leads
-still_none part a b m h none = left_none a.refusal b.refusal (part nothing) a b none refl m (h nothing b (leads_ended b))
+still_none part a b m h none = left_none a.refusal b.refusal b.state.sheet.indentation (part nothing) a b none refl m (makes_ended part a b h)
 
 then_silently : (part next : Part) (a b : Standing) → IsSilent next → a.state.env.maps ≡ no_maps → Makes part a b → Makes (λ rest. part (next rest)) a b
 unfolding Leads
-then_silently part next a b s m h = λ rest c k. h (next rest) c (leads_on b.refusal next rest b c s (still_none part a b m h) k)
+then_silently part next a b s m h = λ level rest c k. h level (next rest) c (leads_on b.refusal level next rest b c s (still_none part a b m h) k)
 
 silent_closed : (left : Bool) (span : Span) → IsSilent (expr_closed left span)
 unfolding expr_closed

@@ -1,18 +1,19 @@
--- What an emission does, a clause each: of the root that is printed, or of the part that is written. It goes from one state to another, and
--- gives an answer.
-use Rattle.std.specs.Prelude.{◌≡◌, ◌≢◌, ℕ, true, false, Some, Result, Err, OnOk, IfErr, IsOk, ⊤}
+-- What an emission does, a word for each clause: of the root that is printed, or of the part that is written. It goes from one state to another,
+-- and gives an answer.
+use Rattle.std.specs.Prelude.{◌≡◌, ◌≢◌, ℕ, true, false, Some, Result, Err, OnOk, OnErr, IfErr, IsOk, ⊤}
 use Rattle.swc_ecma_codegen_common.specs.declared.errors.Error.{Error}
-use Rattle.swc_ecma_codegen_common.specs.declared.errors.Error.TheVariants.{OutOfMemory}
-use Rattle.swc_ecma_codegen_common.specs.Refusals.{reason_of}
+use Rattle.swc_ecma_codegen_common.specs.declared.errors.Error.TheVariants.{OutOfMemory, Failed}
+use Rattle.swc_ecma_codegen_common.specs.Refusals.{in_short, reason_of}
 use Rattle.swc_ecma_codegen_grammar.specs.CommentMaps.{Maps}
 use Rattle.swc_ecma_codegen_grammar.specs.Comments.{AreClosed, texts_of}
 use Rattle.swc_ecma_codegen_grammar.specs.Phrases.{names_in}
 use Rattle.swc_ecma_codegen_text_writer.specs.Sheet.{fills_lines, may_take_memory}
 use Rattle.swc_ecma_codegen_text_writer.specs.Contents.{IsPrefix}
+use Rattle.swc_ecma_codegen_text_writer.specs.Recorded.{RecordsTruly}
 use Rattle.swc_ecma_codegen_tokens.specs.Ascii.{other_texts, AddsAscii, WantsAscii}
 use Rattle.swc_ecma_codegen_tokens.specs.Named.{RecordsNames, PlacesNames}
 use Rattle.swc_ecma_codegen_tokens.specs.Ready.{IsPlainTree, IsReady}
-use Rattle.swc_ecma_codegen_tokens.specs.Run.{Part, State, HasCause, IsUnhindered, is_bounded, makes_text, maps_after, printed, spoken, steps_in, steps_of, taken_in}
+use Rattle.swc_ecma_codegen_tokens.specs.Run.{Part, State, Follows, HasCause, IsUnhindered, is_bounded, makes_text, maps_after, nothing, printed, spoken, steps_in, steps_of, taken_in}
 use Rattle.swc_ecma_codegen_tokens.specs.Scripts.{value_strings, AddsSafe}
 use Rattle.swc_ecma_codegen_tokens.specs.Written.{AddsReading, taken_remarks}
 use Rattle.swc_ecma_codegen_emit.specs.Left.{NoneBeforeItems, NoneBeforeBody}
@@ -109,3 +110,48 @@ IsMadeUnhindered p a b r = IsUnhindered (steps_in p a) a b → IsOk r
 -- The emitter is ready again for the next, where no lines are filled then.
 abbrev pub StaysReady : State → State → Outcome → Type 0
 StaysReady a b r = OnOk r (fills_lines b.sheet.lines ≡ false → IsReady a → IsReady b)
+
+-- ---- the clauses of the emit calls
+
+-- What the emission of a part does. Of a part that is what is written of a root, more is said.
+pub record Emission (p : Part) (a b : State) (r : Outcome) : Type 0 where
+  -- The steps of the tree are made, and it comes to no node that can't be printed; or it halts.
+  pub items : Follows (p nothing) a b (in_short r)
+  -- What a new emitter adds to the text, of a well-formed tree, reads as one of the tree's token lists; with a hashbang, where
+  -- no indentation is due before it.
+  pub reads : (root : Root) → p ≡ root_items root → ReadsAsRoot root a b r
+  -- Each position that is recorded holds the place that the text had reached, and none is recorded twice.
+  pub recorded : OnOk r (RecordsTruly a.sheet b.sheet)
+  -- What is gone from the comments is what was taken.
+  pub taken : TakesComments p a b r
+  -- Of a well-formed tree each of these is written, once, in order of taking.
+  pub told : (root : Root) → p ≡ root_items root → WritesTaken root a r
+  -- Of a well-formed module no comment is left before an item.
+  pub left : (root : Root) → p ≡ root_items root → LeavesNone root a b r
+  -- Where positions are kept, each name of a well-formed tree has its own where it begins, unless that is 0.
+  pub names : (root : Root) → p ≡ root_items root → RecordsEachName root a b r
+  -- Where positions are kept, each of these names stands as its own token behind those before it: what is before it reads as them.
+  pub places : (root : Root) → p ≡ root_items root → PlacesEachName root a b r
+  -- Where the settings ask for ASCII, what is added to the text is, but for texts that stand as they are in the tree.
+  pub ascii : (root : Root) → p ≡ root_items root → AddsOnlyAscii root a b r
+  -- Under `inline_script` no string of a well-formed tree that is printed by its value ends a script of an HTML page.
+  pub inline : (root : Root) → p ≡ root_items root → AddsSafeStrings root a b r
+  -- Where lines are bounded, those of a module or script are filled.
+  pub fills : (root : Root) → p ≡ root_items root → FillsItsLines root a b r
+  -- What is out is a beginning of the text of these steps.
+  pub front : SendsFront p a b
+  -- It is refused only for the cause that the error names.
+  pub cause : IsRefusedForCause p a b r
+  -- Where no text is made anew, and no call of the writer takes memory, none is wanting.
+  pub no_memory : WantsNoMemory p a r
+  -- Where nothing stands in its way, it is made.
+  pub succeeds : IsMadeUnhindered p a b r
+  -- Where it is ready, and the writer counts no fault, a plain tree is printed.
+  pub made : (root : Root) → p ≡ root_items root → MakesPlainTrees root a b r
+  -- It is ready again for the next, where no lines are filled then.
+  pub ready : StaysReady a b r
+  -- Once it was refused, the emitter is marked as failed, and a failed one prints nothing.
+  pub marked : OnErr r (b.failed ≡ true)
+  pub failed : a.failed ≡ true → r ≡ Err Failed
+  -- The indentation is what it was.
+  pub level : OnOk r (b.sheet.indentation ≡ a.sheet.indentation)

@@ -2,7 +2,7 @@
 
 ghost use Rattle.swc_ecma_codegen_emit.specs.Annotations.{annotation, spaced_annotation, bang, field_annotation, type_args, type_params};
 ghost use Rattle.swc_ecma_codegen_tokens.specs.Words.{question};
-ghost use Rattle.swc_ecma_codegen_emit.specs.Standing.{Performs, KeepsLevel};
+ghost use Rattle.swc_ecma_codegen_emit.specs.Standing.{Performs};
 
 use crate::emitter::Emitter;
 use crate::nodes::{EmitAt, LinkTarget, Place};
@@ -18,7 +18,6 @@ impl<W: WriteJs, S: SourceMapper, C: Comments> Emitter<'_, W, S, C> {
     pub(crate) fn annotation<N: LinkTarget>(&mut self, ty: &Option<TsTypeAnnBox<N>>)
         ensures items { Performs (annotation N.items ty.now)
             S.lines C.maps W.sheet self.old self.new }
-        ensures level { KeepsLevel S.lines C.maps W.sheet self.old self.new }
     {
         match ty {
             Some(node) => {
@@ -34,7 +33,6 @@ impl<W: WriteJs, S: SourceMapper, C: Comments> Emitter<'_, W, S, C> {
     #[tactic(auto, unfolding(swc_ecma_codegen_tokens::specs::Words::question))]
     pub(crate) fn question(&mut self, optional: bool)
         ensures items { Performs (question optional) S.lines C.maps W.sheet self.old self.new }
-        ensures level { KeepsLevel S.lines C.maps W.sheet self.old self.new }
     {
         if optional {
             self.punct(Punctuator::Question);
@@ -46,7 +44,6 @@ impl<W: WriteJs, S: SourceMapper, C: Comments> Emitter<'_, W, S, C> {
     pub(crate) fn spaced_annotation<N: LinkTarget>(&mut self, ty: &Option<TsTypeAnnBox<N>>)
         ensures items { Performs (spaced_annotation N.items ty.now)
             S.lines C.maps W.sheet self.old self.new }
-        ensures level { KeepsLevel S.lines C.maps W.sheet self.old self.new }
     {
         match ty {
             Some(node) => {
@@ -62,7 +59,6 @@ impl<W: WriteJs, S: SourceMapper, C: Comments> Emitter<'_, W, S, C> {
     #[tactic(auto, unfolding(crate::specs::Annotations::bang))]
     fn bang(&mut self, definite: bool)
         ensures items { Performs (bang definite) S.lines C.maps W.sheet self.old self.new }
-        ensures level { KeepsLevel S.lines C.maps W.sheet self.old self.new }
     {
         if definite {
             self.punct(Punctuator::Bang);
@@ -78,7 +74,6 @@ impl<W: WriteJs, S: SourceMapper, C: Comments> Emitter<'_, W, S, C> {
     )
         ensures items { Performs (field_annotation N.items definite ty.now)
             S.lines C.maps W.sheet self.old self.new }
-        ensures level { KeepsLevel S.lines C.maps W.sheet self.old self.new }
     {
         match ty {
             Some(node) => {
@@ -100,7 +95,6 @@ impl<W: WriteJs, S: SourceMapper, C: Comments> Emitter<'_, W, S, C> {
     )
         ensures items { Performs (type_args N.items place args.now)
             S.lines C.maps W.sheet self.old self.new }
-        ensures level { KeepsLevel S.lines C.maps W.sheet self.old self.new }
     {
         match args {
             Some(node) => node.target().emit_at(self, place),
@@ -113,7 +107,6 @@ impl<W: WriteJs, S: SourceMapper, C: Comments> Emitter<'_, W, S, C> {
     pub(crate) fn type_params<N: LinkTarget>(&mut self, params: &Option<TsTypeParamDeclBox<N>>)
         ensures items { Performs (type_params N.items params.now)
             S.lines C.maps W.sheet self.old self.new }
-        ensures level { KeepsLevel S.lines C.maps W.sheet self.old self.new }
     {
         match params {
             Some(node) => node.target().emit_at(self, Place::Plain),

@@ -3,7 +3,7 @@
 ghost use Rattle.std.specs.Prelude.{◌≡◌, if◌then◌else◌};
 ghost use Rattle.swc_ecma_codegen_grammar.specs.FunctionPhrases.{is_some_listed};
 ghost use Rattle.swc_ecma_codegen_tokens.specs.Lists.{list};
-ghost use Rattle.swc_ecma_codegen_emit.specs.Standing.{Performs, KeepsLevel};
+ghost use Rattle.swc_ecma_codegen_emit.specs.Standing.{Performs};
 ghost use Rattle.swc_ecma_codegen_emit.specs.Blocks.{block_format, flat_block_format, block_children, block_list, block_lines, block_start, block_stmt};
 
 use crate::commented::wants_lines;
@@ -80,7 +80,6 @@ impl<W: WriteJs, S: SourceMapper, C: Comments> Emitter<'_, W, S, C> {
     #[tactic(auto, unfolding(crate::specs::Blocks::block_start))]
     fn block_start(&mut self, place: Place, span: Span)
         ensures items { Performs (block_start place span) S.lines C.maps W.sheet self.old self.new }
-        ensures level { KeepsLevel S.lines C.maps W.sheet self.old self.new }
     {
         match place {
             Place::Body => {}
@@ -92,7 +91,6 @@ impl<W: WriteJs, S: SourceMapper, C: Comments> Emitter<'_, W, S, C> {
     fn flat_block_list<N: LinkTarget>(&mut self, node: &BlockStmt<N>)
         ensures items { Performs (list flat_block_format node.now.span
             (block_children N.answers N.items node.now)) S.lines C.maps W.sheet self.old self.new }
-        ensures level { KeepsLevel S.lines C.maps W.sheet self.old self.new }
     {
         self.list(flat_block_format(), node.span, &node.stmts)
     }
@@ -102,7 +100,6 @@ impl<W: WriteJs, S: SourceMapper, C: Comments> Emitter<'_, W, S, C> {
         ensures items { Performs (list (if some then block_format else flat_block_format)
             node.now.span (block_children N.answers N.items node.now))
             S.lines C.maps W.sheet self.old self.new }
-        ensures level { KeepsLevel S.lines C.maps W.sheet self.old self.new }
     {
         self.list(format_by(some), node.span, &node.stmts)
     }
@@ -112,7 +109,6 @@ impl<W: WriteJs, S: SourceMapper, C: Comments> Emitter<'_, W, S, C> {
     fn block_list<N: LinkTarget>(&mut self, some: bool, node: &BlockStmt<N>)
         ensures items { Performs (block_list some node.now.span
             (block_children N.answers N.items node.now)) S.lines C.maps W.sheet self.old self.new }
-        ensures level { KeepsLevel S.lines C.maps W.sheet self.old self.new }
     {
         if self.cfg.minify {
             return self.flat_block_list(node);
@@ -124,7 +120,6 @@ impl<W: WriteJs, S: SourceMapper, C: Comments> Emitter<'_, W, S, C> {
     fn block_lines<N: LinkTarget>(&mut self, node: &BlockStmt<N>)
         ensures items { Performs (block_lines (is_some_listed node.now.stmts.items) node.now.span
             (block_children N.answers N.items node.now)) S.lines C.maps W.sheet self.old self.new }
-        ensures level { KeepsLevel S.lines C.maps W.sheet self.old self.new }
     {
         let some = wants_lines(&self.comments, is_some_listed(&node.stmts), node.span);
         self.block_list(some, node)

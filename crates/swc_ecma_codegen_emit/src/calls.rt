@@ -3,7 +3,7 @@
 ghost use Rattle.std.specs.Prelude.{◌≡◌};
 ghost use Rattle.swc_ecma_codegen_grammar.specs.ElementPhrases.{last_is_hole};
 ghost use Rattle.swc_ecma_codegen_tokens.specs.Choices.{empty_arguments};
-ghost use Rattle.swc_ecma_codegen_emit.specs.Standing.{Performs, KeepsLevel};
+ghost use Rattle.swc_ecma_codegen_emit.specs.Standing.{Performs};
 ghost use Rattle.swc_ecma_codegen_emit.specs.Calls.{spread_mark, argument_place, argument_items, array_format, array_elements, array_lit, call_format, new_format, arguments, import_phase, import_callee, super_keyword, callee, call_expr, keeps_arguments, listed_arguments, new_arguments, new_gap, parentheses, new_expr, call_mark, chain_call, is_optional};
 
 use crate::emitter::Emitter;
@@ -220,7 +220,6 @@ impl<W: WriteJs, S: SourceMapper, C: Comments> Emitter<'_, W, S, C> {
     fn array_elements<N: LinkTarget>(&mut self, node: &ArrayLit<N>)
         ensures items { Performs (array_elements N.answers N.items node.now)
             S.lines C.maps W.sheet self.old self.new }
-        ensures level { KeepsLevel S.lines C.maps W.sheet self.old self.new }
     {
         let format = array_format(ends_with_hole(&node.elems));
         self.list(format, node.span, &node.elems)
@@ -230,7 +229,6 @@ impl<W: WriteJs, S: SourceMapper, C: Comments> Emitter<'_, W, S, C> {
     #[tactic(auto, unfolding(crate::specs::Calls::spread_mark))]
     fn spread_mark(&mut self, spread: Option<Span>)
         ensures items { Performs (spread_mark spread) S.lines C.maps W.sheet self.old self.new }
-        ensures level { KeepsLevel S.lines C.maps W.sheet self.old self.new }
     {
         match spread {
             Some(_) => self.punct(Punctuator::Ellipsis),
@@ -248,7 +246,6 @@ impl<W: WriteJs, S: SourceMapper, C: Comments> Emitter<'_, W, S, C> {
     )
         ensures items { Performs (arguments N.answers N.items format.0 parent args.now)
             S.lines C.maps W.sheet self.old self.new }
-        ensures level { KeepsLevel S.lines C.maps W.sheet self.old self.new }
     {
         self.punct(Punctuator::LeftParenthesis);
         self.list(format, parent, args);
@@ -259,7 +256,6 @@ impl<W: WriteJs, S: SourceMapper, C: Comments> Emitter<'_, W, S, C> {
     #[tactic(auto, unfolding(crate::specs::Calls::import_phase))]
     fn import_phase(&mut self, phase: ImportPhase)
         ensures items { Performs (import_phase phase) S.lines C.maps W.sheet self.old self.new }
-        ensures level { KeepsLevel S.lines C.maps W.sheet self.old self.new }
     {
         match phase {
             ImportPhase::Evaluation => {}
@@ -278,7 +274,6 @@ impl<W: WriteJs, S: SourceMapper, C: Comments> Emitter<'_, W, S, C> {
     #[tactic(auto, unfolding(crate::specs::Calls::new_gap))]
     fn new_gap(&mut self, starts: bool)
         ensures items { Performs (new_gap starts) S.lines C.maps W.sheet self.old self.new }
-        ensures level { KeepsLevel S.lines C.maps W.sheet self.old self.new }
     {
         if starts {
             self.space()
@@ -291,7 +286,6 @@ impl<W: WriteJs, S: SourceMapper, C: Comments> Emitter<'_, W, S, C> {
     #[tactic(auto, using(crate::proofs::Asked::arguments_left_out, crate::proofs::Asked::arguments_written))]
     fn empty_arguments(&mut self)
         ensures items { Performs (empty_arguments) S.lines C.maps W.sheet self.old self.new }
-        ensures level { KeepsLevel S.lines C.maps W.sheet self.old self.new }
     {
         if self.cfg.minify {
             return;
@@ -303,7 +297,6 @@ impl<W: WriteJs, S: SourceMapper, C: Comments> Emitter<'_, W, S, C> {
     #[tactic(auto, unfolding(crate::specs::Calls::parentheses))]
     fn parentheses(&mut self)
         ensures items { Performs (parentheses) S.lines C.maps W.sheet self.old self.new }
-        ensures level { KeepsLevel S.lines C.maps W.sheet self.old self.new }
     {
         self.punct(Punctuator::LeftParenthesis);
         self.punct(Punctuator::RightParenthesis);
@@ -319,7 +312,6 @@ impl<W: WriteJs, S: SourceMapper, C: Comments> Emitter<'_, W, S, C> {
     )
         ensures items { Performs (listed_arguments N.answers N.items parent keeps args.now)
             S.lines C.maps W.sheet self.old self.new }
-        ensures level { KeepsLevel S.lines C.maps W.sheet self.old self.new }
     {
         match (keeps, args) {
             (false, []) => self.empty_arguments(),
@@ -337,7 +329,6 @@ impl<W: WriteJs, S: SourceMapper, C: Comments> Emitter<'_, W, S, C> {
     )
         ensures items { Performs (new_arguments N.answers N.items parent keeps args.now)
             S.lines C.maps W.sheet self.old self.new }
-        ensures level { KeepsLevel S.lines C.maps W.sheet self.old self.new }
     {
         match args {
             Some(args) => self.listed_arguments(parent, keeps, args),
@@ -349,7 +340,6 @@ impl<W: WriteJs, S: SourceMapper, C: Comments> Emitter<'_, W, S, C> {
     #[tactic(auto, unfolding(crate::specs::Calls::call_mark))]
     fn call_mark(&mut self, optional: bool)
         ensures items { Performs (call_mark optional) S.lines C.maps W.sheet self.old self.new }
-        ensures level { KeepsLevel S.lines C.maps W.sheet self.old self.new }
     {
         if optional {
             return self.punct(Punctuator::QuestionDot);

@@ -1,7 +1,7 @@
 //! Members, optional chains, and properties of `super`.
 
 ghost use Rattle.std.specs.Prelude.{◌≡◌};
-ghost use Rattle.swc_ecma_codegen_emit.specs.Standing.{Performs, KeepsLevel};
+ghost use Rattle.swc_ecma_codegen_emit.specs.Standing.{Performs};
 ghost use Rattle.swc_ecma_codegen_emit.specs.Exprs.{member, member_prop, member_at, object_place, chain_mark, chain_prop, chain_member, opt_chain, super_prop, super_prop_expr};
 
 use crate::emitter::Emitter;
@@ -84,7 +84,6 @@ impl<W: WriteJs, S: SourceMapper, C: Comments> Emitter<'_, W, S, C> {
     fn member_prop<N: LinkTarget>(&mut self, prop: &MemberProp<N>)
         ensures items { Performs (member_prop N.items prop.now)
             S.lines C.maps W.sheet self.old self.new }
-        ensures level { KeepsLevel S.lines C.maps W.sheet self.old self.new }
     {
         match prop {
             MemberProp::Ident(name) => {
@@ -106,7 +105,6 @@ impl<W: WriteJs, S: SourceMapper, C: Comments> Emitter<'_, W, S, C> {
     fn super_prop<N: LinkTarget>(&mut self, prop: &SuperProp<N>)
         ensures items { Performs (super_prop N.items prop.now)
             S.lines C.maps W.sheet self.old self.new }
-        ensures level { KeepsLevel S.lines C.maps W.sheet self.old self.new }
     {
         match prop {
             SuperProp::Ident(name) => {
@@ -123,7 +121,6 @@ impl<W: WriteJs, S: SourceMapper, C: Comments> Emitter<'_, W, S, C> {
     fn chain_member<N: LinkTarget>(&mut self, node: &MemberExpr<N>, optional: bool)
         ensures items { Performs (chain_member N.items optional node.now)
             S.lines C.maps W.sheet self.old self.new }
-        ensures level { KeepsLevel S.lines C.maps W.sheet self.old self.new }
     {
         node.obj.target().emit_at(self, Place::Callee);
         self.chain_mark(optional, &node.prop);
@@ -135,7 +132,6 @@ impl<W: WriteJs, S: SourceMapper, C: Comments> Emitter<'_, W, S, C> {
     fn chain_mark<N>(&mut self, optional: bool, prop: &MemberProp<N>)
         ensures items { Performs (chain_mark optional prop.now)
             S.lines C.maps W.sheet self.old self.new }
-        ensures level { KeepsLevel S.lines C.maps W.sheet self.old self.new }
     {
         match (optional, prop) {
             (true, _) => self.punct(Punctuator::QuestionDot),
@@ -149,7 +145,6 @@ impl<W: WriteJs, S: SourceMapper, C: Comments> Emitter<'_, W, S, C> {
     fn chain_prop<N: LinkTarget>(&mut self, prop: &MemberProp<N>)
         ensures items { Performs (chain_prop N.items prop.now)
             S.lines C.maps W.sheet self.old self.new }
-        ensures level { KeepsLevel S.lines C.maps W.sheet self.old self.new }
     {
         match prop {
             MemberProp::Ident(name) => name.emit_at(self, Place::Plain),

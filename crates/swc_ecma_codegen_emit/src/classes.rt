@@ -1,7 +1,7 @@
 //! Classes and their members.
 
 ghost use Rattle.std.specs.Prelude.{◌≡◌, codes, true};
-ghost use Rattle.swc_ecma_codegen_emit.specs.Standing.{Performs, KeepsLevel};
+ghost use Rattle.swc_ecma_codegen_emit.specs.Standing.{Performs};
 ghost use Rattle.swc_ecma_codegen_grammar.specs.ClassPhrases.{accessibility_of};
 ghost use Rattle.swc_ecma_codegen_tokens.specs.Starts.{begins_letter};
 ghost use Rattle.swc_ecma_codegen_emit.specs.ClassExprs.{class_expr};
@@ -275,7 +275,6 @@ impl<W: WriteJs, S: SourceMapper, C: Comments> Emitter<'_, W, S, C> {
     #[tactic(auto, unfolding(crate::specs::Classes::class_word))]
     fn class_word<N: LinkTarget>(&mut self, node: &Class<N>)
         ensures items { Performs (class_word node.now) S.lines C.maps W.sheet self.old self.new }
-        ensures level { KeepsLevel S.lines C.maps W.sheet self.old self.new }
     {
         self.word_before(node.is_abstract, "abstract");
         self.keyword(None, "class");
@@ -286,7 +285,6 @@ impl<W: WriteJs, S: SourceMapper, C: Comments> Emitter<'_, W, S, C> {
     fn class_trailing<N: LinkTarget>(&mut self, node: &Class<N>)
         ensures items { Performs (class_tail N.answers N.items node.now)
             S.lines C.maps W.sheet self.old self.new }
-        ensures level { KeepsLevel S.lines C.maps W.sheet self.old self.new }
     {
         self.type_params(&node.type_params);
         self.heritage(&node.super_class, &node.super_type_params);
@@ -300,7 +298,6 @@ impl<W: WriteJs, S: SourceMapper, C: Comments> Emitter<'_, W, S, C> {
     fn class_body<N: LinkTarget>(&mut self, node: &Class<N>)
         ensures items { Performs (class_body N.answers N.items node.now)
             S.lines C.maps W.sheet self.old self.new }
-        ensures level { KeepsLevel S.lines C.maps W.sheet self.old self.new }
     {
         self.punct(Punctuator::LeftBrace);
         self.member_list(node);
@@ -312,7 +309,6 @@ impl<W: WriteJs, S: SourceMapper, C: Comments> Emitter<'_, W, S, C> {
     fn implemented_list<N: LinkTarget>(&mut self, span: Span, nodes: &[TsExprWithTypeArgs<N>])
         ensures items { Performs (implemented_list N.items span nodes.now)
             S.lines C.maps W.sheet self.old self.new }
-        ensures level { KeepsLevel S.lines C.maps W.sheet self.old self.new }
     {
         self.list(implemented_format(), span, nodes)
     }
@@ -322,7 +318,6 @@ impl<W: WriteJs, S: SourceMapper, C: Comments> Emitter<'_, W, S, C> {
     fn some_implements<N: LinkTarget>(&mut self, span: Span, nodes: &[TsExprWithTypeArgs<N>])
         ensures items { Performs (some_implements N.items span nodes.now)
             S.lines C.maps W.sheet self.old self.new }
-        ensures level { KeepsLevel S.lines C.maps W.sheet self.old self.new }
     {
         self.space();
         self.keyword(None, "implements");
@@ -335,7 +330,6 @@ impl<W: WriteJs, S: SourceMapper, C: Comments> Emitter<'_, W, S, C> {
     fn implements_clause<N: LinkTarget>(&mut self, span: Span, nodes: &[TsExprWithTypeArgs<N>])
         ensures items { Performs (implements_clause N.items span nodes.now)
             S.lines C.maps W.sheet self.old self.new }
-        ensures level { KeepsLevel S.lines C.maps W.sheet self.old self.new }
     {
         if nodes.is_empty() {
             return;
@@ -352,7 +346,6 @@ impl<W: WriteJs, S: SourceMapper, C: Comments> Emitter<'_, W, S, C> {
     )
         ensures items { Performs (heritage N.answers N.items super_class.now args.now)
             S.lines C.maps W.sheet self.old self.new }
-        ensures level { KeepsLevel S.lines C.maps W.sheet self.old self.new }
     {
         match super_class {
             Some(super_class) => {
@@ -370,7 +363,6 @@ impl<W: WriteJs, S: SourceMapper, C: Comments> Emitter<'_, W, S, C> {
     fn member_list<N: LinkTarget>(&mut self, node: &Class<N>)
         ensures items { Performs (member_list N.answers N.items node.now)
             S.lines C.maps W.sheet self.old self.new }
-        ensures level { KeepsLevel S.lines C.maps W.sheet self.old self.new }
     {
         self.list(class_members_format(), node.span, &node.body)
     }
@@ -379,7 +371,6 @@ impl<W: WriteJs, S: SourceMapper, C: Comments> Emitter<'_, W, S, C> {
     fn constructor_params<N: LinkTarget>(&mut self, node: &Constructor<N>)
         ensures items { Performs (constructor_params N.answers N.items node.now)
             S.lines C.maps W.sheet self.old self.new }
-        ensures level { KeepsLevel S.lines C.maps W.sheet self.old self.new }
     {
         self.list(comma_list_format(), node.span, &node.params)
     }
@@ -388,7 +379,6 @@ impl<W: WriteJs, S: SourceMapper, C: Comments> Emitter<'_, W, S, C> {
     #[tactic(auto, unfolding(crate::specs::Classes::constructor_word))]
     fn constructor_word(&mut self)
         ensures items { Performs constructor_word S.lines C.maps W.sheet self.old self.new }
-        ensures level { KeepsLevel S.lines C.maps W.sheet self.old self.new }
     {
         self.keyword(None, "constructor")
     }
@@ -398,7 +388,6 @@ impl<W: WriteJs, S: SourceMapper, C: Comments> Emitter<'_, W, S, C> {
     fn constructor_tail<N: LinkTarget>(&mut self, node: &Constructor<N>)
         ensures items { Performs (constructor_tail N.answers N.items node.now)
             S.lines C.maps W.sheet self.old self.new }
-        ensures level { KeepsLevel S.lines C.maps W.sheet self.old self.new }
     {
         self.punct(Punctuator::LeftParenthesis);
         self.constructor_params(node);
@@ -411,7 +400,6 @@ impl<W: WriteJs, S: SourceMapper, C: Comments> Emitter<'_, W, S, C> {
     pub(crate) fn accessibility_word(&mut self, accessibility: Option<Accessibility>)
         ensures items { Performs (accessibility_word accessibility)
             S.lines C.maps W.sheet self.old self.new }
-        ensures level { KeepsLevel S.lines C.maps W.sheet self.old self.new }
     {
         match accessibility {
             Some(accessibility) => {
@@ -427,7 +415,6 @@ impl<W: WriteJs, S: SourceMapper, C: Comments> Emitter<'_, W, S, C> {
     fn index_member<N: LinkTarget>(&mut self, node: &TsIndexSignature<N>)
         ensures items { Performs (index_member N.answers N.items node.now)
             S.lines C.maps W.sheet self.old self.new }
-        ensures level { KeepsLevel S.lines C.maps W.sheet self.old self.new }
     {
         node.emit_at(self, Place::Plain);
         self.semi();
@@ -437,7 +424,6 @@ impl<W: WriteJs, S: SourceMapper, C: Comments> Emitter<'_, W, S, C> {
     #[tactic(auto, unfolding(crate::specs::Classes::empty_member))]
     fn empty_member(&mut self, node: &EmptyStmt)
         ensures items { Performs (empty_member node.now) S.lines C.maps W.sheet self.old self.new }
-        ensures level { KeepsLevel S.lines C.maps W.sheet self.old self.new }
     {
         self.leading_comments(node.span.lo);
         self.punct(Punctuator::Semicolon);
@@ -447,7 +433,6 @@ impl<W: WriteJs, S: SourceMapper, C: Comments> Emitter<'_, W, S, C> {
     #[tactic(auto, unfolding(crate::specs::Classes::static_word))]
     pub(crate) fn static_word(&mut self, wanted: bool)
         ensures items { Performs (static_word wanted) S.lines C.maps W.sheet self.old self.new }
-        ensures level { KeepsLevel S.lines C.maps W.sheet self.old self.new }
     {
         if wanted {
             self.keyword(None, "static");
@@ -460,7 +445,6 @@ impl<W: WriteJs, S: SourceMapper, C: Comments> Emitter<'_, W, S, C> {
     fn getter_word(&mut self, starts: bool)
         ensures items { Performs (accessor_word (codes "get") starts)
             S.lines C.maps W.sheet self.old self.new }
-        ensures level { KeepsLevel S.lines C.maps W.sheet self.old self.new }
     {
         self.keyword(None, "get");
         self.blank(starts);
@@ -471,7 +455,6 @@ impl<W: WriteJs, S: SourceMapper, C: Comments> Emitter<'_, W, S, C> {
     fn setter_word(&mut self, starts: bool)
         ensures items { Performs (accessor_word (codes "set") starts)
             S.lines C.maps W.sheet self.old self.new }
-        ensures level { KeepsLevel S.lines C.maps W.sheet self.old self.new }
     {
         self.keyword(None, "set");
         self.blank(starts);
@@ -482,7 +465,6 @@ impl<W: WriteJs, S: SourceMapper, C: Comments> Emitter<'_, W, S, C> {
     fn method_modifiers(&mut self, is_abstract: bool, is_override: bool)
         ensures items { Performs (method_modifiers is_abstract is_override)
             S.lines C.maps W.sheet self.old self.new }
-        ensures level { KeepsLevel S.lines C.maps W.sheet self.old self.new }
     {
         self.word_before(is_abstract, "abstract");
         self.word_before(is_override, "override");
@@ -493,7 +475,6 @@ impl<W: WriteJs, S: SourceMapper, C: Comments> Emitter<'_, W, S, C> {
     fn static_method<N: LinkTarget>(&mut self, node: &ClassMethod<N>)
         ensures items { Performs (static_method N.answers N.items node.now)
             S.lines C.maps W.sheet self.old self.new }
-        ensures level { KeepsLevel S.lines C.maps W.sheet self.old self.new }
     {
         if node.is_abstract || node.is_override {
             self.space();
@@ -511,7 +492,6 @@ impl<W: WriteJs, S: SourceMapper, C: Comments> Emitter<'_, W, S, C> {
     fn method_word<N: LinkTarget>(&mut self, node: &ClassMethod<N>)
         ensures items { Performs (method_word N.answers N.items node.now)
             S.lines C.maps W.sheet self.old self.new }
-        ensures level { KeepsLevel S.lines C.maps W.sheet self.old self.new }
     {
         if node.is_static {
             self.keyword(None, "static");
@@ -526,7 +506,6 @@ impl<W: WriteJs, S: SourceMapper, C: Comments> Emitter<'_, W, S, C> {
     fn accessor_words<N: LinkTarget>(&mut self, node: &ClassMethod<N>)
         ensures items { Performs (accessor_words node.now)
             S.lines C.maps W.sheet self.old self.new }
-        ensures level { KeepsLevel S.lines C.maps W.sheet self.old self.new }
     {
         self.static_word(node.is_static);
         self.method_modifiers(node.is_abstract, node.is_override);
@@ -537,7 +516,6 @@ impl<W: WriteJs, S: SourceMapper, C: Comments> Emitter<'_, W, S, C> {
     fn method_rest<N: LinkTarget>(&mut self, node: &ClassMethod<N>)
         ensures items { Performs (method_rest N.items node.now)
             S.lines C.maps W.sheet self.old self.new }
-        ensures level { KeepsLevel S.lines C.maps W.sheet self.old self.new }
     {
         node.key.target().emit_at(self, Place::Plain);
         self.question(node.is_optional);
@@ -549,7 +527,6 @@ impl<W: WriteJs, S: SourceMapper, C: Comments> Emitter<'_, W, S, C> {
     fn method_kind<N: LinkTarget>(&mut self, node: &ClassMethod<N>)
         ensures items { Performs (method_kind N.answers N.items node.now.kind node.now)
             S.lines C.maps W.sheet self.old self.new }
-        ensures level { KeepsLevel S.lines C.maps W.sheet self.old self.new }
     {
         match node.kind {
             MethodKind::Method => self.method_word(node),
@@ -568,7 +545,6 @@ impl<W: WriteJs, S: SourceMapper, C: Comments> Emitter<'_, W, S, C> {
     #[tactic(auto, unfolding(crate::specs::Classes::private_words))]
     fn private_words<N: LinkTarget>(&mut self, node: &PrivateMethod<N>)
         ensures items { Performs (private_words node.now) S.lines C.maps W.sheet self.old self.new }
-        ensures level { KeepsLevel S.lines C.maps W.sheet self.old self.new }
     {
         self.static_word(node.is_static);
         self.method_modifiers(node.is_abstract, node.is_override);
@@ -579,7 +555,6 @@ impl<W: WriteJs, S: SourceMapper, C: Comments> Emitter<'_, W, S, C> {
     fn private_rest<N: LinkTarget>(&mut self, node: &PrivateMethod<N>)
         ensures items { Performs (private_rest N.items node.now)
             S.lines C.maps W.sheet self.old self.new }
-        ensures level { KeepsLevel S.lines C.maps W.sheet self.old self.new }
     {
         node.key.emit_at(self, Place::Plain);
         self.question(node.is_optional);
@@ -591,7 +566,6 @@ impl<W: WriteJs, S: SourceMapper, C: Comments> Emitter<'_, W, S, C> {
     fn private_kind<N: LinkTarget>(&mut self, node: &PrivateMethod<N>)
         ensures items { Performs (private_kind N.items node.now.kind node.now)
             S.lines C.maps W.sheet self.old self.new }
-        ensures level { KeepsLevel S.lines C.maps W.sheet self.old self.new }
     {
         match node.kind {
             MethodKind::Method => node.function.target().emit_at(self, Place::MethodHead),
@@ -605,7 +579,6 @@ impl<W: WriteJs, S: SourceMapper, C: Comments> Emitter<'_, W, S, C> {
     fn constructor_body<N: LinkTarget>(&mut self, body: &Option<BlockStmtBox<N>>)
         ensures items { Performs (constructor_body N.items body.now)
             S.lines C.maps W.sheet self.old self.new }
-        ensures level { KeepsLevel S.lines C.maps W.sheet self.old self.new }
     {
         match body {
             Some(body) => body.target().emit_at(self, Place::Plain),

@@ -1,7 +1,7 @@
 //! Declarations.
 
 ghost use Rattle.std.specs.Prelude.{◌≡◌};
-ghost use Rattle.swc_ecma_codegen_emit.specs.Standing.{Performs, KeepsLevel};
+ghost use Rattle.swc_ecma_codegen_emit.specs.Standing.{Performs};
 ghost use Rattle.swc_ecma_codegen_emit.specs.Decls.{declarators_format, fn_decl, var_declarator, declarators, var_kind, is_unmarked, first_is_unmarked, var_decl, await_word, using_decl, decl_end, by_export, without_head, exported_class, variables, resources, decl};
 ghost use Rattle.swc_ecma_codegen_emit.specs.declared.nodes.Place.TheVariants.{ClassHead};
 ghost use Rattle.swc_ecma_codegen_emit.specs.Classes.{class_decl};
@@ -155,7 +155,6 @@ impl<W: WriteJs, S: SourceMapper, C: Comments> Emitter<'_, W, S, C> {
     fn declarators<N: LinkTarget>(&mut self, span: Span, nodes: &Vec<VarDeclarator<N>>)
         ensures items { Performs (declarators N.answers N.items span nodes.now.items)
             S.lines C.maps W.sheet self.old self.new }
-        ensures level { KeepsLevel S.lines C.maps W.sheet self.old self.new }
     {
         self.list(declarators_format(), span, nodes)
     }
@@ -164,7 +163,6 @@ impl<W: WriteJs, S: SourceMapper, C: Comments> Emitter<'_, W, S, C> {
     #[tactic(auto, unfolding(crate::specs::Decls::var_kind))]
     fn var_kind(&mut self, kind: VarDeclKind)
         ensures items { Performs (var_kind kind) S.lines C.maps W.sheet self.old self.new }
-        ensures level { KeepsLevel S.lines C.maps W.sheet self.old self.new }
     {
         match kind {
             VarDeclKind::Var => self.keyword(None, "var"),
@@ -177,7 +175,6 @@ impl<W: WriteJs, S: SourceMapper, C: Comments> Emitter<'_, W, S, C> {
     #[tactic(auto, unfolding(crate::specs::Decls::await_word))]
     fn await_word(&mut self, wanted: bool)
         ensures items { Performs (await_word wanted) S.lines C.maps W.sheet self.old self.new }
-        ensures level { KeepsLevel S.lines C.maps W.sheet self.old self.new }
     {
         if wanted {
             self.keyword(None, "await");
@@ -191,7 +188,6 @@ impl<W: WriteJs, S: SourceMapper, C: Comments> Emitter<'_, W, S, C> {
         ensures items { Performs (by_export place (N.items node.now.class.node.value ClassHead)
             (exported_class N.answers N.items node.now) (class_decl N.answers N.items node.now))
             S.lines C.maps W.sheet self.old self.new }
-        ensures level { KeepsLevel S.lines C.maps W.sheet self.old self.new }
     {
         match place {
             Place::ExportedHead => node.class.target().emit_at(self, Place::ClassHead),
@@ -205,7 +201,6 @@ impl<W: WriteJs, S: SourceMapper, C: Comments> Emitter<'_, W, S, C> {
     fn exported_class<N: LinkTarget>(&mut self, node: &ClassDecl<N>)
         ensures items { Performs (exported_class N.answers N.items node.now)
             S.lines C.maps W.sheet self.old self.new }
-        ensures level { KeepsLevel S.lines C.maps W.sheet self.old self.new }
     {
         let span = node.class.target().place();
         self.leading_comments(span.lo);
@@ -222,7 +217,6 @@ impl<W: WriteJs, S: SourceMapper, C: Comments> Emitter<'_, W, S, C> {
     fn fn_by_place<N: LinkTarget>(&mut self, node: &FnDecl<N>, place: Place)
         ensures items { Performs (without_head place (fn_decl N.answers N.items node.now))
             S.lines C.maps W.sheet self.old self.new }
-        ensures level { KeepsLevel S.lines C.maps W.sheet self.old self.new }
     {
         match place {
             Place::ExportedHead => {}
@@ -235,7 +229,6 @@ impl<W: WriteJs, S: SourceMapper, C: Comments> Emitter<'_, W, S, C> {
     fn var_by_place<N: LinkTarget>(&mut self, node: &VarDecl<N>, place: Place)
         ensures items { Performs (without_head place (variables N.answers N.items node.now place))
             S.lines C.maps W.sheet self.old self.new }
-        ensures level { KeepsLevel S.lines C.maps W.sheet self.old self.new }
     {
         match place {
             Place::ExportedHead => {}
@@ -252,7 +245,6 @@ impl<W: WriteJs, S: SourceMapper, C: Comments> Emitter<'_, W, S, C> {
     fn using_by_place<N: LinkTarget>(&mut self, node: &UsingDecl<N>, place: Place)
         ensures items { Performs (without_head place (resources N.answers N.items node.now))
             S.lines C.maps W.sheet self.old self.new }
-        ensures level { KeepsLevel S.lines C.maps W.sheet self.old self.new }
     {
         match place {
             Place::ExportedHead => {}
@@ -268,7 +260,6 @@ impl<W: WriteJs, S: SourceMapper, C: Comments> Emitter<'_, W, S, C> {
     fn interface_by_place<N: LinkTarget>(&mut self, node: &TsInterfaceDecl<N>, place: Place)
         ensures items { Performs (without_head place (ts_interface_decl N.items node.now))
             S.lines C.maps W.sheet self.old self.new }
-        ensures level { KeepsLevel S.lines C.maps W.sheet self.old self.new }
     {
         match place {
             Place::ExportedHead => {}
@@ -281,7 +272,6 @@ impl<W: WriteJs, S: SourceMapper, C: Comments> Emitter<'_, W, S, C> {
     fn alias_by_place<N: LinkTarget>(&mut self, node: &TsTypeAliasDecl<N>, place: Place)
         ensures items { Performs (without_head place (ts_type_alias_decl N.items node.now))
             S.lines C.maps W.sheet self.old self.new }
-        ensures level { KeepsLevel S.lines C.maps W.sheet self.old self.new }
     {
         match place {
             Place::ExportedHead => {}
@@ -294,7 +284,6 @@ impl<W: WriteJs, S: SourceMapper, C: Comments> Emitter<'_, W, S, C> {
     fn enum_by_place<N: LinkTarget>(&mut self, node: &TsEnumDecl<N>, place: Place)
         ensures items { Performs (without_head place (ts_enum_decl N.items node.now))
             S.lines C.maps W.sheet self.old self.new }
-        ensures level { KeepsLevel S.lines C.maps W.sheet self.old self.new }
     {
         match place {
             Place::ExportedHead => {}
@@ -307,7 +296,6 @@ impl<W: WriteJs, S: SourceMapper, C: Comments> Emitter<'_, W, S, C> {
     fn module_by_place<N: LinkTarget>(&mut self, node: &TsModuleDecl<N>, place: Place)
         ensures items { Performs (without_head place (ts_module_decl N.items node.now))
             S.lines C.maps W.sheet self.old self.new }
-        ensures level { KeepsLevel S.lines C.maps W.sheet self.old self.new }
     {
         match place {
             Place::ExportedHead => {}
@@ -319,7 +307,6 @@ impl<W: WriteJs, S: SourceMapper, C: Comments> Emitter<'_, W, S, C> {
     #[tactic(auto, unfolding(crate::specs::Decls::decl_end))]
     fn decl_end(&mut self, place: Place, span: Span)
         ensures items { Performs (decl_end place span) S.lines C.maps W.sheet self.old self.new }
-        ensures level { KeepsLevel S.lines C.maps W.sheet self.old self.new }
     {
         match place {
             Place::Statement => {}

@@ -34,12 +34,11 @@ pub struct Emitter<'a, W, S, C> {
 impl<'a, W: WriteJs, S: SourceMapper, C: Comments> Emitter<'a, W, S, C> {
     ghost use Rattle.swc_ecma_codegen_emit.specs.View.{state_of};
     ghost use Rattle.swc_ecma_codegen_grammar.specs.Comments.{maps_in};
-    ghost use Rattle.swc_ecma_codegen_emit.specs.Standing.{outcome, Performs, KeepsLevel};
+    ghost use Rattle.swc_ecma_codegen_emit.specs.Standing.{outcome, Performs};
     ghost use Rattle.swc_ecma_codegen_emit.specs.Modules.{module_export_name};
     ghost use Rattle.swc_ecma_codegen_emit.specs.Roots.{OfItem, OfModule, OfProgram, OfScript, root_items};
     ghost use Rattle.swc_ecma_codegen_emit.specs.Places.{alone, by_itself};
-    ghost use Rattle.swc_ecma_codegen_emit.specs.Emission.{AddsOnlyAscii, AddsSafeStrings, FillsItsLines, IsMadeUnhindered, IsRefusedForCause, LeavesNone, MakesPlainTrees, PlacesEachName, ReadsAsRoot, RecordsEachName, SendsFront, StaysReady, TakesComments, WantsNoMemory, WritesTaken};
-    ghost use Rattle.swc_ecma_codegen_text_writer.specs.Recorded.{RecordsTruly};
+    ghost use Rattle.swc_ecma_codegen_emit.specs.Emission.{Emission, IsMadeUnhindered, IsRefusedForCause, SendsFront};
 
     /// An emitter that has written nothing. Takes no memory.
     pub fn new(alloc: Global, cfg: Config, cm: &'a S, comments: Option<C>, wr: W) -> Self
@@ -91,7 +90,6 @@ impl<'a, W: WriteJs, S: SourceMapper, C: Comments> Emitter<'a, W, S, C> {
     fn emit_by_itself<T: EmitAt>(&mut self, node: &T)
         ensures items { Performs (by_itself (T.items node.now))
             S.lines C.maps W.sheet self.old self.new }
-        ensures level { KeepsLevel S.lines C.maps W.sheet self.old self.new }
     {
         let place = self.place_alone();
         let max_line = self.cfg.max_line;
@@ -126,54 +124,9 @@ impl<'a, W: WriteJs, S: SourceMapper, C: Comments> Emitter<'a, W, S, C> {
 
     /// Prints a program. swc's `emit_program`.
     pub fn emit_program(&mut self, node: &Program) -> Result
-        ensures items { Follows (root_items (OfProgram node.now) nothing)
-            (state_of S.lines C.maps W.sheet self.old)
-            (state_of S.lines C.maps W.sheet self.new) (in_short result) }
-        ensures reads { ReadsAsRoot (OfProgram node.now) (state_of S.lines C.maps W.sheet self.old)
-            (state_of S.lines C.maps W.sheet self.new) result }
-        ensures recorded { OnOk result (RecordsTruly (W.sheet self.old.wr) (W.sheet self.new.wr)) }
-        ensures taken { TakesComments (root_items (OfProgram node.now))
-            (state_of S.lines C.maps W.sheet self.old)
-            (state_of S.lines C.maps W.sheet self.new) result }
-        ensures told { WritesTaken (OfProgram node.now)
-            (state_of S.lines C.maps W.sheet self.old) result }
-        ensures left { LeavesNone (OfProgram node.now) (state_of S.lines C.maps W.sheet self.old)
-            (state_of S.lines C.maps W.sheet self.new) result }
-        ensures names { RecordsEachName (OfProgram node.now)
-            (state_of S.lines C.maps W.sheet self.old)
-            (state_of S.lines C.maps W.sheet self.new) result }
-        ensures places { PlacesEachName (OfProgram node.now)
-            (state_of S.lines C.maps W.sheet self.old)
-            (state_of S.lines C.maps W.sheet self.new) result }
-        ensures ascii { AddsOnlyAscii (OfProgram node.now)
-            (state_of S.lines C.maps W.sheet self.old)
-            (state_of S.lines C.maps W.sheet self.new) result }
-        ensures inline { AddsSafeStrings (OfProgram node.now)
-            (state_of S.lines C.maps W.sheet self.old)
-            (state_of S.lines C.maps W.sheet self.new) result }
-        ensures fills { FillsItsLines (OfProgram node.now)
-            (state_of S.lines C.maps W.sheet self.old)
-            (state_of S.lines C.maps W.sheet self.new) result }
-        ensures front { SendsFront (root_items (OfProgram node.now))
-            (state_of S.lines C.maps W.sheet self.old) (state_of S.lines C.maps W.sheet self.new) }
-        ensures cause { IsRefusedForCause (root_items (OfProgram node.now))
-            (state_of S.lines C.maps W.sheet self.old)
-            (state_of S.lines C.maps W.sheet self.new) result }
-        ensures no_memory { WantsNoMemory (root_items (OfProgram node.now))
-            (state_of S.lines C.maps W.sheet self.old) result }
-        ensures succeeds { IsMadeUnhindered (root_items (OfProgram node.now))
-            (state_of S.lines C.maps W.sheet self.old)
-            (state_of S.lines C.maps W.sheet self.new) result }
-        ensures made { MakesPlainTrees (OfProgram node.now)
-            (state_of S.lines C.maps W.sheet self.old)
-            (state_of S.lines C.maps W.sheet self.new) result }
-        ensures ready { StaysReady (state_of S.lines C.maps W.sheet self.old)
-            (state_of S.lines C.maps W.sheet self.new) result }
-        ensures marked { OnErr result ((state_of S.lines C.maps W.sheet self.new).failed ≡ true) }
-        ensures failed { (state_of S.lines C.maps W.sheet self.old).failed ≡ true →
-            result ≡ Err Error.Failed }
-        ensures level { OnOk result ((W.sheet self.new.wr).indentation
-            ≡ (W.sheet self.old.wr).indentation) }
+        ensures { Emission (root_items (OfProgram node.now))
+            (state_of S.lines C.maps W.sheet self.old) (state_of S.lines C.maps W.sheet self.new)
+            result }
     {
         node.emit_with(self)
     }
@@ -181,52 +134,9 @@ impl<'a, W: WriteJs, S: SourceMapper, C: Comments> Emitter<'a, W, S, C> {
     /// Prints a module: its hashbang, the text of each item, and then a semicolon that is held back, unless the settings leave
     /// it out. swc's `emit_module`.
     pub fn emit_module(&mut self, node: &Module) -> Result
-        ensures items { Follows (root_items (OfModule node.now) nothing)
-            (state_of S.lines C.maps W.sheet self.old)
-            (state_of S.lines C.maps W.sheet self.new) (in_short result) }
-        ensures reads { ReadsAsRoot (OfModule node.now) (state_of S.lines C.maps W.sheet self.old)
-            (state_of S.lines C.maps W.sheet self.new) result }
-        ensures recorded { OnOk result (RecordsTruly (W.sheet self.old.wr) (W.sheet self.new.wr)) }
-        ensures taken { TakesComments (root_items (OfModule node.now))
-            (state_of S.lines C.maps W.sheet self.old)
-            (state_of S.lines C.maps W.sheet self.new) result }
-        ensures told { WritesTaken (OfModule node.now)
-            (state_of S.lines C.maps W.sheet self.old) result }
-        ensures left { LeavesNone (OfModule node.now) (state_of S.lines C.maps W.sheet self.old)
-            (state_of S.lines C.maps W.sheet self.new) result }
-        ensures names { RecordsEachName (OfModule node.now)
-            (state_of S.lines C.maps W.sheet self.old)
-            (state_of S.lines C.maps W.sheet self.new) result }
-        ensures places { PlacesEachName (OfModule node.now)
-            (state_of S.lines C.maps W.sheet self.old)
-            (state_of S.lines C.maps W.sheet self.new) result }
-        ensures ascii { AddsOnlyAscii (OfModule node.now) (state_of S.lines C.maps W.sheet self.old)
-            (state_of S.lines C.maps W.sheet self.new) result }
-        ensures inline { AddsSafeStrings (OfModule node.now)
-            (state_of S.lines C.maps W.sheet self.old)
-            (state_of S.lines C.maps W.sheet self.new) result }
-        ensures fills { FillsItsLines (OfModule node.now) (state_of S.lines C.maps W.sheet self.old)
-            (state_of S.lines C.maps W.sheet self.new) result }
-        ensures front { SendsFront (root_items (OfModule node.now))
-            (state_of S.lines C.maps W.sheet self.old) (state_of S.lines C.maps W.sheet self.new) }
-        ensures cause { IsRefusedForCause (root_items (OfModule node.now))
-            (state_of S.lines C.maps W.sheet self.old)
-            (state_of S.lines C.maps W.sheet self.new) result }
-        ensures no_memory { WantsNoMemory (root_items (OfModule node.now))
-            (state_of S.lines C.maps W.sheet self.old) result }
-        ensures succeeds { IsMadeUnhindered (root_items (OfModule node.now))
-            (state_of S.lines C.maps W.sheet self.old)
-            (state_of S.lines C.maps W.sheet self.new) result }
-        ensures made { MakesPlainTrees (OfModule node.now)
-            (state_of S.lines C.maps W.sheet self.old)
-            (state_of S.lines C.maps W.sheet self.new) result }
-        ensures ready { StaysReady (state_of S.lines C.maps W.sheet self.old)
-            (state_of S.lines C.maps W.sheet self.new) result }
-        ensures marked { OnErr result ((state_of S.lines C.maps W.sheet self.new).failed ≡ true) }
-        ensures failed { (state_of S.lines C.maps W.sheet self.old).failed ≡ true →
-            result ≡ Err Error.Failed }
-        ensures level { OnOk result ((W.sheet self.new.wr).indentation
-            ≡ (W.sheet self.old.wr).indentation) }
+        ensures { Emission (root_items (OfModule node.now))
+            (state_of S.lines C.maps W.sheet self.old) (state_of S.lines C.maps W.sheet self.new)
+            result }
     {
         node.emit_with(self)
     }
@@ -234,126 +144,29 @@ impl<'a, W: WriteJs, S: SourceMapper, C: Comments> Emitter<'a, W, S, C> {
     /// Prints a script: its hashbang, the text of each statement, and then a semicolon that is held back, unless the settings
     /// leave it out. swc's `emit_script`.
     pub fn emit_script(&mut self, node: &Script) -> Result
-        ensures items { Follows (root_items (OfScript node.now) nothing)
-            (state_of S.lines C.maps W.sheet self.old)
-            (state_of S.lines C.maps W.sheet self.new) (in_short result) }
-        ensures reads { ReadsAsRoot (OfScript node.now) (state_of S.lines C.maps W.sheet self.old)
-            (state_of S.lines C.maps W.sheet self.new) result }
-        ensures recorded { OnOk result (RecordsTruly (W.sheet self.old.wr) (W.sheet self.new.wr)) }
-        ensures taken { TakesComments (root_items (OfScript node.now))
-            (state_of S.lines C.maps W.sheet self.old)
-            (state_of S.lines C.maps W.sheet self.new) result }
-        ensures told { WritesTaken (OfScript node.now)
-            (state_of S.lines C.maps W.sheet self.old) result }
-        ensures names { RecordsEachName (OfScript node.now)
-            (state_of S.lines C.maps W.sheet self.old)
-            (state_of S.lines C.maps W.sheet self.new) result }
-        ensures places { PlacesEachName (OfScript node.now)
-            (state_of S.lines C.maps W.sheet self.old)
-            (state_of S.lines C.maps W.sheet self.new) result }
-        ensures ascii { AddsOnlyAscii (OfScript node.now) (state_of S.lines C.maps W.sheet self.old)
-            (state_of S.lines C.maps W.sheet self.new) result }
-        ensures inline { AddsSafeStrings (OfScript node.now)
-            (state_of S.lines C.maps W.sheet self.old)
-            (state_of S.lines C.maps W.sheet self.new) result }
-        ensures fills { FillsItsLines (OfScript node.now) (state_of S.lines C.maps W.sheet self.old)
-            (state_of S.lines C.maps W.sheet self.new) result }
-        ensures front { SendsFront (root_items (OfScript node.now))
-            (state_of S.lines C.maps W.sheet self.old) (state_of S.lines C.maps W.sheet self.new) }
-        ensures cause { IsRefusedForCause (root_items (OfScript node.now))
-            (state_of S.lines C.maps W.sheet self.old)
-            (state_of S.lines C.maps W.sheet self.new) result }
-        ensures no_memory { WantsNoMemory (root_items (OfScript node.now))
-            (state_of S.lines C.maps W.sheet self.old) result }
-        ensures succeeds { IsMadeUnhindered (root_items (OfScript node.now))
-            (state_of S.lines C.maps W.sheet self.old)
-            (state_of S.lines C.maps W.sheet self.new) result }
-        ensures made { MakesPlainTrees (OfScript node.now)
-            (state_of S.lines C.maps W.sheet self.old)
-            (state_of S.lines C.maps W.sheet self.new) result }
-        ensures ready { StaysReady (state_of S.lines C.maps W.sheet self.old)
-            (state_of S.lines C.maps W.sheet self.new) result }
-        ensures marked { OnErr result ((state_of S.lines C.maps W.sheet self.new).failed ≡ true) }
-        ensures failed { (state_of S.lines C.maps W.sheet self.old).failed ≡ true →
-            result ≡ Err Error.Failed }
-        ensures level { OnOk result ((W.sheet self.new.wr).indentation
-            ≡ (W.sheet self.old.wr).indentation) }
+        ensures { Emission (root_items (OfScript node.now))
+            (state_of S.lines C.maps W.sheet self.old) (state_of S.lines C.maps W.sheet self.new)
+            result }
     {
         node.emit_with(self)
     }
 
     /// Prints an item of a module: an import, an export or a statement. swc's `emit_module_item`.
     pub fn emit_module_item(&mut self, node: &ModuleItem) -> Result
-        ensures items { Follows (root_items (OfItem node.now) nothing)
-            (state_of S.lines C.maps W.sheet self.old)
-            (state_of S.lines C.maps W.sheet self.new) (in_short result) }
-        ensures reads { ReadsAsRoot (OfItem node.now) (state_of S.lines C.maps W.sheet self.old)
-            (state_of S.lines C.maps W.sheet self.new) result }
-        ensures recorded { OnOk result (RecordsTruly (W.sheet self.old.wr) (W.sheet self.new.wr)) }
-        ensures taken { TakesComments (root_items (OfItem node.now))
-            (state_of S.lines C.maps W.sheet self.old)
-            (state_of S.lines C.maps W.sheet self.new) result }
-        ensures told { WritesTaken (OfItem node.now)
-            (state_of S.lines C.maps W.sheet self.old) result }
-        ensures names { RecordsEachName (OfItem node.now) (state_of S.lines C.maps W.sheet self.old)
-            (state_of S.lines C.maps W.sheet self.new) result }
-        ensures places { PlacesEachName (OfItem node.now) (state_of S.lines C.maps W.sheet self.old)
-            (state_of S.lines C.maps W.sheet self.new) result }
-        ensures ascii { AddsOnlyAscii (OfItem node.now) (state_of S.lines C.maps W.sheet self.old)
-            (state_of S.lines C.maps W.sheet self.new) result }
-        ensures inline { AddsSafeStrings (OfItem node.now)
-            (state_of S.lines C.maps W.sheet self.old)
-            (state_of S.lines C.maps W.sheet self.new) result }
-        ensures front { SendsFront (root_items (OfItem node.now))
-            (state_of S.lines C.maps W.sheet self.old) (state_of S.lines C.maps W.sheet self.new) }
-        ensures cause { IsRefusedForCause (root_items (OfItem node.now))
-            (state_of S.lines C.maps W.sheet self.old)
-            (state_of S.lines C.maps W.sheet self.new) result }
-        ensures no_memory { WantsNoMemory (root_items (OfItem node.now))
-            (state_of S.lines C.maps W.sheet self.old) result }
-        ensures succeeds { IsMadeUnhindered (root_items (OfItem node.now))
-            (state_of S.lines C.maps W.sheet self.old)
-            (state_of S.lines C.maps W.sheet self.new) result }
-        ensures made { MakesPlainTrees (OfItem node.now) (state_of S.lines C.maps W.sheet self.old)
-            (state_of S.lines C.maps W.sheet self.new) result }
-        ensures ready { StaysReady (state_of S.lines C.maps W.sheet self.old)
-            (state_of S.lines C.maps W.sheet self.new) result }
-        ensures marked { OnErr result ((state_of S.lines C.maps W.sheet self.new).failed ≡ true) }
-        ensures failed { (state_of S.lines C.maps W.sheet self.old).failed ≡ true →
-            result ≡ Err Error.Failed }
-        ensures level { OnOk result ((W.sheet self.new.wr).indentation
-            ≡ (W.sheet self.old.wr).indentation) }
+        ensures { Emission (root_items (OfItem node.now))
+            (state_of S.lines C.maps W.sheet self.old) (state_of S.lines C.maps W.sheet self.new)
+            result }
     {
         node.emit_with(self)
     }
 
     /// Prints the name of what a module imports or exports: a name, or a string. swc's `emit_module_export_name`.
-    #[tactic(auto, using(crate::proofs::TreeReads::steps_recorded, crate::proofs::TreeReads::steps_taken, swc_ecma_codegen_tokens::proofs::Emission::Made::ready_after))]
     pub fn emit_module_export_name(&mut self, node: &ModuleExportName) -> Result
-        ensures items { Follows (by_itself (λ _. module_export_name node.now) nothing)
-            (state_of S.lines C.maps W.sheet self.old)
-            (state_of S.lines C.maps W.sheet self.new) (in_short result) }
-        ensures recorded { OnOk result (RecordsTruly (W.sheet self.old.wr) (W.sheet self.new.wr)) }
-        ensures taken { TakesComments (by_itself (λ _. module_export_name node.now))
-            (state_of S.lines C.maps W.sheet self.old)
-            (state_of S.lines C.maps W.sheet self.new) result }
-        ensures front { SendsFront (by_itself (λ _. module_export_name node.now))
-            (state_of S.lines C.maps W.sheet self.old) (state_of S.lines C.maps W.sheet self.new) }
-        ensures cause { IsRefusedForCause (by_itself (λ _. module_export_name node.now))
-            (state_of S.lines C.maps W.sheet self.old)
-            (state_of S.lines C.maps W.sheet self.new) result }
-        ensures succeeds { IsMadeUnhindered (by_itself (λ _. module_export_name node.now))
-            (state_of S.lines C.maps W.sheet self.old)
-            (state_of S.lines C.maps W.sheet self.new) result }
-        ensures ready { StaysReady (state_of S.lines C.maps W.sheet self.old)
-            (state_of S.lines C.maps W.sheet self.new) result }
-        ensures marked { OnErr result ((state_of S.lines C.maps W.sheet self.new).failed ≡ true) }
-        ensures failed { (state_of S.lines C.maps W.sheet self.old).failed ≡ true →
-            result ≡ Err Error.Failed }
-        ensures level { OnOk result ((W.sheet self.new.wr).indentation
-            ≡ (W.sheet self.old.wr).indentation) }
+        ensures { Emission (by_itself (λ _. module_export_name node.now))
+            (state_of S.lines C.maps W.sheet self.old) (state_of S.lines C.maps W.sheet self.new)
+            result }
     {
-        self.emit(node)
+        node.emit_with(self)
     }
 }
 

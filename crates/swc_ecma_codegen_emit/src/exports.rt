@@ -1,7 +1,7 @@
 //! Exports.
 
 ghost use Rattle.std.specs.Prelude.{◌≡◌};
-ghost use Rattle.swc_ecma_codegen_emit.specs.Standing.{Performs, KeepsLevel};
+ghost use Rattle.swc_ecma_codegen_emit.specs.Standing.{Performs};
 ghost use Rattle.swc_ecma_codegen_spans.specs.Spans.{export_specifier_span};
 ghost use Rattle.swc_ecma_codegen_emit.specs.Modules.{named_format, exported_as, export_named_specifier, export_specifier, is_braced, is_namespace, export_list, export_braces, export_namespace, star_export, more_exports, star_exports, export_clause, ends_with_name, from_clause, export_tail, export_named, all_word, all_tail, export_all, export_decl, default_decl, export_default, export_default_decl, export_default_expr, attributes};
 
@@ -217,7 +217,6 @@ impl<W: WriteJs, S: SourceMapper, C: Comments> Emitter<'_, W, S, C> {
     #[tactic(auto, unfolding(crate::specs::Modules::exported_as))]
     fn exported_as(&mut self, name: &Option<ModuleExportName>)
         ensures items { Performs (exported_as name.now) S.lines C.maps W.sheet self.old self.new }
-        ensures level { KeepsLevel S.lines C.maps W.sheet self.old self.new }
     {
         match name {
             Some(name) => {
@@ -232,7 +231,6 @@ impl<W: WriteJs, S: SourceMapper, C: Comments> Emitter<'_, W, S, C> {
     fn export_list(&mut self, parent: Span, specifiers: &[ExportSpecifier])
         ensures items { Performs (export_list parent specifiers.now)
             S.lines C.maps W.sheet self.old self.new }
-        ensures level { KeepsLevel S.lines C.maps W.sheet self.old self.new }
     {
         self.braced_list(named_format(), parent, specifiers)
     }
@@ -242,7 +240,6 @@ impl<W: WriteJs, S: SourceMapper, C: Comments> Emitter<'_, W, S, C> {
     fn export_braces(&mut self, parent: Span, specifiers: &[ExportSpecifier])
         ensures items { Performs (export_braces parent specifiers.now)
             S.lines C.maps W.sheet self.old self.new }
-        ensures level { KeepsLevel S.lines C.maps W.sheet self.old self.new }
     {
         self.punct(Punctuator::LeftBrace);
         self.export_list(parent, specifiers);
@@ -254,7 +251,6 @@ impl<W: WriteJs, S: SourceMapper, C: Comments> Emitter<'_, W, S, C> {
     fn star_export(&mut self, specifiers: &[ExportSpecifier])
         ensures items { Performs (star_export specifiers.now)
             S.lines C.maps W.sheet self.old self.new }
-        ensures level { KeepsLevel S.lines C.maps W.sheet self.old self.new }
     {
         for specifier in specifiers {
             if let ExportSpecifier::Namespace(node) = specifier {
@@ -268,7 +264,6 @@ impl<W: WriteJs, S: SourceMapper, C: Comments> Emitter<'_, W, S, C> {
     fn more_exports(&mut self, parent: Span, specifiers: &[ExportSpecifier])
         ensures items { Performs (more_exports parent specifiers.now)
             S.lines C.maps W.sheet self.old self.new }
-        ensures level { KeepsLevel S.lines C.maps W.sheet self.old self.new }
     {
         if !has_braced(specifiers) {
             return;
@@ -283,7 +278,6 @@ impl<W: WriteJs, S: SourceMapper, C: Comments> Emitter<'_, W, S, C> {
     fn star_exports(&mut self, parent: Span, specifiers: &[ExportSpecifier])
         ensures items { Performs (star_exports parent specifiers.now)
             S.lines C.maps W.sheet self.old self.new }
-        ensures level { KeepsLevel S.lines C.maps W.sheet self.old self.new }
     {
         self.star_export(specifiers);
         self.more_exports(parent, specifiers)
@@ -294,7 +288,6 @@ impl<W: WriteJs, S: SourceMapper, C: Comments> Emitter<'_, W, S, C> {
     fn export_clause(&mut self, parent: Span, specifiers: &[ExportSpecifier])
         ensures items { Performs (export_clause parent specifiers.now)
             S.lines C.maps W.sheet self.old self.new }
-        ensures level { KeepsLevel S.lines C.maps W.sheet self.old self.new }
     {
         if has_star(specifiers) {
             return self.star_exports(parent, specifiers);
@@ -312,7 +305,6 @@ impl<W: WriteJs, S: SourceMapper, C: Comments> Emitter<'_, W, S, C> {
     )
         ensures items { Performs (from_clause N.items with.now needed src.now)
             S.lines C.maps W.sheet self.old self.new }
-        ensures level { KeepsLevel S.lines C.maps W.sheet self.old self.new }
     {
         match src {
             Some(src) => {
@@ -330,7 +322,6 @@ impl<W: WriteJs, S: SourceMapper, C: Comments> Emitter<'_, W, S, C> {
     fn export_tail<N: LinkTarget>(&mut self, node: &NamedExport<N>)
         ensures items { Performs (export_tail N.items node.now)
             S.lines C.maps W.sheet self.old self.new }
-        ensures level { KeepsLevel S.lines C.maps W.sheet self.old self.new }
     {
         self.export_clause(node.span, &node.specifiers);
         self.from_clause(&node.with, ends_with_name(&node.specifiers), &node.src);
@@ -342,7 +333,6 @@ impl<W: WriteJs, S: SourceMapper, C: Comments> Emitter<'_, W, S, C> {
     #[tactic(auto, unfolding(crate::specs::Modules::all_word))]
     fn all_word(&mut self, type_only: bool)
         ensures items { Performs (all_word type_only) S.lines C.maps W.sheet self.old self.new }
-        ensures level { KeepsLevel S.lines C.maps W.sheet self.old self.new }
     {
         if !type_only {
             return self.formatting_space();
@@ -357,7 +347,6 @@ impl<W: WriteJs, S: SourceMapper, C: Comments> Emitter<'_, W, S, C> {
     fn all_tail<N: LinkTarget>(&mut self, node: &ExportAll<N>)
         ensures items { Performs (all_tail N.items node.now)
             S.lines C.maps W.sheet self.old self.new }
-        ensures level { KeepsLevel S.lines C.maps W.sheet self.old self.new }
     {
         self.punct(Punctuator::Star);
         self.formatting_space();
@@ -369,7 +358,6 @@ impl<W: WriteJs, S: SourceMapper, C: Comments> Emitter<'_, W, S, C> {
     #[tactic(auto, unfolding(crate::specs::Modules::export_default))]
     fn export_default(&mut self)
         ensures items { Performs (export_default) S.lines C.maps W.sheet self.old self.new }
-        ensures level { KeepsLevel S.lines C.maps W.sheet self.old self.new }
     {
         self.keyword(None, "export");
         self.space();

@@ -2,7 +2,7 @@
 
 ghost use Rattle.std.specs.Prelude.{◌≡◌, Some, None, true};
 ghost use Rattle.swc_ecma_codegen_tokens.specs.Starts.{begins_letter};
-ghost use Rattle.swc_ecma_codegen_emit.specs.Standing.{Performs, KeepsLevel};
+ghost use Rattle.swc_ecma_codegen_emit.specs.Standing.{Performs};
 ghost use Rattle.swc_ecma_codegen_emit.specs.Exprs.{ident, ident_name, private_name, this, unary_op, unary_gap, unary, update_parts, update, binary_op, before_op, after_op, bin_operator, tight_operator, spaced_operator, word_between, bin_trailing, bin_opened, bin, computed_prop_name, choice, meta_prop_expr, assign, yield_star, yield_arg, yield_argument, yield_argument_in, yield_expr, spread_element, await_expr, seq, paren};
 ghost use Rattle.swc_ecma_codegen_emit.specs.AnyExpr.{expr_parts, is_left_operand, leaves_comments, expr_closed, expr, wrapped, placed_expr};
 ghost use Rattle.swc_ecma_codegen_spans.specs.Spans.{expr_span};
@@ -58,7 +58,6 @@ fn plainly<N: LinkTarget, W: WriteJs, S: SourceMapper, C: Comments>(
     e: &mut Emitter<'_, W, S, C>,
 )
     ensures items { Performs (N.items node.now Plain) S.lines C.maps W.sheet e.old e.new }
-    ensures level { KeepsLevel S.lines C.maps W.sheet e.old e.new }
 {
     node.emit_at(e, Place::Plain);
 }
@@ -73,7 +72,6 @@ fn expr_parts<N: LinkTarget, W: WriteJs, S: SourceMapper, C: Comments>(
 )
     ensures items { Performs (expr_parts N.answers N.items node.now place)
         S.lines C.maps W.sheet e.old e.new }
-    ensures level { KeepsLevel S.lines C.maps W.sheet e.old e.new }
 {
     match node {
         Expr::This(node) => node.emit_at(e, place),
@@ -157,7 +155,6 @@ fn commented<N: LinkTarget, W: WriteJs, S: SourceMapper, C: Comments>(
 )
     ensures items { Performs (expr N.answers N.items node.now place)
         S.lines C.maps W.sheet e.old e.new }
-    ensures level { KeepsLevel S.lines C.maps W.sheet e.old e.new }
 {
     expr_parts(node, e, place);
     e.expr_closed(node, place);
@@ -172,7 +169,6 @@ fn wrapped<N: LinkTarget, W: WriteJs, S: SourceMapper, C: Comments>(
 )
     ensures items { Performs (wrapped N.answers N.items node.now)
         S.lines C.maps W.sheet e.old e.new }
-    ensures level { KeepsLevel S.lines C.maps W.sheet e.old e.new }
 {
     e.punct(Punctuator::LeftParenthesis);
     commented(node, e, Place::Plain);
@@ -189,7 +185,6 @@ pub(crate) fn placed_expr<N: LinkTarget, W: WriteJs, S: SourceMapper, C: Comment
 )
     ensures items { Performs (placed_expr N.answers N.items node.now place)
         S.lines C.maps W.sheet e.old e.new }
-    ensures level { KeepsLevel S.lines C.maps W.sheet e.old e.new }
 {
     if is_wrapped(node, place) {
         return wrapped(node, e);
@@ -464,7 +459,6 @@ impl<W: WriteJs, S: SourceMapper, C: Comments> Emitter<'_, W, S, C> {
     fn expr_closed<N: LinkTarget>(&mut self, node: &Expr<N>, place: Place)
         ensures items { Performs (expr_closed (leaves_comments node.now place)
             (expr_span (place_of N.answers) node.now)) S.lines C.maps W.sheet self.old self.new }
-        ensures level { KeepsLevel S.lines C.maps W.sheet self.old self.new }
     {
         if leaves_comments(node, place) {
             return;
@@ -476,7 +470,6 @@ impl<W: WriteJs, S: SourceMapper, C: Comments> Emitter<'_, W, S, C> {
     #[tactic(auto, unfolding(crate::specs::Exprs::bin_opened))]
     fn bin_opened(&mut self, place: Place, span: Span)
         ensures items { Performs (bin_opened place span) S.lines C.maps W.sheet self.old self.new }
-        ensures level { KeepsLevel S.lines C.maps W.sheet self.old self.new }
     {
         match place {
             Place::LeftOperand => {}
@@ -488,7 +481,6 @@ impl<W: WriteJs, S: SourceMapper, C: Comments> Emitter<'_, W, S, C> {
     #[tactic(auto, using(crate::proofs::OperatorLaws::marked_binary, crate::proofs::OperatorLaws::worded_binary))]
     fn binary_op(&mut self, op: BinaryOp)
         ensures items { Performs (binary_op op) S.lines C.maps W.sheet self.old self.new }
-        ensures level { KeepsLevel S.lines C.maps W.sheet self.old self.new }
     {
         match binary_mark(op) {
             Some(mark) => self.operator(mark),
@@ -501,7 +493,6 @@ impl<W: WriteJs, S: SourceMapper, C: Comments> Emitter<'_, W, S, C> {
     fn bin_trailing<N: LinkTarget>(&mut self, node: &BinExpr<N>)
         ensures items { Performs (bin_trailing N.answers N.items node.now)
             S.lines C.maps W.sheet self.old self.new }
-        ensures level { KeepsLevel S.lines C.maps W.sheet self.old self.new }
     {
         self.bin_operator(node);
         node.right.target().emit_at(self, Place::Plain);
@@ -514,7 +505,6 @@ impl<W: WriteJs, S: SourceMapper, C: Comments> Emitter<'_, W, S, C> {
     fn bin_operator<N: Asked>(&mut self, node: &BinExpr<N>)
         ensures items { Performs (bin_operator N.answers node.now)
             S.lines C.maps W.sheet self.old self.new }
-        ensures level { KeepsLevel S.lines C.maps W.sheet self.old self.new }
     {
         if self.cfg.minify {
             self.tight_operator(node)
@@ -528,7 +518,6 @@ impl<W: WriteJs, S: SourceMapper, C: Comments> Emitter<'_, W, S, C> {
     fn tight_operator<N: Asked>(&mut self, node: &BinExpr<N>)
         ensures items { Performs (tight_operator N.answers node.now)
             S.lines C.maps W.sheet self.old self.new }
-        ensures level { KeepsLevel S.lines C.maps W.sheet self.old self.new }
     {
         self.space_if(before_op(node.op, node.left.target()));
         self.binary_op(node.op);
@@ -540,7 +529,6 @@ impl<W: WriteJs, S: SourceMapper, C: Comments> Emitter<'_, W, S, C> {
     #[tactic(auto, using(crate::proofs::OperatorLaws::marked_between, crate::proofs::OperatorLaws::worded_between))]
     fn spaced_operator(&mut self, op: BinaryOp)
         ensures items { Performs (spaced_operator op) S.lines C.maps W.sheet self.old self.new }
-        ensures level { KeepsLevel S.lines C.maps W.sheet self.old self.new }
     {
         match binary_mark(op) {
             Some(mark) => self.operator_between(mark),
@@ -553,7 +541,6 @@ impl<W: WriteJs, S: SourceMapper, C: Comments> Emitter<'_, W, S, C> {
     fn word_between(&mut self, text: &'static str)
         requires { begins_letter text.now ≡ true }
         ensures items { Performs (word_between text.now) S.lines C.maps W.sheet self.old self.new }
-        ensures level { KeepsLevel S.lines C.maps W.sheet self.old self.new }
     {
         self.space();
         self.word_operator(text);
@@ -564,7 +551,6 @@ impl<W: WriteJs, S: SourceMapper, C: Comments> Emitter<'_, W, S, C> {
     #[tactic(auto, using(crate::proofs::OperatorLaws::marked_unary, crate::proofs::OperatorLaws::worded_unary))]
     fn unary_op(&mut self, op: UnaryOp)
         ensures items { Performs (unary_op op) S.lines C.maps W.sheet self.old self.new }
-        ensures level { KeepsLevel S.lines C.maps W.sheet self.old self.new }
     {
         match unary_mark(op) {
             Some(mark) => self.punct(mark),
@@ -578,7 +564,6 @@ impl<W: WriteJs, S: SourceMapper, C: Comments> Emitter<'_, W, S, C> {
     fn unary_gap<N: Asked>(&mut self, op: UnaryOp, arg: &N)
         ensures items { Performs (unary_gap op (N.answers arg.now))
             S.lines C.maps W.sheet self.old self.new }
-        ensures level { KeepsLevel S.lines C.maps W.sheet self.old self.new }
     {
         if is_word_unary(op) {
             self.blank(arg.starts())
@@ -591,7 +576,6 @@ impl<W: WriteJs, S: SourceMapper, C: Comments> Emitter<'_, W, S, C> {
     #[tactic(auto, unfolding(crate::specs::Exprs::yield_star))]
     fn yield_star(&mut self, delegate: bool)
         ensures items { Performs (yield_star delegate) S.lines C.maps W.sheet self.old self.new }
-        ensures level { KeepsLevel S.lines C.maps W.sheet self.old self.new }
     {
         if delegate {
             return self.operator(Punctuator::Star);
@@ -603,7 +587,6 @@ impl<W: WriteJs, S: SourceMapper, C: Comments> Emitter<'_, W, S, C> {
     fn yield_arg<N: LinkTarget>(&mut self, delegate: bool, arg: &Option<ExprBox<N>>)
         ensures items { Performs (yield_arg N.answers N.items delegate arg.now)
             S.lines C.maps W.sheet self.old self.new }
-        ensures level { KeepsLevel S.lines C.maps W.sheet self.old self.new }
     {
         match arg {
             Some(node) => self.yield_argument(delegate, node.target()),
@@ -616,7 +599,6 @@ impl<W: WriteJs, S: SourceMapper, C: Comments> Emitter<'_, W, S, C> {
     fn yield_argument<N: LinkTarget>(&mut self, delegate: bool, node: &N)
         ensures items { Performs (yield_argument N.answers N.items delegate node.now)
             S.lines C.maps W.sheet self.old self.new }
-        ensures level { KeepsLevel S.lines C.maps W.sheet self.old self.new }
     {
         let breaks = node.breaks(&self.comments);
         self.yield_argument_in(delegate, breaks, node)
@@ -627,7 +609,6 @@ impl<W: WriteJs, S: SourceMapper, C: Comments> Emitter<'_, W, S, C> {
     fn yield_argument_in<N: LinkTarget>(&mut self, delegate: bool, breaks: bool, node: &N)
         ensures items { Performs (yield_argument_in N.answers N.items delegate node.now breaks)
             S.lines C.maps W.sheet self.old self.new }
-        ensures level { KeepsLevel S.lines C.maps W.sheet self.old self.new }
     {
         if breaks {
             self.punct(Punctuator::LeftParenthesis);

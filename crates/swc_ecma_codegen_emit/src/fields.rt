@@ -1,6 +1,6 @@
 //! Fields of classes.
 
-ghost use Rattle.swc_ecma_codegen_emit.specs.Standing.{Performs, KeepsLevel};
+ghost use Rattle.swc_ecma_codegen_emit.specs.Standing.{Performs};
 ghost use Rattle.swc_ecma_codegen_emit.specs.Classes.{prop_value, prop_modifiers, prop_tail, class_prop, private_decorators, private_modifiers, private_prop_tail, private_prop, accessor_key, accessor_decorators, accessor_modifiers, accessor_tail, auto_accessor};
 
 use crate::emitter::Emitter;
@@ -85,7 +85,6 @@ impl<W: WriteJs, S: SourceMapper, C: Comments> Emitter<'_, W, S, C> {
     fn prop_modifiers<N: LinkTarget>(&mut self, node: &ClassProp<N>)
         ensures items { Performs (prop_modifiers node.now)
             S.lines C.maps W.sheet self.old self.new }
-        ensures level { KeepsLevel S.lines C.maps W.sheet self.old self.new }
     {
         self.declare_word(node.declare);
         self.accessibility_word(node.accessibility);
@@ -100,7 +99,6 @@ impl<W: WriteJs, S: SourceMapper, C: Comments> Emitter<'_, W, S, C> {
     fn prop_tail<N: LinkTarget>(&mut self, node: &ClassProp<N>)
         ensures items { Performs (prop_tail N.items node.now)
             S.lines C.maps W.sheet self.old self.new }
-        ensures level { KeepsLevel S.lines C.maps W.sheet self.old self.new }
     {
         node.key.target().emit_at(self, Place::Plain);
         self.question(node.is_optional);
@@ -114,7 +112,6 @@ impl<W: WriteJs, S: SourceMapper, C: Comments> Emitter<'_, W, S, C> {
     fn private_decorators<N: LinkTarget>(&mut self, node: &PrivateProp<N>)
         ensures items { Performs (private_decorators N.items node.now)
             S.lines C.maps W.sheet self.old self.new }
-        ensures level { KeepsLevel S.lines C.maps W.sheet self.old self.new }
     {
         self.list(decorators_format(), node.span, &node.decorators)
     }
@@ -124,7 +121,6 @@ impl<W: WriteJs, S: SourceMapper, C: Comments> Emitter<'_, W, S, C> {
     fn private_modifiers<N: LinkTarget>(&mut self, node: &PrivateProp<N>)
         ensures items { Performs (private_modifiers node.now)
             S.lines C.maps W.sheet self.old self.new }
-        ensures level { KeepsLevel S.lines C.maps W.sheet self.old self.new }
     {
         self.accessibility_word(node.accessibility);
         self.static_word(node.is_static);
@@ -137,7 +133,6 @@ impl<W: WriteJs, S: SourceMapper, C: Comments> Emitter<'_, W, S, C> {
     fn private_prop_tail<N: LinkTarget>(&mut self, node: &PrivateProp<N>)
         ensures items { Performs (private_prop_tail N.items node.now)
             S.lines C.maps W.sheet self.old self.new }
-        ensures level { KeepsLevel S.lines C.maps W.sheet self.old self.new }
     {
         node.key.emit_at(self, Place::Plain);
         self.question(node.is_optional);
@@ -151,7 +146,6 @@ impl<W: WriteJs, S: SourceMapper, C: Comments> Emitter<'_, W, S, C> {
     fn accessor_decorators<N: LinkTarget>(&mut self, node: &AutoAccessor<N>)
         ensures items { Performs (accessor_decorators N.items node.now)
             S.lines C.maps W.sheet self.old self.new }
-        ensures level { KeepsLevel S.lines C.maps W.sheet self.old self.new }
     {
         self.list(decorators_format(), node.span, &node.decorators)
     }
@@ -161,7 +155,6 @@ impl<W: WriteJs, S: SourceMapper, C: Comments> Emitter<'_, W, S, C> {
     fn accessor_modifiers<N: LinkTarget>(&mut self, node: &AutoAccessor<N>)
         ensures items { Performs (accessor_modifiers node.now)
             S.lines C.maps W.sheet self.old self.new }
-        ensures level { KeepsLevel S.lines C.maps W.sheet self.old self.new }
     {
         self.accessibility_word(node.accessibility);
         self.static_word(node.is_static);
@@ -174,7 +167,6 @@ impl<W: WriteJs, S: SourceMapper, C: Comments> Emitter<'_, W, S, C> {
     fn accessor_tail<N: LinkTarget>(&mut self, node: &AutoAccessor<N>)
         ensures items { Performs (accessor_tail N.items node.now)
             S.lines C.maps W.sheet self.old self.new }
-        ensures level { KeepsLevel S.lines C.maps W.sheet self.old self.new }
     {
         node.key.emit_at(self, Place::Plain);
         self.field_annotation(node.definite, &node.type_ann);
@@ -187,7 +179,6 @@ impl<W: WriteJs, S: SourceMapper, C: Comments> Emitter<'_, W, S, C> {
     fn prop_value<N: LinkTarget>(&mut self, value: &Option<ExprBox<N>>)
         ensures items { Performs (prop_value N.items value.now)
             S.lines C.maps W.sheet self.old self.new }
-        ensures level { KeepsLevel S.lines C.maps W.sheet self.old self.new }
     {
         match value {
             Some(value) => {

@@ -1,6 +1,6 @@
 //! Types of functions, and what types say of their parameters and results.
 
-ghost use Rattle.swc_ecma_codegen_emit.specs.Standing.{Performs, KeepsLevel};
+ghost use Rattle.swc_ecma_codegen_emit.specs.Standing.{Performs};
 ghost use Rattle.swc_ecma_codegen_emit.specs.TsMembers.{fn_params_list};
 ghost use Rattle.swc_ecma_codegen_emit.specs.Types.{ts_fn_param, signature_type, ts_fn_type, spaced_params, ts_constructor_type, ts_fn_or_constructor_type, ts_this_type_or_ident, is_behind, ts_type_predicate};
 
@@ -120,7 +120,6 @@ impl<W: WriteJs, S: SourceMapper, C: Comments> Emitter<'_, W, S, C> {
     pub(crate) fn fn_params_list<N: LinkTarget>(&mut self, span: Span, nodes: &[TsFnParamBox<N>])
         ensures items { Performs (fn_params_list N.answers N.items span nodes.now)
             S.lines C.maps W.sheet self.old self.new }
-        ensures level { KeepsLevel S.lines C.maps W.sheet self.old self.new }
     {
         self.list(types_format(), span, nodes)
     }
@@ -135,7 +134,6 @@ impl<W: WriteJs, S: SourceMapper, C: Comments> Emitter<'_, W, S, C> {
     )
         ensures items { Performs (signature_type N.answers N.items span params.now result_type.now)
             S.lines C.maps W.sheet self.old self.new }
-        ensures level { KeepsLevel S.lines C.maps W.sheet self.old self.new }
     {
         self.punct(Punctuator::LeftParenthesis);
         self.fn_params_list(span, params);
@@ -149,7 +147,6 @@ impl<W: WriteJs, S: SourceMapper, C: Comments> Emitter<'_, W, S, C> {
     fn spaced_params<N: LinkTarget>(&mut self, node: &TsConstructorType<N>)
         ensures items { Performs (spaced_params N.items node.now)
             S.lines C.maps W.sheet self.old self.new }
-        ensures level { KeepsLevel S.lines C.maps W.sheet self.old self.new }
     {
         if node.type_params.is_some() {
             self.space();
@@ -162,7 +159,6 @@ impl<W: WriteJs, S: SourceMapper, C: Comments> Emitter<'_, W, S, C> {
     fn is_behind<N: LinkTarget>(&mut self, ty: &Option<TsTypeAnnBox<N>>)
         ensures items { Performs (is_behind N.items ty.now)
             S.lines C.maps W.sheet self.old self.new }
-        ensures level { KeepsLevel S.lines C.maps W.sheet self.old self.new }
     {
         match ty {
             Some(node) => {

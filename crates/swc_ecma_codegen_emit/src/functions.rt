@@ -4,7 +4,7 @@ ghost use Rattle.std.specs.Prelude.{◌≡◌, ◌&&◌, not};
 ghost use Rattle.swc_ecma_codegen_grammar.specs.Comments.{maps_in};
 ghost use Rattle.swc_ecma_codegen_grammar.specs.FunctionPhrases.{is_typed_arrow};
 ghost use Rattle.swc_ecma_codegen_literals.specs.Punctuators.{spelling};
-ghost use Rattle.swc_ecma_codegen_emit.specs.Standing.{Performs, KeepsLevel};
+ghost use Rattle.swc_ecma_codegen_emit.specs.Standing.{Performs};
 ghost use Rattle.swc_ecma_codegen_emit.specs.FunctionExprs.{comma_list_format, star, optional_name, fn_expr, is_plain, is_name, is_only, async_arrow, parenthesis, has_comment_behind, arrow_children, arrow_list, arrow_within, arrow_parameters, arrow_body, arrow_result, arrow_expr};
 ghost use Rattle.swc_ecma_codegen_emit.specs.Functions.{decorators_format, decorator, decorators, decorator_lines, param, function_body, parameters, fn_trailing, break_without_body, declaration_tail, static_gap, static_head, method_body, method_tail, async_word, function_head, star_or_space, declaration_head, method_head, function};
 
@@ -239,7 +239,6 @@ impl<W: WriteJs, S: SourceMapper, C: Comments> Emitter<'_, W, S, C> {
     pub(crate) fn decorator_lines<N: LinkTarget>(&mut self, nodes: &[Decorator<N>])
         ensures items { Performs (decorator_lines N.items nodes.now)
             S.lines C.maps W.sheet self.old self.new }
-        ensures level { KeepsLevel S.lines C.maps W.sheet self.old self.new }
     {
         self.in_order(nodes)
     }
@@ -248,7 +247,6 @@ impl<W: WriteJs, S: SourceMapper, C: Comments> Emitter<'_, W, S, C> {
     #[tactic(auto, unfolding(crate::specs::Functions::async_word))]
     fn async_word(&mut self, wanted: bool)
         ensures items { Performs (async_word wanted) S.lines C.maps W.sheet self.old self.new }
-        ensures level { KeepsLevel S.lines C.maps W.sheet self.old self.new }
     {
         if wanted {
             self.keyword(None, "async");
@@ -260,7 +258,6 @@ impl<W: WriteJs, S: SourceMapper, C: Comments> Emitter<'_, W, S, C> {
     #[tactic(auto, unfolding(crate::specs::FunctionExprs::star))]
     fn star(&mut self, wanted: bool)
         ensures items { Performs (star wanted) S.lines C.maps W.sheet self.old self.new }
-        ensures level { KeepsLevel S.lines C.maps W.sheet self.old self.new }
     {
         if wanted {
             self.punct(Punctuator::Star);
@@ -271,7 +268,6 @@ impl<W: WriteJs, S: SourceMapper, C: Comments> Emitter<'_, W, S, C> {
     #[tactic(auto, unfolding(crate::specs::Functions::function_head))]
     fn function_head<N>(&mut self, node: &Function<N>)
         ensures items { Performs (function_head node.now) S.lines C.maps W.sheet self.old self.new }
-        ensures level { KeepsLevel S.lines C.maps W.sheet self.old self.new }
     {
         self.async_word(node.is_async);
         self.keyword(None, "function");
@@ -282,7 +278,6 @@ impl<W: WriteJs, S: SourceMapper, C: Comments> Emitter<'_, W, S, C> {
     #[tactic(auto, unfolding(crate::specs::Functions::star_or_space))]
     fn star_or_space(&mut self, wanted: bool)
         ensures items { Performs (star_or_space wanted) S.lines C.maps W.sheet self.old self.new }
-        ensures level { KeepsLevel S.lines C.maps W.sheet self.old self.new }
     {
         if !wanted {
             return self.space();
@@ -296,7 +291,6 @@ impl<W: WriteJs, S: SourceMapper, C: Comments> Emitter<'_, W, S, C> {
     fn declaration_head<N>(&mut self, node: &Function<N>)
         ensures items { Performs (declaration_head node.now)
             S.lines C.maps W.sheet self.old self.new }
-        ensures level { KeepsLevel S.lines C.maps W.sheet self.old self.new }
     {
         self.async_word(node.is_async);
         self.keyword(None, "function");
@@ -307,7 +301,6 @@ impl<W: WriteJs, S: SourceMapper, C: Comments> Emitter<'_, W, S, C> {
     #[tactic(auto, unfolding(crate::specs::Functions::method_head))]
     fn method_head<N>(&mut self, node: &Function<N>)
         ensures items { Performs (method_head node.now) S.lines C.maps W.sheet self.old self.new }
-        ensures level { KeepsLevel S.lines C.maps W.sheet self.old self.new }
     {
         self.async_word(node.is_async);
         self.star(node.is_generator);
@@ -318,7 +311,6 @@ impl<W: WriteJs, S: SourceMapper, C: Comments> Emitter<'_, W, S, C> {
     fn break_without_body<N>(&mut self, body: &Option<BlockStmtBox<N>>)
         ensures items { Performs (break_without_body body.now)
             S.lines C.maps W.sheet self.old self.new }
-        ensures level { KeepsLevel S.lines C.maps W.sheet self.old self.new }
     {
         match body {
             Some(_) => {}
@@ -332,7 +324,6 @@ impl<W: WriteJs, S: SourceMapper, C: Comments> Emitter<'_, W, S, C> {
     fn declaration_tail<N: LinkTarget>(&mut self, node: &Function<N>)
         ensures items { Performs (declaration_tail N.answers N.items node.now)
             S.lines C.maps W.sheet self.old self.new }
-        ensures level { KeepsLevel S.lines C.maps W.sheet self.old self.new }
     {
         self.fn_trailing(node);
         self.break_without_body(&node.body);
@@ -343,7 +334,6 @@ impl<W: WriteJs, S: SourceMapper, C: Comments> Emitter<'_, W, S, C> {
     fn fn_trailing<N: LinkTarget>(&mut self, node: &Function<N>)
         ensures items { Performs (fn_trailing N.answers N.items node.now)
             S.lines C.maps W.sheet self.old self.new }
-        ensures level { KeepsLevel S.lines C.maps W.sheet self.old self.new }
     {
         self.type_params(&node.type_params);
         self.punct(Punctuator::LeftParenthesis);
@@ -358,7 +348,6 @@ impl<W: WriteJs, S: SourceMapper, C: Comments> Emitter<'_, W, S, C> {
     fn method_body<N: LinkTarget>(&mut self, body: &Option<BlockStmtBox<N>>)
         ensures items { Performs (method_body N.items body.now)
             S.lines C.maps W.sheet self.old self.new }
-        ensures level { KeepsLevel S.lines C.maps W.sheet self.old self.new }
     {
         match body {
             Some(body) => {
@@ -374,7 +363,6 @@ impl<W: WriteJs, S: SourceMapper, C: Comments> Emitter<'_, W, S, C> {
     fn method_tail<N: LinkTarget>(&mut self, node: &Function<N>)
         ensures items { Performs (method_tail N.answers N.items node.now)
             S.lines C.maps W.sheet self.old self.new }
-        ensures level { KeepsLevel S.lines C.maps W.sheet self.old self.new }
     {
         self.type_params(&node.type_params);
         self.punct(Punctuator::LeftParenthesis);
@@ -388,7 +376,6 @@ impl<W: WriteJs, S: SourceMapper, C: Comments> Emitter<'_, W, S, C> {
     #[tactic(auto, unfolding(crate::specs::Functions::static_gap))]
     fn static_gap(&mut self, needed: bool)
         ensures items { Performs (static_gap needed) S.lines C.maps W.sheet self.old self.new }
-        ensures level { KeepsLevel S.lines C.maps W.sheet self.old self.new }
     {
         if needed {
             self.space()
@@ -403,7 +390,6 @@ impl<W: WriteJs, S: SourceMapper, C: Comments> Emitter<'_, W, S, C> {
     fn static_head<N>(&mut self, starts: bool, node: &Function<N>)
         ensures items { Performs (static_head starts node.now)
             S.lines C.maps W.sheet self.old self.new }
-        ensures level { KeepsLevel S.lines C.maps W.sheet self.old self.new }
     {
         self.static_gap(node.is_async || (!node.is_generator && starts));
         self.method_head(node);
@@ -413,7 +399,6 @@ impl<W: WriteJs, S: SourceMapper, C: Comments> Emitter<'_, W, S, C> {
     fn parameters<N: LinkTarget>(&mut self, node: &Function<N>)
         ensures items { Performs (parameters N.answers N.items node.now)
             S.lines C.maps W.sheet self.old self.new }
-        ensures level { KeepsLevel S.lines C.maps W.sheet self.old self.new }
     {
         self.list(comma_list_format(), node.span, &node.params)
     }
@@ -422,7 +407,6 @@ impl<W: WriteJs, S: SourceMapper, C: Comments> Emitter<'_, W, S, C> {
     fn decorators<N: LinkTarget>(&mut self, node: &Param<N>)
         ensures items { Performs (decorators N.items node.now)
             S.lines C.maps W.sheet self.old self.new }
-        ensures level { KeepsLevel S.lines C.maps W.sheet self.old self.new }
     {
         self.list(decorators_format(), node.span, &node.decorators)
     }
@@ -432,7 +416,6 @@ impl<W: WriteJs, S: SourceMapper, C: Comments> Emitter<'_, W, S, C> {
     fn function_body<N: LinkTarget>(&mut self, body: &Option<BlockStmtBox<N>>)
         ensures items { Performs (function_body N.items body.now)
             S.lines C.maps W.sheet self.old self.new }
-        ensures level { KeepsLevel S.lines C.maps W.sheet self.old self.new }
     {
         match body {
             Some(body) => {
@@ -447,7 +430,6 @@ impl<W: WriteJs, S: SourceMapper, C: Comments> Emitter<'_, W, S, C> {
     #[tactic(auto, unfolding(crate::specs::FunctionExprs::optional_name))]
     pub(crate) fn optional_name(&mut self, name: &Option<Ident>)
         ensures items { Performs (optional_name name.now) S.lines C.maps W.sheet self.old self.new }
-        ensures level { KeepsLevel S.lines C.maps W.sheet self.old self.new }
     {
         match name {
             Some(name) => {
@@ -463,7 +445,6 @@ impl<W: WriteJs, S: SourceMapper, C: Comments> Emitter<'_, W, S, C> {
     fn async_arrow(&mut self, wanted: bool, named: bool)
         ensures items { Performs (async_arrow wanted named)
             S.lines C.maps W.sheet self.old self.new }
-        ensures level { KeepsLevel S.lines C.maps W.sheet self.old self.new }
     {
         if wanted {
             self.keyword(None, "async");
@@ -480,7 +461,6 @@ impl<W: WriteJs, S: SourceMapper, C: Comments> Emitter<'_, W, S, C> {
     fn parenthesis(&mut self, plain: bool, mark: Punctuator)
         ensures items { Performs (parenthesis plain (spelling mark))
             S.lines C.maps W.sheet self.old self.new }
-        ensures level { KeepsLevel S.lines C.maps W.sheet self.old self.new }
     {
         if plain && self.cfg.minify {
             return;
@@ -493,7 +473,6 @@ impl<W: WriteJs, S: SourceMapper, C: Comments> Emitter<'_, W, S, C> {
     fn arrow_result<N: LinkTarget>(&mut self, ty: &Option<TsTypeAnnBox<N>>)
         ensures items { Performs (arrow_result N.items ty.now)
             S.lines C.maps W.sheet self.old self.new }
-        ensures level { KeepsLevel S.lines C.maps W.sheet self.old self.new }
     {
         match ty {
             Some(node) => {
@@ -510,7 +489,6 @@ impl<W: WriteJs, S: SourceMapper, C: Comments> Emitter<'_, W, S, C> {
     fn arrow_list<N: LinkTarget>(&mut self, node: &ArrowExpr<N>)
         ensures items { Performs (arrow_list N.answers N.items node.now)
             S.lines C.maps W.sheet self.old self.new }
-        ensures level { KeepsLevel S.lines C.maps W.sheet self.old self.new }
     {
         self.list(comma_list_format(), node.span, &node.params)
     }
@@ -520,7 +498,6 @@ impl<W: WriteJs, S: SourceMapper, C: Comments> Emitter<'_, W, S, C> {
     fn arrow_within<N: LinkTarget>(&mut self, plain: bool, node: &ArrowExpr<N>)
         ensures items { Performs (arrow_within plain node.now.span
             (arrow_children N.answers N.items node.now)) S.lines C.maps W.sheet self.old self.new }
-        ensures level { KeepsLevel S.lines C.maps W.sheet self.old self.new }
     {
         self.parenthesis(plain, Punctuator::LeftParenthesis);
         self.arrow_list(node);
@@ -532,7 +509,6 @@ impl<W: WriteJs, S: SourceMapper, C: Comments> Emitter<'_, W, S, C> {
     fn arrow_parameters<N: LinkTarget>(&mut self, node: &ArrowExpr<N>)
         ensures items { Performs (arrow_parameters N.answers N.items node.now)
             S.lines C.maps W.sheet self.old self.new }
-        ensures level { KeepsLevel S.lines C.maps W.sheet self.old self.new }
     {
         let plain = is_bare_arrow(node, &self.comments);
         self.arrow_within(plain, node)

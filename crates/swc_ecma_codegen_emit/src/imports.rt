@@ -2,7 +2,7 @@
 
 ghost use Rattle.std.specs.Prelude.{◌≡◌, true};
 ghost use Rattle.std.specs.List.{list_any};
-ghost use Rattle.swc_ecma_codegen_emit.specs.Standing.{Performs, KeepsLevel};
+ghost use Rattle.swc_ecma_codegen_emit.specs.Standing.{Performs};
 ghost use Rattle.swc_ecma_codegen_spans.specs.Spans.{import_specifier_span};
 ghost use Rattle.swc_ecma_codegen_emit.specs.Lists.{comma};
 ghost use Rattle.swc_ecma_codegen_emit.specs.Modules.{named_format, imported_as, import_named, import_specifier, is_named, is_default, is_star, is_crowded, import_list, before_brace, before_braces, some_named, import_braces, begins_default, some_imports, import_clause, phase_word, import_tail, import_decl};
@@ -140,7 +140,6 @@ impl<W: WriteJs, S: SourceMapper, C: Comments> Emitter<'_, W, S, C> {
     #[tactic(auto, unfolding(crate::specs::Modules::imported_as))]
     fn imported_as(&mut self, name: &Option<ModuleExportName>)
         ensures items { Performs (imported_as name.now) S.lines C.maps W.sheet self.old self.new }
-        ensures level { KeepsLevel S.lines C.maps W.sheet self.old self.new }
     {
         match name {
             Some(name) => {
@@ -155,7 +154,6 @@ impl<W: WriteJs, S: SourceMapper, C: Comments> Emitter<'_, W, S, C> {
     fn import_list(&mut self, parent: Span, specifiers: &[ImportSpecifier])
         ensures items { Performs (import_list parent specifiers.now)
             S.lines C.maps W.sheet self.old self.new }
-        ensures level { KeepsLevel S.lines C.maps W.sheet self.old self.new }
     {
         self.braced_list(named_format(), parent, specifiers)
     }
@@ -165,7 +163,6 @@ impl<W: WriteJs, S: SourceMapper, C: Comments> Emitter<'_, W, S, C> {
     fn before_brace(&mut self, first: bool, specifier: &ImportSpecifier)
         ensures items { Performs (before_brace first specifier.now)
             S.lines C.maps W.sheet self.old self.new }
-        ensures level { KeepsLevel S.lines C.maps W.sheet self.old self.new }
     {
         match specifier {
             ImportSpecifier::Named(_) => {}
@@ -183,7 +180,6 @@ impl<W: WriteJs, S: SourceMapper, C: Comments> Emitter<'_, W, S, C> {
     fn before_braces(&mut self, specifiers: &[ImportSpecifier])
         ensures items { Performs (before_braces true specifiers.now)
             S.lines C.maps W.sheet self.old self.new }
-        ensures level { KeepsLevel S.lines C.maps W.sheet self.old self.new }
     {
         let mut first = true;
         for specifier in specifiers {
@@ -197,7 +193,6 @@ impl<W: WriteJs, S: SourceMapper, C: Comments> Emitter<'_, W, S, C> {
     fn some_named(&mut self, parent: Span, specifiers: &[ImportSpecifier])
         ensures items { Performs (some_named parent specifiers.now)
             S.lines C.maps W.sheet self.old self.new }
-        ensures level { KeepsLevel S.lines C.maps W.sheet self.old self.new }
     {
         self.comma(!has_default(specifiers));
         self.punct(Punctuator::LeftBrace);
@@ -211,7 +206,6 @@ impl<W: WriteJs, S: SourceMapper, C: Comments> Emitter<'_, W, S, C> {
     fn import_braces(&mut self, parent: Span, specifiers: &[ImportSpecifier])
         ensures items { Performs (import_braces parent specifiers.now)
             S.lines C.maps W.sheet self.old self.new }
-        ensures level { KeepsLevel S.lines C.maps W.sheet self.old self.new }
     {
         if has_braced(specifiers) {
             return self.some_named(parent, specifiers);
@@ -224,7 +218,6 @@ impl<W: WriteJs, S: SourceMapper, C: Comments> Emitter<'_, W, S, C> {
     fn some_imports(&mut self, parent: Span, specifiers: &[ImportSpecifier])
         ensures items { Performs (some_imports parent specifiers.now)
             S.lines C.maps W.sheet self.old self.new }
-        ensures level { KeepsLevel S.lines C.maps W.sheet self.old self.new }
     {
         self.before_braces(specifiers);
         self.import_braces(parent, specifiers);
@@ -236,7 +229,6 @@ impl<W: WriteJs, S: SourceMapper, C: Comments> Emitter<'_, W, S, C> {
     fn import_clause(&mut self, parent: Span, specifiers: &[ImportSpecifier])
         ensures items { Performs (import_clause parent specifiers.now)
             S.lines C.maps W.sheet self.old self.new }
-        ensures level { KeepsLevel S.lines C.maps W.sheet self.old self.new }
     {
         if specifiers.is_empty() {
             return;
@@ -248,7 +240,6 @@ impl<W: WriteJs, S: SourceMapper, C: Comments> Emitter<'_, W, S, C> {
     #[tactic(auto, unfolding(crate::specs::Modules::phase_word))]
     fn phase_word(&mut self, phase: ImportPhase)
         ensures items { Performs (phase_word phase) S.lines C.maps W.sheet self.old self.new }
-        ensures level { KeepsLevel S.lines C.maps W.sheet self.old self.new }
     {
         match phase {
             ImportPhase::Evaluation => {}
@@ -268,7 +259,6 @@ impl<W: WriteJs, S: SourceMapper, C: Comments> Emitter<'_, W, S, C> {
     fn import_tail<N: LinkTarget>(&mut self, node: &ImportDecl<N>)
         ensures items { Performs (import_tail N.items node.now)
             S.lines C.maps W.sheet self.old self.new }
-        ensures level { KeepsLevel S.lines C.maps W.sheet self.old self.new }
     {
         self.import_clause(node.span, &node.specifiers);
         self.source_end(&node.src, &node.with, node.span)

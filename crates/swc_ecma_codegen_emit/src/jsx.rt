@@ -5,7 +5,7 @@ ghost use Rattle.swc_ecma_codegen_literals.specs.Punctuators.{spelling};
 ghost use Rattle.swc_ecma_codegen_tokens.specs.Attributes.{attribute_string, jsx_text_node, jsx_text_lit};
 ghost use Rattle.swc_ecma_codegen_tokens.specs.Tags.{tag_name, child_open, close};
 ghost use Rattle.swc_ecma_codegen_emit.specs.Jsx.{jsx_element_parts, jsx_fragment_parts, tag_ident, tag_ident_name, jsx_member_expr, jsx_namespaced_name, jsx_object, jsx_element_name, jsx_attr_name, open_at, jsx_expr, jsx_expr_container, jsx_spread_child, jsx_attr_lit, jsx_attr_value, attr_initializer, jsx_attr, jsx_attr_or_spread, jsx_attributes, self_closing, jsx_opening_element, jsx_closing_element, jsx_element_child, jsx_children, optional_closing, jsx_element, opening_fragment, closing_fragment, jsx_fragment, jsx_part};
-ghost use Rattle.swc_ecma_codegen_emit.specs.Standing.{Performs, KeepsLevel};
+ghost use Rattle.swc_ecma_codegen_emit.specs.Standing.{Performs};
 
 use crate::emitter::Emitter;
 use crate::nodes::{EmitAt, LinkTarget, Place};
@@ -369,7 +369,6 @@ impl<W: WriteJs, S: SourceMapper, C: Comments> Emitter<'_, W, S, C> {
     fn jsx_element_parts<N: LinkTarget>(&mut self, node: &JSXElement<N>, place: Place)
         ensures items { Performs (jsx_element_parts N.answers N.items node.now place)
             S.lines C.maps W.sheet self.old self.new }
-        ensures level { KeepsLevel S.lines C.maps W.sheet self.old self.new }
     {
         node.opening.emit_at(self, place);
         self.jsx_children(&node.children);
@@ -384,7 +383,6 @@ impl<W: WriteJs, S: SourceMapper, C: Comments> Emitter<'_, W, S, C> {
     fn jsx_fragment_parts<N: LinkTarget>(&mut self, node: &JSXFragment<N>, place: Place)
         ensures items { Performs (jsx_fragment_parts N.items node.now place)
             S.lines C.maps W.sheet self.old self.new }
-        ensures level { KeepsLevel S.lines C.maps W.sheet self.old self.new }
     {
         node.opening.emit_at(self, place);
         self.jsx_children(&node.children);
@@ -396,7 +394,6 @@ impl<W: WriteJs, S: SourceMapper, C: Comments> Emitter<'_, W, S, C> {
     #[tactic(auto, using(crate::proofs::Standings::refused_makes))]
     fn tag_name(&mut self, span: Span, sym: &str)
         ensures items { Performs (tag_name span sym.now) S.lines C.maps W.sheet self.old self.new }
-        ensures level { KeepsLevel S.lines C.maps W.sheet self.old self.new }
     {
         if self.refusal.is_some() {
             return;
@@ -412,7 +409,6 @@ impl<W: WriteJs, S: SourceMapper, C: Comments> Emitter<'_, W, S, C> {
     #[tactic(auto, unfolding(crate::specs::Jsx::tag_ident))]
     fn tag_ident(&mut self, node: &Ident)
         ensures items { Performs (tag_ident node.now) S.lines C.maps W.sheet self.old self.new }
-        ensures level { KeepsLevel S.lines C.maps W.sheet self.old self.new }
     {
         self.tag_name(node.span, &node.sym)
     }
@@ -422,7 +418,6 @@ impl<W: WriteJs, S: SourceMapper, C: Comments> Emitter<'_, W, S, C> {
     fn tag_ident_name(&mut self, node: &IdentName)
         ensures items { Performs (tag_ident_name node.now)
             S.lines C.maps W.sheet self.old self.new }
-        ensures level { KeepsLevel S.lines C.maps W.sheet self.old self.new }
     {
         self.tag_name(node.span, &node.sym)
     }
@@ -432,7 +427,6 @@ impl<W: WriteJs, S: SourceMapper, C: Comments> Emitter<'_, W, S, C> {
     fn child_open(&mut self, mark: Punctuator)
         ensures items { Performs (child_open (spelling mark))
             S.lines C.maps W.sheet self.old self.new }
-        ensures level { KeepsLevel S.lines C.maps W.sheet self.old self.new }
     {
         if self.refusal.is_some() {
             return;
@@ -448,7 +442,6 @@ impl<W: WriteJs, S: SourceMapper, C: Comments> Emitter<'_, W, S, C> {
     fn open_at(&mut self, place: Place, mark: Punctuator)
         ensures items { Performs (open_at place (spelling mark))
             S.lines C.maps W.sheet self.old self.new }
-        ensures level { KeepsLevel S.lines C.maps W.sheet self.old self.new }
     {
         match place {
             Place::Child => self.child_open(mark),
@@ -460,7 +453,6 @@ impl<W: WriteJs, S: SourceMapper, C: Comments> Emitter<'_, W, S, C> {
     #[tactic(auto, using(crate::proofs::Standings::refused_makes))]
     pub(crate) fn close(&mut self)
         ensures items { Performs close S.lines C.maps W.sheet self.old self.new }
-        ensures level { KeepsLevel S.lines C.maps W.sheet self.old self.new }
     {
         if self.refusal.is_some() {
             return;
@@ -472,7 +464,6 @@ impl<W: WriteJs, S: SourceMapper, C: Comments> Emitter<'_, W, S, C> {
     #[tactic(auto, unfolding(crate::specs::Jsx::self_closing))]
     fn self_closing(&mut self, closes: bool)
         ensures items { Performs (self_closing closes) S.lines C.maps W.sheet self.old self.new }
-        ensures level { KeepsLevel S.lines C.maps W.sheet self.old self.new }
     {
         if closes {
             self.punct(Punctuator::Slash)
@@ -484,7 +475,6 @@ impl<W: WriteJs, S: SourceMapper, C: Comments> Emitter<'_, W, S, C> {
     fn attribute_string(&mut self, node: &Str)
         ensures items { Performs (attribute_string node.now)
             S.lines C.maps W.sheet self.old self.new }
-        ensures level { KeepsLevel S.lines C.maps W.sheet self.old self.new }
     {
         if self.refusal.is_some() {
             return;
@@ -500,7 +490,6 @@ impl<W: WriteJs, S: SourceMapper, C: Comments> Emitter<'_, W, S, C> {
     #[tactic(auto, unfolding(crate::specs::Jsx::jsx_attr_lit))]
     fn jsx_attr_lit(&mut self, node: &Lit)
         ensures items { Performs (jsx_attr_lit node.now) S.lines C.maps W.sheet self.old self.new }
-        ensures level { KeepsLevel S.lines C.maps W.sheet self.old self.new }
     {
         match node {
             Lit::Str(text) => self.attribute_string(text),
@@ -513,7 +502,6 @@ impl<W: WriteJs, S: SourceMapper, C: Comments> Emitter<'_, W, S, C> {
     #[tactic(auto, using(crate::proofs::Standings::refused_makes))]
     pub(crate) fn jsx_text_lit(&mut self, node: &JSXText)
         ensures items { Performs (jsx_text_lit node.now) S.lines C.maps W.sheet self.old self.new }
-        ensures level { KeepsLevel S.lines C.maps W.sheet self.old self.new }
     {
         if self.refusal.is_some() {
             return;
@@ -530,7 +518,6 @@ impl<W: WriteJs, S: SourceMapper, C: Comments> Emitter<'_, W, S, C> {
     fn jsx_attributes<N: LinkTarget>(&mut self, nodes: &[JSXAttrOrSpread<N>])
         ensures items { Performs (jsx_attributes (jsx_attr_or_spread N.answers N.items) true
             nodes.now) S.lines C.maps W.sheet self.old self.new }
-        ensures level { KeepsLevel S.lines C.maps W.sheet self.old self.new }
     {
         let mut first = true;
         for node in nodes {
@@ -545,7 +532,6 @@ impl<W: WriteJs, S: SourceMapper, C: Comments> Emitter<'_, W, S, C> {
     fn jsx_children<N: LinkTarget>(&mut self, nodes: &[JSXElementChild<N>])
         ensures items { Performs (jsx_children N.items nodes.now)
             S.lines C.maps W.sheet self.old self.new }
-        ensures level { KeepsLevel S.lines C.maps W.sheet self.old self.new }
     {
         self.in_order(nodes)
     }

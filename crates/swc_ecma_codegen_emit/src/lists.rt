@@ -1,7 +1,7 @@
 //! Lists of nodes.
 
 ghost use Rattle.std.specs.Prelude.{◌≡◌, true, [], ◌∷◌, map, option_map};
-ghost use Rattle.swc_ecma_codegen_emit.specs.Standing.{KeepsSettings, Deepens, Rises, HasLevels, standing_of, Performs, KeepsLevel};
+ghost use Rattle.swc_ecma_codegen_emit.specs.Standing.{KeepsSettings, HasLevels, standing_of, Performs, PerformsDeeper, PerformsShallower};
 ghost use Rattle.swc_ecma_codegen_tokens.specs.Lists.{list_levels, opening, separator, child_comments, trailing_comma, closing, list_end, empty_list, first_child_after, first_child, next_child_after, next_child, list_closing, list_after, list, optional_list};
 ghost use Rattle.swc_ecma_codegen_emit.specs.Lists.{comma, listed, plainly, in_order, child_of, as_asked};
 ghost use Rattle.swc_ecma_codegen_emit.specs.declared.nodes.Place.TheVariants.{Plain};
@@ -37,7 +37,6 @@ impl<W: WriteJs, S: SourceMapper, C: Comments> Emitter<'_, W, S, C> {
     #[tactic(auto, unfolding(crate::specs::Lists::comma))]
     pub(crate) fn comma(&mut self, first: bool)
         ensures items { Performs (comma first) S.lines C.maps W.sheet self.old self.new }
-        ensures level { KeepsLevel S.lines C.maps W.sheet self.old self.new }
     {
         if !first {
             self.punct(Punctuator::Comma);
@@ -50,7 +49,6 @@ impl<W: WriteJs, S: SourceMapper, C: Comments> Emitter<'_, W, S, C> {
     pub(crate) fn exprs<N: EmitAt>(&mut self, nodes: &[ExprBox<N>])
         ensures items { Performs (listed (held N.items) true nodes.now)
             S.lines C.maps W.sheet self.old self.new }
-        ensures level { KeepsLevel S.lines C.maps W.sheet self.old self.new }
     {
         let mut first = true;
         for node in nodes {
@@ -65,7 +63,6 @@ impl<W: WriteJs, S: SourceMapper, C: Comments> Emitter<'_, W, S, C> {
     pub(crate) fn in_order<T: EmitAt>(&mut self, nodes: &[T])
         ensures items { Performs (in_order (plainly T.items) nodes.now)
             S.lines C.maps W.sheet self.old self.new }
-        ensures level { KeepsLevel S.lines C.maps W.sheet self.old self.new }
     {
         for node in nodes {
             node.emit_at(self, Place::Plain);
@@ -76,11 +73,11 @@ impl<W: WriteJs, S: SourceMapper, C: Comments> Emitter<'_, W, S, C> {
 /// Lists by their format. swc's `emit_list`.
 impl<W: WriteJs, S: SourceMapper, C: Comments> Emitter<'_, W, S, C> {
     /// Writes what stands before the first child.
-    #[tactic(auto, using(crate::proofs::Standings::refused_makes))]
+    #[tactic(auto, using(crate::proofs::Standings::refused_deeper))]
     fn opening(&mut self, format: ListFormat, line: bool)
-        ensures items { Performs (opening format.0 line) S.lines C.maps W.sheet self.old self.new }
-        ensures level { Deepens (list_levels format.0 self.old.cfg)
-            (standing_of S.lines C.maps W.sheet self.old)
+        ensures items { PerformsDeeper (list_levels format.0 self.old.cfg) (opening format.0 line)
+            S.lines C.maps W.sheet self.old self.new }
+        ensures level { HasLevels (list_levels format.0 self.old.cfg)
             (standing_of S.lines C.maps W.sheet self.new) }
     {
         if self.refusal.is_some() {
@@ -98,7 +95,6 @@ impl<W: WriteJs, S: SourceMapper, C: Comments> Emitter<'_, W, S, C> {
     fn separator(&mut self, format: ListFormat, line: bool)
         ensures items { Performs (separator format.0 line)
             S.lines C.maps W.sheet self.old self.new }
-        ensures level { KeepsLevel S.lines C.maps W.sheet self.old self.new }
     {
         if self.refusal.is_some() {
             return;
@@ -116,7 +112,6 @@ impl<W: WriteJs, S: SourceMapper, C: Comments> Emitter<'_, W, S, C> {
     fn child_comments<T: Child>(&mut self, format: ListFormat, line: bool, child: &T)
         ensures items { Performs (child_comments format.0 line (T.stands child.now))
             S.lines C.maps W.sheet self.old self.new }
-        ensures level { KeepsLevel S.lines C.maps W.sheet self.old self.new }
     {
         if self.comments.is_none() {
             return;
@@ -130,7 +125,6 @@ impl<W: WriteJs, S: SourceMapper, C: Comments> Emitter<'_, W, S, C> {
     fn child_taken<T: Child>(&mut self, format: ListFormat, line: bool, child: &T)
         ensures items { Performs (child_comments format.0 line (T.stands child.now))
             S.lines C.maps W.sheet self.old self.new }
-        ensures level { KeepsLevel S.lines C.maps W.sheet self.old self.new }
     {
         if self.refusal.is_some() {
             return;
@@ -154,7 +148,6 @@ impl<W: WriteJs, S: SourceMapper, C: Comments> Emitter<'_, W, S, C> {
     fn trailing_comma(&mut self, format: ListFormat, parent: Span)
         ensures items { Performs (trailing_comma format.0 parent)
             S.lines C.maps W.sheet self.old self.new }
-        ensures level { KeepsLevel S.lines C.maps W.sheet self.old self.new }
         ensures settings { self.new.cfg ≡ self.old.cfg }
     {
         if self.refusal.is_some() {
@@ -168,15 +161,12 @@ impl<W: WriteJs, S: SourceMapper, C: Comments> Emitter<'_, W, S, C> {
     }
 
     /// Writes what stands after the last child, behind a trailing comma.
-    #[tactic(auto, using(crate::proofs::Standings::refused_makes))]
+    #[tactic(auto, using(crate::proofs::Standings::refused_shallower))]
     fn closing(&mut self, format: ListFormat, parent: Span, last: Span)
         requires { HasLevels (list_levels format.0 self.old.cfg)
             (standing_of S.lines C.maps W.sheet self.old) }
-        ensures items { Performs (list_end format.0 parent last)
-            S.lines C.maps W.sheet self.old self.new }
-        ensures level { Rises (list_levels format.0 self.old.cfg)
-            (standing_of S.lines C.maps W.sheet self.old)
-            (standing_of S.lines C.maps W.sheet self.new) }
+        ensures items { PerformsShallower (list_levels format.0 self.old.cfg)
+            (list_end format.0 parent last) S.lines C.maps W.sheet self.old self.new }
     {
         if self.refusal.is_some() {
             return;
@@ -193,7 +183,6 @@ impl<W: WriteJs, S: SourceMapper, C: Comments> Emitter<'_, W, S, C> {
     #[tactic(auto, using(crate::proofs::Standings::refused_makes))]
     fn empty_list(&mut self, format: ListFormat)
         ensures items { Performs (empty_list format.0) S.lines C.maps W.sheet self.old self.new }
-        ensures level { KeepsLevel S.lines C.maps W.sheet self.old self.new }
     {
         if self.refusal.is_some() {
             return;
@@ -207,10 +196,10 @@ impl<W: WriteJs, S: SourceMapper, C: Comments> Emitter<'_, W, S, C> {
     /// Writes the first child, where a line ends before it or doesn't.
     #[tactic(auto, unfolding(swc_ecma_codegen_tokens::specs::Lists::first_child_after))]
     fn first_child_after<T: Child>(&mut self, format: ListFormat, line: bool, child: &T)
-        ensures items { Performs (first_child_after format.0 line
-            (child_of T.stands T.items child.now)) S.lines C.maps W.sheet self.old self.new }
-        ensures level { Deepens (list_levels format.0 self.old.cfg)
-            (standing_of S.lines C.maps W.sheet self.old)
+        ensures items { PerformsDeeper (list_levels format.0 self.old.cfg)
+            (first_child_after format.0 line (child_of T.stands T.items child.now))
+            S.lines C.maps W.sheet self.old self.new }
+        ensures level { HasLevels (list_levels format.0 self.old.cfg)
             (standing_of S.lines C.maps W.sheet self.new) }
     {
         self.opening(format, line);
@@ -227,10 +216,10 @@ impl<W: WriteJs, S: SourceMapper, C: Comments> Emitter<'_, W, S, C> {
         place: Span,
     )
         requires { as_asked format.0 place ≡ as_asked format.0 (T.stands child.now) }
-        ensures items { Performs (first_child format.0 parent (child_of T.stands T.items child.now))
+        ensures items { PerformsDeeper (list_levels format.0 self.old.cfg)
+            (first_child format.0 parent (child_of T.stands T.items child.now))
             S.lines C.maps W.sheet self.old self.new }
-        ensures level { Deepens (list_levels format.0 self.old.cfg)
-            (standing_of S.lines C.maps W.sheet self.old)
+        ensures level { HasLevels (list_levels format.0 self.old.cfg)
             (standing_of S.lines C.maps W.sheet self.new) }
         ensures settings { KeepsSettings (standing_of S.lines C.maps W.sheet self.old)
             (standing_of S.lines C.maps W.sheet self.new) }
@@ -244,7 +233,6 @@ impl<W: WriteJs, S: SourceMapper, C: Comments> Emitter<'_, W, S, C> {
     fn next_child_after<T: Child>(&mut self, format: ListFormat, line: bool, child: &T)
         ensures items { Performs (next_child_after format.0 line
             (child_of T.stands T.items child.now)) S.lines C.maps W.sheet self.old self.new }
-        ensures level { KeepsLevel S.lines C.maps W.sheet self.old self.new }
     {
         self.separator(format, line);
         child.emit_at(self, Place::Plain);
@@ -263,7 +251,6 @@ impl<W: WriteJs, S: SourceMapper, C: Comments> Emitter<'_, W, S, C> {
         requires { as_asked format.0 place ≡ as_asked format.0 (T.stands child.now) }
         ensures items { Performs (next_child format.0 previous
             (child_of T.stands T.items child.now)) S.lines C.maps W.sheet self.old self.new }
-        ensures level { KeepsLevel S.lines C.maps W.sheet self.old self.new }
         ensures settings { KeepsSettings (standing_of S.lines C.maps W.sheet self.old)
             (standing_of S.lines C.maps W.sheet self.new) }
     {
@@ -276,11 +263,8 @@ impl<W: WriteJs, S: SourceMapper, C: Comments> Emitter<'_, W, S, C> {
     pub(crate) fn list_closing(&mut self, format: ListFormat, parent: Span, last: Span)
         requires { HasLevels (list_levels format.0 self.old.cfg)
             (standing_of S.lines C.maps W.sheet self.old) }
-        ensures items { Performs (list_closing format.0 parent last)
-            S.lines C.maps W.sheet self.old self.new }
-        ensures level { Rises (list_levels format.0 self.old.cfg)
-            (standing_of S.lines C.maps W.sheet self.old)
-            (standing_of S.lines C.maps W.sheet self.new) }
+        ensures items { PerformsShallower (list_levels format.0 self.old.cfg)
+            (list_closing format.0 parent last) S.lines C.maps W.sheet self.old self.new }
     {
         self.trailing_comma(format, parent);
         self.closing(format, parent, last);
@@ -290,10 +274,10 @@ impl<W: WriteJs, S: SourceMapper, C: Comments> Emitter<'_, W, S, C> {
     #[inline(always)]
     fn child_of_list<T: Child>(&mut self, format: ListFormat, parent: Span, child: &T) -> Span
         ensures place { as_asked format.0 result ≡ as_asked format.0 (T.stands child.now) }
-        ensures items { Performs (first_child format.0 parent (child_of T.stands T.items child.now))
+        ensures items { PerformsDeeper (list_levels format.0 self.old.cfg)
+            (first_child format.0 parent (child_of T.stands T.items child.now))
             S.lines C.maps W.sheet self.old self.new }
-        ensures level { Deepens (list_levels format.0 self.old.cfg)
-            (standing_of S.lines C.maps W.sheet self.old)
+        ensures level { HasLevels (list_levels format.0 self.old.cfg)
             (standing_of S.lines C.maps W.sheet self.new) }
         ensures settings { KeepsSettings (standing_of S.lines C.maps W.sheet self.old)
             (standing_of S.lines C.maps W.sheet self.new) }
@@ -309,7 +293,6 @@ impl<W: WriteJs, S: SourceMapper, C: Comments> Emitter<'_, W, S, C> {
         ensures place { as_asked format.0 result ≡ as_asked format.0 (T.stands child.now) }
         ensures items { Performs (next_child format.0 previous
             (child_of T.stands T.items child.now)) S.lines C.maps W.sheet self.old self.new }
-        ensures level { KeepsLevel S.lines C.maps W.sheet self.old self.new }
         ensures settings { KeepsSettings (standing_of S.lines C.maps W.sheet self.old)
             (standing_of S.lines C.maps W.sheet self.new) }
     {
@@ -329,12 +312,10 @@ impl<W: WriteJs, S: SourceMapper, C: Comments> Emitter<'_, W, S, C> {
     )
         requires { HasLevels (list_levels format.0 self.old.cfg)
             (standing_of S.lines C.maps W.sheet self.old) }
-        ensures items { Performs (list_after format.0 parent previous
+        ensures items { PerformsShallower (list_levels format.0 self.old.cfg)
+            (list_after format.0 parent previous
             (map (child_of T.stands T.items) children.now))
             S.lines C.maps W.sheet self.old self.new }
-        ensures level { Rises (list_levels format.0 self.old.cfg)
-            (standing_of S.lines C.maps W.sheet self.old)
-            (standing_of S.lines C.maps W.sheet self.new) }
     {
         let mut last = previous;
         for child in children {
@@ -349,7 +330,6 @@ impl<W: WriteJs, S: SourceMapper, C: Comments> Emitter<'_, W, S, C> {
         ensures items { Performs (list format.0 parent
             (map (child_of T.stands T.items) (first.now ∷ others.now)))
             S.lines C.maps W.sheet self.old self.new }
-        ensures level { KeepsLevel S.lines C.maps W.sheet self.old self.new }
     {
         let place = self.child_of_list(format, parent, first);
         self.list_after(format, parent, place, others);
@@ -360,7 +340,6 @@ impl<W: WriteJs, S: SourceMapper, C: Comments> Emitter<'_, W, S, C> {
     pub(crate) fn no_list(&mut self, format: ListFormat, parent: Span)
         ensures items { Performs (list format.0 parent [])
             S.lines C.maps W.sheet self.old self.new }
-        ensures level { KeepsLevel S.lines C.maps W.sheet self.old self.new }
     {
         let _ = parent;
         if format.contains(ListFormat::OptionalIfEmpty) {
@@ -374,7 +353,6 @@ impl<W: WriteJs, S: SourceMapper, C: Comments> Emitter<'_, W, S, C> {
         ensures items { Performs (list format.0 parent
             (map (child_of T.stands T.items) children.now))
             S.lines C.maps W.sheet self.old self.new }
-        ensures level { KeepsLevel S.lines C.maps W.sheet self.old self.new }
     {
         match children.split_first() {
             Some((first, others)) => self.some_list(format, parent, first, others),
@@ -393,7 +371,6 @@ impl<W: WriteJs, S: SourceMapper, C: Comments> Emitter<'_, W, S, C> {
         ensures items { Performs (optional_list format.0 parent
             (option_map (λ xs. map (child_of T.stands T.items) xs.now) children.entry))
             S.lines C.maps W.sheet self.old self.new }
-        ensures level { KeepsLevel S.lines C.maps W.sheet self.old self.new }
     {
         match children {
             Some(children) => self.list(format, parent, children),

@@ -4,7 +4,7 @@
 //! part of the frames that are there once for each level of a tree.
 
 ghost use Rattle.std.specs.Prelude.{◌≡◌};
-ghost use Rattle.swc_ecma_codegen_emit.specs.Standing.{Performs, KeepsLevel};
+ghost use Rattle.swc_ecma_codegen_emit.specs.Standing.{Performs};
 ghost use Rattle.swc_ecma_codegen_tokens.specs.Lits.{str_lit, bool_node, null_lit, number_lit, number_object, big_int_lit, regex_lit, lit};
 ghost use Rattle.swc_ecma_codegen_emit.specs.Lits.{lit_at, is_object, is_number_object};
 
@@ -165,7 +165,6 @@ impl<W: WriteJs, S: SourceMapper, C: Comments> Emitter<'_, W, S, C> {
     #[tactic(auto, using(crate::proofs::Standings::refused_makes))]
     fn lit(&mut self, node: &Lit)
         ensures items { Performs (lit node.now) S.lines C.maps W.sheet self.old self.new }
-        ensures level { KeepsLevel S.lines C.maps W.sheet self.old self.new }
     {
         if self.refusal.is_some() {
             return;
@@ -182,7 +181,6 @@ impl<W: WriteJs, S: SourceMapper, C: Comments> Emitter<'_, W, S, C> {
     #[tactic(auto, using(crate::proofs::Standings::refused_makes))]
     fn number_lit(&mut self, node: &Number)
         ensures items { Performs (number_lit node.now) S.lines C.maps W.sheet self.old self.new }
-        ensures level { KeepsLevel S.lines C.maps W.sheet self.old self.new }
     {
         if self.refusal.is_some() {
             return;
@@ -201,7 +199,6 @@ impl<W: WriteJs, S: SourceMapper, C: Comments> Emitter<'_, W, S, C> {
     fn number_object(&mut self, node: &Number, prop: BytePos)
         ensures items { Performs (number_object node.now prop)
             S.lines C.maps W.sheet self.old self.new }
-        ensures level { KeepsLevel S.lines C.maps W.sheet self.old self.new }
     {
         if self.refusal.is_some() {
             return;

@@ -4,7 +4,7 @@ ghost use Rattle.std.specs.Prelude.{◌≡◌, true};
 ghost use Rattle.swc_ecma_codegen_grammar.specs.Settings.{is_up_to_es5};
 ghost use Rattle.swc_ecma_codegen_util.specs.Ends.{pat_ends, declarator_ends, declarators_end, head_ends};
 ghost use Rattle.swc_ecma_codegen_tokens.specs.Choices.{loop_ending};
-ghost use Rattle.swc_ecma_codegen_emit.specs.Standing.{Performs, KeepsLevel};
+ghost use Rattle.swc_ecma_codegen_emit.specs.Standing.{Performs};
 ghost use Rattle.swc_ecma_codegen_tokens.specs.Starts.{begins_letter};
 ghost use Rattle.swc_ecma_codegen_emit.specs.Stmts.{case_body, cases_format, lines_format, case_format, case_test, is_single, case_list, case_children, case_stmts, switch_case, cases, switch_cases, switch_stmt, while_stmt, loop_test, do_while_stmt, var_decl_or_expr, for_init, for_value, for_clause, for_control, for_stmt, for_head, for_right, for_each, for_in_stmt, for_await, for_of_stmt};
 
@@ -271,7 +271,6 @@ impl<W: WriteJs, S: SourceMapper, C: Comments> Emitter<'_, W, S, C> {
     fn cases<N: LinkTarget>(&mut self, node: &SwitchStmt<N>)
         ensures items { Performs (cases N.answers N.items node.now)
             S.lines C.maps W.sheet self.old self.new }
-        ensures level { KeepsLevel S.lines C.maps W.sheet self.old self.new }
     {
         self.list(cases_format(), node.span, &node.cases)
     }
@@ -281,7 +280,6 @@ impl<W: WriteJs, S: SourceMapper, C: Comments> Emitter<'_, W, S, C> {
     fn switch_cases<N: LinkTarget>(&mut self, node: &SwitchStmt<N>)
         ensures items { Performs (switch_cases N.answers N.items node.now)
             S.lines C.maps W.sheet self.old self.new }
-        ensures level { KeepsLevel S.lines C.maps W.sheet self.old self.new }
     {
         self.punct(Punctuator::LeftBrace);
         self.cases(node);
@@ -294,7 +292,6 @@ impl<W: WriteJs, S: SourceMapper, C: Comments> Emitter<'_, W, S, C> {
     fn case_test<N: LinkTarget>(&mut self, test: &Option<ExprBox<N>>)
         ensures items { Performs (case_test N.answers N.items test.now)
             S.lines C.maps W.sheet self.old self.new }
-        ensures level { KeepsLevel S.lines C.maps W.sheet self.old self.new }
     {
         match test {
             Some(node) => {
@@ -310,7 +307,6 @@ impl<W: WriteJs, S: SourceMapper, C: Comments> Emitter<'_, W, S, C> {
         ensures items { Performs (case_body single node.now.span
             (case_children N.answers N.items node.now.cons.items))
             S.lines C.maps W.sheet self.old self.new }
-        ensures level { KeepsLevel S.lines C.maps W.sheet self.old self.new }
     {
         self.list(case_format(single), node.span, &node.cons)
     }
@@ -321,7 +317,6 @@ impl<W: WriteJs, S: SourceMapper, C: Comments> Emitter<'_, W, S, C> {
         ensures items { Performs (case_list single node.now.span
             (case_children N.answers N.items node.now.cons.items))
             S.lines C.maps W.sheet self.old self.new }
-        ensures level { KeepsLevel S.lines C.maps W.sheet self.old self.new }
     {
         self.punct(Punctuator::Colon);
         self.space_if(single);
@@ -332,7 +327,6 @@ impl<W: WriteJs, S: SourceMapper, C: Comments> Emitter<'_, W, S, C> {
     fn case_stmts<N: LinkTarget>(&mut self, node: &SwitchCase<N>)
         ensures items { Performs (case_stmts N.answers N.items node.now)
             S.lines C.maps W.sheet self.old self.new }
-        ensures level { KeepsLevel S.lines C.maps W.sheet self.old self.new }
     {
         let single = is_single(self.cm, node.span, &node.cons);
         self.case_list(single, node)
@@ -343,7 +337,6 @@ impl<W: WriteJs, S: SourceMapper, C: Comments> Emitter<'_, W, S, C> {
     fn loop_test<N: LinkTarget>(&mut self, test: &ExprBox<N>)
         ensures items { Performs (loop_test N.items test.now)
             S.lines C.maps W.sheet self.old self.new }
-        ensures level { KeepsLevel S.lines C.maps W.sheet self.old self.new }
     {
         self.keyword(None, "while");
         self.formatting_space();
@@ -354,7 +347,6 @@ impl<W: WriteJs, S: SourceMapper, C: Comments> Emitter<'_, W, S, C> {
     #[tactic(auto, using(crate::proofs::Asked::loop_ended, crate::proofs::Asked::loop_not_ended))]
     fn loop_ending(&mut self)
         ensures items { Performs (loop_ending) S.lines C.maps W.sheet self.old self.new }
-        ensures level { KeepsLevel S.lines C.maps W.sheet self.old self.new }
     {
         if is_up_to_es5(self.cfg.target) {
             return self.semi();
@@ -366,7 +358,6 @@ impl<W: WriteJs, S: SourceMapper, C: Comments> Emitter<'_, W, S, C> {
     fn for_init<N: LinkTarget>(&mut self, init: &Option<VarDeclOrExpr<N>>)
         ensures items { Performs (for_init N.items init.now)
             S.lines C.maps W.sheet self.old self.new }
-        ensures level { KeepsLevel S.lines C.maps W.sheet self.old self.new }
     {
         match init {
             Some(node) => node.emit_at(self, Place::Plain),
@@ -379,7 +370,6 @@ impl<W: WriteJs, S: SourceMapper, C: Comments> Emitter<'_, W, S, C> {
     fn for_value<N: LinkTarget>(&mut self, value: &Option<ExprBox<N>>)
         ensures items { Performs (for_value N.items value.now)
             S.lines C.maps W.sheet self.old self.new }
-        ensures level { KeepsLevel S.lines C.maps W.sheet self.old self.new }
     {
         match value {
             Some(node) => {
@@ -395,7 +385,6 @@ impl<W: WriteJs, S: SourceMapper, C: Comments> Emitter<'_, W, S, C> {
     fn for_clause<N: LinkTarget>(&mut self, value: &Option<ExprBox<N>>)
         ensures items { Performs (for_clause N.items value.now)
             S.lines C.maps W.sheet self.old self.new }
-        ensures level { KeepsLevel S.lines C.maps W.sheet self.old self.new }
     {
         self.punct(Punctuator::Semicolon);
         self.for_value(value);
@@ -406,7 +395,6 @@ impl<W: WriteJs, S: SourceMapper, C: Comments> Emitter<'_, W, S, C> {
     fn for_control<N: LinkTarget>(&mut self, node: &ForStmt<N>)
         ensures items { Performs (for_control N.items node.now)
             S.lines C.maps W.sheet self.old self.new }
-        ensures level { KeepsLevel S.lines C.maps W.sheet self.old self.new }
     {
         self.punct(Punctuator::LeftParenthesis);
         self.for_init(&node.init);
@@ -421,7 +409,6 @@ impl<W: WriteJs, S: SourceMapper, C: Comments> Emitter<'_, W, S, C> {
         requires { begins_letter text.now ≡ true }
         ensures items { Performs (for_right N.answers N.items text.now ends right.now)
             S.lines C.maps W.sheet self.old self.new }
-        ensures level { KeepsLevel S.lines C.maps W.sheet self.old self.new }
     {
         self.blank(ends);
         self.keyword(None, text);
@@ -434,7 +421,6 @@ impl<W: WriteJs, S: SourceMapper, C: Comments> Emitter<'_, W, S, C> {
         requires { begins_letter text.now ≡ true }
         ensures items { Performs (for_each N.answers N.items text.now left.now right.now)
             S.lines C.maps W.sheet self.old self.new }
-        ensures level { KeepsLevel S.lines C.maps W.sheet self.old self.new }
     {
         self.punct(Punctuator::LeftParenthesis);
         left.emit_at(self, Place::Plain);
@@ -446,7 +432,6 @@ impl<W: WriteJs, S: SourceMapper, C: Comments> Emitter<'_, W, S, C> {
     #[tactic(auto, unfolding(crate::specs::Stmts::for_await))]
     fn for_await(&mut self, wanted: bool)
         ensures items { Performs (for_await wanted) S.lines C.maps W.sheet self.old self.new }
-        ensures level { KeepsLevel S.lines C.maps W.sheet self.old self.new }
     {
         if wanted {
             self.space();

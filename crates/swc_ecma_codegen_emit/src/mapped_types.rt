@@ -1,6 +1,6 @@
 //! Mapped types of TypeScript, `{ readonly [A in B as C]?: D; }`.
 
-ghost use Rattle.swc_ecma_codegen_emit.specs.Standing.{Performs, KeepsLevel};
+ghost use Rattle.swc_ecma_codegen_emit.specs.Standing.{Performs};
 ghost use Rattle.swc_ecma_codegen_emit.specs.Types.{sign, signed_readonly, signed_question, mapped_param, mapped_type_ann, mapped_parts, ts_mapped_type};
 
 use crate::emitter::Emitter;
@@ -36,7 +36,6 @@ impl<W: WriteJs, S: SourceMapper, C: Comments> Emitter<'_, W, S, C> {
     #[tactic(auto, unfolding(crate::specs::Types::sign))]
     fn sign(&mut self, written: TruePlusMinus)
         ensures items { Performs (sign written) S.lines C.maps W.sheet self.old self.new }
-        ensures level { KeepsLevel S.lines C.maps W.sheet self.old self.new }
     {
         match written {
             TruePlusMinus::True => {}
@@ -50,7 +49,6 @@ impl<W: WriteJs, S: SourceMapper, C: Comments> Emitter<'_, W, S, C> {
     fn signed_readonly(&mut self, readonly: Option<TruePlusMinus>)
         ensures items { Performs (signed_readonly readonly)
             S.lines C.maps W.sheet self.old self.new }
-        ensures level { KeepsLevel S.lines C.maps W.sheet self.old self.new }
     {
         if let Some(sign) = readonly {
             self.sign(sign);
@@ -64,7 +62,6 @@ impl<W: WriteJs, S: SourceMapper, C: Comments> Emitter<'_, W, S, C> {
     fn signed_question(&mut self, optional: Option<TruePlusMinus>)
         ensures items { Performs (signed_question optional)
             S.lines C.maps W.sheet self.old self.new }
-        ensures level { KeepsLevel S.lines C.maps W.sheet self.old self.new }
     {
         if let Some(sign) = optional {
             self.sign(sign);
@@ -81,7 +78,6 @@ impl<W: WriteJs, S: SourceMapper, C: Comments> Emitter<'_, W, S, C> {
     )
         ensures items { Performs (mapped_param N.items node.now name_type.now)
             S.lines C.maps W.sheet self.old self.new }
-        ensures level { KeepsLevel S.lines C.maps W.sheet self.old self.new }
     {
         node.name.emit_at(self, Place::Plain);
         self.type_behind("in", &node.constraint);
@@ -94,7 +90,6 @@ impl<W: WriteJs, S: SourceMapper, C: Comments> Emitter<'_, W, S, C> {
     fn mapped_type_ann<N: LinkTarget>(&mut self, ty: &Option<TsTypeBox<N>>)
         ensures items { Performs (mapped_type_ann N.items ty.now)
             S.lines C.maps W.sheet self.old self.new }
-        ensures level { KeepsLevel S.lines C.maps W.sheet self.old self.new }
     {
         match ty {
             Some(node) => {
@@ -111,7 +106,6 @@ impl<W: WriteJs, S: SourceMapper, C: Comments> Emitter<'_, W, S, C> {
     fn mapped_parts<N: LinkTarget>(&mut self, node: &TsMappedType<N>)
         ensures items { Performs (mapped_parts N.items node.now)
             S.lines C.maps W.sheet self.old self.new }
-        ensures level { KeepsLevel S.lines C.maps W.sheet self.old self.new }
     {
         self.signed_readonly(node.readonly);
         self.punct(Punctuator::LeftBracket);

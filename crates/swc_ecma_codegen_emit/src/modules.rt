@@ -2,7 +2,7 @@
 
 ghost use Rattle.std.specs.Prelude.{◌≡◌, Some};
 ghost use Rattle.swc_ecma_codegen_tokens.specs.Run.{with_max_line};
-ghost use Rattle.swc_ecma_codegen_emit.specs.Standing.{Performs, KeepsLevel};
+ghost use Rattle.swc_ecma_codegen_emit.specs.Standing.{Performs};
 ghost use Rattle.swc_ecma_codegen_tokens.specs.Choices.{attributes_word};
 ghost use Rattle.swc_ecma_codegen_emit.specs.Modules.{named_format, module_export_name, type_word, from_word, as_word, star_as, module_decl_by, module_decl, module_item_by, module_item, attributes, source_end};
 ghost use Rattle.swc_ecma_codegen_spans.specs.Spans.{module_item_span};
@@ -114,7 +114,6 @@ impl<W: WriteJs, S: SourceMapper, C: Comments> Emitter<'_, W, S, C> {
     fn broken_module<N: LinkTarget>(&mut self, node: &Module<N>, max: u32)
         ensures items { Performs (with_max_line (Some max)
             (module_parts N.answers N.items node.now)) S.lines C.maps W.sheet self.old self.new }
-        ensures level { KeepsLevel S.lines C.maps W.sheet self.old self.new }
     {
         let max_line = self.cfg.max_line;
         self.cfg.max_line = Some(max);
@@ -127,7 +126,6 @@ impl<W: WriteJs, S: SourceMapper, C: Comments> Emitter<'_, W, S, C> {
     fn module_parts<N: LinkTarget>(&mut self, node: &Module<N>)
         ensures items { Performs (module_parts N.answers N.items node.now)
             S.lines C.maps W.sheet self.old self.new }
-        ensures level { KeepsLevel S.lines C.maps W.sheet self.old self.new }
     {
         self.program_start(&node.shebang, &node.body, node.span);
         self.module_items(&node.body);
@@ -139,7 +137,6 @@ impl<W: WriteJs, S: SourceMapper, C: Comments> Emitter<'_, W, S, C> {
     fn module_items<N: LinkTarget>(&mut self, nodes: &[ModuleItem<N>])
         ensures items { Performs (in_order (module_item N.answers N.items) nodes.now)
             S.lines C.maps W.sheet self.old self.new }
-        ensures level { KeepsLevel S.lines C.maps W.sheet self.old self.new }
     {
         self.in_order(nodes)
     }
@@ -148,7 +145,6 @@ impl<W: WriteJs, S: SourceMapper, C: Comments> Emitter<'_, W, S, C> {
     #[tactic(auto, unfolding(crate::specs::Modules::type_word))]
     pub(crate) fn type_word(&mut self, type_only: bool)
         ensures items { Performs (type_word type_only) S.lines C.maps W.sheet self.old self.new }
-        ensures level { KeepsLevel S.lines C.maps W.sheet self.old self.new }
     {
         if type_only {
             self.space();
@@ -160,7 +156,6 @@ impl<W: WriteJs, S: SourceMapper, C: Comments> Emitter<'_, W, S, C> {
     #[tactic(auto, unfolding(crate::specs::Modules::from_word))]
     pub(crate) fn from_word(&mut self)
         ensures items { Performs (from_word) S.lines C.maps W.sheet self.old self.new }
-        ensures level { KeepsLevel S.lines C.maps W.sheet self.old self.new }
     {
         self.keyword(None, "from");
         self.formatting_space();
@@ -170,7 +165,6 @@ impl<W: WriteJs, S: SourceMapper, C: Comments> Emitter<'_, W, S, C> {
     #[tactic(auto, unfolding(crate::specs::Modules::as_word))]
     pub(crate) fn as_word(&mut self)
         ensures items { Performs (as_word) S.lines C.maps W.sheet self.old self.new }
-        ensures level { KeepsLevel S.lines C.maps W.sheet self.old self.new }
     {
         self.space();
         self.keyword(None, "as");
@@ -181,7 +175,6 @@ impl<W: WriteJs, S: SourceMapper, C: Comments> Emitter<'_, W, S, C> {
     #[tactic(auto, unfolding(crate::specs::Modules::star_as))]
     pub(crate) fn star_as(&mut self)
         ensures items { Performs (star_as) S.lines C.maps W.sheet self.old self.new }
-        ensures level { KeepsLevel S.lines C.maps W.sheet self.old self.new }
     {
         self.punct(Punctuator::Star);
         self.formatting_space();
@@ -193,7 +186,6 @@ impl<W: WriteJs, S: SourceMapper, C: Comments> Emitter<'_, W, S, C> {
     #[tactic(auto, using(crate::proofs::Asked::attributes_by_assert, crate::proofs::Asked::attributes_by_with))]
     fn attributes_word(&mut self)
         ensures items { Performs (attributes_word) S.lines C.maps W.sheet self.old self.new }
-        ensures level { KeepsLevel S.lines C.maps W.sheet self.old self.new }
     {
         if self.cfg.emit_assert_for_import_attributes {
             return self.keyword(None, "assert");
@@ -206,7 +198,6 @@ impl<W: WriteJs, S: SourceMapper, C: Comments> Emitter<'_, W, S, C> {
     pub(crate) fn attributes<N: LinkTarget>(&mut self, with: &Option<ObjectLitBox<N>>)
         ensures items { Performs (attributes N.items with.now)
             S.lines C.maps W.sheet self.old self.new }
-        ensures level { KeepsLevel S.lines C.maps W.sheet self.old self.new }
     {
         match with {
             Some(with) => {
@@ -229,7 +220,6 @@ impl<W: WriteJs, S: SourceMapper, C: Comments> Emitter<'_, W, S, C> {
     )
         ensures items { Performs (source_end N.items src.now with.now span)
             S.lines C.maps W.sheet self.old self.new }
-        ensures level { KeepsLevel S.lines C.maps W.sheet self.old self.new }
     {
         src.emit_at(self, Place::Plain);
         self.attributes(with);
@@ -242,7 +232,6 @@ impl<W: WriteJs, S: SourceMapper, C: Comments> Emitter<'_, W, S, C> {
     fn module_decl_by<N: LinkTarget>(&mut self, node: &ModuleDecl<N>)
         ensures items { Performs (module_decl_by N.answers N.items node.now)
             S.lines C.maps W.sheet self.old self.new }
-        ensures level { KeepsLevel S.lines C.maps W.sheet self.old self.new }
     {
         match node {
             ModuleDecl::Import(node) => node.emit_at(self, Place::Plain),
@@ -262,7 +251,6 @@ impl<W: WriteJs, S: SourceMapper, C: Comments> Emitter<'_, W, S, C> {
     fn module_item_by<N: LinkTarget>(&mut self, node: &ModuleItem<N>)
         ensures items { Performs (module_item_by N.answers N.items node.now)
             S.lines C.maps W.sheet self.old self.new }
-        ensures level { KeepsLevel S.lines C.maps W.sheet self.old self.new }
     {
         match node {
             ModuleItem::ModuleDecl(node) => node.target().emit_at(self, Place::Plain),

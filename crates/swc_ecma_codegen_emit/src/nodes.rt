@@ -2,7 +2,7 @@
 
 ghost use Rattle.std.specs.Prelude.{◌≡◌};
 ghost use Rattle.swc_ecma_codegen_tokens.specs.Run.{Part};
-ghost use Rattle.swc_ecma_codegen_emit.specs.Standing.{Performs, KeepsLevel};
+ghost use Rattle.swc_ecma_codegen_emit.specs.Standing.{Performs};
 ghost use Rattle.swc_ecma_codegen_emit.specs.declared.nodes.Place.{Place as At};
 ghost use Rattle.swc_ecma_codegen_emit.specs.Answers.{Answers, reply_of};
 ghost use Rattle.swc_ecma_codegen_common.specs.declared.positions.Span.{Span as Stretch};
@@ -204,8 +204,7 @@ pub trait EmitAt {
         e: &mut Emitter<'_, W, S, C>,
         place: Place,
     )
-        ensures items { Performs (items self.now place) S.lines C.maps W.sheet e.old e.new }
-        ensures level { KeepsLevel S.lines C.maps W.sheet e.old e.new };
+        ensures items { Performs (items self.now place) S.lines C.maps W.sheet e.old e.new };
 }
 
 /// What a list has to know of a child, besides how it is printed.

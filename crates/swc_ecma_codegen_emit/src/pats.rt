@@ -2,7 +2,7 @@
 
 ghost use Rattle.std.specs.Prelude.{◌≡◌};
 ghost use Rattle.swc_ecma_codegen_spans.specs.Spans.{pat_span, object_pat_prop_span};
-ghost use Rattle.swc_ecma_codegen_emit.specs.Standing.{Performs, KeepsLevel};
+ghost use Rattle.swc_ecma_codegen_emit.specs.Standing.{Performs};
 ghost use Rattle.swc_ecma_codegen_emit.specs.Answers.{place_of};
 ghost use Rattle.swc_ecma_codegen_emit.specs.Pats.{initializer, array_pat_format, array_pat_elements, array_pat, rest_pat, assign_pat, key_value_pat_prop, assign_pat_prop, object_pat_prop, object_pat_format, object_pat_props, object_pat, pat, definite_ident, definite_pat, declared_pat, assign_target_pat};
 
@@ -238,7 +238,6 @@ impl<W: WriteJs, S: SourceMapper, C: Comments> Emitter<'_, W, S, C> {
     fn array_pat_elements<N: LinkTarget>(&mut self, node: &ArrayPat<N>)
         ensures items { Performs (array_pat_elements N.answers N.items node.now)
             S.lines C.maps W.sheet self.old self.new }
-        ensures level { KeepsLevel S.lines C.maps W.sheet self.old self.new }
     {
         let format = array_pat_format(ends_with_hole(&node.elems));
         self.list(format, node.span, &node.elems)
@@ -248,7 +247,6 @@ impl<W: WriteJs, S: SourceMapper, C: Comments> Emitter<'_, W, S, C> {
     fn object_pat_props<N: LinkTarget>(&mut self, node: &ObjectPat<N>)
         ensures items { Performs (object_pat_props N.answers N.items node.now)
             S.lines C.maps W.sheet self.old self.new }
-        ensures level { KeepsLevel S.lines C.maps W.sheet self.old self.new }
     {
         self.list(object_pat_format(), node.span, &node.props)
     }
@@ -258,7 +256,6 @@ impl<W: WriteJs, S: SourceMapper, C: Comments> Emitter<'_, W, S, C> {
     fn definite_ident<N: LinkTarget>(&mut self, node: &BindingIdent<N>)
         ensures items { Performs (definite_ident N.items node.now)
             S.lines C.maps W.sheet self.old self.new }
-        ensures level { KeepsLevel S.lines C.maps W.sheet self.old self.new }
     {
         node.id.emit_at(self, Place::Plain);
         self.punct(Punctuator::Bang);
@@ -271,7 +268,6 @@ impl<W: WriteJs, S: SourceMapper, C: Comments> Emitter<'_, W, S, C> {
     fn definite_pat<N: LinkTarget>(&mut self, node: &Pat<N>)
         ensures items { Performs (definite_pat N.answers N.items node.now)
             S.lines C.maps W.sheet self.old self.new }
-        ensures level { KeepsLevel S.lines C.maps W.sheet self.old self.new }
     {
         match node {
             Pat::Ident(node) => self.definite_ident(node),
@@ -284,7 +280,6 @@ impl<W: WriteJs, S: SourceMapper, C: Comments> Emitter<'_, W, S, C> {
     pub(crate) fn declared_pat<N: LinkTarget>(&mut self, definite: bool, node: &Pat<N>)
         ensures items { Performs (declared_pat N.answers N.items definite node.now)
             S.lines C.maps W.sheet self.old self.new }
-        ensures level { KeepsLevel S.lines C.maps W.sheet self.old self.new }
     {
         if definite {
             return self.definite_pat(node);
@@ -297,7 +292,6 @@ impl<W: WriteJs, S: SourceMapper, C: Comments> Emitter<'_, W, S, C> {
     pub(crate) fn initializer<N: LinkTarget>(&mut self, value: &Option<ExprBox<N>>)
         ensures items { Performs (initializer N.items value.now)
             S.lines C.maps W.sheet self.old self.new }
-        ensures level { KeepsLevel S.lines C.maps W.sheet self.old self.new }
     {
         match value {
             Some(value) => {

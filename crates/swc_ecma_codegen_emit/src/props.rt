@@ -4,7 +4,7 @@ ghost use Rattle.std.specs.Prelude.{◌≡◌, true};
 ghost use Rattle.swc_ecma_codegen_grammar.specs.FunctionPhrases.{is_some_listed};
 ghost use Rattle.swc_ecma_codegen_spans.specs.Spans.{prop_or_spread_span};
 ghost use Rattle.swc_ecma_codegen_tokens.specs.Lists.{list};
-ghost use Rattle.swc_ecma_codegen_emit.specs.Standing.{Performs, KeepsLevel};
+ghost use Rattle.swc_ecma_codegen_emit.specs.Standing.{Performs};
 ghost use Rattle.swc_ecma_codegen_tokens.specs.Starts.{begins_letter};
 ghost use Rattle.swc_ecma_codegen_emit.specs.Answers.{place_of};
 ghost use Rattle.swc_ecma_codegen_emit.specs.Names.{prop_name};
@@ -225,7 +225,6 @@ impl<W: WriteJs, S: SourceMapper, C: Comments> Emitter<'_, W, S, C> {
     #[tactic(auto, unfolding(crate::specs::Props::key_end))]
     fn key_end(&mut self, name: Span, value: Span)
         ensures items { Performs (key_end name value) S.lines C.maps W.sheet self.old self.new }
-        ensures level { KeepsLevel S.lines C.maps W.sheet self.old self.new }
     {
         if name.lo.0 != 0 && value.lo.0 == 0 {
             self.position(name.hi);
@@ -236,7 +235,6 @@ impl<W: WriteJs, S: SourceMapper, C: Comments> Emitter<'_, W, S, C> {
     #[tactic(auto, unfolding(crate::specs::Props::value_start))]
     fn value_start(&mut self, name: Span, value: Span)
         ensures items { Performs (value_start name value) S.lines C.maps W.sheet self.old self.new }
-        ensures level { KeepsLevel S.lines C.maps W.sheet self.old self.new }
     {
         if name.lo.0 == 0 {
             self.position(value.lo);
@@ -249,7 +247,6 @@ impl<W: WriteJs, S: SourceMapper, C: Comments> Emitter<'_, W, S, C> {
         requires { begins_letter word.now ≡ true }
         ensures items { Performs (accessor N.answers N.items word.now name.now.node.value)
             S.lines C.maps W.sheet self.old self.new }
-        ensures level { KeepsLevel S.lines C.maps W.sheet self.old self.new }
     {
         self.keyword(None, word);
         self.blank(name.target().starts());
@@ -262,7 +259,6 @@ impl<W: WriteJs, S: SourceMapper, C: Comments> Emitter<'_, W, S, C> {
     fn tight_annotation<N: LinkTarget>(&mut self, ty: &Option<TsTypeAnnBox<N>>)
         ensures items { Performs (tight_annotation N.items ty.now)
             S.lines C.maps W.sheet self.old self.new }
-        ensures level { KeepsLevel S.lines C.maps W.sheet self.old self.new }
     {
         match ty {
             Some(node) => {
@@ -278,7 +274,6 @@ impl<W: WriteJs, S: SourceMapper, C: Comments> Emitter<'_, W, S, C> {
     fn this_param<N: LinkTarget>(&mut self, param: &Option<PatBox<N>>)
         ensures items { Performs (this_param N.items param.now)
             S.lines C.maps W.sheet self.old self.new }
-        ensures level { KeepsLevel S.lines C.maps W.sheet self.old self.new }
     {
         match param {
             Some(node) => {
@@ -295,7 +290,6 @@ impl<W: WriteJs, S: SourceMapper, C: Comments> Emitter<'_, W, S, C> {
     fn optional_body<N: LinkTarget>(&mut self, body: &Option<BlockStmtBox<N>>)
         ensures items { Performs (optional_body N.items body.now)
             S.lines C.maps W.sheet self.old self.new }
-        ensures level { KeepsLevel S.lines C.maps W.sheet self.old self.new }
     {
         match body {
             Some(body) => body.target().emit_at(self, Place::Plain),
@@ -307,7 +301,6 @@ impl<W: WriteJs, S: SourceMapper, C: Comments> Emitter<'_, W, S, C> {
     fn flat_object_props<N: LinkTarget>(&mut self, node: &ObjectLit<N>)
         ensures items { Performs (list flat_object_format node.now.span
             (object_children N.answers N.items node.now)) S.lines C.maps W.sheet self.old self.new }
-        ensures level { KeepsLevel S.lines C.maps W.sheet self.old self.new }
     {
         self.list(flat_object_format(), node.span, &node.props)
     }
@@ -316,7 +309,6 @@ impl<W: WriteJs, S: SourceMapper, C: Comments> Emitter<'_, W, S, C> {
     fn object_props<N: LinkTarget>(&mut self, node: &ObjectLit<N>)
         ensures items { Performs (list object_format node.now.span
             (object_children N.answers N.items node.now)) S.lines C.maps W.sheet self.old self.new }
-        ensures level { KeepsLevel S.lines C.maps W.sheet self.old self.new }
     {
         self.list(object_format(), node.span, &node.props)
     }
@@ -326,7 +318,6 @@ impl<W: WriteJs, S: SourceMapper, C: Comments> Emitter<'_, W, S, C> {
     fn lined_object_list<N: LinkTarget>(&mut self, node: &ObjectLit<N>)
         ensures items { Performs (lined_object_list node.now.span
             (object_children N.answers N.items node.now)) S.lines C.maps W.sheet self.old self.new }
-        ensures level { KeepsLevel S.lines C.maps W.sheet self.old self.new }
     {
         self.line();
         self.object_props(node);
@@ -338,7 +329,6 @@ impl<W: WriteJs, S: SourceMapper, C: Comments> Emitter<'_, W, S, C> {
     fn object_lines<N: LinkTarget>(&mut self, some: bool, node: &ObjectLit<N>)
         ensures items { Performs (object_lines some node.now.span
             (object_children N.answers N.items node.now)) S.lines C.maps W.sheet self.old self.new }
-        ensures level { KeepsLevel S.lines C.maps W.sheet self.old self.new }
     {
         if some {
             self.lined_object_list(node);
@@ -351,7 +341,6 @@ impl<W: WriteJs, S: SourceMapper, C: Comments> Emitter<'_, W, S, C> {
     fn pretty_object_list<N: LinkTarget>(&mut self, some: bool, node: &ObjectLit<N>)
         ensures items { Performs (object_lines some node.now.span
             (object_children N.answers N.items node.now)) S.lines C.maps W.sheet self.old self.new }
-        ensures level { KeepsLevel S.lines C.maps W.sheet self.old self.new }
     {
         self.object_lines(some, node)
     }
@@ -361,7 +350,6 @@ impl<W: WriteJs, S: SourceMapper, C: Comments> Emitter<'_, W, S, C> {
     fn object_list<N: LinkTarget>(&mut self, some: bool, node: &ObjectLit<N>)
         ensures items { Performs (object_list some node.now.span
             (object_children N.answers N.items node.now)) S.lines C.maps W.sheet self.old self.new }
-        ensures level { KeepsLevel S.lines C.maps W.sheet self.old self.new }
     {
         if self.cfg.minify {
             return self.flat_object_props(node);
@@ -373,7 +361,6 @@ impl<W: WriteJs, S: SourceMapper, C: Comments> Emitter<'_, W, S, C> {
     fn object_by_maps<N: LinkTarget>(&mut self, node: &ObjectLit<N>)
         ensures items { Performs (object_by_maps (is_some_listed node.now.props.items) node.now.span
             (object_children N.answers N.items node.now)) S.lines C.maps W.sheet self.old self.new }
-        ensures level { KeepsLevel S.lines C.maps W.sheet self.old self.new }
     {
         let some = wants_lines(&self.comments, is_some_listed(&node.props), node.span);
         self.object_list(some, node)

@@ -3,7 +3,7 @@
 ghost use Rattle.std.specs.Prelude.{◌≡◌, Bool, false, [], map, filter};
 ghost use Rattle.std.specs.List.{list_any};
 ghost use Rattle.swc_ecma_codegen_grammar.specs.ListFormats.{indented};
-ghost use Rattle.swc_ecma_codegen_emit.specs.Standing.{Performs, KeepsLevel};
+ghost use Rattle.swc_ecma_codegen_emit.specs.Standing.{Performs};
 ghost use Rattle.swc_ecma_codegen_tokens.specs.Lists.{list};
 ghost use Rattle.swc_ecma_codegen_emit.specs.Lists.{child_of, braced_child, braced_rest};
 
@@ -46,7 +46,7 @@ pub(crate) fn has_star<T: Specifier>(specifiers: &[T]) -> bool
 
 impl<W: WriteJs, S: SourceMapper, C: Comments> Emitter<'_, W, S, C> {
     /// Writes one among the braces, after one that stands at `previous` where there is one.
-    #[tactic(auto, using(crate::proofs::Steps::no_levels), unfolding(crate::specs::Lists::braced_child))]
+    #[tactic(auto, using(crate::proofs::Steps::no_levels, crate::proofs::Standings::not_deeper), unfolding(crate::specs::Lists::braced_child))]
     fn braced_child<T: Child>(
         &mut self,
         format: ListFormat,
@@ -57,7 +57,6 @@ impl<W: WriteJs, S: SourceMapper, C: Comments> Emitter<'_, W, S, C> {
         requires { indented format.0 ≡ false }
         ensures items { Performs (braced_child format.0 parent previous
             (child_of T.stands T.items child.now)) S.lines C.maps W.sheet self.old self.new }
-        ensures level { KeepsLevel S.lines C.maps W.sheet self.old self.new }
     {
         match previous {
             None => {
@@ -70,12 +69,11 @@ impl<W: WriteJs, S: SourceMapper, C: Comments> Emitter<'_, W, S, C> {
     }
 
     /// Writes what closes the list, after one that stands at `previous` where there is one.
-    #[tactic(auto, using(crate::proofs::Steps::no_levels), unfolding(crate::specs::Lists::braced_rest, swc_ecma_codegen_tokens::specs::Lists::more_children, swc_ecma_codegen_tokens::specs::Lists::last_place))]
+    #[tactic(auto, using(crate::proofs::Steps::no_levels, crate::proofs::Standings::not_shallower), unfolding(crate::specs::Lists::braced_rest, swc_ecma_codegen_tokens::specs::Lists::more_children, swc_ecma_codegen_tokens::specs::Lists::last_place))]
     fn braced_end(&mut self, format: ListFormat, parent: Span, previous: Option<Span>)
         requires { indented format.0 ≡ false }
         ensures items { Performs (braced_rest format.0 parent previous [])
             S.lines C.maps W.sheet self.old self.new }
-        ensures level { KeepsLevel S.lines C.maps W.sheet self.old self.new }
     {
         match previous {
             None => {
@@ -99,7 +97,6 @@ impl<W: WriteJs, S: SourceMapper, C: Comments> Emitter<'_, W, S, C> {
         ensures items { Performs (list format.0 parent
             (map (child_of T.stands T.items) (filter T.braced specifiers.now)))
             S.lines C.maps W.sheet self.old self.new }
-        ensures level { KeepsLevel S.lines C.maps W.sheet self.old self.new }
     {
         let mut previous = None;
         for specifier in specifiers {

@@ -7,7 +7,7 @@ ghost use Rattle.swc_ecma_codegen_emit.specs.Answers.{place_of};
 ghost use Rattle.swc_ecma_codegen_emit.specs.Branches.{is_block};
 ghost use Rattle.swc_ecma_codegen_emit.specs.Lists.{in_order};
 ghost use Rattle.swc_ecma_codegen_tokens.specs.Run.{with_max_line};
-ghost use Rattle.swc_ecma_codegen_emit.specs.Standing.{Performs, KeepsLevel};
+ghost use Rattle.swc_ecma_codegen_emit.specs.Standing.{Performs};
 ghost use Rattle.swc_ecma_codegen_tokens.specs.Starts.{begins_letter};
 ghost use Rattle.swc_ecma_codegen_tokens.specs.Words.{trailing_comments};
 ghost use Rattle.swc_ecma_codegen_emit.specs.Stmts.{enclosed, spaced, argument, argument_in, stmt_word, spaced_word, jump, empty_stmt, expr_stmt, debugger_stmt, with_stmt, return_arg, return_stmt, labeled_stmt, break_stmt, continue_stmt, else_branch, if_stmt, catch_param, catch_clause, handler, finalizer, try_stmt, throw_stmt, stmt_parts, stmt_closed, stmt};
@@ -37,7 +37,6 @@ fn stmt_parts<N: LinkTarget, W: WriteJs, S: SourceMapper, C: Comments>(
 )
     ensures items { Performs (stmt_parts N.answers N.items node.now)
         S.lines C.maps W.sheet e.old e.new }
-    ensures level { KeepsLevel S.lines C.maps W.sheet e.old e.new }
 {
     match node {
         Stmt::Expr(node) => node.emit_at(e, Place::Plain),
@@ -314,7 +313,6 @@ impl<W: WriteJs, S: SourceMapper, C: Comments> Emitter<'_, W, S, C> {
     fn broken_script<N: LinkTarget>(&mut self, node: &Script<N>, max: u32)
         ensures items { Performs (with_max_line (Some max)
             (script_parts N.answers N.items node.now)) S.lines C.maps W.sheet self.old self.new }
-        ensures level { KeepsLevel S.lines C.maps W.sheet self.old self.new }
     {
         let max_line = self.cfg.max_line;
         self.cfg.max_line = Some(max);
@@ -327,7 +325,6 @@ impl<W: WriteJs, S: SourceMapper, C: Comments> Emitter<'_, W, S, C> {
     fn script_parts<N: LinkTarget>(&mut self, node: &Script<N>)
         ensures items { Performs (script_parts N.answers N.items node.now)
             S.lines C.maps W.sheet self.old self.new }
-        ensures level { KeepsLevel S.lines C.maps W.sheet self.old self.new }
     {
         self.program_start(&node.shebang, &node.body, node.span);
         self.stmts(&node.body);
@@ -339,7 +336,6 @@ impl<W: WriteJs, S: SourceMapper, C: Comments> Emitter<'_, W, S, C> {
     fn stmts<N: LinkTarget>(&mut self, nodes: &[Stmt<N>])
         ensures items { Performs (in_order (stmt N.answers N.items) nodes.now)
             S.lines C.maps W.sheet self.old self.new }
-        ensures level { KeepsLevel S.lines C.maps W.sheet self.old self.new }
     {
         self.in_order(nodes)
     }
@@ -349,7 +345,6 @@ impl<W: WriteJs, S: SourceMapper, C: Comments> Emitter<'_, W, S, C> {
     fn stmt_closed<N: LinkTarget>(&mut self, node: &Stmt<N>)
         ensures items { Performs (stmt_closed (is_block node.now)
             (stmt_span (place_of N.answers) node.now)) S.lines C.maps W.sheet self.old self.new }
-        ensures level { KeepsLevel S.lines C.maps W.sheet self.old self.new }
     {
         if is_block(node) {
             return;
@@ -364,7 +359,6 @@ impl<W: WriteJs, S: SourceMapper, C: Comments> Emitter<'_, W, S, C> {
     fn stmt_comments<N: LinkTarget>(&mut self, node: &Stmt<N>)
         ensures items { Performs (trailing_comments true
             (stmt_span (place_of N.answers) node.now).hi) S.lines C.maps W.sheet self.old self.new }
-        ensures level { KeepsLevel S.lines C.maps W.sheet self.old self.new }
     {
         if self.comments.is_none() {
             return;
@@ -377,7 +371,6 @@ impl<W: WriteJs, S: SourceMapper, C: Comments> Emitter<'_, W, S, C> {
     pub(crate) fn enclosed<N: LinkTarget>(&mut self, node: &ExprBox<N>)
         ensures items { Performs (enclosed N.items node.now)
             S.lines C.maps W.sheet self.old self.new }
-        ensures level { KeepsLevel S.lines C.maps W.sheet self.old self.new }
     {
         self.punct(Punctuator::LeftParenthesis);
         node.target().emit_at(self, Place::Plain);
@@ -389,7 +382,6 @@ impl<W: WriteJs, S: SourceMapper, C: Comments> Emitter<'_, W, S, C> {
     pub(crate) fn spaced<N: LinkTarget>(&mut self, node: &N)
         ensures items { Performs (spaced N.answers N.items node.now)
             S.lines C.maps W.sheet self.old self.new }
-        ensures level { KeepsLevel S.lines C.maps W.sheet self.old self.new }
     {
         self.blank(node.starts());
         node.emit_at(self, Place::Plain);
@@ -400,7 +392,6 @@ impl<W: WriteJs, S: SourceMapper, C: Comments> Emitter<'_, W, S, C> {
     fn argument<N: LinkTarget>(&mut self, node: &N)
         ensures items { Performs (argument N.answers N.items node.now)
             S.lines C.maps W.sheet self.old self.new }
-        ensures level { KeepsLevel S.lines C.maps W.sheet self.old self.new }
     {
         let breaks = node.breaks(&self.comments);
         self.argument_in(breaks, node)
@@ -411,7 +402,6 @@ impl<W: WriteJs, S: SourceMapper, C: Comments> Emitter<'_, W, S, C> {
     fn argument_in<N: LinkTarget>(&mut self, breaks: bool, node: &N)
         ensures items { Performs (argument_in N.answers N.items node.now breaks)
             S.lines C.maps W.sheet self.old self.new }
-        ensures level { KeepsLevel S.lines C.maps W.sheet self.old self.new }
     {
         if breaks {
             self.punct(Punctuator::LeftParenthesis);
@@ -428,7 +418,6 @@ impl<W: WriteJs, S: SourceMapper, C: Comments> Emitter<'_, W, S, C> {
         requires { begins_letter text.now ≡ true }
         ensures items { Performs (stmt_word span text.now)
             S.lines C.maps W.sheet self.old self.new }
-        ensures level { KeepsLevel S.lines C.maps W.sheet self.old self.new }
     {
         self.commit_pending_semi();
         self.opened(span);
@@ -441,7 +430,6 @@ impl<W: WriteJs, S: SourceMapper, C: Comments> Emitter<'_, W, S, C> {
         requires { begins_letter text.now ≡ true }
         ensures items { Performs (spaced_word span text.now)
             S.lines C.maps W.sheet self.old self.new }
-        ensures level { KeepsLevel S.lines C.maps W.sheet self.old self.new }
     {
         self.leading_comments(span.lo);
         self.commit_pending_semi();
@@ -456,7 +444,6 @@ impl<W: WriteJs, S: SourceMapper, C: Comments> Emitter<'_, W, S, C> {
         requires { begins_letter text.now ≡ true }
         ensures items { Performs (jump span text.now label.now)
             S.lines C.maps W.sheet self.old self.new }
-        ensures level { KeepsLevel S.lines C.maps W.sheet self.old self.new }
     {
         self.commit_pending_semi();
         self.start_of(span);
@@ -470,7 +457,6 @@ impl<W: WriteJs, S: SourceMapper, C: Comments> Emitter<'_, W, S, C> {
     fn return_arg<N: LinkTarget>(&mut self, arg: &Option<ExprBox<N>>)
         ensures items { Performs (return_arg N.answers N.items arg.now)
             S.lines C.maps W.sheet self.old self.new }
-        ensures level { KeepsLevel S.lines C.maps W.sheet self.old self.new }
     {
         match arg {
             Some(node) => self.argument(node.target()),
@@ -483,7 +469,6 @@ impl<W: WriteJs, S: SourceMapper, C: Comments> Emitter<'_, W, S, C> {
     fn else_branch<N: LinkTarget>(&mut self, block: bool, alt: &Option<StmtBox<N>>)
         ensures items { Performs (else_branch N.answers N.items block alt.now)
             S.lines C.maps W.sheet self.old self.new }
-        ensures level { KeepsLevel S.lines C.maps W.sheet self.old self.new }
     {
         match alt {
             Some(node) => {
@@ -499,7 +484,6 @@ impl<W: WriteJs, S: SourceMapper, C: Comments> Emitter<'_, W, S, C> {
     #[tactic(auto, unfolding(swc_ecma_codegen_tokens::specs::Lists::blank_if))]
     fn blank_if(&mut self, wanted: bool)
         ensures items { Performs (blank_if wanted) S.lines C.maps W.sheet self.old self.new }
-        ensures level { KeepsLevel S.lines C.maps W.sheet self.old self.new }
     {
         if wanted {
             self.formatting_space();
@@ -511,7 +495,6 @@ impl<W: WriteJs, S: SourceMapper, C: Comments> Emitter<'_, W, S, C> {
     fn catch_param<N: LinkTarget>(&mut self, param: &Option<PatBox<N>>)
         ensures items { Performs (catch_param N.items param.now)
             S.lines C.maps W.sheet self.old self.new }
-        ensures level { KeepsLevel S.lines C.maps W.sheet self.old self.new }
     {
         match param {
             Some(node) => {
@@ -528,7 +511,6 @@ impl<W: WriteJs, S: SourceMapper, C: Comments> Emitter<'_, W, S, C> {
     fn handler<N: LinkTarget>(&mut self, node: &Option<CatchClause<N>>)
         ensures items { Performs (handler N.items node.now)
             S.lines C.maps W.sheet self.old self.new }
-        ensures level { KeepsLevel S.lines C.maps W.sheet self.old self.new }
     {
         match node {
             Some(node) => {
@@ -544,7 +526,6 @@ impl<W: WriteJs, S: SourceMapper, C: Comments> Emitter<'_, W, S, C> {
     fn finalizer<N: LinkTarget>(&mut self, node: &Option<BlockStmtBox<N>>)
         ensures items { Performs (finalizer N.items node.now)
             S.lines C.maps W.sheet self.old self.new }
-        ensures level { KeepsLevel S.lines C.maps W.sheet self.old self.new }
     {
         match node {
             Some(node) => {
@@ -561,7 +542,6 @@ impl<W: WriteJs, S: SourceMapper, C: Comments> Emitter<'_, W, S, C> {
     pub(crate) fn program_start<T>(&mut self, shebang: &Option<String>, body: &[T], span: Span)
         ensures items { Performs (program_start shebang.now body.now span)
             S.lines C.maps W.sheet self.old self.new }
-        ensures level { KeepsLevel S.lines C.maps W.sheet self.old self.new }
     {
         match shebang {
             Some(text) => {
@@ -581,7 +561,6 @@ impl<W: WriteJs, S: SourceMapper, C: Comments> Emitter<'_, W, S, C> {
     fn start_if_empty<T>(&mut self, body: &[T], span: Span)
         ensures items { Performs (start_if_empty body.now span)
             S.lines C.maps W.sheet self.old self.new }
-        ensures level { KeepsLevel S.lines C.maps W.sheet self.old self.new }
     {
         match body {
             [] => self.start_of(span),

@@ -2,7 +2,7 @@
 
 ghost use Rattle.std.specs.Prelude.{◌≡◌, true};
 ghost use Rattle.swc_ecma_codegen_grammar.specs.TemplatePhrases.{is_counted, part_before};
-ghost use Rattle.swc_ecma_codegen_emit.specs.Standing.{Performs, KeepsLevel};
+ghost use Rattle.swc_ecma_codegen_emit.specs.Standing.{Performs};
 ghost use Rattle.swc_ecma_codegen_tokens.specs.Templates.{tpl_element, quasi};
 ghost use Rattle.swc_ecma_codegen_emit.specs.Lists.{plainly};
 ghost use Rattle.swc_ecma_codegen_emit.specs.Exprs.{held};
@@ -105,7 +105,6 @@ impl<W: WriteJs, S: SourceMapper, C: Comments> Emitter<'_, W, S, C> {
     #[tactic(auto, using(crate::proofs::Standings::refused_makes), unfolding(crate::specs::Templates::bad_shape))]
     pub(crate) fn bad_shape(&mut self)
         ensures items { Performs bad_shape S.lines C.maps W.sheet self.old self.new }
-        ensures level { KeepsLevel S.lines C.maps W.sheet self.old self.new }
     {
         if self.refusal.is_some() {
             return;
@@ -123,7 +122,6 @@ impl<W: WriteJs, S: SourceMapper, C: Comments> Emitter<'_, W, S, C> {
     fn tpl_element(&mut self, first: bool, part: TemplatePart, node: &TplElement)
         ensures items { Performs (tpl_element first part node.now)
             S.lines C.maps W.sheet self.old self.new }
-        ensures level { KeepsLevel S.lines C.maps W.sheet self.old self.new }
     {
         if self.refusal.is_some() {
             return;
@@ -140,7 +138,6 @@ impl<W: WriteJs, S: SourceMapper, C: Comments> Emitter<'_, W, S, C> {
     fn tpl_rest<T: EmitAt>(&mut self, tagged: bool, nodes: &[T], quasis: &[TplElement])
         ensures items { Performs (tpl_rest (plainly T.items) tagged nodes.now quasis.now)
             S.lines C.maps W.sheet self.old self.new }
-        ensures level { KeepsLevel S.lines C.maps W.sheet self.old self.new }
     {
         let mut left = quasis;
         for node in nodes {
@@ -159,7 +156,6 @@ impl<W: WriteJs, S: SourceMapper, C: Comments> Emitter<'_, W, S, C> {
     fn tpl_all<T: EmitAt>(&mut self, tagged: bool, nodes: &[T], quasis: &[TplElement])
         ensures items { Performs (tpl_all (plainly T.items) tagged nodes.now quasis.now)
             S.lines C.maps W.sheet self.old self.new }
-        ensures level { KeepsLevel S.lines C.maps W.sheet self.old self.new }
     {
         match quasis {
             [quasi, quasis @ ..] => {
@@ -174,7 +170,6 @@ impl<W: WriteJs, S: SourceMapper, C: Comments> Emitter<'_, W, S, C> {
     pub(crate) fn tpl_parts<T: EmitAt>(&mut self, tagged: bool, nodes: &[T], quasis: &[TplElement])
         ensures items { Performs (tpl_parts (plainly T.items) tagged nodes.now quasis.now)
             S.lines C.maps W.sheet self.old self.new }
-        ensures level { KeepsLevel S.lines C.maps W.sheet self.old self.new }
     {
         let max_line = self.cfg.max_line;
         self.cfg.max_line = None;
@@ -191,7 +186,6 @@ impl<W: WriteJs, S: SourceMapper, C: Comments> Emitter<'_, W, S, C> {
     )
         ensures items { Performs (tpl_parts (held N.items) tagged exprs.now quasis.now)
             S.lines C.maps W.sheet self.old self.new }
-        ensures level { KeepsLevel S.lines C.maps W.sheet self.old self.new }
     {
         self.tpl_parts(tagged, exprs, quasis)
     }

@@ -4,7 +4,7 @@ ghost use Rattle.std.specs.Prelude.{◌≡◌, ◌<◌, Option, true};
 ghost use Rattle.swc_ecma_codegen_literals.specs.Punctuators.{spelling};
 ghost use Rattle.swc_ecma_codegen_tokens.specs.Starts.{begins_letter};
 ghost use Rattle.swc_ecma_codegen_tokens.specs.PrivateNames.{private_name};
-ghost use Rattle.swc_ecma_codegen_emit.specs.Standing.{Deepens, Rises, HasLevels, standing_of, Performs, KeepsLevel};
+ghost use Rattle.swc_ecma_codegen_emit.specs.Standing.{HasLevels, standing_of, Performs, PerformsDeeper, PerformsShallower};
 ghost use Rattle.swc_ecma_codegen_tokens.specs.Words.{allow_break, bare_punct, bare_semi, begin_lines, end_lines, keyword, operator, operator_between, punct_between, word_operator, punct, placed_punct, semi, space, formatting_space, formatting_line, line_end, commit_pending_semi, position, position_before, start_of, end_of, last_of, leading_comments, trailing_comments, comments_before_end, name};
 ghost use Rattle.swc_ecma_codegen_tokens.specs.Keys.{key};
 ghost use Rattle.swc_ecma_codegen_tokens.specs.Literals.{hashbang};
@@ -27,7 +27,6 @@ impl<W: WriteJs, S: SourceMapper, C: Comments> Emitter<'_, W, S, C> {
     #[tactic(auto, using(crate::proofs::Standings::refused_makes), unfolding(crate::specs::Lists::unsupported))]
     pub(crate) fn unsupported(&mut self)
         ensures items { Performs unsupported S.lines C.maps W.sheet self.old self.new }
-        ensures level { KeepsLevel S.lines C.maps W.sheet self.old self.new }
     {
         if self.refusal.is_some() {
             return;
@@ -45,7 +44,6 @@ impl<W: WriteJs, S: SourceMapper, C: Comments> Emitter<'_, W, S, C> {
     pub(crate) fn keyword(&mut self, span: Option<Span>, text: &'static str)
         requires { begins_letter text.now ≡ true }
         ensures items { Performs (keyword span text.now) S.lines C.maps W.sheet self.old self.new }
-        ensures level { KeepsLevel S.lines C.maps W.sheet self.old self.new }
     {
         if self.refusal.is_some() {
             return;
@@ -62,7 +60,6 @@ impl<W: WriteJs, S: SourceMapper, C: Comments> Emitter<'_, W, S, C> {
     pub(crate) fn operator(&mut self, mark: Punctuator)
         ensures items { Performs (operator (spelling mark))
             S.lines C.maps W.sheet self.old self.new }
-        ensures level { KeepsLevel S.lines C.maps W.sheet self.old self.new }
     {
         if self.refusal.is_some() {
             return;
@@ -79,7 +76,6 @@ impl<W: WriteJs, S: SourceMapper, C: Comments> Emitter<'_, W, S, C> {
     pub(crate) fn word_operator(&mut self, text: &'static str)
         requires { begins_letter text.now ≡ true }
         ensures items { Performs (word_operator text.now) S.lines C.maps W.sheet self.old self.new }
-        ensures level { KeepsLevel S.lines C.maps W.sheet self.old self.new }
     {
         if self.refusal.is_some() {
             return;
@@ -95,7 +91,6 @@ impl<W: WriteJs, S: SourceMapper, C: Comments> Emitter<'_, W, S, C> {
     #[tactic(auto, using(crate::proofs::Standings::refused_makes))]
     pub(crate) fn punct(&mut self, mark: Punctuator)
         ensures items { Performs (punct (spelling mark)) S.lines C.maps W.sheet self.old self.new }
-        ensures level { KeepsLevel S.lines C.maps W.sheet self.old self.new }
     {
         if self.refusal.is_some() {
             return;
@@ -112,7 +107,6 @@ impl<W: WriteJs, S: SourceMapper, C: Comments> Emitter<'_, W, S, C> {
     pub(crate) fn bare_punct(&mut self, mark: Punctuator)
         ensures items { Performs (bare_punct (spelling mark))
             S.lines C.maps W.sheet self.old self.new }
-        ensures level { KeepsLevel S.lines C.maps W.sheet self.old self.new }
     {
         if self.refusal.is_some() {
             return;
@@ -127,7 +121,6 @@ impl<W: WriteJs, S: SourceMapper, C: Comments> Emitter<'_, W, S, C> {
     #[tactic(auto, using(crate::proofs::Standings::refused_makes))]
     pub(crate) fn bare_semi(&mut self)
         ensures items { Performs bare_semi S.lines C.maps W.sheet self.old self.new }
-        ensures level { KeepsLevel S.lines C.maps W.sheet self.old self.new }
     {
         if self.refusal.is_some() {
             return;
@@ -143,7 +136,6 @@ impl<W: WriteJs, S: SourceMapper, C: Comments> Emitter<'_, W, S, C> {
     #[tactic(auto, using(crate::proofs::Standings::refused_makes))]
     pub(crate) fn allow_break(&mut self)
         ensures items { Performs allow_break S.lines C.maps W.sheet self.old self.new }
-        ensures level { KeepsLevel S.lines C.maps W.sheet self.old self.new }
     {
         if self.refusal.is_some() {
             return;
@@ -158,7 +150,6 @@ impl<W: WriteJs, S: SourceMapper, C: Comments> Emitter<'_, W, S, C> {
     #[tactic(auto, using(crate::proofs::Standings::refused_makes))]
     pub(crate) fn begin_lines(&mut self, max: u32)
         ensures items { Performs (begin_lines max) S.lines C.maps W.sheet self.old self.new }
-        ensures level { KeepsLevel S.lines C.maps W.sheet self.old self.new }
         ensures settings { self.new.cfg ≡ self.old.cfg }
     {
         if self.refusal.is_some() {
@@ -174,7 +165,6 @@ impl<W: WriteJs, S: SourceMapper, C: Comments> Emitter<'_, W, S, C> {
     #[tactic(auto, using(crate::proofs::Standings::refused_makes))]
     pub(crate) fn end_lines(&mut self)
         ensures items { Performs end_lines S.lines C.maps W.sheet self.old self.new }
-        ensures level { KeepsLevel S.lines C.maps W.sheet self.old self.new }
     {
         if self.refusal.is_some() {
             return;
@@ -191,7 +181,6 @@ impl<W: WriteJs, S: SourceMapper, C: Comments> Emitter<'_, W, S, C> {
     pub(crate) fn placed_punct(&mut self, span: Span, mark: Punctuator)
         ensures items { Performs (placed_punct span (spelling mark))
             S.lines C.maps W.sheet self.old self.new }
-        ensures level { KeepsLevel S.lines C.maps W.sheet self.old self.new }
     {
         if self.refusal.is_some() {
             return;
@@ -208,7 +197,6 @@ impl<W: WriteJs, S: SourceMapper, C: Comments> Emitter<'_, W, S, C> {
     #[tactic(auto, using(crate::proofs::Standings::refused_makes))]
     pub(crate) fn key(&mut self, span: Span, sym: &str)
         ensures items { Performs (key span sym.now) S.lines C.maps W.sheet self.old self.new }
-        ensures level { KeepsLevel S.lines C.maps W.sheet self.old self.new }
     {
         if self.refusal.is_some() {
             return;
@@ -224,7 +212,6 @@ impl<W: WriteJs, S: SourceMapper, C: Comments> Emitter<'_, W, S, C> {
     #[tactic(auto, using(crate::proofs::Standings::refused_makes))]
     pub(crate) fn hashbang(&mut self, text: &str)
         ensures items { Performs (hashbang text.now) S.lines C.maps W.sheet self.old self.new }
-        ensures level { KeepsLevel S.lines C.maps W.sheet self.old self.new }
     {
         if self.refusal.is_some() {
             return;
@@ -239,7 +226,6 @@ impl<W: WriteJs, S: SourceMapper, C: Comments> Emitter<'_, W, S, C> {
     #[tactic(auto, using(crate::proofs::Standings::refused_makes))]
     pub(crate) fn line(&mut self)
         ensures items { Performs line_end S.lines C.maps W.sheet self.old self.new }
-        ensures level { KeepsLevel S.lines C.maps W.sheet self.old self.new }
     {
         if self.refusal.is_some() {
             return;
@@ -248,11 +234,10 @@ impl<W: WriteJs, S: SourceMapper, C: Comments> Emitter<'_, W, S, C> {
     }
 
     /// One level of indentation more.
-    #[tactic(auto, using(crate::proofs::Standings::refused_makes))]
+    #[tactic(auto, using(crate::proofs::Standings::refused_deeper))]
     pub(crate) fn deeper(&mut self)
-        ensures items { Performs deeper S.lines C.maps W.sheet self.old self.new }
-        ensures level { Deepens 1 (standing_of S.lines C.maps W.sheet self.old)
-            (standing_of S.lines C.maps W.sheet self.new) }
+        ensures items { PerformsDeeper 1 deeper S.lines C.maps W.sheet self.old self.new }
+        ensures level { HasLevels 1 (standing_of S.lines C.maps W.sheet self.new) }
     {
         if self.refusal.is_some() {
             return;
@@ -264,12 +249,10 @@ impl<W: WriteJs, S: SourceMapper, C: Comments> Emitter<'_, W, S, C> {
     }
 
     /// One level of indentation less.
-    #[tactic(auto, using(crate::proofs::Standings::refused_makes))]
+    #[tactic(auto, using(crate::proofs::Standings::refused_shallower))]
     pub(crate) fn shallower(&mut self)
         requires { HasLevels 1 (standing_of S.lines C.maps W.sheet self.old) }
-        ensures items { Performs shallower S.lines C.maps W.sheet self.old self.new }
-        ensures level { Rises 1 (standing_of S.lines C.maps W.sheet self.old)
-            (standing_of S.lines C.maps W.sheet self.new) }
+        ensures items { PerformsShallower 1 shallower S.lines C.maps W.sheet self.old self.new }
     {
         if self.refusal.is_some() {
             return;
@@ -285,7 +268,6 @@ impl<W: WriteJs, S: SourceMapper, C: Comments> Emitter<'_, W, S, C> {
     #[tactic(auto, using(crate::proofs::Standings::refused_makes))]
     pub(crate) fn semi(&mut self)
         ensures items { Performs (semi) S.lines C.maps W.sheet self.old self.new }
-        ensures level { KeepsLevel S.lines C.maps W.sheet self.old self.new }
     {
         if self.refusal.is_some() {
             return;
@@ -297,7 +279,6 @@ impl<W: WriteJs, S: SourceMapper, C: Comments> Emitter<'_, W, S, C> {
     #[tactic(auto, using(crate::proofs::Standings::refused_makes))]
     pub(crate) fn space(&mut self)
         ensures items { Performs (space) S.lines C.maps W.sheet self.old self.new }
-        ensures level { KeepsLevel S.lines C.maps W.sheet self.old self.new }
     {
         if self.refusal.is_some() {
             return;
@@ -309,7 +290,6 @@ impl<W: WriteJs, S: SourceMapper, C: Comments> Emitter<'_, W, S, C> {
     #[tactic(auto, using(crate::proofs::Standings::refused_makes))]
     pub(crate) fn formatting_space(&mut self)
         ensures items { Performs (formatting_space) S.lines C.maps W.sheet self.old self.new }
-        ensures level { KeepsLevel S.lines C.maps W.sheet self.old self.new }
     {
         if self.refusal.is_some() {
             return;
@@ -324,7 +304,6 @@ impl<W: WriteJs, S: SourceMapper, C: Comments> Emitter<'_, W, S, C> {
     #[tactic(auto, using(crate::proofs::Standings::refused_makes))]
     pub(crate) fn formatting_line(&mut self)
         ensures items { Performs (formatting_line) S.lines C.maps W.sheet self.old self.new }
-        ensures level { KeepsLevel S.lines C.maps W.sheet self.old self.new }
     {
         if self.refusal.is_some() {
             return;
@@ -339,7 +318,6 @@ impl<W: WriteJs, S: SourceMapper, C: Comments> Emitter<'_, W, S, C> {
     #[tactic(auto, using(crate::proofs::Standings::refused_makes))]
     pub(crate) fn commit_pending_semi(&mut self)
         ensures items { Performs (commit_pending_semi) S.lines C.maps W.sheet self.old self.new }
-        ensures level { KeepsLevel S.lines C.maps W.sheet self.old self.new }
     {
         if self.refusal.is_some() {
             return;
@@ -354,7 +332,6 @@ impl<W: WriteJs, S: SourceMapper, C: Comments> Emitter<'_, W, S, C> {
     #[tactic(auto, using(crate::proofs::Standings::refused_makes))]
     pub(crate) fn position(&mut self, pos: BytePos)
         ensures items { Performs (position pos) S.lines C.maps W.sheet self.old self.new }
-        ensures level { KeepsLevel S.lines C.maps W.sheet self.old self.new }
     {
         if self.refusal.is_some() {
             return;
@@ -369,7 +346,6 @@ impl<W: WriteJs, S: SourceMapper, C: Comments> Emitter<'_, W, S, C> {
     #[tactic(auto, using(crate::proofs::Standings::refused_makes))]
     pub(crate) fn position_before(&mut self, pos: BytePos)
         ensures items { Performs (position_before pos) S.lines C.maps W.sheet self.old self.new }
-        ensures level { KeepsLevel S.lines C.maps W.sheet self.old self.new }
     {
         if self.refusal.is_some() {
             return;
@@ -383,7 +359,6 @@ impl<W: WriteJs, S: SourceMapper, C: Comments> Emitter<'_, W, S, C> {
     /// Records where a node begins.
     pub(crate) fn start_of(&mut self, span: Span)
         ensures items { Performs (start_of span) S.lines C.maps W.sheet self.old self.new }
-        ensures level { KeepsLevel S.lines C.maps W.sheet self.old self.new }
     {
         self.position(span.lo)
     }
@@ -391,7 +366,6 @@ impl<W: WriteJs, S: SourceMapper, C: Comments> Emitter<'_, W, S, C> {
     /// Records where a node ends.
     pub(crate) fn end_of(&mut self, span: Span)
         ensures items { Performs (end_of span) S.lines C.maps W.sheet self.old self.new }
-        ensures level { KeepsLevel S.lines C.maps W.sheet self.old self.new }
     {
         self.position(span.hi)
     }
@@ -399,7 +373,6 @@ impl<W: WriteJs, S: SourceMapper, C: Comments> Emitter<'_, W, S, C> {
     /// Records where a node's last character stands.
     pub(crate) fn last_of(&mut self, span: Span)
         ensures items { Performs (last_of span) S.lines C.maps W.sheet self.old self.new }
-        ensures level { KeepsLevel S.lines C.maps W.sheet self.old self.new }
     {
         self.position_before(span.hi)
     }
@@ -409,7 +382,6 @@ impl<W: WriteJs, S: SourceMapper, C: Comments> Emitter<'_, W, S, C> {
     #[tactic(auto, using(crate::proofs::Without::none_there, crate::proofs::Without::no_leading))]
     pub(crate) fn leading_comments(&mut self, pos: BytePos)
         ensures items { Performs (leading_comments pos) S.lines C.maps W.sheet self.old self.new }
-        ensures level { KeepsLevel S.lines C.maps W.sheet self.old self.new }
     {
         if self.comments.is_none() {
             return;
@@ -422,7 +394,6 @@ impl<W: WriteJs, S: SourceMapper, C: Comments> Emitter<'_, W, S, C> {
     #[tactic(auto, using(crate::proofs::Standings::refused_makes))]
     fn leading_taken(&mut self, pos: BytePos)
         ensures items { Performs (leading_comments pos) S.lines C.maps W.sheet self.old self.new }
-        ensures level { KeepsLevel S.lines C.maps W.sheet self.old self.new }
     {
         if self.refusal.is_some() {
             return;
@@ -440,7 +411,6 @@ impl<W: WriteJs, S: SourceMapper, C: Comments> Emitter<'_, W, S, C> {
     pub(crate) fn trailing_comments(&mut self, pos: BytePos, prefix_space: bool)
         ensures items { Performs (trailing_comments prefix_space pos)
             S.lines C.maps W.sheet self.old self.new }
-        ensures level { KeepsLevel S.lines C.maps W.sheet self.old self.new }
     {
         if self.comments.is_none() {
             return;
@@ -454,7 +424,6 @@ impl<W: WriteJs, S: SourceMapper, C: Comments> Emitter<'_, W, S, C> {
     fn trailing_taken(&mut self, pos: BytePos, prefix_space: bool)
         ensures items { Performs (trailing_comments prefix_space pos)
             S.lines C.maps W.sheet self.old self.new }
-        ensures level { KeepsLevel S.lines C.maps W.sheet self.old self.new }
     {
         if self.refusal.is_some() {
             return;
@@ -477,7 +446,6 @@ impl<W: WriteJs, S: SourceMapper, C: Comments> Emitter<'_, W, S, C> {
     pub(crate) fn name(&mut self, span: Span, sym: &str, optional: bool)
         ensures items { Performs (name span sym.now optional)
             S.lines C.maps W.sheet self.old self.new }
-        ensures level { KeepsLevel S.lines C.maps W.sheet self.old self.new }
     {
         if self.refusal.is_some() {
             return;
@@ -500,7 +468,6 @@ impl<W: WriteJs, S: SourceMapper, C: Comments> Emitter<'_, W, S, C> {
     pub(crate) fn private_name(&mut self, span: Span, name: &str)
         ensures items { Performs (private_name span name.now)
             S.lines C.maps W.sheet self.old self.new }
-        ensures level { KeepsLevel S.lines C.maps W.sheet self.old self.new }
     {
         if self.refusal.is_some() {
             return;
@@ -516,7 +483,6 @@ impl<W: WriteJs, S: SourceMapper, C: Comments> Emitter<'_, W, S, C> {
     #[tactic(auto, unfolding(crate::specs::Exprs::blank))]
     pub(crate) fn blank(&mut self, needed: bool)
         ensures items { Performs (blank needed) S.lines C.maps W.sheet self.old self.new }
-        ensures level { KeepsLevel S.lines C.maps W.sheet self.old self.new }
     {
         if needed {
             self.space()
@@ -529,7 +495,6 @@ impl<W: WriteJs, S: SourceMapper, C: Comments> Emitter<'_, W, S, C> {
     #[tactic(auto, unfolding(crate::specs::Exprs::space_if))]
     pub(crate) fn space_if(&mut self, needed: bool)
         ensures items { Performs (space_if needed) S.lines C.maps W.sheet self.old self.new }
-        ensures level { KeepsLevel S.lines C.maps W.sheet self.old self.new }
     {
         if needed {
             self.space();
@@ -541,7 +506,6 @@ impl<W: WriteJs, S: SourceMapper, C: Comments> Emitter<'_, W, S, C> {
     pub(crate) fn spaced_punct(&mut self, mark: Punctuator)
         ensures items { Performs (spaced_punct (spelling mark))
             S.lines C.maps W.sheet self.old self.new }
-        ensures level { KeepsLevel S.lines C.maps W.sheet self.old self.new }
     {
         if self.cfg.minify {
             self.punct(mark)
@@ -555,7 +519,6 @@ impl<W: WriteJs, S: SourceMapper, C: Comments> Emitter<'_, W, S, C> {
     pub(crate) fn formatted_operator(&mut self, mark: Punctuator)
         ensures items { Performs (formatted_operator (spelling mark))
             S.lines C.maps W.sheet self.old self.new }
-        ensures level { KeepsLevel S.lines C.maps W.sheet self.old self.new }
     {
         if self.cfg.minify {
             self.operator(mark)
@@ -570,7 +533,6 @@ impl<W: WriteJs, S: SourceMapper, C: Comments> Emitter<'_, W, S, C> {
     pub(crate) fn punct_between(&mut self, mark: Punctuator)
         ensures items { Performs (punct_between (spelling mark))
             S.lines C.maps W.sheet self.old self.new }
-        ensures level { KeepsLevel S.lines C.maps W.sheet self.old self.new }
     {
         if self.refusal.is_some() {
             return;
@@ -587,7 +549,6 @@ impl<W: WriteJs, S: SourceMapper, C: Comments> Emitter<'_, W, S, C> {
     pub(crate) fn operator_between(&mut self, mark: Punctuator)
         ensures items { Performs (operator_between (spelling mark))
             S.lines C.maps W.sheet self.old self.new }
-        ensures level { KeepsLevel S.lines C.maps W.sheet self.old self.new }
     {
         if self.refusal.is_some() {
             return;
@@ -602,7 +563,6 @@ impl<W: WriteJs, S: SourceMapper, C: Comments> Emitter<'_, W, S, C> {
     #[tactic(auto, unfolding(crate::specs::Exprs::opened))]
     pub(crate) fn opened(&mut self, span: Span)
         ensures items { Performs (opened span) S.lines C.maps W.sheet self.old self.new }
-        ensures level { KeepsLevel S.lines C.maps W.sheet self.old self.new }
     {
         self.leading_comments(span.lo);
         self.start_of(span);
@@ -612,7 +572,6 @@ impl<W: WriteJs, S: SourceMapper, C: Comments> Emitter<'_, W, S, C> {
     #[tactic(auto, unfolding(crate::specs::Exprs::comments_before))]
     pub(crate) fn comments_before(&mut self, pos: BytePos)
         ensures items { Performs (comments_before pos) S.lines C.maps W.sheet self.old self.new }
-        ensures level { KeepsLevel S.lines C.maps W.sheet self.old self.new }
     {
         if pos.0 == 0 {
             return;
@@ -626,7 +585,6 @@ impl<W: WriteJs, S: SourceMapper, C: Comments> Emitter<'_, W, S, C> {
     pub(crate) fn comments_before_end(&mut self, pos: BytePos)
         ensures items { Performs (comments_before_end pos)
             S.lines C.maps W.sheet self.old self.new }
-        ensures level { KeepsLevel S.lines C.maps W.sheet self.old self.new }
     {
         if self.comments.is_none() {
             return;
@@ -640,7 +598,6 @@ impl<W: WriteJs, S: SourceMapper, C: Comments> Emitter<'_, W, S, C> {
     fn taken_before_end(&mut self, pos: BytePos)
         ensures items { Performs (comments_before_end pos)
             S.lines C.maps W.sheet self.old self.new }
-        ensures level { KeepsLevel S.lines C.maps W.sheet self.old self.new }
     {
         if self.refusal.is_some() {
             return;
@@ -656,7 +613,6 @@ impl<W: WriteJs, S: SourceMapper, C: Comments> Emitter<'_, W, S, C> {
     #[tactic(auto, unfolding(crate::specs::Programs::last_semi), using(crate::proofs::Asked::kept_back, crate::proofs::Asked::committed))]
     pub(crate) fn last_semi(&mut self)
         ensures items { Performs (last_semi) S.lines C.maps W.sheet self.old self.new }
-        ensures level { KeepsLevel S.lines C.maps W.sheet self.old self.new }
     {
         if self.cfg.omit_last_semi {
             return;

@@ -1,7 +1,7 @@
 //! Declarations of TypeScript.
 
 ghost use Rattle.std.specs.Prelude.{◌≡◌};
-ghost use Rattle.swc_ecma_codegen_emit.specs.Standing.{Performs, KeepsLevel};
+ghost use Rattle.swc_ecma_codegen_emit.specs.Standing.{Performs};
 ghost use Rattle.swc_ecma_codegen_emit.specs.TsDecls.{declare_word, ts_expr_with_type_args, extended_format, extended_list, some_extends, extends_clause, ts_interface_decl, ts_type_alias_decl, ts_enum_member_id, ts_enum_member, enum_format, enum_members, enum_body, ts_enum_decl, ts_module_name, module_head, module_tail, ts_module_decl, ts_external_module_ref, ts_module_ref, ts_import_equals_decl, ts_export_assignment, ts_namespace_export_decl};
 ghost use Rattle.swc_ecma_codegen_emit.specs.Namespaces.{module_block_format, block_items, ts_module_block, ts_namespace_decl, namespace_inside, braced_body, dotted_body, ts_namespace_body};
 
@@ -352,7 +352,6 @@ impl<W: WriteJs, S: SourceMapper, C: Comments> Emitter<'_, W, S, C> {
     #[tactic(auto, unfolding(crate::specs::TsDecls::declare_word))]
     pub(crate) fn declare_word(&mut self, declared: bool)
         ensures items { Performs (declare_word declared) S.lines C.maps W.sheet self.old self.new }
-        ensures level { KeepsLevel S.lines C.maps W.sheet self.old self.new }
     {
         self.word_before(declared, "declare")
     }
@@ -361,7 +360,6 @@ impl<W: WriteJs, S: SourceMapper, C: Comments> Emitter<'_, W, S, C> {
     fn extended_list<N: LinkTarget>(&mut self, span: Span, nodes: &[TsExprWithTypeArgs<N>])
         ensures items { Performs (extended_list N.items span nodes.now)
             S.lines C.maps W.sheet self.old self.new }
-        ensures level { KeepsLevel S.lines C.maps W.sheet self.old self.new }
     {
         self.list(extended_format(), span, nodes)
     }
@@ -371,7 +369,6 @@ impl<W: WriteJs, S: SourceMapper, C: Comments> Emitter<'_, W, S, C> {
     fn some_extends<N: LinkTarget>(&mut self, span: Span, nodes: &[TsExprWithTypeArgs<N>])
         ensures items { Performs (some_extends N.items span nodes.now)
             S.lines C.maps W.sheet self.old self.new }
-        ensures level { KeepsLevel S.lines C.maps W.sheet self.old self.new }
     {
         self.space();
         self.keyword(None, "extends");
@@ -384,7 +381,6 @@ impl<W: WriteJs, S: SourceMapper, C: Comments> Emitter<'_, W, S, C> {
     fn extends_clause<N: LinkTarget>(&mut self, span: Span, nodes: &[TsExprWithTypeArgs<N>])
         ensures items { Performs (extends_clause N.items span nodes.now)
             S.lines C.maps W.sheet self.old self.new }
-        ensures level { KeepsLevel S.lines C.maps W.sheet self.old self.new }
     {
         if nodes.is_empty() {
             return;
@@ -396,7 +392,6 @@ impl<W: WriteJs, S: SourceMapper, C: Comments> Emitter<'_, W, S, C> {
     fn enum_members<N: LinkTarget>(&mut self, node: &TsEnumDecl<N>)
         ensures items { Performs (enum_members N.items node.now)
             S.lines C.maps W.sheet self.old self.new }
-        ensures level { KeepsLevel S.lines C.maps W.sheet self.old self.new }
     {
         self.list(enum_format(), node.span, &node.members)
     }
@@ -406,7 +401,6 @@ impl<W: WriteJs, S: SourceMapper, C: Comments> Emitter<'_, W, S, C> {
     fn enum_body<N: LinkTarget>(&mut self, node: &TsEnumDecl<N>)
         ensures items { Performs (enum_body N.items node.now)
             S.lines C.maps W.sheet self.old self.new }
-        ensures level { KeepsLevel S.lines C.maps W.sheet self.old self.new }
     {
         self.punct(Punctuator::LeftBrace);
         self.enum_members(node);
@@ -418,7 +412,6 @@ impl<W: WriteJs, S: SourceMapper, C: Comments> Emitter<'_, W, S, C> {
     fn module_head(&mut self, global: bool, name: &TsModuleName)
         ensures items { Performs (module_head global name.now)
             S.lines C.maps W.sheet self.old self.new }
-        ensures level { KeepsLevel S.lines C.maps W.sheet self.old self.new }
     {
         if global {
             return self.keyword(None, "global");
@@ -431,7 +424,6 @@ impl<W: WriteJs, S: SourceMapper, C: Comments> Emitter<'_, W, S, C> {
     fn module_tail<N: LinkTarget>(&mut self, body: &Option<TsNamespaceBodyBox<N>>)
         ensures items { Performs (module_tail N.items body.now)
             S.lines C.maps W.sheet self.old self.new }
-        ensures level { KeepsLevel S.lines C.maps W.sheet self.old self.new }
     {
         match body {
             Some(node) => node.target().emit_at(self, Place::Dotted),
@@ -443,7 +435,6 @@ impl<W: WriteJs, S: SourceMapper, C: Comments> Emitter<'_, W, S, C> {
     fn block_items<N: LinkTarget>(&mut self, node: &TsModuleBlock<N>)
         ensures items { Performs (block_items N.answers N.items node.now)
             S.lines C.maps W.sheet self.old self.new }
-        ensures level { KeepsLevel S.lines C.maps W.sheet self.old self.new }
     {
         self.list(module_block_format(), node.span, &node.body)
     }
@@ -453,7 +444,6 @@ impl<W: WriteJs, S: SourceMapper, C: Comments> Emitter<'_, W, S, C> {
     fn namespace_inside<N: LinkTarget>(&mut self, node: &TsNamespaceBody<N>)
         ensures items { Performs (namespace_inside N.answers N.items node.now)
             S.lines C.maps W.sheet self.old self.new }
-        ensures level { KeepsLevel S.lines C.maps W.sheet self.old self.new }
     {
         match node {
             TsNamespaceBody::TsModuleBlock(node) => node.emit_at(self, Place::Plain),
@@ -466,7 +456,6 @@ impl<W: WriteJs, S: SourceMapper, C: Comments> Emitter<'_, W, S, C> {
     fn braced_body<N: LinkTarget>(&mut self, node: &TsNamespaceBody<N>)
         ensures items { Performs (braced_body N.answers N.items node.now)
             S.lines C.maps W.sheet self.old self.new }
-        ensures level { KeepsLevel S.lines C.maps W.sheet self.old self.new }
     {
         self.leading_comments(node.span().lo);
         self.punct(Punctuator::LeftBrace);
@@ -481,7 +470,6 @@ impl<W: WriteJs, S: SourceMapper, C: Comments> Emitter<'_, W, S, C> {
     fn dotted_body<N: LinkTarget>(&mut self, node: &TsNamespaceBody<N>)
         ensures items { Performs (dotted_body N.answers N.items node.now)
             S.lines C.maps W.sheet self.old self.new }
-        ensures level { KeepsLevel S.lines C.maps W.sheet self.old self.new }
     {
         match node {
             TsNamespaceBody::TsModuleBlock(_) => {

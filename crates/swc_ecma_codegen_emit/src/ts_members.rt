@@ -2,7 +2,7 @@
 
 ghost use Rattle.std.specs.Prelude.{◌≡◌};
 ghost use Rattle.swc_ecma_codegen_spans.specs.Spans.{ts_type_element_span};
-ghost use Rattle.swc_ecma_codegen_emit.specs.Standing.{Performs, KeepsLevel};
+ghost use Rattle.swc_ecma_codegen_emit.specs.Standing.{Performs};
 ghost use Rattle.swc_ecma_codegen_emit.specs.TsMembers.{signature_key, signature_params, annotation_between, ts_call_signature_decl, params_behind_new, ts_construct_signature_decl, ts_property_signature, getter_annotation, ts_getter_signature, ts_setter_signature, ts_method_signature, readonly_index, index_params, ts_index_signature, ts_signature, ts_type_element, interface_format, interface_members, ts_interface_body};
 
 use crate::emitter::Emitter;
@@ -200,7 +200,6 @@ impl<W: WriteJs, S: SourceMapper, C: Comments> Emitter<'_, W, S, C> {
     fn signature_key<N: LinkTarget>(&mut self, computed: bool, key: &ExprBox<N>)
         ensures items { Performs (signature_key N.items computed key.now)
             S.lines C.maps W.sheet self.old self.new }
-        ensures level { KeepsLevel S.lines C.maps W.sheet self.old self.new }
     {
         if !computed {
             return key.target().emit_at(self, Place::Plain);
@@ -215,7 +214,6 @@ impl<W: WriteJs, S: SourceMapper, C: Comments> Emitter<'_, W, S, C> {
     fn signature_params<N: LinkTarget>(&mut self, span: Span, params: &[TsFnParamBox<N>])
         ensures items { Performs (signature_params N.answers N.items span params.now)
             S.lines C.maps W.sheet self.old self.new }
-        ensures level { KeepsLevel S.lines C.maps W.sheet self.old self.new }
     {
         self.punct(Punctuator::LeftParenthesis);
         self.fn_params_list(span, params);
@@ -227,7 +225,6 @@ impl<W: WriteJs, S: SourceMapper, C: Comments> Emitter<'_, W, S, C> {
     fn annotation_between<N: LinkTarget>(&mut self, ty: &Option<TsTypeAnnBox<N>>)
         ensures items { Performs (annotation_between N.items ty.now)
             S.lines C.maps W.sheet self.old self.new }
-        ensures level { KeepsLevel S.lines C.maps W.sheet self.old self.new }
     {
         match ty {
             Some(node) => {
@@ -243,7 +240,6 @@ impl<W: WriteJs, S: SourceMapper, C: Comments> Emitter<'_, W, S, C> {
     fn params_behind_new<N: LinkTarget>(&mut self, params: &Option<TsTypeParamDeclBox<N>>)
         ensures items { Performs (params_behind_new N.items params.now)
             S.lines C.maps W.sheet self.old self.new }
-        ensures level { KeepsLevel S.lines C.maps W.sheet self.old self.new }
     {
         match params {
             Some(node) => {
@@ -259,7 +255,6 @@ impl<W: WriteJs, S: SourceMapper, C: Comments> Emitter<'_, W, S, C> {
     fn getter_annotation<N: LinkTarget>(&mut self, ty: &Option<TsTypeAnnBox<N>>)
         ensures items { Performs (getter_annotation N.items ty.now)
             S.lines C.maps W.sheet self.old self.new }
-        ensures level { KeepsLevel S.lines C.maps W.sheet self.old self.new }
     {
         match ty {
             Some(node) => {
@@ -275,7 +270,6 @@ impl<W: WriteJs, S: SourceMapper, C: Comments> Emitter<'_, W, S, C> {
     fn index_params<N: LinkTarget>(&mut self, span: Span, params: &[TsFnParamBox<N>])
         ensures items { Performs (index_params N.answers N.items span params.now)
             S.lines C.maps W.sheet self.old self.new }
-        ensures level { KeepsLevel S.lines C.maps W.sheet self.old self.new }
     {
         self.punct(Punctuator::LeftBracket);
         self.fn_params_list(span, params);
@@ -286,7 +280,6 @@ impl<W: WriteJs, S: SourceMapper, C: Comments> Emitter<'_, W, S, C> {
     #[tactic(auto, unfolding(crate::specs::TsMembers::readonly_index))]
     fn readonly_index(&mut self, wanted: bool)
         ensures items { Performs (readonly_index wanted) S.lines C.maps W.sheet self.old self.new }
-        ensures level { KeepsLevel S.lines C.maps W.sheet self.old self.new }
     {
         if wanted {
             self.keyword(None, "readonly");
@@ -299,7 +292,6 @@ impl<W: WriteJs, S: SourceMapper, C: Comments> Emitter<'_, W, S, C> {
     fn ts_signature<N: LinkTarget>(&mut self, node: &TsTypeElement<N>)
         ensures items { Performs (ts_signature N.answers N.items node.now)
             S.lines C.maps W.sheet self.old self.new }
-        ensures level { KeepsLevel S.lines C.maps W.sheet self.old self.new }
     {
         match node {
             TsTypeElement::TsCallSignatureDecl(node) => node.emit_at(self, Place::Plain),
@@ -316,7 +308,6 @@ impl<W: WriteJs, S: SourceMapper, C: Comments> Emitter<'_, W, S, C> {
     fn interface_members<N: LinkTarget>(&mut self, node: &TsInterfaceBody<N>)
         ensures items { Performs (interface_members N.answers N.items node.now)
             S.lines C.maps W.sheet self.old self.new }
-        ensures level { KeepsLevel S.lines C.maps W.sheet self.old self.new }
     {
         self.list(interface_format(), node.span, &node.body)
     }

@@ -2,7 +2,7 @@
 
 ghost use Rattle.std.specs.Prelude.{◌≡◌, true};
 ghost use Rattle.swc_ecma_codegen_tokens.specs.Starts.{begins_letter};
-ghost use Rattle.swc_ecma_codegen_emit.specs.Standing.{Performs, KeepsLevel};
+ghost use Rattle.swc_ecma_codegen_emit.specs.Standing.{Performs};
 ghost use Rattle.swc_ecma_codegen_emit.specs.Annotations.{types_format};
 ghost use Rattle.swc_ecma_codegen_emit.specs.Types.{type_behind, default_type, ts_qualified_name, ts_entity_name, ts_type_ref, listed_types, type_arguments, ts_type_param_instantiation, ts_type_param, listed_params, ts_type_param_decl};
 
@@ -146,7 +146,6 @@ impl<W: WriteJs, S: SourceMapper, C: Comments> Emitter<'_, W, S, C> {
         requires { begins_letter text.now ≡ true }
         ensures items { Performs (type_behind N.items text.now ty.now)
             S.lines C.maps W.sheet self.old self.new }
-        ensures level { KeepsLevel S.lines C.maps W.sheet self.old self.new }
     {
         match ty {
             Some(node) => {
@@ -164,7 +163,6 @@ impl<W: WriteJs, S: SourceMapper, C: Comments> Emitter<'_, W, S, C> {
     pub(crate) fn default_type<N: LinkTarget>(&mut self, ty: &Option<TsTypeBox<N>>)
         ensures items { Performs (default_type N.items ty.now)
             S.lines C.maps W.sheet self.old self.new }
-        ensures level { KeepsLevel S.lines C.maps W.sheet self.old self.new }
     {
         match ty {
             Some(node) => {
@@ -179,7 +177,6 @@ impl<W: WriteJs, S: SourceMapper, C: Comments> Emitter<'_, W, S, C> {
     fn listed_types<N: LinkTarget>(&mut self, node: &TsTypeParamInstantiation<N>)
         ensures items { Performs (listed_types N.answers N.items node.now)
             S.lines C.maps W.sheet self.old self.new }
-        ensures level { KeepsLevel S.lines C.maps W.sheet self.old self.new }
     {
         self.list(types_format(), node.span, &node.params)
     }
@@ -189,7 +186,6 @@ impl<W: WriteJs, S: SourceMapper, C: Comments> Emitter<'_, W, S, C> {
     fn type_arguments<N: LinkTarget>(&mut self, node: &TsTypeParamInstantiation<N>)
         ensures items { Performs (type_arguments N.answers N.items node.now)
             S.lines C.maps W.sheet self.old self.new }
-        ensures level { KeepsLevel S.lines C.maps W.sheet self.old self.new }
     {
         self.punct(Punctuator::Less);
         self.listed_types(node);
@@ -200,7 +196,6 @@ impl<W: WriteJs, S: SourceMapper, C: Comments> Emitter<'_, W, S, C> {
     fn listed_params<N: LinkTarget>(&mut self, node: &TsTypeParamDecl<N>)
         ensures items { Performs (listed_params N.items node.now)
             S.lines C.maps W.sheet self.old self.new }
-        ensures level { KeepsLevel S.lines C.maps W.sheet self.old self.new }
     {
         self.list(types_format(), node.span, &node.params)
     }

@@ -3,7 +3,7 @@
 ghost use Rattle.std.specs.Prelude.{◌≡◌, false, true};
 ghost use Rattle.swc_ecma_codegen_grammar.specs.TypePhrases.{keyword_of, type_operator};
 ghost use Rattle.swc_ecma_codegen_tokens.specs.Starts.{begins_letter};
-ghost use Rattle.swc_ecma_codegen_emit.specs.Standing.{Performs, KeepsLevel};
+ghost use Rattle.swc_ecma_codegen_emit.specs.Standing.{Performs};
 ghost use Rattle.swc_ecma_codegen_emit.specs.Templates.{tpl_parts};
 ghost use Rattle.swc_ecma_codegen_emit.specs.Annotations.{word_before};
 ghost use Rattle.swc_ecma_codegen_emit.specs.Types.{type_at, ts_keyword_type, ts_this_type, ts_tpl_lit_type, ts_lit, ts_lit_type, qualifier, ts_import_type, ts_type_query_expr, ts_type_query, members_format, listed_members, ts_type_lit, ts_array_type, label, ts_tuple_element, listed_elements, ts_tuple_type, ts_optional_type, ts_rest_type, union_format, intersection_format, joined_list, union_types, intersection_types, ts_union_type, ts_intersection_type, ts_union_or_intersection_type, ts_parenthesized_type, ts_type_operator, ts_indexed_access_type, ts_conditional_type, ts_infer_type, ts_type, ts_type_ann};
@@ -505,7 +505,6 @@ impl<W: WriteJs, S: SourceMapper, C: Comments> Emitter<'_, W, S, C> {
         requires { begins_letter text.now ≡ true }
         ensures items { Performs (word_before wanted text.now)
             S.lines C.maps W.sheet self.old self.new }
-        ensures level { KeepsLevel S.lines C.maps W.sheet self.old self.new }
     {
         if wanted {
             self.keyword(None, text);
@@ -517,7 +516,6 @@ impl<W: WriteJs, S: SourceMapper, C: Comments> Emitter<'_, W, S, C> {
     fn tpl_types<N: LinkTarget>(&mut self, types: &[TsTypeBox<N>], quasis: &[TplElement])
         ensures items { Performs (tpl_parts (type_at N.items) false types.now quasis.now)
             S.lines C.maps W.sheet self.old self.new }
-        ensures level { KeepsLevel S.lines C.maps W.sheet self.old self.new }
     {
         self.tpl_parts(false, types, quasis)
     }
@@ -527,7 +525,6 @@ impl<W: WriteJs, S: SourceMapper, C: Comments> Emitter<'_, W, S, C> {
     fn qualifier<N: LinkTarget>(&mut self, name: &Option<TsEntityNameBox<N>>)
         ensures items { Performs (qualifier N.items name.now)
             S.lines C.maps W.sheet self.old self.new }
-        ensures level { KeepsLevel S.lines C.maps W.sheet self.old self.new }
     {
         match name {
             Some(node) => {
@@ -542,7 +539,6 @@ impl<W: WriteJs, S: SourceMapper, C: Comments> Emitter<'_, W, S, C> {
     fn listed_members<N: LinkTarget>(&mut self, node: &TsTypeLit<N>)
         ensures items { Performs (listed_members N.answers N.items node.now)
             S.lines C.maps W.sheet self.old self.new }
-        ensures level { KeepsLevel S.lines C.maps W.sheet self.old self.new }
     {
         self.list(members_format(), node.span, &node.members)
     }
@@ -551,7 +547,6 @@ impl<W: WriteJs, S: SourceMapper, C: Comments> Emitter<'_, W, S, C> {
     #[tactic(auto, unfolding(crate::specs::Types::label))]
     fn label<N: LinkTarget>(&mut self, pat: &Option<PatBox<N>>)
         ensures items { Performs (label N.items pat.now) S.lines C.maps W.sheet self.old self.new }
-        ensures level { KeepsLevel S.lines C.maps W.sheet self.old self.new }
     {
         match pat {
             Some(node) => {
@@ -567,7 +562,6 @@ impl<W: WriteJs, S: SourceMapper, C: Comments> Emitter<'_, W, S, C> {
     fn listed_elements<N: LinkTarget>(&mut self, node: &TsTupleType<N>)
         ensures items { Performs (listed_elements N.items node.now)
             S.lines C.maps W.sheet self.old self.new }
-        ensures level { KeepsLevel S.lines C.maps W.sheet self.old self.new }
     {
         self.list(types_format(), node.span, &node.elem_types)
     }
@@ -576,7 +570,6 @@ impl<W: WriteJs, S: SourceMapper, C: Comments> Emitter<'_, W, S, C> {
     fn joined_list<N: LinkTarget>(&mut self, format: ListFormat, span: Span, nodes: &[TsTypeBox<N>])
         ensures items { Performs (joined_list N.answers N.items format.0 span nodes.now)
             S.lines C.maps W.sheet self.old self.new }
-        ensures level { KeepsLevel S.lines C.maps W.sheet self.old self.new }
     {
         self.list(format, span, nodes)
     }
@@ -585,7 +578,6 @@ impl<W: WriteJs, S: SourceMapper, C: Comments> Emitter<'_, W, S, C> {
     fn union_types<N: LinkTarget>(&mut self, node: &TsUnionType<N>)
         ensures items { Performs (union_types N.answers N.items node.now)
             S.lines C.maps W.sheet self.old self.new }
-        ensures level { KeepsLevel S.lines C.maps W.sheet self.old self.new }
     {
         self.joined_list(union_format(), node.span, &node.types)
     }
@@ -594,7 +586,6 @@ impl<W: WriteJs, S: SourceMapper, C: Comments> Emitter<'_, W, S, C> {
     fn intersection_types<N: LinkTarget>(&mut self, node: &TsIntersectionType<N>)
         ensures items { Performs (intersection_types N.answers N.items node.now)
             S.lines C.maps W.sheet self.old self.new }
-        ensures level { KeepsLevel S.lines C.maps W.sheet self.old self.new }
     {
         self.joined_list(intersection_format(), node.span, &node.types)
     }

@@ -8,11 +8,11 @@ use Rattle.swc_ecma_codegen_emit.specs.Lists.{child_of, if_some_at}
 use Rattle.swc_ecma_codegen_emit.specs.Calls.{array_format, argument_place, argument_items}
 use Rattle.swc_ecma_codegen_emit.proofs.emitter.Emitter.array_elements.Goals as goal
 
-pub returns-clause-items : goal.returns-clause-items
-returns-clause-items g c =
+pub returns : goal.returns
+returns g c =
     let a : Standing = standing_of g.S.SourceMapper.lines g.C.Comments.maps g.W.WriteJs.sheet c.args.self.now in
     let b : Standing = standing_of g.S.SourceMapper.lines g.C.Comments.maps g.W.WriteJs.sheet c.list.new.self in
     let format : c.array_format-format.result.0 ≡ array_format (last_is_hole c.args.node.now.elems.items) = c.array_format-format.ensures ∙ ap array_format (c.ends_with_hole.ensures ∙ ap last_is_hole c.deref.ensures.value) in
     let P : ℕ → Type 0 = λ z. Makes (list z c.args.node.now.span (map (child_of (option_span (argument_place g.N.Known.answers)) (if_some_at (argument_items g.N.Known.answers g.N.EmitAt.items))) c.args.node.now.elems.items)) a b in
     let Q : List (Option (ExprOrSpread _)) → Type 0 = λ xs. Makes (list c.array_format-format.result.0 c.args.node.now.span (map (child_of (option_span (argument_place g.N.Known.answers)) (if_some_at (argument_items g.N.Known.answers g.N.EmitAt.items))) xs)) a b in
-    subst P format (subst Q c.deref-2.ensures.value c.list.ensures.items)
+    record { items = subst P format (subst Q c.deref-2.ensures.value c.list.ensures.items) }

@@ -3,5 +3,5 @@ use Rattle.swc_ecma_codegen_emit.specs.Standing.{standing_of}
 use Rattle.swc_ecma_codegen_emit.proofs.Lengths.{length_makes}
 use Rattle.swc_ecma_codegen_emit.proofs.emitter.Emitter.broken_module.Goals as goal
 
-pub returns-clause-items : goal.returns-clause-items
-returns-clause-items g c = length_makes (Some c.args.max) _ (standing_of g.S.SourceMapper.lines g.C.Comments.maps g.W.WriteJs.sheet c.args.self.now) (standing_of g.S.SourceMapper.lines g.C.Comments.maps g.W.WriteJs.sheet c.module_parts.new.self) c.module_parts.ensures.items
+pub returns : goal.returns
+returns g c = record { items = length_makes (Some c.args.max) _ (standing_of g.S.SourceMapper.lines g.C.Comments.maps g.W.WriteJs.sheet c.args.self.now) (standing_of g.S.SourceMapper.lines g.C.Comments.maps g.W.WriteJs.sheet c.module_parts.new.self) c.module_parts.ensures.items }

@@ -6,12 +6,12 @@ use Rattle.swc_ecma_codegen_emit.specs.Lists.{child_of}
 use Rattle.swc_ecma_codegen_emit.specs.Stmts.{case_body, case_format}
 use Rattle.swc_ecma_codegen_emit.proofs.emitter.Emitter.case_children.Goals as goal
 
-pub returns-clause-items : goal.returns-clause-items
+pub returns : goal.returns
 unfolding case_body
-returns-clause-items g c =
+returns g c =
     let a : Standing = standing_of g.S.SourceMapper.lines g.C.Comments.maps g.W.WriteJs.sheet c.args.self.now in
     let b : Standing = standing_of g.S.SourceMapper.lines g.C.Comments.maps g.W.WriteJs.sheet c.list.new.self in
     let format : c.case_format.result.0 ≡ case_format c.args.single = c.case_format.ensures in
     let P : ℕ → Type 0 = λ z. Makes (list z c.args.node.now.span (map (child_of (λ s. (g.N.Known.answers s.node.value).place) (λ s place. g.N.EmitAt.items s.node.value place)) c.args.node.now.cons.items)) a b in
     let Q : List (StmtBox _) → Type 0 = λ xs. Makes (list c.case_format.result.0 c.args.node.now.span (map (child_of (λ s. (g.N.Known.answers s.node.value).place) (λ s place. g.N.EmitAt.items s.node.value place)) xs)) a b in
-    subst P format (subst Q c.deref.ensures.value c.list.ensures.items)
+    record { items = subst P format (subst Q c.deref.ensures.value c.list.ensures.items) }

@@ -6,11 +6,11 @@ use Rattle.swc_ecma_codegen_emit.specs.Lists.{child_of}
 use Rattle.swc_ecma_codegen_emit.specs.Functions.{decorators_format, decorator_place, decorator}
 use Rattle.swc_ecma_codegen_emit.proofs.emitter.Emitter.decorators.Goals as goal
 
-pub returns-clause-items : goal.returns-clause-items
-returns-clause-items g c =
+pub returns : goal.returns
+returns g c =
     let a : Standing = standing_of g.S.SourceMapper.lines g.C.Comments.maps g.W.WriteJs.sheet c.args.self.now in
     let b : Standing = standing_of g.S.SourceMapper.lines g.C.Comments.maps g.W.WriteJs.sheet c.list.new.self in
     let format : c.decorators_format.result.0 ≡ decorators_format = c.decorators_format.ensures in
     let P : ℕ → Type 0 = λ z. Makes (list z c.args.node.now.span (map (child_of (decorator_place) (λ d place. decorator g.N.EmitAt.items d)) c.args.node.now.decorators.items)) a b in
     let Q : List (Decorator _) → Type 0 = λ xs. Makes (list c.decorators_format.result.0 c.args.node.now.span (map (child_of (decorator_place) (λ d place. decorator g.N.EmitAt.items d)) xs)) a b in
-    subst P format (subst Q c.deref.ensures.value c.list.ensures.items)
+    record { items = subst P format (subst Q c.deref.ensures.value c.list.ensures.items) }

@@ -5,7 +5,7 @@ use Rattle.swc_ecma_codegen_tokens.proofs.Emission.Fronts.{follows_failed, follo
 use Rattle.swc_ecma_codegen_tokens.proofs.Emission.Short.{on_err_in_short, if_err_in_short, is_ok_in_short}
 use Rattle.swc_ecma_codegen_emit.specs.View.{state_of}
 use Rattle.swc_ecma_codegen_emit.specs.Standing.{Standing, standing_of}
-use Rattle.swc_ecma_codegen_emit.proofs.Standings.{makes_at_length, stays_at_length}
+use Rattle.swc_ecma_codegen_emit.proofs.Standings.{makes_at_length, stays, stays_at_length}
 use Rattle.swc_ecma_codegen_emit.specs.Places.{by_itself}
 use Rattle.swc_ecma_codegen_emit.proofs.emitter.Emitter.emit.Goals as goal
 
@@ -38,4 +38,4 @@ pub returns-clause-level : goal.returns-clause-level
 returns-clause-level g c =
     let a : Standing = record { state = state_of g.S.SourceMapper.lines g.C.Comments.maps g.W.WriteJs.sheet c.args.self.now; refusal = None } in
     let b : Standing = standing_of g.S.SourceMapper.lines g.C.Comments.maps g.W.WriteJs.sheet c.emit_by_itself.new.self in
-    stays_at_length a b _ _ c.emit_by_itself.ensures.level c.answer.ensures.answer c.answer.ensures.state
+    stays_at_length a b _ _ (stays (by_itself (g.T.EmitAt.items c.args.node.now)) a b c.emit_by_itself.ensures.items) c.answer.ensures.answer c.answer.ensures.state

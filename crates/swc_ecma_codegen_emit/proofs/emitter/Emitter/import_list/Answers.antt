@@ -14,10 +14,10 @@ braced_list-requires g c =
     let P : ℕ → Type 0 = λ z. indented z ≡ false in
     subst P (sym format) refl
 
-pub returns-clause-items : goal.returns-clause-items
-returns-clause-items g c =
+pub returns : goal.returns
+returns g c =
     let a : Standing = standing_of g.S.SourceMapper.lines g.C.Comments.maps g.W.WriteJs.sheet c.args.self.now in
     let b : Standing = standing_of g.S.SourceMapper.lines g.C.Comments.maps g.W.WriteJs.sheet c.braced_list.new.self in
     let format : c.named_format.result.0 ≡ named_format = c.named_format.ensures in
     let P : ℕ → Type 0 = λ z. Makes (list z c.args.parent (map (child_of import_specifier_span (λ n place. import_specifier n)) (filter is_named c.args.specifiers.now))) a b in
-    subst P format c.braced_list.ensures.items
+    record { items = subst P format c.braced_list.ensures.items }

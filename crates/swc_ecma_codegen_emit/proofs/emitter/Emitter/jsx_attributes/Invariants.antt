@@ -1,10 +1,7 @@
 use Rattle.std.proofs.Common.{true, drop}
-use Rattle.swc_ecma_codegen_emit.specs.Standing.{Continues, Stays, standing_of}
+use Rattle.swc_ecma_codegen_emit.specs.Standing.{Continues, standing_of}
 use Rattle.swc_ecma_codegen_emit.specs.Jsx.{jsx_attr_or_spread, jsx_attributes}
 use Rattle.swc_ecma_codegen_emit.proofs.emitter.Emitter.jsx_attributes.Given as goal
 
 abbrev pub invariant-loop-node : goal.invariant-loop-node
-invariant-loop-node g l = record {
-  items : Continues (jsx_attributes (jsx_attr_or_spread g.N.Known.answers g.N.EmitAt.items) l.first (drop l.node-index l.nodes)) (standing_of g.S.SourceMapper.lines g.C.Comments.maps g.W.WriteJs.sheet l.self) (jsx_attributes (jsx_attr_or_spread g.N.Known.answers g.N.EmitAt.items) true l.nodes) (standing_of g.S.SourceMapper.lines g.C.Comments.maps g.W.WriteJs.sheet l.initial.self);
-  level : Stays (standing_of g.S.SourceMapper.lines g.C.Comments.maps g.W.WriteJs.sheet l.initial.self) (standing_of g.S.SourceMapper.lines g.C.Comments.maps g.W.WriteJs.sheet l.self);
-}
+invariant-loop-node g l = Continues (jsx_attributes (jsx_attr_or_spread g.N.Known.answers g.N.EmitAt.items) l.first (drop l.node-index l.nodes)) (standing_of g.S.SourceMapper.lines g.C.Comments.maps g.W.WriteJs.sheet l.self) (jsx_attributes (jsx_attr_or_spread g.N.Known.answers g.N.EmitAt.items) true l.nodes) (standing_of g.S.SourceMapper.lines g.C.Comments.maps g.W.WriteJs.sheet l.initial.self)

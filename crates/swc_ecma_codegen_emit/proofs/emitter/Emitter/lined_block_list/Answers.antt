@@ -9,11 +9,11 @@ use Rattle.swc_ecma_codegen_emit.specs.Stmts.{stmt}
 use Rattle.swc_ecma_codegen_emit.specs.Blocks.{block_format, flat_block_format}
 use Rattle.swc_ecma_codegen_emit.proofs.emitter.Emitter.lined_block_list.Goals as goal
 
-pub returns-clause-items : goal.returns-clause-items
-returns-clause-items g c =
+pub returns : goal.returns
+returns g c =
     let a : Standing = standing_of g.S.SourceMapper.lines g.C.Comments.maps g.W.WriteJs.sheet c.args.self.now in
     let b : Standing = standing_of g.S.SourceMapper.lines g.C.Comments.maps g.W.WriteJs.sheet c.list.new.self in
     let format : c.format_by.result.0 ≡ (if c.args.some then block_format else flat_block_format) = c.format_by.ensures in
     let P : ℕ → Type 0 = λ z. Makes (list z c.args.node.now.span (map (child_of (stmt_span (place_of g.N.Known.answers)) (λ s place. stmt g.N.Known.answers g.N.EmitAt.items s)) c.args.node.now.stmts.items)) a b in
     let Q : List (Stmt _) → Type 0 = λ xs. Makes (list c.format_by.result.0 c.args.node.now.span (map (child_of (stmt_span (place_of g.N.Known.answers)) (λ s place. stmt g.N.Known.answers g.N.EmitAt.items s)) xs)) a b in
-    subst P format (subst Q c.deref.ensures.value c.list.ensures.items)
+    record { items = subst P format (subst Q c.deref.ensures.value c.list.ensures.items) }

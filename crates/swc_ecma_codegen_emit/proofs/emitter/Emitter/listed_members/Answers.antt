@@ -8,11 +8,11 @@ use Rattle.swc_ecma_codegen_emit.specs.TsMembers.{member_items}
 use Rattle.swc_ecma_codegen_emit.specs.Types.{members_format}
 use Rattle.swc_ecma_codegen_emit.proofs.emitter.Emitter.listed_members.Goals as goal
 
-pub returns-clause-items : goal.returns-clause-items
-returns-clause-items g c =
+pub returns : goal.returns
+returns g c =
     let a : Standing = standing_of g.S.SourceMapper.lines g.C.Comments.maps g.W.WriteJs.sheet c.args.self.now in
     let b : Standing = standing_of g.S.SourceMapper.lines g.C.Comments.maps g.W.WriteJs.sheet c.list.new.self in
     let format : c.members_format.result.0 ≡ members_format = c.members_format.ensures in
     let P : ℕ → Type 0 = λ z. Makes (list z c.args.node.now.span (map (child_of ts_type_element_span (member_items g.N.Known.answers g.N.EmitAt.items)) c.args.node.now.members.items)) a b in
     let Q : List (TsTypeElement _) → Type 0 = λ xs. Makes (list c.members_format.result.0 c.args.node.now.span (map (child_of ts_type_element_span (member_items g.N.Known.answers g.N.EmitAt.items)) xs)) a b in
-    subst P format (subst Q c.deref.ensures.value c.list.ensures.items)
+    record { items = subst P format (subst Q c.deref.ensures.value c.list.ensures.items) }

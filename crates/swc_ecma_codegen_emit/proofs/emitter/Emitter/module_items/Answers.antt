@@ -1,4 +1,4 @@
 use Rattle.swc_ecma_codegen_emit.proofs.emitter.Emitter.module_items.Goals as goal
 
-pub returns-clause-items : goal.returns-clause-items
-returns-clause-items g c = c.in_order.ensures.items
+pub returns : goal.returns
+returns g c = record { items = c.in_order.ensures.items }

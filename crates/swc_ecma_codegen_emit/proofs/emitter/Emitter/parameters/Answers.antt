@@ -7,11 +7,11 @@ use Rattle.swc_ecma_codegen_emit.specs.FunctionExprs.{comma_list_format}
 use Rattle.swc_ecma_codegen_emit.specs.Functions.{param_place, param}
 use Rattle.swc_ecma_codegen_emit.proofs.emitter.Emitter.parameters.Goals as goal
 
-pub returns-clause-items : goal.returns-clause-items
-returns-clause-items g c =
+pub returns : goal.returns
+returns g c =
     let a : Standing = standing_of g.S.SourceMapper.lines g.C.Comments.maps g.W.WriteJs.sheet c.args.self.now in
     let b : Standing = standing_of g.S.SourceMapper.lines g.C.Comments.maps g.W.WriteJs.sheet c.list.new.self in
     let format : c.comma_list_format.result.0 ≡ comma_list_format = c.comma_list_format.ensures in
     let P : ℕ → Type 0 = λ z. Makes (list z c.args.node.now.span (map (child_of (param_place) (λ p place. param g.N.Known.answers g.N.EmitAt.items p)) c.args.node.now.params.items)) a b in
     let Q : List (Param _) → Type 0 = λ xs. Makes (list c.comma_list_format.result.0 c.args.node.now.span (map (child_of (param_place) (λ p place. param g.N.Known.answers g.N.EmitAt.items p)) xs)) a b in
-    subst P format (subst Q c.deref.ensures.value c.list.ensures.items)
+    record { items = subst P format (subst Q c.deref.ensures.value c.list.ensures.items) }

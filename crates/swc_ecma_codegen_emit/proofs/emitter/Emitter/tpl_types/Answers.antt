@@ -1,4 +1,4 @@
 use Rattle.swc_ecma_codegen_emit.proofs.emitter.Emitter.tpl_types.Goals as goal
 
-pub returns-clause-items : goal.returns-clause-items
-returns-clause-items g c = c.tpl_parts.ensures.items
+pub returns : goal.returns
+returns g c = record { items = c.tpl_parts.ensures.items }

@@ -4,6 +4,6 @@ use Rattle.swc_ecma_codegen_emit.specs.Standing.{standing_of}
 use Rattle.swc_ecma_codegen_emit.proofs.Lengths.{length_makes}
 use Rattle.swc_ecma_codegen_emit.proofs.jsx.JSXFragmentEmitAt.emit_at.Goals as goal
 
-pub returns-clause-items : goal.returns-clause-items
+pub returns : goal.returns
 unfolding jsx_fragment
-returns-clause-items g c = length_makes None _ (standing_of g.S.SourceMapper.lines g.C.Comments.maps g.W.WriteJs.sheet c.args.e.now) (standing_of g.S.SourceMapper.lines g.C.Comments.maps g.W.WriteJs.sheet c.jsx_fragment_parts.new.self) c.jsx_fragment_parts.ensures.items
+returns g c = record { items = length_makes None _ (standing_of g.S.SourceMapper.lines g.C.Comments.maps g.W.WriteJs.sheet c.args.e.now) (standing_of g.S.SourceMapper.lines g.C.Comments.maps g.W.WriteJs.sheet c.jsx_fragment_parts.new.self) c.jsx_fragment_parts.ensures.items }
