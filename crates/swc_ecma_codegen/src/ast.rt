@@ -83,6 +83,7 @@ pub use swc_ecma_codegen_tree::Function;
 pub use swc_ecma_codegen_tree::FunctionBox;
 pub use swc_ecma_codegen_tree::GetterProp;
 pub use swc_ecma_codegen_tree::Holds;
+pub use swc_ecma_codegen_tree::HoldsMut;
 pub use swc_ecma_codegen_tree::Ident;
 pub use swc_ecma_codegen_tree::IdentName;
 pub use swc_ecma_codegen_tree::IfStmt;
