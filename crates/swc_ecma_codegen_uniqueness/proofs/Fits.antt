@@ -1,0 +1,57 @@
+-- What is known of the parts of a derivation.
+use Rattle.std.proofs.Common.{◌≡◌, Bool, true, false, ◌||◌, List, refl}
+use Rattle.swc_ecma_codegen_tree.specs.declared.links.AnyNode.{AnyNode, out-AnyNode}
+use Rattle.swc_ecma_codegen_grammar.specs.Settings.{Settings}
+use Rattle.swc_ecma_codegen_grammar.specs.Tokens.{Token}
+use Rattle.swc_ecma_codegen_syntax.specs.declared.nonterminals.Nonterminal.{Nonterminal}
+use Rattle.swc_ecma_codegen_syntax.specs.Nonterminals.{takes, is_optional}
+use Rattle.swc_ecma_codegen_syntax.specs.Forms.{Form, stands as stands_there}
+use Rattle.swc_ecma_codegen_syntax.specs.NodeForms.{node_nonterminal}
+use Rattle.swc_ecma_codegen_syntax.specs.Derives.{Derives, fixed, part, simple, restricted, lone, lone_in_parentheses, both, provided, closed, comma_closed, followed, bare}
+use Rattle.swc_ecma_codegen_uniqueness.specs.ParseTrees.{Variant, ParseTree, End, is_known, node_variant}
+use Rattle.swc_ecma_codegen_uniqueness.specs.Parses.{is_inlined}
+use Rattle.swc_ecma_codegen_uniqueness.proofs.TableLaws.{is_place}
+use Rattle.swc_ecma_codegen_uniqueness.proofs.Machine.{Whole, Good}
+use Rattle.swc_ecma_codegen_uniqueness.proofs.Shapes.{is_chain, Operand}
+use Rattle.swc_ecma_codegen_uniqueness.proofs.Reading.{derived_parse}
+
+-- a node is read as it is
+pub record Fit (variant : Variant) (n : Nonterminal) (inside : ParseTree) : Type 0 where
+  pub known : is_known variant ≡ true
+  pub own : is_place n ≡ false
+  pub chain : is_chain variant ≡ is_optional n
+  pub good : Good (Whole variant n) inside
+
+or_same : (b : Bool) → (b || false) ≡ true → b ≡ true
+or_same true h = refl
+or_same false h = h
+
+pub taken_at : (place n : Nonterminal) → stands_there true place n ≡ true → takes place n ≡ true
+unfolding stands_there
+taken_at place n h = or_same (takes place n) h
+
+pub in_place : {place n : Nonterminal} {variant : Variant} {inside : ParseTree} → takes place n ≡ true → Fit variant n inside → Operand place variant inside
+in_place {n = n} h fit = record { of = n; taken = h; own = fit.own; chain = fit.chain; good = fit.good }
+
+pub at_place : {place n : Nonterminal} {variant : Variant} {inside : ParseTree} → stands_there true place n ≡ true → Fit variant n inside → Operand place variant inside
+at_place {place = place} {n = n} h fit = in_place (taken_at place n h) fit
+
+unfoldable pub PlacedGood : Bool → Type 0 → Type 0 → Type 0
+PlacedGood true fit inside = inside
+PlacedGood false fit inside = fit
+
+-- Each node right below is read as it is, where the settings minify as its parameters say.
+unfoldable pub AllGood : {s : Settings} {a : Form AnyNode} {ts : List Token} → Derives true s a ts → Type 0
+AllGood (fixed g) = Unit {0}
+AllGood {s = s} (part {c = c} {role = role} {n = n} called st d) =
+    PlacedGood (is_inlined role) (s.minify ≡ c.minify → Fit (node_variant (out-AnyNode n) role) (node_nonterminal called c (out-AnyNode n) role) (derived_parse d End)) (AllGood d)
+AllGood (simple h d) = AllGood d
+AllGood (restricted h d) = AllGood d
+AllGood (lone h d) = AllGood d
+AllGood (lone_in_parentheses d) = AllGood d
+AllGood (both d e) = AllGood d × AllGood e
+AllGood (provided h d) = AllGood d
+AllGood closed = Unit {0}
+AllGood comma_closed = Unit {0}
+AllGood (followed d) = AllGood d
+AllGood (bare d) = AllGood d

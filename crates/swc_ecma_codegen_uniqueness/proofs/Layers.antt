@@ -1,0 +1,204 @@
+-- Each node of a derivation is read as it is.
+use Rattle.std.proofs.Common.{◌≡◌, ℕ, inl, inr, Bool, true, false, List, [], ◌∷◌, refl, sym, subst}
+use Rattle.std.specs.Prelude.{codes, if◌then◌else◌}
+use Rattle.std.proofs.lemmas.Bool.{true≢false}
+use Rattle.swc_ecma_codegen_tree.specs.declared.links.AnyNode.{AnyNode, AnyNode-F, out-AnyNode}
+use Rattle.swc_ecma_codegen_tree.specs.declared.links.AnyNode.TheOpen as nodes
+use Rattle.swc_ecma_codegen_tree.specs.declared.exprs.Expr.{Expr}
+use Rattle.swc_ecma_codegen_tree.specs.declared.exprs.Expr.TheVariants as exprs
+use Rattle.swc_ecma_codegen_tree.specs.declared.parts.ExprPart.TheVariants as expr_parts
+use Rattle.swc_ecma_codegen_tree.specs.declared.pats.AssignTarget.{AssignTarget}
+use Rattle.swc_ecma_codegen_tree.specs.declared.pats.AssignTarget.TheVariants as targets
+use Rattle.swc_ecma_codegen_tree.specs.declared.pats.SimpleAssignTarget.TheVariants as simple_targets
+use Rattle.swc_ecma_codegen_grammar.specs.Phrases.{Phrase, Never, Nothing, One, NameOf, KeyOf, PrivateOf, TagNameOf, Then, CommaBefore, OptionalParentheses, Chosen, Generates, chosen, close_parenthesis}
+use Rattle.swc_ecma_codegen_grammar.specs.ExprPhrases.{this_expr, meta_prop_expr}
+use Rattle.swc_ecma_codegen_grammar.specs.NamePhrases.{private_name}
+use Rattle.swc_ecma_codegen_grammar.specs.Settings.{Settings}
+use Rattle.swc_ecma_codegen_grammar.specs.Tokens.{Token, word}
+use Rattle.swc_ecma_codegen_grammar.specs.Tokens as tokens
+use Rattle.swc_ecma_codegen_grammar.specs.declared.roles.Role.{Role}
+use Rattle.swc_ecma_codegen_grammar.specs.declared.roles.Role.TheVariants.{Expression, Callee, AssignmentTarget}
+use Rattle.swc_ecma_codegen_syntax.specs.declared.nonterminals.Nonterminal.{Nonterminal}
+use Rattle.swc_ecma_codegen_syntax.specs.declared.nonterminals.Nonterminal.TheVariants as nt
+use Rattle.swc_ecma_codegen_syntax.specs.declared.parameters.Parameters.{Parameters}
+use Rattle.swc_ecma_codegen_syntax.specs.Nonterminals.{is_optional}
+use Rattle.swc_ecma_codegen_syntax.specs.Forms.{Form}
+use Rattle.swc_ecma_codegen_syntax.specs.CallForms.{new_nonterminal, has_arguments}
+use Rattle.swc_ecma_codegen_syntax.specs.TargetForms.{target_nonterminal}
+use Rattle.swc_ecma_codegen_syntax.specs.ExprForms.{expr_form, expr_nonterminal, call_or_member}
+use Rattle.swc_ecma_codegen_syntax.specs.NodeForms.{node_form, node_nonterminal, part_form, part_nonterminal}
+use Rattle.swc_ecma_codegen_syntax.specs.Derives.{Derives, fixed, part, simple, restricted, lone, lone_in_parentheses, both, provided, closed, comma_closed, followed, bare}
+use Rattle.swc_ecma_codegen_uniqueness.specs.ParseTrees.{Variant, ParseTree, End, Read, This, Bin, Member, New, TaggedTpl, PrivateName, is_known, AreKnown, expr_variant, simple_target_variant, target_variant, part_variant, node_variant}
+use Rattle.swc_ecma_codegen_uniqueness.specs.Parses.{placed, is_inlined, read_all}
+use Rattle.swc_ecma_codegen_uniqueness.proofs.Tables.{Level, Power, made}
+use Rattle.swc_ecma_codegen_uniqueness.proofs.TableLaws.{is_place}
+use Rattle.swc_ecma_codegen_uniqueness.proofs.Machine.{Whole, Good}
+use Rattle.swc_ecma_codegen_uniqueness.proofs.Shapes.{is_chain, atom}
+use Rattle.swc_ecma_codegen_uniqueness.proofs.Reading.{read_phrase, derived_parse}
+use Rattle.swc_ecma_codegen_uniqueness.proofs.Fits.{Fit, PlacedGood, AllGood}
+use Rattle.swc_ecma_codegen_uniqueness.proofs.Operators.{level, binary_made, renamed, unary_good, update_good, bin_good, cond_good, assign_good, yield_good, await_good, seq_good, paren_good}
+use Rattle.swc_ecma_codegen_uniqueness.proofs.Objects.{object_good}
+use Rattle.swc_ecma_codegen_uniqueness.proofs.Lists.{array_good, call_good, new_good}
+use Rattle.swc_ecma_codegen_uniqueness.proofs.Linking.{member_good, super_good, template_good, tag_good, chain_good}
+use Rattle.swc_ecma_codegen_uniqueness.proofs.Atoms.{name_good, lit_good, meta_good, target_good}
+
+-- ---- an expression
+
+this_good : Good (Whole This nt.PrimaryExpression) (Read (word (codes "this")) End)
+unfolding word
+this_good = atom (word (codes "this")) This nt.PrimaryExpression refl refl refl
+
+private_good : (text : List ℕ) → Good (Whole PrivateName nt.PrivateIdentifier) (Read (tokens.private_name text) End)
+unfolding tokens.private_name
+private_good text = atom (tokens.private_name text) PrivateName nt.PrivateIdentifier refl refl refl
+
+expr_good : {s : Settings} (keeps called : Bool) (c : Parameters) (n : Expr AnyNode) {ts : List Token} (d : Derives true s (expr_form keeps called c n) ts) → AllGood d → s.minify ≡ c.minify → is_known (expr_variant n) ≡ true →
+    Good (Whole (expr_variant n) (expr_nonterminal keeps called c n)) (derived_parse d End)
+unfolding expr_form expr_nonterminal expr_variant is_known this_expr private_name meta_prop_expr AllGood PlacedGood derived_parse read_phrase placed is_inlined
+expr_good keeps called c (exprs.This n) (fixed g) o m k = this_good
+expr_good keeps called c (exprs.Array n) d o m k = array_good c n d o m
+expr_good keeps called c (exprs.Object n) d o m k = object_good c n d o m
+expr_good keeps called c (exprs.Unary n) d o m k = unary_good c n d o m
+expr_good keeps called c (exprs.Update n) d o m k = update_good c n d o m
+expr_good keeps called c (exprs.Bin n) d o m k = bin_good c n d o m
+expr_good keeps called c (exprs.Assign n) d o m k = assign_good c n d o m
+expr_good keeps called c (exprs.Member n) d o m k = member_good called c n d o m
+expr_good keeps called c (exprs.SuperProp n) d o m k = super_good nt.MemberExpression refl c n d o m
+expr_good keeps called c (exprs.Cond n) d o m k = cond_good c n d o m
+expr_good keeps called c (exprs.Call n) d o m k = call_good c n d o m
+expr_good keeps called c (exprs.New n) d o m k = new_good c keeps n d o m
+expr_good keeps called c (exprs.Seq n) d o m k = seq_good c n d o m
+expr_good keeps called c (exprs.Ident n) d o m k = name_good c n d
+expr_good keeps called c (exprs.Lit n) d o m k = lit_good n d
+expr_good keeps called c (exprs.Tpl n) (part a sa d) o m k = template_good a _ n.node.value d o m
+expr_good keeps called c (exprs.TaggedTpl n) d o m k = tag_good called c n d o m
+expr_good keeps called c (exprs.Yield n) d o m k = yield_good c n d o m
+expr_good {s = s} keeps called c (exprs.MetaProp n) (fixed {ts = ts} g) o m k = meta_good s n.kind ts g
+expr_good keeps called c (exprs.Await n) d o m k = await_good c n d o m
+expr_good keeps called c (exprs.Paren n) d o m k = paren_good c n d o m
+expr_good keeps called c (exprs.PrivateName n) (fixed g) o m k = private_good _
+expr_good keeps called c (exprs.OptChain n) d o m k = chain_good c n d o m
+expr_good keeps called c n d o m k = absurd (true≢false (sym k))
+
+-- ---- what its nonterminal and its variant say of it
+
+abbrev Agree : Variant → Nonterminal → Type 0
+Agree variant n = (is_place n ≡ false) × (is_chain variant ≡ is_optional n)
+
+made_agrees : (l : Level) → Agree Bin (made l)
+unfolding is_optional
+made_agrees Power = (refl, refl)
+made_agrees l = (refl, refl)
+
+called_agrees : (variant : Variant) → is_chain variant ≡ false → (called : Bool) → Agree variant (call_or_member called)
+unfolding is_optional
+called_agrees variant h true = (refl, h)
+called_agrees variant h false = (refl, h)
+
+new_agrees : (b : Bool) → Agree New (if b then nt.MemberExpression else nt.NewExpression)
+unfolding is_optional
+new_agrees true = (refl, refl)
+new_agrees false = (refl, refl)
+
+expr_agrees : {X : Type 0} (keeps called : Bool) (c : Parameters) (n : Expr X) → is_known (expr_variant n) ≡ true → Agree (expr_variant n) (expr_nonterminal keeps called c n)
+unfolding expr_nonterminal expr_variant is_known is_optional new_nonterminal
+expr_agrees keeps called c (exprs.Bin n) k = subst (Agree Bin) (sym (binary_made n.op)) (made_agrees (level n.op))
+expr_agrees keeps called c (exprs.Member n) k = called_agrees Member refl called
+expr_agrees keeps called c (exprs.TaggedTpl n) k = called_agrees TaggedTpl refl called
+expr_agrees keeps called c (exprs.New n) k = new_agrees (has_arguments c keeps n.args)
+expr_agrees keeps called c (exprs.Array n) k = (refl, refl)
+expr_agrees keeps called c (exprs.Object n) k = (refl, refl)
+expr_agrees keeps called c (exprs.This n) k = (refl, refl)
+expr_agrees keeps called c (exprs.Unary n) k = (refl, refl)
+expr_agrees keeps called c (exprs.Update n) k = (refl, refl)
+expr_agrees keeps called c (exprs.Assign n) k = (refl, refl)
+expr_agrees keeps called c (exprs.SuperProp n) k = (refl, refl)
+expr_agrees keeps called c (exprs.Cond n) k = (refl, refl)
+expr_agrees keeps called c (exprs.Call n) k = (refl, refl)
+expr_agrees keeps called c (exprs.Seq n) k = (refl, refl)
+expr_agrees keeps called c (exprs.Ident n) k = (refl, refl)
+expr_agrees keeps called c (exprs.Lit n) k = (refl, refl)
+expr_agrees keeps called c (exprs.Tpl n) k = (refl, refl)
+expr_agrees keeps called c (exprs.Yield n) k = (refl, refl)
+expr_agrees keeps called c (exprs.MetaProp n) k = (refl, refl)
+expr_agrees keeps called c (exprs.Await n) k = (refl, refl)
+expr_agrees keeps called c (exprs.Paren n) k = (refl, refl)
+expr_agrees keeps called c (exprs.PrivateName n) k = (refl, refl)
+expr_agrees keeps called c (exprs.OptChain n) k = (refl, refl)
+expr_agrees keeps called c n k = absurd (true≢false (sym k))
+
+target_agrees : {X : Type 0} (n : AssignTarget X) → is_known (target_variant n) ≡ true → Agree (target_variant n) (target_nonterminal n)
+unfolding target_nonterminal target_variant simple_target_variant is_known is_optional
+target_agrees (targets.Simple (simple_targets.Ident n)) k = (refl, refl)
+target_agrees (targets.Simple (simple_targets.Member n)) k = (refl, refl)
+target_agrees (targets.Simple (simple_targets.SuperProp n)) k = (refl, refl)
+target_agrees (targets.Simple (simple_targets.Paren n)) k = (refl, refl)
+target_agrees (targets.Simple n) k = absurd (true≢false (sym k))
+target_agrees (targets.Pat n) k = absurd (true≢false (sym k))
+
+target_made : {X : Type 0} (n : AssignTarget X) → is_known (target_variant n) ≡ true → target_nonterminal n ≡ nt.LeftHandSideExpression
+unfolding target_nonterminal target_variant is_known
+target_made (targets.Simple n) k = refl
+target_made (targets.Pat n) k = absurd (true≢false (sym k))
+
+fit : {variant : Variant} {n : Nonterminal} {p : ParseTree} → is_known variant ≡ true → Agree variant n → Good (Whole variant n) p → Fit variant n p
+fit k a g = record { known = k; own = a.0; chain = a.1; good = g }
+
+-- ---- a node in a role
+
+-- an expression, what is called, what is assigned to
+node_good : {s : Settings} (k : Bool) (c : Parameters) (y : AnyNode-F AnyNode) (role : Role) {ts : List Token} (d : Derives true s (node_form k c y role) ts) → AllGood d → s.minify ≡ c.minify → is_known (node_variant y role) ≡ true →
+    Fit (node_variant y role) (node_nonterminal k c y role) (derived_parse d End)
+unfolding node_form node_nonterminal node_variant part_form part_nonterminal part_variant is_known
+node_good k c (nodes.Expr n) Expression d o m h = fit h (expr_agrees false k c n h) (expr_good false k c n d o m h)
+node_good k c (nodes.Expr n) Callee d o m h = fit h (expr_agrees true k c n h) (expr_good true k c n d o m h)
+node_good k c (nodes.ExprPart (expr_parts.AssignTarget n)) AssignmentTarget d o m h = fit h (target_agrees n h) (renamed (target_made n h) (target_good k c n d o m h))
+node_good k c y role d o m h = absurd (true≢false (sym h))
+
+-- ---- a derivation
+
+all_known : (ts : List Token) (rest : ParseTree) → AreKnown (read_all ts rest) → AreKnown rest
+unfolding read_all AreKnown
+all_known [] rest k = k
+all_known (t ∷ ts) rest k = all_known ts rest k
+
+phrase_known : (s : Settings) (p : Phrase) (ts : List Token) (g : Generates s p ts) (rest : ParseTree) → AreKnown (read_phrase s p ts g rest) → AreKnown rest
+unfolding read_phrase AreKnown Generates
+phrase_known s Never ts g rest k = absurd g
+phrase_known s Nothing ts g rest k = k
+phrase_known s (One x) ts g rest k = k
+phrase_known s (NameOf at bytes) ts g rest k = k
+phrase_known s (KeyOf at bytes) ts g rest k = k
+phrase_known s (PrivateOf bytes) ts g rest k = k
+phrase_known s (TagNameOf at bytes) ts g rest k = k
+phrase_known s (Then a b) ts (us, vs, x, y, e) rest k = phrase_known s b vs y rest (phrase_known s a us x (read_phrase s b vs y rest) k)
+phrase_known s (CommaBefore close) ts (inl e) rest k = k
+phrase_known s (CommaBefore close) ts (inr e) rest k = k
+phrase_known s (OptionalParentheses a) ts (inl x) rest k = phrase_known s a ts x rest k
+phrase_known s (OptionalParentheses a) ts (inr (us, x, e)) rest k = phrase_known s a us x (Read close_parenthesis rest) k
+phrase_known s (Chosen choice) ts g rest k = all_known (chosen s choice) rest k
+
+placed_known : {s : Settings} (b k : Bool) (c : Parameters) (y : AnyNode-F AnyNode) (role : Role) {ts : List Token} (d : Derives true s (node_form k c y role) ts) →
+    ((rest : ParseTree) → AreKnown (derived_parse d rest) → AllGood d × AreKnown rest) → (rest : ParseTree) → AreKnown (placed b (node_variant y role) (derived_parse d) rest) →
+    PlacedGood b (s.minify ≡ c.minify → Fit (node_variant y role) (node_nonterminal k c y role) (derived_parse d End)) (AllGood d) × AreKnown rest
+unfolding placed PlacedGood AreKnown
+placed_known true k c y role d h rest q = h rest q
+placed_known false k c y role d h rest (e, q, r) = ((λ m. node_good k c y role d (h End q).0 m e), r)
+
+pub all_good : {s : Settings} {a : Form AnyNode} {ts : List Token} (d : Derives true s a ts) (rest : ParseTree) → AreKnown (derived_parse d rest) → AllGood d × AreKnown rest
+unfolding derived_parse AllGood AreKnown
+all_good {s = s} (fixed {p = p} {ts = ts} g) rest k = (tt, phrase_known s p ts g rest k)
+all_good (part {c = c} {role = role} {n = n} called st d) rest k = placed_known (is_inlined role) called c (out-AnyNode n) role d (all_good d) rest k
+all_good (simple h d) rest k = all_good d rest k
+all_good (restricted h d) rest k = all_good d rest k
+all_good (lone h d) rest k = all_good d rest k
+all_good (lone_in_parentheses d) rest k = all_good d (Read close_parenthesis rest) k
+all_good (both d e) rest k =
+    let x = all_good d (derived_parse e rest) k in
+    let y = all_good e rest x.1 in
+    ((x.0, y.0), y.1)
+all_good (provided h d) rest k = all_good d rest k
+all_good closed rest k = (tt, k)
+all_good comma_closed rest k = (tt, k)
+all_good (followed d) rest k = all_good d rest k
+all_good (bare d) rest k = all_good d rest k

@@ -1,0 +1,16 @@
+pub mod Atoms
+pub mod Fits
+pub mod Layers
+pub mod Linking
+pub mod Lists
+pub mod Machine
+pub mod Objects
+pub mod Operators
+pub mod Parsed
+pub mod ParseLaws
+pub mod Reading
+pub mod Settled
+pub mod Shapes
+pub mod TableLaws
+pub mod Tables
+pub mod Unique

@@ -1,0 +1,375 @@
+-- The shapes of nodes, each read by the machine as it is.
+use Rattle.std.proofs.Common.{◌≡◌, Bool, true, false, Some, None, refl, sym, ap, ◌∙◌, subst}
+use Rattle.std.specs.Prelude.{codes}
+use Rattle.std.proofs.lemmas.Bool.{true≢false}
+use Rattle.swc_ecma_codegen_grammar.specs.Tokens.{Token, word, punctuator, same_line}
+use Rattle.swc_ecma_codegen_syntax.specs.declared.nonterminals.Nonterminal.{Nonterminal}
+use Rattle.swc_ecma_codegen_syntax.specs.declared.nonterminals.Nonterminal.TheVariants as nt
+use Rattle.swc_ecma_codegen_syntax.specs.Nonterminals.{takes, is_optional}
+use Rattle.swc_ecma_codegen_syntax.specs.UnitProductions.{here, step, expression_is_assignment_expression, new_expression_is_member_expression, chain_base_is_member_expression}
+use Rattle.swc_ecma_codegen_syntax.proofs.Taken.{chain_takes}
+use Rattle.swc_ecma_codegen_uniqueness.specs.ParseTrees.{Variant, ParseTree, End, Read, Node, Array, Object, Update, Bin, Assign, Member, SuperProp, Cond, Call, New, Seq, Tpl, TaggedTpl, Yield, MetaProp, Paren, OptChain}
+use Rattle.swc_ecma_codegen_uniqueness.proofs.Tables.{Level, Class, Infix, Assigns, Ask, Comma, Dot, ChainDot, OpenBracket, Line, Twice, First, Later, class, left, left_of, right_of, made, closes, Tail, OfInfix, OfCond, OfAssign, OfYield, whole, last as last_of, tail_variant, Control, Closed, Open, InParen, Index, Arguments, Elements, Properties, AfterKey, InKey, InValue, Middle, Substitution, Dotted, Chained, AfterNew, AfterImport, AfterSuper, AfterYield, Postfix, Listed, waits, decide, Shift, shift, shifted_to, start, started, template, wrapped_to, chained, without, with_operand}
+use Rattle.swc_ecma_codegen_uniqueness.proofs.TableLaws.{takes_on, is_place, starts, pushes, or_left, is_infix, made_by, Wraps, infix_wraps, Linked, linked_closes, links, link_wraps, Calling, calling_linked, call_wraps, tail_ends, new_ends, yield_ends, yield_alone, listed_ends, member_plain, call_plain, callee_plain}
+use Rattle.swc_ecma_codegen_uniqueness.proofs.Machine.{Whole, Rest, Good, headed, wrapped, shifted, inner, closed, last}
+
+-- ---- parts
+
+abbrev pub is_chain : Variant → Bool
+is_chain OptChain = true
+is_chain variant = false
+
+-- a node that stands where a nonterminal does
+pub record Operand (place : Nonterminal) (variant : Variant) (inside : ParseTree) : Type 0 where
+  pub of : Nonterminal
+  pub taken : takes place of ≡ true
+  pub own : is_place of ≡ false
+  pub chain : is_chain variant ≡ is_optional of
+  pub good : Good (Whole variant of) inside
+
+pub takes_self : (n : Nonterminal) → takes n n ≡ true
+takes_self n = chain_takes n n here
+
+pub assignment_taken : takes nt.Expression nt.AssignmentExpression ≡ true
+assignment_taken = chain_takes nt.Expression nt.AssignmentExpression (step expression_is_assignment_expression here)
+
+-- what comes behind a part: a token that ends it and is taken
+abbrev pub After : Control → Nonterminal → Variant → Nonterminal → ParseTree → Type 0
+After c place variant n (Read t m) = (takes (left (class t)) place ≡ true) × ((s : Variant) → decide c (Some s) t ≡ Shift) × Good (Rest (shift c t) variant n) m
+After c place variant n End = ⊥
+After c place variant n (Node s p m) = ⊥
+
+pub part_then : (c : Control) {place n : Nonterminal} {variant s : Variant} {p : ParseTree} (rest : ParseTree) → takes (waits c) place ≡ true → Operand place s p → After c place variant n rest →
+    Good (Rest c variant n) (Node s p rest)
+part_then c End w o a = absurd a
+part_then c (Node q r m) w o a = absurd a
+part_then c {place = place} {s = s} (Read t m) w o a =
+    inner (or_left _ _ (takes_on (waits c) place o.of w o.taken)) o.good (takes_on (left (class t)) place o.of a.0 o.taken) (a.1 s) a.2
+
+pub ended : (variant : Variant) (n : Nonterminal) → Good (Rest (Closed variant) variant n) End
+ended variant n = closed refl (λ t h. refl)
+
+pub tail_rest : (t : Tail) {s : Variant} {p : ParseTree} → Operand (last_of t) s p → Good (Rest (Open t) (tail_variant t) (whole t)) (Node s p End)
+tail_rest t {s = s} o = last refl (or_left _ _ o.taken) o.good (tail_ends t o.of s o.taken)
+
+-- ---- nodes that begin with a token
+
+pub begun : (t : Token) (variant : Variant) (n : Nonterminal) (c : Control) (m : ParseTree) → starts (class t) ≡ true → is_place n ≡ false → start t ≡ c → Good (Rest c variant n) m → Good (Whole variant n) (Read t m)
+begun t variant n c m s p e g = headed (pushes t n s p) (subst (λ z. Good (Rest z variant n) m) (sym e) g)
+
+-- one token
+pub atom : (t : Token) (variant : Variant) (n : Nonterminal) → starts (class t) ≡ true → is_place n ≡ false → start t ≡ Closed variant → Good (Whole variant n) (Read t End)
+atom t variant n s p e = begun t variant n (Closed variant) End s p e (ended variant n)
+
+pub prefixed : (t : Token) (tail : Tail) {s : Variant} {p : ParseTree} → starts (class t) ≡ true → is_place (whole tail) ≡ false → start t ≡ Open tail → Operand (last_of tail) s p →
+    Good (Whole (tail_variant tail) (whole tail)) (Read t (Node s p End))
+prefixed t tail {s = s} {p = p} b q e o = begun t (tail_variant tail) (whole tail) (Open tail) (Node s p End) b q e (tail_rest tail o)
+
+pub parenthesized : (n : Nonterminal) → is_place n ≡ false → {s : Variant} {p : ParseTree} → Operand nt.Expression s p → Good (Whole Paren n) (Read (punctuator (codes "(")) (Node s p (Read (punctuator (codes ")")) End)))
+unfolding punctuator
+parenthesized n h o =
+    begun (punctuator (codes "(")) Paren n InParen _ refl h refl
+    (part_then InParen (Read (punctuator (codes ")")) End) (takes_self nt.Expression) o (takes_self nt.Expression, λ z. refl, ended Paren n))
+
+-- ---- nodes that begin with an operand
+
+pub behind : (t : Token) (l : Class) (variant : Variant) (c : Control) {s : Variant} {p : ParseTree} (m : ParseTree) → class t ≡ l → is_infix l ≡ true → wrapped_to s l ≡ c → Operand (left l) s p →
+    Good (Rest c variant (made_by l)) m → Good (Whole variant (made_by l)) (Node s p (Read t m))
+behind t l variant c {s = s} {p = p} m e i w o g =
+    let k : closes t o.of ≡ true = subst (λ z. takes (left z) o.of ≡ true) (sym e) o.taken in
+    wrapped o.good k (subst (λ z. Wraps t (made_by z) o.of s) e (infix_wraps t o.of s (ap is_infix e ∙ i) k o.own))
+    (subst (λ z. Good (Rest (wrapped_to s z) variant (made_by l)) m) (sym e) (subst (λ z. Good (Rest z variant (made_by l)) m) (sym w) g))
+
+pub binary : (t : Token) (level : Level) {s z : Variant} {p q : ParseTree} → class t ≡ Infix level → Operand (left_of level) s p → Operand (right_of level) z q →
+    Good (Whole Bin (made level)) (Node s p (Read t (Node z q End)))
+binary t level {z = z} {q = q} e o r = behind t (Infix level) Bin (Open (OfInfix level)) (Node z q End) e refl refl o (tail_rest (OfInfix level) r)
+
+pub assigned : (t : Token) {s z : Variant} {p q : ParseTree} → class t ≡ Assigns → Operand nt.LeftHandSideExpression s p → Operand nt.AssignmentExpression z q →
+    Good (Whole Assign nt.AssignmentExpression) (Node s p (Read t (Node z q End)))
+assigned t {z = z} {q = q} e o r = behind t Assigns Assign (Open OfAssign) (Node z q End) e refl refl o (tail_rest OfAssign r)
+
+pub conditional : {s z w : Variant} {p q r : ParseTree} → Operand nt.ShortCircuitExpression s p → Operand nt.AssignmentExpression z q → Operand nt.AssignmentExpression w r →
+    Good (Whole Cond nt.ConditionalExpression) (Node s p (Read (punctuator (codes "?")) (Node z q (Read (punctuator (codes ":")) (Node w r End)))))
+unfolding punctuator
+conditional {z = z} {w = w} {q = q} {r = r} a b d =
+    behind (punctuator (codes "?")) Ask Cond Middle (Node z q (Read (punctuator (codes ":")) (Node w r End))) refl refl refl a
+    (part_then Middle (Read (punctuator (codes ":")) (Node w r End)) (takes_self nt.AssignmentExpression) b (takes_self nt.AssignmentExpression, λ y. refl, tail_rest OfCond d))
+
+pub stepped : (t : Token) {s : Variant} {p : ParseTree} → class t ≡ Twice → Operand nt.LeftHandSideExpression s p →
+    Good (Whole Update nt.UpdateExpression) (Node s p (Read same_line (Read t End)))
+unfolding same_line
+stepped t {s = s} {p = p} e o =
+    behind same_line Line Update Postfix (Read t End) refl refl refl o
+    (shifted (ap (without Postfix) e) (ended Update nt.UpdateExpression))
+
+-- ---- links
+
+pub chained_not : (s variant : Variant) → is_chain s ≡ false → chained s variant ≡ variant
+chained_not OptChain variant h = absurd (true≢false h)
+chained_not s variant h = refl
+
+pub chained_so : (s variant : Variant) → is_chain s ≡ true → chained s variant ≡ OptChain
+chained_so OptChain variant h = refl
+chained_so s variant h = absurd (true≢false (sym h))
+
+pub plain_member : {s : Variant} {p : ParseTree} → Operand nt.MemberExpression s p → is_chain s ≡ false
+plain_member o = o.chain ∙ member_plain o.of o.taken
+
+pub plain_call : {s : Variant} {p : ParseTree} → Operand nt.CallExpression s p → is_chain s ≡ false
+plain_call o = o.chain ∙ call_plain o.of o.taken
+
+pub plain_callee : {s : Variant} {p : ParseTree} → Operand nt.CallOrMember s p → is_chain s ≡ false
+plain_callee o = o.chain ∙ callee_plain o.of o.taken o.own
+
+pub of_a_chain : {s : Variant} {p : ParseTree} → Operand nt.OptionalExpression s p → is_chain s ≡ true
+unfolding takes
+of_a_chain o = o.chain ∙ o.taken
+
+abbrev dot : Token
+dot = punctuator (codes ".")
+
+abbrev chain_dot : Token
+chain_dot = punctuator (codes "?.")
+
+abbrev open_bracket : Token
+open_bracket = punctuator (codes "[")
+
+abbrev close_bracket : Token
+close_bracket = punctuator (codes "]")
+
+abbrev open_parenthesis : Token
+open_parenthesis = punctuator (codes "(")
+
+abbrev close_parenthesis : Token
+close_parenthesis = punctuator (codes ")")
+
+abbrev comma : Token
+comma = punctuator (codes ",")
+
+abbrev pub IsName : Token → Type 0
+IsName t = ((s : Variant) → decide (Dotted s) None t ≡ Shift) × (decide Chained None t ≡ Shift) × (shift Chained t ≡ Closed OptChain)
+
+pub linked : (t : Token) (l : Class) (variant : Variant) (c : Control) {n place : Nonterminal} {s : Variant} {p : ParseTree} (m : ParseTree) → Linked n place → class t ≡ l → links l ≡ true → left l ≡ nt.ChainBase →
+    wrapped_to s l ≡ c → Operand place s p → Good (Rest c variant n) m → Good (Whole variant n) (Node s p (Read t m))
+linked t l variant c {n = n} {s = s} m a e i b w o g =
+    wrapped o.good (subst (λ z. takes z o.of ≡ true) (sym (ap left e ∙ b)) (linked_closes a o.of o.taken o.own))
+    (link_wraps t o.of s a (ap links e ∙ i) o.taken o.own)
+    (subst (λ z. Good (Rest (wrapped_to s z) variant n) m) (sym e) (subst (λ z. Good (Rest z variant n) m) (sym w) g))
+
+-- `.a`, and `[a]`
+pub named : (t : Token) (variant : Variant) (n : Nonterminal) → IsName t → Good (Rest (Dotted variant) variant n) (Read t End)
+named t variant n i = shifted (i.0 variant) (ended variant n)
+
+pub indexed : (variant : Variant) (n : Nonterminal) {s : Variant} {p : ParseTree} → Operand nt.Expression s p → Good (Rest (Index variant) variant n) (Node s p (Read close_bracket End))
+unfolding punctuator
+indexed variant n o = part_then (Index variant) (Read close_bracket End) (takes_self nt.Expression) o (takes_self nt.Expression, λ z. refl, ended variant n)
+
+pub member_named : (t : Token) (variant : Variant) {n place : Nonterminal} {s : Variant} {p : ParseTree} → Linked n place → IsName t → chained s Member ≡ variant → Operand place s p →
+    Good (Whole variant n) (Node s p (Read dot (Read t End)))
+unfolding punctuator
+member_named t variant {n = n} a i w o = linked dot Dot variant (Dotted variant) (Read t End) a refl refl refl (ap Dotted w) o (named t variant n i)
+
+pub member_indexed : (variant : Variant) {n place : Nonterminal} {s z : Variant} {p q : ParseTree} → Linked n place → chained s Member ≡ variant → Operand place s p → Operand nt.Expression z q →
+    Good (Whole variant n) (Node s p (Read open_bracket (Node z q (Read close_bracket End))))
+unfolding punctuator
+member_indexed variant {n = n} {z = z} {q = q} a w o r =
+    linked open_bracket OpenBracket variant (Index variant) (Node z q (Read close_bracket End)) a refl refl refl (ap Index w) o (indexed variant n r)
+
+-- behind `?.`
+pub chain_named : (t : Token) {n place : Nonterminal} {s : Variant} {p : ParseTree} → Linked n place → IsName t → Operand place s p → Good (Whole OptChain n) (Node s p (Read chain_dot (Read t End)))
+unfolding punctuator
+chain_named t {n = n} a i o =
+    linked chain_dot ChainDot OptChain Chained (Read t End) a refl refl refl refl o
+    (shifted i.1 (subst (λ z. Good (Rest z OptChain n) End) (sym i.2) (ended OptChain n)))
+
+pub chain_indexed : {n place : Nonterminal} {s z : Variant} {p q : ParseTree} → Linked n place → Operand place s p → Operand nt.Expression z q →
+    Good (Whole OptChain n) (Node s p (Read chain_dot (Read open_bracket (Node z q (Read close_bracket End)))))
+unfolding punctuator
+chain_indexed {n = n} {z = z} {q = q} a o r =
+    linked chain_dot ChainDot OptChain Chained (Read open_bracket (Node z q (Read close_bracket End))) a refl refl refl refl o (shifted refl (indexed OptChain n r))
+
+pub chain_called : {n place : Nonterminal} {s : Variant} {p m : ParseTree} → Linked n place → Operand place s p → Good (Rest (Arguments OptChain) OptChain n) m →
+    Good (Whole OptChain n) (Node s p (Read chain_dot (Read open_parenthesis m)))
+unfolding punctuator
+chain_called {m = m} a o g = linked chain_dot ChainDot OptChain Chained (Read open_parenthesis m) a refl refl refl refl o (shifted refl g)
+
+pub called : (variant : Variant) {n place : Nonterminal} {s : Variant} {p m : ParseTree} → Calling n place → chained s Call ≡ variant → Operand place s p → Good (Rest (Arguments variant) variant n) m →
+    Good (Whole variant n) (Node s p (Read open_parenthesis m))
+unfolding punctuator
+called variant {n = n} {s = s} {m = m} a w o g =
+    wrapped o.good (linked_closes (calling_linked a) o.of o.taken o.own) (call_wraps open_parenthesis o.of s a refl o.taken o.own)
+    (subst (λ z. Good (Rest (Arguments z) variant n) m) (sym w) g)
+
+-- ---- arguments and elements
+
+-- a part in a list, behind `...` or not
+pub dots_then : (c : Control) (variant : Variant) (n : Nonterminal) {m : ParseTree} → decide c None (punctuator (codes "...")) ≡ Shift → shift c (punctuator (codes "...")) ≡ c → Good (Rest c variant n) m →
+    Good (Rest c variant n) (Read (punctuator (codes "...")) m)
+dots_then c variant n {m = m} e q g = shifted e (subst (λ z. Good (Rest z variant n) m) (sym q) g)
+
+pub arguments_closed : (k variant : Variant) (n : Nonterminal) → k ≡ variant → After (Arguments k) nt.AssignmentExpression variant n (Read close_parenthesis End)
+unfolding punctuator
+arguments_closed k variant n e = (assignment_taken, λ z. refl, subst (λ z. Good (Rest (Closed z) variant n) End) (sym e) (ended variant n))
+
+pub argument_next : (variant : Variant) (n : Nonterminal) {m : ParseTree} → Good (Rest (Arguments variant) variant n) m → After (Arguments variant) nt.AssignmentExpression variant n (Read comma m)
+unfolding punctuator
+argument_next variant n g = (takes_self nt.AssignmentExpression, λ z. refl, g)
+
+pub no_arguments : (variant : Variant) (n : Nonterminal) → Good (Rest (Arguments variant) variant n) (Read close_parenthesis End)
+unfolding punctuator
+no_arguments variant n = shifted refl (ended variant n)
+
+pub elements_closed : After Elements nt.AssignmentExpression Array nt.PrimaryExpression (Read close_bracket End)
+unfolding punctuator
+elements_closed = (assignment_taken, λ z. refl, ended Array nt.PrimaryExpression)
+
+pub element_next : {m : ParseTree} → Good (Rest Elements Array nt.PrimaryExpression) m → After Elements nt.AssignmentExpression Array nt.PrimaryExpression (Read comma m)
+unfolding punctuator
+element_next g = (takes_self nt.AssignmentExpression, λ z. refl, g)
+
+pub hole_then : {m : ParseTree} → Good (Rest Elements Array nt.PrimaryExpression) m → Good (Rest Elements Array nt.PrimaryExpression) (Read comma m)
+unfolding punctuator
+hole_then g = shifted refl g
+
+pub no_elements : Good (Rest Elements Array nt.PrimaryExpression) (Read close_bracket End)
+unfolding punctuator
+no_elements = shifted refl (ended Array nt.PrimaryExpression)
+
+pub array : {m : ParseTree} → Good (Rest Elements Array nt.PrimaryExpression) m → Good (Whole Array nt.PrimaryExpression) (Read open_bracket m)
+unfolding punctuator
+array {m = m} g = begun open_bracket Array nt.PrimaryExpression Elements m refl refl refl g
+
+-- ---- objects
+
+abbrev pub InObject : Control → ParseTree → Type 0
+InObject c m = Good (Rest c Object nt.PrimaryExpression) m
+
+-- what comes behind a property, whether it ends with its key or with its value
+abbrev pub OnProperty : ParseTree → Type 0
+OnProperty m = InObject AfterKey m × After InValue nt.AssignmentExpression Object nt.PrimaryExpression m
+
+pub properties_closed : OnProperty (Read (punctuator (codes "}")) End)
+unfolding punctuator
+properties_closed = (shifted refl (ended Object nt.PrimaryExpression), (assignment_taken, λ z. refl, ended Object nt.PrimaryExpression))
+
+pub property_next : {m : ParseTree} → InObject Properties m → OnProperty (Read comma m)
+unfolding punctuator
+property_next g = (shifted refl g, (takes_self nt.AssignmentExpression, λ z. refl, g))
+
+pub no_properties : InObject Properties (Read (punctuator (codes "}")) End)
+unfolding punctuator
+no_properties = shifted refl (ended Object nt.PrimaryExpression)
+
+pub object : {m : ParseTree} → InObject Properties m → Good (Whole Object nt.PrimaryExpression) (Read (punctuator (codes "{")) m)
+unfolding punctuator
+object {m = m} g = begun (punctuator (codes "{")) Object nt.PrimaryExpression Properties m refl refl refl g
+
+-- a key that is one token
+abbrev pub IsKey : Token → Type 0
+IsKey t = (decide Properties None t ≡ Shift) × (shift Properties t ≡ AfterKey)
+
+pub key_then : (t : Token) {m : ParseTree} → IsKey t → InObject AfterKey m → InObject Properties (Read t m)
+key_then t {m = m} k g = shifted k.0 (subst (λ z. InObject z m) (sym k.1) g)
+
+pub computed_then : {s : Variant} {p m : ParseTree} → Operand nt.AssignmentExpression s p → InObject AfterKey m → InObject Properties (Read open_bracket (Node s p (Read close_bracket m)))
+unfolding punctuator
+computed_then {m = m} o g = shifted refl (part_then InKey (Read close_bracket m) (takes_self nt.AssignmentExpression) o (assignment_taken, λ z. refl, g))
+
+pub value_then : {s : Variant} {p rest : ParseTree} → Operand nt.AssignmentExpression s p → OnProperty rest → InObject AfterKey (Read (punctuator (codes ":")) (Node s p rest))
+unfolding punctuator
+value_then {rest = rest} o on = shifted refl (part_then InValue rest (takes_self nt.AssignmentExpression) o on.1)
+
+pub spread_property : {s : Variant} {p rest : ParseTree} → Operand nt.AssignmentExpression s p → OnProperty rest → InObject Properties (Read (punctuator (codes "...")) (Node s p rest))
+unfolding punctuator
+spread_property {rest = rest} o on = shifted refl (part_then InValue rest (takes_self nt.AssignmentExpression) o on.1)
+
+-- ---- `new`, `super`, `import`
+
+pub new_alone : {s : Variant} {p : ParseTree} → Operand nt.NewExpression s p → Good (Whole New nt.NewExpression) (Read (word (codes "new")) (Node s p End))
+unfolding word
+new_alone {s = s} {p = p} o = begun (word (codes "new")) New nt.NewExpression AfterNew (Node s p End) refl refl refl (last refl (or_left _ _ o.taken) o.good (new_ends o.of s o.taken))
+
+pub new_with : {s : Variant} {p m : ParseTree} → Operand nt.MemberExpression s p → Good (Rest (Arguments New) New nt.MemberExpression) m →
+    Good (Whole New nt.MemberExpression) (Read (word (codes "new")) (Node s p (Read open_parenthesis m)))
+unfolding word punctuator
+new_with {s = s} {p = p} {m = m} o g =
+    begun (word (codes "new")) New nt.MemberExpression AfterNew (Node s p (Read open_parenthesis m)) refl refl refl
+    (part_then AfterNew (Read open_parenthesis m) (chain_takes nt.NewExpression nt.MemberExpression (step new_expression_is_member_expression here)) o
+    (chain_takes nt.ChainBase nt.MemberExpression (step chain_base_is_member_expression here), λ z. refl, g))
+
+pub new_target : Good (Whole MetaProp nt.MemberExpression) (Read (word (codes "new")) (Read dot (Read (word (codes "target")) End)))
+unfolding word punctuator
+new_target = begun (word (codes "new")) MetaProp nt.MemberExpression AfterNew _ refl refl refl (shifted refl (shifted refl (ended MetaProp nt.MemberExpression)))
+
+pub import_meta : Good (Whole MetaProp nt.MemberExpression) (Read (word (codes "import")) (Read dot (Read (word (codes "meta")) End)))
+unfolding word punctuator
+import_meta = begun (word (codes "import")) MetaProp nt.MemberExpression AfterImport _ refl refl refl (shifted refl (shifted refl (ended MetaProp nt.MemberExpression)))
+
+pub import_called : {m : ParseTree} → Good (Rest (Arguments Call) Call nt.CallExpression) m → Good (Whole Call nt.CallExpression) (Read (word (codes "import")) (Read open_parenthesis m))
+unfolding word punctuator
+import_called g = begun (word (codes "import")) Call nt.CallExpression AfterImport _ refl refl refl (shifted refl g)
+
+pub super_called : {m : ParseTree} → Good (Rest (Arguments Call) Call nt.CallExpression) m → Good (Whole Call nt.CallExpression) (Read (word (codes "super")) (Read open_parenthesis m))
+unfolding word punctuator
+super_called g = begun (word (codes "super")) Call nt.CallExpression AfterSuper _ refl refl refl (shifted refl g)
+
+pub super_named : (t : Token) (n : Nonterminal) → is_place n ≡ false → IsName t → Good (Whole SuperProp n) (Read (word (codes "super")) (Read dot (Read t End)))
+unfolding word punctuator
+super_named t n h i = begun (word (codes "super")) SuperProp n AfterSuper _ refl h refl (shifted refl (named t SuperProp n i))
+
+pub super_indexed : (n : Nonterminal) {s : Variant} {p : ParseTree} → is_place n ≡ false → Operand nt.Expression s p →
+    Good (Whole SuperProp n) (Read (word (codes "super")) (Read open_bracket (Node s p (Read close_bracket End))))
+unfolding word punctuator
+super_indexed n h o = begun (word (codes "super")) SuperProp n AfterSuper _ refl h refl (shifted refl (indexed SuperProp n o))
+
+-- ---- `yield`
+
+pub yield_bare : Good (Whole Yield nt.AssignmentExpression) (Read (word (codes "yield")) End)
+unfolding word
+yield_bare = begun (word (codes "yield")) Yield nt.AssignmentExpression AfterYield End refl refl refl (closed refl yield_alone)
+
+pub yield_part : {s : Variant} {p : ParseTree} → Operand nt.AssignmentExpression s p → Good (Whole Yield nt.AssignmentExpression) (Read (word (codes "yield")) (Read same_line (Node s p End)))
+unfolding word same_line
+yield_part {s = s} o =
+    begun (word (codes "yield")) Yield nt.AssignmentExpression AfterYield _ refl refl refl
+    (shifted refl (last refl (or_left _ _ o.taken) o.good (yield_ends o.of s o.taken)))
+
+pub yield_star : {s : Variant} {p : ParseTree} → Operand nt.AssignmentExpression s p →
+    Good (Whole Yield nt.AssignmentExpression) (Read (word (codes "yield")) (Read same_line (Read (punctuator (codes "*")) (Node s p End))))
+unfolding word punctuator same_line
+yield_star o = begun (word (codes "yield")) Yield nt.AssignmentExpression AfterYield _ refl refl refl (shifted refl (shifted refl (tail_rest OfYield o)))
+
+-- ---- sequences
+
+pub listed_first : {s : Variant} {p m : ParseTree} → Operand nt.AssignmentExpression s p → Good (Rest Listed Seq nt.Expression) m → Good (Whole Seq nt.Expression) (Node s p (Read comma m))
+unfolding punctuator
+listed_first {m = m} o g = behind comma Comma Seq Listed m refl refl refl o g
+
+pub listed_next : {s : Variant} {p m : ParseTree} → Operand nt.AssignmentExpression s p → Good (Rest Listed Seq nt.Expression) m → Good (Rest Listed Seq nt.Expression) (Node s p (Read comma m))
+unfolding punctuator
+listed_next {m = m} o g = part_then Listed (Read comma m) (takes_self nt.AssignmentExpression) o (takes_self nt.AssignmentExpression, λ z. refl, g)
+
+pub listed_last : {s : Variant} {p : ParseTree} → Operand nt.AssignmentExpression s p → Good (Rest Listed Seq nt.Expression) (Node s p End)
+listed_last {s = s} o = last refl (or_left _ _ o.taken) o.good (listed_ends o.of s o.taken)
+
+-- ---- templates
+
+abbrev After_class : Control → Class → Nonterminal → Variant → Nonterminal → ParseTree → Type 0
+After_class c l place variant n m = (takes (left l) place ≡ true) × ((s : Variant) → with_operand c l ≡ Shift) × Good (Rest (shifted_to c l) variant n) m
+
+later : (opens : Bool) {variant : Variant} {n : Nonterminal} {m : ParseTree} → Good (Rest (template variant opens) variant n) m → After_class (Substitution variant) (Later opens) nt.Expression variant n m
+later true g = (takes_self nt.Expression, λ s. refl, g)
+later false g = (takes_self nt.Expression, λ s. refl, g)
+
+pub template_next : (variant : Variant) (n : Nonterminal) (t : Token) (opens : Bool) {s : Variant} {p m : ParseTree} → class t ≡ Later opens → Operand nt.Expression s p → Good (Rest (template variant opens) variant n) m →
+    Good (Rest (Substitution variant) variant n) (Node s p (Read t m))
+template_next variant n t opens {m = m} e o g =
+    part_then (Substitution variant) (Read t m) (takes_self nt.Expression) o
+    (subst (λ l. After_class (Substitution variant) l nt.Expression variant n m) (sym e) (later opens g))
+
+pub untagged : (t : Token) (opens : Bool) {m : ParseTree} → class t ≡ First opens → Good (Rest (template Tpl opens) Tpl nt.PrimaryExpression) m → Good (Whole Tpl nt.PrimaryExpression) (Read t m)
+untagged t opens {m = m} e g = begun t Tpl nt.PrimaryExpression (template Tpl opens) m (ap starts e) refl (ap started e) g
+
+pub tagged : (t : Token) (opens : Bool) {n place : Nonterminal} {s : Variant} {p m : ParseTree} → Linked n place → class t ≡ First opens → Operand place s p →
+    Good (Rest (template TaggedTpl opens) TaggedTpl n) m → Good (Whole TaggedTpl n) (Node s p (Read t m))
+tagged t opens {m = m} a e o g = linked t (First opens) TaggedTpl (template TaggedTpl opens) m a e refl refl refl o g

@@ -1,0 +1,408 @@
+-- What is asked of the tables, by evaluation: at an operand and a token one thing alone is to be done.
+use Rattle.std.proofs.Common.{◌≡◌, Bool, true, false, ◌&&◌, ◌||◌, not, ◌⊎◌, inl, inr, Some, None, cond, refl, sym, ap, ◌∙◌}
+use Rattle.std.proofs.lemmas.Bool.{true≢false, and_parts, and_from, or_cases}
+use Rattle.swc_ecma_codegen_grammar.specs.Tokens.{Token}
+use Rattle.swc_ecma_codegen_syntax.specs.declared.nonterminals.Nonterminal.{Nonterminal}
+use Rattle.swc_ecma_codegen_syntax.specs.declared.nonterminals.Nonterminal.TheVariants as nt
+use Rattle.swc_ecma_codegen_syntax.specs.Nonterminals.{is_member, is_new, is_call, is_callee, is_chained, is_left_hand_side, is_update, is_unary, is_exponentiation, is_multiplicative, is_additive, is_shift, is_relational, is_in_left, is_equality, is_bitwise_and, is_bitwise_xor, is_bitwise_or, is_logical_and, is_logical_or, is_coalesce_head, is_short_circuit, is_conditional, is_assignment, is_expression, is_assignment_target, is_pattern_target, is_pattern_element, is_last_element, is_coalesce, is_private, is_optional, is_primary, is_template, is_property_name, is_chain_link, is_assignment_pattern, is_pattern_name, is_rest, is_statement, is_hoistable_declaration, is_block, is_variable_declarations, is_declaration, is_statement_list_item, is_labelled_item, is_module_declaration, is_exported_head, is_function_head, is_generator_head, is_async_function_head, is_async_generator_head, is_function_tail, is_getter_tail, is_setter_tail, is_method_head, is_decorator_list, is_class_head, is_class_tail, is_class_element, is_constructor_name, is_any_function_head, is_head_without_yield, is_head_without_await, is_any_property_name, is_jsx_element, is_jsx_object, is_uncovered, takes}
+use Rattle.swc_ecma_codegen_syntax.specs.UnitProductions.{Chain, here, step}
+use Rattle.swc_ecma_codegen_syntax.proofs.Chains.{takes_chain}
+use Rattle.swc_ecma_codegen_syntax.proofs.Taken.{chain_takes}
+use Rattle.swc_ecma_codegen_uniqueness.specs.ParseTrees.{Variant}
+use Rattle.swc_ecma_codegen_uniqueness.proofs.Tables.{Power, Plus, Within, Coalescing, Class, Infix, Assigns, Ask, Comma, Dot, ChainDot, OpenParen, OpenBracket, OpenBrace, Line, Twice, Bang, First, NameToken, PrivateToken, LiteralToken, ThisWord, NewWord, SuperWord, ImportWord, YieldWord, AwaitWord, UnaryWord, made, left_of, class, left, closes, Tail, OfInfix, whole, last, Control, Open, Arguments, Elements, AfterNew, AfterYield, YieldLine, Listed, InParen, Index, Middle, InKey, InValue, Substitution, waits, stands, decide, Action, Push, Wrap, Reduce, Shift, without, with_operand}
+
+-- ---- chains of unit productions
+
+chain_on : {a b c : Nonterminal} → Chain a b → Chain b c → Chain a c
+chain_on here d = d
+chain_on (step u d) e = step u (chain_on d e)
+
+pub takes_on : (a b c : Nonterminal) → takes a b ≡ true → takes b c ≡ true → takes a c ≡ true
+takes_on a b c h k = chain_takes a c (chain_on (takes_chain a b h) (takes_chain b c k))
+
+-- ---- tests
+
+abbrev if_so : Bool → Bool → Bool
+if_so a b = not a || b
+
+told : (a b : Bool) → if_so a b ≡ true → a ≡ true → b ≡ true
+told true b h k = h
+told false b h k = absurd (true≢false (sym k))
+
+abbrev is_wrap : Action → Bool
+is_wrap Wrap = true
+is_wrap action = false
+
+wrap_is : (a : Action) → is_wrap a ≡ true → a ≡ Wrap
+wrap_is Wrap h = refl
+wrap_is Shift h = absurd (true≢false (sym h))
+wrap_is Push h = absurd (true≢false (sym h))
+wrap_is Reduce h = absurd (true≢false (sym h))
+
+abbrev is_push : Action → Bool
+is_push Push = true
+is_push action = false
+
+push_is : (a : Action) → is_push a ≡ true → a ≡ Push
+push_is Push h = refl
+push_is Shift h = absurd (true≢false (sym h))
+push_is Wrap h = absurd (true≢false (sym h))
+push_is Reduce h = absurd (true≢false (sym h))
+
+-- names of places, of which no node is; and patterns, of which none is here
+abbrev pub is_place : Nonterminal → Bool
+is_place nt.InLeft = true
+is_place nt.CallOrMember = true
+is_place nt.ChainBase = true
+is_place nt.CoalesceExpressionHead = true
+is_place nt.AssignmentTarget = true
+is_place nt.AssignmentPattern = true
+is_place nt.Uncovered = true
+is_place n = false
+
+-- ---- where a node ends with a part, what ends the node ends the part
+
+tail_test : (t : Tail) (c : Class) → if_so (takes (left c) (whole t)) (takes (left c) (last t)) ≡ true
+unfolding is_member is_new is_call is_callee is_chained is_left_hand_side is_update is_unary is_exponentiation is_multiplicative is_additive is_shift is_relational is_in_left is_equality is_bitwise_and is_bitwise_xor is_bitwise_or is_logical_and is_logical_or is_coalesce_head is_short_circuit is_conditional is_assignment is_expression is_assignment_target is_pattern_target is_pattern_element is_last_element is_coalesce is_private is_optional is_primary is_template is_property_name is_chain_link is_assignment_pattern is_pattern_name is_rest is_statement is_hoistable_declaration is_block is_variable_declarations is_declaration is_statement_list_item is_labelled_item is_module_declaration is_exported_head is_function_head is_generator_head is_async_function_head is_async_generator_head is_function_tail is_getter_tail is_setter_tail is_method_head is_decorator_list is_class_head is_class_tail is_class_element is_constructor_name is_any_function_head is_head_without_yield is_head_without_await is_any_property_name is_jsx_element is_jsx_object is_uncovered takes
+tail_test (OfInfix Power) (Infix Power) = refl
+tail_test t (Infix Power) = refl
+tail_test t c = refl
+
+pub tail_closes : (t : Tail) (u : Token) (k : Nonterminal) → takes (last t) k ≡ true → closes u (whole t) ≡ true → closes u k ≡ true
+tail_closes t u k h e = takes_on (left (class u)) (last t) k (told _ _ (tail_test t (class u)) e) h
+
+-- ---- where a node stands, its first token begins it
+
+abbrev pub starts : Class → Bool
+starts NameToken = true
+starts PrivateToken = true
+starts LiteralToken = true
+starts ThisWord = true
+starts OpenParen = true
+starts OpenBracket = true
+starts OpenBrace = true
+starts (First opens) = true
+starts (Infix Plus) = true
+starts Bang = true
+starts UnaryWord = true
+starts Twice = true
+starts NewWord = true
+starts SuperWord = true
+starts ImportWord = true
+starts YieldWord = true
+starts AwaitWord = true
+starts c = false
+
+abbrev is_waiting : Control → Bool
+is_waiting (Open t) = true
+is_waiting c = not (takes nt.Uncovered (waits c))
+
+start_test : (c : Control) (l : Class) → if_so (starts l && is_waiting c) (is_push (without c l)) ≡ true
+unfolding is_member is_new is_call is_callee is_chained is_left_hand_side is_update is_unary is_exponentiation is_multiplicative is_additive is_shift is_relational is_in_left is_equality is_bitwise_and is_bitwise_xor is_bitwise_or is_logical_and is_logical_or is_coalesce_head is_short_circuit is_conditional is_assignment is_expression is_assignment_target is_pattern_target is_pattern_element is_last_element is_coalesce is_private is_optional is_primary is_template is_property_name is_chain_link is_assignment_pattern is_pattern_name is_rest is_statement is_hoistable_declaration is_block is_variable_declarations is_declaration is_statement_list_item is_labelled_item is_module_declaration is_exported_head is_function_head is_generator_head is_async_function_head is_async_generator_head is_function_tail is_getter_tail is_setter_tail is_method_head is_decorator_list is_class_head is_class_tail is_class_element is_constructor_name is_any_function_head is_head_without_yield is_head_without_await is_any_property_name is_jsx_element is_jsx_object is_uncovered takes
+start_test (Open t) (Infix Plus) = refl
+start_test c (Infix Plus) = refl
+start_test c l = refl
+
+nothing_stands : (n : Nonterminal) → (takes nt.Uncovered n || (is_private n && takes nt.Uncovered nt.RelationalExpression)) ≡ true → is_place n ≡ true
+unfolding is_member is_new is_call is_callee is_chained is_left_hand_side is_update is_unary is_exponentiation is_multiplicative is_additive is_shift is_relational is_in_left is_equality is_bitwise_and is_bitwise_xor is_bitwise_or is_logical_and is_logical_or is_coalesce_head is_short_circuit is_conditional is_assignment is_expression is_assignment_target is_pattern_target is_pattern_element is_last_element is_coalesce is_private is_optional is_primary is_template is_property_name is_chain_link is_assignment_pattern is_pattern_name is_rest is_statement is_hoistable_declaration is_block is_variable_declarations is_declaration is_statement_list_item is_labelled_item is_module_declaration is_exported_head is_function_head is_generator_head is_async_function_head is_async_generator_head is_function_tail is_getter_tail is_setter_tail is_method_head is_decorator_list is_class_head is_class_tail is_class_element is_constructor_name is_any_function_head is_head_without_yield is_head_without_await is_any_property_name is_jsx_element is_jsx_object is_uncovered takes
+nothing_stands nt.Uncovered s = refl
+nothing_stands n s = absurd (true≢false (sym s))
+
+stands_waiting : (c : Control) (n : Nonterminal) → is_place n ≡ false → stands c n ≡ true → is_waiting c ≡ true
+unfolding is_member is_new is_call is_callee is_chained is_left_hand_side is_update is_unary is_exponentiation is_multiplicative is_additive is_shift is_relational is_in_left is_equality is_bitwise_and is_bitwise_xor is_bitwise_or is_logical_and is_logical_or is_coalesce_head is_short_circuit is_conditional is_assignment is_expression is_assignment_target is_pattern_target is_pattern_element is_last_element is_coalesce is_private is_optional is_primary is_template is_property_name is_chain_link is_assignment_pattern is_pattern_name is_rest is_statement is_hoistable_declaration is_block is_variable_declarations is_declaration is_statement_list_item is_labelled_item is_module_declaration is_exported_head is_function_head is_generator_head is_async_function_head is_async_generator_head is_function_tail is_getter_tail is_setter_tail is_method_head is_decorator_list is_class_head is_class_tail is_class_element is_constructor_name is_any_function_head is_head_without_yield is_head_without_await is_any_property_name is_jsx_element is_jsx_object is_uncovered takes
+stands_waiting (Open t) n h s = refl
+stands_waiting InParen n h s = refl
+stands_waiting (Index variant) n h s = refl
+stands_waiting (Arguments variant) n h s = refl
+stands_waiting Elements n h s = refl
+stands_waiting Middle n h s = refl
+stands_waiting InKey n h s = refl
+stands_waiting InValue n h s = refl
+stands_waiting (Substitution variant) n h s = refl
+stands_waiting AfterNew n h s = refl
+stands_waiting YieldLine n h s = refl
+stands_waiting Listed n h s = refl
+stands_waiting c n h s = absurd (true≢false (sym (nothing_stands n s) ∙ h))
+
+pub pushes : (t : Token) (n : Nonterminal) → starts (class t) ≡ true → is_place n ≡ false → (c : Control) → stands c n ≡ true → decide c None t ≡ Push
+pushes t n h p c s = push_is _ (told _ _ (start_test c (class t)) (and_from _ _ h (stands_waiting c n p s)))
+
+-- ---- where a node stands that begins with an operand, the operand stands too, and the token behind it takes it
+
+pub or_left : (a b : Bool) → a ≡ true → (a || b) ≡ true
+or_left true b h = refl
+or_left false b h = absurd (true≢false (sym h))
+
+or_right : (a b : Bool) → b ≡ true → (a || b) ≡ true
+or_right true b h = refl
+or_right false b h = h
+
+pub taken_there : (w n : Nonterminal) (b : Bool) → is_private n ≡ false → (takes w n || (is_private n && b)) ≡ true → takes w n ≡ true
+taken_there w n b p s = elim (or_cases (takes w n) (is_private n && b) s) [ inl h ↦ h | inr h ↦ absurd (true≢false (sym (and_parts _ _ h).0 ∙ p)) ]
+
+abbrev pub is_infix : Class → Bool
+is_infix (Infix level) = true
+is_infix Assigns = true
+is_infix Ask = true
+is_infix Comma = true
+is_infix Line = true
+is_infix c = false
+
+-- the nonterminal of the node
+abbrev pub made_by : Class → Nonterminal
+made_by (Infix level) = made level
+made_by Assigns = nt.AssignmentExpression
+made_by Ask = nt.ConditionalExpression
+made_by Comma = nt.Expression
+made_by Line = nt.UpdateExpression
+made_by c = nt.Expression
+
+wrap_test : (c : Control) (l : Class) → if_so (is_infix l && takes (waits c) (made_by l)) (is_wrap (with_operand c l)) ≡ true
+unfolding is_member is_new is_call is_callee is_chained is_left_hand_side is_update is_unary is_exponentiation is_multiplicative is_additive is_shift is_relational is_in_left is_equality is_bitwise_and is_bitwise_xor is_bitwise_or is_logical_and is_logical_or is_coalesce_head is_short_circuit is_conditional is_assignment is_expression is_assignment_target is_pattern_target is_pattern_element is_last_element is_coalesce is_private is_optional is_primary is_template is_property_name is_chain_link is_assignment_pattern is_pattern_name is_rest is_statement is_hoistable_declaration is_block is_variable_declarations is_declaration is_statement_list_item is_labelled_item is_module_declaration is_exported_head is_function_head is_generator_head is_async_function_head is_async_generator_head is_function_tail is_getter_tail is_setter_tail is_method_head is_decorator_list is_class_head is_class_tail is_class_element is_constructor_name is_any_function_head is_head_without_yield is_head_without_await is_any_property_name is_jsx_element is_jsx_object is_uncovered takes
+wrap_test (Open (OfInfix Power)) (Infix Power) = refl
+wrap_test c (Infix Power) = refl
+wrap_test c l = refl
+
+made_private : (l : Class) → is_private (made_by l) ≡ false
+unfolding is_private
+made_private (Infix Power) = refl
+made_private l = refl
+
+in_left : (k : Nonterminal) → takes nt.InLeft k ≡ true → is_place k ≡ false → (is_private k ≡ true) ⊎ (takes nt.RelationalExpression k ≡ true)
+unfolding is_member is_new is_call is_callee is_chained is_left_hand_side is_update is_unary is_exponentiation is_multiplicative is_additive is_shift is_relational is_in_left is_equality is_bitwise_and is_bitwise_xor is_bitwise_or is_logical_and is_logical_or is_coalesce_head is_short_circuit is_conditional is_assignment is_expression is_assignment_target is_pattern_target is_pattern_element is_last_element is_coalesce is_private is_optional is_primary is_template is_property_name is_chain_link is_assignment_pattern is_pattern_name is_rest is_statement is_hoistable_declaration is_block is_variable_declarations is_declaration is_statement_list_item is_labelled_item is_module_declaration is_exported_head is_function_head is_generator_head is_async_function_head is_async_generator_head is_function_tail is_getter_tail is_setter_tail is_method_head is_decorator_list is_class_head is_class_tail is_class_element is_constructor_name is_any_function_head is_head_without_yield is_head_without_await is_any_property_name is_jsx_element is_jsx_object is_uncovered takes
+in_left nt.InLeft h p = absurd (true≢false p)
+in_left nt.PrivateIdentifier h p = inl refl
+in_left k h p = inr h
+
+in_head : (k : Nonterminal) → takes nt.CoalesceExpressionHead k ≡ true → is_place k ≡ false → (takes nt.CoalesceExpression k ≡ true) ⊎ (takes nt.BitwiseOrExpression k ≡ true)
+unfolding is_member is_new is_call is_callee is_chained is_left_hand_side is_update is_unary is_exponentiation is_multiplicative is_additive is_shift is_relational is_in_left is_equality is_bitwise_and is_bitwise_xor is_bitwise_or is_logical_and is_logical_or is_coalesce_head is_short_circuit is_conditional is_assignment is_expression is_assignment_target is_pattern_target is_pattern_element is_last_element is_coalesce is_private is_optional is_primary is_template is_property_name is_chain_link is_assignment_pattern is_pattern_name is_rest is_statement is_hoistable_declaration is_block is_variable_declarations is_declaration is_statement_list_item is_labelled_item is_module_declaration is_exported_head is_function_head is_generator_head is_async_function_head is_async_generator_head is_function_tail is_getter_tail is_setter_tail is_method_head is_decorator_list is_class_head is_class_tail is_class_element is_constructor_name is_any_function_head is_head_without_yield is_head_without_await is_any_property_name is_jsx_element is_jsx_object is_uncovered takes
+in_head nt.CoalesceExpressionHead h p = absurd (true≢false p)
+in_head nt.CoalesceExpression h p = inl refl
+in_head k h p = inr h
+
+head_test : (c : Control) → if_so (takes (waits c) nt.CoalesceExpression) (takes (waits c) nt.BitwiseOrExpression) ≡ true
+unfolding is_member is_new is_call is_callee is_chained is_left_hand_side is_update is_unary is_exponentiation is_multiplicative is_additive is_shift is_relational is_in_left is_equality is_bitwise_and is_bitwise_xor is_bitwise_or is_logical_and is_logical_or is_coalesce_head is_short_circuit is_conditional is_assignment is_expression is_assignment_target is_pattern_target is_pattern_element is_last_element is_coalesce is_private is_optional is_primary is_template is_property_name is_chain_link is_assignment_pattern is_pattern_name is_rest is_statement is_hoistable_declaration is_block is_variable_declarations is_declaration is_statement_list_item is_labelled_item is_module_declaration is_exported_head is_function_head is_generator_head is_async_function_head is_async_generator_head is_function_tail is_getter_tail is_setter_tail is_method_head is_decorator_list is_class_head is_class_tail is_class_element is_constructor_name is_any_function_head is_head_without_yield is_head_without_await is_any_property_name is_jsx_element is_jsx_object is_uncovered takes
+head_test (Open (OfInfix Power)) = refl
+head_test c = refl
+
+operand_stands : (c : Control) (l : Class) (k : Nonterminal) → is_infix l ≡ true → takes (waits c) (made_by l) ≡ true → takes (left l) k ≡ true → is_place k ≡ false → stands c k ≡ true
+unfolding is_member is_new is_call is_callee is_chained is_left_hand_side is_update is_unary is_exponentiation is_multiplicative is_additive is_shift is_relational is_in_left is_equality is_bitwise_and is_bitwise_xor is_bitwise_or is_logical_and is_logical_or is_coalesce_head is_short_circuit is_conditional is_assignment is_expression is_assignment_target is_pattern_target is_pattern_element is_last_element is_coalesce is_private is_optional is_primary is_template is_property_name is_chain_link is_assignment_pattern is_pattern_name is_rest is_statement is_hoistable_declaration is_block is_variable_declarations is_declaration is_statement_list_item is_labelled_item is_module_declaration is_exported_head is_function_head is_generator_head is_async_function_head is_async_generator_head is_function_tail is_getter_tail is_setter_tail is_method_head is_decorator_list is_class_head is_class_tail is_class_element is_constructor_name is_any_function_head is_head_without_yield is_head_without_await is_any_property_name is_jsx_element is_jsx_object is_uncovered takes
+operand_stands c (Infix Within) k i h e p =
+    elim (in_left k e p) [ inl q ↦ or_right (takes (waits c) k) _ (and_from _ _ q h) | inr q ↦ or_left (takes (waits c) k) _ (takes_on (waits c) nt.RelationalExpression k h q) ]
+operand_stands c (Infix Coalescing) k i h e p =
+    or_left (takes (waits c) k) _ (elim (in_head k e p) [
+      | inl q ↦ takes_on (waits c) nt.CoalesceExpression k h q
+      | inr q ↦ takes_on (waits c) nt.BitwiseOrExpression k (told _ _ (head_test c) h) q
+    ])
+operand_stands c (Infix level) k i h e p = or_left (takes (waits c) k) _ (takes_on (waits c) (made level) k h (takes_on (made level) (left_of level) k refl e))
+operand_stands c Assigns k i h e p = or_left (takes (waits c) k) _ (takes_on (waits c) nt.AssignmentExpression k h (takes_on nt.AssignmentExpression nt.LeftHandSideExpression k refl e))
+operand_stands c Ask k i h e p = or_left (takes (waits c) k) _ (takes_on (waits c) nt.ConditionalExpression k h (takes_on nt.ConditionalExpression nt.ShortCircuitExpression k refl e))
+operand_stands c Comma k i h e p = or_left (takes (waits c) k) _ (takes_on (waits c) nt.Expression k h (takes_on nt.Expression nt.AssignmentExpression k refl e))
+operand_stands c Line k i h e p = or_left (takes (waits c) k) _ (takes_on (waits c) nt.UpdateExpression k h (takes_on nt.UpdateExpression nt.LeftHandSideExpression k refl e))
+operand_stands c l k i h e p = absurd (true≢false (sym i))
+
+-- what is asked of a node that begins with an operand
+abbrev pub Wraps : Token → Nonterminal → Nonterminal → Variant → Type 0
+Wraps t n k variant = (c : Control) → stands c n ≡ true → (stands c k ≡ true) × (decide c (Some variant) t ≡ Wrap)
+
+pub infix_wraps : (t : Token) (k : Nonterminal) (variant : Variant) → is_infix (class t) ≡ true → closes t k ≡ true → is_place k ≡ false → Wraps t (made_by (class t)) k variant
+infix_wraps t k variant i e p c s =
+    let h = taken_there (waits c) (made_by (class t)) _ (made_private (class t)) s in
+    (operand_stands c (class t) k i h e p, wrap_is _ (told _ _ (wrap_test c (class t)) (and_from _ _ i h)))
+
+-- ---- the same of links: members, calls, tags and optional chains
+
+link_test : (c : Control) → (is_wrap (with_operand c Dot) && (is_wrap (with_operand c ChainDot) && is_wrap (with_operand c OpenBracket))) ≡ true
+unfolding is_member is_new is_call is_callee is_chained is_left_hand_side is_update is_unary is_exponentiation is_multiplicative is_additive is_shift is_relational is_in_left is_equality is_bitwise_and is_bitwise_xor is_bitwise_or is_logical_and is_logical_or is_coalesce_head is_short_circuit is_conditional is_assignment is_expression is_assignment_target is_pattern_target is_pattern_element is_last_element is_coalesce is_private is_optional is_primary is_template is_property_name is_chain_link is_assignment_pattern is_pattern_name is_rest is_statement is_hoistable_declaration is_block is_variable_declarations is_declaration is_statement_list_item is_labelled_item is_module_declaration is_exported_head is_function_head is_generator_head is_async_function_head is_async_generator_head is_function_tail is_getter_tail is_setter_tail is_method_head is_decorator_list is_class_head is_class_tail is_class_element is_constructor_name is_any_function_head is_head_without_yield is_head_without_await is_any_property_name is_jsx_element is_jsx_object is_uncovered takes
+link_test (Open (OfInfix Power)) = refl
+link_test c = refl
+
+tag_test : (c : Control) (opens : Bool) → is_wrap (with_operand c (First opens)) ≡ true
+unfolding is_member is_new is_call is_callee is_chained is_left_hand_side is_update is_unary is_exponentiation is_multiplicative is_additive is_shift is_relational is_in_left is_equality is_bitwise_and is_bitwise_xor is_bitwise_or is_logical_and is_logical_or is_coalesce_head is_short_circuit is_conditional is_assignment is_expression is_assignment_target is_pattern_target is_pattern_element is_last_element is_coalesce is_private is_optional is_primary is_template is_property_name is_chain_link is_assignment_pattern is_pattern_name is_rest is_statement is_hoistable_declaration is_block is_variable_declarations is_declaration is_statement_list_item is_labelled_item is_module_declaration is_exported_head is_function_head is_generator_head is_async_function_head is_async_generator_head is_function_tail is_getter_tail is_setter_tail is_method_head is_decorator_list is_class_head is_class_tail is_class_element is_constructor_name is_any_function_head is_head_without_yield is_head_without_await is_any_property_name is_jsx_element is_jsx_object is_uncovered takes
+tag_test (Open (OfInfix Power)) opens = refl
+tag_test c opens = refl
+
+call_test : (c : Control) → if_so (takes (waits c) nt.CallExpression) (is_wrap (with_operand c OpenParen) && takes (waits c) nt.MemberExpression) ≡ true
+unfolding is_member is_new is_call is_callee is_chained is_left_hand_side is_update is_unary is_exponentiation is_multiplicative is_additive is_shift is_relational is_in_left is_equality is_bitwise_and is_bitwise_xor is_bitwise_or is_logical_and is_logical_or is_coalesce_head is_short_circuit is_conditional is_assignment is_expression is_assignment_target is_pattern_target is_pattern_element is_last_element is_coalesce is_private is_optional is_primary is_template is_property_name is_chain_link is_assignment_pattern is_pattern_name is_rest is_statement is_hoistable_declaration is_block is_variable_declarations is_declaration is_statement_list_item is_labelled_item is_module_declaration is_exported_head is_function_head is_generator_head is_async_function_head is_async_generator_head is_function_tail is_getter_tail is_setter_tail is_method_head is_decorator_list is_class_head is_class_tail is_class_element is_constructor_name is_any_function_head is_head_without_yield is_head_without_await is_any_property_name is_jsx_element is_jsx_object is_uncovered takes
+call_test (Open (OfInfix Power)) = refl
+call_test c = refl
+
+chain_test : (c : Control) → if_so (takes (waits c) nt.OptionalExpression) (takes (waits c) nt.CallExpression) ≡ true
+unfolding is_member is_new is_call is_callee is_chained is_left_hand_side is_update is_unary is_exponentiation is_multiplicative is_additive is_shift is_relational is_in_left is_equality is_bitwise_and is_bitwise_xor is_bitwise_or is_logical_and is_logical_or is_coalesce_head is_short_circuit is_conditional is_assignment is_expression is_assignment_target is_pattern_target is_pattern_element is_last_element is_coalesce is_private is_optional is_primary is_template is_property_name is_chain_link is_assignment_pattern is_pattern_name is_rest is_statement is_hoistable_declaration is_block is_variable_declarations is_declaration is_statement_list_item is_labelled_item is_module_declaration is_exported_head is_function_head is_generator_head is_async_function_head is_async_generator_head is_function_tail is_getter_tail is_setter_tail is_method_head is_decorator_list is_class_head is_class_tail is_class_element is_constructor_name is_any_function_head is_head_without_yield is_head_without_await is_any_property_name is_jsx_element is_jsx_object is_uncovered takes
+chain_test (Open (OfInfix Power)) = refl
+chain_test c = refl
+
+-- a place of callees takes a CallExpression or a MemberExpression; that of a chain, an OptionalExpression too
+called_or_member : (k : Nonterminal) → takes nt.CallOrMember k ≡ true → is_place k ≡ false → (takes nt.CallExpression k ≡ true) ⊎ (takes nt.MemberExpression k ≡ true)
+unfolding is_member is_new is_call is_callee is_chained is_left_hand_side is_update is_unary is_exponentiation is_multiplicative is_additive is_shift is_relational is_in_left is_equality is_bitwise_and is_bitwise_xor is_bitwise_or is_logical_and is_logical_or is_coalesce_head is_short_circuit is_conditional is_assignment is_expression is_assignment_target is_pattern_target is_pattern_element is_last_element is_coalesce is_private is_optional is_primary is_template is_property_name is_chain_link is_assignment_pattern is_pattern_name is_rest is_statement is_hoistable_declaration is_block is_variable_declarations is_declaration is_statement_list_item is_labelled_item is_module_declaration is_exported_head is_function_head is_generator_head is_async_function_head is_async_generator_head is_function_tail is_getter_tail is_setter_tail is_method_head is_decorator_list is_class_head is_class_tail is_class_element is_constructor_name is_any_function_head is_head_without_yield is_head_without_await is_any_property_name is_jsx_element is_jsx_object is_uncovered takes
+called_or_member nt.CallOrMember h p = absurd (true≢false p)
+called_or_member nt.CallExpression h p = inl refl
+called_or_member k h p = inr h
+
+optional_or_called : (k : Nonterminal) → takes nt.ChainBase k ≡ true → is_place k ≡ false → (takes nt.OptionalExpression k ≡ true) ⊎ (takes nt.CallOrMember k ≡ true)
+unfolding is_member is_new is_call is_callee is_chained is_left_hand_side is_update is_unary is_exponentiation is_multiplicative is_additive is_shift is_relational is_in_left is_equality is_bitwise_and is_bitwise_xor is_bitwise_or is_logical_and is_logical_or is_coalesce_head is_short_circuit is_conditional is_assignment is_expression is_assignment_target is_pattern_target is_pattern_element is_last_element is_coalesce is_private is_optional is_primary is_template is_property_name is_chain_link is_assignment_pattern is_pattern_name is_rest is_statement is_hoistable_declaration is_block is_variable_declarations is_declaration is_statement_list_item is_labelled_item is_module_declaration is_exported_head is_function_head is_generator_head is_async_function_head is_async_generator_head is_function_tail is_getter_tail is_setter_tail is_method_head is_decorator_list is_class_head is_class_tail is_class_element is_constructor_name is_any_function_head is_head_without_yield is_head_without_await is_any_property_name is_jsx_element is_jsx_object is_uncovered takes
+optional_or_called nt.ChainBase h p = absurd (true≢false p)
+optional_or_called nt.CallOrMember h p = absurd (true≢false p)
+optional_or_called nt.OptionalExpression h p = inl refl
+optional_or_called k h p = inr h
+
+-- The nonterminals of links, each with its place of an operand.
+pub data Linked : Nonterminal → Nonterminal → Type 0 where
+  a_member : Linked nt.MemberExpression nt.MemberExpression
+  of_call : Linked nt.CallExpression nt.CallExpression
+  a_call : Linked nt.CallExpression nt.CallOrMember
+  a_target : Linked nt.LeftHandSideExpression nt.CallOrMember
+  a_chain : Linked nt.OptionalExpression nt.ChainBase
+  of_chain : Linked nt.OptionalExpression nt.OptionalExpression
+
+under_call : (c : Control) (k : Nonterminal) → takes (waits c) nt.CallExpression ≡ true → takes nt.CallOrMember k ≡ true → is_place k ≡ false → takes (waits c) k ≡ true
+under_call c k h e p = elim (called_or_member k e p) [
+  | inl q ↦ takes_on (waits c) nt.CallExpression k h q
+  | inr q ↦ takes_on (waits c) nt.MemberExpression k (and_parts _ _ (told _ _ (call_test c) h)).1 q
+]
+
+linked_taken : {n place : Nonterminal} → Linked n place → (c : Control) (k : Nonterminal) → takes place k ≡ true → is_place k ≡ false → takes (waits c) n ≡ true → takes (waits c) k ≡ true
+unfolding is_member is_new is_call is_callee is_chained is_left_hand_side is_update is_unary is_exponentiation is_multiplicative is_additive is_shift is_relational is_in_left is_equality is_bitwise_and is_bitwise_xor is_bitwise_or is_logical_and is_logical_or is_coalesce_head is_short_circuit is_conditional is_assignment is_expression is_assignment_target is_pattern_target is_pattern_element is_last_element is_coalesce is_private is_optional is_primary is_template is_property_name is_chain_link is_assignment_pattern is_pattern_name is_rest is_statement is_hoistable_declaration is_block is_variable_declarations is_declaration is_statement_list_item is_labelled_item is_module_declaration is_exported_head is_function_head is_generator_head is_async_function_head is_async_generator_head is_function_tail is_getter_tail is_setter_tail is_method_head is_decorator_list is_class_head is_class_tail is_class_element is_constructor_name is_any_function_head is_head_without_yield is_head_without_await is_any_property_name is_jsx_element is_jsx_object is_uncovered takes
+linked_taken a_member c k e p h = takes_on (waits c) nt.MemberExpression k h e
+linked_taken of_call c k e p h = takes_on (waits c) nt.CallExpression k h e
+linked_taken a_call c k e p h = under_call c k h e p
+linked_taken a_target c k e p h = takes_on (waits c) nt.LeftHandSideExpression k h (elim (called_or_member k e p) [
+  | inl q ↦ takes_on nt.LeftHandSideExpression nt.CallExpression k refl q
+  | inr q ↦ takes_on nt.LeftHandSideExpression nt.MemberExpression k refl q
+])
+linked_taken a_chain c k e p h = elim (optional_or_called k e p) [
+  | inl q ↦ takes_on (waits c) nt.OptionalExpression k h q
+  | inr q ↦ under_call c k (told _ _ (chain_test c) h) q p
+]
+linked_taken of_chain c k e p h = takes_on (waits c) nt.OptionalExpression k h e
+
+pub linked_closes : {n place : Nonterminal} → Linked n place → (k : Nonterminal) → takes place k ≡ true → is_place k ≡ false → takes nt.ChainBase k ≡ true
+unfolding is_member is_new is_call is_callee is_chained is_left_hand_side is_update is_unary is_exponentiation is_multiplicative is_additive is_shift is_relational is_in_left is_equality is_bitwise_and is_bitwise_xor is_bitwise_or is_logical_and is_logical_or is_coalesce_head is_short_circuit is_conditional is_assignment is_expression is_assignment_target is_pattern_target is_pattern_element is_last_element is_coalesce is_private is_optional is_primary is_template is_property_name is_chain_link is_assignment_pattern is_pattern_name is_rest is_statement is_hoistable_declaration is_block is_variable_declarations is_declaration is_statement_list_item is_labelled_item is_module_declaration is_exported_head is_function_head is_generator_head is_async_function_head is_async_generator_head is_function_tail is_getter_tail is_setter_tail is_method_head is_decorator_list is_class_head is_class_tail is_class_element is_constructor_name is_any_function_head is_head_without_yield is_head_without_await is_any_property_name is_jsx_element is_jsx_object is_uncovered takes
+linked_closes a_member k e p = takes_on nt.ChainBase nt.MemberExpression k refl e
+linked_closes of_call k e p = takes_on nt.ChainBase nt.CallExpression k refl e
+linked_closes a_call k e p = elim (called_or_member k e p) [ inl q ↦ takes_on nt.ChainBase nt.CallExpression k refl q | inr q ↦ takes_on nt.ChainBase nt.MemberExpression k refl q ]
+linked_closes a_target k e p = elim (called_or_member k e p) [ inl q ↦ takes_on nt.ChainBase nt.CallExpression k refl q | inr q ↦ takes_on nt.ChainBase nt.MemberExpression k refl q ]
+linked_closes a_chain k e p = e
+linked_closes of_chain k e p = takes_on nt.ChainBase nt.OptionalExpression k refl e
+
+linked_private : {n place : Nonterminal} → Linked n place → is_private n ≡ false
+unfolding is_private
+linked_private a_member = refl
+linked_private of_call = refl
+linked_private a_call = refl
+linked_private a_target = refl
+linked_private a_chain = refl
+linked_private of_chain = refl
+
+linked_there : {n place : Nonterminal} → Linked n place → (c : Control) (k : Nonterminal) → takes place k ≡ true → is_place k ≡ false → stands c n ≡ true → (takes (waits c) n ≡ true) × (stands c k ≡ true)
+linked_there {n = n} a c k e p s =
+    let h = taken_there (waits c) n _ (linked_private a) s in
+    (h, or_left (takes (waits c) k) _ (linked_taken a c k e p h))
+
+-- the tokens behind the operand of a link
+abbrev pub links : Class → Bool
+links Dot = true
+links ChainDot = true
+links OpenBracket = true
+links (First opens) = true
+links c = false
+
+link_wrapped : (c : Control) (l : Class) → links l ≡ true → with_operand c l ≡ Wrap
+link_wrapped c Dot h = wrap_is _ (and_parts _ _ (link_test c)).0
+link_wrapped c ChainDot h = wrap_is _ (and_parts _ _ (and_parts _ _ (link_test c)).1).0
+link_wrapped c OpenBracket h = wrap_is _ (and_parts _ _ (and_parts _ _ (link_test c)).1).1
+link_wrapped c (First opens) h = wrap_is _ (tag_test c opens)
+link_wrapped c l h = absurd (true≢false (sym h))
+
+pub link_wraps : (t : Token) {n place : Nonterminal} (k : Nonterminal) (variant : Variant) → Linked n place → links (class t) ≡ true → takes place k ≡ true → is_place k ≡ false → Wraps t n k variant
+link_wraps t k variant a h e p c s = ((linked_there a c k e p s).1, link_wrapped c (class t) h)
+
+-- `(` behind what is called
+abbrev is_opening : Class → Bool
+is_opening OpenParen = true
+is_opening c = false
+
+pub data Calling : Nonterminal → Nonterminal → Type 0 where
+  calls : Calling nt.CallExpression nt.CallOrMember
+  calls_chain : Calling nt.OptionalExpression nt.ChainBase
+  calls_on : Calling nt.OptionalExpression nt.OptionalExpression
+
+pub calling_linked : {n place : Nonterminal} → Calling n place → Linked n place
+calling_linked calls = a_call
+calling_linked calls_chain = a_chain
+calling_linked calls_on = of_chain
+
+calling_call : {n place : Nonterminal} → Calling n place → (c : Control) → takes (waits c) n ≡ true → takes (waits c) nt.CallExpression ≡ true
+calling_call calls c h = h
+calling_call calls_chain c h = told _ _ (chain_test c) h
+calling_call calls_on c h = told _ _ (chain_test c) h
+
+pub call_wraps : (t : Token) {n place : Nonterminal} (k : Nonterminal) (variant : Variant) → Calling n place → class t ≡ OpenParen → takes place k ≡ true → is_place k ≡ false → Wraps t n k variant
+call_wraps t k variant a q e p c s =
+    let h = linked_there (calling_linked a) c k e p s in
+    (h.1, ap (with_operand c) q ∙ wrap_is _ (and_parts _ _ (told _ _ (call_test c) (calling_call a c h.0))).0)
+
+-- ---- where a node ends with a part: the ends of the machine's frames
+
+ends_reduce : (n : Nonterminal) (l : Class) → takes (left l) n ≡ true → cond (takes (left l) n) Reduce Wrap ≡ Reduce
+ends_reduce n l h = ap (λ b. cond b Reduce Wrap) h
+
+-- what is asked of a node that ends with a part
+abbrev pub Ended : Control → Nonterminal → Nonterminal → Variant → Type 0
+Ended c n k variant = (t : Token) → closes t n ≡ true → (closes t k ≡ true) × (decide c (Some variant) t ≡ Reduce)
+
+pub tail_ends : (t : Tail) (k : Nonterminal) (variant : Variant) → takes (last t) k ≡ true → Ended (Open t) (whole t) k variant
+tail_ends t k variant h u e = (tail_closes t u k h e, ends_reduce (whole t) (class u) e)
+
+new_reduced : (l : Class) → takes (left l) nt.NewExpression ≡ true → with_operand AfterNew l ≡ Reduce
+unfolding is_member is_new is_call is_callee is_chained is_left_hand_side is_update is_unary is_exponentiation is_multiplicative is_additive is_shift is_relational is_in_left is_equality is_bitwise_and is_bitwise_xor is_bitwise_or is_logical_and is_logical_or is_coalesce_head is_short_circuit is_conditional is_assignment is_expression is_assignment_target is_pattern_target is_pattern_element is_last_element is_coalesce is_private is_optional is_primary is_template is_property_name is_chain_link is_assignment_pattern is_pattern_name is_rest is_statement is_hoistable_declaration is_block is_variable_declarations is_declaration is_statement_list_item is_labelled_item is_module_declaration is_exported_head is_function_head is_generator_head is_async_function_head is_async_generator_head is_function_tail is_getter_tail is_setter_tail is_method_head is_decorator_list is_class_head is_class_tail is_class_element is_constructor_name is_any_function_head is_head_without_yield is_head_without_await is_any_property_name is_jsx_element is_jsx_object is_uncovered takes
+new_reduced OpenParen h = absurd (true≢false (sym h))
+new_reduced l h = ends_reduce nt.NewExpression l h
+
+pub new_ends : (k : Nonterminal) (variant : Variant) → takes nt.NewExpression k ≡ true → Ended AfterNew nt.NewExpression k variant
+new_ends k variant h u e = (takes_on (left (class u)) nt.NewExpression k e h, new_reduced (class u) e)
+
+pub yield_ends : (k : Nonterminal) (variant : Variant) → takes nt.AssignmentExpression k ≡ true → Ended YieldLine nt.AssignmentExpression k variant
+yield_ends k variant h u e = (takes_on (left (class u)) nt.AssignmentExpression k e h, ends_reduce nt.AssignmentExpression (class u) e)
+
+listed_reduced : (l : Class) → takes (left l) nt.Expression ≡ true → with_operand Listed l ≡ Reduce
+unfolding is_member is_new is_call is_callee is_chained is_left_hand_side is_update is_unary is_exponentiation is_multiplicative is_additive is_shift is_relational is_in_left is_equality is_bitwise_and is_bitwise_xor is_bitwise_or is_logical_and is_logical_or is_coalesce_head is_short_circuit is_conditional is_assignment is_expression is_assignment_target is_pattern_target is_pattern_element is_last_element is_coalesce is_private is_optional is_primary is_template is_property_name is_chain_link is_assignment_pattern is_pattern_name is_rest is_statement is_hoistable_declaration is_block is_variable_declarations is_declaration is_statement_list_item is_labelled_item is_module_declaration is_exported_head is_function_head is_generator_head is_async_function_head is_async_generator_head is_function_tail is_getter_tail is_setter_tail is_method_head is_decorator_list is_class_head is_class_tail is_class_element is_constructor_name is_any_function_head is_head_without_yield is_head_without_await is_any_property_name is_jsx_element is_jsx_object is_uncovered takes
+listed_reduced Comma h = absurd (true≢false (sym h))
+listed_reduced l h = ends_reduce nt.Expression l h
+
+listed_test : (l : Class) → if_so (takes (left l) nt.Expression) (takes (left l) nt.AssignmentExpression) ≡ true
+unfolding is_member is_new is_call is_callee is_chained is_left_hand_side is_update is_unary is_exponentiation is_multiplicative is_additive is_shift is_relational is_in_left is_equality is_bitwise_and is_bitwise_xor is_bitwise_or is_logical_and is_logical_or is_coalesce_head is_short_circuit is_conditional is_assignment is_expression is_assignment_target is_pattern_target is_pattern_element is_last_element is_coalesce is_private is_optional is_primary is_template is_property_name is_chain_link is_assignment_pattern is_pattern_name is_rest is_statement is_hoistable_declaration is_block is_variable_declarations is_declaration is_statement_list_item is_labelled_item is_module_declaration is_exported_head is_function_head is_generator_head is_async_function_head is_async_generator_head is_function_tail is_getter_tail is_setter_tail is_method_head is_decorator_list is_class_head is_class_tail is_class_element is_constructor_name is_any_function_head is_head_without_yield is_head_without_await is_any_property_name is_jsx_element is_jsx_object is_uncovered takes
+listed_test (Infix Power) = refl
+listed_test l = refl
+
+pub listed_ends : (k : Nonterminal) (variant : Variant) → takes nt.AssignmentExpression k ≡ true → Ended Listed nt.Expression k variant
+listed_ends k variant h u e = (takes_on (left (class u)) nt.AssignmentExpression k (told _ _ (listed_test (class u)) e) h, listed_reduced (class u) e)
+
+alone_reduced : (l : Class) → takes (left l) nt.AssignmentExpression ≡ true → without AfterYield l ≡ Reduce
+unfolding is_member is_new is_call is_callee is_chained is_left_hand_side is_update is_unary is_exponentiation is_multiplicative is_additive is_shift is_relational is_in_left is_equality is_bitwise_and is_bitwise_xor is_bitwise_or is_logical_and is_logical_or is_coalesce_head is_short_circuit is_conditional is_assignment is_expression is_assignment_target is_pattern_target is_pattern_element is_last_element is_coalesce is_private is_optional is_primary is_template is_property_name is_chain_link is_assignment_pattern is_pattern_name is_rest is_statement is_hoistable_declaration is_block is_variable_declarations is_declaration is_statement_list_item is_labelled_item is_module_declaration is_exported_head is_function_head is_generator_head is_async_function_head is_async_generator_head is_function_tail is_getter_tail is_setter_tail is_method_head is_decorator_list is_class_head is_class_tail is_class_element is_constructor_name is_any_function_head is_head_without_yield is_head_without_await is_any_property_name is_jsx_element is_jsx_object is_uncovered takes
+alone_reduced Line h = absurd (true≢false (sym h))
+alone_reduced l h = refl
+
+pub yield_alone : (t : Token) → closes t nt.AssignmentExpression ≡ true → decide AfterYield None t ≡ Reduce
+yield_alone t h = alone_reduced (class t) h
+
+-- what stands before a link is no optional chain, unless the link is one of it
+pub member_plain : (k : Nonterminal) → takes nt.MemberExpression k ≡ true → is_optional k ≡ false
+unfolding is_member is_new is_call is_callee is_chained is_left_hand_side is_update is_unary is_exponentiation is_multiplicative is_additive is_shift is_relational is_in_left is_equality is_bitwise_and is_bitwise_xor is_bitwise_or is_logical_and is_logical_or is_coalesce_head is_short_circuit is_conditional is_assignment is_expression is_assignment_target is_pattern_target is_pattern_element is_last_element is_coalesce is_private is_optional is_primary is_template is_property_name is_chain_link is_assignment_pattern is_pattern_name is_rest is_statement is_hoistable_declaration is_block is_variable_declarations is_declaration is_statement_list_item is_labelled_item is_module_declaration is_exported_head is_function_head is_generator_head is_async_function_head is_async_generator_head is_function_tail is_getter_tail is_setter_tail is_method_head is_decorator_list is_class_head is_class_tail is_class_element is_constructor_name is_any_function_head is_head_without_yield is_head_without_await is_any_property_name is_jsx_element is_jsx_object is_uncovered takes
+member_plain nt.OptionalExpression h = sym h
+member_plain k h = refl
+
+pub call_plain : (k : Nonterminal) → takes nt.CallExpression k ≡ true → is_optional k ≡ false
+unfolding is_member is_new is_call is_callee is_chained is_left_hand_side is_update is_unary is_exponentiation is_multiplicative is_additive is_shift is_relational is_in_left is_equality is_bitwise_and is_bitwise_xor is_bitwise_or is_logical_and is_logical_or is_coalesce_head is_short_circuit is_conditional is_assignment is_expression is_assignment_target is_pattern_target is_pattern_element is_last_element is_coalesce is_private is_optional is_primary is_template is_property_name is_chain_link is_assignment_pattern is_pattern_name is_rest is_statement is_hoistable_declaration is_block is_variable_declarations is_declaration is_statement_list_item is_labelled_item is_module_declaration is_exported_head is_function_head is_generator_head is_async_function_head is_async_generator_head is_function_tail is_getter_tail is_setter_tail is_method_head is_decorator_list is_class_head is_class_tail is_class_element is_constructor_name is_any_function_head is_head_without_yield is_head_without_await is_any_property_name is_jsx_element is_jsx_object is_uncovered takes
+call_plain nt.OptionalExpression h = sym h
+call_plain k h = refl
+
+pub callee_plain : (k : Nonterminal) → takes nt.CallOrMember k ≡ true → is_place k ≡ false → is_optional k ≡ false
+callee_plain k h p = elim (called_or_member k h p) [ inl q ↦ call_plain k q | inr q ↦ member_plain k q ]
+
+-- what is assigned to
+pub target_left : (k : Nonterminal) → takes nt.AssignmentTarget k ≡ true → is_place k ≡ false → takes nt.LeftHandSideExpression k ≡ true
+unfolding is_member is_new is_call is_callee is_chained is_left_hand_side is_update is_unary is_exponentiation is_multiplicative is_additive is_shift is_relational is_in_left is_equality is_bitwise_and is_bitwise_xor is_bitwise_or is_logical_and is_logical_or is_coalesce_head is_short_circuit is_conditional is_assignment is_expression is_assignment_target is_pattern_target is_pattern_element is_last_element is_coalesce is_private is_optional is_primary is_template is_property_name is_chain_link is_assignment_pattern is_pattern_name is_rest is_statement is_hoistable_declaration is_block is_variable_declarations is_declaration is_statement_list_item is_labelled_item is_module_declaration is_exported_head is_function_head is_generator_head is_async_function_head is_async_generator_head is_function_tail is_getter_tail is_setter_tail is_method_head is_decorator_list is_class_head is_class_tail is_class_element is_constructor_name is_any_function_head is_head_without_yield is_head_without_await is_any_property_name is_jsx_element is_jsx_object is_uncovered takes
+target_left nt.AssignmentTarget h p = absurd (true≢false p)
+target_left nt.AssignmentPattern h p = absurd (true≢false p)
+target_left k h p = h

@@ -1,0 +1,382 @@
+-- The machine's tables: what a token is behind an operand, what is begun, and what the machine does at a token.
+use Rattle.std.proofs.Common.{ℕ, Bool, true, false, ◌&&◌, ◌||◌, List, [], ◌∷◌, Option, Some, None, cond}
+use Rattle.std.specs.Prelude.{codes, bytes_eq, if◌then◌else◌}
+use Rattle.swc_ecma_codegen_grammar.specs.declared.kinds.Kind.{Kind}
+use Rattle.swc_ecma_codegen_grammar.specs.declared.kinds.Kind.TheVariants as kinds
+use Rattle.swc_ecma_codegen_grammar.specs.Tokens.{Token, Value, Characters}
+use Rattle.swc_ecma_codegen_syntax.specs.declared.nonterminals.Nonterminal.{Nonterminal}
+use Rattle.swc_ecma_codegen_syntax.specs.declared.nonterminals.Nonterminal.TheVariants as nt
+use Rattle.swc_ecma_codegen_syntax.specs.Nonterminals.{takes, is_private}
+use Rattle.swc_ecma_codegen_uniqueness.specs.ParseTrees.{Variant, This, Array, Object, Unary, Update, Bin, Assign, Member, SuperProp, Cond, Call, New, Seq, Ident, Lit, Tpl, TaggedTpl, Yield, MetaProp, Await, Paren, PrivateName, OptChain, Other}
+
+-- ---- tokens
+
+-- the binary operators of one nonterminal; `in` has a left operand of its own
+pub data Level : Type 0 where
+  Power Times Plus Shifting Comparing Within Equating BitAnds BitXors BitOrs Ands Ors Coalescing : Level
+
+-- what a token is
+pub data Class : Type 0 where
+  Infix : (level : Level) → Class
+  Assigns Ask Colon Comma Dot ChainDot OpenParen CloseParen OpenBracket CloseBracket OpenBrace CloseBrace Dots Line Twice Bang : Class
+  First Later : (opens : Bool) → Class
+  NameToken PrivateToken LiteralToken ThisWord NewWord SuperWord ImportWord YieldWord AwaitWord UnaryWord TargetWord MetaWord Strange : Class
+
+abbrev look : List (List ℕ × Class) → List ℕ → Class
+look [] text = Strange
+look (e ∷ es) text = cond (bytes_eq text e.0) e.1 (look es text)
+
+abbrev words : List (List ℕ × Class)
+words =
+    (codes "this", ThisWord) ∷ (codes "new", NewWord) ∷ (codes "super", SuperWord) ∷ (codes "import", ImportWord) ∷ (codes "yield", YieldWord)
+    ∷ (codes "await", AwaitWord) ∷ (codes "typeof", UnaryWord) ∷ (codes "void", UnaryWord) ∷ (codes "delete", UnaryWord) ∷ (codes "target", TargetWord)
+    ∷ (codes "meta", MetaWord) ∷ (codes "true", LiteralToken) ∷ (codes "false", LiteralToken) ∷ (codes "null", LiteralToken)
+    ∷ (codes "in", Infix Within) ∷ (codes "instanceof", Infix Comparing) ∷ []
+
+abbrev operators : List (List ℕ × Class) → List (List ℕ × Class)
+operators more =
+    (codes "**", Infix Power) ∷ (codes "*", Infix Times) ∷ (codes "/", Infix Times) ∷ (codes "%", Infix Times) ∷ (codes "+", Infix Plus) ∷ (codes "-", Infix Plus)
+    ∷ (codes "<<", Infix Shifting) ∷ (codes ">>", Infix Shifting) ∷ (codes ">>>", Infix Shifting)
+    ∷ (codes "<", Infix Comparing) ∷ (codes ">", Infix Comparing) ∷ (codes "<=", Infix Comparing) ∷ (codes ">=", Infix Comparing)
+    ∷ (codes "==", Infix Equating) ∷ (codes "!=", Infix Equating) ∷ (codes "===", Infix Equating) ∷ (codes "!==", Infix Equating)
+    ∷ (codes "&", Infix BitAnds) ∷ (codes "^", Infix BitXors) ∷ (codes "|", Infix BitOrs) ∷ (codes "&&", Infix Ands) ∷ (codes "||", Infix Ors)
+    ∷ (codes "??", Infix Coalescing) ∷ more
+
+abbrev assignments : List (List ℕ × Class) → List (List ℕ × Class)
+assignments more =
+    (codes "=", Assigns) ∷ (codes "+=", Assigns) ∷ (codes "-=", Assigns) ∷ (codes "*=", Assigns) ∷ (codes "/=", Assigns) ∷ (codes "%=", Assigns) ∷ (codes "<<=", Assigns)
+    ∷ (codes ">>=", Assigns) ∷ (codes ">>>=", Assigns) ∷ (codes "|=", Assigns) ∷ (codes "^=", Assigns) ∷ (codes "&=", Assigns) ∷ (codes "**=", Assigns)
+    ∷ (codes "&&=", Assigns) ∷ (codes "||=", Assigns) ∷ (codes "??=", Assigns) ∷ more
+
+abbrev marks : List (List ℕ × Class)
+marks =
+    operators (assignments (
+    (codes "?", Ask) ∷ (codes ":", Colon) ∷ (codes ",", Comma) ∷ (codes ".", Dot) ∷ (codes "?.", ChainDot) ∷ (codes "(", OpenParen) ∷ (codes ")", CloseParen)
+    ∷ (codes "[", OpenBracket) ∷ (codes "]", CloseBracket) ∷ (codes "{", OpenBrace) ∷ (codes "}", CloseBrace) ∷ (codes "...", Dots) ∷ (codes "++", Twice) ∷ (codes "--", Twice) ∷ (codes "!", Bang) ∷ (codes "~", Bang) ∷ []))
+
+abbrev pub class_of : Kind → Value → Class
+class_of kinds.Word (Characters text) = look words text
+class_of kinds.Punctuator (Characters text) = look marks text
+class_of kinds.Name v = NameToken
+class_of kinds.PrivateName v = PrivateToken
+class_of kinds.Number v = LiteralToken
+class_of kinds.BigInt v = LiteralToken
+class_of kinds.Str v = LiteralToken
+class_of kinds.Regex v = LiteralToken
+class_of (kinds.Template part) v = First part.opens
+class_of (kinds.TemplateRest part) v = Later part.opens
+class_of kinds.SameLine v = Line
+class_of kind v = Strange
+
+abbrev pub class : Token → Class
+class t = class_of t.kind t.value
+
+-- ---- levels: the nonterminal of each operator, and of its operands
+
+abbrev pub made : Level → Nonterminal
+made Power = nt.ExponentiationExpression
+made Times = nt.MultiplicativeExpression
+made Plus = nt.AdditiveExpression
+made Shifting = nt.ShiftExpression
+made Comparing = nt.RelationalExpression
+made Within = nt.RelationalExpression
+made Equating = nt.EqualityExpression
+made BitAnds = nt.BitwiseAndExpression
+made BitXors = nt.BitwiseXorExpression
+made BitOrs = nt.BitwiseOrExpression
+made Ands = nt.LogicalAndExpression
+made Ors = nt.LogicalOrExpression
+made Coalescing = nt.CoalesceExpression
+
+abbrev pub left_of : Level → Nonterminal
+left_of Power = nt.UpdateExpression
+left_of Within = nt.InLeft
+left_of Coalescing = nt.CoalesceExpressionHead
+left_of level = made level
+
+abbrev pub right_of : Level → Nonterminal
+right_of Power = nt.ExponentiationExpression
+right_of Times = nt.ExponentiationExpression
+right_of Plus = nt.MultiplicativeExpression
+right_of Shifting = nt.AdditiveExpression
+right_of Comparing = nt.ShiftExpression
+right_of Within = nt.ShiftExpression
+right_of Equating = nt.RelationalExpression
+right_of BitAnds = nt.EqualityExpression
+right_of BitXors = nt.BitwiseAndExpression
+right_of BitOrs = nt.BitwiseXorExpression
+right_of Ands = nt.BitwiseOrExpression
+right_of Ors = nt.LogicalAndExpression
+right_of Coalescing = nt.BitwiseOrExpression
+
+-- the widest nonterminal that stands before a token
+abbrev pub left : Class → Nonterminal
+left (Infix level) = left_of level
+left Assigns = nt.LeftHandSideExpression
+left Ask = nt.ShortCircuitExpression
+left Colon = nt.AssignmentExpression
+left Comma = nt.AssignmentExpression
+left Dot = nt.ChainBase
+left ChainDot = nt.ChainBase
+left OpenParen = nt.ChainBase
+left OpenBracket = nt.ChainBase
+left (First opens) = nt.ChainBase
+left CloseParen = nt.Expression
+left CloseBracket = nt.Expression
+left CloseBrace = nt.Expression
+left (Later opens) = nt.Expression
+left Line = nt.LeftHandSideExpression
+left c = nt.Uncovered
+
+-- a token ends what is of a nonterminal
+abbrev pub closes : Token → Nonterminal → Bool
+closes t n = takes (left (class t)) n
+
+-- ---- what is begun
+
+-- a node that waits for its last part
+pub data Tail : Type 0 where
+  OfInfix : (level : Level) → Tail
+  OfUnary OfUpdate OfCond OfAssign OfAwait OfYield : Tail
+
+-- its nonterminal, that of its last part, and its variant
+abbrev pub whole : Tail → Nonterminal
+whole (OfInfix level) = made level
+whole OfUnary = nt.UnaryExpression
+whole OfUpdate = nt.UpdateExpression
+whole OfCond = nt.ConditionalExpression
+whole OfAssign = nt.AssignmentExpression
+whole OfAwait = nt.UnaryExpression
+whole OfYield = nt.AssignmentExpression
+
+abbrev pub last : Tail → Nonterminal
+last (OfInfix level) = right_of level
+last OfUnary = nt.UnaryExpression
+last OfUpdate = nt.LeftHandSideExpression
+last OfCond = nt.AssignmentExpression
+last OfAssign = nt.AssignmentExpression
+last OfAwait = nt.UnaryExpression
+last OfYield = nt.AssignmentExpression
+
+abbrev pub tail_variant : Tail → Variant
+tail_variant (OfInfix level) = Bin
+tail_variant OfUnary = Unary
+tail_variant OfUpdate = Update
+tail_variant OfCond = Cond
+tail_variant OfAssign = Assign
+tail_variant OfAwait = Await
+tail_variant OfYield = Yield
+
+-- Where a node is that is begun: at its end; before its last part; in parentheses; behind `a[`; among arguments; among elements; behind `a ?`;
+-- in a template; behind `a.`; in an object before a property, behind its key, behind `[` of a key, and before its value; behind `a?.`, `new`,
+-- `new.`, `import`, `import.`, `super`, `yield`, what stays on its line behind that, `a` before `++`, and `a,`.
+pub data Control : Type 0 where
+  Closed : (variant : Variant) → Control
+  Open : (tail : Tail) → Control
+  InParen : Control
+  Index : (variant : Variant) → Control
+  Arguments : (variant : Variant) → Control
+  Elements Middle : Control
+  Substitution : (variant : Variant) → Control
+  Dotted : (variant : Variant) → Control
+  Properties AfterKey InKey InValue : Control
+  Chained AfterNew AfterNewDot AfterImport AfterImportDot AfterSuper AfterYield YieldLine Postfix Listed : Control
+
+-- the nonterminal that stands there
+abbrev pub waits : Control → Nonterminal
+waits (Open tail) = last tail
+waits InParen = nt.Expression
+waits (Index variant) = nt.Expression
+waits (Arguments variant) = nt.AssignmentExpression
+waits Elements = nt.AssignmentExpression
+waits Middle = nt.AssignmentExpression
+waits InKey = nt.AssignmentExpression
+waits InValue = nt.AssignmentExpression
+waits (Substitution variant) = nt.Expression
+waits AfterNew = nt.NewExpression
+waits YieldLine = nt.AssignmentExpression
+waits Listed = nt.AssignmentExpression
+waits c = nt.Uncovered
+
+-- A node stands there; `#a` does where `#a in b` would.
+abbrev pub stands : Control → Nonterminal → Bool
+stands c n = takes (waits c) n || (is_private n && takes (waits c) nt.RelationalExpression)
+
+abbrev pub variant_of : Control → Variant
+variant_of (Closed variant) = variant
+variant_of (Open tail) = tail_variant tail
+variant_of AfterNew = New
+variant_of AfterYield = Yield
+variant_of YieldLine = Yield
+variant_of Listed = Seq
+variant_of c = Other
+
+-- ---- what the machine does
+
+-- takes the token, begins a node with it, begins one with the operand at hand and it, ends the topmost one
+pub data Action : Type 0 where
+  Shift Push Wrap Reduce : Action
+
+-- with no operand at hand
+abbrev pub without : Control → Class → Action
+without (Open tail) c = Push
+without InParen c = Push
+without (Index variant) c = Push
+without Middle c = Push
+without (Substitution variant) c = Push
+without Listed c = Push
+without InKey c = Push
+without InValue c = Push
+without Properties NameToken = Shift
+without Properties LiteralToken = Shift
+without Properties OpenBracket = Shift
+without Properties Dots = Shift
+without Properties CloseBrace = Shift
+without AfterKey Colon = Shift
+without AfterKey Comma = Shift
+without AfterKey CloseBrace = Shift
+without (Arguments variant) CloseParen = Shift
+without (Arguments variant) Dots = Shift
+without (Arguments variant) c = Push
+without Elements CloseBracket = Shift
+without Elements Comma = Shift
+without Elements Dots = Shift
+without Elements c = Push
+without (Dotted variant) NameToken = Shift
+without (Dotted variant) PrivateToken = Shift
+without Chained NameToken = Shift
+without Chained PrivateToken = Shift
+without Chained OpenBracket = Shift
+without Chained OpenParen = Shift
+without AfterNew Dot = Shift
+without AfterNew c = Push
+without AfterNewDot TargetWord = Shift
+without AfterImport OpenParen = Shift
+without AfterImport Dot = Shift
+without AfterImportDot MetaWord = Shift
+without AfterSuper OpenParen = Shift
+without AfterSuper Dot = Shift
+without AfterSuper OpenBracket = Shift
+without AfterYield Line = Shift
+without YieldLine (Infix Times) = Shift
+without YieldLine c = Push
+without Postfix Twice = Shift
+without control c = Reduce
+
+abbrev ends : Nonterminal → Class → Action
+ends n c = if takes (left c) n then Reduce else Wrap
+
+abbrev pub with_operand : Control → Class → Action
+with_operand (Open tail) c = ends (whole tail) c
+with_operand InParen CloseParen = Shift
+with_operand (Index variant) CloseBracket = Shift
+with_operand (Arguments variant) Comma = Shift
+with_operand (Arguments variant) CloseParen = Shift
+with_operand Elements Comma = Shift
+with_operand Elements CloseBracket = Shift
+with_operand Middle Colon = Shift
+with_operand InKey CloseBracket = Shift
+with_operand InValue Comma = Shift
+with_operand InValue CloseBrace = Shift
+with_operand (Substitution variant) (Later opens) = Shift
+with_operand AfterNew OpenParen = Shift
+with_operand AfterNew c = ends nt.NewExpression c
+with_operand YieldLine c = ends nt.AssignmentExpression c
+with_operand Listed Comma = Shift
+with_operand Listed c = ends nt.Expression c
+with_operand control c = Wrap
+
+abbrev at_hand : Control → Option Variant → Class → Action
+at_hand control None c = without control c
+at_hand control (Some variant) c = with_operand control c
+
+abbrev pub decide : Control → Option Variant → Token → Action
+decide control hand t = at_hand control hand (class t)
+
+-- behind a token that is taken
+abbrev pub shifted_to : Control → Class → Control
+shifted_to (Arguments variant) CloseParen = Closed variant
+shifted_to Elements CloseBracket = Closed Array
+shifted_to (Dotted variant) c = Closed variant
+shifted_to Chained OpenBracket = Index OptChain
+shifted_to Chained OpenParen = Arguments OptChain
+shifted_to Chained c = Closed OptChain
+shifted_to AfterNew Dot = AfterNewDot
+shifted_to AfterNew c = Arguments New
+shifted_to AfterNewDot c = Closed MetaProp
+shifted_to AfterImport Dot = AfterImportDot
+shifted_to AfterImport c = Arguments Call
+shifted_to AfterImportDot c = Closed MetaProp
+shifted_to AfterSuper OpenParen = Arguments Call
+shifted_to AfterSuper Dot = Dotted SuperProp
+shifted_to AfterSuper c = Index SuperProp
+shifted_to AfterYield c = YieldLine
+shifted_to YieldLine c = Open OfYield
+shifted_to Postfix c = Closed Update
+shifted_to InParen c = Closed Paren
+shifted_to (Index variant) c = Closed variant
+shifted_to Middle c = Open OfCond
+shifted_to Properties OpenBracket = InKey
+shifted_to Properties Dots = InValue
+shifted_to Properties CloseBrace = Closed Object
+shifted_to Properties c = AfterKey
+shifted_to AfterKey Colon = InValue
+shifted_to AfterKey CloseBrace = Closed Object
+shifted_to AfterKey c = Properties
+shifted_to InKey c = AfterKey
+shifted_to InValue CloseBrace = Closed Object
+shifted_to InValue c = Properties
+shifted_to (Substitution variant) (Later false) = Closed variant
+shifted_to control c = control
+
+abbrev pub shift : Control → Token → Control
+shift control t = shifted_to control (class t)
+
+-- behind the first token of a node
+abbrev pub template : Variant → Bool → Control
+template variant true = Substitution variant
+template variant false = Closed variant
+
+abbrev pub started : Class → Control
+started NameToken = Closed Ident
+started PrivateToken = Closed PrivateName
+started LiteralToken = Closed Lit
+started ThisWord = Closed This
+started OpenParen = InParen
+started OpenBracket = Elements
+started OpenBrace = Properties
+started (First opens) = template Tpl opens
+started (Infix level) = Open OfUnary
+started Bang = Open OfUnary
+started UnaryWord = Open OfUnary
+started Twice = Open OfUpdate
+started NewWord = AfterNew
+started SuperWord = AfterSuper
+started ImportWord = AfterImport
+started YieldWord = AfterYield
+started AwaitWord = Open OfAwait
+started c = Closed Other
+
+abbrev pub start : Token → Control
+start t = started (class t)
+
+-- behind an operand and a token: behind an optional chain a link is one more of it
+abbrev pub chained : Variant → Variant → Variant
+chained OptChain variant = OptChain
+chained operand variant = variant
+
+abbrev pub wrapped_to : Variant → Class → Control
+wrapped_to operand (Infix level) = Open (OfInfix level)
+wrapped_to operand Assigns = Open OfAssign
+wrapped_to operand Ask = Middle
+wrapped_to operand Comma = Listed
+wrapped_to operand Dot = Dotted (chained operand Member)
+wrapped_to operand OpenBracket = Index (chained operand Member)
+wrapped_to operand OpenParen = Arguments (chained operand Call)
+wrapped_to operand ChainDot = Chained
+wrapped_to operand (First opens) = template TaggedTpl opens
+wrapped_to operand Line = Postfix
+wrapped_to operand c = Closed Other
+
+abbrev pub wrap : Variant → Token → Control
+wrap operand t = wrapped_to operand (class t)

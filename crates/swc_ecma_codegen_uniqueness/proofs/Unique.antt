@@ -1,0 +1,77 @@
+-- Of a list of tokens there is one tree.
+use Rattle.std.proofs.Common.{◌≡◌, true, List, [], ◌∷◌, ◌++◌, refl, sym, ap, ◌∙◌, subst}
+use Rattle.std.specs.Prelude.{codes}
+use Rattle.swc_ecma_codegen_tree.specs.declared.links.AnyNode.{AnyNode}
+use Rattle.swc_ecma_codegen_tree.specs.declared.exprs.Expr.{Expr}
+use Rattle.swc_ecma_codegen_grammar.specs.Phrases.{Generates}
+use Rattle.swc_ecma_codegen_grammar.specs.Settings.{Settings}
+use Rattle.swc_ecma_codegen_grammar.specs.TreePhrases.{expr_phrase}
+use Rattle.swc_ecma_codegen_syntax.specs.Verdicts.{holds}
+use Rattle.swc_ecma_codegen_syntax.proofs.Wholes.{complete}
+use Rattle.swc_ecma_codegen_grammar.specs.Tokens.{Token, punctuator}
+use Rattle.swc_ecma_codegen_grammar.specs.declared.roles.Role.TheVariants.{Expression}
+use Rattle.swc_ecma_codegen_syntax.specs.declared.nonterminals.Nonterminal.{Nonterminal}
+use Rattle.swc_ecma_codegen_syntax.specs.declared.nonterminals.Nonterminal.TheVariants as nt
+use Rattle.swc_ecma_codegen_syntax.specs.declared.parameters.Parameters.{Parameters}
+use Rattle.swc_ecma_codegen_syntax.specs.Nonterminals.{takes}
+use Rattle.swc_ecma_codegen_syntax.specs.Forms.{Part}
+use Rattle.swc_ecma_codegen_syntax.specs.Derives.{Derives, DerivesExpr, part, bare_phrase, expr_verdict}
+use Rattle.swc_ecma_codegen_uniqueness.specs.ParseTrees.{Variant, ParseTree, End, Node, tokens_of, AreKnown}
+use Rattle.swc_ecma_codegen_uniqueness.specs.Parses.{placed, is_inlined, form_parse, expr_parse}
+use Rattle.swc_ecma_codegen_uniqueness.proofs.Tables.{InParen}
+use Rattle.swc_ecma_codegen_uniqueness.proofs.Machine.{Whole, Good, one_tree}
+use Rattle.swc_ecma_codegen_uniqueness.proofs.TableLaws.{or_left}
+use Rattle.swc_ecma_codegen_uniqueness.proofs.Reading.{derived_parse}
+use Rattle.swc_ecma_codegen_uniqueness.proofs.Parsed.{tokens_before}
+use Rattle.swc_ecma_codegen_uniqueness.proofs.Fits.{PlacedGood, AllGood, taken_at}
+use Rattle.swc_ecma_codegen_uniqueness.proofs.Layers.{all_good}
+use Rattle.swc_ecma_codegen_uniqueness.proofs.Settled.{is_settled_form}
+use Rattle.swc_ecma_codegen_uniqueness.proofs.ParseLaws.{derived_as_parsed}
+
+-- an expression that is read as it is
+record Readable (m : ParseTree) : Type 0 where
+  variant : Variant
+  of : Nonterminal
+  inside : ParseTree
+  is : m ≡ Node variant inside End
+  taken : takes nt.Expression of ≡ true
+  good : Good (Whole variant of) inside
+
+readable : {s : Settings} {c : Parameters} {n : AnyNode} {ts : List Token} (d : Derives true s (Part nt.Expression c Expression n) ts) → s.minify ≡ c.minify → AreKnown (derived_parse d End) → Readable (derived_parse d End)
+unfolding derived_parse placed is_inlined AllGood PlacedGood
+readable {c = c} {n = n} (part called st d) m k =
+    let f = (all_good (part {place = nt.Expression} {c = c} {role = Expression} {n = n} called st d) End k).0 m in
+    record { variant = _; of = _; inside = derived_parse d End; is = refl; taken = taken_at _ _ st; good = f.good }
+
+same_readable : (p q : ParseTree) → Readable p → Readable q → tokens_of p (punctuator (codes ")") ∷ []) ≡ tokens_of q (punctuator (codes ")") ∷ []) → p ≡ q
+unfolding tokens_of punctuator
+same_readable p q x y e =
+    x.is
+    ∙ one_tree InParen (punctuator (codes ")")) x.variant y.variant x.of y.of x.inside y.inside (or_left _ _ x.taken, x.taken, refl) (or_left _ _ y.taken, y.taken, refl) x.good y.good
+    (sym (ap (λ z. tokens_of z (punctuator (codes ")") ∷ [])) x.is) ∙ e ∙ ap (λ z. tokens_of z (punctuator (codes ")") ∷ [])) y.is)
+    ∙ sym y.is
+
+expr_derived : {s : Settings} {c : Parameters} (a : Expr AnyNode) {ts : List Token} (x : DerivesExpr true s nt.Expression c a ts) → AreKnown (expr_parse s c a) → derived_parse x.1 End ≡ expr_parse s c a
+unfolding form_parse is_settled_form
+expr_derived a x k = derived_as_parsed x.1 End refl k
+
+pub parse_tokens : (s : Settings) (c : Parameters) (a : Expr AnyNode) (ts us : List Token) → DerivesExpr true s nt.Expression c a ts → AreKnown (expr_parse s c a) → tokens_of (expr_parse s c a) us ≡ ts ++ us
+unfolding tokens_of
+parse_tokens s c a ts us x k = ap (λ z. tokens_of z us) (sym (expr_derived a x k)) ∙ tokens_before x.1 End us
+
+pub one_parse : (s t : Settings) (c e : Parameters) (a b : Expr AnyNode) (ts : List Token) → DerivesExpr true s nt.Expression c a ts → DerivesExpr true t nt.Expression e b ts →
+    AreKnown (expr_parse s c a) → AreKnown (expr_parse t e b) → expr_parse s c a ≡ expr_parse t e b
+one_parse s t c e a b ts x y h k =
+    let u = punctuator (codes ")") ∷ [] in
+    let p = expr_derived a x h in
+    let q = expr_derived b y k in
+    sym p
+    ∙ same_readable _ _ (readable x.1 x.0 (subst AreKnown (sym p) h)) (readable y.1 y.0 (subst AreKnown (sym q) k))
+    (ap (λ z. tokens_of z u) p ∙ parse_tokens s c a ts u x h ∙ sym (parse_tokens t e b ts u y k) ∙ sym (ap (λ z. tokens_of z u) q))
+    ∙ q
+
+pub kept_told : (s t : Settings) (c e : Parameters) (a b : Expr AnyNode) (ts : List Token) → holds true (expr_verdict nt.Expression c a) ≡ true → s.minify ≡ c.minify →
+    holds true (expr_verdict nt.Expression e b) ≡ true → t.minify ≡ e.minify → Generates s (bare_phrase (expr_phrase a)) ts → Generates t (bare_phrase (expr_phrase b)) ts →
+    AreKnown (expr_parse s c a) → AreKnown (expr_parse t e b) → expr_parse s c a ≡ expr_parse t e b
+kept_told s t c e a b ts h m k n x y =
+    one_parse s t c e a b ts (complete true nt.Expression c a _ refl h s ts m x) (complete true nt.Expression e b _ refl k t ts n y)

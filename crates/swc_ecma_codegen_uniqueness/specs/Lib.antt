@@ -1,0 +1,2 @@
+pub mod ParseTrees
+pub mod Parses

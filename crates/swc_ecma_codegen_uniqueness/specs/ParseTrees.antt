@@ -1,0 +1,91 @@
+-- Parse trees: tokens, and round the tokens of each node what node it is.
+use Rattle.std.specs.Prelude.{◌≡◌, Bool, true, false, List, ◌∷◌}
+use Rattle.swc_ecma_codegen_tree.specs.declared.links.AnyNode.TheOpen as nodes
+use Rattle.swc_ecma_codegen_tree.specs.declared.exprs.Expr.{Expr}
+use Rattle.swc_ecma_codegen_tree.specs.declared.exprs.Expr.TheVariants as exprs
+use Rattle.swc_ecma_codegen_tree.specs.declared.parts.ExprPart.{ExprPart}
+use Rattle.swc_ecma_codegen_tree.specs.declared.parts.ExprPart.TheVariants as expr_parts
+use Rattle.swc_ecma_codegen_tree.specs.declared.pats.AssignTarget.{AssignTarget}
+use Rattle.swc_ecma_codegen_tree.specs.declared.pats.AssignTarget.TheVariants as targets
+use Rattle.swc_ecma_codegen_tree.specs.declared.pats.SimpleAssignTarget.{SimpleAssignTarget}
+use Rattle.swc_ecma_codegen_tree.specs.declared.pats.SimpleAssignTarget.TheVariants as simple_targets
+use Rattle.swc_ecma_codegen_tree.specs.declared.links.AnyNode.{AnyNode-F}
+use Rattle.swc_ecma_codegen_grammar.specs.declared.roles.Role.{Role}
+use Rattle.swc_ecma_codegen_grammar.specs.declared.roles.Role.TheVariants.{Expression, Callee, AssignmentTarget}
+use Rattle.swc_ecma_codegen_grammar.specs.Tokens.{Token}
+
+-- What node it is, by the name of its variant in `Expr`; or another, of which the laws don't speak: functions, classes, patterns, JSX, statements.
+pub data Variant : Type 0 where
+  This Array Object Unary Update Bin Assign Member SuperProp Cond Call New Seq Ident Lit Tpl TaggedTpl Yield MetaProp Await Paren PrivateName OptChain : Variant
+  Other : Variant
+
+-- Tokens and nodes, in order, as of `-a`: the node Unary of the token `-` and the node Ident of the token `a`.
+pub data ParseTree : Type 0 where
+  End : ParseTree
+  Read : (token : Token) → (rest : ParseTree) → ParseTree
+  Node : (variant : Variant) → (inside rest : ParseTree) → ParseTree
+
+-- its tokens, before others
+unfoldable pub tokens_of : ParseTree → List Token → List Token
+tokens_of End ts = ts
+tokens_of (Read t rest) ts = t ∷ tokens_of rest ts
+tokens_of (Node variant inside rest) ts = tokens_of inside (tokens_of rest ts)
+
+-- no node is another
+unfoldable pub is_known : Variant → Bool
+is_known Other = false
+is_known variant = true
+
+unfoldable pub AreKnown : ParseTree → Type 0
+AreKnown End = Unit {0}
+AreKnown (Read t rest) = AreKnown rest
+AreKnown (Node variant inside rest) = (is_known variant ≡ true) × AreKnown inside × AreKnown rest
+
+unfoldable pub expr_variant : {X : Type 0} → Expr X → Variant
+expr_variant (exprs.This n) = This
+expr_variant (exprs.Array n) = Array
+expr_variant (exprs.Object n) = Object
+expr_variant (exprs.Unary n) = Unary
+expr_variant (exprs.Update n) = Update
+expr_variant (exprs.Bin n) = Bin
+expr_variant (exprs.Assign n) = Assign
+expr_variant (exprs.Member n) = Member
+expr_variant (exprs.SuperProp n) = SuperProp
+expr_variant (exprs.Cond n) = Cond
+expr_variant (exprs.Call n) = Call
+expr_variant (exprs.New n) = New
+expr_variant (exprs.Seq n) = Seq
+expr_variant (exprs.Ident n) = Ident
+expr_variant (exprs.Lit n) = Lit
+expr_variant (exprs.Tpl n) = Tpl
+expr_variant (exprs.TaggedTpl n) = TaggedTpl
+expr_variant (exprs.Yield n) = Yield
+expr_variant (exprs.MetaProp n) = MetaProp
+expr_variant (exprs.Await n) = Await
+expr_variant (exprs.Paren n) = Paren
+expr_variant (exprs.PrivateName n) = PrivateName
+expr_variant (exprs.OptChain n) = OptChain
+expr_variant n = Other
+
+-- what is assigned to is the expression that covers it: `a.b` of `a.b = c` is a Member
+unfoldable pub simple_target_variant : {X : Type 0} → SimpleAssignTarget X → Variant
+simple_target_variant (simple_targets.Ident n) = Ident
+simple_target_variant (simple_targets.Member n) = Member
+simple_target_variant (simple_targets.SuperProp n) = SuperProp
+simple_target_variant (simple_targets.Paren n) = Paren
+simple_target_variant n = Other
+
+unfoldable pub target_variant : {X : Type 0} → AssignTarget X → Variant
+target_variant (targets.Simple n) = simple_target_variant n
+target_variant n = Other
+
+-- what node it is in a role
+unfoldable pub part_variant : {X : Type 0} → ExprPart X → Role → Variant
+part_variant (expr_parts.AssignTarget n) AssignmentTarget = target_variant n
+part_variant n role = Other
+
+unfoldable pub node_variant : {X : Type 0} → AnyNode-F X → Role → Variant
+node_variant (nodes.Expr n) Expression = expr_variant n
+node_variant (nodes.Expr n) Callee = expr_variant n
+node_variant (nodes.ExprPart n) role = part_variant n role
+node_variant n role = Other

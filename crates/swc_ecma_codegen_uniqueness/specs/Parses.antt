@@ -1,0 +1,75 @@
+-- What a tree says, as pure data: its parse tree, without spans, without raws, and without what syntax leaves open. Each node is what its production in
+-- `swc_ecma_codegen_syntax` says, so no type of node has a line here.
+use Rattle.std.specs.Prelude.{Bool, true, false, List, [], ◌∷◌, ◌++◌}
+use Rattle.std.specs.Str.{chars}
+use Rattle.swc_ecma_codegen_tree.specs.declared.links.AnyNode.{AnyNode, AnyNode-F, fold-AnyNode}
+use Rattle.swc_ecma_codegen_tree.specs.declared.links.AnyNode.TheVariants as whole
+use Rattle.swc_ecma_codegen_tree.specs.declared.exprs.Expr.{Expr}
+use Rattle.swc_ecma_codegen_grammar.specs.Keys.{key_token}
+use Rattle.swc_ecma_codegen_grammar.specs.Names.{name_value}
+use Rattle.swc_ecma_codegen_grammar.specs.SpelledNames.{spelled_name}
+use Rattle.swc_ecma_codegen_grammar.specs.Phrases.{Phrase, Never, Nothing, One, NameOf, KeyOf, PrivateOf, TagNameOf, Then, CommaBefore, OptionalParentheses, Chosen, chosen, closing_token}
+use Rattle.swc_ecma_codegen_grammar.specs.Settings.{Settings}
+use Rattle.swc_ecma_codegen_grammar.specs.Tokens.{Token}
+use Rattle.swc_ecma_codegen_grammar.specs.Tokens as tokens
+use Rattle.swc_ecma_codegen_grammar.specs.declared.roles.Role.{Role}
+use Rattle.swc_ecma_codegen_grammar.specs.declared.roles.Role.TheVariants.{Expression, Pattern, Statement, ChainMember, ChainCall, Template, TaggedTemplate}
+use Rattle.swc_ecma_codegen_syntax.specs.declared.parameters.Parameters.{Parameters}
+use Rattle.swc_ecma_codegen_syntax.specs.Forms.{Form, Fixed, Part, Simple, Restricted, Lone, Both, Provided, Closed, Bare, Followed, role_in}
+use Rattle.swc_ecma_codegen_syntax.specs.NodeForms.{node_form}
+use Rattle.swc_ecma_codegen_uniqueness.specs.ParseTrees.{Variant, ParseTree, End, Read, Node, node_variant}
+
+-- the tokens of a phrase, with no comma before a closing mark, and no parentheses but the tree's
+unfoldable pub phrase_tokens : Settings → Phrase → List Token
+phrase_tokens s Never = []
+phrase_tokens s Nothing = []
+phrase_tokens s (One x) = x ∷ []
+phrase_tokens s (NameOf at bytes) = tokens.name (name_value (spelled_name bytes)) ∷ []
+phrase_tokens s (KeyOf at bytes) = key_token s bytes ∷ []
+phrase_tokens s (PrivateOf bytes) = tokens.private_name (name_value (spelled_name bytes)) ∷ []
+phrase_tokens s (TagNameOf at bytes) = tokens.tag_name (chars bytes) ∷ []
+phrase_tokens s (Then a b) = phrase_tokens s a ++ phrase_tokens s b
+phrase_tokens s (CommaBefore close) = closing_token close ∷ []
+phrase_tokens s (OptionalParentheses a) = phrase_tokens s a
+phrase_tokens s (Chosen choice) = chosen s choice
+
+unfoldable pub read_all : List Token → ParseTree → ParseTree
+read_all [] rest = rest
+read_all (t ∷ ts) rest = Read t (read_all ts rest)
+
+-- A template, and a link of an optional chain, are parts of the node above them, and no nodes of their own.
+unfoldable pub is_inlined : Role → Bool
+is_inlined (ChainMember optional) = true
+is_inlined (ChainCall optional) = true
+is_inlined Template = true
+is_inlined TaggedTemplate = true
+is_inlined role = false
+
+unfoldable pub placed : Bool → Variant → (ParseTree → ParseTree) → ParseTree → ParseTree
+placed true variant inside rest = inside rest
+placed false variant inside rest = Node variant (inside End) rest
+
+-- what a production says, before what stands behind it, where f says what a part does
+unfoldable pub form_parse : {X : Type 0} → (X → Role → Parameters → ParseTree → ParseTree) → Settings → Form X → ParseTree → ParseTree
+form_parse f s (Fixed p) rest = read_all (phrase_tokens s p) rest
+form_parse f s (Part place c role n) rest = f n role c rest
+form_parse f s (Simple named place c n) rest = f n Expression c rest
+form_parse f s (Restricted lookahead place c as_pattern n) rest = f n (role_in as_pattern) c rest
+form_parse f s (Lone place c n) rest = f n Pattern c rest
+form_parse f s (Both a b) rest = form_parse f s a (form_parse f s b rest)
+form_parse f s (Provided cure condition a) rest = form_parse f s a rest
+form_parse f s (Closed comma close) rest = Read (closing_token close) rest
+form_parse f s (Bare a) rest = form_parse f s a rest
+form_parse f s (Followed place c n next) rest = f n Statement c rest
+
+-- a node, by its production (of the two of a member, which differ in nonterminals alone, the first)
+unfoldable pub node_parse : {X : Type 0} → (X → Role → Parameters → ParseTree → ParseTree) → Settings → AnyNode-F X → Role → Parameters → ParseTree → ParseTree
+node_parse f s n role c rest = placed (is_inlined role) (node_variant n role) (form_parse f s (node_form false c n role)) rest
+
+-- a whole node, in a role and under parameters
+unfoldable pub parse : Settings → AnyNode → Role → Parameters → ParseTree → ParseTree
+parse s = fold-AnyNode (Role → Parameters → ParseTree → ParseTree) (node_parse (λ known. known) s)
+
+-- an expression by itself
+abbrev pub expr_parse : Settings → Parameters → Expr AnyNode → ParseTree
+expr_parse s c n = parse s (whole.Expr n) Expression c End

@@ -1,0 +1,53 @@
+//! Laws for callers. Each is the contract of a function without parameters that does nothing: a proof cites the function,
+//! and a program has no need to call it.
+
+ghost use Rattle.std.specs.Prelude.{◌≡◌, true, List, ◌++◌};
+ghost use Rattle.swc_ecma_codegen_tree.specs.declared.exprs.Expr.{Expr};
+ghost use Rattle.swc_ecma_codegen_tree.specs.declared.links.AnyNode.{AnyNode};
+ghost use Rattle.swc_ecma_codegen_grammar.specs.Phrases.{Generates};
+ghost use Rattle.swc_ecma_codegen_grammar.specs.Settings.{Settings};
+ghost use Rattle.swc_ecma_codegen_grammar.specs.TreePhrases.{expr_phrase};
+ghost use Rattle.swc_ecma_codegen_grammar.specs.Tokens.{Token};
+ghost use Rattle.swc_ecma_codegen_syntax.specs.declared.nonterminals.Nonterminal.TheVariants.{Expression};
+ghost use Rattle.swc_ecma_codegen_syntax.specs.declared.parameters.Parameters.{Parameters as Given};
+ghost use Rattle.swc_ecma_codegen_syntax.specs.Derives.{DerivesExpr, bare_phrase, expr_verdict};
+ghost use Rattle.swc_ecma_codegen_syntax.specs.Verdicts.{holds};
+ghost use Rattle.swc_ecma_codegen_uniqueness.specs.ParseTrees.{AreKnown, tokens_of};
+ghost use Rattle.swc_ecma_codegen_uniqueness.specs.Parses.{expr_parse};
+
+/// The parse tree of an expression has the tokens that are derived with the expression, in order and no others.
+/// ECMA-262, section 13.
+#[tactic(auto, using(crate::proofs::Unique::parse_tokens))]
+pub fn parse_trees_have_their_tokens()
+    ensures { (s : Settings) (c : Given) (a : Expr AnyNode) (ts us : List Token)
+        → DerivesExpr true s Expression c a ts → AreKnown (expr_parse s c a)
+        → tokens_of (expr_parse s c a) us ≡ ts ++ us }
+{}
+
+/// If one list of tokens is derived with two expressions, they have one parse tree: the same nodes round the same tokens. So
+/// whoever reads the tokens by the grammar gets the expression that they were printed of.
+///
+/// `a + b * c` isn't read as the product of `a + b` and `c`, `new a().b` not as `new (a().b)`, and `a?.b.c` not as a member
+/// of `(a?.b)`. Of functions, arrow functions, methods, classes, patterns and JSX nothing is said: `AreKnown` leaves out
+/// trees that hold one. Words of the grammar and names are different tokens here: the word `yield` isn't the name `yield`.
+/// ECMA-262, section 13.
+#[tactic(auto, using(crate::proofs::Unique::one_parse))]
+pub fn tokens_tell_the_tree()
+    ensures { (s t : Settings) (c e : Given) (a b : Expr AnyNode) (ts : List Token)
+        → DerivesExpr true s Expression c a ts → DerivesExpr true t Expression e b ts
+        → AreKnown (expr_parse s c a) → AreKnown (expr_parse t e b)
+        → expr_parse s c a ≡ expr_parse t e b }
+{}
+
+/// Two expressions for which `keeps_structure_expr` answers true, and which read as the same tokens, have one parse tree. The
+/// tokens are those of the trees, without what syntax leaves open, as a comma before the bracket that closes a pattern.
+#[tactic(auto, using(crate::proofs::Unique::kept_told))]
+pub fn kept_trees_are_told()
+    ensures { (s t : Settings) (c e : Given) (a b : Expr AnyNode) (ts : List Token)
+        → holds true (expr_verdict Expression c a) ≡ true → s.minify ≡ c.minify
+        → holds true (expr_verdict Expression e b) ≡ true → t.minify ≡ e.minify
+        → Generates s (bare_phrase (expr_phrase a)) ts
+        → Generates t (bare_phrase (expr_phrase b)) ts
+        → AreKnown (expr_parse s c a) → AreKnown (expr_parse t e b)
+        → expr_parse s c a ≡ expr_parse t e b }
+{}
