@@ -13,7 +13,7 @@ from runs import SCRIPTS, write
 sys.path += [f"{SCRIPTS}/{folder}" for folder in ("unproved", "wrong_bodies")]
 import edits  # noqa: E402
 import verdicts  # noqa: E402
-from impls import function_at  # noqa: E402
+from impls import function_at, implemented  # noqa: E402
 
 SOURCE = """//! Some functions.
 #![tactic(auto)]
@@ -110,6 +110,33 @@ class Rounds(unittest.TestCase):
         place = edits.Place("links", *function_at("impl Shows<AsStmt, Stmt<AnyNode>> for AnyNode {\n    fn shown() {\n", 50))
         self.assertEqual(edits.names_of(place, ["links::AnyNodeShowsAsStmtStmtAnyNode::shown"], {})[0], "links::AnyNodeShowsAsStmtStmtAnyNode::shown")
 
+
+    def test_types_that_an_impl_is_for(self):
+        of = {
+            "impl<T: EmitAt + Spanned> Node for T {": "AnyNode",
+            "impl<W: WriteJs> WriteJs for &mut W {": "RefMutWriteJs",
+            "impl<'a, T: EmitAt> EmitAt for &'a T {": "RefEmitAt",
+            "impl<T: EmitAt> EmitAt for Box<T> {": "BoxEmitAt",
+            "impl<K: Fn(u8) -> u8, N> Emits<N> for Link<K, N> {": "LinkEmits",
+            "impl<'a, W: Write> Lines<'a, W> {": "Lines",
+            "pub fn implied() {": None,
+        }
+        self.assertEqual({line: implemented(line) for line in of}, of)
+
+    def test_a_definition_is_at_no_place(self):
+        with tempfile.TemporaryDirectory() as folder:
+            os.makedirs(f"{folder}/src")
+            os.makedirs(f"{folder}/specs")
+            write(f"{folder}/src", "lib.rt", SOURCE)
+            write(f"{folder}/specs", "One.antt", "one = 1\n")
+            texts = {"specs/One.antt": "one = 2\n", "src/lib.rt": SOURCE.replace("same(a)", "same(0)")}
+            definition = "file: specs/One.antt\nold: one = 1\nnew: one = 2\n"
+            both = write(folder, "both.edit", f"{definition}file: src/lib.rt\nold: same(a)\nnew: same(0)\n")
+            edit = edits.read(both, folder, lambda *_: (texts, None))[0]
+            self.assertEqual([place.function for place in edit.places], ["by_another"])
+            self.assertFalse(edit.of_bodies)
+            alone = write(folder, "alone.edit", definition)
+            self.assertIsNone(edits.read(alone, folder, lambda *_: ({"specs/One.antt": "one = 2\n"}, None))[0])
 
     def test_where_types_are_declared(self):
         with tempfile.TemporaryDirectory() as folder:

@@ -10,16 +10,21 @@ def implemented(line):
     """The type of an `impl`, with the trait's name behind it where there is one, as LLVM's code names both; else `None`."""
     if not re.match(r"(unsafe )?impl\b", line):
         return None
-    line, depth = re.sub(r"^(unsafe )?impl\s*", "", line), 0
+    line, depth, parameters = re.sub(r"^(unsafe )?impl\s*", "", line), 0, ""
     if line.startswith("<"):
         for at, c in enumerate(line):
             depth += (c == "<") - (c == ">" and line[at - 1] != "-")
             if depth == 0:
-                line = line[at + 1 :]
+                line, parameters = line[at + 1 :], line[1:at]
                 break
     of, is_trait, on = line.partition(" for ")
-    on = re.sub(r"^\s*&?('\w+ )?(mut )?", "", on if is_trait else of)
-    return last(on) + (last(of) if is_trait else "")
+    on = (on if is_trait else of).strip()
+    reference = re.match(r"&('\w+ )?(mut )?", on)
+    if reference:
+        return ("RefMut" if reference[2] else "Ref") + (last(of) if is_trait else "")
+    # (`T` of `impl<T: Spanned> Node for T`)
+    name = "Any" if re.search(rf"(^|, ){re.escape(last(on))}(:|,|$)", parameters) and last(on) == on.rstrip(" {") else last(on)
+    return name + (last(of) if is_trait else "")
 
 
 def last(text):

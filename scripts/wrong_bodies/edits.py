@@ -19,7 +19,8 @@ DECLARED = re.compile(r"(?m)^(?:pub(?:\([^)]*\))? )?(?:unsafe )?(?:struct|enum|u
 
 
 def read(path, folder, read_edit):
-    """An edit of the crate in this folder, or why it can't be applied. `read_edit` is the kit's: the texts that an edit makes."""
+    """An edit of the crate in this folder, or why it can't be applied. `read_edit` is the kit's: the texts that an edit makes. A definition that
+    an edit changes beside a body is at no place."""
     texts, why = read_edit(path, folder)
     if why:
         return None, why
@@ -33,13 +34,13 @@ def read(path, folder, read_edit):
         elif word == "old":
             old = rest
         elif line.startswith("new:") and old is not None:
-            place = Place(path_of(module), *function_at(now[module], now[module].find(old)))
             new = line[len("new:") :].removeprefix(" ")
-            places += [place] if place not in places else []
-            of_bodies = of_bodies and bool(place.function) and said_of_contracts(old) == said_of_contracts(new) == []
+            place = Place(path_of(module), *function_at(now[module], now[module].find(old))) if module.startswith("src/") else None
+            places += [place] if place and place not in places else []
+            of_bodies = of_bodies and bool(place and place.function) and said_of_contracts(old) == said_of_contracts(new) == []
             now[module] = now[module].replace(old, new)
             old = None
-    return Edit(path, hunks, places, of_bodies), None
+    return (Edit(path, hunks, places, of_bodies), None) if places else (None, "it changes nothing in src/, so no function must be refused for it")
 
 
 def said_of_contracts(text):
