@@ -1,0 +1,4 @@
+pub mod Folds
+pub mod Kept
+pub mod MapsIn
+pub mod Texts

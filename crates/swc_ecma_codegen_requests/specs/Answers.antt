@@ -1,0 +1,100 @@
+-- What is answered to a line.
+use Rattle.std.specs.Prelude.{◌≡◌, ◌⊎◌, ℕ, Bool, false, true, List, Option, Some, None}
+use Rattle.std.specs.Option.{option_map, unwrap_or, MatchOption}
+use Rattle.std.specs.Str.{IsUtf8}
+use Rattle.serde_json.specs.Data.{Data}
+use Rattle.serde_json.specs.View.{view}
+use Rattle.swc_ecma_codegen_common.specs.declared.errors.Error.TheVariants.{OutOfMemory}
+use Rattle.swc_ecma_codegen_tree.specs.declared.links.AnyNode.{AnyNode}
+use Rattle.swc_ecma_codegen_tree.specs.declared.programs.Program.{Program}
+use Rattle.swc_ecma_codegen_grammar.specs.TreePhrases.{is_well_formed}
+use Rattle.swc_ecma_codegen_json.specs.declared.flat.FlatTree.{FlatTree}
+use Rattle.swc_ecma_codegen_json.specs.declared.trees.Tree.{Tree}
+use Rattle.swc_ecma_codegen_tokens.specs.Run.{Part, printed}
+use Rattle.swc_ecma_codegen_emit.specs.Answers.{any_answers}
+use Rattle.swc_ecma_codegen_emit.specs.Places.{by_itself}
+use Rattle.swc_ecma_codegen_emit.specs.Programs.{program}
+use Rattle.swc_ecma_codegen_emit.specs.Texts.{GivesCause, IsPrinted}
+use Rattle.swc_ecma_codegen_emit.specs.Tree.{any_items}
+use Rattle.swc_ecma_codegen_requests.specs.Faults.{Tells}
+use Rattle.swc_ecma_codegen_requests.specs.Members.{fault_members, text_members, IsLineOf}
+use Rattle.swc_ecma_codegen_requests.specs.Prints.{if_asked, maps_left, start_by}
+use Rattle.swc_ecma_codegen_requests.specs.Remarks.{left_by, places_in}
+use Rattle.swc_ecma_codegen_requests.specs.Settings.{config_of}
+use Rattle.swc_ecma_codegen_requests.specs.declared.emissions.Manner.{Manner}
+use Rattle.swc_ecma_codegen_requests.specs.declared.faults.Fault.{Fault}
+use Rattle.swc_ecma_codegen_requests.specs.declared.faults.Fault.TheVariants.{BadJson, BadRequest, BadTree, NotOneProgram, Memory, NotWellFormed, Refused}
+use Rattle.swc_ecma_codegen_requests.specs.declared.requests.Request.{Request}
+
+-- what is written of a program
+abbrev pub program_part : Program AnyNode → Part
+program_part p = by_itself (program any_answers any_items p)
+
+-- a program may be printed: it is well-formed, unless any is to be
+abbrev pub MayPrint : Bool → Program AnyNode → Type 0
+MayPrint any p = any ≡ false → is_well_formed p ≡ true
+
+-- An answer has the text of a part, the positions where they are asked for, and of the request's comments, where it has some, those that are left.
+pub record IsTextLine (id : Option Data) (manner : Manner) (part : Part) (answer : List ℕ) : Type 0 where
+  pub whole : IsPrinted part (start_by manner)
+  pub line :
+      IsLineOf id
+      (text_members (printed part (start_by manner)).sheet.text
+      (if_asked manner.positions (printed part (start_by manner)).sheet.pairs)
+      (left_by (option_map places_in manner.comments) (maps_left part (start_by manner))))
+      answer
+
+-- an answer tells of a fault
+abbrev pub IsFaultLine : Option Data → Fault → List ℕ → Type 0
+IsFaultLine id fault answer = (told : Data) × Tells fault told × IsLineOf id (fault_members told) answer
+
+-- A program isn't well-formed, or there was no memory to say why.
+abbrev pub IsBroken : Program AnyNode → Fault → Type 0
+IsBroken p (NotWellFormed fault) = is_well_formed p ≡ false
+IsBroken p Memory = Unit {0}
+IsBroken p fault = ⊥
+
+-- Why a program has no text: its emission was refused for this cause, or there was no memory for it; or it isn't well-formed, and should be.
+abbrev pub IsWhy : Bool → Manner → Program AnyNode → Fault → Type 0
+IsWhy any manner p (Refused error) = MayPrint any p × ((error ≡ OutOfMemory) ⊎ GivesCause (program_part p) (start_by manner) error)
+IsWhy any manner p fault = (any ≡ false) × IsBroken p fault
+
+-- the answer to a request for the text of a program
+pub data AnswersProgram (id : Option Data) (any : Bool) (manner : Manner) (p : Program AnyNode) (answer : List ℕ) : Type 0 where
+  a_text : MayPrint any p → IsTextLine id manner (program_part p) answer → AnswersProgram id any manner p answer
+  a_fault : (fault : Fault) → IsWhy any manner p fault → IsFaultLine id fault answer → AnswersProgram id any manner p answer
+
+-- a request, whose program is a tree or has its flat form
+abbrev pub Asked : Type 0
+Asked = Request (Tree AnyNode) (FlatTree 8000 AnyNode)
+
+-- how it is to be printed: the source text begins at 1 unless it is said where
+abbrev pub manner_of : Asked → Manner
+manner_of request = record { config = config_of request.config; source = request.source; first = unwrap_or request.first 1; comments = request.comments; positions = request.positions }
+
+-- its program, where it has one
+abbrev pub program_in : Option (Tree AnyNode) → Option (FlatTree 8000 AnyNode) → Option (Program AnyNode)
+program_in (Some tree) None = Some tree.0
+program_in None (Some flat) = Some flat.0
+program_in tree flat = None
+
+-- the answer to a request
+abbrev pub AnswersRequest : Asked → List ℕ → Type 0
+AnswersRequest request answer =
+    let id = option_map view request.id in
+    MatchOption (program_in request.tree request.flat)
+    (IsFaultLine id NotOneProgram answer)
+    (λ p. AnswersProgram id request.any (manner_of request) p answer)
+
+-- no request was read
+abbrev pub IsUnread : Fault → Type 0
+IsUnread (BadJson error) = Unit {0}
+IsUnread (BadRequest error) = Unit {0}
+IsUnread (BadTree error) = Unit {0}
+IsUnread Memory = Unit {0}
+IsUnread fault = ⊥
+
+-- What is answered to a line: what some request asks for that is read of it, as serde reads JSON; or that none is.
+pub data IsAnswer (line answer : List ℕ) : Type 0 where
+  to_request : IsUtf8 line → (request : Asked) → AnswersRequest request answer → IsAnswer line answer
+  to_no_request : (id : Option Data) (fault : Fault) → IsUnread fault → IsFaultLine id fault answer → IsAnswer line answer
