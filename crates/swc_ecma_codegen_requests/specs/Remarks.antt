@@ -1,5 +1,5 @@
 -- Comments, as requests have them, and answers those that are left.
-use Rattle.std.specs.Prelude.{◌≡◌, ℕ, List, [], ◌∷◌, map, codes, Option, Some, None, Vec, String, string_bytes}
+use Rattle.std.specs.Prelude.{ℕ, List, map, codes, Option, Vec}
 use Rattle.std.specs.Fmt.{decimal}
 use Rattle.std.specs.List.{fold}
 use Rattle.std.specs.Option.{option_map}

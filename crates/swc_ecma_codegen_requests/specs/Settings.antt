@@ -1,5 +1,4 @@
 -- The settings that a request asks for.
-use Rattle.std.specs.Prelude.{Option, Some, None}
 use Rattle.std.specs.Option.{option_map, unwrap_or}
 use Rattle.swc_ecma_codegen_common.specs.declared.versions.EsVersion.{EsVersion}
 use Rattle.swc_ecma_codegen_common.specs.declared.versions.EsVersion.TheVariants as versions

@@ -1,9 +1,8 @@
-use Rattle.std.proofs.Common.{◌≡◌, ◌≢◌, ◌∙◌, ◌++◌, List, ℕ, [], ◌∷◌, Option, None, Some, Result, Ok, Err, OnErr, IfSome, inr, ap, subst, rules, string_bytes}
+use Rattle.std.proofs.Common.{◌≡◌, ◌≢◌, ◌∙◌, ◌++◌, List, ℕ, [], Option, None, Some, Result, Ok, Err, OnErr, IfSome, inr, ap, subst, rules, string_bytes}
 use Rattle.std.proofs.lemmas.Option.{IfSome_then}
 use Rattle.std.specs.Io.BufRead.{take_through, drop_through}
 use Rattle.std.specs.Io.KnownBytes.{Appends}
 use Rattle.swc_ecma_codegen_requests.specs.Answers.{IsAnswer}
-use Rattle.swc_ecma_codegen_requests.specs.Serves.{BeginsAnswer}
 use Rattle.swc_ecma_codegen_requests.specs.Streams.{AddsFront}
 use Rattle.swc_ecma_codegen_requests.proofs.serve_one.Goals as goal
 

@@ -1,8 +1,7 @@
-use Rattle.std.proofs.Common.{◌≡◌, ◌⊎◌, ◌∙◌, IfErr, inl, inr, ap, option_map, rules, subst}
-use Rattle.swc_ecma_codegen_common.specs.declared.errors.Error.TheVariants.{OutOfMemory}
+use Rattle.std.proofs.Common.{◌∙◌, ap, option_map, subst}
 use Rattle.swc_ecma_codegen_grammar.specs.Comments.{maps_in}
-use Rattle.swc_ecma_codegen_emit.specs.Texts.{start_with, GivesCause}
-use Rattle.swc_ecma_codegen_requests.specs.Prints.{if_asked, lines_over, start_by, IsMadeOf}
+use Rattle.swc_ecma_codegen_emit.specs.Texts.{start_with}
+use Rattle.swc_ecma_codegen_requests.specs.Prints.{if_asked, lines_over, IsMadeOf}
 use Rattle.swc_ecma_codegen_requests.specs.Remarks.{left_by, places_in}
 use Rattle.swc_ecma_codegen_requests.proofs.MapsIn as own
 use Rattle.swc_ecma_codegen_requests.proofs.emissions.print.Goals as goal

@@ -4,7 +4,7 @@ use Rattle.swc_ecma_codegen_text_writer.specs.Sheet.{Sheet, holds_semicolons}
 use Rattle.swc_ecma_codegen_text_writer.specs.PendingSemi.{with_held}
 use Rattle.swc_ecma_codegen_text_writer.specs.View.{sheet_of, new_sheet, keeping}
 use Rattle.swc_ecma_codegen_grammar.specs.Comments.{maps_in}
-use Rattle.swc_ecma_codegen_tokens.specs.Run.{State, maps_after, printed, start, steps_in, steps_of}
+use Rattle.swc_ecma_codegen_tokens.specs.Run.{maps_after, printed, start, steps_in, steps_of}
 use Rattle.swc_ecma_codegen_emit.specs.Texts.{held_by, placed_sheet, unheld, GivesCause, IsPrinted}
 use Rattle.swc_ecma_codegen_requests.proofs.emissions.writer_of.Goals as goal
 

@@ -9,7 +9,7 @@ use Rattle.serde_json.specs.Data.{no_members}
 use Rattle.serde_json.specs.View.{members_view}
 use Rattle.swc_ecma_codegen_grammar.specs.CommentMaps.{without}
 use Rattle.swc_ecma_codegen_requests.specs.Members.{with_member}
-use Rattle.swc_ecma_codegen_requests.specs.Remarks.{entries, left_members, list_data, with_left, Left}
+use Rattle.swc_ecma_codegen_requests.specs.Remarks.{entries, list_data, with_left, Left}
 use Rattle.swc_ecma_codegen_requests.proofs.Folds.{fold_more}
 use Rattle.swc_ecma_codegen_requests.proofs.MapsIn.{maps_in}
 use Rattle.swc_ecma_codegen_requests.proofs.remarks.left_on.Goals as goal
