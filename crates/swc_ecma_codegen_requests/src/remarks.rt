@@ -91,7 +91,8 @@ impl Side {
             ≡ remarks.entries self (⟦<CommentMaps as Comments>⟧.maps maps.old) pos.0 }
         ensures removed { remarks.entries self (⟦<CommentMaps as Comments>⟧.maps maps.new)
             ≡ without pos.0 (remarks.entries self (⟦<CommentMaps as Comments>⟧.maps maps.old)) }
-        ensures others { remarks.entries (remarks.other self) (⟦<CommentMaps as Comments>⟧.maps maps.new)
+        ensures others { remarks.entries (remarks.other self)
+            (⟦<CommentMaps as Comments>⟧.maps maps.new)
             ≡ remarks.entries (remarks.other self) (⟦<CommentMaps as Comments>⟧.maps maps.old) }
     {
         match self {
@@ -188,7 +189,8 @@ fn left_on(
     ensures members { IfOk result (λ members. members_view members.entries
         ≡ remarks.left_members places.items
         (remarks.entries side (⟦<CommentMaps as Comments>⟧.maps maps.old))) }
-    ensures others { remarks.entries (remarks.other side) (⟦<CommentMaps as Comments>⟧.maps maps.new)
+    ensures others { remarks.entries (remarks.other side)
+        (⟦<CommentMaps as Comments>⟧.maps maps.new)
         ≡ remarks.entries (remarks.other side) (⟦<CommentMaps as Comments>⟧.maps maps.old) }
 {
     let mut members = Map::new(alloc);
@@ -212,7 +214,8 @@ fn left_at(
         (members_view members.old.entries)) }
     ensures removed { remarks.entries side (⟦<CommentMaps as Comments>⟧.maps maps.new)
         ≡ without pos.0 (remarks.entries side (⟦<CommentMaps as Comments>⟧.maps maps.old)) }
-    ensures others { remarks.entries (remarks.other side) (⟦<CommentMaps as Comments>⟧.maps maps.new)
+    ensures others { remarks.entries (remarks.other side)
+        (⟦<CommentMaps as Comments>⟧.maps maps.new)
         ≡ remarks.entries (remarks.other side) (⟦<CommentMaps as Comments>⟧.maps maps.old) }
 {
     let list = side.take(maps, pos);
