@@ -8,14 +8,14 @@ use Rattle.swc_ecma_codegen_examples.proofs.changed_operator_text.Goals as goal
 -- the tree is that of `-a;`, and its text reads so
 pub returns-clause-reads : goal.returns-clause-reads
 returns-clause-reads c = λ name.
-    let old = c.in_ok-operation.field-0 in
+    let old = c.in_ok-statement.statement in
     let n = record old { expr = c.set_operator.new.link } in
-    let made = changed_to_minus c.args.name.now _ old n c.in_ok-operation.ensures c.set_operator.ensures in
+    let made = changed_to_minus c.args.name.now _ old n c.in_ok-statement.ensures c.set_operator.ensures in
     IfOk-weaker c.to_code.result _ _ (λ text reading. negation_reads c.args.name.now n _ made reading) (c.to_code.ensures.reads (OfStmt (Expr n)) refl (well_formed_negation c.args.name.now n made name))
 
 pub returns-clause-made : goal.returns-clause-made
 returns-clause-made c = λ name.
-    let old = c.in_ok-operation.field-0 in
+    let old = c.in_ok-statement.statement in
     let n = record old { expr = c.set_operator.new.link } in
-    let made = changed_to_minus c.args.name.now _ old n c.in_ok-operation.ensures c.set_operator.ensures in
+    let made = changed_to_minus c.args.name.now _ old n c.in_ok-statement.ensures c.set_operator.ensures in
     c.to_code.ensures.made (OfStmt (Expr n)) refl (well_formed_negation c.args.name.now n made name) (short_negation c.args.name.now n made)
