@@ -1,10 +1,12 @@
 //! Of one list of tokens there is one tree: whoever reads the tokens of an expression by the syntactic grammar gets the tree
 //! that they were printed of, but for spans and for how a literal was spelled.
 //!
-//! `specs/Parses` says what a tree says: its nodes and tokens, as a parse tree. `proofs/Tables` is a machine that reads a
-//! token at a time, with a stack of what is begun. `proofs/Machine` says that it reads each tree as it is, if at a part and
-//! the token behind it one thing alone is to be done. `proofs/TableLaws` says that of the tables, by evaluation. The other
-//! files say which shapes the productions of `swc_ecma_codegen_syntax` have.
+//! `specs/Parses` says what a tree says: its nodes and tokens, as a parse tree. `proofs/Machine` has a machine that reads a
+//! token at a time, with a stack of what is begun, by the tables of `proofs/Tables`. It says that the machine reads each tree
+//! as it is, if at a part and the token behind it one thing alone is to be done. `proofs/TableLaws` says that of the tables,
+//! by evaluation. The other files say which shapes the productions of `swc_ecma_codegen_syntax` have.
+//!
+//! So far the laws speak of expressions without functions, methods, classes, patterns and JSX.
 #![tactic(auto)]
 
 pub mod laws;
