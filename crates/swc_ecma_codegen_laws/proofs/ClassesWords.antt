@@ -1,4 +1,5 @@
 -- Classes: what holds of the words that a definition is made of holds of it.
+use Rattle.std.proofs.Common.{refl}
 use Rattle.swc_ecma_codegen_laws.proofs.Children.{children_hold}
 use Rattle.std.specs.Prelude.{ℕ, Bool, true, ◌||◌, List, [], ◌∷◌, map, codes, Option, Some, None}
 use Rattle.swc_ecma_codegen_common.specs.declared.positions.Span.{Span}
@@ -51,10 +52,10 @@ heritage_holds known bounded None args = known.words.none bounded
 heritage_holds known bounded (Some n) args = known.words.and_then bounded (known.words.space bounded) (known.words.and_then bounded (known.words.keyword bounded None (codes "extends")) (known.words.and_then bounded (blank_holds known.words bounded ((asks_in known) n.node.value).starts) (known.words.and_then bounded (known.law bounded n.node.value Plain) (type_args_holds known bounded Plain args))))
 
 pub member_list_holds : {X : Type 0} {holds : Bool → Part → Type 0} (known : Known holds X) (bounded : Bool) (n : classes.Class X) → holds bounded (member_list (asks_in known) (items_in known) n)
-member_list_holds known bounded n = known.words.list bounded class_members_format n.span (map (child_of (λ m. ((asks_in known) m.node.value).place) (λ m place. (items_in known) m.node.value place)) n.body.items) (children_hold _ _ (λ m. ((asks_in known) m.node.value).place) (λ m place. (items_in known) m.node.value place) (λ m. (known.law bounded m.node.value Plain)) n.body.items)
+member_list_holds known bounded n = known.words.list bounded class_members_format refl n.span (map (child_of (λ m. ((asks_in known) m.node.value).place) (λ m place. (items_in known) m.node.value place)) n.body.items) (children_hold _ _ (λ m. ((asks_in known) m.node.value).place) (λ m place. (items_in known) m.node.value place) (λ m. (known.law bounded m.node.value Plain)) n.body.items)
 
 pub implemented_list_holds : {X : Type 0} {holds : Bool → Part → Type 0} (known : Known holds X) (bounded : Bool) (span : Span) (ns : List (TsExprWithTypeArgs X)) → holds bounded (implemented_list (items_in known) span ns)
-implemented_list_holds known bounded span ns = known.words.list bounded implemented_format span (map (child_of extended_place (λ n place. ts_expr_with_type_args (items_in known) n)) ns) (children_hold _ _ extended_place (λ n place. ts_expr_with_type_args (items_in known) n) (λ n. (ts_expr_with_type_args_holds known bounded n)) ns)
+implemented_list_holds known bounded span ns = known.words.list bounded implemented_format refl span (map (child_of extended_place (λ n place. ts_expr_with_type_args (items_in known) n)) ns) (children_hold _ _ extended_place (λ n place. ts_expr_with_type_args (items_in known) n) (λ n. (ts_expr_with_type_args_holds known bounded n)) ns)
 
 pub some_implements_holds : {X : Type 0} {holds : Bool → Part → Type 0} (known : Known holds X) (bounded : Bool) (span : Span) (ns : List (TsExprWithTypeArgs X)) → holds bounded (some_implements (items_in known) span ns)
 unfolding some_implements
@@ -112,7 +113,7 @@ constructor_body_holds known bounded None = known.words.semi bounded
 constructor_body_holds known bounded (Some n) = known.law bounded n.node.value Plain
 
 pub constructor_params_holds : {X : Type 0} {holds : Bool → Part → Type 0} (known : Known holds X) (bounded : Bool) (n : Constructor X) → holds bounded (constructor_params (asks_in known) (items_in known) n)
-constructor_params_holds known bounded n = known.words.list bounded comma_list_format n.span (map (child_of constructor_param_place (λ p place. constructor_param (asks_in known) (items_in known) p)) n.params.items) (children_hold _ _ constructor_param_place (λ p place. constructor_param (asks_in known) (items_in known) p) (λ p. (constructor_param_holds known bounded p)) n.params.items)
+constructor_params_holds known bounded n = known.words.list bounded comma_list_format refl n.span (map (child_of constructor_param_place (λ p place. constructor_param (asks_in known) (items_in known) p)) n.params.items) (children_hold _ _ constructor_param_place (λ p place. constructor_param (asks_in known) (items_in known) p) (λ p. (constructor_param_holds known bounded p)) n.params.items)
 
 pub constructor_tail_holds : {X : Type 0} {holds : Bool → Part → Type 0} (known : Known holds X) (bounded : Bool) (n : Constructor X) → holds bounded (constructor_tail (asks_in known) (items_in known) n)
 unfolding constructor_tail
@@ -200,7 +201,7 @@ unfolding class_prop
 class_prop_holds known bounded n = known.words.and_then bounded (known.words.leading_comments bounded n.span.lo) (known.words.and_then bounded (known.words.position bounded n.span.lo) (known.words.and_then bounded (decorator_lines_holds known bounded n.decorators.items) (known.words.and_then bounded (prop_modifiers_holds known bounded n) (prop_tail_holds known bounded n))))
 
 pub private_decorators_holds : {X : Type 0} {holds : Bool → Part → Type 0} (known : Known holds X) (bounded : Bool) (n : PrivateProp X) → holds bounded (private_decorators (items_in known) n)
-private_decorators_holds known bounded n = known.words.list bounded decorators_format n.span (map (child_of decorator_place (λ d place. decorator (items_in known) d)) n.decorators.items) (children_hold _ _ decorator_place (λ d place. decorator (items_in known) d) (λ d. (decorator_holds known bounded d)) n.decorators.items)
+private_decorators_holds known bounded n = known.words.list bounded decorators_format refl n.span (map (child_of decorator_place (λ d place. decorator (items_in known) d)) n.decorators.items) (children_hold _ _ decorator_place (λ d place. decorator (items_in known) d) (λ d. (decorator_holds known bounded d)) n.decorators.items)
 
 pub private_modifiers_holds : {X : Type 0} {holds : Bool → Part → Type 0} (known : Known holds X) (bounded : Bool) (n : PrivateProp X) → holds bounded (private_modifiers n)
 unfolding private_modifiers
@@ -220,7 +221,7 @@ accessor_key_holds known bounded (keys.Public n) = known.law bounded n.node.valu
 accessor_key_holds known bounded (keys.Private n) = private_name_holds known.words bounded n
 
 pub accessor_decorators_holds : {X : Type 0} {holds : Bool → Part → Type 0} (known : Known holds X) (bounded : Bool) (n : AutoAccessor X) → holds bounded (accessor_decorators (items_in known) n)
-accessor_decorators_holds known bounded n = known.words.list bounded decorators_format n.span (map (child_of decorator_place (λ d place. decorator (items_in known) d)) n.decorators.items) (children_hold _ _ decorator_place (λ d place. decorator (items_in known) d) (λ d. (decorator_holds known bounded d)) n.decorators.items)
+accessor_decorators_holds known bounded n = known.words.list bounded decorators_format refl n.span (map (child_of decorator_place (λ d place. decorator (items_in known) d)) n.decorators.items) (children_hold _ _ decorator_place (λ d place. decorator (items_in known) d) (λ d. (decorator_holds known bounded d)) n.decorators.items)
 
 pub accessor_modifiers_holds : {X : Type 0} {holds : Bool → Part → Type 0} (known : Known holds X) (bounded : Bool) (n : AutoAccessor X) → holds bounded (accessor_modifiers n)
 unfolding accessor_modifiers

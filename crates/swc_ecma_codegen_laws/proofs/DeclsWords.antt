@@ -1,4 +1,5 @@
 -- Decls: what holds of the words that a definition is made of holds of it.
+use Rattle.std.proofs.Common.{refl}
 use Rattle.swc_ecma_codegen_laws.proofs.Children.{children_hold}
 use Rattle.std.specs.Prelude.{Bool, List, map, codes, None}
 use Rattle.swc_ecma_codegen_common.specs.declared.positions.Span.{Span}
@@ -33,7 +34,7 @@ unfolding var_declarator
 var_declarator_holds known bounded n = known.words.and_then bounded (opened_holds known.words bounded n.span) (known.words.and_then bounded (declared_pat_holds known bounded n.definite n.name) (initializer_holds known bounded n.init))
 
 pub declarators_holds : {X : Type 0} {holds : Bool → Part → Type 0} (known : Known holds X) (bounded : Bool) (span : Span) (ns : List (VarDeclarator X)) → holds bounded (declarators (asks_in known) (items_in known) span ns)
-declarators_holds known bounded span ns = known.words.list bounded declarators_format span (map (child_of declarator_place (λ n place. var_declarator (asks_in known) (items_in known) n)) ns) (children_hold _ _ declarator_place (λ n place. var_declarator (asks_in known) (items_in known) n) (λ n. (var_declarator_holds known bounded n)) ns)
+declarators_holds known bounded span ns = known.words.list bounded declarators_format refl span (map (child_of declarator_place (λ n place. var_declarator (asks_in known) (items_in known) n)) ns) (children_hold _ _ declarator_place (λ n place. var_declarator (asks_in known) (items_in known) n) (λ n. (var_declarator_holds known bounded n)) ns)
 
 pub var_kind_holds : {holds : Bool → Part → Type 0} (words : OfWords holds) (bounded : Bool) (x0 : VarDeclKind) → holds bounded (var_kind x0)
 unfolding var_kind

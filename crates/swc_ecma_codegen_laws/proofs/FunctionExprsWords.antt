@@ -19,6 +19,7 @@ use Rattle.swc_ecma_codegen_tokens.specs.Run.{Plan}
 use Rattle.swc_ecma_codegen_laws.proofs.OfWords.{OfWords, Known, asks_in, items_in, either}
 use Rattle.swc_ecma_codegen_emit.specs.FunctionExprs.{star, optional_name, fn_expr, async_arrow, arrow_children, arrow_parameters, arrow_body, arrow_result, arrow_expr}
 use Rattle.swc_ecma_codegen_laws.proofs.AnnotationsWords.{type_params_holds}
+use Rattle.swc_ecma_codegen_laws.proofs.OneName.{middle, only_name}
 
 pub star_holds : {holds : Bool → Part → Type 0} (words : OfWords holds) (bounded : Bool) (wanted : Bool) → holds bounded (star wanted)
 unfolding star
@@ -69,5 +70,6 @@ arrow_expr_holds {X} known bounded n =
     (known.words.and_then bounded (type_params_holds known bounded n.type_params)
     (known.words.and_then bounded
     (known.words.arrow bounded (λ maps. not (is_typed_arrow n) && (is_only is_plain asks n.params.items && not (has_comment_behind asks n.params.items maps))) n.span (arrow_children asks items n) (arrow_result items n.return_type) (arrow_children_holds known bounded n) (arrow_result_holds known bounded n.return_type)
-    (λ maps h rest. bare_result items (is_some n.type_params) (is_only is_plain asks n.params.items && not (has_comment_behind asks n.params.items maps)) n.return_type h rest))
+    (λ maps h rest. bare_result items (is_some n.type_params) (is_only is_plain asks n.params.items && not (has_comment_behind asks n.params.items maps)) n.return_type h rest)
+    (λ maps h. only_name known.node n.params.items (middle (not (is_typed_arrow n)) (is_only is_plain asks n.params.items) (not (has_comment_behind asks n.params.items maps)) h)))
     (arrow_body_holds known bounded n.body))))))

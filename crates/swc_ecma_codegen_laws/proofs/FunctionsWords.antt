@@ -30,14 +30,14 @@ unfolding decorator
 decorator_holds known bounded n = known.words.and_then bounded (known.words.leading_comments bounded n.span.lo) (known.words.and_then bounded (known.words.position bounded n.span.lo) (known.words.and_then bounded (known.words.punct bounded (codes "@")) (known.words.and_then bounded (known.law bounded n.expr.node.value Plain) (known.words.and_then bounded (known.words.line_end bounded) (known.words.position bounded n.span.hi)))))
 
 pub decorators_holds : {X : Type 0} {holds : Bool → Part → Type 0} (known : Known holds X) (bounded : Bool) (n : Param X) → holds bounded (decorators (items_in known) n)
-decorators_holds known bounded n = known.words.list bounded decorators_format n.span (map (child_of decorator_place (λ d place. decorator (items_in known) d)) n.decorators.items) (children_hold _ _ decorator_place (λ d place. decorator (items_in known) d) (λ d. (decorator_holds known bounded d)) n.decorators.items)
+decorators_holds known bounded n = known.words.list bounded decorators_format refl n.span (map (child_of decorator_place (λ d place. decorator (items_in known) d)) n.decorators.items) (children_hold _ _ decorator_place (λ d place. decorator (items_in known) d) (λ d. (decorator_holds known bounded d)) n.decorators.items)
 
 pub param_holds : {X : Type 0} {holds : Bool → Part → Type 0} (known : Known holds X) (bounded : Bool) (n : Param X) → holds bounded (param (asks_in known) (items_in known) n)
 unfolding param
 param_holds known bounded n = known.words.and_then bounded (known.words.leading_comments bounded n.span.lo) (known.words.and_then bounded (known.words.position bounded n.span.lo) (known.words.and_then bounded (decorators_holds known bounded n) (known.words.and_then bounded (pat_holds known bounded n.pat) (known.words.position bounded n.span.hi))))
 
 pub parameters_holds : {X : Type 0} {holds : Bool → Part → Type 0} (known : Known holds X) (bounded : Bool) (n : functions.Function X) → holds bounded (parameters (asks_in known) (items_in known) n)
-parameters_holds known bounded n = known.words.list bounded comma_list_format n.span (map (child_of param_place (λ p place. param (asks_in known) (items_in known) p)) n.params.items) (children_hold _ _ param_place (λ p place. param (asks_in known) (items_in known) p) (λ p. (param_holds known bounded p)) n.params.items)
+parameters_holds known bounded n = known.words.list bounded comma_list_format refl n.span (map (child_of param_place (λ p place. param (asks_in known) (items_in known) p)) n.params.items) (children_hold _ _ param_place (λ p place. param (asks_in known) (items_in known) p) (λ p. (param_holds known bounded p)) n.params.items)
 
 -- what stands before the body, or the semicolon in its place
 fn_head_holds : {X : Type 0} {holds : Bool → Part → Type 0} (known : Known holds X) (bounded : Bool) (n : functions.Function X) → holds bounded (λ rest. type_params (items_in known) n.type_params (punct (codes "(") (parameters (asks_in known) (items_in known) n (punct (codes ")") (annotation (items_in known) n.return_type rest)))))

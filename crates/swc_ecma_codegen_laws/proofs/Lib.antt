@@ -12,11 +12,19 @@ pub mod ClassExprsWords
 pub mod ClassesWords
 pub mod ClosedMaps
 pub mod DeclsWords
+pub mod Differing
 pub mod ExprsWords
 pub mod FirstTokens
 pub mod FunctionExprsWords
 pub mod FunctionsWords
 pub mod JsxWords
+pub mod LaidOut
+pub mod LayoutWords
+pub mod LayoutsOfArrows
+pub mod LayoutsOfLists
+pub mod LayoutsOfLiterals
+pub mod LayoutsOfNames
+pub mod LayoutsOfWords
 pub mod LinedNodes
 pub mod LinkLaws
 pub mod ListsWords
@@ -27,6 +35,7 @@ pub mod NamespacesWords
 pub mod NodeWords
 pub mod OfSteps
 pub mod OfWords
+pub mod OneName
 pub mod PatsWords
 pub mod ProgramsWords
 pub mod PropsWords
@@ -50,6 +59,7 @@ pub mod TemplatesWords
 pub mod TsDeclsWords
 pub mod TsExprsWords
 pub mod TsMembersWords
+pub mod TwoLayouts
 pub mod TypesWords
 pub mod Unkept
 pub mod Unlined

@@ -30,6 +30,8 @@ use Rattle.swc_ecma_codegen_tree.specs.declared.programs.ModuleItem.{ModuleItem}
 use Rattle.swc_ecma_codegen_tree.specs.declared.programs.ModuleItem.TheVariants as module_items
 use Rattle.swc_ecma_codegen_spans.specs.Spans.{import_specifier_span, export_specifier_span, module_item_span, module_decl_span}
 use Rattle.swc_ecma_codegen_tokens.specs.Run.{Part}
+use Rattle.swc_ecma_codegen_tokens.specs.Words.{punct}
+use Rattle.swc_ecma_codegen_grammar.specs.Phrases.{RightBrace, closing_mark}
 use Rattle.swc_ecma_codegen_emit.specs.declared.nodes.Place.TheVariants.{Plain, DeclarationTail, ExportedHead, ExportedTail}
 use Rattle.swc_ecma_codegen_emit.specs.Answers.{place_of}
 use Rattle.swc_ecma_codegen_emit.specs.Lists.{child_of, unsupported}
@@ -80,8 +82,9 @@ unfolding import_specifier
 import_specifier_holds words bounded (imported.Named n) = import_named_holds words bounded n
 import_specifier_holds words bounded n = words.none bounded
 
-pub import_list_holds : {holds : Bool → Part → Type 0} (words : OfWords holds) (bounded : Bool) (parent : Span) (ns : List ImportSpecifier) → holds bounded (import_list parent ns)
-import_list_holds words bounded parent ns = words.list bounded named_format parent (map (child_of import_specifier_span (λ n place. import_specifier n)) (filter is_named ns)) (children_hold _ _ import_specifier_span (λ n place. import_specifier n) (λ n. (import_specifier_holds words bounded n)) (filter is_named ns))
+pub import_list_holds : {holds : Bool → Part → Type 0} (words : OfWords holds) (bounded : Bool) (parent : Span) (ns : List ImportSpecifier) → holds bounded (λ rest. import_list parent ns (punct (codes "}") rest))
+unfolding closing_mark
+import_list_holds words bounded parent ns = words.closed_list bounded named_format parent (map (child_of import_specifier_span (λ n place. import_specifier n)) (filter is_named ns)) RightBrace (children_hold _ _ import_specifier_span (λ n place. import_specifier n) (λ n. (import_specifier_holds words bounded n)) (filter is_named ns))
 
 pub before_brace_holds : {holds : Bool → Part → Type 0} (words : OfWords holds) (bounded : Bool) (first : Bool) (x1 : ImportSpecifier) → holds bounded (before_brace first x1)
 unfolding before_brace
@@ -96,7 +99,7 @@ before_braces_holds words bounded first (n ∷ ns) = words.and_then bounded (bef
 
 pub some_named_holds : {holds : Bool → Part → Type 0} (words : OfWords holds) (bounded : Bool) (parent : Span) (ns : List ImportSpecifier) → holds bounded (some_named parent ns)
 unfolding some_named
-some_named_holds words bounded parent ns = words.and_then bounded (comma_holds words bounded (not (list_any is_default ns))) (words.and_then bounded (words.punct bounded (codes "{")) (words.and_then bounded (import_list_holds words bounded parent ns) (words.and_then bounded (words.punct bounded (codes "}")) (words.formatting_space bounded))))
+some_named_holds words bounded parent ns = words.and_then bounded (comma_holds words bounded (not (list_any is_default ns))) (words.and_then bounded (words.punct bounded (codes "{")) (words.and_then bounded (import_list_holds words bounded parent ns) (words.formatting_space bounded)))
 
 pub import_braces_holds : {holds : Bool → Part → Type 0} (words : OfWords holds) (bounded : Bool) (parent : Span) (ns : List ImportSpecifier) → holds bounded (import_braces parent ns)
 unfolding import_braces
@@ -157,12 +160,13 @@ export_specifier_holds words bounded (exported.Named n) = export_named_specifier
 export_specifier_holds words bounded (exported.Namespace n) = export_namespace_holds words bounded n
 export_specifier_holds words bounded (exported.Default n) = words.refuse bounded unprintable.UnsupportedNode
 
-pub export_list_holds : {holds : Bool → Part → Type 0} (words : OfWords holds) (bounded : Bool) (parent : Span) (ns : List ExportSpecifier) → holds bounded (export_list parent ns)
-export_list_holds words bounded parent ns = words.list bounded named_format parent (map (child_of export_specifier_span (λ n place. export_specifier n)) (filter is_braced ns)) (children_hold _ _ export_specifier_span (λ n place. export_specifier n) (λ n. (export_specifier_holds words bounded n)) (filter is_braced ns))
+pub export_list_holds : {holds : Bool → Part → Type 0} (words : OfWords holds) (bounded : Bool) (parent : Span) (ns : List ExportSpecifier) → holds bounded (λ rest. export_list parent ns (punct (codes "}") rest))
+unfolding closing_mark
+export_list_holds words bounded parent ns = words.closed_list bounded named_format parent (map (child_of export_specifier_span (λ n place. export_specifier n)) (filter is_braced ns)) RightBrace (children_hold _ _ export_specifier_span (λ n place. export_specifier n) (λ n. (export_specifier_holds words bounded n)) (filter is_braced ns))
 
 pub export_braces_holds : {holds : Bool → Part → Type 0} (words : OfWords holds) (bounded : Bool) (parent : Span) (ns : List ExportSpecifier) → holds bounded (export_braces parent ns)
 unfolding export_braces
-export_braces_holds words bounded parent ns = words.and_then bounded (words.punct bounded (codes "{")) (words.and_then bounded (export_list_holds words bounded parent ns) (words.punct bounded (codes "}")))
+export_braces_holds words bounded parent ns = words.and_then bounded (words.punct bounded (codes "{")) (export_list_holds words bounded parent ns)
 
 pub star_export_holds : {holds : Bool → Part → Type 0} (words : OfWords holds) (bounded : Bool) (x0 : List ExportSpecifier) → holds bounded (star_export x0)
 unfolding star_export

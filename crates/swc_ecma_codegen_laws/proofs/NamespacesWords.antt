@@ -1,5 +1,5 @@
 -- Namespaces: what holds of the words that a definition is made of holds of it.
-use Rattle.std.proofs.Common.{Bool}
+use Rattle.std.proofs.Common.{Bool, refl}
 use Rattle.swc_ecma_codegen_laws.proofs.Children.{children_hold}
 use Rattle.std.specs.Prelude.{map, codes, None}
 use Rattle.swc_ecma_codegen_tree.specs.declared.ts_decls.TsModuleBlock.{TsModuleBlock}
@@ -20,7 +20,7 @@ use Rattle.swc_ecma_codegen_laws.proofs.ModulesWords.{module_item_holds}
 use Rattle.swc_ecma_codegen_laws.proofs.TsDeclsWords.{declare_word_holds}
 
 pub block_items_holds : {X : Type 0} {holds : Bool → Part → Type 0} (known : Known holds X) (bounded : Bool) (n : TsModuleBlock X) → holds bounded (block_items (asks_in known) (items_in known) n)
-block_items_holds known bounded n = known.words.list bounded module_block_format n.span (map (child_of (module_item_span (place_of (asks_in known))) (λ m place. module_item (asks_in known) (items_in known) m)) n.body.items) (children_hold _ _ (module_item_span (place_of (asks_in known))) (λ m place. module_item (asks_in known) (items_in known) m) (λ m. (module_item_holds known bounded m)) n.body.items)
+block_items_holds known bounded n = known.words.list bounded module_block_format refl n.span (map (child_of (module_item_span (place_of (asks_in known))) (λ m place. module_item (asks_in known) (items_in known) m)) n.body.items) (children_hold _ _ (module_item_span (place_of (asks_in known))) (λ m place. module_item (asks_in known) (items_in known) m) (λ m. (module_item_holds known bounded m)) n.body.items)
 
 pub ts_module_block_holds : {X : Type 0} {holds : Bool → Part → Type 0} (known : Known holds X) (bounded : Bool) (n : TsModuleBlock X) → holds bounded (ts_module_block (asks_in known) (items_in known) n)
 unfolding ts_module_block

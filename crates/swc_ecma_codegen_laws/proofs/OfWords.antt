@@ -1,5 +1,5 @@
 -- What holds of the words of the lower emitter holds of all that is written of a tree: the one induction of the laws of what is written.
-use Rattle.std.proofs.Common.{◌≡◌, ℕ, Bool, true, false, if◌then◌else◌, List, [], ◌∷◌, map, codes, Option, None, refl, ap, subst}
+use Rattle.std.proofs.Common.{◌≡◌, ℕ, Bool, true, false, not, if◌then◌else◌, List, [], ◌∷◌, map, codes, Option, None, refl, ap, subst}
 use Rattle.swc_ecma_codegen_common.specs.declared.operators.AssignOp.{AssignOp}
 use Rattle.swc_ecma_codegen_common.specs.declared.operators.BinaryOp.{BinaryOp}
 use Rattle.swc_ecma_codegen_common.specs.declared.operators.UpdateOp.{UpdateOp}
@@ -7,6 +7,8 @@ use Rattle.swc_ecma_codegen_common.specs.declared.positions.BytePos.{BytePos}
 use Rattle.swc_ecma_codegen_common.specs.declared.positions.Span.{Span}
 use Rattle.swc_ecma_codegen_common.specs.Operators.{assign_text, update_text}
 use Rattle.swc_ecma_codegen_grammar.specs.CommentMaps.{Maps}
+use Rattle.swc_ecma_codegen_grammar.specs.ListFormats.{allows_trailing_comma, can_skip_trailing_comma, forces_trailing_comma}
+use Rattle.swc_ecma_codegen_grammar.specs.Phrases.{Closing, closing_mark}
 use Rattle.swc_ecma_codegen_grammar.specs.SourceLines.{Lines}
 use Rattle.swc_ecma_codegen_grammar.specs.TemplatePhrases.{part_before}
 use Rattle.swc_ecma_codegen_tree.specs.declared.exprs.TplElement.{TplElement}
@@ -43,6 +45,11 @@ use Rattle.swc_ecma_codegen_emit.specs.Templates as templates
 use Rattle.swc_ecma_codegen_emit.specs.Tree.{any_items}
 use Rattle.swc_ecma_codegen_laws.specs.Enclosing.{is_element, is_function}
 use Rattle.swc_ecma_codegen_laws.proofs.Children.{ChildrenHold, PartsHold, parts_hold}
+use Rattle.swc_ecma_codegen_laws.proofs.OneName.{HoldsOneName}
+
+-- The comma behind the last child of a list hangs on nothing: there is none, or always one.
+abbrev pub keeps_comma : ℕ → Bool
+keeps_comma format = if forces_trailing_comma format then not (can_skip_trailing_comma format) else not (allows_trailing_comma format)
 
 -- It holds of nothing, of one part after another, and of each word that the definitions of _emit are made of.
 pub record OfWords (holds : Bool → Part → Type 0) : Type 0 where
@@ -78,7 +85,8 @@ pub record OfWords (holds : Bool → Part → Type 0) : Type 0 where
   pub assign_operator : (bounded : Bool) (op : AssignOp) → holds bounded (calls.operator (assign_text op))
   pub yield_word : (bounded delegate : Bool) → holds bounded (λ rest. calls.keyword None (codes "yield") (exprs.yield_star delegate rest))
   pub attributes_word : (bounded : Bool) → holds bounded choices.attributes_word
-  pub empty_arguments : (bounded : Bool) → holds bounded choices.empty_arguments
+  -- `new` and what is called, where no arguments are
+  pub bare_new : (bounded : Bool) (called : Part) → holds bounded called → holds bounded (λ rest. calls.keyword None (codes "new") (called (choices.empty_arguments rest)))
   pub hashbang : (bounded : Bool) (t : List ℕ) → holds bounded (literals.hashbang t)
   -- names and literals
   pub name : (bounded : Bool) (span : Span) (sym : List ℕ) (optional : Bool) → holds bounded (calls.name span sym optional)
@@ -98,15 +106,14 @@ pub record OfWords (holds : Bool → Part → Type 0) : Type 0 where
   pub child_open : (bounded : Bool) (t : List ℕ) → holds bounded (tags.child_open t)
   pub close : (bounded : Bool) → holds bounded tags.close
   -- lists
-  pub first_child : (bounded : Bool) (format : ℕ) (parent : Span) (x : ListChild) → holds bounded x.part → holds bounded (lists.first_child format parent x)
-  pub next_child : (bounded : Bool) (format : ℕ) (previous : Span) (x : ListChild) → holds bounded x.part → holds bounded (lists.next_child format previous x)
-  pub list : (bounded : Bool) (format : ℕ) (parent : Span) (cs : List ListChild) → ChildrenHold holds bounded cs → holds bounded (lists.list format parent cs)
-  pub list_after : (bounded : Bool) (format : ℕ) (parent previous : Span) (cs : List ListChild) → ChildrenHold holds bounded cs → holds bounded (lists.list_after format parent previous cs)
+  pub list : (bounded : Bool) (format : ℕ) → keeps_comma format ≡ true → (parent : Span) (cs : List ListChild) → ChildrenHold holds bounded cs → holds bounded (lists.list format parent cs)
+  -- one that may have a comma behind its last child, and the mark that closes it
+  pub closed_list : (bounded : Bool) (format : ℕ) (parent : Span) (cs : List ListChild) (close : Closing) → ChildrenHold holds bounded cs → holds bounded (λ rest. lists.list format parent cs (calls.punct (closing_mark close) rest))
   pub block_list : (bounded some : Bool) (span : Span) (cs : List ListChild) → ChildrenHold holds bounded cs → holds bounded (blocks.block_list some span cs)
   pub object_list : (bounded some : Bool) (span : Span) (cs : List ListChild) → ChildrenHold holds bounded cs → holds bounded (props.object_list some span cs)
   pub case_list : (bounded : Bool) (single : Lines → Bool) (span : Span) (cs : List ListChild) → ChildrenHold holds bounded cs → holds bounded (lists.by_lines (λ lines. stmts.case_list (single lines) span cs))
-  -- the parameters of an arrow function, what stands behind them, and `=>`: a name has parentheses only where nothing does
-  pub arrow : (bounded : Bool) (plain : Maps → Bool) (span : Span) (cs : List ListChild) (result : Part) → ChildrenHold holds bounded cs → holds bounded result → ((maps : Maps) → plain maps ≡ true → (rest : Plan) → result rest ≡ rest) → holds bounded (λ rest. calls.by_maps (λ maps. arrows.arrow_within (plain maps) span cs) (result (calls.punct (codes "=>") rest)))
+  -- the parameters of an arrow function, what stands behind them, and `=>`: one that needs no parentheses is a name, and nothing stands behind it
+  pub arrow : (bounded : Bool) (plain : Maps → Bool) (span : Span) (cs : List ListChild) (result : Part) → ChildrenHold holds bounded cs → holds bounded result → ((maps : Maps) → plain maps ≡ true → (rest : Plan) → result rest ≡ rest) → ((maps : Maps) → plain maps ≡ true → HoldsOneName cs) → holds bounded (λ rest. calls.by_maps (λ maps. arrows.arrow_within (plain maps) span cs) (result (calls.punct (codes "=>") rest)))
   -- templates, elements and fragments, in which no line may be ended, and functions without a body
   pub template : (bounded tagged : Bool) (inside : List Part) (quasis : List TplElement) → PartsHold holds false inside → holds bounded (templates.tpl_parts (λ part. part) tagged inside quasis)
   pub element : (bounded : Bool) (node : AnyNode) (place : Place) (inside : Part) → is_element node ≡ true → any_items node place ≡ run.unbounded inside → holds false inside → holds bounded (any_items node place)

@@ -18,6 +18,8 @@ use Rattle.swc_ecma_codegen_tree.specs.declared.pats.AssignTargetPat.TheVariants
 use Rattle.swc_ecma_codegen_spans.specs.Spans.{option_span, pat_span, prop_name_span, object_pat_prop_span}
 use Rattle.swc_ecma_codegen_grammar.specs.ElementPhrases.{last_is_hole}
 use Rattle.swc_ecma_codegen_tokens.specs.Run.{Part}
+use Rattle.swc_ecma_codegen_tokens.specs.Words.{punct}
+use Rattle.swc_ecma_codegen_grammar.specs.Phrases.{RightBrace, RightBracket, closing_mark}
 use Rattle.swc_ecma_codegen_emit.specs.declared.nodes.Place.TheVariants.{Plain}
 use Rattle.swc_ecma_codegen_emit.specs.Answers.{place_of}
 use Rattle.swc_ecma_codegen_emit.specs.Lists.{child_of, if_some_at, unsupported}
@@ -34,12 +36,13 @@ unfolding initializer
 initializer_holds known bounded None = known.words.none bounded
 initializer_holds known bounded (Some n) = known.words.and_then bounded (spaced_punct_holds known.words bounded (codes "=")) (known.law bounded n.node.value Plain)
 
-pub array_pat_elements_holds : {X : Type 0} {holds : Bool → Part → Type 0} (known : Known holds X) (bounded : Bool) (n : ArrayPat X) → holds bounded (array_pat_elements (asks_in known) (items_in known) n)
-array_pat_elements_holds known bounded n = known.words.list bounded (array_pat_format (last_is_hole n.elems.items)) n.span (map (child_of (option_span (pat_place (asks_in known))) (if_some_at (pat_items (items_in known)))) n.elems.items) (children_hold _ _ (option_span (pat_place (asks_in known))) (if_some_at (pat_items (items_in known))) (λ x. (if_some_at_holds known.words bounded (pat_items (items_in known)) (λ x place. (known.law bounded x.node.value place)) x Plain)) n.elems.items)
+pub array_pat_elements_holds : {X : Type 0} {holds : Bool → Part → Type 0} (known : Known holds X) (bounded : Bool) (n : ArrayPat X) → holds bounded (λ rest. array_pat_elements (asks_in known) (items_in known) n (punct (codes "]") rest))
+unfolding closing_mark
+array_pat_elements_holds known bounded n = known.words.closed_list bounded (array_pat_format (last_is_hole n.elems.items)) n.span (map (child_of (option_span (pat_place (asks_in known))) (if_some_at (pat_items (items_in known)))) n.elems.items) RightBracket (children_hold _ _ (option_span (pat_place (asks_in known))) (if_some_at (pat_items (items_in known))) (λ x. (if_some_at_holds known.words bounded (pat_items (items_in known)) (λ x place. (known.law bounded x.node.value place)) x Plain)) n.elems.items)
 
 pub array_pat_holds : {X : Type 0} {holds : Bool → Part → Type 0} (known : Known holds X) (bounded : Bool) (n : ArrayPat X) → holds bounded (array_pat (asks_in known) (items_in known) n)
 unfolding array_pat
-array_pat_holds known bounded n = known.words.and_then bounded (opened_holds known.words bounded n.span) (known.words.and_then bounded (known.words.punct bounded (codes "[")) (known.words.and_then bounded (array_pat_elements_holds known bounded n) (known.words.and_then bounded (known.words.punct bounded (codes "]")) (known.words.and_then bounded (known.words.question bounded n.optional) (known.words.and_then bounded (spaced_annotation_holds known bounded n.type_ann) (known.words.position bounded n.span.hi))))))
+array_pat_holds known bounded n = known.words.and_then bounded (opened_holds known.words bounded n.span) (known.words.and_then bounded (known.words.punct bounded (codes "[")) (known.words.and_then bounded (array_pat_elements_holds known bounded n) (known.words.and_then bounded (known.words.question bounded n.optional) (known.words.and_then bounded (spaced_annotation_holds known bounded n.type_ann) (known.words.position bounded n.span.hi)))))
 
 pub rest_pat_holds : {X : Type 0} {holds : Bool → Part → Type 0} (known : Known holds X) (bounded : Bool) (n : RestPat X) → holds bounded (rest_pat (items_in known) n)
 unfolding rest_pat
@@ -63,12 +66,13 @@ object_pat_prop_holds known bounded (pat_props.KeyValue n) = key_value_pat_prop_
 object_pat_prop_holds known bounded (pat_props.Assign n) = assign_pat_prop_holds known bounded n
 object_pat_prop_holds known bounded (pat_props.Rest n) = rest_pat_holds known bounded n
 
-pub object_pat_props_holds : {X : Type 0} {holds : Bool → Part → Type 0} (known : Known holds X) (bounded : Bool) (n : ObjectPat X) → holds bounded (object_pat_props (asks_in known) (items_in known) n)
-object_pat_props_holds known bounded n = known.words.list bounded object_pat_format n.span (map (child_of (object_pat_prop_span (place_of (asks_in known))) (λ p place. object_pat_prop (asks_in known) (items_in known) p)) n.props.items) (children_hold _ _ (object_pat_prop_span (place_of (asks_in known))) (λ p place. object_pat_prop (asks_in known) (items_in known) p) (λ p. (object_pat_prop_holds known bounded p)) n.props.items)
+pub object_pat_props_holds : {X : Type 0} {holds : Bool → Part → Type 0} (known : Known holds X) (bounded : Bool) (n : ObjectPat X) → holds bounded (λ rest. object_pat_props (asks_in known) (items_in known) n (punct (codes "}") rest))
+unfolding closing_mark
+object_pat_props_holds known bounded n = known.words.closed_list bounded object_pat_format n.span (map (child_of (object_pat_prop_span (place_of (asks_in known))) (λ p place. object_pat_prop (asks_in known) (items_in known) p)) n.props.items) RightBrace (children_hold _ _ (object_pat_prop_span (place_of (asks_in known))) (λ p place. object_pat_prop (asks_in known) (items_in known) p) (λ p. (object_pat_prop_holds known bounded p)) n.props.items)
 
 pub object_pat_holds : {X : Type 0} {holds : Bool → Part → Type 0} (known : Known holds X) (bounded : Bool) (n : ObjectPat X) → holds bounded (object_pat (asks_in known) (items_in known) n)
 unfolding object_pat
-object_pat_holds known bounded n = known.words.and_then bounded (opened_holds known.words bounded n.span) (known.words.and_then bounded (known.words.punct bounded (codes "{")) (known.words.and_then bounded (object_pat_props_holds known bounded n) (known.words.and_then bounded (known.words.punct bounded (codes "}")) (known.words.and_then bounded (known.words.question bounded n.optional) (known.words.and_then bounded (spaced_annotation_holds known bounded n.type_ann) (known.words.position bounded n.span.hi))))))
+object_pat_holds known bounded n = known.words.and_then bounded (opened_holds known.words bounded n.span) (known.words.and_then bounded (known.words.punct bounded (codes "{")) (known.words.and_then bounded (object_pat_props_holds known bounded n) (known.words.and_then bounded (known.words.question bounded n.optional) (known.words.and_then bounded (spaced_annotation_holds known bounded n.type_ann) (known.words.position bounded n.span.hi)))))
 
 pub pat_parts_holds : {X : Type 0} {holds : Bool → Part → Type 0} (known : Known holds X) (bounded : Bool) (x2 : Pat X) → holds bounded (pat_parts (asks_in known) (items_in known) x2)
 unfolding pat_parts unsupported

@@ -1,4 +1,5 @@
 -- Stmts: what holds of the words that a definition is made of holds of it.
+use Rattle.std.proofs.Common.{refl}
 use Rattle.swc_ecma_codegen_laws.proofs.Children.{children_hold}
 use Rattle.swc_ecma_codegen_laws.proofs.Children.{ChildrenHold}
 use Rattle.std.specs.Prelude.{ℕ, Bool, true, false, List, map, codes, Option, Some, None}
@@ -162,7 +163,7 @@ unfolding switch_case
 switch_case_holds known bounded n = known.words.and_then bounded (opened_holds known.words bounded n.span) (known.words.and_then bounded (case_test_holds known bounded n.test) (case_stmts_hold known bounded n))
 
 pub cases_holds : {X : Type 0} {holds : Bool → Part → Type 0} (known : Known holds X) (bounded : Bool) (n : SwitchStmt X) → holds bounded (cases (asks_in known) (items_in known) n)
-cases_holds known bounded n = known.words.list bounded cases_format n.span (map (child_of case_place (λ c place. switch_case (asks_in known) (items_in known) c)) n.cases.items) (children_hold _ _ case_place (λ c place. switch_case (asks_in known) (items_in known) c) (λ c. (switch_case_holds known bounded c)) n.cases.items)
+cases_holds known bounded n = known.words.list bounded cases_format refl n.span (map (child_of case_place (λ c place. switch_case (asks_in known) (items_in known) c)) n.cases.items) (children_hold _ _ case_place (λ c place. switch_case (asks_in known) (items_in known) c) (λ c. (switch_case_holds known bounded c)) n.cases.items)
 
 pub switch_cases_holds : {X : Type 0} {holds : Bool → Part → Type 0} (known : Known holds X) (bounded : Bool) (n : SwitchStmt X) → holds bounded (switch_cases (asks_in known) (items_in known) n)
 unfolding switch_cases

@@ -1,4 +1,5 @@
 -- TsDecls: what holds of the words that a definition is made of holds of it.
+use Rattle.std.proofs.Common.{refl}
 use Rattle.swc_ecma_codegen_laws.proofs.Children.{children_hold}
 use Rattle.std.specs.Prelude.{Bool, List, [], ◌∷◌, map, codes, Option, Some, None}
 use Rattle.swc_ecma_codegen_common.specs.declared.positions.Span.{Span}
@@ -38,7 +39,7 @@ unfolding ts_expr_with_type_args
 ts_expr_with_type_args_holds known bounded n = known.words.and_then bounded (known.words.leading_comments bounded n.span.lo) (known.words.and_then bounded (known.law bounded n.expr.node.value Plain) (type_args_holds known bounded Plain n.type_args))
 
 pub extended_list_holds : {X : Type 0} {holds : Bool → Part → Type 0} (known : Known holds X) (bounded : Bool) (span : Span) (ns : List (TsExprWithTypeArgs X)) → holds bounded (extended_list (items_in known) span ns)
-extended_list_holds known bounded span ns = known.words.list bounded extended_format span (map (child_of extended_place (λ n place. ts_expr_with_type_args (items_in known) n)) ns) (children_hold _ _ extended_place (λ n place. ts_expr_with_type_args (items_in known) n) (λ n. (ts_expr_with_type_args_holds known bounded n)) ns)
+extended_list_holds known bounded span ns = known.words.list bounded extended_format refl span (map (child_of extended_place (λ n place. ts_expr_with_type_args (items_in known) n)) ns) (children_hold _ _ extended_place (λ n place. ts_expr_with_type_args (items_in known) n) (λ n. (ts_expr_with_type_args_holds known bounded n)) ns)
 
 pub some_extends_holds : {X : Type 0} {holds : Bool → Part → Type 0} (known : Known holds X) (bounded : Bool) (span : Span) (ns : List (TsExprWithTypeArgs X)) → holds bounded (some_extends (items_in known) span ns)
 unfolding some_extends
@@ -67,7 +68,7 @@ unfolding ts_enum_member
 ts_enum_member_holds known bounded n = known.words.and_then bounded (known.words.leading_comments bounded n.span.lo) (known.words.and_then bounded (ts_enum_member_id_holds known.words bounded n.id) (initializer_holds known bounded n.init))
 
 pub enum_members_holds : {X : Type 0} {holds : Bool → Part → Type 0} (known : Known holds X) (bounded : Bool) (n : TsEnumDecl X) → holds bounded (enum_members (items_in known) n)
-enum_members_holds known bounded n = known.words.list bounded enum_format n.span (map (child_of enum_member_place (λ m place. ts_enum_member (items_in known) m)) n.members.items) (children_hold _ _ enum_member_place (λ m place. ts_enum_member (items_in known) m) (λ m. (ts_enum_member_holds known bounded m)) n.members.items)
+enum_members_holds known bounded n = known.words.list bounded enum_format refl n.span (map (child_of enum_member_place (λ m place. ts_enum_member (items_in known) m)) n.members.items) (children_hold _ _ enum_member_place (λ m place. ts_enum_member (items_in known) m) (λ m. (ts_enum_member_holds known bounded m)) n.members.items)
 
 pub enum_body_holds : {X : Type 0} {holds : Bool → Part → Type 0} (known : Known holds X) (bounded : Bool) (n : TsEnumDecl X) → holds bounded (enum_body (items_in known) n)
 unfolding enum_body

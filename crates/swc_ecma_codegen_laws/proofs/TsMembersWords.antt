@@ -1,4 +1,5 @@
 -- TsMembers: what holds of the words that a definition is made of holds of it.
+use Rattle.std.proofs.Common.{refl}
 use Rattle.swc_ecma_codegen_laws.proofs.Children.{children_hold}
 use Rattle.std.specs.Prelude.{Bool, List, map, codes, Option, Some, None}
 use Rattle.swc_ecma_codegen_common.specs.declared.positions.Span.{Span}
@@ -27,7 +28,7 @@ unfolding signature_key
 signature_key_holds known bounded computed n = either known.words bounded computed (known.words.and_then bounded (known.words.punct bounded (codes "[")) (known.words.and_then bounded (known.law bounded n.node.value Plain) (known.words.punct bounded (codes "]")))) (known.law bounded n.node.value Plain)
 
 pub fn_params_list_holds : {X : Type 0} {holds : Bool → Part → Type 0} (known : Known holds X) (bounded : Bool) (span : Span) (ns : List (TsFnParamBox X)) → holds bounded (fn_params_list (asks_in known) (items_in known) span ns)
-fn_params_list_holds known bounded span ns = known.words.list bounded types_format span (map (child_of (fn_param_place (asks_in known)) (fn_param_items (items_in known))) ns) (children_hold _ _ (fn_param_place (asks_in known)) (fn_param_items (items_in known)) (λ x. (known.law bounded x.node.value Plain)) ns)
+fn_params_list_holds known bounded span ns = known.words.list bounded types_format refl span (map (child_of (fn_param_place (asks_in known)) (fn_param_items (items_in known))) ns) (children_hold _ _ (fn_param_place (asks_in known)) (fn_param_items (items_in known)) (λ x. (known.law bounded x.node.value Plain)) ns)
 
 pub signature_params_holds : {X : Type 0} {holds : Bool → Part → Type 0} (known : Known holds X) (bounded : Bool) (span : Span) (ns : List (TsFnParamBox X)) → holds bounded (signature_params (asks_in known) (items_in known) span ns)
 unfolding signature_params
@@ -98,7 +99,7 @@ unfolding ts_type_element
 ts_type_element_holds known bounded n = known.words.and_then bounded (ts_signature_holds known bounded n) (known.words.semi bounded)
 
 pub interface_members_holds : {X : Type 0} {holds : Bool → Part → Type 0} (known : Known holds X) (bounded : Bool) (n : TsInterfaceBody X) → holds bounded (interface_members (asks_in known) (items_in known) n)
-interface_members_holds known bounded n = known.words.list bounded interface_format n.span (map (child_of ts_type_element_span (member_items (asks_in known) (items_in known))) n.body.items) (children_hold _ _ ts_type_element_span (member_items (asks_in known) (items_in known)) (λ x. (ts_type_element_holds known bounded x)) n.body.items)
+interface_members_holds known bounded n = known.words.list bounded interface_format refl n.span (map (child_of ts_type_element_span (member_items (asks_in known) (items_in known))) n.body.items) (children_hold _ _ ts_type_element_span (member_items (asks_in known) (items_in known)) (λ x. (ts_type_element_holds known bounded x)) n.body.items)
 
 pub ts_interface_body_holds : {X : Type 0} {holds : Bool → Part → Type 0} (known : Known holds X) (bounded : Bool) (n : TsInterfaceBody X) → holds bounded (ts_interface_body (asks_in known) (items_in known) n)
 unfolding ts_interface_body

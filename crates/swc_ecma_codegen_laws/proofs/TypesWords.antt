@@ -1,5 +1,5 @@
 -- Types: what holds of the words that a definition is made of holds of it.
-use Rattle.std.proofs.Common.{Bool}
+use Rattle.std.proofs.Common.{◌≡◌, Bool, true, refl}
 use Rattle.swc_ecma_codegen_laws.proofs.Children.{children_hold}
 use Rattle.std.specs.Prelude.{ℕ, false, is_some, List, map, codes, Option, Some, None}
 use Rattle.swc_ecma_codegen_common.specs.declared.positions.Span.{Span}
@@ -61,7 +61,7 @@ use Rattle.swc_ecma_codegen_emit.specs.Annotations.{types_format}
 use Rattle.swc_ecma_codegen_emit.specs.Lists.{child_of}
 use Rattle.swc_ecma_codegen_emit.specs.Templates.{bad_shape}
 use Rattle.swc_ecma_codegen_emit.specs.TsMembers.{member_items}
-use Rattle.swc_ecma_codegen_laws.proofs.OfWords.{OfWords, Known, asks_in, items_in, either, tpl_parts_hold}
+use Rattle.swc_ecma_codegen_laws.proofs.OfWords.{OfWords, Known, asks_in, items_in, either, tpl_parts_hold, keeps_comma}
 use Rattle.swc_ecma_codegen_tokens.specs.declared.refusals.Unprintable.TheVariants as unprintable
 use Rattle.swc_ecma_codegen_emit.specs.Types.{type_place, type_items, type_at, type_behind, default_type, ts_qualified_name, ts_entity_name, ts_type_ref, listed_types, type_arguments, ts_type_param_instantiation, ts_type_param, param_place, listed_params, ts_type_param_decl, ts_keyword_type, ts_this_type, ts_fn_param, signature_type, ts_fn_type, spaced_params, ts_constructor_type, ts_fn_or_constructor_type, ts_tpl_parts, ts_tpl_lit_type, ts_lit, ts_lit_type, qualifier, ts_import_type, ts_type_query_expr, ts_type_query, members_format, listed_members, ts_type_lit, ts_array_type, label, ts_tuple_element, element_place, listed_elements, ts_tuple_type, ts_optional_type, ts_rest_type, sign, signed_readonly, signed_question, mapped_param, mapped_type_ann, mapped_parts, ts_mapped_type, union_format, intersection_format, joined_list, union_types, intersection_types, ts_union_type, ts_intersection_type, ts_union_or_intersection_type, ts_parenthesized_type, ts_type_operator, ts_indexed_access_type, ts_conditional_type, ts_infer_type, ts_this_type_or_ident, is_behind, ts_type_predicate, ts_type, ts_type_ann}
 use Rattle.swc_ecma_codegen_laws.proofs.AnnotationsWords.{type_args_holds, type_params_holds, word_before_holds}
@@ -97,7 +97,7 @@ unfolding ts_type_ref
 ts_type_ref_holds known bounded n = known.words.and_then bounded (known.words.leading_comments bounded n.span.lo) (known.words.and_then bounded (known.law bounded n.type_name.node.value Plain) (type_args_holds known bounded Reference n.type_params))
 
 pub listed_types_holds : {X : Type 0} {holds : Bool → Part → Type 0} (known : Known holds X) (bounded : Bool) (n : TsTypeParamInstantiation X) → holds bounded (listed_types (asks_in known) (items_in known) n)
-listed_types_holds known bounded n = known.words.list bounded types_format n.span (map (child_of (type_place (asks_in known)) (type_items (items_in known))) n.params.items) (children_hold _ _ (type_place (asks_in known)) (type_items (items_in known)) (λ x. (known.law bounded x.node.value Plain)) n.params.items)
+listed_types_holds known bounded n = known.words.list bounded types_format refl n.span (map (child_of (type_place (asks_in known)) (type_items (items_in known))) n.params.items) (children_hold _ _ (type_place (asks_in known)) (type_items (items_in known)) (λ x. (known.law bounded x.node.value Plain)) n.params.items)
 
 pub type_arguments_holds : {X : Type 0} {holds : Bool → Part → Type 0} (known : Known holds X) (bounded : Bool) (n : TsTypeParamInstantiation X) → holds bounded (type_arguments (asks_in known) (items_in known) n)
 unfolding type_arguments
@@ -113,7 +113,7 @@ unfolding ts_type_param
 ts_type_param_holds known bounded n = known.words.and_then bounded (known.words.leading_comments bounded n.span.lo) (known.words.and_then bounded (word_before_holds known.words bounded n.is_const (codes "const")) (known.words.and_then bounded (word_before_holds known.words bounded n.is_in (codes "in")) (known.words.and_then bounded (word_before_holds known.words bounded n.is_out (codes "out")) (known.words.and_then bounded (ident_holds known.words bounded n.name) (known.words.and_then bounded (type_behind_holds known bounded (codes "extends") n.constraint) (default_type_holds known bounded n.default))))))
 
 pub listed_params_holds : {X : Type 0} {holds : Bool → Part → Type 0} (known : Known holds X) (bounded : Bool) (n : TsTypeParamDecl X) → holds bounded (listed_params (items_in known) n)
-listed_params_holds known bounded n = known.words.list bounded types_format n.span (map (child_of param_place (λ p place. ts_type_param (items_in known) p)) n.params.items) (children_hold _ _ param_place (λ p place. ts_type_param (items_in known) p) (λ p. (ts_type_param_holds known bounded p)) n.params.items)
+listed_params_holds known bounded n = known.words.list bounded types_format refl n.span (map (child_of param_place (λ p place. ts_type_param (items_in known) p)) n.params.items) (children_hold _ _ param_place (λ p place. ts_type_param (items_in known) p) (λ p. (ts_type_param_holds known bounded p)) n.params.items)
 
 pub ts_type_param_decl_holds : {X : Type 0} {holds : Bool → Part → Type 0} (known : Known holds X) (bounded : Bool) (n : TsTypeParamDecl X) → holds bounded (ts_type_param_decl (items_in known) n)
 unfolding ts_type_param_decl
@@ -194,7 +194,7 @@ unfolding ts_type_query
 ts_type_query_holds known bounded n = known.words.and_then bounded (known.words.leading_comments bounded n.span.lo) (known.words.and_then bounded (known.words.keyword bounded None (codes "typeof")) (known.words.and_then bounded (known.words.space bounded) (known.words.and_then bounded (ts_type_query_expr_holds known bounded n.expr_name) (type_args_holds known bounded Plain n.type_args))))
 
 pub listed_members_holds : {X : Type 0} {holds : Bool → Part → Type 0} (known : Known holds X) (bounded : Bool) (n : TsTypeLit X) → holds bounded (listed_members (asks_in known) (items_in known) n)
-listed_members_holds known bounded n = known.words.list bounded members_format n.span (map (child_of ts_type_element_span (member_items (asks_in known) (items_in known))) n.members.items) (children_hold _ _ ts_type_element_span (member_items (asks_in known) (items_in known)) (λ x. (ts_type_element_holds known bounded x)) n.members.items)
+listed_members_holds known bounded n = known.words.list bounded members_format refl n.span (map (child_of ts_type_element_span (member_items (asks_in known) (items_in known))) n.members.items) (children_hold _ _ ts_type_element_span (member_items (asks_in known) (items_in known)) (λ x. (ts_type_element_holds known bounded x)) n.members.items)
 
 pub ts_type_lit_holds : {X : Type 0} {holds : Bool → Part → Type 0} (known : Known holds X) (bounded : Bool) (n : TsTypeLit X) → holds bounded (ts_type_lit (asks_in known) (items_in known) n)
 unfolding ts_type_lit
@@ -214,7 +214,7 @@ unfolding ts_tuple_element
 ts_tuple_element_holds known bounded n = known.words.and_then bounded (known.words.leading_comments bounded n.span.lo) (known.words.and_then bounded (label_holds known bounded n.label) (type_at_holds known bounded n.ty))
 
 pub listed_elements_holds : {X : Type 0} {holds : Bool → Part → Type 0} (known : Known holds X) (bounded : Bool) (n : TsTupleType X) → holds bounded (listed_elements (items_in known) n)
-listed_elements_holds known bounded n = known.words.list bounded types_format n.span (map (child_of element_place (λ x place. ts_tuple_element (items_in known) x)) n.elem_types.items) (children_hold _ _ element_place (λ x place. ts_tuple_element (items_in known) x) (λ x. (ts_tuple_element_holds known bounded x)) n.elem_types.items)
+listed_elements_holds known bounded n = known.words.list bounded types_format refl n.span (map (child_of element_place (λ x place. ts_tuple_element (items_in known) x)) n.elem_types.items) (children_hold _ _ element_place (λ x place. ts_tuple_element (items_in known) x) (λ x. (ts_tuple_element_holds known bounded x)) n.elem_types.items)
 
 pub ts_tuple_type_holds : {X : Type 0} {holds : Bool → Part → Type 0} (known : Known holds X) (bounded : Bool) (n : TsTupleType X) → holds bounded (ts_tuple_type (items_in known) n)
 unfolding ts_tuple_type
@@ -261,14 +261,14 @@ pub ts_mapped_type_holds : {X : Type 0} {holds : Bool → Part → Type 0} (know
 unfolding ts_mapped_type
 ts_mapped_type_holds known bounded n = known.words.and_then bounded (known.words.leading_comments bounded n.span.lo) (known.words.and_then bounded (known.words.punct bounded (codes "{")) (known.words.and_then bounded (known.words.line_end bounded) (known.words.and_then bounded (known.words.deeper bounded) (known.words.and_then bounded (mapped_parts_holds known bounded n) (known.words.and_then bounded (known.words.line_end bounded) (known.words.and_then bounded (known.words.shallower bounded) (known.words.punct bounded (codes "}"))))))))
 
-pub joined_list_holds : {X : Type 0} {holds : Bool → Part → Type 0} (known : Known holds X) (bounded : Bool) (format : ℕ) (span : Span) (ns : List (TsTypeBox X)) → holds bounded (joined_list (asks_in known) (items_in known) format span ns)
-joined_list_holds known bounded format span ns = known.words.list bounded format span (map (child_of (type_place (asks_in known)) (type_items (items_in known))) ns) (children_hold _ _ (type_place (asks_in known)) (type_items (items_in known)) (λ x. (known.law bounded x.node.value Plain)) ns)
+pub joined_list_holds : {X : Type 0} {holds : Bool → Part → Type 0} (known : Known holds X) (bounded : Bool) (format : ℕ) → keeps_comma format ≡ true → (span : Span) (ns : List (TsTypeBox X)) → holds bounded (joined_list (asks_in known) (items_in known) format span ns)
+joined_list_holds known bounded format keeps span ns = known.words.list bounded format keeps span (map (child_of (type_place (asks_in known)) (type_items (items_in known))) ns) (children_hold _ _ (type_place (asks_in known)) (type_items (items_in known)) (λ x. (known.law bounded x.node.value Plain)) ns)
 
 pub union_types_holds : {X : Type 0} {holds : Bool → Part → Type 0} (known : Known holds X) (bounded : Bool) (n : TsUnionType X) → holds bounded (union_types (asks_in known) (items_in known) n)
-union_types_holds known bounded n = joined_list_holds known bounded union_format n.span n.types.items
+union_types_holds known bounded n = joined_list_holds known bounded union_format refl n.span n.types.items
 
 pub intersection_types_holds : {X : Type 0} {holds : Bool → Part → Type 0} (known : Known holds X) (bounded : Bool) (n : TsIntersectionType X) → holds bounded (intersection_types (asks_in known) (items_in known) n)
-intersection_types_holds known bounded n = joined_list_holds known bounded intersection_format n.span n.types.items
+intersection_types_holds known bounded n = joined_list_holds known bounded intersection_format refl n.span n.types.items
 
 pub ts_union_type_holds : {X : Type 0} {holds : Bool → Part → Type 0} (known : Known holds X) (bounded : Bool) (n : TsUnionType X) → holds bounded (ts_union_type (asks_in known) (items_in known) n)
 unfolding ts_union_type

@@ -8,6 +8,7 @@ use Rattle.swc_ecma_codegen_common.specs.declared.positions.Span.{Span}
 use Rattle.swc_ecma_codegen_tree.specs.declared.exprs.TplElement.{TplElement}
 use Rattle.swc_ecma_codegen_tree.specs.declared.links.AnyNode.{AnyNode}
 use Rattle.swc_ecma_codegen_grammar.specs.CommentMaps.{Maps}
+use Rattle.swc_ecma_codegen_grammar.specs.Phrases.{closing_mark}
 use Rattle.swc_ecma_codegen_grammar.specs.SourceLines.{Lines}
 use Rattle.swc_ecma_codegen_tokens.specs.Lists.{ListChild, by_lines, list}
 use Rattle.swc_ecma_codegen_tokens.specs.Run.{Part, Plan, no_part}
@@ -27,10 +28,11 @@ use Rattle.swc_ecma_codegen_laws.specs.Enclosing.{is_element, is_function}
 use Rattle.swc_ecma_codegen_laws.proofs.Children.{ChildrenHold, PartsHold}
 use Rattle.swc_ecma_codegen_laws.proofs.OfSteps.{OfSteps, either, either_at, when_minified_holds, by_lines_holds, by_maps_holds}
 use Rattle.swc_ecma_codegen_laws.proofs.OfWords.{OfWords}
+use Rattle.swc_ecma_codegen_laws.proofs.OneName.{HoldsOneName}
 use Rattle.swc_ecma_codegen_laws.proofs.StepsOfAttributes.{attribute_string_holds, jsx_text_node_holds, jsx_text_lit_holds}
 use Rattle.swc_ecma_codegen_laws.proofs.StepsOfChoices.{attributes_word_holds, empty_arguments_holds, loop_ending_holds}
 use Rattle.swc_ecma_codegen_laws.proofs.StepsOfKeys.{key_holds}
-use Rattle.swc_ecma_codegen_laws.proofs.StepsOfLists.{deeper_holds, shallower_holds, first_child_holds, next_child_holds, list_holds, list_after_holds}
+use Rattle.swc_ecma_codegen_laws.proofs.StepsOfLists.{deeper_holds, shallower_holds, list_holds}
 use Rattle.swc_ecma_codegen_laws.proofs.StepsOfLiterals.{hashbang_holds}
 use Rattle.swc_ecma_codegen_laws.proofs.StepsOfLits.{str_lit_holds, bool_node_holds, number_lit_holds, number_object_holds, big_int_lit_holds, lit_holds}
 use Rattle.swc_ecma_codegen_laws.proofs.StepsOfPrivateNames.{private_name_holds}
@@ -74,8 +76,8 @@ unfolding arrow_within
 parameters_hold steps bounded plain span cs h =
     steps.and_then bounded (parenthesis_holds steps bounded plain (codes "(")) (steps.and_then bounded (list_holds steps bounded comma_list_format span cs h) (parenthesis_holds steps bounded plain (codes ")")))
 
-arrow_holds : {holds : Bool → Part → Type 0} (steps : OfSteps holds) (bounded : Bool) (plain : Maps → Bool) (span : Span) (cs : List ListChild) (result : Part) → ChildrenHold holds bounded cs → holds bounded result → ((maps : Maps) → plain maps ≡ true → (rest : Plan) → result rest ≡ rest) → holds bounded (λ rest. by_maps (λ maps. arrow_within (plain maps) span cs) (result (punct (codes "=>") rest)))
-arrow_holds steps bounded plain span cs result h k bare =
+arrow_holds : {holds : Bool → Part → Type 0} (steps : OfSteps holds) (bounded : Bool) (plain : Maps → Bool) (span : Span) (cs : List ListChild) (result : Part) → ChildrenHold holds bounded cs → holds bounded result → ((maps : Maps) → plain maps ≡ true → (rest : Plan) → result rest ≡ rest) → ((maps : Maps) → plain maps ≡ true → HoldsOneName cs) → holds bounded (λ rest. by_maps (λ maps. arrow_within (plain maps) span cs) (result (punct (codes "=>") rest)))
+arrow_holds steps bounded plain span cs result h k bare one =
     steps.and_then bounded (by_maps_holds steps bounded (λ maps. arrow_within (plain maps) span cs) (λ maps. parameters_hold steps bounded (plain maps) span cs h)) (steps.and_then bounded k (steps.punct bounded (codes "=>")))
 
 -- It holds of punctuators without a place behind them where a line may be ended, of the dots before what is spread, of operators, and of
@@ -123,7 +125,7 @@ words_of steps marks = record {
   assign_operator = marks.assign_operator;
   yield_word = marks.yield_word;
   attributes_word = attributes_word_holds steps;
-  empty_arguments = empty_arguments_holds steps;
+  bare_new = λ bounded called h. steps.and_then bounded (keyword_holds steps bounded None (codes "new")) (steps.and_then bounded h (empty_arguments_holds steps bounded));
   hashbang = hashbang_holds steps;
   name = name_holds steps;
   private_name = private_name_holds steps;
@@ -140,10 +142,8 @@ words_of steps marks = record {
   tag_name = tag_name_holds steps;
   child_open = child_open_holds steps;
   close = close_holds steps;
-  first_child = first_child_holds steps;
-  next_child = next_child_holds steps;
-  list = list_holds steps;
-  list_after = list_after_holds steps;
+  list = λ bounded format keeps. list_holds steps bounded format;
+  closed_list = λ bounded format parent cs close h. steps.and_then bounded (list_holds steps bounded format parent cs h) (steps.punct bounded (closing_mark close));
   block_list = block_holds steps;
   object_list = object_holds steps;
   case_list = cases_hold steps;

@@ -1,0 +1,8 @@
+use Rattle.swc_ecma_codegen_laws.proofs.LaidOut.{returned_bare, yielded_bare}
+use Rattle.swc_ecma_codegen_laws.proofs.layouts.arguments_stand_bare.Goals as goal
+
+pub returns-clause-returned : goal.returns-clause-returned
+returns-clause-returned c = returned_bare
+
+pub returns-clause-yielded : goal.returns-clause-yielded
+returns-clause-yielded c = yielded_bare

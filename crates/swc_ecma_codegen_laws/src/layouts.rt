@@ -1,0 +1,49 @@
+//! Laws of layouts where there are no comments: what minifying, and what the source text, may change in the tokens that are written.
+
+ghost use Rattle.std.specs.Prelude.{◌≡◌, Bool, true, false, if◌then◌else◌};
+ghost use Rattle.swc_ecma_codegen_common.specs.declared.positions.Span.{Span};
+ghost use Rattle.swc_ecma_codegen_grammar.specs.Comments.{no_maps};
+ghost use Rattle.swc_ecma_codegen_grammar.specs.SourceLines.{Lines};
+ghost use Rattle.swc_ecma_codegen_tree.specs.declared.links.AnyNode.{AnyNode};
+ghost use Rattle.swc_ecma_codegen_tokens.specs.Run.{Env, Plan};
+ghost use Rattle.swc_ecma_codegen_emit.specs.Answers.{any_answers};
+ghost use Rattle.swc_ecma_codegen_emit.specs.Exprs.{blank, yield_argument};
+ghost use Rattle.swc_ecma_codegen_emit.specs.Roots.{Root};
+ghost use Rattle.swc_ecma_codegen_emit.specs.Stmts.{argument, spaced};
+ghost use Rattle.swc_ecma_codegen_emit.specs.Tree.{any_items};
+ghost use Rattle.swc_ecma_codegen_emit.specs.declared.nodes.Place.TheVariants.{Plain};
+ghost use Rattle.swc_ecma_codegen_laws.specs.Layouts.{DifferByLayout, DifferInCommas, IsPlain, IsWhole, laid_out, over, tokens_of};
+
+/// Minified or not, an emission without comments writes the same tokens, but for the spelling of literals, and for what is left out where it is
+/// minified: a comma before the `]` or `}` that closes a list, parentheses round the name that is the only parameter of an
+/// arrow function, and the empty arguments of `new`: `(a) => new B();` and `a=>new B;`. Semicolons are among these tokens: which
+/// of them a writer leaves out that holds them back, and that literals have the same values, `layouts_keep_the_tokens` says.
+pub fn layouts_write_the_same_tokens()
+    ensures { (root : Root) (env : Env) → IsPlain env → IsWhole root (laid_out true env) →
+        DifferByLayout (laid_out true env).config (laid_out false env).config
+        (tokens_of root (laid_out true env)) (tokens_of root (laid_out false env)) }
+{}
+
+/// Over another source text an emission without comments writes the same tokens, each spelled as it was, but for a comma
+/// before the `]` or `}` that closes a list; and where its map answers the same snippets, the very same, whatever it answers
+/// on lines.
+pub fn source_texts_write_the_same_tokens()
+    ensures commas { (root : Root) (env : Env) (lines : Lines) → IsPlain env → IsWhole root env →
+        DifferInCommas env.config (tokens_of root env) (tokens_of root (over lines env)) }
+    ensures snippets { (root : Root) (env : Env) (lines : Lines) → IsPlain env →
+        ((span : Span) → env.lines.snippet span ≡ lines.snippet span) → IsWhole root env →
+        tokens_of root env ≡ tokens_of root (over lines env) }
+{}
+
+/// Without comments no parentheses stand round what is returned, thrown or yielded, minified or not: behind the word comes a blank, where
+/// one is due, and what is written of the node by itself: `return a`, `yield[a]`.
+pub fn arguments_stand_bare()
+    ensures returned { (node : AnyNode) (rest : Plan) (env : Env) → env.maps ≡ no_maps →
+        argument any_answers any_items node rest env
+        ≡ spaced any_answers any_items node rest env }
+    ensures yielded { (node : AnyNode) (delegate : Bool) (rest : Plan) (env : Env) →
+        env.maps ≡ no_maps →
+        yield_argument any_answers any_items delegate node rest env
+        ≡ blank (if delegate then false else (any_answers node).starts) (any_items node Plain rest)
+        env }
+{}
