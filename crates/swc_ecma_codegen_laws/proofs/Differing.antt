@@ -2,44 +2,44 @@
 use Rattle.std.proofs.Common.{◌≡◌, ℕ, Bool, true, false, ◌||◌, List, [], ◌∷◌, ◌++◌, codes, refl, sym, ap, ◌∙◌, subst, append_assoc, append-nil, inl, inr}
 use Rattle.std.proofs.lemmas.Bool.{cases_Bool, true≢false}
 use Rattle.swc_ecma_codegen_grammar.specs.declared.kinds.Kind.TheVariants.{Word}
-use Rattle.swc_ecma_codegen_grammar.specs.Phrases.{Closing, closing_mark}
+use Rattle.swc_ecma_codegen_grammar.specs.Phrases.{Closing}
 use Rattle.swc_ecma_codegen_util.specs.declared.config.Config.{Config}
-use Rattle.swc_ecma_codegen_laws.specs.Layouts.{Tokens, IsOneLiteral, Differ, no_more, token, literal, first_comma, second_comma, parameter, arguments, mark}
+use Rattle.swc_ecma_codegen_laws.specs.Layouts.{Tokens, Allowed, IsOneLiteral, Differ, no_more, token, literal, first_comma, second_comma, parameter, arguments, closing, mark}
 
-pub differ_same : {commas layouts : Bool} {s t : Config} (xs : Tokens) → Differ commas layouts s t xs xs
+pub differ_same : {allowed : Allowed} (xs : Tokens) → Differ allowed xs xs
 differ_same [] = no_more
 differ_same (x ∷ xs) = token x xs xs (differ_same xs)
 
-pub differ_append : {commas layouts : Bool} {s t : Config} (xs ys us vs : Tokens) → Differ commas layouts s t xs ys → Differ commas layouts s t us vs → Differ commas layouts s t (xs ++ us) (ys ++ vs)
+pub differ_append : {allowed : Allowed} (xs ys us vs : Tokens) → Differ allowed xs ys → Differ allowed us vs → Differ allowed (xs ++ us) (ys ++ vs)
 differ_append xs ys us vs no_more k = k
 differ_append xs ys us vs (token x fs gs h) k = token x (fs ++ us) (gs ++ vs) (differ_append fs gs us vs h k)
-differ_append {commas} {layouts} {s} {t} xs ys us vs (literal ps qs fs gs e one h) k =
-    subst (λ z. Differ commas layouts s t z ((qs ++ gs) ++ vs)) (sym (append_assoc ps fs us))
-    (subst (λ z. Differ commas layouts s t (ps ++ (fs ++ us)) z) (sym (append_assoc qs gs vs))
+differ_append {allowed} xs ys us vs (literal ps qs fs gs e one h) k =
+    subst (λ z. Differ allowed z ((qs ++ gs) ++ vs)) (sym (append_assoc ps fs us))
+    (subst (λ z. Differ allowed (ps ++ (fs ++ us)) z) (sym (append_assoc qs gs vs))
     (literal ps qs (fs ++ us) (gs ++ vs) e one (differ_append fs gs us vs h k)))
 differ_append xs ys us vs (first_comma close fs gs e h) k = first_comma close (fs ++ us) (gs ++ vs) e (differ_append fs gs us vs h k)
 differ_append xs ys us vs (second_comma close fs gs e h) k = second_comma close (fs ++ us) (gs ++ vs) e (differ_append fs gs us vs h k)
 differ_append xs ys us vs (parameter name fs gs e h) k = parameter name (fs ++ us) (gs ++ vs) e (differ_append fs gs us vs h k)
-differ_append {commas} {layouts} {s} {t} xs ys us vs (arguments ps qs fs gs e m h) k =
-    subst (λ z. Differ commas layouts s t ((Word, codes "new") ∷ z) ((Word, codes "new") ∷ ((qs ++ (mark (codes "(") ∷ mark (codes ")") ∷ gs)) ++ vs))) (sym (append_assoc ps fs us))
-    (subst (λ z. Differ commas layouts s t ((Word, codes "new") ∷ (ps ++ (fs ++ us))) ((Word, codes "new") ∷ z)) (sym (append_assoc qs (mark (codes "(") ∷ mark (codes ")") ∷ gs) vs))
+differ_append {allowed} xs ys us vs (arguments ps qs fs gs e m h) k =
+    subst (λ z. Differ allowed ((Word, codes "new") ∷ z) ((Word, codes "new") ∷ ((qs ++ (mark (codes "(") ∷ mark (codes ")") ∷ gs)) ++ vs))) (sym (append_assoc ps fs us))
+    (subst (λ z. Differ allowed ((Word, codes "new") ∷ (ps ++ (fs ++ us))) ((Word, codes "new") ∷ z)) (sym (append_assoc qs (mark (codes "(") ∷ mark (codes ")") ∷ gs) vs))
     (arguments ps qs (fs ++ us) (gs ++ vs) e m (differ_append fs gs us vs h k)))
 
 -- where neither source texts nor layouts differ they are the same
-pub differ_equal : {s t : Config} (xs ys : Tokens) → Differ false false s t xs ys → xs ≡ ys
-differ_equal xs ys no_more = refl
-differ_equal xs ys (token x fs gs h) = ap (λ z. x ∷ z) (differ_equal fs gs h)
-differ_equal xs ys (literal ps qs fs gs e one h) = absurd (true≢false (sym e))
-differ_equal xs ys (first_comma close fs gs e h) = absurd (true≢false (sym e))
-differ_equal xs ys (second_comma close fs gs e h) = absurd (true≢false (sym e))
-differ_equal xs ys (parameter name fs gs e h) = absurd (true≢false (sym e))
-differ_equal xs ys (arguments ps qs fs gs e m h) = absurd (true≢false (sym e))
+pub differ_equal : (first second : Config) (xs ys : Tokens) → Differ (record { commas = false; layout = false; first = first; second = second }) xs ys → xs ≡ ys
+differ_equal first second xs ys no_more = refl
+differ_equal first second xs ys (token x fs gs h) = ap (λ z. x ∷ z) (differ_equal first second fs gs h)
+differ_equal first second xs ys (literal ps qs fs gs e one h) = absurd (true≢false (sym e))
+differ_equal first second xs ys (first_comma close fs gs e h) = absurd (true≢false (sym e))
+differ_equal first second xs ys (second_comma close fs gs e h) = absurd (true≢false (sym e))
+differ_equal first second xs ys (parameter name fs gs e h) = absurd (true≢false (sym e))
+differ_equal first second xs ys (arguments ps qs fs gs e m h) = absurd (true≢false (sym e))
 
 -- one literal
-pub differ_literal : {commas layouts : Bool} {s t : Config} (us vs : Tokens) → layouts ≡ true → IsOneLiteral s t us vs → Differ commas layouts s t us vs
-differ_literal {commas} {layouts} {s} {t} us vs e one =
-    subst (λ z. Differ commas layouts s t z vs) (append-nil us)
-    (subst (λ z. Differ commas layouts s t (us ++ []) z) (append-nil vs) (literal us vs [] [] e one no_more))
+pub differ_literal : {allowed : Allowed} (us vs : Tokens) → allowed.layout ≡ true → IsOneLiteral allowed.first allowed.second us vs → Differ allowed us vs
+differ_literal {allowed} us vs e one =
+    subst (λ z. Differ allowed z vs) (append-nil us)
+    (subst (λ z. Differ allowed (us ++ []) z) (append-nil vs) (literal us vs [] [] e one no_more))
 
 -- the last comma of a list and the mark that closes it
 abbrev pub comma_if : Bool → Tokens
@@ -54,11 +54,11 @@ either_flag true b h = refl
 either_flag false true h = refl
 either_flag false false h = sym (h refl refl)
 
-pub differ_comma : {commas layouts : Bool} {s t : Config} (close : Closing) (a b : Bool) → (commas ≡ false → a ≡ true → b ≡ true) → (commas ≡ false → layouts ≡ false → b ≡ a) → Differ commas layouts s t (comma_if a ++ (mark (closing_mark close) ∷ [])) (comma_if b ++ (mark (closing_mark close) ∷ []))
-differ_comma close true true h k = differ_same (mark (codes ",") ∷ mark (closing_mark close) ∷ [])
-differ_comma close false false h k = differ_same (mark (closing_mark close) ∷ [])
-differ_comma {commas} close true false h k = elim (cases_Bool commas) [
+pub differ_comma : {allowed : Allowed} (close : Closing) (a b : Bool) → (allowed.commas ≡ false → a ≡ true → b ≡ true) → (allowed.commas ≡ false → allowed.layout ≡ false → b ≡ a) → Differ allowed (comma_if a ++ (closing close ∷ [])) (comma_if b ++ (closing close ∷ []))
+differ_comma close true true h k = differ_same (mark (codes ",") ∷ closing close ∷ [])
+differ_comma close false false h k = differ_same (closing close ∷ [])
+differ_comma {allowed} close true false h k = elim (cases_Bool allowed.commas) [
   | inl e ↦ first_comma close [] [] e no_more
   | inr e ↦ apart (sym (h e refl))
 ]
-differ_comma {commas} {layouts} close false true h k = second_comma close [] [] (either_flag commas layouts k) no_more
+differ_comma {allowed} close false true h k = second_comma close [] [] (either_flag allowed.commas allowed.layout k) no_more

@@ -98,7 +98,7 @@ two_layouts env = record {
   first_lines = env.lines;
   second_lines = env.lines;
   commas = false;
-  layouts = true;
+  layout = true;
   ordered = λ e. refl;
   one_layout = λ e. absurd (true≢false e);
   one_source = λ e span. refl;
@@ -119,7 +119,7 @@ two_sources env lines commas same = record {
   first_lines = env.lines;
   second_lines = lines;
   commas = commas;
-  layouts = false;
+  layout = false;
   ordered = λ e. e;
   one_layout = λ e. refl;
   one_source = same;
@@ -135,7 +135,7 @@ pub snippets_tell : (root : Root) (env : Env) (lines : Lines) → IsPlain env �
 unfolding two_sources
 snippets_tell root env lines h same =
     let P : Env → Type 0 = λ z. IsWhole root z → tokens_of root z ≡ tokens_of root (over lines z) in
-    subst P (plain_env env h) (λ w. differ_equal _ _ (two_fit (two_sources env lines false (λ e. same)) root w))
+    subst P (plain_env env h) (λ w. differ_equal env.config env.config _ _ (two_fit (two_sources env lines false (λ e. same)) root w))
 
 -- ---- what stands behind `return`, `throw` and `yield`
 

@@ -35,9 +35,9 @@ paren_writes env t = writes_as (parenthesis true t) (λ rest now. if env.config.
 abbrev arrow_mark : Tokens
 arrow_mark = mark (codes "=>") ∷ []
 
-fits_arrow : (two : TwoLayouts) (a b : Bool) → (b ≡ true → a ≡ true) → (two.layouts ≡ false → a ≡ b) → (name : List ℕ) → Fits two (paren a (codes "(") ++ (((kinds.Name, name) ∷ []) ++ (paren a (codes ")") ++ arrow_mark))) (paren b (codes "(") ++ (((kinds.Name, name) ∷ []) ++ (paren b (codes ")") ++ arrow_mark)))
+fits_arrow : (two : TwoLayouts) (a b : Bool) → (b ≡ true → a ≡ true) → (two.layout ≡ false → a ≡ b) → (name : List ℕ) → Fits two (paren a (codes "(") ++ (((kinds.Name, name) ∷ []) ++ (paren a (codes ")") ++ arrow_mark))) (paren b (codes "(") ++ (((kinds.Name, name) ∷ []) ++ (paren b (codes ")") ++ arrow_mark)))
 fits_arrow two true true o e name = differ_same ((kinds.Name, name) ∷ arrow_mark)
-fits_arrow two true false o e name = parameter name [] [] (elim (cases_Bool two.layouts) [ inl l ↦ l | inr l ↦ absurd (true≢false (e l)) ]) no_more
+fits_arrow two true false o e name = parameter name [] [] (elim (cases_Bool two.layout) [ inl l ↦ l | inr l ↦ absurd (true≢false (e l)) ]) no_more
 fits_arrow two false true o e name = absurd (true≢false (sym (o refl)))
 fits_arrow two false false o e name = differ_same (mark (codes "(") ∷ (kinds.Name, name) ∷ mark (codes ")") ∷ arrow_mark)
 
@@ -112,9 +112,9 @@ arguments_write env =
     let both : Part = λ rest. punct (codes "(") (punct (codes ")") rest) in
     writes_as empty_arguments (λ rest now. if env.config.minify then rest now else both rest now) (λ rest. refl) (writes_chosen env.config.minify (λ rest. rest) both (always_none.at env) ((always_then (always_punct (codes "(")) (always_punct (codes ")"))).at env))
 
-fits_new : (two : TwoLayouts) (a b : Bool) → (b ≡ true → a ≡ true) → (two.layouts ≡ false → a ≡ b) → (us vs : Tokens) → Fits two us vs → Fits two ((kinds.Word, codes "new") ∷ (us ++ no_arguments a)) ((kinds.Word, codes "new") ∷ (vs ++ no_arguments b))
+fits_new : (two : TwoLayouts) (a b : Bool) → (b ≡ true → a ≡ true) → (two.layout ≡ false → a ≡ b) → (us vs : Tokens) → Fits two us vs → Fits two ((kinds.Word, codes "new") ∷ (us ++ no_arguments a)) ((kinds.Word, codes "new") ∷ (vs ++ no_arguments b))
 fits_new two true true o e us vs h = token (kinds.Word, codes "new") (us ++ []) (vs ++ []) (differ_append us vs [] [] h no_more)
-fits_new two true false o e us vs h = arguments us vs [] [] (elim (cases_Bool two.layouts) [ inl l ↦ l | inr l ↦ absurd (true≢false (e l)) ]) h no_more
+fits_new two true false o e us vs h = arguments us vs [] [] (elim (cases_Bool two.layout) [ inl l ↦ l | inr l ↦ absurd (true≢false (e l)) ]) h no_more
 fits_new two false true o e us vs h = absurd (true≢false (sym (o refl)))
 fits_new two false false o e us vs h = token (kinds.Word, codes "new") (us ++ no_arguments false) (vs ++ no_arguments false) (differ_append us vs (no_arguments false) (no_arguments false) h (differ_same (no_arguments false)))
 

@@ -56,6 +56,7 @@ pub mod StepsOfWords
 pub mod StmtsWords
 pub mod TargetsWords
 pub mod TemplatesWords
+pub mod ToldParentheses
 pub mod TsDeclsWords
 pub mod TsExprsWords
 pub mod TsMembersWords

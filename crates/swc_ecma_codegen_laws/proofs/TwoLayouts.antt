@@ -120,7 +120,7 @@ always_minified {p} {q} {ts} h k = record { at = λ env. writes_as (when_minifie
 -- ---- two emissions
 
 -- What each of the two goes by: the settings but for whether they minify, what the writer keeps, and what the map of each source text answers. `commas` says that these
--- may answer differently to snippets, `layouts` that only the first may be minified.
+-- may answer differently to snippets, `layout` that only the first may be minified.
 pub record TwoLayouts : Type 0 where
   pub config : Config
   pub keeps_invalid : Bool
@@ -129,9 +129,9 @@ pub record TwoLayouts : Type 0 where
   pub first_lines : Lines
   pub second_lines : Lines
   pub commas : Bool
-  pub layouts : Bool
+  pub layout : Bool
   pub ordered : second_minify ≡ true → first_minify ≡ true
-  pub one_layout : layouts ≡ false → first_minify ≡ second_minify
+  pub one_layout : layout ≡ false → first_minify ≡ second_minify
   pub one_source : commas ≡ false → (span : Span) → first_lines.snippet span ≡ second_lines.snippet span
 
 abbrev pub first_config : TwoLayouts → Config
@@ -147,7 +147,7 @@ abbrev pub second_env : TwoLayouts → Option ℕ → Env
 second_env two max = record { config = second_config two; max_line = max; keeps_invalid = two.keeps_invalid; lines = two.second_lines; maps = no_maps }
 
 abbrev pub Fits : TwoLayouts → Tokens → Tokens → Type 0
-Fits two us vs = Differ two.commas two.layouts (first_config two) (second_config two) us vs
+Fits two us vs = Differ (record { commas = two.commas; layout = two.layout; first = first_config two; second = second_config two }) us vs
 
 -- The first writes the one part, the second the other, and their tokens differ as they may; or both come to the same node that can't be printed.
 pub record Both (two : TwoLayouts) (x y : Option ℕ) (p q : Part) : Type 0 where
@@ -185,13 +185,13 @@ unfolding chain refuse tokens_in
 both_refuse r = record { us = []; vs = []; stop = Some r; first = record { steps = []; is_steps = λ rest. refl; tokens = refl }; second = record { steps = []; is_steps = λ rest. refl; tokens = refl }; fit = λ z. no_stop r z }
 
 -- one of two by whether each is minified: the second is only where the first is too
-by_layouts : {two : TwoLayouts} {x y : Option ℕ} (p q r s : Part) (a b : Bool) → (b ≡ true → a ≡ true) → (two.layouts ≡ false → a ≡ b) → Both two x y p r → (two.layouts ≡ true → Both two x y p s) → Both two x y q s → Both two x y (λ rest now. if a then p rest now else q rest now) (λ rest now. if b then r rest now else s rest now)
+by_layouts : {two : TwoLayouts} {x y : Option ℕ} (p q r s : Part) (a b : Bool) → (b ≡ true → a ≡ true) → (two.layout ≡ false → a ≡ b) → Both two x y p r → (two.layout ≡ true → Both two x y p s) → Both two x y q s → Both two x y (λ rest now. if a then p rest now else q rest now) (λ rest now. if b then r rest now else s rest now)
 by_layouts p q r s true true o e h m k = h
-by_layouts {two} p q r s true false o e h m k = m (elim (cases_Bool two.layouts) [ inl l ↦ l | inr l ↦ absurd (true≢false (e l)) ])
+by_layouts {two} p q r s true false o e h m k = m (elim (cases_Bool two.layout) [ inl l ↦ l | inr l ↦ absurd (true≢false (e l)) ])
 by_layouts p q r s false true o e h m k = absurd (true≢false (sym (o refl)))
 by_layouts p q r s false false o e h m k = k
 
-pub both_minified : {two : TwoLayouts} {x y : Option ℕ} (p q r s : Part) → Both two x y p r → (two.layouts ≡ true → Both two x y p s) → Both two x y q s → Both two x y (when_minified p q) (when_minified r s)
+pub both_minified : {two : TwoLayouts} {x y : Option ℕ} (p q r s : Part) → Both two x y p r → (two.layout ≡ true → Both two x y p s) → Both two x y q s → Both two x y (when_minified p q) (when_minified r s)
 unfolding when_minified
 both_minified {two} p q r s h m k =
     both_as (when_minified p q) (when_minified r s) (λ rest now. if two.first_minify then p rest now else q rest now) (λ rest now. if two.second_minify then r rest now else s rest now) (λ rest. refl) (λ rest. refl)
@@ -217,7 +217,7 @@ alike_refuse bounded r = record { at = λ x y. both_refuse r }
 
 -- one literal, as the settings of each spell it
 literal_fits : (two : TwoLayouts) (spelled : Config → Tokens) → ((s t : Config) → IsOneLiteral s t (spelled s) (spelled t)) → Fits two (spelled (first_config two)) (spelled (second_config two))
-literal_fits two spelled one = elim (cases_Bool two.layouts) [
+literal_fits two spelled one = elim (cases_Bool two.layout) [
   | inl e ↦ differ_literal (spelled (first_config two)) (spelled (second_config two)) e (one (first_config two) (second_config two))
   | inr e ↦ subst (λ m. Fits two (spelled (first_config two)) (spelled (record two.config { minify = m }))) (two.one_layout e) (differ_same (spelled (first_config two)))
 ]

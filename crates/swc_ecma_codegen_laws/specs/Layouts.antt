@@ -1,11 +1,12 @@
 -- How two emissions of one tree may differ in the tokens that they write, where there are no comments.
-use Rattle.std.specs.Prelude.{◌≡◌, ℕ, Bool, true, false, ◌||◌, if◌then◌else◌, List, [], ◌∷◌, ◌++◌, codes, None, string_bytes}
+use Rattle.std.specs.Prelude.{◌≡◌, ℕ, Bool, true, false, ◌&&◌, ◌||◌, if◌then◌else◌, List, [], ◌∷◌, ◌++◌, codes, None, string_bytes}
 use Rattle.std.specs.Str.{chars}
 use Rattle.swc_ecma_codegen_grammar.specs.Comments.{no_maps}
 use Rattle.swc_ecma_codegen_grammar.specs.Numbers.{takes_dot}
 use Rattle.swc_ecma_codegen_grammar.specs.Phrases.{Closing, closing_mark}
 use Rattle.swc_ecma_codegen_grammar.specs.SourceLines.{Lines}
 use Rattle.swc_ecma_codegen_grammar.specs.TemplatePhrases.{part_kind, part_text}
+use Rattle.swc_ecma_codegen_grammar.specs.Texts.{is_same}
 use Rattle.swc_ecma_codegen_grammar.specs.declared.kinds.Kind.{Kind}
 use Rattle.swc_ecma_codegen_grammar.specs.declared.kinds.Kind.TheVariants as kinds
 use Rattle.swc_ecma_codegen_grammar.specs.declared.kinds.TemplatePart.{TemplatePart}
@@ -57,24 +58,58 @@ pub data IsOneLiteral (s t : Config) : Tokens → Tokens → Type 0 where
 abbrev pub mark : List ℕ → Kind × List ℕ
 mark t = (kinds.Punctuator, t)
 
--- Two lists are the same token for token. Where one is minified and the other isn't, a literal may be spelled in two ways, and the second may have more: a comma
--- before a `]` or `}`, parentheses round a name before `=>`, and `()` behind `new` and what is called, alike in both: `a=>new B` and `(a)=>new B()`.
--- Where the source texts differ, either may have such a comma. So neither `return(a)` and `return a` are, nor `f()` and `f`.
-pub data Differ (commas layouts : Bool) (s t : Config) : Tokens → Tokens → Type 0 where
-  no_more : Differ commas layouts s t [] []
-  token : (x : Kind × List ℕ) (xs ys : Tokens) → Differ commas layouts s t xs ys → Differ commas layouts s t (x ∷ xs) (x ∷ ys)
-  literal : (us vs xs ys : Tokens) → layouts ≡ true → IsOneLiteral s t us vs → Differ commas layouts s t xs ys → Differ commas layouts s t (us ++ xs) (vs ++ ys)
-  first_comma : (close : Closing) (xs ys : Tokens) → commas ≡ true → Differ commas layouts s t xs ys → Differ commas layouts s t (mark (codes ",") ∷ mark (closing_mark close) ∷ xs) (mark (closing_mark close) ∷ ys)
-  second_comma : (close : Closing) (xs ys : Tokens) → (commas || layouts) ≡ true → Differ commas layouts s t xs ys → Differ commas layouts s t (mark (closing_mark close) ∷ xs) (mark (codes ",") ∷ mark (closing_mark close) ∷ ys)
-  parameter : (name : List ℕ) (xs ys : Tokens) → layouts ≡ true → Differ commas layouts s t xs ys → Differ commas layouts s t ((kinds.Name, name) ∷ mark (codes "=>") ∷ xs) (mark (codes "(") ∷ (kinds.Name, name) ∷ mark (codes ")") ∷ mark (codes "=>") ∷ ys)
-  arguments : (us vs xs ys : Tokens) → layouts ≡ true → Differ commas layouts s t us vs → Differ commas layouts s t xs ys → Differ commas layouts s t ((kinds.Word, codes "new") ∷ (us ++ xs)) ((kinds.Word, codes "new") ∷ (vs ++ (mark (codes "(") ∷ mark (codes ")") ∷ ys)))
+-- the `]` or `}` that closes a list
+abbrev pub closing : Closing → Kind × List ℕ
+closing close = mark (closing_mark close)
 
--- So may two layouts, the first minified; and two emissions over two source texts.
+-- What two lists may differ in: in commas, where the source texts differ; in layout, where the first is minified and the second isn't. And the settings of each.
+pub record Allowed : Type 0 where
+  pub commas : Bool
+  pub layout : Bool
+  pub first : Config
+  pub second : Config
+
+-- Two lists are the same token for token, but for what is allowed. By layout a literal may be spelled in two ways, and the second list may have more: a comma before
+-- a `]` or `}`, parentheses round a name before `=>`, and `()` behind `new` and what is called, alike in both: `a=>new B` and `(a)=>new B()`. By source text either
+-- may have such a comma. So neither `return a` and `return(a)` are, nor `f` and `f()`.
+pub data Differ (allowed : Allowed) : Tokens → Tokens → Type 0 where
+  no_more : Differ allowed [] []
+  token : (x : Kind × List ℕ) (xs ys : Tokens) → Differ allowed xs ys → Differ allowed (x ∷ xs) (x ∷ ys)
+  literal : (us vs xs ys : Tokens) → allowed.layout ≡ true → IsOneLiteral allowed.first allowed.second us vs → Differ allowed xs ys → Differ allowed (us ++ xs) (vs ++ ys)
+  first_comma : (close : Closing) (xs ys : Tokens) → allowed.commas ≡ true → Differ allowed xs ys → Differ allowed (mark (codes ",") ∷ closing close ∷ xs) (closing close ∷ ys)
+  second_comma : (close : Closing) (xs ys : Tokens) → (allowed.commas || allowed.layout) ≡ true → Differ allowed xs ys → Differ allowed (closing close ∷ xs) (mark (codes ",") ∷ closing close ∷ ys)
+  parameter : (name : List ℕ) (xs ys : Tokens) → allowed.layout ≡ true → Differ allowed xs ys → Differ allowed ((kinds.Name, name) ∷ mark (codes "=>") ∷ xs) (mark (codes "(") ∷ (kinds.Name, name) ∷ mark (codes ")") ∷ mark (codes "=>") ∷ ys)
+  arguments : (us vs xs ys : Tokens) → allowed.layout ≡ true → Differ allowed us vs → Differ allowed xs ys → Differ allowed ((kinds.Word, codes "new") ∷ (us ++ xs)) ((kinds.Word, codes "new") ∷ (vs ++ (mark (codes "(") ∷ mark (codes ")") ∷ ys)))
+
+-- by layout alone, the first minified; and by source text alone
 abbrev pub DifferByLayout : Config → Config → Tokens → Tokens → Type 0
-DifferByLayout s t xs ys = Differ false true s t xs ys
+DifferByLayout first second xs ys = Differ (record { commas = false; layout = true; first = first; second = second }) xs ys
 
 abbrev pub DifferInCommas : Config → Tokens → Tokens → Type 0
-DifferInCommas s xs ys = Differ true false s s xs ys
+DifferInCommas config xs ys = Differ (record { commas = true; layout = false; first = config; second = config }) xs ys
+
+-- ---- what such lists have in common
+
+unfoldable pub is_punctuator : Kind → Bool
+is_punctuator kinds.Punctuator = true
+is_punctuator kind = false
+
+-- this punctuator
+abbrev pub is_mark : List ℕ → Kind × List ℕ → Bool
+is_mark t x = is_punctuator x.0 && is_same x.1 t
+
+-- a list begins with `(`; and with one token before `=>`, as a parameter without parentheses
+unfoldable pub opens : Tokens → Bool
+opens [] = false
+opens (x ∷ xs) = is_mark (codes "(") x
+
+unfoldable pub begins_arrow : Tokens → Bool
+begins_arrow (x ∷ y ∷ xs) = is_mark (codes "=>") y
+begins_arrow xs = false
+
+unfoldable pub without_commas : Tokens → Tokens
+without_commas [] = []
+without_commas (x ∷ xs) = if is_mark (codes ",") x then without_commas xs else x ∷ without_commas xs
 
 -- ---- what is written of a tree
 

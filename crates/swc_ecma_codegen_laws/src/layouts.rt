@@ -1,9 +1,12 @@
 //! Laws of layouts where there are no comments: what minifying, and what the source text, may change in the tokens that are written.
 
-ghost use Rattle.std.specs.Prelude.{◌≡◌, Bool, true, false, if◌then◌else◌};
+ghost use Rattle.std.specs.Prelude.{◌≡◌, ℕ, Bool, true, false, ◌||◌, if◌then◌else◌, List, ◌∷◌, codes};
 ghost use Rattle.swc_ecma_codegen_common.specs.declared.positions.Span.{Span};
 ghost use Rattle.swc_ecma_codegen_grammar.specs.Comments.{no_maps};
 ghost use Rattle.swc_ecma_codegen_grammar.specs.SourceLines.{Lines};
+ghost use Rattle.swc_ecma_codegen_grammar.specs.Texts.{is_same};
+ghost use Rattle.swc_ecma_codegen_grammar.specs.declared.kinds.Kind.TheVariants.{Word};
+ghost use Rattle.swc_ecma_codegen_util.specs.declared.config.Config.{Config};
 ghost use Rattle.swc_ecma_codegen_tree.specs.declared.links.AnyNode.{AnyNode};
 ghost use Rattle.swc_ecma_codegen_tokens.specs.Run.{Env, Plan};
 ghost use Rattle.swc_ecma_codegen_emit.specs.Answers.{any_answers};
@@ -12,7 +15,7 @@ ghost use Rattle.swc_ecma_codegen_emit.specs.Roots.{Root};
 ghost use Rattle.swc_ecma_codegen_emit.specs.Stmts.{argument, spaced};
 ghost use Rattle.swc_ecma_codegen_emit.specs.Tree.{any_items};
 ghost use Rattle.swc_ecma_codegen_emit.specs.declared.nodes.Place.TheVariants.{Plain};
-ghost use Rattle.swc_ecma_codegen_laws.specs.Layouts.{DifferByLayout, DifferInCommas, IsPlain, IsWhole, laid_out, over, tokens_of};
+ghost use Rattle.swc_ecma_codegen_laws.specs.Layouts.{DifferByLayout, DifferInCommas, IsPlain, IsWhole, Tokens, begins_arrow, laid_out, mark, opens, over, tokens_of, without_commas};
 
 /// Minified or not, an emission without comments writes the same tokens, but for the spelling of literals, and for what is left out where it is
 /// minified: a comma before the `]` or `}` that closes a list, parentheses round the name that is the only parameter of an
@@ -46,4 +49,16 @@ pub fn arguments_stand_bare()
         yield_argument any_answers any_items delegate node rest env
         ≡ blank (if delegate then false else (any_answers node).starts) (any_items node Plain rest)
         env }
+{}
+
+/// What lists have in common that differ by layout: a `(` behind a word other than `new` stands in both, or the first has one token
+/// there and `=>`. So no word writes `return (a)` where it isn't minified and `return a` where it is. And lists that differ in commas
+/// are the same without them: none writes parentheses where the map of the source text answers so.
+pub fn other_parentheses_stand_in_both()
+    ensures layouts { (s t : Config) (word : List ℕ) (xs ys : Tokens) →
+        is_same word (codes "new") ≡ false →
+        DifferByLayout s t ((Word, word) ∷ xs) ((Word, word) ∷ mark (codes "(") ∷ ys) →
+        (opens xs || begins_arrow xs) ≡ true }
+    ensures sources { (s : Config) (xs ys : Tokens) → DifferInCommas s xs ys →
+        without_commas xs ≡ without_commas ys }
 {}
