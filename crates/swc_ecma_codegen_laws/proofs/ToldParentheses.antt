@@ -7,92 +7,114 @@ use Rattle.swc_ecma_codegen_grammar.specs.Texts.{is_same}
 use Rattle.swc_ecma_codegen_grammar.specs.declared.kinds.Kind.{Kind}
 use Rattle.swc_ecma_codegen_grammar.specs.declared.kinds.Kind.TheVariants as kinds
 use Rattle.swc_ecma_codegen_grammar.specs.declared.kinds.TemplatePart.{TemplatePart}
+use Rattle.swc_ecma_codegen_tree.specs.declared.lits.BigInt.{BigInt}
 use Rattle.swc_ecma_codegen_util.specs.declared.config.Config.{Config}
 use Rattle.swc_ecma_codegen_tokens.specs.Literals.{signed}
 use Rattle.swc_ecma_codegen_tokens.specs.Lits.{big_int_text, prints_big_raw}
-use Rattle.swc_ecma_codegen_laws.specs.Layouts.{Tokens, Allowed, Differ, DifferByLayout, DifferInCommas, IsOneLiteral, begins_arrow, is_mark, is_punctuator, mark, opens, without_commas, no_more, token, literal, first_comma, second_comma, parameter, arguments, string, number, number_before_dot, big_int, template_part}
+use Rattle.swc_ecma_codegen_laws.specs.Layouts.{Tokens, DifferByLayout, DifferInCommas, IsOneLiteral, begins_arrow, big_integer, is_mark, is_new, is_punctuator, is_word, mark, opens, without_commas, no_more, token, literal, first_comma, second_comma, parameter, arguments, string, number, number_before_dot, big_int, template_part}
 
--- ---- literals begin with no `(`, and with no word
+-- ---- a literal is one token, or two where it has a sign
 
-unfoldable is_word : Kind → Bool
-is_word kinds.Word = true
-is_word kind = false
+data Shape : Tokens → Type 0 where
+  plain : (x : Kind × List ℕ) → is_punctuator x.0 ≡ false → Shape (x ∷ [])
+  negative : (x : Kind × List ℕ) → is_punctuator x.0 ≡ false → Shape (mark (codes "-") ∷ x ∷ [])
 
-unfoldable begins_word : Tokens → Bool
-begins_word [] = false
-begins_word (x ∷ xs) = is_word x.0
+signed_shape : (kind : Kind) → is_punctuator kind ≡ false → (t : List ℕ) → Shape (signed kind t)
+unfolding signed
+signed_shape kind h [] = plain (kind, []) h
+signed_shape kind h (c ∷ cs) = elim (c == 45) as (λ b. Shape (cond b (mark (codes "-") ∷ (kind, cs) ∷ []) ((kind, c ∷ cs) ∷ []))) [ true ↦ negative (kind, cs) h | false ↦ plain (kind, c ∷ cs) h ]
 
--- neither is so
-record IsLiteralHead (ts : Tokens) : Type 0 where
-  closed : opens ts ≡ false
-  no_word : begins_word ts ≡ false
-
-head_of : (kind : Kind) → is_punctuator kind ≡ false → is_word kind ≡ false → (t : List ℕ) (more : Tokens) → IsLiteralHead ((kind, t) ∷ more)
-unfolding opens begins_word
-head_of kind h k t more = record { closed = ap (λ b. b && is_same t (codes "(")) h; no_word = k }
-
-signed_head : (kind : Kind) → is_punctuator kind ≡ false → is_word kind ≡ false → (t : List ℕ) (more : Tokens) → IsLiteralHead (signed kind t ++ more)
-unfolding signed opens begins_word is_punctuator is_word is_same
-signed_head kind h k [] more = head_of kind h k [] more
-signed_head kind h k (c ∷ cs) more = elim (c == 45) as (λ b. IsLiteralHead (cond b ((kinds.Punctuator, codes "-") ∷ (kind, cs) ∷ []) ((kind, c ∷ cs) ∷ []) ++ more)) [
-  | true ↦ record { closed = refl; no_word = refl }
-  | false ↦ head_of kind h k (c ∷ cs) more
+big_shape : (config : Config) (n : BigInt) → Shape (big_integer config n)
+unfolding is_punctuator
+big_shape config n = elim (prints_big_raw config n) as (λ b. Shape (cond b ((kinds.BigInt, big_int_text config n) ∷ []) (signed kinds.BigInt (big_int_text config n ++ codes "n")))) [
+  | true ↦ plain (kinds.BigInt, big_int_text config n) refl
+  | false ↦ signed_shape kinds.BigInt refl (big_int_text config n ++ codes "n")
 ]
 
-part_head : (first : Bool) (part : TemplatePart) (t : List ℕ) (more : Tokens) → IsLiteralHead ((part_kind first part, t) ∷ more)
-unfolding part_kind is_punctuator is_word
-part_head true part t more = head_of (kinds.Template part) refl refl t more
-part_head false part t more = head_of (kinds.TemplateRest part) refl refl t more
+part_shape : (first : Bool) (part : TemplatePart) (t : List ℕ) → Shape ((part_kind first part, t) ∷ [])
+unfolding part_kind is_punctuator
+part_shape true part t = plain (kinds.Template part, t) refl
+part_shape false part t = plain (kinds.TemplateRest part, t) refl
 
-first_head : {s t : Config} (us vs more : Tokens) → IsOneLiteral s t us vs → IsLiteralHead (vs ++ more)
-unfolding is_punctuator is_word
-first_head us vs more (string n) = head_of kinds.Str refl refl _ more
-first_head us vs more (number n) = signed_head kinds.Number refl refl _ more
-first_head us vs more (number_before_dot n) = signed_head kinds.Number refl refl _ more
-first_head {t = t} us vs more (big_int n) = elim (prints_big_raw t n) as (λ b. IsLiteralHead (cond b ((kinds.BigInt, big_int_text t n) ∷ []) (signed kinds.BigInt (big_int_text t n ++ codes "n")) ++ more)) [
-  | true ↦ head_of kinds.BigInt refl refl (big_int_text t n) more
-  | false ↦ signed_head kinds.BigInt refl refl (big_int_text t n ++ codes "n") more
-]
-first_head us vs more (template_part first part n) = part_head first part _ more
+shapes : {s t : Config} (us vs : Tokens) → IsOneLiteral s t us vs → Shape us × Shape vs
+unfolding is_punctuator
+shapes us vs (string n) = (plain (kinds.Str, _) refl, plain (kinds.Str, _) refl)
+shapes us vs (number n) = (signed_shape kinds.Number refl _, signed_shape kinds.Number refl _)
+shapes us vs (number_before_dot n) = (signed_shape kinds.Number refl _, signed_shape kinds.Number refl _)
+shapes {s} {t} us vs (big_int n) = (big_shape s n, big_shape t n)
+shapes us vs (template_part first part n) = (part_shape first part _, part_shape first part _)
 
 -- ---- a `(` of the second list
 
 never : {A : Type 0} → false ≡ true → A
 never h = absurd (true≢false (sym h))
 
+-- a token that is no punctuator
+closed_by : (x : Kind × List ℕ) (more : Tokens) → is_punctuator x.0 ≡ false → opens (x ∷ more) ≡ false
+unfolding opens
+closed_by x more h = ap (λ b. b && is_same x.1 (codes "(")) h
+
+closed_literal : (us more : Tokens) → Shape us → opens (us ++ more) ≡ false
+unfolding opens is_punctuator is_same
+closed_literal us more (plain x h) = closed_by x more h
+closed_literal us more (negative x h) = refl
+
 opened : {s t : Config} (xs ys : Tokens) → DifferByLayout s t xs ys → opens ys ≡ true → (opens xs || begins_arrow xs) ≡ true
 unfolding opens begins_arrow is_punctuator is_same closing_mark
 opened xs ys no_more h = never h
 opened xs ys (token x fs gs m) h = or_left (opens (x ∷ fs)) (begins_arrow (x ∷ fs)) h
-opened xs ys (literal ps qs fs gs e one m) h = never (sym (first_head ps qs gs one).closed ∙ h)
+opened xs ys (literal ps qs fs gs e one m) h = never (sym (closed_literal qs gs (shapes ps qs one).1) ∙ h)
 opened xs ys (first_comma close fs gs e m) h = never e
 opened xs ys (second_comma close fs gs e m) h = never h
 opened xs ys (parameter name fs gs e m) h = refl
 opened xs ys (arguments ps qs fs gs e k m) h = never h
 
--- ---- behind a word that stands in both
+-- ---- behind a token that stands in both
+
+is_some_list : Tokens → Bool
+is_some_list [] = false
+is_some_list (x ∷ xs) = true
 
 rest_of : Tokens → Tokens
 rest_of [] = []
 rest_of (x ∷ xs) = xs
 
-text_of_first : Tokens → List ℕ
-text_of_first [] = []
-text_of_first (x ∷ xs) = x.1
+begins_mark : Tokens → Bool
+begins_mark [] = false
+begins_mark (x ∷ xs) = is_punctuator x.0
 
-behind_word : {allowed : Allowed} (word : List ℕ) (xs ys us vs : Tokens) → is_same word (codes "new") ≡ false → Differ allowed us vs → us ≡ (kinds.Word, word) ∷ xs → vs ≡ (kinds.Word, word) ∷ ys → Differ allowed xs ys
-unfolding begins_word is_word rest_of text_of_first is_same
-behind_word word xs ys us vs n no_more d e = never (ap begins_word d)
-behind_word {allowed} word xs ys us vs n (token x fs gs m) d e = subst (λ z. Differ allowed z ys) (ap rest_of d) (subst (λ z. Differ allowed fs z) (ap rest_of e) m)
-behind_word word xs ys us vs n (literal ps qs fs gs l one m) d e = never (sym (first_head ps qs gs one).no_word ∙ ap begins_word e)
-behind_word word xs ys us vs n (first_comma close fs gs l m) d e = never (ap begins_word d)
-behind_word word xs ys us vs n (second_comma close fs gs l m) d e = never (ap begins_word d)
-behind_word word xs ys us vs n (parameter name fs gs l m) d e = never (ap begins_word d)
-behind_word word xs ys us vs n (arguments ps qs fs gs l k m) d e = never (sym n ∙ ap (λ z. is_same z (codes "new")) (sym (ap text_of_first d)))
+begins_new : Tokens → Bool
+begins_new [] = false
+begins_new (x ∷ xs) = is_new x
 
-pub opened_behind : (s t : Config) (word : List ℕ) (xs ys : Tokens) → is_same word (codes "new") ≡ false → DifferByLayout s t ((kinds.Word, word) ∷ xs) ((kinds.Word, word) ∷ mark (codes "(") ∷ ys) → (opens xs || begins_arrow xs) ≡ true
+-- which begins the same in both
+begins_comma : Tokens → Bool
+begins_comma [] = false
+begins_comma (x ∷ xs) = is_mark (codes ",") x
+
+opened_on : {s t : Config} (fs gs xs ys : Tokens) → DifferByLayout s t fs gs → fs ≡ xs → gs ≡ mark (codes "(") ∷ ys → (opens xs || begins_arrow xs) ≡ true
 unfolding opens is_punctuator is_same
-opened_behind s t word xs ys n m = opened xs (mark (codes "(") ∷ ys) (behind_word word xs (mark (codes "(") ∷ ys) _ _ n m refl refl) refl
+opened_on fs gs xs ys m d e = subst (λ z. (opens z || begins_arrow z) ≡ true) d (opened fs gs m (ap opens e))
+
+behind_literal : {s t : Config} (x : Kind × List ℕ) (us vs fs gs xs ys : Tokens) → Shape us → Shape vs → DifferByLayout s t fs gs → us ++ fs ≡ x ∷ xs → vs ++ gs ≡ x ∷ mark (codes "(") ∷ ys → (opens xs || begins_arrow xs) ≡ true
+unfolding rest_of begins_mark opens is_punctuator is_same
+behind_literal x us vs fs gs xs ys (plain a h) (plain b k) m d e = opened_on fs gs xs ys m (ap rest_of d) (ap rest_of e)
+behind_literal x us vs fs gs xs ys (negative a h) (plain b k) m d e = never (sym k ∙ ap begins_mark e ∙ sym (ap begins_mark d))
+behind_literal x us vs fs gs xs ys shape (negative b k) m d e = never (sym (closed_by b gs k) ∙ ap (λ z. opens (rest_of z)) e)
+
+behind : {s t : Config} (x : Kind × List ℕ) (xs ys us vs : Tokens) → is_new x ≡ false → DifferByLayout s t us vs → us ≡ x ∷ xs → vs ≡ x ∷ mark (codes "(") ∷ ys → (opens xs || begins_arrow xs) ≡ true
+unfolding is_some_list rest_of begins_mark begins_new begins_comma is_punctuator is_word is_same closing_mark
+behind x xs ys us vs n no_more d e = never (ap is_some_list d)
+behind x xs ys us vs n (token y fs gs m) d e = opened_on fs gs xs ys m (ap rest_of d) (ap rest_of e)
+behind x xs ys us vs n (literal ps qs fs gs l one m) d e = behind_literal x ps qs fs gs xs ys (shapes ps qs one).0 (shapes ps qs one).1 m d e
+behind x xs ys us vs n (first_comma close fs gs l m) d e = never l
+behind x xs ys us vs n (second_comma RightBracket fs gs l m) d e = never (ap begins_comma d ∙ sym (ap begins_comma e))
+behind x xs ys us vs n (second_comma RightBrace fs gs l m) d e = never (ap begins_comma d ∙ sym (ap begins_comma e))
+behind x xs ys us vs n (parameter name fs gs l m) d e = never (ap begins_mark d ∙ sym (ap begins_mark e))
+behind x xs ys us vs n (arguments ps qs fs gs l k m) d e = never (sym n ∙ sym (ap begins_new d))
+
+pub opened_behind : (s t : Config) (x : Kind × List ℕ) (xs ys : Tokens) → is_new x ≡ false → DifferByLayout s t (x ∷ xs) (x ∷ mark (codes "(") ∷ ys) → (opens xs || begins_arrow xs) ≡ true
+opened_behind s t x xs ys n m = behind x xs ys _ _ n m refl refl
 
 -- ---- commas
 

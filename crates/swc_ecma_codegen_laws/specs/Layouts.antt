@@ -94,6 +94,13 @@ unfoldable pub is_punctuator : Kind → Bool
 is_punctuator kinds.Punctuator = true
 is_punctuator kind = false
 
+unfoldable pub is_word : Kind → Bool
+is_word kinds.Word = true
+is_word kind = false
+
+abbrev pub is_new : Kind × List ℕ → Bool
+is_new x = is_word x.0 && is_same x.1 (codes "new")
+
 -- this punctuator
 abbrev pub is_mark : List ℕ → Kind × List ℕ → Bool
 is_mark t x = is_punctuator x.0 && is_same x.1 t

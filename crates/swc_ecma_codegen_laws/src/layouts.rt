@@ -4,8 +4,7 @@ ghost use Rattle.std.specs.Prelude.{◌≡◌, ℕ, Bool, true, false, ◌||◌,
 ghost use Rattle.swc_ecma_codegen_common.specs.declared.positions.Span.{Span};
 ghost use Rattle.swc_ecma_codegen_grammar.specs.Comments.{no_maps};
 ghost use Rattle.swc_ecma_codegen_grammar.specs.SourceLines.{Lines};
-ghost use Rattle.swc_ecma_codegen_grammar.specs.Texts.{is_same};
-ghost use Rattle.swc_ecma_codegen_grammar.specs.declared.kinds.Kind.TheVariants.{Word};
+ghost use Rattle.swc_ecma_codegen_grammar.specs.declared.kinds.Kind.{Kind};
 ghost use Rattle.swc_ecma_codegen_util.specs.declared.config.Config.{Config};
 ghost use Rattle.swc_ecma_codegen_tree.specs.declared.links.AnyNode.{AnyNode};
 ghost use Rattle.swc_ecma_codegen_tokens.specs.Run.{Env, Plan};
@@ -15,7 +14,7 @@ ghost use Rattle.swc_ecma_codegen_emit.specs.Roots.{Root};
 ghost use Rattle.swc_ecma_codegen_emit.specs.Stmts.{argument, spaced};
 ghost use Rattle.swc_ecma_codegen_emit.specs.Tree.{any_items};
 ghost use Rattle.swc_ecma_codegen_emit.specs.declared.nodes.Place.TheVariants.{Plain};
-ghost use Rattle.swc_ecma_codegen_laws.specs.Layouts.{DifferByLayout, DifferInCommas, IsPlain, IsWhole, Tokens, begins_arrow, laid_out, mark, opens, over, tokens_of, without_commas};
+ghost use Rattle.swc_ecma_codegen_laws.specs.Layouts.{DifferByLayout, DifferInCommas, IsPlain, IsWhole, Tokens, begins_arrow, is_new, laid_out, mark, opens, over, tokens_of, without_commas};
 
 /// Minified or not, an emission without comments writes the same tokens, but for the spelling of literals, and for what is left out where it is
 /// minified: a comma before the `]` or `}` that closes a list, parentheses round the name that is the only parameter of an
@@ -51,13 +50,12 @@ pub fn arguments_stand_bare()
         env }
 {}
 
-/// What lists have in common that differ by layout: a `(` behind a word other than `new` stands in both, or the first has one token
-/// there and `=>`. So no word writes `return (a)` where it isn't minified and `return a` where it is. And lists that differ in commas
-/// are the same without them: none writes parentheses where the map of the source text answers so.
+/// What lists have in common that differ by layout: a `(` behind a token other than `new` stands in both, or the first has one
+/// token there and then `=>`. So no emission writes `return (a)` where another layout writes `return a`, nor `f()` for `f`. And lists
+/// that differ in commas are the same without them: no map of a source text decides on parentheses.
 pub fn other_parentheses_stand_in_both()
-    ensures layouts { (s t : Config) (word : List ℕ) (xs ys : Tokens) →
-        is_same word (codes "new") ≡ false →
-        DifferByLayout s t ((Word, word) ∷ xs) ((Word, word) ∷ mark (codes "(") ∷ ys) →
+    ensures layouts { (s t : Config) (x : Kind × List ℕ) (xs ys : Tokens) → is_new x ≡ false →
+        DifferByLayout s t (x ∷ xs) (x ∷ mark (codes "(") ∷ ys) →
         (opens xs || begins_arrow xs) ≡ true }
     ensures sources { (s : Config) (xs ys : Tokens) → DifferInCommas s xs ys →
         without_commas xs ≡ without_commas ys }
