@@ -1,50 +1,76 @@
 -- What two layouts, and two source texts, may differ in: of whole trees.
-use Rattle.std.proofs.Common.{◌≡◌, ℕ, Bool, true, false, if◌then◌else◌, List, [], ◌∷◌, ◌++◌, Option, Some, None, refl, sym, ap, ◌∙◌, subst, append-nil}
-use Rattle.std.proofs.lemmas.Bool.{true≢false}
+use Rattle.std.proofs.Common.{◌≡◌, ℕ, Bool, true, false, if◌then◌else◌, List, [], ◌∷◌, ◌++◌, Option, Some, None, refl, sym, ap, ◌∙◌, subst, append-nil, inl, inr}
+use Rattle.std.proofs.lemmas.Bool.{cases_Bool, true≢false}
 use Rattle.swc_ecma_codegen_common.specs.declared.positions.Span.{Span}
 use Rattle.swc_ecma_codegen_grammar.specs.CommentMaps.{Maps}
 use Rattle.swc_ecma_codegen_grammar.specs.Comments.{maps_in, no_maps}
 use Rattle.swc_ecma_codegen_grammar.specs.SourceLines.{Lines}
 use Rattle.swc_ecma_codegen_tree.specs.declared.links.AnyNode.{AnyNode}
-use Rattle.swc_ecma_codegen_tree.specs.declared.programs.Program.TheVariants as programs
-use Rattle.swc_ecma_codegen_util.specs.declared.config.Config.{Config}
 use Rattle.swc_ecma_codegen_tokens.specs.declared.refusals.Unprintable.{Unprintable}
-use Rattle.swc_ecma_codegen_tokens.specs.Run.{Env, Part, Plan, Step, Steps, done, nothing, refused, steps_of, unbounded, unprintable_in}
-use Rattle.swc_ecma_codegen_tokens.specs.Words.{by_maps}
+use Rattle.swc_ecma_codegen_tokens.specs.Run.{Env, Part, Plan, Step, Steps, done, nothing, refused, steps_of, unbounded, unprintable_in, with_max_line}
+use Rattle.swc_ecma_codegen_tokens.specs.Words.{begin_lines, bounded, by_maps, end_lines, in_lines}
 use Rattle.swc_ecma_codegen_tokens.proofs.Reading.Printed.{chain}
 use Rattle.swc_ecma_codegen_emit.specs.Answers.{any_answers}
 use Rattle.swc_ecma_codegen_emit.specs.Commented.{any_breaks}
 use Rattle.swc_ecma_codegen_emit.specs.Exprs.{blank, yield_argument, yield_argument_in}
-use Rattle.swc_ecma_codegen_emit.specs.Places.{alone, by_itself, placed, with_lines}
-use Rattle.swc_ecma_codegen_emit.specs.Programs.{program, script, whole_module}
-use Rattle.swc_ecma_codegen_emit.specs.Roots.{Root, OfExpr, OfStmt, OfItem, OfModule, OfScript, OfProgram, OfLink, root_at, root_items}
+use Rattle.swc_ecma_codegen_emit.specs.Places.{by_itself, placed, with_lines}
+use Rattle.swc_ecma_codegen_emit.specs.Roots.{Root, OfExpr, OfStmt, OfItem, OfModule, OfScript, OfProgram, OfLink, is_program, root_at, root_items}
 use Rattle.swc_ecma_codegen_emit.specs.Stmts.{argument, argument_in, spaced}
 use Rattle.swc_ecma_codegen_emit.specs.Tree.{any_items}
 use Rattle.swc_ecma_codegen_emit.specs.declared.nodes.Place.TheVariants.{Plain}
 use Rattle.swc_ecma_codegen_emit.proofs.Unbroken.{unbroken}
-use Rattle.swc_ecma_codegen_laws.specs.Layouts.{DifferByLayout, DifferInCommas, IsPlain, IsWhole, Tokens, laid_out, over, tokens_in, tokens_of}
+use Rattle.swc_ecma_codegen_laws.specs.Layouts.{DifferByLayout, DifferInCommas, IsWhole, Tokens, laid_out, over, tokens_in, tokens_of}
 use Rattle.swc_ecma_codegen_laws.proofs.AnyExprWords.{expr_holds}
 use Rattle.swc_ecma_codegen_laws.proofs.BreakSteps.{on, steps_on}
 use Rattle.swc_ecma_codegen_laws.proofs.Differing.{differ_equal}
 use Rattle.swc_ecma_codegen_laws.proofs.LayoutWords.{layout_words}
+use Rattle.swc_ecma_codegen_laws.proofs.LayoutsOfWords.{always_begin_lines, always_end_lines}
+use Rattle.swc_ecma_codegen_laws.proofs.LinedNodes.{expr_lined, placed_node_lined}
 use Rattle.swc_ecma_codegen_laws.proofs.ModulesWords.{module_item_holds}
 use Rattle.swc_ecma_codegen_laws.proofs.NodeWords.{in_trees, tree_holds}
-use Rattle.swc_ecma_codegen_laws.proofs.RootWords.{program_holds}
+use Rattle.swc_ecma_codegen_laws.proofs.RootWords.{lined_program, plain_program, program_holds, program_parts}
 use Rattle.swc_ecma_codegen_laws.proofs.StmtsWords.{stmt_holds}
-use Rattle.swc_ecma_codegen_laws.proofs.TwoLayouts.{TwoLayouts, Both, Fits, IsAlike, Writes, both_within, first_env, second_env}
+use Rattle.swc_ecma_codegen_laws.proofs.TwoLayouts.{TwoLayouts, Both, Fits, IsAlike, Writes, bare, both_within, first_env, second_env, writes_more, writes_then, writes_within}
 
 -- ---- roots
 
-root_alike : (two : TwoLayouts) (root : Root) → IsAlike two false (root_at root Plain)
-unfolding whole_module script program
-root_alike two (OfExpr n) = expr_holds (in_trees (layout_words two)) false n Plain
-root_alike two (OfStmt n) = stmt_holds (in_trees (layout_words two)) false n
-root_alike two (OfItem n) = module_item_holds (in_trees (layout_words two)) false n
-root_alike two (OfLink n role) = tree_holds (layout_words two) n false (placed role Plain)
-root_alike two (OfModule n) = program_holds (layout_words two) false (OfModule n) refl
-root_alike two (OfScript n) = program_holds (layout_words two) false (OfScript n) refl
-root_alike two (OfProgram (programs.Module n)) = program_holds (layout_words two) false (OfProgram (programs.Module n)) refl
-root_alike two (OfProgram (programs.Script n)) = program_holds (layout_words two) false (OfProgram (programs.Script n)) refl
+-- one that isn't a module or script stands the same at any greatest length of lines
+other_lined : (root : Root) (max : Option ℕ) → is_program root ≡ false → root_at root (with_lines max) ≡ root_at root Plain
+other_lined root None h = refl
+other_lined (OfExpr n) (Some max) h = λ i. λ rest. expr_lined any_answers any_items n max rest i
+other_lined (OfStmt n) (Some max) h = refl
+other_lined (OfItem n) (Some max) h = refl
+other_lined (OfLink n role) (Some max) h = placed_node_lined n role max
+other_lined (OfModule n) (Some max) h = absurd (true≢false h)
+other_lined (OfScript n) (Some max) h = absurd (true≢false h)
+other_lined (OfProgram n) (Some max) h = absurd (true≢false h)
+
+other_alike : (two : TwoLayouts) (root : Root) → is_program root ≡ false → IsAlike two false (root_at root Plain)
+other_alike two (OfExpr n) h = expr_holds (in_trees (layout_words two)) false n Plain
+other_alike two (OfStmt n) h = stmt_holds (in_trees (layout_words two)) false n
+other_alike two (OfItem n) h = module_item_holds (in_trees (layout_words two)) false n
+other_alike two (OfLink n role) h = tree_holds (layout_words two) n false (placed role Plain)
+other_alike two (OfModule n) h = absurd (true≢false h)
+other_alike two (OfScript n) h = absurd (true≢false h)
+other_alike two (OfProgram n) h = absurd (true≢false h)
+
+-- a module or script: its lines begin and end
+in_place : (root : Root) (env : Env) (max : Option ℕ) → is_program root ≡ true → (ts : Tokens) (stop : Option Unprintable) → Writes (bare (record env { max_line = max })) (program_parts root) ts stop → Writes (bare (record env { max_line = None })) (root_at root (with_lines max)) ts stop
+unfolding bounded in_lines
+in_place root env None e ts stop h = subst (λ (z : Part). Writes (bare (record env { max_line = None })) z ts stop) (sym (plain_program root e)) h
+in_place root env (Some max) e ts stop h =
+    let here : Env = record env { max_line = None } in
+    subst (λ (z : Part). Writes (bare here) z ts stop) (sym (lined_program root max e))
+    (writes_then (begin_lines max) (λ rest. with_max_line (Some max) (program_parts root) (end_lines rest)) ((always_begin_lines max).at here)
+    (writes_more here (with_max_line (Some max) (program_parts root)) end_lines ts stop (writes_within (program_parts root) (bare here) (Some max) stop h) always_end_lines))
+
+root_both : (two : TwoLayouts) (root : Root) (x y : Option ℕ) → Both two None None (root_at root (with_lines x)) (root_at root (with_lines y))
+root_both two root x y = elim (cases_Bool (is_program root)) [
+  | inl e ↦
+      (let h : Both two x y (program_parts root) (program_parts root) = (program_holds (layout_words two) false root e).at x y in
+      record { us = h.us; vs = h.vs; stop = h.stop; first = in_place root (first_env two None) x e h.us h.stop h.first; second = in_place root (second_env two None) y e h.vs h.stop h.second; fit = h.fit })
+  | inr e ↦ subst (λ (z : Part). Both two None None z (root_at root (with_lines y))) (sym (other_lined root x e)) (subst (λ (z : Part). Both two None None (root_at root Plain) z) (sym (other_lined root y e)) ((other_alike two root e).at None None))
+]
 
 -- ---- the end
 
@@ -63,31 +89,36 @@ unfolding unprintable_in
 ends_none xs None env h = refl
 ends_none xs (Some r) env h = sym (last_of xs (refused r)) ∙ h
 
--- where lines have no greatest length a root stands as it does anywhere
-plain_place : (minify : Bool) → (if minify then with_lines None else Plain) ≡ Plain
-plain_place true = refl
-plain_place false = refl
+-- the lines that a root is told of
+abbrev told : Env → Option ℕ
+told env = if env.config.minify then env.max_line else None
 
-written_at : (root : Root) (env : Env) → env.max_line ≡ None → (steps : List Step) (stop : Option Unprintable) → ((rest : Plan) → unbounded (root_at root Plain) rest env ≡ chain steps (on stop rest env)) → root_items root nothing env ≡ chain steps (on stop nothing env)
+told_place : (minify : Bool) (max : Option ℕ) → (if minify then with_lines max else Plain) ≡ with_lines (if minify then max else None)
+told_place true max = refl
+told_place false max = refl
+
+written_at : (root : Root) (env : Env) (steps : List Step) (stop : Option Unprintable) → ((rest : Plan) → unbounded (root_at root (with_lines (told env))) rest env ≡ chain steps (on stop rest env)) → root_items root nothing env ≡ chain steps (on stop nothing env)
 unfolding by_itself
-written_at root env e steps stop h = ap (λ place. unbounded (root_at root place) nothing env) (ap (λ m. if env.config.minify then with_lines m else Plain) e ∙ plain_place env.config.minify) ∙ h nothing
+written_at root env steps stop h = ap (λ place. unbounded (root_at root place) nothing env) (told_place env.config.minify env.max_line) ∙ h nothing
 
-tokens_at : (root : Root) (env : Env) (ts : Tokens) (stop : Option Unprintable) → env.max_line ≡ None → Writes env (unbounded (root_at root Plain)) ts stop → tokens_of root env ≡ ts
-tokens_at root env ts stop e h = ap (λ z. tokens_in (steps_of z)) (written_at root env e h.steps stop h.is_steps) ∙ ap tokens_in (whole_steps h.steps stop env) ∙ h.tokens
+tokens_at : (root : Root) (env : Env) (ts : Tokens) (stop : Option Unprintable) → Writes env (unbounded (root_at root (with_lines (told env)))) ts stop → tokens_of root env ≡ ts
+tokens_at root env ts stop h = ap (λ z. tokens_in (steps_of z)) (written_at root env h.steps stop h.is_steps) ∙ ap tokens_in (whole_steps h.steps stop env) ∙ h.tokens
 
-whole_at : (root : Root) (env : Env) (ts : Tokens) (stop : Option Unprintable) → env.max_line ≡ None → Writes env (unbounded (root_at root Plain)) ts stop → IsWhole root env → stop ≡ None
-whole_at root env ts stop e h w = ends_none h.steps stop env (sym (ap unprintable_in (written_at root env e h.steps stop h.is_steps)) ∙ w)
+whole_at : (root : Root) (env : Env) (ts : Tokens) (stop : Option Unprintable) → Writes env (unbounded (root_at root (with_lines (told env)))) ts stop → IsWhole root env → stop ≡ None
+whole_at root env ts stop h w = ends_none h.steps stop env (sym (ap unprintable_in (written_at root env h.steps stop h.is_steps)) ∙ w)
 
-two_fit : (two : TwoLayouts) (root : Root) → IsWhole root (first_env two None) → Fits two (tokens_of root (first_env two None)) (tokens_of root (second_env two None))
-two_fit two root w =
-    let h : Both two None None (unbounded (root_at root Plain)) (unbounded (root_at root Plain)) = both_within None None (root_at root Plain) (root_at root Plain) ((root_alike two root).at None None) in
-    subst (λ z. Fits two z (tokens_of root (second_env two None))) (sym (tokens_at root (first_env two None) h.us h.stop refl h.first))
-    (subst (λ z. Fits two h.us z) (sym (tokens_at root (second_env two None) h.vs h.stop refl h.second)) (h.fit (whole_at root (first_env two None) h.us h.stop refl h.first w)))
+two_fit : (two : TwoLayouts) (root : Root) (max : Option ℕ) → IsWhole root (first_env two max) → Fits two (tokens_of root (first_env two max)) (tokens_of root (second_env two max))
+two_fit two root max w =
+    let a : Env = first_env two max in
+    let b : Env = second_env two max in
+    let h : Both two max max (unbounded (root_at root (with_lines (told a)))) (unbounded (root_at root (with_lines (told b)))) = both_within max max (root_at root (with_lines (told a))) (root_at root (with_lines (told b))) (root_both two root (told a) (told b)) in
+    subst (λ z. Fits two z (tokens_of root b)) (sym (tokens_at root a h.us h.stop h.first))
+    (subst (λ z. Fits two h.us z) (sym (tokens_at root b h.vs h.stop h.second)) (h.fit (whole_at root a h.us h.stop h.first w)))
 
 -- ---- the laws
 
-plain_env : (env : Env) → IsPlain env → record env { max_line = None; maps = no_maps } ≡ env
-plain_env env h = ap (λ m. record env { max_line = m; maps = no_maps }) (sym h.lines) ∙ ap (λ m. record env { maps = m }) (sym h.comments)
+bare_env : (env : Env) → env.maps ≡ no_maps → bare env ≡ env
+bare_env env h = ap (λ m. record env { maps = m }) (sym h)
 
 two_layouts : Env → TwoLayouts
 two_layouts env = record {
@@ -104,11 +135,11 @@ two_layouts env = record {
   one_source = λ e span. refl;
 }
 
-pub layouts_differ : (root : Root) (env : Env) → IsPlain env → IsWhole root (laid_out true env) → DifferByLayout (laid_out true env).config (laid_out false env).config (tokens_of root (laid_out true env)) (tokens_of root (laid_out false env))
+pub layouts_differ : (root : Root) (env : Env) → env.maps ≡ no_maps → IsWhole root (laid_out true env) → DifferByLayout (laid_out true env).config (laid_out false env).config (tokens_of root (laid_out true env)) (tokens_of root (laid_out false env))
 unfolding two_layouts
 layouts_differ root env h =
     let P : Env → Type 0 = λ z. IsWhole root (laid_out true z) → DifferByLayout (laid_out true z).config (laid_out false z).config (tokens_of root (laid_out true z)) (tokens_of root (laid_out false z)) in
-    subst P (plain_env env h) (λ w. two_fit (two_layouts env) root w)
+    subst P (bare_env env h) (λ w. two_fit (two_layouts env) root env.max_line w)
 
 two_sources : (env : Env) (lines : Lines) (commas : Bool) → (commas ≡ false → (span : Span) → env.lines.snippet span ≡ lines.snippet span) → TwoLayouts
 two_sources env lines commas same = record {
@@ -125,17 +156,17 @@ two_sources env lines commas same = record {
   one_source = same;
 }
 
-pub sources_differ : (root : Root) (env : Env) (lines : Lines) → IsPlain env → IsWhole root env → DifferInCommas env.config (tokens_of root env) (tokens_of root (over lines env))
+pub sources_differ : (root : Root) (env : Env) (lines : Lines) → env.maps ≡ no_maps → IsWhole root env → DifferInCommas env.config (tokens_of root env) (tokens_of root (over lines env))
 unfolding two_sources
 sources_differ root env lines h =
     let P : Env → Type 0 = λ z. IsWhole root z → DifferInCommas z.config (tokens_of root z) (tokens_of root (over lines z)) in
-    subst P (plain_env env h) (λ w. two_fit (two_sources env lines true (λ e. absurd (true≢false e))) root w)
+    subst P (bare_env env h) (λ w. two_fit (two_sources env lines true (λ e. absurd (true≢false e))) root env.max_line w)
 
-pub snippets_tell : (root : Root) (env : Env) (lines : Lines) → IsPlain env → ((span : Span) → env.lines.snippet span ≡ lines.snippet span) → IsWhole root env → tokens_of root env ≡ tokens_of root (over lines env)
+pub snippets_tell : (root : Root) (env : Env) (lines : Lines) → env.maps ≡ no_maps → ((span : Span) → env.lines.snippet span ≡ lines.snippet span) → IsWhole root env → tokens_of root env ≡ tokens_of root (over lines env)
 unfolding two_sources
 snippets_tell root env lines h same =
     let P : Env → Type 0 = λ z. IsWhole root z → tokens_of root z ≡ tokens_of root (over lines z) in
-    subst P (plain_env env h) (λ w. differ_equal env.config env.config _ _ (two_fit (two_sources env lines false (λ e. same)) root w))
+    subst P (bare_env env h) (λ w. differ_equal env.config env.config _ _ (two_fit (two_sources env lines false (λ e. same)) root env.max_line w))
 
 -- ---- what stands behind `return`, `throw` and `yield`
 

@@ -47,7 +47,7 @@ unfolding lit_at is_number_object is_object
 lit_lined (lits.Num n) max span rest = refl
 lit_lined n max span rest = refl
 
-expr_lined : {X : Type 0} (asks : X → Answers) (items : X → Place → Part) (n : Expr X) (max : ℕ) (rest : Plan) → expr asks items n (Lines max) rest ≡ expr asks items n Plain rest
+pub expr_lined : {X : Type 0} (asks : X → Answers) (items : X → Place → Part) (n : Expr X) (max : ℕ) (rest : Plan) → expr asks items n (Lines max) rest ≡ expr asks items n Plain rest
 unfolding expr parts_of_expr leaves_comments is_left_operand bin bin_opened
 expr_lined asks items (exprs.Lit n) max rest = lit_lined n max _ rest
 expr_lined asks items n max rest = refl
@@ -108,8 +108,8 @@ pub any_items_lined_expr : (n : Expr AnyNode) (max : ℕ) → any_items (whole.E
 unfolding placed_expr is_wrapped is_field_value
 any_items_lined_expr n max = any_items_expr n (Lines max) ∙ (λ i. λ rest. ap (λ b. cond b (wrapped any_answers any_items n rest) (expr any_answers any_items n (Lines max) rest)) (never_wrapped (is_sequence n)) i)
 
--- A role leaves that place, or puts a node elsewhere wherever it stands.
-kept_or_not : (role : Role) (max : ℕ) → (placed role (Lines max) ≡ Lines max) ⊎ (placed role (Lines max) ≡ placed role Plain)
+-- A role leaves that place, and the one where nothing is asked, or puts a node elsewhere wherever it stands.
+kept_or_not : (role : Role) (max : ℕ) → ((placed role (Lines max) ≡ Lines max) × (placed role Plain ≡ Plain)) ⊎ (placed role (Lines max) ≡ placed role Plain)
 kept_or_not roles.Callee max = inr refl
 kept_or_not roles.MemberExpression max = inr refl
 kept_or_not (roles.ChainMember optional) max = inr refl
@@ -133,12 +133,19 @@ kept_or_not roles.Element max = inr refl
 kept_or_not roles.Child max = inr refl
 kept_or_not roles.NamespaceBody max = inr refl
 kept_or_not roles.DottedBody max = inr refl
-kept_or_not role max = inl refl
+kept_or_not role max = inl (refl, refl)
 
 pub any_items_in_role : (n : AnyNode) (role : Role) (max : ℕ) → placed role Plain ≡ Plain → any_items n (Lines max) ≡ any_items n (placed role (Lines max))
 any_items_in_role n role max h = elim (kept_or_not role max) [
-  | inl e ↦ ap (any_items n) (sym e)
+  | inl e ↦ ap (any_items n) (sym e.0)
   | inr e ↦ any_lined n max ∙ ap (any_items n) (sym h ∙ sym e)
+]
+
+-- in any role
+pub placed_node_lined : (n : AnyNode) (role : Role) (max : ℕ) → any_items n (placed role (Lines max)) ≡ any_items n (placed role Plain)
+placed_node_lined n role max = elim (kept_or_not role max) [
+  | inl e ↦ ap (any_items n) e.0 ∙ any_lined n max ∙ ap (any_items n) (sym e.1)
+  | inr e ↦ ap (any_items n) e
 ]
 
 -- ---- nodes by themselves

@@ -225,15 +225,15 @@ literal_fits two spelled one = elim (cases_Bool two.layout) [
 pub alike_literal : {two : TwoLayouts} (bounded : Bool) (part : Part) (spelled : Config → Tokens) → ((s t : Config) → IsOneLiteral s t (spelled s) (spelled t)) → ((env : Env) → Writes (bare env) part (spelled env.config) None) → IsAlike two bounded part
 alike_literal {two} bounded part spelled one h = record { at = λ x y. record { us = spelled (first_config two); vs = spelled (second_config two); stop = None; first = h (first_env two x); second = h (second_env two y); fit = λ z. literal_fits two spelled one } }
 
--- ---- where no line may be ended
+-- ---- at another greatest length of lines
 
-within_by : (part : Part) (env : Env) {ts : Tokens} (stop : Option Unprintable) → Writes (record env { max_line = None }) part ts stop → Writes env (unbounded part) ts stop
+pub writes_within : (part : Part) (env : Env) (max : Option ℕ) {ts : Tokens} (stop : Option Unprintable) → Writes (record env { max_line = max }) part ts stop → Writes env (with_max_line max part) ts stop
 unfolding with_max_line
-within_by part env None h = record { steps = h.steps; is_steps = λ rest. h.is_steps (λ inner. rest (record inner { max_line = env.max_line })); tokens = h.tokens }
-within_by part env (Some r) h = record { steps = h.steps; is_steps = λ rest. h.is_steps (λ inner. rest (record inner { max_line = env.max_line })); tokens = h.tokens }
+writes_within part env max None h = record { steps = h.steps; is_steps = λ rest. h.is_steps (λ inner. rest (record inner { max_line = env.max_line })); tokens = h.tokens }
+writes_within part env max (Some r) h = record { steps = h.steps; is_steps = λ rest. h.is_steps (λ inner. rest (record inner { max_line = env.max_line })); tokens = h.tokens }
 
 pub both_within : {two : TwoLayouts} (x y : Option ℕ) (p q : Part) → Both two None None p q → Both two x y (unbounded p) (unbounded q)
-both_within {two} x y p q h = record { us = h.us; vs = h.vs; stop = h.stop; first = within_by p (first_env two x) h.stop h.first; second = within_by q (second_env two y) h.stop h.second; fit = h.fit }
+both_within {two} x y p q h = record { us = h.us; vs = h.vs; stop = h.stop; first = writes_within p (first_env two x) None h.stop h.first; second = writes_within q (second_env two y) None h.stop h.second; fit = h.fit }
 
 pub alike_within : {two : TwoLayouts} (bounded : Bool) (part : Part) → IsAlike two false part → IsAlike two bounded (unbounded part)
 alike_within bounded part h = record { at = λ x y. both_within x y part part (h.at None None) }

@@ -1,7 +1,6 @@
 -- How two emissions of one tree may differ in the tokens that they write, where there are no comments.
 use Rattle.std.specs.Prelude.{◌≡◌, ℕ, Bool, true, false, ◌&&◌, ◌||◌, if◌then◌else◌, List, [], ◌∷◌, ◌++◌, codes, None, string_bytes}
 use Rattle.std.specs.Str.{chars}
-use Rattle.swc_ecma_codegen_grammar.specs.Comments.{no_maps}
 use Rattle.swc_ecma_codegen_grammar.specs.Numbers.{takes_dot}
 use Rattle.swc_ecma_codegen_grammar.specs.Phrases.{Closing, closing_mark}
 use Rattle.swc_ecma_codegen_grammar.specs.SourceLines.{Lines}
@@ -127,11 +126,6 @@ tokens_of root env = tokens_in (steps_of (root_items root nothing env))
 -- it writes the whole of it: it comes to no node that can't be printed
 abbrev pub IsWhole : Root → Env → Type 0
 IsWhole root env = unprintable_in (root_items root nothing env) ≡ None
-
--- there are no comments, and lines have no greatest length
-pub record IsPlain (env : Env) : Type 0 where
-  pub comments : env.maps ≡ no_maps
-  pub lines : env.max_line ≡ None
 
 -- the same, minified or not, and over another source text
 abbrev pub laid_out : Bool → Env → Env
