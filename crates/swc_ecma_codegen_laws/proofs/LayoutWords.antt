@@ -1,5 +1,5 @@
 -- Each word is written alike by any layout, but for what may differ: the laws of layouts are one instance of the induction over words.
-use Rattle.std.proofs.Common.{◌≡◌, ℕ, Bool, true, false, if◌then◌else◌, List, [], ◌∷◌, ◌++◌, codes, Option, None, refl, sym, subst}
+use Rattle.std.proofs.Common.{◌≡◌, ℕ, Bool, true, false, if◌then◌else◌, List, [], ◌∷◌, codes, Option, refl, sym, subst}
 use Rattle.swc_ecma_codegen_common.specs.Operators.{assign_text, update_text}
 use Rattle.swc_ecma_codegen_common.specs.declared.positions.Span.{Span}
 use Rattle.swc_ecma_codegen_grammar.specs.CommentMaps.{Maps}
@@ -10,8 +10,8 @@ use Rattle.swc_ecma_codegen_grammar.specs.TemplatePhrases.{part_before}
 use Rattle.swc_ecma_codegen_tree.specs.declared.exprs.TplElement.{TplElement}
 use Rattle.swc_ecma_codegen_tree.specs.declared.links.AnyNode.{AnyNode}
 use Rattle.swc_ecma_codegen_tokens.specs.Lists.{ListChild, by_lines, list}
-use Rattle.swc_ecma_codegen_tokens.specs.Run.{Part, Plan, unbounded}
-use Rattle.swc_ecma_codegen_tokens.specs.Words.{bare_semi, by_maps, line_end, punct, space}
+use Rattle.swc_ecma_codegen_tokens.specs.Run.{Part, unbounded}
+use Rattle.swc_ecma_codegen_tokens.specs.Words.{bare_semi, by_maps}
 use Rattle.swc_ecma_codegen_emit.specs.Blocks.{block_format, block_list, flat_block_format}
 use Rattle.swc_ecma_codegen_emit.specs.Exprs.{space_if}
 use Rattle.swc_ecma_codegen_emit.specs.Props.{flat_object_format, lined_object_list, object_format, object_lines, object_list}

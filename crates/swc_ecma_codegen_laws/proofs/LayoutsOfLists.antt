@@ -1,13 +1,13 @@
 -- Lists are written alike by any layout, but for a comma behind the last child of some.
-use Rattle.std.proofs.Common.{◌≡◌, ℕ, ◌==◌, Bool, true, false, not, ◌&&◌, ◌||◌, if◌then◌else◌, List, [], ◌∷◌, ◌++◌, codes, Option, Some, None, refl, sym, ap, ◌∙◌, subst}
+use Rattle.std.proofs.Common.{◌≡◌, ℕ, ◌==◌, Bool, true, false, not, ◌&&◌, ◌||◌, if◌then◌else◌, List, [], ◌∷◌, ◌++◌, codes, Option, None, refl, sym, ap, ◌∙◌, subst}
 use Rattle.std.proofs.lemmas.Bool.{true≢false}
 use Rattle.swc_ecma_codegen_common.specs.declared.positions.Span.{Span}
 use Rattle.swc_ecma_codegen_grammar.specs.ListFormats.{allows_trailing_comma, ampersand_delimited, bar_delimited, can_skip_trailing_comma, closing_line, comma_delimited, forces_trailing_comma, indented, leading_line, multi_line, no_intervening_comments, no_space_if_empty, optional_if_empty, separating_line, space_between_braces, space_between_siblings}
 use Rattle.swc_ecma_codegen_grammar.specs.Phrases.{Closing, closing_mark}
 use Rattle.swc_ecma_codegen_grammar.specs.SourceLines.{Lines}
-use Rattle.swc_ecma_codegen_tokens.specs.Lists.{ListChild, blank_if, by_lines, child_comments, closing, comma_if as put_comma, deeper, deeper_if, delimiter, empty_list, first_child, first_child_after, formatting_deeper, formatting_shallower, line_or_blank, list, list_after, list_closing, list_end, last_place, may_have_comma, more_children, next_child, next_child_after, opening, separator, shallower, shallower_if, source_comma, source_has_comma, trailing_comma, wanted_comma}
-use Rattle.swc_ecma_codegen_tokens.specs.Run.{Env, Part, Plan, Remake, no_part, step}
-use Rattle.swc_ecma_codegen_tokens.specs.Words.{formatting_space, punct}
+use Rattle.swc_ecma_codegen_tokens.specs.Lists.{ListChild, blank_if, by_lines, child_comments, closing, comma_if as put_comma, deeper_if, delimiter, empty_list, first_child, first_child_after, formatting_deeper, formatting_shallower, line_or_blank, list, list_closing, list_end, last_place, may_have_comma, more_children, next_child, next_child_after, opening, separator, shallower_if, source_comma, source_has_comma, trailing_comma, wanted_comma}
+use Rattle.swc_ecma_codegen_tokens.specs.Run.{Env, Part, Remake, no_part, step}
+use Rattle.swc_ecma_codegen_tokens.specs.Words.{punct}
 use Rattle.swc_ecma_codegen_tokens.specs.declared.refusals.Unprintable.{Unprintable}
 use Rattle.swc_ecma_codegen_emit.specs.FunctionExprs.{comma_list_format}
 use Rattle.swc_ecma_codegen_laws.specs.Layouts.{Tokens, mark}

@@ -1,12 +1,12 @@
 -- Literals are written alike by any layout, each as its settings spell it.
-use Rattle.std.proofs.Common.{◌≡◌, ℕ, ◌-◌, Bool, true, false, not, nat_lt, if◌then◌else◌, List, [], ◌∷◌, ◌++◌, codes, Option, Some, None, is_none, refl, sym, ap, append-nil, string_bytes}
+use Rattle.std.proofs.Common.{ℕ, ◌-◌, Bool, true, false, not, nat_lt, if◌then◌else◌, List, [], ◌∷◌, ◌++◌, codes, Some, None, is_none, refl, append-nil, string_bytes}
 use Rattle.std.specs.Str.{chars}
 use Rattle.swc_ecma_codegen_common.specs.declared.positions.BytePos.{BytePos}
 use Rattle.swc_ecma_codegen_common.specs.declared.positions.Span.{Span}
 use Rattle.swc_ecma_codegen_spans.specs.Spans.{dummy_span}
 use Rattle.swc_ecma_codegen_grammar.specs.JsxPhrases.{jsx_spelling, text_spelling}
 use Rattle.swc_ecma_codegen_grammar.specs.Numbers.{takes_dot}
-use Rattle.swc_ecma_codegen_grammar.specs.TemplatePhrases.{part_before, part_begin, part_kind, part_text}
+use Rattle.swc_ecma_codegen_grammar.specs.TemplatePhrases.{part_begin, part_kind, part_text}
 use Rattle.swc_ecma_codegen_grammar.specs.declared.kinds.Kind.TheVariants as kinds
 use Rattle.swc_ecma_codegen_grammar.specs.declared.kinds.TemplatePart.{TemplatePart}
 use Rattle.swc_ecma_codegen_grammar.specs.Templates.{part_end}
@@ -22,18 +22,15 @@ use Rattle.swc_ecma_codegen_tree.specs.declared.lits.Number.{Number}
 use Rattle.swc_ecma_codegen_tree.specs.declared.lits.NumberValue.{NumberValue}
 use Rattle.swc_ecma_codegen_tree.specs.declared.lits.NumberValue.TheVariants.{Infinity, NegInfinity}
 use Rattle.swc_ecma_codegen_tree.specs.declared.lits.Str.{Str}
-use Rattle.swc_ecma_codegen_util.specs.declared.config.Config.{Config}
 use Rattle.swc_ecma_codegen_tokens.specs.declared.refusals.Unprintable.TheVariants.{BadShape}
-use Rattle.swc_ecma_codegen_tokens.specs.Attributes.{attribute_by, attribute_string, attribute_token, has_no_text, jsx_text_lit, jsx_text_node, spelled_string}
-use Rattle.swc_ecma_codegen_tokens.specs.Literals.{begun, big_digits, big_integer as whole_big_integer, dotted_number, number, number_name, regex, regex_text, settled_begun, sign, signed, size_of, string}
-use Rattle.swc_ecma_codegen_tokens.specs.Lits as lits
+use Rattle.swc_ecma_codegen_tokens.specs.Attributes.{attribute_by, attribute_string, attribute_token, has_no_text, jsx_text_lit, spelled_string}
+use Rattle.swc_ecma_codegen_tokens.specs.Literals.{big_digits, big_integer as whole_big_integer, dotted_number, number, number_name, regex, regex_text, sign, signed, size_of, string}
 use Rattle.swc_ecma_codegen_tokens.specs.Lits.{before_property, begun_in, between_dots, big_int_at, big_int_by, big_int_parts, big_int_text, bool_lit, bool_node, bool_text, directive_end, infinity, infinity_text, is_directive, is_named, lit, makes_big_int, makes_number, named_number, not_a_number, null_lit, number_at, number_by, number_object, number_text, object_by, prints_big_raw, prints_raw, regex_lit, spelled_number, spelled_object, string_at, string_by, string_text}
-use Rattle.swc_ecma_codegen_tokens.specs.Run.{Env, Part, Ends, Plain, Remake, after_step, refuse, step, text_of}
+use Rattle.swc_ecma_codegen_tokens.specs.Run.{Ends, Remake, after_step, step, text_of}
 use Rattle.swc_ecma_codegen_tokens.specs.Templates.{closed, cooked_part, cooked_text, inside, makes_cooked, opened, part_by, placed_inside, tpl_element}
-use Rattle.swc_ecma_codegen_tokens.specs.Words.{commit_pending_semi, leading_comments}
-use Rattle.swc_ecma_codegen_laws.specs.Layouts.{Tokens, big_integer, dotted, mark, tokens_by, tokens_in, IsOneLiteral, string as one_string, number as one_number, number_before_dot, big_int, template_part}
+use Rattle.swc_ecma_codegen_laws.specs.Layouts.{Tokens, big_integer, dotted, mark, tokens_by, tokens_in, string as one_string, number as one_number, number_before_dot, big_int, template_part}
 use Rattle.swc_ecma_codegen_laws.proofs.LayoutsOfWords.{always_begun, always_commit, always_jsx_text, always_keyword, always_leading, always_position, always_remake, always_settled}
-use Rattle.swc_ecma_codegen_laws.proofs.TwoLayouts.{TwoLayouts, IsAlike, Writes, bare, Always, always_either, always_guard, always_guarded, always_if, always_more, always_none, always_plain, always_step, always_then, alike_always, alike_either, alike_literal, alike_refuse, writes_as}
+use Rattle.swc_ecma_codegen_laws.proofs.TwoLayouts.{TwoLayouts, IsAlike, Always, always_either, always_guard, always_guarded, always_if, always_more, always_none, always_plain, always_step, always_then, alike_always, alike_either, alike_literal, alike_refuse, writes_as}
 
 -- the call with which these tokens end
 always_ends : (ts : Tokens) (x : Item) → Always (step (Ends ts x)) ts

@@ -1,5 +1,5 @@
 -- Names are written alike by any layout.
-use Rattle.std.proofs.Common.{◌≡◌, ℕ, Bool, true, false, if◌then◌else◌, List, [], ◌∷◌, codes, Option, Some, None, refl}
+use Rattle.std.proofs.Common.{ℕ, Bool, true, false, if◌then◌else◌, List, [], ◌∷◌, codes, Option, Some, None, refl}
 use Rattle.std.specs.List.{list_any}
 use Rattle.std.specs.Str.{chars}
 use Rattle.swc_ecma_codegen_common.specs.declared.positions.Span.{Span}
@@ -12,13 +12,13 @@ use Rattle.swc_ecma_codegen_tokens.specs.declared.refusals.Unprintable.{Unprinta
 use Rattle.swc_ecma_codegen_tokens.specs.declared.refusals.Unprintable.TheVariants.{NameOutOfTarget}
 use Rattle.swc_ecma_codegen_tokens.specs.Keys.{quoted_key, ascii_key, bare_key, plain_key, spelled_key, valid_key, key_text, key}
 use Rattle.swc_ecma_codegen_tokens.specs.PrivateNames.{hashed, private_name, private_spelling, private_symbol, private_text, private_token, spelled_private, valid_private}
-use Rattle.swc_ecma_codegen_tokens.specs.Run.{Env, Part, Plan, Guard, Plain, Ends, Remake, after_step, has_backslash, refuse, step, text_of}
+use Rattle.swc_ecma_codegen_tokens.specs.Run.{Env, Part, Ends, Remake, after_step, has_backslash, refuse, step, text_of}
 use Rattle.swc_ecma_codegen_tokens.specs.Targets.{in_ascii, is_out_name, wants_escapes}
 use Rattle.swc_ecma_codegen_tokens.specs.Words.{commit_pending_semi, leading_comments, name, name_text, question, spelled_symbol, symbol, valid_symbol}
 use Rattle.swc_ecma_codegen_tokens.proofs.Reading.Printed.{chain}
 use Rattle.swc_ecma_codegen_laws.specs.Layouts.{Tokens, tokens_by, tokens_in}
 use Rattle.swc_ecma_codegen_laws.proofs.Differing.{differ_same}
-use Rattle.swc_ecma_codegen_laws.proofs.LayoutsOfWords.{always_begun, always_commit, always_leading, always_position, always_question, always_remake}
+use Rattle.swc_ecma_codegen_laws.proofs.LayoutsOfWords.{always_commit, always_leading, always_position, always_question, always_remake}
 use Rattle.swc_ecma_codegen_laws.proofs.TwoLayouts.{TwoLayouts, Both, IsAlike, Writes, bare, Always, always_either, always_guard, always_plain, always_step, always_then, always_token, alike_always, alike_then, both_always, both_as, both_either, both_refuse, both_then, first_env, second_env, writes_as, writes_then}
 
 -- ---- names

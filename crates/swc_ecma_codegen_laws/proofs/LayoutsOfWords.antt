@@ -1,20 +1,19 @@
 -- Words that write the same tokens by any layout.
-use Rattle.std.proofs.Common.{◌≡◌, ℕ, ◌-◌, ◌==◌, nat_lt, Bool, true, false, if◌then◌else◌, List, [], ◌∷◌, ◌++◌, codes, Option, Some, None, refl, ap, ◌∙◌}
+use Rattle.std.proofs.Common.{ℕ, ◌-◌, ◌==◌, Bool, true, false, if◌then◌else◌, List, [], ◌∷◌, ◌++◌, codes, Option, Some, None, refl, ap}
 use Rattle.swc_ecma_codegen_common.specs.declared.operators.BinaryOp.{BinaryOp}
 use Rattle.swc_ecma_codegen_common.specs.declared.positions.BytePos.{BytePos}
 use Rattle.swc_ecma_codegen_common.specs.declared.positions.Span.{Span}
 use Rattle.swc_ecma_codegen_common.specs.Operators.{binary_text}
 use Rattle.swc_ecma_codegen_spans.specs.Spans.{dummy_span}
-use Rattle.swc_ecma_codegen_grammar.specs.declared.kinds.Kind.{Kind}
 use Rattle.swc_ecma_codegen_grammar.specs.declared.kinds.Kind.TheVariants.{Word, Punctuator, Ending, Close, JsxName, JsxOpen, JsxText, Hashbang}
-use Rattle.swc_ecma_codegen_grammar.specs.Comments.{Side, Leading, Trailing, comments_at, no_maps}
+use Rattle.swc_ecma_codegen_grammar.specs.Comments.{Side, Leading, Trailing}
 use Rattle.swc_ecma_codegen_grammar.specs.declared.comments.Comment.{Comment as SourceComment}
 use Rattle.swc_ecma_codegen_text_writer.specs.Sheet.{AllowBreak, BeginLines, EndLines, Keyword, Operator, Punct, Semi, Space, Commit, Deeper, Shallower, Position, StrLit, Symbol}
 use Rattle.swc_ecma_codegen_text_writer.specs.Sheet as sheet
 use Rattle.swc_ecma_codegen_tokens.specs.Choices.{attributes_word, loop_ending}
 use Rattle.swc_ecma_codegen_tokens.specs.Lists.{deeper, shallower}
 use Rattle.swc_ecma_codegen_tokens.specs.Literals.{begun, settled_begun, hashbang}
-use Rattle.swc_ecma_codegen_tokens.specs.Run.{Env, Part, Plan, Guard, Token, Plain, Take, Ends, Remake, is_bounded, at_maps, after_step, no_part, step, text_of, when_minified}
+use Rattle.swc_ecma_codegen_tokens.specs.Run.{Part, Take, Ends, Remake, is_bounded, after_step, no_part, step, text_of}
 use Rattle.swc_ecma_codegen_tokens.specs.Tags.{child_open, close, jsx_text, tag_name, tag_symbol}
 use Rattle.swc_ecma_codegen_tokens.specs.Words.{allow_break, allows_break, bare_punct, bare_semi, begin_lines, break_where, comments, comments_before_end, commit_pending_semi, end_lines, formatting_line, formatting_space, keyword, last_of, leading_comments, line_end, operator, placed_punct, position, position_before, punct, punct_between, question, semi, space, take_comments, trailing_comments, word_operator}
 use Rattle.swc_ecma_codegen_tokens.proofs.Commenting.CommentSteps.{none_taken}
@@ -23,8 +22,8 @@ use Rattle.swc_ecma_codegen_emit.specs.Exprs.{binary_op, yield_star}
 use Rattle.swc_ecma_codegen_emit.specs.Operands.{is_word_op}
 use Rattle.swc_ecma_codegen_emit.specs.Programs.{last_semi}
 use Rattle.swc_ecma_codegen_grammar.specs.Settings.{is_up_to_es5}
-use Rattle.swc_ecma_codegen_laws.specs.Layouts.{Tokens, mark, tokens_by, tokens_in}
-use Rattle.swc_ecma_codegen_laws.proofs.TwoLayouts.{TwoLayouts, IsAlike, Writes, bare, Always, always_none, always_then, always_if, always_either, always_step, always_plain, always_guard, always_guarded, always_token, always_minified, alike_always, both_always, both_as, both_either, writes_as, writes_either}
+use Rattle.swc_ecma_codegen_laws.specs.Layouts.{mark, tokens_by, tokens_in}
+use Rattle.swc_ecma_codegen_laws.proofs.TwoLayouts.{TwoLayouts, IsAlike, bare, Always, always_none, always_then, always_if, always_either, always_step, always_plain, always_guard, always_guarded, always_token, always_minified, both_always, both_as, both_either, writes_as, writes_either}
 
 -- ---- blanks, lines and positions
 

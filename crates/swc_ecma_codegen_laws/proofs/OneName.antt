@@ -1,5 +1,5 @@
 -- The only parameter of an arrow function that has no parentheses is a name alone.
-use Rattle.std.proofs.Common.{◌≡◌, Bool, true, false, not, ◌&&◌, ◌||◌, is_some, if◌then◌else◌, List, [], ◌∷◌, ℕ, map, Option, Some, None, refl, sym, ap, ◌∙◌, subst, string_bytes}
+use Rattle.std.proofs.Common.{◌≡◌, Bool, true, false, ◌&&◌, ◌||◌, is_some, if◌then◌else◌, List, [], ◌∷◌, ℕ, map, Option, Some, None, refl, sym, ap, ◌∙◌, subst, string_bytes}
 use Rattle.std.proofs.lemmas.Bool.{and_parts, true≢false}
 use Rattle.swc_ecma_codegen_common.specs.declared.positions.BytePos.{BytePos}
 use Rattle.swc_ecma_codegen_common.specs.declared.positions.Span.{Span}
@@ -13,11 +13,10 @@ use Rattle.swc_ecma_codegen_tree.specs.declared.pats.Pat.TheVariants as pats
 use Rattle.swc_ecma_codegen_tokens.specs.Lists.{ListChild}
 use Rattle.swc_ecma_codegen_tokens.specs.Run.{Part, Plan}
 use Rattle.swc_ecma_codegen_tokens.specs.Words.{name, trailing_comments}
-use Rattle.swc_ecma_codegen_emit.specs.declared.nodes.Place.{Place}
 use Rattle.swc_ecma_codegen_emit.specs.declared.nodes.Place.TheVariants.{Plain}
 use Rattle.swc_ecma_codegen_emit.specs.declared.patterns.PatternKind.TheVariants.{Name, PlainName}
 use Rattle.swc_ecma_codegen_emit.specs.Annotations.{annotation}
-use Rattle.swc_ecma_codegen_emit.specs.Answers.{Answers, any_answers, place_of}
+use Rattle.swc_ecma_codegen_emit.specs.Answers.{any_answers, place_of}
 use Rattle.swc_ecma_codegen_emit.specs.Exprs.{ident}
 use Rattle.swc_ecma_codegen_emit.specs.FunctionExprs.{is_only, is_plain}
 use Rattle.swc_ecma_codegen_emit.specs.Lists.{child_of}

@@ -1,7 +1,7 @@
 -- What lists have in common that differ by layout, or in commas alone.
-use Rattle.std.proofs.Common.{◌≡◌, ℕ, Bool, true, false, ◌&&◌, ◌||◌, ◌==◌, cond, List, [], ◌∷◌, ◌++◌, codes, refl, sym, ap, ◌∙◌, subst, string_bytes}
+use Rattle.std.proofs.Common.{◌≡◌, ℕ, Bool, true, false, ◌&&◌, ◌||◌, ◌==◌, cond, List, [], ◌∷◌, ◌++◌, codes, refl, sym, ap, ◌∙◌, subst}
 use Rattle.std.proofs.lemmas.Bool.{or_left, true≢false}
-use Rattle.swc_ecma_codegen_grammar.specs.Phrases.{Closing, RightBrace, RightBracket, closing_mark}
+use Rattle.swc_ecma_codegen_grammar.specs.Phrases.{RightBrace, RightBracket, closing_mark}
 use Rattle.swc_ecma_codegen_grammar.specs.TemplatePhrases.{part_kind}
 use Rattle.swc_ecma_codegen_grammar.specs.Texts.{is_same}
 use Rattle.swc_ecma_codegen_grammar.specs.declared.kinds.Kind.{Kind}

@@ -2,16 +2,15 @@
 use Rattle.std.proofs.Common.{◌≡◌, ℕ, Bool, true, false, if◌then◌else◌, List, [], ◌∷◌, ◌++◌, Option, Some, None, refl, sym, ap, ◌∙◌, subst, append_assoc, append-nil, inl, inr}
 use Rattle.std.proofs.lemmas.Bool.{cases_Bool, true≢false}
 use Rattle.swc_ecma_codegen_common.specs.declared.positions.Span.{Span}
-use Rattle.swc_ecma_codegen_grammar.specs.CommentMaps.{Maps}
 use Rattle.swc_ecma_codegen_grammar.specs.Comments.{no_maps}
 use Rattle.swc_ecma_codegen_grammar.specs.SourceLines.{Lines}
 use Rattle.swc_ecma_codegen_util.specs.declared.config.Config.{Config}
 use Rattle.swc_ecma_codegen_text_writer.specs.Sheet.{Item}
 use Rattle.swc_ecma_codegen_grammar.specs.declared.kinds.Kind.{Kind}
 use Rattle.swc_ecma_codegen_tokens.specs.declared.refusals.Unprintable.{Unprintable}
-use Rattle.swc_ecma_codegen_tokens.specs.Run.{Env, Part, Plan, Step, Steps, Guard, Token, Plain, next, refused, at_maps, after_step, refuse, step, text_of, unbounded, when_minified, with_max_line}
+use Rattle.swc_ecma_codegen_tokens.specs.Run.{Env, Part, Plan, Step, Guard, Token, Plain, next, at_maps, after_step, refuse, step, text_of, unbounded, when_minified, with_max_line}
 use Rattle.swc_ecma_codegen_tokens.proofs.Reading.Printed.{chain, chain_append}
-use Rattle.swc_ecma_codegen_laws.specs.Layouts.{Tokens, tokens_by, tokens_in, IsOneLiteral, Differ, no_more}
+use Rattle.swc_ecma_codegen_laws.specs.Layouts.{Tokens, tokens_by, tokens_in, IsOneLiteral, Differ}
 use Rattle.swc_ecma_codegen_laws.proofs.BreakSteps.{on}
 use Rattle.swc_ecma_codegen_laws.proofs.Differing.{differ_append, differ_literal, differ_same}
 
