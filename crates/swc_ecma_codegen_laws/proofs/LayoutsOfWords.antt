@@ -101,7 +101,7 @@ break_at : (b : Bool) → Always (break_where b) []
 unfolding break_where
 break_at b = always_if b (always_plain AllowBreak) always_none
 
-pub always_break : Always allow_break []
+always_break : Always allow_break []
 unfolding allow_break
 always_break = record { at = λ env. writes_as allow_break (break_where (is_bounded (bare env))) (λ rest. refl) ((break_at (is_bounded (bare env))).at env) }
 

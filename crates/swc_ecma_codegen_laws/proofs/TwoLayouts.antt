@@ -22,7 +22,7 @@ pub record Writes (env : Env) (part : Part) (ts : Tokens) (stop : Option Unprint
   pub is_steps : (rest : Plan) → part rest env ≡ chain steps (on stop rest env)
   pub tokens : tokens_in steps ≡ ts
 
-pub tokens_append : (xs ys : List Step) → tokens_in (xs ++ ys) ≡ tokens_in xs ++ tokens_in ys
+tokens_append : (xs ys : List Step) → tokens_in (xs ++ ys) ≡ tokens_in xs ++ tokens_in ys
 unfolding tokens_in
 tokens_append [] ys = refl
 tokens_append (x ∷ xs) ys = ap (λ z. tokens_by x ++ z) (tokens_append xs ys) ∙ sym (append_assoc (tokens_by x) (tokens_in xs) (tokens_in ys))
@@ -43,7 +43,7 @@ pub writes_as : {env : Env} (p q : Part) {ts : Tokens} {stop : Option Unprintabl
 writes_as p q e h = record { steps = h.steps; is_steps = λ rest. e rest ∙ h.is_steps rest; tokens = h.tokens }
 
 -- the same tokens, known by other words
-pub writes_these : {env : Env} (p : Part) {ts us : Tokens} {stop : Option Unprintable} → ts ≡ us → Writes env p ts stop → Writes env p us stop
+writes_these : {env : Env} (p : Part) {ts us : Tokens} {stop : Option Unprintable} → ts ≡ us → Writes env p ts stop → Writes env p us stop
 writes_these p e h = record { steps = h.steps; is_steps = h.is_steps; tokens = h.tokens ∙ e }
 
 -- one of two parts
