@@ -12,19 +12,11 @@ pub mod ClassExprsWords
 pub mod ClassesWords
 pub mod ClosedMaps
 pub mod DeclsWords
-pub mod Differing
 pub mod ExprsWords
 pub mod FirstTokens
 pub mod FunctionExprsWords
 pub mod FunctionsWords
 pub mod JsxWords
-pub mod LaidOut
-pub mod LayoutWords
-pub mod LayoutsOfArrows
-pub mod LayoutsOfLists
-pub mod LayoutsOfLiterals
-pub mod LayoutsOfNames
-pub mod LayoutsOfWords
 pub mod LinedNodes
 pub mod LinkLaws
 pub mod ListsWords
@@ -56,7 +48,6 @@ pub mod StepsOfWords
 pub mod StmtsWords
 pub mod TargetsWords
 pub mod TemplatesWords
-pub mod ToldParentheses
 pub mod TsDeclsWords
 pub mod TsExprsWords
 pub mod TsMembersWords

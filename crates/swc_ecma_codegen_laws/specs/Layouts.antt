@@ -1,5 +1,5 @@
 -- How two emissions of one tree may differ in the tokens that they write, where there are no comments.
-use Rattle.std.specs.Prelude.{◌≡◌, ℕ, Bool, true, false, ◌&&◌, ◌||◌, if◌then◌else◌, List, [], ◌∷◌, ◌++◌, codes, None, string_bytes}
+use Rattle.std.specs.Prelude.{◌≡◌, ℕ, Bool, true, false, ◌&&◌, ◌||◌, if◌then◌else◌, List, [], ◌∷◌, ◌++◌, codes, Option, None, string_bytes}
 use Rattle.std.specs.Str.{chars}
 use Rattle.swc_ecma_codegen_grammar.specs.Numbers.{takes_dot}
 use Rattle.swc_ecma_codegen_grammar.specs.Phrases.{Closing, closing_mark}
@@ -14,6 +14,7 @@ use Rattle.swc_ecma_codegen_tree.specs.declared.lits.BigInt.{BigInt}
 use Rattle.swc_ecma_codegen_tree.specs.declared.lits.Number.{Number}
 use Rattle.swc_ecma_codegen_tree.specs.declared.lits.Str.{Str}
 use Rattle.swc_ecma_codegen_util.specs.declared.config.Config.{Config}
+use Rattle.swc_ecma_codegen_tokens.specs.declared.refusals.Unprintable.{Unprintable}
 use Rattle.swc_ecma_codegen_tokens.specs.Literals.{signed, size_of}
 use Rattle.swc_ecma_codegen_tokens.specs.Lits.{string_text, number_text, prints_big_raw, big_int_text}
 use Rattle.swc_ecma_codegen_tokens.specs.Run.{Env, Step, Token, Ends, nothing, steps_of, text_of, unprintable_in}
@@ -123,9 +124,12 @@ without_commas (x ∷ xs) = if is_mark (codes ",") x then without_commas xs else
 abbrev pub tokens_of : Root → Env → Tokens
 tokens_of root env = tokens_in (steps_of (root_items root nothing env))
 
--- it writes the whole of it: it comes to no node that can't be printed
+-- why it goes no further, where it comes to a node that can't be printed; else it writes the whole tree
+abbrev pub stop_of : Root → Env → Option Unprintable
+stop_of root env = unprintable_in (root_items root nothing env)
+
 abbrev pub IsWhole : Root → Env → Type 0
-IsWhole root env = unprintable_in (root_items root nothing env) ≡ None
+IsWhole root env = stop_of root env ≡ None
 
 -- the same, minified or not, and over another source text
 abbrev pub laid_out : Bool → Env → Env

@@ -14,22 +14,25 @@ ghost use Rattle.swc_ecma_codegen_emit.specs.Roots.{Root};
 ghost use Rattle.swc_ecma_codegen_emit.specs.Stmts.{argument, spaced};
 ghost use Rattle.swc_ecma_codegen_emit.specs.Tree.{any_items};
 ghost use Rattle.swc_ecma_codegen_emit.specs.declared.nodes.Place.TheVariants.{Plain};
-ghost use Rattle.swc_ecma_codegen_laws.specs.Layouts.{DifferByLayout, DifferInCommas, IsWhole, Tokens, begins_arrow, is_new, laid_out, mark, opens, over, tokens_of, without_commas};
+ghost use Rattle.swc_ecma_codegen_laws.specs.Layouts.{DifferByLayout, DifferInCommas, IsWhole, Tokens, begins_arrow, is_new, laid_out, mark, opens, over, stop_of, tokens_of, without_commas};
 
 /// Minified or not, an emission without comments writes the same tokens, but for the spelling of literals, and for what is left out where it is
 /// minified: a comma before the `]` or `}` that closes a list, parentheses round the name that is the only parameter of an
 /// arrow function, and the empty arguments of `new`: `(a) => new B();` and `a=>new B;`. Semicolons are among these tokens: which
-/// of them a writer leaves out that holds them back, and that literals have the same values, `layouts_keep_the_tokens` says.
+/// of them a writer leaves out that holds them back, and that literals have the same values, `layouts_keep_the_tokens` says. Both come to
+/// the same node that can't be printed, or to none.
 pub fn layouts_write_the_same_tokens()
-    ensures { (root : Root) (env : Env) → env.maps ≡ no_maps →
+    ensures tokens { (root : Root) (env : Env) → env.maps ≡ no_maps →
         IsWhole root (laid_out true env) →
         DifferByLayout (laid_out true env).config (laid_out false env).config
         (tokens_of root (laid_out true env)) (tokens_of root (laid_out false env)) }
+    ensures stop { (root : Root) (env : Env) → env.maps ≡ no_maps →
+        stop_of root (laid_out true env) ≡ stop_of root (laid_out false env) }
 {}
 
 /// Over another source text an emission without comments writes the same tokens, each spelled as it was, but for a comma
 /// before the `]` or `}` that closes a list; and where its map answers the same snippets, the very same, whatever it answers
-/// on lines.
+/// on lines. Both come to the same node that can't be printed, or to none.
 pub fn source_texts_write_the_same_tokens()
     ensures commas { (root : Root) (env : Env) (lines : Lines) → env.maps ≡ no_maps →
         IsWhole root env →
@@ -37,6 +40,8 @@ pub fn source_texts_write_the_same_tokens()
     ensures snippets { (root : Root) (env : Env) (lines : Lines) → env.maps ≡ no_maps →
         ((span : Span) → env.lines.snippet span ≡ lines.snippet span) → IsWhole root env →
         tokens_of root env ≡ tokens_of root (over lines env) }
+    ensures stop { (root : Root) (env : Env) (lines : Lines) → env.maps ≡ no_maps →
+        stop_of root env ≡ stop_of root (over lines env) }
 {}
 
 /// Without comments no parentheses stand round what is returned, thrown or yielded, minified or not: behind the word comes a blank, where

@@ -240,7 +240,7 @@ pub fn bad_shapes_are_refused_first()
 /// open: a comma before the mark that closes a list, some parentheses, and the empty arguments of `new`: `(a) => new B();`
 /// and minified `a=>new B`. So are those that what is written of it is reduced from, where a writer leaves semicolons out. By
 /// their tokens alone the written lists are the same but for semicolons that end a statement, commas before `]` and `}`,
-/// and pairs of parentheses.
+/// and pairs of parentheses. Without comments `layouts_write_the_same_tokens` says which, token for token.
 pub fn layouts_keep_the_tokens()
     ensures lists { (s t : Settings) (phrase : Phrase) (xs ys : List Token) → AreAlike s t →
         Generates s phrase xs → Generates t phrase ys → Alongside s t phrase xs ys }
@@ -255,7 +255,8 @@ pub fn layouts_keep_the_tokens()
 /// the source text answers, whatever the indentation, the line end and the comments, but for what syntax leaves open: a
 /// comma before `]` or `}`, which is asked of the source text, and parentheses round the only parameter of an arrow function or
 /// round an argument, which depend on comments. So do two texts that each read as the tree; and where syntax leaves nothing
-/// open, all that is written is the same, over a writer that holds no semicolons back.
+/// open, all that is written is the same, over a writer that holds no semicolons back. Without comments
+/// `source_texts_write_the_same_tokens` says that nothing but such commas differs.
 pub fn source_texts_keep_the_tokens()
     ensures texts { (config : Config) (holds : Bool) (phrase : Phrase) (first second : List Remark)
         (us vs : List ℕ) → (x : ReadsAs config holds phrase first us) →

@@ -1,4 +1,4 @@
-use Rattle.swc_ecma_codegen_laws.proofs.LaidOut.{returned_bare, yielded_bare}
+use Rattle.swc_ecma_codegen_laws.proofs.TwoLayouts.Trees.{returned_bare, yielded_bare}
 use Rattle.swc_ecma_codegen_laws.proofs.layouts.arguments_stand_bare.Goals as goal
 
 pub returns-clause-returned : goal.returns-clause-returned

@@ -1,4 +1,4 @@
-use Rattle.swc_ecma_codegen_laws.proofs.ToldParentheses.{opened_behind, same_without}
+use Rattle.swc_ecma_codegen_laws.proofs.TwoLayouts.Parentheses.{opened_behind, same_without}
 use Rattle.swc_ecma_codegen_laws.proofs.layouts.other_parentheses_stand_in_both.Goals as goal
 
 pub returns-clause-layouts : goal.returns-clause-layouts

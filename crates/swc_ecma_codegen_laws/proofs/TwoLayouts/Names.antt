@@ -17,9 +17,9 @@ use Rattle.swc_ecma_codegen_tokens.specs.Targets.{in_ascii, is_out_name, wants_e
 use Rattle.swc_ecma_codegen_tokens.specs.Words.{commit_pending_semi, leading_comments, name, name_text, question, spelled_symbol, symbol, valid_symbol}
 use Rattle.swc_ecma_codegen_tokens.proofs.Reading.Printed.{chain}
 use Rattle.swc_ecma_codegen_laws.specs.Layouts.{Tokens, tokens_by, tokens_in}
-use Rattle.swc_ecma_codegen_laws.proofs.Differing.{differ_same}
-use Rattle.swc_ecma_codegen_laws.proofs.LayoutsOfWords.{always_commit, always_leading, always_position, always_question, always_remake}
-use Rattle.swc_ecma_codegen_laws.proofs.TwoLayouts.{TwoLayouts, Both, IsAlike, Writes, bare, Always, always_either, always_guard, always_plain, always_step, always_then, always_token, alike_always, alike_then, both_always, both_as, both_either, both_refuse, both_then, first_env, second_env, writes_as, writes_then}
+use Rattle.swc_ecma_codegen_laws.proofs.TwoLayouts.Differing.{differ_same}
+use Rattle.swc_ecma_codegen_laws.proofs.TwoLayouts.Words.{always_commit, always_leading, always_position, always_question, always_remake}
+use Rattle.swc_ecma_codegen_laws.proofs.TwoLayouts.Emissions.{TwoLayouts, Both, IsAlike, Writes, bare, Always, always_either, always_guard, always_plain, always_step, always_then, always_token, alike_always, alike_then, both_always, both_as, both_either, both_refuse, both_then, first_env, second_env, writes_as, writes_then}
 
 -- ---- names
 

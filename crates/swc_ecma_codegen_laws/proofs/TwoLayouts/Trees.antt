@@ -19,18 +19,18 @@ use Rattle.swc_ecma_codegen_emit.specs.Stmts.{argument, argument_in, spaced}
 use Rattle.swc_ecma_codegen_emit.specs.Tree.{any_items}
 use Rattle.swc_ecma_codegen_emit.specs.declared.nodes.Place.TheVariants.{Plain}
 use Rattle.swc_ecma_codegen_emit.proofs.Unbroken.{unbroken}
-use Rattle.swc_ecma_codegen_laws.specs.Layouts.{DifferByLayout, DifferInCommas, IsWhole, Tokens, laid_out, over, tokens_in, tokens_of}
+use Rattle.swc_ecma_codegen_laws.specs.Layouts.{DifferByLayout, DifferInCommas, IsWhole, Tokens, laid_out, over, stop_of, tokens_in, tokens_of}
 use Rattle.swc_ecma_codegen_laws.proofs.AnyExprWords.{expr_holds}
 use Rattle.swc_ecma_codegen_laws.proofs.BreakSteps.{on, steps_on}
-use Rattle.swc_ecma_codegen_laws.proofs.Differing.{differ_equal}
-use Rattle.swc_ecma_codegen_laws.proofs.LayoutWords.{layout_words}
-use Rattle.swc_ecma_codegen_laws.proofs.LayoutsOfWords.{always_begin_lines, always_end_lines}
+use Rattle.swc_ecma_codegen_laws.proofs.TwoLayouts.Differing.{differ_equal}
+use Rattle.swc_ecma_codegen_laws.proofs.TwoLayouts.AllWords.{layout_words}
+use Rattle.swc_ecma_codegen_laws.proofs.TwoLayouts.Words.{always_begin_lines, always_end_lines}
 use Rattle.swc_ecma_codegen_laws.proofs.LinedNodes.{expr_lined, placed_node_lined}
 use Rattle.swc_ecma_codegen_laws.proofs.ModulesWords.{module_item_holds}
 use Rattle.swc_ecma_codegen_laws.proofs.NodeWords.{in_trees, tree_holds}
 use Rattle.swc_ecma_codegen_laws.proofs.RootWords.{lined_program, plain_program, program_holds, program_parts}
 use Rattle.swc_ecma_codegen_laws.proofs.StmtsWords.{stmt_holds}
-use Rattle.swc_ecma_codegen_laws.proofs.TwoLayouts.{TwoLayouts, Both, Fits, IsAlike, Writes, bare, both_within, first_env, second_env, writes_more, writes_then, writes_within}
+use Rattle.swc_ecma_codegen_laws.proofs.TwoLayouts.Emissions.{TwoLayouts, Both, Fits, IsAlike, Writes, bare, both_within, first_env, second_env, writes_more, writes_then, writes_within}
 
 -- ---- roots
 
@@ -84,10 +84,10 @@ unfolding unprintable_in chain
 last_of [] more = refl
 last_of (x ∷ xs) more = last_of xs more
 
-ends_none : (xs : List Step) (stop : Option Unprintable) (env : Env) → unprintable_in (chain xs (on stop nothing env)) ≡ None → stop ≡ None
-unfolding unprintable_in
-ends_none xs None env h = refl
-ends_none xs (Some r) env h = sym (last_of xs (refused r)) ∙ h
+ends_with : (xs : List Step) (stop : Option Unprintable) (env : Env) → unprintable_in (chain xs (on stop nothing env)) ≡ stop
+unfolding unprintable_in nothing
+ends_with xs None env = last_of xs done
+ends_with xs (Some r) env = last_of xs (refused r)
 
 -- the lines that a root is told of
 abbrev told : Env → Option ℕ
@@ -104,16 +104,22 @@ written_at root env steps stop h = ap (λ place. unbounded (root_at root place) 
 tokens_at : (root : Root) (env : Env) (ts : Tokens) (stop : Option Unprintable) → Writes env (unbounded (root_at root (with_lines (told env)))) ts stop → tokens_of root env ≡ ts
 tokens_at root env ts stop h = ap (λ z. tokens_in (steps_of z)) (written_at root env h.steps stop h.is_steps) ∙ ap tokens_in (whole_steps h.steps stop env) ∙ h.tokens
 
-whole_at : (root : Root) (env : Env) (ts : Tokens) (stop : Option Unprintable) → Writes env (unbounded (root_at root (with_lines (told env)))) ts stop → IsWhole root env → stop ≡ None
-whole_at root env ts stop h w = ends_none h.steps stop env (sym (ap unprintable_in (written_at root env h.steps stop h.is_steps)) ∙ w)
+stop_at : (root : Root) (env : Env) (ts : Tokens) (stop : Option Unprintable) → Writes env (unbounded (root_at root (with_lines (told env)))) ts stop → stop_of root env ≡ stop
+stop_at root env ts stop h = ap unprintable_in (written_at root env h.steps stop h.is_steps) ∙ ends_with h.steps stop env
+
+two_written : (two : TwoLayouts) (root : Root) (max : Option ℕ) → Both two max max (unbounded (root_at root (with_lines (told (first_env two max))))) (unbounded (root_at root (with_lines (told (second_env two max)))))
+two_written two root max = both_within max max (root_at root (with_lines (told (first_env two max)))) (root_at root (with_lines (told (second_env two max)))) (root_both two root (told (first_env two max)) (told (second_env two max)))
 
 two_fit : (two : TwoLayouts) (root : Root) (max : Option ℕ) → IsWhole root (first_env two max) → Fits two (tokens_of root (first_env two max)) (tokens_of root (second_env two max))
 two_fit two root max w =
     let a : Env = first_env two max in
     let b : Env = second_env two max in
-    let h : Both two max max (unbounded (root_at root (with_lines (told a)))) (unbounded (root_at root (with_lines (told b)))) = both_within max max (root_at root (with_lines (told a))) (root_at root (with_lines (told b))) (root_both two root (told a) (told b)) in
+    let h = two_written two root max in
     subst (λ z. Fits two z (tokens_of root b)) (sym (tokens_at root a h.us h.stop h.first))
-    (subst (λ z. Fits two h.us z) (sym (tokens_at root b h.vs h.stop h.second)) (h.fit (whole_at root a h.us h.stop h.first w)))
+    (subst (λ z. Fits two h.us z) (sym (tokens_at root b h.vs h.stop h.second)) (h.fit (sym (stop_at root a h.us h.stop h.first) ∙ w)))
+
+two_stop : (two : TwoLayouts) (root : Root) (max : Option ℕ) → stop_of root (first_env two max) ≡ stop_of root (second_env two max)
+two_stop two root max = let h = two_written two root max in stop_at root (first_env two max) h.us h.stop h.first ∙ sym (stop_at root (second_env two max) h.vs h.stop h.second)
 
 -- ---- the laws
 
@@ -141,6 +147,10 @@ layouts_differ root env h =
     let P : Env → Type 0 = λ z. IsWhole root (laid_out true z) → DifferByLayout (laid_out true z).config (laid_out false z).config (tokens_of root (laid_out true z)) (tokens_of root (laid_out false z)) in
     subst P (bare_env env h) (λ w. two_fit (two_layouts env) root env.max_line w)
 
+pub layouts_stop : (root : Root) (env : Env) → env.maps ≡ no_maps → stop_of root (laid_out true env) ≡ stop_of root (laid_out false env)
+unfolding two_layouts
+layouts_stop root env h = subst (λ (z : Env). stop_of root (laid_out true z) ≡ stop_of root (laid_out false z)) (bare_env env h) (two_stop (two_layouts env) root env.max_line)
+
 two_sources : (env : Env) (lines : Lines) (commas : Bool) → (commas ≡ false → (span : Span) → env.lines.snippet span ≡ lines.snippet span) → TwoLayouts
 two_sources env lines commas same = record {
   config = env.config;
@@ -161,6 +171,10 @@ unfolding two_sources
 sources_differ root env lines h =
     let P : Env → Type 0 = λ z. IsWhole root z → DifferInCommas z.config (tokens_of root z) (tokens_of root (over lines z)) in
     subst P (bare_env env h) (λ w. two_fit (two_sources env lines true (λ e. absurd (true≢false e))) root env.max_line w)
+
+pub sources_stop : (root : Root) (env : Env) (lines : Lines) → env.maps ≡ no_maps → stop_of root env ≡ stop_of root (over lines env)
+unfolding two_sources
+sources_stop root env lines h = subst (λ (z : Env). stop_of root z ≡ stop_of root (over lines z)) (bare_env env h) (two_stop (two_sources env lines true (λ e. absurd (true≢false e))) root env.max_line)
 
 pub snippets_tell : (root : Root) (env : Env) (lines : Lines) → env.maps ≡ no_maps → ((span : Span) → env.lines.snippet span ≡ lines.snippet span) → IsWhole root env → tokens_of root env ≡ tokens_of root (over lines env)
 unfolding two_sources

@@ -16,11 +16,11 @@ use Rattle.swc_ecma_codegen_emit.specs.FunctionExprs.{arrow_within, comma_list_f
 use Rattle.swc_ecma_codegen_laws.specs.Layouts.{Tokens, mark, no_more, token, parameter, arguments}
 use Rattle.swc_ecma_codegen_laws.proofs.Children.{ChildrenHold}
 use Rattle.swc_ecma_codegen_laws.proofs.OneName.{HoldsOneName, IsOneName}
-use Rattle.swc_ecma_codegen_laws.proofs.Differing.{differ_append, differ_same}
-use Rattle.swc_ecma_codegen_laws.proofs.LayoutsOfLists.{alike_list, list_of_one}
-use Rattle.swc_ecma_codegen_laws.proofs.LayoutsOfNames.{kept, name_stop, name_tokens, name_writes, stop_if, unless}
-use Rattle.swc_ecma_codegen_laws.proofs.LayoutsOfWords.{always_keyword, always_punct, always_trailing}
-use Rattle.swc_ecma_codegen_laws.proofs.TwoLayouts.{TwoLayouts, Both, Fits, IsAlike, Writes, bare, Always, always_none, always_then, both_always, both_as, both_then, first_env, second_env, writes_as, writes_chosen, writes_more, writes_stop, writes_then}
+use Rattle.swc_ecma_codegen_laws.proofs.TwoLayouts.Differing.{differ_append, differ_same}
+use Rattle.swc_ecma_codegen_laws.proofs.TwoLayouts.Lists.{alike_list, list_of_one}
+use Rattle.swc_ecma_codegen_laws.proofs.TwoLayouts.Names.{kept, name_stop, name_tokens, name_writes, stop_if, unless}
+use Rattle.swc_ecma_codegen_laws.proofs.TwoLayouts.Words.{always_keyword, always_punct, always_trailing}
+use Rattle.swc_ecma_codegen_laws.proofs.TwoLayouts.Emissions.{TwoLayouts, Both, Fits, IsAlike, Writes, bare, Always, always_none, always_then, both_always, both_as, both_then, first_env, second_env, writes_as, writes_chosen, writes_more, writes_stop, writes_then}
 
 -- ---- arrow functions
 

@@ -29,8 +29,8 @@ use Rattle.swc_ecma_codegen_tokens.specs.Lits.{before_property, begun_in, betwee
 use Rattle.swc_ecma_codegen_tokens.specs.Run.{Ends, Remake, after_step, step, text_of}
 use Rattle.swc_ecma_codegen_tokens.specs.Templates.{closed, cooked_part, cooked_text, inside, makes_cooked, opened, part_by, placed_inside, tpl_element}
 use Rattle.swc_ecma_codegen_laws.specs.Layouts.{Tokens, big_integer, dotted, mark, tokens_by, tokens_in, string as one_string, number as one_number, number_before_dot, big_int, template_part}
-use Rattle.swc_ecma_codegen_laws.proofs.LayoutsOfWords.{always_begun, always_commit, always_jsx_text, always_keyword, always_leading, always_position, always_remake, always_settled}
-use Rattle.swc_ecma_codegen_laws.proofs.TwoLayouts.{TwoLayouts, IsAlike, Always, always_either, always_guard, always_guarded, always_if, always_more, always_none, always_plain, always_step, always_then, alike_always, alike_either, alike_literal, alike_refuse, writes_as}
+use Rattle.swc_ecma_codegen_laws.proofs.TwoLayouts.Words.{always_begun, always_commit, always_jsx_text, always_keyword, always_leading, always_position, always_remake, always_settled}
+use Rattle.swc_ecma_codegen_laws.proofs.TwoLayouts.Emissions.{TwoLayouts, IsAlike, Always, always_either, always_guard, always_guarded, always_if, always_more, always_none, always_plain, always_step, always_then, alike_always, alike_either, alike_literal, alike_refuse, writes_as}
 
 -- the call with which these tokens end
 always_ends : (ts : Tokens) (x : Item) → Always (step (Ends ts x)) ts

@@ -12,10 +12,10 @@ use Rattle.swc_ecma_codegen_tokens.specs.declared.refusals.Unprintable.{Unprinta
 use Rattle.swc_ecma_codegen_emit.specs.FunctionExprs.{comma_list_format}
 use Rattle.swc_ecma_codegen_laws.specs.Layouts.{Tokens, mark}
 use Rattle.swc_ecma_codegen_laws.proofs.Children.{ChildrenHold}
-use Rattle.swc_ecma_codegen_laws.proofs.Differing.{comma_if, differ_comma, differ_same}
-use Rattle.swc_ecma_codegen_laws.proofs.LayoutsOfWords.{always_deeper, always_formatting_line, always_formatting_space, always_punct, always_remake, always_shallower, always_trailing}
+use Rattle.swc_ecma_codegen_laws.proofs.TwoLayouts.Differing.{comma_if, differ_comma, differ_same}
+use Rattle.swc_ecma_codegen_laws.proofs.TwoLayouts.Words.{always_deeper, always_formatting_line, always_formatting_space, always_punct, always_remake, always_shallower, always_trailing}
 use Rattle.swc_ecma_codegen_laws.proofs.OfWords.{keeps_comma}
-use Rattle.swc_ecma_codegen_laws.proofs.TwoLayouts.{TwoLayouts, Both, Fits, IsAlike, Writes, bare, Always, always_either, always_if, always_minified, always_more, always_none, always_then, both_always, both_as, both_then, first_env, second_env, writes_as, writes_either, writes_if, writes_more, writes_then}
+use Rattle.swc_ecma_codegen_laws.proofs.TwoLayouts.Emissions.{TwoLayouts, Both, Fits, IsAlike, Writes, bare, Always, always_either, always_if, always_minified, always_more, always_none, always_then, both_always, both_as, both_then, first_env, second_env, writes_as, writes_either, writes_if, writes_more, writes_then}
 
 -- ---- blanks, lines and levels
 

@@ -23,7 +23,7 @@ use Rattle.swc_ecma_codegen_emit.specs.Operands.{is_word_op}
 use Rattle.swc_ecma_codegen_emit.specs.Programs.{last_semi}
 use Rattle.swc_ecma_codegen_grammar.specs.Settings.{is_up_to_es5}
 use Rattle.swc_ecma_codegen_laws.specs.Layouts.{mark, tokens_by, tokens_in}
-use Rattle.swc_ecma_codegen_laws.proofs.TwoLayouts.{TwoLayouts, IsAlike, bare, Always, always_none, always_then, always_if, always_either, always_step, always_plain, always_guard, always_guarded, always_token, always_minified, both_always, both_as, both_either, writes_as, writes_either}
+use Rattle.swc_ecma_codegen_laws.proofs.TwoLayouts.Emissions.{TwoLayouts, IsAlike, bare, Always, always_none, always_then, always_if, always_either, always_step, always_plain, always_guard, always_guarded, always_token, always_minified, both_always, both_as, both_either, writes_as, writes_either}
 
 -- ---- blanks, lines and positions
 

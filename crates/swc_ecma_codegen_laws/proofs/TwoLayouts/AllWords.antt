@@ -21,13 +21,13 @@ use Rattle.swc_ecma_codegen_emit.specs.Tree.{any_items}
 use Rattle.swc_ecma_codegen_emit.specs.declared.nodes.Place.{Place}
 use Rattle.swc_ecma_codegen_laws.specs.Enclosing.{is_element, is_function}
 use Rattle.swc_ecma_codegen_laws.proofs.Children.{ChildrenHold, PartsHold}
-use Rattle.swc_ecma_codegen_laws.proofs.LayoutsOfArrows.{alike_arrow, alike_new}
-use Rattle.swc_ecma_codegen_laws.proofs.LayoutsOfLists.{alike_closed, alike_list, both_formats}
-use Rattle.swc_ecma_codegen_laws.proofs.LayoutsOfLiterals.{alike_attribute, alike_big_int, alike_element, alike_lit, alike_number, alike_number_object, alike_string, always_bool_node, always_text_lit}
-use Rattle.swc_ecma_codegen_laws.proofs.LayoutsOfNames.{alike_key, alike_name, alike_private_name}
-use Rattle.swc_ecma_codegen_laws.proofs.LayoutsOfWords.{alike_attributes_word, alike_loop_ending, always_bare_punct, always_bare_semi, always_before_end, always_binary, always_child_open, always_close, always_commit, always_deeper, always_ellipsis, always_formatting_line, always_formatting_space, always_hashbang, always_jsx_text, always_keyword, always_last_of, always_last_semi, always_leading, always_line_end, always_operator, always_position, always_punct, always_punct_between, always_question, always_semi, always_shallower, always_space, always_tag_name, always_trailing, always_yield}
+use Rattle.swc_ecma_codegen_laws.proofs.TwoLayouts.Arrows.{alike_arrow, alike_new}
+use Rattle.swc_ecma_codegen_laws.proofs.TwoLayouts.Lists.{alike_closed, alike_list, both_formats}
+use Rattle.swc_ecma_codegen_laws.proofs.TwoLayouts.Literals.{alike_attribute, alike_big_int, alike_element, alike_lit, alike_number, alike_number_object, alike_string, always_bool_node, always_text_lit}
+use Rattle.swc_ecma_codegen_laws.proofs.TwoLayouts.Names.{alike_key, alike_name, alike_private_name}
+use Rattle.swc_ecma_codegen_laws.proofs.TwoLayouts.Words.{alike_attributes_word, alike_loop_ending, always_bare_punct, always_bare_semi, always_before_end, always_binary, always_child_open, always_close, always_commit, always_deeper, always_ellipsis, always_formatting_line, always_formatting_space, always_hashbang, always_jsx_text, always_keyword, always_last_of, always_last_semi, always_leading, always_line_end, always_operator, always_position, always_punct, always_punct_between, always_question, always_semi, always_shallower, always_space, always_tag_name, always_trailing, always_yield}
 use Rattle.swc_ecma_codegen_laws.proofs.OfWords.{OfWords}
-use Rattle.swc_ecma_codegen_laws.proofs.TwoLayouts.{TwoLayouts, Both, IsAlike, Always, always_if, always_none, alike_always, alike_refuse, alike_then, alike_within, both_always, both_as, both_minified, both_then}
+use Rattle.swc_ecma_codegen_laws.proofs.TwoLayouts.Emissions.{TwoLayouts, Both, IsAlike, Always, always_if, always_none, alike_always, alike_refuse, alike_then, alike_within, both_always, both_as, both_minified, both_then}
 
 alike_by_maps : {two : TwoLayouts} (bounded : Bool) (ask : Maps → Part) → ((maps : Maps) → IsAlike two bounded (ask maps)) → IsAlike two bounded (by_maps ask)
 unfolding by_maps
