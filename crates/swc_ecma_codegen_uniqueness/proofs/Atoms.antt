@@ -18,8 +18,6 @@ use Rattle.swc_ecma_codegen_tree.specs.declared.lits.Str.{Str}
 use Rattle.swc_ecma_codegen_tree.specs.declared.exprs.MetaPropKind.{MetaPropKind}
 use Rattle.swc_ecma_codegen_tree.specs.declared.exprs.MetaPropKind.TheVariants as meta_props
 use Rattle.swc_ecma_codegen_tree.specs.declared.exprs.ParenExpr.{ParenExpr}
-use Rattle.swc_ecma_codegen_tree.specs.declared.pats.AssignTarget.{AssignTarget}
-use Rattle.swc_ecma_codegen_tree.specs.declared.pats.AssignTarget.TheVariants as targets
 use Rattle.swc_ecma_codegen_tree.specs.declared.pats.SimpleAssignTarget.{SimpleAssignTarget}
 use Rattle.swc_ecma_codegen_tree.specs.declared.pats.SimpleAssignTarget.TheVariants as simple_targets
 use Rattle.swc_ecma_codegen_grammar.specs.Phrases.{Phrase, Generates, Nothing, One, NameOf, Then, where_, mark}
@@ -35,21 +33,20 @@ use Rattle.swc_ecma_codegen_grammar.specs.Tokens as tokens
 use Rattle.swc_ecma_codegen_syntax.specs.declared.nonterminals.Nonterminal.{Nonterminal}
 use Rattle.swc_ecma_codegen_syntax.specs.declared.nonterminals.Nonterminal.TheVariants as nt
 use Rattle.swc_ecma_codegen_syntax.specs.declared.parameters.Parameters.{Parameters}
-use Rattle.swc_ecma_codegen_syntax.specs.Parameters.{of_targets}
 use Rattle.swc_ecma_codegen_syntax.specs.Forms.{is_met}
 use Rattle.swc_ecma_codegen_syntax.specs.NameForms.{name_form, has_no_escape, is_literal_value, is_literal, lit_form}
 use Rattle.swc_ecma_codegen_syntax.specs.MemberForms.{annotation_form}
 use Rattle.swc_ecma_codegen_syntax.specs.PatForms.{binding_form}
-use Rattle.swc_ecma_codegen_syntax.specs.TargetForms.{paren_target_form, simple_target_form, target_form}
+use Rattle.swc_ecma_codegen_syntax.specs.TargetForms.{paren_target_form, simple_target_form}
 use Rattle.swc_ecma_codegen_syntax.specs.Derives.{Derives, fixed, part, simple, both, provided}
-use Rattle.swc_ecma_codegen_uniqueness.specs.ParseTrees.{ParseTree, End, Read, Ident as a_name, Lit as a_literal, MetaProp, Paren, is_known, simple_target_variant, target_variant}
+use Rattle.swc_ecma_codegen_uniqueness.specs.ParseTrees.{ParseTree, End, Read, Ident as a_name, Lit as a_literal, MetaProp, Paren, simple_target_variant}
 use Rattle.swc_ecma_codegen_uniqueness.specs.Parses.{placed, is_inlined}
 use Rattle.swc_ecma_codegen_uniqueness.proofs.Tables.{LiteralToken, class, started}
 use Rattle.swc_ecma_codegen_uniqueness.proofs.TableLaws.{is_place, starts}
 use Rattle.swc_ecma_codegen_uniqueness.proofs.Machine.{Whole, Good}
 use Rattle.swc_ecma_codegen_uniqueness.proofs.Shapes.{atom, parenthesized, new_target, import_meta}
 use Rattle.swc_ecma_codegen_uniqueness.proofs.Reading.{read_phrase, derived_parse}
-use Rattle.swc_ecma_codegen_uniqueness.proofs.Fits.{at_place, PlacedGood, AllGood}
+use Rattle.swc_ecma_codegen_uniqueness.proofs.Fits.{at_place, PlacedGood, AllGood, no_form}
 use Rattle.swc_ecma_codegen_uniqueness.proofs.Linking.{where_read, target_member_good, super_good}
 
 -- ---- names
@@ -151,32 +148,30 @@ meta_good s meta_props.ImportMeta ts g = import_meta
 
 -- ---- what is assigned to
 
-no_annotation : {s : Settings} (c : Parameters) (o : Option (TsTypeAnnBox AnyNode)) {ts : List Token} (d : Derives true s (annotation_form c o) ts) (rest : ParseTree) → derived_parse d rest ≡ rest
+pub no_annotation : {s : Settings} (c : Parameters) (o : Option (TsTypeAnnBox AnyNode)) {ts : List Token} (d : Derives true s (annotation_form c o) ts) (rest : ParseTree) → derived_parse d rest ≡ rest
 unfolding annotation_form is_met derived_parse read_phrase
 no_annotation c None (fixed g) rest = refl
 no_annotation c (Some n) (provided h d) rest = absurd (true≢false (sym h))
 
-binding_good : {s : Settings} (c : Parameters) (n : BindingIdent AnyNode) {ts : List Token} (d : Derives true s (binding_form c n) ts) → Good (Whole a_name nt.LeftHandSideExpression) (derived_parse d End)
+pub binding_read : {s : Settings} (c : Parameters) (n : BindingIdent AnyNode) {ts : List Token} (d : Derives true s (binding_form c n) ts) (rest : ParseTree) →
+    derived_parse d rest ≡ Read (tokens.name (name_value (spelled_name (string_bytes n.id.sym)))) rest
 unfolding binding_form derived_parse
-binding_good c n (provided h (both d e)) =
-    subst (λ z. Good (Whole a_name nt.LeftHandSideExpression) z) (sym (name_read c n.id d (derived_parse e End) ∙ ap (Read (tokens.name (name_value (spelled_name (string_bytes n.id.sym))))) (no_annotation c n.type_ann e End)))
-    (name_atom nt.LeftHandSideExpression refl (name_value (spelled_name (string_bytes n.id.sym))))
+binding_read c n (provided h (both d e)) rest = name_read c n.id d (derived_parse e rest) ∙ ap (Read (tokens.name (name_value (spelled_name (string_bytes n.id.sym))))) (no_annotation c n.type_ann e rest)
+
+pub binding_good : {s : Settings} (c : Parameters) (n : BindingIdent AnyNode) {ts : List Token} (d : Derives true s (binding_form c n) ts) → Good (Whole a_name nt.LeftHandSideExpression) (derived_parse d End)
+binding_good c n d = subst (λ z. Good (Whole a_name nt.LeftHandSideExpression) z) (sym (binding_read c n d End)) (name_atom nt.LeftHandSideExpression refl _)
 
 paren_target_good : {s : Settings} (c : Parameters) (n : ParenExpr AnyNode) {ts : List Token} (d : Derives true s (paren_target_form c n) ts) → AllGood d → s.minify ≡ c.minify → Good (Whole Paren nt.LeftHandSideExpression) (derived_parse d End)
 unfolding paren_target_form AllGood PlacedGood derived_parse read_phrase placed is_inlined
-paren_target_good c n (both (fixed g) (both (simple k (part a sa d)) (fixed h))) (x, (o, y)) m = parenthesized nt.LeftHandSideExpression refl (at_place sa (o m))
+paren_target_good c n (both (fixed g) (both (simple k (part a sa d)) (fixed h))) (x, (o, y)) m = parenthesized nt.LeftHandSideExpression refl (at_place _ _ sa (o m))
 
-simple_target_good : {s : Settings} (c : Parameters) (n : SimpleAssignTarget AnyNode) {ts : List Token} (d : Derives true s (simple_target_form c n) ts) → AllGood d → s.minify ≡ c.minify → is_known (simple_target_variant n) ≡ true →
+pub simple_target_good : {s : Settings} (c : Parameters) (n : SimpleAssignTarget AnyNode) {ts : List Token} (d : Derives true s (simple_target_form c n) ts) → AllGood d → s.minify ≡ c.minify →
     Good (Whole (simple_target_variant n) nt.LeftHandSideExpression) (derived_parse d End)
-unfolding simple_target_form simple_target_variant is_known
-simple_target_good c (simple_targets.Ident n) d o m k = binding_good c n d
-simple_target_good c (simple_targets.Member n) d o m k = target_member_good c n d o m
-simple_target_good c (simple_targets.SuperProp n) d o m k = super_good nt.LeftHandSideExpression refl c n d o m
-simple_target_good c (simple_targets.Paren n) d o m k = paren_target_good c n d o m
-simple_target_good c n d o m k = absurd (true≢false (sym k))
-
-pub target_good : {s : Settings} (comma : Bool) (c : Parameters) (n : AssignTarget AnyNode) {ts : List Token} (d : Derives true s (target_form comma c n) ts) → AllGood d → s.minify ≡ c.minify → is_known (target_variant n) ≡ true →
-    Good (Whole (target_variant n) nt.LeftHandSideExpression) (derived_parse d End)
-unfolding target_form target_variant is_known
-target_good comma c (targets.Simple n) d o m k = simple_target_good (of_targets c) n d o m k
-target_good comma c (targets.Pat n) d o m k = absurd (true≢false (sym k))
+unfolding simple_target_form simple_target_variant is_met
+simple_target_good c (simple_targets.Ident n) d o m = binding_good c n d
+simple_target_good c (simple_targets.Member n) d o m = target_member_good c n d o m
+simple_target_good c (simple_targets.SuperProp n) d o m = super_good nt.LeftHandSideExpression refl c n d o m
+simple_target_good c (simple_targets.Paren n) d o m = paren_target_good c n d o m
+simple_target_good c (simple_targets.OptChain n) (provided h d) o m = absurd (true≢false (sym h))
+simple_target_good c (simple_targets.Invalid n) (provided h d) o m = absurd (true≢false (sym h))
+simple_target_good c n d o m = absurd (no_form d)

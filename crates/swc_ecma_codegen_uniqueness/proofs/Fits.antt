@@ -1,25 +1,27 @@
 -- What is known of the parts of a derivation.
-use Rattle.std.proofs.Common.{◌≡◌, Bool, true, false, ◌||◌, List, refl}
+use Rattle.std.proofs.Common.{◌≡◌, Bool, true, false, ◌||◌, List, refl, sym, subst}
+use Rattle.std.proofs.lemmas.Bool.{true≢false}
 use Rattle.swc_ecma_codegen_tree.specs.declared.links.AnyNode.{AnyNode, out-AnyNode}
 use Rattle.swc_ecma_codegen_grammar.specs.Settings.{Settings}
 use Rattle.swc_ecma_codegen_grammar.specs.Tokens.{Token}
 use Rattle.swc_ecma_codegen_syntax.specs.declared.nonterminals.Nonterminal.{Nonterminal}
 use Rattle.swc_ecma_codegen_syntax.specs.Nonterminals.{takes, is_optional}
-use Rattle.swc_ecma_codegen_syntax.specs.Forms.{Form, stands as stands_there}
-use Rattle.swc_ecma_codegen_syntax.specs.NodeForms.{node_nonterminal}
+use Rattle.swc_ecma_codegen_syntax.specs.Forms.{Form, stands as stands_there, is_met}
+use Rattle.swc_ecma_codegen_syntax.specs.NodeForms.{missing_form, node_nonterminal}
 use Rattle.swc_ecma_codegen_syntax.specs.Derives.{Derives, fixed, part, simple, restricted, lone, lone_in_parentheses, both, provided, closed, comma_closed, followed, bare}
 use Rattle.swc_ecma_codegen_uniqueness.specs.ParseTrees.{Variant, ParseTree, End, is_known, node_variant}
 use Rattle.swc_ecma_codegen_uniqueness.specs.Parses.{is_inlined}
-use Rattle.swc_ecma_codegen_uniqueness.proofs.TableLaws.{is_place}
+use Rattle.swc_ecma_codegen_uniqueness.proofs.TableLaws.{is_place, is_sequence, cover, cover_taken}
 use Rattle.swc_ecma_codegen_uniqueness.proofs.Machine.{Whole, Good}
-use Rattle.swc_ecma_codegen_uniqueness.proofs.Shapes.{is_chain, Operand}
+use Rattle.swc_ecma_codegen_uniqueness.proofs.Shapes.{is_chain, is_several, Operand}
 use Rattle.swc_ecma_codegen_uniqueness.proofs.Reading.{derived_parse}
 
--- a node is read as it is
+-- a node is read as it is, in the place of the nonterminal that covers it
 pub record Fit (variant : Variant) (n : Nonterminal) (inside : ParseTree) : Type 0 where
   pub known : is_known variant ≡ true
   pub own : is_place n ≡ false
   pub chain : is_chain variant ≡ is_optional n
+  pub several : is_several variant ≡ is_sequence n
   pub good : Good (Whole variant n) inside
 
 or_same : (b : Bool) → (b || false) ≡ true → b ≡ true
@@ -31,10 +33,10 @@ unfolding stands_there
 taken_at place n h = or_same (takes place n) h
 
 pub in_place : {place n : Nonterminal} {variant : Variant} {inside : ParseTree} → takes place n ≡ true → Fit variant n inside → Operand place variant inside
-in_place {n = n} h fit = record { of = n; taken = h; own = fit.own; chain = fit.chain; good = fit.good }
+in_place {n = n} h fit = record { of = n; taken = h; own = fit.own; chain = fit.chain; several = fit.several; good = fit.good }
 
-pub at_place : {place n : Nonterminal} {variant : Variant} {inside : ParseTree} → stands_there true place n ≡ true → Fit variant n inside → Operand place variant inside
-at_place {place = place} {n = n} h fit = in_place (taken_at place n h) fit
+pub at_place : (place n : Nonterminal) {variant : Variant} {inside : ParseTree} → stands_there true place n ≡ true → Fit variant (cover n) inside → Operand (cover place) variant inside
+at_place place n h fit = in_place (cover_taken place n (taken_at place n h)) fit
 
 unfoldable pub PlacedGood : Bool → Type 0 → Type 0 → Type 0
 PlacedGood true fit inside = inside
@@ -44,7 +46,7 @@ PlacedGood false fit inside = fit
 unfoldable pub AllGood : {s : Settings} {a : Form AnyNode} {ts : List Token} → Derives true s a ts → Type 0
 AllGood (fixed g) = Unit {0}
 AllGood {s = s} (part {c = c} {role = role} {n = n} called st d) =
-    PlacedGood (is_inlined role) (s.minify ≡ c.minify → Fit (node_variant (out-AnyNode n) role) (node_nonterminal called c (out-AnyNode n) role) (derived_parse d End)) (AllGood d)
+    PlacedGood (is_inlined role (out-AnyNode n)) (s.minify ≡ c.minify → Fit (node_variant (out-AnyNode n) role) (cover (node_nonterminal called c (out-AnyNode n) role)) (derived_parse d End)) (AllGood d)
 AllGood (simple h d) = AllGood d
 AllGood (restricted h d) = AllGood d
 AllGood (lone h d) = AllGood d
@@ -55,3 +57,11 @@ AllGood closed = Unit {0}
 AllGood comma_closed = Unit {0}
 AllGood (followed d) = AllGood d
 AllGood (bare d) = AllGood d
+
+pub moved : {a b : Nonterminal} {variant : Variant} {p : ParseTree} → a ≡ b → Operand a variant p → Operand b variant p
+moved {variant = variant} {p = p} e o = subst (λ z. Operand z variant p) e o
+
+-- what has no production derives nothing
+pub no_form : {s : Settings} {ts : List Token} → Derives true s missing_form ts → ⊥
+unfolding is_met
+no_form (provided h d) = true≢false (sym h)

@@ -9,7 +9,12 @@ use Rattle.swc_ecma_codegen_tree.specs.declared.exprs.Expr.TheVariants as exprs
 use Rattle.swc_ecma_codegen_tree.specs.declared.parts.ExprPart.TheVariants as expr_parts
 use Rattle.swc_ecma_codegen_tree.specs.declared.pats.AssignTarget.{AssignTarget}
 use Rattle.swc_ecma_codegen_tree.specs.declared.pats.AssignTarget.TheVariants as targets
+use Rattle.swc_ecma_codegen_tree.specs.declared.pats.AssignTargetPat.TheVariants as target_pats
+use Rattle.swc_ecma_codegen_tree.specs.declared.pats.Pat.{Pat}
+use Rattle.swc_ecma_codegen_tree.specs.declared.pats.Pat.TheVariants as pats
 use Rattle.swc_ecma_codegen_tree.specs.declared.pats.SimpleAssignTarget.TheVariants as simple_targets
+use Rattle.swc_ecma_codegen_tree.specs.declared.stmts.Stmt.{Stmt}
+use Rattle.swc_ecma_codegen_tree.specs.declared.stmts.Stmt.TheVariants as stmts
 use Rattle.swc_ecma_codegen_grammar.specs.Phrases.{Phrase, Never, Nothing, One, NameOf, KeyOf, PrivateOf, TagNameOf, Then, CommaBefore, OptionalParentheses, Chosen, Generates, chosen, close_parenthesis}
 use Rattle.swc_ecma_codegen_grammar.specs.ExprPhrases.{this_expr, meta_prop_expr}
 use Rattle.swc_ecma_codegen_grammar.specs.NamePhrases.{private_name}
@@ -17,30 +22,33 @@ use Rattle.swc_ecma_codegen_grammar.specs.Settings.{Settings}
 use Rattle.swc_ecma_codegen_grammar.specs.Tokens.{Token, word}
 use Rattle.swc_ecma_codegen_grammar.specs.Tokens as tokens
 use Rattle.swc_ecma_codegen_grammar.specs.declared.roles.Role.{Role}
-use Rattle.swc_ecma_codegen_grammar.specs.declared.roles.Role.TheVariants.{Expression, Callee, AssignmentTarget}
+use Rattle.swc_ecma_codegen_grammar.specs.declared.roles.Role.TheVariants.{Expression, Callee, Statement, Pattern, AssignmentTarget}
 use Rattle.swc_ecma_codegen_syntax.specs.declared.nonterminals.Nonterminal.{Nonterminal}
 use Rattle.swc_ecma_codegen_syntax.specs.declared.nonterminals.Nonterminal.TheVariants as nt
 use Rattle.swc_ecma_codegen_syntax.specs.declared.parameters.Parameters.{Parameters}
 use Rattle.swc_ecma_codegen_syntax.specs.Nonterminals.{is_optional}
 use Rattle.swc_ecma_codegen_syntax.specs.Forms.{Form}
 use Rattle.swc_ecma_codegen_syntax.specs.CallForms.{new_nonterminal, has_arguments}
+use Rattle.swc_ecma_codegen_syntax.specs.PatForms.{pat_nonterminal}
 use Rattle.swc_ecma_codegen_syntax.specs.TargetForms.{target_nonterminal}
 use Rattle.swc_ecma_codegen_syntax.specs.ExprForms.{expr_form, expr_nonterminal, call_or_member}
 use Rattle.swc_ecma_codegen_syntax.specs.NodeForms.{node_form, node_nonterminal, part_form, part_nonterminal}
 use Rattle.swc_ecma_codegen_syntax.specs.Derives.{Derives, fixed, part, simple, restricted, lone, lone_in_parentheses, both, provided, closed, comma_closed, followed, bare}
-use Rattle.swc_ecma_codegen_uniqueness.specs.ParseTrees.{Variant, ParseTree, End, Read, This, Bin, Member, New, TaggedTpl, PrivateName, is_known, AreKnown, expr_variant, simple_target_variant, target_variant, part_variant, node_variant}
-use Rattle.swc_ecma_codegen_uniqueness.specs.Parses.{placed, is_inlined, read_all}
+use Rattle.swc_ecma_codegen_uniqueness.specs.ParseTrees.{Variant, ParseTree, End, Read, Optional, This, Bin, Member, New, TaggedTpl, PrivateName, is_known, AreKnown, expr_variant, simple_target_variant, target_pat_variant, target_variant, pat_variant, stmt_variant, part_variant, node_variant}
+use Rattle.swc_ecma_codegen_uniqueness.specs.Parses.{placed, is_inlined, is_inlined_pattern, read_all}
 use Rattle.swc_ecma_codegen_uniqueness.proofs.Tables.{Level, Power, made}
-use Rattle.swc_ecma_codegen_uniqueness.proofs.TableLaws.{is_place}
+use Rattle.swc_ecma_codegen_uniqueness.proofs.TableLaws.{is_place, is_sequence, cover}
 use Rattle.swc_ecma_codegen_uniqueness.proofs.Machine.{Whole, Good}
-use Rattle.swc_ecma_codegen_uniqueness.proofs.Shapes.{is_chain, atom}
+use Rattle.swc_ecma_codegen_uniqueness.proofs.Shapes.{is_chain, is_several, atom}
 use Rattle.swc_ecma_codegen_uniqueness.proofs.Reading.{read_phrase, derived_parse}
-use Rattle.swc_ecma_codegen_uniqueness.proofs.Fits.{Fit, PlacedGood, AllGood}
-use Rattle.swc_ecma_codegen_uniqueness.proofs.Operators.{level, binary_made, renamed, unary_good, update_good, bin_good, cond_good, assign_good, yield_good, await_good, seq_good, paren_good}
+use Rattle.swc_ecma_codegen_uniqueness.proofs.Fits.{Fit, PlacedGood, AllGood, no_form}
+use Rattle.swc_ecma_codegen_uniqueness.proofs.Operators.{level, binary_made, unary_good, update_good, bin_good, cond_good, assign_good, yield_good, await_good, seq_good, paren_good}
 use Rattle.swc_ecma_codegen_uniqueness.proofs.Objects.{object_good}
 use Rattle.swc_ecma_codegen_uniqueness.proofs.Lists.{array_good, call_good, new_good}
 use Rattle.swc_ecma_codegen_uniqueness.proofs.Linking.{member_good, super_good, template_good, tag_good, chain_good}
-use Rattle.swc_ecma_codegen_uniqueness.proofs.Atoms.{name_good, lit_good, meta_good, target_good}
+use Rattle.swc_ecma_codegen_uniqueness.proofs.Atoms.{name_good, lit_good, meta_good}
+use Rattle.swc_ecma_codegen_uniqueness.proofs.Patterns.{pat_good, target_good}
+use Rattle.swc_ecma_codegen_uniqueness.proofs.Arrows.{arrow_good}
 
 -- ---- an expression
 
@@ -78,82 +86,90 @@ expr_good keeps called c (exprs.Await n) d o m k = await_good c n d o m
 expr_good keeps called c (exprs.Paren n) d o m k = paren_good c n d o m
 expr_good keeps called c (exprs.PrivateName n) (fixed g) o m k = private_good _
 expr_good keeps called c (exprs.OptChain n) d o m k = chain_good c n d o m
-expr_good keeps called c n d o m k = absurd (true≢false (sym k))
+expr_good keeps called c (exprs.Arrow n) d o m k = arrow_good c n.value d o m
+expr_good keeps called c (exprs.Fn n) d o m k = absurd (true≢false (sym k))
+expr_good keeps called c (exprs.Class n) d o m k = absurd (true≢false (sym k))
+expr_good keeps called c (exprs.JSXElement n) d o m k = absurd (true≢false (sym k))
+expr_good keeps called c (exprs.JSXFragment n) d o m k = absurd (true≢false (sym k))
+expr_good keeps called c n d o m k = absurd (no_form d)
 
 -- ---- what its nonterminal and its variant say of it
 
+abbrev Signs : Variant → Nonterminal → Type 0
+Signs variant n = (is_place n ≡ false) × (is_chain variant ≡ is_optional n) × (is_several variant ≡ is_sequence n)
+
+-- it is no pattern either
 abbrev Agree : Variant → Nonterminal → Type 0
-Agree variant n = (is_place n ≡ false) × (is_chain variant ≡ is_optional n)
+Agree variant n = Signs variant n × (cover n ≡ n)
 
 made_agrees : (l : Level) → Agree Bin (made l)
 unfolding is_optional
-made_agrees Power = (refl, refl)
-made_agrees l = (refl, refl)
+made_agrees Power = ((refl, refl, refl), refl)
+made_agrees l = ((refl, refl, refl), refl)
 
-called_agrees : (variant : Variant) → is_chain variant ≡ false → (called : Bool) → Agree variant (call_or_member called)
+called_agrees : (variant : Variant) → is_chain variant ≡ false → is_several variant ≡ false → (called : Bool) → Agree variant (call_or_member called)
 unfolding is_optional
-called_agrees variant h true = (refl, h)
-called_agrees variant h false = (refl, h)
+called_agrees variant h k true = ((refl, h, k), refl)
+called_agrees variant h k false = ((refl, h, k), refl)
 
 new_agrees : (b : Bool) → Agree New (if b then nt.MemberExpression else nt.NewExpression)
 unfolding is_optional
-new_agrees true = (refl, refl)
-new_agrees false = (refl, refl)
+new_agrees true = ((refl, refl, refl), refl)
+new_agrees false = ((refl, refl, refl), refl)
 
 expr_agrees : {X : Type 0} (keeps called : Bool) (c : Parameters) (n : Expr X) → is_known (expr_variant n) ≡ true → Agree (expr_variant n) (expr_nonterminal keeps called c n)
 unfolding expr_nonterminal expr_variant is_known is_optional new_nonterminal
 expr_agrees keeps called c (exprs.Bin n) k = subst (Agree Bin) (sym (binary_made n.op)) (made_agrees (level n.op))
-expr_agrees keeps called c (exprs.Member n) k = called_agrees Member refl called
-expr_agrees keeps called c (exprs.TaggedTpl n) k = called_agrees TaggedTpl refl called
+expr_agrees keeps called c (exprs.Member n) k = called_agrees Member refl refl called
+expr_agrees keeps called c (exprs.TaggedTpl n) k = called_agrees TaggedTpl refl refl called
 expr_agrees keeps called c (exprs.New n) k = new_agrees (has_arguments c keeps n.args)
-expr_agrees keeps called c (exprs.Array n) k = (refl, refl)
-expr_agrees keeps called c (exprs.Object n) k = (refl, refl)
-expr_agrees keeps called c (exprs.This n) k = (refl, refl)
-expr_agrees keeps called c (exprs.Unary n) k = (refl, refl)
-expr_agrees keeps called c (exprs.Update n) k = (refl, refl)
-expr_agrees keeps called c (exprs.Assign n) k = (refl, refl)
-expr_agrees keeps called c (exprs.SuperProp n) k = (refl, refl)
-expr_agrees keeps called c (exprs.Cond n) k = (refl, refl)
-expr_agrees keeps called c (exprs.Call n) k = (refl, refl)
-expr_agrees keeps called c (exprs.Seq n) k = (refl, refl)
-expr_agrees keeps called c (exprs.Ident n) k = (refl, refl)
-expr_agrees keeps called c (exprs.Lit n) k = (refl, refl)
-expr_agrees keeps called c (exprs.Tpl n) k = (refl, refl)
-expr_agrees keeps called c (exprs.Yield n) k = (refl, refl)
-expr_agrees keeps called c (exprs.MetaProp n) k = (refl, refl)
-expr_agrees keeps called c (exprs.Await n) k = (refl, refl)
-expr_agrees keeps called c (exprs.Paren n) k = (refl, refl)
-expr_agrees keeps called c (exprs.PrivateName n) k = (refl, refl)
-expr_agrees keeps called c (exprs.OptChain n) k = (refl, refl)
-expr_agrees keeps called c n k = absurd (true≢false (sym k))
+expr_agrees keeps called c (exprs.Fn n) k = absurd (true≢false (sym k))
+expr_agrees keeps called c (exprs.Class n) k = absurd (true≢false (sym k))
+expr_agrees keeps called c (exprs.JSXElement n) k = absurd (true≢false (sym k))
+expr_agrees keeps called c (exprs.JSXFragment n) k = absurd (true≢false (sym k))
+expr_agrees keeps called c n k = ((refl, refl, refl), refl)
 
-target_agrees : {X : Type 0} (n : AssignTarget X) → is_known (target_variant n) ≡ true → Agree (target_variant n) (target_nonterminal n)
-unfolding target_nonterminal target_variant simple_target_variant is_known is_optional
-target_agrees (targets.Simple (simple_targets.Ident n)) k = (refl, refl)
-target_agrees (targets.Simple (simple_targets.Member n)) k = (refl, refl)
-target_agrees (targets.Simple (simple_targets.SuperProp n)) k = (refl, refl)
-target_agrees (targets.Simple (simple_targets.Paren n)) k = (refl, refl)
-target_agrees (targets.Simple n) k = absurd (true≢false (sym k))
-target_agrees (targets.Pat n) k = absurd (true≢false (sym k))
+target_signs : {X : Type 0} (n : AssignTarget X) → Signs (target_variant n) nt.LeftHandSideExpression
+unfolding target_variant simple_target_variant target_pat_variant is_optional
+target_signs (targets.Simple (simple_targets.Ident n)) = (refl, refl, refl)
+target_signs (targets.Simple n) = (refl, refl, refl)
+target_signs (targets.Pat (target_pats.Array n)) = (refl, refl, refl)
+target_signs (targets.Pat n) = (refl, refl, refl)
 
-target_made : {X : Type 0} (n : AssignTarget X) → is_known (target_variant n) ≡ true → target_nonterminal n ≡ nt.LeftHandSideExpression
-unfolding target_nonterminal target_variant is_known
-target_made (targets.Simple n) k = refl
-target_made (targets.Pat n) k = absurd (true≢false (sym k))
+target_covered : {X : Type 0} (n : AssignTarget X) → cover (target_nonterminal n) ≡ nt.LeftHandSideExpression
+unfolding target_nonterminal
+target_covered (targets.Simple n) = refl
+target_covered (targets.Pat n) = refl
 
-fit : {variant : Variant} {n : Nonterminal} {p : ParseTree} → is_known variant ≡ true → Agree variant n → Good (Whole variant n) p → Fit variant n p
-fit k a g = record { known = k; own = a.0; chain = a.1; good = g }
+pat_signs : {X : Type 0} (n : Pat X) → Signs (pat_variant n) (cover (pat_nonterminal n))
+unfolding pat_variant pat_nonterminal is_optional
+pat_signs (pats.Ident n) = (refl, refl, refl)
+pat_signs n = (refl, refl, refl)
+
+fit_at : {variant : Variant} {n : Nonterminal} {p : ParseTree} → is_known variant ≡ true → Signs variant n → Good (Whole variant n) p → Fit variant n p
+fit_at k a g = record { known = k; own = a.0; chain = a.1; several = a.2; good = g }
+
+fit : {variant : Variant} {n : Nonterminal} {p : ParseTree} → is_known variant ≡ true → Agree variant n → Good (Whole variant n) p → Fit variant (cover n) p
+fit {variant = variant} {p = p} k a g = subst (λ z. Fit variant z p) (sym a.1) (fit_at k a.0 g)
 
 -- ---- a node in a role
 
--- an expression, what is called, what is assigned to
-node_good : {s : Settings} (k : Bool) (c : Parameters) (y : AnyNode-F AnyNode) (role : Role) {ts : List Token} (d : Derives true s (node_form k c y role) ts) → AllGood d → s.minify ≡ c.minify → is_known (node_variant y role) ≡ true →
-    Fit (node_variant y role) (node_nonterminal k c y role) (derived_parse d End)
-unfolding node_form node_nonterminal node_variant part_form part_nonterminal part_variant is_known
-node_good k c (nodes.Expr n) Expression d o m h = fit h (expr_agrees false k c n h) (expr_good false k c n d o m h)
-node_good k c (nodes.Expr n) Callee d o m h = fit h (expr_agrees true k c n h) (expr_good true k c n d o m h)
-node_good k c (nodes.ExprPart (expr_parts.AssignTarget n)) AssignmentTarget d o m h = fit h (target_agrees n h) (renamed (target_made n h) (target_good k c n d o m h))
-node_good k c y role d o m h = absurd (true≢false (sym h))
+no_stmt : {X : Type 0} (n : Stmt X) → is_known (stmt_variant n) ≡ true → ⊥
+unfolding stmt_variant is_known
+no_stmt (stmts.Empty n) h = true≢false (sym h)
+no_stmt n h = true≢false (sym h)
+
+-- an expression, what is called, what is assigned to, a pattern
+node_good : {s : Settings} (k : Bool) (c : Parameters) (y : AnyNode-F AnyNode) (role : Role) {ts : List Token} (d : Derives true s (node_form k c y role) ts) → AllGood d → s.minify ≡ c.minify → is_inlined role y ≡ false →
+    is_known (node_variant y role) ≡ true → Fit (node_variant y role) (cover (node_nonterminal k c y role)) (derived_parse d End)
+unfolding node_form node_nonterminal node_variant part_form part_nonterminal part_variant is_inlined is_inlined_pattern is_known
+node_good k c (nodes.Expr n) Expression d o m i h = fit h (expr_agrees false k c n h) (expr_good false k c n d o m h)
+node_good k c (nodes.Expr n) Callee d o m i h = fit h (expr_agrees true k c n h) (expr_good true k c n d o m h)
+node_good k c (nodes.ExprPart (expr_parts.AssignTarget n)) AssignmentTarget d o m i h =
+    subst (λ z. Fit (target_variant n) z (derived_parse d End)) (sym (target_covered n)) (fit_at h (target_signs n) (target_good k c n d o m))
+node_good k c (nodes.ExprPart (expr_parts.Pat n)) Pattern d o m i h = fit_at h (pat_signs n) (pat_good k c n d o m i)
+node_good k c (nodes.Stmt n) Statement d o m i h = absurd (no_stmt n h)
+node_good k c y role d o m i h = absurd (true≢false (sym h))
 
 -- ---- a derivation
 
@@ -175,24 +191,24 @@ phrase_known s (Then a b) ts (us, vs, x, y, e) rest k = phrase_known s b vs y re
 phrase_known s (CommaBefore close) ts (inl e) rest k = k
 phrase_known s (CommaBefore close) ts (inr e) rest k = k
 phrase_known s (OptionalParentheses a) ts (inl x) rest k = phrase_known s a ts x rest k
-phrase_known s (OptionalParentheses a) ts (inr (us, x, e)) rest k = phrase_known s a us x (Read close_parenthesis rest) k
+phrase_known s (OptionalParentheses a) ts (inr (us, x, e)) rest k = phrase_known s a us x (Optional close_parenthesis rest) k
 phrase_known s (Chosen choice) ts g rest k = all_known (chosen s choice) rest k
 
-placed_known : {s : Settings} (b k : Bool) (c : Parameters) (y : AnyNode-F AnyNode) (role : Role) {ts : List Token} (d : Derives true s (node_form k c y role) ts) →
+placed_known : {s : Settings} (b k : Bool) (c : Parameters) (y : AnyNode-F AnyNode) (role : Role) {ts : List Token} (d : Derives true s (node_form k c y role) ts) → is_inlined role y ≡ b →
     ((rest : ParseTree) → AreKnown (derived_parse d rest) → AllGood d × AreKnown rest) → (rest : ParseTree) → AreKnown (placed b (node_variant y role) (derived_parse d) rest) →
-    PlacedGood b (s.minify ≡ c.minify → Fit (node_variant y role) (node_nonterminal k c y role) (derived_parse d End)) (AllGood d) × AreKnown rest
+    PlacedGood b (s.minify ≡ c.minify → Fit (node_variant y role) (cover (node_nonterminal k c y role)) (derived_parse d End)) (AllGood d) × AreKnown rest
 unfolding placed PlacedGood AreKnown
-placed_known true k c y role d h rest q = h rest q
-placed_known false k c y role d h rest (e, q, r) = ((λ m. node_good k c y role d (h End q).0 m e), r)
+placed_known true k c y role d i h rest q = h rest q
+placed_known false k c y role d i h rest (e, q, r) = ((λ m. node_good k c y role d (h End q).0 m i e), r)
 
 pub all_good : {s : Settings} {a : Form AnyNode} {ts : List Token} (d : Derives true s a ts) (rest : ParseTree) → AreKnown (derived_parse d rest) → AllGood d × AreKnown rest
 unfolding derived_parse AllGood AreKnown
 all_good {s = s} (fixed {p = p} {ts = ts} g) rest k = (tt, phrase_known s p ts g rest k)
-all_good (part {c = c} {role = role} {n = n} called st d) rest k = placed_known (is_inlined role) called c (out-AnyNode n) role d (all_good d) rest k
+all_good (part {c = c} {role = role} {n = n} called st d) rest k = placed_known (is_inlined role (out-AnyNode n)) called c (out-AnyNode n) role d refl (all_good d) rest k
 all_good (simple h d) rest k = all_good d rest k
 all_good (restricted h d) rest k = all_good d rest k
 all_good (lone h d) rest k = all_good d rest k
-all_good (lone_in_parentheses d) rest k = all_good d (Read close_parenthesis rest) k
+all_good (lone_in_parentheses d) rest k = all_good d (Optional close_parenthesis rest) k
 all_good (both d e) rest k =
     let x = all_good d (derived_parse e rest) k in
     let y = all_good e rest x.1 in

@@ -1,3 +1,4 @@
+pub mod Arrows
 pub mod Atoms
 pub mod Fits
 pub mod Layers
@@ -8,8 +9,8 @@ pub mod Objects
 pub mod Operators
 pub mod Parsed
 pub mod ParseLaws
+pub mod Patterns
 pub mod Reading
-pub mod Settled
 pub mod Shapes
 pub mod TableLaws
 pub mod Tables

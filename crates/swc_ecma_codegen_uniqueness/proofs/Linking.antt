@@ -40,7 +40,7 @@ use Rattle.swc_ecma_codegen_syntax.specs.MemberForms.{expr_part, computed_form, 
 use Rattle.swc_ecma_codegen_syntax.specs.CallForms.{chain_call_form}
 use Rattle.swc_ecma_codegen_syntax.specs.TemplateForms.{tpl_rest_form, tpl_parts_form, tpl_form}
 use Rattle.swc_ecma_codegen_syntax.specs.ExprForms.{call_or_member}
-use Rattle.swc_ecma_codegen_syntax.specs.NodeForms.{missing_form, node_form, part_form, stmt_part_form, jsx_part_form}
+use Rattle.swc_ecma_codegen_syntax.specs.NodeForms.{node_form, part_form, stmt_part_form, jsx_part_form}
 use Rattle.swc_ecma_codegen_syntax.specs.Derives.{Derives, fixed, part, both, provided}
 use Rattle.swc_ecma_codegen_uniqueness.specs.ParseTrees.{Variant, ParseTree, End, Read, Node, Member, Call, SuperProp as a_super, Tpl as a_template, TaggedTpl as a_tag, OptChain}
 use Rattle.swc_ecma_codegen_uniqueness.specs.Parses.{placed, is_inlined}
@@ -49,7 +49,7 @@ use Rattle.swc_ecma_codegen_uniqueness.proofs.TableLaws.{is_place, Linked, a_mem
 use Rattle.swc_ecma_codegen_uniqueness.proofs.Machine.{Mode, Whole, Rest, Good}
 use Rattle.swc_ecma_codegen_uniqueness.proofs.Shapes.{Operand, ended, member_named, member_indexed, chain_named, chain_indexed, chain_called, chained_not, chained_so, plain_member, plain_call, plain_callee, of_a_chain, super_named, super_indexed, template_next, untagged, tagged}
 use Rattle.swc_ecma_codegen_uniqueness.proofs.Reading.{read_phrase, derived_parse}
-use Rattle.swc_ecma_codegen_uniqueness.proofs.Fits.{at_place, PlacedGood, AllGood}
+use Rattle.swc_ecma_codegen_uniqueness.proofs.Fits.{at_place, PlacedGood, AllGood, no_form}
 use Rattle.swc_ecma_codegen_uniqueness.proofs.Lists.{no_types, argued_as, argued_call, arguments_good, name_is_name, private_is_name, prop_good}
 
 -- ---- members and what `super` has
@@ -57,20 +57,20 @@ use Rattle.swc_ecma_codegen_uniqueness.proofs.Lists.{no_types, argued_as, argued
 pub member_good : {s : Settings} (called : Bool) (c : Parameters) (n : MemberExpr AnyNode) {ts : List Token} (d : Derives true s (member_form (call_or_member called) c n) ts) → AllGood d → s.minify ≡ c.minify →
     Good (Whole Member (call_or_member called)) (derived_parse d End)
 unfolding member_form AllGood PlacedGood derived_parse placed is_inlined
-member_good true c n (both (part a sa d) e) (o, q) m = let x = at_place sa (o m) in prop_good Member c n.prop e q m of_call (chained_not _ Member (plain_call x)) x
-member_good false c n (both (part a sa d) e) (o, q) m = let x = at_place sa (o m) in prop_good Member c n.prop e q m a_member (chained_not _ Member (plain_member x)) x
+member_good true c n (both (part a sa d) e) (o, q) m = let x = at_place _ _ sa (o m) in prop_good Member c n.prop e q m of_call (chained_not _ Member (plain_call x)) x
+member_good false c n (both (part a sa d) e) (o, q) m = let x = at_place _ _ sa (o m) in prop_good Member c n.prop e q m a_member (chained_not _ Member (plain_member x)) x
 
 -- the same of what is assigned to
 pub target_member_good : {s : Settings} (c : Parameters) (n : MemberExpr AnyNode) {ts : List Token} (d : Derives true s (member_form nt.CallOrMember c n) ts) → AllGood d → s.minify ≡ c.minify →
     Good (Whole Member nt.LeftHandSideExpression) (derived_parse d End)
 unfolding member_form AllGood PlacedGood derived_parse placed is_inlined
-target_member_good c n (both (part a sa d) e) (o, q) m = let x = at_place sa (o m) in prop_good Member c n.prop e q m a_target (chained_not _ Member (plain_callee x)) x
+target_member_good c n (both (part a sa d) e) (o, q) m = let x = at_place _ _ sa (o m) in prop_good Member c n.prop e q m a_target (chained_not _ Member (plain_callee x)) x
 
 super_by : {s : Settings} (n : Nonterminal) → is_place n ≡ false → (c : Parameters) (prop : SuperProp AnyNode) {ts us : List Token} (g : Derives true s (Fixed (phrases.word (codes "super"))) us) (d : Derives true s (super_form c prop) ts) → AllGood d →
     s.minify ≡ c.minify → Good (Whole a_super n) (derived_parse g (derived_parse d End))
 unfolding super_form computed_form ident_name AllGood PlacedGood derived_parse read_phrase placed is_inlined
 super_by n h c (super_props.Ident x) (fixed k) (fixed g) o m = super_named _ n h (name_is_name _)
-super_by n h c (super_props.Computed x) (fixed k) (both (fixed g) (both (part a sa d) (fixed e))) (y, (o, z)) m = super_indexed n h (at_place sa (o m))
+super_by n h c (super_props.Computed x) (fixed k) (both (fixed g) (both (part a sa d) (fixed e))) (y, (o, z)) m = super_indexed n h (at_place _ _ sa (o m))
 
 pub super_good : {s : Settings} (n : Nonterminal) → is_place n ≡ false → (c : Parameters) (x : SuperPropExpr AnyNode) {ts : List Token} (d : Derives true s (super_prop_form c x) ts) → AllGood d → s.minify ≡ c.minify →
     Good (Whole a_super n) (derived_parse d End)
@@ -95,7 +95,7 @@ rest_good variant n c with_tag [] [] h (fixed g) o m = ended variant n
 rest_good variant n c with_tag [] (q ∷ qs) h d o m = absurd (omega (arith, h))
 rest_good variant n c with_tag (e ∷ es) [] h d o m = absurd (omega (arith, h))
 rest_good variant n c with_tag (e ∷ es) (q ∷ qs) h (both (part a sa d) (both (fixed g) f)) (o, (x, r)) m =
-    part_rest (at_place sa (o m)) (where_read _ _ _ _ g (derived_parse f End)) (template_next variant n _ (is_some_listed qs) refl (at_place sa (o m)) (rest_good variant n c with_tag es qs (omega (arith, h)) f r m))
+    part_rest (at_place _ _ sa (o m)) (where_read _ _ _ _ g (derived_parse f End)) (template_next variant n _ (is_some_listed qs) refl (at_place _ _ sa (o m)) (rest_good variant n c with_tag es qs (omega (arith, h)) f r m))
 
 -- what begins with the first part of a template
 pub record Templated (variant : Variant) (n : Nonterminal) (m : ParseTree) : Type 0 where
@@ -123,11 +123,6 @@ tpl_good : {s : Settings} (variant : Variant) (n : Nonterminal) (c : Parameters)
     Templated variant n (derived_parse d End)
 unfolding tpl_form
 tpl_good variant n c with_tag x d o m = counted_good variant n c with_tag (is_counted x.exprs.items x.quasis.items) x.exprs.items x.quasis.items refl d o m
-
--- what has no production derives nothing
-no_form : {s : Settings} {ts : List Token} → Derives true s missing_form ts → ⊥
-unfolding is_met
-no_form (provided h d) = true≢false (sym h)
 
 -- in the place of a template stands one
 tagged_in : {s : Settings} (variant : Variant) (n : Nonterminal) (k : Bool) (c : Parameters) (y : AnyNode-F AnyNode) {ts : List Token} (d : Derives true s (node_form k c y TaggedTemplate) ts) → AllGood d → s.minify ≡ c.minify →
@@ -159,11 +154,11 @@ pub tag_good : {s : Settings} (called : Bool) (c : Parameters) (n : TaggedTpl An
     Good (Whole a_tag (call_or_member called)) (derived_parse d End)
 unfolding tagged_form AllGood PlacedGood derived_parse placed is_inlined
 tag_good true c n (both (part a sa d) (both t (part b sb e))) (o, (x, q)) m =
-    part_rest (at_place sa (o m)) (no_types c n.type_params t (derived_parse e End))
-    (tag_of of_call (at_place sa (o m)) (tagged_in a_tag nt.CallExpression b (with_in c) (out-AnyNode n.tpl.node.value) e q m))
+    part_rest (at_place _ _ sa (o m)) (no_types c n.type_params t (derived_parse e End))
+    (tag_of of_call (at_place _ _ sa (o m)) (tagged_in a_tag nt.CallExpression b (with_in c) (out-AnyNode n.tpl.node.value) e q m))
 tag_good false c n (both (part a sa d) (both t (part b sb e))) (o, (x, q)) m =
-    part_rest (at_place sa (o m)) (no_types c n.type_params t (derived_parse e End))
-    (tag_of a_member (at_place sa (o m)) (tagged_in a_tag nt.MemberExpression b (with_in c) (out-AnyNode n.tpl.node.value) e q m))
+    part_rest (at_place _ _ sa (o m)) (no_types c n.type_params t (derived_parse e End))
+    (tag_of a_member (at_place _ _ sa (o m)) (tagged_in a_tag nt.MemberExpression b (with_in c) (out-AnyNode n.tpl.node.value) e q m))
 
 -- ---- optional chains
 
@@ -173,20 +168,20 @@ unfolding chain_mark chain_prop_form computed_form ident_name private_name AllGo
 on_chain c (member_props.Ident n) (fixed k) (fixed g) o m x = member_named _ OptChain of_chain (name_is_name _) (chained_so _ Member (of_a_chain x)) x
 on_chain c (member_props.PrivateName n) (fixed k) (fixed g) o m x = member_named _ OptChain of_chain (private_is_name _) (chained_so _ Member (of_a_chain x)) x
 on_chain c (member_props.Computed n) (fixed k) (both (fixed g) (both (part a sa d) (fixed e))) (y, (o, v)) m x =
-    member_indexed OptChain of_chain (chained_so _ Member (of_a_chain x)) x (at_place sa (o m))
+    member_indexed OptChain of_chain (chained_so _ Member (of_a_chain x)) x (at_place _ _ sa (o m))
 
 to_chain : {s : Settings} {z : Variant} {p : ParseTree} (c : Parameters) (prop : MemberProp AnyNode) {ts us : List Token} (g : Derives true s (Fixed (chain_mark true prop)) us) (d : Derives true s (chain_prop_form c prop) ts) → AllGood d →
     s.minify ≡ c.minify → Operand nt.ChainBase z p → Good (Whole OptChain nt.OptionalExpression) (Node z p (derived_parse g (derived_parse d End)))
 unfolding chain_mark chain_prop_form computed_form ident_name private_name AllGood PlacedGood derived_parse read_phrase placed is_inlined
 to_chain c (member_props.Ident n) (fixed k) (fixed g) o m x = chain_named _ a_chain (name_is_name _) x
 to_chain c (member_props.PrivateName n) (fixed k) (fixed g) o m x = chain_named _ a_chain (private_is_name _) x
-to_chain c (member_props.Computed n) (fixed k) (both (fixed g) (both (part a sa d) (fixed e))) (y, (o, v)) m x = chain_indexed a_chain x (at_place sa (o m))
+to_chain c (member_props.Computed n) (fixed k) (both (fixed g) (both (part a sa d) (fixed e))) (y, (o, v)) m x = chain_indexed a_chain x (at_place _ _ sa (o m))
 
 chain_member_good : {s : Settings} (c : Parameters) (optional : Bool) (n : MemberExpr AnyNode) {ts : List Token} (d : Derives true s (chain_member_form c optional n) ts) → AllGood d → s.minify ≡ c.minify →
     Good (Whole OptChain nt.OptionalExpression) (derived_parse d End)
 unfolding chain_member_form AllGood PlacedGood derived_parse placed is_inlined
-chain_member_good c true n (both (part a sa d) (both g e)) (o, (x, q)) m = to_chain c n.prop g e q m (at_place sa (o m))
-chain_member_good c false n (both (part a sa d) (both g e)) (o, (x, q)) m = on_chain c n.prop g e q m (at_place sa (o m))
+chain_member_good c true n (both (part a sa d) (both g e)) (o, (x, q)) m = to_chain c n.prop g e q m (at_place _ _ sa (o m))
+chain_member_good c false n (both (part a sa d) (both g e)) (o, (x, q)) m = on_chain c n.prop g e q m (at_place _ _ sa (o m))
 
 chain_member_in : {s : Settings} (k : Bool) (c : Parameters) (optional : Bool) (y : AnyNode-F AnyNode) {ts : List Token} (d : Derives true s (node_form k c y (ChainMember optional)) ts) → AllGood d → s.minify ≡ c.minify →
     Good (Whole OptChain nt.OptionalExpression) (derived_parse d End)
@@ -202,10 +197,10 @@ chain_call_good : {s : Settings} (c : Parameters) (optional : Bool) (n : OptCall
 unfolding chain_call_form call_mark AllGood PlacedGood derived_parse read_phrase placed is_inlined
 chain_call_good c true n (both (part a sa d) (both (fixed g) (both t e))) (o, (x, (y, q))) m =
     let r = arguments_good OptChain nt.OptionalExpression c n.args.items e q m in
-    part_rest (at_place sa (o m)) (ap (Read (punctuator (codes "?."))) (no_types c n.type_args t (derived_parse e End) ∙ r.is)) (chain_called a_chain (at_place sa (o m)) r.good)
+    part_rest (at_place _ _ sa (o m)) (ap (Read (punctuator (codes "?."))) (no_types c n.type_args t (derived_parse e End) ∙ r.is)) (chain_called a_chain (at_place _ _ sa (o m)) r.good)
 chain_call_good c false n (both (part a sa d) (both (fixed g) (both t e))) (o, (x, (y, q))) m =
     let r = arguments_good OptChain nt.OptionalExpression c n.args.items e q m in
-    let v = at_place sa (o m) in
+    let v = at_place _ _ sa (o m) in
     argued_call calls_on (chained_so _ Call (of_a_chain v)) v (argued_as (no_types c n.type_args t (derived_parse e End)) r)
 
 chain_call_in : {s : Settings} (k : Bool) (c : Parameters) (optional : Bool) (y : AnyNode-F AnyNode) {ts : List Token} (d : Derives true s (node_form k c y (ChainCall optional)) ts) → AllGood d → s.minify ≡ c.minify →

@@ -34,12 +34,12 @@ use Rattle.swc_ecma_codegen_syntax.specs.CallForms.{argument_form, elements_form
 use Rattle.swc_ecma_codegen_syntax.specs.Derives.{Derives, fixed, part, both, provided}
 use Rattle.swc_ecma_codegen_uniqueness.specs.ParseTrees.{Variant, ParseTree, End, Read, Node, Array, Member, Call, New}
 use Rattle.swc_ecma_codegen_uniqueness.specs.Parses.{placed, is_inlined, read_all}
-use Rattle.swc_ecma_codegen_uniqueness.proofs.Tables.{Control, Arguments, Elements, Shift, decide, shift, chained}
-use Rattle.swc_ecma_codegen_uniqueness.proofs.TableLaws.{Linked, Calling, calls}
+use Rattle.swc_ecma_codegen_uniqueness.proofs.Tables.{Control, Arguments, Shift, decide, shift, chained}
+use Rattle.swc_ecma_codegen_uniqueness.proofs.TableLaws.{Linked, Calling, calls, cover}
 use Rattle.swc_ecma_codegen_uniqueness.proofs.Machine.{Whole, Rest, Good}
-use Rattle.swc_ecma_codegen_uniqueness.proofs.Shapes.{Operand, After, part_then, takes_self, IsName, dots_then, arguments_closed, argument_next, no_arguments, elements_closed, element_next, hole_then, no_elements, array, member_named, member_indexed, called, chained_not, plain_callee, import_called, super_called, new_alone, new_with}
+use Rattle.swc_ecma_codegen_uniqueness.proofs.Shapes.{Operand, After, part_then, takes_self, IsName, dots_then, arguments_closed, argument_next, no_arguments, InElements, BehindElement, BehindHole, element_then, spread_element, elements_closed, element_next, hole_then, no_elements, array, member_named, member_indexed, called, chained_not, plain_callee, import_called, super_called, new_alone, new_with}
 use Rattle.swc_ecma_codegen_uniqueness.proofs.Reading.{read_phrase, derived_parse}
-use Rattle.swc_ecma_codegen_uniqueness.proofs.Fits.{at_place, PlacedGood, AllGood}
+use Rattle.swc_ecma_codegen_uniqueness.proofs.Fits.{at_place, PlacedGood, AllGood, moved}
 
 -- ---- types have no production
 
@@ -51,7 +51,7 @@ no_types c (Some n) (provided h d) rest = absurd (true≢false (sym h))
 -- ---- arguments
 
 spread_then : (s : Settings) (k : Control) (variant : Variant) (n : Nonterminal) (o : Option Span) (ts : List Token) (g : Generates s (spread_mark o) ts) {m : ParseTree} →
-    decide k None (punctuator (codes "...")) ≡ Shift → shift k (punctuator (codes "...")) ≡ k → Good (Rest k variant n) m → Good (Rest k variant n) (read_phrase s (spread_mark o) ts g m)
+    decide k None (punctuator (codes "...")) ≡ Shift → shift k None (punctuator (codes "...")) ≡ k → Good (Rest k variant n) m → Good (Rest k variant n) (read_phrase s (spread_mark o) ts g m)
 unfolding spread_mark read_phrase
 spread_then s k variant n None ts g e q h = h
 spread_then s k variant n (Some span) ts g e q h = dots_then k variant n e q h
@@ -60,7 +60,7 @@ argument_then : {s : Settings} (variant : Variant) (n : Nonterminal) (c : Parame
     (rest : ParseTree) → After (Arguments variant) nt.AssignmentExpression variant n rest → Good (Rest (Arguments variant) variant n) (derived_parse d rest)
 unfolding argument_form AllGood PlacedGood derived_parse placed is_inlined punctuator
 argument_then variant n c x (both (fixed g) (part a sa d)) (y, o) m rest after =
-    spread_then _ (Arguments variant) variant n x.spread _ g refl refl (part_then (Arguments variant) rest (takes_self nt.AssignmentExpression) (at_place sa (o m)) after)
+    spread_then _ (Arguments variant) variant n x.spread _ g refl refl (part_then (Arguments variant) rest (takes_self nt.AssignmentExpression) (at_place _ _ sa (o m)) after)
 
 arguments_after : {s : Settings} (variant : Variant) (n : Nonterminal) (c : Parameters) (xs : List (ExprOrSpread AnyNode)) {ts : List Token} (d : Derives true s (each_after (codes ",") (argument_form c) xs) ts) → AllGood d →
     s.minify ≡ c.minify → (rest : ParseTree) → After (Arguments variant) nt.AssignmentExpression variant n rest → After (Arguments variant) nt.AssignmentExpression variant n (derived_parse d rest)
@@ -93,40 +93,65 @@ arguments_good variant n c xs (both (fixed g) (both d (fixed h))) (x, (o, y)) m 
 
 -- ---- elements of arrays
 
-abbrev OnElements : ParseTree → Type 0
-OnElements m = After Elements nt.AssignmentExpression Array nt.PrimaryExpression m × Good (Rest Elements Array nt.PrimaryExpression) m
+-- what comes behind the last one, which is a hole or not
+abbrev pub BehindLast : Bool → ParseTree → Type 0
+BehindLast true m = BehindHole m
+BehindLast false m = BehindElement m
 
-element_then : {s : Settings} (c : Parameters) (o : Option (ExprOrSpread AnyNode)) {ts : List Token} (d : Derives true s (element (argument_form c) o) ts) → AllGood d → s.minify ≡ c.minify → (rest : ParseTree) → OnElements rest →
-    Good (Rest Elements Array nt.PrimaryExpression) (derived_parse d rest)
-unfolding element argument_form AllGood PlacedGood derived_parse read_phrase placed is_inlined punctuator
-element_then c None (fixed g) o m rest on = on.1
-element_then c (Some x) (both (fixed g) (part a sa d)) (y, o) m rest on =
-    spread_then _ Elements Array nt.PrimaryExpression x.spread _ g refl refl (part_then Elements rest (takes_self nt.AssignmentExpression) (at_place sa (o m)) on.0)
+spread_or_not : (s : Settings) (b : Bool) (o : Option Span) (ts : List Token) (g : Generates s (spread_mark o) ts) {m : ParseTree} → BehindHole m → InElements b (read_phrase s (spread_mark o) ts g m)
+unfolding spread_mark read_phrase
+spread_or_not s b None ts g h = h b
+spread_or_not s b (Some span) ts g h = spread_element b h
 
-elements_after : {s : Settings} (c : Parameters) (xs : List (Option (ExprOrSpread AnyNode))) {ts : List Token} (d : Derives true s (each_after (codes ",") (element (argument_form c)) xs) ts) → AllGood d → s.minify ≡ c.minify →
-    (rest : ParseTree) → OnElements rest → OnElements (derived_parse d rest)
-unfolding each_after AllGood derived_parse read_phrase
-elements_after c [] (fixed g) o m rest on = on
-elements_after c (x ∷ xs) (both (fixed g) (both d e)) (y, (o, q)) m rest on =
-    let h : Good (Rest Elements Array nt.PrimaryExpression) (derived_parse d (derived_parse e rest)) = element_then c x d o m (derived_parse e rest) (elements_after c xs e q m rest on) in
-    (element_next h, hole_then h)
+element_good : {s : Settings} (b : Bool) (c : Parameters) (x : ExprOrSpread AnyNode) {ts : List Token} (d : Derives true s (element (argument_form c) (Some x)) ts) → AllGood d → s.minify ≡ c.minify → (rest : ParseTree) → BehindElement rest →
+    InElements b (derived_parse d rest)
+unfolding element argument_form AllGood PlacedGood derived_parse placed is_inlined
+element_good b c x (both (fixed g) (part a sa d)) (y, o) m rest behind = spread_or_not _ b x.spread _ g (λ k. element_then k (at_place _ _ sa (o m)) behind)
+
+-- what comes behind a comma
+abbrev pub behind_comma : {m : ParseTree} → BehindHole m → BehindElement (Read (punctuator (codes ",")) m) × BehindHole (Read (punctuator (codes ",")) m)
+behind_comma h = (element_next (h true), hole_then (h false))
+
+elements_from : {s : Settings} (c : Parameters) (x : Option (ExprOrSpread AnyNode)) (xs : List (Option (ExprOrSpread AnyNode))) {ts us : List Token} (d : Derives true s (element (argument_form c) x) ts)
+    (e : Derives true s (each_after (codes ",") (element (argument_form c)) xs) us) → AllGood d → AllGood e → s.minify ≡ c.minify → (rest : ParseTree) → BehindLast (last_is_hole (x ∷ xs)) rest → BehindHole (derived_parse d (derived_parse e rest))
+unfolding each_after element last_is_hole AllGood derived_parse read_phrase
+elements_from c None [] (fixed g) (fixed h) o q m rest behind b = behind b
+elements_from c (Some x) [] d (fixed h) o q m rest behind b = element_good b c x d o m rest behind
+elements_from c None (y ∷ ys) (fixed g) (both (fixed h) (both d e)) o (z, (p, q)) m rest behind b = (behind_comma (elements_from c y ys d e p q m rest behind)).1 b
+elements_from c (Some x) (y ∷ ys) d (both (fixed h) (both k e)) o (z, (p, q)) m rest behind b =
+    element_good b c x d o m _ (behind_comma (elements_from c y ys k e p q m rest behind)).0
+
+-- what comes behind all of them, of which there may be none
+abbrev pub BehindAll : {A : Type 0} → List (Option A) → ParseTree → Type 0
+BehindAll [] m = InElements false m
+BehindAll (x ∷ xs) m = BehindLast (last_is_hole (x ∷ xs)) m
 
 elements_listed : {s : Settings} (c : Parameters) (xs : List (Option (ExprOrSpread AnyNode))) {ts : List Token} (d : Derives true s (listed (codes ",") (element (argument_form c)) xs) ts) → AllGood d → s.minify ≡ c.minify →
-    (rest : ParseTree) → OnElements rest → Good (Rest Elements Array nt.PrimaryExpression) (derived_parse d rest)
+    (rest : ParseTree) → BehindAll xs rest → InElements false (derived_parse d rest)
 unfolding listed AllGood derived_parse read_phrase
-elements_listed c [] (fixed g) o m rest on = on.1
-elements_listed c (x ∷ xs) (both d e) (o, q) m rest on = element_then c x d o m (derived_parse e rest) (elements_after c xs e q m rest on)
+elements_listed c [] (fixed g) o m rest behind = behind
+elements_listed c (x ∷ xs) (both d e) (o, q) m rest behind = elements_from c x xs d e o q m rest behind false
 
-elements_good : {s : Settings} (c : Parameters) (hole : Bool) (xs : List (Option (ExprOrSpread AnyNode))) {ts : List Token} (d : Derives true s (elements_form c hole xs) ts) → AllGood d → s.minify ≡ c.minify →
-    Good (Rest Elements Array nt.PrimaryExpression) (derived_parse d (Read (punctuator (codes "]")) End))
+-- `,]` behind a hole, and `]`
+pub hole_closed : {A : Type 0} (xs : List (Option A)) → last_is_hole xs ≡ true → BehindAll xs (Read (punctuator (codes ",")) (Read (punctuator (codes "]")) End))
+unfolding last_is_hole punctuator
+hole_closed [] h = absurd (true≢false (sym h))
+hole_closed (x ∷ xs) h = subst (λ z. BehindLast z (Read (punctuator (codes ",")) (Read (punctuator (codes "]")) End))) (sym h) (hole_then no_elements)
+
+pub element_closed : {A : Type 0} (xs : List (Option A)) → last_is_hole xs ≡ false → BehindAll xs (Read (punctuator (codes "]")) End)
+unfolding punctuator
+element_closed [] h = no_elements
+element_closed (x ∷ xs) h = subst (λ z. BehindLast z (Read (punctuator (codes "]")) End)) (sym h) elements_closed
+
+elements_good : {s : Settings} (c : Parameters) (hole : Bool) (xs : List (Option (ExprOrSpread AnyNode))) {ts : List Token} → last_is_hole xs ≡ hole → (d : Derives true s (elements_form c hole xs) ts) → AllGood d → s.minify ≡ c.minify →
+    InElements false (derived_parse d (Read (punctuator (codes "]")) End))
 unfolding elements_form AllGood derived_parse read_phrase
-elements_good c true xs (both d (fixed g)) (o, x) m =
-    elements_listed c xs d o m (Read (punctuator (codes ",")) (Read (punctuator (codes "]")) End)) (element_next no_elements, hole_then no_elements)
-elements_good c false xs d o m = elements_listed c xs d o m (Read (punctuator (codes "]")) End) (elements_closed, no_elements)
+elements_good c true xs h (both d (fixed g)) (o, x) m = elements_listed c xs d o m (Read (punctuator (codes ",")) (Read (punctuator (codes "]")) End)) (hole_closed xs h)
+elements_good c false xs h d o m = elements_listed c xs d o m (Read (punctuator (codes "]")) End) (element_closed xs h)
 
 pub array_good : {s : Settings} (c : Parameters) (n : ArrayLit AnyNode) {ts : List Token} (d : Derives true s (array_form c n) ts) → AllGood d → s.minify ≡ c.minify → Good (Whole Array nt.PrimaryExpression) (derived_parse d End)
 unfolding array_form AllGood derived_parse read_phrase
-array_good c n (both (fixed g) (both d (fixed h))) (x, (o, y)) m = array (elements_good c (last_is_hole n.elems.items) n.elems.items d o m)
+array_good c n (both (fixed g) (both d (fixed h))) (x, (o, y)) m = array (elements_good c (last_is_hole n.elems.items) n.elems.items refl d o m)
 
 -- ---- members
 
@@ -143,7 +168,7 @@ pub prop_good : {s : Settings} (variant : Variant) {n place : Nonterminal} {z : 
 unfolding prop_form computed_form ident_name private_name AllGood PlacedGood derived_parse read_phrase placed is_inlined
 prop_good variant c (member_props.Ident n) (fixed g) o m a w x = member_named _ variant a (name_is_name _) w x
 prop_good variant c (member_props.PrivateName n) (fixed g) o m a w x = member_named _ variant a (private_is_name _) w x
-prop_good variant c (member_props.Computed n) (both (fixed g) (both (part b sb d) (fixed h))) (y, (o, v)) m a w x = member_indexed variant a w x (at_place sb (o m))
+prop_good variant c (member_props.Computed n) (both (fixed g) (both (part b sb d) (fixed h))) (y, (o, v)) m a w x = member_indexed variant a w x (at_place _ _ sb (o m))
 
 -- ---- calls
 
@@ -162,7 +187,7 @@ callee_good c (callees.Super n) xs (fixed g) o m r a = subst (λ z. Good (Whole 
 callee_good c (callees.Import n) xs (provided h (provided k (fixed g))) o m r a =
     subst (λ z. Good (Whole Call nt.CallExpression) (Read (word (codes "import")) z)) (sym (import_read _ n.phase _ g.3 r k ∙ a.is)) (import_called a.good)
 callee_good c (callees.Expr n) xs (part b sb d) o m r a =
-    let x = at_place sb (o m) in argued_call calls (chained_not _ Call (plain_callee x)) x a
+    let x = at_place _ _ sb (o m) in argued_call calls (chained_not _ Call (plain_callee x)) x a
 
 pub call_good : {s : Settings} (c : Parameters) (n : CallExpr AnyNode) {ts : List Token} (d : Derives true s (call_form c n) ts) → AllGood d → s.minify ≡ c.minify → Good (Whole Call nt.CallExpression) (derived_parse d End)
 unfolding call_form AllGood derived_parse
@@ -200,6 +225,10 @@ unfolding new_arguments_form has_arguments AllGood derived_parse read_phrase
 new_by c keeps None {z = z} {p = p} (fixed g) o m x r e = subst (λ w. Good (Whole New nt.NewExpression) (Read (word (codes "new")) (Node z p w))) (sym e) (new_alone x)
 new_by c keeps (Some xs) d o m x r e = new_listed c keeps xs.items d o m x r e
 
+new_covered : (b : Bool) → cover (new_of b) ≡ new_of b
+new_covered true = refl
+new_covered false = refl
+
 new_minify : (s : Settings) (b : Bool) (c : Parameters) → s.minify ≡ c.minify → s.minify ≡ (if b then with_in c else to_end c).minify
 new_minify s true c m = m
 new_minify s false c m = m
@@ -207,4 +236,4 @@ new_minify s false c m = m
 pub new_good : {s : Settings} (c : Parameters) (keeps : Bool) (n : NewExpr AnyNode) {ts : List Token} (d : Derives true s (new_form c keeps n) ts) → AllGood d → s.minify ≡ c.minify → Good (Whole New (new_nonterminal c keeps n)) (derived_parse d End)
 unfolding new_form new_nonterminal new_parameters AllGood PlacedGood derived_parse read_phrase placed is_inlined
 new_good {s = s} c keeps n (both (fixed g) (both (part a sa d) (both t e))) (x, (o, (y, q))) m =
-    new_by c keeps n.args e q m (at_place sa (o (new_minify s (has_arguments c keeps n.args) c m))) (derived_parse t (derived_parse e End)) (no_types c n.type_args t (derived_parse e End))
+    new_by c keeps n.args e q m (moved (new_covered (has_arguments c keeps n.args)) (at_place _ _ sa (o (new_minify s (has_arguments c keeps n.args) c m)))) (derived_parse t (derived_parse e End)) (no_types c n.type_args t (derived_parse e End))

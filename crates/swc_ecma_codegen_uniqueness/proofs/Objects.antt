@@ -28,9 +28,9 @@ use Rattle.swc_ecma_codegen_syntax.specs.ObjectForms.{prop_name_form, key_value_
 use Rattle.swc_ecma_codegen_syntax.specs.Derives.{Derives, fixed, part, both, provided}
 use Rattle.swc_ecma_codegen_uniqueness.specs.ParseTrees.{ParseTree, End, Read, Object, is_known, part_variant, node_variant}
 use Rattle.swc_ecma_codegen_uniqueness.specs.Parses.{placed, is_inlined}
-use Rattle.swc_ecma_codegen_uniqueness.proofs.Tables.{Properties, AfterKey, without, shifted_to}
+use Rattle.swc_ecma_codegen_uniqueness.proofs.Tables.{Properties, NextProperty, AfterKey, without, shifted_to}
 use Rattle.swc_ecma_codegen_uniqueness.proofs.Machine.{Whole, Good}
-use Rattle.swc_ecma_codegen_uniqueness.proofs.Shapes.{InObject, OnProperty, properties_closed, property_next, no_properties, object, IsKey, key_then, computed_then, value_then, spread_property}
+use Rattle.swc_ecma_codegen_uniqueness.proofs.Shapes.{InObject, InProperties, OnProperty, properties_closed, property_next, no_properties, object, IsKey, shifted_key, key_then, computed_then, value_then, spread_property}
 use Rattle.swc_ecma_codegen_uniqueness.proofs.Reading.{read_phrase, derived_parse}
 use Rattle.swc_ecma_codegen_uniqueness.proofs.Fits.{at_place, PlacedGood, AllGood}
 use Rattle.swc_ecma_codegen_uniqueness.proofs.Atoms.{IsLiteral, number_literal, str_literal, big_literal, name_read}
@@ -39,28 +39,36 @@ use Rattle.swc_ecma_codegen_uniqueness.proofs.Atoms.{IsLiteral, number_literal, 
 
 name_key : (text : List ℕ) → IsKey (tokens.name text)
 unfolding tokens.name
-name_key text = (refl, refl)
+name_key text true = (refl, refl)
+name_key text false = (refl, refl)
 
 either_key : (b : Bool) (v : Value) (text : List ℕ) → IsKey (if b then record { kind = kinds.Str; value = v } else tokens.name text)
 unfolding tokens.name
-either_key true v text = (refl, refl)
-either_key false v text = (refl, refl)
+either_key true v text true = (refl, refl)
+either_key true v text false = (refl, refl)
+either_key false v text true = (refl, refl)
+either_key false v text false = (refl, refl)
 
 word_key : (s : Settings) (bytes : List ℕ) → IsKey (key_token s bytes)
 unfolding key_token
 word_key s bytes = either_key (is_quoted s (spelled_name bytes)) _ _
 
-literal_then : {f : ParseTree → ParseTree} → IsLiteral f → {m : ParseTree} → InObject AfterKey m → InObject Properties (f m)
-literal_then l {m = m} g =
-    subst (λ z. InObject Properties z) (sym (l.is m)) (key_then l.token (ap (without Properties) l.literal, ap (shifted_to Properties) l.literal) g)
+literal_then : {f : ParseTree → ParseTree} (b : Bool) → IsLiteral f → {m : ParseTree} → InObject AfterKey m → InProperties b (f m)
+literal_then true l {m = m} g = subst (λ z. InProperties true z) (sym (l.is m)) (shifted_key true l.token (ap (without NextProperty) l.literal, ap (shifted_to NextProperty) l.literal) g)
+literal_then false l {m = m} g = subst (λ z. InProperties false z) (sym (l.is m)) (shifted_key false l.token (ap (without Properties) l.literal, ap (shifted_to Properties) l.literal) g)
 
-key_good : {s : Settings} (c : Parameters) (n : PropName AnyNode) {ts : List Token} (d : Derives true s (prop_name_form c n) ts) → AllGood d → s.minify ≡ c.minify → (m : ParseTree) → InObject AfterKey m → InObject Properties (derived_parse d m)
+pub key_good : {s : Settings} (b : Bool) (c : Parameters) (n : PropName AnyNode) {ts : List Token} (d : Derives true s (prop_name_form c n) ts) → AllGood d → s.minify ≡ c.minify → (m : ParseTree) → InObject AfterKey m →
+    InProperties b (derived_parse d m)
 unfolding prop_name_form computed_form number is_met AllGood PlacedGood derived_parse read_phrase placed is_inlined
-key_good {s = s} c (prop_names.Ident n) (fixed g) o e m h = key_then (key_token s (string_bytes n.sym)) (word_key s (string_bytes n.sym)) h
-key_good {s = s} c (prop_names.Str n) (fixed {ts = ts} g) o e m h = literal_then (str_literal s n.value ts g) h
-key_good {s = s} c (prop_names.Num n) (provided k (fixed {ts = ts} g)) o e m h = literal_then (number_literal s n.value.value n.value.raw ts k g) h
-key_good {s = s} c (prop_names.BigInt n) (provided k (fixed {ts = ts} g)) o e m h = literal_then (big_literal s n.value ts k g) h
-key_good c (prop_names.Computed n) (both (fixed g) (both (part a sa d) (fixed k))) (x, (o, y)) e m h = computed_then (at_place sa (o e)) h
+key_good {s = s} b c (prop_names.Ident n) (fixed g) o e m h = key_then b (key_token s (string_bytes n.sym)) (word_key s (string_bytes n.sym)) h
+key_good {s = s} b c (prop_names.Str n) (fixed {ts = ts} g) o e m h = literal_then b (str_literal s n.value ts g) h
+key_good {s = s} b c (prop_names.Num n) (provided k (fixed {ts = ts} g)) o e m h = literal_then b (number_literal s n.value.value n.value.raw ts k g) h
+key_good {s = s} b c (prop_names.BigInt n) (provided k (fixed {ts = ts} g)) o e m h = literal_then b (big_literal s n.value ts k g) h
+key_good b c (prop_names.Computed n) (both (fixed g) (both (part a sa d) (fixed k))) (x, (o, y)) e m h = computed_then b (at_place _ _ sa (o e)) h
+
+-- a name that is a key and a value
+pub named_then : (b : Bool) (text : List ℕ) {m : ParseTree} → InObject AfterKey m → InProperties b (Read (tokens.name text) m)
+named_then b text g = key_then b (tokens.name text) (name_key text) g
 
 -- ---- properties
 
@@ -74,19 +82,19 @@ unfolding node_variant part_variant is_known
 no_method (nodes.ExprPart (expr_parts.Tpl n)) k = true≢false (sym k)
 no_method y k = true≢false (sym k)
 
-property_good : {s : Settings} (c : Parameters) (n : Prop AnyNode) {ts : List Token} (d : Derives true s (property_form c n) ts) → AllGood d → s.minify ≡ c.minify → (rest : ParseTree) → OnProperty rest → InObject Properties (derived_parse d rest)
+property_good : {s : Settings} (b : Bool) (c : Parameters) (n : Prop AnyNode) {ts : List Token} (d : Derives true s (property_form c n) ts) → AllGood d → s.minify ≡ c.minify → (rest : ParseTree) → OnProperty rest → InProperties b (derived_parse d rest)
 unfolding property_form key_value_form assign_prop_form getter_form setter_form method_prop_form is_met AllGood PlacedGood derived_parse read_phrase placed is_inlined
-property_good c (props.Shorthand n) d o m rest on = subst (λ z. InObject Properties z) (sym (name_read c n d rest)) (key_then (tokens.name _) (name_key _) on.0)
-property_good c (props.KeyValue n) (both d (both (fixed g) (part a sa e))) (o, (x, q)) m rest on = key_good c n.key d o m _ (value_then (at_place sa (q m)) on)
-property_good c (props.Assign n) (provided h d) o m rest on = absurd (true≢false (sym h))
-property_good c (props.Getter n) (both (fixed g) (both (part a sa d) e)) (x, (o, y)) m rest on = absurd (no_key (out-AnyNode n.key.node.value) (o m).known)
-property_good c (props.Setter n) (both (fixed g) (both (part a sa d) e)) (x, (o, y)) m rest on = absurd (no_key (out-AnyNode n.key.node.value) (o m).known)
-property_good c (props.Method n) (both (part a sa d) e) (o, y) m rest on = absurd (no_method (out-AnyNode n.function.node.value) (o m).known)
+property_good b c (props.Shorthand n) d o m rest on = subst (λ z. InProperties b z) (sym (name_read c n d rest)) (named_then b _ on.0)
+property_good b c (props.KeyValue n) (both d (both (fixed g) (part a sa e))) (o, (x, q)) m rest on = key_good b c n.key d o m _ (value_then (at_place _ _ sa (q m)) on)
+property_good b c (props.Assign n) (provided h d) o m rest on = absurd (true≢false (sym h))
+property_good b c (props.Getter n) (both (fixed g) (both (part a sa d) e)) (x, (o, y)) m rest on = absurd (no_key (out-AnyNode n.key.node.value) (o m).known)
+property_good b c (props.Setter n) (both (fixed g) (both (part a sa d) e)) (x, (o, y)) m rest on = absurd (no_key (out-AnyNode n.key.node.value) (o m).known)
+property_good b c (props.Method n) (both (part a sa d) e) (o, y) m rest on = absurd (no_method (out-AnyNode n.function.node.value) (o m).known)
 
-one_good : {s : Settings} (c : Parameters) (n : PropOrSpread AnyNode) {ts : List Token} (d : Derives true s (prop_or_spread_form c n) ts) → AllGood d → s.minify ≡ c.minify → (rest : ParseTree) → OnProperty rest → InObject Properties (derived_parse d rest)
+one_good : {s : Settings} (b : Bool) (c : Parameters) (n : PropOrSpread AnyNode) {ts : List Token} (d : Derives true s (prop_or_spread_form c n) ts) → AllGood d → s.minify ≡ c.minify → (rest : ParseTree) → OnProperty rest → InProperties b (derived_parse d rest)
 unfolding prop_or_spread_form spread_form AllGood PlacedGood derived_parse read_phrase placed is_inlined
-one_good c (prop_or_spreads.Spread n) (both (fixed g) (part a sa d)) (x, o) m rest on = spread_property (at_place sa (o m)) on
-one_good c (prop_or_spreads.Prop n) d o m rest on = property_good c n d o m rest on
+one_good b c (prop_or_spreads.Spread n) (both (fixed g) (part a sa d)) (x, o) m rest on = spread_property b (at_place _ _ sa (o m)) on
+one_good b c (prop_or_spreads.Prop n) d o m rest on = property_good b c n d o m rest on
 
 -- ---- objects
 
@@ -94,14 +102,14 @@ properties_after : {s : Settings} (c : Parameters) (xs : List (PropOrSpread AnyN
     OnProperty (derived_parse d rest)
 unfolding each_after AllGood derived_parse read_phrase
 properties_after c [] (fixed g) o m rest on = on
-properties_after c (x ∷ xs) (both (fixed g) (both d e)) (y, (o, q)) m rest on = property_next (one_good c x d o m (derived_parse e rest) (properties_after c xs e q m rest on))
+properties_after c (x ∷ xs) (both (fixed g) (both d e)) (y, (o, q)) m rest on = property_next (one_good true c x d o m (derived_parse e rest) (properties_after c xs e q m rest on))
 
 properties_listed : {s : Settings} (c : Parameters) (xs : List (PropOrSpread AnyNode)) {ts : List Token} (d : Derives true s (listed (codes ",") (prop_or_spread_form c) xs) ts) → AllGood d → s.minify ≡ c.minify →
-    InObject Properties (derived_parse d (Read (punctuator (codes "}")) End))
+    InProperties false (derived_parse d (Read (punctuator (codes "}")) End))
 unfolding listed AllGood derived_parse read_phrase
 properties_listed c [] (fixed g) o m = no_properties
 properties_listed c (x ∷ xs) (both d e) (o, q) m =
-    one_good c x d o m (derived_parse e (Read (punctuator (codes "}")) End)) (properties_after c xs e q m (Read (punctuator (codes "}")) End) properties_closed)
+    one_good false c x d o m (derived_parse e (Read (punctuator (codes "}")) End)) (properties_after c xs e q m (Read (punctuator (codes "}")) End) properties_closed)
 
 pub object_good : {s : Settings} (c : Parameters) (n : ObjectLit AnyNode) {ts : List Token} (d : Derives true s (object_form c n) ts) → AllGood d → s.minify ≡ c.minify → Good (Whole Object nt.PrimaryExpression) (derived_parse d End)
 unfolding object_form AllGood derived_parse read_phrase

@@ -45,11 +45,11 @@ use Rattle.swc_ecma_codegen_syntax.proofs.TreeFacts.{simple_of}
 use Rattle.swc_ecma_codegen_uniqueness.specs.ParseTrees.{Variant, ParseTree, End, Read, Unary, Update, Bin, Assign, Cond, Seq, Yield, Await, Paren}
 use Rattle.swc_ecma_codegen_uniqueness.specs.Parses.{placed, is_inlined}
 use Rattle.swc_ecma_codegen_uniqueness.proofs.Tables.{Level, Power, Times, Plus, Shifting, Comparing, Within, Equating, BitAnds, BitXors, BitOrs, Ands, Ors, Coalescing, Infix, Assigns, Twice, class, left_of, right_of, made, OfUnary, OfUpdate, OfAwait, Open, Listed, start, started}
-use Rattle.swc_ecma_codegen_uniqueness.proofs.TableLaws.{starts, target_left}
+use Rattle.swc_ecma_codegen_uniqueness.proofs.TableLaws.{starts, cover, cover_taken}
 use Rattle.swc_ecma_codegen_uniqueness.proofs.Machine.{Whole, Rest, Good}
-use Rattle.swc_ecma_codegen_uniqueness.proofs.Shapes.{Operand, prefixed, parenthesized, binary, assigned, conditional, stepped, yield_bare, yield_part, yield_star, listed_first, listed_next, listed_last}
+use Rattle.swc_ecma_codegen_uniqueness.proofs.Shapes.{prefixed, parenthesized, binary, assigned, conditional, stepped, yield_bare, yield_part, yield_star, listed_first, listed_next, listed_last}
 use Rattle.swc_ecma_codegen_uniqueness.proofs.Reading.{read_phrase, derived_parse}
-use Rattle.swc_ecma_codegen_uniqueness.proofs.Fits.{in_place, at_place, PlacedGood, AllGood}
+use Rattle.swc_ecma_codegen_uniqueness.proofs.Fits.{in_place, at_place, PlacedGood, AllGood, moved}
 
 -- ---- the tokens of operators
 
@@ -110,18 +110,15 @@ unfolding binary_nonterminal
 binary_made binaries.Exp = refl
 binary_made op = refl
 
-binary_left : (op : BinaryOp) → left_nonterminal op ≡ left_of (level op)
+binary_left : (op : BinaryOp) → cover (left_nonterminal op) ≡ left_of (level op)
 unfolding left_nonterminal binary_nonterminal
 binary_left binaries.Exp = refl
 binary_left op = refl
 
-binary_right : (op : BinaryOp) → right_nonterminal op ≡ right_of (level op)
+binary_right : (op : BinaryOp) → cover (right_nonterminal op) ≡ right_of (level op)
 unfolding right_nonterminal
 binary_right binaries.Exp = refl
 binary_right op = refl
-
-moved : {a b : Nonterminal} {variant : Variant} {p : ParseTree} → a ≡ b → Operand a variant p → Operand b variant p
-moved {variant = variant} {p = p} e o = subst (λ z. Operand z variant p) e o
 
 -- ---- an expression whose AssignmentTargetType is simple is a LeftHandSideExpression
 
@@ -147,7 +144,7 @@ simple_is_left = ind-AnyNode SimpleLeft (λ x y q. subst (λ z. SimpleLeft (roll
 
 pub unary_good : {s : Settings} (c : Parameters) (n : UnaryExpr AnyNode) {ts : List Token} (d : Derives true s (unary_form c n) ts) → AllGood d → s.minify ≡ c.minify → Good (Whole Unary nt.UnaryExpression) (derived_parse d End)
 unfolding unary_form AllGood PlacedGood derived_parse read_phrase placed is_inlined
-unary_good c n (both (fixed g) (part called st d)) (x, o) m = prefixed (unary_op n.op) OfUnary (unary_starts n.op) refl (unary_start n.op) (at_place st (o m))
+unary_good c n (both (fixed g) (part called st d)) (x, o) m = prefixed (unary_op n.op) OfUnary (unary_starts n.op) refl (unary_start n.op) (at_place _ _ st (o m))
 
 update_by : {s : Settings} (prefix : Bool) (op : UpdateOp) (c : Parameters) (x : AnyNode) {ts : List Token}
     (d : Derives true s (if prefix then Both (Fixed (One (update_op op))) (Simple true nt.UnaryExpression (with_in c) x) else Both (Simple true nt.LeftHandSideExpression (with_in c) x) (Both (Fixed phrases.same_line) (Fixed (One (update_op op))))) ts) →
@@ -155,8 +152,8 @@ update_by : {s : Settings} (prefix : Bool) (op : UpdateOp) (c : Parameters) (x :
 unfolding AllGood PlacedGood derived_parse read_phrase placed is_inlined
 update_by true op c x (both (fixed g) (simple h (part called st d))) (y, o) m =
     prefixed (update_op op) OfUpdate (ap starts (update_twice op)) refl (ap started (update_twice op))
-    (in_place (simple_is_left x c.is_strict called (with_in c) (and_parts _ _ h).0) (o m))
-update_by false op c x (both (simple h (part called st d)) (both (fixed g) (fixed k))) (o, y) m = stepped (update_op op) (update_twice op) (at_place st (o m))
+    (in_place (cover_taken nt.LeftHandSideExpression _ (simple_is_left x c.is_strict called (with_in c) (and_parts _ _ h).0)) (o m))
+update_by false op c x (both (simple h (part called st d)) (both (fixed g) (fixed k))) (o, y) m = stepped (update_op op) (update_twice op) (at_place _ _ st (o m))
 
 pub update_good : {s : Settings} (c : Parameters) (n : UpdateExpr AnyNode) {ts : List Token} (d : Derives true s (update_form c n) ts) → AllGood d → s.minify ≡ c.minify → Good (Whole Update nt.UpdateExpression) (derived_parse d End)
 unfolding update_form
@@ -169,22 +166,22 @@ pub bin_good : {s : Settings} (c : Parameters) (n : BinExpr AnyNode) {ts : List 
 unfolding bin_form AllGood PlacedGood derived_parse read_phrase placed is_inlined
 bin_good c n (provided h (both (part called st d) (both (fixed g) (part k sk e)))) (o, (x, q)) m =
     renamed (binary_made n.op)
-    (binary (binary_op n.op) (level n.op) (binary_class n.op) (moved (binary_left n.op) (at_place st (o m))) (moved (binary_right n.op) (at_place sk (q m))))
+    (binary (binary_op n.op) (level n.op) (binary_class n.op) (moved (binary_left n.op) (at_place _ _ st (o m))) (moved (binary_right n.op) (at_place _ _ sk (q m))))
 
 pub cond_good : {s : Settings} (c : Parameters) (n : CondExpr AnyNode) {ts : List Token} (d : Derives true s (cond_form c n) ts) → AllGood d → s.minify ≡ c.minify → Good (Whole Cond nt.ConditionalExpression) (derived_parse d End)
 unfolding cond_form AllGood PlacedGood derived_parse read_phrase placed is_inlined
 cond_good c n (both (part a sa d) (both (fixed g) (both (part b sb e) (both (fixed h) (part k sk f))))) (o, (x, (p, (y, q)))) m =
-    conditional (at_place sa (o m)) (at_place sb (p m)) (at_place sk (q m))
+    conditional (at_place _ _ sa (o m)) (at_place _ _ sb (p m)) (at_place _ _ sk (q m))
 
-left_target : (op : AssignOp) {variant : Variant} {p : ParseTree} → Operand (target_of op) variant p → Operand nt.LeftHandSideExpression variant p
+target_covered : (op : AssignOp) → cover (target_of op) ≡ nt.LeftHandSideExpression
 unfolding target_of
-left_target assigns.Assign o = record { of = o.of; taken = target_left o.of o.taken o.own; own = o.own; chain = o.chain; good = o.good }
-left_target op o = o
+target_covered assigns.Assign = refl
+target_covered op = refl
 
 pub assign_good : {s : Settings} (c : Parameters) (n : AssignExpr AnyNode) {ts : List Token} (d : Derives true s (assign_form c n) ts) → AllGood d → s.minify ≡ c.minify → Good (Whole Assign nt.AssignmentExpression) (derived_parse d End)
 unfolding assign_form AllGood PlacedGood derived_parse read_phrase placed is_inlined
 assign_good c n (both (part a sa d) (both (fixed g) (part b sb e))) (o, (x, p)) m =
-    assigned (assign_op n.op) (assign_class n.op) (left_target n.op (at_place sa (o m))) (at_place sb (p m))
+    assigned (assign_op n.op) (assign_class n.op) (moved (target_covered n.op) (at_place _ _ sa (o m))) (at_place _ _ sb (p m))
 
 -- ---- `yield`, `await`
 
@@ -192,9 +189,9 @@ yield_by : {s : Settings} (c : Parameters) (delegate : Bool) (arg : Option (Expr
     (d : Derives true s (yield_rest_form c delegate arg) ts) → AllGood d → s.minify ≡ c.minify → Good (Whole Yield nt.AssignmentExpression) (Read (word (codes "yield")) (derived_parse d End))
 unfolding yield_rest_form yield_arg_form is_met AllGood PlacedGood derived_parse read_phrase placed is_inlined
 yield_by c true None (both (fixed h) (both (fixed k) (provided e d))) o m = absurd (true≢false (sym e))
-yield_by c true (Some x) (both (fixed h) (both (fixed k) (bare (part a sa d)))) (y, (z, o)) m = yield_star (at_place sa (o m))
+yield_by c true (Some x) (both (fixed h) (both (fixed k) (bare (part a sa d)))) (y, (z, o)) m = yield_star (at_place _ _ sa (o m))
 yield_by c false None (fixed h) o m = yield_bare
-yield_by c false (Some x) (both (fixed h) (bare (part a sa d))) (y, o) m = yield_part (at_place sa (o m))
+yield_by c false (Some x) (both (fixed h) (bare (part a sa d))) (y, o) m = yield_part (at_place _ _ sa (o m))
 
 pub yield_good : {s : Settings} (c : Parameters) (n : YieldExpr AnyNode) {ts : List Token} (d : Derives true s (yield_form c n) ts) → AllGood d → s.minify ≡ c.minify → Good (Whole Yield nt.AssignmentExpression) (derived_parse d End)
 unfolding yield_form AllGood derived_parse read_phrase
@@ -202,22 +199,22 @@ yield_good c n (provided h (both (fixed g) d)) (x, o) m = yield_by c n.delegate 
 
 pub await_good : {s : Settings} (c : Parameters) (n : AwaitExpr AnyNode) {ts : List Token} (d : Derives true s (await_form c n) ts) → AllGood d → s.minify ≡ c.minify → Good (Whole Await nt.UnaryExpression) (derived_parse d End)
 unfolding await_form AllGood PlacedGood derived_parse read_phrase placed is_inlined word
-await_good c n (provided h (both (fixed g) (part a sa d))) (x, o) m = prefixed (word (codes "await")) OfAwait refl refl refl (at_place sa (o m))
+await_good c n (provided h (both (fixed g) (part a sa d))) (x, o) m = prefixed (word (codes "await")) OfAwait refl refl refl (at_place _ _ sa (o m))
 
 -- ---- sequences
 
 seq_on : {s : Settings} (c : Parameters) (x : ExprBox AnyNode) (xs : List (ExprBox AnyNode)) {ts us : List Token} (d : Derives true s (expr_part nt.AssignmentExpression c x) ts)
     (e : Derives true s (each_after (codes ",") (expr_part nt.AssignmentExpression c) xs) us) → AllGood d → AllGood e → s.minify ≡ c.minify → Good (Rest Listed Seq nt.Expression) (derived_parse d (derived_parse e End))
 unfolding each_after AllGood PlacedGood derived_parse read_phrase placed is_inlined
-seq_on c x [] (part a sa d) (fixed g) o q m = listed_last (at_place sa (o m))
-seq_on c x (y ∷ ys) (part a sa d) (both (fixed g) (both e f)) o (z, (q, r)) m = listed_next (at_place sa (o m)) (seq_on c y ys e f q r m)
+seq_on c x [] (part a sa d) (fixed g) o q m = listed_last (at_place _ _ sa (o m))
+seq_on c x (y ∷ ys) (part a sa d) (both (fixed g) (both e f)) o (z, (q, r)) m = listed_next (at_place _ _ sa (o m)) (seq_on c y ys e f q r m)
 
 seq_by : {s : Settings} (c : Parameters) (xs : List (ExprBox AnyNode)) {ts : List Token} (d : Derives true s (some_listed (codes ",") (expr_part nt.AssignmentExpression c) xs) ts) → AllGood d → s.minify ≡ c.minify →
     Good (Whole Seq nt.Expression) (derived_parse d End)
 unfolding some_listed each_after is_met AllGood PlacedGood derived_parse read_phrase placed is_inlined
 seq_by c [] (provided h d) o m = absurd (true≢false (sym h))
 seq_by c (x ∷ []) (provided h d) o m = absurd (true≢false (sym h))
-seq_by c (x ∷ y ∷ xs) (both (part a sa d) (both (fixed g) (both e f))) (o, (z, (q, r))) m = listed_first (at_place sa (o m)) (seq_on c y xs e f q r m)
+seq_by c (x ∷ y ∷ xs) (both (part a sa d) (both (fixed g) (both e f))) (o, (z, (q, r))) m = listed_first (at_place _ _ sa (o m)) (seq_on c y xs e f q r m)
 
 pub seq_good : {s : Settings} (c : Parameters) (n : SeqExpr AnyNode) {ts : List Token} (d : Derives true s (seq_form c n) ts) → AllGood d → s.minify ≡ c.minify → Good (Whole Seq nt.Expression) (derived_parse d End)
 unfolding seq_form
@@ -225,4 +222,4 @@ seq_good c n d o m = seq_by c n.exprs.items d o m
 
 pub paren_good : {s : Settings} (c : Parameters) (n : ParenExpr AnyNode) {ts : List Token} (d : Derives true s (paren_form c n) ts) → AllGood d → s.minify ≡ c.minify → Good (Whole Paren nt.PrimaryExpression) (derived_parse d End)
 unfolding paren_form AllGood PlacedGood derived_parse read_phrase placed is_inlined
-paren_good c n (both (fixed g) (both (part a sa d) (fixed h))) (x, (o, y)) m = parenthesized nt.PrimaryExpression refl (at_place sa (o m))
+paren_good c n (both (fixed g) (both (part a sa d) (fixed h))) (x, (o, y)) m = parenthesized nt.PrimaryExpression refl (at_place _ _ sa (o m))

@@ -5,13 +5,13 @@ use Rattle.std.proofs.lemmas.Bool.{true≢false}
 use Rattle.swc_ecma_codegen_grammar.specs.Tokens.{Token, word, punctuator, same_line}
 use Rattle.swc_ecma_codegen_syntax.specs.declared.nonterminals.Nonterminal.{Nonterminal}
 use Rattle.swc_ecma_codegen_syntax.specs.declared.nonterminals.Nonterminal.TheVariants as nt
-use Rattle.swc_ecma_codegen_syntax.specs.Nonterminals.{takes, is_optional}
+use Rattle.swc_ecma_codegen_syntax.specs.Nonterminals.{takes, is_optional, is_private, is_assignment, is_conditional, is_short_circuit, is_logical_or, is_logical_and, is_bitwise_or, is_bitwise_xor, is_bitwise_and, is_equality, is_relational, is_shift, is_additive, is_multiplicative, is_exponentiation, is_unary, is_update, is_left_hand_side, is_new, is_member}
 use Rattle.swc_ecma_codegen_syntax.specs.UnitProductions.{here, step, expression_is_assignment_expression, new_expression_is_member_expression, chain_base_is_member_expression}
 use Rattle.swc_ecma_codegen_syntax.proofs.Taken.{chain_takes}
-use Rattle.swc_ecma_codegen_uniqueness.specs.ParseTrees.{Variant, ParseTree, End, Read, Node, Array, Object, Update, Bin, Assign, Member, SuperProp, Cond, Call, New, Seq, Tpl, TaggedTpl, Yield, MetaProp, Paren, OptChain}
-use Rattle.swc_ecma_codegen_uniqueness.proofs.Tables.{Level, Class, Infix, Assigns, Ask, Comma, Dot, ChainDot, OpenBracket, Line, Twice, First, Later, class, left, left_of, right_of, made, closes, Tail, OfInfix, OfCond, OfAssign, OfYield, whole, last as last_of, tail_variant, Control, Closed, Open, InParen, Index, Arguments, Elements, Properties, AfterKey, InKey, InValue, Middle, Substitution, Dotted, Chained, AfterNew, AfterImport, AfterSuper, AfterYield, Postfix, Listed, waits, decide, Shift, shift, shifted_to, start, started, template, wrapped_to, chained, without, with_operand}
-use Rattle.swc_ecma_codegen_uniqueness.proofs.TableLaws.{takes_on, is_place, starts, pushes, or_left, is_infix, made_by, Wraps, infix_wraps, Linked, linked_closes, links, link_wraps, Calling, calling_linked, call_wraps, tail_ends, new_ends, yield_ends, yield_alone, listed_ends, member_plain, call_plain, callee_plain}
-use Rattle.swc_ecma_codegen_uniqueness.proofs.Machine.{Whole, Rest, Good, headed, wrapped, shifted, inner, closed, last}
+use Rattle.swc_ecma_codegen_uniqueness.specs.ParseTrees.{Variant, ParseTree, End, Read, Optional, Node, Array, Object, Update, Bin, Assign, Member, SuperProp, Cond, Call, New, Seq, Tpl, TaggedTpl, Arrow, Yield, MetaProp, Paren, OptChain}
+use Rattle.swc_ecma_codegen_uniqueness.proofs.Tables.{Level, Class, Infix, Assigns, Ask, Comma, Dot, ChainDot, OpenBracket, Line, Twice, First, Later, class, left, left_of, right_of, made, closes, Tail, OfInfix, OfCond, OfAssign, OfYield, OfArrow, whole, last as last_of, tail_variant, Control, Closed, Open, InParen, Index, Arguments, Elements, NextElement, Properties, NextProperty, AfterKey, InKey, InValue, Middle, Substitution, Dotted, Chained, AfterNew, AfterImport, AfterSuper, AfterYield, Postfix, Listed, AfterAsync, waits, decide, Shift, Turn, shift, shifted_to, passed_to, start, started, template, wrapped_to, chained, without, with_operand}
+use Rattle.swc_ecma_codegen_uniqueness.proofs.TableLaws.{takes_on, is_sequence, assignment_single, taken_there, arrow_wraps, is_place, starts, pushes, or_left, is_infix, made_by, Wraps, infix_wraps, Linked, linked_closes, links, link_wraps, Calling, calling_linked, call_wraps, tail_ends, new_ends, yield_ends, yield_alone, listed_ends, member_plain, call_plain, callee_plain}
+use Rattle.swc_ecma_codegen_uniqueness.proofs.Machine.{Whole, Rest, Good, headed, wrapped, shifted, inner, closed, last, wrapped_turned, inner_turned, shifted_turned, raised, turned, opened}
 
 -- ---- parts
 
@@ -19,12 +19,17 @@ abbrev pub is_chain : Variant → Bool
 is_chain OptChain = true
 is_chain variant = false
 
+abbrev pub is_several : Variant → Bool
+is_several Seq = true
+is_several variant = false
+
 -- a node that stands where a nonterminal does
 pub record Operand (place : Nonterminal) (variant : Variant) (inside : ParseTree) : Type 0 where
   pub of : Nonterminal
   pub taken : takes place of ≡ true
   pub own : is_place of ≡ false
   pub chain : is_chain variant ≡ is_optional of
+  pub several : is_several variant ≡ is_sequence of
   pub good : Good (Whole variant of) inside
 
 pub takes_self : (n : Nonterminal) → takes n n ≡ true
@@ -33,24 +38,34 @@ takes_self n = chain_takes n n here
 pub assignment_taken : takes nt.Expression nt.AssignmentExpression ≡ true
 assignment_taken = chain_takes nt.Expression nt.AssignmentExpression (step expression_is_assignment_expression here)
 
--- what comes behind a part: a token that ends it and is taken
+-- it stands where another does that derives that
+pub widened : {place wide : Nonterminal} {s : Variant} {p : ParseTree} → takes wide place ≡ true → Operand place s p → Operand wide s p
+widened {place = place} {wide = wide} h o = record { of = o.of; taken = takes_on wide place o.of h o.taken; own = o.own; chain = o.chain; several = o.several; good = o.good }
+
+-- what comes behind a part: a token that ends it and is taken; this token may be left open, as the next one tells
 abbrev pub After : Control → Nonterminal → Variant → Nonterminal → ParseTree → Type 0
-After c place variant n (Read t m) = (takes (left (class t)) place ≡ true) × ((s : Variant) → decide c (Some s) t ≡ Shift) × Good (Rest (shift c t) variant n) m
-After c place variant n End = ⊥
-After c place variant n (Node s p m) = ⊥
+After c place variant n (Read t m) = (takes (left (class t)) place ≡ true) × ((s : Variant) → decide c (Some s) t ≡ Shift) × Good (Rest (passed_to c (class t)) variant n) m
+After c place variant n (Optional t (Read u m)) =
+    (takes (left (class t)) place ≡ true) × ((s : Variant) → decide c (Some s) t ≡ Shift) × (decide (passed_to c (class t)) None u ≡ Turn)
+    × ((s : Variant) (p : ParseTree) → Node s p (Optional t (Read u m)) ≡ turned s p t (Read u m)) × Good (Rest (shift (passed_to c (class t)) None u) variant n) m
+After c place variant n m = ⊥
 
 pub part_then : (c : Control) {place n : Nonterminal} {variant s : Variant} {p : ParseTree} (rest : ParseTree) → takes (waits c) place ≡ true → Operand place s p → After c place variant n rest →
     Good (Rest c variant n) (Node s p rest)
-part_then c End w o a = absurd a
-part_then c (Node q r m) w o a = absurd a
 part_then c {place = place} {s = s} (Read t m) w o a =
     inner (or_left _ _ (takes_on (waits c) place o.of w o.taken)) o.good (takes_on (left (class t)) place o.of a.0 o.taken) (a.1 s) a.2
+part_then c {place = place} {s = s} {p = p} (Optional t (Read u m)) w o a =
+    inner_turned t u (or_left _ _ (takes_on (waits c) place o.of w o.taken)) o.good (takes_on (left (class t)) place o.of a.0 o.taken) (a.1 s) a.2 a.4 (a.3 s p)
+part_then c m w o a = absurd a
 
 pub ended : (variant : Variant) (n : Nonterminal) → Good (Rest (Closed variant) variant n) End
 ended variant n = closed refl (λ t h. refl)
 
 pub tail_rest : (t : Tail) {s : Variant} {p : ParseTree} → Operand (last_of t) s p → Good (Rest (Open t) (tail_variant t) (whole t)) (Node s p End)
 tail_rest t {s = s} o = last refl (or_left _ _ o.taken) o.good (tail_ends t o.of s o.taken)
+
+pub raised_to : (n k : Nonterminal) {variant : Variant} {p : ParseTree} → takes n k ≡ true → is_private n ≡ false → Good (Whole variant k) p → Good (Whole variant n) p
+raised_to n k h q g = raised (λ c s. or_left _ _ (takes_on (waits c) n k (taken_there (waits c) n _ q s) h)) (λ t e. takes_on (left (class t)) n k e h) g
 
 -- ---- nodes that begin with a token
 
@@ -100,7 +115,7 @@ pub stepped : (t : Token) {s : Variant} {p : ParseTree} → class t ≡ Twice �
 unfolding same_line
 stepped t {s = s} {p = p} e o =
     behind same_line Line Update Postfix (Read t End) refl refl refl o
-    (shifted (ap (without Postfix) e) (ended Update nt.UpdateExpression))
+    (shifted (ap (without Postfix) e) (subst (λ l. Good (Rest (shifted_to Postfix l) Update nt.UpdateExpression) End) (sym e) (ended Update nt.UpdateExpression)))
 
 -- ---- links
 
@@ -147,7 +162,7 @@ abbrev comma : Token
 comma = punctuator (codes ",")
 
 abbrev pub IsName : Token → Type 0
-IsName t = ((s : Variant) → decide (Dotted s) None t ≡ Shift) × (decide Chained None t ≡ Shift) × (shift Chained t ≡ Closed OptChain)
+IsName t = ((s : Variant) → decide (Dotted s) None t ≡ Shift) × (decide Chained None t ≡ Shift) × (shift Chained None t ≡ Closed OptChain)
 
 pub linked : (t : Token) (l : Class) (variant : Variant) (c : Control) {n place : Nonterminal} {s : Variant} {p : ParseTree} (m : ParseTree) → Linked n place → class t ≡ l → links l ≡ true → left l ≡ nt.ChainBase →
     wrapped_to s l ≡ c → Operand place s p → Good (Rest c variant n) m → Good (Whole variant n) (Node s p (Read t m))
@@ -203,7 +218,7 @@ called variant {n = n} {s = s} {m = m} a w o g =
 -- ---- arguments and elements
 
 -- a part in a list, behind `...` or not
-pub dots_then : (c : Control) (variant : Variant) (n : Nonterminal) {m : ParseTree} → decide c None (punctuator (codes "...")) ≡ Shift → shift c (punctuator (codes "...")) ≡ c → Good (Rest c variant n) m →
+pub dots_then : (c : Control) (variant : Variant) (n : Nonterminal) {m : ParseTree} → decide c None (punctuator (codes "...")) ≡ Shift → shift c None (punctuator (codes "...")) ≡ c → Good (Rest c variant n) m →
     Good (Rest c variant n) (Read (punctuator (codes "...")) m)
 dots_then c variant n {m = m} e q g = shifted e (subst (λ z. Good (Rest z variant n) m) (sym q) g)
 
@@ -219,23 +234,55 @@ pub no_arguments : (variant : Variant) (n : Nonterminal) → Good (Rest (Argumen
 unfolding punctuator
 no_arguments variant n = shifted refl (ended variant n)
 
-pub elements_closed : After Elements nt.AssignmentExpression Array nt.PrimaryExpression (Read close_bracket End)
-unfolding punctuator
-elements_closed = (assignment_taken, λ z. refl, ended Array nt.PrimaryExpression)
+-- among elements, behind `a,` or not
+abbrev pub at_element : Bool → Control
+at_element true = NextElement
+at_element false = Elements
 
-pub element_next : {m : ParseTree} → Good (Rest Elements Array nt.PrimaryExpression) m → After Elements nt.AssignmentExpression Array nt.PrimaryExpression (Read comma m)
-unfolding punctuator
-element_next g = (takes_self nt.AssignmentExpression, λ z. refl, g)
+abbrev pub InElements : Bool → ParseTree → Type 0
+InElements b m = Good (Rest (at_element b) Array nt.PrimaryExpression) m
 
-pub hole_then : {m : ParseTree} → Good (Rest Elements Array nt.PrimaryExpression) m → Good (Rest Elements Array nt.PrimaryExpression) (Read comma m)
-unfolding punctuator
-hole_then g = shifted refl g
+-- what comes behind an element, and behind a hole
+abbrev pub BehindElement : ParseTree → Type 0
+BehindElement m = (b : Bool) → After (at_element b) nt.AssignmentExpression Array nt.PrimaryExpression m
 
-pub no_elements : Good (Rest Elements Array nt.PrimaryExpression) (Read close_bracket End)
+abbrev pub BehindHole : ParseTree → Type 0
+BehindHole m = (b : Bool) → InElements b m
+
+pub element_then : (b : Bool) {s : Variant} {p rest : ParseTree} → Operand nt.AssignmentExpression s p → BehindElement rest → InElements b (Node s p rest)
+element_then true {rest = rest} o after = part_then NextElement rest (takes_self nt.AssignmentExpression) o (after true)
+element_then false {rest = rest} o after = part_then Elements rest (takes_self nt.AssignmentExpression) o (after false)
+
+pub spread_element : (b : Bool) {m : ParseTree} → BehindHole m → InElements b (Read (punctuator (codes "...")) m)
+unfolding punctuator
+spread_element true h = shifted refl (h true)
+spread_element false h = shifted refl (h false)
+
+pub elements_closed : BehindElement (Read close_bracket End)
+unfolding punctuator
+elements_closed true = (assignment_taken, λ z. refl, ended Array nt.PrimaryExpression)
+elements_closed false = (assignment_taken, λ z. refl, ended Array nt.PrimaryExpression)
+
+pub elements_comma_closed : BehindElement (Optional comma (Read close_bracket End))
+unfolding punctuator
+elements_comma_closed true = (takes_self nt.AssignmentExpression, λ z. refl, refl, λ z q. refl, ended Array nt.PrimaryExpression)
+elements_comma_closed false = (takes_self nt.AssignmentExpression, λ z. refl, refl, λ z q. refl, ended Array nt.PrimaryExpression)
+
+pub element_next : {m : ParseTree} → InElements true m → BehindElement (Read comma m)
+unfolding punctuator
+element_next g true = (takes_self nt.AssignmentExpression, λ z. refl, g)
+element_next g false = (takes_self nt.AssignmentExpression, λ z. refl, g)
+
+pub hole_then : {m : ParseTree} → InElements false m → BehindHole (Read comma m)
+unfolding punctuator
+hole_then g true = shifted refl g
+hole_then g false = shifted refl g
+
+pub no_elements : InElements false (Read close_bracket End)
 unfolding punctuator
 no_elements = shifted refl (ended Array nt.PrimaryExpression)
 
-pub array : {m : ParseTree} → Good (Rest Elements Array nt.PrimaryExpression) m → Good (Whole Array nt.PrimaryExpression) (Read open_bracket m)
+pub array : {m : ParseTree} → InElements false m → Good (Whole Array nt.PrimaryExpression) (Read open_bracket m)
 unfolding punctuator
 array {m = m} g = begun open_bracket Array nt.PrimaryExpression Elements m refl refl refl g
 
@@ -243,6 +290,14 @@ array {m = m} g = begun open_bracket Array nt.PrimaryExpression Elements m refl 
 
 abbrev pub InObject : Control → ParseTree → Type 0
 InObject c m = Good (Rest c Object nt.PrimaryExpression) m
+
+-- before a property, behind a comma or not
+abbrev pub at_property : Bool → Control
+at_property true = NextProperty
+at_property false = Properties
+
+abbrev pub InProperties : Bool → ParseTree → Type 0
+InProperties b m = InObject (at_property b) m
 
 -- what comes behind a property, whether it ends with its key or with its value
 abbrev pub OnProperty : ParseTree → Type 0
@@ -252,36 +307,51 @@ pub properties_closed : OnProperty (Read (punctuator (codes "}")) End)
 unfolding punctuator
 properties_closed = (shifted refl (ended Object nt.PrimaryExpression), (assignment_taken, λ z. refl, ended Object nt.PrimaryExpression))
 
-pub property_next : {m : ParseTree} → InObject Properties m → OnProperty (Read comma m)
+pub properties_comma_closed : OnProperty (Optional comma (Read (punctuator (codes "}")) End))
+unfolding punctuator
+properties_comma_closed =
+    (shifted_turned refl refl (ended Object nt.PrimaryExpression), (takes_self nt.AssignmentExpression, λ z. refl, refl, λ z q. refl, ended Object nt.PrimaryExpression))
+
+pub property_next : {m : ParseTree} → InProperties true m → OnProperty (Read comma m)
 unfolding punctuator
 property_next g = (shifted refl g, (takes_self nt.AssignmentExpression, λ z. refl, g))
 
-pub no_properties : InObject Properties (Read (punctuator (codes "}")) End)
+pub no_properties : InProperties false (Read (punctuator (codes "}")) End)
 unfolding punctuator
 no_properties = shifted refl (ended Object nt.PrimaryExpression)
 
-pub object : {m : ParseTree} → InObject Properties m → Good (Whole Object nt.PrimaryExpression) (Read (punctuator (codes "{")) m)
+pub object : {m : ParseTree} → InProperties false m → Good (Whole Object nt.PrimaryExpression) (Read (punctuator (codes "{")) m)
 unfolding punctuator
 object {m = m} g = begun (punctuator (codes "{")) Object nt.PrimaryExpression Properties m refl refl refl g
 
 -- a key that is one token
 abbrev pub IsKey : Token → Type 0
-IsKey t = (decide Properties None t ≡ Shift) × (shift Properties t ≡ AfterKey)
+IsKey t = (b : Bool) → (decide (at_property b) None t ≡ Shift) × (shift (at_property b) None t ≡ AfterKey)
 
-pub key_then : (t : Token) {m : ParseTree} → IsKey t → InObject AfterKey m → InObject Properties (Read t m)
-key_then t {m = m} k g = shifted k.0 (subst (λ z. InObject z m) (sym k.1) g)
+pub shifted_key : (b : Bool) (t : Token) {m : ParseTree} → (decide (at_property b) None t ≡ Shift) × (shift (at_property b) None t ≡ AfterKey) → InObject AfterKey m → InProperties b (Read t m)
+shifted_key b t {m = m} k g = shifted k.0 (subst (λ z. InObject z m) (sym k.1) g)
 
-pub computed_then : {s : Variant} {p m : ParseTree} → Operand nt.AssignmentExpression s p → InObject AfterKey m → InObject Properties (Read open_bracket (Node s p (Read close_bracket m)))
+pub key_then : (b : Bool) (t : Token) {m : ParseTree} → IsKey t → InObject AfterKey m → InProperties b (Read t m)
+key_then b t k g = shifted_key b t (k b) g
+
+pub computed_then : (b : Bool) {s : Variant} {p m : ParseTree} → Operand nt.AssignmentExpression s p → InObject AfterKey m → InProperties b (Read open_bracket (Node s p (Read close_bracket m)))
 unfolding punctuator
-computed_then {m = m} o g = shifted refl (part_then InKey (Read close_bracket m) (takes_self nt.AssignmentExpression) o (assignment_taken, λ z. refl, g))
+computed_then true {m = m} o g = shifted refl (part_then InKey (Read close_bracket m) (takes_self nt.AssignmentExpression) o (assignment_taken, λ z. refl, g))
+computed_then false {m = m} o g = shifted refl (part_then InKey (Read close_bracket m) (takes_self nt.AssignmentExpression) o (assignment_taken, λ z. refl, g))
 
 pub value_then : {s : Variant} {p rest : ParseTree} → Operand nt.AssignmentExpression s p → OnProperty rest → InObject AfterKey (Read (punctuator (codes ":")) (Node s p rest))
 unfolding punctuator
 value_then {rest = rest} o on = shifted refl (part_then InValue rest (takes_self nt.AssignmentExpression) o on.1)
 
-pub spread_property : {s : Variant} {p rest : ParseTree} → Operand nt.AssignmentExpression s p → OnProperty rest → InObject Properties (Read (punctuator (codes "...")) (Node s p rest))
+-- `= b` of `{ a = b }`, which stands for a pattern's
+pub initializer_then : {s : Variant} {p rest : ParseTree} → Operand nt.AssignmentExpression s p → OnProperty rest → InObject AfterKey (Read (punctuator (codes "=")) (Node s p rest))
 unfolding punctuator
-spread_property {rest = rest} o on = shifted refl (part_then InValue rest (takes_self nt.AssignmentExpression) o on.1)
+initializer_then {rest = rest} o on = shifted refl (part_then InValue rest (takes_self nt.AssignmentExpression) o on.1)
+
+pub spread_property : (b : Bool) {s : Variant} {p rest : ParseTree} → Operand nt.AssignmentExpression s p → OnProperty rest → InProperties b (Read (punctuator (codes "...")) (Node s p rest))
+unfolding punctuator
+spread_property true {rest = rest} o on = shifted refl (part_then InValue rest (takes_self nt.AssignmentExpression) o on.1)
+spread_property false {rest = rest} o on = shifted refl (part_then InValue rest (takes_self nt.AssignmentExpression) o on.1)
 
 -- ---- `new`, `super`, `import`
 
@@ -352,10 +422,105 @@ listed_next {m = m} o g = part_then Listed (Read comma m) (takes_self nt.Assignm
 pub listed_last : {s : Variant} {p : ParseTree} → Operand nt.AssignmentExpression s p → Good (Rest Listed Seq nt.Expression) (Node s p End)
 listed_last {s = s} o = last refl (or_left _ _ o.taken) o.good (listed_ends o.of s o.taken)
 
+-- a rest stands among parameters
+pub listed_rest : {s : Variant} {p : ParseTree} → Operand nt.AssignmentExpression s p → Good (Rest Listed Seq nt.Expression) (Read (punctuator (codes "...")) (Node s p End))
+unfolding punctuator
+listed_rest o = shifted refl (listed_last o)
+
+-- ---- arrow functions
+
+pub left_taken : takes nt.LeftHandSideExpression nt.PrimaryExpression ≡ true
+unfolding takes is_left_hand_side is_new is_member
+left_taken = refl
+
+pub left_shared : is_private nt.LeftHandSideExpression ≡ false
+unfolding is_private
+left_shared = refl
+
+pub left_assigned : takes nt.AssignmentExpression nt.LeftHandSideExpression ≡ true
+unfolding takes is_assignment is_conditional is_short_circuit is_logical_or is_logical_and is_bitwise_or is_bitwise_xor is_bitwise_and is_equality is_relational is_shift is_additive is_multiplicative is_exponentiation is_unary is_update is_left_hand_side
+left_assigned = refl
+
+-- parameters, by what covers them: in parentheses none, several, a rest, one; or a name alone
+pub no_parameters : Operand nt.PrimaryExpression Paren (Read open_parenthesis (Read close_parenthesis End))
+unfolding is_optional punctuator
+no_parameters = record {
+  of = nt.PrimaryExpression;
+  taken = takes_self nt.PrimaryExpression;
+  own = refl;
+  chain = refl;
+  several = refl;
+  good = begun open_parenthesis Paren nt.PrimaryExpression InParen (Read close_parenthesis End) refl refl refl (shifted refl (ended Paren nt.PrimaryExpression));
+}
+
+pub several_parameters : {p : ParseTree} → Good (Whole Seq nt.Expression) p → Operand nt.PrimaryExpression Paren (Read open_parenthesis (Node Seq p (Read close_parenthesis End)))
+unfolding is_optional
+several_parameters g = record {
+  of = nt.PrimaryExpression;
+  taken = takes_self nt.PrimaryExpression;
+  own = refl;
+  chain = refl;
+  several = refl;
+  good = parenthesized nt.PrimaryExpression refl (record { of = nt.Expression; taken = takes_self nt.Expression; own = refl; chain = refl; several = refl; good = g });
+}
+
+pub one_parameter : {s : Variant} {p : ParseTree} → Operand nt.AssignmentExpression s p → Operand nt.PrimaryExpression Paren (Read open_parenthesis (Node s p (Read close_parenthesis End)))
+unfolding is_optional
+one_parameter o = record {
+  of = nt.PrimaryExpression;
+  taken = takes_self nt.PrimaryExpression;
+  own = refl;
+  chain = refl;
+  several = refl;
+  good = parenthesized nt.PrimaryExpression refl (widened assignment_taken o);
+}
+
+pub rest_parameter : {s : Variant} {p : ParseTree} → Operand nt.AssignmentExpression s p →
+    Operand nt.PrimaryExpression Paren (Read open_parenthesis (Read (punctuator (codes "...")) (Node s p (Read close_parenthesis End))))
+unfolding is_optional punctuator
+rest_parameter o = record {
+  of = nt.PrimaryExpression;
+  taken = takes_self nt.PrimaryExpression;
+  own = refl;
+  chain = refl;
+  several = refl;
+  good =
+      begun open_parenthesis Paren nt.PrimaryExpression InParen _ refl refl refl
+      (shifted refl (part_then InParen (Read close_parenthesis End) (takes_self nt.Expression) (widened assignment_taken o) (takes_self nt.Expression, λ z. refl, ended Paren nt.PrimaryExpression)));
+}
+
+-- what covers one parameter is told from what covers several
+single : {s : Variant} {p : ParseTree} → Operand nt.AssignmentExpression s p → is_several s ≡ false
+single o = o.several ∙ assignment_single o.of o.taken
+
+opened_one : (o c : Token) (s : Variant) (p rest : ParseTree) → is_several s ≡ false → Optional o (Node s p (Optional c rest)) ≡ opened o (Node s p (Read c End)) rest
+opened_one o c Seq p rest h = absurd (true≢false h)
+opened_one o c s p rest h = refl
+
+pub one_turned : {s : Variant} {p : ParseTree} (rest : ParseTree) → Operand nt.AssignmentExpression s p →
+    Optional open_parenthesis (Node s p (Optional close_parenthesis (Read same_line rest))) ≡ turned Paren (Read open_parenthesis (Node s p (Read close_parenthesis End))) same_line rest
+unfolding same_line
+one_turned {s = s} {p = p} rest o = opened_one open_parenthesis close_parenthesis s p (Read same_line rest) (single o)
+
+abbrev pub arrow_mark : Token
+arrow_mark = punctuator (codes "=>")
+
+pub arrow : {s z : Variant} {p q m : ParseTree} → Operand nt.LeftHandSideExpression s p → Operand nt.AssignmentExpression z q → m ≡ turned s p same_line (Read arrow_mark (Node z q End)) →
+    Good (Whole Arrow nt.AssignmentExpression) m
+unfolding same_line punctuator
+arrow {s = s} o r e = wrapped_turned same_line arrow_mark o.good o.taken (arrow_wraps same_line o.of s refl o.taken o.own) refl (tail_rest OfArrow r) e
+
+pub async_arrow : {s z : Variant} {p q m : ParseTree} → Operand nt.LeftHandSideExpression s p → Operand nt.AssignmentExpression z q → m ≡ turned s p same_line (Read arrow_mark (Node z q End)) →
+    Good (Whole Arrow nt.AssignmentExpression) (Read (word (codes "async")) (Read same_line m))
+unfolding same_line punctuator word
+async_arrow {s = s} {m = m} o r e =
+    begun (word (codes "async")) Arrow nt.AssignmentExpression AfterAsync (Read same_line m) refl refl refl
+    (shifted refl (inner_turned same_line arrow_mark (or_left _ _ o.taken) o.good o.taken refl refl (tail_rest OfArrow r) e))
+
 -- ---- templates
 
 abbrev After_class : Control → Class → Nonterminal → Variant → Nonterminal → ParseTree → Type 0
-After_class c l place variant n m = (takes (left l) place ≡ true) × ((s : Variant) → with_operand c l ≡ Shift) × Good (Rest (shifted_to c l) variant n) m
+After_class c l place variant n m = (takes (left l) place ≡ true) × ((s : Variant) → with_operand c l ≡ Shift) × Good (Rest (passed_to c l) variant n) m
 
 later : (opens : Bool) {variant : Variant} {n : Nonterminal} {m : ParseTree} → Good (Rest (template variant opens) variant n) m → After_class (Substitution variant) (Later opens) nt.Expression variant n m
 later true g = (takes_self nt.Expression, λ s. refl, g)

@@ -1,15 +1,15 @@
 -- What is asked of the tables, by evaluation: at an operand and a token one thing alone is to be done.
-use Rattle.std.proofs.Common.{◌≡◌, Bool, true, false, ◌&&◌, ◌||◌, not, ◌⊎◌, inl, inr, Some, None, cond, refl, sym, ap, ◌∙◌}
+use Rattle.std.proofs.Common.{◌≡◌, Bool, true, false, ◌&&◌, ◌||◌, not, ◌⊎◌, inl, inr, Some, None, cond, refl, sym, ap, ◌∙◌, subst}
 use Rattle.std.proofs.lemmas.Bool.{true≢false, and_parts, and_from, or_cases}
 use Rattle.swc_ecma_codegen_grammar.specs.Tokens.{Token}
 use Rattle.swc_ecma_codegen_syntax.specs.declared.nonterminals.Nonterminal.{Nonterminal}
 use Rattle.swc_ecma_codegen_syntax.specs.declared.nonterminals.Nonterminal.TheVariants as nt
 use Rattle.swc_ecma_codegen_syntax.specs.Nonterminals.{is_member, is_new, is_call, is_callee, is_chained, is_left_hand_side, is_update, is_unary, is_exponentiation, is_multiplicative, is_additive, is_shift, is_relational, is_in_left, is_equality, is_bitwise_and, is_bitwise_xor, is_bitwise_or, is_logical_and, is_logical_or, is_coalesce_head, is_short_circuit, is_conditional, is_assignment, is_expression, is_assignment_target, is_pattern_target, is_pattern_element, is_last_element, is_coalesce, is_private, is_optional, is_primary, is_template, is_property_name, is_chain_link, is_assignment_pattern, is_pattern_name, is_rest, is_statement, is_hoistable_declaration, is_block, is_variable_declarations, is_declaration, is_statement_list_item, is_labelled_item, is_module_declaration, is_exported_head, is_function_head, is_generator_head, is_async_function_head, is_async_generator_head, is_function_tail, is_getter_tail, is_setter_tail, is_method_head, is_decorator_list, is_class_head, is_class_tail, is_class_element, is_constructor_name, is_any_function_head, is_head_without_yield, is_head_without_await, is_any_property_name, is_jsx_element, is_jsx_object, is_uncovered, takes}
-use Rattle.swc_ecma_codegen_syntax.specs.UnitProductions.{Chain, here, step}
+use Rattle.swc_ecma_codegen_syntax.specs.UnitProductions.{UnitProduction, Chain, here, step, member_expression_is_primary_expression}
 use Rattle.swc_ecma_codegen_syntax.proofs.Chains.{takes_chain}
 use Rattle.swc_ecma_codegen_syntax.proofs.Taken.{chain_takes}
 use Rattle.swc_ecma_codegen_uniqueness.specs.ParseTrees.{Variant}
-use Rattle.swc_ecma_codegen_uniqueness.proofs.Tables.{Power, Plus, Within, Coalescing, Class, Infix, Assigns, Ask, Comma, Dot, ChainDot, OpenParen, OpenBracket, OpenBrace, Line, Twice, Bang, First, NameToken, PrivateToken, LiteralToken, ThisWord, NewWord, SuperWord, ImportWord, YieldWord, AwaitWord, UnaryWord, made, left_of, class, left, closes, Tail, OfInfix, whole, last, Control, Open, Arguments, Elements, AfterNew, AfterYield, YieldLine, Listed, InParen, Index, Middle, InKey, InValue, Substitution, waits, stands, decide, Action, Push, Wrap, Reduce, Shift, without, with_operand}
+use Rattle.swc_ecma_codegen_uniqueness.proofs.Tables.{Power, Plus, Within, Coalescing, Class, Infix, Assigns, Ask, Comma, Dot, ChainDot, OpenParen, OpenBracket, OpenBrace, Line, Twice, Bang, First, NameToken, PrivateToken, LiteralToken, ThisWord, NewWord, SuperWord, ImportWord, YieldWord, AwaitWord, UnaryWord, made, left_of, class, left, closes, Tail, OfInfix, whole, last, AsyncWord, Control, Open, Arguments, Elements, NextElement, AfterNew, AfterYield, YieldLine, Listed, AsyncLine, InParen, Index, Middle, InKey, InValue, Substitution, waits, stands, decide, Action, Push, Wrap, Reduce, Shift, Turn, without, with_operand}
 
 -- ---- chains of unit productions
 
@@ -38,6 +38,7 @@ wrap_is Wrap h = refl
 wrap_is Shift h = absurd (true≢false (sym h))
 wrap_is Push h = absurd (true≢false (sym h))
 wrap_is Reduce h = absurd (true≢false (sym h))
+wrap_is Turn h = absurd (true≢false (sym h))
 
 abbrev is_push : Action → Bool
 is_push Push = true
@@ -48,6 +49,7 @@ push_is Push h = refl
 push_is Shift h = absurd (true≢false (sym h))
 push_is Wrap h = absurd (true≢false (sym h))
 push_is Reduce h = absurd (true≢false (sym h))
+push_is Turn h = absurd (true≢false (sym h))
 
 -- names of places, of which no node is; and patterns, of which none is here
 abbrev pub is_place : Nonterminal → Bool
@@ -59,6 +61,30 @@ is_place nt.AssignmentTarget = true
 is_place nt.AssignmentPattern = true
 is_place nt.Uncovered = true
 is_place n = false
+
+-- ---- what covers a pattern: the expression that is read in its place
+
+abbrev pub cover : Nonterminal → Nonterminal
+cover nt.AssignmentTarget = nt.LeftHandSideExpression
+cover nt.AssignmentPattern = nt.LeftHandSideExpression
+cover nt.PatternName = nt.LeftHandSideExpression
+cover nt.PatternTarget = nt.LeftHandSideExpression
+cover nt.PatternElement = nt.AssignmentExpression
+cover nt.RestElement = nt.AssignmentExpression
+cover nt.LastElement = nt.AssignmentExpression
+cover n = n
+
+cover_unit : {a b : Nonterminal} → UnitProduction a b → takes (cover a) (cover b) ≡ true
+unfolding is_member is_new is_call is_callee is_chained is_left_hand_side is_update is_unary is_exponentiation is_multiplicative is_additive is_shift is_relational is_in_left is_equality is_bitwise_and is_bitwise_xor is_bitwise_or is_logical_and is_logical_or is_coalesce_head is_short_circuit is_conditional is_assignment is_expression is_assignment_target is_pattern_target is_pattern_element is_last_element is_coalesce is_private is_optional is_primary is_template is_property_name is_chain_link is_assignment_pattern is_pattern_name is_rest is_statement is_hoistable_declaration is_block is_variable_declarations is_declaration is_statement_list_item is_labelled_item is_module_declaration is_exported_head is_function_head is_generator_head is_async_function_head is_async_generator_head is_function_tail is_getter_tail is_setter_tail is_method_head is_decorator_list is_class_head is_class_tail is_class_element is_constructor_name is_any_function_head is_head_without_yield is_head_without_await is_any_property_name is_jsx_element is_jsx_object is_uncovered takes
+cover_unit member_expression_is_primary_expression = refl
+cover_unit u = refl
+
+cover_chain : {a b : Nonterminal} → Chain a b → takes (cover a) (cover b) ≡ true
+cover_chain {a = a} here = chain_takes (cover a) (cover a) here
+cover_chain {a = a} (step {b = b} {c = c} u d) = takes_on (cover a) (cover b) (cover c) (cover_unit u) (cover_chain d)
+
+pub cover_taken : (place n : Nonterminal) → takes place n ≡ true → takes (cover place) (cover n) ≡ true
+cover_taken place n h = cover_chain (takes_chain place n h)
 
 -- ---- where a node ends with a part, what ends the node ends the part
 
@@ -91,6 +117,7 @@ starts SuperWord = true
 starts ImportWord = true
 starts YieldWord = true
 starts AwaitWord = true
+starts AsyncWord = true
 starts c = false
 
 abbrev is_waiting : Control → Bool
@@ -115,6 +142,7 @@ stands_waiting InParen n h s = refl
 stands_waiting (Index variant) n h s = refl
 stands_waiting (Arguments variant) n h s = refl
 stands_waiting Elements n h s = refl
+stands_waiting NextElement n h s = refl
 stands_waiting Middle n h s = refl
 stands_waiting InKey n h s = refl
 stands_waiting InValue n h s = refl
@@ -122,6 +150,7 @@ stands_waiting (Substitution variant) n h s = refl
 stands_waiting AfterNew n h s = refl
 stands_waiting YieldLine n h s = refl
 stands_waiting Listed n h s = refl
+stands_waiting AsyncLine n h s = refl
 stands_waiting c n h s = absurd (true≢false (sym (nothing_stands n s) ∙ h))
 
 pub pushes : (t : Token) (n : Nonterminal) → starts (class t) ≡ true → is_place n ≡ false → (c : Control) → stands c n ≡ true → decide c None t ≡ Push
@@ -209,6 +238,14 @@ pub infix_wraps : (t : Token) (k : Nonterminal) (variant : Variant) → is_infix
 infix_wraps t k variant i e p c s =
     let h = taken_there (waits c) (made_by (class t)) _ (made_private (class t)) s in
     (operand_stands c (class t) k i h e p, wrap_is _ (told _ _ (wrap_test c (class t)) (and_from _ _ i h)))
+
+-- the same of the parameters of an arrow function
+pub arrow_wraps : (t : Token) (k : Nonterminal) (variant : Variant) → class t ≡ Line → closes t k ≡ true → is_place k ≡ false → Wraps t nt.AssignmentExpression k variant
+unfolding is_member is_new is_call is_callee is_chained is_left_hand_side is_update is_unary is_exponentiation is_multiplicative is_additive is_shift is_relational is_in_left is_equality is_bitwise_and is_bitwise_xor is_bitwise_or is_logical_and is_logical_or is_coalesce_head is_short_circuit is_conditional is_assignment is_expression is_assignment_target is_pattern_target is_pattern_element is_last_element is_coalesce is_private is_optional is_primary is_template is_property_name is_chain_link is_assignment_pattern is_pattern_name is_rest is_statement is_hoistable_declaration is_block is_variable_declarations is_declaration is_statement_list_item is_labelled_item is_module_declaration is_exported_head is_function_head is_generator_head is_async_function_head is_async_generator_head is_function_tail is_getter_tail is_setter_tail is_method_head is_decorator_list is_class_head is_class_tail is_class_element is_constructor_name is_any_function_head is_head_without_yield is_head_without_await is_any_property_name is_jsx_element is_jsx_object is_uncovered takes
+arrow_wraps t k variant e h p c s =
+    let w = taken_there (waits c) nt.AssignmentExpression (takes (waits c) nt.RelationalExpression) refl s in
+    let u : stands c nt.UpdateExpression ≡ true = or_left (takes (waits c) nt.UpdateExpression) false (takes_on (waits c) nt.AssignmentExpression nt.UpdateExpression w refl) in
+    infix_wraps t k variant (ap is_infix e) h p c (subst (λ l. stands c (made_by l) ≡ true) (sym e) u)
 
 -- ---- the same of links: members, calls, tags and optional chains
 
@@ -400,9 +437,12 @@ call_plain k h = refl
 pub callee_plain : (k : Nonterminal) → takes nt.CallOrMember k ≡ true → is_place k ≡ false → is_optional k ≡ false
 callee_plain k h p = elim (called_or_member k h p) [ inl q ↦ call_plain k q | inr q ↦ member_plain k q ]
 
--- what is assigned to
-pub target_left : (k : Nonterminal) → takes nt.AssignmentTarget k ≡ true → is_place k ≡ false → takes nt.LeftHandSideExpression k ≡ true
+-- what is no sequence
+abbrev pub is_sequence : Nonterminal → Bool
+is_sequence nt.Expression = true
+is_sequence n = false
+
+pub assignment_single : (k : Nonterminal) → takes nt.AssignmentExpression k ≡ true → is_sequence k ≡ false
 unfolding is_member is_new is_call is_callee is_chained is_left_hand_side is_update is_unary is_exponentiation is_multiplicative is_additive is_shift is_relational is_in_left is_equality is_bitwise_and is_bitwise_xor is_bitwise_or is_logical_and is_logical_or is_coalesce_head is_short_circuit is_conditional is_assignment is_expression is_assignment_target is_pattern_target is_pattern_element is_last_element is_coalesce is_private is_optional is_primary is_template is_property_name is_chain_link is_assignment_pattern is_pattern_name is_rest is_statement is_hoistable_declaration is_block is_variable_declarations is_declaration is_statement_list_item is_labelled_item is_module_declaration is_exported_head is_function_head is_generator_head is_async_function_head is_async_generator_head is_function_tail is_getter_tail is_setter_tail is_method_head is_decorator_list is_class_head is_class_tail is_class_element is_constructor_name is_any_function_head is_head_without_yield is_head_without_await is_any_property_name is_jsx_element is_jsx_object is_uncovered takes
-target_left nt.AssignmentTarget h p = absurd (true≢false p)
-target_left nt.AssignmentPattern h p = absurd (true≢false p)
-target_left k h p = h
+assignment_single nt.Expression h = sym h
+assignment_single k h = refl

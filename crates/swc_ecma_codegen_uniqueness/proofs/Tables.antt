@@ -7,7 +7,7 @@ use Rattle.swc_ecma_codegen_grammar.specs.Tokens.{Token, Value, Characters}
 use Rattle.swc_ecma_codegen_syntax.specs.declared.nonterminals.Nonterminal.{Nonterminal}
 use Rattle.swc_ecma_codegen_syntax.specs.declared.nonterminals.Nonterminal.TheVariants as nt
 use Rattle.swc_ecma_codegen_syntax.specs.Nonterminals.{takes, is_private}
-use Rattle.swc_ecma_codegen_uniqueness.specs.ParseTrees.{Variant, This, Array, Object, Unary, Update, Bin, Assign, Member, SuperProp, Cond, Call, New, Seq, Ident, Lit, Tpl, TaggedTpl, Yield, MetaProp, Await, Paren, PrivateName, OptChain, Other}
+use Rattle.swc_ecma_codegen_uniqueness.specs.ParseTrees.{Variant, This, Array, Object, Unary, Update, Bin, Assign, Member, SuperProp, Cond, Call, New, Seq, Ident, Lit, Tpl, TaggedTpl, Arrow, Yield, MetaProp, Await, Paren, PrivateName, OptChain, Other}
 
 -- ---- tokens
 
@@ -18,9 +18,9 @@ pub data Level : Type 0 where
 -- what a token is
 pub data Class : Type 0 where
   Infix : (level : Level) → Class
-  Assigns Ask Colon Comma Dot ChainDot OpenParen CloseParen OpenBracket CloseBracket OpenBrace CloseBrace Dots Line Twice Bang : Class
+  Assigns Ask Colon Comma Dot ChainDot OpenParen CloseParen OpenBracket CloseBracket OpenBrace CloseBrace Dots Line Twice Bang FatArrow : Class
   First Later : (opens : Bool) → Class
-  NameToken PrivateToken LiteralToken ThisWord NewWord SuperWord ImportWord YieldWord AwaitWord UnaryWord TargetWord MetaWord Strange : Class
+  NameToken PrivateToken LiteralToken ThisWord NewWord SuperWord ImportWord YieldWord AwaitWord AsyncWord UnaryWord TargetWord MetaWord Strange : Class
 
 abbrev look : List (List ℕ × Class) → List ℕ → Class
 look [] text = Strange
@@ -29,7 +29,7 @@ look (e ∷ es) text = cond (bytes_eq text e.0) e.1 (look es text)
 abbrev words : List (List ℕ × Class)
 words =
     (codes "this", ThisWord) ∷ (codes "new", NewWord) ∷ (codes "super", SuperWord) ∷ (codes "import", ImportWord) ∷ (codes "yield", YieldWord)
-    ∷ (codes "await", AwaitWord) ∷ (codes "typeof", UnaryWord) ∷ (codes "void", UnaryWord) ∷ (codes "delete", UnaryWord) ∷ (codes "target", TargetWord)
+    ∷ (codes "await", AwaitWord) ∷ (codes "async", AsyncWord) ∷ (codes "typeof", UnaryWord) ∷ (codes "void", UnaryWord) ∷ (codes "delete", UnaryWord) ∷ (codes "target", TargetWord)
     ∷ (codes "meta", MetaWord) ∷ (codes "true", LiteralToken) ∷ (codes "false", LiteralToken) ∷ (codes "null", LiteralToken)
     ∷ (codes "in", Infix Within) ∷ (codes "instanceof", Infix Comparing) ∷ []
 
@@ -52,7 +52,8 @@ abbrev marks : List (List ℕ × Class)
 marks =
     operators (assignments (
     (codes "?", Ask) ∷ (codes ":", Colon) ∷ (codes ",", Comma) ∷ (codes ".", Dot) ∷ (codes "?.", ChainDot) ∷ (codes "(", OpenParen) ∷ (codes ")", CloseParen)
-    ∷ (codes "[", OpenBracket) ∷ (codes "]", CloseBracket) ∷ (codes "{", OpenBrace) ∷ (codes "}", CloseBrace) ∷ (codes "...", Dots) ∷ (codes "++", Twice) ∷ (codes "--", Twice) ∷ (codes "!", Bang) ∷ (codes "~", Bang) ∷ []))
+    ∷ (codes "[", OpenBracket) ∷ (codes "]", CloseBracket) ∷ (codes "{", OpenBrace) ∷ (codes "}", CloseBrace) ∷ (codes "...", Dots) ∷ (codes "++", Twice) ∷ (codes "--", Twice) ∷ (codes "!", Bang) ∷ (codes "~", Bang)
+    ∷ (codes "=>", FatArrow) ∷ []))
 
 abbrev pub class_of : Kind → Value → Class
 class_of kinds.Word (Characters text) = look words text
@@ -137,7 +138,7 @@ closes t n = takes (left (class t)) n
 -- a node that waits for its last part
 pub data Tail : Type 0 where
   OfInfix : (level : Level) → Tail
-  OfUnary OfUpdate OfCond OfAssign OfAwait OfYield : Tail
+  OfUnary OfUpdate OfCond OfAssign OfAwait OfYield OfArrow : Tail
 
 -- its nonterminal, that of its last part, and its variant
 abbrev pub whole : Tail → Nonterminal
@@ -148,6 +149,7 @@ whole OfCond = nt.ConditionalExpression
 whole OfAssign = nt.AssignmentExpression
 whole OfAwait = nt.UnaryExpression
 whole OfYield = nt.AssignmentExpression
+whole OfArrow = nt.AssignmentExpression
 
 abbrev pub last : Tail → Nonterminal
 last (OfInfix level) = right_of level
@@ -157,6 +159,7 @@ last OfCond = nt.AssignmentExpression
 last OfAssign = nt.AssignmentExpression
 last OfAwait = nt.UnaryExpression
 last OfYield = nt.AssignmentExpression
+last OfArrow = nt.AssignmentExpression
 
 abbrev pub tail_variant : Tail → Variant
 tail_variant (OfInfix level) = Bin
@@ -166,21 +169,23 @@ tail_variant OfCond = Cond
 tail_variant OfAssign = Assign
 tail_variant OfAwait = Await
 tail_variant OfYield = Yield
+tail_variant OfArrow = Arrow
 
--- Where a node is that is begun: at its end; before its last part; in parentheses; behind `a[`; among arguments; among elements; behind `a ?`;
--- in a template; behind `a.`; in an object before a property, behind its key, behind `[` of a key, and before its value; behind `a?.`, `new`,
--- `new.`, `import`, `import.`, `super`, `yield`, what stays on its line behind that, `a` before `++`, and `a,`.
+-- Where a node is that is begun: at its end; before its last part; in parentheses; behind `a[`; among arguments; among elements, and behind `a,` of
+-- them; behind `a ?`; in a template; behind `a.`; in an object before a property, behind a comma, behind a key, behind `[` of a key, and before a value;
+-- behind `a?.`, `new`, `new.`, `import`, `import.`, `super`, `yield`, what stays on its line behind that, `a` before `++` or `=>`, and `a,`; behind
+-- `async`, what stays on its line behind that, and its parameters.
 pub data Control : Type 0 where
   Closed : (variant : Variant) → Control
   Open : (tail : Tail) → Control
   InParen : Control
   Index : (variant : Variant) → Control
   Arguments : (variant : Variant) → Control
-  Elements Middle : Control
+  Elements NextElement Middle : Control
   Substitution : (variant : Variant) → Control
   Dotted : (variant : Variant) → Control
-  Properties AfterKey InKey InValue : Control
-  Chained AfterNew AfterNewDot AfterImport AfterImportDot AfterSuper AfterYield YieldLine Postfix Listed : Control
+  Properties NextProperty AfterKey InKey InValue : Control
+  Chained AfterNew AfterNewDot AfterImport AfterImportDot AfterSuper AfterYield YieldLine Postfix Listed AfterAsync AsyncLine AsyncParameters : Control
 
 -- the nonterminal that stands there
 abbrev pub waits : Control → Nonterminal
@@ -189,6 +194,7 @@ waits InParen = nt.Expression
 waits (Index variant) = nt.Expression
 waits (Arguments variant) = nt.AssignmentExpression
 waits Elements = nt.AssignmentExpression
+waits NextElement = nt.AssignmentExpression
 waits Middle = nt.AssignmentExpression
 waits InKey = nt.AssignmentExpression
 waits InValue = nt.AssignmentExpression
@@ -196,6 +202,7 @@ waits (Substitution variant) = nt.Expression
 waits AfterNew = nt.NewExpression
 waits YieldLine = nt.AssignmentExpression
 waits Listed = nt.AssignmentExpression
+waits AsyncLine = nt.LeftHandSideExpression
 waits c = nt.Uncovered
 
 -- A node stands there; `#a` does where `#a in b` would.
@@ -213,17 +220,21 @@ variant_of c = Other
 
 -- ---- what the machine does
 
--- takes the token, begins a node with it, begins one with the operand at hand and it, ends the topmost one
+-- takes the token, begins a node with it, begins one with the operand at hand and it, ends the topmost one; takes the token, which tells that what
+-- stands before it was otherwise: `]` that the comma before it ends the list, `=>` that what is in parentheses are parameters
 pub data Action : Type 0 where
-  Shift Push Wrap Reduce : Action
+  Shift Push Wrap Reduce Turn : Action
 
 -- with no operand at hand
 abbrev pub without : Control → Class → Action
 without (Open tail) c = Push
+without InParen CloseParen = Shift
+without InParen Dots = Shift
 without InParen c = Push
 without (Index variant) c = Push
 without Middle c = Push
 without (Substitution variant) c = Push
+without Listed Dots = Shift
 without Listed c = Push
 without InKey c = Push
 without InValue c = Push
@@ -232,8 +243,14 @@ without Properties LiteralToken = Shift
 without Properties OpenBracket = Shift
 without Properties Dots = Shift
 without Properties CloseBrace = Shift
+without NextProperty NameToken = Shift
+without NextProperty LiteralToken = Shift
+without NextProperty OpenBracket = Shift
+without NextProperty Dots = Shift
+without NextProperty CloseBrace = Turn
 without AfterKey Colon = Shift
 without AfterKey Comma = Shift
+without AfterKey Assigns = Shift
 without AfterKey CloseBrace = Shift
 without (Arguments variant) CloseParen = Shift
 without (Arguments variant) Dots = Shift
@@ -242,6 +259,10 @@ without Elements CloseBracket = Shift
 without Elements Comma = Shift
 without Elements Dots = Shift
 without Elements c = Push
+without NextElement CloseBracket = Turn
+without NextElement Comma = Shift
+without NextElement Dots = Shift
+without NextElement c = Push
 without (Dotted variant) NameToken = Shift
 without (Dotted variant) PrivateToken = Shift
 without Chained NameToken = Shift
@@ -261,6 +282,10 @@ without AfterYield Line = Shift
 without YieldLine (Infix Times) = Shift
 without YieldLine c = Push
 without Postfix Twice = Shift
+without Postfix FatArrow = Turn
+without AfterAsync Line = Shift
+without AsyncLine c = Push
+without AsyncParameters FatArrow = Turn
 without control c = Reduce
 
 abbrev ends : Nonterminal → Class → Action
@@ -274,6 +299,8 @@ with_operand (Arguments variant) Comma = Shift
 with_operand (Arguments variant) CloseParen = Shift
 with_operand Elements Comma = Shift
 with_operand Elements CloseBracket = Shift
+with_operand NextElement Comma = Shift
+with_operand NextElement CloseBracket = Shift
 with_operand Middle Colon = Shift
 with_operand InKey CloseBracket = Shift
 with_operand InValue Comma = Shift
@@ -282,6 +309,7 @@ with_operand (Substitution variant) (Later opens) = Shift
 with_operand AfterNew OpenParen = Shift
 with_operand AfterNew c = ends nt.NewExpression c
 with_operand YieldLine c = ends nt.AssignmentExpression c
+with_operand AsyncLine Line = Shift
 with_operand Listed Comma = Shift
 with_operand Listed c = ends nt.Expression c
 with_operand control c = Wrap
@@ -293,16 +321,17 @@ at_hand control (Some variant) c = with_operand control c
 abbrev pub decide : Control → Option Variant → Token → Action
 decide control hand t = at_hand control hand (class t)
 
--- behind a token that is taken
+-- behind a token that is taken with no operand at hand
 abbrev pub shifted_to : Control → Class → Control
 shifted_to (Arguments variant) CloseParen = Closed variant
 shifted_to Elements CloseBracket = Closed Array
+shifted_to NextElement CloseBracket = Closed Array
+shifted_to NextElement Comma = Elements
 shifted_to (Dotted variant) c = Closed variant
 shifted_to Chained OpenBracket = Index OptChain
 shifted_to Chained OpenParen = Arguments OptChain
 shifted_to Chained c = Closed OptChain
 shifted_to AfterNew Dot = AfterNewDot
-shifted_to AfterNew c = Arguments New
 shifted_to AfterNewDot c = Closed MetaProp
 shifted_to AfterImport Dot = AfterImportDot
 shifted_to AfterImport c = Arguments Call
@@ -312,25 +341,48 @@ shifted_to AfterSuper Dot = Dotted SuperProp
 shifted_to AfterSuper c = Index SuperProp
 shifted_to AfterYield c = YieldLine
 shifted_to YieldLine c = Open OfYield
+shifted_to Postfix FatArrow = Open OfArrow
 shifted_to Postfix c = Closed Update
-shifted_to InParen c = Closed Paren
-shifted_to (Index variant) c = Closed variant
-shifted_to Middle c = Open OfCond
+shifted_to InParen CloseParen = Closed Paren
 shifted_to Properties OpenBracket = InKey
 shifted_to Properties Dots = InValue
 shifted_to Properties CloseBrace = Closed Object
 shifted_to Properties c = AfterKey
+shifted_to NextProperty OpenBracket = InKey
+shifted_to NextProperty Dots = InValue
+shifted_to NextProperty CloseBrace = Closed Object
+shifted_to NextProperty c = AfterKey
 shifted_to AfterKey Colon = InValue
+shifted_to AfterKey Assigns = InValue
 shifted_to AfterKey CloseBrace = Closed Object
-shifted_to AfterKey c = Properties
-shifted_to InKey c = AfterKey
-shifted_to InValue CloseBrace = Closed Object
-shifted_to InValue c = Properties
-shifted_to (Substitution variant) (Later false) = Closed variant
+shifted_to AfterKey c = NextProperty
+shifted_to AfterAsync c = AsyncLine
+shifted_to AsyncParameters c = Open OfArrow
 shifted_to control c = control
 
-abbrev pub shift : Control → Token → Control
-shift control t = shifted_to control (class t)
+-- behind one that is taken with an operand at hand
+abbrev pub passed_to : Control → Class → Control
+passed_to (Arguments variant) CloseParen = Closed variant
+passed_to Elements CloseBracket = Closed Array
+passed_to Elements c = NextElement
+passed_to NextElement CloseBracket = Closed Array
+passed_to AfterNew c = Arguments New
+passed_to InParen c = Closed Paren
+passed_to (Index variant) c = Closed variant
+passed_to Middle c = Open OfCond
+passed_to InKey c = AfterKey
+passed_to InValue CloseBrace = Closed Object
+passed_to InValue c = NextProperty
+passed_to (Substitution variant) (Later false) = Closed variant
+passed_to AsyncLine c = AsyncParameters
+passed_to control c = control
+
+abbrev pub moved : Control → Option Variant → Class → Control
+moved control None c = shifted_to control c
+moved control (Some variant) c = passed_to control c
+
+abbrev pub shift : Control → Option Variant → Token → Control
+shift control hand t = moved control hand (class t)
 
 -- behind the first token of a node
 abbrev pub template : Variant → Bool → Control
@@ -355,6 +407,7 @@ started SuperWord = AfterSuper
 started ImportWord = AfterImport
 started YieldWord = AfterYield
 started AwaitWord = Open OfAwait
+started AsyncWord = AfterAsync
 started c = Closed Other
 
 abbrev pub start : Token → Control

@@ -16,17 +16,16 @@ use Rattle.swc_ecma_codegen_syntax.specs.declared.parameters.Parameters.{Paramet
 use Rattle.swc_ecma_codegen_syntax.specs.Nonterminals.{takes}
 use Rattle.swc_ecma_codegen_syntax.specs.Forms.{Part}
 use Rattle.swc_ecma_codegen_syntax.specs.Derives.{Derives, DerivesExpr, part, bare_phrase, expr_verdict}
-use Rattle.swc_ecma_codegen_uniqueness.specs.ParseTrees.{Variant, ParseTree, End, Node, tokens_of, AreKnown}
+use Rattle.swc_ecma_codegen_uniqueness.specs.ParseTrees.{Variant, ParseTree, End, Read, Optional, Node, tokens_of, settled, AreCommasAndParentheses, AreKnown}
 use Rattle.swc_ecma_codegen_uniqueness.specs.Parses.{placed, is_inlined, form_parse, expr_parse}
 use Rattle.swc_ecma_codegen_uniqueness.proofs.Tables.{InParen}
 use Rattle.swc_ecma_codegen_uniqueness.proofs.Machine.{Whole, Good, one_tree}
-use Rattle.swc_ecma_codegen_uniqueness.proofs.TableLaws.{or_left}
+use Rattle.swc_ecma_codegen_uniqueness.proofs.TableLaws.{or_left, cover_taken}
 use Rattle.swc_ecma_codegen_uniqueness.proofs.Reading.{derived_parse}
-use Rattle.swc_ecma_codegen_uniqueness.proofs.Parsed.{tokens_before}
+use Rattle.swc_ecma_codegen_uniqueness.proofs.Parsed.{tokens_before, derived_allowed}
 use Rattle.swc_ecma_codegen_uniqueness.proofs.Fits.{PlacedGood, AllGood, taken_at}
 use Rattle.swc_ecma_codegen_uniqueness.proofs.Layers.{all_good}
-use Rattle.swc_ecma_codegen_uniqueness.proofs.Settled.{is_settled_form}
-use Rattle.swc_ecma_codegen_uniqueness.proofs.ParseLaws.{derived_as_parsed}
+use Rattle.swc_ecma_codegen_uniqueness.proofs.ParseLaws.{derived_settled}
 
 -- an expression that is read as it is
 record Readable (m : ParseTree) : Type 0 where
@@ -41,7 +40,7 @@ readable : {s : Settings} {c : Parameters} {n : AnyNode} {ts : List Token} (d : 
 unfolding derived_parse placed is_inlined AllGood PlacedGood
 readable {c = c} {n = n} (part called st d) m k =
     let f = (all_good (part {place = nt.Expression} {c = c} {role = Expression} {n = n} called st d) End k).0 m in
-    record { variant = _; of = _; inside = derived_parse d End; is = refl; taken = taken_at _ _ st; good = f.good }
+    record { variant = _; of = _; inside = derived_parse d End; is = refl; taken = cover_taken nt.Expression _ (taken_at _ _ st); good = f.good }
 
 same_readable : (p q : ParseTree) → Readable p → Readable q → tokens_of p (punctuator (codes ")") ∷ []) ≡ tokens_of q (punctuator (codes ")") ∷ []) → p ≡ q
 unfolding tokens_of punctuator
@@ -51,24 +50,34 @@ same_readable p q x y e =
     (sym (ap (λ z. tokens_of z (punctuator (codes ")") ∷ [])) x.is) ∙ e ∙ ap (λ z. tokens_of z (punctuator (codes ")") ∷ [])) y.is)
     ∙ sym y.is
 
-expr_derived : {s : Settings} {c : Parameters} (a : Expr AnyNode) {ts : List Token} (x : DerivesExpr true s nt.Expression c a ts) → AreKnown (expr_parse s c a) → derived_parse x.1 End ≡ expr_parse s c a
-unfolding form_parse is_settled_form
-expr_derived a x k = derived_as_parsed x.1 End refl k
+expr_derived : {s : Settings} {c : Parameters} (a : Expr AnyNode) {ts : List Token} (x : DerivesExpr true s nt.Expression c a ts) → settled (derived_parse x.1 End) ≡ expr_parse s c a
+unfolding form_parse settled
+expr_derived a x = derived_settled x.1 End
 
-pub parse_tokens : (s : Settings) (c : Parameters) (a : Expr AnyNode) (ts us : List Token) → DerivesExpr true s nt.Expression c a ts → AreKnown (expr_parse s c a) → tokens_of (expr_parse s c a) us ≡ ts ++ us
-unfolding tokens_of
-parse_tokens s c a ts us x k = ap (λ z. tokens_of z us) (sym (expr_derived a x k)) ∙ tokens_before x.1 End us
+-- what syntax leaves open is no node
+known_before : (p : ParseTree) → AreKnown (settled p) → AreKnown p
+unfolding AreKnown settled
+known_before End k = k
+known_before (Read t p) k = known_before p k
+known_before (Optional t p) k = known_before p k
+known_before (Node s p q) (e, h, k) = (e, known_before p h, known_before q k)
+
+expr_known : {s : Settings} {c : Parameters} (a : Expr AnyNode) {ts : List Token} (x : DerivesExpr true s nt.Expression c a ts) → AreKnown (expr_parse s c a) → AreKnown (derived_parse x.1 End)
+expr_known a x k = known_before (derived_parse x.1 End) (subst AreKnown (sym (expr_derived a x)) k)
+
+pub parse_tokens : (s : Settings) (c : Parameters) (a : Expr AnyNode) (ts : List Token) → DerivesExpr true s nt.Expression c a ts →
+    (p : ParseTree) × (settled p ≡ expr_parse s c a) × AreCommasAndParentheses p × ((us : List Token) → tokens_of p us ≡ ts ++ us)
+unfolding tokens_of AreCommasAndParentheses
+parse_tokens s c a ts x = (derived_parse x.1 End, expr_derived a x, derived_allowed x.1 End tt, λ us. tokens_before x.1 End us)
 
 pub one_parse : (s t : Settings) (c e : Parameters) (a b : Expr AnyNode) (ts : List Token) → DerivesExpr true s nt.Expression c a ts → DerivesExpr true t nt.Expression e b ts →
     AreKnown (expr_parse s c a) → AreKnown (expr_parse t e b) → expr_parse s c a ≡ expr_parse t e b
+unfolding tokens_of
 one_parse s t c e a b ts x y h k =
     let u = punctuator (codes ")") ∷ [] in
-    let p = expr_derived a x h in
-    let q = expr_derived b y k in
-    sym p
-    ∙ same_readable _ _ (readable x.1 x.0 (subst AreKnown (sym p) h)) (readable y.1 y.0 (subst AreKnown (sym q) k))
-    (ap (λ z. tokens_of z u) p ∙ parse_tokens s c a ts u x h ∙ sym (parse_tokens t e b ts u y k) ∙ sym (ap (λ z. tokens_of z u) q))
-    ∙ q
+    sym (expr_derived a x)
+    ∙ ap settled (same_readable _ _ (readable x.1 x.0 (expr_known a x h)) (readable y.1 y.0 (expr_known b y k)) (tokens_before x.1 End u ∙ sym (tokens_before y.1 End u)))
+    ∙ expr_derived b y
 
 pub kept_told : (s t : Settings) (c e : Parameters) (a b : Expr AnyNode) (ts : List Token) → holds true (expr_verdict nt.Expression c a) ≡ true → s.minify ≡ c.minify →
     holds true (expr_verdict nt.Expression e b) ≡ true → t.minify ≡ e.minify → Generates s (bare_phrase (expr_phrase a)) ts → Generates t (bare_phrase (expr_phrase b)) ts →

@@ -4,7 +4,11 @@ use Rattle.std.specs.Prelude.{Bool, true, false, List, [], ◌∷◌, ◌++◌}
 use Rattle.std.specs.Str.{chars}
 use Rattle.swc_ecma_codegen_tree.specs.declared.links.AnyNode.{AnyNode, AnyNode-F, fold-AnyNode}
 use Rattle.swc_ecma_codegen_tree.specs.declared.links.AnyNode.TheVariants as whole
+use Rattle.swc_ecma_codegen_tree.specs.declared.links.AnyNode.TheOpen as nodes
 use Rattle.swc_ecma_codegen_tree.specs.declared.exprs.Expr.{Expr}
+use Rattle.swc_ecma_codegen_tree.specs.declared.parts.ExprPart.TheVariants as expr_parts
+use Rattle.swc_ecma_codegen_tree.specs.declared.pats.Pat.{Pat}
+use Rattle.swc_ecma_codegen_tree.specs.declared.pats.Pat.TheVariants as pats
 use Rattle.swc_ecma_codegen_grammar.specs.Keys.{key_token}
 use Rattle.swc_ecma_codegen_grammar.specs.Names.{name_value}
 use Rattle.swc_ecma_codegen_grammar.specs.SpelledNames.{spelled_name}
@@ -15,9 +19,10 @@ use Rattle.swc_ecma_codegen_grammar.specs.Tokens as tokens
 use Rattle.swc_ecma_codegen_grammar.specs.declared.roles.Role.{Role}
 use Rattle.swc_ecma_codegen_grammar.specs.declared.roles.Role.TheVariants.{Expression, Pattern, Statement, ChainMember, ChainCall, Template, TaggedTemplate}
 use Rattle.swc_ecma_codegen_syntax.specs.declared.parameters.Parameters.{Parameters}
+use Rattle.swc_ecma_codegen_syntax.specs.Parameters.{before}
 use Rattle.swc_ecma_codegen_syntax.specs.Forms.{Form, Fixed, Part, Simple, Restricted, Lone, Both, Provided, Closed, Bare, Followed, role_in}
 use Rattle.swc_ecma_codegen_syntax.specs.NodeForms.{node_form}
-use Rattle.swc_ecma_codegen_uniqueness.specs.ParseTrees.{Variant, ParseTree, End, Read, Node, node_variant}
+use Rattle.swc_ecma_codegen_uniqueness.specs.ParseTrees.{Variant, Empty, ParseTree, End, Read, Node, node_variant}
 
 -- the tokens of a phrase, with no comma before a closing mark, and no parentheses but the tree's
 unfoldable pub phrase_tokens : Settings → Phrase → List Token
@@ -37,17 +42,37 @@ unfoldable pub read_all : List Token → ParseTree → ParseTree
 read_all [] rest = rest
 read_all (t ∷ ts) rest = Read t (read_all ts rest)
 
--- A template, and a link of an optional chain, are parts of the node above them, and no nodes of their own.
-unfoldable pub is_inlined : Role → Bool
-is_inlined (ChainMember optional) = true
-is_inlined (ChainCall optional) = true
-is_inlined Template = true
-is_inlined TaggedTemplate = true
-is_inlined role = false
+-- `...a` of a pattern, and an expression that is assigned to
+unfoldable pub is_inlined_pat : {X : Type 0} → Pat X → Bool
+is_inlined_pat (pats.Rest n) = true
+is_inlined_pat (pats.Expr n) = true
+is_inlined_pat n = false
+
+unfoldable pub is_inlined_pattern : {X : Type 0} → AnyNode-F X → Bool
+is_inlined_pattern (nodes.ExprPart (expr_parts.Pat n)) = is_inlined_pat n
+is_inlined_pattern n = false
+
+-- They are parts of the node above them, and no nodes of their own; so are a template, and a link of an optional chain.
+unfoldable pub is_inlined : {X : Type 0} → Role → AnyNode-F X → Bool
+is_inlined (ChainMember optional) n = true
+is_inlined (ChainCall optional) n = true
+is_inlined Template n = true
+is_inlined TaggedTemplate n = true
+is_inlined Pattern n = is_inlined_pattern n
+is_inlined role n = false
 
 unfoldable pub placed : Bool → Variant → (ParseTree → ParseTree) → ParseTree → ParseTree
 placed true variant inside rest = inside rest
 placed false variant inside rest = Node variant (inside End) rest
+
+unfoldable pub is_empty_variant : Variant → Bool
+is_empty_variant Empty = true
+is_empty_variant variant = false
+
+-- an empty statement
+unfoldable pub is_empty_parse : ParseTree → Bool
+is_empty_parse (Node variant inside rest) = is_empty_variant variant
+is_empty_parse p = false
 
 -- what a production says, before what stands behind it, where f says what a part does
 unfoldable pub form_parse : {X : Type 0} → (X → Role → Parameters → ParseTree → ParseTree) → Settings → Form X → ParseTree → ParseTree
@@ -60,16 +85,19 @@ form_parse f s (Both a b) rest = form_parse f s a (form_parse f s b rest)
 form_parse f s (Provided cure condition a) rest = form_parse f s a rest
 form_parse f s (Closed comma close) rest = Read (closing_token close) rest
 form_parse f s (Bare a) rest = form_parse f s a rest
-form_parse f s (Followed place c n next) rest = f n Statement c rest
+form_parse f s (Followed place c n next) rest = f n Statement (before (is_empty_parse (f next Statement c End)) c) rest
 
 -- a node, by its production (of the two of a member, which differ in nonterminals alone, the first)
 unfoldable pub node_parse : {X : Type 0} → (X → Role → Parameters → ParseTree → ParseTree) → Settings → AnyNode-F X → Role → Parameters → ParseTree → ParseTree
-node_parse f s n role c rest = placed (is_inlined role) (node_variant n role) (form_parse f s (node_form false c n role)) rest
+node_parse f s n role c rest = placed (is_inlined role n) (node_variant n role) (form_parse f s (node_form false c n role)) rest
 
 -- a whole node, in a role and under parameters
 unfoldable pub parse : Settings → AnyNode → Role → Parameters → ParseTree → ParseTree
 parse s = fold-AnyNode (Role → Parameters → ParseTree → ParseTree) (node_parse (λ known. known) s)
 
--- an expression by itself
+-- an expression, before what stands behind it; and by itself
+abbrev pub expr_before : Settings → Parameters → Expr AnyNode → ParseTree → ParseTree
+expr_before s c n rest = parse s (whole.Expr n) Expression c rest
+
 abbrev pub expr_parse : Settings → Parameters → Expr AnyNode → ParseTree
-expr_parse s c n = parse s (whole.Expr n) Expression c End
+expr_parse s c n = expr_before s c n End

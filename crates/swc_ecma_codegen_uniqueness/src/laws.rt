@@ -1,7 +1,7 @@
 //! Laws for callers. Each is the contract of a function without parameters that does nothing: a proof cites the function,
 //! and a program has no need to call it.
 
-ghost use Rattle.std.specs.Prelude.{◌≡◌, true, List, ◌++◌};
+ghost use Rattle.std.specs.Prelude.{◌≡◌, true, false, List, ◌++◌};
 ghost use Rattle.swc_ecma_codegen_tree.specs.declared.exprs.Expr.{Expr};
 ghost use Rattle.swc_ecma_codegen_tree.specs.declared.links.AnyNode.{AnyNode};
 ghost use Rattle.swc_ecma_codegen_grammar.specs.Phrases.{Generates};
@@ -11,25 +11,34 @@ ghost use Rattle.swc_ecma_codegen_grammar.specs.Tokens.{Token};
 ghost use Rattle.swc_ecma_codegen_syntax.specs.declared.nonterminals.Nonterminal.TheVariants.{Expression};
 ghost use Rattle.swc_ecma_codegen_syntax.specs.declared.parameters.Parameters.{Parameters as Given};
 ghost use Rattle.swc_ecma_codegen_syntax.specs.Derives.{DerivesExpr, bare_phrase, expr_verdict};
+ghost use Rattle.swc_ecma_codegen_syntax.specs.ExprForms.{expr_form};
 ghost use Rattle.swc_ecma_codegen_syntax.specs.Verdicts.{holds};
-ghost use Rattle.swc_ecma_codegen_uniqueness.specs.ParseTrees.{AreKnown, tokens_of};
-ghost use Rattle.swc_ecma_codegen_uniqueness.specs.Parses.{expr_parse};
+ghost use Rattle.swc_ecma_codegen_uniqueness.specs.ParseTrees.{AreCommasAndParentheses, AreKnown, Node, ParseTree, End, expr_variant, settled, tokens_of};
+ghost use Rattle.swc_ecma_codegen_uniqueness.specs.Parses.{expr_before, expr_parse, form_parse, parse};
 
-/// The parse tree of an expression has the tokens that are derived with the expression, in order and no others.
-/// ECMA-262, section 13.
+/// The parse tree of an expression is a node round what its production says, wherever the expression stands.
+#[tactic(auto, using(crate::proofs::ParseLaws::expr_parse_at))]
+pub fn parse_trees_go_by_productions()
+    ensures { (s : Settings) (c : Given) (a : Expr AnyNode) (rest : ParseTree) → expr_before s c a rest
+        ≡ Node (expr_variant a) (form_parse (parse s) s (expr_form false false c a) End) rest }
+{}
+
+/// The tokens that are derived with an expression are those of its parse tree, in order, and between them commas and parentheses
+/// that syntax leaves open, as in `[a,] = b` and `(a) => b`. ECMA-262, section 13.
 #[tactic(auto, using(crate::proofs::Unique::parse_tokens))]
 pub fn parse_trees_have_their_tokens()
-    ensures { (s : Settings) (c : Given) (a : Expr AnyNode) (ts us : List Token)
-        → DerivesExpr true s Expression c a ts → AreKnown (expr_parse s c a)
-        → tokens_of (expr_parse s c a) us ≡ ts ++ us }
+    ensures { (s : Settings) (c : Given) (a : Expr AnyNode) (ts : List Token) → DerivesExpr true s Expression c a ts
+        → (p : ParseTree) × (settled p ≡ expr_parse s c a) × AreCommasAndParentheses p
+        × ((us : List Token) → tokens_of p us ≡ ts ++ us) }
 {}
 
 /// If one list of tokens is derived with two expressions, they have one parse tree: the same nodes round the same tokens. So
 /// whoever reads the tokens by the grammar gets the expression that they were printed of.
 ///
-/// `a + b * c` isn't read as the product of `a + b` and `c`, `new a().b` not as `new (a().b)`, and `a?.b.c` not as a member
-/// of `(a?.b)`. Of functions, arrow functions, methods, classes, patterns and JSX nothing is said: `AreKnown` leaves out
-/// trees that hold one. Words of the grammar and names are different tokens here: the word `yield` isn't the name `yield`.
+/// `a + b * c` isn't read as the product of `a + b` and `c`, `new a().b` not as `new (a().b)`, `a?.b.c` not as a member of
+/// `(a?.b)`, and `(a, b) => c` not as a sequence. A pattern has the parse tree of the expression that covers it. Of functions,
+/// arrow functions with a block, methods, classes and JSX nothing is said: `AreKnown` leaves out trees that hold one. Words of the
+/// grammar and names are different tokens here: the word `yield` isn't the name `yield`.
 /// ECMA-262, section 13.
 #[tactic(auto, using(crate::proofs::Unique::one_parse))]
 pub fn tokens_tell_the_tree()

@@ -1,0 +1,253 @@
+-- Arrow functions without a block are read as they are: what stands before `=>` are parameters.
+use Rattle.std.proofs.Common.{◌≡◌, Bool, true, false, ◌||◌, not, List, [], ◌∷◌, Option, Some, None, inl, inr, refl, sym, ap, ◌∙◌, subst}
+use Rattle.std.specs.Prelude.{codes, is_some}
+use Rattle.std.proofs.lemmas.Bool.{true≢false}
+use Rattle.swc_ecma_codegen_tree.specs.Links.{PatBox, TsTypeAnnBox, TsTypeParamDeclBox}
+use Rattle.swc_ecma_codegen_tree.specs.declared.links.AnyNode.{AnyNode, AnyNode-F, out-AnyNode}
+use Rattle.swc_ecma_codegen_tree.specs.declared.links.AnyNode.TheOpen as nodes
+use Rattle.swc_ecma_codegen_tree.specs.declared.exprs.ArrowExpr.{ArrowExpr}
+use Rattle.swc_ecma_codegen_tree.specs.declared.exprs.BlockStmtOrExpr.{BlockStmtOrExpr}
+use Rattle.swc_ecma_codegen_tree.specs.declared.exprs.BlockStmtOrExpr.TheVariants as bodies
+use Rattle.swc_ecma_codegen_tree.specs.declared.parts.ExprPart.TheVariants as expr_parts
+use Rattle.swc_ecma_codegen_tree.specs.declared.pats.Pat.TheVariants as pats
+use Rattle.swc_ecma_codegen_grammar.specs.FunctionPhrases.{is_never, word_if, is_typed_arrow}
+use Rattle.swc_ecma_codegen_grammar.specs.PartPhrases.{expr_part}
+use Rattle.swc_ecma_codegen_grammar.specs.PatPhrases.{plain_parameter}
+use Rattle.swc_ecma_codegen_grammar.specs.Phrases.{Phrase, Never, Nothing, One, NameOf, KeyOf, PrivateOf, TagNameOf, Then, CommaBefore, OptionalParentheses, Chosen, Generates, chosen, open_parenthesis, close_parenthesis, mark}
+use Rattle.swc_ecma_codegen_grammar.specs.Phrases as phrases
+use Rattle.swc_ecma_codegen_grammar.specs.Settings.{Settings}
+use Rattle.swc_ecma_codegen_grammar.specs.Tokens.{Token, punctuator, same_line}
+use Rattle.swc_ecma_codegen_grammar.specs.TreePhrases.{phrase, node_phrase}
+use Rattle.swc_ecma_codegen_grammar.proofs.TreeLaws.{phrase_at}
+use Rattle.swc_ecma_codegen_grammar.specs.declared.roles.Role.TheVariants.{Block, Pattern, PlainParameter}
+use Rattle.swc_ecma_codegen_syntax.specs.declared.nonterminals.Nonterminal.TheVariants as nt
+use Rattle.swc_ecma_codegen_syntax.specs.declared.parameters.Parameters.{Parameters}
+use Rattle.swc_ecma_codegen_syntax.specs.Parameters.{of_arrow_parameters}
+use Rattle.swc_ecma_codegen_syntax.specs.Forms.{Form, Fixed, Provided, ByRule, ◌⇢◌, is_met, ending_after, ending_listed}
+use Rattle.swc_ecma_codegen_syntax.specs.FunctionForms.{type_params_form, arrow_params_form, arrow_body_form, async_form, arrow_form}
+use Rattle.swc_ecma_codegen_syntax.specs.MemberForms.{annotation_form}
+use Rattle.swc_ecma_codegen_syntax.specs.PatForms.{pat_part, pat_nonterminal}
+use Rattle.swc_ecma_codegen_syntax.specs.NodeForms.{node_form, node_nonterminal, part_nonterminal}
+use Rattle.swc_ecma_codegen_syntax.specs.Derives.{Derives, fixed, part, simple, restricted, lone, lone_in_parentheses, both, provided, closed, comma_closed, followed, bare}
+use Rattle.swc_ecma_codegen_uniqueness.specs.ParseTrees.{Variant, ParseTree, End, Read, Optional, Node, Ident, Seq, Arrow, Paren, is_known, part_variant, pat_variant, node_variant}
+use Rattle.swc_ecma_codegen_uniqueness.specs.Parses.{read_all, placed, is_inlined, is_inlined_pattern, is_inlined_pat}
+use Rattle.swc_ecma_codegen_uniqueness.proofs.Tables.{Listed}
+use Rattle.swc_ecma_codegen_uniqueness.proofs.TableLaws.{cover}
+use Rattle.swc_ecma_codegen_uniqueness.proofs.Machine.{Whole, Rest, Good, joined, turned}
+use Rattle.swc_ecma_codegen_uniqueness.proofs.Shapes.{Operand, takes_self, widened, left_taken, left_assigned, listed_first, listed_next, listed_last, listed_rest, no_parameters, several_parameters, one_parameter, rest_parameter, one_turned, arrow_mark, arrow, async_arrow}
+use Rattle.swc_ecma_codegen_uniqueness.proofs.Reading.{read_phrase, derived_parse}
+use Rattle.swc_ecma_codegen_uniqueness.proofs.Fits.{Fit, in_place, at_place, PlacedGood, AllGood}
+use Rattle.swc_ecma_codegen_uniqueness.proofs.Atoms.{no_annotation}
+use Rattle.swc_ecma_codegen_uniqueness.proofs.Patterns.{covered_at, LastPart, an_element, a_rest, last_at, no_rest}
+
+-- ---- what stands behind a part stands behind what it is made of
+
+all_joined : (ts : List Token) (m rest : ParseTree) → joined (read_all ts m) rest ≡ read_all ts (joined m rest)
+unfolding read_all
+all_joined [] m rest = refl
+all_joined (t ∷ ts) m rest = ap (Read t) (all_joined ts m rest)
+
+phrase_joined : (s : Settings) (p : Phrase) (ts : List Token) (g : Generates s p ts) (m rest : ParseTree) → joined (read_phrase s p ts g m) rest ≡ read_phrase s p ts g (joined m rest)
+unfolding read_phrase Generates
+phrase_joined s Never ts g m rest = absurd g
+phrase_joined s Nothing ts g m rest = refl
+phrase_joined s (One x) ts g m rest = refl
+phrase_joined s (NameOf at bytes) ts g m rest = refl
+phrase_joined s (KeyOf at bytes) ts g m rest = refl
+phrase_joined s (PrivateOf bytes) ts g m rest = refl
+phrase_joined s (TagNameOf at bytes) ts g m rest = refl
+phrase_joined s (Then a b) ts (us, vs, x, y, e) m rest = phrase_joined s a us x (read_phrase s b vs y m) rest ∙ ap (read_phrase s a us x) (phrase_joined s b vs y m rest)
+phrase_joined s (CommaBefore close) ts (inl e) m rest = refl
+phrase_joined s (CommaBefore close) ts (inr e) m rest = refl
+phrase_joined s (OptionalParentheses a) ts (inl x) m rest = phrase_joined s a ts x m rest
+phrase_joined s (OptionalParentheses a) ts (inr (us, x, e)) m rest = ap (Optional open_parenthesis) (phrase_joined s a us x (Optional close_parenthesis m) rest)
+phrase_joined s (Chosen choice) ts g m rest = all_joined (chosen s choice) m rest
+
+placed_joined : (b : Bool) (variant : Variant) (f : ParseTree → ParseTree) → ((m rest : ParseTree) → joined (f m) rest ≡ f (joined m rest)) → (m rest : ParseTree) → joined (placed b variant f m) rest ≡ placed b variant f (joined m rest)
+unfolding placed
+placed_joined true variant f h m rest = h m rest
+placed_joined false variant f h m rest = refl
+
+derived_joined : {s : Settings} {a : Form AnyNode} {ts : List Token} (d : Derives true s a ts) (m rest : ParseTree) → joined (derived_parse d m) rest ≡ derived_parse d (joined m rest)
+unfolding derived_parse
+derived_joined {s = s} (fixed {p = p} {ts = ts} g) m rest = phrase_joined s p ts g m rest
+derived_joined (part {role = role} {n = n} called st d) m rest = placed_joined (is_inlined role (out-AnyNode n)) (node_variant (out-AnyNode n) role) (derived_parse d) (derived_joined d) m rest
+derived_joined (simple h d) m rest = derived_joined d m rest
+derived_joined (restricted h d) m rest = derived_joined d m rest
+derived_joined (lone h d) m rest = derived_joined d m rest
+derived_joined (lone_in_parentheses d) m rest = ap (Optional open_parenthesis) (derived_joined d (Optional close_parenthesis m) rest)
+derived_joined (both d e) m rest = derived_joined d (derived_parse e m) rest ∙ ap (derived_parse d) (derived_joined e m rest)
+derived_joined (provided h d) m rest = derived_joined d m rest
+derived_joined closed m rest = refl
+derived_joined comma_closed m rest = refl
+derived_joined (followed d) m rest = derived_joined d m rest
+derived_joined (bare d) m rest = derived_joined d m rest
+
+-- ---- several parameters are covered by a sequence
+
+last_listed : {f : ParseTree → ParseTree} → LastPart f → Good (Rest Listed Seq nt.Expression) (f End)
+last_listed (an_element v) = subst (λ z. Good (Rest Listed Seq nt.Expression) z) (sym (v.is End)) (listed_last v.operand)
+last_listed (a_rest v) =
+    subst (λ z. Good (Rest Listed Seq nt.Expression) z) (sym (v.is End ∙ ap (Read (punctuator (codes "..."))) (v.covered.is End))) (listed_rest (widened left_assigned v.covered.operand))
+
+-- what goes on behind a comma
+record Continued (m : ParseTree) : Type 0 where
+  rest : ParseTree
+  is : m ≡ Read (punctuator (codes ",")) rest
+  good : Good (Rest Listed Seq nt.Expression) rest
+
+params_on : {s : Settings} (c : Parameters) (x : PatBox AnyNode) (xs : List (PatBox AnyNode)) {ts : List Token} (d : Derives true s (ending_after (λ place n. pat_part place c n) (x ∷ xs)) ts) → AllGood d → s.minify ≡ c.minify → Continued (derived_parse d End)
+unfolding ending_after AllGood derived_parse read_phrase
+params_on c x [] (both (fixed g) (both d (fixed h))) (y, (o, z)) m = record { rest = derived_parse d End; is = refl; good = last_listed (last_at c x.node.value d o m) }
+params_on c x (y ∷ ys) (both (fixed g) (both d e)) (z, (o, q)) m =
+    let v = covered_at nt.PatternElement no_rest c x.node.value d o m in
+    let k = params_on c y ys e q m in
+    record {
+      rest = derived_parse d (derived_parse e End);
+      is = refl;
+      good = subst (λ w. Good (Rest Listed Seq nt.Expression) w) (sym (v.is (derived_parse e End) ∙ ap (Node v.variant v.inside) k.is)) (listed_next v.operand k.good);
+    }
+
+params_seq : {s : Settings} (c : Parameters) (x y : PatBox AnyNode) (ys : List (PatBox AnyNode)) {ts : List Token} (d : Derives true s (ending_listed (λ place n. pat_part place c n) (x ∷ y ∷ ys)) ts) → AllGood d → s.minify ≡ c.minify →
+    Good (Whole Seq nt.Expression) (derived_parse d End)
+unfolding ending_listed AllGood derived_parse
+params_seq c x y ys (both d e) (o, q) m =
+    let v = covered_at nt.PatternElement no_rest c x.node.value d o m in
+    let k = params_on c y ys e q m in
+    subst (λ w. Good (Whole Seq nt.Expression) w) (sym (v.is (derived_parse e End) ∙ ap (Node v.variant v.inside) k.is)) (listed_first v.operand k.good)
+
+-- ---- what is read in the place of parameters, and turns out to be them at `=>`
+
+record Turned (f : ParseTree → ParseTree) : Type 0 where
+  variant : Variant
+  inside : ParseTree
+  operand : Operand nt.LeftHandSideExpression variant inside
+  is : (rest : ParseTree) → f (Read same_line rest) ≡ turned variant inside same_line rest
+
+-- a name alone needs no parentheses
+lone_in : {s : Settings} (called : Bool) (c : Parameters) (y : AnyNode-F AnyNode) {ts : List Token} (d : Derives true s (node_form called c y Pattern) ts) → is_never (node_phrase phrase y PlainParameter) ≡ false →
+    PlacedGood (is_inlined Pattern y) (s.minify ≡ c.minify → Fit (node_variant y Pattern) (cover (node_nonterminal called c y Pattern)) (derived_parse d End)) (AllGood d) → s.minify ≡ c.minify →
+    Turned (placed (is_inlined Pattern y) (node_variant y Pattern) (derived_parse d))
+unfolding node_phrase expr_part plain_parameter is_never node_nonterminal part_nonterminal pat_nonterminal node_variant part_variant pat_variant is_known PlacedGood placed is_inlined is_inlined_pattern is_inlined_pat same_line
+lone_in called c (nodes.ExprPart (expr_parts.Pat (pats.Ident n))) d h o m =
+    record { variant = Ident; inside = derived_parse d End; operand = in_place (takes_self nt.LeftHandSideExpression) (o m); is = λ rest. refl }
+lone_in called c (nodes.ExprPart (expr_parts.Pat n)) d h o m = absurd (true≢false h)
+lone_in called c y d h o m = absurd (true≢false (sym (o m).known))
+
+one_read : {f : ParseTree → ParseTree} → LastPart f → Turned (λ rest. Optional (punctuator (codes "(")) (f (Optional (punctuator (codes ")")) rest)))
+unfolding same_line
+one_read (an_element v) = record {
+  variant = Paren;
+  inside = Read (punctuator (codes "(")) (Node v.variant v.inside (Read (punctuator (codes ")")) End));
+  operand = widened left_taken (one_parameter v.operand);
+  is = λ rest. ap (Optional (punctuator (codes "("))) (v.is (Optional (punctuator (codes ")")) (Read same_line rest))) ∙ one_turned rest v.operand;
+}
+one_read (a_rest v) = record {
+  variant = Paren;
+  inside = Read (punctuator (codes "(")) (Read (punctuator (codes "...")) (Node v.covered.variant v.covered.inside (Read (punctuator (codes ")")) End)));
+  operand = widened left_taken (rest_parameter (widened left_assigned v.covered.operand));
+  is = λ rest. ap (Optional (punctuator (codes "("))) (v.is _ ∙ ap (Read (punctuator (codes "..."))) (v.covered.is _));
+}
+
+params_read : {s : Settings} (typed : Bool) (c : Parameters) (ns : List (PatBox AnyNode)) {ts : List Token} → typed ≡ false → (d : Derives true s (arrow_params_form c typed ns) ts) → AllGood d → s.minify ≡ c.minify → Turned (derived_parse d)
+unfolding arrow_params_form ending_listed AllGood derived_parse read_phrase same_line
+params_read true c ns t d o m = absurd (true≢false t)
+params_read false c [] t (both (fixed g) (both (fixed h) (fixed k))) o m =
+    record { variant = Paren; inside = Read (punctuator (codes "(")) (Read (punctuator (codes ")")) End); operand = widened left_taken no_parameters; is = λ rest. refl }
+params_read false c (n ∷ []) t (lone h (part called st d)) o m =
+    let v = lone_in called c (out-AnyNode n.node.value) d (ap is_never (sym (phrase_at n.node.value PlainParameter)) ∙ h) o m in
+    record { variant = v.variant; inside = v.inside; operand = v.operand; is = v.is }
+params_read false c (n ∷ []) t (lone_in_parentheses d) o m =
+    let v = one_read (last_at c n.node.value d o m) in
+    record { variant = v.variant; inside = v.inside; operand = v.operand; is = v.is }
+params_read false c (x ∷ y ∷ ys) t (both (fixed g) (both d (fixed h))) (z, (o, w)) m = record {
+  variant = Paren;
+  inside = Read (punctuator (codes "(")) (Node Seq (derived_parse d End) (Read (punctuator (codes ")")) End));
+  operand = widened left_taken (several_parameters (params_seq c x y ys d o m));
+  is = λ rest. ap (Read (punctuator (codes "("))) (sym (derived_joined d End (Read (punctuator (codes ")")) (Read same_line rest))));
+}
+
+-- ---- the rest of it
+
+no_params_types : {s : Settings} (c : Parameters) (o : Option (TsTypeParamDeclBox AnyNode)) {ts : List Token} (d : Derives true s (type_params_form c o) ts) (rest : ParseTree) → derived_parse d rest ≡ rest
+unfolding type_params_form is_met derived_parse read_phrase
+no_params_types c None (fixed g) rest = refl
+no_params_types c (Some n) (provided h d) rest = absurd (true≢false (sym h))
+
+untyped : {s : Settings} (c : Parameters) (o : Option (TsTypeParamDeclBox AnyNode)) (p : Option (TsTypeAnnBox AnyNode)) {ts us : List Token} → Derives true s (type_params_form c o) ts → Derives true s (annotation_form c p) us →
+    (is_some o || is_some p) ≡ false
+unfolding type_params_form annotation_form is_met
+untyped c None None d e = refl
+untyped c None (Some n) d (provided h e) = absurd (true≢false (sym h))
+untyped c (Some n) p (provided h d) e = absurd (true≢false (sym h))
+
+no_star : {s : Settings} (b : Bool) {ts : List Token} (d : Derives true s (Provided ByRule (not b) (Fixed (word_if b (mark (codes "*"))))) ts) (rest : ParseTree) → derived_parse d rest ≡ rest
+unfolding word_if is_met derived_parse read_phrase
+no_star true (provided h d) rest = absurd (true≢false (sym h))
+no_star false (provided h (fixed g)) rest = refl
+
+-- a body that is an expression
+record Body (m : ParseTree) : Type 0 where
+  variant : Variant
+  inside : ParseTree
+  is : m ≡ Node variant inside End
+  operand : Operand nt.AssignmentExpression variant inside
+
+no_block : {X : Type 0} (y : AnyNode-F X) → is_known (node_variant y Block) ≡ true → ⊥
+unfolding node_variant part_variant is_known
+no_block (nodes.ExprPart (expr_parts.Pat n)) k = true≢false (sym k)
+no_block y k = true≢false (sym k)
+
+body_read : {s : Settings} (c : Parameters) (is_async : Bool) (n : BlockStmtOrExpr AnyNode) {ts : List Token} (d : Derives true s (arrow_body_form c is_async n) ts) → AllGood d → s.minify ≡ c.minify → Body (derived_parse d End)
+unfolding arrow_body_form AllGood PlacedGood derived_parse placed is_inlined
+body_read c is_async (bodies.Expr n) (restricted h (part b sb d)) o m = record { variant = _; inside = derived_parse d End; is = refl; operand = at_place _ _ sb (o m) }
+body_read c is_async (bodies.BlockStmt n) (part b sb d) o m = absurd (no_block (out-AnyNode n.node.value) (o m).known)
+
+-- parameters, `=>` and a body, which an operand is turned to
+record Shaped (m : ParseTree) : Type 0 where
+  variant : Variant
+  inside : ParseTree
+  operand : Operand nt.LeftHandSideExpression variant inside
+  body : Variant
+  value : ParseTree
+  result : Operand nt.AssignmentExpression body value
+  is : m ≡ turned variant inside same_line (Read arrow_mark (Node body value End))
+
+shaped : {s : Settings} (b : Bool) (c : Parameters) (n : ArrowExpr AnyNode) {ts us vs ws xs : List Token} (star : Derives true s (Provided ByRule (not n.is_generator) (Fixed (word_if n.is_generator (mark (codes "*"))))) ts)
+    (types : Derives true s (type_params_form c n.type_params) us) (params : Derives true s (arrow_params_form (of_arrow_parameters b c) (is_typed_arrow n) n.params.items) vs)
+    (annotation : Derives true s (annotation_form c n.return_type) ws) (body : Derives true s (arrow_body_form c b n.body) xs) → AllGood params → AllGood body → s.minify ≡ c.minify →
+    Shaped (derived_parse star (derived_parse types (derived_parse params (derived_parse annotation (Read same_line (Read arrow_mark (derived_parse body End)))))))
+shaped b c n star types params annotation body o q m =
+    let p = params_read (is_typed_arrow n) (of_arrow_parameters b c) n.params.items (untyped c n.type_params n.return_type types annotation) params o m in
+    let v = body_read c b n.body body q m in
+    let rest = Read same_line (Read arrow_mark (derived_parse body End)) in
+    record {
+      variant = p.variant;
+      inside = p.inside;
+      operand = p.operand;
+      body = v.variant;
+      value = v.inside;
+      result = v.operand;
+      is =
+          no_star n.is_generator star (derived_parse types (derived_parse params (derived_parse annotation rest)))
+          ∙ no_params_types c n.type_params types (derived_parse params (derived_parse annotation rest))
+          ∙ ap (derived_parse params) (no_annotation c n.return_type annotation rest)
+          ∙ p.is (Read arrow_mark (derived_parse body End))
+          ∙ ap (λ z. turned p.variant p.inside same_line (Read arrow_mark z)) v.is;
+    }
+
+arrow_by : {s : Settings} (b : Bool) (c : Parameters) (n : ArrowExpr AnyNode) {ts : List Token} →
+    (d : Derives true s (async_form b (Provided ByRule (not n.is_generator) (Fixed (word_if n.is_generator (mark (codes "*")))) ⇢ type_params_form c n.type_params
+    ⇢ arrow_params_form (of_arrow_parameters b c) (is_typed_arrow n) n.params.items ⇢ annotation_form c n.return_type ⇢ Fixed phrases.same_line ⇢ Fixed (mark (codes "=>")) ⇢ arrow_body_form c b n.body)) ts) →
+    AllGood d → s.minify ≡ c.minify → Good (Whole Arrow nt.AssignmentExpression) (derived_parse d End)
+unfolding async_form AllGood derived_parse read_phrase
+arrow_by true c n (both (fixed a) (both (fixed l) (both star (both types (both params (both annotation (both (fixed g) (both (fixed h) body)))))))) (y, (z, (u, (v, (o, (w, (x, (k, q)))))))) m =
+    let r = shaped true c n star types params annotation body o q m in
+    async_arrow r.operand r.result r.is
+arrow_by false c n (both star (both types (both params (both annotation (both (fixed g) (both (fixed h) body)))))) (u, (v, (o, (w, (x, (k, q)))))) m =
+    let r = shaped false c n star types params annotation body o q m in
+    arrow r.operand r.result r.is
+
+pub arrow_good : {s : Settings} (c : Parameters) (n : ArrowExpr AnyNode) {ts : List Token} (d : Derives true s (arrow_form c n) ts) → AllGood d → s.minify ≡ c.minify → Good (Whole Arrow nt.AssignmentExpression) (derived_parse d End)
+unfolding arrow_form
+arrow_good c n d o m = arrow_by n.is_async c n d o m
