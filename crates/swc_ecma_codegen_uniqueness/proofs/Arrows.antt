@@ -1,5 +1,5 @@
--- Arrow functions without a block are read as they are: what stands before `=>` are parameters.
-use Rattle.std.proofs.Common.{◌≡◌, Bool, true, false, ◌||◌, not, List, [], ◌∷◌, Option, Some, None, inl, inr, refl, sym, ap, ◌∙◌, subst}
+-- Arrow functions are read as they are: what stands before `=>` are parameters.
+use Rattle.std.proofs.Common.{◌≡◌, Bool, true, false, ◌||◌, not, List, [], ◌∷◌, Option, Some, None, refl, sym, ap, ◌∙◌, subst}
 use Rattle.std.specs.Prelude.{codes, is_some}
 use Rattle.std.proofs.lemmas.Bool.{true≢false}
 use Rattle.swc_ecma_codegen_tree.specs.Links.{PatBox, TsTypeAnnBox, TsTypeParamDeclBox}
@@ -19,69 +19,30 @@ use Rattle.swc_ecma_codegen_grammar.specs.Settings.{Settings}
 use Rattle.swc_ecma_codegen_grammar.specs.Tokens.{Token, punctuator, same_line}
 use Rattle.swc_ecma_codegen_grammar.specs.TreePhrases.{phrase, node_phrase}
 use Rattle.swc_ecma_codegen_grammar.proofs.TreeLaws.{phrase_at}
-use Rattle.swc_ecma_codegen_grammar.specs.declared.roles.Role.TheVariants.{Block, Pattern, PlainParameter}
+use Rattle.swc_ecma_codegen_grammar.specs.declared.roles.Role.TheVariants.{Pattern, PlainParameter}
 use Rattle.swc_ecma_codegen_syntax.specs.declared.nonterminals.Nonterminal.TheVariants as nt
 use Rattle.swc_ecma_codegen_syntax.specs.declared.parameters.Parameters.{Parameters}
 use Rattle.swc_ecma_codegen_syntax.specs.Parameters.{of_arrow_parameters}
-use Rattle.swc_ecma_codegen_syntax.specs.Forms.{Form, Fixed, Provided, ByRule, ◌⇢◌, is_met, ending_after, ending_listed}
+use Rattle.swc_ecma_codegen_syntax.specs.Forms.{Fixed, Provided, ByRule, ◌⇢◌, is_met, ending_after, ending_listed}
 use Rattle.swc_ecma_codegen_syntax.specs.FunctionForms.{type_params_form, arrow_params_form, arrow_body_form, async_form, arrow_form}
 use Rattle.swc_ecma_codegen_syntax.specs.MemberForms.{annotation_form}
 use Rattle.swc_ecma_codegen_syntax.specs.PatForms.{pat_part, pat_nonterminal}
 use Rattle.swc_ecma_codegen_syntax.specs.NodeForms.{node_form, node_nonterminal, part_nonterminal}
-use Rattle.swc_ecma_codegen_syntax.specs.Derives.{Derives, fixed, part, simple, restricted, lone, lone_in_parentheses, both, provided, closed, comma_closed, followed, bare}
-use Rattle.swc_ecma_codegen_uniqueness.specs.ParseTrees.{Variant, ParseTree, End, Read, Optional, Node, Ident, Seq, Arrow, Paren, is_known, part_variant, pat_variant, node_variant}
-use Rattle.swc_ecma_codegen_uniqueness.specs.Parses.{read_all, placed, is_inlined, is_inlined_pattern, is_inlined_pat}
-use Rattle.swc_ecma_codegen_uniqueness.proofs.Tables.{Listed}
-use Rattle.swc_ecma_codegen_uniqueness.proofs.TableLaws.{cover}
-use Rattle.swc_ecma_codegen_uniqueness.proofs.Machine.{Whole, Rest, Good, joined, turned}
-use Rattle.swc_ecma_codegen_uniqueness.proofs.Shapes.{Operand, takes_self, widened, left_taken, left_assigned, listed_first, listed_next, listed_last, listed_rest, no_parameters, several_parameters, one_parameter, rest_parameter, one_turned, arrow_mark, arrow, async_arrow}
+use Rattle.swc_ecma_codegen_syntax.specs.Derives.{Derives, fixed, part, restricted, lone, lone_in_parentheses, both, provided}
+use Rattle.swc_ecma_codegen_uniqueness.specs.ParseTrees.{Variant, ParseTree, End, Read, Optional, Node, Ident, Seq, Arrow, Paren, is_known, part_variant, pat_variant, node_variant, tokens_of}
+use Rattle.swc_ecma_codegen_uniqueness.specs.Parses.{placed, is_inlined, is_inlined_pattern, is_inlined_pat}
+use Rattle.swc_ecma_codegen_uniqueness.proofs.Tables.{Listed, ArrowBody}
+use Rattle.swc_ecma_codegen_uniqueness.proofs.TableLaws.{cover, or_left, takes_on}
+use Rattle.swc_ecma_codegen_uniqueness.proofs.Machine.{Whole, Rest, Good, turned}
+use Rattle.swc_ecma_codegen_uniqueness.proofs.Joined.{derived_joined}
+use Rattle.swc_ecma_codegen_uniqueness.proofs.Parsed.{tokens_before}
+use Rattle.swc_ecma_codegen_uniqueness.proofs.StatementShapes.{operand_heads, arrow_value, arrow_block}
+use Rattle.swc_ecma_codegen_uniqueness.proofs.Heading.{may_be_value, not_excluded}
+use Rattle.swc_ecma_codegen_uniqueness.proofs.Shapes.{Operand, takes_self, assignment_taken, widened, left_taken, left_assigned, listed_first, listed_next, listed_last, listed_rest, no_parameters, several_parameters, one_parameter, rest_parameter, one_turned, arrow_mark, arrow, async_arrow}
 use Rattle.swc_ecma_codegen_uniqueness.proofs.Reading.{read_phrase, derived_parse}
 use Rattle.swc_ecma_codegen_uniqueness.proofs.Fits.{Fit, in_place, at_place, PlacedGood, AllGood}
 use Rattle.swc_ecma_codegen_uniqueness.proofs.Atoms.{no_annotation}
 use Rattle.swc_ecma_codegen_uniqueness.proofs.Patterns.{covered_at, LastPart, an_element, a_rest, last_at, no_rest}
-
--- ---- what stands behind a part stands behind what it is made of
-
-all_joined : (ts : List Token) (m rest : ParseTree) → joined (read_all ts m) rest ≡ read_all ts (joined m rest)
-unfolding read_all
-all_joined [] m rest = refl
-all_joined (t ∷ ts) m rest = ap (Read t) (all_joined ts m rest)
-
-phrase_joined : (s : Settings) (p : Phrase) (ts : List Token) (g : Generates s p ts) (m rest : ParseTree) → joined (read_phrase s p ts g m) rest ≡ read_phrase s p ts g (joined m rest)
-unfolding read_phrase Generates
-phrase_joined s Never ts g m rest = absurd g
-phrase_joined s Nothing ts g m rest = refl
-phrase_joined s (One x) ts g m rest = refl
-phrase_joined s (NameOf at bytes) ts g m rest = refl
-phrase_joined s (KeyOf at bytes) ts g m rest = refl
-phrase_joined s (PrivateOf bytes) ts g m rest = refl
-phrase_joined s (TagNameOf at bytes) ts g m rest = refl
-phrase_joined s (Then a b) ts (us, vs, x, y, e) m rest = phrase_joined s a us x (read_phrase s b vs y m) rest ∙ ap (read_phrase s a us x) (phrase_joined s b vs y m rest)
-phrase_joined s (CommaBefore close) ts (inl e) m rest = refl
-phrase_joined s (CommaBefore close) ts (inr e) m rest = refl
-phrase_joined s (OptionalParentheses a) ts (inl x) m rest = phrase_joined s a ts x m rest
-phrase_joined s (OptionalParentheses a) ts (inr (us, x, e)) m rest = ap (Optional open_parenthesis) (phrase_joined s a us x (Optional close_parenthesis m) rest)
-phrase_joined s (Chosen choice) ts g m rest = all_joined (chosen s choice) m rest
-
-placed_joined : (b : Bool) (variant : Variant) (f : ParseTree → ParseTree) → ((m rest : ParseTree) → joined (f m) rest ≡ f (joined m rest)) → (m rest : ParseTree) → joined (placed b variant f m) rest ≡ placed b variant f (joined m rest)
-unfolding placed
-placed_joined true variant f h m rest = h m rest
-placed_joined false variant f h m rest = refl
-
-derived_joined : {s : Settings} {a : Form AnyNode} {ts : List Token} (d : Derives true s a ts) (m rest : ParseTree) → joined (derived_parse d m) rest ≡ derived_parse d (joined m rest)
-unfolding derived_parse
-derived_joined {s = s} (fixed {p = p} {ts = ts} g) m rest = phrase_joined s p ts g m rest
-derived_joined (part {role = role} {n = n} called st d) m rest = placed_joined (is_inlined role (out-AnyNode n)) (node_variant (out-AnyNode n) role) (derived_parse d) (derived_joined d) m rest
-derived_joined (simple h d) m rest = derived_joined d m rest
-derived_joined (restricted h d) m rest = derived_joined d m rest
-derived_joined (lone h d) m rest = derived_joined d m rest
-derived_joined (lone_in_parentheses d) m rest = ap (Optional open_parenthesis) (derived_joined d (Optional close_parenthesis m) rest)
-derived_joined (both d e) m rest = derived_joined d (derived_parse e m) rest ∙ ap (derived_parse d) (derived_joined e m rest)
-derived_joined (provided h d) m rest = derived_joined d m rest
-derived_joined closed m rest = refl
-derived_joined comma_closed m rest = refl
-derived_joined (followed d) m rest = derived_joined d m rest
-derived_joined (bare d) m rest = derived_joined d m rest
 
 -- ---- several parameters are covered by a sequence
 
@@ -186,32 +147,25 @@ unfolding word_if is_met derived_parse read_phrase
 no_star true (provided h d) rest = absurd (true≢false (sym h))
 no_star false (provided h (fixed g)) rest = refl
 
--- a body that is an expression
-record Body (m : ParseTree) : Type 0 where
-  variant : Variant
-  inside : ParseTree
-  is : m ≡ Node variant inside End
-  operand : Operand nt.AssignmentExpression variant inside
-
-no_block : {X : Type 0} (y : AnyNode-F X) → is_known (node_variant y Block) ≡ true → ⊥
-unfolding node_variant part_variant is_known
-no_block (nodes.ExprPart (expr_parts.Pat n)) k = true≢false (sym k)
-no_block y k = true≢false (sym k)
-
-body_read : {s : Settings} (c : Parameters) (is_async : Bool) (n : BlockStmtOrExpr AnyNode) {ts : List Token} (d : Derives true s (arrow_body_form c is_async n) ts) → AllGood d → s.minify ≡ c.minify → Body (derived_parse d End)
-unfolding arrow_body_form AllGood PlacedGood derived_parse placed is_inlined
-body_read c is_async (bodies.Expr n) (restricted h (part b sb d)) o m = record { variant = _; inside = derived_parse d End; is = refl; operand = at_place _ _ sb (o m) }
-body_read c is_async (bodies.BlockStmt n) (part b sb d) o m = absurd (no_block (out-AnyNode n.node.value) (o m).known)
+-- a value, or a block
+body_read : {s : Settings} (c : Parameters) (is_async : Bool) (n : BlockStmtOrExpr AnyNode) {ts : List Token} (d : Derives true s (arrow_body_form c is_async n) ts) → AllGood d → s.minify ≡ c.minify →
+    Good (Rest ArrowBody Arrow nt.AssignmentExpression) (derived_parse d End)
+unfolding arrow_body_form is_met AllGood PlacedGood derived_parse placed is_inlined tokens_of
+body_read c is_async (bodies.Expr n) (restricted {ts = ts} h (part b sb d)) o m =
+    let v = at_place _ _ sb (o m) in
+    arrow_value v (may_be_value (derived_parse d End) ts (λ us. tokens_before d End us) (operand_heads v.good (or_left _ _ (takes_on nt.Expression nt.AssignmentExpression v.of assignment_taken v.taken))) (not_excluded _ h))
+body_read c is_async (bodies.BlockStmt n) (part b sb d) o m =
+    let v = o m in
+    subst (λ z. Good (Rest ArrowBody Arrow nt.AssignmentExpression) z) (sym v.is) (arrow_block (v.good Arrow nt.AssignmentExpression))
 
 -- parameters, `=>` and a body, which an operand is turned to
 record Shaped (m : ParseTree) : Type 0 where
   variant : Variant
   inside : ParseTree
   operand : Operand nt.LeftHandSideExpression variant inside
-  body : Variant
-  value : ParseTree
-  result : Operand nt.AssignmentExpression body value
-  is : m ≡ turned variant inside same_line (Read arrow_mark (Node body value End))
+  body : ParseTree
+  good : Good (Rest ArrowBody Arrow nt.AssignmentExpression) body
+  is : m ≡ turned variant inside same_line (Read arrow_mark body)
 
 shaped : {s : Settings} (b : Bool) (c : Parameters) (n : ArrowExpr AnyNode) {ts us vs ws xs : List Token} (star : Derives true s (Provided ByRule (not n.is_generator) (Fixed (word_if n.is_generator (mark (codes "*"))))) ts)
     (types : Derives true s (type_params_form c n.type_params) us) (params : Derives true s (arrow_params_form (of_arrow_parameters b c) (is_typed_arrow n) n.params.items) vs)
@@ -219,21 +173,18 @@ shaped : {s : Settings} (b : Bool) (c : Parameters) (n : ArrowExpr AnyNode) {ts 
     Shaped (derived_parse star (derived_parse types (derived_parse params (derived_parse annotation (Read same_line (Read arrow_mark (derived_parse body End)))))))
 shaped b c n star types params annotation body o q m =
     let p = params_read (is_typed_arrow n) (of_arrow_parameters b c) n.params.items (untyped c n.type_params n.return_type types annotation) params o m in
-    let v = body_read c b n.body body q m in
     let rest = Read same_line (Read arrow_mark (derived_parse body End)) in
     record {
       variant = p.variant;
       inside = p.inside;
       operand = p.operand;
-      body = v.variant;
-      value = v.inside;
-      result = v.operand;
+      body = derived_parse body End;
+      good = body_read c b n.body body q m;
       is =
           no_star n.is_generator star (derived_parse types (derived_parse params (derived_parse annotation rest)))
           ∙ no_params_types c n.type_params types (derived_parse params (derived_parse annotation rest))
           ∙ ap (derived_parse params) (no_annotation c n.return_type annotation rest)
-          ∙ p.is (Read arrow_mark (derived_parse body End))
-          ∙ ap (λ z. turned p.variant p.inside same_line (Read arrow_mark z)) v.is;
+          ∙ p.is (Read arrow_mark (derived_parse body End));
     }
 
 arrow_by : {s : Settings} (b : Bool) (c : Parameters) (n : ArrowExpr AnyNode) {ts : List Token} →
@@ -243,10 +194,10 @@ arrow_by : {s : Settings} (b : Bool) (c : Parameters) (n : ArrowExpr AnyNode) {t
 unfolding async_form AllGood derived_parse read_phrase
 arrow_by true c n (both (fixed a) (both (fixed l) (both star (both types (both params (both annotation (both (fixed g) (both (fixed h) body)))))))) (y, (z, (u, (v, (o, (w, (x, (k, q)))))))) m =
     let r = shaped true c n star types params annotation body o q m in
-    async_arrow r.operand r.result r.is
+    async_arrow r.operand r.good r.is
 arrow_by false c n (both star (both types (both params (both annotation (both (fixed g) (both (fixed h) body)))))) (u, (v, (o, (w, (x, (k, q)))))) m =
     let r = shaped false c n star types params annotation body o q m in
-    arrow r.operand r.result r.is
+    arrow r.operand r.good r.is
 
 pub arrow_good : {s : Settings} (c : Parameters) (n : ArrowExpr AnyNode) {ts : List Token} (d : Derives true s (arrow_form c n) ts) → AllGood d → s.minify ≡ c.minify → Good (Whole Arrow nt.AssignmentExpression) (derived_parse d End)
 unfolding arrow_form

@@ -41,8 +41,8 @@ use Rattle.swc_ecma_codegen_syntax.specs.TargetForms.{paren_target_form, simple_
 use Rattle.swc_ecma_codegen_syntax.specs.Derives.{Derives, fixed, part, simple, both, provided}
 use Rattle.swc_ecma_codegen_uniqueness.specs.ParseTrees.{ParseTree, End, Read, Ident as a_name, Lit as a_literal, MetaProp, Paren, simple_target_variant}
 use Rattle.swc_ecma_codegen_uniqueness.specs.Parses.{placed, is_inlined}
-use Rattle.swc_ecma_codegen_uniqueness.proofs.Tables.{LiteralToken, class, started}
-use Rattle.swc_ecma_codegen_uniqueness.proofs.TableLaws.{is_place, starts}
+use Rattle.swc_ecma_codegen_uniqueness.proofs.Tables.{starts, LiteralToken, class, started}
+use Rattle.swc_ecma_codegen_uniqueness.proofs.TableLaws.{is_place}
 use Rattle.swc_ecma_codegen_uniqueness.proofs.Machine.{Whole, Good}
 use Rattle.swc_ecma_codegen_uniqueness.proofs.Shapes.{atom, parenthesized, new_target, import_meta}
 use Rattle.swc_ecma_codegen_uniqueness.proofs.Reading.{read_phrase, derived_parse}
@@ -61,7 +61,7 @@ pub name_read : {s : Settings} (c : Parameters) (n : Ident) {ts : List Token} (d
 unfolding name_form ident is_met derived_parse
 name_read c n (provided h (provided k (fixed g))) rest = named_read _ n.optional n.span.lo (string_bytes n.sym) _ g (and_parts (has_no_escape (string_bytes n.sym)) (not n.optional) k).1 rest
 
-name_atom : (n : Nonterminal) → is_place n ≡ false → (text : List ℕ) → Good (Whole a_name n) (Read (tokens.name text) End)
+pub name_atom : (n : Nonterminal) → is_place n ≡ false → (text : List ℕ) → Good (Whole a_name n) (Read (tokens.name text) End)
 unfolding tokens.name
 name_atom n h text = atom (tokens.name text) a_name n refl h refl
 

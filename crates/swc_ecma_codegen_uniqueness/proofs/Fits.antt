@@ -1,20 +1,26 @@
 -- What is known of the parts of a derivation.
 use Rattle.std.proofs.Common.{◌≡◌, Bool, true, false, ◌||◌, List, refl, sym, subst}
+use Rattle.std.specs.Prelude.{codes}
 use Rattle.std.proofs.lemmas.Bool.{true≢false}
 use Rattle.swc_ecma_codegen_tree.specs.declared.links.AnyNode.{AnyNode, out-AnyNode}
 use Rattle.swc_ecma_codegen_grammar.specs.Settings.{Settings}
-use Rattle.swc_ecma_codegen_grammar.specs.Tokens.{Token}
+use Rattle.swc_ecma_codegen_grammar.specs.Tokens.{Token, punctuator}
+use Rattle.swc_ecma_codegen_grammar.specs.declared.roles.Role.{Role}
+use Rattle.swc_ecma_codegen_grammar.specs.declared.roles.Role.TheVariants.{Statement, Block}
 use Rattle.swc_ecma_codegen_syntax.specs.declared.nonterminals.Nonterminal.{Nonterminal}
+use Rattle.swc_ecma_codegen_syntax.specs.declared.parameters.Parameters.{Parameters}
 use Rattle.swc_ecma_codegen_syntax.specs.Nonterminals.{takes, is_optional}
 use Rattle.swc_ecma_codegen_syntax.specs.Forms.{Form, stands as stands_there, is_met}
 use Rattle.swc_ecma_codegen_syntax.specs.NodeForms.{missing_form, node_nonterminal}
 use Rattle.swc_ecma_codegen_syntax.specs.Derives.{Derives, fixed, part, simple, restricted, lone, lone_in_parentheses, both, provided, closed, comma_closed, followed, bare}
-use Rattle.swc_ecma_codegen_uniqueness.specs.ParseTrees.{Variant, ParseTree, End, is_known, node_variant}
+use Rattle.swc_ecma_codegen_uniqueness.specs.ParseTrees.{Variant, ParseTree, End, Read, is_known, AreKnown, node_variant}
 use Rattle.swc_ecma_codegen_uniqueness.specs.Parses.{is_inlined}
+use Rattle.swc_ecma_codegen_uniqueness.proofs.Tables.{InList, Statement as AtStatement}
 use Rattle.swc_ecma_codegen_uniqueness.proofs.TableLaws.{is_place, is_sequence, cover, cover_taken}
-use Rattle.swc_ecma_codegen_uniqueness.proofs.Machine.{Whole, Good}
+use Rattle.swc_ecma_codegen_uniqueness.proofs.Machine.{Whole, Rest, Good}
 use Rattle.swc_ecma_codegen_uniqueness.proofs.Shapes.{is_chain, is_several, Operand}
-use Rattle.swc_ecma_codegen_uniqueness.proofs.Reading.{derived_parse}
+use Rattle.swc_ecma_codegen_uniqueness.proofs.Reading.{read_phrase, derived_parse}
+use Rattle.swc_ecma_codegen_uniqueness.proofs.StatementShapes.{item_of}
 
 -- a node is read as it is, in the place of the nonterminal that covers it
 pub record Fit (variant : Variant) (n : Nonterminal) (inside : ParseTree) : Type 0 where
@@ -42,11 +48,31 @@ unfoldable pub PlacedGood : Bool → Type 0 → Type 0 → Type 0
 PlacedGood true fit inside = inside
 PlacedGood false fit inside = fit
 
--- Each node right below is read as it is, where the settings minify as its parameters say.
+-- the same of a statement, which stands before `else` or not
+pub record FitItem (b : Bool) (variant : Variant) (inside : ParseTree) : Type 0 where
+  pub known : is_known variant ≡ true
+  pub good : Good (Whole variant (item_of b)) inside
+
+abbrev pub NodeFit : Role → Parameters → Variant → Nonterminal → ParseTree → Type 0
+NodeFit Statement c variant n inside = FitItem c.before_else variant inside
+NodeFit role c variant n inside = Fit variant (cover n) inside
+
+-- a block, which has no node of its own
+pub record BlockFit (f : ParseTree → ParseTree) : Type 0 where
+  pub inside : ParseTree
+  pub is : f End ≡ Read (punctuator (codes "{")) inside
+  pub good : (ends : Variant) (n : Nonterminal) → Good (Rest (AtStatement (InList ends)) ends n) inside
+
+abbrev pub InlinedGood : Role → Type 0 → Type 0 → Type 0
+InlinedGood Block fit inside = fit
+InlinedGood role fit inside = inside
+
+-- Each node right below is read as it is, where the settings minify as its parameters say; no word is one of other statements.
 unfoldable pub AllGood : {s : Settings} {a : Form AnyNode} {ts : List Token} → Derives true s a ts → Type 0
-AllGood (fixed g) = Unit {0}
+AllGood {s = s} (fixed {p = p} {ts = ts} g) = AreKnown (read_phrase s p ts g End)
 AllGood {s = s} (part {c = c} {role = role} {n = n} called st d) =
-    PlacedGood (is_inlined role (out-AnyNode n)) (s.minify ≡ c.minify → Fit (node_variant (out-AnyNode n) role) (cover (node_nonterminal called c (out-AnyNode n) role)) (derived_parse d End)) (AllGood d)
+    PlacedGood (is_inlined role (out-AnyNode n)) (s.minify ≡ c.minify → NodeFit role c (node_variant (out-AnyNode n) role) (node_nonterminal called c (out-AnyNode n) role) (derived_parse d End))
+    (InlinedGood role (s.minify ≡ c.minify → BlockFit (derived_parse d)) (AllGood d))
 AllGood (simple h d) = AllGood d
 AllGood (restricted h d) = AllGood d
 AllGood (lone h d) = AllGood d

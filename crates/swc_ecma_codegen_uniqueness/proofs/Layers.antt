@@ -13,8 +13,6 @@ use Rattle.swc_ecma_codegen_tree.specs.declared.pats.AssignTargetPat.TheVariants
 use Rattle.swc_ecma_codegen_tree.specs.declared.pats.Pat.{Pat}
 use Rattle.swc_ecma_codegen_tree.specs.declared.pats.Pat.TheVariants as pats
 use Rattle.swc_ecma_codegen_tree.specs.declared.pats.SimpleAssignTarget.TheVariants as simple_targets
-use Rattle.swc_ecma_codegen_tree.specs.declared.stmts.Stmt.{Stmt}
-use Rattle.swc_ecma_codegen_tree.specs.declared.stmts.Stmt.TheVariants as stmts
 use Rattle.swc_ecma_codegen_grammar.specs.Phrases.{Phrase, Never, Nothing, One, NameOf, KeyOf, PrivateOf, TagNameOf, Then, CommaBefore, OptionalParentheses, Chosen, Generates, chosen, close_parenthesis}
 use Rattle.swc_ecma_codegen_grammar.specs.ExprPhrases.{this_expr, meta_prop_expr}
 use Rattle.swc_ecma_codegen_grammar.specs.NamePhrases.{private_name}
@@ -22,7 +20,7 @@ use Rattle.swc_ecma_codegen_grammar.specs.Settings.{Settings}
 use Rattle.swc_ecma_codegen_grammar.specs.Tokens.{Token, word}
 use Rattle.swc_ecma_codegen_grammar.specs.Tokens as tokens
 use Rattle.swc_ecma_codegen_grammar.specs.declared.roles.Role.{Role}
-use Rattle.swc_ecma_codegen_grammar.specs.declared.roles.Role.TheVariants.{Expression, Callee, Statement, Pattern, AssignmentTarget}
+use Rattle.swc_ecma_codegen_grammar.specs.declared.roles.Role.TheVariants.{Expression, Callee, Statement, Block, Pattern, AssignmentTarget}
 use Rattle.swc_ecma_codegen_syntax.specs.declared.nonterminals.Nonterminal.{Nonterminal}
 use Rattle.swc_ecma_codegen_syntax.specs.declared.nonterminals.Nonterminal.TheVariants as nt
 use Rattle.swc_ecma_codegen_syntax.specs.declared.parameters.Parameters.{Parameters}
@@ -34,14 +32,14 @@ use Rattle.swc_ecma_codegen_syntax.specs.TargetForms.{target_nonterminal}
 use Rattle.swc_ecma_codegen_syntax.specs.ExprForms.{expr_form, expr_nonterminal, call_or_member}
 use Rattle.swc_ecma_codegen_syntax.specs.NodeForms.{node_form, node_nonterminal, part_form, part_nonterminal}
 use Rattle.swc_ecma_codegen_syntax.specs.Derives.{Derives, fixed, part, simple, restricted, lone, lone_in_parentheses, both, provided, closed, comma_closed, followed, bare}
-use Rattle.swc_ecma_codegen_uniqueness.specs.ParseTrees.{Variant, ParseTree, End, Read, Optional, This, Bin, Member, New, TaggedTpl, PrivateName, is_known, AreKnown, expr_variant, simple_target_variant, target_pat_variant, target_variant, pat_variant, stmt_variant, part_variant, node_variant}
+use Rattle.swc_ecma_codegen_uniqueness.specs.ParseTrees.{Variant, ParseTree, End, Read, Optional, This, Bin, Member, New, TaggedTpl, PrivateName, is_known, AreKnown, expr_variant, simple_target_variant, target_pat_variant, target_variant, pat_variant, part_variant, node_variant}
 use Rattle.swc_ecma_codegen_uniqueness.specs.Parses.{placed, is_inlined, is_inlined_pattern, read_all}
 use Rattle.swc_ecma_codegen_uniqueness.proofs.Tables.{Level, Power, made}
 use Rattle.swc_ecma_codegen_uniqueness.proofs.TableLaws.{is_place, is_sequence, cover}
 use Rattle.swc_ecma_codegen_uniqueness.proofs.Machine.{Whole, Good}
 use Rattle.swc_ecma_codegen_uniqueness.proofs.Shapes.{is_chain, is_several, atom}
 use Rattle.swc_ecma_codegen_uniqueness.proofs.Reading.{read_phrase, derived_parse}
-use Rattle.swc_ecma_codegen_uniqueness.proofs.Fits.{Fit, PlacedGood, AllGood, no_form}
+use Rattle.swc_ecma_codegen_uniqueness.proofs.Fits.{Fit, NodeFit, BlockFit, InlinedGood, PlacedGood, AllGood, no_form}
 use Rattle.swc_ecma_codegen_uniqueness.proofs.Operators.{level, binary_made, unary_good, update_good, bin_good, cond_good, assign_good, yield_good, await_good, seq_good, paren_good}
 use Rattle.swc_ecma_codegen_uniqueness.proofs.Objects.{object_good}
 use Rattle.swc_ecma_codegen_uniqueness.proofs.Lists.{array_good, call_good, new_good}
@@ -49,6 +47,8 @@ use Rattle.swc_ecma_codegen_uniqueness.proofs.Linking.{member_good, super_good, 
 use Rattle.swc_ecma_codegen_uniqueness.proofs.Atoms.{name_good, lit_good, meta_good}
 use Rattle.swc_ecma_codegen_uniqueness.proofs.Patterns.{pat_good, target_good}
 use Rattle.swc_ecma_codegen_uniqueness.proofs.Arrows.{arrow_good}
+use Rattle.swc_ecma_codegen_uniqueness.proofs.Functions.{fn_expr_good}
+use Rattle.swc_ecma_codegen_uniqueness.proofs.Statements.{stmt_good, block_in}
 
 -- ---- an expression
 
@@ -87,7 +87,7 @@ expr_good keeps called c (exprs.Paren n) d o m k = paren_good c n d o m
 expr_good keeps called c (exprs.PrivateName n) (fixed g) o m k = private_good _
 expr_good keeps called c (exprs.OptChain n) d o m k = chain_good c n d o m
 expr_good keeps called c (exprs.Arrow n) d o m k = arrow_good c n.value d o m
-expr_good keeps called c (exprs.Fn n) d o m k = absurd (true≢false (sym k))
+expr_good keeps called c (exprs.Fn n) d o m k = fn_expr_good c n d o m
 expr_good keeps called c (exprs.Class n) d o m k = absurd (true≢false (sym k))
 expr_good keeps called c (exprs.JSXElement n) d o m k = absurd (true≢false (sym k))
 expr_good keeps called c (exprs.JSXFragment n) d o m k = absurd (true≢false (sym k))
@@ -123,7 +123,6 @@ expr_agrees keeps called c (exprs.Bin n) k = subst (Agree Bin) (sym (binary_made
 expr_agrees keeps called c (exprs.Member n) k = called_agrees Member refl refl called
 expr_agrees keeps called c (exprs.TaggedTpl n) k = called_agrees TaggedTpl refl refl called
 expr_agrees keeps called c (exprs.New n) k = new_agrees (has_arguments c keeps n.args)
-expr_agrees keeps called c (exprs.Fn n) k = absurd (true≢false (sym k))
 expr_agrees keeps called c (exprs.Class n) k = absurd (true≢false (sym k))
 expr_agrees keeps called c (exprs.JSXElement n) k = absurd (true≢false (sym k))
 expr_agrees keeps called c (exprs.JSXFragment n) k = absurd (true≢false (sym k))
@@ -154,56 +153,83 @@ fit {variant = variant} {p = p} k a g = subst (λ z. Fit variant z p) (sym a.1) 
 
 -- ---- a node in a role
 
-no_stmt : {X : Type 0} (n : Stmt X) → is_known (stmt_variant n) ≡ true → ⊥
-unfolding stmt_variant is_known
-no_stmt (stmts.Empty n) h = true≢false (sym h)
-no_stmt n h = true≢false (sym h)
-
 -- an expression, what is called, what is assigned to, a pattern
 node_good : {s : Settings} (k : Bool) (c : Parameters) (y : AnyNode-F AnyNode) (role : Role) {ts : List Token} (d : Derives true s (node_form k c y role) ts) → AllGood d → s.minify ≡ c.minify → is_inlined role y ≡ false →
-    is_known (node_variant y role) ≡ true → Fit (node_variant y role) (cover (node_nonterminal k c y role)) (derived_parse d End)
+    is_known (node_variant y role) ≡ true → NodeFit role c (node_variant y role) (node_nonterminal k c y role) (derived_parse d End)
 unfolding node_form node_nonterminal node_variant part_form part_nonterminal part_variant is_inlined is_inlined_pattern is_known
 node_good k c (nodes.Expr n) Expression d o m i h = fit h (expr_agrees false k c n h) (expr_good false k c n d o m h)
 node_good k c (nodes.Expr n) Callee d o m i h = fit h (expr_agrees true k c n h) (expr_good true k c n d o m h)
 node_good k c (nodes.ExprPart (expr_parts.AssignTarget n)) AssignmentTarget d o m i h =
     subst (λ z. Fit (target_variant n) z (derived_parse d End)) (sym (target_covered n)) (fit_at h (target_signs n) (target_good k c n d o m))
 node_good k c (nodes.ExprPart (expr_parts.Pat n)) Pattern d o m i h = fit_at h (pat_signs n) (pat_good k c n d o m i)
-node_good k c (nodes.Stmt n) Statement d o m i h = absurd (no_stmt n h)
+node_good k c (nodes.Stmt n) Statement d o m i h = record { known = h; good = stmt_good c n d o m }
 node_good k c y role d o m i h = absurd (true≢false (sym h))
 
 -- ---- a derivation
 
-all_known : (ts : List Token) (rest : ParseTree) → AreKnown (read_all ts rest) → AreKnown rest
+all_split : (ts : List Token) (rest : ParseTree) → AreKnown (read_all ts rest) → AreKnown (read_all ts End) × AreKnown rest
 unfolding read_all AreKnown
-all_known [] rest k = k
-all_known (t ∷ ts) rest k = all_known ts rest k
+all_split [] rest k = (tt, k)
+all_split (t ∷ ts) rest (e, k) = let q = all_split ts rest k in ((e, q.0), q.1)
 
-phrase_known : (s : Settings) (p : Phrase) (ts : List Token) (g : Generates s p ts) (rest : ParseTree) → AreKnown (read_phrase s p ts g rest) → AreKnown rest
+all_join : (ts : List Token) (rest : ParseTree) → AreKnown (read_all ts End) → AreKnown rest → AreKnown (read_all ts rest)
+unfolding read_all AreKnown
+all_join [] rest k h = h
+all_join (t ∷ ts) rest (e, k) h = (e, all_join ts rest k h)
+
+rest_known : (s : Settings) (p : Phrase) (ts : List Token) (g : Generates s p ts) (rest : ParseTree) → AreKnown (read_phrase s p ts g rest) → AreKnown rest
 unfolding read_phrase AreKnown Generates
-phrase_known s Never ts g rest k = absurd g
-phrase_known s Nothing ts g rest k = k
-phrase_known s (One x) ts g rest k = k
-phrase_known s (NameOf at bytes) ts g rest k = k
-phrase_known s (KeyOf at bytes) ts g rest k = k
-phrase_known s (PrivateOf bytes) ts g rest k = k
-phrase_known s (TagNameOf at bytes) ts g rest k = k
-phrase_known s (Then a b) ts (us, vs, x, y, e) rest k = phrase_known s b vs y rest (phrase_known s a us x (read_phrase s b vs y rest) k)
-phrase_known s (CommaBefore close) ts (inl e) rest k = k
-phrase_known s (CommaBefore close) ts (inr e) rest k = k
-phrase_known s (OptionalParentheses a) ts (inl x) rest k = phrase_known s a ts x rest k
-phrase_known s (OptionalParentheses a) ts (inr (us, x, e)) rest k = phrase_known s a us x (Optional close_parenthesis rest) k
-phrase_known s (Chosen choice) ts g rest k = all_known (chosen s choice) rest k
+rest_known s Never ts g rest k = absurd g
+rest_known s Nothing ts g rest k = k
+rest_known s (One x) ts g rest k = k.1
+rest_known s (NameOf at bytes) ts g rest k = k.1
+rest_known s (KeyOf at bytes) ts g rest k = k.1
+rest_known s (PrivateOf bytes) ts g rest k = k.1
+rest_known s (TagNameOf at bytes) ts g rest k = k.1
+rest_known s (Then a b) ts (us, vs, x, y, e) rest k = rest_known s b vs y rest (rest_known s a us x (read_phrase s b vs y rest) k)
+rest_known s (CommaBefore close) ts (inl e) rest k = k.1
+rest_known s (CommaBefore close) ts (inr e) rest k = k.1
+rest_known s (OptionalParentheses a) ts (inl x) rest k = rest_known s a ts x rest k
+rest_known s (OptionalParentheses a) ts (inr (us, x, e)) rest k = rest_known s a us x (Optional close_parenthesis rest) k
+rest_known s (Chosen choice) ts g rest k = (all_split (chosen s choice) rest k).1
+
+phrase_join : (s : Settings) (p : Phrase) (ts : List Token) (g : Generates s p ts) (m rest : ParseTree) → AreKnown (read_phrase s p ts g m) → AreKnown rest → AreKnown (read_phrase s p ts g rest)
+unfolding read_phrase AreKnown Generates
+phrase_join s Never ts g m rest k h = absurd g
+phrase_join s Nothing ts g m rest k h = h
+phrase_join s (One x) ts g m rest (e, k) h = (e, h)
+phrase_join s (NameOf at bytes) ts g m rest (e, k) h = (e, h)
+phrase_join s (KeyOf at bytes) ts g m rest (e, k) h = (e, h)
+phrase_join s (PrivateOf bytes) ts g m rest (e, k) h = (e, h)
+phrase_join s (TagNameOf at bytes) ts g m rest (e, k) h = (e, h)
+phrase_join s (Then a b) ts (us, vs, x, y, e) m rest k h =
+    phrase_join s a us x (read_phrase s b vs y m) (read_phrase s b vs y rest) k (phrase_join s b vs y m rest (rest_known s a us x (read_phrase s b vs y m) k) h)
+phrase_join s (CommaBefore close) ts (inl w) m rest (e, k) h = (e, h)
+phrase_join s (CommaBefore close) ts (inr w) m rest (e, k) h = (e, h)
+phrase_join s (OptionalParentheses a) ts (inl x) m rest k h = phrase_join s a ts x m rest k h
+phrase_join s (OptionalParentheses a) ts (inr (us, x, e)) m rest k h = phrase_join s a us x (Optional close_parenthesis m) (Optional close_parenthesis rest) k h
+phrase_join s (Chosen choice) ts g m rest k h = all_join (chosen s choice) rest (all_split (chosen s choice) m k).0 h
+
+phrase_split : (s : Settings) (p : Phrase) (ts : List Token) (g : Generates s p ts) (rest : ParseTree) → AreKnown (read_phrase s p ts g rest) → AreKnown (read_phrase s p ts g End) × AreKnown rest
+unfolding AreKnown
+phrase_split s p ts g rest k = (phrase_join s p ts g rest End k tt, rest_known s p ts g rest k)
+
+-- a block has no node of its own
+inlined_known : {s : Settings} (role : Role) (k : Bool) (c : Parameters) (y : AnyNode-F AnyNode) {ts : List Token} (d : Derives true s (node_form k c y role) ts) → AllGood d →
+    InlinedGood role (s.minify ≡ c.minify → BlockFit (derived_parse d)) (AllGood d)
+inlined_known Block k c y d o = λ m. block_in k c y d o m
+inlined_known role k c y d o = o
 
 placed_known : {s : Settings} (b k : Bool) (c : Parameters) (y : AnyNode-F AnyNode) (role : Role) {ts : List Token} (d : Derives true s (node_form k c y role) ts) → is_inlined role y ≡ b →
     ((rest : ParseTree) → AreKnown (derived_parse d rest) → AllGood d × AreKnown rest) → (rest : ParseTree) → AreKnown (placed b (node_variant y role) (derived_parse d) rest) →
-    PlacedGood b (s.minify ≡ c.minify → Fit (node_variant y role) (cover (node_nonterminal k c y role)) (derived_parse d End)) (AllGood d) × AreKnown rest
+    PlacedGood b (s.minify ≡ c.minify → NodeFit role c (node_variant y role) (node_nonterminal k c y role) (derived_parse d End)) (InlinedGood role (s.minify ≡ c.minify → BlockFit (derived_parse d)) (AllGood d)) × AreKnown rest
 unfolding placed PlacedGood AreKnown
-placed_known true k c y role d i h rest q = h rest q
+placed_known true k c y role d i h rest q = let r = h rest q in (inlined_known role k c y d r.0, r.1)
 placed_known false k c y role d i h rest (e, q, r) = ((λ m. node_good k c y role d (h End q).0 m i e), r)
 
 pub all_good : {s : Settings} {a : Form AnyNode} {ts : List Token} (d : Derives true s a ts) (rest : ParseTree) → AreKnown (derived_parse d rest) → AllGood d × AreKnown rest
 unfolding derived_parse AllGood AreKnown
-all_good {s = s} (fixed {p = p} {ts = ts} g) rest k = (tt, phrase_known s p ts g rest k)
+all_good {s = s} (fixed {p = p} {ts = ts} g) rest k = phrase_split s p ts g rest k
 all_good (part {c = c} {role = role} {n = n} called st d) rest k = placed_known (is_inlined role (out-AnyNode n)) called c (out-AnyNode n) role d refl (all_good d) rest k
 all_good (simple h d) rest k = all_good d rest k
 all_good (restricted h d) rest k = all_good d rest k
@@ -214,7 +240,7 @@ all_good (both d e) rest k =
     let y = all_good e rest x.1 in
     ((x.0, y.0), y.1)
 all_good (provided h d) rest k = all_good d rest k
-all_good closed rest k = (tt, k)
-all_good comma_closed rest k = (tt, k)
+all_good closed rest k = (tt, k.1)
+all_good comma_closed rest k = (tt, k.1)
 all_good (followed d) rest k = all_good d rest k
 all_good (bare d) rest k = all_good d rest k

@@ -1,6 +1,8 @@
 pub mod Arrows
 pub mod Atoms
 pub mod Fits
+pub mod Heading
+pub mod Joined
 pub mod Layers
 pub mod Linking
 pub mod Lists
@@ -12,6 +14,9 @@ pub mod ParseLaws
 pub mod Patterns
 pub mod Reading
 pub mod Shapes
+pub mod Functions
+pub mod StatementShapes
+pub mod Statements
 pub mod TableLaws
 pub mod Tables
 pub mod Unique

@@ -1,9 +1,10 @@
 -- A machine that reads a token at a time, with a stack of what is open.
-use Rattle.std.proofs.Common.{◌≡◌, true, List, [], ◌∷◌, Option, Some, None, refl, sym, ap, ◌∙◌}
+use Rattle.std.proofs.Common.{◌≡◌, Bool, true, false, List, [], ◌∷◌, Option, Some, None, refl, sym, ap, ◌∙◌}
+use Rattle.std.proofs.lemmas.Bool.{true≢false}
 use Rattle.swc_ecma_codegen_grammar.specs.Tokens.{Token}
 use Rattle.swc_ecma_codegen_syntax.specs.declared.nonterminals.Nonterminal.{Nonterminal}
 use Rattle.swc_ecma_codegen_uniqueness.specs.ParseTrees.{Variant, Seq, Paren, ParseTree, End, Read, Optional, Node, tokens_of}
-use Rattle.swc_ecma_codegen_uniqueness.proofs.Tables.{Class, Line, class, Control, Action, Shift, Push, Wrap, Reduce, Turn, decide, shift, start, wrap, stands, closes, variant_of}
+use Rattle.swc_ecma_codegen_uniqueness.proofs.Tables.{Class, Line, Colon, class, Control, Action, Shift, Push, Wrap, Reduce, Turn, Begin, Enter, Leave, Splice, Take, begin, entered, outside, decide, shift, start, wrap, stands, closes, variant_of}
 
 -- what is at hand: nothing, or a node
 pub data Hand : Type 0 where
@@ -54,7 +55,7 @@ abbrev pub turned_hand : Hand → Token → ParseTree → ParseTree
 turned_hand Empty t rest = Optional t rest
 turned_hand (Full s p) t rest = turned s p t rest
 
-joined_tokens : (p rest : ParseTree) (us : List Token) → tokens_of (joined p rest) us ≡ tokens_of p (tokens_of rest us)
+pub joined_tokens : (p rest : ParseTree) (us : List Token) → tokens_of (joined p rest) us ≡ tokens_of p (tokens_of rest us)
 unfolding tokens_of
 joined_tokens End rest us = refl
 joined_tokens (Read t p) rest us = ap (λ z. t ∷ z) (joined_tokens p rest us)
@@ -80,6 +81,27 @@ unfolding tokens_of
 turned_by_tokens Line s p t rest us = parameters_tokens s p (Read t rest) us
 turned_by_tokens c s p t rest us = refl
 
+-- what has no node of its own, before what comes behind it; before `:` a label hasn't
+abbrev pub spliced : Hand → ParseTree → ParseTree
+spliced Empty rest = rest
+spliced (Full s p) rest = joined p rest
+
+abbrev pub left_by : Class → Variant → ParseTree → ParseTree → ParseTree
+left_by Colon s p rest = joined p rest
+left_by c s p rest = Node s p rest
+
+abbrev pub left_with : Variant → ParseTree → Token → ParseTree → ParseTree
+left_with s p t rest = left_by (class t) s p (Read t rest)
+
+abbrev pub left_hand : Hand → Token → ParseTree → ParseTree
+left_hand Empty t rest = Read t rest
+left_hand (Full s p) t rest = left_with s p t rest
+
+left_by_tokens : (c : Class) (s : Variant) (p rest : ParseTree) (us : List Token) → tokens_of (left_by c s p rest) us ≡ tokens_of p (tokens_of rest us)
+unfolding tokens_of
+left_by_tokens Colon s p rest us = joined_tokens p rest us
+left_by_tokens c s p rest us = refl
+
 -- ---- states
 
 -- a node that is begun: where it is, what it has so far, before what is to come, and what it has if the next token tells otherwise
@@ -96,14 +118,29 @@ abbrev wrap_at : Hand → Token → Control
 wrap_at Empty t = start t
 wrap_at (Full s p) t = wrap s t
 
+abbrev pub within : Control → Frame → Frame
+within c f = record { control = c; so_far = f.so_far; other = f.other }
+
 -- `reduced` is the state where the topmost frame ends
-abbrev pub acted : Action → Token → Frame → List Frame → Hand → State → State
-acted Shift t f s h reduced =
+abbrev pub acted_once : Action → Token → Frame → List Frame → Hand → State → State
+acted_once Shift t f s h reduced =
     At (record { control = shift f.control (sign h) t; so_far = λ rest. f.so_far (held h (Read t rest)); other = λ rest. f.so_far (turned_hand h t rest) } ∷ s) Empty
-acted Push t f s h reduced = At (record { control = start t; so_far = λ rest. Read t rest; other = λ rest. Read t rest } ∷ f ∷ s) Empty
-acted Wrap t f s h reduced = At (record { control = wrap_at h t; so_far = λ rest. held h (Read t rest); other = λ rest. turned_hand h t rest } ∷ f ∷ s) Empty
-acted Reduce t f s h reduced = reduced
-acted Turn t f s h reduced = At (record { control = shift f.control None t; so_far = λ rest. f.other (Read t rest); other = λ rest. f.other (Read t rest) } ∷ s) Empty
+acted_once Push t f s h reduced = At (record { control = start t; so_far = λ rest. Read t rest; other = λ rest. Read t rest } ∷ f ∷ s) Empty
+acted_once Wrap t f s h reduced = At (record { control = wrap_at h t; so_far = λ rest. held h (Read t rest); other = λ rest. turned_hand h t rest } ∷ f ∷ s) Empty
+acted_once Reduce t f s h reduced = reduced
+acted_once Turn t f s h reduced = At (record { control = shift f.control None t; so_far = λ rest. f.other (Read t rest); other = λ rest. f.other (Read t rest) } ∷ s) Empty
+acted_once Begin t f s h reduced = At (record { control = begin t; so_far = λ rest. Read t rest; other = λ rest. Read t rest } ∷ f ∷ s) Empty
+acted_once Enter t f s h reduced = At (record { control = start t; so_far = λ rest. Read t rest; other = λ rest. Read t rest } ∷ within (entered f.control) f ∷ s) Empty
+acted_once Leave t f s h reduced = At (record { control = wrap_at h t; so_far = λ rest. left_hand h t rest; other = λ rest. left_hand h t rest } ∷ within (outside f.control) f ∷ s) Empty
+acted_once Splice t f s h reduced =
+    At (record { control = shift f.control (sign h) t; so_far = λ rest. f.so_far (spliced h (Read t rest)); other = λ rest. f.so_far (spliced h (Read t rest)) } ∷ s) Empty
+acted_once Take t f s h reduced = Fail
+
+-- an item is taken, and then its list goes on with the token
+abbrev pub acted : Action → Token → Frame → List Frame → Hand → State → State
+acted Take t f s h reduced =
+    acted_once (decide f.control None t) t (record { control = f.control; so_far = λ rest. f.so_far (spliced h rest); other = λ rest. f.so_far (spliced h rest) }) s Empty Fail
+acted a t f s h reduced = acted_once a t f s h reduced
 
 abbrev pub step : Token → List Frame → Hand → State
 step t [] h = Fail
@@ -124,11 +161,27 @@ pub data Mode : Type 0 where
   Whole : (variant : Variant) → (n : Nonterminal) → Mode
   Rest : (at : Control) → (variant : Variant) → (n : Nonterminal) → Mode
 
+-- what begins with a token of which something is said
+abbrev pub Heads : (Token → Type 0) → ParseTree → Type 0
+Heads P m = (us : List Token) → (u : Token) × (vs : List Token) × (tokens_of m us ≡ u ∷ vs) × P u
+
+abbrev pub Enters : Control → Token → Type 0
+Enters c u = (decide c None u ≡ Enter) × (decide (entered c) None u ≡ Push)
+
+-- what a list does at a token with which an item begins, or that ends it
+abbrev pub goes_on : Action → Bool
+goes_on Shift = true
+goes_on Push = true
+goes_on Begin = true
+goes_on Enter = true
+goes_on a = false
+
 -- A token begins the node, wherever one of its nonterminal stands: `-` of `-a`. An operand and the token behind it do: `a` and `+` of `a + b`.
 -- A token is taken: `b` of `a.b`. A part is read, and the token behind it is taken: `b` and `)` of `a(b)`. Nothing is left, and the node ends
 -- before each token that ends it. A part is left, and before each token that ends the node the part ends, and the node: `b` of `a + b`.
 -- The token behind these two tells that they were otherwise: `=>` of `(a, b) => c`; `]` of `[a,] = b`, behind a part or not. What is of one
--- nonterminal is of another that derives it.
+-- nonterminal is of another that derives it. `{` begins a block. An expression and `;` are a statement, and `a:` begins one, whose first token begins the
+-- expression; so does that of the value of an arrow function. A part has no node of its own: a parameter before `,`, an item before the next one or `}`.
 pub data Good : Mode → ParseTree → Type 0 where
   headed : {variant : Variant} {n : Nonterminal} {t : Token} {m : ParseTree} → ((c : Control) → stands c n ≡ true → decide c None t ≡ Push) →
       Good (Rest (start t) variant n) m → Good (Whole variant n) (Read t m)
@@ -151,6 +204,17 @@ pub data Good : Mode → ParseTree → Type 0 where
       Good (Rest (shift (shift at (Some part) t) None u) variant n) m → p ≡ turned part inside t (Read u m) → Good (Rest at variant n) p
   shifted_turned : {at : Control} {variant : Variant} {n : Nonterminal} {t u : Token} {m : ParseTree} → decide at None t ≡ Shift → decide (shift at None t) None u ≡ Turn →
       Good (Rest (shift (shift at None t) None u) variant n) m → Good (Rest at variant n) (Optional t (Read u m))
+  headed_block : {variant : Variant} {n : Nonterminal} {t : Token} {m : ParseTree} → ((c : Control) → stands c n ≡ true → decide c None t ≡ Begin) →
+      Good (Rest (begin t) variant n) m → Good (Whole variant n) (Read t m)
+  stated : {variant left : Variant} {n k : Nonterminal} {inside m p : ParseTree} (t : Token) → Good (Whole left k) inside → closes t k ≡ true →
+      ((c : Control) → stands c n ≡ true → (stands (entered c) k ≡ true) × (decide (entered c) (Some left) t ≡ Leave) × (outside (entered c) ≡ c)) →
+      Heads (λ u. (c : Control) → stands c n ≡ true → Enters c u) inside → Good (Rest (wrap left t) variant n) m → p ≡ left_with left inside t m → Good (Whole variant n) p
+  entering : {at : Control} {variant : Variant} {n : Nonterminal} {m : ParseTree} → Heads (Enters at) m → Good (Rest (entered at) variant n) m → Good (Rest at variant n) m
+  splicing : {at : Control} {variant part : Variant} {n k : Nonterminal} {inside m p : ParseTree} (t : Token) → stands at k ≡ true → Good (Whole part k) inside →
+      closes t k ≡ true → decide at (Some part) t ≡ Splice → Good (Rest (shift at (Some part) t) variant n) m → p ≡ joined inside (Read t m) → Good (Rest at variant n) p
+  taking : {at : Control} {variant part : Variant} {n k : Nonterminal} {inside m p : ParseTree} → stands at k ≡ true → Good (Whole part k) inside →
+      Heads (λ u. (closes u k ≡ true) × (decide at (Some part) u ≡ Take) × (goes_on (decide at None u) ≡ true)) m → Good (Rest at variant n) m → p ≡ joined inside m →
+      Good (Rest at variant n) p
   raised : {variant : Variant} {n k : Nonterminal} {p : ParseTree} → ((c : Control) → stands c n ≡ true → stands c k ≡ true) → ((t : Token) → closes t n ≡ true → closes t k ≡ true) →
       Good (Whole variant k) p → Good (Whole variant n) p
 
@@ -169,9 +233,37 @@ went a t f s h e = ap (λ b. acted b t f s h (step t s (Full (variant_of f.contr
 named : (a b : Variant) (p : ParseTree) (t : Token) (ts : List Token) (f : Frame) (s : List Frame) → a ≡ b → run (t ∷ ts) (At (f ∷ s) (Full a p)) ≡ run (t ∷ ts) (At (f ∷ s) (Full b p))
 named a b p t ts f s e = ap (λ x. run (t ∷ ts) (At (f ∷ s) (Full x p))) e
 
-turned_tokens : (s : Variant) (p : ParseTree) (t u : Token) (m q : ParseTree) (us : List Token) → q ≡ turned s p t (Read u m) → tokens_of q us ≡ tokens_of p (t ∷ u ∷ tokens_of m us)
+pub turned_tokens : (s : Variant) (p : ParseTree) (t u : Token) (m q : ParseTree) (us : List Token) → q ≡ turned s p t (Read u m) → tokens_of q us ≡ tokens_of p (t ∷ u ∷ tokens_of m us)
 unfolding tokens_of
 turned_tokens s p t u m q us e = ap (λ z. tokens_of z us) e ∙ turned_by_tokens (class t) s p t (Read u m) us
+
+pub left_tokens : (s : Variant) (p : ParseTree) (t : Token) (m q : ParseTree) (us : List Token) → q ≡ left_with s p t m → tokens_of q us ≡ tokens_of p (t ∷ tokens_of m us)
+unfolding tokens_of
+left_tokens s p t m q us e = ap (λ z. tokens_of z us) e ∙ left_by_tokens (class t) s p (Read t m) us
+
+joined_so : (p m q : ParseTree) (us : List Token) → q ≡ joined p m → tokens_of q us ≡ tokens_of p (tokens_of m us)
+joined_so p m q us e = ap (λ z. tokens_of z us) e ∙ joined_tokens p m us
+
+-- a token that begins an expression does so in the place that it enters
+entering_there : (f : Frame) (s : List Frame) (ts : List Token) (u : Token) (vs : List Token) → ts ≡ u ∷ vs → Enters f.control u → run ts (At (f ∷ s) Empty) ≡ run ts (At (within (entered f.control) f ∷ s) Empty)
+entering_there f s ts u vs e i =
+    ap (λ us. run us (At (f ∷ s) Empty)) e
+    ∙ ap (run vs) (went Enter u f s Empty i.0 ∙ sym (went Push u (within (entered f.control) f) s Empty i.1))
+    ∙ ap (λ us. run us (At (within (entered f.control) f ∷ s) Empty)) (sym e)
+
+-- a list goes on at a token as if it held nothing
+taken_there : (at : Control) (b : ParseTree → ParseTree) (u : Token) (s : List Frame) (a : Action) → decide at None u ≡ a → goes_on a ≡ true →
+    acted_once (decide at None u) u (record { control = at; so_far = b; other = b }) s Empty Fail ≡ step u (record { control = at; so_far = b; other = b } ∷ s) Empty
+taken_there at b u s Shift e h = ap (λ a. acted_once a u (record { control = at; so_far = b; other = b }) s Empty Fail) e ∙ sym (went Shift u (record { control = at; so_far = b; other = b }) s Empty e)
+taken_there at b u s Push e h = ap (λ a. acted_once a u (record { control = at; so_far = b; other = b }) s Empty Fail) e ∙ sym (went Push u (record { control = at; so_far = b; other = b }) s Empty e)
+taken_there at b u s Begin e h = ap (λ a. acted_once a u (record { control = at; so_far = b; other = b }) s Empty Fail) e ∙ sym (went Begin u (record { control = at; so_far = b; other = b }) s Empty e)
+taken_there at b u s Enter e h = ap (λ a. acted_once a u (record { control = at; so_far = b; other = b }) s Empty Fail) e ∙ sym (went Enter u (record { control = at; so_far = b; other = b }) s Empty e)
+taken_there at b u s Wrap e h = absurd (true≢false (sym h))
+taken_there at b u s Reduce e h = absurd (true≢false (sym h))
+taken_there at b u s Turn e h = absurd (true≢false (sym h))
+taken_there at b u s Leave e h = absurd (true≢false (sym h))
+taken_there at b u s Splice e h = absurd (true≢false (sym h))
+taken_there at b u s Take e h = absurd (true≢false (sym h))
 
 pub reads : {mode : Mode} {m : ParseTree} → Good mode m → Claim mode m
 unfolding tokens_of
@@ -220,6 +312,39 @@ reads (shifted_turned {at = at} {t = u} {u = v} {m = m} e k g) = λ b o f s t ts
     ap (run (v ∷ tokens_of m (t ∷ ts))) (went Shift u top (f ∷ s) Empty e)
     ∙ ap (run (tokens_of m (t ∷ ts))) (went Turn v next (f ∷ s) Empty k)
     ∙ reads g (λ rest. b (Optional u (Read v rest))) (λ rest. b (Optional u (Read v rest))) f s t ts cl
+reads (headed_block {t = u} {m = m} push g) = λ f s t ts st cl.
+    ap (run (tokens_of m (t ∷ ts))) (went Begin u f s Empty (push f.control st)) ∙ reads g (λ rest. Read u rest) (λ rest. Read u rest) f s t ts cl
+reads (stated {variant = variant} {left = left} {inside = p} {m = m} {p = q} u i c w h g same) = λ f s t ts st cl.
+    let top : Frame = within (entered f.control) f in
+    let head = h (u ∷ tokens_of m (t ∷ ts)) in
+    ap (λ us. run us (At (f ∷ s) Empty)) (left_tokens left p u m q (t ∷ ts) same)
+    ∙ entering_there f s (tokens_of p (u ∷ tokens_of m (t ∷ ts))) head.0 head.1 head.2 (head.3 f.control st)
+    ∙ reads i top s u (tokens_of m (t ∷ ts)) (w f.control st).0 c
+    ∙ ap (run (tokens_of m (t ∷ ts))) (went Leave u top s (Full left p) (w f.control st).1)
+    ∙ ap (λ z. run (tokens_of m (t ∷ ts)) (At (record { control = wrap left u; so_far = λ rest. left_with left p u rest; other = λ rest. left_with left p u rest } ∷ within z f ∷ s) Empty)) (w f.control st).2
+    ∙ reads g (λ rest. left_with left p u rest) (λ rest. left_with left p u rest) f s t ts cl
+    ∙ ap (λ z. run (t ∷ ts) (At (f ∷ s) (Full variant z))) (sym same)
+reads (entering {at = at} {m = m} h g) = λ b o f s t ts cl.
+    let top : Frame = record { control = at; so_far = b; other = o } in
+    let head = h (t ∷ ts) in
+    entering_there top (f ∷ s) (tokens_of m (t ∷ ts)) head.0 head.1 head.2 head.3 ∙ reads g b o f s t ts cl
+reads (splicing {at = at} {variant = variant} {part = part} {inside = p} {m = m} {p = q} u st i c e g same) = λ b o f s t ts cl.
+    let top : Frame = record { control = at; so_far = b; other = o } in
+    ap (λ us. run us (At (top ∷ f ∷ s) Empty)) (joined_so p (Read u m) q (t ∷ ts) same)
+    ∙ reads i top (f ∷ s) u (tokens_of m (t ∷ ts)) st c
+    ∙ ap (run (tokens_of m (t ∷ ts))) (went Splice u top (f ∷ s) (Full part p) e)
+    ∙ reads g (λ rest. b (joined p (Read u rest))) (λ rest. b (joined p (Read u rest))) f s t ts cl
+    ∙ ap (λ z. run (t ∷ ts) (At (f ∷ s) (Full variant (b z)))) (sym same)
+reads (taking {at = at} {variant = variant} {part = part} {inside = p} {m = m} {p = q} st i h g same) = λ b o f s t ts cl.
+    let top : Frame = record { control = at; so_far = b; other = o } in
+    let head = h (t ∷ ts) in
+    ap (λ us. run us (At (top ∷ f ∷ s) Empty)) (joined_so p m q (t ∷ ts) same ∙ ap (tokens_of p) head.2)
+    ∙ reads i top (f ∷ s) head.0 head.1 st head.3.0
+    ∙ ap (run head.1) (went Take head.0 top (f ∷ s) (Full part p) head.3.1)
+    ∙ ap (run head.1) (taken_there at (λ rest. b (joined p rest)) head.0 (f ∷ s) (decide at None head.0) refl head.3.2)
+    ∙ ap (λ us. run us (At (record { control = at; so_far = λ rest. b (joined p rest); other = λ rest. b (joined p rest) } ∷ f ∷ s) Empty)) (sym head.2)
+    ∙ reads g (λ rest. b (joined p rest)) (λ rest. b (joined p rest)) f s t ts cl
+    ∙ ap (λ z. run (t ∷ ts) (At (f ∷ s) (Full variant (b z)))) (sym same)
 reads (raised st c g) = λ f s t ts h cl. reads g f s t ts (st f.control h) (c t cl)
 
 -- ---- so its tokens tell it

@@ -21,6 +21,8 @@ use Rattle.swc_ecma_codegen_tree.specs.declared.pats.AssignTarget.{AssignTarget}
 use Rattle.swc_ecma_codegen_tree.specs.declared.pats.AssignTarget.TheVariants as targets
 use Rattle.swc_ecma_codegen_tree.specs.declared.pats.AssignTargetPat.TheVariants as target_pats
 use Rattle.swc_ecma_codegen_tree.specs.declared.pats.SimpleAssignTarget.TheVariants as simple_targets
+use Rattle.swc_ecma_codegen_tree.specs.declared.decls.Decl.TheVariants as decls
+use Rattle.swc_ecma_codegen_tree.specs.declared.parts.StmtPart.TheVariants as stmt_parts
 use Rattle.swc_ecma_codegen_tree.specs.declared.stmts.Stmt.TheVariants as stmts
 use Rattle.swc_ecma_codegen_tree.specs.declared.stmts.Stmt.{Stmt}
 use Rattle.swc_ecma_codegen_grammar.specs.ElementPhrases.{last_is_hole}
@@ -28,7 +30,7 @@ use Rattle.swc_ecma_codegen_grammar.specs.Phrases.{Phrase, Never, Nothing, One, 
 use Rattle.swc_ecma_codegen_grammar.specs.Settings.{Settings}
 use Rattle.swc_ecma_codegen_grammar.specs.Tokens.{Token}
 use Rattle.swc_ecma_codegen_grammar.specs.declared.roles.Role.{Role}
-use Rattle.swc_ecma_codegen_grammar.specs.declared.roles.Role.TheVariants.{Expression, Callee, FieldValue, Statement, Pattern, AssignmentTarget}
+use Rattle.swc_ecma_codegen_grammar.specs.declared.roles.Role.TheVariants.{Expression, Callee, FieldValue, FunctionHead, Statement, Pattern, AssignmentTarget}
 use Rattle.swc_ecma_codegen_syntax.specs.declared.nonterminals.Nonterminal.TheVariants as nt
 use Rattle.swc_ecma_codegen_syntax.specs.declared.parameters.Parameters.{Parameters}
 use Rattle.swc_ecma_codegen_syntax.specs.Parameters.{before, of_targets}
@@ -42,8 +44,8 @@ use Rattle.swc_ecma_codegen_syntax.specs.TargetForms.{target_pat_form, target_fo
 use Rattle.swc_ecma_codegen_syntax.specs.NodeForms.{node_form, part_form}
 use Rattle.swc_ecma_codegen_syntax.specs.Derives.{Derives, fixed, part, simple, restricted, lone, lone_in_parentheses, both, provided, closed, comma_closed, followed, bare}
 use Rattle.swc_ecma_codegen_syntax.proofs.TreeFacts.{node_mapped}
-use Rattle.swc_ecma_codegen_uniqueness.specs.ParseTrees.{Variant, ParseTree, End, Read, Optional, Node, settled, expr_variant, simple_target_variant, target_pat_variant, target_variant, pat_variant, stmt_variant, part_variant, node_variant}
-use Rattle.swc_ecma_codegen_uniqueness.specs.Parses.{phrase_tokens, read_all, is_inlined_pat, is_inlined_pattern, is_inlined, placed, is_empty_variant, is_empty_parse, form_parse, node_parse, parse, expr_before}
+use Rattle.swc_ecma_codegen_uniqueness.specs.ParseTrees.{Variant, ParseTree, End, Read, Optional, Node, settled, expr_variant, simple_target_variant, target_pat_variant, target_variant, pat_variant, decl_variant, stmt_variant, part_variant, node_variant}
+use Rattle.swc_ecma_codegen_uniqueness.specs.Parses.{phrase_tokens, read_all, is_inlined_pat, is_inlined_pattern, is_plain_head, is_inlined, placed, is_empty_variant, is_empty_parse, form_parse, node_parse, parse, expr_before}
 use Rattle.swc_ecma_codegen_uniqueness.proofs.Reading.{read_phrase, derived_parse}
 
 -- ---- what a node says, by what its links hold
@@ -79,7 +81,9 @@ pat_variant_mapped g (pats.Ident n) = refl
 pat_variant_mapped g n = refl
 
 stmt_variant_mapped : {X Y : Type 0} (g : X → Y) (n : Stmt X) → node_variant (map-AnyNode X Y g (nodes.Stmt n)) Statement ≡ stmt_variant n
-unfolding node_variant stmt_variant
+unfolding node_variant stmt_variant decl_variant
+stmt_variant_mapped g (stmts.Decl (decls.Var n)) = refl
+stmt_variant_mapped g (stmts.Decl n) = refl
 stmt_variant_mapped g (stmts.Empty n) = refl
 stmt_variant_mapped g n = refl
 
@@ -102,9 +106,15 @@ unfolding is_inlined_pattern
 inlined_pattern_mapped g (nodes.ExprPart (expr_parts.Pat n)) = inlined_pat_mapped g n
 inlined_pattern_mapped g y = refl
 
+plain_head_mapped : {X Y : Type 0} (g : X → Y) (y : AnyNode-F X) → is_plain_head (map-AnyNode X Y g y) ≡ is_plain_head y
+unfolding is_plain_head
+plain_head_mapped g (nodes.StmtPart (stmt_parts.Function n)) = refl
+plain_head_mapped g y = refl
+
 inlined_mapped : {X Y : Type 0} (g : X → Y) (role : Role) (y : AnyNode-F X) → is_inlined role (map-AnyNode X Y g y) ≡ is_inlined role y
 unfolding is_inlined
 inlined_mapped g Pattern y = inlined_pattern_mapped g y
+inlined_mapped g FunctionHead y = plain_head_mapped g y
 inlined_mapped g role y = refl
 
 placed_alike : (b k : Bool) (variant z : Variant) (f g : ParseTree → ParseTree) → b ≡ k → variant ≡ z → ((rest : ParseTree) → f rest ≡ g rest) → (rest : ParseTree) → placed b variant f rest ≡ placed k z g rest
@@ -247,7 +257,9 @@ forms_same f s called c y role rest = refl
 -- ---- an empty statement says that it is one
 
 empty_variant : {X : Type 0} (y : AnyNode-F X) → is_empty_variant (node_variant y Statement) ≡ is_empty_node y
-unfolding is_empty_variant node_variant part_variant stmt_variant is_empty_node is_empty
+unfolding is_empty_variant node_variant part_variant stmt_variant decl_variant is_empty_node is_empty
+empty_variant (nodes.Stmt (stmts.Decl (decls.Var n))) = refl
+empty_variant (nodes.Stmt (stmts.Decl n)) = refl
 empty_variant (nodes.Stmt (stmts.Empty n)) = refl
 empty_variant (nodes.Stmt n) = refl
 empty_variant (nodes.ExprPart (expr_parts.Pat n)) = refl

@@ -82,7 +82,7 @@ pub record Spread (place : Nonterminal) (f : ParseTree → ParseTree) : Type 0 w
   pub covered : Covered place behind
   pub is : (rest : ParseTree) → f rest ≡ Read (punctuator (codes "...")) (behind rest)
 
-rest_covered : {s : Settings} (place : Nonterminal) → takes place nt.RestElement ≡ false → (c : Parameters) (n : RestPat AnyNode) {ts : List Token} (d : Derives true s (rest_form place c n) ts) → AllGood d → s.minify ≡ c.minify →
+pub rest_covered : {s : Settings} (place : Nonterminal) → takes place nt.RestElement ≡ false → (c : Parameters) (n : RestPat AnyNode) {ts : List Token} (d : Derives true s (rest_form place c n) ts) → AllGood d → s.minify ≡ c.minify →
     Spread place (derived_parse d)
 unfolding rest_form AllGood derived_parse read_phrase
 rest_covered place r c n (both (fixed g) (both d e)) (x, (o, y)) m = record {
@@ -171,7 +171,7 @@ pub array_pat_good : {s : Settings} (comma : Bool) (c : Parameters) (n : ArrayPa
 unfolding array_pat_form AllGood derived_parse read_phrase
 array_pat_good comma c n (both (fixed g) (both d (both e (both q t)))) (x, (o, y)) m =
     subst (λ z. Good (Whole Array nt.LeftHandSideExpression) (Read (punctuator (codes "[")) (derived_parse d (derived_parse e z)))) (sym (no_question n.optional q (derived_parse t End) ∙ no_annotation c n.type_ann t End))
-    (raised_to nt.LeftHandSideExpression nt.PrimaryExpression left_taken left_shared (array (elements_good comma c n.elems.items d o m (derived_parse e End) (end_good comma (last_is_hole n.elems.items) n.elems.items refl e))))
+    (raised_to nt.LeftHandSideExpression nt.PrimaryExpression left_taken left_shared refl (array (elements_good comma c n.elems.items d o m (derived_parse e End) (end_good comma (last_is_hole n.elems.items) n.elems.items refl e))))
 
 -- ---- properties
 
@@ -225,11 +225,11 @@ pub object_pat_good : {s : Settings} (comma : Bool) (c : Parameters) (n : Object
 unfolding object_pat_form AllGood derived_parse read_phrase
 object_pat_good comma c n (both (fixed g) (both d (both e (both q t)))) (x, (o, y)) m =
     subst (λ z. Good (Whole Object nt.LeftHandSideExpression) (Read (punctuator (codes "{")) (derived_parse d (derived_parse e z)))) (sym (no_question n.optional q (derived_parse t End) ∙ no_annotation c n.type_ann t End))
-    (raised_to nt.LeftHandSideExpression nt.PrimaryExpression left_taken left_shared (object (props_good comma c n.props.items d o m (derived_parse e End) (brace_good comma n.props.items e))))
+    (raised_to nt.LeftHandSideExpression nt.PrimaryExpression left_taken left_shared refl (object (props_good comma c n.props.items d o m (derived_parse e End) (brace_good comma n.props.items e))))
 
 -- ---- patterns, and what is assigned to
 
-no_rest_target : takes nt.PatternTarget nt.RestElement ≡ false
+pub no_rest_target : takes nt.PatternTarget nt.RestElement ≡ false
 unfolding takes is_pattern_target
 no_rest_target = refl
 

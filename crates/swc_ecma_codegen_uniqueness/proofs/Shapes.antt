@@ -9,8 +9,8 @@ use Rattle.swc_ecma_codegen_syntax.specs.Nonterminals.{takes, is_optional, is_pr
 use Rattle.swc_ecma_codegen_syntax.specs.UnitProductions.{here, step, expression_is_assignment_expression, new_expression_is_member_expression, chain_base_is_member_expression}
 use Rattle.swc_ecma_codegen_syntax.proofs.Taken.{chain_takes}
 use Rattle.swc_ecma_codegen_uniqueness.specs.ParseTrees.{Variant, ParseTree, End, Read, Optional, Node, Array, Object, Update, Bin, Assign, Member, SuperProp, Cond, Call, New, Seq, Tpl, TaggedTpl, Arrow, Yield, MetaProp, Paren, OptChain}
-use Rattle.swc_ecma_codegen_uniqueness.proofs.Tables.{Level, Class, Infix, Assigns, Ask, Comma, Dot, ChainDot, OpenBracket, Line, Twice, First, Later, class, left, left_of, right_of, made, closes, Tail, OfInfix, OfCond, OfAssign, OfYield, OfArrow, whole, last as last_of, tail_variant, Control, Closed, Open, InParen, Index, Arguments, Elements, NextElement, Properties, NextProperty, AfterKey, InKey, InValue, Middle, Substitution, Dotted, Chained, AfterNew, AfterImport, AfterSuper, AfterYield, Postfix, Listed, AfterAsync, waits, decide, Shift, Turn, shift, shifted_to, passed_to, start, started, template, wrapped_to, chained, without, with_operand}
-use Rattle.swc_ecma_codegen_uniqueness.proofs.TableLaws.{takes_on, is_sequence, assignment_single, taken_there, arrow_wraps, is_place, starts, pushes, or_left, is_infix, made_by, Wraps, infix_wraps, Linked, linked_closes, links, link_wraps, Calling, calling_linked, call_wraps, tail_ends, new_ends, yield_ends, yield_alone, listed_ends, member_plain, call_plain, callee_plain}
+use Rattle.swc_ecma_codegen_uniqueness.proofs.Tables.{starts, is_item, ArrowBody, OpenParen, Level, Class, Infix, Assigns, Ask, Comma, Dot, ChainDot, OpenBracket, Line, Twice, First, Later, class, left, left_of, right_of, made, Tail, OfInfix, OfCond, OfAssign, OfYield, whole, last as last_of, tail_variant, Control, Closed, Open, InParen, Index, Arguments, Elements, NextElement, Properties, NextProperty, AfterKey, InKey, InValue, Middle, Substitution, Dotted, Chained, AfterNew, AfterImport, AfterSuper, AfterYield, Postfix, Listed, AfterAsync, waits, decide, Shift, Turn, shift, shifted_to, passed_to, start, started, template, wrapped_to, chained, without, with_operand}
+use Rattle.swc_ecma_codegen_uniqueness.proofs.TableLaws.{ended_by, ending, takes_on, is_sequence, assignment_single, taken_there, arrow_wraps, is_place, pushes, or_left, is_infix, made_by, Wraps, infix_wraps, Linked, linked_closes, links, link_wraps, Calling, calling_linked, call_wraps, tail_ends, new_ends, yield_ends, yield_alone, listed_ends, member_plain, call_plain, callee_plain}
 use Rattle.swc_ecma_codegen_uniqueness.proofs.Machine.{Whole, Rest, Good, headed, wrapped, shifted, inner, closed, last, wrapped_turned, inner_turned, shifted_turned, raised, turned, opened}
 
 -- ---- parts
@@ -53,9 +53,9 @@ After c place variant n m = ⊥
 pub part_then : (c : Control) {place n : Nonterminal} {variant s : Variant} {p : ParseTree} (rest : ParseTree) → takes (waits c) place ≡ true → Operand place s p → After c place variant n rest →
     Good (Rest c variant n) (Node s p rest)
 part_then c {place = place} {s = s} (Read t m) w o a =
-    inner (or_left _ _ (takes_on (waits c) place o.of w o.taken)) o.good (takes_on (left (class t)) place o.of a.0 o.taken) (a.1 s) a.2
+    inner (or_left _ _ (takes_on (waits c) place o.of w o.taken)) o.good (ended_by (class t) o.of (takes_on (left (class t)) place o.of a.0 o.taken)) (a.1 s) a.2
 part_then c {place = place} {s = s} {p = p} (Optional t (Read u m)) w o a =
-    inner_turned t u (or_left _ _ (takes_on (waits c) place o.of w o.taken)) o.good (takes_on (left (class t)) place o.of a.0 o.taken) (a.1 s) a.2 a.4 (a.3 s p)
+    inner_turned t u (or_left _ _ (takes_on (waits c) place o.of w o.taken)) o.good (ended_by (class t) o.of (takes_on (left (class t)) place o.of a.0 o.taken)) (a.1 s) a.2 a.4 (a.3 s p)
 part_then c m w o a = absurd a
 
 pub ended : (variant : Variant) (n : Nonterminal) → Good (Rest (Closed variant) variant n) End
@@ -64,8 +64,9 @@ ended variant n = closed refl (λ t h. refl)
 pub tail_rest : (t : Tail) {s : Variant} {p : ParseTree} → Operand (last_of t) s p → Good (Rest (Open t) (tail_variant t) (whole t)) (Node s p End)
 tail_rest t {s = s} o = last refl (or_left _ _ o.taken) o.good (tail_ends t o.of s o.taken)
 
-pub raised_to : (n k : Nonterminal) {variant : Variant} {p : ParseTree} → takes n k ≡ true → is_private n ≡ false → Good (Whole variant k) p → Good (Whole variant n) p
-raised_to n k h q g = raised (λ c s. or_left _ _ (takes_on (waits c) n k (taken_there (waits c) n _ q s) h)) (λ t e. takes_on (left (class t)) n k e h) g
+pub raised_to : (n k : Nonterminal) {variant : Variant} {p : ParseTree} → takes n k ≡ true → is_private n ≡ false → is_item n ≡ false → Good (Whole variant k) p → Good (Whole variant n) p
+raised_to n k h q i g =
+    raised (λ c s. or_left _ _ (takes_on (waits c) n k (taken_there (waits c) n _ _ q i s) h)) (λ t e. ended_by (class t) k (takes_on (left (class t)) n k (ending (class t) n i e) h)) g
 
 -- ---- nodes that begin with a token
 
@@ -91,8 +92,8 @@ parenthesized n h o =
 pub behind : (t : Token) (l : Class) (variant : Variant) (c : Control) {s : Variant} {p : ParseTree} (m : ParseTree) → class t ≡ l → is_infix l ≡ true → wrapped_to s l ≡ c → Operand (left l) s p →
     Good (Rest c variant (made_by l)) m → Good (Whole variant (made_by l)) (Node s p (Read t m))
 behind t l variant c {s = s} {p = p} m e i w o g =
-    let k : closes t o.of ≡ true = subst (λ z. takes (left z) o.of ≡ true) (sym e) o.taken in
-    wrapped o.good k (subst (λ z. Wraps t (made_by z) o.of s) e (infix_wraps t o.of s (ap is_infix e ∙ i) k o.own))
+    let k : takes (left (class t)) o.of ≡ true = subst (λ z. takes (left z) o.of ≡ true) (sym e) o.taken in
+    wrapped o.good (ended_by (class t) o.of k) (subst (λ z. Wraps t (made_by z) o.of s) e (infix_wraps t o.of s (ap is_infix e ∙ i) k o.own))
     (subst (λ z. Good (Rest (wrapped_to s z) variant (made_by l)) m) (sym e) (subst (λ z. Good (Rest z variant (made_by l)) m) (sym w) g))
 
 pub binary : (t : Token) (level : Level) {s z : Variant} {p q : ParseTree} → class t ≡ Infix level → Operand (left_of level) s p → Operand (right_of level) z q →
@@ -167,7 +168,7 @@ IsName t = ((s : Variant) → decide (Dotted s) None t ≡ Shift) × (decide Cha
 pub linked : (t : Token) (l : Class) (variant : Variant) (c : Control) {n place : Nonterminal} {s : Variant} {p : ParseTree} (m : ParseTree) → Linked n place → class t ≡ l → links l ≡ true → left l ≡ nt.ChainBase →
     wrapped_to s l ≡ c → Operand place s p → Good (Rest c variant n) m → Good (Whole variant n) (Node s p (Read t m))
 linked t l variant c {n = n} {s = s} m a e i b w o g =
-    wrapped o.good (subst (λ z. takes z o.of ≡ true) (sym (ap left e ∙ b)) (linked_closes a o.of o.taken o.own))
+    wrapped o.good (ended_by (class t) o.of (subst (λ z. takes z o.of ≡ true) (sym (ap left e ∙ b)) (linked_closes a o.of o.taken o.own)))
     (link_wraps t o.of s a (ap links e ∙ i) o.taken o.own)
     (subst (λ z. Good (Rest (wrapped_to s z) variant n) m) (sym e) (subst (λ z. Good (Rest z variant n) m) (sym w) g))
 
@@ -212,7 +213,7 @@ pub called : (variant : Variant) {n place : Nonterminal} {s : Variant} {p m : Pa
     Good (Whole variant n) (Node s p (Read open_parenthesis m))
 unfolding punctuator
 called variant {n = n} {s = s} {m = m} a w o g =
-    wrapped o.good (linked_closes (calling_linked a) o.of o.taken o.own) (call_wraps open_parenthesis o.of s a refl o.taken o.own)
+    wrapped o.good (ended_by OpenParen o.of (linked_closes (calling_linked a) o.of o.taken o.own)) (call_wraps open_parenthesis o.of s a refl o.taken o.own)
     (subst (λ z. Good (Rest (Arguments z) variant n) m) (sym w) g)
 
 -- ---- arguments and elements
@@ -505,17 +506,17 @@ one_turned {s = s} {p = p} rest o = opened_one open_parenthesis close_parenthesi
 abbrev pub arrow_mark : Token
 arrow_mark = punctuator (codes "=>")
 
-pub arrow : {s z : Variant} {p q m : ParseTree} → Operand nt.LeftHandSideExpression s p → Operand nt.AssignmentExpression z q → m ≡ turned s p same_line (Read arrow_mark (Node z q End)) →
-    Good (Whole Arrow nt.AssignmentExpression) m
+pub arrow : {s : Variant} {p m q : ParseTree} → Operand nt.LeftHandSideExpression s p → Good (Rest ArrowBody Arrow nt.AssignmentExpression) m → q ≡ turned s p same_line (Read arrow_mark m) →
+    Good (Whole Arrow nt.AssignmentExpression) q
 unfolding same_line punctuator
-arrow {s = s} o r e = wrapped_turned same_line arrow_mark o.good o.taken (arrow_wraps same_line o.of s refl o.taken o.own) refl (tail_rest OfArrow r) e
+arrow {s = s} o g e = wrapped_turned same_line arrow_mark o.good (ended_by Line o.of o.taken) (arrow_wraps same_line o.of s refl o.taken o.own) refl g e
 
-pub async_arrow : {s z : Variant} {p q m : ParseTree} → Operand nt.LeftHandSideExpression s p → Operand nt.AssignmentExpression z q → m ≡ turned s p same_line (Read arrow_mark (Node z q End)) →
-    Good (Whole Arrow nt.AssignmentExpression) (Read (word (codes "async")) (Read same_line m))
+pub async_arrow : {s : Variant} {p m q : ParseTree} → Operand nt.LeftHandSideExpression s p → Good (Rest ArrowBody Arrow nt.AssignmentExpression) m → q ≡ turned s p same_line (Read arrow_mark m) →
+    Good (Whole Arrow nt.AssignmentExpression) (Read (word (codes "async")) (Read same_line q))
 unfolding same_line punctuator word
-async_arrow {s = s} {m = m} o r e =
-    begun (word (codes "async")) Arrow nt.AssignmentExpression AfterAsync (Read same_line m) refl refl refl
-    (shifted refl (inner_turned same_line arrow_mark (or_left _ _ o.taken) o.good o.taken refl refl (tail_rest OfArrow r) e))
+async_arrow {s = s} {q = q} o g e =
+    begun (word (codes "async")) Arrow nt.AssignmentExpression AfterAsync (Read same_line q) refl refl refl
+    (shifted refl (inner_turned same_line arrow_mark (or_left _ _ o.taken) o.good (ended_by Line o.of o.taken) refl refl g e))
 
 -- ---- templates
 

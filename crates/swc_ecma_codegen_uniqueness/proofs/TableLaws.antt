@@ -9,7 +9,7 @@ use Rattle.swc_ecma_codegen_syntax.specs.UnitProductions.{UnitProduction, Chain,
 use Rattle.swc_ecma_codegen_syntax.proofs.Chains.{takes_chain}
 use Rattle.swc_ecma_codegen_syntax.proofs.Taken.{chain_takes}
 use Rattle.swc_ecma_codegen_uniqueness.specs.ParseTrees.{Variant}
-use Rattle.swc_ecma_codegen_uniqueness.proofs.Tables.{Power, Plus, Within, Coalescing, Class, Infix, Assigns, Ask, Comma, Dot, ChainDot, OpenParen, OpenBracket, OpenBrace, Line, Twice, Bang, First, NameToken, PrivateToken, LiteralToken, ThisWord, NewWord, SuperWord, ImportWord, YieldWord, AwaitWord, UnaryWord, made, left_of, class, left, closes, Tail, OfInfix, whole, last, AsyncWord, Control, Open, Arguments, Elements, NextElement, AfterNew, AfterYield, YieldLine, Listed, AsyncLine, InParen, Index, Middle, InKey, InValue, Substitution, waits, stands, decide, Action, Push, Wrap, Reduce, Shift, Turn, without, with_operand}
+use Rattle.swc_ecma_codegen_uniqueness.proofs.Tables.{Power, Plus, Within, Coalescing, Class, Infix, Assigns, Ask, Comma, Dot, ChainDot, OpenParen, OpenBracket, OpenBrace, Line, First, made, left_of, class, left, closes, Tail, OfInfix, whole, last, Control, Open, Arguments, Elements, NextElement, AfterNew, AfterYield, YieldLine, Listed, AsyncLine, InParen, Index, Middle, InKey, InValue, Substitution, waits, stands, decide, Action, Push, Wrap, Reduce, Shift, Turn, Begin, Enter, Leave, Splice, Take, starts, is_item, closed_by, at_item, Where, InList, OfElse, Statement, Entered, Parameter, RestParameter, Valued, Test, Declarators, Initializer, entered, FunctionWord, ReturnWord, ThrowWord, BreakWord, ContinueWord, DebuggerWord, IfWord, WhileWord, WithWord, VarWord, Semicolon, without, with_operand}
 
 -- ---- chains of unit productions
 
@@ -39,6 +39,11 @@ wrap_is Shift h = absurd (true≢false (sym h))
 wrap_is Push h = absurd (true≢false (sym h))
 wrap_is Reduce h = absurd (true≢false (sym h))
 wrap_is Turn h = absurd (true≢false (sym h))
+wrap_is Begin h = absurd (true≢false (sym h))
+wrap_is Enter h = absurd (true≢false (sym h))
+wrap_is Leave h = absurd (true≢false (sym h))
+wrap_is Splice h = absurd (true≢false (sym h))
+wrap_is Take h = absurd (true≢false (sym h))
 
 abbrev is_push : Action → Bool
 is_push Push = true
@@ -50,6 +55,11 @@ push_is Shift h = absurd (true≢false (sym h))
 push_is Wrap h = absurd (true≢false (sym h))
 push_is Reduce h = absurd (true≢false (sym h))
 push_is Turn h = absurd (true≢false (sym h))
+push_is Begin h = absurd (true≢false (sym h))
+push_is Enter h = absurd (true≢false (sym h))
+push_is Leave h = absurd (true≢false (sym h))
+push_is Splice h = absurd (true≢false (sym h))
+push_is Take h = absurd (true≢false (sym h))
 
 -- names of places, of which no node is; and patterns, of which none is here
 abbrev pub is_place : Nonterminal → Bool
@@ -59,6 +69,8 @@ is_place nt.ChainBase = true
 is_place nt.CoalesceExpressionHead = true
 is_place nt.AssignmentTarget = true
 is_place nt.AssignmentPattern = true
+is_place nt.Statement = true
+is_place nt.Block = true
 is_place nt.Uncovered = true
 is_place n = false
 
@@ -86,6 +98,32 @@ cover_chain {a = a} (step {b = b} {c = c} u d) = takes_on (cover a) (cover b) (c
 pub cover_taken : (place n : Nonterminal) → takes place n ≡ true → takes (cover place) (cover n) ≡ true
 cover_taken place n h = cover_chain (takes_chain place n h)
 
+-- ---- what ends an operand
+
+ends_none : (l : Class) → (takes (left l) nt.Statement || takes (left l) nt.Block) ≡ false
+unfolding is_member is_new is_call is_callee is_chained is_left_hand_side is_update is_unary is_exponentiation is_multiplicative is_additive is_shift is_relational is_in_left is_equality is_bitwise_and is_bitwise_xor is_bitwise_or is_logical_and is_logical_or is_coalesce_head is_short_circuit is_conditional is_assignment is_expression is_assignment_target is_pattern_target is_pattern_element is_last_element is_coalesce is_private is_optional is_primary is_template is_property_name is_chain_link is_assignment_pattern is_pattern_name is_rest is_statement is_hoistable_declaration is_block is_variable_declarations is_declaration is_statement_list_item is_labelled_item is_module_declaration is_exported_head is_function_head is_generator_head is_async_function_head is_async_generator_head is_function_tail is_getter_tail is_setter_tail is_method_head is_decorator_list is_class_head is_class_tail is_class_element is_constructor_name is_any_function_head is_head_without_yield is_head_without_await is_any_property_name is_jsx_element is_jsx_object is_uncovered takes
+ends_none (Infix Power) = refl
+ends_none l = refl
+
+or_none : (a b : Bool) → (a || b) ≡ false → (a ≡ false) × (b ≡ false)
+or_none false false h = (refl, refl)
+or_none true b h = absurd (true≢false h)
+or_none false true h = absurd (true≢false h)
+
+pub ended_by : (l : Class) (n : Nonterminal) → takes (left l) n ≡ true → closed_by l n ≡ true
+ended_by l nt.Statement h = absurd (true≢false (sym h ∙ (or_none _ _ (ends_none l)).0))
+ended_by l nt.Block h = absurd (true≢false (sym h ∙ (or_none _ _ (ends_none l)).1))
+ended_by l n h = h
+
+pub ending : (l : Class) (n : Nonterminal) → is_item n ≡ false → closed_by l n ≡ true → takes (left l) n ≡ true
+ending l nt.Statement i h = absurd (true≢false i)
+ending l nt.Block i h = absurd (true≢false i)
+ending l n i h = h
+
+tail_item : (t : Tail) → is_item (whole t) ≡ false
+tail_item (OfInfix Power) = refl
+tail_item t = refl
+
 -- ---- where a node ends with a part, what ends the node ends the part
 
 tail_test : (t : Tail) (c : Class) → if_so (takes (left c) (whole t)) (takes (left c) (last t)) ≡ true
@@ -95,30 +133,9 @@ tail_test t (Infix Power) = refl
 tail_test t c = refl
 
 pub tail_closes : (t : Tail) (u : Token) (k : Nonterminal) → takes (last t) k ≡ true → closes u (whole t) ≡ true → closes u k ≡ true
-tail_closes t u k h e = takes_on (left (class u)) (last t) k (told _ _ (tail_test t (class u)) e) h
+tail_closes t u k h e = ended_by (class u) k (takes_on (left (class u)) (last t) k (told _ _ (tail_test t (class u)) (ending (class u) (whole t) (tail_item t) e)) h)
 
 -- ---- where a node stands, its first token begins it
-
-abbrev pub starts : Class → Bool
-starts NameToken = true
-starts PrivateToken = true
-starts LiteralToken = true
-starts ThisWord = true
-starts OpenParen = true
-starts OpenBracket = true
-starts OpenBrace = true
-starts (First opens) = true
-starts (Infix Plus) = true
-starts Bang = true
-starts UnaryWord = true
-starts Twice = true
-starts NewWord = true
-starts SuperWord = true
-starts ImportWord = true
-starts YieldWord = true
-starts AwaitWord = true
-starts AsyncWord = true
-starts c = false
 
 abbrev is_waiting : Control → Bool
 is_waiting (Open t) = true
@@ -130,10 +147,12 @@ start_test (Open t) (Infix Plus) = refl
 start_test c (Infix Plus) = refl
 start_test c l = refl
 
-nothing_stands : (n : Nonterminal) → (takes nt.Uncovered n || (is_private n && takes nt.Uncovered nt.RelationalExpression)) ≡ true → is_place n ≡ true
+nothing_stands : (n : Nonterminal) (b : Bool) → (takes nt.Uncovered n || ((is_private n && takes nt.Uncovered nt.RelationalExpression) || (is_item n && b))) ≡ true → is_place n ≡ true
 unfolding is_member is_new is_call is_callee is_chained is_left_hand_side is_update is_unary is_exponentiation is_multiplicative is_additive is_shift is_relational is_in_left is_equality is_bitwise_and is_bitwise_xor is_bitwise_or is_logical_and is_logical_or is_coalesce_head is_short_circuit is_conditional is_assignment is_expression is_assignment_target is_pattern_target is_pattern_element is_last_element is_coalesce is_private is_optional is_primary is_template is_property_name is_chain_link is_assignment_pattern is_pattern_name is_rest is_statement is_hoistable_declaration is_block is_variable_declarations is_declaration is_statement_list_item is_labelled_item is_module_declaration is_exported_head is_function_head is_generator_head is_async_function_head is_async_generator_head is_function_tail is_getter_tail is_setter_tail is_method_head is_decorator_list is_class_head is_class_tail is_class_element is_constructor_name is_any_function_head is_head_without_yield is_head_without_await is_any_property_name is_jsx_element is_jsx_object is_uncovered takes
-nothing_stands nt.Uncovered s = refl
-nothing_stands n s = absurd (true≢false (sym s))
+nothing_stands nt.Uncovered b s = refl
+nothing_stands nt.Statement b s = refl
+nothing_stands nt.Block b s = refl
+nothing_stands n b s = absurd (true≢false (sym s))
 
 stands_waiting : (c : Control) (n : Nonterminal) → is_place n ≡ false → stands c n ≡ true → is_waiting c ≡ true
 unfolding is_member is_new is_call is_callee is_chained is_left_hand_side is_update is_unary is_exponentiation is_multiplicative is_additive is_shift is_relational is_in_left is_equality is_bitwise_and is_bitwise_xor is_bitwise_or is_logical_and is_logical_or is_coalesce_head is_short_circuit is_conditional is_assignment is_expression is_assignment_target is_pattern_target is_pattern_element is_last_element is_coalesce is_private is_optional is_primary is_template is_property_name is_chain_link is_assignment_pattern is_pattern_name is_rest is_statement is_hoistable_declaration is_block is_variable_declarations is_declaration is_statement_list_item is_labelled_item is_module_declaration is_exported_head is_function_head is_generator_head is_async_function_head is_async_generator_head is_function_tail is_getter_tail is_setter_tail is_method_head is_decorator_list is_class_head is_class_tail is_class_element is_constructor_name is_any_function_head is_head_without_yield is_head_without_await is_any_property_name is_jsx_element is_jsx_object is_uncovered takes
@@ -151,7 +170,15 @@ stands_waiting AfterNew n h s = refl
 stands_waiting YieldLine n h s = refl
 stands_waiting Listed n h s = refl
 stands_waiting AsyncLine n h s = refl
-stands_waiting c n h s = absurd (true≢false (sym (nothing_stands n s) ∙ h))
+stands_waiting (Entered place) n h s = refl
+stands_waiting Parameter n h s = refl
+stands_waiting RestParameter n h s = refl
+stands_waiting (Valued variant) n h s = refl
+stands_waiting (Test variant) n h s = refl
+stands_waiting Declarators n h s = refl
+stands_waiting Initializer n h s = refl
+stands_waiting (Statement place) n h s = absurd (true≢false (sym (nothing_stands n true s) ∙ h))
+stands_waiting c n h s = absurd (true≢false (sym (nothing_stands n false s) ∙ h))
 
 pub pushes : (t : Token) (n : Nonterminal) → starts (class t) ≡ true → is_place n ≡ false → (c : Control) → stands c n ≡ true → decide c None t ≡ Push
 pushes t n h p c s = push_is _ (told _ _ (start_test c (class t)) (and_from _ _ h (stands_waiting c n p s)))
@@ -166,8 +193,11 @@ or_right : (a b : Bool) → b ≡ true → (a || b) ≡ true
 or_right true b h = refl
 or_right false b h = h
 
-pub taken_there : (w n : Nonterminal) (b : Bool) → is_private n ≡ false → (takes w n || (is_private n && b)) ≡ true → takes w n ≡ true
-taken_there w n b p s = elim (or_cases (takes w n) (is_private n && b) s) [ inl h ↦ h | inr h ↦ absurd (true≢false (sym (and_parts _ _ h).0 ∙ p)) ]
+pub taken_there : (w n : Nonterminal) (b k : Bool) → is_private n ≡ false → is_item n ≡ false → (takes w n || ((is_private n && b) || (is_item n && k))) ≡ true → takes w n ≡ true
+taken_there w n b k p i s = elim (or_cases (takes w n) ((is_private n && b) || (is_item n && k)) s) [
+  | inl h ↦ h
+  | inr h ↦ elim (or_cases (is_private n && b) (is_item n && k) h) [ inl q ↦ absurd (true≢false (sym (and_parts _ _ q).0 ∙ p)) | inr q ↦ absurd (true≢false (sym (and_parts _ _ q).0 ∙ i)) ]
+]
 
 abbrev pub is_infix : Class → Bool
 is_infix (Infix level) = true
@@ -191,6 +221,10 @@ unfolding is_member is_new is_call is_callee is_chained is_left_hand_side is_upd
 wrap_test (Open (OfInfix Power)) (Infix Power) = refl
 wrap_test c (Infix Power) = refl
 wrap_test c l = refl
+
+made_item : (l : Class) → is_item (made_by l) ≡ false
+made_item (Infix Power) = refl
+made_item l = refl
 
 made_private : (l : Class) → is_private (made_by l) ≡ false
 unfolding is_private
@@ -217,7 +251,7 @@ head_test c = refl
 operand_stands : (c : Control) (l : Class) (k : Nonterminal) → is_infix l ≡ true → takes (waits c) (made_by l) ≡ true → takes (left l) k ≡ true → is_place k ≡ false → stands c k ≡ true
 unfolding is_member is_new is_call is_callee is_chained is_left_hand_side is_update is_unary is_exponentiation is_multiplicative is_additive is_shift is_relational is_in_left is_equality is_bitwise_and is_bitwise_xor is_bitwise_or is_logical_and is_logical_or is_coalesce_head is_short_circuit is_conditional is_assignment is_expression is_assignment_target is_pattern_target is_pattern_element is_last_element is_coalesce is_private is_optional is_primary is_template is_property_name is_chain_link is_assignment_pattern is_pattern_name is_rest is_statement is_hoistable_declaration is_block is_variable_declarations is_declaration is_statement_list_item is_labelled_item is_module_declaration is_exported_head is_function_head is_generator_head is_async_function_head is_async_generator_head is_function_tail is_getter_tail is_setter_tail is_method_head is_decorator_list is_class_head is_class_tail is_class_element is_constructor_name is_any_function_head is_head_without_yield is_head_without_await is_any_property_name is_jsx_element is_jsx_object is_uncovered takes
 operand_stands c (Infix Within) k i h e p =
-    elim (in_left k e p) [ inl q ↦ or_right (takes (waits c) k) _ (and_from _ _ q h) | inr q ↦ or_left (takes (waits c) k) _ (takes_on (waits c) nt.RelationalExpression k h q) ]
+    elim (in_left k e p) [ inl q ↦ or_right (takes (waits c) k) _ (or_left _ _ (and_from _ _ q h)) | inr q ↦ or_left (takes (waits c) k) _ (takes_on (waits c) nt.RelationalExpression k h q) ]
 operand_stands c (Infix Coalescing) k i h e p =
     or_left (takes (waits c) k) _ (elim (in_head k e p) [
       | inl q ↦ takes_on (waits c) nt.CoalesceExpression k h q
@@ -234,27 +268,27 @@ operand_stands c l k i h e p = absurd (true≢false (sym i))
 abbrev pub Wraps : Token → Nonterminal → Nonterminal → Variant → Type 0
 Wraps t n k variant = (c : Control) → stands c n ≡ true → (stands c k ≡ true) × (decide c (Some variant) t ≡ Wrap)
 
-pub infix_wraps : (t : Token) (k : Nonterminal) (variant : Variant) → is_infix (class t) ≡ true → closes t k ≡ true → is_place k ≡ false → Wraps t (made_by (class t)) k variant
+pub infix_wraps : (t : Token) (k : Nonterminal) (variant : Variant) → is_infix (class t) ≡ true → takes (left (class t)) k ≡ true → is_place k ≡ false → Wraps t (made_by (class t)) k variant
 infix_wraps t k variant i e p c s =
-    let h = taken_there (waits c) (made_by (class t)) _ (made_private (class t)) s in
+    let h = taken_there (waits c) (made_by (class t)) _ _ (made_private (class t)) (made_item (class t)) s in
     (operand_stands c (class t) k i h e p, wrap_is _ (told _ _ (wrap_test c (class t)) (and_from _ _ i h)))
 
 -- the same of the parameters of an arrow function
-pub arrow_wraps : (t : Token) (k : Nonterminal) (variant : Variant) → class t ≡ Line → closes t k ≡ true → is_place k ≡ false → Wraps t nt.AssignmentExpression k variant
+pub arrow_wraps : (t : Token) (k : Nonterminal) (variant : Variant) → class t ≡ Line → takes (left (class t)) k ≡ true → is_place k ≡ false → Wraps t nt.AssignmentExpression k variant
 unfolding is_member is_new is_call is_callee is_chained is_left_hand_side is_update is_unary is_exponentiation is_multiplicative is_additive is_shift is_relational is_in_left is_equality is_bitwise_and is_bitwise_xor is_bitwise_or is_logical_and is_logical_or is_coalesce_head is_short_circuit is_conditional is_assignment is_expression is_assignment_target is_pattern_target is_pattern_element is_last_element is_coalesce is_private is_optional is_primary is_template is_property_name is_chain_link is_assignment_pattern is_pattern_name is_rest is_statement is_hoistable_declaration is_block is_variable_declarations is_declaration is_statement_list_item is_labelled_item is_module_declaration is_exported_head is_function_head is_generator_head is_async_function_head is_async_generator_head is_function_tail is_getter_tail is_setter_tail is_method_head is_decorator_list is_class_head is_class_tail is_class_element is_constructor_name is_any_function_head is_head_without_yield is_head_without_await is_any_property_name is_jsx_element is_jsx_object is_uncovered takes
 arrow_wraps t k variant e h p c s =
-    let w = taken_there (waits c) nt.AssignmentExpression (takes (waits c) nt.RelationalExpression) refl s in
+    let w = taken_there (waits c) nt.AssignmentExpression (takes (waits c) nt.RelationalExpression) (at_item c) refl refl s in
     let u : stands c nt.UpdateExpression ≡ true = or_left (takes (waits c) nt.UpdateExpression) false (takes_on (waits c) nt.AssignmentExpression nt.UpdateExpression w refl) in
     infix_wraps t k variant (ap is_infix e) h p c (subst (λ l. stands c (made_by l) ≡ true) (sym e) u)
 
 -- ---- the same of links: members, calls, tags and optional chains
 
-link_test : (c : Control) → (is_wrap (with_operand c Dot) && (is_wrap (with_operand c ChainDot) && is_wrap (with_operand c OpenBracket))) ≡ true
+link_test : (c : Control) → if_so (is_waiting c) (is_wrap (with_operand c Dot) && (is_wrap (with_operand c ChainDot) && is_wrap (with_operand c OpenBracket))) ≡ true
 unfolding is_member is_new is_call is_callee is_chained is_left_hand_side is_update is_unary is_exponentiation is_multiplicative is_additive is_shift is_relational is_in_left is_equality is_bitwise_and is_bitwise_xor is_bitwise_or is_logical_and is_logical_or is_coalesce_head is_short_circuit is_conditional is_assignment is_expression is_assignment_target is_pattern_target is_pattern_element is_last_element is_coalesce is_private is_optional is_primary is_template is_property_name is_chain_link is_assignment_pattern is_pattern_name is_rest is_statement is_hoistable_declaration is_block is_variable_declarations is_declaration is_statement_list_item is_labelled_item is_module_declaration is_exported_head is_function_head is_generator_head is_async_function_head is_async_generator_head is_function_tail is_getter_tail is_setter_tail is_method_head is_decorator_list is_class_head is_class_tail is_class_element is_constructor_name is_any_function_head is_head_without_yield is_head_without_await is_any_property_name is_jsx_element is_jsx_object is_uncovered takes
 link_test (Open (OfInfix Power)) = refl
 link_test c = refl
 
-tag_test : (c : Control) (opens : Bool) → is_wrap (with_operand c (First opens)) ≡ true
+tag_test : (c : Control) (opens : Bool) → if_so (is_waiting c) (is_wrap (with_operand c (First opens))) ≡ true
 unfolding is_member is_new is_call is_callee is_chained is_left_hand_side is_update is_unary is_exponentiation is_multiplicative is_additive is_shift is_relational is_in_left is_equality is_bitwise_and is_bitwise_xor is_bitwise_or is_logical_and is_logical_or is_coalesce_head is_short_circuit is_conditional is_assignment is_expression is_assignment_target is_pattern_target is_pattern_element is_last_element is_coalesce is_private is_optional is_primary is_template is_property_name is_chain_link is_assignment_pattern is_pattern_name is_rest is_statement is_hoistable_declaration is_block is_variable_declarations is_declaration is_statement_list_item is_labelled_item is_module_declaration is_exported_head is_function_head is_generator_head is_async_function_head is_async_generator_head is_function_tail is_getter_tail is_setter_tail is_method_head is_decorator_list is_class_head is_class_tail is_class_element is_constructor_name is_any_function_head is_head_without_yield is_head_without_await is_any_property_name is_jsx_element is_jsx_object is_uncovered takes
 tag_test (Open (OfInfix Power)) opens = refl
 tag_test c opens = refl
@@ -331,9 +365,25 @@ linked_private a_target = refl
 linked_private a_chain = refl
 linked_private of_chain = refl
 
+linked_item : {n place : Nonterminal} → Linked n place → is_item n ≡ false
+linked_item a_member = refl
+linked_item of_call = refl
+linked_item a_call = refl
+linked_item a_target = refl
+linked_item a_chain = refl
+linked_item of_chain = refl
+
+linked_own : {n place : Nonterminal} → Linked n place → is_place n ≡ false
+linked_own a_member = refl
+linked_own of_call = refl
+linked_own a_call = refl
+linked_own a_target = refl
+linked_own a_chain = refl
+linked_own of_chain = refl
+
 linked_there : {n place : Nonterminal} → Linked n place → (c : Control) (k : Nonterminal) → takes place k ≡ true → is_place k ≡ false → stands c n ≡ true → (takes (waits c) n ≡ true) × (stands c k ≡ true)
 linked_there {n = n} a c k e p s =
-    let h = taken_there (waits c) n _ (linked_private a) s in
+    let h = taken_there (waits c) n _ _ (linked_private a) (linked_item a) s in
     (h, or_left (takes (waits c) k) _ (linked_taken a c k e p h))
 
 -- the tokens behind the operand of a link
@@ -344,15 +394,15 @@ links OpenBracket = true
 links (First opens) = true
 links c = false
 
-link_wrapped : (c : Control) (l : Class) → links l ≡ true → with_operand c l ≡ Wrap
-link_wrapped c Dot h = wrap_is _ (and_parts _ _ (link_test c)).0
-link_wrapped c ChainDot h = wrap_is _ (and_parts _ _ (and_parts _ _ (link_test c)).1).0
-link_wrapped c OpenBracket h = wrap_is _ (and_parts _ _ (and_parts _ _ (link_test c)).1).1
-link_wrapped c (First opens) h = wrap_is _ (tag_test c opens)
-link_wrapped c l h = absurd (true≢false (sym h))
+link_wrapped : (c : Control) (l : Class) → is_waiting c ≡ true → links l ≡ true → with_operand c l ≡ Wrap
+link_wrapped c Dot w h = wrap_is _ (and_parts _ _ (told _ _ (link_test c) w)).0
+link_wrapped c ChainDot w h = wrap_is _ (and_parts _ _ (and_parts _ _ (told _ _ (link_test c) w)).1).0
+link_wrapped c OpenBracket w h = wrap_is _ (and_parts _ _ (and_parts _ _ (told _ _ (link_test c) w)).1).1
+link_wrapped c (First opens) w h = wrap_is _ (told _ _ (tag_test c opens) w)
+link_wrapped c l w h = absurd (true≢false (sym h))
 
 pub link_wraps : (t : Token) {n place : Nonterminal} (k : Nonterminal) (variant : Variant) → Linked n place → links (class t) ≡ true → takes place k ≡ true → is_place k ≡ false → Wraps t n k variant
-link_wraps t k variant a h e p c s = ((linked_there a c k e p s).1, link_wrapped c (class t) h)
+link_wraps t {n = n} k variant a h e p c s = ((linked_there a c k e p s).1, link_wrapped c (class t) (stands_waiting c n (linked_own a) s) h)
 
 -- `(` behind what is called
 abbrev is_opening : Class → Bool
@@ -389,7 +439,7 @@ abbrev pub Ended : Control → Nonterminal → Nonterminal → Variant → Type 
 Ended c n k variant = (t : Token) → closes t n ≡ true → (closes t k ≡ true) × (decide c (Some variant) t ≡ Reduce)
 
 pub tail_ends : (t : Tail) (k : Nonterminal) (variant : Variant) → takes (last t) k ≡ true → Ended (Open t) (whole t) k variant
-tail_ends t k variant h u e = (tail_closes t u k h e, ends_reduce (whole t) (class u) e)
+tail_ends t k variant h u e = (tail_closes t u k h e, ends_reduce (whole t) (class u) (ending (class u) (whole t) (tail_item t) e))
 
 new_reduced : (l : Class) → takes (left l) nt.NewExpression ≡ true → with_operand AfterNew l ≡ Reduce
 unfolding is_member is_new is_call is_callee is_chained is_left_hand_side is_update is_unary is_exponentiation is_multiplicative is_additive is_shift is_relational is_in_left is_equality is_bitwise_and is_bitwise_xor is_bitwise_or is_logical_and is_logical_or is_coalesce_head is_short_circuit is_conditional is_assignment is_expression is_assignment_target is_pattern_target is_pattern_element is_last_element is_coalesce is_private is_optional is_primary is_template is_property_name is_chain_link is_assignment_pattern is_pattern_name is_rest is_statement is_hoistable_declaration is_block is_variable_declarations is_declaration is_statement_list_item is_labelled_item is_module_declaration is_exported_head is_function_head is_generator_head is_async_function_head is_async_generator_head is_function_tail is_getter_tail is_setter_tail is_method_head is_decorator_list is_class_head is_class_tail is_class_element is_constructor_name is_any_function_head is_head_without_yield is_head_without_await is_any_property_name is_jsx_element is_jsx_object is_uncovered takes
@@ -397,10 +447,10 @@ new_reduced OpenParen h = absurd (true≢false (sym h))
 new_reduced l h = ends_reduce nt.NewExpression l h
 
 pub new_ends : (k : Nonterminal) (variant : Variant) → takes nt.NewExpression k ≡ true → Ended AfterNew nt.NewExpression k variant
-new_ends k variant h u e = (takes_on (left (class u)) nt.NewExpression k e h, new_reduced (class u) e)
+new_ends k variant h u e = (ended_by (class u) k (takes_on (left (class u)) nt.NewExpression k e h), new_reduced (class u) e)
 
 pub yield_ends : (k : Nonterminal) (variant : Variant) → takes nt.AssignmentExpression k ≡ true → Ended YieldLine nt.AssignmentExpression k variant
-yield_ends k variant h u e = (takes_on (left (class u)) nt.AssignmentExpression k e h, ends_reduce nt.AssignmentExpression (class u) e)
+yield_ends k variant h u e = (ended_by (class u) k (takes_on (left (class u)) nt.AssignmentExpression k e h), ends_reduce nt.AssignmentExpression (class u) e)
 
 listed_reduced : (l : Class) → takes (left l) nt.Expression ≡ true → with_operand Listed l ≡ Reduce
 unfolding is_member is_new is_call is_callee is_chained is_left_hand_side is_update is_unary is_exponentiation is_multiplicative is_additive is_shift is_relational is_in_left is_equality is_bitwise_and is_bitwise_xor is_bitwise_or is_logical_and is_logical_or is_coalesce_head is_short_circuit is_conditional is_assignment is_expression is_assignment_target is_pattern_target is_pattern_element is_last_element is_coalesce is_private is_optional is_primary is_template is_property_name is_chain_link is_assignment_pattern is_pattern_name is_rest is_statement is_hoistable_declaration is_block is_variable_declarations is_declaration is_statement_list_item is_labelled_item is_module_declaration is_exported_head is_function_head is_generator_head is_async_function_head is_async_generator_head is_function_tail is_getter_tail is_setter_tail is_method_head is_decorator_list is_class_head is_class_tail is_class_element is_constructor_name is_any_function_head is_head_without_yield is_head_without_await is_any_property_name is_jsx_element is_jsx_object is_uncovered takes
@@ -413,7 +463,7 @@ listed_test (Infix Power) = refl
 listed_test l = refl
 
 pub listed_ends : (k : Nonterminal) (variant : Variant) → takes nt.AssignmentExpression k ≡ true → Ended Listed nt.Expression k variant
-listed_ends k variant h u e = (takes_on (left (class u)) nt.AssignmentExpression k (told _ _ (listed_test (class u)) e) h, listed_reduced (class u) e)
+listed_ends k variant h u e = (ended_by (class u) k (takes_on (left (class u)) nt.AssignmentExpression k (told _ _ (listed_test (class u)) e) h), listed_reduced (class u) e)
 
 alone_reduced : (l : Class) → takes (left l) nt.AssignmentExpression ≡ true → without AfterYield l ≡ Reduce
 unfolding is_member is_new is_call is_callee is_chained is_left_hand_side is_update is_unary is_exponentiation is_multiplicative is_additive is_shift is_relational is_in_left is_equality is_bitwise_and is_bitwise_xor is_bitwise_or is_logical_and is_logical_or is_coalesce_head is_short_circuit is_conditional is_assignment is_expression is_assignment_target is_pattern_target is_pattern_element is_last_element is_coalesce is_private is_optional is_primary is_template is_property_name is_chain_link is_assignment_pattern is_pattern_name is_rest is_statement is_hoistable_declaration is_block is_variable_declarations is_declaration is_statement_list_item is_labelled_item is_module_declaration is_exported_head is_function_head is_generator_head is_async_function_head is_async_generator_head is_function_tail is_getter_tail is_setter_tail is_method_head is_decorator_list is_class_head is_class_tail is_class_element is_constructor_name is_any_function_head is_head_without_yield is_head_without_await is_any_property_name is_jsx_element is_jsx_object is_uncovered takes
@@ -446,3 +496,95 @@ pub assignment_single : (k : Nonterminal) → takes nt.AssignmentExpression k �
 unfolding is_member is_new is_call is_callee is_chained is_left_hand_side is_update is_unary is_exponentiation is_multiplicative is_additive is_shift is_relational is_in_left is_equality is_bitwise_and is_bitwise_xor is_bitwise_or is_logical_and is_logical_or is_coalesce_head is_short_circuit is_conditional is_assignment is_expression is_assignment_target is_pattern_target is_pattern_element is_last_element is_coalesce is_private is_optional is_primary is_template is_property_name is_chain_link is_assignment_pattern is_pattern_name is_rest is_statement is_hoistable_declaration is_block is_variable_declarations is_declaration is_statement_list_item is_labelled_item is_module_declaration is_exported_head is_function_head is_generator_head is_async_function_head is_async_generator_head is_function_tail is_getter_tail is_setter_tail is_method_head is_decorator_list is_class_head is_class_tail is_class_element is_constructor_name is_any_function_head is_head_without_yield is_head_without_await is_any_property_name is_jsx_element is_jsx_object is_uncovered takes
 assignment_single nt.Expression h = sym h
 assignment_single k h = refl
+
+-- ---- statements: where one stands, its first token begins it, and no operand does
+
+abbrev pub is_keyword : Class → Bool
+is_keyword FunctionWord = true
+is_keyword ReturnWord = true
+is_keyword ThrowWord = true
+is_keyword BreakWord = true
+is_keyword ContinueWord = true
+is_keyword DebuggerWord = true
+is_keyword IfWord = true
+is_keyword WhileWord = true
+is_keyword WithWord = true
+is_keyword VarWord = true
+is_keyword Semicolon = true
+is_keyword l = false
+
+waits_test : (c : Control) (n : Nonterminal) → if_so (is_item n) (not (takes (waits c) n) && not (is_private n)) ≡ true
+unfolding is_member is_new is_call is_callee is_chained is_left_hand_side is_update is_unary is_exponentiation is_multiplicative is_additive is_shift is_relational is_in_left is_equality is_bitwise_and is_bitwise_xor is_bitwise_or is_logical_and is_logical_or is_coalesce_head is_short_circuit is_conditional is_assignment is_expression is_assignment_target is_pattern_target is_pattern_element is_last_element is_coalesce is_private is_optional is_primary is_template is_property_name is_chain_link is_assignment_pattern is_pattern_name is_rest is_statement is_hoistable_declaration is_block is_variable_declarations is_declaration is_statement_list_item is_labelled_item is_module_declaration is_exported_head is_function_head is_generator_head is_async_function_head is_async_generator_head is_function_tail is_getter_tail is_setter_tail is_method_head is_decorator_list is_class_head is_class_tail is_class_element is_constructor_name is_any_function_head is_head_without_yield is_head_without_await is_any_property_name is_jsx_element is_jsx_object is_uncovered takes
+waits_test (Open (OfInfix Power)) nt.Statement = refl
+waits_test c nt.Statement = refl
+waits_test (Open (OfInfix Power)) nt.Block = refl
+waits_test c nt.Block = refl
+waits_test c n = refl
+
+item_cases : (a b c d : Bool) → (not a && not b) ≡ true → (a || ((b && c) || d)) ≡ true → d ≡ true
+item_cases false false c d h s = s
+item_cases true b c d h s = absurd (true≢false (sym h))
+item_cases false true c d h s = absurd (true≢false (sym h))
+
+pub item_there : (n : Nonterminal) → is_item n ≡ true → (c : Control) → stands c n ≡ true → at_item c ≡ true
+item_there n i c s = (and_parts _ _ (item_cases (takes (waits c) n) (is_private n) (takes (waits c) nt.RelationalExpression) (is_item n && at_item c) (told _ _ (waits_test c n) i) s)).1
+
+keyword_test : (c : Control) (l : Class) → if_so (at_item c && is_keyword l) (is_push (without c l)) ≡ true
+keyword_test (Statement place) FunctionWord = refl
+keyword_test c FunctionWord = refl
+keyword_test c l = refl
+
+pub keyword_pushes : (t : Token) (n : Nonterminal) → is_keyword (class t) ≡ true → is_item n ≡ true → (c : Control) → stands c n ≡ true → decide c None t ≡ Push
+keyword_pushes t n k i c s = push_is _ (told _ _ (keyword_test c (class t)) (and_from _ _ (item_there n i c s) k))
+
+abbrev is_enter : Action → Bool
+is_enter Enter = true
+is_enter a = false
+
+enter_is : (a : Action) → is_enter a ≡ true → a ≡ Enter
+enter_is Enter h = refl
+enter_is Shift h = absurd (true≢false (sym h))
+enter_is Push h = absurd (true≢false (sym h))
+enter_is Wrap h = absurd (true≢false (sym h))
+enter_is Reduce h = absurd (true≢false (sym h))
+enter_is Turn h = absurd (true≢false (sym h))
+enter_is Begin h = absurd (true≢false (sym h))
+enter_is Leave h = absurd (true≢false (sym h))
+enter_is Splice h = absurd (true≢false (sym h))
+enter_is Take h = absurd (true≢false (sym h))
+
+-- what begins no expression in the place of a statement
+abbrev pub is_barred : Class → Bool
+is_barred OpenBrace = true
+is_barred FunctionWord = true
+is_barred l = false
+
+enter_test : (place : Where) (l : Class) → if_so (starts l && not (is_barred l)) (is_enter (without (Statement place) l)) ≡ true
+enter_test (InList ends) (Infix Plus) = refl
+enter_test place (Infix Plus) = refl
+enter_test (InList ends) l = refl
+enter_test place l = refl
+
+entered_test : (place : Where) (l : Class) → if_so (starts l) (is_push (without (Entered place) l)) ≡ true
+entered_test place (Infix Plus) = refl
+entered_test place l = refl
+
+-- a statement's place
+pub data ItemPlace : Control → Type 0 where
+  item_place : (place : Where) → ItemPlace (Statement place)
+
+pub place_of : (c : Control) → at_item c ≡ true → ItemPlace c
+place_of (Statement place) h = item_place place
+place_of c h = absurd (true≢false (sym h))
+
+pub enters : (t : Token) → starts (class t) ≡ true → is_barred (class t) ≡ false → (c : Control) → ItemPlace c → (decide c None t ≡ Enter) × (decide (entered c) None t ≡ Push)
+enters t h b c (item_place place) =
+    (enter_is _ (told _ _ (enter_test place (class t)) (and_from _ _ h (ap not b))), push_is _ (told _ _ (entered_test place (class t)) h))
+
+-- with which token an operand begins, by what the machine does at it in the place of a statement
+begins_test : (l : Class) → if_so (is_push (without (Entered OfElse) l)) (starts l) ≡ true
+begins_test (Infix Plus) = refl
+begins_test l = refl
+
+pub begins_operand : (t : Token) → decide (Entered OfElse) None t ≡ Push → starts (class t) ≡ true
+begins_operand t e = told _ _ (begins_test (class t)) (ap is_push e)

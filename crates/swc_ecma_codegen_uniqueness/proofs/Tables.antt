@@ -7,7 +7,7 @@ use Rattle.swc_ecma_codegen_grammar.specs.Tokens.{Token, Value, Characters}
 use Rattle.swc_ecma_codegen_syntax.specs.declared.nonterminals.Nonterminal.{Nonterminal}
 use Rattle.swc_ecma_codegen_syntax.specs.declared.nonterminals.Nonterminal.TheVariants as nt
 use Rattle.swc_ecma_codegen_syntax.specs.Nonterminals.{takes, is_private}
-use Rattle.swc_ecma_codegen_uniqueness.specs.ParseTrees.{Variant, This, Array, Object, Unary, Update, Bin, Assign, Member, SuperProp, Cond, Call, New, Seq, Ident, Lit, Tpl, TaggedTpl, Arrow, Yield, MetaProp, Await, Paren, PrivateName, OptChain, Other}
+use Rattle.swc_ecma_codegen_uniqueness.specs.ParseTrees.{Variant, This, Array, Object, Unary, Update, Bin, Assign, Member, SuperProp, Cond, Call, New, Seq, Ident, Lit, Tpl, TaggedTpl, Arrow, Yield, MetaProp, Await, Paren, PrivateName, OptChain, Fn, BlockStmt, EmptyStmt, DebuggerStmt, WithStmt, ReturnStmt, LabeledStmt, BreakStmt, ContinueStmt, IfStmt, ThrowStmt, WhileStmt, VarDecl, ExprStmt, Other}
 
 -- ---- tokens
 
@@ -18,18 +18,21 @@ pub data Level : Type 0 where
 -- what a token is
 pub data Class : Type 0 where
   Infix : (level : Level) → Class
-  Assigns Ask Colon Comma Dot ChainDot OpenParen CloseParen OpenBracket CloseBracket OpenBrace CloseBrace Dots Line Twice Bang FatArrow : Class
+  Assigns Ask Colon Comma Dot ChainDot OpenParen CloseParen OpenBracket CloseBracket OpenBrace CloseBrace Dots Line Twice Bang FatArrow Semi Semicolon : Class
   First Later : (opens : Bool) → Class
-  NameToken PrivateToken LiteralToken ThisWord NewWord SuperWord ImportWord YieldWord AwaitWord AsyncWord UnaryWord TargetWord MetaWord Strange : Class
+  NameToken PrivateToken LiteralToken ThisWord NewWord SuperWord ImportWord YieldWord AwaitWord AsyncWord FunctionWord ReturnWord ThrowWord BreakWord ContinueWord DebuggerWord IfWord ElseWord WhileWord WithWord VarWord UnaryWord TargetWord MetaWord Strange : Class
 
-abbrev look : List (List ℕ × Class) → List ℕ → Class
+abbrev pub look : List (List ℕ × Class) → List ℕ → Class
 look [] text = Strange
 look (e ∷ es) text = cond (bytes_eq text e.0) e.1 (look es text)
 
-abbrev words : List (List ℕ × Class)
+abbrev pub words : List (List ℕ × Class)
 words =
     (codes "this", ThisWord) ∷ (codes "new", NewWord) ∷ (codes "super", SuperWord) ∷ (codes "import", ImportWord) ∷ (codes "yield", YieldWord)
-    ∷ (codes "await", AwaitWord) ∷ (codes "async", AsyncWord) ∷ (codes "typeof", UnaryWord) ∷ (codes "void", UnaryWord) ∷ (codes "delete", UnaryWord) ∷ (codes "target", TargetWord)
+    ∷ (codes "await", AwaitWord) ∷ (codes "async", AsyncWord) ∷ (codes "function", FunctionWord)
+    ∷ (codes "return", ReturnWord) ∷ (codes "throw", ThrowWord) ∷ (codes "break", BreakWord) ∷ (codes "continue", ContinueWord) ∷ (codes "debugger", DebuggerWord)
+    ∷ (codes "if", IfWord) ∷ (codes "else", ElseWord) ∷ (codes "while", WhileWord) ∷ (codes "with", WithWord) ∷ (codes "var", VarWord) ∷ (codes "let", VarWord)
+    ∷ (codes "const", VarWord) ∷ (codes "typeof", UnaryWord) ∷ (codes "void", UnaryWord) ∷ (codes "delete", UnaryWord) ∷ (codes "target", TargetWord)
     ∷ (codes "meta", MetaWord) ∷ (codes "true", LiteralToken) ∷ (codes "false", LiteralToken) ∷ (codes "null", LiteralToken)
     ∷ (codes "in", Infix Within) ∷ (codes "instanceof", Infix Comparing) ∷ []
 
@@ -48,12 +51,12 @@ assignments more =
     ∷ (codes ">>=", Assigns) ∷ (codes ">>>=", Assigns) ∷ (codes "|=", Assigns) ∷ (codes "^=", Assigns) ∷ (codes "&=", Assigns) ∷ (codes "**=", Assigns)
     ∷ (codes "&&=", Assigns) ∷ (codes "||=", Assigns) ∷ (codes "??=", Assigns) ∷ more
 
-abbrev marks : List (List ℕ × Class)
+abbrev pub marks : List (List ℕ × Class)
 marks =
     operators (assignments (
     (codes "?", Ask) ∷ (codes ":", Colon) ∷ (codes ",", Comma) ∷ (codes ".", Dot) ∷ (codes "?.", ChainDot) ∷ (codes "(", OpenParen) ∷ (codes ")", CloseParen)
     ∷ (codes "[", OpenBracket) ∷ (codes "]", CloseBracket) ∷ (codes "{", OpenBrace) ∷ (codes "}", CloseBrace) ∷ (codes "...", Dots) ∷ (codes "++", Twice) ∷ (codes "--", Twice) ∷ (codes "!", Bang) ∷ (codes "~", Bang)
-    ∷ (codes "=>", FatArrow) ∷ []))
+    ∷ (codes "=>", FatArrow) ∷ (codes ";", Semicolon) ∷ []))
 
 abbrev pub class_of : Kind → Value → Class
 class_of kinds.Word (Characters text) = look words text
@@ -67,6 +70,7 @@ class_of kinds.Regex v = LiteralToken
 class_of (kinds.Template part) v = First part.opens
 class_of (kinds.TemplateRest part) v = Later part.opens
 class_of kinds.SameLine v = Line
+class_of kinds.Ending v = Semi
 class_of kind v = Strange
 
 abbrev pub class : Token → Class
@@ -127,11 +131,50 @@ left CloseBracket = nt.Expression
 left CloseBrace = nt.Expression
 left (Later opens) = nt.Expression
 left Line = nt.LeftHandSideExpression
+left Semi = nt.Expression
 left c = nt.Uncovered
+
+-- an item of a list of statements, or a statement in another: before any token but `else`, and before any
+abbrev pub is_item : Nonterminal → Bool
+is_item nt.Statement = true
+is_item nt.Block = true
+is_item n = false
+
+abbrev pub is_no_else : Class → Bool
+is_no_else ElseWord = false
+is_no_else c = true
+
+abbrev pub closed_by : Class → Nonterminal → Bool
+closed_by c nt.Statement = is_no_else c
+closed_by c nt.Block = true
+closed_by c n = takes (left c) n
 
 -- a token ends what is of a nonterminal
 abbrev pub closes : Token → Nonterminal → Bool
-closes t n = takes (left (class t)) n
+closes t n = closed_by (class t) n
+
+-- where an operand stands, its first token begins it
+abbrev pub starts : Class → Bool
+starts NameToken = true
+starts PrivateToken = true
+starts LiteralToken = true
+starts ThisWord = true
+starts OpenParen = true
+starts OpenBracket = true
+starts OpenBrace = true
+starts (First opens) = true
+starts (Infix Plus) = true
+starts Bang = true
+starts UnaryWord = true
+starts Twice = true
+starts NewWord = true
+starts SuperWord = true
+starts ImportWord = true
+starts YieldWord = true
+starts AwaitWord = true
+starts AsyncWord = true
+starts FunctionWord = true
+starts c = false
 
 -- ---- what is begun
 
@@ -171,10 +214,18 @@ tail_variant OfAwait = Await
 tail_variant OfYield = Yield
 tail_variant OfArrow = Arrow
 
+-- where a statement stands: in a list, of what ends with `}`; behind `if (a)`, behind `else`, behind `while (a)` or `with (a)`, behind `a:`
+pub data Where : Type 0 where
+  InList : (ends : Variant) → Where
+  OfIf OfElse OfLabel : Where
+  OfLoop : (variant : Variant) → Where
+
 -- Where a node is that is begun: at its end; before its last part; in parentheses; behind `a[`; among arguments; among elements, and behind `a,` of
 -- them; behind `a ?`; in a template; behind `a.`; in an object before a property, behind a comma, behind a key, behind `[` of a key, and before a value;
 -- behind `a?.`, `new`, `new.`, `import`, `import.`, `super`, `yield`, what stays on its line behind that, `a` before `++` or `=>`, and `a,`; behind
--- `async`, what stays on its line behind that, and its parameters.
+-- `async`, what stays on its line behind that, and its parameters; behind `=>`. Before a statement, and behind the first token of an expression in its
+-- place; behind `function`, behind the name, among parameters, behind `...` of them, and behind them; behind `return`, before a value, and before a label;
+-- behind `if`, and behind `if (`; behind `let`, and before a value of it.
 pub data Control : Type 0 where
   Closed : (variant : Variant) → Control
   Open : (tail : Tail) → Control
@@ -185,7 +236,11 @@ pub data Control : Type 0 where
   Substitution : (variant : Variant) → Control
   Dotted : (variant : Variant) → Control
   Properties NextProperty AfterKey InKey InValue : Control
-  Chained AfterNew AfterNewDot AfterImport AfterImportDot AfterSuper AfterYield YieldLine Postfix Listed AfterAsync AsyncLine AsyncParameters : Control
+  Chained AfterNew AfterNewDot AfterImport AfterImportDot AfterSuper AfterYield YieldLine Postfix Listed AfterAsync AsyncLine AsyncParameters ArrowBody : Control
+  Statement Entered : (place : Where) → Control
+  AfterFunction AfterName Parameter RestParameter AfterParameters : Control
+  AfterWord Valued Jump Headed Test : (variant : Variant) → Control
+  Declarators Initializer : Control
 
 -- the nonterminal that stands there
 abbrev pub waits : Control → Nonterminal
@@ -203,11 +258,32 @@ waits AfterNew = nt.NewExpression
 waits YieldLine = nt.AssignmentExpression
 waits Listed = nt.AssignmentExpression
 waits AsyncLine = nt.LeftHandSideExpression
+waits (Entered place) = nt.Expression
+waits Parameter = nt.AssignmentExpression
+waits RestParameter = nt.LeftHandSideExpression
+waits (Valued variant) = nt.Expression
+waits (Test variant) = nt.Expression
+waits Declarators = nt.LeftHandSideExpression
+waits Initializer = nt.AssignmentExpression
 waits c = nt.Uncovered
 
--- A node stands there; `#a` does where `#a in b` would.
+abbrev pub at_item : Control → Bool
+at_item (Statement place) = true
+at_item c = false
+
+-- A node stands there; `#a` does where `#a in b` would; a statement does.
 abbrev pub stands : Control → Nonterminal → Bool
-stands c n = takes (waits c) n || (is_private n && takes (waits c) nt.RelationalExpression)
+stands c n = takes (waits c) n || ((is_private n && takes (waits c) nt.RelationalExpression) || (is_item n && at_item c))
+
+-- behind the first token of an expression, and back
+abbrev pub entered : Control → Control
+entered (Statement place) = Entered place
+entered ArrowBody = Open OfArrow
+entered c = c
+
+abbrev pub outside : Control → Control
+outside (Entered place) = Statement place
+outside c = c
 
 abbrev pub variant_of : Control → Variant
 variant_of (Closed variant) = variant
@@ -216,14 +292,20 @@ variant_of AfterNew = New
 variant_of AfterYield = Yield
 variant_of YieldLine = Yield
 variant_of Listed = Seq
+variant_of (Statement OfIf) = IfStmt
+variant_of (Statement OfElse) = IfStmt
+variant_of (Statement OfLabel) = LabeledStmt
+variant_of (Statement (OfLoop variant)) = variant
 variant_of c = Other
 
 -- ---- what the machine does
 
 -- takes the token, begins a node with it, begins one with the operand at hand and it, ends the topmost one; takes the token, which tells that what
--- stands before it was otherwise: `]` that the comma before it ends the list, `=>` that what is in parentheses are parameters
+-- stands before it was otherwise: `]` that the comma before it ends the list, `=>` that what is in parentheses are parameters. `{` begins a block; a
+-- token begins an expression in the place of a statement, and with it, `;` ends the statement; what is at hand has no node of its own, before a token
+-- that is taken, or before another item.
 pub data Action : Type 0 where
-  Shift Push Wrap Reduce Turn : Action
+  Shift Push Wrap Reduce Turn Begin Enter Leave Splice Take : Action
 
 -- with no operand at hand
 abbrev pub without : Control → Class → Action
@@ -286,6 +368,40 @@ without Postfix FatArrow = Turn
 without AfterAsync Line = Shift
 without AsyncLine c = Push
 without AsyncParameters FatArrow = Turn
+without ArrowBody OpenBrace = Shift
+without ArrowBody c = Enter
+without (Statement place) OpenBrace = Begin
+without (Statement (InList ends)) CloseBrace = Shift
+without (Statement place) FunctionWord = Push
+without (Statement place) ReturnWord = Push
+without (Statement place) ThrowWord = Push
+without (Statement place) BreakWord = Push
+without (Statement place) ContinueWord = Push
+without (Statement place) DebuggerWord = Push
+without (Statement place) IfWord = Push
+without (Statement place) WhileWord = Push
+without (Statement place) WithWord = Push
+without (Statement place) VarWord = Push
+without (Statement place) Semicolon = Push
+without (Statement place) c = if starts c then Enter else Reduce
+without (Entered place) c = if starts c then Push else Reduce
+without AfterFunction (Infix Times) = Shift
+without AfterFunction NameToken = Shift
+without AfterFunction OpenParen = Shift
+without AfterName OpenParen = Shift
+without Parameter CloseParen = Shift
+without Parameter Dots = Shift
+without Parameter c = Push
+without RestParameter c = Push
+without AfterParameters OpenBrace = Shift
+without (AfterWord variant) Semi = Shift
+without (AfterWord variant) Line = Shift
+without (Valued variant) c = Push
+without (Jump variant) NameToken = Shift
+without (Headed variant) OpenParen = Shift
+without (Test variant) c = Push
+without Declarators c = Push
+without Initializer c = Push
 without control c = Reduce
 
 abbrev ends : Nonterminal → Class → Action
@@ -310,6 +426,21 @@ with_operand AfterNew OpenParen = Shift
 with_operand AfterNew c = ends nt.NewExpression c
 with_operand YieldLine c = ends nt.AssignmentExpression c
 with_operand AsyncLine Line = Shift
+with_operand (Statement (InList ends)) c = Take
+with_operand (Statement OfIf) ElseWord = Shift
+with_operand (Statement place) c = Reduce
+with_operand (Entered place) Semi = Leave
+with_operand (Entered place) Colon = Leave
+with_operand Parameter Comma = Splice
+with_operand Parameter CloseParen = Splice
+with_operand RestParameter CloseParen = Shift
+with_operand (Valued variant) Semi = Shift
+with_operand (Test variant) CloseParen = Shift
+with_operand Declarators Assigns = Splice
+with_operand Declarators Comma = Splice
+with_operand Declarators Semi = Splice
+with_operand Initializer Comma = Shift
+with_operand Initializer Semi = Shift
 with_operand Listed Comma = Shift
 with_operand Listed c = ends nt.Expression c
 with_operand control c = Wrap
@@ -341,7 +472,7 @@ shifted_to AfterSuper Dot = Dotted SuperProp
 shifted_to AfterSuper c = Index SuperProp
 shifted_to AfterYield c = YieldLine
 shifted_to YieldLine c = Open OfYield
-shifted_to Postfix FatArrow = Open OfArrow
+shifted_to Postfix FatArrow = ArrowBody
 shifted_to Postfix c = Closed Update
 shifted_to InParen CloseParen = Closed Paren
 shifted_to Properties OpenBracket = InKey
@@ -357,7 +488,21 @@ shifted_to AfterKey Assigns = InValue
 shifted_to AfterKey CloseBrace = Closed Object
 shifted_to AfterKey c = NextProperty
 shifted_to AfterAsync c = AsyncLine
-shifted_to AsyncParameters c = Open OfArrow
+shifted_to AsyncParameters c = ArrowBody
+shifted_to ArrowBody c = Statement (InList Arrow)
+shifted_to (Statement (InList ends)) c = Closed ends
+shifted_to AfterFunction NameToken = AfterName
+shifted_to AfterFunction OpenParen = Parameter
+shifted_to AfterName c = Parameter
+shifted_to Parameter Dots = RestParameter
+shifted_to Parameter c = AfterParameters
+shifted_to AfterParameters c = Statement (InList Fn)
+shifted_to (AfterWord variant) Semi = Closed variant
+shifted_to (AfterWord ReturnStmt) c = Valued ReturnStmt
+shifted_to (AfterWord ThrowStmt) c = Valued ThrowStmt
+shifted_to (AfterWord variant) c = Jump variant
+shifted_to (Jump variant) c = AfterWord variant
+shifted_to (Headed variant) c = Test variant
 shifted_to control c = control
 
 -- behind one that is taken with an operand at hand
@@ -375,6 +520,18 @@ passed_to InValue CloseBrace = Closed Object
 passed_to InValue c = NextProperty
 passed_to (Substitution variant) (Later false) = Closed variant
 passed_to AsyncLine c = AsyncParameters
+passed_to (Statement place) c = Statement OfElse
+passed_to Parameter Comma = Parameter
+passed_to Parameter c = AfterParameters
+passed_to RestParameter c = AfterParameters
+passed_to (Valued variant) c = Closed variant
+passed_to (Test IfStmt) c = Statement OfIf
+passed_to (Test variant) c = Statement (OfLoop variant)
+passed_to Declarators Assigns = Initializer
+passed_to Declarators Comma = Declarators
+passed_to Declarators c = Closed VarDecl
+passed_to Initializer Comma = Declarators
+passed_to Initializer c = Closed VarDecl
 passed_to control c = control
 
 abbrev pub moved : Control → Option Variant → Class → Control
@@ -408,10 +565,25 @@ started ImportWord = AfterImport
 started YieldWord = AfterYield
 started AwaitWord = Open OfAwait
 started AsyncWord = AfterAsync
+started FunctionWord = AfterFunction
+started ReturnWord = AfterWord ReturnStmt
+started ThrowWord = AfterWord ThrowStmt
+started BreakWord = AfterWord BreakStmt
+started ContinueWord = AfterWord ContinueStmt
+started DebuggerWord = AfterWord DebuggerStmt
+started IfWord = Headed IfStmt
+started WhileWord = Headed WhileStmt
+started WithWord = Headed WithStmt
+started VarWord = Declarators
+started Semicolon = Closed EmptyStmt
 started c = Closed Other
 
 abbrev pub start : Token → Control
 start t = started (class t)
+
+-- behind the `{` of a block
+abbrev pub begin : Token → Control
+begin t = Statement (InList BlockStmt)
 
 -- behind an operand and a token: behind an optional chain a link is one more of it
 abbrev pub chained : Variant → Variant → Variant
@@ -429,6 +601,8 @@ wrapped_to operand OpenParen = Arguments (chained operand Call)
 wrapped_to operand ChainDot = Chained
 wrapped_to operand (First opens) = template TaggedTpl opens
 wrapped_to operand Line = Postfix
+wrapped_to operand Semi = Closed ExprStmt
+wrapped_to operand Colon = Statement OfLabel
 wrapped_to operand c = Closed Other
 
 abbrev pub wrap : Variant → Token → Control

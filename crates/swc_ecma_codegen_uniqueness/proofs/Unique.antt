@@ -18,9 +18,9 @@ use Rattle.swc_ecma_codegen_syntax.specs.Forms.{Part}
 use Rattle.swc_ecma_codegen_syntax.specs.Derives.{Derives, DerivesExpr, part, bare_phrase, expr_verdict}
 use Rattle.swc_ecma_codegen_uniqueness.specs.ParseTrees.{Variant, ParseTree, End, Read, Optional, Node, tokens_of, settled, AreCommasAndParentheses, AreKnown}
 use Rattle.swc_ecma_codegen_uniqueness.specs.Parses.{placed, is_inlined, form_parse, expr_parse}
-use Rattle.swc_ecma_codegen_uniqueness.proofs.Tables.{InParen}
+use Rattle.swc_ecma_codegen_uniqueness.proofs.Tables.{CloseParen, InParen}
 use Rattle.swc_ecma_codegen_uniqueness.proofs.Machine.{Whole, Good, one_tree}
-use Rattle.swc_ecma_codegen_uniqueness.proofs.TableLaws.{or_left, cover_taken}
+use Rattle.swc_ecma_codegen_uniqueness.proofs.TableLaws.{ended_by, or_left, cover_taken}
 use Rattle.swc_ecma_codegen_uniqueness.proofs.Reading.{derived_parse}
 use Rattle.swc_ecma_codegen_uniqueness.proofs.Parsed.{tokens_before, derived_allowed}
 use Rattle.swc_ecma_codegen_uniqueness.proofs.Fits.{PlacedGood, AllGood, taken_at}
@@ -46,7 +46,7 @@ same_readable : (p q : ParseTree) → Readable p → Readable q → tokens_of p 
 unfolding tokens_of punctuator
 same_readable p q x y e =
     x.is
-    ∙ one_tree InParen (punctuator (codes ")")) x.variant y.variant x.of y.of x.inside y.inside (or_left _ _ x.taken, x.taken, refl) (or_left _ _ y.taken, y.taken, refl) x.good y.good
+    ∙ one_tree InParen (punctuator (codes ")")) x.variant y.variant x.of y.of x.inside y.inside (or_left _ _ x.taken, ended_by CloseParen x.of x.taken, refl) (or_left _ _ y.taken, ended_by CloseParen y.of y.taken, refl) x.good y.good
     (sym (ap (λ z. tokens_of z (punctuator (codes ")") ∷ [])) x.is) ∙ e ∙ ap (λ z. tokens_of z (punctuator (codes ")") ∷ [])) y.is)
     ∙ sym y.is
 
@@ -58,7 +58,7 @@ expr_derived a x = derived_settled x.1 End
 known_before : (p : ParseTree) → AreKnown (settled p) → AreKnown p
 unfolding AreKnown settled
 known_before End k = k
-known_before (Read t p) k = known_before p k
+known_before (Read t p) (e, k) = (e, known_before p k)
 known_before (Optional t p) k = known_before p k
 known_before (Node s p q) (e, h, k) = (e, known_before p h, known_before q k)
 

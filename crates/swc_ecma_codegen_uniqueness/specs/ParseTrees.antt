@@ -1,5 +1,5 @@
 -- Parse trees: tokens, and round the tokens of each node what node it is.
-use Rattle.std.specs.Prelude.{◌≡◌, ◌⊎◌, Bool, true, false, List, ◌∷◌}
+use Rattle.std.specs.Prelude.{◌≡◌, ◌⊎◌, ℕ, Bool, true, false, not, codes, List, [], ◌∷◌}
 use Rattle.swc_ecma_codegen_tree.specs.declared.links.AnyNode.TheOpen as nodes
 use Rattle.swc_ecma_codegen_tree.specs.declared.exprs.Expr.{Expr}
 use Rattle.swc_ecma_codegen_tree.specs.declared.exprs.Expr.TheVariants as exprs
@@ -13,20 +13,25 @@ use Rattle.swc_ecma_codegen_tree.specs.declared.pats.Pat.{Pat}
 use Rattle.swc_ecma_codegen_tree.specs.declared.pats.Pat.TheVariants as pats
 use Rattle.swc_ecma_codegen_tree.specs.declared.pats.SimpleAssignTarget.{SimpleAssignTarget}
 use Rattle.swc_ecma_codegen_tree.specs.declared.pats.SimpleAssignTarget.TheVariants as simple_targets
+use Rattle.swc_ecma_codegen_tree.specs.declared.decls.Decl.{Decl}
+use Rattle.swc_ecma_codegen_tree.specs.declared.decls.Decl.TheVariants as decls
 use Rattle.swc_ecma_codegen_tree.specs.declared.stmts.Stmt.{Stmt}
 use Rattle.swc_ecma_codegen_tree.specs.declared.stmts.Stmt.TheVariants as stmts
 use Rattle.swc_ecma_codegen_tree.specs.declared.links.AnyNode.{AnyNode-F}
 use Rattle.swc_ecma_codegen_grammar.specs.declared.roles.Role.{Role}
 use Rattle.swc_ecma_codegen_grammar.specs.declared.roles.Role.TheVariants.{Expression, Callee, Statement, Pattern, AssignmentTarget}
 use Rattle.swc_ecma_codegen_grammar.specs.Phrases.{comma, open_parenthesis, close_parenthesis}
-use Rattle.swc_ecma_codegen_grammar.specs.Tokens.{Token}
+use Rattle.swc_ecma_codegen_grammar.specs.Tokens.{Token, Value, Characters}
+use Rattle.swc_ecma_codegen_grammar.specs.declared.kinds.Kind.{Kind}
+use Rattle.swc_ecma_codegen_grammar.specs.declared.kinds.Kind.TheVariants.{Word}
+use Rattle.swc_ecma_codegen_syntax.specs.NameForms.{is_one_of}
 
--- What node it is, by the name of its variant in `Expr`. A node that no production derives is foreign, as those of TypeScript. Of other nodes the laws
--- don't speak: functions, classes, JSX, statements, of which an empty one is told from the others.
+-- What node it is, by the name of its variant in `Expr` or `Stmt`. A node that no production derives is foreign, as those of TypeScript. Of other nodes the
+-- laws don't speak: async functions, methods, classes, JSX.
 pub data Variant : Type 0 where
-  This Array Object Unary Update Bin Assign Member SuperProp Cond Call New Seq Ident Lit Tpl TaggedTpl Arrow Yield MetaProp Await Paren PrivateName OptChain : Variant
+  This Array Object Fn Unary Update Bin Assign Member SuperProp Cond Call New Seq Ident Lit Tpl TaggedTpl Arrow Yield MetaProp Await Paren PrivateName OptChain : Variant
+  BlockStmt EmptyStmt DebuggerStmt WithStmt ReturnStmt LabeledStmt BreakStmt ContinueStmt IfStmt ThrowStmt WhileStmt VarDecl ExprStmt : Variant
   Foreign : Variant
-  Empty : Variant
   Other : Variant
 
 -- Tokens and nodes, in order, as of `-a`: the node Unary of the token `-` and the node Ident of the token `a`. Some tokens syntax leaves open: the
@@ -60,13 +65,20 @@ AreCommasAndParentheses (Node variant inside rest) = AreCommasAndParentheses ins
 
 -- no node is another
 unfoldable pub is_known : Variant → Bool
-is_known Empty = false
 is_known Other = false
 is_known variant = true
 
+-- the words of other statements and declarations
+abbrev other_words : List (List ℕ)
+other_words = codes "for" ∷ codes "switch" ∷ codes "try" ∷ codes "do" ∷ codes "class" ∷ []
+
+unfoldable pub is_known_kind : Kind → Value → Bool
+is_known_kind Word (Characters text) = not (is_one_of other_words text)
+is_known_kind kind value = true
+
 unfoldable pub AreKnown : ParseTree → Type 0
 AreKnown End = Unit {0}
-AreKnown (Read t rest) = AreKnown rest
+AreKnown (Read t rest) = (is_known_kind t.kind t.value ≡ true) × AreKnown rest
 AreKnown (Optional t rest) = AreKnown rest
 AreKnown (Node variant inside rest) = (is_known variant ≡ true) × AreKnown inside × AreKnown rest
 
@@ -74,7 +86,7 @@ unfoldable pub expr_variant : {X : Type 0} → Expr X → Variant
 expr_variant (exprs.This n) = This
 expr_variant (exprs.Array n) = Array
 expr_variant (exprs.Object n) = Object
-expr_variant (exprs.Fn n) = Other
+expr_variant (exprs.Fn n) = Fn
 expr_variant (exprs.Unary n) = Unary
 expr_variant (exprs.Update n) = Update
 expr_variant (exprs.Bin n) = Bin
@@ -127,8 +139,26 @@ pat_variant (pats.Object n) = Object
 pat_variant (pats.Assign n) = Assign
 pat_variant n = Foreign
 
+unfoldable pub decl_variant : {X : Type 0} → Decl X → Variant
+decl_variant (decls.Var n) = VarDecl
+decl_variant (decls.Fn n) = Fn
+decl_variant (decls.Class n) = Other
+decl_variant n = Foreign
+
 unfoldable pub stmt_variant : {X : Type 0} → Stmt X → Variant
-stmt_variant (stmts.Empty n) = Empty
+stmt_variant (stmts.Block n) = BlockStmt
+stmt_variant (stmts.Empty n) = EmptyStmt
+stmt_variant (stmts.Debugger n) = DebuggerStmt
+stmt_variant (stmts.With n) = WithStmt
+stmt_variant (stmts.Return n) = ReturnStmt
+stmt_variant (stmts.Labeled n) = LabeledStmt
+stmt_variant (stmts.Break n) = BreakStmt
+stmt_variant (stmts.Continue n) = ContinueStmt
+stmt_variant (stmts.If n) = IfStmt
+stmt_variant (stmts.Throw n) = ThrowStmt
+stmt_variant (stmts.While n) = WhileStmt
+stmt_variant (stmts.Decl n) = decl_variant n
+stmt_variant (stmts.Expr n) = ExprStmt
 stmt_variant n = Other
 
 -- what node it is in a role

@@ -1,12 +1,13 @@
 -- What a tree says, as pure data: its parse tree, without spans, without raws, and without what syntax leaves open. Each node is what its production in
 -- `swc_ecma_codegen_syntax` says, so no type of node has a line here.
-use Rattle.std.specs.Prelude.{Bool, true, false, List, [], ◌∷◌, ◌++◌}
+use Rattle.std.specs.Prelude.{Bool, true, false, not, List, [], ◌∷◌, ◌++◌}
 use Rattle.std.specs.Str.{chars}
 use Rattle.swc_ecma_codegen_tree.specs.declared.links.AnyNode.{AnyNode, AnyNode-F, fold-AnyNode}
 use Rattle.swc_ecma_codegen_tree.specs.declared.links.AnyNode.TheVariants as whole
 use Rattle.swc_ecma_codegen_tree.specs.declared.links.AnyNode.TheOpen as nodes
 use Rattle.swc_ecma_codegen_tree.specs.declared.exprs.Expr.{Expr}
 use Rattle.swc_ecma_codegen_tree.specs.declared.parts.ExprPart.TheVariants as expr_parts
+use Rattle.swc_ecma_codegen_tree.specs.declared.parts.StmtPart.TheVariants as stmt_parts
 use Rattle.swc_ecma_codegen_tree.specs.declared.pats.Pat.{Pat}
 use Rattle.swc_ecma_codegen_tree.specs.declared.pats.Pat.TheVariants as pats
 use Rattle.swc_ecma_codegen_grammar.specs.Keys.{key_token}
@@ -17,12 +18,12 @@ use Rattle.swc_ecma_codegen_grammar.specs.Settings.{Settings}
 use Rattle.swc_ecma_codegen_grammar.specs.Tokens.{Token}
 use Rattle.swc_ecma_codegen_grammar.specs.Tokens as tokens
 use Rattle.swc_ecma_codegen_grammar.specs.declared.roles.Role.{Role}
-use Rattle.swc_ecma_codegen_grammar.specs.declared.roles.Role.TheVariants.{Expression, Pattern, Statement, ChainMember, ChainCall, Template, TaggedTemplate}
+use Rattle.swc_ecma_codegen_grammar.specs.declared.roles.Role.TheVariants.{Expression, Pattern, Statement, Block, Function, FunctionHead, ChainMember, ChainCall, Template, TaggedTemplate}
 use Rattle.swc_ecma_codegen_syntax.specs.declared.parameters.Parameters.{Parameters}
 use Rattle.swc_ecma_codegen_syntax.specs.Parameters.{before}
 use Rattle.swc_ecma_codegen_syntax.specs.Forms.{Form, Fixed, Part, Simple, Restricted, Lone, Both, Provided, Closed, Bare, Followed, role_in}
 use Rattle.swc_ecma_codegen_syntax.specs.NodeForms.{node_form}
-use Rattle.swc_ecma_codegen_uniqueness.specs.ParseTrees.{Variant, Empty, ParseTree, End, Read, Node, node_variant}
+use Rattle.swc_ecma_codegen_uniqueness.specs.ParseTrees.{Variant, EmptyStmt, ParseTree, End, Read, Node, node_variant}
 
 -- the tokens of a phrase, with no comma before a closing mark, and no parentheses but the tree's
 unfoldable pub phrase_tokens : Settings → Phrase → List Token
@@ -52,13 +53,22 @@ unfoldable pub is_inlined_pattern : {X : Type 0} → AnyNode-F X → Bool
 is_inlined_pattern (nodes.ExprPart (expr_parts.Pat n)) = is_inlined_pat n
 is_inlined_pattern n = false
 
--- They are parts of the node above them, and no nodes of their own; so are a template, and a link of an optional chain.
+-- the words before a function that isn't async
+unfoldable pub is_plain_head : {X : Type 0} → AnyNode-F X → Bool
+is_plain_head (nodes.StmtPart (stmt_parts.Function n)) = not n.value.is_async
+is_plain_head n = false
+
+-- They are parts of the node above them, and no nodes of their own; so are a template, a link of an optional chain, a block, and a function without its
+-- name.
 unfoldable pub is_inlined : {X : Type 0} → Role → AnyNode-F X → Bool
 is_inlined (ChainMember optional) n = true
 is_inlined (ChainCall optional) n = true
 is_inlined Template n = true
 is_inlined TaggedTemplate n = true
 is_inlined Pattern n = is_inlined_pattern n
+is_inlined Block n = true
+is_inlined Function n = true
+is_inlined FunctionHead n = is_plain_head n
 is_inlined role n = false
 
 unfoldable pub placed : Bool → Variant → (ParseTree → ParseTree) → ParseTree → ParseTree
@@ -66,7 +76,7 @@ placed true variant inside rest = inside rest
 placed false variant inside rest = Node variant (inside End) rest
 
 unfoldable pub is_empty_variant : Variant → Bool
-is_empty_variant Empty = true
+is_empty_variant EmptyStmt = true
 is_empty_variant variant = false
 
 -- an empty statement

@@ -36,10 +36,10 @@ pub fn parse_trees_have_their_tokens()
 /// whoever reads the tokens by the grammar gets the expression that they were printed of.
 ///
 /// `a + b * c` isn't read as the product of `a + b` and `c`, `new a().b` not as `new (a().b)`, `a?.b.c` not as a member of
-/// `(a?.b)`, and `(a, b) => c` not as a sequence. A pattern has the parse tree of the expression that covers it. Of functions,
-/// arrow functions with a block, methods, classes and JSX nothing is said: `AreKnown` leaves out trees that hold one. Words of the
-/// grammar and names are different tokens here: the word `yield` isn't the name `yield`.
-/// ECMA-262, section 13.
+/// `(a?.b)`, `(a, b) => c` not as a sequence, and `else` goes with the `if` next before it. A pattern has the parse tree of the
+/// expression that covers it. Of async functions, methods, classes, JSX and some statements nothing is said: `AreKnown` leaves out
+/// trees that hold one. Words of the grammar and names are different tokens here: the word `yield` isn't the name `yield`.
+/// ECMA-262, sections 13 to 15.
 #[tactic(auto, using(crate::proofs::Unique::one_parse))]
 pub fn tokens_tell_the_tree()
     ensures { (s t : Settings) (c e : Given) (a b : Expr AnyNode) (ts : List Token)

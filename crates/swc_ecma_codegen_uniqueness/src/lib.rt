@@ -6,8 +6,8 @@
 //! as it is, if at a part and the token behind it one thing alone is to be done. `proofs/TableLaws` says that of the tables,
 //! by evaluation. The other files say which shapes the productions of `swc_ecma_codegen_syntax` have.
 //!
-//! So far the laws speak of expressions, and of the patterns in them, without functions, arrow functions with a block, methods,
-//! classes and JSX.
+//! So far the laws speak of expressions, and of the patterns, functions and statements in them, without async functions, methods,
+//! classes and JSX, and without the statements `for`, `switch`, `try` and `do`.
 #![tactic(auto)]
 
 pub mod laws;

@@ -1,0 +1,259 @@
+-- Functions that aren't async are read as they are.
+use Rattle.std.proofs.Common.{◌≡◌, ℕ, Bool, true, false, not, List, [], ◌∷◌, Option, Some, None, refl, sym, ap, ◌∙◌, subst}
+use Rattle.std.specs.Prelude.{codes, string_bytes, if◌then◌else◌}
+use Rattle.std.proofs.lemmas.Bool.{true≢false}
+use Rattle.swc_ecma_codegen_tree.specs.Links.{BlockStmtBox, TsTypeParamDeclBox}
+use Rattle.swc_ecma_codegen_tree.specs.declared.links.AnyNode.{AnyNode, AnyNode-F, out-AnyNode}
+use Rattle.swc_ecma_codegen_tree.specs.declared.links.AnyNode.TheOpen as nodes
+use Rattle.swc_ecma_codegen_tree.specs.declared.decls.Decorator.{Decorator}
+use Rattle.swc_ecma_codegen_tree.specs.declared.decls.FnDecl.{FnDecl}
+use Rattle.swc_ecma_codegen_tree.specs.declared.decls.Function as functions
+use Rattle.swc_ecma_codegen_tree.specs.declared.decls.Param.{Param}
+use Rattle.swc_ecma_codegen_tree.specs.declared.exprs.FnExpr.{FnExpr}
+use Rattle.swc_ecma_codegen_tree.specs.declared.idents.Ident.{Ident}
+use Rattle.swc_ecma_codegen_tree.specs.declared.parts.ExprPart.TheVariants as expr_parts
+use Rattle.swc_ecma_codegen_tree.specs.declared.parts.JSXPart.TheVariants as jsx_parts
+use Rattle.swc_ecma_codegen_tree.specs.declared.parts.StmtPart.TheVariants as stmt_parts
+use Rattle.swc_ecma_codegen_tree.specs.declared.pats.Pat.{Pat}
+use Rattle.swc_ecma_codegen_tree.specs.declared.pats.Pat.TheVariants as pats
+use Rattle.swc_ecma_codegen_grammar.specs.FunctionPhrases.{after_async, word_if, function_head, is_some_listed}
+use Rattle.swc_ecma_codegen_grammar.specs.TsDeclPhrases.{declare_word}
+use Rattle.swc_ecma_codegen_grammar.specs.Names.{name_value}
+use Rattle.swc_ecma_codegen_grammar.specs.Phrases.{Generates, Then, mark}
+use Rattle.swc_ecma_codegen_grammar.specs.Phrases as phrases
+use Rattle.swc_ecma_codegen_grammar.specs.Settings.{Settings}
+use Rattle.swc_ecma_codegen_grammar.specs.SpelledNames.{spelled_name}
+use Rattle.swc_ecma_codegen_grammar.specs.Tokens.{Token, punctuator, word}
+use Rattle.swc_ecma_codegen_grammar.specs.Tokens as tokens
+use Rattle.swc_ecma_codegen_grammar.specs.declared.roles.Role.TheVariants.{Function, FunctionHead}
+use Rattle.swc_ecma_codegen_syntax.specs.declared.nonterminals.Nonterminal.{Nonterminal}
+use Rattle.swc_ecma_codegen_syntax.specs.declared.nonterminals.Nonterminal.TheVariants as nt
+use Rattle.swc_ecma_codegen_syntax.specs.declared.parameters.Parameters.{Parameters}
+use Rattle.swc_ecma_codegen_syntax.specs.Nonterminals.{takes, is_pattern_target, is_pattern_element, is_last_element}
+use Rattle.swc_ecma_codegen_syntax.specs.Parameters.{of_function_name}
+use Rattle.swc_ecma_codegen_syntax.specs.Forms.{Fixed, Part, Provided, ByRule, ByScope, is_met, in_order, ending_after, ending_listed}
+use Rattle.swc_ecma_codegen_syntax.specs.FunctionForms.{type_params_form, decorators_form, bound_name_form, optional_name_form, pat_in, param_form, params_form, body_form, own_of, rest_of_function, function_form, fn_expr_form, fn_decl_form}
+use Rattle.swc_ecma_codegen_syntax.specs.PatForms.{pat_form, pat_nonterminal}
+use Rattle.swc_ecma_codegen_syntax.specs.NodeForms.{node_form, node_nonterminal, part_form, stmt_part_form, jsx_part_form}
+use Rattle.swc_ecma_codegen_syntax.specs.Derives.{Derives, fixed, part, both, provided}
+use Rattle.swc_ecma_codegen_uniqueness.specs.ParseTrees.{Variant, ParseTree, End, Read, Fn, is_known, part_variant, node_variant}
+use Rattle.swc_ecma_codegen_uniqueness.specs.Parses.{placed, is_inlined, is_plain_head, is_inlined_pat}
+use Rattle.swc_ecma_codegen_uniqueness.proofs.Tables.{AfterFunction, AfterName, Parameter, AfterParameters, Splice, decide, passed_to, class, left}
+use Rattle.swc_ecma_codegen_uniqueness.proofs.TableLaws.{cover, cover_taken}
+use Rattle.swc_ecma_codegen_uniqueness.proofs.Machine.{Whole, Rest, Good, shifted}
+use Rattle.swc_ecma_codegen_uniqueness.proofs.Shapes.{takes_self, assignment_taken, begun}
+use Rattle.swc_ecma_codegen_uniqueness.proofs.StatementShapes.{item_of, parameter_then, rest_then, no_parameters_then, parameters_end, function_item}
+use Rattle.swc_ecma_codegen_uniqueness.proofs.Heading.{not_true}
+use Rattle.swc_ecma_codegen_uniqueness.proofs.Reading.{read_phrase, derived_parse}
+use Rattle.swc_ecma_codegen_uniqueness.proofs.Joined.{derived_joined}
+use Rattle.swc_ecma_codegen_uniqueness.proofs.Fits.{Fit, PlacedGood, AllGood, no_form}
+use Rattle.swc_ecma_codegen_uniqueness.proofs.Atoms.{no_annotation, name_read}
+use Rattle.swc_ecma_codegen_uniqueness.proofs.Patterns.{rest_covered, pat_good, no_rest_target}
+
+-- ---- a pattern that no link holds
+
+pub not_inlined : {s : Settings} (c : Parameters) (n : Pat AnyNode) {ts : List Token} → takes nt.PatternElement (pat_nonterminal n) ≡ true → c.is_binding ≡ true → (d : Derives true s (pat_form false c n) ts) → is_inlined_pat n ≡ false
+unfolding pat_form pat_nonterminal is_inlined_pat is_met takes is_pattern_element is_pattern_target
+not_inlined c (pats.Ident n) h b d = refl
+not_inlined c (pats.Array n) h b d = refl
+not_inlined c (pats.Object n) h b d = refl
+not_inlined c (pats.Assign n) h b d = refl
+not_inlined c (pats.Invalid n) h b d = refl
+not_inlined c (pats.Rest n) h b d = absurd (true≢false (sym h))
+not_inlined c (pats.Expr n) h b (provided k d) = absurd (true≢false (sym k ∙ ap not b))
+
+-- ---- parameters
+
+-- what stands behind one: `,`, or `)`
+pub record Behind (n : Nonterminal) (m : ParseTree) : Type 0 where
+  pub token : Token
+  pub rest : ParseTree
+  pub is : m ≡ Read token rest
+  pub ends : takes (left (class token)) nt.AssignmentExpression ≡ true
+  pub spliced : (s : Variant) → decide Parameter (Some s) token ≡ Splice
+  pub good : Good (Rest (passed_to Parameter (class token)) Fn n) rest
+
+no_decorators : {s : Settings} (c : Parameters) (ns : List (Decorator AnyNode)) {ts : List Token} (d : Derives true s (decorators_form c ns) ts) (rest : ParseTree) → derived_parse d rest ≡ rest
+unfolding decorators_form in_order is_some_listed is_met derived_parse read_phrase
+no_decorators c [] (provided h (fixed g)) rest = refl
+no_decorators c (n ∷ ns) (provided h d) rest = absurd (true≢false (sym h))
+
+plain_good : {s : Settings} (n : Nonterminal) (c : Parameters) (x : Pat AnyNode) {ts : List Token} → takes nt.PatternElement (pat_nonterminal x) ≡ true → c.is_binding ≡ true → (d : Derives true s (pat_form false c x) ts) → AllGood d →
+    s.minify ≡ c.minify → (m : ParseTree) → Behind n m → Good (Rest Parameter Fn n) (derived_parse d m)
+plain_good n c x h b d o m rest behind =
+    parameter_then behind.token Fn n (cover (pat_nonterminal x)) (cover_taken nt.PatternElement (pat_nonterminal x) h) (pat_good false c x d o m (not_inlined c x h b d)) behind.ends behind.spliced behind.good
+    (ap (derived_parse d) behind.is ∙ sym (derived_joined d End (Read behind.token behind.rest)))
+
+param_good : {s : Settings} (n : Nonterminal) (c : Parameters) (x : Param AnyNode) {ts : List Token} → c.is_binding ≡ true → (d : Derives true s (param_form c nt.PatternElement x) ts) → AllGood d → s.minify ≡ c.minify → (m : ParseTree) → Behind n m →
+    Good (Rest Parameter Fn n) (derived_parse d m)
+unfolding param_form pat_in is_met AllGood derived_parse
+param_good n c x b (both k (provided h d)) (y, o) m rest behind =
+    subst (λ z. Good (Rest Parameter Fn n) z) (sym (no_decorators c x.decorators.items k (derived_parse d rest))) (plain_good n c x.pat h b d o m rest behind)
+
+behind_close : (n : Nonterminal) {m : ParseTree} → Good (Rest AfterParameters Fn n) m → Behind n (Read (punctuator (codes ")")) m)
+unfolding punctuator
+behind_close n g = record { token = _; rest = _; is = refl; ends = assignment_taken; spliced = λ s. refl; good = g }
+
+behind_comma : (n : Nonterminal) {m : ParseTree} → Good (Rest Parameter Fn n) m → Behind n (Read (punctuator (codes ",")) m)
+unfolding punctuator
+behind_comma n g = record { token = _; rest = _; is = refl; ends = takes_self nt.AssignmentExpression; spliced = λ s. refl; good = g }
+
+-- the last one, which may be a rest
+last_by : {s : Settings} (n : Nonterminal) (c : Parameters) (x : Pat AnyNode) {ts : List Token} → takes nt.LastElement (pat_nonterminal x) ≡ true → c.is_binding ≡ true → (d : Derives true s (pat_form false c x) ts) → AllGood d → s.minify ≡ c.minify →
+    {m : ParseTree} → Good (Rest AfterParameters Fn n) m → Good (Rest Parameter Fn n) (derived_parse d (Read (punctuator (codes ")")) m))
+unfolding pat_form pat_nonterminal takes is_last_element is_pattern_element is_pattern_target
+last_by n c (pats.Rest x) h b d o m {m = rest} g =
+    let v = rest_covered nt.PatternTarget no_rest_target c x d o m in
+    subst (λ z. Good (Rest Parameter Fn n) z) (sym (v.is (Read (punctuator (codes ")")) rest) ∙ ap (Read (punctuator (codes "..."))) (v.covered.is (Read (punctuator (codes ")")) rest))))
+    (rest_then n v.covered.operand g)
+last_by n c x h b d o m {m = rest} g = plain_good n c x refl b d o m (Read (punctuator (codes ")")) rest) (behind_close n g)
+
+last_good : {s : Settings} (n : Nonterminal) (c : Parameters) (x : Param AnyNode) {ts : List Token} → c.is_binding ≡ true → (d : Derives true s (param_form c nt.LastElement x) ts) → AllGood d → s.minify ≡ c.minify → (m : ParseTree) →
+    Good (Rest AfterParameters Fn n) m → Good (Rest Parameter Fn n) (derived_parse d (Read (punctuator (codes ")")) m))
+unfolding param_form pat_in is_met AllGood derived_parse
+last_good n c x b (both k (provided h d)) (y, o) m rest g =
+    subst (λ z. Good (Rest Parameter Fn n) z) (sym (no_decorators c x.decorators.items k (derived_parse d (Read (punctuator (codes ")")) rest)))) (last_by n c x.pat h b d o m g)
+
+params_after : {s : Settings} (n : Nonterminal) (c : Parameters) (x : Param AnyNode) (xs : List (Param AnyNode)) {ts : List Token} → c.is_binding ≡ true → (d : Derives true s (ending_after (param_form c) (x ∷ xs)) ts) → AllGood d → s.minify ≡ c.minify →
+    (m : ParseTree) → Good (Rest AfterParameters Fn n) m → Behind n (derived_parse d (Read (punctuator (codes ")")) m))
+unfolding ending_after AllGood derived_parse read_phrase
+params_after n c x [] b (both (fixed g) (both d (fixed h))) (y, (o, z)) m rest r = behind_comma n (last_good n c x b d o m rest r)
+params_after n c x (y ∷ ys) b (both (fixed g) (both d e)) (z, (o, q)) m rest r =
+    behind_comma n (param_good n c x b d o m (derived_parse e (Read (punctuator (codes ")")) rest)) (params_after n c y ys b e q m rest r))
+
+params_good : {s : Settings} (n : Nonterminal) (c : Parameters) (xs : List (Param AnyNode)) {ts : List Token} → c.is_binding ≡ true → (d : Derives true s (params_form c xs) ts) → AllGood d → s.minify ≡ c.minify → (m : ParseTree) →
+    Good (Rest AfterParameters Fn n) m → Good (Rest Parameter Fn n) (derived_parse d (Read (punctuator (codes ")")) m))
+unfolding ending_listed AllGood derived_parse read_phrase
+params_good n c [] b (fixed g) o m rest r = no_parameters_then n r
+params_good n c (x ∷ []) b (both d (fixed h)) (o, z) m rest r = last_good n c x b d o m rest r
+params_good n c (x ∷ y ∷ ys) b (both d e) (o, q) m rest r =
+    param_good n c x b d o m (derived_parse e (Read (punctuator (codes ")")) rest)) (params_after n c y ys b e q m rest r)
+
+-- ---- what stands behind the name
+
+pub no_type_params : {s : Settings} (c : Parameters) (o : Option (TsTypeParamDeclBox AnyNode)) {ts : List Token} (d : Derives true s (type_params_form c o) ts) (rest : ParseTree) → derived_parse d rest ≡ rest
+unfolding type_params_form is_met derived_parse read_phrase
+no_type_params c None (fixed g) rest = refl
+no_type_params c (Some n) (provided h d) rest = absurd (true≢false (sym h))
+
+body_good : {s : Settings} (n : Nonterminal) (c : Parameters) (o : Option (BlockStmtBox AnyNode)) {ts : List Token} (d : Derives true s (body_form c o) ts) → AllGood d → s.minify ≡ c.minify → Good (Rest AfterParameters Fn n) (derived_parse d End)
+unfolding body_form is_met AllGood PlacedGood derived_parse placed is_inlined
+body_good n c None (provided h d) o m = absurd (true≢false (sym h))
+body_good n c (Some x) (part b sb d) o m = let v = o m in subst (λ z. Good (Rest AfterParameters Fn n) z) (sym v.is) (parameters_end n (v.good Fn n))
+
+-- parameters and a body
+pub record Tail (m : ParseTree) : Type 0 where
+  pub inside : ParseTree
+  pub is : m ≡ Read (punctuator (codes "(")) inside
+  pub good : (n : Nonterminal) → Good (Rest Parameter Fn n) inside
+
+rest_good : {s : Settings} (c : Parameters) (x : functions.Function AnyNode) {ts : List Token} (d : Derives true s (rest_of_function c x) ts) → AllGood d → s.minify ≡ c.minify → Tail (derived_parse d End)
+unfolding rest_of_function AllGood derived_parse read_phrase
+rest_good c x (both t (both (fixed g) (both d (both (fixed h) (both a e))))) (y, (z, (o, (u, (v, q))))) m = record {
+  inside = derived_parse d (Read (punctuator (codes ")")) (derived_parse a (derived_parse e End)));
+  is = no_type_params c x.type_params t _;
+  good =
+      λ n. subst (λ w. Good (Rest Parameter Fn n) (derived_parse d (Read (punctuator (codes ")")) w))) (sym (no_annotation c x.return_type a (derived_parse e End)))
+      (params_good n (own_of c x) x.params.items refl d o m (derived_parse e End) (body_good n (own_of c x) x.body e q m));
+}
+
+function_by : {s : Settings} (b : Bool) (c : Parameters) (x : functions.Function AnyNode) {ts : List Token} (d : Derives true s (if b then Provided ByRule false (Fixed phrases.Never) else rest_of_function c x) ts) → AllGood d → s.minify ≡ c.minify →
+    Tail (derived_parse d End)
+unfolding is_met
+function_by true c x (provided h d) o m = absurd (true≢false (sym h))
+function_by false c x d o m = rest_good c x d o m
+
+function_in : {s : Settings} (k : Bool) (c : Parameters) (y : AnyNode-F AnyNode) {ts : List Token} (d : Derives true s (node_form k c y Function) ts) → AllGood d → s.minify ≡ c.minify → Tail (derived_parse d End)
+unfolding node_form part_form stmt_part_form jsx_part_form function_form is_met
+function_in k c (nodes.StmtPart (stmt_parts.Function x)) d o m = function_by (is_some_listed x.value.decorators.items) c x.value d o m
+function_in k c (nodes.ExprPart (expr_parts.Tpl x)) d o m = absurd (no_form d)
+function_in k c (nodes.JSXPart (jsx_parts.JSXElement x)) d o m = absurd (no_form d)
+function_in k c y d o m = absurd (no_form d)
+
+tail_good : {s : Settings} (c : Parameters) (x : AnyNode) {ts : List Token} (d : Derives true s (Part nt.FunctionTail c Function x) ts) → AllGood d → s.minify ≡ c.minify → Tail (derived_parse d End)
+unfolding AllGood PlacedGood derived_parse placed is_inlined
+tail_good c x (part k sk d) o m = let t = function_in k c (out-AnyNode x) d o m in record { inside = t.inside; is = t.is; good = t.good }
+
+-- ---- the words before it
+
+pub record Head (f : ParseTree → ParseTree) : Type 0 where
+  pub starred : Bool
+  pub is : (rest : ParseTree) → f rest ≡ Read (word (codes "function")) (if starred then Read (punctuator (codes "*")) rest else rest)
+
+head_by : (s : Settings) (a b : Bool) (ts : List Token) (g : Generates s (after_async a (Then (phrases.word (codes "function")) (word_if b (mark (codes "*"))))) ts) → a ≡ false →
+    Head (read_phrase s (after_async a (Then (phrases.word (codes "function")) (word_if b (mark (codes "*"))))) ts g)
+unfolding after_async word_if read_phrase
+head_by s true b ts g h = absurd (true≢false h)
+head_by s false true ts g h = record { starred = true; is = λ rest. refl }
+head_by s false false ts g h = record { starred = false; is = λ rest. refl }
+
+-- an async function has a node there, which the laws don't know
+head_of : {s : Settings} (b : Bool) (x : functions.Function AnyNode) (c : Parameters) (variant : Variant) (n : Nonterminal) {ts : List Token} (d : Derives true s (Fixed (function_head x)) ts) → not x.is_async ≡ b → is_known variant ≡ false →
+    PlacedGood b (s.minify ≡ c.minify → Fit variant n (derived_parse d End)) (AllGood d) → s.minify ≡ c.minify → Head (placed b variant (derived_parse d))
+unfolding function_head PlacedGood placed derived_parse
+head_of {s = s} true x c variant n (fixed {ts = ts} g) h k o m =
+    let r = head_by s x.is_async x.is_generator ts g (not_true x.is_async h) in
+    record { starred = r.starred; is = r.is }
+head_of false x c variant n d h k o m = absurd (true≢false (sym (o m).known ∙ k))
+
+head_in : {s : Settings} (k : Bool) (c : Parameters) (y : AnyNode-F AnyNode) {ts : List Token} (d : Derives true s (node_form k c y FunctionHead) ts) →
+    PlacedGood (is_inlined FunctionHead y) (s.minify ≡ c.minify → Fit (node_variant y FunctionHead) (cover (node_nonterminal k c y FunctionHead)) (derived_parse d End)) (AllGood d) → s.minify ≡ c.minify →
+    Head (placed (is_inlined FunctionHead y) (node_variant y FunctionHead) (derived_parse d))
+unfolding node_form part_form stmt_part_form jsx_part_form node_variant part_variant is_known is_inlined is_plain_head is_met
+head_in k c (nodes.StmtPart (stmt_parts.Function x)) d o m =
+    let r = head_of (not x.value.is_async) x.value c _ _ d refl refl o m in
+    record { starred = r.starred; is = r.is }
+head_in k c (nodes.ExprPart (expr_parts.Tpl x)) d o m = absurd (no_form d)
+head_in k c (nodes.JSXPart (jsx_parts.JSXElement x)) d o m = absurd (no_form d)
+head_in k c y d o m = absurd (no_form d)
+
+head_good : {s : Settings} (place : Nonterminal) (c : Parameters) (x : AnyNode) {ts : List Token} (d : Derives true s (Part place c FunctionHead x) ts) → AllGood d → s.minify ≡ c.minify → Head (derived_parse d)
+unfolding AllGood derived_parse
+head_good place c x (part k sk d) o m = let r = head_in k c (out-AnyNode x) d o m in record { starred = r.starred; is = r.is }
+
+-- ---- functions
+
+star_then : (b : Bool) (n : Nonterminal) {m : ParseTree} → Good (Rest AfterFunction Fn n) m → Good (Rest AfterFunction Fn n) (if b then Read (punctuator (codes "*")) m else m)
+unfolding punctuator
+star_then true n g = shifted refl g
+star_then false n g = g
+
+-- behind the words: a name, or none
+named_tail : (n : Nonterminal) (text : List ℕ) {m : ParseTree} → Tail m → Good (Rest AfterFunction Fn n) (Read (tokens.name text) m)
+unfolding tokens.name punctuator
+named_tail n text t = shifted refl (subst (λ z. Good (Rest AfterName Fn n) z) (sym t.is) (shifted refl (t.good n)))
+
+plain_tail : (n : Nonterminal) {m : ParseTree} → Tail m → Good (Rest AfterFunction Fn n) m
+unfolding punctuator
+plain_tail n t = subst (λ z. Good (Rest AfterFunction Fn n) z) (sym t.is) (shifted refl (t.good n))
+
+bound_read : {s : Settings} (c : Parameters) (n : Ident) {ts : List Token} (d : Derives true s (bound_name_form c n) ts) (rest : ParseTree) → derived_parse d rest ≡ Read (tokens.name (name_value (spelled_name (string_bytes n.sym)))) rest
+unfolding bound_name_form derived_parse
+bound_read c n (provided h d) rest = name_read c n d rest
+
+optional_tail : {s : Settings} (n : Nonterminal) (c : Parameters) (o : Option Ident) {ts : List Token} (d : Derives true s (optional_name_form c o) ts) {m : ParseTree} → Tail m → Good (Rest AfterFunction Fn n) (derived_parse d m)
+unfolding optional_name_form derived_parse read_phrase
+optional_tail n c None (fixed g) t = plain_tail n t
+optional_tail n c (Some x) d {m = m} t = subst (λ z. Good (Rest AfterFunction Fn n) z) (sym (bound_read c x d m)) (named_tail n _ t)
+
+pub fn_expr_good : {s : Settings} (c : Parameters) (n : FnExpr AnyNode) {ts : List Token} (d : Derives true s (fn_expr_form c n) ts) → AllGood d → s.minify ≡ c.minify → Good (Whole Fn nt.PrimaryExpression) (derived_parse d End)
+unfolding fn_expr_form AllGood derived_parse word
+fn_expr_good c n (both h (both i t)) (o, (p, q)) m =
+    let r = head_good _ c n.function.node.value h o m in
+    subst (λ z. Good (Whole Fn nt.PrimaryExpression) z) (sym (r.is (derived_parse i (derived_parse t End))))
+    (begun (word (codes "function")) Fn nt.PrimaryExpression AfterFunction _ refl refl refl
+    (star_then r.starred nt.PrimaryExpression (optional_tail nt.PrimaryExpression (of_function_name c) n.ident i (tail_good c n.function.node.value t q m))))
+
+no_declare : {s : Settings} (b : Bool) {ts : List Token} (d : Derives true s (Provided ByScope (not b) (Fixed (declare_word b))) ts) (rest : ParseTree) → derived_parse d rest ≡ rest
+unfolding declare_word word_if is_met derived_parse read_phrase
+no_declare true (provided h d) rest = absurd (true≢false (sym h))
+no_declare false (provided h (fixed g)) rest = refl
+
+pub fn_decl_good : {s : Settings} (b : Bool) (head : Nonterminal) (c : Parameters) (n : FnDecl AnyNode) {ts : List Token} (d : Derives true s (fn_decl_form head c n) ts) → AllGood d → s.minify ≡ c.minify → Good (Whole Fn (item_of b)) (derived_parse d End)
+unfolding fn_decl_form AllGood derived_parse
+fn_decl_good b head c n (both k (both h (both i t))) (x, (o, (p, q))) m =
+    let r = head_good head c n.function.node.value h o m in
+    subst (λ z. Good (Whole Fn (item_of b)) z)
+    (sym (no_declare n.declare k _ ∙ r.is (derived_parse i (derived_parse t End))))
+    (function_item b (star_then r.starred (item_of b) (subst (λ z. Good (Rest AfterFunction Fn (item_of b)) z) (sym (bound_read c n.ident i (derived_parse t End)))
+    (named_tail (item_of b) _ (tail_good c n.function.node.value t q m)))))

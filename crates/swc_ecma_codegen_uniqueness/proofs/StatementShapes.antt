@@ -1,0 +1,258 @@
+-- The shapes of statements and functions, each read by the machine as it is.
+use Rattle.std.proofs.Common.{◌≡◌, Bool, true, false, ◌∷◌, Some, None, refl, sym, ap, ◌∙◌, subst}
+use Rattle.std.specs.Prelude.{codes}
+use Rattle.std.proofs.lemmas.Bool.{true≢false}
+use Rattle.swc_ecma_codegen_grammar.specs.Tokens.{Token, word, punctuator, same_line, ending}
+use Rattle.swc_ecma_codegen_syntax.specs.declared.nonterminals.Nonterminal.{Nonterminal}
+use Rattle.swc_ecma_codegen_syntax.specs.declared.nonterminals.Nonterminal.TheVariants as nt
+use Rattle.swc_ecma_codegen_syntax.specs.Nonterminals.{takes, is_private, is_uncovered}
+use Rattle.swc_ecma_codegen_syntax.specs.UnitProductions.{step, pattern_element_is_pattern_target}
+use Rattle.swc_ecma_codegen_syntax.proofs.Chains.{takes_chain}
+use Rattle.swc_ecma_codegen_syntax.proofs.Taken.{chain_takes}
+use Rattle.swc_ecma_codegen_uniqueness.specs.ParseTrees.{Variant, ParseTree, End, Read, Node, Fn, Arrow, BlockStmt, EmptyStmt, ExprStmt, IfStmt, LabeledStmt, VarDecl, tokens_of}
+use Rattle.swc_ecma_codegen_uniqueness.proofs.Tables.{Class, Infix, Plus, OpenBrace, Reduce, outside, ElseWord, Semi, Colon, class, starts, is_item, is_no_else, left, Where, InList, OfIf, OfElse, OfLabel, OfLoop, Control, Closed, ArrowBody, OfArrow, Statement, Entered, AfterFunction, Parameter, RestParameter, AfterParameters, AfterWord, Valued, Jump, Headed, Test, Declarators, stands, entered, Action, Shift, Begin, Enter, Leave, Splice, Take, Wrap, without, with_operand, decide, shift, passed_to, start}
+use Rattle.swc_ecma_codegen_uniqueness.proofs.TableLaws.{takes_on, ended_by, or_left, is_keyword, keyword_pushes, is_barred, item_there, place_of, ItemPlace, item_place, enters, begins_operand}
+use Rattle.swc_ecma_codegen_uniqueness.proofs.Machine.{Whole, Rest, Good, Heads, Enters, goes_on, headed, headed_block, wrapped, wrapped_turned, stated, entering, shifted, inner, last, splicing, taking, raised, joined, turned_tokens, left_tokens}
+use Rattle.swc_ecma_codegen_uniqueness.proofs.Shapes.{Operand, takes_self, assignment_taken, left_taken, left_assigned, part_then, ended, tail_rest}
+
+abbrev pub is_open_brace : Class → Bool
+is_open_brace OpenBrace = true
+is_open_brace c = false
+
+-- ---- with which token an operand begins, and an item
+
+abbrev is_begin : Action → Bool
+is_begin Begin = true
+is_begin a = false
+
+begin_test : (l : Class) → is_begin (without (Entered OfElse) l) ≡ false
+begin_test (Infix Plus) = refl
+begin_test l = refl
+
+no_begin : (l : Class) → without (Entered OfElse) l ≡ Begin → ⊥
+no_begin l h = true≢false (sym (ap is_begin h) ∙ begin_test l)
+
+abbrev is_wrap : Action → Bool
+is_wrap Wrap = true
+is_wrap a = false
+
+no_wrap : Take ≡ Wrap → ⊥
+no_wrap h = true≢false (sym (ap is_wrap h))
+
+pub operand_heads : {variant : Variant} {n : Nonterminal} {p : ParseTree} → Good (Whole variant n) p → stands (Entered OfElse) n ≡ true → Heads (λ u. starts (class u) ≡ true) p
+unfolding tokens_of
+operand_heads (headed {t = t} {m = m} push g) st = λ us. (t, tokens_of m us, refl, begins_operand t (push (Entered OfElse) st))
+operand_heads (wrapped {t = t} {m = m} i c w g) st = λ us. operand_heads i (w (Entered OfElse) st).0 (t ∷ tokens_of m us)
+operand_heads (wrapped_turned {left = left} {inside = inside} {m = m} {p = p} t u i c w e g same) st = λ us.
+    let h = operand_heads i (w (Entered OfElse) st).0 (t ∷ u ∷ tokens_of m us) in
+    (h.0, h.1, turned_tokens left inside t u m p us same ∙ h.2, h.3)
+operand_heads (headed_block {t = t} push g) st = absurd (no_begin (class t) (push (Entered OfElse) st))
+operand_heads (stated {left = left} {inside = inside} {m = m} {p = p} t i c w h g same) st = λ us.
+    let k = operand_heads i (w (Entered OfElse) st).0 (t ∷ tokens_of m us) in
+    (k.0, k.1, left_tokens left inside t m p us same ∙ k.2, k.3)
+operand_heads (raised st c g) s = operand_heads g (st (Entered OfElse) s)
+
+-- an item of a list
+abbrev pub GoesOn : Variant → Token → Type 0
+GoesOn ends u = goes_on (without (Statement (InList ends)) (class u)) ≡ true
+
+pub item_heads : (ends : Variant) {variant : Variant} {n : Nonterminal} {p : ParseTree} → Good (Whole variant n) p → stands (Statement (InList ends)) n ≡ true → Heads (GoesOn ends) p
+unfolding tokens_of
+item_heads ends (headed {t = t} {m = m} push g) st = λ us. (t, tokens_of m us, refl, ap goes_on (push (Statement (InList ends)) st))
+item_heads ends (wrapped {t = t} i c w g) st = absurd (no_wrap (w (Statement (InList ends)) st).1)
+item_heads ends (wrapped_turned t u i c w e g same) st = absurd (no_wrap (w (Statement (InList ends)) st).1)
+item_heads ends (headed_block {t = t} {m = m} push g) st = λ us. (t, tokens_of m us, refl, ap goes_on (push (Statement (InList ends)) st))
+item_heads ends (stated {left = left} {inside = inside} {m = m} {p = p} t i c w h g same) st = λ us.
+    let k = h (t ∷ tokens_of m us) in
+    (k.0, k.1, left_tokens left inside t m p us same ∙ k.2, ap goes_on (k.3 (Statement (InList ends)) st).0)
+item_heads ends (raised st c g) s = item_heads ends g (st (Statement (InList ends)) s)
+
+-- ---- a statement in another, and in a list
+
+-- the nonterminal of an item, which stands before `else` or not
+abbrev pub item_of : Bool → Nonterminal
+item_of true = nt.Block
+item_of false = nt.Statement
+
+pub item_stands : (b : Bool) (place : Where) → stands (Statement place) (item_of b) ≡ true
+unfolding takes is_uncovered is_private
+item_stands true place = refl
+item_stands false place = refl
+
+is_an_item : (b : Bool) → is_item (item_of b) ≡ true
+is_an_item true = refl
+is_an_item false = refl
+
+keyword_begun : (t : Token) (variant : Variant) (b : Bool) (c : Control) (m : ParseTree) → is_keyword (class t) ≡ true → start t ≡ c → Good (Rest c variant (item_of b)) m → Good (Whole variant (item_of b)) (Read t m)
+keyword_begun t variant b c m k e g = headed (keyword_pushes t (item_of b) k (is_an_item b)) (subst (λ z. Good (Rest z variant (item_of b)) m) (sym e) g)
+
+if_reduced : (l : Class) → is_no_else l ≡ true → with_operand (Statement OfIf) l ≡ Reduce
+if_reduced ElseWord h = absurd (true≢false (sym h))
+if_reduced l h = refl
+
+pub if_alone : {s v : Variant} {p q : ParseTree} → Operand nt.Expression s p → Good (Whole v nt.Statement) q →
+    Good (Whole IfStmt nt.Statement) (Read (word (codes "if")) (Read (punctuator (codes "(")) (Node s p (Read (punctuator (codes ")")) (Node v q End)))))
+unfolding word punctuator
+if_alone {v = v} {q = q} o g =
+    keyword_begun (word (codes "if")) IfStmt false (Headed IfStmt) _ refl refl
+    (shifted refl (part_then (Test IfStmt) (Read (punctuator (codes ")")) (Node v q End)) (takes_self nt.Expression) o
+    (takes_self nt.Expression, λ z. refl, last refl (item_stands false OfIf) g (λ t e. (e, if_reduced (class t) e)))))
+
+pub if_else : (b : Bool) {s v w : Variant} {p q r : ParseTree} → Operand nt.Expression s p → Good (Whole v nt.Block) q → Good (Whole w (item_of b)) r →
+    Good (Whole IfStmt (item_of b)) (Read (word (codes "if")) (Read (punctuator (codes "(")) (Node s p (Read (punctuator (codes ")")) (Node v q (Read (word (codes "else")) (Node w r End)))))))
+unfolding word punctuator
+if_else b {v = v} {w = w} {q = q} {r = r} o g h =
+    keyword_begun (word (codes "if")) IfStmt b (Headed IfStmt) _ refl refl
+    (shifted refl (part_then (Test IfStmt) (Read (punctuator (codes ")")) (Node v q (Read (word (codes "else")) (Node w r End)))) (takes_self nt.Expression) o
+    (takes_self nt.Expression, λ z. refl, inner (item_stands true OfIf) g refl refl (last refl (item_stands b OfElse) h (λ t e. (e, refl))))))
+
+-- `while (a) b`, `with (a) b`
+pub looped : (t : Token) (variant : Variant) (b : Bool) {s v : Variant} {p q : ParseTree} → is_keyword (class t) ≡ true → start t ≡ Headed variant → passed_to (Test variant) (class (punctuator (codes ")"))) ≡ Statement (OfLoop variant) →
+    Operand nt.Expression s p → Good (Whole v (item_of b)) q → Good (Whole variant (item_of b)) (Read t (Read (punctuator (codes "(")) (Node s p (Read (punctuator (codes ")")) (Node v q End)))))
+unfolding punctuator
+looped t variant b {v = v} {q = q} k e i o g =
+    keyword_begun t variant b (Headed variant) _ k e
+    (shifted refl (part_then (Test variant) (Read (punctuator (codes ")")) (Node v q End)) (takes_self nt.Expression) o
+    (takes_self nt.Expression, λ z. refl, subst (λ z. Good (Rest z variant (item_of b)) (Node v q End)) (sym i) (last refl (item_stands b (OfLoop variant)) g (λ t e. (e, refl))))))
+
+-- `return;`, `return a;`, `break a;`
+pub word_alone : (t : Token) (variant : Variant) (b : Bool) → is_keyword (class t) ≡ true → start t ≡ AfterWord variant → Good (Whole variant (item_of b)) (Read t (Read ending End))
+unfolding ending
+word_alone t variant b k e = keyword_begun t variant b (AfterWord variant) _ k e (shifted refl (ended variant (item_of b)))
+
+pub word_valued : (t : Token) (variant : Variant) (b : Bool) {s : Variant} {p : ParseTree} → is_keyword (class t) ≡ true → start t ≡ AfterWord variant → shift (AfterWord variant) None same_line ≡ Valued variant → Operand nt.Expression s p →
+    Good (Whole variant (item_of b)) (Read t (Read same_line (Node s p (Read ending End))))
+unfolding ending same_line
+word_valued t variant b {s = s} {p = p} k e i o =
+    keyword_begun t variant b (AfterWord variant) _ k e
+    (shifted refl (subst (λ z. Good (Rest z variant (item_of b)) (Node s p (Read ending End))) (sym i)
+    (part_then (Valued variant) (Read ending End) (takes_self nt.Expression) o (takes_self nt.Expression, λ z. refl, ended variant (item_of b)))))
+
+pub word_labelled : (t name : Token) (variant : Variant) (b : Bool) → is_keyword (class t) ≡ true → start t ≡ AfterWord variant → shift (AfterWord variant) None same_line ≡ Jump variant → decide (Jump variant) None name ≡ Shift →
+    Good (Whole variant (item_of b)) (Read t (Read same_line (Read name (Read ending End))))
+unfolding ending same_line
+word_labelled t name variant b k e i n =
+    keyword_begun t variant b (AfterWord variant) _ k e
+    (shifted refl (subst (λ z. Good (Rest z variant (item_of b)) (Read name (Read ending End))) (sym i) (shifted n (shifted refl (ended variant (item_of b))))))
+
+pub empty_good : (b : Bool) → Good (Whole EmptyStmt (item_of b)) (Read (punctuator (codes ";")) End)
+unfolding punctuator
+empty_good b = keyword_begun (punctuator (codes ";")) EmptyStmt b (Closed EmptyStmt) End refl refl (ended EmptyStmt (item_of b))
+
+-- what begins with an operand that is entered: `a;`, `a: b;`
+abbrev pub MayStand : ParseTree → Type 0
+MayStand p = Heads (λ u. (starts (class u) ≡ true) × (is_barred (class u) ≡ false)) p
+
+entered_there : (b : Bool) (p : ParseTree) → MayStand p → Heads (λ u. (c : Control) → stands c (item_of b) ≡ true → Enters c u) p
+entered_there b p h = λ us. let k = h us in (k.0, k.1, k.2, λ c s. enters k.0 k.3.0 k.3.1 c (place_of c (item_there (item_of b) (is_an_item b) c s)))
+
+-- where the operand stands, and the token behind it ends its place
+abbrev Left : Control → Nonterminal → Variant → Token → Type 0
+Left c k s t = (stands (entered c) k ≡ true) × (decide (entered c) (Some s) t ≡ Leave) × (outside (entered c) ≡ c)
+
+left_there : (k : Nonterminal) (s : Variant) (t : Token) → takes nt.Expression k ≡ true → ((place : Where) → decide (Entered place) (Some s) t ≡ Leave) → (c : Control) → ItemPlace c → Left c k s t
+left_there k s t h e c (item_place place) = (or_left _ _ h, e place, refl)
+
+pub expression_stated : (b : Bool) {s : Variant} {p : ParseTree} → Operand nt.Expression s p → MayStand p → Good (Whole ExprStmt (item_of b)) (Node s p (Read ending End))
+unfolding ending
+expression_stated b {s = s} o h =
+    stated ending o.good (ended_by Semi o.of o.taken) (λ c st. left_there o.of s ending o.taken (λ place. refl) c (place_of c (item_there (item_of b) (is_an_item b) c st)))
+    (entered_there b _ h) (ended ExprStmt (item_of b)) refl
+
+pub labelled : (b : Bool) (name : Token) {n : Nonterminal} {s v : Variant} {q : ParseTree} → takes nt.AssignmentExpression n ≡ true → takes nt.Expression n ≡ true → Good (Whole s n) (Read name End) → MayStand (Read name End) → Good (Whole v (item_of b)) q →
+    Good (Whole LabeledStmt (item_of b)) (Read name (Read (punctuator (codes ":")) (Node v q End)))
+unfolding punctuator
+labelled b name {n = n} {s = s} a t g h body =
+    stated (punctuator (codes ":")) g (ended_by Colon n a) (λ c st. left_there n s (punctuator (codes ":")) t (λ place. refl) c (place_of c (item_there (item_of b) (is_an_item b) c st)))
+    (entered_there b _ h) (last refl (item_stands b OfLabel) body (λ t e. (e, refl))) refl
+
+-- ---- lists
+
+goes_no_else : (ends : Variant) (l : Class) → goes_on (without (Statement (InList ends)) l) ≡ true → is_no_else l ≡ true
+goes_no_else ends ElseWord h = absurd (true≢false (sym h))
+goes_no_else ends l h = refl
+
+pub no_items : (ends : Variant) (n : Nonterminal) → Good (Rest (Statement (InList ends)) ends n) (Read (punctuator (codes "}")) End)
+unfolding punctuator
+no_items ends n = shifted refl (ended ends n)
+
+pub end_heads : (ends : Variant) → Heads (GoesOn ends) (Read (punctuator (codes "}")) End)
+unfolding punctuator tokens_of
+end_heads ends = λ us. (_, us, refl, refl)
+
+pub item_then : (ends variant : Variant) (n : Nonterminal) {v : Variant} {p m q : ParseTree} → Good (Whole v nt.Statement) p → Heads (GoesOn ends) m → Good (Rest (Statement (InList ends)) variant n) m → q ≡ joined p m →
+    Good (Rest (Statement (InList ends)) variant n) q
+item_then ends variant n g h r e =
+    taking (item_stands false (InList ends)) g (λ us. let k = h us in (k.0, k.1, k.2, (goes_no_else ends (class k.0) k.3, refl, k.3))) r e
+
+-- `{ .. }`
+begun_there : (c : Control) → ItemPlace c → without c (class (punctuator (codes "{"))) ≡ Begin
+unfolding punctuator
+begun_there c (item_place place) = refl
+
+block_begins : (b : Bool) (c : Control) → stands c (item_of b) ≡ true → without c (class (punctuator (codes "{"))) ≡ Begin
+unfolding punctuator
+block_begins b c st = begun_there c (place_of c (item_there (item_of b) (is_an_item b) c st))
+
+pub block_good : (b : Bool) {m : ParseTree} → Good (Rest (Statement (InList BlockStmt)) BlockStmt (item_of b)) m → Good (Whole BlockStmt (item_of b)) (Read (punctuator (codes "{")) m)
+block_good b g = headed_block (block_begins b) g
+
+-- ---- declarations of variables
+
+pub declarators_begun : (t : Token) (b : Bool) {m : ParseTree} → is_keyword (class t) ≡ true → start t ≡ Declarators → Good (Rest Declarators VarDecl (item_of b)) m → Good (Whole VarDecl (item_of b)) (Read t m)
+declarators_begun t b {m = m} k e g = keyword_begun t VarDecl b Declarators m k e g
+
+-- a name or a pattern that no link holds, and the token behind it
+pub declarator_spliced : (t : Token) (n k : Nonterminal) {v : Variant} {p m q : ParseTree} → takes nt.LeftHandSideExpression k ≡ true → Good (Whole v k) p → takes (left (class t)) nt.LeftHandSideExpression ≡ true →
+    ((s : Variant) → decide Declarators (Some s) t ≡ Splice) → Good (Rest (passed_to Declarators (class t)) VarDecl n) m → q ≡ joined p (Read t m) → Good (Rest Declarators VarDecl n) q
+declarator_spliced t n k {v = v} h g c e r same = splicing t (or_left _ _ h) g (ended_by (class t) k (takes_on (left (class t)) nt.LeftHandSideExpression k c h)) (e v) r same
+
+pub primary_assigned : takes nt.AssignmentExpression nt.PrimaryExpression ≡ true
+primary_assigned = takes_on nt.AssignmentExpression nt.LeftHandSideExpression nt.PrimaryExpression left_assigned left_taken
+
+pub primary_expression : takes nt.Expression nt.PrimaryExpression ≡ true
+primary_expression = takes_on nt.Expression nt.AssignmentExpression nt.PrimaryExpression assignment_taken primary_assigned
+
+pub target_element : (n : Nonterminal) → takes nt.PatternTarget n ≡ true → takes nt.PatternElement n ≡ true
+target_element n h = chain_takes nt.PatternElement n (step pattern_element_is_pattern_target (takes_chain nt.PatternTarget n h))
+
+-- ---- functions
+
+-- a parameter that no link holds, and the token behind it
+pub parameter_then : (t : Token) (variant : Variant) (n k : Nonterminal) {v : Variant} {p m q : ParseTree} → takes nt.AssignmentExpression k ≡ true → Good (Whole v k) p → takes (left (class t)) nt.AssignmentExpression ≡ true →
+    ((s : Variant) → decide Parameter (Some s) t ≡ Splice) → Good (Rest (passed_to Parameter (class t)) variant n) m → q ≡ joined p (Read t m) → Good (Rest Parameter variant n) q
+parameter_then t variant n k {v = v} h g c e r same = splicing t (or_left _ _ h) g (ended_by (class t) k (takes_on (left (class t)) nt.AssignmentExpression k c h)) (e v) r same
+
+pub rest_then : (n : Nonterminal) {v : Variant} {p m : ParseTree} → Operand nt.LeftHandSideExpression v p → Good (Rest AfterParameters Fn n) m →
+    Good (Rest Parameter Fn n) (Read (punctuator (codes "...")) (Node v p (Read (punctuator (codes ")")) m)))
+unfolding punctuator
+rest_then n {m = m} o g =
+    shifted refl (part_then RestParameter (Read (punctuator (codes ")")) m) (takes_self nt.LeftHandSideExpression) o
+    (takes_on nt.Expression nt.AssignmentExpression nt.LeftHandSideExpression assignment_taken left_assigned, λ z. refl, g))
+
+pub no_parameters_then : (n : Nonterminal) {m : ParseTree} → Good (Rest AfterParameters Fn n) m → Good (Rest Parameter Fn n) (Read (punctuator (codes ")")) m)
+unfolding punctuator
+no_parameters_then n g = shifted refl g
+
+pub parameters_end : (n : Nonterminal) {m : ParseTree} → Good (Rest (Statement (InList Fn)) Fn n) m → Good (Rest AfterParameters Fn n) (Read (punctuator (codes "{")) m)
+unfolding punctuator
+parameters_end n g = shifted refl g
+
+pub function_item : (b : Bool) {m : ParseTree} → Good (Rest AfterFunction Fn (item_of b)) m → Good (Whole Fn (item_of b)) (Read (word (codes "function")) m)
+unfolding word
+function_item b {m = m} g = keyword_begun (word (codes "function")) Fn b AfterFunction m refl refl g
+
+-- ---- arrow functions
+
+value_enters : (l : Class) → is_open_brace l ≡ false → without ArrowBody l ≡ Enter
+value_enters OpenBrace h = absurd (true≢false h)
+value_enters l h = refl
+
+-- a value, and a block
+pub arrow_value : {s : Variant} {p : ParseTree} → Operand nt.AssignmentExpression s p → Heads (λ u. is_open_brace (class u) ≡ false) p → Good (Rest ArrowBody Arrow nt.AssignmentExpression) (Node s p End)
+unfolding tokens_of
+arrow_value o h = entering (λ us. let k = h us in (k.0, k.1, k.2, (value_enters (class k.0) k.3, refl))) (tail_rest OfArrow o)
+
+pub arrow_block : {m : ParseTree} → Good (Rest (Statement (InList Arrow)) Arrow nt.AssignmentExpression) m → Good (Rest ArrowBody Arrow nt.AssignmentExpression) (Read (punctuator (codes "{")) m)
+unfolding punctuator
+arrow_block g = shifted refl g

@@ -1,0 +1,246 @@
+-- Statements are read as they are.
+use Rattle.std.proofs.Common.{◌≡◌, Bool, true, false, ◌||◌, not, List, [], ◌∷◌, Option, Some, None, refl, sym, ap, ◌∙◌, subst}
+use Rattle.std.specs.Prelude.{codes}
+use Rattle.std.proofs.lemmas.Bool.{true≢false, and_parts}
+use Rattle.swc_ecma_codegen_tree.specs.Links.{ExprBox, StmtBox}
+use Rattle.swc_ecma_codegen_tree.specs.declared.links.AnyNode.{AnyNode, AnyNode-F, out-AnyNode}
+use Rattle.swc_ecma_codegen_tree.specs.declared.links.AnyNode.TheOpen as nodes
+use Rattle.swc_ecma_codegen_tree.specs.declared.decls.ClassDecl.{ClassDecl}
+use Rattle.swc_ecma_codegen_tree.specs.declared.decls.Decl.{Decl}
+use Rattle.swc_ecma_codegen_tree.specs.declared.decls.Decl.TheVariants as decls
+use Rattle.swc_ecma_codegen_tree.specs.declared.decls.VarDecl as var_decls
+use Rattle.swc_ecma_codegen_tree.specs.declared.decls.VarDeclarator.{VarDeclarator}
+use Rattle.swc_ecma_codegen_tree.specs.declared.decls.VarDeclKind.{VarDeclKind}
+use Rattle.swc_ecma_codegen_tree.specs.declared.decls.VarDeclKind.TheVariants.{Var, Let, Const}
+use Rattle.swc_ecma_codegen_tree.specs.declared.idents.Ident.{Ident}
+use Rattle.swc_ecma_codegen_tree.specs.declared.parts.ExprPart.TheVariants as expr_parts
+use Rattle.swc_ecma_codegen_tree.specs.declared.parts.JSXPart.TheVariants as jsx_parts
+use Rattle.swc_ecma_codegen_tree.specs.declared.parts.StmtPart.TheVariants as stmt_parts
+use Rattle.swc_ecma_codegen_tree.specs.declared.stmts.Stmt.{Stmt}
+use Rattle.swc_ecma_codegen_tree.specs.declared.stmts.Stmt.TheVariants as stmts
+use Rattle.swc_ecma_codegen_tree.specs.declared.stmts.BlockStmt as blocks
+use Rattle.swc_ecma_codegen_tree.specs.declared.stmts.ExprStmt as expr_stmts
+use Rattle.swc_ecma_codegen_tree.specs.declared.stmts.LabeledStmt as labeled
+use Rattle.swc_ecma_codegen_grammar.specs.DeclPhrases.{var_kind}
+use Rattle.swc_ecma_codegen_grammar.specs.FunctionPhrases.{word_if}
+use Rattle.swc_ecma_codegen_grammar.specs.Phrases.{Generates}
+use Rattle.swc_ecma_codegen_grammar.specs.Phrases as phrases
+use Rattle.swc_ecma_codegen_grammar.specs.TsDeclPhrases.{declare_word}
+use Rattle.swc_ecma_codegen_grammar.specs.Settings.{Settings}
+use Rattle.swc_ecma_codegen_grammar.specs.StmtPhrases.{empty_stmt, debugger_stmt}
+use Rattle.swc_ecma_codegen_grammar.specs.Tokens.{Token, punctuator, word, ending, same_line}
+use Rattle.swc_ecma_codegen_grammar.specs.Tokens as tokens
+use Rattle.swc_ecma_codegen_grammar.specs.declared.roles.Role.TheVariants.{Block, ClassHead}
+use Rattle.swc_ecma_codegen_syntax.specs.declared.nonterminals.Nonterminal.{Nonterminal}
+use Rattle.swc_ecma_codegen_syntax.specs.declared.nonterminals.Nonterminal.TheVariants as nt
+use Rattle.swc_ecma_codegen_syntax.specs.declared.parameters.Parameters.{Parameters}
+use Rattle.swc_ecma_codegen_syntax.specs.NameForms.{is_one_of}
+use Rattle.swc_ecma_codegen_syntax.specs.Nonterminals.{takes}
+use Rattle.swc_ecma_codegen_syntax.specs.Parameters.{of_bindings, of_declarations, in_list}
+use Rattle.swc_ecma_codegen_syntax.specs.Forms.{Fixed, is_met, each_after}
+use Rattle.swc_ecma_codegen_syntax.specs.ClassForms.{class_decl_form}
+use Rattle.swc_ecma_codegen_syntax.specs.DeclForms.{is_const, value_form, declarator_form, declarators_form, var_decl_form, head_at, decl_form}
+use Rattle.swc_ecma_codegen_syntax.specs.PatForms.{pat_form, pat_nonterminal}
+use Rattle.swc_ecma_codegen_syntax.specs.StmtForms.{expr_stmt_form, with_form, return_rest_form, return_form, labeled_form, jump_form, break_form, continue_form, branches_form, if_form, switch_form, throw_form, try_form, while_form, do_while_form, for_form, for_in_form, for_of_form, stmt_form, begins_empty, list_form, block_form}
+use Rattle.swc_ecma_codegen_syntax.specs.NodeForms.{node_form, part_form, stmt_part_form, jsx_part_form}
+use Rattle.swc_ecma_codegen_syntax.specs.Derives.{Derives, fixed, part, restricted, both, provided, bare}
+use Rattle.swc_ecma_codegen_uniqueness.specs.ParseTrees.{Variant, ParseTree, End, Read, Node, BlockStmt, DebuggerStmt, WithStmt, ReturnStmt, LabeledStmt, BreakStmt, ContinueStmt, IfStmt, ThrowStmt, WhileStmt, VarDecl, ExprStmt, tokens_of, is_known, is_known_kind, AreKnown, decl_variant, stmt_variant, part_variant, node_variant}
+use Rattle.swc_ecma_codegen_uniqueness.specs.Parses.{placed, is_inlined}
+use Rattle.swc_ecma_codegen_uniqueness.proofs.Tables.{InList, Statement, Declarators, Initializer, AfterWord, Jump, Splice, Shift, shift, start, decide, passed_to, class, left}
+use Rattle.swc_ecma_codegen_uniqueness.proofs.TableLaws.{cover, cover_taken, or_left, takes_on, is_keyword}
+use Rattle.swc_ecma_codegen_uniqueness.proofs.Machine.{Whole, Rest, Good, Heads, joined_tokens}
+use Rattle.swc_ecma_codegen_uniqueness.proofs.Shapes.{Operand, After, takes_self, assignment_taken, left_assigned, part_then, ended}
+use Rattle.swc_ecma_codegen_uniqueness.proofs.StatementShapes.{operand_heads, GoesOn, item_heads, item_of, item_stands, if_alone, if_else, looped, word_alone, word_valued, word_labelled, empty_good, expression_stated, labelled, no_items, end_heads, item_then, block_good, declarators_begun, declarator_spliced, primary_assigned, primary_expression, target_element}
+use Rattle.swc_ecma_codegen_uniqueness.proofs.Heading.{may_stand, not_excluded}
+use Rattle.swc_ecma_codegen_uniqueness.proofs.Reading.{read_phrase, derived_parse}
+use Rattle.swc_ecma_codegen_uniqueness.proofs.Joined.{derived_joined}
+use Rattle.swc_ecma_codegen_uniqueness.proofs.Parsed.{tokens_before}
+use Rattle.swc_ecma_codegen_uniqueness.proofs.Fits.{BlockFit, at_place, PlacedGood, AllGood, no_form}
+use Rattle.swc_ecma_codegen_uniqueness.proofs.Atoms.{name_read, name_atom}
+use Rattle.swc_ecma_codegen_uniqueness.proofs.Patterns.{pat_good}
+use Rattle.swc_ecma_codegen_uniqueness.proofs.Functions.{not_inlined, fn_decl_good}
+
+-- ---- declarations of variables
+
+-- what stands behind a name or a value: `,` or `;`
+pub record BehindVar (n : Nonterminal) (m : ParseTree) : Type 0 where
+  pub token : Token
+  pub rest : ParseTree
+  pub is : m ≡ Read token rest
+  pub ends : takes (left (class token)) nt.AssignmentExpression ≡ true
+  pub spliced : (s : Variant) → decide Declarators (Some s) token ≡ Splice
+  pub named : Good (Rest (passed_to Declarators (class token)) VarDecl n) rest
+  pub shifted : (s : Variant) → decide Initializer (Some s) token ≡ Shift
+  pub valued : Good (Rest (passed_to Initializer (class token)) VarDecl n) rest
+
+declarator_by : {s : Settings} (n : Nonterminal) (c : Parameters) (constant : Bool) (x : VarDeclarator AnyNode) {ts us : List Token} → takes nt.PatternTarget (pat_nonterminal x.name) ≡ true →
+    (d : Derives true s (pat_form false (of_bindings c) x.name) ts) (o : Option (ExprBox AnyNode)) (e : Derives true s (value_form c o) us) → AllGood d → AllGood e → s.minify ≡ c.minify → (m : ParseTree) → BehindVar n m →
+    Good (Rest Declarators VarDecl n) (derived_parse d (derived_parse e m))
+unfolding value_form AllGood PlacedGood derived_parse read_phrase placed is_inlined punctuator
+declarator_by n c constant x h d None (fixed g) o q m rest behind =
+    declarator_spliced behind.token n (cover (pat_nonterminal x.name)) (cover_taken nt.PatternTarget (pat_nonterminal x.name) h)
+    (pat_good false (of_bindings c) x.name d o m (not_inlined (of_bindings c) x.name (target_element _ h) refl d)) (takes_on (left (class behind.token)) nt.AssignmentExpression nt.LeftHandSideExpression behind.ends left_assigned) behind.spliced behind.named
+    (ap (derived_parse d) behind.is ∙ sym (derived_joined d End (Read behind.token behind.rest)))
+declarator_by n c constant x h d (Some v) (both (fixed g) (part a sa e)) o (y, q) m rest behind =
+    let w = at_place _ _ sa (q m) in
+    declarator_spliced (punctuator (codes "=")) n (cover (pat_nonterminal x.name)) (cover_taken nt.PatternTarget (pat_nonterminal x.name) h)
+    (pat_good false (of_bindings c) x.name d o m (not_inlined (of_bindings c) x.name (target_element _ h) refl d)) (takes_self nt.LeftHandSideExpression) (λ z. refl)
+    (part_then Initializer rest (takes_self nt.AssignmentExpression) w (subst (λ z. After Initializer nt.AssignmentExpression VarDecl n z) (sym behind.is) (behind.ends, behind.shifted, behind.valued)))
+    (sym (derived_joined d End _))
+
+declarator_good : {s : Settings} (n : Nonterminal) (c : Parameters) (constant : Bool) (x : VarDeclarator AnyNode) {ts : List Token} (d : Derives true s (declarator_form c constant x) ts) → AllGood d → s.minify ≡ c.minify → (m : ParseTree) → BehindVar n m →
+    Good (Rest Declarators VarDecl n) (derived_parse d m)
+unfolding declarator_form is_met AllGood derived_parse
+declarator_good n c constant x (provided h (provided k (both d e))) (o, q) m rest behind = declarator_by n c constant x (and_parts _ _ k).1 d x.init e o q m rest behind
+
+behind_ending : (n : Nonterminal) → BehindVar n (Read ending End)
+unfolding ending
+behind_ending n = record { token = _; rest = End; is = refl; ends = assignment_taken; spliced = λ s. refl; named = ended VarDecl n; shifted = λ s. refl; valued = ended VarDecl n }
+
+behind_comma : (n : Nonterminal) {m : ParseTree} → Good (Rest Declarators VarDecl n) m → BehindVar n (Read (punctuator (codes ",")) m)
+unfolding punctuator
+behind_comma n g = record { token = _; rest = _; is = refl; ends = takes_self nt.AssignmentExpression; spliced = λ s. refl; named = g; shifted = λ s. refl; valued = g }
+
+declarators_after : {s : Settings} (n : Nonterminal) (c : Parameters) (constant : Bool) (xs : List (VarDeclarator AnyNode)) {ts : List Token} (d : Derives true s (each_after (codes ",") (declarator_form c constant) xs) ts) → AllGood d → s.minify ≡ c.minify →
+    BehindVar n (derived_parse d (Read ending End))
+unfolding each_after AllGood derived_parse read_phrase
+declarators_after n c constant [] (fixed g) o m = behind_ending n
+declarators_after n c constant (x ∷ xs) (both (fixed g) (both d e)) (y, (o, q)) m =
+    behind_comma n (declarator_good n c constant x d o m (derived_parse e (Read ending End)) (declarators_after n c constant xs e q m))
+
+declarators_good : {s : Settings} (n : Nonterminal) (c : Parameters) (constant : Bool) (xs : List (VarDeclarator AnyNode)) {ts : List Token} (d : Derives true s (declarators_form c constant xs) ts) → AllGood d → s.minify ≡ c.minify →
+    Good (Rest Declarators VarDecl n) (derived_parse d (Read ending End))
+unfolding declarators_form AllGood derived_parse read_phrase Generates
+declarators_good n c constant [] (fixed g) o m = absurd g
+declarators_good n c constant (x ∷ xs) (both d e) (o, q) m = declarator_good n c constant x d o m (derived_parse e (Read ending End)) (declarators_after n c constant xs e q m)
+
+var_word : (s : Settings) (b : Bool) (kind : VarDeclKind) (ts : List Token) (g : Generates s (var_kind kind) ts) {m : ParseTree} → Good (Rest Declarators VarDecl (item_of b)) m → Good (Whole VarDecl (item_of b)) (read_phrase s (var_kind kind) ts g m)
+unfolding var_kind read_phrase word
+var_word s b Var ts g h = declarators_begun (word (codes "var")) b refl refl h
+var_word s b Let ts g h = declarators_begun (word (codes "let")) b refl refl h
+var_word s b Const ts g h = declarators_begun (word (codes "const")) b refl refl h
+
+no_declare : {s : Settings} (b : Bool) {ts : List Token} → not b ≡ true → (d : Derives true s (Fixed (declare_word b)) ts) (rest : ParseTree) → derived_parse d rest ≡ rest
+unfolding declare_word word_if derived_parse read_phrase
+no_declare true h d rest = absurd (true≢false (sym h))
+no_declare false h (fixed g) rest = refl
+
+var_good : {s : Settings} (b : Bool) (c : Parameters) (n : var_decls.VarDecl AnyNode) {ts us : List Token} (d : Derives true s (var_decl_form c n) ts) (e : Derives true s (Fixed phrases.ending) us) → AllGood d → s.minify ≡ c.minify →
+    Good (Whole VarDecl (item_of b)) (derived_parse d (derived_parse e End))
+unfolding var_decl_form is_met AllGood derived_parse read_phrase
+var_good b c n (provided h (provided k (both w (both (fixed g) d)))) (fixed j) (x, (y, o)) m =
+    subst (λ z. Good (Whole VarDecl (item_of b)) z) (sym (no_declare n.declare h w _)) (var_word _ b n.kind _ g (declarators_good (item_of b) c (is_const n.kind) n.decls.items d o m))
+
+-- ---- statements
+
+not_so : (b : Bool) → (not true || not b) ≡ true → b ≡ false
+not_so true h = absurd (true≢false (sym h))
+not_so false h = refl
+
+if_alone_at : (b : Bool) {s v : Variant} {p q : ParseTree} → b ≡ false → Operand nt.Expression s p → Good (Whole v (item_of b)) q →
+    Good (Whole IfStmt (item_of b)) (Read (word (codes "if")) (Read (punctuator (codes "(")) (Node s p (Read (punctuator (codes ")")) (Node v q End)))))
+if_alone_at true e o g = absurd (true≢false e)
+if_alone_at false e o g = if_alone o g
+
+if_by : {s : Settings} (c : Parameters) (cons : StmtBox AnyNode) (alt : Option (StmtBox AnyNode)) {v : Variant} {p : ParseTree} {ts : List Token} → Operand nt.Expression v p → (d : Derives true s (branches_form c cons alt) ts) → AllGood d → s.minify ≡ c.minify →
+    Good (Whole IfStmt (item_of c.before_else)) (Read (word (codes "if")) (Read (punctuator (codes "(")) (Node v p (Read (punctuator (codes ")")) (derived_parse d End)))))
+unfolding branches_form is_met AllGood PlacedGood derived_parse read_phrase placed is_inlined
+if_by c cons None w (provided h (both (part a sa d) (fixed g))) (o, x) m = if_alone_at c.before_else (not_so c.before_else h) w (o m).good
+if_by c cons (Some alt) w (both (part a sa d) (both (fixed g) (part b sb e))) (o, (x, q)) m = if_else c.before_else w (o m).good (q m).good
+
+return_by : {s : Settings} (b : Bool) (c : Parameters) (arg : Option (ExprBox AnyNode)) {ts : List Token} (d : Derives true s (return_rest_form c arg) ts) → AllGood d → s.minify ≡ c.minify →
+    Good (Whole ReturnStmt (item_of b)) (Read (word (codes "return")) (derived_parse d End))
+unfolding return_rest_form AllGood PlacedGood derived_parse read_phrase placed is_inlined word same_line
+return_by b c None (fixed g) o m = word_alone (word (codes "return")) ReturnStmt b refl refl
+return_by b c (Some n) (both (fixed g) (both (bare (part a sa d)) (fixed h))) (x, (o, y)) m = word_valued (word (codes "return")) ReturnStmt b refl refl refl (at_place _ _ sa (o m))
+
+jump_by : {s : Settings} (b : Bool) (t : Token) (variant : Variant) (c : Parameters) (label : Option Ident) {ts : List Token} (d : Derives true s (jump_form c label) ts) → is_keyword (class t) ≡ true → start t ≡ AfterWord variant →
+    shift (AfterWord variant) None same_line ≡ Jump variant → Good (Whole variant (item_of b)) (Read t (derived_parse d End))
+unfolding jump_form derived_parse read_phrase tokens.name
+jump_by b t variant c None (fixed g) k e i = word_alone t variant b k e
+jump_by b t variant c (Some n) (both (fixed g) (both d (fixed h))) k e i =
+    subst (λ z. Good (Whole variant (item_of b)) (Read t (Read same_line z))) (sym (name_read c n d (Read ending End))) (word_labelled t (tokens.name _) variant b k e i refl)
+
+expr_good : {s : Settings} (b : Bool) (c : Parameters) (n : expr_stmts.ExprStmt AnyNode) {ts : List Token} (d : Derives true s (expr_stmt_form c n) ts) → AllGood d → s.minify ≡ c.minify → Good (Whole ExprStmt (item_of b)) (derived_parse d End)
+unfolding expr_stmt_form is_met AllGood PlacedGood derived_parse read_phrase placed is_inlined tokens_of
+expr_good b c n (both (restricted {ts = ts} h (part a sa d)) (fixed g)) (o, x) m =
+    let v = at_place _ _ sa (o m) in
+    expression_stated b v (may_stand (derived_parse d End) ts (λ us. tokens_before d End us) (operand_heads v.good (or_left _ _ v.taken)) (not_excluded _ h))
+
+-- a word of another statement is unknown
+other_word : (t : Token) → is_known_kind t.kind t.value ≡ false → AreKnown (Read t End) → ⊥
+unfolding AreKnown
+other_word t h k = true≢false (sym k.0 ∙ h)
+
+no_class : {X : Type 0} (y : AnyNode-F X) → is_known (node_variant y ClassHead) ≡ true → ⊥
+unfolding node_variant part_variant is_known
+no_class (nodes.ExprPart (expr_parts.Pat n)) k = true≢false (sym k)
+no_class y k = true≢false (sym k)
+
+class_unknown : {s : Settings} (c : Parameters) (n : ClassDecl AnyNode) {ts : List Token} (d : Derives true s (class_decl_form c n) ts) → AllGood d → s.minify ≡ c.minify → ⊥
+unfolding class_decl_form AllGood PlacedGood is_inlined
+class_unknown c n (both k (both (part a sa d) e)) (x, (o, y)) m = no_class (out-AnyNode n.class.node.value) (o m).known
+
+decl_good : {s : Settings} (b : Bool) (c : Parameters) (n : Decl AnyNode) {ts : List Token} (d : Derives true s (decl_form c n) ts) → AllGood d → s.minify ≡ c.minify → Good (Whole (decl_variant n) (item_of b)) (derived_parse d End)
+unfolding decl_form decl_variant AllGood derived_parse
+decl_good b c (decls.Var n) (both d e) (o, x) m = var_good b (of_declarations c) n d e o m
+decl_good b c (decls.Fn n) d o m = fn_decl_good b (head_at c.position) c n d o m
+decl_good b c (decls.Class n) d o m = absurd (class_unknown c n d o m)
+decl_good b c n d o m = absurd (no_form d)
+
+labeled_good : {s : Settings} (c : Parameters) (n : labeled.LabeledStmt AnyNode) {ts : List Token} (d : Derives true s (labeled_form c n) ts) → AllGood d → s.minify ≡ c.minify → Good (Whole LabeledStmt (item_of c.before_else)) (derived_parse d End)
+unfolding labeled_form AllGood PlacedGood derived_parse read_phrase placed is_inlined tokens.name tokens_of
+labeled_good c n (both k (both (fixed g) (part a sa d))) (x, (y, o)) m =
+    subst (λ z. Good (Whole LabeledStmt (item_of c.before_else)) z) (sym (name_read c n.label k _))
+    (labelled c.before_else (tokens.name _) primary_assigned primary_expression (name_atom nt.PrimaryExpression refl _) (λ us. (_, us, refl, (refl, refl))) (o m).good)
+
+pub stmt_good : {s : Settings} (c : Parameters) (n : Stmt AnyNode) {ts : List Token} (d : Derives true s (stmt_form c n) ts) → AllGood d → s.minify ≡ c.minify → Good (Whole (stmt_variant n) (item_of c.before_else)) (derived_parse d End)
+unfolding stmt_form stmt_variant with_form return_form break_form continue_form if_form switch_form throw_form try_form while_form do_while_form for_form for_in_form for_of_form empty_stmt debugger_stmt is_met is_one_of is_known_kind AllGood PlacedGood derived_parse read_phrase placed is_inlined word same_line
+stmt_good {s = s} c (stmts.Block n) (part a sa d) o m = let v = o m in subst (λ z. Good (Whole BlockStmt (item_of c.before_else)) z) (sym v.is) (block_good c.before_else (v.good BlockStmt (item_of c.before_else)))
+stmt_good c (stmts.Empty n) (fixed g) o m = empty_good c.before_else
+stmt_good c (stmts.Debugger n) (fixed g) o m = word_alone (word (codes "debugger")) DebuggerStmt c.before_else refl refl
+stmt_good c (stmts.With n) (provided h (both (fixed g) (both (fixed k) (both (part a sa d) (both (fixed l) (part b sb e)))))) (x, (y, (o, (z, q)))) m =
+    looped (word (codes "with")) WithStmt c.before_else refl refl refl (at_place _ _ sa (o m)) (q m).good
+stmt_good c (stmts.Return n) (provided h (both (fixed g) d)) (x, o) m = return_by c.before_else c n.arg d o m
+stmt_good c (stmts.Labeled n) d o m = labeled_good c n d o m
+stmt_good c (stmts.Break n) (both (fixed g) d) (x, o) m = jump_by c.before_else (word (codes "break")) BreakStmt c n.label d refl refl refl
+stmt_good c (stmts.Continue n) (both (fixed g) d) (x, o) m = jump_by c.before_else (word (codes "continue")) ContinueStmt c n.label d refl refl refl
+stmt_good c (stmts.If n) (both (fixed g) (both (fixed h) (both (part a sa d) (both (fixed k) e)))) (x, (y, (o, (z, q)))) m = if_by c n.cons n.alt (at_place _ _ sa (o m)) e q m
+stmt_good c (stmts.Switch n) (both (fixed g) d) (k, o) m = absurd (other_word (word (codes "switch")) refl k)
+stmt_good c (stmts.Throw n) (both (fixed g) (both (fixed h) (both (bare (part a sa d)) (fixed k)))) (x, (y, (o, z))) m = word_valued (word (codes "throw")) ThrowStmt c.before_else refl refl refl (at_place _ _ sa (o m))
+stmt_good c (stmts.Try n) (provided h (both (fixed g) d)) (k, o) m = absurd (other_word (word (codes "try")) refl k)
+stmt_good c (stmts.While n) (both (fixed g) (both (fixed k) (both (part a sa d) (both (fixed l) (part b sb e))))) (x, (y, (o, (z, q)))) m =
+    looped (word (codes "while")) WhileStmt c.before_else refl refl refl (at_place _ _ sa (o m)) (q m).good
+stmt_good c (stmts.DoWhile n) (provided h (both (fixed g) d)) (k, o) m = absurd (other_word (word (codes "do")) refl k)
+stmt_good c (stmts.For n) (both (fixed g) d) (k, o) m = absurd (other_word (word (codes "for")) refl k)
+stmt_good c (stmts.ForIn n) (both (fixed g) d) (k, o) m = absurd (other_word (word (codes "for")) refl k)
+stmt_good c (stmts.ForOf n) (provided h (both (fixed g) d)) (k, o) m = absurd (other_word (word (codes "for")) refl k)
+stmt_good c (stmts.Decl n) d o m = decl_good c.before_else c n d o m
+stmt_good c (stmts.Expr n) d o m = expr_good c.before_else c n d o m
+
+-- ---- lists, and blocks
+
+list_good : {s : Settings} (ends : Variant) (n : Nonterminal) (c : Parameters) (xs : List (Stmt AnyNode)) {ts : List Token} (d : Derives true s (list_form c xs) ts) → AllGood d → s.minify ≡ c.minify →
+    Good (Rest (Statement (InList ends)) ends n) (derived_parse d (Read (punctuator (codes "}")) End)) × Heads (GoesOn ends) (derived_parse d (Read (punctuator (codes "}")) End))
+unfolding list_form AllGood derived_parse read_phrase
+list_good ends n c [] (fixed g) o m = (no_items ends n, end_heads ends)
+list_good ends n c (x ∷ xs) (both d e) (o, q) m =
+    let rest = derived_parse e (Read (punctuator (codes "}")) End) in
+    let r = list_good ends n c xs e q m in
+    let g = stmt_good (in_list (begins_empty xs) c) x d o m in
+    let same = sym (derived_joined d End rest) in (
+      item_then ends ends n g r.1 r.0 same,
+      λ us. let k = item_heads ends g (item_stands false (InList ends)) (tokens_of rest us) in (k.0, k.1, ap (λ z. tokens_of z us) same ∙ joined_tokens (derived_parse d End) rest us ∙ k.2, k.3),
+    )
+
+block_of : {s : Settings} (c : Parameters) (x : blocks.BlockStmt AnyNode) {ts : List Token} (d : Derives true s (block_form c x) ts) → AllGood d → s.minify ≡ c.minify → BlockFit (derived_parse d)
+unfolding block_form AllGood derived_parse read_phrase
+block_of c x (both (fixed g) (both d (fixed h))) (y, (o, z)) m =
+    record { inside = derived_parse d (Read (punctuator (codes "}")) End); is = refl; good = λ ends n. (list_good ends n c x.stmts.items d o m).0 }
+
+pub block_in : {s : Settings} (k : Bool) (c : Parameters) (y : AnyNode-F AnyNode) {ts : List Token} (d : Derives true s (node_form k c y Block) ts) → AllGood d → s.minify ≡ c.minify → BlockFit (derived_parse d)
+unfolding node_form part_form stmt_part_form jsx_part_form
+block_in k c (nodes.StmtPart (stmt_parts.BlockStmt x)) d o m = block_of c x d o m
+block_in k c (nodes.ExprPart (expr_parts.Tpl x)) d o m = absurd (no_form d)
+block_in k c (nodes.JSXPart (jsx_parts.JSXElement x)) d o m = absurd (no_form d)
+block_in k c y d o m = absurd (no_form d)
