@@ -15,7 +15,7 @@ SUBJECTS = [
     "json", "runs", "literal_table", "classes", "modules", "members", "comments",
     "reading", "spellings", "list_formats", "writers", "gaps",
     "jsx", "source_texts", "malformed", "bad_json", "comments_everywhere",
-    "ts_types", "ts_decls", "ts_files", "ts_exprs", "ts_classes", "reserved", "lines", "structures", "added", "flat",
+    "ts_types", "ts_decls", "ts_files", "ts_exprs", "ts_classes", "reserved", "lines", "structures", "mended", "added", "flat",
 ]  # fmt: skip
 
 

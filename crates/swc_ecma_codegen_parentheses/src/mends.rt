@@ -1,0 +1,148 @@
+//! What goes on to what links hold, and lists of nodes.
+
+ghost use Rattle.std.specs.Prelude.{◌≡◌};
+ghost use Rattle.std.specs.Result.{OnOk};
+ghost use Rattle.swc_ecma_codegen_parentheses.specs.Lists.{Pairwise, linked, optionally};
+
+use crate::places::Place;
+use std::alloc::{AllocError, Global};
+use swc_ecma_codegen_tree::{AssignTargetBox, ExprBox, MemberExprBox, OptCallBox, PatBox, TplBox};
+
+/// Why no more parentheses were put in.
+pub(crate) enum Stop {
+    /// Memory was refused.
+    OutOfMemory,
+    /// More links lie below one another than are gone down.
+    TooDeep,
+}
+
+impl From<AllocError> for Stop {
+    fn from(_: AllocError) -> Stop {
+        Stop::OutOfMemory
+    }
+}
+
+/// What goes on to what links hold, and puts parentheses in there.
+pub(crate) trait Mends<N>: Sized {
+    /// What a link held, and what it holds.
+    ghost mended: { Self → N → N → Type 0 };
+
+    fn expr(&self, alloc: Global, link: &mut ExprBox<N>, place: Place) -> Result<(), Stop>
+        ensures { OnOk result (linked (mended self.now) link.old link.new) };
+
+    fn pat(&self, alloc: Global, link: &mut PatBox<N>, place: Place) -> Result<(), Stop>
+        ensures { OnOk result (linked (mended self.now) link.old link.new) };
+
+    fn tpl(&self, alloc: Global, link: &mut TplBox<N>, place: Place) -> Result<(), Stop>
+        ensures { OnOk result (linked (mended self.now) link.old link.new) };
+
+    fn member_expr(
+        &self,
+        alloc: Global,
+        link: &mut MemberExprBox<N>,
+        place: Place,
+    ) -> Result<(), Stop>
+        ensures { OnOk result (linked (mended self.now) link.old link.new) };
+
+    fn opt_call(&self, alloc: Global, link: &mut OptCallBox<N>, place: Place) -> Result<(), Stop>
+        ensures { OnOk result (linked (mended self.now) link.old link.new) };
+
+    fn assign_target(
+        &self,
+        alloc: Global,
+        link: &mut AssignTargetBox<N>,
+        place: Place,
+    ) -> Result<(), Stop>
+        ensures { OnOk result (linked (mended self.now) link.old link.new) };
+}
+
+/// A node that parentheses are put into.
+pub(crate) trait Mend<N, M: Mends<N>>: Sized {
+    /// What it was, and what it is, by what links held and hold.
+    ghost same: { (N → N → Type 0) → Self → Self → Type 0 };
+
+    fn mend(&mut self, mender: &M, alloc: Global, place: Place) -> Result<(), Stop>
+        ensures { OnOk result (same (M.mended mender.now) self.old self.new) };
+}
+
+impl<T: Mend<N, M>, N, M: Mends<N>> Mend<N, M> for Option<T> {
+    ghost same = { λ m. optionally (T.same m) };
+
+    #[tactic(auto, unfolding(crate::specs::Lists::optionally))]
+    fn mend(&mut self, mender: &M, alloc: Global, place: Place) -> Result<(), Stop> {
+        match self {
+            Some(node) => node.mend(mender, alloc, place),
+            None => Ok(()),
+        }
+    }
+}
+
+impl<T: Mend<N, M>, N, M: Mends<N>> Mend<N, M> for Box<T> {
+    ghost same = { λ m a b. T.same m a.value b.value };
+
+    fn mend(&mut self, mender: &M, alloc: Global, place: Place) -> Result<(), Stop> {
+        self.as_mut().mend(mender, alloc, place)
+    }
+}
+
+/// Only the first begins what the list stands in.
+impl<T: Mend<N, M>, N, M: Mends<N>> Mend<N, M> for Vec<T> {
+    ghost same = { λ m a b. Pairwise (T.same m) a.items b.items };
+
+    fn mend(&mut self, mender: &M, alloc: Global, place: Place) -> Result<(), Stop> {
+        let mut each = place;
+        for node in self.iter_mut() {
+            node.mend(mender, alloc, each)?;
+            each = each.behind_first();
+        }
+        Ok(())
+    }
+}
+
+impl<N, M: Mends<N>> Mend<N, M> for ExprBox<N> {
+    ghost same = { linked };
+
+    fn mend(&mut self, mender: &M, alloc: Global, place: Place) -> Result<(), Stop> {
+        mender.expr(alloc, self, place)
+    }
+}
+
+impl<N, M: Mends<N>> Mend<N, M> for PatBox<N> {
+    ghost same = { linked };
+
+    fn mend(&mut self, mender: &M, alloc: Global, place: Place) -> Result<(), Stop> {
+        mender.pat(alloc, self, place)
+    }
+}
+
+impl<N, M: Mends<N>> Mend<N, M> for TplBox<N> {
+    ghost same = { linked };
+
+    fn mend(&mut self, mender: &M, alloc: Global, place: Place) -> Result<(), Stop> {
+        mender.tpl(alloc, self, place)
+    }
+}
+
+impl<N, M: Mends<N>> Mend<N, M> for MemberExprBox<N> {
+    ghost same = { linked };
+
+    fn mend(&mut self, mender: &M, alloc: Global, place: Place) -> Result<(), Stop> {
+        mender.member_expr(alloc, self, place)
+    }
+}
+
+impl<N, M: Mends<N>> Mend<N, M> for OptCallBox<N> {
+    ghost same = { linked };
+
+    fn mend(&mut self, mender: &M, alloc: Global, place: Place) -> Result<(), Stop> {
+        mender.opt_call(alloc, self, place)
+    }
+}
+
+impl<N, M: Mends<N>> Mend<N, M> for AssignTargetBox<N> {
+    ghost same = { linked };
+
+    fn mend(&mut self, mender: &M, alloc: Global, place: Place) -> Result<(), Stop> {
+        mender.assign_target(alloc, self, place)
+    }
+}
