@@ -1,5 +1,5 @@
 -- What one level more says.
-use Rattle.std.proofs.Common.{◌≡◌, ◌⊎◌, inl, inr, sym, ap, ◌∙◌, subst, ℕ, suc, Box, Global}
+use Rattle.std.proofs.Common.{◌≡◌, inl, inr, sym, ap, ◌∙◌, subst, suc, Box, Global}
 use Rattle.swc_ecma_codegen_tree.specs.declared.links.AnyNode.{AnyNode}
 use Rattle.swc_ecma_codegen_tree.specs.declared.links.Link.{Link}
 use Rattle.swc_ecma_codegen_parentheses.specs.declared.recursion.Levels.{Levels}

@@ -1,4 +1,4 @@
-use Rattle.std.proofs.Common.{◌≡◌, subst}
+use Rattle.std.proofs.Common.{subst}
 use Rattle.swc_ecma_codegen_parentheses.specs.Enclosed.{bare, enclosed, encloses}
 use Rattle.swc_ecma_codegen_parentheses.proofs.enclosed.mend_expr.Goals as goal
 

@@ -1,4 +1,4 @@
-use Rattle.std.proofs.Common.{◌≡◌, refl}
+use Rattle.std.proofs.Common.{refl}
 use Rattle.std.proofs.lemmas.Result.{on_ok_weaker}
 use Rattle.swc_ecma_codegen_parentheses.specs.SameExprs.{array, object, unary, update, bin, assign, member, super_prop, cond, call, new, seq, tpl, tagged_tpl, arrow, yield, await, paren, opt_chain}
 use Rattle.swc_ecma_codegen_parentheses.proofs.exprs.ExprMend.mend.Goals as goal

@@ -1,4 +1,4 @@
-use Rattle.std.proofs.Common.{rules, ◌≡◌, sym}
+use Rattle.std.proofs.Common.{rules, sym}
 use Rattle.swc_ecma_codegen_parentheses.specs.Lists.{nothing}
 use Rattle.swc_ecma_codegen_parentheses.proofs.Changes.{one_more}
 use Rattle.swc_ecma_codegen_parentheses.proofs.mends.VecMend.mend.Goals as goal
