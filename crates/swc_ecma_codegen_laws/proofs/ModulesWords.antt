@@ -1,4 +1,5 @@
 -- Modules: what holds of the words that a definition is made of holds of it.
+use Rattle.std.proofs.Common.{refl}
 use Rattle.swc_ecma_codegen_laws.proofs.Children.{children_hold}
 use Rattle.std.specs.Prelude.{Bool, true, not, ◌&&◌, List, [], ◌∷◌, map, filter, codes, Option, Some, None}
 use Rattle.std.specs.List.{list_any}
@@ -84,7 +85,7 @@ import_specifier_holds words bounded n = words.none bounded
 
 pub import_list_holds : {holds : Bool → Part → Type 0} (words : OfWords holds) (bounded : Bool) (parent : Span) (ns : List ImportSpecifier) → holds bounded (λ rest. import_list parent ns (punct (codes "}") rest))
 unfolding closing_mark
-import_list_holds words bounded parent ns = words.closed_list bounded named_format parent (map (child_of import_specifier_span (λ n place. import_specifier n)) (filter is_named ns)) RightBrace (children_hold _ _ import_specifier_span (λ n place. import_specifier n) (λ n. (import_specifier_holds words bounded n)) (filter is_named ns))
+import_list_holds words bounded parent ns = words.closed_list bounded named_format parent (map (child_of import_specifier_span (λ n place. import_specifier n)) (filter is_named ns)) RightBrace refl (children_hold _ _ import_specifier_span (λ n place. import_specifier n) (λ n. (import_specifier_holds words bounded n)) (filter is_named ns))
 
 pub before_brace_holds : {holds : Bool → Part → Type 0} (words : OfWords holds) (bounded : Bool) (first : Bool) (x1 : ImportSpecifier) → holds bounded (before_brace first x1)
 unfolding before_brace
@@ -162,7 +163,7 @@ export_specifier_holds words bounded (exported.Default n) = words.refuse bounded
 
 pub export_list_holds : {holds : Bool → Part → Type 0} (words : OfWords holds) (bounded : Bool) (parent : Span) (ns : List ExportSpecifier) → holds bounded (λ rest. export_list parent ns (punct (codes "}") rest))
 unfolding closing_mark
-export_list_holds words bounded parent ns = words.closed_list bounded named_format parent (map (child_of export_specifier_span (λ n place. export_specifier n)) (filter is_braced ns)) RightBrace (children_hold _ _ export_specifier_span (λ n place. export_specifier n) (λ n. (export_specifier_holds words bounded n)) (filter is_braced ns))
+export_list_holds words bounded parent ns = words.closed_list bounded named_format parent (map (child_of export_specifier_span (λ n place. export_specifier n)) (filter is_braced ns)) RightBrace refl (children_hold _ _ export_specifier_span (λ n place. export_specifier n) (λ n. (export_specifier_holds words bounded n)) (filter is_braced ns))
 
 pub export_braces_holds : {holds : Bool → Part → Type 0} (words : OfWords holds) (bounded : Bool) (parent : Span) (ns : List ExportSpecifier) → holds bounded (export_braces parent ns)
 unfolding export_braces

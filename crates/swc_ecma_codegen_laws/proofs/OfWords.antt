@@ -1,5 +1,5 @@
 -- What holds of the words of the lower emitter holds of all that is written of a tree: the one induction of the laws of what is written.
-use Rattle.std.proofs.Common.{◌≡◌, ℕ, Bool, true, false, not, if◌then◌else◌, List, [], ◌∷◌, map, codes, Option, None, refl, ap, subst}
+use Rattle.std.proofs.Common.{◌≡◌, ℕ, Bool, true, false, not, ◌||◌, if◌then◌else◌, List, [], ◌∷◌, map, codes, Option, None, refl, ap, subst}
 use Rattle.swc_ecma_codegen_common.specs.declared.operators.AssignOp.{AssignOp}
 use Rattle.swc_ecma_codegen_common.specs.declared.operators.BinaryOp.{BinaryOp}
 use Rattle.swc_ecma_codegen_common.specs.declared.operators.UpdateOp.{UpdateOp}
@@ -44,12 +44,17 @@ use Rattle.swc_ecma_codegen_emit.specs.Stmts as stmts
 use Rattle.swc_ecma_codegen_emit.specs.Templates as templates
 use Rattle.swc_ecma_codegen_emit.specs.Tree.{any_items}
 use Rattle.swc_ecma_codegen_laws.specs.Enclosing.{is_element, is_function}
+use Rattle.swc_ecma_codegen_laws.specs.Layouts.{is_brace}
 use Rattle.swc_ecma_codegen_laws.proofs.Children.{ChildrenHold, PartsHold, parts_hold}
 use Rattle.swc_ecma_codegen_laws.proofs.OneName.{HoldsOneName}
 
 -- The comma behind the last child of a list hangs on nothing: there is none, or always one.
 abbrev pub keeps_comma : ℕ → Bool
 keeps_comma format = if forces_trailing_comma format then not (can_skip_trailing_comma format) else not (allows_trailing_comma format)
+
+-- It is left out where an emission minifies before `}` alone.
+abbrev pub may_skip : ℕ → Closing → Bool
+may_skip format close = not (can_skip_trailing_comma format) || is_brace close
 
 -- It holds of nothing, of one part after another, and of each word that the definitions of _emit are made of.
 pub record OfWords (holds : Bool → Part → Type 0) : Type 0 where
@@ -108,7 +113,7 @@ pub record OfWords (holds : Bool → Part → Type 0) : Type 0 where
   -- lists
   pub list : (bounded : Bool) (format : ℕ) → keeps_comma format ≡ true → (parent : Span) (cs : List ListChild) → ChildrenHold holds bounded cs → holds bounded (lists.list format parent cs)
   -- one that may have a comma behind its last child, and the mark that closes it
-  pub closed_list : (bounded : Bool) (format : ℕ) (parent : Span) (cs : List ListChild) (close : Closing) → ChildrenHold holds bounded cs → holds bounded (λ rest. lists.list format parent cs (calls.punct (closing_mark close) rest))
+  pub closed_list : (bounded : Bool) (format : ℕ) (parent : Span) (cs : List ListChild) (close : Closing) → may_skip format close ≡ true → ChildrenHold holds bounded cs → holds bounded (λ rest. lists.list format parent cs (calls.punct (closing_mark close) rest))
   pub block_list : (bounded some : Bool) (span : Span) (cs : List ListChild) → ChildrenHold holds bounded cs → holds bounded (blocks.block_list some span cs)
   pub object_list : (bounded some : Bool) (span : Span) (cs : List ListChild) → ChildrenHold holds bounded cs → holds bounded (props.object_list some span cs)
   pub case_list : (bounded : Bool) (single : Lines → Bool) (span : Span) (cs : List ListChild) → ChildrenHold holds bounded cs → holds bounded (lists.by_lines (λ lines. stmts.case_list (single lines) span cs))

@@ -1,6 +1,7 @@
 -- Pats: what holds of the words that a definition is made of holds of it.
+use Rattle.std.proofs.Common.{◌≡◌, refl}
 use Rattle.swc_ecma_codegen_laws.proofs.Children.{children_hold}
-use Rattle.std.specs.Prelude.{Bool, true, map, codes, Option, Some, None}
+use Rattle.std.specs.Prelude.{Bool, true, false, map, codes, Option, Some, None}
 use Rattle.swc_ecma_codegen_tree.specs.Links.{ExprBox}
 use Rattle.swc_ecma_codegen_tree.specs.declared.idents.BindingIdent.{BindingIdent}
 use Rattle.swc_ecma_codegen_tree.specs.declared.pats.Pat.{Pat}
@@ -23,7 +24,7 @@ use Rattle.swc_ecma_codegen_grammar.specs.Phrases.{RightBrace, RightBracket, clo
 use Rattle.swc_ecma_codegen_emit.specs.declared.nodes.Place.TheVariants.{Plain}
 use Rattle.swc_ecma_codegen_emit.specs.Answers.{place_of}
 use Rattle.swc_ecma_codegen_emit.specs.Lists.{child_of, if_some_at, unsupported}
-use Rattle.swc_ecma_codegen_laws.proofs.OfWords.{Known, asks_in, items_in, either}
+use Rattle.swc_ecma_codegen_laws.proofs.OfWords.{Known, asks_in, items_in, either, may_skip}
 use Rattle.swc_ecma_codegen_tokens.specs.declared.refusals.Unprintable.TheVariants as unprintable
 use Rattle.swc_ecma_codegen_emit.specs.Pats.{pat_place, pat_items, initializer, array_pat_format, array_pat_elements, array_pat, rest_pat, assign_pat, key_value_pat_prop, assign_pat_prop, object_pat_prop, object_pat_format, object_pat_props, object_pat, pat_parts, pat, definite_ident, definite_pat, declared_pat, assign_target_pat}
 use Rattle.swc_ecma_codegen_laws.proofs.AnnotationsWords.{annotation_holds, spaced_annotation_holds}
@@ -36,9 +37,13 @@ unfolding initializer
 initializer_holds known bounded None = known.words.none bounded
 initializer_holds known bounded (Some n) = known.words.and_then bounded (spaced_punct_holds known.words bounded (codes "=")) (known.law bounded n.node.value Plain)
 
+array_pat_skips : (hole : Bool) → may_skip (array_pat_format hole) RightBracket ≡ true
+array_pat_skips true = refl
+array_pat_skips false = refl
+
 pub array_pat_elements_holds : {X : Type 0} {holds : Bool → Part → Type 0} (known : Known holds X) (bounded : Bool) (n : ArrayPat X) → holds bounded (λ rest. array_pat_elements (asks_in known) (items_in known) n (punct (codes "]") rest))
 unfolding closing_mark
-array_pat_elements_holds known bounded n = known.words.closed_list bounded (array_pat_format (last_is_hole n.elems.items)) n.span (map (child_of (option_span (pat_place (asks_in known))) (if_some_at (pat_items (items_in known)))) n.elems.items) RightBracket (children_hold _ _ (option_span (pat_place (asks_in known))) (if_some_at (pat_items (items_in known))) (λ x. (if_some_at_holds known.words bounded (pat_items (items_in known)) (λ x place. (known.law bounded x.node.value place)) x Plain)) n.elems.items)
+array_pat_elements_holds known bounded n = known.words.closed_list bounded (array_pat_format (last_is_hole n.elems.items)) n.span (map (child_of (option_span (pat_place (asks_in known))) (if_some_at (pat_items (items_in known)))) n.elems.items) RightBracket (array_pat_skips (last_is_hole n.elems.items)) (children_hold _ _ (option_span (pat_place (asks_in known))) (if_some_at (pat_items (items_in known))) (λ x. (if_some_at_holds known.words bounded (pat_items (items_in known)) (λ x place. (known.law bounded x.node.value place)) x Plain)) n.elems.items)
 
 pub array_pat_holds : {X : Type 0} {holds : Bool → Part → Type 0} (known : Known holds X) (bounded : Bool) (n : ArrayPat X) → holds bounded (array_pat (asks_in known) (items_in known) n)
 unfolding array_pat
@@ -68,7 +73,7 @@ object_pat_prop_holds known bounded (pat_props.Rest n) = rest_pat_holds known bo
 
 pub object_pat_props_holds : {X : Type 0} {holds : Bool → Part → Type 0} (known : Known holds X) (bounded : Bool) (n : ObjectPat X) → holds bounded (λ rest. object_pat_props (asks_in known) (items_in known) n (punct (codes "}") rest))
 unfolding closing_mark
-object_pat_props_holds known bounded n = known.words.closed_list bounded object_pat_format n.span (map (child_of (object_pat_prop_span (place_of (asks_in known))) (λ p place. object_pat_prop (asks_in known) (items_in known) p)) n.props.items) RightBrace (children_hold _ _ (object_pat_prop_span (place_of (asks_in known))) (λ p place. object_pat_prop (asks_in known) (items_in known) p) (λ p. (object_pat_prop_holds known bounded p)) n.props.items)
+object_pat_props_holds known bounded n = known.words.closed_list bounded object_pat_format n.span (map (child_of (object_pat_prop_span (place_of (asks_in known))) (λ p place. object_pat_prop (asks_in known) (items_in known) p)) n.props.items) RightBrace refl (children_hold _ _ (object_pat_prop_span (place_of (asks_in known))) (λ p place. object_pat_prop (asks_in known) (items_in known) p) (λ p. (object_pat_prop_holds known bounded p)) n.props.items)
 
 pub object_pat_holds : {X : Type 0} {holds : Bool → Part → Type 0} (known : Known holds X) (bounded : Bool) (n : ObjectPat X) → holds bounded (object_pat (asks_in known) (items_in known) n)
 unfolding object_pat

@@ -2,7 +2,7 @@
 use Rattle.std.specs.Prelude.{◌≡◌, ℕ, Bool, true, false, ◌&&◌, ◌||◌, if◌then◌else◌, List, [], ◌∷◌, ◌++◌, codes, Option, None, string_bytes}
 use Rattle.std.specs.Str.{chars}
 use Rattle.swc_ecma_codegen_grammar.specs.Numbers.{takes_dot}
-use Rattle.swc_ecma_codegen_grammar.specs.Phrases.{Closing, closing_mark}
+use Rattle.swc_ecma_codegen_grammar.specs.Phrases.{Closing, RightBrace, RightBracket, closing_mark}
 use Rattle.swc_ecma_codegen_grammar.specs.SourceLines.{Lines}
 use Rattle.swc_ecma_codegen_grammar.specs.TemplatePhrases.{part_kind, part_text}
 use Rattle.swc_ecma_codegen_grammar.specs.Texts.{is_same}
@@ -62,6 +62,10 @@ mark t = (kinds.Punctuator, t)
 abbrev pub closing : Closing → Kind × List ℕ
 closing close = mark (closing_mark close)
 
+abbrev pub is_brace : Closing → Bool
+is_brace RightBracket = false
+is_brace RightBrace = true
+
 -- What two lists may differ in: in commas, where the source texts differ; in layout, where the first is minified and the second isn't. And the settings of each.
 pub record Allowed : Type 0 where
   pub commas : Bool
@@ -70,14 +74,14 @@ pub record Allowed : Type 0 where
   pub second : Config
 
 -- Two lists are the same token for token, but for what is allowed. By layout a literal may be spelled in two ways, and the second list may have more: a comma before
--- a `]` or `}`, parentheses round a name before `=>`, and `()` behind `new` and what is called, alike in both: `a=>new B` and `(a)=>new B()`. By source text either
--- may have such a comma. So neither `return a` and `return(a)` are, nor `f` and `f()`.
+-- a `}`, parentheses round a name before `=>`, and `()` behind `new` and what is called, alike in both: `a=>new B` and `(a)=>new B()`. By source text either
+-- may have a comma before a `]` or `}`. So neither `return a` and `return(a)` are, nor `f` and `f()`.
 pub data Differ (allowed : Allowed) : Tokens → Tokens → Type 0 where
   no_more : Differ allowed [] []
   token : (x : Kind × List ℕ) (xs ys : Tokens) → Differ allowed xs ys → Differ allowed (x ∷ xs) (x ∷ ys)
   literal : (us vs xs ys : Tokens) → allowed.layout ≡ true → IsOneLiteral allowed.first allowed.second us vs → Differ allowed xs ys → Differ allowed (us ++ xs) (vs ++ ys)
   first_comma : (close : Closing) (xs ys : Tokens) → allowed.commas ≡ true → Differ allowed xs ys → Differ allowed (mark (codes ",") ∷ closing close ∷ xs) (closing close ∷ ys)
-  second_comma : (close : Closing) (xs ys : Tokens) → (allowed.commas || allowed.layout) ≡ true → Differ allowed xs ys → Differ allowed (closing close ∷ xs) (mark (codes ",") ∷ closing close ∷ ys)
+  second_comma : (close : Closing) (xs ys : Tokens) → (allowed.commas || (allowed.layout && is_brace close)) ≡ true → Differ allowed xs ys → Differ allowed (closing close ∷ xs) (mark (codes ",") ∷ closing close ∷ ys)
   parameter : (name : List ℕ) (xs ys : Tokens) → allowed.layout ≡ true → Differ allowed xs ys → Differ allowed ((kinds.Name, name) ∷ mark (codes "=>") ∷ xs) (mark (codes "(") ∷ (kinds.Name, name) ∷ mark (codes ")") ∷ mark (codes "=>") ∷ ys)
   arguments : (us vs xs ys : Tokens) → allowed.layout ≡ true → Differ allowed us vs → Differ allowed xs ys → Differ allowed ((kinds.Word, codes "new") ∷ (us ++ xs)) ((kinds.Word, codes "new") ∷ (vs ++ (mark (codes "(") ∷ mark (codes ")") ∷ ys)))
 

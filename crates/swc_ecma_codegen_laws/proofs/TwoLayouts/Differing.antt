@@ -1,10 +1,10 @@
 -- Lists of tokens that differ in what two layouts may differ in.
-use Rattle.std.proofs.Common.{◌≡◌, Bool, true, false, ◌||◌, [], ◌∷◌, ◌++◌, codes, refl, sym, ap, subst, append_assoc, append-nil, inl, inr}
+use Rattle.std.proofs.Common.{◌≡◌, Bool, true, false, ◌&&◌, ◌||◌, [], ◌∷◌, ◌++◌, codes, refl, sym, ap, subst, append_assoc, append-nil, inl, inr}
 use Rattle.std.proofs.lemmas.Bool.{cases_Bool, true≢false}
 use Rattle.swc_ecma_codegen_grammar.specs.declared.kinds.Kind.TheVariants.{Word}
 use Rattle.swc_ecma_codegen_grammar.specs.Phrases.{Closing}
 use Rattle.swc_ecma_codegen_util.specs.declared.config.Config.{Config}
-use Rattle.swc_ecma_codegen_laws.specs.Layouts.{Tokens, Allowed, IsOneLiteral, Differ, no_more, token, literal, first_comma, second_comma, parameter, arguments, closing, mark}
+use Rattle.swc_ecma_codegen_laws.specs.Layouts.{Tokens, Allowed, IsOneLiteral, Differ, no_more, token, literal, first_comma, second_comma, parameter, arguments, closing, is_brace, mark}
 
 pub differ_same : {allowed : Allowed} (xs : Tokens) → Differ allowed xs xs
 differ_same [] = no_more
@@ -54,11 +54,11 @@ either_flag true b h = refl
 either_flag false true h = refl
 either_flag false false h = sym (h refl refl)
 
-pub differ_comma : {allowed : Allowed} (close : Closing) (a b : Bool) → (allowed.commas ≡ false → a ≡ true → b ≡ true) → (allowed.commas ≡ false → allowed.layout ≡ false → b ≡ a) → Differ allowed (comma_if a ++ (closing close ∷ [])) (comma_if b ++ (closing close ∷ []))
+pub differ_comma : {allowed : Allowed} (close : Closing) (a b : Bool) → (allowed.commas ≡ false → a ≡ true → b ≡ true) → (allowed.commas ≡ false → (allowed.layout && is_brace close) ≡ false → b ≡ a) → Differ allowed (comma_if a ++ (closing close ∷ [])) (comma_if b ++ (closing close ∷ []))
 differ_comma close true true h k = differ_same (mark (codes ",") ∷ closing close ∷ [])
 differ_comma close false false h k = differ_same (closing close ∷ [])
 differ_comma {allowed} close true false h k = elim (cases_Bool allowed.commas) [
   | inl e ↦ first_comma close [] [] e no_more
   | inr e ↦ apart (sym (h e refl))
 ]
-differ_comma {allowed} close false true h k = second_comma close [] [] (either_flag allowed.commas allowed.layout k) no_more
+differ_comma {allowed} close false true h k = second_comma close [] [] (either_flag allowed.commas (allowed.layout && is_brace close) k) no_more

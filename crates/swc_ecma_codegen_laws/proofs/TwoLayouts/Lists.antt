@@ -10,11 +10,11 @@ use Rattle.swc_ecma_codegen_tokens.specs.Run.{Env, Part, Remake, no_part, step}
 use Rattle.swc_ecma_codegen_tokens.specs.Words.{punct}
 use Rattle.swc_ecma_codegen_tokens.specs.declared.refusals.Unprintable.{Unprintable}
 use Rattle.swc_ecma_codegen_emit.specs.FunctionExprs.{comma_list_format}
-use Rattle.swc_ecma_codegen_laws.specs.Layouts.{Tokens, mark}
+use Rattle.swc_ecma_codegen_laws.specs.Layouts.{Tokens, is_brace, mark}
 use Rattle.swc_ecma_codegen_laws.proofs.Children.{ChildrenHold}
 use Rattle.swc_ecma_codegen_laws.proofs.TwoLayouts.Differing.{comma_if, differ_comma, differ_same}
 use Rattle.swc_ecma_codegen_laws.proofs.TwoLayouts.Words.{always_deeper, always_formatting_line, always_formatting_space, always_punct, always_remake, always_shallower, always_trailing}
-use Rattle.swc_ecma_codegen_laws.proofs.OfWords.{keeps_comma}
+use Rattle.swc_ecma_codegen_laws.proofs.OfWords.{keeps_comma, may_skip}
 use Rattle.swc_ecma_codegen_laws.proofs.TwoLayouts.Emissions.{TwoLayouts, Both, Fits, IsAlike, Writes, bare, Always, always_either, always_if, always_minified, always_more, always_none, always_then, both_always, both_as, both_then, first_env, second_env, writes_as, writes_either, writes_if, writes_more, writes_then}
 
 -- ---- blanks, lines and levels
@@ -186,14 +186,21 @@ has_less true true forces allows false false c d o e h = ap (λ z. if forces the
 source_same : (two : TwoLayouts) (parent : Span) → two.commas ≡ false → in_source two.first_lines parent ≡ in_source two.second_lines parent
 source_same two parent e = ap (λ z. if parent.lo.0 == 0 then false else source_has_comma z) (two.one_source e parent)
 
-fits_closed : (two : TwoLayouts) (format : ℕ) (parent : Span) (close : Closing) → Fits two (comma_if (has_comma format two.first_minify (in_source two.first_lines parent)) ++ (mark (closing_mark close) ∷ [])) (comma_if (has_comma format two.second_minify (in_source two.second_lines parent)) ++ (mark (closing_mark close) ∷ []))
-fits_closed two format parent close =
+-- and just as many where no layout decides on it
+same_comma : (delimited skips forces allows layout brace a b c d : Bool) → (not skips || brace) ≡ true → (layout && brace) ≡ false → (layout ≡ false → a ≡ b) → c ≡ d → (if delimited && not (skips && b) then (if forces then true else (if allows then d else false)) else false) ≡ (if delimited && not (skips && a) then (if forces then true else (if allows then c else false)) else false)
+same_comma delimited false forces allows layout brace a b c d may l o e = ap (λ z. if delimited && true then (if forces then true else (if allows then z else false)) else false) (sym e)
+same_comma delimited true forces allows true true a b c d may l o e = absurd (true≢false l)
+same_comma delimited true forces allows true false a b c d may l o e = absurd (true≢false (sym may))
+same_comma delimited true forces allows false brace a b c d may l o e = ap (λ z. if delimited && not z then (if forces then true else (if allows then d else false)) else false) (sym (o refl)) ∙ ap (λ z. if delimited && not a then (if forces then true else (if allows then z else false)) else false) (sym e)
+
+fits_closed : (two : TwoLayouts) (format : ℕ) (parent : Span) (close : Closing) → may_skip format close ≡ true → Fits two (comma_if (has_comma format two.first_minify (in_source two.first_lines parent)) ++ (mark (closing_mark close) ∷ [])) (comma_if (has_comma format two.second_minify (in_source two.second_lines parent)) ++ (mark (closing_mark close) ∷ []))
+fits_closed two format parent close may =
     differ_comma close (has_comma format two.first_minify (in_source two.first_lines parent)) (has_comma format two.second_minify (in_source two.second_lines parent))
     (λ e h. has_less (comma_delimited format) (can_skip_trailing_comma format) (forces_trailing_comma format) (allows_trailing_comma format) two.first_minify two.second_minify (in_source two.first_lines parent) (in_source two.second_lines parent) two.ordered (source_same two parent e) h)
-    (λ e l. ap (λ z. has_comma format two.second_minify z) (sym (source_same two parent e)) ∙ ap (λ z. has_comma format z (in_source two.first_lines parent)) (sym (two.one_layout l)))
+    (λ e l. same_comma (comma_delimited format) (can_skip_trailing_comma format) (forces_trailing_comma format) (allows_trailing_comma format) two.layout (is_brace close) two.first_minify two.second_minify (in_source two.first_lines parent) (in_source two.second_lines parent) may l two.one_layout (source_same two parent e))
 
-pub alike_closed : {two : TwoLayouts} (bounded : Bool) (format : ℕ) (parent : Span) (cs : List ListChild) (close : Closing) → ChildrenHold (IsAlike two) bounded cs → IsAlike two bounded (λ rest. list format parent cs (punct (closing_mark close) rest))
-alike_closed {two} bounded format parent cs close h = record { at = λ x y. both_list bounded x y format format refl parent cs h (punct (closing_mark close)) (punct (closing_mark close)) (mark (closing_mark close) ∷ []) (always_punct (closing_mark close)) (always_punct (closing_mark close)) (fits_closed two format parent close) }
+pub alike_closed : {two : TwoLayouts} (bounded : Bool) (format : ℕ) (parent : Span) (cs : List ListChild) (close : Closing) → may_skip format close ≡ true → ChildrenHold (IsAlike two) bounded cs → IsAlike two bounded (λ rest. list format parent cs (punct (closing_mark close) rest))
+alike_closed {two} bounded format parent cs close may h = record { at = λ x y. both_list bounded x y format format refl parent cs h (punct (closing_mark close)) (punct (closing_mark close)) (mark (closing_mark close) ∷ []) (always_punct (closing_mark close)) (always_punct (closing_mark close)) (fits_closed two format parent close may) }
 
 never_by : (may forces allows source : Bool) → (forces || allows) ≡ false → (if may then (if forces then true else (if allows then source else false)) else false) ≡ false
 never_by true true allows source h = absurd (true≢false h)
