@@ -3,6 +3,7 @@ pub mod AllWords
 pub mod Arrows
 pub mod Differing
 pub mod Emissions
+pub mod Leading
 pub mod Lists
 pub mod Literals
 pub mod Names

@@ -1,7 +1,8 @@
-//! Laws of layouts where there are no comments: what minifying, and what the source text, may change in the tokens that are written.
+//! Laws of layouts where there are no comments: what minifying, and what the source text, may change in the tokens.
 
 ghost use Rattle.std.specs.Prelude.{◌≡◌, ℕ, Bool, true, false, ◌||◌, if◌then◌else◌, List, ◌∷◌, codes};
 ghost use Rattle.swc_ecma_codegen_common.specs.declared.positions.Span.{Span};
+ghost use Rattle.swc_ecma_codegen_grammar.specs.CommentMaps.{Maps};
 ghost use Rattle.swc_ecma_codegen_grammar.specs.Comments.{no_maps};
 ghost use Rattle.swc_ecma_codegen_grammar.specs.SourceLines.{Lines};
 ghost use Rattle.swc_ecma_codegen_grammar.specs.declared.kinds.Kind.{Kind};
@@ -16,11 +17,11 @@ ghost use Rattle.swc_ecma_codegen_emit.specs.Tree.{any_items};
 ghost use Rattle.swc_ecma_codegen_emit.specs.declared.nodes.Place.TheVariants.{Plain};
 ghost use Rattle.swc_ecma_codegen_laws.specs.Layouts.{DifferByLayout, DifferInCommas, IsWhole, Tokens, begins_arrow, is_new, laid_out, mark, opens, over, stop_of, tokens_of, without_commas};
 
-/// Minified or not, an emission without comments writes the same tokens, but for the spelling of literals, and for what is left out where it is
-/// minified: a comma before the `]` or `}` that closes a list, parentheses round the name that is the only parameter of an
-/// arrow function, and the empty arguments of `new`: `(a) => new B();` and `a=>new B;`. Semicolons are among these tokens: which
-/// of them a writer leaves out that holds them back, and that literals have the same values, `layouts_keep_the_tokens` says. Both come to
-/// the same node that can't be printed, or to none.
+/// Minified or not, an emission without comments writes the same tokens, but for the spelling of literals, and for what is left out
+/// where it is minified: a comma before the `}` of a pattern, parentheses round the name that is the only parameter of an arrow
+/// function, and the empty arguments of `new`: `(a) => new B();` and `a=>new B;`. Semicolons are among these tokens: which of them
+/// a writer leaves out that holds them back, and that literals have the same values, `layouts_keep_the_tokens` says. Both come to the
+/// same node that can't be printed, or to none.
 pub fn layouts_write_the_same_tokens()
     ensures tokens { (root : Root) (env : Env) → env.maps ≡ no_maps →
         IsWhole root (laid_out true env) →
@@ -30,9 +31,9 @@ pub fn layouts_write_the_same_tokens()
         stop_of root (laid_out true env) ≡ stop_of root (laid_out false env) }
 {}
 
-/// Over another source text an emission without comments writes the same tokens, each spelled as it was, but for a comma
-/// before the `]` or `}` that closes a list; and where its map answers the same snippets, the very same, whatever it answers
-/// on lines. Both come to the same node that can't be printed, or to none.
+/// Over another source text an emission without comments writes the same tokens, each spelled as it was, but for a comma before
+/// the `]` or `}` that closes a list; and where its map answers the same snippets, the very same, whatever it answers on lines. Both
+/// come to the same node that can't be printed, or to none.
 pub fn source_texts_write_the_same_tokens()
     ensures commas { (root : Root) (env : Env) (lines : Lines) → env.maps ≡ no_maps →
         IsWhole root env →
@@ -44,8 +45,9 @@ pub fn source_texts_write_the_same_tokens()
         stop_of root env ≡ stop_of root (over lines env) }
 {}
 
-/// Without comments no parentheses stand round what is returned, thrown or yielded, minified or not: behind the word comes a blank, where
-/// one is due, and what is written of the node by itself: `return a`, `yield[a]`.
+/// Without comments no parentheses stand round what is returned, thrown or yielded, minified or not: behind the word comes a
+/// blank, where one is due, and what is written of the node by itself: `return a`, `yield[a]`. With comments, whether they stand
+/// there, as the node answers, hangs on the comments before nodes alone that are still to be written: neither on lines nor on the layout.
 pub fn arguments_stand_bare()
     ensures returned { (node : AnyNode) (rest : Plan) (env : Env) → env.maps ≡ no_maps →
         argument any_answers any_items node rest env
@@ -55,11 +57,13 @@ pub fn arguments_stand_bare()
         yield_argument any_answers any_items delegate node rest env
         ≡ blank (if delegate then false else (any_answers node).starts) (any_items node Plain rest)
         env }
+    ensures comments { (node : AnyNode) (maps other : Maps) → maps.leading ≡ other.leading →
+        (any_answers node).breaks maps ≡ (any_answers node).breaks other }
 {}
 
 /// What lists have in common that differ by layout: a `(` behind a token other than `new` stands in both, or the first has one
-/// token there and then `=>`. So no emission writes `return (a)` where another layout writes `return a`, nor `f()` for `f`. And lists
-/// that differ in commas are the same without them: no map of a source text decides on parentheses.
+/// token there and then `=>`. So no emission writes `return (a)` where another layout writes `return a`, nor `f()` for `f`. And
+/// lists that differ in commas are the same without them: no map of a source text decides on parentheses.
 pub fn other_parentheses_stand_in_both()
     ensures layouts { (s t : Config) (x : Kind × List ℕ) (xs ys : Tokens) → is_new x ≡ false →
         DifferByLayout s t (x ∷ xs) (x ∷ mark (codes "(") ∷ ys) →
