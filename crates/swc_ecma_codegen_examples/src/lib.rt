@@ -27,11 +27,13 @@ ghost use Rattle.swc_ecma_codegen_examples.specs.Causes.{commented_start, minifi
 ghost use Rattle.swc_ecma_codegen_examples.specs.Negation.{negation_tokens, IsOperation};
 
 mod links;
+mod parentheses;
 mod structure;
 
 pub use crate::links::{
     emitted_box_reads, emitted_link_reads, emitted_option_reads, emitted_ref_reads,
 };
+pub use crate::parentheses::product;
 pub use crate::structure::{NoMeaning, text_that_keeps_structure};
 use std::alloc::{AllocError, Global};
 use std::io::Write;
