@@ -31,14 +31,14 @@ use Rattle.swc_ecma_codegen_syntax.specs.NodeForms.{node_form, node_nonterminal,
 use Rattle.swc_ecma_codegen_syntax.specs.Derives.{Derives, fixed, part, restricted, lone, lone_in_parentheses, both, provided}
 use Rattle.swc_ecma_codegen_uniqueness.specs.ParseTrees.{Variant, ParseTree, End, Read, Optional, Node, Ident, Seq, Arrow, Paren, is_known, part_variant, pat_variant, node_variant, tokens_of}
 use Rattle.swc_ecma_codegen_uniqueness.specs.Parses.{placed, is_inlined, is_inlined_pattern, is_inlined_pat}
-use Rattle.swc_ecma_codegen_uniqueness.proofs.Tables.{Listed, ArrowBody}
+use Rattle.swc_ecma_codegen_uniqueness.proofs.Tables.{Listed, ArrowBody, InList}
 use Rattle.swc_ecma_codegen_uniqueness.proofs.TableLaws.{cover, or_left, takes_on}
 use Rattle.swc_ecma_codegen_uniqueness.proofs.Machine.{Whole, Rest, Good, turned}
 use Rattle.swc_ecma_codegen_uniqueness.proofs.Joined.{derived_joined}
 use Rattle.swc_ecma_codegen_uniqueness.proofs.Parsed.{tokens_before}
 use Rattle.swc_ecma_codegen_uniqueness.proofs.StatementShapes.{operand_heads, arrow_value, arrow_block}
 use Rattle.swc_ecma_codegen_uniqueness.proofs.Heading.{may_be_value, not_excluded}
-use Rattle.swc_ecma_codegen_uniqueness.proofs.Shapes.{Operand, takes_self, assignment_taken, widened, left_taken, left_assigned, listed_first, listed_next, listed_last, listed_rest, no_parameters, several_parameters, one_parameter, rest_parameter, one_turned, arrow_mark, arrow, async_arrow}
+use Rattle.swc_ecma_codegen_uniqueness.proofs.Shapes.{Operand, takes_self, assignment_taken, widened, left_taken, left_assigned, listed_first, listed_next, listed_last, listed_rest, no_parameters, several_parameters, one_parameter, rest_parameter, one_turned, arrow_mark, arrow, async_arrow, ended}
 use Rattle.swc_ecma_codegen_uniqueness.proofs.Reading.{read_phrase, derived_parse}
 use Rattle.swc_ecma_codegen_uniqueness.proofs.Fits.{Fit, in_place, at_place, PlacedGood, AllGood}
 use Rattle.swc_ecma_codegen_uniqueness.proofs.Atoms.{no_annotation}
@@ -156,7 +156,7 @@ body_read c is_async (bodies.Expr n) (restricted {ts = ts} h (part b sb d)) o m 
     arrow_value v (may_be_value (derived_parse d End) ts (λ us. tokens_before d End us) (operand_heads v.good (or_left _ _ (takes_on nt.Expression nt.AssignmentExpression v.of assignment_taken v.taken))) (not_excluded _ h))
 body_read c is_async (bodies.BlockStmt n) (part b sb d) o m =
     let v = o m in
-    subst (λ z. Good (Rest ArrowBody Arrow nt.AssignmentExpression) z) (sym v.is) (arrow_block (v.good Arrow nt.AssignmentExpression))
+    subst (λ z. Good (Rest ArrowBody Arrow nt.AssignmentExpression) z) (sym (v.is End)) (arrow_block (v.good (InList Arrow) refl Arrow nt.AssignmentExpression End (ended Arrow nt.AssignmentExpression)))
 
 -- parameters, `=>` and a body, which an operand is turned to
 record Shaped (m : ParseTree) : Type 0 where

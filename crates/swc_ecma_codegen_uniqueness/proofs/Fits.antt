@@ -15,8 +15,8 @@ use Rattle.swc_ecma_codegen_syntax.specs.NodeForms.{missing_form, node_nontermin
 use Rattle.swc_ecma_codegen_syntax.specs.Derives.{Derives, fixed, part, simple, restricted, lone, lone_in_parentheses, both, provided, closed, comma_closed, followed, bare}
 use Rattle.swc_ecma_codegen_uniqueness.specs.ParseTrees.{Variant, ParseTree, End, Read, is_known, AreKnown, node_variant}
 use Rattle.swc_ecma_codegen_uniqueness.specs.Parses.{is_inlined}
-use Rattle.swc_ecma_codegen_uniqueness.proofs.Tables.{InList, Statement as AtStatement}
-use Rattle.swc_ecma_codegen_uniqueness.proofs.TableLaws.{is_place, is_sequence, cover, cover_taken}
+use Rattle.swc_ecma_codegen_uniqueness.proofs.Tables.{Statement as AtStatement, Where, closing}
+use Rattle.swc_ecma_codegen_uniqueness.proofs.TableLaws.{is_place, is_sequence, cover, cover_taken, is_list}
 use Rattle.swc_ecma_codegen_uniqueness.proofs.Machine.{Whole, Rest, Good}
 use Rattle.swc_ecma_codegen_uniqueness.proofs.Shapes.{is_chain, is_several, Operand}
 use Rattle.swc_ecma_codegen_uniqueness.proofs.Reading.{read_phrase, derived_parse}
@@ -59,9 +59,9 @@ NodeFit role c variant n inside = Fit variant (cover n) inside
 
 -- a block, which has no node of its own
 pub record BlockFit (f : ParseTree → ParseTree) : Type 0 where
-  pub inside : ParseTree
-  pub is : f End ≡ Read (punctuator (codes "{")) inside
-  pub good : (ends : Variant) (n : Nonterminal) → Good (Rest (AtStatement (InList ends)) ends n) inside
+  pub inner : ParseTree → ParseTree
+  pub is : (rest : ParseTree) → f rest ≡ Read (punctuator (codes "{")) (inner rest)
+  pub good : (place : Where) → is_list place ≡ true → (variant : Variant) (n : Nonterminal) (rest : ParseTree) → Good (Rest (closing place) variant n) rest → Good (Rest (AtStatement place) variant n) (inner rest)
 
 abbrev pub InlinedGood : Role → Type 0 → Type 0 → Type 0
 InlinedGood Block fit inside = fit

@@ -38,11 +38,11 @@ use Rattle.swc_ecma_codegen_syntax.specs.NodeForms.{node_form, node_nonterminal,
 use Rattle.swc_ecma_codegen_syntax.specs.Derives.{Derives, fixed, part, both, provided}
 use Rattle.swc_ecma_codegen_uniqueness.specs.ParseTrees.{Variant, ParseTree, End, Read, Fn, is_known, part_variant, node_variant}
 use Rattle.swc_ecma_codegen_uniqueness.specs.Parses.{placed, is_inlined, is_plain_head, is_inlined_pat}
-use Rattle.swc_ecma_codegen_uniqueness.proofs.Tables.{AfterFunction, AfterName, Parameter, AfterParameters, Splice, decide, passed_to, class, left}
-use Rattle.swc_ecma_codegen_uniqueness.proofs.TableLaws.{cover, cover_taken}
+use Rattle.swc_ecma_codegen_uniqueness.proofs.Tables.{AfterFunction, AfterName, Parameter, AfterParameters, Splice, decide, passed_to, class, left, InList, closing}
+use Rattle.swc_ecma_codegen_uniqueness.proofs.TableLaws.{cover, cover_taken, is_list}
 use Rattle.swc_ecma_codegen_uniqueness.proofs.Machine.{Whole, Rest, Good, shifted}
-use Rattle.swc_ecma_codegen_uniqueness.proofs.Shapes.{takes_self, assignment_taken, begun}
-use Rattle.swc_ecma_codegen_uniqueness.proofs.StatementShapes.{item_of, parameter_then, rest_then, no_parameters_then, parameters_end, function_item}
+use Rattle.swc_ecma_codegen_uniqueness.proofs.Shapes.{takes_self, assignment_taken, begun, ended}
+use Rattle.swc_ecma_codegen_uniqueness.proofs.StatementShapes.{Within, item_of, parameter_then, rest_then, no_parameters_then, parameters_end, function_item}
 use Rattle.swc_ecma_codegen_uniqueness.proofs.Heading.{not_true}
 use Rattle.swc_ecma_codegen_uniqueness.proofs.Reading.{read_phrase, derived_parse}
 use Rattle.swc_ecma_codegen_uniqueness.proofs.Joined.{derived_joined}
@@ -65,64 +65,64 @@ not_inlined c (pats.Expr n) h b (provided k d) = absurd (true≢false (sym k ∙
 -- ---- parameters
 
 -- what stands behind one: `,`, or `)`
-pub record Behind (n : Nonterminal) (m : ParseTree) : Type 0 where
+pub record Behind (n : Within) (m : ParseTree) : Type 0 where
   pub token : Token
   pub rest : ParseTree
   pub is : m ≡ Read token rest
   pub ends : takes (left (class token)) nt.AssignmentExpression ≡ true
-  pub spliced : (s : Variant) → decide Parameter (Some s) token ≡ Splice
-  pub good : Good (Rest (passed_to Parameter (class token)) Fn n) rest
+  pub spliced : (s : Variant) → decide (Parameter n.place) (Some s) token ≡ Splice
+  pub good : Good (Rest (passed_to (Parameter n.place) (class token)) n.variant n.of) rest
 
 no_decorators : {s : Settings} (c : Parameters) (ns : List (Decorator AnyNode)) {ts : List Token} (d : Derives true s (decorators_form c ns) ts) (rest : ParseTree) → derived_parse d rest ≡ rest
 unfolding decorators_form in_order is_some_listed is_met derived_parse read_phrase
 no_decorators c [] (provided h (fixed g)) rest = refl
 no_decorators c (n ∷ ns) (provided h d) rest = absurd (true≢false (sym h))
 
-plain_good : {s : Settings} (n : Nonterminal) (c : Parameters) (x : Pat AnyNode) {ts : List Token} → takes nt.PatternElement (pat_nonterminal x) ≡ true → c.is_binding ≡ true → (d : Derives true s (pat_form false c x) ts) → AllGood d →
-    s.minify ≡ c.minify → (m : ParseTree) → Behind n m → Good (Rest Parameter Fn n) (derived_parse d m)
+plain_good : {s : Settings} (n : Within) (c : Parameters) (x : Pat AnyNode) {ts : List Token} → takes nt.PatternElement (pat_nonterminal x) ≡ true → c.is_binding ≡ true → (d : Derives true s (pat_form false c x) ts) → AllGood d →
+    s.minify ≡ c.minify → (m : ParseTree) → Behind n m → Good (Rest (Parameter n.place) n.variant n.of) (derived_parse d m)
 plain_good n c x h b d o m rest behind =
-    parameter_then behind.token Fn n (cover (pat_nonterminal x)) (cover_taken nt.PatternElement (pat_nonterminal x) h) (pat_good false c x d o m (not_inlined c x h b d)) behind.ends behind.spliced behind.good
+    parameter_then behind.token n (cover (pat_nonterminal x)) (cover_taken nt.PatternElement (pat_nonterminal x) h) (pat_good false c x d o m (not_inlined c x h b d)) behind.ends behind.spliced behind.good
     (ap (derived_parse d) behind.is ∙ sym (derived_joined d End (Read behind.token behind.rest)))
 
-param_good : {s : Settings} (n : Nonterminal) (c : Parameters) (x : Param AnyNode) {ts : List Token} → c.is_binding ≡ true → (d : Derives true s (param_form c nt.PatternElement x) ts) → AllGood d → s.minify ≡ c.minify → (m : ParseTree) → Behind n m →
-    Good (Rest Parameter Fn n) (derived_parse d m)
+param_good : {s : Settings} (n : Within) (c : Parameters) (x : Param AnyNode) {ts : List Token} → c.is_binding ≡ true → (d : Derives true s (param_form c nt.PatternElement x) ts) → AllGood d → s.minify ≡ c.minify → (m : ParseTree) → Behind n m →
+    Good (Rest (Parameter n.place) n.variant n.of) (derived_parse d m)
 unfolding param_form pat_in is_met AllGood derived_parse
 param_good n c x b (both k (provided h d)) (y, o) m rest behind =
-    subst (λ z. Good (Rest Parameter Fn n) z) (sym (no_decorators c x.decorators.items k (derived_parse d rest))) (plain_good n c x.pat h b d o m rest behind)
+    subst (λ z. Good (Rest (Parameter n.place) n.variant n.of) z) (sym (no_decorators c x.decorators.items k (derived_parse d rest))) (plain_good n c x.pat h b d o m rest behind)
 
-behind_close : (n : Nonterminal) {m : ParseTree} → Good (Rest AfterParameters Fn n) m → Behind n (Read (punctuator (codes ")")) m)
+behind_close : (n : Within) {m : ParseTree} → Good (Rest (AfterParameters n.place) n.variant n.of) m → Behind n (Read (punctuator (codes ")")) m)
 unfolding punctuator
 behind_close n g = record { token = _; rest = _; is = refl; ends = assignment_taken; spliced = λ s. refl; good = g }
 
-behind_comma : (n : Nonterminal) {m : ParseTree} → Good (Rest Parameter Fn n) m → Behind n (Read (punctuator (codes ",")) m)
+behind_comma : (n : Within) {m : ParseTree} → Good (Rest (Parameter n.place) n.variant n.of) m → Behind n (Read (punctuator (codes ",")) m)
 unfolding punctuator
 behind_comma n g = record { token = _; rest = _; is = refl; ends = takes_self nt.AssignmentExpression; spliced = λ s. refl; good = g }
 
 -- the last one, which may be a rest
-last_by : {s : Settings} (n : Nonterminal) (c : Parameters) (x : Pat AnyNode) {ts : List Token} → takes nt.LastElement (pat_nonterminal x) ≡ true → c.is_binding ≡ true → (d : Derives true s (pat_form false c x) ts) → AllGood d → s.minify ≡ c.minify →
-    {m : ParseTree} → Good (Rest AfterParameters Fn n) m → Good (Rest Parameter Fn n) (derived_parse d (Read (punctuator (codes ")")) m))
+last_by : {s : Settings} (n : Within) (c : Parameters) (x : Pat AnyNode) {ts : List Token} → takes nt.LastElement (pat_nonterminal x) ≡ true → c.is_binding ≡ true → (d : Derives true s (pat_form false c x) ts) → AllGood d → s.minify ≡ c.minify →
+    {m : ParseTree} → Good (Rest (AfterParameters n.place) n.variant n.of) m → Good (Rest (Parameter n.place) n.variant n.of) (derived_parse d (Read (punctuator (codes ")")) m))
 unfolding pat_form pat_nonterminal takes is_last_element is_pattern_element is_pattern_target
 last_by n c (pats.Rest x) h b d o m {m = rest} g =
     let v = rest_covered nt.PatternTarget no_rest_target c x d o m in
-    subst (λ z. Good (Rest Parameter Fn n) z) (sym (v.is (Read (punctuator (codes ")")) rest) ∙ ap (Read (punctuator (codes "..."))) (v.covered.is (Read (punctuator (codes ")")) rest))))
+    subst (λ z. Good (Rest (Parameter n.place) n.variant n.of) z) (sym (v.is (Read (punctuator (codes ")")) rest) ∙ ap (Read (punctuator (codes "..."))) (v.covered.is (Read (punctuator (codes ")")) rest))))
     (rest_then n v.covered.operand g)
 last_by n c x h b d o m {m = rest} g = plain_good n c x refl b d o m (Read (punctuator (codes ")")) rest) (behind_close n g)
 
-last_good : {s : Settings} (n : Nonterminal) (c : Parameters) (x : Param AnyNode) {ts : List Token} → c.is_binding ≡ true → (d : Derives true s (param_form c nt.LastElement x) ts) → AllGood d → s.minify ≡ c.minify → (m : ParseTree) →
-    Good (Rest AfterParameters Fn n) m → Good (Rest Parameter Fn n) (derived_parse d (Read (punctuator (codes ")")) m))
+last_good : {s : Settings} (n : Within) (c : Parameters) (x : Param AnyNode) {ts : List Token} → c.is_binding ≡ true → (d : Derives true s (param_form c nt.LastElement x) ts) → AllGood d → s.minify ≡ c.minify → (m : ParseTree) →
+    Good (Rest (AfterParameters n.place) n.variant n.of) m → Good (Rest (Parameter n.place) n.variant n.of) (derived_parse d (Read (punctuator (codes ")")) m))
 unfolding param_form pat_in is_met AllGood derived_parse
 last_good n c x b (both k (provided h d)) (y, o) m rest g =
-    subst (λ z. Good (Rest Parameter Fn n) z) (sym (no_decorators c x.decorators.items k (derived_parse d (Read (punctuator (codes ")")) rest)))) (last_by n c x.pat h b d o m g)
+    subst (λ z. Good (Rest (Parameter n.place) n.variant n.of) z) (sym (no_decorators c x.decorators.items k (derived_parse d (Read (punctuator (codes ")")) rest)))) (last_by n c x.pat h b d o m g)
 
-params_after : {s : Settings} (n : Nonterminal) (c : Parameters) (x : Param AnyNode) (xs : List (Param AnyNode)) {ts : List Token} → c.is_binding ≡ true → (d : Derives true s (ending_after (param_form c) (x ∷ xs)) ts) → AllGood d → s.minify ≡ c.minify →
-    (m : ParseTree) → Good (Rest AfterParameters Fn n) m → Behind n (derived_parse d (Read (punctuator (codes ")")) m))
+params_after : {s : Settings} (n : Within) (c : Parameters) (x : Param AnyNode) (xs : List (Param AnyNode)) {ts : List Token} → c.is_binding ≡ true → (d : Derives true s (ending_after (param_form c) (x ∷ xs)) ts) → AllGood d → s.minify ≡ c.minify →
+    (m : ParseTree) → Good (Rest (AfterParameters n.place) n.variant n.of) m → Behind n (derived_parse d (Read (punctuator (codes ")")) m))
 unfolding ending_after AllGood derived_parse read_phrase
 params_after n c x [] b (both (fixed g) (both d (fixed h))) (y, (o, z)) m rest r = behind_comma n (last_good n c x b d o m rest r)
 params_after n c x (y ∷ ys) b (both (fixed g) (both d e)) (z, (o, q)) m rest r =
     behind_comma n (param_good n c x b d o m (derived_parse e (Read (punctuator (codes ")")) rest)) (params_after n c y ys b e q m rest r))
 
-params_good : {s : Settings} (n : Nonterminal) (c : Parameters) (xs : List (Param AnyNode)) {ts : List Token} → c.is_binding ≡ true → (d : Derives true s (params_form c xs) ts) → AllGood d → s.minify ≡ c.minify → (m : ParseTree) →
-    Good (Rest AfterParameters Fn n) m → Good (Rest Parameter Fn n) (derived_parse d (Read (punctuator (codes ")")) m))
+params_good : {s : Settings} (n : Within) (c : Parameters) (xs : List (Param AnyNode)) {ts : List Token} → c.is_binding ≡ true → (d : Derives true s (params_form c xs) ts) → AllGood d → s.minify ≡ c.minify → (m : ParseTree) →
+    Good (Rest (AfterParameters n.place) n.variant n.of) m → Good (Rest (Parameter n.place) n.variant n.of) (derived_parse d (Read (punctuator (codes ")")) m))
 unfolding ending_listed AllGood derived_parse read_phrase
 params_good n c [] b (fixed g) o m rest r = no_parameters_then n r
 params_good n c (x ∷ []) b (both d (fixed h)) (o, z) m rest r = last_good n c x b d o m rest r
@@ -136,43 +136,46 @@ unfolding type_params_form is_met derived_parse read_phrase
 no_type_params c None (fixed g) rest = refl
 no_type_params c (Some n) (provided h d) rest = absurd (true≢false (sym h))
 
-body_good : {s : Settings} (n : Nonterminal) (c : Parameters) (o : Option (BlockStmtBox AnyNode)) {ts : List Token} (d : Derives true s (body_form c o) ts) → AllGood d → s.minify ≡ c.minify → Good (Rest AfterParameters Fn n) (derived_parse d End)
+body_good : {s : Settings} (n : Within) (c : Parameters) (o : Option (BlockStmtBox AnyNode)) {ts : List Token} → is_list n.place ≡ true → (d : Derives true s (body_form c o) ts) → AllGood d → s.minify ≡ c.minify → (rest : ParseTree) →
+    Good (Rest (closing n.place) n.variant n.of) rest → Good (Rest (AfterParameters n.place) n.variant n.of) (derived_parse d rest)
 unfolding body_form is_met AllGood PlacedGood derived_parse placed is_inlined
-body_good n c None (provided h d) o m = absurd (true≢false (sym h))
-body_good n c (Some x) (part b sb d) o m = let v = o m in subst (λ z. Good (Rest AfterParameters Fn n) z) (sym v.is) (parameters_end n (v.good Fn n))
+body_good n c None i (provided h d) o m rest g = absurd (true≢false (sym h))
+body_good n c (Some x) i (part b sb d) o m rest g =
+    let v = o m in
+    subst (λ z. Good (Rest (AfterParameters n.place) n.variant n.of) z) (sym (v.is rest)) (parameters_end n (v.good n.place i n.variant n.of rest g))
 
 -- parameters and a body
-pub record Tail (m : ParseTree) : Type 0 where
-  pub inside : ParseTree
-  pub is : m ≡ Read (punctuator (codes "(")) inside
-  pub good : (n : Nonterminal) → Good (Rest Parameter Fn n) inside
+pub record Tail (f : ParseTree → ParseTree) : Type 0 where
+  pub inner : ParseTree → ParseTree
+  pub is : (rest : ParseTree) → f rest ≡ Read (punctuator (codes "(")) (inner rest)
+  pub good : (n : Within) → is_list n.place ≡ true → (rest : ParseTree) → Good (Rest (closing n.place) n.variant n.of) rest → Good (Rest (Parameter n.place) n.variant n.of) (inner rest)
 
-rest_good : {s : Settings} (c : Parameters) (x : functions.Function AnyNode) {ts : List Token} (d : Derives true s (rest_of_function c x) ts) → AllGood d → s.minify ≡ c.minify → Tail (derived_parse d End)
+rest_good : {s : Settings} (c : Parameters) (x : functions.Function AnyNode) {ts : List Token} (d : Derives true s (rest_of_function c x) ts) → AllGood d → s.minify ≡ c.minify → Tail (derived_parse d)
 unfolding rest_of_function AllGood derived_parse read_phrase
 rest_good c x (both t (both (fixed g) (both d (both (fixed h) (both a e))))) (y, (z, (o, (u, (v, q))))) m = record {
-  inside = derived_parse d (Read (punctuator (codes ")")) (derived_parse a (derived_parse e End)));
-  is = no_type_params c x.type_params t _;
+  inner = λ rest. derived_parse d (Read (punctuator (codes ")")) (derived_parse a (derived_parse e rest)));
+  is = λ rest. no_type_params c x.type_params t _;
   good =
-      λ n. subst (λ w. Good (Rest Parameter Fn n) (derived_parse d (Read (punctuator (codes ")")) w))) (sym (no_annotation c x.return_type a (derived_parse e End)))
-      (params_good n (own_of c x) x.params.items refl d o m (derived_parse e End) (body_good n (own_of c x) x.body e q m));
+      λ n i rest r. subst (λ w. Good (Rest (Parameter n.place) n.variant n.of) (derived_parse d (Read (punctuator (codes ")")) w))) (sym (no_annotation c x.return_type a (derived_parse e rest)))
+      (params_good n (own_of c x) x.params.items refl d o m (derived_parse e rest) (body_good n (own_of c x) x.body i e q m rest r));
 }
 
 function_by : {s : Settings} (b : Bool) (c : Parameters) (x : functions.Function AnyNode) {ts : List Token} (d : Derives true s (if b then Provided ByRule false (Fixed phrases.Never) else rest_of_function c x) ts) → AllGood d → s.minify ≡ c.minify →
-    Tail (derived_parse d End)
+    Tail (derived_parse d)
 unfolding is_met
 function_by true c x (provided h d) o m = absurd (true≢false (sym h))
 function_by false c x d o m = rest_good c x d o m
 
-function_in : {s : Settings} (k : Bool) (c : Parameters) (y : AnyNode-F AnyNode) {ts : List Token} (d : Derives true s (node_form k c y Function) ts) → AllGood d → s.minify ≡ c.minify → Tail (derived_parse d End)
+function_in : {s : Settings} (k : Bool) (c : Parameters) (y : AnyNode-F AnyNode) {ts : List Token} (d : Derives true s (node_form k c y Function) ts) → AllGood d → s.minify ≡ c.minify → Tail (derived_parse d)
 unfolding node_form part_form stmt_part_form jsx_part_form function_form is_met
 function_in k c (nodes.StmtPart (stmt_parts.Function x)) d o m = function_by (is_some_listed x.value.decorators.items) c x.value d o m
 function_in k c (nodes.ExprPart (expr_parts.Tpl x)) d o m = absurd (no_form d)
 function_in k c (nodes.JSXPart (jsx_parts.JSXElement x)) d o m = absurd (no_form d)
 function_in k c y d o m = absurd (no_form d)
 
-tail_good : {s : Settings} (c : Parameters) (x : AnyNode) {ts : List Token} (d : Derives true s (Part nt.FunctionTail c Function x) ts) → AllGood d → s.minify ≡ c.minify → Tail (derived_parse d End)
+pub tail_good : {s : Settings} (c : Parameters) (x : AnyNode) {ts : List Token} (d : Derives true s (Part nt.FunctionTail c Function x) ts) → AllGood d → s.minify ≡ c.minify → Tail (derived_parse d)
 unfolding AllGood PlacedGood derived_parse placed is_inlined
-tail_good c x (part k sk d) o m = let t = function_in k c (out-AnyNode x) d o m in record { inside = t.inside; is = t.is; good = t.good }
+tail_good c x (part k sk d) o m = let t = function_in k c (out-AnyNode x) d o m in record { inner = t.inner; is = t.is; good = t.good }
 
 -- ---- the words before it
 
@@ -219,22 +222,26 @@ star_then true n g = shifted refl g
 star_then false n g = g
 
 -- behind the words: a name, or none
-named_tail : (n : Nonterminal) (text : List ℕ) {m : ParseTree} → Tail m → Good (Rest AfterFunction Fn n) (Read (tokens.name text) m)
-unfolding tokens.name punctuator
-named_tail n text t = shifted refl (subst (λ z. Good (Rest AfterName Fn n) z) (sym t.is) (shifted refl (t.good n)))
+-- a function that ends there
+abbrev alone : Nonterminal → Within
+alone n = record { place = InList Fn; variant = Fn; of = n }
 
-plain_tail : (n : Nonterminal) {m : ParseTree} → Tail m → Good (Rest AfterFunction Fn n) m
+named_tail : (n : Nonterminal) (text : List ℕ) {f : ParseTree → ParseTree} → Tail f → Good (Rest AfterFunction Fn n) (Read (tokens.name text) (f End))
+unfolding tokens.name punctuator
+named_tail n text t = shifted refl (subst (λ z. Good (Rest AfterName Fn n) z) (sym (t.is End)) (shifted refl (t.good (alone n) refl End (ended Fn n))))
+
+plain_tail : (n : Nonterminal) {f : ParseTree → ParseTree} → Tail f → Good (Rest AfterFunction Fn n) (f End)
 unfolding punctuator
-plain_tail n t = subst (λ z. Good (Rest AfterFunction Fn n) z) (sym t.is) (shifted refl (t.good n))
+plain_tail n t = subst (λ z. Good (Rest AfterFunction Fn n) z) (sym (t.is End)) (shifted refl (t.good (alone n) refl End (ended Fn n)))
 
 bound_read : {s : Settings} (c : Parameters) (n : Ident) {ts : List Token} (d : Derives true s (bound_name_form c n) ts) (rest : ParseTree) → derived_parse d rest ≡ Read (tokens.name (name_value (spelled_name (string_bytes n.sym)))) rest
 unfolding bound_name_form derived_parse
 bound_read c n (provided h d) rest = name_read c n d rest
 
-optional_tail : {s : Settings} (n : Nonterminal) (c : Parameters) (o : Option Ident) {ts : List Token} (d : Derives true s (optional_name_form c o) ts) {m : ParseTree} → Tail m → Good (Rest AfterFunction Fn n) (derived_parse d m)
+optional_tail : {s : Settings} (n : Nonterminal) (c : Parameters) (o : Option Ident) {ts : List Token} (d : Derives true s (optional_name_form c o) ts) {f : ParseTree → ParseTree} → Tail f → Good (Rest AfterFunction Fn n) (derived_parse d (f End))
 unfolding optional_name_form derived_parse read_phrase
 optional_tail n c None (fixed g) t = plain_tail n t
-optional_tail n c (Some x) d {m = m} t = subst (λ z. Good (Rest AfterFunction Fn n) z) (sym (bound_read c x d m)) (named_tail n _ t)
+optional_tail n c (Some x) d {f = f} t = subst (λ z. Good (Rest AfterFunction Fn n) z) (sym (bound_read c x d (f End))) (named_tail n _ t)
 
 pub fn_expr_good : {s : Settings} (c : Parameters) (n : FnExpr AnyNode) {ts : List Token} (d : Derives true s (fn_expr_form c n) ts) → AllGood d → s.minify ≡ c.minify → Good (Whole Fn nt.PrimaryExpression) (derived_parse d End)
 unfolding fn_expr_form AllGood derived_parse word

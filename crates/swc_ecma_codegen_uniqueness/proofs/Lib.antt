@@ -3,6 +3,7 @@ pub mod Atoms
 pub mod Fits
 pub mod Heading
 pub mod Joined
+pub mod Keys
 pub mod Layers
 pub mod Linking
 pub mod Lists
@@ -12,6 +13,7 @@ pub mod Operators
 pub mod Parsed
 pub mod ParseLaws
 pub mod Patterns
+pub mod Programs
 pub mod Reading
 pub mod Shapes
 pub mod Functions

@@ -4,7 +4,7 @@ use Rattle.std.proofs.lemmas.Bool.{true≢false}
 use Rattle.swc_ecma_codegen_grammar.specs.Tokens.{Token}
 use Rattle.swc_ecma_codegen_syntax.specs.declared.nonterminals.Nonterminal.{Nonterminal}
 use Rattle.swc_ecma_codegen_uniqueness.specs.ParseTrees.{Variant, Seq, Paren, ParseTree, End, Read, Optional, Node, tokens_of}
-use Rattle.swc_ecma_codegen_uniqueness.proofs.Tables.{Class, Line, Colon, class, Control, Action, Shift, Push, Wrap, Reduce, Turn, Begin, Enter, Leave, Splice, Take, begin, entered, outside, decide, shift, start, wrap, stands, closes, variant_of}
+use Rattle.swc_ecma_codegen_uniqueness.proofs.Tables.{InParen, Class, Line, Colon, class, Control, Action, Shift, Push, Wrap, Reduce, Turn, Begin, Enter, Leave, Splice, Take, Keep, begin, entered, outside, decide, shift, start, wrap, stands, closes, variant_of}
 
 -- what is at hand: nothing, or a node
 pub data Hand : Type 0 where
@@ -135,11 +135,14 @@ acted_once Leave t f s h reduced = At (record { control = wrap_at h t; so_far = 
 acted_once Splice t f s h reduced =
     At (record { control = shift f.control (sign h) t; so_far = λ rest. f.so_far (spliced h (Read t rest)); other = λ rest. f.so_far (spliced h (Read t rest)) } ∷ s) Empty
 acted_once Take t f s h reduced = Fail
+acted_once Keep t f s h reduced = Fail
 
 -- an item is taken, and then its list goes on with the token
 abbrev pub acted : Action → Token → Frame → List Frame → Hand → State → State
 acted Take t f s h reduced =
     acted_once (decide f.control None t) t (record { control = f.control; so_far = λ rest. f.so_far (spliced h rest); other = λ rest. f.so_far (spliced h rest) }) s Empty Fail
+acted Keep t f s h reduced =
+    acted_once (decide f.control None t) t (record { control = f.control; so_far = λ rest. f.so_far (held h rest); other = λ rest. f.so_far (held h rest) }) s Empty Fail
 acted a t f s h reduced = acted_once a t f s h reduced
 
 abbrev pub step : Token → List Frame → Hand → State
@@ -181,7 +184,7 @@ goes_on a = false
 -- before each token that ends it. A part is left, and before each token that ends the node the part ends, and the node: `b` of `a + b`.
 -- The token behind these two tells that they were otherwise: `=>` of `(a, b) => c`; `]` of `[a,] = b`, behind a part or not. What is of one
 -- nonterminal is of another that derives it. `{` begins a block. An expression and `;` are a statement, and `a:` begins one, whose first token begins the
--- expression; so does that of the value of an arrow function. A part has no node of its own: a parameter before `,`, an item before the next one or `}`.
+-- expression; so does that of the value of an arrow function. A part has no node of its own: a parameter before `,`, an item before the next one or `}`. An item behind `case a:` has one.
 pub data Good : Mode → ParseTree → Type 0 where
   headed : {variant : Variant} {n : Nonterminal} {t : Token} {m : ParseTree} → ((c : Control) → stands c n ≡ true → decide c None t ≡ Push) →
       Good (Rest (start t) variant n) m → Good (Whole variant n) (Read t m)
@@ -215,6 +218,9 @@ pub data Good : Mode → ParseTree → Type 0 where
   taking : {at : Control} {variant part : Variant} {n k : Nonterminal} {inside m p : ParseTree} → stands at k ≡ true → Good (Whole part k) inside →
       Heads (λ u. (closes u k ≡ true) × (decide at (Some part) u ≡ Take) × (goes_on (decide at None u) ≡ true)) m → Good (Rest at variant n) m → p ≡ joined inside m →
       Good (Rest at variant n) p
+  keeping : {at : Control} {variant part : Variant} {n k : Nonterminal} {inside m : ParseTree} → stands at k ≡ true → Good (Whole part k) inside →
+      Heads (λ u. (closes u k ≡ true) × (decide at (Some part) u ≡ Keep) × (goes_on (decide at None u) ≡ true)) m → Good (Rest at variant n) m →
+      Good (Rest at variant n) (Node part inside m)
   raised : {variant : Variant} {n k : Nonterminal} {p : ParseTree} → ((c : Control) → stands c n ≡ true → stands c k ≡ true) → ((t : Token) → closes t n ≡ true → closes t k ≡ true) →
       Good (Whole variant k) p → Good (Whole variant n) p
 
@@ -264,6 +270,7 @@ taken_there at b u s Turn e h = absurd (true≢false (sym h))
 taken_there at b u s Leave e h = absurd (true≢false (sym h))
 taken_there at b u s Splice e h = absurd (true≢false (sym h))
 taken_there at b u s Take e h = absurd (true≢false (sym h))
+taken_there at b u s Keep e h = absurd (true≢false (sym h))
 
 pub reads : {mode : Mode} {m : ParseTree} → Good mode m → Claim mode m
 unfolding tokens_of
@@ -345,6 +352,15 @@ reads (taking {at = at} {variant = variant} {part = part} {inside = p} {m = m} {
     ∙ ap (λ us. run us (At (record { control = at; so_far = λ rest. b (joined p rest); other = λ rest. b (joined p rest) } ∷ f ∷ s) Empty)) (sym head.2)
     ∙ reads g (λ rest. b (joined p rest)) (λ rest. b (joined p rest)) f s t ts cl
     ∙ ap (λ z. run (t ∷ ts) (At (f ∷ s) (Full variant (b z)))) (sym same)
+reads (keeping {at = at} {part = part} {inside = p} {m = m} st i h g) = λ b o f s t ts cl.
+    let top : Frame = record { control = at; so_far = b; other = o } in
+    let head = h (t ∷ ts) in
+    ap (λ us. run us (At (top ∷ f ∷ s) Empty)) (ap (tokens_of p) head.2)
+    ∙ reads i top (f ∷ s) head.0 head.1 st head.3.0
+    ∙ ap (run head.1) (went Keep head.0 top (f ∷ s) (Full part p) head.3.1)
+    ∙ ap (run head.1) (taken_there at (λ rest. b (Node part p rest)) head.0 (f ∷ s) (decide at None head.0) refl head.3.2)
+    ∙ ap (λ us. run us (At (record { control = at; so_far = λ rest. b (Node part p rest); other = λ rest. b (Node part p rest) } ∷ f ∷ s) Empty)) (sym head.2)
+    ∙ reads g (λ rest. b (Node part p rest)) (λ rest. b (Node part p rest)) f s t ts cl
 reads (raised st c g) = λ f s t ts h cl. reads g f s t ts (st f.control h) (c t cl)
 
 -- ---- so its tokens tell it
@@ -374,3 +390,17 @@ pub one_tree : (c : Control) (t : Token) (s z : Variant) (n k : Nonterminal) (p 
     tokens_of p (t ∷ []) ≡ tokens_of q (t ∷ []) → Node s p End ≡ Node z q End
 one_tree c t s z n k p q e d g h same =
     sym (whole_found c t s n p e g) ∙ ap (λ ts. found (run ts (At (record { control = c; so_far = λ rest. rest; other = λ rest. rest } ∷ []) Empty))) same ∙ whole_found c t z k q d h
+
+-- ---- the same of what is left of a frame, read before a token that the one below takes
+
+rest_found : (at : Control) (t : Token) (s : Variant) (n : Nonterminal) (m : ParseTree) → closes t n ≡ true → decide InParen (Some s) t ≡ Shift → Good (Rest at s n) m →
+    found (run (tokens_of m (t ∷ [])) (At (record { control = at; so_far = λ rest. rest; other = λ rest. rest } ∷ record { control = InParen; so_far = λ rest. rest; other = λ rest. rest } ∷ []) Empty)) ≡ Node s m End
+rest_found at t s n m e d g =
+    let f : Frame = record { control = InParen; so_far = λ rest. rest; other = λ rest. rest } in
+    ap found (reads g (λ rest. rest) (λ rest. rest) f [] t [] e ∙ went Shift t f [] (Full s m) d)
+
+pub one_rest : (at : Control) (t : Token) (s : Variant) (n : Nonterminal) (p q : ParseTree) → closes t n ≡ true → decide InParen (Some s) t ≡ Shift → Good (Rest at s n) p → Good (Rest at s n) q → tokens_of p (t ∷ []) ≡ tokens_of q (t ∷ []) →
+    Node s p End ≡ Node s q End
+one_rest at t s n p q e d g h same =
+    sym (rest_found at t s n p e d g)
+    ∙ ap (λ ts. found (run ts (At (record { control = at; so_far = λ rest. rest; other = λ rest. rest } ∷ record { control = InParen; so_far = λ rest. rest; other = λ rest. rest } ∷ []) Empty))) same ∙ rest_found at t s n q e d h

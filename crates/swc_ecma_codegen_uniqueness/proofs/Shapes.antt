@@ -9,7 +9,7 @@ use Rattle.swc_ecma_codegen_syntax.specs.Nonterminals.{takes, is_optional, is_pr
 use Rattle.swc_ecma_codegen_syntax.specs.UnitProductions.{here, step, expression_is_assignment_expression, new_expression_is_member_expression, chain_base_is_member_expression}
 use Rattle.swc_ecma_codegen_syntax.proofs.Taken.{chain_takes}
 use Rattle.swc_ecma_codegen_uniqueness.specs.ParseTrees.{Variant, ParseTree, End, Read, Optional, Node, Array, Object, Update, Bin, Assign, Member, SuperProp, Cond, Call, New, Seq, Tpl, TaggedTpl, Arrow, Yield, MetaProp, Paren, OptChain}
-use Rattle.swc_ecma_codegen_uniqueness.proofs.Tables.{starts, is_item, ArrowBody, OpenParen, Level, Class, Infix, Assigns, Ask, Comma, Dot, ChainDot, OpenBracket, Line, Twice, First, Later, class, left, left_of, right_of, made, Tail, OfInfix, OfCond, OfAssign, OfYield, whole, last as last_of, tail_variant, Control, Closed, Open, InParen, Index, Arguments, Elements, NextElement, Properties, NextProperty, AfterKey, InKey, InValue, Middle, Substitution, Dotted, Chained, AfterNew, AfterImport, AfterSuper, AfterYield, Postfix, Listed, AfterAsync, waits, decide, Shift, Turn, shift, shifted_to, passed_to, start, started, template, wrapped_to, chained, without, with_operand}
+use Rattle.swc_ecma_codegen_uniqueness.proofs.Tables.{starts, is_item, ArrowBody, OpenParen, Level, Class, Infix, Assigns, Ask, Comma, Dot, ChainDot, OpenBracket, Line, Twice, First, Later, class, left, left_of, right_of, made, Tail, OfInfix, OfCond, OfAssign, OfYield, whole, last as last_of, tail_variant, Control, Closed, Open, InParen, Index, Arguments, Elements, NextElement, Properties, NextProperty, AfterKey, InKey, InValue, Middle, Substitution, Dotted, Chained, AfterNew, AfterImport, AfterSuper, AfterYield, Postfix, Listed, AfterAsync, waits, decide, Shift, Turn, shift, shifted_to, passed_to, start, started, template, wrapped_to, chained, without, with_operand, AtKey, AtSetter, AfterSetter, InSetterKey, NameToken, LiteralToken}
 use Rattle.swc_ecma_codegen_uniqueness.proofs.TableLaws.{ended_by, ending, takes_on, is_sequence, assignment_single, taken_there, arrow_wraps, is_place, pushes, or_left, is_infix, made_by, Wraps, infix_wraps, Linked, linked_closes, links, link_wraps, Calling, calling_linked, call_wraps, tail_ends, new_ends, yield_ends, yield_alone, listed_ends, member_plain, call_plain, callee_plain}
 use Rattle.swc_ecma_codegen_uniqueness.proofs.Machine.{Whole, Rest, Good, headed, wrapped, shifted, inner, closed, last, wrapped_turned, inner_turned, shifted_turned, raised, turned, opened}
 
@@ -109,7 +109,7 @@ pub conditional : {s z w : Variant} {p q r : ParseTree} → Operand nt.ShortCirc
 unfolding punctuator
 conditional {z = z} {w = w} {q = q} {r = r} a b d =
     behind (punctuator (codes "?")) Ask Cond Middle (Node z q (Read (punctuator (codes ":")) (Node w r End))) refl refl refl a
-    (part_then Middle (Read (punctuator (codes ":")) (Node w r End)) (takes_self nt.AssignmentExpression) b (takes_self nt.AssignmentExpression, λ y. refl, tail_rest OfCond d))
+    (part_then Middle (Read (punctuator (codes ":")) (Node w r End)) (takes_self nt.AssignmentExpression) b (assignment_taken, λ y. refl, tail_rest OfCond d))
 
 pub stepped : (t : Token) {s : Variant} {p : ParseTree} → class t ≡ Twice → Operand nt.LeftHandSideExpression s p →
     Good (Whole Update nt.UpdateExpression) (Node s p (Read same_line (Read t End)))
@@ -325,20 +325,42 @@ pub object : {m : ParseTree} → InProperties false m → Good (Whole Object nt.
 unfolding punctuator
 object {m = m} g = begun (punctuator (codes "{")) Object nt.PrimaryExpression Properties m refl refl refl g
 
+-- where a key stands, and what stands behind it
+pub data KeyPlace : Control → Control → Type 0 where
+  a_property : KeyPlace Properties AfterKey
+  next_property : KeyPlace NextProperty AfterKey
+  a_member : KeyPlace AtKey AfterKey
+  a_setter : KeyPlace AtSetter AfterSetter
+
+pub property_place : (b : Bool) → KeyPlace (at_property b) AfterKey
+property_place true = next_property
+property_place false = a_property
+
 -- a key that is one token
 abbrev pub IsKey : Token → Type 0
-IsKey t = (b : Bool) → (decide (at_property b) None t ≡ Shift) × (shift (at_property b) None t ≡ AfterKey)
+IsKey t = (at after : Control) → KeyPlace at after → (decide at None t ≡ Shift) × (shift at None t ≡ after)
 
-pub shifted_key : (b : Bool) (t : Token) {m : ParseTree} → (decide (at_property b) None t ≡ Shift) × (shift (at_property b) None t ≡ AfterKey) → InObject AfterKey m → InProperties b (Read t m)
-shifted_key b t {m = m} k g = shifted k.0 (subst (λ z. InObject z m) (sym k.1) g)
+pub named_key : (t : Token) → class t ≡ NameToken → IsKey t
+named_key t e at after a_property = (ap (without Properties) e, ap (shifted_to Properties) e)
+named_key t e at after next_property = (ap (without NextProperty) e, ap (shifted_to NextProperty) e)
+named_key t e at after a_member = (ap (without AtKey) e, ap (shifted_to AtKey) e)
+named_key t e at after a_setter = (ap (without AtSetter) e, ap (shifted_to AtSetter) e)
 
-pub key_then : (b : Bool) (t : Token) {m : ParseTree} → IsKey t → InObject AfterKey m → InProperties b (Read t m)
-key_then b t k g = shifted_key b t (k b) g
+pub literal_key : (t : Token) → class t ≡ LiteralToken → IsKey t
+literal_key t e at after a_property = (ap (without Properties) e, ap (shifted_to Properties) e)
+literal_key t e at after next_property = (ap (without NextProperty) e, ap (shifted_to NextProperty) e)
+literal_key t e at after a_member = (ap (without AtKey) e, ap (shifted_to AtKey) e)
+literal_key t e at after a_setter = (ap (without AtSetter) e, ap (shifted_to AtSetter) e)
 
-pub computed_then : (b : Bool) {s : Variant} {p m : ParseTree} → Operand nt.AssignmentExpression s p → InObject AfterKey m → InProperties b (Read open_bracket (Node s p (Read close_bracket m)))
+pub key_then : {at after : Control} (k : KeyPlace at after) (t : Token) {m : ParseTree} → IsKey t → InObject after m → InObject at (Read t m)
+key_then {at = at} {after = after} k t {m = m} i g = let e = i at after k in shifted e.0 (subst (λ z. InObject z m) (sym e.1) g)
+
+pub computed_then : {at after : Control} (k : KeyPlace at after) {s : Variant} {p m : ParseTree} → Operand nt.AssignmentExpression s p → InObject after m → InObject at (Read open_bracket (Node s p (Read close_bracket m)))
 unfolding punctuator
-computed_then true {m = m} o g = shifted refl (part_then InKey (Read close_bracket m) (takes_self nt.AssignmentExpression) o (assignment_taken, λ z. refl, g))
-computed_then false {m = m} o g = shifted refl (part_then InKey (Read close_bracket m) (takes_self nt.AssignmentExpression) o (assignment_taken, λ z. refl, g))
+computed_then a_property {m = m} o g = shifted refl (part_then InKey (Read close_bracket m) (takes_self nt.AssignmentExpression) o (assignment_taken, λ z. refl, g))
+computed_then next_property {m = m} o g = shifted refl (part_then InKey (Read close_bracket m) (takes_self nt.AssignmentExpression) o (assignment_taken, λ z. refl, g))
+computed_then a_member {m = m} o g = shifted refl (part_then InKey (Read close_bracket m) (takes_self nt.AssignmentExpression) o (assignment_taken, λ z. refl, g))
+computed_then a_setter {m = m} o g = shifted refl (part_then InSetterKey (Read close_bracket m) (takes_self nt.AssignmentExpression) o (assignment_taken, λ z. refl, g))
 
 pub value_then : {s : Variant} {p rest : ParseTree} → Operand nt.AssignmentExpression s p → OnProperty rest → InObject AfterKey (Read (punctuator (codes ":")) (Node s p rest))
 unfolding punctuator

@@ -9,10 +9,10 @@ use Rattle.swc_ecma_codegen_syntax.specs.Nonterminals.{takes, is_private, is_unc
 use Rattle.swc_ecma_codegen_syntax.specs.UnitProductions.{step, pattern_element_is_pattern_target}
 use Rattle.swc_ecma_codegen_syntax.proofs.Chains.{takes_chain}
 use Rattle.swc_ecma_codegen_syntax.proofs.Taken.{chain_takes}
-use Rattle.swc_ecma_codegen_uniqueness.specs.ParseTrees.{Variant, ParseTree, End, Read, Node, Fn, Arrow, BlockStmt, EmptyStmt, ExprStmt, IfStmt, LabeledStmt, VarDecl, tokens_of}
-use Rattle.swc_ecma_codegen_uniqueness.proofs.Tables.{Class, Infix, Plus, OpenBrace, Reduce, outside, ElseWord, Semi, Colon, class, starts, is_item, is_no_else, left, Where, InList, OfIf, OfElse, OfLabel, OfLoop, Control, Closed, ArrowBody, OfArrow, Statement, Entered, AfterFunction, Parameter, RestParameter, AfterParameters, AfterWord, Valued, Jump, Headed, Test, Declarators, stands, entered, Action, Shift, Begin, Enter, Leave, Splice, Take, Wrap, without, with_operand, decide, shift, passed_to, start}
-use Rattle.swc_ecma_codegen_uniqueness.proofs.TableLaws.{takes_on, ended_by, or_left, is_keyword, keyword_pushes, is_barred, item_there, place_of, ItemPlace, item_place, enters, begins_operand}
-use Rattle.swc_ecma_codegen_uniqueness.proofs.Machine.{Whole, Rest, Good, Heads, Enters, goes_on, headed, headed_block, wrapped, wrapped_turned, stated, entering, shifted, inner, last, splicing, taking, raised, joined, turned_tokens, left_tokens}
+use Rattle.swc_ecma_codegen_uniqueness.specs.ParseTrees.{Variant, ParseTree, End, Read, Node, Fn, Arrow, BlockStmt, EmptyStmt, ExprStmt, IfStmt, LabeledStmt, VarDecl, tokens_of, DoWhileStmt, TryStmt, SwitchStmt}
+use Rattle.swc_ecma_codegen_uniqueness.proofs.Tables.{Class, Infix, Plus, OpenBrace, Reduce, outside, ElseWord, Semi, Colon, class, starts, is_item, is_behind, left, Where, InList, OfIf, OfElse, OfLabel, OfLoop, Control, Closed, ArrowBody, OfArrow, Statement, Entered, AfterFunction, Parameter, RestParameter, AfterParameters, AfterWord, Valued, Jump, Headed, Test, Declarators, stands, entered, Action, Shift, Begin, Enter, Leave, Splice, Take, Wrap, without, with_operand, decide, shift, passed_to, start, CatchWord, FinallyWord, InTry, InCatch, InClause, OfDo, closing, shifted_to, closed_by, AfterDo, AfterTry, BehindTry, AfterCatch, CatchParameter, BehindParameter, BehindCatch, AfterFinally, Case, InMethod}
+use Rattle.swc_ecma_codegen_uniqueness.proofs.TableLaws.{takes_on, ended_by, or_left, is_keyword, keyword_pushes, is_barred, item_there, place_of, ItemPlace, item_place, enters, begins_operand, is_list, list_takes, no_item_wraps}
+use Rattle.swc_ecma_codegen_uniqueness.proofs.Machine.{Whole, Rest, Good, Heads, Enters, goes_on, headed, headed_block, wrapped, wrapped_turned, stated, entering, shifted, inner, last, splicing, taking, raised, joined, turned_tokens, left_tokens, keeping, closed}
 use Rattle.swc_ecma_codegen_uniqueness.proofs.Shapes.{Operand, takes_self, assignment_taken, left_taken, left_assigned, part_then, ended, tail_rest}
 
 abbrev pub is_open_brace : Class → Bool
@@ -32,13 +32,6 @@ begin_test l = refl
 no_begin : (l : Class) → without (Entered OfElse) l ≡ Begin → ⊥
 no_begin l h = true≢false (sym (ap is_begin h) ∙ begin_test l)
 
-abbrev is_wrap : Action → Bool
-is_wrap Wrap = true
-is_wrap a = false
-
-no_wrap : Take ≡ Wrap → ⊥
-no_wrap h = true≢false (sym (ap is_wrap h))
-
 pub operand_heads : {variant : Variant} {n : Nonterminal} {p : ParseTree} → Good (Whole variant n) p → stands (Entered OfElse) n ≡ true → Heads (λ u. starts (class u) ≡ true) p
 unfolding tokens_of
 operand_heads (headed {t = t} {m = m} push g) st = λ us. (t, tokens_of m us, refl, begins_operand t (push (Entered OfElse) st))
@@ -53,19 +46,19 @@ operand_heads (stated {left = left} {inside = inside} {m = m} {p = p} t i c w h 
 operand_heads (raised st c g) s = operand_heads g (st (Entered OfElse) s)
 
 -- an item of a list
-abbrev pub GoesOn : Variant → Token → Type 0
-GoesOn ends u = goes_on (without (Statement (InList ends)) (class u)) ≡ true
+abbrev pub GoesOn : Where → Token → Type 0
+GoesOn place u = goes_on (without (Statement place) (class u)) ≡ true
 
-pub item_heads : (ends : Variant) {variant : Variant} {n : Nonterminal} {p : ParseTree} → Good (Whole variant n) p → stands (Statement (InList ends)) n ≡ true → Heads (GoesOn ends) p
+pub item_heads : (place : Where) {variant : Variant} {n : Nonterminal} {p : ParseTree} → Good (Whole variant n) p → stands (Statement place) n ≡ true → Heads (GoesOn place) p
 unfolding tokens_of
-item_heads ends (headed {t = t} {m = m} push g) st = λ us. (t, tokens_of m us, refl, ap goes_on (push (Statement (InList ends)) st))
-item_heads ends (wrapped {t = t} i c w g) st = absurd (no_wrap (w (Statement (InList ends)) st).1)
-item_heads ends (wrapped_turned t u i c w e g same) st = absurd (no_wrap (w (Statement (InList ends)) st).1)
-item_heads ends (headed_block {t = t} {m = m} push g) st = λ us. (t, tokens_of m us, refl, ap goes_on (push (Statement (InList ends)) st))
-item_heads ends (stated {left = left} {inside = inside} {m = m} {p = p} t i c w h g same) st = λ us.
+item_heads place (headed {t = t} {m = m} push g) st = λ us. (t, tokens_of m us, refl, ap goes_on (push (Statement place) st))
+item_heads place (wrapped {t = t} i c w g) st = absurd (no_item_wraps place (class t) (w (Statement place) st).1)
+item_heads place (wrapped_turned t u i c w e g same) st = absurd (no_item_wraps place (class t) (w (Statement place) st).1)
+item_heads place (headed_block {t = t} {m = m} push g) st = λ us. (t, tokens_of m us, refl, ap goes_on (push (Statement place) st))
+item_heads place (stated {left = left} {inside = inside} {m = m} {p = p} t i c w h g same) st = λ us.
     let k = h (t ∷ tokens_of m us) in
-    (k.0, k.1, left_tokens left inside t m p us same ∙ k.2, ap goes_on (k.3 (Statement (InList ends)) st).0)
-item_heads ends (raised st c g) s = item_heads ends g (st (Statement (InList ends)) s)
+    (k.0, k.1, left_tokens left inside t m p us same ∙ k.2, ap goes_on (k.3 (Statement place) st).0)
+item_heads place (raised st c g) s = item_heads place g (st (Statement place) s)
 
 -- ---- a statement in another, and in a list
 
@@ -86,7 +79,7 @@ is_an_item false = refl
 keyword_begun : (t : Token) (variant : Variant) (b : Bool) (c : Control) (m : ParseTree) → is_keyword (class t) ≡ true → start t ≡ c → Good (Rest c variant (item_of b)) m → Good (Whole variant (item_of b)) (Read t m)
 keyword_begun t variant b c m k e g = headed (keyword_pushes t (item_of b) k (is_an_item b)) (subst (λ z. Good (Rest z variant (item_of b)) m) (sym e) g)
 
-if_reduced : (l : Class) → is_no_else l ≡ true → with_operand (Statement OfIf) l ≡ Reduce
+if_reduced : (l : Class) → is_behind l ≡ true → with_operand (Statement OfIf) l ≡ Reduce
 if_reduced ElseWord h = absurd (true≢false (sym h))
 if_reduced l h = refl
 
@@ -159,31 +152,49 @@ expression_stated b {s = s} o h =
     stated ending o.good (ended_by Semi o.of o.taken) (λ c st. left_there o.of s ending o.taken (λ place. refl) c (place_of c (item_there (item_of b) (is_an_item b) c st)))
     (entered_there b _ h) (ended ExprStmt (item_of b)) refl
 
-pub labelled : (b : Bool) (name : Token) {n : Nonterminal} {s v : Variant} {q : ParseTree} → takes nt.AssignmentExpression n ≡ true → takes nt.Expression n ≡ true → Good (Whole s n) (Read name End) → MayStand (Read name End) → Good (Whole v (item_of b)) q →
+pub labelled : (b : Bool) (name : Token) {n : Nonterminal} {s v : Variant} {q : ParseTree} → takes nt.Expression n ≡ true → Good (Whole s n) (Read name End) → MayStand (Read name End) → Good (Whole v (item_of b)) q →
     Good (Whole LabeledStmt (item_of b)) (Read name (Read (punctuator (codes ":")) (Node v q End)))
 unfolding punctuator
-labelled b name {n = n} {s = s} a t g h body =
-    stated (punctuator (codes ":")) g (ended_by Colon n a) (λ c st. left_there n s (punctuator (codes ":")) t (λ place. refl) c (place_of c (item_there (item_of b) (is_an_item b) c st)))
+labelled b name {n = n} {s = s} t g h body =
+    stated (punctuator (codes ":")) g (ended_by Colon n t) (λ c st. left_there n s (punctuator (codes ":")) t (λ place. refl) c (place_of c (item_there (item_of b) (is_an_item b) c st)))
     (entered_there b _ h) (last refl (item_stands b OfLabel) body (λ t e. (e, refl))) refl
 
 -- ---- lists
 
-goes_no_else : (ends : Variant) (l : Class) → goes_on (without (Statement (InList ends)) l) ≡ true → is_no_else l ≡ true
-goes_no_else ends ElseWord h = absurd (true≢false (sym h))
-goes_no_else ends l h = refl
+goes_behind : (place : Where) (l : Class) → goes_on (without (Statement place) l) ≡ true → is_behind l ≡ true
+goes_behind (InList ends) ElseWord h = absurd (true≢false (sym h))
+goes_behind place ElseWord h = absurd (true≢false (sym h))
+goes_behind (InList ends) CatchWord h = absurd (true≢false (sym h))
+goes_behind place CatchWord h = absurd (true≢false (sym h))
+goes_behind (InList ends) FinallyWord h = absurd (true≢false (sym h))
+goes_behind place FinallyWord h = absurd (true≢false (sym h))
+goes_behind (InList ends) Semi h = absurd (true≢false (sym h))
+goes_behind place Semi h = absurd (true≢false (sym h))
+goes_behind place l h = refl
 
-pub no_items : (ends : Variant) (n : Nonterminal) → Good (Rest (Statement (InList ends)) ends n) (Read (punctuator (codes "}")) End)
+list_ends : (place : Where) → is_list place ≡ true → (without (Statement place) (class (punctuator (codes "}"))) ≡ Shift) × (shifted_to (Statement place) (class (punctuator (codes "}"))) ≡ closing place)
 unfolding punctuator
-no_items ends n = shifted refl (ended ends n)
+list_ends (InList ends) h = (refl, refl)
+list_ends InTry h = (refl, refl)
+list_ends InCatch h = (refl, refl)
+list_ends InMethod h = (refl, refl)
+list_ends place h = absurd (true≢false (sym h))
 
-pub end_heads : (ends : Variant) → Heads (GoesOn ends) (Read (punctuator (codes "}")) End)
-unfolding punctuator tokens_of
-end_heads ends = λ us. (_, us, refl, refl)
+pub no_items : (place : Where) (variant : Variant) (n : Nonterminal) {m : ParseTree} → is_list place ≡ true → Good (Rest (closing place) variant n) m → Good (Rest (Statement place) variant n) (Read (punctuator (codes "}")) m)
+no_items place variant n {m = m} h g = let e = list_ends place h in shifted e.0 (subst (λ z. Good (Rest z variant n) m) (sym e.1) g)
 
-pub item_then : (ends variant : Variant) (n : Nonterminal) {v : Variant} {p m q : ParseTree} → Good (Whole v nt.Statement) p → Heads (GoesOn ends) m → Good (Rest (Statement (InList ends)) variant n) m → q ≡ joined p m →
-    Good (Rest (Statement (InList ends)) variant n) q
-item_then ends variant n g h r e =
-    taking (item_stands false (InList ends)) g (λ us. let k = h us in (k.0, k.1, k.2, (goes_no_else ends (class k.0) k.3, refl, k.3))) r e
+pub end_heads : (place : Where) (m : ParseTree) → is_list place ≡ true → Heads (GoesOn place) (Read (punctuator (codes "}")) m)
+unfolding tokens_of
+end_heads place m h = λ us. (punctuator (codes "}"), tokens_of m us, refl, ap goes_on (list_ends place h).0)
+
+pub item_then : (place : Where) (variant : Variant) (n : Nonterminal) {v : Variant} {p m q : ParseTree} → is_list place ≡ true → Good (Whole v nt.Statement) p → Heads (GoesOn place) m → Good (Rest (Statement place) variant n) m → q ≡ joined p m →
+    Good (Rest (Statement place) variant n) q
+item_then place variant n i g h r e =
+    taking (item_stands false place) g (λ us. let k = h us in (k.0, k.1, k.2, (goes_behind place (class k.0) k.3, list_takes place (class k.0) i, k.3))) r e
+
+-- behind `case a:`
+pub clause_item : (variant : Variant) (n : Nonterminal) {v : Variant} {p m : ParseTree} → Good (Whole v nt.Statement) p → Heads (GoesOn InClause) m → Good (Rest (Statement InClause) variant n) m → Good (Rest (Statement InClause) variant n) (Node v p m)
+clause_item variant n g h r = keeping (item_stands false InClause) g (λ us. let k = h us in (k.0, k.1, k.2, (goes_behind InClause (class k.0) k.3, refl, k.3))) r
 
 -- `{ .. }`
 begun_there : (c : Control) → ItemPlace c → without c (class (punctuator (codes "{"))) ≡ Begin
@@ -216,25 +227,105 @@ primary_expression = takes_on nt.Expression nt.AssignmentExpression nt.PrimaryEx
 pub target_element : (n : Nonterminal) → takes nt.PatternTarget n ≡ true → takes nt.PatternElement n ≡ true
 target_element n h = chain_takes nt.PatternElement n (step pattern_element_is_pattern_target (takes_chain nt.PatternTarget n h))
 
+-- ---- `do`, `try`, `switch`
+
+pub do_good : (b : Bool) {v s : Variant} {q p m : ParseTree} → Good (Whole v nt.Statement) q → Operand nt.Expression s p → Good (Rest AfterDo DoWhileStmt (item_of b)) m →
+    Good (Whole DoWhileStmt (item_of b)) (Read (word (codes "do")) (Node v q (Read (word (codes "while")) (Read (punctuator (codes "(")) (Node s p (Read (punctuator (codes ")")) m))))))
+unfolding word punctuator
+do_good b {m = m} g o h =
+    keyword_begun (word (codes "do")) DoWhileStmt b (Statement OfDo) _ refl refl
+    (inner (item_stands false OfDo) g refl refl (shifted refl (part_then (Test DoWhileStmt) (Read (punctuator (codes ")")) m) (takes_self nt.Expression) o (takes_self nt.Expression, λ z. refl, h))))
+
+no_semi : (b : Bool) (l : Class) → closed_by l (item_of b) ≡ true → without AfterDo l ≡ Reduce
+no_semi true Semi h = absurd (true≢false (sym h))
+no_semi false Semi h = absurd (true≢false (sym h))
+no_semi b l h = refl
+
+pub do_ends : (b : Bool) → Good (Rest AfterDo DoWhileStmt (item_of b)) End
+do_ends b = closed refl (λ t h. no_semi b (class t) h)
+
+pub do_ended : (b : Bool) → Good (Rest AfterDo DoWhileStmt (item_of b)) (Read ending End)
+unfolding ending
+do_ended b = shifted refl (ended DoWhileStmt (item_of b))
+
+pub try_begun : (b : Bool) {m : ParseTree} → Good (Rest (Statement InTry) TryStmt (item_of b)) m → Good (Whole TryStmt (item_of b)) (Read (word (codes "try")) (Read (punctuator (codes "{")) m))
+unfolding word punctuator
+try_begun b {m = m} g = keyword_begun (word (codes "try")) TryStmt b AfterTry _ refl refl (shifted refl g)
+
+no_finally : (b : Bool) (l : Class) → closed_by l (item_of b) ≡ true → without BehindCatch l ≡ Reduce
+no_finally true FinallyWord h = absurd (true≢false (sym h))
+no_finally false FinallyWord h = absurd (true≢false (sym h))
+no_finally b l h = refl
+
+pub try_ends : (b : Bool) → Good (Rest BehindCatch TryStmt (item_of b)) End
+try_ends b = closed refl (λ t h. no_finally b (class t) h)
+
+pub finally_then : (n : Nonterminal) {m : ParseTree} → Good (Rest (Statement (InList TryStmt)) TryStmt n) m →
+    Good (Rest BehindTry TryStmt n) (Read (word (codes "finally")) (Read (punctuator (codes "{")) m)) × Good (Rest BehindCatch TryStmt n) (Read (word (codes "finally")) (Read (punctuator (codes "{")) m))
+unfolding word punctuator
+finally_then n g = (shifted refl (shifted refl g), shifted refl (shifted refl g))
+
+pub catch_then : (n : Nonterminal) {m : ParseTree} → Good (Rest AfterCatch TryStmt n) m → Good (Rest BehindTry TryStmt n) (Read (word (codes "catch")) m)
+unfolding word
+catch_then n g = shifted refl g
+
+pub catch_block : (n : Nonterminal) {m : ParseTree} → Good (Rest (Statement InCatch) TryStmt n) m → Good (Rest AfterCatch TryStmt n) (Read (punctuator (codes "{")) m)
+unfolding punctuator
+catch_block n g = shifted refl g
+
+pub catch_parameter : (n : Nonterminal) {s : Variant} {p m : ParseTree} → Operand nt.LeftHandSideExpression s p → Good (Rest (Statement InCatch) TryStmt n) m →
+    Good (Rest AfterCatch TryStmt n) (Read (punctuator (codes "(")) (Node s p (Read (punctuator (codes ")")) (Read (punctuator (codes "{")) m))))
+unfolding punctuator
+catch_parameter n {m = m} o g =
+    shifted refl (part_then CatchParameter (Read (punctuator (codes ")")) (Read (punctuator (codes "{")) m)) (takes_self nt.LeftHandSideExpression) o
+    (takes_on nt.Expression nt.AssignmentExpression nt.LeftHandSideExpression assignment_taken left_assigned, λ z. refl, shifted refl g))
+
+pub switch_begun : (b : Bool) {s : Variant} {p m : ParseTree} → Operand nt.Expression s p → Good (Rest (Statement InClause) SwitchStmt (item_of b)) m →
+    Good (Whole SwitchStmt (item_of b)) (Read (word (codes "switch")) (Read (punctuator (codes "(")) (Node s p (Read (punctuator (codes ")")) (Read (punctuator (codes "{")) m)))))
+unfolding word punctuator
+switch_begun b {m = m} o g =
+    keyword_begun (word (codes "switch")) SwitchStmt b (Headed SwitchStmt) _ refl refl
+    (shifted refl (part_then (Test SwitchStmt) (Read (punctuator (codes ")")) (Read (punctuator (codes "{")) m)) (takes_self nt.Expression) o (takes_self nt.Expression, λ z. refl, shifted refl g)))
+
+pub switch_ends : (n : Nonterminal) → Good (Rest (Statement InClause) SwitchStmt n) (Read (punctuator (codes "}")) End) × Heads (GoesOn InClause) (Read (punctuator (codes "}")) End)
+unfolding punctuator tokens_of
+switch_ends n = (shifted refl (ended SwitchStmt n), λ us. (_, us, refl, refl))
+
+pub case_then : (n : Nonterminal) {s : Variant} {p m : ParseTree} → Operand nt.Expression s p → Good (Rest (Statement InClause) SwitchStmt n) m →
+    Good (Rest (Statement InClause) SwitchStmt n) (Read (word (codes "case")) (Node s p (Read (punctuator (codes ":")) m))) × Heads (GoesOn InClause) (Read (word (codes "case")) (Node s p (Read (punctuator (codes ":")) m)))
+unfolding word punctuator tokens_of
+case_then n {m = m} o g = (shifted refl (part_then Case (Read (punctuator (codes ":")) m) (takes_self nt.Expression) o (takes_self nt.Expression, λ z. refl, g)), λ us. (_, _, refl, refl))
+
+pub default_then : (n : Nonterminal) {m : ParseTree} → Good (Rest (Statement InClause) SwitchStmt n) m →
+    Good (Rest (Statement InClause) SwitchStmt n) (Read (word (codes "default")) (Read (punctuator (codes ":")) m)) × Heads (GoesOn InClause) (Read (word (codes "default")) (Read (punctuator (codes ":")) m))
+unfolding word punctuator tokens_of
+default_then n g = (shifted refl (shifted refl g), λ us. (_, _, refl, refl))
+
 -- ---- functions
 
--- a parameter that no link holds, and the token behind it
-pub parameter_then : (t : Token) (variant : Variant) (n k : Nonterminal) {v : Variant} {p m q : ParseTree} → takes nt.AssignmentExpression k ≡ true → Good (Whole v k) p → takes (left (class t)) nt.AssignmentExpression ≡ true →
-    ((s : Variant) → decide Parameter (Some s) t ≡ Splice) → Good (Rest (passed_to Parameter (class t)) variant n) m → q ≡ joined p (Read t m) → Good (Rest Parameter variant n) q
-parameter_then t variant n k {v = v} h g c e r same = splicing t (or_left _ _ h) g (ended_by (class t) k (takes_on (left (class t)) nt.AssignmentExpression k c h)) (e v) r same
+-- where a function stands: of what its body is, and the node that it is in
+pub record Within : Type 0 where
+  pub place : Where
+  pub variant : Variant
+  pub of : Nonterminal
 
-pub rest_then : (n : Nonterminal) {v : Variant} {p m : ParseTree} → Operand nt.LeftHandSideExpression v p → Good (Rest AfterParameters Fn n) m →
-    Good (Rest Parameter Fn n) (Read (punctuator (codes "...")) (Node v p (Read (punctuator (codes ")")) m)))
+-- a parameter that no link holds, and the token behind it
+pub parameter_then : (t : Token) (n : Within) (k : Nonterminal) {v : Variant} {p m q : ParseTree} → takes nt.AssignmentExpression k ≡ true → Good (Whole v k) p → takes (left (class t)) nt.AssignmentExpression ≡ true →
+    ((s : Variant) → decide (Parameter n.place) (Some s) t ≡ Splice) → Good (Rest (passed_to (Parameter n.place) (class t)) n.variant n.of) m → q ≡ joined p (Read t m) → Good (Rest (Parameter n.place) n.variant n.of) q
+parameter_then t n k {v = v} h g c e r same = splicing t (or_left _ _ h) g (ended_by (class t) k (takes_on (left (class t)) nt.AssignmentExpression k c h)) (e v) r same
+
+pub rest_then : (n : Within) {v : Variant} {p m : ParseTree} → Operand nt.LeftHandSideExpression v p → Good (Rest (AfterParameters n.place) n.variant n.of) m →
+    Good (Rest (Parameter n.place) n.variant n.of) (Read (punctuator (codes "...")) (Node v p (Read (punctuator (codes ")")) m)))
 unfolding punctuator
 rest_then n {m = m} o g =
-    shifted refl (part_then RestParameter (Read (punctuator (codes ")")) m) (takes_self nt.LeftHandSideExpression) o
+    shifted refl (part_then (RestParameter n.place) (Read (punctuator (codes ")")) m) (takes_self nt.LeftHandSideExpression) o
     (takes_on nt.Expression nt.AssignmentExpression nt.LeftHandSideExpression assignment_taken left_assigned, λ z. refl, g))
 
-pub no_parameters_then : (n : Nonterminal) {m : ParseTree} → Good (Rest AfterParameters Fn n) m → Good (Rest Parameter Fn n) (Read (punctuator (codes ")")) m)
+pub no_parameters_then : (n : Within) {m : ParseTree} → Good (Rest (AfterParameters n.place) n.variant n.of) m → Good (Rest (Parameter n.place) n.variant n.of) (Read (punctuator (codes ")")) m)
 unfolding punctuator
 no_parameters_then n g = shifted refl g
 
-pub parameters_end : (n : Nonterminal) {m : ParseTree} → Good (Rest (Statement (InList Fn)) Fn n) m → Good (Rest AfterParameters Fn n) (Read (punctuator (codes "{")) m)
+pub parameters_end : (n : Within) {m : ParseTree} → Good (Rest (Statement n.place) n.variant n.of) m → Good (Rest (AfterParameters n.place) n.variant n.of) (Read (punctuator (codes "{")) m)
 unfolding punctuator
 parameters_end n g = shifted refl g
 

@@ -1,8 +1,8 @@
 -- Statements are read as they are.
 use Rattle.std.proofs.Common.{◌≡◌, Bool, true, false, ◌||◌, not, List, [], ◌∷◌, Option, Some, None, refl, sym, ap, ◌∙◌, subst}
-use Rattle.std.specs.Prelude.{codes}
+use Rattle.std.specs.Prelude.{codes, is_some, if◌then◌else◌}
 use Rattle.std.proofs.lemmas.Bool.{true≢false, and_parts}
-use Rattle.swc_ecma_codegen_tree.specs.Links.{ExprBox, StmtBox}
+use Rattle.swc_ecma_codegen_tree.specs.Links.{ExprBox, StmtBox, BlockStmtBox, PatBox}
 use Rattle.swc_ecma_codegen_tree.specs.declared.links.AnyNode.{AnyNode, AnyNode-F, out-AnyNode}
 use Rattle.swc_ecma_codegen_tree.specs.declared.links.AnyNode.TheOpen as nodes
 use Rattle.swc_ecma_codegen_tree.specs.declared.decls.ClassDecl.{ClassDecl}
@@ -19,14 +19,16 @@ use Rattle.swc_ecma_codegen_tree.specs.declared.parts.StmtPart.TheVariants as st
 use Rattle.swc_ecma_codegen_tree.specs.declared.stmts.Stmt.{Stmt}
 use Rattle.swc_ecma_codegen_tree.specs.declared.stmts.Stmt.TheVariants as stmts
 use Rattle.swc_ecma_codegen_tree.specs.declared.stmts.BlockStmt as blocks
+use Rattle.swc_ecma_codegen_tree.specs.declared.stmts.CatchClause.{CatchClause}
+use Rattle.swc_ecma_codegen_tree.specs.declared.stmts.SwitchCase.{SwitchCase}
 use Rattle.swc_ecma_codegen_tree.specs.declared.stmts.ExprStmt as expr_stmts
 use Rattle.swc_ecma_codegen_tree.specs.declared.stmts.LabeledStmt as labeled
 use Rattle.swc_ecma_codegen_grammar.specs.DeclPhrases.{var_kind}
 use Rattle.swc_ecma_codegen_grammar.specs.FunctionPhrases.{word_if}
-use Rattle.swc_ecma_codegen_grammar.specs.Phrases.{Generates}
+use Rattle.swc_ecma_codegen_grammar.specs.Phrases.{Generates, chosen}
 use Rattle.swc_ecma_codegen_grammar.specs.Phrases as phrases
 use Rattle.swc_ecma_codegen_grammar.specs.TsDeclPhrases.{declare_word}
-use Rattle.swc_ecma_codegen_grammar.specs.Settings.{Settings}
+use Rattle.swc_ecma_codegen_grammar.specs.Settings.{Settings, is_up_to_es5}
 use Rattle.swc_ecma_codegen_grammar.specs.StmtPhrases.{empty_stmt, debugger_stmt}
 use Rattle.swc_ecma_codegen_grammar.specs.Tokens.{Token, punctuator, word, ending, same_line}
 use Rattle.swc_ecma_codegen_grammar.specs.Tokens as tokens
@@ -37,27 +39,27 @@ use Rattle.swc_ecma_codegen_syntax.specs.declared.parameters.Parameters.{Paramet
 use Rattle.swc_ecma_codegen_syntax.specs.NameForms.{is_one_of}
 use Rattle.swc_ecma_codegen_syntax.specs.Nonterminals.{takes}
 use Rattle.swc_ecma_codegen_syntax.specs.Parameters.{of_bindings, of_declarations, in_list}
-use Rattle.swc_ecma_codegen_syntax.specs.Forms.{Fixed, is_met, each_after}
+use Rattle.swc_ecma_codegen_syntax.specs.Forms.{Fixed, is_met, each_after, in_order}
 use Rattle.swc_ecma_codegen_syntax.specs.ClassForms.{class_decl_form}
 use Rattle.swc_ecma_codegen_syntax.specs.DeclForms.{is_const, value_form, declarator_form, declarators_form, var_decl_form, head_at, decl_form}
 use Rattle.swc_ecma_codegen_syntax.specs.PatForms.{pat_form, pat_nonterminal}
-use Rattle.swc_ecma_codegen_syntax.specs.StmtForms.{expr_stmt_form, with_form, return_rest_form, return_form, labeled_form, jump_form, break_form, continue_form, branches_form, if_form, switch_form, throw_form, try_form, while_form, do_while_form, for_form, for_in_form, for_of_form, stmt_form, begins_empty, list_form, block_form}
+use Rattle.swc_ecma_codegen_syntax.specs.StmtForms.{expr_stmt_form, with_form, return_rest_form, return_form, labeled_form, jump_form, break_form, continue_form, branches_form, if_form, switch_form, throw_form, try_form, while_form, do_while_form, for_form, for_in_form, for_of_form, stmt_form, begins_empty, list_form, block_form, finalizer_form, catch_param_form, handler_form, catch_form, clause_item_form, clause_list_form, case_test_form, case_form}
 use Rattle.swc_ecma_codegen_syntax.specs.NodeForms.{node_form, part_form, stmt_part_form, jsx_part_form}
-use Rattle.swc_ecma_codegen_syntax.specs.Derives.{Derives, fixed, part, restricted, both, provided, bare}
-use Rattle.swc_ecma_codegen_uniqueness.specs.ParseTrees.{Variant, ParseTree, End, Read, Node, BlockStmt, DebuggerStmt, WithStmt, ReturnStmt, LabeledStmt, BreakStmt, ContinueStmt, IfStmt, ThrowStmt, WhileStmt, VarDecl, ExprStmt, tokens_of, is_known, is_known_kind, AreKnown, decl_variant, stmt_variant, part_variant, node_variant}
-use Rattle.swc_ecma_codegen_uniqueness.specs.Parses.{placed, is_inlined}
-use Rattle.swc_ecma_codegen_uniqueness.proofs.Tables.{InList, Statement, Declarators, Initializer, AfterWord, Jump, Splice, Shift, shift, start, decide, passed_to, class, left}
-use Rattle.swc_ecma_codegen_uniqueness.proofs.TableLaws.{cover, cover_taken, or_left, takes_on, is_keyword}
+use Rattle.swc_ecma_codegen_syntax.specs.Derives.{Derives, fixed, part, restricted, both, provided, bare, followed}
+use Rattle.swc_ecma_codegen_uniqueness.specs.ParseTrees.{Variant, ParseTree, End, Read, Node, BlockStmt, DebuggerStmt, WithStmt, ReturnStmt, LabeledStmt, BreakStmt, ContinueStmt, IfStmt, ThrowStmt, WhileStmt, VarDecl, ExprStmt, tokens_of, is_known, is_known_kind, AreKnown, decl_variant, stmt_variant, part_variant, node_variant, DoWhileStmt, TryStmt, SwitchStmt}
+use Rattle.swc_ecma_codegen_uniqueness.specs.Parses.{placed, is_inlined, read_all}
+use Rattle.swc_ecma_codegen_uniqueness.proofs.Tables.{InList, Statement, Declarators, Initializer, AfterWord, Jump, Splice, Shift, shift, start, decide, passed_to, class, left, Where, InTry, InCatch, InClause, AfterDo, BehindTry, BehindCatch, AfterCatch, closing}
+use Rattle.swc_ecma_codegen_uniqueness.proofs.TableLaws.{cover, cover_taken, or_left, takes_on, is_keyword, is_list}
 use Rattle.swc_ecma_codegen_uniqueness.proofs.Machine.{Whole, Rest, Good, Heads, joined_tokens}
 use Rattle.swc_ecma_codegen_uniqueness.proofs.Shapes.{Operand, After, takes_self, assignment_taken, left_assigned, part_then, ended}
-use Rattle.swc_ecma_codegen_uniqueness.proofs.StatementShapes.{operand_heads, GoesOn, item_heads, item_of, item_stands, if_alone, if_else, looped, word_alone, word_valued, word_labelled, empty_good, expression_stated, labelled, no_items, end_heads, item_then, block_good, declarators_begun, declarator_spliced, primary_assigned, primary_expression, target_element}
+use Rattle.swc_ecma_codegen_uniqueness.proofs.StatementShapes.{operand_heads, GoesOn, item_heads, item_of, item_stands, if_alone, if_else, looped, word_alone, word_valued, word_labelled, empty_good, expression_stated, labelled, no_items, end_heads, item_then, block_good, declarators_begun, declarator_spliced, primary_assigned, primary_expression, target_element, do_good, do_ends, do_ended, try_begun, try_ends, finally_then, catch_then, catch_block, catch_parameter, switch_begun, switch_ends, case_then, default_then, clause_item}
 use Rattle.swc_ecma_codegen_uniqueness.proofs.Heading.{may_stand, not_excluded}
 use Rattle.swc_ecma_codegen_uniqueness.proofs.Reading.{read_phrase, derived_parse}
 use Rattle.swc_ecma_codegen_uniqueness.proofs.Joined.{derived_joined}
 use Rattle.swc_ecma_codegen_uniqueness.proofs.Parsed.{tokens_before}
 use Rattle.swc_ecma_codegen_uniqueness.proofs.Fits.{BlockFit, at_place, PlacedGood, AllGood, no_form}
 use Rattle.swc_ecma_codegen_uniqueness.proofs.Atoms.{name_read, name_atom}
-use Rattle.swc_ecma_codegen_uniqueness.proofs.Patterns.{pat_good}
+use Rattle.swc_ecma_codegen_uniqueness.proofs.Patterns.{pat_good, covered_at, no_rest_target}
 use Rattle.swc_ecma_codegen_uniqueness.proofs.Functions.{not_inlined, fn_decl_good}
 
 -- ---- declarations of variables
@@ -192,11 +194,77 @@ labeled_good : {s : Settings} (c : Parameters) (n : labeled.LabeledStmt AnyNode)
 unfolding labeled_form AllGood PlacedGood derived_parse read_phrase placed is_inlined tokens.name tokens_of
 labeled_good c n (both k (both (fixed g) (part a sa d))) (x, (y, o)) m =
     subst (λ z. Good (Whole LabeledStmt (item_of c.before_else)) z) (sym (name_read c n.label k _))
-    (labelled c.before_else (tokens.name _) primary_assigned primary_expression (name_atom nt.PrimaryExpression refl _) (λ us. (_, us, refl, (refl, refl))) (o m).good)
+    (labelled c.before_else (tokens.name _) primary_expression (name_atom nt.PrimaryExpression refl _) (λ us. (_, us, refl, (refl, refl))) (o m).good)
+
+-- ---- `do`, `try`, `switch`
+
+do_left : (b es5 : Bool) → Good (Rest AfterDo DoWhileStmt (item_of b)) (read_all (if es5 then ending ∷ [] else []) End)
+unfolding read_all
+do_left b true = do_ended b
+do_left b false = do_ends b
+
+-- `finally`, or nothing behind `catch`
+finalizer_good : {s : Settings} (b : Bool) (c : Parameters) (o : Option (BlockStmtBox AnyNode)) {ts : List Token} (d : Derives true s (finalizer_form c o) ts) → AllGood d → s.minify ≡ c.minify →
+    (is_some o ≡ true → Good (Rest BehindTry TryStmt (item_of b)) (derived_parse d End)) × Good (Rest BehindCatch TryStmt (item_of b)) (derived_parse d End)
+unfolding finalizer_form AllGood PlacedGood derived_parse read_phrase placed is_inlined
+finalizer_good b c None (fixed g) o m = ((λ h. absurd (true≢false (sym h))), try_ends b)
+finalizer_good b c (Some n) (both (fixed g) (part a sa d)) (x, o) m =
+    let v = o m in
+    let r = finally_then (item_of b) (v.good (InList TryStmt) refl TryStmt (item_of b) End (ended TryStmt (item_of b))) in
+    let e : Read (word (codes "finally")) (Read (punctuator (codes "{")) (v.inner End)) ≡ Read (word (codes "finally")) (derived_parse d End) = ap (Read (word (codes "finally"))) (sym (v.is End)) in
+    ((λ h. subst (λ z. Good (Rest BehindTry TryStmt (item_of b)) z) e r.0), subst (λ z. Good (Rest BehindCatch TryStmt (item_of b)) z) e r.1)
+
+catch_good : {s : Settings} (n : Nonterminal) (c : Parameters) (o : Option (PatBox AnyNode)) {ts : List Token} (d : Derives true s (catch_param_form c o) ts) → AllGood d → s.minify ≡ c.minify → {m : ParseTree} →
+    Good (Rest (Statement InCatch) TryStmt n) m → Good (Rest AfterCatch TryStmt n) (derived_parse d (Read (punctuator (codes "{")) m))
+unfolding catch_param_form AllGood derived_parse read_phrase
+catch_good n c None (fixed g) o m r = catch_block n r
+catch_good n c (Some x) (both (fixed g) (both d (fixed h))) (y, (o, z)) m {m = rest} r =
+    let v = covered_at nt.PatternTarget no_rest_target (of_bindings c) x.node.value d o m in
+    subst (λ w. Good (Rest AfterCatch TryStmt n) (Read (punctuator (codes "(")) w)) (sym (v.is (Read (punctuator (codes ")")) (Read (punctuator (codes "{")) rest)))) (catch_parameter n v.operand r)
+
+handler_good : {s : Settings} (b : Bool) (c : Parameters) (o : Option (CatchClause AnyNode)) (p : Option (BlockStmtBox AnyNode)) {ts us : List Token} → (is_some o || is_some p) ≡ true → (d : Derives true s (handler_form c o) ts) (e : Derives true s (finalizer_form c p) us) →
+    AllGood d → AllGood e → s.minify ≡ c.minify → Good (Rest BehindTry TryStmt (item_of b)) (derived_parse d (derived_parse e End))
+unfolding handler_form catch_form AllGood PlacedGood derived_parse read_phrase placed is_inlined
+handler_good b c None p h (fixed g) e o q m = (finalizer_good b c p e q m).0 h
+handler_good b c (Some n) p h (both (fixed g) (both k (part a sa d))) e (x, (y, o)) q m =
+    let v = o m in
+    catch_then (item_of b)
+    (subst (λ z. Good (Rest AfterCatch TryStmt (item_of b)) (derived_parse k z)) (sym (v.is (derived_parse e End)))
+    (catch_good (item_of b) c n.param k y m (v.good InCatch refl TryStmt (item_of b) (derived_parse e End) (finalizer_good b c p e q m).1)))
+
+-- what stands in a `switch`
+abbrev InCases : Nonterminal → ParseTree → Type 0
+InCases n m = Good (Rest (Statement InClause) SwitchStmt n) m × Heads (GoesOn InClause) m
+
+clause_good : {s : Settings} (n : Nonterminal) (c : Parameters) (x : StmtBox AnyNode) (xs : List (StmtBox AnyNode)) {ts : List Token} (d : Derives true s (clause_item_form c x xs) ts) → AllGood d → s.minify ≡ c.minify → (rest : ParseTree) → InCases n rest →
+    InCases n (derived_parse d rest)
+unfolding clause_item_form AllGood PlacedGood derived_parse placed is_inlined tokens_of
+clause_good n c x [] (part a sa d) o m rest r = (clause_item SwitchStmt n (o m).good r.1 r.0, λ us. item_heads InClause (o m).good (item_stands false InClause) (tokens_of rest us))
+clause_good n c x (y ∷ ys) (followed (part a sa d)) o m rest r = (clause_item SwitchStmt n (o m).good r.1 r.0, λ us. item_heads InClause (o m).good (item_stands false InClause) (tokens_of rest us))
+
+clauses_good : {s : Settings} (n : Nonterminal) (c : Parameters) (xs : List (StmtBox AnyNode)) {ts : List Token} (d : Derives true s (clause_list_form c xs) ts) → AllGood d → s.minify ≡ c.minify → (rest : ParseTree) → InCases n rest → InCases n (derived_parse d rest)
+unfolding clause_list_form AllGood derived_parse read_phrase
+clauses_good n c [] (fixed g) o m rest r = r
+clauses_good n c (x ∷ xs) (both d e) (o, q) m rest r = clause_good n c x xs d o m (derived_parse e rest) (clauses_good n c xs e q m rest r)
+
+case_good : {s : Settings} (n : Nonterminal) (c : Parameters) (o : Option (ExprBox AnyNode)) {ts : List Token} (d : Derives true s (case_test_form c o) ts) → AllGood d → s.minify ≡ c.minify → (m : ParseTree) → InCases n m →
+    InCases n (derived_parse d (Read (punctuator (codes ":")) m))
+unfolding case_test_form AllGood PlacedGood derived_parse read_phrase placed is_inlined
+case_good n c None (fixed g) o m rest r = default_then n r.0
+case_good n c (Some x) (both (fixed g) (part a sa d)) (y, o) m rest r = case_then n (at_place _ _ sa (o m)) r.0
+
+cases_good : {s : Settings} (n : Nonterminal) (c : Parameters) (xs : List (SwitchCase AnyNode)) {ts : List Token} (d : Derives true s (in_order (case_form c) xs) ts) → AllGood d → s.minify ≡ c.minify → {rest : ParseTree} → InCases n rest → InCases n (derived_parse d rest)
+unfolding in_order case_form AllGood derived_parse read_phrase
+cases_good n c [] (fixed g) o m r = r
+cases_good n c (x ∷ xs) (both (both k (both (fixed h) d)) e) ((y, (z, o)), q) m {rest = rest} r =
+    case_good n c x.test k y m (derived_parse d (derived_parse e rest)) (clauses_good n c x.cons.items d o m (derived_parse e rest) (cases_good n c xs e q m r))
 
 pub stmt_good : {s : Settings} (c : Parameters) (n : Stmt AnyNode) {ts : List Token} (d : Derives true s (stmt_form c n) ts) → AllGood d → s.minify ≡ c.minify → Good (Whole (stmt_variant n) (item_of c.before_else)) (derived_parse d End)
-unfolding stmt_form stmt_variant with_form return_form break_form continue_form if_form switch_form throw_form try_form while_form do_while_form for_form for_in_form for_of_form empty_stmt debugger_stmt is_met is_one_of is_known_kind AllGood PlacedGood derived_parse read_phrase placed is_inlined word same_line
-stmt_good {s = s} c (stmts.Block n) (part a sa d) o m = let v = o m in subst (λ z. Good (Whole BlockStmt (item_of c.before_else)) z) (sym v.is) (block_good c.before_else (v.good BlockStmt (item_of c.before_else)))
+unfolding stmt_form stmt_variant with_form return_form break_form continue_form if_form switch_form throw_form try_form while_form do_while_form for_form for_in_form for_of_form empty_stmt debugger_stmt is_met is_one_of is_known_kind AllGood PlacedGood derived_parse read_phrase chosen placed is_inlined word same_line
+stmt_good c (stmts.Block n) (part a sa d) o m =
+    let v = o m in
+    subst (λ z. Good (Whole BlockStmt (item_of c.before_else)) z) (sym (v.is End))
+    (block_good c.before_else (v.good (InList BlockStmt) refl BlockStmt (item_of c.before_else) End (ended BlockStmt (item_of c.before_else))))
 stmt_good c (stmts.Empty n) (fixed g) o m = empty_good c.before_else
 stmt_good c (stmts.Debugger n) (fixed g) o m = word_alone (word (codes "debugger")) DebuggerStmt c.before_else refl refl
 stmt_good c (stmts.With n) (provided h (both (fixed g) (both (fixed k) (both (part a sa d) (both (fixed l) (part b sb e)))))) (x, (y, (o, (z, q)))) m =
@@ -206,12 +274,17 @@ stmt_good c (stmts.Labeled n) d o m = labeled_good c n d o m
 stmt_good c (stmts.Break n) (both (fixed g) d) (x, o) m = jump_by c.before_else (word (codes "break")) BreakStmt c n.label d refl refl refl
 stmt_good c (stmts.Continue n) (both (fixed g) d) (x, o) m = jump_by c.before_else (word (codes "continue")) ContinueStmt c n.label d refl refl refl
 stmt_good c (stmts.If n) (both (fixed g) (both (fixed h) (both (part a sa d) (both (fixed k) e)))) (x, (y, (o, (z, q)))) m = if_by c n.cons n.alt (at_place _ _ sa (o m)) e q m
-stmt_good c (stmts.Switch n) (both (fixed g) d) (k, o) m = absurd (other_word (word (codes "switch")) refl k)
+stmt_good c (stmts.Switch n) (both (fixed g) (both (fixed h) (both (part a sa d) (both (fixed k) (both (fixed l) (both e (fixed j))))))) (x, (y, (o, (z, (w, (q, v)))))) m =
+    switch_begun c.before_else (at_place _ _ sa (o m)) (cases_good (item_of c.before_else) c n.cases.items e q m (switch_ends (item_of c.before_else))).0
 stmt_good c (stmts.Throw n) (both (fixed g) (both (fixed h) (both (bare (part a sa d)) (fixed k)))) (x, (y, (o, z))) m = word_valued (word (codes "throw")) ThrowStmt c.before_else refl refl refl (at_place _ _ sa (o m))
-stmt_good c (stmts.Try n) (provided h (both (fixed g) d)) (k, o) m = absurd (other_word (word (codes "try")) refl k)
+stmt_good c (stmts.Try n) (provided h (both (fixed g) (both (part a sa d) (both e f)))) (x, (o, (q, r))) m =
+    let v = o m in
+    subst (λ z. Good (Whole TryStmt (item_of c.before_else)) (Read (word (codes "try")) z)) (sym (v.is _))
+    (try_begun c.before_else (v.good InTry refl TryStmt (item_of c.before_else) _ (handler_good c.before_else c n.handler n.finalizer h e f q r m)))
 stmt_good c (stmts.While n) (both (fixed g) (both (fixed k) (both (part a sa d) (both (fixed l) (part b sb e))))) (x, (y, (o, (z, q)))) m =
     looped (word (codes "while")) WhileStmt c.before_else refl refl refl (at_place _ _ sa (o m)) (q m).good
-stmt_good c (stmts.DoWhile n) (provided h (both (fixed g) d)) (k, o) m = absurd (other_word (word (codes "do")) refl k)
+stmt_good {s = s} c (stmts.DoWhile n) (provided h (both (fixed g) (both (part a sa d) (both (fixed k) (both (fixed l) (both (part b sb e) (both (fixed i) (fixed j)))))))) (x, (o, (y, (z, (q, (w, v)))))) m =
+    do_good c.before_else (o m).good (at_place _ _ sb (q m)) (do_left c.before_else (is_up_to_es5 s.target))
 stmt_good c (stmts.For n) (both (fixed g) d) (k, o) m = absurd (other_word (word (codes "for")) refl k)
 stmt_good c (stmts.ForIn n) (both (fixed g) d) (k, o) m = absurd (other_word (word (codes "for")) refl k)
 stmt_good c (stmts.ForOf n) (provided h (both (fixed g) d)) (k, o) m = absurd (other_word (word (codes "for")) refl k)
@@ -220,23 +293,35 @@ stmt_good c (stmts.Expr n) d o m = expr_good c.before_else c n d o m
 
 -- ---- lists, and blocks
 
-list_good : {s : Settings} (ends : Variant) (n : Nonterminal) (c : Parameters) (xs : List (Stmt AnyNode)) {ts : List Token} (d : Derives true s (list_form c xs) ts) → AllGood d → s.minify ≡ c.minify →
-    Good (Rest (Statement (InList ends)) ends n) (derived_parse d (Read (punctuator (codes "}")) End)) × Heads (GoesOn ends) (derived_parse d (Read (punctuator (codes "}")) End))
-unfolding list_form AllGood derived_parse read_phrase
-list_good ends n c [] (fixed g) o m = (no_items ends n, end_heads ends)
-list_good ends n c (x ∷ xs) (both d e) (o, q) m =
-    let rest = derived_parse e (Read (punctuator (codes "}")) End) in
-    let r = list_good ends n c xs e q m in
-    let g = stmt_good (in_list (begins_empty xs) c) x d o m in
+-- a list before what stands behind it
+abbrev pub InItems : Where → Variant → Nonterminal → ParseTree → Type 0
+InItems place variant n m = Good (Rest (Statement place) variant n) m × Heads (GoesOn place) m
+
+pub item_good : {s : Settings} (place : Where) (variant : Variant) (n : Nonterminal) (empty : Bool) (c : Parameters) (x : Stmt AnyNode) {ts : List Token} → is_list place ≡ true → (d : Derives true s (stmt_form (in_list empty c) x) ts) → AllGood d → s.minify ≡ c.minify →
+    (rest : ParseTree) → InItems place variant n rest → InItems place variant n (derived_parse d rest)
+item_good place variant n empty c x i d o m rest r =
+    let g = stmt_good (in_list empty c) x d o m in
     let same = sym (derived_joined d End rest) in (
-      item_then ends ends n g r.1 r.0 same,
-      λ us. let k = item_heads ends g (item_stands false (InList ends)) (tokens_of rest us) in (k.0, k.1, ap (λ z. tokens_of z us) same ∙ joined_tokens (derived_parse d End) rest us ∙ k.2, k.3),
+      item_then place variant n i g r.1 r.0 same,
+      λ us. let k = item_heads place g (item_stands false place) (tokens_of rest us) in (k.0, k.1, ap (λ z. tokens_of z us) same ∙ joined_tokens (derived_parse d End) rest us ∙ k.2, k.3),
     )
+
+pub list_good : {s : Settings} (place : Where) (variant : Variant) (n : Nonterminal) (c : Parameters) (xs : List (Stmt AnyNode)) {ts : List Token} → is_list place ≡ true → (d : Derives true s (list_form c xs) ts) → AllGood d → s.minify ≡ c.minify → (rest : ParseTree) →
+    InItems place variant n rest → InItems place variant n (derived_parse d rest)
+unfolding list_form AllGood derived_parse read_phrase
+list_good place variant n c [] i (fixed g) o m rest r = r
+list_good place variant n c (x ∷ xs) i (both d e) (o, q) m rest r = item_good place variant n (begins_empty xs) c x i d o m (derived_parse e rest) (list_good place variant n c xs i e q m rest r)
+
+pub list_end : (place : Where) (variant : Variant) (n : Nonterminal) → is_list place ≡ true → (rest : ParseTree) → Good (Rest (closing place) variant n) rest → InItems place variant n (Read (punctuator (codes "}")) rest)
+list_end place variant n i rest g = (no_items place variant n i g, end_heads place rest i)
 
 block_of : {s : Settings} (c : Parameters) (x : blocks.BlockStmt AnyNode) {ts : List Token} (d : Derives true s (block_form c x) ts) → AllGood d → s.minify ≡ c.minify → BlockFit (derived_parse d)
 unfolding block_form AllGood derived_parse read_phrase
-block_of c x (both (fixed g) (both d (fixed h))) (y, (o, z)) m =
-    record { inside = derived_parse d (Read (punctuator (codes "}")) End); is = refl; good = λ ends n. (list_good ends n c x.stmts.items d o m).0 }
+block_of c x (both (fixed g) (both d (fixed h))) (y, (o, z)) m = record {
+  inner = λ rest. derived_parse d (Read (punctuator (codes "}")) rest);
+  is = λ rest. refl;
+  good = λ place i variant n rest g. (list_good place variant n c x.stmts.items i d o m (Read (punctuator (codes "}")) rest) (list_end place variant n i rest g)).0;
+}
 
 pub block_in : {s : Settings} (k : Bool) (c : Parameters) (y : AnyNode-F AnyNode) {ts : List Token} (d : Derives true s (node_form k c y Block) ts) → AllGood d → s.minify ≡ c.minify → BlockFit (derived_parse d)
 unfolding node_form part_form stmt_part_form jsx_part_form

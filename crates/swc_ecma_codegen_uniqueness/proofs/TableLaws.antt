@@ -9,7 +9,7 @@ use Rattle.swc_ecma_codegen_syntax.specs.UnitProductions.{UnitProduction, Chain,
 use Rattle.swc_ecma_codegen_syntax.proofs.Chains.{takes_chain}
 use Rattle.swc_ecma_codegen_syntax.proofs.Taken.{chain_takes}
 use Rattle.swc_ecma_codegen_uniqueness.specs.ParseTrees.{Variant}
-use Rattle.swc_ecma_codegen_uniqueness.proofs.Tables.{Power, Plus, Within, Coalescing, Class, Infix, Assigns, Ask, Comma, Dot, ChainDot, OpenParen, OpenBracket, OpenBrace, Line, First, made, left_of, class, left, closes, Tail, OfInfix, whole, last, Control, Open, Arguments, Elements, NextElement, AfterNew, AfterYield, YieldLine, Listed, AsyncLine, InParen, Index, Middle, InKey, InValue, Substitution, waits, stands, decide, Action, Push, Wrap, Reduce, Shift, Turn, Begin, Enter, Leave, Splice, Take, starts, is_item, closed_by, at_item, Where, InList, OfElse, Statement, Entered, Parameter, RestParameter, Valued, Test, Declarators, Initializer, entered, FunctionWord, ReturnWord, ThrowWord, BreakWord, ContinueWord, DebuggerWord, IfWord, WhileWord, WithWord, VarWord, Semicolon, without, with_operand}
+use Rattle.swc_ecma_codegen_uniqueness.proofs.Tables.{Power, Plus, Within, Coalescing, Class, Infix, Assigns, Ask, Comma, Dot, ChainDot, OpenParen, OpenBracket, OpenBrace, Line, First, made, left_of, class, left, closes, Tail, OfInfix, whole, last, Control, Open, Arguments, Elements, NextElement, AfterNew, AfterYield, YieldLine, Listed, AsyncLine, InParen, Index, Middle, InKey, InValue, Substitution, waits, stands, decide, Action, Push, Wrap, Reduce, Shift, Turn, Begin, Enter, Leave, Splice, Take, starts, is_item, closed_by, at_item, Where, InList, OfElse, Statement, Entered, Parameter, RestParameter, Valued, Test, Declarators, Initializer, entered, FunctionWord, ReturnWord, ThrowWord, BreakWord, ContinueWord, DebuggerWord, IfWord, WhileWord, WithWord, VarWord, Semicolon, without, with_operand, Keep, DoWord, TryWord, SwitchWord, CatchParameter, Case, InTry, InCatch, InClause, InMethod, InSetterKey, SetterParameter, ElseWord, OfIf, OfDo}
 
 -- ---- chains of unit productions
 
@@ -44,6 +44,7 @@ wrap_is Enter h = absurd (true≢false (sym h))
 wrap_is Leave h = absurd (true≢false (sym h))
 wrap_is Splice h = absurd (true≢false (sym h))
 wrap_is Take h = absurd (true≢false (sym h))
+wrap_is Keep h = absurd (true≢false (sym h))
 
 abbrev is_push : Action → Bool
 is_push Push = true
@@ -60,6 +61,7 @@ push_is Enter h = absurd (true≢false (sym h))
 push_is Leave h = absurd (true≢false (sym h))
 push_is Splice h = absurd (true≢false (sym h))
 push_is Take h = absurd (true≢false (sym h))
+push_is Keep h = absurd (true≢false (sym h))
 
 -- names of places, of which no node is; and patterns, of which none is here
 abbrev pub is_place : Nonterminal → Bool
@@ -171,12 +173,16 @@ stands_waiting YieldLine n h s = refl
 stands_waiting Listed n h s = refl
 stands_waiting AsyncLine n h s = refl
 stands_waiting (Entered place) n h s = refl
-stands_waiting Parameter n h s = refl
-stands_waiting RestParameter n h s = refl
+stands_waiting (Parameter place) n h s = refl
+stands_waiting (RestParameter place) n h s = refl
 stands_waiting (Valued variant) n h s = refl
 stands_waiting (Test variant) n h s = refl
 stands_waiting Declarators n h s = refl
 stands_waiting Initializer n h s = refl
+stands_waiting CatchParameter n h s = refl
+stands_waiting Case n h s = refl
+stands_waiting InSetterKey n h s = refl
+stands_waiting SetterParameter n h s = refl
 stands_waiting (Statement place) n h s = absurd (true≢false (sym (nothing_stands n true s) ∙ h))
 stands_waiting c n h s = absurd (true≢false (sym (nothing_stands n false s) ∙ h))
 
@@ -509,6 +515,9 @@ is_keyword DebuggerWord = true
 is_keyword IfWord = true
 is_keyword WhileWord = true
 is_keyword WithWord = true
+is_keyword DoWord = true
+is_keyword TryWord = true
+is_keyword SwitchWord = true
 is_keyword VarWord = true
 is_keyword Semicolon = true
 is_keyword l = false
@@ -552,6 +561,7 @@ enter_is Begin h = absurd (true≢false (sym h))
 enter_is Leave h = absurd (true≢false (sym h))
 enter_is Splice h = absurd (true≢false (sym h))
 enter_is Take h = absurd (true≢false (sym h))
+enter_is Keep h = absurd (true≢false (sym h))
 
 -- what begins no expression in the place of a statement
 abbrev pub is_barred : Class → Bool
@@ -588,3 +598,46 @@ begins_test l = refl
 
 pub begins_operand : (t : Token) → decide (Entered OfElse) None t ≡ Push → starts (class t) ≡ true
 begins_operand t e = told _ _ (begins_test (class t)) (ap is_push e)
+
+-- ---- lists
+
+-- a list whose items have no nodes of their own
+abbrev pub is_list : Where → Bool
+is_list (InList ends) = true
+is_list InTry = true
+is_list InCatch = true
+is_list InMethod = true
+is_list place = false
+
+abbrev is_take : Action → Bool
+is_take Take = true
+is_take a = false
+
+take_is : (a : Action) → is_take a ≡ true → a ≡ Take
+take_is Take h = refl
+take_is Shift h = absurd (true≢false (sym h))
+take_is Push h = absurd (true≢false (sym h))
+take_is Wrap h = absurd (true≢false (sym h))
+take_is Reduce h = absurd (true≢false (sym h))
+take_is Turn h = absurd (true≢false (sym h))
+take_is Begin h = absurd (true≢false (sym h))
+take_is Enter h = absurd (true≢false (sym h))
+take_is Leave h = absurd (true≢false (sym h))
+take_is Splice h = absurd (true≢false (sym h))
+take_is Keep h = absurd (true≢false (sym h))
+
+take_test : (place : Where) (l : Class) → if_so (is_list place) (is_take (with_operand (Statement place) l)) ≡ true
+take_test (InList ends) l = refl
+take_test place l = refl
+
+pub list_takes : (place : Where) (l : Class) → is_list place ≡ true → with_operand (Statement place) l ≡ Take
+list_takes place l h = take_is _ (told _ _ (take_test place l) h)
+
+-- an item is no operand
+no_wrap_test : (place : Where) (l : Class) → is_wrap (with_operand (Statement place) l) ≡ false
+no_wrap_test OfIf ElseWord = refl
+no_wrap_test OfDo WhileWord = refl
+no_wrap_test place l = refl
+
+pub no_item_wraps : (place : Where) (l : Class) → with_operand (Statement place) l ≡ Wrap → ⊥
+no_item_wraps place l h = true≢false (sym (ap is_wrap h) ∙ no_wrap_test place l)

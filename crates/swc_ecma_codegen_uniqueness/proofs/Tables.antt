@@ -7,7 +7,7 @@ use Rattle.swc_ecma_codegen_grammar.specs.Tokens.{Token, Value, Characters}
 use Rattle.swc_ecma_codegen_syntax.specs.declared.nonterminals.Nonterminal.{Nonterminal}
 use Rattle.swc_ecma_codegen_syntax.specs.declared.nonterminals.Nonterminal.TheVariants as nt
 use Rattle.swc_ecma_codegen_syntax.specs.Nonterminals.{takes, is_private}
-use Rattle.swc_ecma_codegen_uniqueness.specs.ParseTrees.{Variant, This, Array, Object, Unary, Update, Bin, Assign, Member, SuperProp, Cond, Call, New, Seq, Ident, Lit, Tpl, TaggedTpl, Arrow, Yield, MetaProp, Await, Paren, PrivateName, OptChain, Fn, BlockStmt, EmptyStmt, DebuggerStmt, WithStmt, ReturnStmt, LabeledStmt, BreakStmt, ContinueStmt, IfStmt, ThrowStmt, WhileStmt, VarDecl, ExprStmt, Other}
+use Rattle.swc_ecma_codegen_uniqueness.specs.ParseTrees.{Variant, This, Array, Object, Unary, Update, Bin, Assign, Member, SuperProp, Cond, Call, New, Seq, Ident, Lit, Tpl, TaggedTpl, Arrow, Yield, MetaProp, Await, Paren, PrivateName, OptChain, Fn, BlockStmt, EmptyStmt, DebuggerStmt, WithStmt, ReturnStmt, LabeledStmt, BreakStmt, ContinueStmt, IfStmt, ThrowStmt, WhileStmt, VarDecl, ExprStmt, Other, SwitchStmt, TryStmt, DoWhileStmt}
 
 -- ---- tokens
 
@@ -18,9 +18,9 @@ pub data Level : Type 0 where
 -- what a token is
 pub data Class : Type 0 where
   Infix : (level : Level) → Class
-  Assigns Ask Colon Comma Dot ChainDot OpenParen CloseParen OpenBracket CloseBracket OpenBrace CloseBrace Dots Line Twice Bang FatArrow Semi Semicolon : Class
+  Assigns Ask Colon Comma Dot ChainDot OpenParen CloseParen OpenBracket CloseBracket OpenBrace CloseBrace Dots Line Twice Bang FatArrow Semi Semicolon FirstLine : Class
   First Later : (opens : Bool) → Class
-  NameToken PrivateToken LiteralToken ThisWord NewWord SuperWord ImportWord YieldWord AwaitWord AsyncWord FunctionWord ReturnWord ThrowWord BreakWord ContinueWord DebuggerWord IfWord ElseWord WhileWord WithWord VarWord UnaryWord TargetWord MetaWord Strange : Class
+  NameToken PrivateToken LiteralToken ThisWord NewWord SuperWord ImportWord YieldWord AwaitWord AsyncWord FunctionWord ReturnWord ThrowWord BreakWord ContinueWord DebuggerWord IfWord ElseWord WhileWord WithWord DoWord TryWord CatchWord FinallyWord SwitchWord CaseWord DefaultWord GetWord SetWord VarWord UnaryWord TargetWord MetaWord Strange : Class
 
 abbrev pub look : List (List ℕ × Class) → List ℕ → Class
 look [] text = Strange
@@ -31,7 +31,9 @@ words =
     (codes "this", ThisWord) ∷ (codes "new", NewWord) ∷ (codes "super", SuperWord) ∷ (codes "import", ImportWord) ∷ (codes "yield", YieldWord)
     ∷ (codes "await", AwaitWord) ∷ (codes "async", AsyncWord) ∷ (codes "function", FunctionWord)
     ∷ (codes "return", ReturnWord) ∷ (codes "throw", ThrowWord) ∷ (codes "break", BreakWord) ∷ (codes "continue", ContinueWord) ∷ (codes "debugger", DebuggerWord)
-    ∷ (codes "if", IfWord) ∷ (codes "else", ElseWord) ∷ (codes "while", WhileWord) ∷ (codes "with", WithWord) ∷ (codes "var", VarWord) ∷ (codes "let", VarWord)
+    ∷ (codes "if", IfWord) ∷ (codes "else", ElseWord) ∷ (codes "while", WhileWord) ∷ (codes "do", DoWord) ∷ (codes "try", TryWord) ∷ (codes "catch", CatchWord) ∷ (codes "finally", FinallyWord)
+    ∷ (codes "switch", SwitchWord) ∷ (codes "case", CaseWord) ∷ (codes "default", DefaultWord)
+    ∷ (codes "get", GetWord) ∷ (codes "set", SetWord) ∷ (codes "with", WithWord) ∷ (codes "var", VarWord) ∷ (codes "let", VarWord)
     ∷ (codes "const", VarWord) ∷ (codes "typeof", UnaryWord) ∷ (codes "void", UnaryWord) ∷ (codes "delete", UnaryWord) ∷ (codes "target", TargetWord)
     ∷ (codes "meta", MetaWord) ∷ (codes "true", LiteralToken) ∷ (codes "false", LiteralToken) ∷ (codes "null", LiteralToken)
     ∷ (codes "in", Infix Within) ∷ (codes "instanceof", Infix Comparing) ∷ []
@@ -71,6 +73,7 @@ class_of (kinds.Template part) v = First part.opens
 class_of (kinds.TemplateRest part) v = Later part.opens
 class_of kinds.SameLine v = Line
 class_of kinds.Ending v = Semi
+class_of kinds.Hashbang v = FirstLine
 class_of kind v = Strange
 
 abbrev pub class : Token → Class
@@ -119,7 +122,7 @@ abbrev pub left : Class → Nonterminal
 left (Infix level) = left_of level
 left Assigns = nt.LeftHandSideExpression
 left Ask = nt.ShortCircuitExpression
-left Colon = nt.AssignmentExpression
+left Colon = nt.Expression
 left Comma = nt.AssignmentExpression
 left Dot = nt.ChainBase
 left ChainDot = nt.ChainBase
@@ -134,19 +137,27 @@ left Line = nt.LeftHandSideExpression
 left Semi = nt.Expression
 left c = nt.Uncovered
 
--- an item of a list of statements, or a statement in another: before any token but `else`, and before any
+-- an item of a list of statements, or a statement in another: not before `else`, and before `else` too
 abbrev pub is_item : Nonterminal → Bool
 is_item nt.Statement = true
 is_item nt.Block = true
 is_item n = false
 
-abbrev pub is_no_else : Class → Bool
-is_no_else ElseWord = false
-is_no_else c = true
+-- what stands behind an item begins no part of it
+abbrev pub is_behind : Class → Bool
+is_behind ElseWord = false
+is_behind CatchWord = false
+is_behind FinallyWord = false
+is_behind Semi = false
+is_behind c = true
+
+abbrev pub is_behind_or_else : Class → Bool
+is_behind_or_else ElseWord = true
+is_behind_or_else c = is_behind c
 
 abbrev pub closed_by : Class → Nonterminal → Bool
-closed_by c nt.Statement = is_no_else c
-closed_by c nt.Block = true
+closed_by c nt.Statement = is_behind c
+closed_by c nt.Block = is_behind_or_else c
 closed_by c n = takes (left c) n
 
 -- a token ends what is of a nonterminal
@@ -214,10 +225,11 @@ tail_variant OfAwait = Await
 tail_variant OfYield = Yield
 tail_variant OfArrow = Arrow
 
--- where a statement stands: in a list, of what ends with `}`; behind `if (a)`, behind `else`, behind `while (a)` or `with (a)`, behind `a:`
+-- where a statement stands: in a list, of what ends with `}`, behind `try {`, behind `catch {`, behind `case a:`, in a method of an object; behind `if (a)`, behind `else`, behind
+-- `do`, behind `while (a)` or `with (a)`, behind `a:`
 pub data Where : Type 0 where
   InList : (ends : Variant) → Where
-  OfIf OfElse OfLabel : Where
+  InTry InCatch InClause InMethod OfIf OfElse OfDo OfLabel : Where
   OfLoop : (variant : Variant) → Where
 
 -- Where a node is that is begun: at its end; before its last part; in parentheses; behind `a[`; among arguments; among elements, and behind `a,` of
@@ -225,7 +237,8 @@ pub data Where : Type 0 where
 -- behind `a?.`, `new`, `new.`, `import`, `import.`, `super`, `yield`, what stays on its line behind that, `a` before `++` or `=>`, and `a,`; behind
 -- `async`, what stays on its line behind that, and its parameters; behind `=>`. Before a statement, and behind the first token of an expression in its
 -- place; behind `function`, behind the name, among parameters, behind `...` of them, and behind them; behind `return`, before a value, and before a label;
--- behind `if`, and behind `if (`; behind `let`, and before a value of it.
+-- behind `if`, and behind `if (`; behind `let`, and before a value of it; behind `do a; while (b)`; behind `try`, and its block; behind `catch`, `catch (`,
+-- `catch (a)`, and its block; behind `finally`; behind `switch (a)`, `case`, and `default`.
 pub data Control : Type 0 where
   Closed : (variant : Variant) → Control
   Open : (tail : Tail) → Control
@@ -238,9 +251,12 @@ pub data Control : Type 0 where
   Properties NextProperty AfterKey InKey InValue : Control
   Chained AfterNew AfterNewDot AfterImport AfterImportDot AfterSuper AfterYield YieldLine Postfix Listed AfterAsync AsyncLine AsyncParameters ArrowBody : Control
   Statement Entered : (place : Where) → Control
-  AfterFunction AfterName Parameter RestParameter AfterParameters : Control
+  AfterFunction AfterName : Control
+  Parameter RestParameter AfterParameters : (place : Where) → Control
+  AtKey AsyncKey AtSetter InSetterKey AfterSetter SetterParameter : Control
   AfterWord Valued Jump Headed Test : (variant : Variant) → Control
   Declarators Initializer : Control
+  AfterDo AfterTry BehindTry AfterCatch CatchParameter BehindParameter BehindCatch AfterFinally AfterSwitch Case AfterDefault : Control
 
 -- the nonterminal that stands there
 abbrev pub waits : Control → Nonterminal
@@ -259,12 +275,16 @@ waits YieldLine = nt.AssignmentExpression
 waits Listed = nt.AssignmentExpression
 waits AsyncLine = nt.LeftHandSideExpression
 waits (Entered place) = nt.Expression
-waits Parameter = nt.AssignmentExpression
-waits RestParameter = nt.LeftHandSideExpression
+waits (Parameter place) = nt.AssignmentExpression
+waits (RestParameter place) = nt.LeftHandSideExpression
+waits InSetterKey = nt.AssignmentExpression
+waits SetterParameter = nt.AssignmentExpression
 waits (Valued variant) = nt.Expression
 waits (Test variant) = nt.Expression
 waits Declarators = nt.LeftHandSideExpression
 waits Initializer = nt.AssignmentExpression
+waits CatchParameter = nt.LeftHandSideExpression
+waits Case = nt.Expression
 waits c = nt.Uncovered
 
 abbrev pub at_item : Control → Bool
@@ -295,6 +315,8 @@ variant_of Listed = Seq
 variant_of (Statement OfIf) = IfStmt
 variant_of (Statement OfElse) = IfStmt
 variant_of (Statement OfLabel) = LabeledStmt
+variant_of AfterDo = DoWhileStmt
+variant_of BehindCatch = TryStmt
 variant_of (Statement (OfLoop variant)) = variant
 variant_of c = Other
 
@@ -303,9 +325,9 @@ variant_of c = Other
 -- takes the token, begins a node with it, begins one with the operand at hand and it, ends the topmost one; takes the token, which tells that what
 -- stands before it was otherwise: `]` that the comma before it ends the list, `=>` that what is in parentheses are parameters. `{` begins a block; a
 -- token begins an expression in the place of a statement, and with it, `;` ends the statement; what is at hand has no node of its own, before a token
--- that is taken, or before another item.
+-- that is taken, or before another item. An item has one.
 pub data Action : Type 0 where
-  Shift Push Wrap Reduce Turn Begin Enter Leave Splice Take : Action
+  Shift Push Wrap Reduce Turn Begin Enter Leave Splice Take Keep : Action
 
 -- with no operand at hand
 abbrev pub without : Control → Class → Action
@@ -324,15 +346,24 @@ without Properties NameToken = Shift
 without Properties LiteralToken = Shift
 without Properties OpenBracket = Shift
 without Properties Dots = Shift
+without Properties GetWord = Shift
+without Properties SetWord = Shift
+without Properties AsyncWord = Shift
+without Properties (Infix Times) = Shift
 without Properties CloseBrace = Shift
 without NextProperty NameToken = Shift
 without NextProperty LiteralToken = Shift
 without NextProperty OpenBracket = Shift
 without NextProperty Dots = Shift
+without NextProperty GetWord = Shift
+without NextProperty SetWord = Shift
+without NextProperty AsyncWord = Shift
+without NextProperty (Infix Times) = Shift
 without NextProperty CloseBrace = Turn
 without AfterKey Colon = Shift
 without AfterKey Comma = Shift
 without AfterKey Assigns = Shift
+without AfterKey OpenParen = Shift
 without AfterKey CloseBrace = Shift
 without (Arguments variant) CloseParen = Shift
 without (Arguments variant) Dots = Shift
@@ -372,6 +403,16 @@ without ArrowBody OpenBrace = Shift
 without ArrowBody c = Enter
 without (Statement place) OpenBrace = Begin
 without (Statement (InList ends)) CloseBrace = Shift
+without (Statement (InList ends)) FirstLine = Shift
+without (Statement InTry) CloseBrace = Shift
+without (Statement InCatch) CloseBrace = Shift
+without (Statement InMethod) CloseBrace = Shift
+without (Statement InClause) CloseBrace = Shift
+without (Statement InClause) CaseWord = Shift
+without (Statement InClause) DefaultWord = Shift
+without (Statement place) DoWord = Push
+without (Statement place) TryWord = Push
+without (Statement place) SwitchWord = Push
 without (Statement place) FunctionWord = Push
 without (Statement place) ReturnWord = Push
 without (Statement place) ThrowWord = Push
@@ -389,11 +430,22 @@ without AfterFunction (Infix Times) = Shift
 without AfterFunction NameToken = Shift
 without AfterFunction OpenParen = Shift
 without AfterName OpenParen = Shift
-without Parameter CloseParen = Shift
-without Parameter Dots = Shift
-without Parameter c = Push
-without RestParameter c = Push
-without AfterParameters OpenBrace = Shift
+without (Parameter place) CloseParen = Shift
+without (Parameter place) Dots = Shift
+without (Parameter place) c = Push
+without (RestParameter place) c = Push
+without (AfterParameters place) OpenBrace = Shift
+without AtKey NameToken = Shift
+without AtKey LiteralToken = Shift
+without AtKey OpenBracket = Shift
+without AtKey (Infix Times) = Shift
+without AsyncKey Line = Shift
+without AtSetter NameToken = Shift
+without AtSetter LiteralToken = Shift
+without AtSetter OpenBracket = Shift
+without InSetterKey c = Push
+without AfterSetter OpenParen = Shift
+without SetterParameter c = Push
 without (AfterWord variant) Semi = Shift
 without (AfterWord variant) Line = Shift
 without (Valued variant) c = Push
@@ -402,6 +454,19 @@ without (Headed variant) OpenParen = Shift
 without (Test variant) c = Push
 without Declarators c = Push
 without Initializer c = Push
+without AfterDo Semi = Shift
+without AfterTry OpenBrace = Shift
+without BehindTry CatchWord = Shift
+without BehindTry FinallyWord = Shift
+without AfterCatch OpenBrace = Shift
+without AfterCatch OpenParen = Shift
+without CatchParameter c = Push
+without BehindParameter OpenBrace = Shift
+without BehindCatch FinallyWord = Shift
+without AfterFinally OpenBrace = Shift
+without AfterSwitch OpenBrace = Shift
+without Case c = Push
+without AfterDefault Colon = Shift
 without control c = Reduce
 
 abbrev ends : Nonterminal → Class → Action
@@ -427,13 +492,22 @@ with_operand AfterNew c = ends nt.NewExpression c
 with_operand YieldLine c = ends nt.AssignmentExpression c
 with_operand AsyncLine Line = Shift
 with_operand (Statement (InList ends)) c = Take
+with_operand (Statement InTry) c = Take
+with_operand (Statement InCatch) c = Take
+with_operand (Statement InMethod) c = Take
+with_operand (Statement InClause) c = Keep
+with_operand (Statement OfDo) WhileWord = Shift
+with_operand CatchParameter CloseParen = Shift
+with_operand Case Colon = Shift
 with_operand (Statement OfIf) ElseWord = Shift
 with_operand (Statement place) c = Reduce
 with_operand (Entered place) Semi = Leave
 with_operand (Entered place) Colon = Leave
-with_operand Parameter Comma = Splice
-with_operand Parameter CloseParen = Splice
-with_operand RestParameter CloseParen = Shift
+with_operand (Parameter place) Comma = Splice
+with_operand (Parameter place) CloseParen = Splice
+with_operand (RestParameter place) CloseParen = Shift
+with_operand InSetterKey CloseBracket = Shift
+with_operand SetterParameter CloseParen = Shift
 with_operand (Valued variant) Semi = Shift
 with_operand (Test variant) CloseParen = Shift
 with_operand Declarators Assigns = Splice
@@ -451,6 +525,14 @@ at_hand control (Some variant) c = with_operand control c
 
 abbrev pub decide : Control → Option Variant → Token → Action
 decide control hand t = at_hand control hand (class t)
+
+-- behind the `}` of a list
+abbrev pub closing : Where → Control
+closing (InList ends) = Closed ends
+closing InTry = BehindTry
+closing InCatch = BehindCatch
+closing InMethod = AfterKey
+closing place = Closed SwitchStmt
 
 -- behind a token that is taken with no operand at hand
 abbrev pub shifted_to : Control → Class → Control
@@ -478,31 +560,61 @@ shifted_to InParen CloseParen = Closed Paren
 shifted_to Properties OpenBracket = InKey
 shifted_to Properties Dots = InValue
 shifted_to Properties CloseBrace = Closed Object
+shifted_to Properties GetWord = AtKey
+shifted_to Properties SetWord = AtSetter
+shifted_to Properties AsyncWord = AsyncKey
+shifted_to Properties (Infix Times) = AtKey
 shifted_to Properties c = AfterKey
 shifted_to NextProperty OpenBracket = InKey
 shifted_to NextProperty Dots = InValue
 shifted_to NextProperty CloseBrace = Closed Object
+shifted_to NextProperty GetWord = AtKey
+shifted_to NextProperty SetWord = AtSetter
+shifted_to NextProperty AsyncWord = AsyncKey
+shifted_to NextProperty (Infix Times) = AtKey
 shifted_to NextProperty c = AfterKey
 shifted_to AfterKey Colon = InValue
 shifted_to AfterKey Assigns = InValue
 shifted_to AfterKey CloseBrace = Closed Object
+shifted_to AfterKey OpenParen = Parameter InMethod
 shifted_to AfterKey c = NextProperty
 shifted_to AfterAsync c = AsyncLine
 shifted_to AsyncParameters c = ArrowBody
 shifted_to ArrowBody c = Statement (InList Arrow)
-shifted_to (Statement (InList ends)) c = Closed ends
+shifted_to (Statement (InList ends)) FirstLine = Statement (InList ends)
+shifted_to (Statement InClause) CaseWord = Case
+shifted_to (Statement InClause) DefaultWord = AfterDefault
+shifted_to (Statement place) c = closing place
 shifted_to AfterFunction NameToken = AfterName
-shifted_to AfterFunction OpenParen = Parameter
-shifted_to AfterName c = Parameter
-shifted_to Parameter Dots = RestParameter
-shifted_to Parameter c = AfterParameters
-shifted_to AfterParameters c = Statement (InList Fn)
+shifted_to AfterFunction OpenParen = Parameter (InList Fn)
+shifted_to AfterName c = Parameter (InList Fn)
+shifted_to (Parameter place) Dots = RestParameter place
+shifted_to (Parameter place) c = AfterParameters place
+shifted_to (AfterParameters place) c = Statement place
+shifted_to AtKey OpenBracket = InKey
+shifted_to AtKey (Infix Times) = AtKey
+shifted_to AtKey c = AfterKey
+shifted_to AsyncKey c = AtKey
+shifted_to AtSetter OpenBracket = InSetterKey
+shifted_to AtSetter c = AfterSetter
+shifted_to AfterSetter c = SetterParameter
 shifted_to (AfterWord variant) Semi = Closed variant
 shifted_to (AfterWord ReturnStmt) c = Valued ReturnStmt
 shifted_to (AfterWord ThrowStmt) c = Valued ThrowStmt
 shifted_to (AfterWord variant) c = Jump variant
 shifted_to (Jump variant) c = AfterWord variant
 shifted_to (Headed variant) c = Test variant
+shifted_to AfterDo c = Closed DoWhileStmt
+shifted_to AfterTry c = Statement InTry
+shifted_to BehindTry CatchWord = AfterCatch
+shifted_to BehindTry c = AfterFinally
+shifted_to AfterCatch OpenParen = CatchParameter
+shifted_to AfterCatch c = Statement InCatch
+shifted_to BehindParameter c = Statement InCatch
+shifted_to BehindCatch c = AfterFinally
+shifted_to AfterFinally c = Statement (InList TryStmt)
+shifted_to AfterSwitch c = Statement InClause
+shifted_to AfterDefault c = Statement InClause
 shifted_to control c = control
 
 -- behind one that is taken with an operand at hand
@@ -520,10 +632,17 @@ passed_to InValue CloseBrace = Closed Object
 passed_to InValue c = NextProperty
 passed_to (Substitution variant) (Later false) = Closed variant
 passed_to AsyncLine c = AsyncParameters
+passed_to (Statement OfDo) c = Headed DoWhileStmt
 passed_to (Statement place) c = Statement OfElse
-passed_to Parameter Comma = Parameter
-passed_to Parameter c = AfterParameters
-passed_to RestParameter c = AfterParameters
+passed_to CatchParameter c = BehindParameter
+passed_to Case c = Statement InClause
+passed_to (Test DoWhileStmt) c = AfterDo
+passed_to (Test SwitchStmt) c = AfterSwitch
+passed_to (Parameter place) Comma = Parameter place
+passed_to (Parameter place) c = AfterParameters place
+passed_to (RestParameter place) c = AfterParameters place
+passed_to InSetterKey c = AfterSetter
+passed_to SetterParameter c = AfterParameters InMethod
 passed_to (Valued variant) c = Closed variant
 passed_to (Test IfStmt) c = Statement OfIf
 passed_to (Test variant) c = Statement (OfLoop variant)
@@ -574,6 +693,9 @@ started DebuggerWord = AfterWord DebuggerStmt
 started IfWord = Headed IfStmt
 started WhileWord = Headed WhileStmt
 started WithWord = Headed WithStmt
+started DoWord = Statement OfDo
+started TryWord = AfterTry
+started SwitchWord = Headed SwitchStmt
 started VarWord = Declarators
 started Semicolon = Closed EmptyStmt
 started c = Closed Other

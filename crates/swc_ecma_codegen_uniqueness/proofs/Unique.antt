@@ -55,7 +55,7 @@ unfolding form_parse settled
 expr_derived a x = derived_settled x.1 End
 
 -- what syntax leaves open is no node
-known_before : (p : ParseTree) → AreKnown (settled p) → AreKnown p
+pub known_before : (p : ParseTree) → AreKnown (settled p) → AreKnown p
 unfolding AreKnown settled
 known_before End k = k
 known_before (Read t p) (e, k) = (e, known_before p k)

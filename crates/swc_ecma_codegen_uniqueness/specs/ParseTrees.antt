@@ -30,7 +30,7 @@ use Rattle.swc_ecma_codegen_syntax.specs.NameForms.{is_one_of}
 -- laws don't speak: async functions, methods, classes, JSX.
 pub data Variant : Type 0 where
   This Array Object Fn Unary Update Bin Assign Member SuperProp Cond Call New Seq Ident Lit Tpl TaggedTpl Arrow Yield MetaProp Await Paren PrivateName OptChain : Variant
-  BlockStmt EmptyStmt DebuggerStmt WithStmt ReturnStmt LabeledStmt BreakStmt ContinueStmt IfStmt ThrowStmt WhileStmt VarDecl ExprStmt : Variant
+  BlockStmt EmptyStmt DebuggerStmt WithStmt ReturnStmt LabeledStmt BreakStmt ContinueStmt IfStmt SwitchStmt ThrowStmt TryStmt WhileStmt DoWhileStmt VarDecl ExprStmt : Variant
   Foreign : Variant
   Other : Variant
 
@@ -68,9 +68,9 @@ unfoldable pub is_known : Variant → Bool
 is_known Other = false
 is_known variant = true
 
--- the words of other statements and declarations
+-- the words of statements and declarations of which the laws don't speak
 abbrev other_words : List (List ℕ)
-other_words = codes "for" ∷ codes "switch" ∷ codes "try" ∷ codes "do" ∷ codes "class" ∷ []
+other_words = codes "for" ∷ codes "class" ∷ []
 
 unfoldable pub is_known_kind : Kind → Value → Bool
 is_known_kind Word (Characters text) = not (is_one_of other_words text)
@@ -155,8 +155,11 @@ stmt_variant (stmts.Labeled n) = LabeledStmt
 stmt_variant (stmts.Break n) = BreakStmt
 stmt_variant (stmts.Continue n) = ContinueStmt
 stmt_variant (stmts.If n) = IfStmt
+stmt_variant (stmts.Switch n) = SwitchStmt
 stmt_variant (stmts.Throw n) = ThrowStmt
+stmt_variant (stmts.Try n) = TryStmt
 stmt_variant (stmts.While n) = WhileStmt
+stmt_variant (stmts.DoWhile n) = DoWhileStmt
 stmt_variant (stmts.Decl n) = decl_variant n
 stmt_variant (stmts.Expr n) = ExprStmt
 stmt_variant n = Other

@@ -10,6 +10,7 @@ use Rattle.swc_ecma_codegen_tree.specs.declared.parts.ExprPart.TheVariants as ex
 use Rattle.swc_ecma_codegen_tree.specs.declared.parts.StmtPart.TheVariants as stmt_parts
 use Rattle.swc_ecma_codegen_tree.specs.declared.pats.Pat.{Pat}
 use Rattle.swc_ecma_codegen_tree.specs.declared.pats.Pat.TheVariants as pats
+use Rattle.swc_ecma_codegen_tree.specs.declared.programs.Program.{Program}
 use Rattle.swc_ecma_codegen_grammar.specs.Keys.{key_token}
 use Rattle.swc_ecma_codegen_grammar.specs.Names.{name_value}
 use Rattle.swc_ecma_codegen_grammar.specs.SpelledNames.{spelled_name}
@@ -18,10 +19,11 @@ use Rattle.swc_ecma_codegen_grammar.specs.Settings.{Settings}
 use Rattle.swc_ecma_codegen_grammar.specs.Tokens.{Token}
 use Rattle.swc_ecma_codegen_grammar.specs.Tokens as tokens
 use Rattle.swc_ecma_codegen_grammar.specs.declared.roles.Role.{Role}
-use Rattle.swc_ecma_codegen_grammar.specs.declared.roles.Role.TheVariants.{Expression, Pattern, Statement, Block, Function, FunctionHead, ChainMember, ChainCall, Template, TaggedTemplate}
+use Rattle.swc_ecma_codegen_grammar.specs.declared.roles.Role.TheVariants.{Expression, Pattern, Statement, Block, Function, FunctionHead, MethodHead, PropertyName, ChainMember, ChainCall, Template, TaggedTemplate}
 use Rattle.swc_ecma_codegen_syntax.specs.declared.parameters.Parameters.{Parameters}
 use Rattle.swc_ecma_codegen_syntax.specs.Parameters.{before}
 use Rattle.swc_ecma_codegen_syntax.specs.Forms.{Form, Fixed, Part, Simple, Restricted, Lone, Both, Provided, Closed, Bare, Followed, role_in}
+use Rattle.swc_ecma_codegen_syntax.specs.ModuleForms.{program_form}
 use Rattle.swc_ecma_codegen_syntax.specs.NodeForms.{node_form}
 use Rattle.swc_ecma_codegen_uniqueness.specs.ParseTrees.{Variant, EmptyStmt, ParseTree, End, Read, Node, node_variant}
 
@@ -58,8 +60,8 @@ unfoldable pub is_plain_head : {X : Type 0} → AnyNode-F X → Bool
 is_plain_head (nodes.StmtPart (stmt_parts.Function n)) = not n.value.is_async
 is_plain_head n = false
 
--- They are parts of the node above them, and no nodes of their own; so are a template, a link of an optional chain, a block, and a function without its
--- name.
+-- They are parts of the node above them, and no nodes of their own; so are a template, a link of an optional chain, a block, a key, and a function without
+-- its name.
 unfoldable pub is_inlined : {X : Type 0} → Role → AnyNode-F X → Bool
 is_inlined (ChainMember optional) n = true
 is_inlined (ChainCall optional) n = true
@@ -69,6 +71,8 @@ is_inlined Pattern n = is_inlined_pattern n
 is_inlined Block n = true
 is_inlined Function n = true
 is_inlined FunctionHead n = is_plain_head n
+is_inlined MethodHead n = true
+is_inlined PropertyName n = true
 is_inlined role n = false
 
 unfoldable pub placed : Bool → Variant → (ParseTree → ParseTree) → ParseTree → ParseTree
@@ -111,3 +115,7 @@ expr_before s c n rest = parse s (whole.Expr n) Expression c rest
 
 abbrev pub expr_parse : Settings → Parameters → Expr AnyNode → ParseTree
 expr_parse s c n = expr_before s c n End
+
+-- a program, whose list of statements is in order, each without a node of its own
+abbrev pub program_parse : Settings → Program AnyNode → ParseTree
+program_parse s n = form_parse (parse s) s (program_form s.minify n) End

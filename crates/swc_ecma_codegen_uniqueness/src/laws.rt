@@ -4,17 +4,18 @@
 ghost use Rattle.std.specs.Prelude.{◌≡◌, true, false, List, ◌++◌};
 ghost use Rattle.swc_ecma_codegen_tree.specs.declared.exprs.Expr.{Expr};
 ghost use Rattle.swc_ecma_codegen_tree.specs.declared.links.AnyNode.{AnyNode};
+ghost use Rattle.swc_ecma_codegen_tree.specs.declared.programs.Program.{Program};
 ghost use Rattle.swc_ecma_codegen_grammar.specs.Phrases.{Generates};
 ghost use Rattle.swc_ecma_codegen_grammar.specs.Settings.{Settings};
-ghost use Rattle.swc_ecma_codegen_grammar.specs.TreePhrases.{expr_phrase};
+ghost use Rattle.swc_ecma_codegen_grammar.specs.TreePhrases.{expr_phrase, program_phrase};
 ghost use Rattle.swc_ecma_codegen_grammar.specs.Tokens.{Token};
 ghost use Rattle.swc_ecma_codegen_syntax.specs.declared.nonterminals.Nonterminal.TheVariants.{Expression};
 ghost use Rattle.swc_ecma_codegen_syntax.specs.declared.parameters.Parameters.{Parameters as Given};
-ghost use Rattle.swc_ecma_codegen_syntax.specs.Derives.{DerivesExpr, bare_phrase, expr_verdict};
+ghost use Rattle.swc_ecma_codegen_syntax.specs.Derives.{DerivesExpr, DerivesProgram, bare_phrase, expr_verdict, program_verdict};
 ghost use Rattle.swc_ecma_codegen_syntax.specs.ExprForms.{expr_form};
 ghost use Rattle.swc_ecma_codegen_syntax.specs.Verdicts.{holds};
 ghost use Rattle.swc_ecma_codegen_uniqueness.specs.ParseTrees.{AreCommasAndParentheses, AreKnown, Node, ParseTree, End, expr_variant, settled, tokens_of};
-ghost use Rattle.swc_ecma_codegen_uniqueness.specs.Parses.{expr_before, expr_parse, form_parse, parse};
+ghost use Rattle.swc_ecma_codegen_uniqueness.specs.Parses.{expr_before, expr_parse, form_parse, parse, program_parse};
 
 /// The parse tree of an expression is a node round what its production says, wherever the expression stands.
 #[tactic(auto, using(crate::proofs::ParseLaws::expr_parse_at))]
@@ -37,8 +38,8 @@ pub fn parse_trees_have_their_tokens()
 ///
 /// `a + b * c` isn't read as the product of `a + b` and `c`, `new a().b` not as `new (a().b)`, `a?.b.c` not as a member of
 /// `(a?.b)`, `(a, b) => c` not as a sequence, and `else` goes with the `if` next before it. A pattern has the parse tree of the
-/// expression that covers it. Of async functions, methods, classes, JSX and some statements nothing is said: `AreKnown` leaves out
-/// trees that hold one. Words of the grammar and names are different tokens here: the word `yield` isn't the name `yield`.
+/// expression that covers it. Of classes, JSX, async functions and `for` nothing is said: `AreKnown` leaves out trees that hold one.
+/// Words of the grammar and names are different tokens here: the word `yield` isn't the name `yield`.
 /// ECMA-262, sections 13 to 15.
 #[tactic(auto, using(crate::proofs::Unique::one_parse))]
 pub fn tokens_tell_the_tree()
@@ -59,4 +60,38 @@ pub fn kept_trees_are_told()
         → Generates t (bare_phrase (expr_phrase b)) ts
         → AreKnown (expr_parse s c a) → AreKnown (expr_parse t e b)
         → expr_parse s c a ≡ expr_parse t e b }
+{}
+
+/// If one list of tokens is derived with two programs, they have one parse tree.
+///
+/// `if (a) if (b) c; else d;` isn't read with `else` of the first `if`, nor `a` and `++b;` as `a++` and `b;`: `[no LineTerminator
+/// here]` is a token. So whoever reads the tokens by the grammar gets the program that they were printed of, if it holds nothing
+/// that `AreKnown` leaves out: classes, JSX, async functions, `for`, imports and exports. ECMA-262, section 16.
+#[tactic(auto, using(crate::proofs::Programs::one_program))]
+pub fn tokens_tell_the_program()
+    ensures { (s t : Settings) (a b : Program AnyNode) (ts : List Token)
+        → DerivesProgram true s a ts → DerivesProgram true t b ts
+        → AreKnown (program_parse s a) → AreKnown (program_parse t b)
+        → program_parse s a ≡ program_parse t b }
+{}
+
+/// Two programs for which `keeps_structure` answers true, and which read as the same tokens, have one parse tree. The tokens are
+/// those of the trees, without what syntax leaves open.
+#[tactic(auto, using(crate::proofs::Programs::kept_program))]
+pub fn kept_programs_are_told()
+    ensures { (s t : Settings) (a b : Program AnyNode) (ts : List Token)
+        → holds true (program_verdict a) ≡ true → holds true (program_verdict b) ≡ true
+        → Generates s (bare_phrase (program_phrase a)) ts
+        → Generates t (bare_phrase (program_phrase b)) ts
+        → AreKnown (program_parse s a) → AreKnown (program_parse t b)
+        → program_parse s a ≡ program_parse t b }
+{}
+
+/// The tokens that are derived with a program are those of its parse tree, in order, and between them commas and parentheses that
+/// syntax leaves open.
+#[tactic(auto, using(crate::proofs::Programs::program_tokens))]
+pub fn program_trees_have_their_tokens()
+    ensures { (s : Settings) (a : Program AnyNode) (ts : List Token) → DerivesProgram true s a ts
+        → (p : ParseTree) × (settled p ≡ program_parse s a) × AreCommasAndParentheses p
+        × ((us : List Token) → tokens_of p us ≡ ts ++ us) }
 {}

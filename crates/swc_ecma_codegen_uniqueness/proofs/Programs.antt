@@ -1,0 +1,121 @@
+-- Of a list of tokens there is one program.
+use Rattle.std.proofs.Common.{◌≡◌, Bool, true, List, [], ◌∷◌, ◌++◌, Option, Some, None, refl, sym, ap, ◌∙◌, subst}
+use Rattle.std.specs.Prelude.{codes}
+use Rattle.std.specs.declared.string.String.{String}
+use Rattle.std.proofs.lemmas.Bool.{true≢false}
+use Rattle.swc_ecma_codegen_tree.specs.declared.links.AnyNode.{AnyNode, AnyNode-F, out-AnyNode}
+use Rattle.swc_ecma_codegen_tree.specs.declared.links.AnyNode.TheOpen as nodes
+use Rattle.swc_ecma_codegen_tree.specs.declared.parts.ExprPart.TheVariants as expr_parts
+use Rattle.swc_ecma_codegen_tree.specs.declared.programs.ModuleItem.{ModuleItem}
+use Rattle.swc_ecma_codegen_tree.specs.declared.programs.ModuleItem.TheVariants as module_items
+use Rattle.swc_ecma_codegen_tree.specs.declared.programs.Program.{Program}
+use Rattle.swc_ecma_codegen_tree.specs.declared.programs.Program.TheVariants as programs
+use Rattle.swc_ecma_codegen_grammar.specs.Phrases.{Generates}
+use Rattle.swc_ecma_codegen_grammar.specs.Settings.{Settings}
+use Rattle.swc_ecma_codegen_grammar.specs.StmtPhrases.{shebang}
+use Rattle.swc_ecma_codegen_grammar.specs.Tokens.{Token, punctuator, token_of}
+use Rattle.swc_ecma_codegen_grammar.specs.TreePhrases.{program_phrase}
+use Rattle.swc_ecma_codegen_grammar.specs.declared.roles.Role.TheVariants.{ModuleDeclaration}
+use Rattle.swc_ecma_codegen_syntax.specs.declared.nonterminals.Nonterminal.TheVariants as nt
+use Rattle.swc_ecma_codegen_syntax.specs.declared.parameters.Parameters.{Parameters}
+use Rattle.swc_ecma_codegen_syntax.specs.Parameters.{in_list, of_module, of_script}
+use Rattle.swc_ecma_codegen_syntax.specs.Forms.{Form}
+use Rattle.swc_ecma_codegen_syntax.specs.ModuleForms.{item_form, begins_empty_item, items_form, module_form, script_form, program_form}
+use Rattle.swc_ecma_codegen_syntax.specs.Derives.{Derives, DerivesProgram, bare_phrase, program_verdict, fixed, part, both}
+use Rattle.swc_ecma_codegen_syntax.specs.Verdicts.{holds}
+use Rattle.swc_ecma_codegen_syntax.proofs.RootLaws.{program_complete}
+use Rattle.swc_ecma_codegen_uniqueness.specs.ParseTrees.{ParseTree, End, Read, Optional, Node, BlockStmt, is_known, AreCommasAndParentheses, AreKnown, part_variant, node_variant, settled, tokens_of}
+use Rattle.swc_ecma_codegen_uniqueness.specs.Parses.{placed, is_inlined, form_parse, program_parse}
+use Rattle.swc_ecma_codegen_uniqueness.proofs.Tables.{InList, Statement}
+use Rattle.swc_ecma_codegen_uniqueness.proofs.Machine.{Rest, Good, joined, shifted, one_rest}
+use Rattle.swc_ecma_codegen_uniqueness.proofs.Shapes.{ended}
+use Rattle.swc_ecma_codegen_uniqueness.proofs.Reading.{read_phrase, derived_parse}
+use Rattle.swc_ecma_codegen_uniqueness.proofs.Joined.{derived_joined}
+use Rattle.swc_ecma_codegen_uniqueness.proofs.Parsed.{tokens_before, derived_allowed}
+use Rattle.swc_ecma_codegen_uniqueness.proofs.Fits.{PlacedGood, AllGood}
+use Rattle.swc_ecma_codegen_uniqueness.proofs.Linking.{where_read}
+use Rattle.swc_ecma_codegen_uniqueness.proofs.Statements.{InItems, item_good, list_good, list_end}
+use Rattle.swc_ecma_codegen_uniqueness.proofs.Layers.{all_good}
+use Rattle.swc_ecma_codegen_uniqueness.proofs.ParseLaws.{derived_settled}
+use Rattle.swc_ecma_codegen_uniqueness.proofs.Unique.{known_before}
+
+-- ---- a program is read as a list of statements
+
+abbrev InProgram : ParseTree → Type 0
+InProgram m = InItems (InList BlockStmt) BlockStmt nt.Statement m
+
+no_declaration : {X : Type 0} (y : AnyNode-F X) → is_known (node_variant y ModuleDeclaration) ≡ true → ⊥
+unfolding node_variant part_variant is_known
+no_declaration (nodes.ExprPart (expr_parts.Pat n)) k = true≢false (sym k)
+no_declaration y k = true≢false (sym k)
+
+items_good : {s : Settings} (c : Parameters) (xs : List (ModuleItem AnyNode)) {ts : List Token} (d : Derives true s (items_form c xs) ts) → AllGood d → s.minify ≡ c.minify → (rest : ParseTree) → InProgram rest → InProgram (derived_parse d rest)
+unfolding items_form item_form AllGood PlacedGood derived_parse read_phrase is_inlined
+items_good c [] (fixed g) o m rest r = r
+items_good c (module_items.Stmt x ∷ xs) (both d e) (o, q) m rest r = item_good (InList BlockStmt) BlockStmt nt.Statement (begins_empty_item xs) c x refl d o m (derived_parse e rest) (items_good c xs e q m rest r)
+items_good c (module_items.ModuleDecl x ∷ xs) (both (part a sa d) e) (o, q) m rest r = absurd (no_declaration (out-AnyNode x.node.value) (o m).known)
+
+first_line : (s : Settings) {Z : Type 0} (o : Option (String Z)) (ts : List Token) (g : Generates s (shebang o) ts) {m : ParseTree} → Good (Rest (Statement (InList BlockStmt)) BlockStmt nt.Statement) m →
+    Good (Rest (Statement (InList BlockStmt)) BlockStmt nt.Statement) (read_phrase s (shebang o) ts g m)
+unfolding shebang read_phrase token_of
+first_line s None ts g h = h
+first_line s (Some text) ts g {m = m} h = subst (λ z. Good (Rest (Statement (InList BlockStmt)) BlockStmt nt.Statement) z) (sym (where_read s _ _ ts g m)) (shifted refl h)
+
+abbrev brace : Token
+brace = punctuator (codes "}")
+
+program_good : {s : Settings} (b : Bool) (n : Program AnyNode) {ts : List Token} (d : Derives true s (program_form b n) ts) → AllGood d → s.minify ≡ b → Good (Rest (Statement (InList BlockStmt)) BlockStmt nt.Statement) (derived_parse d (Read brace End))
+unfolding program_form script_form module_form AllGood derived_parse
+program_good {s = s} b (programs.Script n) (both (fixed {ts = ts} g) d) (x, o) m =
+    first_line s n.shebang ts g (list_good (InList BlockStmt) BlockStmt nt.Statement (record of_script { minify = b }) n.body.items refl d o m (Read brace End) (list_end (InList BlockStmt) BlockStmt nt.Statement refl End (ended BlockStmt nt.Statement))).0
+program_good {s = s} b (programs.Module n) (both (fixed {ts = ts} g) d) (x, o) m =
+    first_line s n.shebang ts g (items_good (record of_module { minify = b }) n.body.items d o m (Read brace End) (list_end (InList BlockStmt) BlockStmt nt.Statement refl End (ended BlockStmt nt.Statement))).0
+
+-- ---- so its tokens tell it
+
+abbrev without_last : ParseTree → ParseTree
+without_last End = End
+without_last (Read t End) = End
+without_last (Read t p) = Read t (without_last p)
+without_last (Optional t p) = Optional t (without_last p)
+without_last (Node s p q) = Node s p (without_last q)
+
+last_gone : (p : ParseTree) (t : Token) → without_last (joined p (Read t End)) ≡ p
+last_gone End t = refl
+last_gone (Read u End) t = refl
+last_gone (Read u (Read v p)) t = ap (Read u) (last_gone (Read v p) t)
+last_gone (Read u (Optional v p)) t = ap (Read u) (last_gone (Optional v p) t)
+last_gone (Read u (Node s p q)) t = ap (Read u) (last_gone (Node s p q) t)
+last_gone (Optional u p) t = ap (Optional u) (last_gone p t)
+last_gone (Node s p q) t = ap (Node s p) (last_gone q t)
+
+abbrev inside_of : ParseTree → ParseTree
+inside_of (Node s p q) = p
+inside_of p = End
+
+program_settled : {s : Settings} (n : Program AnyNode) {ts : List Token} (d : DerivesProgram true s n ts) → settled (derived_parse d End) ≡ program_parse s n
+unfolding settled
+program_settled n d = derived_settled d End
+
+all_known : {s : Settings} (n : Program AnyNode) {ts : List Token} (d : DerivesProgram true s n ts) → AreKnown (program_parse s n) → AllGood d
+all_known n d k = (all_good d End (known_before (derived_parse d End) (subst AreKnown (sym (program_settled n d)) k))).0
+
+whole : {s : Settings} (n : Program AnyNode) {ts : List Token} (d : DerivesProgram true s n ts) → without_last (derived_parse d (Read brace End)) ≡ derived_parse d End
+whole n d = ap without_last (sym (derived_joined d End (Read brace End))) ∙ last_gone (derived_parse d End) brace
+
+pub one_program : (s t : Settings) (a b : Program AnyNode) (ts : List Token) → DerivesProgram true s a ts → DerivesProgram true t b ts → AreKnown (program_parse s a) → AreKnown (program_parse t b) → program_parse s a ≡ program_parse t b
+unfolding punctuator tokens_of
+one_program s t a b ts d e h k =
+    let same = one_rest (Statement (InList BlockStmt)) (punctuator (codes ")")) BlockStmt nt.Statement (derived_parse d (Read brace End)) (derived_parse e (Read brace End)) refl refl
+    (program_good s.minify a d (all_known a d h) refl) (program_good t.minify b e (all_known b e k) refl)
+    (tokens_before d (Read brace End) (punctuator (codes ")") ∷ []) ∙ sym (tokens_before e (Read brace End) (punctuator (codes ")") ∷ []))) in
+    sym (program_settled a d) ∙ ap settled (sym (whole a d) ∙ ap (λ z. without_last (inside_of z)) same ∙ whole b e) ∙ program_settled b e
+
+pub kept_program : (s t : Settings) (a b : Program AnyNode) (ts : List Token) → holds true (program_verdict a) ≡ true → holds true (program_verdict b) ≡ true → Generates s (bare_phrase (program_phrase a)) ts →
+    Generates t (bare_phrase (program_phrase b)) ts → AreKnown (program_parse s a) → AreKnown (program_parse t b) → program_parse s a ≡ program_parse t b
+kept_program s t a b ts h k x y = one_program s t a b ts (program_complete true a _ refl h s ts x) (program_complete true b _ refl k t ts y)
+
+pub program_tokens : (s : Settings) (a : Program AnyNode) (ts : List Token) → DerivesProgram true s a ts →
+    (p : ParseTree) × (settled p ≡ program_parse s a) × AreCommasAndParentheses p × ((us : List Token) → tokens_of p us ≡ ts ++ us)
+unfolding tokens_of AreCommasAndParentheses
+program_tokens s a ts d = (derived_parse d End, program_settled a d, derived_allowed d End tt, λ us. tokens_before d End us)
