@@ -38,7 +38,8 @@ use Rattle.swc_ecma_codegen_syntax.specs.NodeForms.{node_form, node_nonterminal,
 use Rattle.swc_ecma_codegen_syntax.specs.Derives.{Derives, fixed, part, both, provided}
 use Rattle.swc_ecma_codegen_uniqueness.specs.ParseTrees.{Variant, ParseTree, End, Read, Fn, is_known, part_variant, node_variant}
 use Rattle.swc_ecma_codegen_uniqueness.specs.Parses.{placed, is_inlined, is_plain_head, is_inlined_pat}
-use Rattle.swc_ecma_codegen_uniqueness.proofs.Tables.{AfterFunction, AfterName, Parameter, AfterParameters, Splice, decide, passed_to, class, left, InList, closing}
+use Rattle.swc_ecma_codegen_uniqueness.proofs.Classes.{class}
+use Rattle.swc_ecma_codegen_uniqueness.proofs.Tables.{AfterFunction, AfterName, Parameter, AfterParameters, Splice, decide, passed_to, left, InList, closing}
 use Rattle.swc_ecma_codegen_uniqueness.proofs.TableLaws.{cover, cover_taken, is_list}
 use Rattle.swc_ecma_codegen_uniqueness.proofs.Machine.{Whole, Rest, Good, shifted}
 use Rattle.swc_ecma_codegen_uniqueness.proofs.Shapes.{takes_self, assignment_taken, begun, ended}

@@ -10,7 +10,8 @@ use Rattle.swc_ecma_codegen_grammar.specs.Tokens.{Token, Value, Characters}
 use Rattle.swc_ecma_codegen_syntax.specs.declared.lookahead.Lookahead.TheVariants.{StatementStart, BodyStart}
 use Rattle.swc_ecma_codegen_syntax.specs.Lookahead.{Sign, OpenBrace as BraceSign, FunctionWord as FunctionSign, word_sign, mark_sign, sign_of, sign, begun, beginning, is_statement_start, is_brace, excludes}
 use Rattle.swc_ecma_codegen_uniqueness.specs.ParseTrees.{ParseTree, tokens_of}
-use Rattle.swc_ecma_codegen_uniqueness.proofs.Tables.{Class, words, marks, look, class_of, class, starts}
+use Rattle.swc_ecma_codegen_uniqueness.proofs.Classes.{Class, words, marks, look, class_of, class}
+use Rattle.swc_ecma_codegen_uniqueness.proofs.Tables.{starts}
 use Rattle.swc_ecma_codegen_uniqueness.proofs.TableLaws.{is_barred}
 use Rattle.swc_ecma_codegen_uniqueness.proofs.Machine.{Heads}
 use Rattle.swc_ecma_codegen_uniqueness.proofs.StatementShapes.{MayStand, is_open_brace}

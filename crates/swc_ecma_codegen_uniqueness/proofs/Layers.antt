@@ -34,7 +34,8 @@ use Rattle.swc_ecma_codegen_syntax.specs.NodeForms.{node_form, node_nonterminal,
 use Rattle.swc_ecma_codegen_syntax.specs.Derives.{Derives, fixed, part, simple, restricted, lone, lone_in_parentheses, both, provided, closed, comma_closed, followed, bare}
 use Rattle.swc_ecma_codegen_uniqueness.specs.ParseTrees.{Variant, ParseTree, End, Read, Optional, This, Bin, Member, New, TaggedTpl, PrivateName, is_known, AreKnown, expr_variant, simple_target_variant, target_pat_variant, target_variant, pat_variant, part_variant, node_variant}
 use Rattle.swc_ecma_codegen_uniqueness.specs.Parses.{placed, is_inlined, is_inlined_pattern, read_all}
-use Rattle.swc_ecma_codegen_uniqueness.proofs.Tables.{Level, Power, made}
+use Rattle.swc_ecma_codegen_uniqueness.proofs.Classes.{Level, Power}
+use Rattle.swc_ecma_codegen_uniqueness.proofs.Tables.{made}
 use Rattle.swc_ecma_codegen_uniqueness.proofs.TableLaws.{is_place, is_sequence, cover}
 use Rattle.swc_ecma_codegen_uniqueness.proofs.Machine.{Whole, Good}
 use Rattle.swc_ecma_codegen_uniqueness.proofs.Shapes.{is_chain, is_several, atom}

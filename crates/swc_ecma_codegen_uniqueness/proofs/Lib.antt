@@ -1,5 +1,6 @@
 pub mod Arrows
 pub mod Atoms
+pub mod Classes
 pub mod Fits
 pub mod Heading
 pub mod Joined

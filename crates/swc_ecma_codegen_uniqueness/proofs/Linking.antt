@@ -44,7 +44,8 @@ use Rattle.swc_ecma_codegen_syntax.specs.NodeForms.{node_form, part_form, stmt_p
 use Rattle.swc_ecma_codegen_syntax.specs.Derives.{Derives, fixed, part, both, provided}
 use Rattle.swc_ecma_codegen_uniqueness.specs.ParseTrees.{Variant, ParseTree, End, Read, Node, Member, Call, SuperProp as a_super, Tpl as a_template, TaggedTpl as a_tag, OptChain}
 use Rattle.swc_ecma_codegen_uniqueness.specs.Parses.{placed, is_inlined}
-use Rattle.swc_ecma_codegen_uniqueness.proofs.Tables.{First, class, template}
+use Rattle.swc_ecma_codegen_uniqueness.proofs.Classes.{First, class}
+use Rattle.swc_ecma_codegen_uniqueness.proofs.Tables.{template}
 use Rattle.swc_ecma_codegen_uniqueness.proofs.TableLaws.{is_place, Linked, a_member, of_call, a_target, a_chain, of_chain, calls_on}
 use Rattle.swc_ecma_codegen_uniqueness.proofs.Machine.{Mode, Whole, Rest, Good}
 use Rattle.swc_ecma_codegen_uniqueness.proofs.Shapes.{Operand, ended, member_named, member_indexed, chain_named, chain_indexed, chain_called, chained_not, chained_so, plain_member, plain_call, plain_callee, of_a_chain, super_named, super_indexed, template_next, untagged, tagged}

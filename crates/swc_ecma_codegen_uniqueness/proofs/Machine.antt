@@ -4,7 +4,8 @@ use Rattle.std.proofs.lemmas.Bool.{true≢false}
 use Rattle.swc_ecma_codegen_grammar.specs.Tokens.{Token}
 use Rattle.swc_ecma_codegen_syntax.specs.declared.nonterminals.Nonterminal.{Nonterminal}
 use Rattle.swc_ecma_codegen_uniqueness.specs.ParseTrees.{Variant, Seq, Paren, ParseTree, End, Read, Optional, Node, tokens_of}
-use Rattle.swc_ecma_codegen_uniqueness.proofs.Tables.{InParen, Class, Line, Colon, class, Control, Action, Shift, Push, Wrap, Reduce, Turn, Begin, Enter, Leave, Splice, Take, Keep, begin, entered, outside, decide, shift, start, wrap, stands, closes, variant_of}
+use Rattle.swc_ecma_codegen_uniqueness.proofs.Classes.{Class, Line, Colon, class}
+use Rattle.swc_ecma_codegen_uniqueness.proofs.Tables.{InParen, Control, Action, Shift, Push, Wrap, Reduce, Turn, Begin, Enter, Leave, Splice, Take, Keep, begin, entered, outside, decide, shift, start, wrap, stands, closes, variant_of}
 
 -- what is at hand: nothing, or a node
 pub data Hand : Type 0 where

@@ -44,7 +44,8 @@ use Rattle.swc_ecma_codegen_syntax.specs.Derives.{Derives, fixed, part, simple, 
 use Rattle.swc_ecma_codegen_syntax.proofs.TreeFacts.{simple_of}
 use Rattle.swc_ecma_codegen_uniqueness.specs.ParseTrees.{Variant, ParseTree, End, Read, Unary, Update, Bin, Assign, Cond, Seq, Yield, Await, Paren}
 use Rattle.swc_ecma_codegen_uniqueness.specs.Parses.{placed, is_inlined}
-use Rattle.swc_ecma_codegen_uniqueness.proofs.Tables.{starts, Level, Power, Times, Plus, Shifting, Comparing, Within, Equating, BitAnds, BitXors, BitOrs, Ands, Ors, Coalescing, Infix, Assigns, Twice, class, left_of, right_of, made, OfUnary, OfUpdate, OfAwait, Open, Listed, start, started}
+use Rattle.swc_ecma_codegen_uniqueness.proofs.Classes.{Level, Power, Times, Plus, Shifting, Comparing, Within, Equating, BitAnds, BitXors, BitOrs, Ands, Ors, Coalescing, Infix, Assigns, Twice, class}
+use Rattle.swc_ecma_codegen_uniqueness.proofs.Tables.{starts, left_of, right_of, made, OfUnary, OfUpdate, OfAwait, Open, Listed, start, started}
 use Rattle.swc_ecma_codegen_uniqueness.proofs.TableLaws.{cover, cover_taken}
 use Rattle.swc_ecma_codegen_uniqueness.proofs.Machine.{Whole, Rest, Good}
 use Rattle.swc_ecma_codegen_uniqueness.proofs.Shapes.{prefixed, parenthesized, binary, assigned, conditional, stepped, yield_bare, yield_part, yield_star, listed_first, listed_next, listed_last}

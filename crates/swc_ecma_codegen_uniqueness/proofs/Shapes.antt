@@ -9,7 +9,8 @@ use Rattle.swc_ecma_codegen_syntax.specs.Nonterminals.{takes, is_optional, is_pr
 use Rattle.swc_ecma_codegen_syntax.specs.UnitProductions.{here, step, expression_is_assignment_expression, new_expression_is_member_expression, chain_base_is_member_expression}
 use Rattle.swc_ecma_codegen_syntax.proofs.Taken.{chain_takes}
 use Rattle.swc_ecma_codegen_uniqueness.specs.ParseTrees.{Variant, ParseTree, End, Read, Optional, Node, Array, Object, Update, Bin, Assign, Member, SuperProp, Cond, Call, New, Seq, Tpl, TaggedTpl, Arrow, Yield, MetaProp, Paren, OptChain}
-use Rattle.swc_ecma_codegen_uniqueness.proofs.Tables.{starts, is_item, ArrowBody, OpenParen, Level, Class, Infix, Assigns, Ask, Comma, Dot, ChainDot, OpenBracket, Line, Twice, First, Later, class, left, left_of, right_of, made, Tail, OfInfix, OfCond, OfAssign, OfYield, whole, last as last_of, tail_variant, Control, Closed, Open, InParen, Index, Arguments, Elements, NextElement, Properties, NextProperty, AfterKey, InKey, InValue, Middle, Substitution, Dotted, Chained, AfterNew, AfterImport, AfterSuper, AfterYield, Postfix, Listed, AfterAsync, waits, decide, Shift, Turn, shift, shifted_to, passed_to, start, started, template, wrapped_to, chained, without, with_operand, AtKey, AtSetter, AfterSetter, InSetterKey, NameToken, LiteralToken}
+use Rattle.swc_ecma_codegen_uniqueness.proofs.Classes.{OpenParen, Level, Class, Infix, Assigns, Ask, Comma, Dot, ChainDot, OpenBracket, Line, Twice, First, Later, class, NameToken, LiteralToken}
+use Rattle.swc_ecma_codegen_uniqueness.proofs.Tables.{starts, is_item, ArrowBody, left, left_of, right_of, made, Tail, OfInfix, OfCond, OfAssign, OfYield, whole, last as last_of, tail_variant, Control, Closed, Open, InParen, Index, Arguments, Elements, NextElement, Properties, NextProperty, AfterKey, InKey, InValue, Middle, Substitution, Dotted, Chained, AfterNew, AfterImport, AfterSuper, AfterYield, Postfix, Listed, AfterAsync, waits, decide, Shift, Turn, shift, shifted_to, passed_to, start, started, template, wrapped_to, chained, without, with_operand, AtKey, AtSetter, AfterSetter, InSetterKey}
 use Rattle.swc_ecma_codegen_uniqueness.proofs.TableLaws.{ended_by, ending, takes_on, is_sequence, assignment_single, taken_there, arrow_wraps, is_place, pushes, or_left, is_infix, made_by, Wraps, infix_wraps, Linked, linked_closes, links, link_wraps, Calling, calling_linked, call_wraps, tail_ends, new_ends, yield_ends, yield_alone, listed_ends, member_plain, call_plain, callee_plain}
 use Rattle.swc_ecma_codegen_uniqueness.proofs.Machine.{Whole, Rest, Good, headed, wrapped, shifted, inner, closed, last, wrapped_turned, inner_turned, shifted_turned, raised, turned, opened}
 

@@ -10,7 +10,8 @@ use Rattle.swc_ecma_codegen_syntax.specs.UnitProductions.{step, pattern_element_
 use Rattle.swc_ecma_codegen_syntax.proofs.Chains.{takes_chain}
 use Rattle.swc_ecma_codegen_syntax.proofs.Taken.{chain_takes}
 use Rattle.swc_ecma_codegen_uniqueness.specs.ParseTrees.{Variant, ParseTree, End, Read, Node, Fn, Arrow, BlockStmt, EmptyStmt, ExprStmt, IfStmt, LabeledStmt, VarDecl, tokens_of, DoWhileStmt, TryStmt, SwitchStmt}
-use Rattle.swc_ecma_codegen_uniqueness.proofs.Tables.{Class, Infix, Plus, OpenBrace, Reduce, outside, ElseWord, Semi, Colon, class, starts, is_item, is_behind, left, Where, InList, OfIf, OfElse, OfLabel, OfLoop, Control, Closed, ArrowBody, OfArrow, Statement, Entered, AfterFunction, Parameter, RestParameter, AfterParameters, AfterWord, Valued, Jump, Headed, Test, Declarators, stands, entered, Action, Shift, Begin, Enter, Leave, Splice, Take, Wrap, without, with_operand, decide, shift, passed_to, start, CatchWord, FinallyWord, InTry, InCatch, InClause, OfDo, closing, shifted_to, closed_by, AfterDo, AfterTry, BehindTry, AfterCatch, CatchParameter, BehindParameter, BehindCatch, AfterFinally, Case, InMethod}
+use Rattle.swc_ecma_codegen_uniqueness.proofs.Classes.{Class, Infix, Plus, OpenBrace, ElseWord, Semi, Colon, class, CatchWord, FinallyWord}
+use Rattle.swc_ecma_codegen_uniqueness.proofs.Tables.{Reduce, outside, starts, is_item, is_behind, left, Where, InList, OfIf, OfElse, OfLabel, OfLoop, Control, Closed, ArrowBody, OfArrow, Statement, Entered, AfterFunction, Parameter, RestParameter, AfterParameters, AfterWord, Valued, Jump, Headed, Test, Declarators, stands, entered, Action, Shift, Begin, Enter, Leave, Splice, Take, Wrap, without, with_operand, decide, shift, passed_to, start, InTry, InCatch, InClause, OfDo, closing, shifted_to, closed_by, AfterDo, AfterTry, BehindTry, AfterCatch, CatchParameter, BehindParameter, BehindCatch, AfterFinally, Case, InMethod}
 use Rattle.swc_ecma_codegen_uniqueness.proofs.TableLaws.{takes_on, ended_by, or_left, is_keyword, keyword_pushes, is_barred, item_there, place_of, ItemPlace, item_place, enters, begins_operand, is_list, list_takes, no_item_wraps}
 use Rattle.swc_ecma_codegen_uniqueness.proofs.Machine.{Whole, Rest, Good, Heads, Enters, goes_on, headed, headed_block, wrapped, wrapped_turned, stated, entering, shifted, inner, last, splicing, taking, raised, joined, turned_tokens, left_tokens, keeping, closed}
 use Rattle.swc_ecma_codegen_uniqueness.proofs.Shapes.{Operand, takes_self, assignment_taken, left_taken, left_assigned, part_then, ended, tail_rest}

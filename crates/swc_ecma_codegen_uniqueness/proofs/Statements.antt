@@ -48,7 +48,8 @@ use Rattle.swc_ecma_codegen_syntax.specs.NodeForms.{node_form, part_form, stmt_p
 use Rattle.swc_ecma_codegen_syntax.specs.Derives.{Derives, fixed, part, restricted, both, provided, bare, followed}
 use Rattle.swc_ecma_codegen_uniqueness.specs.ParseTrees.{Variant, ParseTree, End, Read, Node, BlockStmt, DebuggerStmt, WithStmt, ReturnStmt, LabeledStmt, BreakStmt, ContinueStmt, IfStmt, ThrowStmt, WhileStmt, VarDecl, ExprStmt, tokens_of, is_known, is_known_kind, AreKnown, decl_variant, stmt_variant, part_variant, node_variant, DoWhileStmt, TryStmt, SwitchStmt}
 use Rattle.swc_ecma_codegen_uniqueness.specs.Parses.{placed, is_inlined, read_all}
-use Rattle.swc_ecma_codegen_uniqueness.proofs.Tables.{InList, Statement, Declarators, Initializer, AfterWord, Jump, Splice, Shift, shift, start, decide, passed_to, class, left, Where, InTry, InCatch, InClause, AfterDo, BehindTry, BehindCatch, AfterCatch, closing}
+use Rattle.swc_ecma_codegen_uniqueness.proofs.Classes.{class}
+use Rattle.swc_ecma_codegen_uniqueness.proofs.Tables.{InList, Statement, Declarators, Initializer, AfterWord, Jump, Splice, Shift, shift, start, decide, passed_to, left, Where, InTry, InCatch, InClause, AfterDo, BehindTry, BehindCatch, AfterCatch, closing}
 use Rattle.swc_ecma_codegen_uniqueness.proofs.TableLaws.{cover, cover_taken, or_left, takes_on, is_keyword, is_list}
 use Rattle.swc_ecma_codegen_uniqueness.proofs.Machine.{Whole, Rest, Good, Heads, joined_tokens}
 use Rattle.swc_ecma_codegen_uniqueness.proofs.Shapes.{Operand, After, takes_self, assignment_taken, left_assigned, part_then, ended}

@@ -9,7 +9,8 @@ use Rattle.swc_ecma_codegen_syntax.specs.UnitProductions.{UnitProduction, Chain,
 use Rattle.swc_ecma_codegen_syntax.proofs.Chains.{takes_chain}
 use Rattle.swc_ecma_codegen_syntax.proofs.Taken.{chain_takes}
 use Rattle.swc_ecma_codegen_uniqueness.specs.ParseTrees.{Variant}
-use Rattle.swc_ecma_codegen_uniqueness.proofs.Tables.{Power, Plus, Within, Coalescing, Class, Infix, Assigns, Ask, Comma, Dot, ChainDot, OpenParen, OpenBracket, OpenBrace, Line, First, made, left_of, class, left, closes, Tail, OfInfix, whole, last, Control, Open, Arguments, Elements, NextElement, AfterNew, AfterYield, YieldLine, Listed, AsyncLine, InParen, Index, Middle, InKey, InValue, Substitution, waits, stands, decide, Action, Push, Wrap, Reduce, Shift, Turn, Begin, Enter, Leave, Splice, Take, starts, is_item, closed_by, at_item, Where, InList, OfElse, Statement, Entered, Parameter, RestParameter, Valued, Test, Declarators, Initializer, entered, FunctionWord, ReturnWord, ThrowWord, BreakWord, ContinueWord, DebuggerWord, IfWord, WhileWord, WithWord, VarWord, Semicolon, without, with_operand, Keep, DoWord, TryWord, SwitchWord, CatchParameter, Case, InTry, InCatch, InClause, InMethod, InSetterKey, SetterParameter, ElseWord, OfIf, OfDo}
+use Rattle.swc_ecma_codegen_uniqueness.proofs.Classes.{Power, Plus, Within, Coalescing, Class, Infix, Assigns, Ask, Comma, Dot, ChainDot, OpenParen, OpenBracket, OpenBrace, Line, First, class, FunctionWord, ReturnWord, ThrowWord, BreakWord, ContinueWord, DebuggerWord, IfWord, WhileWord, WithWord, VarWord, Semicolon, DoWord, TryWord, SwitchWord, ElseWord}
+use Rattle.swc_ecma_codegen_uniqueness.proofs.Tables.{made, left_of, left, closes, Tail, OfInfix, whole, last, Control, Open, Arguments, Elements, NextElement, AfterNew, AfterYield, YieldLine, Listed, AsyncLine, InParen, Index, Middle, InKey, InValue, Substitution, waits, stands, decide, Action, Push, Wrap, Reduce, Shift, Turn, Begin, Enter, Leave, Splice, Take, starts, is_item, closed_by, at_item, Where, InList, OfElse, Statement, Entered, Parameter, RestParameter, Valued, Test, Declarators, Initializer, entered, without, with_operand, Keep, CatchParameter, Case, InTry, InCatch, InClause, InMethod, InSetterKey, SetterParameter, OfIf, OfDo}
 
 -- ---- chains of unit productions
 

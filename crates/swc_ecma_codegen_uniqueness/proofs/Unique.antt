@@ -18,7 +18,8 @@ use Rattle.swc_ecma_codegen_syntax.specs.Forms.{Part}
 use Rattle.swc_ecma_codegen_syntax.specs.Derives.{Derives, DerivesExpr, part, bare_phrase, expr_verdict}
 use Rattle.swc_ecma_codegen_uniqueness.specs.ParseTrees.{Variant, ParseTree, End, Read, Optional, Node, tokens_of, settled, AreCommasAndParentheses, AreKnown}
 use Rattle.swc_ecma_codegen_uniqueness.specs.Parses.{placed, is_inlined, form_parse, expr_parse}
-use Rattle.swc_ecma_codegen_uniqueness.proofs.Tables.{CloseParen, InParen}
+use Rattle.swc_ecma_codegen_uniqueness.proofs.Classes.{CloseParen}
+use Rattle.swc_ecma_codegen_uniqueness.proofs.Tables.{InParen}
 use Rattle.swc_ecma_codegen_uniqueness.proofs.Machine.{Whole, Good, one_tree}
 use Rattle.swc_ecma_codegen_uniqueness.proofs.TableLaws.{ended_by, or_left, cover_taken}
 use Rattle.swc_ecma_codegen_uniqueness.proofs.Reading.{derived_parse}

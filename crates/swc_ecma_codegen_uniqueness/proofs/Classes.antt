@@ -1,0 +1,74 @@
+-- What a token is to the machine, whatever its value.
+use Rattle.std.proofs.Common.{ℕ, Bool, List, [], ◌∷◌, cond}
+use Rattle.std.specs.Prelude.{codes, bytes_eq}
+use Rattle.swc_ecma_codegen_grammar.specs.declared.kinds.Kind.{Kind}
+use Rattle.swc_ecma_codegen_grammar.specs.declared.kinds.Kind.TheVariants as kinds
+use Rattle.swc_ecma_codegen_grammar.specs.Tokens.{Token, Value, Characters}
+
+-- the binary operators of one nonterminal; `in` has a left operand of its own
+pub data Level : Type 0 where
+  Power Times Plus Shifting Comparing Within Equating BitAnds BitXors BitOrs Ands Ors Coalescing : Level
+
+-- what a token is
+pub data Class : Type 0 where
+  Infix : (level : Level) → Class
+  Assigns Ask Colon Comma Dot ChainDot OpenParen CloseParen OpenBracket CloseBracket OpenBrace CloseBrace Dots Line Twice Bang FatArrow Semi Semicolon FirstLine : Class
+  First Later : (opens : Bool) → Class
+  NameToken PrivateToken LiteralToken ThisWord NewWord SuperWord ImportWord YieldWord AwaitWord AsyncWord FunctionWord ReturnWord ThrowWord BreakWord ContinueWord DebuggerWord IfWord ElseWord WhileWord WithWord DoWord TryWord CatchWord FinallyWord SwitchWord CaseWord DefaultWord GetWord SetWord VarWord UnaryWord TargetWord MetaWord Strange : Class
+
+abbrev pub look : List (List ℕ × Class) → List ℕ → Class
+look [] text = Strange
+look (e ∷ es) text = cond (bytes_eq text e.0) e.1 (look es text)
+
+abbrev pub words : List (List ℕ × Class)
+words =
+    (codes "this", ThisWord) ∷ (codes "new", NewWord) ∷ (codes "super", SuperWord) ∷ (codes "import", ImportWord) ∷ (codes "yield", YieldWord)
+    ∷ (codes "await", AwaitWord) ∷ (codes "async", AsyncWord) ∷ (codes "function", FunctionWord)
+    ∷ (codes "return", ReturnWord) ∷ (codes "throw", ThrowWord) ∷ (codes "break", BreakWord) ∷ (codes "continue", ContinueWord) ∷ (codes "debugger", DebuggerWord)
+    ∷ (codes "if", IfWord) ∷ (codes "else", ElseWord) ∷ (codes "while", WhileWord) ∷ (codes "do", DoWord) ∷ (codes "try", TryWord) ∷ (codes "catch", CatchWord) ∷ (codes "finally", FinallyWord)
+    ∷ (codes "switch", SwitchWord) ∷ (codes "case", CaseWord) ∷ (codes "default", DefaultWord)
+    ∷ (codes "get", GetWord) ∷ (codes "set", SetWord) ∷ (codes "with", WithWord) ∷ (codes "var", VarWord) ∷ (codes "let", VarWord)
+    ∷ (codes "const", VarWord) ∷ (codes "typeof", UnaryWord) ∷ (codes "void", UnaryWord) ∷ (codes "delete", UnaryWord) ∷ (codes "target", TargetWord)
+    ∷ (codes "meta", MetaWord) ∷ (codes "true", LiteralToken) ∷ (codes "false", LiteralToken) ∷ (codes "null", LiteralToken)
+    ∷ (codes "in", Infix Within) ∷ (codes "instanceof", Infix Comparing) ∷ []
+
+abbrev operators : List (List ℕ × Class) → List (List ℕ × Class)
+operators more =
+    (codes "**", Infix Power) ∷ (codes "*", Infix Times) ∷ (codes "/", Infix Times) ∷ (codes "%", Infix Times) ∷ (codes "+", Infix Plus) ∷ (codes "-", Infix Plus)
+    ∷ (codes "<<", Infix Shifting) ∷ (codes ">>", Infix Shifting) ∷ (codes ">>>", Infix Shifting)
+    ∷ (codes "<", Infix Comparing) ∷ (codes ">", Infix Comparing) ∷ (codes "<=", Infix Comparing) ∷ (codes ">=", Infix Comparing)
+    ∷ (codes "==", Infix Equating) ∷ (codes "!=", Infix Equating) ∷ (codes "===", Infix Equating) ∷ (codes "!==", Infix Equating)
+    ∷ (codes "&", Infix BitAnds) ∷ (codes "^", Infix BitXors) ∷ (codes "|", Infix BitOrs) ∷ (codes "&&", Infix Ands) ∷ (codes "||", Infix Ors)
+    ∷ (codes "??", Infix Coalescing) ∷ more
+
+abbrev assignments : List (List ℕ × Class) → List (List ℕ × Class)
+assignments more =
+    (codes "=", Assigns) ∷ (codes "+=", Assigns) ∷ (codes "-=", Assigns) ∷ (codes "*=", Assigns) ∷ (codes "/=", Assigns) ∷ (codes "%=", Assigns) ∷ (codes "<<=", Assigns)
+    ∷ (codes ">>=", Assigns) ∷ (codes ">>>=", Assigns) ∷ (codes "|=", Assigns) ∷ (codes "^=", Assigns) ∷ (codes "&=", Assigns) ∷ (codes "**=", Assigns)
+    ∷ (codes "&&=", Assigns) ∷ (codes "||=", Assigns) ∷ (codes "??=", Assigns) ∷ more
+
+abbrev pub marks : List (List ℕ × Class)
+marks =
+    operators (assignments (
+    (codes "?", Ask) ∷ (codes ":", Colon) ∷ (codes ",", Comma) ∷ (codes ".", Dot) ∷ (codes "?.", ChainDot) ∷ (codes "(", OpenParen) ∷ (codes ")", CloseParen)
+    ∷ (codes "[", OpenBracket) ∷ (codes "]", CloseBracket) ∷ (codes "{", OpenBrace) ∷ (codes "}", CloseBrace) ∷ (codes "...", Dots) ∷ (codes "++", Twice) ∷ (codes "--", Twice) ∷ (codes "!", Bang) ∷ (codes "~", Bang)
+    ∷ (codes "=>", FatArrow) ∷ (codes ";", Semicolon) ∷ []))
+
+abbrev pub class_of : Kind → Value → Class
+class_of kinds.Word (Characters text) = look words text
+class_of kinds.Punctuator (Characters text) = look marks text
+class_of kinds.Name v = NameToken
+class_of kinds.PrivateName v = PrivateToken
+class_of kinds.Number v = LiteralToken
+class_of kinds.BigInt v = LiteralToken
+class_of kinds.Str v = LiteralToken
+class_of kinds.Regex v = LiteralToken
+class_of (kinds.Template part) v = First part.opens
+class_of (kinds.TemplateRest part) v = Later part.opens
+class_of kinds.SameLine v = Line
+class_of kinds.Ending v = Semi
+class_of kinds.Hashbang v = FirstLine
+class_of kind v = Strange
+
+abbrev pub class : Token → Class
+class t = class_of t.kind t.value
