@@ -30,7 +30,7 @@ use Rattle.swc_ecma_codegen_tree.specs.declared.pats.AssignPat.{AssignPat}
 use Rattle.swc_ecma_codegen_tree.specs.declared.ts_decls.TsExprWithTypeArgs.{TsExprWithTypeArgs}
 use Rattle.swc_ecma_codegen_tree.specs.declared.ts_members.TsIndexSignature.{TsIndexSignature}
 use Rattle.swc_ecma_codegen_grammar.specs.AnnotationPhrases.{annotation, field_annotation, type_args, type_params}
-use Rattle.swc_ecma_codegen_grammar.specs.Phrases.{Phrase, Never, ◌>◌, mark, word, ending, listed, in_order, where_}
+use Rattle.swc_ecma_codegen_grammar.specs.Phrases.{Phrase, Never, ◌>◌, mark, word, ending, listed, in_order, same_line, where_}
 use Rattle.swc_ecma_codegen_grammar.specs.declared.roles.Role.{Role}
 use Rattle.swc_ecma_codegen_grammar.specs.declared.roles.Role.TheVariants.{ClassHead, ClassTail, Member, MethodDecorators, MethodTail, AccessorTail}
 use Rattle.swc_ecma_codegen_grammar.specs.PatPhrases.{assign_pat, initializer}
@@ -41,7 +41,7 @@ use Rattle.swc_ecma_codegen_grammar.specs.NamePhrases.{binding_ident}
 use Rattle.swc_ecma_codegen_grammar.specs.PartPhrases.{expr_part, stmt_part}
 use Rattle.swc_ecma_codegen_grammar.specs.TsDeclPhrases.{ts_expr_with_type_args}
 use Rattle.swc_ecma_codegen_grammar.specs.TreePhrases.{node_phrase}
-use Rattle.swc_ecma_codegen_grammar.proofs.Mapped.{list_mapped}
+use Rattle.swc_ecma_codegen_grammar.proofs.Mapped.{list_mapped, signature_mapped}
 use Rattle.swc_ecma_codegen_grammar.proofs.MappedFunctions.{param_mapped, with_parts}
 use Rattle.swc_ecma_codegen_grammar.proofs.MappedTsDecls.{by_args}
 use Rattle.swc_ecma_codegen_grammar.proofs.MappedPats.{pat_mapped}
@@ -50,28 +50,22 @@ pub decorators_mapped : {X Y : Type 0} (g : Decorator X → Decorator Y) (f : Y 
 unfolding decorators
 decorators_mapped g f d same ns = ap in_order (list_mapped g (decorator f) (decorator d) same ns)
 
-decorated : {X Y : Type 0} (g : Decorator X → Decorator Y) (f : Y → Role → Phrase) (d : X → Role → Phrase) → ((n : Decorator X) → decorator f (g n) ≡ decorator d n) → (rest : Phrase) (ns : List (Decorator X)) → (decorators f (map g ns) > rest) ≡ (decorators d ns > rest)
-decorated g f d same rest ns = ap (λ p. p > rest) (decorators_mapped g f d same ns)
-
 -- ---- functions of methods
 
 pub method_decorators_mapped : {X Y : Type 0} (g : X → Y) (f : Y → Role → Phrase) (b : Box (functions.Function X) Global) → node_phrase f (map-AnyNode X Y g (nodes.StmtPart (stmt_parts.Function b))) MethodDecorators ≡ method_decorators (λ x. f (g x)) b.value
 unfolding node_phrase stmt_part method_decorators decorator
 method_decorators_mapped g f b = decorators_mapped _ f (λ x. f (g x)) (λ n. refl) b.value.decorators.items
 
-tail_by : {X Y : Type 0} (g : X → Y) (f : Y → Role → Phrase) (b : Box (functions.Function X) Global) (n : functions.Function X) (body : Option (BlockStmtBox X)) (type_params : Option (TsTypeParamDeclBox X)) (return_type : Option (TsTypeAnnBox X)) → node_phrase f (map-AnyNode X Y g (nodes.StmtPart (stmt_parts.Function (record b { value = with_parts n body type_params return_type })))) MethodTail ≡ method_tail (λ x. f (g x)) (with_parts n body type_params return_type)
+tail_by : {X Y : Type 0} (g : X → Y) (f : Y → Role → Phrase) (b : Box (functions.Function X) Global) (n : functions.Function X) (type_params : Option (TsTypeParamDeclBox X)) (return_type : Option (TsTypeAnnBox X)) (body : Option (BlockStmtBox X)) → node_phrase f (map-AnyNode X Y g (nodes.StmtPart (stmt_parts.Function (record b { value = with_parts n body type_params return_type })))) MethodTail ≡ method_tail (λ x. f (g x)) (with_parts n body type_params return_type)
 unfolding node_phrase expr_part stmt_part method_tail function_body decorator annotation type_params
-tail_by {X} {Y} g f b n None None None = ap (λ ps. type_params (λ x. f (g x)) None > mark (codes "(") > listed (codes ",") ps > mark (codes ")") > annotation (λ x. f (g x)) None > function_body (λ x. f (g x)) None) (list_mapped _ (param f) (param (λ x. f (g x))) (param_mapped {X = X} {Y = Y} _ _ f (λ x. f (g x)) (λ x. refl) (λ x. pat_mapped g f x.pat) (λ x. refl)) n.params.items)
-tail_by {X} {Y} g f b n None None (Some t) = ap (λ ps. type_params (λ x. f (g x)) None > mark (codes "(") > listed (codes ",") ps > mark (codes ")") > annotation (λ x. f (g x)) (Some t) > function_body (λ x. f (g x)) None) (list_mapped _ (param f) (param (λ x. f (g x))) (param_mapped {X = X} {Y = Y} _ _ f (λ x. f (g x)) (λ x. refl) (λ x. pat_mapped g f x.pat) (λ x. refl)) n.params.items)
-tail_by {X} {Y} g f b n None (Some p) None = ap (λ ps. type_params (λ x. f (g x)) (Some p) > mark (codes "(") > listed (codes ",") ps > mark (codes ")") > annotation (λ x. f (g x)) None > function_body (λ x. f (g x)) None) (list_mapped _ (param f) (param (λ x. f (g x))) (param_mapped {X = X} {Y = Y} _ _ f (λ x. f (g x)) (λ x. refl) (λ x. pat_mapped g f x.pat) (λ x. refl)) n.params.items)
-tail_by {X} {Y} g f b n None (Some p) (Some t) = ap (λ ps. type_params (λ x. f (g x)) (Some p) > mark (codes "(") > listed (codes ",") ps > mark (codes ")") > annotation (λ x. f (g x)) (Some t) > function_body (λ x. f (g x)) None) (list_mapped _ (param f) (param (λ x. f (g x))) (param_mapped {X = X} {Y = Y} _ _ f (λ x. f (g x)) (λ x. refl) (λ x. pat_mapped g f x.pat) (λ x. refl)) n.params.items)
-tail_by {X} {Y} g f b n (Some body) None None = ap (λ ps. type_params (λ x. f (g x)) None > mark (codes "(") > listed (codes ",") ps > mark (codes ")") > annotation (λ x. f (g x)) None > function_body (λ x. f (g x)) (Some body)) (list_mapped _ (param f) (param (λ x. f (g x))) (param_mapped {X = X} {Y = Y} _ _ f (λ x. f (g x)) (λ x. refl) (λ x. pat_mapped g f x.pat) (λ x. refl)) n.params.items)
-tail_by {X} {Y} g f b n (Some body) None (Some t) = ap (λ ps. type_params (λ x. f (g x)) None > mark (codes "(") > listed (codes ",") ps > mark (codes ")") > annotation (λ x. f (g x)) (Some t) > function_body (λ x. f (g x)) (Some body)) (list_mapped _ (param f) (param (λ x. f (g x))) (param_mapped {X = X} {Y = Y} _ _ f (λ x. f (g x)) (λ x. refl) (λ x. pat_mapped g f x.pat) (λ x. refl)) n.params.items)
-tail_by {X} {Y} g f b n (Some body) (Some p) None = ap (λ ps. type_params (λ x. f (g x)) (Some p) > mark (codes "(") > listed (codes ",") ps > mark (codes ")") > annotation (λ x. f (g x)) None > function_body (λ x. f (g x)) (Some body)) (list_mapped _ (param f) (param (λ x. f (g x))) (param_mapped {X = X} {Y = Y} _ _ f (λ x. f (g x)) (λ x. refl) (λ x. pat_mapped g f x.pat) (λ x. refl)) n.params.items)
-tail_by {X} {Y} g f b n (Some body) (Some p) (Some t) = ap (λ ps. type_params (λ x. f (g x)) (Some p) > mark (codes "(") > listed (codes ",") ps > mark (codes ")") > annotation (λ x. f (g x)) (Some t) > function_body (λ x. f (g x)) (Some body)) (list_mapped _ (param f) (param (λ x. f (g x))) (param_mapped {X = X} {Y = Y} _ _ f (λ x. f (g x)) (λ x. refl) (λ x. pat_mapped g f x.pat) (λ x. refl)) n.params.items)
+tail_by {X} {Y} g f b n = signature_mapped
+    (elim [ None ↦ refl | Some t ↦ refl ])
+    (ap (listed (codes ",")) (list_mapped _ (param f) (param (λ x. f (g x))) (param_mapped {X = X} {Y = Y} _ _ f (λ x. f (g x)) (λ x. refl) (λ x. pat_mapped g f x.pat) (λ x. refl)) n.params.items))
+    (elim [ None ↦ refl | Some t ↦ refl ])
+    (elim [ None ↦ refl | Some t ↦ refl ])
 
 pub method_tail_mapped : {X Y : Type 0} (g : X → Y) (f : Y → Role → Phrase) (b : Box (functions.Function X) Global) → node_phrase f (map-AnyNode X Y g (nodes.StmtPart (stmt_parts.Function b))) MethodTail ≡ method_tail (λ x. f (g x)) b.value
-method_tail_mapped g f b = tail_by g f b b.value b.value.body b.value.type_params b.value.return_type
+method_tail_mapped g f b = tail_by g f b b.value b.value.type_params b.value.return_type b.value.body
 
 pub accessor_tail_mapped : {X Y : Type 0} (g : X → Y) (f : Y → Role → Phrase) (b : Box (functions.Function X) Global) → node_phrase f (map-AnyNode X Y g (nodes.StmtPart (stmt_parts.Function b))) AccessorTail ≡ accessor_tail (λ x. f (g x)) b.value
 unfolding node_phrase stmt_part accessor_tail
@@ -92,24 +86,23 @@ implements_mapped g f d same [] = refl
 implements_mapped g f d same (n ∷ ns) = ap (λ ps. word (codes "implements") > listed (codes ",") ps) (list_mapped g (ts_expr_with_type_args f) (ts_expr_with_type_args d) same (n ∷ ns))
 
 -- what is implemented, and then the members
-class_same : {X Y : Type 0} (e : TsExprWithTypeArgs X → TsExprWithTypeArgs Y) (m : ClassMemberBox X → ClassMemberBox Y) (f : Y → Role → Phrase) (d : X → Role → Phrase) → ((n : TsExprWithTypeArgs X) → ts_expr_with_type_args f (e n) ≡ ts_expr_with_type_args d n) → ((n : ClassMemberBox X) → member_at f (m n) ≡ member_at d n) → (before head : Phrase) (ns : List (TsExprWithTypeArgs X)) (ms : List (ClassMemberBox X)) → (before > head > implements_clause f (map e ns) > mark (codes "{") > in_order (map (member_at f) (map m ms)) > mark (codes "}")) ≡ (before > head > implements_clause d ns > mark (codes "{") > in_order (map (member_at d) ms) > mark (codes "}"))
-class_same e m f d implemented member before head ns ms =
-    ap (λ z. before > head > z > mark (codes "{") > in_order (map (member_at f) (map m ms)) > mark (codes "}")) (implements_mapped e f d implemented ns)
-    ∙ ap (λ ps. before > head > implements_clause d ns > mark (codes "{") > in_order ps > mark (codes "}")) (list_mapped m (member_at f) (member_at d) member ms)
+class_same : {A B C : Type 0} {before after : A → Phrase} {head other : B → C → Phrase} {implements implemented : Phrase} {ps qs : List Phrase} → ((x : A) → before x ≡ after x) → ((y : B) (z : C) → head y z ≡ other y z) → implements ≡ implemented → ps ≡ qs → (x : A) (y : B) (z : C) → (before x > head y z > implements > mark (codes "{") > in_order ps > mark (codes "}")) ≡ (after x > other y z > implemented > mark (codes "{") > in_order qs > mark (codes "}"))
+class_same {before = before} {after = after} {head = head} {other = other} {implements = implements} {implemented = implemented} {ps = ps} params heritage clause members x y z =
+    ap (λ t. t > head y z > implements > mark (codes "{") > in_order ps > mark (codes "}")) (params x)
+    ∙ ap (λ t. after x > t > implements > mark (codes "{") > in_order ps > mark (codes "}")) (heritage y z)
+    ∙ ap (λ t. after x > other y z > t > mark (codes "{") > in_order ps > mark (codes "}")) clause
+    ∙ ap (λ t. after x > other y z > implemented > mark (codes "{") > in_order t > mark (codes "}")) members
 
-class_by : {X Y : Type 0} (g : X → Y) (f : Y → Role → Phrase) (b : Box (classes.Class X) Global) (n : classes.Class X) (super_class : Option (ExprBox X)) (type_params : Option (TsTypeParamDeclBox X)) (super_type_params : Option (TsTypeParamInstantiationBox X)) → node_phrase f (map-AnyNode X Y g (nodes.StmtPart (stmt_parts.Class (record b { value = with_class_parts n super_class type_params super_type_params })))) ClassTail ≡ class_tail (λ x. f (g x)) (with_class_parts n super_class type_params super_type_params)
+class_by : {X Y : Type 0} (g : X → Y) (f : Y → Role → Phrase) (b : Box (classes.Class X) Global) (n : classes.Class X) (type_params : Option (TsTypeParamDeclBox X)) (super_class : Option (ExprBox X)) (super_type_params : Option (TsTypeParamInstantiationBox X)) → node_phrase f (map-AnyNode X Y g (nodes.StmtPart (stmt_parts.Class (record b { value = with_class_parts n super_class type_params super_type_params })))) ClassTail ≡ class_tail (λ x. f (g x)) (with_class_parts n super_class type_params super_type_params)
 unfolding node_phrase stmt_part class_tail heritage ts_expr_with_type_args type_args type_params where_
-class_by {X} {Y} g f b n None None None = class_same {X = X} {Y = Y} _ _ f (λ x. f (g x)) (by_args {X = X} _ (λ e. refl) (λ e a. refl)) (λ m. refl) _ _ n.implements.items n.body.items
-class_by {X} {Y} g f b n None None (Some t) = class_same {X = X} {Y = Y} _ _ f (λ x. f (g x)) (by_args {X = X} _ (λ e. refl) (λ e a. refl)) (λ m. refl) _ _ n.implements.items n.body.items
-class_by {X} {Y} g f b n None (Some p) None = class_same {X = X} {Y = Y} _ _ f (λ x. f (g x)) (by_args {X = X} _ (λ e. refl) (λ e a. refl)) (λ m. refl) _ _ n.implements.items n.body.items
-class_by {X} {Y} g f b n None (Some p) (Some t) = class_same {X = X} {Y = Y} _ _ f (λ x. f (g x)) (by_args {X = X} _ (λ e. refl) (λ e a. refl)) (λ m. refl) _ _ n.implements.items n.body.items
-class_by {X} {Y} g f b n (Some s) None None = class_same {X = X} {Y = Y} _ _ f (λ x. f (g x)) (by_args {X = X} _ (λ e. refl) (λ e a. refl)) (λ m. refl) _ _ n.implements.items n.body.items
-class_by {X} {Y} g f b n (Some s) None (Some t) = class_same {X = X} {Y = Y} _ _ f (λ x. f (g x)) (by_args {X = X} _ (λ e. refl) (λ e a. refl)) (λ m. refl) _ _ n.implements.items n.body.items
-class_by {X} {Y} g f b n (Some s) (Some p) None = class_same {X = X} {Y = Y} _ _ f (λ x. f (g x)) (by_args {X = X} _ (λ e. refl) (λ e a. refl)) (λ m. refl) _ _ n.implements.items n.body.items
-class_by {X} {Y} g f b n (Some s) (Some p) (Some t) = class_same {X = X} {Y = Y} _ _ f (λ x. f (g x)) (by_args {X = X} _ (λ e. refl) (λ e a. refl)) (λ m. refl) _ _ n.implements.items n.body.items
+class_by {X} {Y} g f b n = class_same
+    (elim [ None ↦ refl | Some t ↦ refl ])
+    (elim [ None ↦ (elim [ None ↦ refl | Some t ↦ refl ]) | Some s ↦ (elim [ None ↦ refl | Some t ↦ refl ]) ])
+    (implements_mapped {X = X} {Y = Y} _ f (λ x. f (g x)) (by_args {X = X} _ (λ e. refl) (λ e a. refl)) n.implements.items)
+    (list_mapped {A = ClassMemberBox X} _ (member_at f) (member_at (λ x. f (g x))) (λ m. refl) n.body.items)
 
 pub class_tail_mapped : {X Y : Type 0} (g : X → Y) (f : Y → Role → Phrase) (b : Box (classes.Class X) Global) → node_phrase f (map-AnyNode X Y g (nodes.StmtPart (stmt_parts.Class b))) ClassTail ≡ class_tail (λ x. f (g x)) b.value
-class_tail_mapped g f b = class_by g f b b.value b.value.super_class b.value.type_params b.value.super_type_params
+class_tail_mapped g f b = class_by g f b b.value b.value.type_params b.value.super_class b.value.super_type_params
 
 -- ---- members
 
@@ -137,18 +130,18 @@ by_param_prop P plain typed assigned n = by_variant P n (plain n) (typed n) (ass
 param_prop_same : {X Y : Type 0} (g : Decorator X → Decorator Y) (f : Y → Role → Phrase) (d : X → Role → Phrase) → ((n : Decorator X) → decorator f (g n) ≡ decorator d n) → (before rest : Phrase) (ns : List (Decorator X)) → (before > decorators f (map g ns) > rest) ≡ (before > decorators d ns > rest)
 param_prop_same g f d same before rest ns = ap (λ p. before > p > rest) (decorators_mapped g f d same ns)
 
+constructor_same : {A : Type 0} {before key : Phrase} {ps qs : List Phrase} {b d : A → Phrase} → ps ≡ qs → ((x : A) → b x ≡ d x) → (x : A) → (before > key > mark (codes "(") > listed (codes ",") ps > mark (codes ")") > b x) ≡ (before > key > mark (codes "(") > listed (codes ",") qs > mark (codes ")") > d x)
+constructor_same {before = before} {key = key} {qs = qs} {b = b} items body x =
+    ap (λ t. before > key > mark (codes "(") > listed (codes ",") t > mark (codes ")") > b x) items
+    ∙ ap (λ t. before > key > mark (codes "(") > listed (codes ",") qs > mark (codes ")") > t) (body x)
+
 constructor_by : {X Y : Type 0} (g : X → Y) (f : Y → Role → Phrase) (b : Box (class_members.ClassMember X) Global) (n : Constructor X) (body : Option (BlockStmtBox X)) → node_phrase f (map-AnyNode X Y g (as_member b (members.Constructor (record n { body = body })))) Member ≡ class_constructor (λ x. f (g x)) (record n { body = body })
 unfolding node_phrase expr_part stmt_part class_member class_constructor constructor_param ts_param_prop ts_param_prop_param binding_ident annotation assign_pat function_body decorator
-constructor_by {X} {Y} g f b n None =
-    ap (λ ps. accessibility n.accessibility > word (codes "constructor") > mark (codes "(") > listed (codes ",") ps > mark (codes ")") > function_body (λ x. f (g x)) None)
+constructor_by {X} {Y} g f b n = constructor_same
     (list_mapped {A = ParamOrTsParamProp X} _ (constructor_param f) (constructor_param (λ x. f (g x)))
     (each_param {X = X} _ (by_param_prop {X = X} _ (λ m id. param_prop_same {X = X} {Y = Y} _ f (λ x. f (g x)) (λ x. refl) _ _ m.decorators.items) (λ m id t. param_prop_same {X = X} {Y = Y} _ f (λ x. f (g x)) (λ x. refl) _ _ m.decorators.items) (λ m a. param_prop_same {X = X} {Y = Y} _ f (λ x. f (g x)) (λ x. refl) _ _ m.decorators.items))
     (param_mapped {X = X} {Y = Y} _ _ f (λ x. f (g x)) (λ x. refl) (λ x. pat_mapped g f x.pat) (λ x. refl))) n.params.items)
-constructor_by {X} {Y} g f b n (Some body) =
-    ap (λ ps. accessibility n.accessibility > word (codes "constructor") > mark (codes "(") > listed (codes ",") ps > mark (codes ")") > function_body (λ x. f (g x)) (Some body))
-    (list_mapped {A = ParamOrTsParamProp X} _ (constructor_param f) (constructor_param (λ x. f (g x)))
-    (each_param {X = X} _ (by_param_prop {X = X} _ (λ m id. param_prop_same {X = X} {Y = Y} _ f (λ x. f (g x)) (λ x. refl) _ _ m.decorators.items) (λ m id t. param_prop_same {X = X} {Y = Y} _ f (λ x. f (g x)) (λ x. refl) _ _ m.decorators.items) (λ m a. param_prop_same {X = X} {Y = Y} _ f (λ x. f (g x)) (λ x. refl) _ _ m.decorators.items))
-    (param_mapped {X = X} {Y = Y} _ _ f (λ x. f (g x)) (λ x. refl) (λ x. pat_mapped g f x.pat) (λ x. refl))) n.params.items)
+    (elim [ None ↦ refl | Some t ↦ refl ])
 
 method_by : {X Y : Type 0} (g : X → Y) (f : Y → Role → Phrase) (b : Box (class_members.ClassMember X) Global) (n : ClassMethod X) (kind : MethodKind) → node_phrase f (map-AnyNode X Y g (as_member b (members.Method (record n { kind = kind })))) Member ≡ class_method (λ x. f (g x)) (record n { kind = kind })
 unfolding node_phrase stmt_part class_member class_method method_kind kind_head tail_role
@@ -162,30 +155,31 @@ private_method_by g f b n Method = refl
 private_method_by g f b n Getter = refl
 private_method_by g f b n Setter = refl
 
+-- a field: its decorators, its type, and its value
+field_same : {A B : Type 0} {d e modifiers key optional : Phrase} {t u : A → Phrase} {v w : B → Phrase} → d ≡ e → ((x : A) → t x ≡ u x) → ((y : B) → v y ≡ w y) → (x : A) (y : B) → (d > modifiers > key > optional > t x > v y > ending) ≡ (e > modifiers > key > optional > u x > w y > ending)
+field_same {e = e} {modifiers = modifiers} {key = key} {optional = optional} {t = t} {u = u} {v = v} decorated typed valued x y =
+    ap (λ z. z > modifiers > key > optional > t x > v y > ending) decorated
+    ∙ ap (λ z. e > modifiers > key > optional > z > v y > ending) (typed x)
+    ∙ ap (λ z. e > modifiers > key > optional > u x > z > ending) (valued y)
+
 prop_by : {X Y : Type 0} (g : X → Y) (f : Y → Role → Phrase) (b : Box (class_members.ClassMember X) Global) (n : ClassProp X) (type_ann : Option (TsTypeAnnBox X)) (value : Option (ExprBox X)) → node_phrase f (map-AnyNode X Y g (as_member b (members.ClassProp (record n { type_ann = type_ann; value = value })))) Member ≡ class_prop (λ x. f (g x)) (record n { type_ann = type_ann; value = value })
 unfolding node_phrase stmt_part class_member class_prop prop_modifiers field_annotation prop_value decorator
-prop_by g f b n None None = decorated _ f (λ x. f (g x)) (λ m. refl) _ n.decorators.items
-prop_by g f b n None (Some v) = decorated _ f (λ x. f (g x)) (λ m. refl) _ n.decorators.items
-prop_by g f b n (Some t) None = decorated _ f (λ x. f (g x)) (λ m. refl) _ n.decorators.items
-prop_by g f b n (Some t) (Some v) = decorated _ f (λ x. f (g x)) (λ m. refl) _ n.decorators.items
+prop_by {X} {Y} g f b n = field_same (decorators_mapped {X = X} {Y = Y} _ f (λ x. f (g x)) (λ m. refl) n.decorators.items) (elim [ None ↦ refl | Some t ↦ refl ]) (elim [ None ↦ refl | Some t ↦ refl ])
 
 private_prop_by : {X Y : Type 0} (g : X → Y) (f : Y → Role → Phrase) (b : Box (class_members.ClassMember X) Global) (n : PrivateProp X) (type_ann : Option (TsTypeAnnBox X)) (value : Option (ExprBox X)) → node_phrase f (map-AnyNode X Y g (as_member b (members.PrivateProp (record n { type_ann = type_ann; value = value })))) Member ≡ private_prop (λ x. f (g x)) (record n { type_ann = type_ann; value = value })
 unfolding node_phrase stmt_part class_member private_prop private_modifiers field_annotation prop_value decorator
-private_prop_by g f b n None None = decorated _ f (λ x. f (g x)) (λ m. refl) _ n.decorators.items
-private_prop_by g f b n None (Some v) = decorated _ f (λ x. f (g x)) (λ m. refl) _ n.decorators.items
-private_prop_by g f b n (Some t) None = decorated _ f (λ x. f (g x)) (λ m. refl) _ n.decorators.items
-private_prop_by g f b n (Some t) (Some v) = decorated _ f (λ x. f (g x)) (λ m. refl) _ n.decorators.items
+private_prop_by {X} {Y} g f b n = field_same (decorators_mapped {X = X} {Y = Y} _ f (λ x. f (g x)) (λ m. refl) n.decorators.items) (elim [ None ↦ refl | Some t ↦ refl ]) (elim [ None ↦ refl | Some t ↦ refl ])
+
+accessor_same : {K A B : Type 0} {d e modifiers : Phrase} {k l : K → Phrase} {t u : A → Phrase} {v w : B → Phrase} → d ≡ e → ((key : K) → k key ≡ l key) → ((x : A) → t x ≡ u x) → ((y : B) → v y ≡ w y) → (key : K) (x : A) (y : B) → (d > modifiers > word (codes "accessor") > same_line > k key > t x > v y > ending) ≡ (e > modifiers > word (codes "accessor") > same_line > l key > u x > w y > ending)
+accessor_same {e = e} {modifiers = modifiers} {k = k} {l = l} {t = t} {u = u} {v = v} decorated named typed valued key x y =
+    ap (λ z. z > modifiers > word (codes "accessor") > same_line > k key > t x > v y > ending) decorated
+    ∙ ap (λ z. e > modifiers > word (codes "accessor") > same_line > z > t x > v y > ending) (named key)
+    ∙ ap (λ z. e > modifiers > word (codes "accessor") > same_line > l key > z > v y > ending) (typed x)
+    ∙ ap (λ z. e > modifiers > word (codes "accessor") > same_line > l key > u x > z > ending) (valued y)
 
 accessor_by : {X Y : Type 0} (g : X → Y) (f : Y → Role → Phrase) (b : Box (class_members.ClassMember X) Global) (n : AutoAccessor X) (key : Key X) (type_ann : Option (TsTypeAnnBox X)) (value : Option (ExprBox X)) → node_phrase f (map-AnyNode X Y g (as_member b (members.AutoAccessor (record n { key = key; type_ann = type_ann; value = value })))) Member ≡ auto_accessor (λ x. f (g x)) (record n { key = key; type_ann = type_ann; value = value })
 unfolding node_phrase stmt_part class_member auto_accessor accessor_modifiers accessor_key field_annotation initializer decorator
-accessor_by g f b n (keys.Public k) None None = decorated _ f (λ x. f (g x)) (λ m. refl) _ n.decorators.items
-accessor_by g f b n (keys.Public k) None (Some v) = decorated _ f (λ x. f (g x)) (λ m. refl) _ n.decorators.items
-accessor_by g f b n (keys.Public k) (Some t) None = decorated _ f (λ x. f (g x)) (λ m. refl) _ n.decorators.items
-accessor_by g f b n (keys.Public k) (Some t) (Some v) = decorated _ f (λ x. f (g x)) (λ m. refl) _ n.decorators.items
-accessor_by g f b n (keys.Private k) None None = decorated _ f (λ x. f (g x)) (λ m. refl) _ n.decorators.items
-accessor_by g f b n (keys.Private k) None (Some v) = decorated _ f (λ x. f (g x)) (λ m. refl) _ n.decorators.items
-accessor_by g f b n (keys.Private k) (Some t) None = decorated _ f (λ x. f (g x)) (λ m. refl) _ n.decorators.items
-accessor_by g f b n (keys.Private k) (Some t) (Some v) = decorated _ f (λ x. f (g x)) (λ m. refl) _ n.decorators.items
+accessor_by {X} {Y} g f b n = accessor_same (decorators_mapped {X = X} {Y = Y} _ f (λ x. f (g x)) (λ m. refl) n.decorators.items) (elim [ keys.Public k ↦ refl | keys.Private k ↦ refl ]) (elim [ None ↦ refl | Some t ↦ refl ]) (elim [ None ↦ refl | Some t ↦ refl ])
 
 index_by : {X Y : Type 0} (g : X → Y) (f : Y → Role → Phrase) (b : Box (class_members.ClassMember X) Global) (n : TsIndexSignature X) (type_ann : Option (TsTypeAnnBox X)) → node_phrase f (map-AnyNode X Y g (as_member b (members.TsIndexSignature (record n { type_ann = type_ann })))) Member ≡ (ts_index_signature (λ x. f (g x)) (record n { type_ann = type_ann }) > ending)
 unfolding node_phrase stmt_part class_member ts_index_signature annotation

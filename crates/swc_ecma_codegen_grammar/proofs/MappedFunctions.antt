@@ -23,7 +23,7 @@ use Rattle.swc_ecma_codegen_grammar.specs.ExprPhrases.{expr}
 use Rattle.swc_ecma_codegen_grammar.specs.StmtPhrases.{stmt, block_stmt}
 use Rattle.swc_ecma_codegen_grammar.specs.PartPhrases.{expr_part, stmt_part}
 use Rattle.swc_ecma_codegen_grammar.specs.TreePhrases.{node_phrase}
-use Rattle.swc_ecma_codegen_grammar.proofs.Mapped.{list_mapped}
+use Rattle.swc_ecma_codegen_grammar.proofs.Mapped.{list_mapped, signature_mapped}
 use Rattle.swc_ecma_codegen_grammar.proofs.MappedPats.{pat_mapped}
 use Rattle.swc_ecma_codegen_grammar.proofs.MappedStmts.{stmt_mapped}
 
@@ -41,28 +41,22 @@ param_mapped g h f d items pattern same n =
     ∙ ap (λ ps. in_order ps > pat f (g n).pat) (list_mapped h (decorator f) (decorator d) same n.decorators.items)
     ∙ ap (λ p. in_order (map (decorator d) n.decorators.items) > p) (pattern n)
 
-abbrev undecorated : Bool → Phrase → List Phrase → Phrase → Phrase → Phrase
-undecorated decorated before ps result body = cond decorated Never (before > mark (codes "(") > listed (codes ",") ps > mark (codes ")") > result > body)
-
-undecorated_same : (b c : Bool) (before : Phrase) (ps qs : List Phrase) (result body : Phrase) → b ≡ c → ps ≡ qs → undecorated b before ps result body ≡ undecorated c before qs result body
-undecorated_same b c before ps qs result body e k = ap (λ z. undecorated z before ps result body) e ∙ ap (λ z. undecorated c before z result body) k
+undecorated_signature : {A B C : Type 0} {b c : Bool} {p q : A → B → C → Phrase} → b ≡ c → ((x : A) (y : B) (z : C) → p x y z ≡ q x y z) → (x : A) (y : B) (z : C) → cond b Never (p x y z) ≡ cond c Never (q x y z)
+undecorated_signature {c = c} {p = p} e same x y z = ap (λ t. cond t Never (p x y z)) e ∙ ap (λ t. cond c Never t) (same x y z)
 
 abbrev pub with_parts : {X : Type 0} → functions.Function X → Option (BlockStmtBox X) → Option (TsTypeParamDeclBox X) → Option (TsTypeAnnBox X) → functions.Function X
 with_parts n body type_params return_type = record n { body = body; type_params = type_params; return_type = return_type }
 
-function_mapped : {X Y : Type 0} (g : X → Y) (f : Y → Role → Phrase) (b : Box (functions.Function X) Global) (n : functions.Function X) (body : Option (BlockStmtBox X)) (type_params : Option (TsTypeParamDeclBox X)) (return_type : Option (TsTypeAnnBox X)) → node_phrase f (map-AnyNode X Y g (nodes.StmtPart (stmt_parts.Function (record b { value = with_parts n body type_params return_type })))) Function ≡ function (λ x. f (g x)) (with_parts n body type_params return_type)
+function_mapped : {X Y : Type 0} (g : X → Y) (f : Y → Role → Phrase) (b : Box (functions.Function X) Global) (n : functions.Function X) (type_params : Option (TsTypeParamDeclBox X)) (return_type : Option (TsTypeAnnBox X)) (body : Option (BlockStmtBox X)) → node_phrase f (map-AnyNode X Y g (nodes.StmtPart (stmt_parts.Function (record b { value = with_parts n body type_params return_type })))) Function ≡ function (λ x. f (g x)) (with_parts n body type_params return_type)
 unfolding node_phrase expr_part stmt_part function function_body decorator annotation type_params
-function_mapped {X} {Y} g f b n None None None = undecorated_same _ _ _ _ _ _ _ (some_mapped _ n.decorators.items) (list_mapped _ (param f) (param (λ x. f (g x))) (param_mapped {X = X} {Y = Y} _ _ f (λ x. f (g x)) (λ x. refl) (λ x. pat_mapped g f x.pat) (λ x. refl)) n.params.items)
-function_mapped {X} {Y} g f b n None None (Some t) = undecorated_same _ _ _ _ _ _ _ (some_mapped _ n.decorators.items) (list_mapped _ (param f) (param (λ x. f (g x))) (param_mapped {X = X} {Y = Y} _ _ f (λ x. f (g x)) (λ x. refl) (λ x. pat_mapped g f x.pat) (λ x. refl)) n.params.items)
-function_mapped {X} {Y} g f b n None (Some p) None = undecorated_same _ _ _ _ _ _ _ (some_mapped _ n.decorators.items) (list_mapped _ (param f) (param (λ x. f (g x))) (param_mapped {X = X} {Y = Y} _ _ f (λ x. f (g x)) (λ x. refl) (λ x. pat_mapped g f x.pat) (λ x. refl)) n.params.items)
-function_mapped {X} {Y} g f b n None (Some p) (Some t) = undecorated_same _ _ _ _ _ _ _ (some_mapped _ n.decorators.items) (list_mapped _ (param f) (param (λ x. f (g x))) (param_mapped {X = X} {Y = Y} _ _ f (λ x. f (g x)) (λ x. refl) (λ x. pat_mapped g f x.pat) (λ x. refl)) n.params.items)
-function_mapped {X} {Y} g f b n (Some body) None None = undecorated_same _ _ _ _ _ _ _ (some_mapped _ n.decorators.items) (list_mapped _ (param f) (param (λ x. f (g x))) (param_mapped {X = X} {Y = Y} _ _ f (λ x. f (g x)) (λ x. refl) (λ x. pat_mapped g f x.pat) (λ x. refl)) n.params.items)
-function_mapped {X} {Y} g f b n (Some body) None (Some t) = undecorated_same _ _ _ _ _ _ _ (some_mapped _ n.decorators.items) (list_mapped _ (param f) (param (λ x. f (g x))) (param_mapped {X = X} {Y = Y} _ _ f (λ x. f (g x)) (λ x. refl) (λ x. pat_mapped g f x.pat) (λ x. refl)) n.params.items)
-function_mapped {X} {Y} g f b n (Some body) (Some p) None = undecorated_same _ _ _ _ _ _ _ (some_mapped _ n.decorators.items) (list_mapped _ (param f) (param (λ x. f (g x))) (param_mapped {X = X} {Y = Y} _ _ f (λ x. f (g x)) (λ x. refl) (λ x. pat_mapped g f x.pat) (λ x. refl)) n.params.items)
-function_mapped {X} {Y} g f b n (Some body) (Some p) (Some t) = undecorated_same _ _ _ _ _ _ _ (some_mapped _ n.decorators.items) (list_mapped _ (param f) (param (λ x. f (g x))) (param_mapped {X = X} {Y = Y} _ _ f (λ x. f (g x)) (λ x. refl) (λ x. pat_mapped g f x.pat) (λ x. refl)) n.params.items)
+function_mapped {X} {Y} g f b n = undecorated_signature (some_mapped _ n.decorators.items) (signature_mapped
+    (elim [ None ↦ refl | Some t ↦ refl ])
+    (ap (listed (codes ",")) (list_mapped _ (param f) (param (λ x. f (g x))) (param_mapped {X = X} {Y = Y} _ _ f (λ x. f (g x)) (λ x. refl) (λ x. pat_mapped g f x.pat) (λ x. refl)) n.params.items))
+    (elim [ None ↦ refl | Some t ↦ refl ])
+    (elim [ None ↦ refl | Some t ↦ refl ]))
 
 pub function_part_mapped : {X Y : Type 0} (g : X → Y) (f : Y → Role → Phrase) (b : Box (functions.Function X) Global) → node_phrase f (map-AnyNode X Y g (nodes.StmtPart (stmt_parts.Function b))) Function ≡ function (λ x. f (g x)) b.value
-function_part_mapped g f b = function_mapped g f b b.value b.value.body b.value.type_params b.value.return_type
+function_part_mapped g f b = function_mapped g f b b.value b.value.type_params b.value.return_type b.value.body
 
 pub block_mapped : {X Y : Type 0} (g : X → Y) (f : Y → Role → Phrase) (n : BlockStmt X) → node_phrase f (map-AnyNode X Y g (nodes.StmtPart (stmt_parts.BlockStmt n))) Block ≡ block_stmt (λ x. f (g x)) n
 unfolding node_phrase stmt_part block_stmt

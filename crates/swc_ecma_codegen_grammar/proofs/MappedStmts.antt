@@ -40,7 +40,7 @@ use Rattle.swc_ecma_codegen_grammar.specs.TsDeclPhrases.{declare_word}
 use Rattle.swc_ecma_codegen_grammar.specs.StmtPhrases.{stmt_at, optional_value, empty_stmt, expr_stmt, debugger_stmt, with_stmt, return_stmt, labeled_stmt, break_stmt, continue_stmt, else_branch, if_stmt, case_test, switch_case, switch_stmt, throw_stmt, catch_param, catch_clause, handler, finalizer, try_stmt, while_stmt, do_while_stmt, var_decl_or_expr, for_init, for_stmt, for_head, for_in_stmt, for_of_stmt, stmt, return_rest}
 use Rattle.swc_ecma_codegen_grammar.specs.PartPhrases.{expr_part, stmt_part}
 use Rattle.swc_ecma_codegen_grammar.specs.TreePhrases.{node_phrase}
-use Rattle.swc_ecma_codegen_grammar.proofs.Mapped.{list_mapped, each_option}
+use Rattle.swc_ecma_codegen_grammar.proofs.Mapped.{list_mapped, each_option, by_three}
 use Rattle.swc_ecma_codegen_grammar.proofs.MappedPats.{pat_mapped}
 use Rattle.swc_ecma_codegen_grammar.proofs.MappedTsDecls.{interface_mapped, alias_mapped, enum_mapped, module_mapped}
 
@@ -135,18 +135,8 @@ try_by g f n (Some c) last = caught_by g f n c c.param last
 
 for_by : {X Y : Type 0} (g : X → Y) (f : Y → Role → Phrase) (n : ForStmt X) (init : Option (VarDeclOrExpr X)) (test update : Option (ExprBox X)) → node_phrase f (map-AnyNode X Y g (nodes.Stmt (stmts.For (record n { init = init; test = test; update = update })))) Statement ≡ for_stmt (λ x. f (g x)) (record n { init = init; test = test; update = update })
 unfolding node_phrase stmt for_stmt for_init var_decl_or_expr optional_value
-for_by g f n None None None = refl
-for_by g f n None None (Some u) = refl
-for_by g f n None (Some t) None = refl
-for_by g f n None (Some t) (Some u) = refl
-for_by g f n (Some (inits.VarDecl i)) None None = refl
-for_by g f n (Some (inits.VarDecl i)) None (Some u) = refl
-for_by g f n (Some (inits.VarDecl i)) (Some t) None = refl
-for_by g f n (Some (inits.VarDecl i)) (Some t) (Some u) = refl
-for_by g f n (Some (inits.Expr i)) None None = refl
-for_by g f n (Some (inits.Expr i)) None (Some u) = refl
-for_by g f n (Some (inits.Expr i)) (Some t) None = refl
-for_by g f n (Some (inits.Expr i)) (Some t) (Some u) = refl
+for_by g f n = by_three (λ i t u. word (codes "for") > mark (codes "(") > i > mark (codes ";") > t > mark (codes ";") > u > mark (codes ")") > stmt_at (λ x. f (g x)) n.body)
+    (elim [ None ↦ refl | Some (inits.VarDecl i) ↦ refl | Some (inits.Expr i) ↦ refl ]) (elim [ None ↦ refl | Some t ↦ refl ]) (elim [ None ↦ refl | Some t ↦ refl ])
 
 -- the head of a `for` that declares by `using`
 abbrev using_head : Bool → Phrase → Phrase

@@ -24,7 +24,7 @@ use Rattle.swc_ecma_codegen_grammar.specs.PartPhrases.{ts_part}
 use Rattle.swc_ecma_codegen_grammar.specs.declared.roles.Role.{Role}
 use Rattle.swc_ecma_codegen_grammar.specs.declared.roles.Role.TheVariants.{InterfaceBody}
 use Rattle.swc_ecma_codegen_grammar.specs.TreePhrases.{node_phrase}
-use Rattle.swc_ecma_codegen_grammar.proofs.Mapped.{list_mapped}
+use Rattle.swc_ecma_codegen_grammar.proofs.Mapped.{list_mapped, beside_two}
 
 -- a member, as the only one of an object type that a link holds
 abbrev pub as_member : {X : Type 0} → TsTypeLit X → TsTypeElement X → AnyNode-F X
@@ -41,24 +41,15 @@ member_phrase f n = Nothing
 
 call_mapped : {X Y : Type 0} (g : X → Y) (f : Y → Role → Phrase) (b : TsTypeLit X) (n : TsCallSignatureDecl X) (type_params : Option (TsTypeParamDeclBox X)) (type_ann : Option (TsTypeAnnBox X)) → member_phrase f (map-AnyNode X Y g (as_member b (elements.TsCallSignatureDecl (record n { type_params = type_params; type_ann = type_ann })))) ≡ ts_type_element (λ x. f (g x)) (elements.TsCallSignatureDecl (record n { type_params = type_params; type_ann = type_ann }))
 unfolding ts_type_element ts_signature ts_call_signature_decl type_params annotation
-call_mapped {X} g f b n None None = ap (λ ps. (Nothing > mark (codes "(") > listed (codes ",") ps > mark (codes ")") > Nothing) > ending) (list_mapped {A = TsFnParamBox X} _ (signature_param_at f) (signature_param_at (λ x. f (g x))) (λ x. refl) n.params.items)
-call_mapped {X} g f b n None (Some a) = ap (λ ps. (Nothing > mark (codes "(") > listed (codes ",") ps > mark (codes ")") > mark (codes ":") > ann_at (λ x. f (g x)) a) > ending) (list_mapped {A = TsFnParamBox X} _ (signature_param_at f) (signature_param_at (λ x. f (g x))) (λ x. refl) n.params.items)
-call_mapped {X} g f b n (Some t) None = ap (λ ps. (params_at (λ x. f (g x)) t > mark (codes "(") > listed (codes ",") ps > mark (codes ")") > Nothing) > ending) (list_mapped {A = TsFnParamBox X} _ (signature_param_at f) (signature_param_at (λ x. f (g x))) (λ x. refl) n.params.items)
-call_mapped {X} g f b n (Some t) (Some a) = ap (λ ps. (params_at (λ x. f (g x)) t > mark (codes "(") > listed (codes ",") ps > mark (codes ")") > mark (codes ":") > ann_at (λ x. f (g x)) a) > ending) (list_mapped {A = TsFnParamBox X} _ (signature_param_at f) (signature_param_at (λ x. f (g x))) (λ x. refl) n.params.items)
+call_mapped {X} g f b n = beside_two (λ ps t a. (t > mark (codes "(") > ps > mark (codes ")") > a) > ending) (ap (listed (codes ",")) (list_mapped {A = TsFnParamBox X} _ (signature_param_at f) (signature_param_at (λ x. f (g x))) (λ x. refl) n.params.items)) (elim [ None ↦ refl | Some t ↦ refl ]) (elim [ None ↦ refl | Some t ↦ refl ])
 
 construct_mapped : {X Y : Type 0} (g : X → Y) (f : Y → Role → Phrase) (b : TsTypeLit X) (n : TsConstructSignatureDecl X) (type_params : Option (TsTypeParamDeclBox X)) (type_ann : Option (TsTypeAnnBox X)) → member_phrase f (map-AnyNode X Y g (as_member b (elements.TsConstructSignatureDecl (record n { type_params = type_params; type_ann = type_ann })))) ≡ ts_type_element (λ x. f (g x)) (elements.TsConstructSignatureDecl (record n { type_params = type_params; type_ann = type_ann }))
 unfolding ts_type_element ts_signature ts_construct_signature_decl type_params annotation
-construct_mapped {X} g f b n None None = ap (λ ps. (word (codes "new") > Nothing > mark (codes "(") > listed (codes ",") ps > mark (codes ")") > Nothing) > ending) (list_mapped {A = TsFnParamBox X} _ (signature_param_at f) (signature_param_at (λ x. f (g x))) (λ x. refl) n.params.items)
-construct_mapped {X} g f b n None (Some a) = ap (λ ps. (word (codes "new") > Nothing > mark (codes "(") > listed (codes ",") ps > mark (codes ")") > mark (codes ":") > ann_at (λ x. f (g x)) a) > ending) (list_mapped {A = TsFnParamBox X} _ (signature_param_at f) (signature_param_at (λ x. f (g x))) (λ x. refl) n.params.items)
-construct_mapped {X} g f b n (Some t) None = ap (λ ps. (word (codes "new") > params_at (λ x. f (g x)) t > mark (codes "(") > listed (codes ",") ps > mark (codes ")") > Nothing) > ending) (list_mapped {A = TsFnParamBox X} _ (signature_param_at f) (signature_param_at (λ x. f (g x))) (λ x. refl) n.params.items)
-construct_mapped {X} g f b n (Some t) (Some a) = ap (λ ps. (word (codes "new") > params_at (λ x. f (g x)) t > mark (codes "(") > listed (codes ",") ps > mark (codes ")") > mark (codes ":") > ann_at (λ x. f (g x)) a) > ending) (list_mapped {A = TsFnParamBox X} _ (signature_param_at f) (signature_param_at (λ x. f (g x))) (λ x. refl) n.params.items)
+construct_mapped {X} g f b n = beside_two (λ ps t a. (word (codes "new") > t > mark (codes "(") > ps > mark (codes ")") > a) > ending) (ap (listed (codes ",")) (list_mapped {A = TsFnParamBox X} _ (signature_param_at f) (signature_param_at (λ x. f (g x))) (λ x. refl) n.params.items)) (elim [ None ↦ refl | Some t ↦ refl ]) (elim [ None ↦ refl | Some t ↦ refl ])
 
 method_mapped : {X Y : Type 0} (g : X → Y) (f : Y → Role → Phrase) (b : TsTypeLit X) (n : TsMethodSignature X) (type_params : Option (TsTypeParamDeclBox X)) (type_ann : Option (TsTypeAnnBox X)) → member_phrase f (map-AnyNode X Y g (as_member b (elements.TsMethodSignature (record n { type_params = type_params; type_ann = type_ann })))) ≡ ts_type_element (λ x. f (g x)) (elements.TsMethodSignature (record n { type_params = type_params; type_ann = type_ann }))
 unfolding ts_type_element ts_signature ts_method_signature signature_key type_params annotation
-method_mapped {X} g f b n None None = ap (λ ps. (signature_key (λ x. f (g x)) n.computed n.key > question n.optional > Nothing > mark (codes "(") > listed (codes ",") ps > mark (codes ")") > Nothing) > ending) (list_mapped {A = TsFnParamBox X} _ (signature_param_at f) (signature_param_at (λ x. f (g x))) (λ x. refl) n.params.items)
-method_mapped {X} g f b n None (Some a) = ap (λ ps. (signature_key (λ x. f (g x)) n.computed n.key > question n.optional > Nothing > mark (codes "(") > listed (codes ",") ps > mark (codes ")") > mark (codes ":") > ann_at (λ x. f (g x)) a) > ending) (list_mapped {A = TsFnParamBox X} _ (signature_param_at f) (signature_param_at (λ x. f (g x))) (λ x. refl) n.params.items)
-method_mapped {X} g f b n (Some t) None = ap (λ ps. (signature_key (λ x. f (g x)) n.computed n.key > question n.optional > params_at (λ x. f (g x)) t > mark (codes "(") > listed (codes ",") ps > mark (codes ")") > Nothing) > ending) (list_mapped {A = TsFnParamBox X} _ (signature_param_at f) (signature_param_at (λ x. f (g x))) (λ x. refl) n.params.items)
-method_mapped {X} g f b n (Some t) (Some a) = ap (λ ps. (signature_key (λ x. f (g x)) n.computed n.key > question n.optional > params_at (λ x. f (g x)) t > mark (codes "(") > listed (codes ",") ps > mark (codes ")") > mark (codes ":") > ann_at (λ x. f (g x)) a) > ending) (list_mapped {A = TsFnParamBox X} _ (signature_param_at f) (signature_param_at (λ x. f (g x))) (λ x. refl) n.params.items)
+method_mapped {X} g f b n = beside_two (λ ps t a. (signature_key (λ x. f (g x)) n.computed n.key > question n.optional > t > mark (codes "(") > ps > mark (codes ")") > a) > ending) (ap (listed (codes ",")) (list_mapped {A = TsFnParamBox X} _ (signature_param_at f) (signature_param_at (λ x. f (g x))) (λ x. refl) n.params.items)) (elim [ None ↦ refl | Some t ↦ refl ]) (elim [ None ↦ refl | Some t ↦ refl ])
 
 property_mapped : {X Y : Type 0} (g : X → Y) (f : Y → Role → Phrase) (b : TsTypeLit X) (n : TsPropertySignature X) (type_ann : Option (TsTypeAnnBox X)) → member_phrase f (map-AnyNode X Y g (as_member b (elements.TsPropertySignature (record n { type_ann = type_ann })))) ≡ ts_type_element (λ x. f (g x)) (elements.TsPropertySignature (record n { type_ann = type_ann }))
 unfolding ts_type_element ts_signature ts_property_signature signature_key annotation

@@ -1,5 +1,5 @@
 -- The productions of types see what links hold through f alone.
-use Rattle.std.proofs.Common.{◌≡◌, refl, ap, false, codes, Option, Some, None, Box, Global}
+use Rattle.std.proofs.Common.{◌≡◌, refl, ap, not, ◌||◌, false, codes, Option, Some, None, Box, Global}
 use Rattle.std.specs.Box.{with_value}
 use Rattle.swc_ecma_codegen_tree.specs.declared.links.AnyNode.{AnyNode-F, map-AnyNode}
 use Rattle.swc_ecma_codegen_tree.specs.declared.links.AnyNode.TheOpen as nodes
@@ -40,20 +40,21 @@ use Rattle.swc_ecma_codegen_tree.specs.declared.ts_types.TsTypeQueryExpr.TheVari
 use Rattle.swc_ecma_codegen_tree.specs.declared.ts_types.TsTypeRef.{TsTypeRef}
 use Rattle.swc_ecma_codegen_tree.specs.declared.ts_types.TsUnionOrIntersectionType.{TsUnionOrIntersectionType}
 use Rattle.swc_ecma_codegen_tree.specs.declared.ts_types.TsUnionOrIntersectionType.TheVariants as joined_types
-use Rattle.swc_ecma_codegen_grammar.specs.Phrases.{Phrase, Nothing, One, ◌>◌, word, mark, in_order, listed, some_listed}
+use Rattle.swc_ecma_codegen_grammar.specs.Phrases.{Phrase, Nothing, One, ◌>◌, word, mark, ending, in_order, listed, some_listed, where_}
 use Rattle.swc_ecma_codegen_grammar.specs.AnnotationPhrases.{annotation, type_args, type_params}
 use Rattle.swc_ecma_codegen_grammar.specs.FunctionPhrases.{word_if}
-use Rattle.swc_ecma_codegen_grammar.specs.NamePhrases.{binding_ident}
+use Rattle.swc_ecma_codegen_grammar.specs.NamePhrases.{ident, binding_ident}
+use Rattle.swc_ecma_codegen_grammar.specs.LitPhrases.{str_lit}
 use Rattle.swc_ecma_codegen_grammar.specs.PatPhrases.{pat_at, initializer, array_pat, rest_pat, key_value_pat_prop, assign_pat_prop, object_pat_prop, object_pat}
 use Rattle.swc_ecma_codegen_grammar.specs.ElementPhrases.{elements_end}
 use Rattle.swc_ecma_codegen_grammar.specs.Tokens as tokens
 use Rattle.swc_ecma_codegen_grammar.specs.MemberPhrases.{signature_param_at, ts_type_element}
-use Rattle.swc_ecma_codegen_grammar.specs.TypePhrases.{type_at, type_behind, ann_at, ts_qualified_name, ts_entity_name, ts_type_ref, ts_type_param_instantiation, ts_type_param, ts_type_param_decl, ts_fn_param, ts_fn_type, ts_constructor_type, ts_fn_or_constructor_type, ts_tpl_lit_type, ts_lit, ts_lit_type, qualifier, ts_import_type, ts_type_query_expr, ts_type_query, ts_type_lit, ts_array_type, label, ts_tuple_element, ts_tuple_type, ts_optional_type, ts_rest_type, mapped_param, ts_mapped_type, ts_union_type, ts_intersection_type, ts_union_or_intersection_type, ts_parenthesized_type, ts_type_operator, ts_indexed_access_type, ts_conditional_type, ts_infer_type, is_behind, ts_type_predicate, ts_type, ts_type_ann}
+use Rattle.swc_ecma_codegen_grammar.specs.TypePhrases.{type_at, type_behind, ann_at, ts_qualified_name, ts_entity_name, ts_type_ref, ts_type_param_instantiation, ts_type_param, ts_type_param_decl, ts_fn_param, ts_fn_type, ts_constructor_type, ts_fn_or_constructor_type, ts_tpl_lit_type, ts_lit, ts_lit_type, qualifier, ts_import_type, ts_type_query_expr, ts_type_query, ts_type_lit, ts_array_type, label, signed, ts_tuple_element, ts_tuple_type, ts_optional_type, ts_rest_type, mapped_param, ts_mapped_type, ts_union_type, ts_intersection_type, ts_union_or_intersection_type, ts_parenthesized_type, ts_type_operator, ts_indexed_access_type, ts_conditional_type, ts_infer_type, is_behind, ts_type_predicate, ts_type, ts_type_ann}
 use Rattle.swc_ecma_codegen_grammar.specs.PartPhrases.{expr_part, ts_part}
 use Rattle.swc_ecma_codegen_grammar.specs.declared.roles.Role.{Role}
 use Rattle.swc_ecma_codegen_grammar.specs.declared.roles.Role.TheVariants.{AnyType, Annotation, TypeArguments, TypeParameters, EntityName, SignatureParameter, InterfaceBody, NamespaceBody, DottedBody}
 use Rattle.swc_ecma_codegen_grammar.specs.TreePhrases.{node_phrase}
-use Rattle.swc_ecma_codegen_grammar.proofs.Mapped.{list_mapped}
+use Rattle.swc_ecma_codegen_grammar.proofs.Mapped.{list_mapped, by_two, by_three, by_four}
 use Rattle.swc_ecma_codegen_grammar.proofs.MappedKeys.{prop_name_mapped}
 use Rattle.swc_ecma_codegen_grammar.proofs.MappedNamespaces.{namespace_body_mapped, dotted_body_mapped}
 use Rattle.swc_ecma_codegen_grammar.proofs.MappedTsMembers.{type_element_mapped, interface_body_mapped}
@@ -154,10 +155,7 @@ function_mapped g f b (function_types.TsConstructorType n) = constructor_mapped 
 
 import_mapped : {X Y : Type 0} (g : X → Y) (f : Y → Role → Phrase) (b : Box (TsImportType X) Global) (n : TsImportType X) (qualified : Option (TsEntityNameBox X)) (type_args : Option (TsTypeParamInstantiationBox X)) → node_phrase f (map-AnyNode X Y g (as_type (types.TsImportType (with_value b (record n { qualifier = qualified; type_args = type_args }))))) AnyType ≡ ts_import_type (λ x. f (g x)) (record n { qualifier = qualified; type_args = type_args })
 unfolding node_phrase ts_part ts_type ts_import_type qualifier type_args
-import_mapped g f b n None None = refl
-import_mapped g f b n None (Some t) = refl
-import_mapped g f b n (Some q) None = refl
-import_mapped g f b n (Some q) (Some t) = refl
+import_mapped g f b n = by_two (λ q t. word (codes "import") > mark (codes "(") > str_lit n.arg > mark (codes ")") > q > t) (elim [ None ↦ refl | Some t ↦ refl ]) (elim [ None ↦ refl | Some t ↦ refl ])
 
 name_query_mapped : {X Y : Type 0} (g : X → Y) (f : Y → Role → Phrase) (b : Box (TsTypeQuery X) Global) (n : TsTypeQuery X) (name : TsEntityNameBox X) (type_args : Option (TsTypeParamInstantiationBox X)) → node_phrase f (map-AnyNode X Y g (as_type (types.TsTypeQuery (with_value b (record n { expr_name = query_exprs.TsEntityName name; type_args = type_args }))))) AnyType ≡ ts_type_query (λ x. f (g x)) (record n { expr_name = query_exprs.TsEntityName name; type_args = type_args })
 unfolding node_phrase ts_part ts_type ts_type_query ts_type_query_expr type_args
@@ -166,14 +164,7 @@ name_query_mapped g f b n name (Some t) = refl
 
 import_query_mapped : {X Y : Type 0} (g : X → Y) (f : Y → Role → Phrase) (b : Box (TsTypeQuery X) Global) (n : TsTypeQuery X) (m : TsImportType X) (qualified : Option (TsEntityNameBox X)) (inner type_args : Option (TsTypeParamInstantiationBox X)) → node_phrase f (map-AnyNode X Y g (as_type (types.TsTypeQuery (with_value b (record n { expr_name = query_exprs.Import (record m { qualifier = qualified; type_args = inner }); type_args = type_args }))))) AnyType ≡ ts_type_query (λ x. f (g x)) (record n { expr_name = query_exprs.Import (record m { qualifier = qualified; type_args = inner }); type_args = type_args })
 unfolding node_phrase ts_part ts_type ts_type_query ts_type_query_expr ts_import_type qualifier type_args
-import_query_mapped g f b n m None None None = refl
-import_query_mapped g f b n m None None (Some t) = refl
-import_query_mapped g f b n m None (Some i) None = refl
-import_query_mapped g f b n m None (Some i) (Some t) = refl
-import_query_mapped g f b n m (Some q) None None = refl
-import_query_mapped g f b n m (Some q) None (Some t) = refl
-import_query_mapped g f b n m (Some q) (Some i) None = refl
-import_query_mapped g f b n m (Some q) (Some i) (Some t) = refl
+import_query_mapped g f b n m = by_three (λ q i t. word (codes "typeof") > (word (codes "import") > mark (codes "(") > str_lit m.arg > mark (codes ")") > q > i) > t) (elim [ None ↦ refl | Some t ↦ refl ]) (elim [ None ↦ refl | Some t ↦ refl ]) (elim [ None ↦ refl | Some t ↦ refl ])
 
 query_mapped : {X Y : Type 0} (g : X → Y) (f : Y → Role → Phrase) (b : Box (TsTypeQuery X) Global) (n : TsTypeQuery X) (expr_name : TsTypeQueryExpr X) → node_phrase f (map-AnyNode X Y g (as_type (types.TsTypeQuery (with_value b (record n { expr_name = expr_name }))))) AnyType ≡ ts_type_query (λ x. f (g x)) (record n { expr_name = expr_name })
 unfolding node_phrase ts_part ts_type ts_type_query
@@ -218,22 +209,10 @@ infer_mapped g f b n (Some c) (Some d) = refl
 
 mapped_mapped : {X Y : Type 0} (g : X → Y) (f : Y → Role → Phrase) (b : Box (TsMappedType X) Global) (n : TsMappedType X) (constraint default_ name_type type_ann : Option (TsTypeBox X)) → node_phrase f (map-AnyNode X Y g (as_type (types.TsMappedType (with_value b (record n { type_param = record n.type_param { constraint = constraint; default = default_ }; name_type = name_type; type_ann = type_ann }))))) AnyType ≡ ts_mapped_type (λ x. f (g x)) (record n { type_param = record n.type_param { constraint = constraint; default = default_ }; name_type = name_type; type_ann = type_ann })
 unfolding node_phrase ts_part ts_type ts_mapped_type mapped_param type_behind
-mapped_mapped g f b n None None None None = refl
-mapped_mapped g f b n None None None (Some t) = refl
-mapped_mapped g f b n None None (Some a) None = refl
-mapped_mapped g f b n None None (Some a) (Some t) = refl
-mapped_mapped g f b n None (Some d) None None = refl
-mapped_mapped g f b n None (Some d) None (Some t) = refl
-mapped_mapped g f b n None (Some d) (Some a) None = refl
-mapped_mapped g f b n None (Some d) (Some a) (Some t) = refl
-mapped_mapped g f b n (Some c) None None None = refl
-mapped_mapped g f b n (Some c) None None (Some t) = refl
-mapped_mapped g f b n (Some c) None (Some a) None = refl
-mapped_mapped g f b n (Some c) None (Some a) (Some t) = refl
-mapped_mapped g f b n (Some c) (Some d) None None = refl
-mapped_mapped g f b n (Some c) (Some d) None (Some t) = refl
-mapped_mapped g f b n (Some c) (Some d) (Some a) None = refl
-mapped_mapped g f b n (Some c) (Some d) (Some a) (Some t) = refl
+mapped_mapped g f b n = by_four (λ c d a t.
+    mark (codes "{") > signed n.readonly (word (codes "readonly"))
+    > mark (codes "[") > where_ (not (n.type_param.is_in || (n.type_param.is_out || n.type_param.is_const))) (ident n.type_param.name > c > d > a) > mark (codes "]")
+    > signed n.optional (mark (codes "?")) > t > ending > mark (codes "}")) (elim [ None ↦ refl | Some t ↦ refl ]) (elim [ None ↦ refl | Some t ↦ refl ]) (elim [ None ↦ refl | Some t ↦ refl ]) (elim [ None ↦ refl | Some t ↦ refl ])
 
 predicate_mapped : {X Y : Type 0} (g : X → Y) (f : Y → Role → Phrase) (b : Box (TsTypePredicate X) Global) (n : TsTypePredicate X) (type_ann : Option (TsTypeAnnBox X)) → node_phrase f (map-AnyNode X Y g (as_type (types.TsTypePredicate (with_value b (record n { type_ann = type_ann }))))) AnyType ≡ ts_type_predicate (λ x. f (g x)) (record n { type_ann = type_ann })
 unfolding node_phrase ts_part ts_type ts_type_predicate is_behind
