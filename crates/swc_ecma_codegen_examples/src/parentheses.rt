@@ -1,19 +1,16 @@
 //! A caller that makes an expression of others, as a code mod does: it needs parentheses that none of its parts has.
 
-ghost use Rattle.std.specs.Prelude.{◌≡◌, ◌⊎◌, true, IfOk};
-ghost use Rattle.swc_ecma_codegen_common.specs.declared.operators.BinaryOp.TheVariants.{Mul};
+ghost use Rattle.std.specs.Prelude.{◌≡◌, true, IfOk};
 ghost use Rattle.swc_ecma_codegen_syntax.specs.declared.nonterminals.Nonterminal.TheVariants.{Expression};
 ghost use Rattle.swc_ecma_codegen_syntax.specs.Derives.{expr_verdict};
 ghost use Rattle.swc_ecma_codegen_syntax.specs.Parameters.{of_script};
-ghost use Rattle.swc_ecma_codegen_syntax.specs.Verdicts.{holds};
-ghost use Rattle.swc_ecma_codegen_parentheses.specs.Roots.{SameExprTree};
 ghost use Rattle.swc_ecma_codegen_examples.specs.Products.{IsOperationOf, OfProduct};
 
 use std::alloc::{AllocError, Global};
 use swc_ecma_codegen_common::{BinaryOp, DUMMY_SP};
 use swc_ecma_codegen_parentheses::{Unmended, parenthesize_expr};
 use swc_ecma_codegen_syntax::{Nonterminal, Parameters};
-use swc_ecma_codegen_tree::{AnyNode, BinExpr, Expr, ExprBox};
+use swc_ecma_codegen_tree::{BinExpr, Expr, ExprBox};
 
 /// `left op right`, with no parentheses.
 fn operation_of(alloc: Global, op: BinaryOp, left: Expr, right: Expr) -> Result<Expr, AllocError>
