@@ -8,4 +8,4 @@ mod writers;
 
 pub use crate::sources::Source;
 pub use crate::turns::{brace_turn, digit_turn, escaped_turn, name_turn, octal_turn};
-pub use crate::writers::{there_and_back, write_list, write_tokens};
+pub use crate::writers::{there_and_back, write_list, write_tokens, writes_where_settled};

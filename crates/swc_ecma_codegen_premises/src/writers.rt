@@ -14,6 +14,12 @@ pub fn there_and_back<W: WriteJs>(wr: &mut W) -> Result {
     wr.decrease_indent()
 }
 
+/// Whether `a` is written, where no semicolon is held back.
+#[tactic(auto, unfolding(swc_ecma_codegen_text_writer::specs::Reach::is_one_column))]
+pub fn writes_where_settled<W: WriteJs>(wr: &mut W) -> bool {
+    wr.is_settled() && wr.writes_in_line("a")
+}
+
 /// `var in`, and a level of indentation more and less.
 pub fn write_tokens<W: WriteJs>(e: &mut LowerEmitter, cfg: &Config, wr: &mut W) -> Answer {
     e.keyword(cfg, wr, None, "var")?;

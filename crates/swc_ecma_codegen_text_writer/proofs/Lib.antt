@@ -1,3 +1,4 @@
+pub mod AsStrings
 pub mod Characters
 pub mod Pairs
 mod Commuting

@@ -1,5 +1,5 @@
 -- Calls of a writer that holds semicolons back, made of calls of the writer under it.
-use Rattle.std.proofs.Common.{◌≡◌, inl, inr, ℕ, ◌+◌, ◌-◌, Bool, true, false, ◌||◌, List, ◌∷◌, refl, sym, ◌∙◌, ap, subst, cond, codes, Option, Some, None, Result, Ok, Err}
+use Rattle.std.proofs.Common.{◌≡◌, inl, inr, ℕ, ◌+◌, ◌-◌, Bool, true, false, ◌||◌, List, ◌∷◌, refl, sym, ◌∙◌, ap, subst, cond, codes, Option, Some, None, is_none, Result, Ok, Err}
 use Rattle.std.specs.Prelude.{OnOk, IfErr}
 use Rattle.std.proofs.lemmas.Bool.{false≢true}
 use Rattle.swc_ecma_codegen_common.specs.declared.errors.Refusal.{Refusal}
@@ -8,7 +8,7 @@ use Rattle.swc_ecma_codegen_common.specs.declared.positions.BytePos.{BytePos}
 use Rattle.swc_ecma_codegen_common.specs.declared.positions.Span.{Span}
 use Rattle.swc_ecma_codegen_text_writer.specs.Contents.{Rises, IsPrefix}
 use Rattle.swc_ecma_codegen_text_writer.proofs.Sheets.{front_refl, front_trans, placed_on}
-use Rattle.swc_ecma_codegen_text_writer.specs.Sheet.{Sheet, Item, Semi, Space, Keyword, Operator, Param, Property, Line, Lit, Comment, StrLit, Str, Symbol, Punct, Position, Commit, Deeper, Shallower, BeginLines, AllowBreak, EndLines, Semicolons, AtOnce, HoldsNone, HoldsOne, holds_semicolons, allowed, passed_on, allowed_at, written, literal_written, ended, pointed, settled_by, settled, semicolon_by, dropped, is_ending, before_punct, effect, effects, Causes, Stopped, Refuses, earlier, stopped, Writes}
+use Rattle.swc_ecma_codegen_text_writer.specs.Sheet.{Sheet, Item, Semi, Space, Keyword, Operator, Param, Property, Line, Lit, Comment, StrLit, Str, Symbol, Punct, Position, Commit, Deeper, Shallower, BeginLines, AllowBreak, EndLines, Semicolons, AtOnce, HoldsNone, HoldsOne, holds_semicolons, is_settled, allowed, passed_on, allowed_at, written, literal_written, ended, pointed, settled_by, settled, semicolon_by, dropped, is_ending, before_punct, effect, effects, Causes, Stopped, Refuses, earlier, stopped, Writes}
 use Rattle.swc_ecma_codegen_common.specs.declared.errors.Error.{Error}
 use Rattle.swc_ecma_codegen_common.specs.Refusals.{in_short, reason_of}
 use Rattle.swc_ecma_codegen_text_writer.specs.declared.semicolon.HeldSemi.{HeldSemi}
@@ -606,6 +606,26 @@ passed_layers s = allowed_commutes HoldsNone s ∙ ap (holding HoldsNone) (sym (
 pub held_back : (p : Option HeldSemi) → true ≡ holds_semicolons (semicolons_of p)
 held_back None = refl
 held_back (Some span) = refl
+
+-- it says whether one is held
+pub none_held : (p : Option HeldSemi) → is_none p ≡ is_settled (semicolons_of p)
+none_held None = refl
+none_held (Some semi) = refl
+
+-- a writer that writes them at once holds none
+pub at_once_settled : (q : Semicolons) → holds_semicolons q ≡ false → is_settled q ≡ true
+at_once_settled AtOnce h = refl
+at_once_settled HoldsNone h = absurd (false≢true (sym h))
+at_once_settled (HoldsOne span allowed) h = absurd (false≢true (sym h))
+
+text_lifts : (p : Option HeldSemi) (t : List ℕ) (a : Sheet) → (a.refused ≡ false → is_settled (semicolons_of p) ≡ true) → Lifts (Str t) (Str t) (semicolons_of p) (semicolons_of p) a
+text_lifts None t a k h r = settling_lifts (Str t) (str_settles t) a h r
+text_lifts (Some semi) t a k h r = absurd (false≢true (k r))
+
+-- a text goes out below it where none is held
+pub text_passes : (p : Option HeldSemi) (t : List ℕ) (a b : Sheet) (r : Result (Unit {0}) Refusal) → (a.refused ≡ false → is_settled (semicolons_of p) ≡ true) → WritesAtOnce a → Writes (Str t) a b r → Writes (Str t) (with_held p a) (with_held p b) r
+unfolding with_held
+text_passes p t a b r k h w = lifted (Str t) (semicolons_of p) a b r h (text_lifts p t a k) w
 
 -- what the calls need
 pub ruleset calls = (kept, settled_then, settled_not, space_settles, keyword_settles, operator_settles, param_settles, property_settles, line_settles, lit_settles, comment_settles, string_settles, str_settles, symbol_settles, punct_settles, commit_settles, deeper_settles, shallower_settles, semi_ok, semi_err, ending_ok, ending_err, position_passes, begin_passes, end_passes, break_passes, break_kept, break_err)

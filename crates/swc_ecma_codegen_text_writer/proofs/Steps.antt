@@ -236,6 +236,17 @@ pub written_in_line : (t : List ℕ) (s : Sheet) → 0 < length t → s.at_line_
 unfolding start_recorded end_recorded
 written_in_line t s h k = ap (appended t) (sym (started_false s k)) ∙ written_some None t s h
 
+-- nothing comes of an empty text that is sent
+pub appended_nil : (t : List ℕ) (s : Sheet) → length t ≡ 0 → s ≡ appended t s
+appended_nil [] s h = appended_none s
+appended_nil (c ∷ cs) s h = absurd (omega (arith, h))
+
+-- the same of any text, an empty one too
+pub written_begun : (t : List ℕ) (s : Sheet) → s.at_line_start ≡ false → appended t s ≡ written None t s
+unfolding written
+written_begun [] s k = sym (appended_none s)
+written_begun (c ∷ cs) s k = written_in_line (c ∷ cs) s (omega arith) k
+
 -- position 0 is never recorded
 pub recorded_none : (pos : BytePos) (s : Sheet) → pos.0 ≡ 0 → recorded pos s ≡ s
 unfolding recorded

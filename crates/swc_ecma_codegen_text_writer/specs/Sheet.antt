@@ -51,6 +51,12 @@ holds_semicolons AtOnce = false
 holds_semicolons HoldsNone = true
 holds_semicolons (HoldsOne span allowed) = true
 
+-- no semicolon is held back now
+abbrev pub is_settled : Semicolons → Bool
+is_settled AtOnce = true
+is_settled HoldsNone = true
+is_settled (HoldsOne span allowed) = false
+
 -- What is held of a text: texts, each with a position that is to be recorded behind it, and the text behind the last of these. Of
 -- `a+b` with the position 3 before `b` these are `a+` with 3, and `b`.
 pub record Segment : Type 0 where
@@ -357,6 +363,11 @@ pub data Refuses (x : Item) (e : Refusal) (old new : Sheet) : Type 0 where
 unfoldable pub Writes : Item → Sheet → Sheet → Result (Unit {0}) Refusal → Type 0
 Writes x old new (Ok _) = (old.refused ≡ false) × (new ≡ effect x old)
 Writes x old new (Err e) = Refuses x e old new
+
+-- what a call answers that only says whether it was refused, by the reason that its writer keeps
+abbrev pub answered : Bool → Refusal → Result (Unit {0}) Refusal
+answered true e = Ok tt
+answered false e = Err e
 
 -- lines begin with a call
 abbrev pub begins_lines : Item → Bool

@@ -37,17 +37,18 @@ pub struct Lines<'a, W: Write, K: KeepsPositions> {
     indent: u32,
     line_start: bool,
     failed: bool,
-    // A text is only sent: nothing was refused, no line starts, no positions are kept, and no lines are filled.
+    // A text is only sent: nothing was refused, no line starts, and no lines are filled.
     plain: bool,
     kept: K,
     // The column where all that went out ends, for lines that are filled.
     column: Column,
     // While lines are filled, what was written since the last allowed break.
     held: Option<Held>,
+    // Why the last call was refused that only says whether it was.
+    reason: Refusal,
     ghost usual: { usual_indent ≡ true → indent_str.now ≡ codes "    " } by { Prim.hlevel props },
     ghost plain_fresh: { plain ≡ true → failed ≡ false } by { Prim.hlevel props },
     ghost plain_in_line: { plain ≡ true → line_start ≡ false } by { Prim.hlevel props },
-    ghost plain_bare: { plain ≡ true → K.keeps kept ≡ false } by { Prim.hlevel props },
     ghost plain_flowing: { plain ≡ true → held ≡ None } by { Prim.hlevel props },
     ghost held_bare: { K.keeps kept ≡ false → length (notes_in held) ≡ 0 } by { Prim.hlevel props },
     ghost shown: { failed ≡ false →
@@ -145,6 +146,7 @@ impl<'a, W: Write> PositionsWriter<'a, W> {
             kept,
             column: _,
             held: _,
+            reason: _,
         } = self;
         (outlet.into_inner(), kept.into_list())
     }
@@ -155,7 +157,7 @@ impl<'a, W: Write, K: KeepsPositions> Lines<'a, W, K> {
     ghost use Rattle.std.specs.Str.{is_utf8};
     ghost use Rattle.swc_ecma_codegen_common.specs.Refusals.{in_short, reason_of};
     ghost use Rattle.swc_ecma_codegen_text_writer.specs.Contents.{or_empty};
-    ghost use Rattle.swc_ecma_codegen_text_writer.specs.Sheet.{Writes, Deeper, Shallower, released, appended, indented, noted, is_recorded, recorded, start_recorded, end_recorded, pending_recorded, started, written, literal_written};
+    ghost use Rattle.swc_ecma_codegen_text_writer.specs.Sheet.{Writes, answered, Deeper, Shallower, released, appended, indented, noted, is_recorded, recorded, start_recorded, end_recorded, pending_recorded, started, written, literal_written};
     ghost use Rattle.swc_ecma_codegen_text_writer.specs.View.{sheet_of, new_sheet, keeping, Prefaces, Tells, Reaches, WritesPosition, WritesNothing};
 
     /// A writer at a line's start, with what keeps its positions.
@@ -180,6 +182,7 @@ impl<'a, W: Write, K: KeepsPositions> Lines<'a, W, K> {
             kept,
             column: Column::origin(),
             held: None,
+            reason: Refusal::Failed,
         }
     }
 
@@ -233,6 +236,7 @@ impl<'a, W: Write, K: KeepsPositions> Lines<'a, W, K> {
             kept: _,
             column: _,
             held: _,
+            reason: _,
         } = self;
         outlet.into_inner()
     }
@@ -253,7 +257,7 @@ impl<'a, W: Write, K: KeepsPositions> Lines<'a, W, K> {
         ensures { sheet_of self.new ≡ record (sheet_of self.old) { at_line_start = false } }
     {
         self.line_start = false;
-        self.plain = !self.kept.is_kept() && self.held.is_none();
+        self.plain = self.held.is_none();
     }
 
     /// Sends a text out as it is.
@@ -266,18 +270,19 @@ impl<'a, W: Write, K: KeepsPositions> Lines<'a, W, K> {
         self.hand_on(text)
     }
 
-    /// The same of a text that stays in its line, as blanks do.
+    /// The same of a text of N bytes that stays in its line, as blanks do.
     #[inline(always)]
-    fn send_in_line(&mut self, text: &str) -> Answer
+    fn send_in_line<const N: usize>(&mut self, text: &str) -> Answer
         requires fresh { (sheet_of self.old).refused ≡ false }
         requires looked { is_in_line text.now ≡ true }
+        requires length { length text.now ≡ N }
         ensures { Reaches (appended text.now (sheet_of self.old)) (sheet_of self.old)
             (sheet_of self.new) result }
     {
         if self.held.is_some() {
             return self.send(text);
         }
-        self.release_known(text, true)
+        self.release_array::<N>(text)
     }
 
     /// The same, where it is called: while lines are filled it is held.
@@ -332,15 +337,55 @@ impl<'a, W: Write, K: KeepsPositions> Lines<'a, W, K> {
         }
     }
 
-    /// The same where nothing else is to be done.
+    /// The same of a text of N bytes that stays in its line.
     #[inline(always)]
-    fn send_plainly(&mut self, text: &str) -> Answer
-        requires { self.old.plain ≡ true }
+    fn release_array<const N: usize>(&mut self, text: &str) -> Answer
+        requires fresh { (sheet_of self.old).refused ≡ false }
+        requires looked { is_in_line text.now ≡ true }
+        requires length { length text.now ≡ N }
+        ensures { Reaches (released text.now (sheet_of self.old)) (sheet_of self.old)
+            (sheet_of self.new) result }
+    {
+        if self.sends_array::<N>(text) {
+            return Ok(());
+        }
+        Err(Refusal::Writer)
+    }
+
+    /// The same. Whether it was sent: else the writer under it failed.
+    #[inline(always)]
+    fn sends_array<const N: usize>(&mut self, text: &str) -> bool
+        requires fresh { (sheet_of self.old).refused ≡ false }
+        requires looked { is_in_line text.now ≡ true }
+        requires length { length text.now ≡ N }
+        ensures { Reaches (released text.now (sheet_of self.old)) (sheet_of self.old)
+            (sheet_of self.new) (answered result Refusal.Writer) }
+    {
+        match self.outlet.write_array::<N>(text) {
+            Ok(()) => {
+                self.kept.pass_known(text, true);
+                self.column.pass_known(text, true);
+                true
+            }
+            Err(_) => {
+                self.failed = true;
+                self.plain = false;
+                false
+            }
+        }
+    }
+
+    /// The same of any text of N bytes where nothing else is to be done.
+    #[inline(always)]
+    fn send_plainly<const N: usize>(&mut self, text: &str) -> Answer
+        requires plain { self.old.plain ≡ true }
+        requires length { length text.now ≡ N }
         ensures { Reaches (appended text.now (sheet_of self.old)) (sheet_of self.old)
             (sheet_of self.new) result }
     {
-        match self.outlet.write_text(text) {
+        match self.outlet.write_array::<N>(text) {
             Ok(()) => {
+                self.kept.pass(text);
                 self.column.pass_sent(text);
                 Ok(())
             }
@@ -377,30 +422,30 @@ impl<'a, W: Write, K: KeepsPositions> Lines<'a, W, K> {
             return self.indent_by_levels();
         }
         match self.indent {
-            1 => self.send_blanks("    "),
-            2 => self.send_blanks("        "),
-            3 => self.send_blanks("            "),
-            4 => self.send_blanks("                "),
-            5 => self.send_blanks("                    "),
-            6 => self.send_blanks("                        "),
-            7 => self.send_blanks("                            "),
-            8 => self.send_blanks("                                "),
+            1 => self.send_blanks::<4>("    "),
+            2 => self.send_blanks::<8>("        "),
+            3 => self.send_blanks::<12>("            "),
+            4 => self.send_blanks::<16>("                "),
+            5 => self.send_blanks::<20>("                    "),
+            6 => self.send_blanks::<24>("                        "),
+            7 => self.send_blanks::<28>("                            "),
+            8 => self.send_blanks::<32>("                                "),
             _ => self.indent_by_levels(),
         }
     }
 
-    /// The same of as many levels as these blanks are. It is called with texts of known lengths, so that each takes no call that copies
-    /// bytes.
+    /// The same of as many levels as these N blanks are.
     #[inline(always)]
-    fn send_blanks(&mut self, blanks: &'static str) -> Answer
+    fn send_blanks<const N: usize>(&mut self, blanks: &'static str) -> Answer
         requires fresh { (sheet_of self.old).refused ≡ false }
         requires looked { is_in_line blanks.now ≡ true }
+        requires length { length blanks.now ≡ N }
         requires usual { self.old.usual_indent ≡ true }
         requires levels { blanks.now ≡ repeat self.old.indent (codes "    ") }
         ensures { Reaches (indented (sheet_of self.old).indentation (sheet_of self.old))
             (sheet_of self.old) (sheet_of self.new) result }
     {
-        self.send_in_line(blanks)
+        self.send_in_line::<N>(blanks)
     }
 
     /// The same, level by level.

@@ -1,10 +1,12 @@
 //! A writer behind a reference is a writer, of the same sheet.
 
 use crate::WriteJs;
-use swc_ecma_codegen_common::{BytePos, Result, Span};
+use swc_ecma_codegen_common::{BytePos, Error, Result, Span};
 
 impl<W: WriteJs> WriteJs for &mut W {
     ghost sheet = { λ w. W.sheet w.now };
+
+    ghost reason = { λ w. W.reason w.now };
 
     fn increase_indent(&mut self) -> Result {
         (**self).increase_indent()
@@ -92,6 +94,18 @@ impl<W: WriteJs> WriteJs for &mut W {
 
     fn can_ignore_invalid_unicodes(&mut self) -> bool {
         (**self).can_ignore_invalid_unicodes()
+    }
+
+    fn is_settled(&self) -> bool {
+        (**self).is_settled()
+    }
+
+    fn writes_in_line(&mut self, s: &str) -> bool {
+        (**self).writes_in_line(s)
+    }
+
+    fn take_reason(&mut self) -> Error {
+        (**self).take_reason()
     }
 
     fn holds_semi(&self) -> bool {

@@ -1,9 +1,11 @@
 //! What an emitter asks of a writer, and the writers.
 #![tactic(auto)]
 
-ghost use Rattle.std.specs.Prelude.{◌≡◌, ◌<◌};
-ghost use Rattle.swc_ecma_codegen_common.specs.Refusals.{in_short};
-ghost use Rattle.swc_ecma_codegen_text_writer.specs.Sheet.{Sheet, holds_semicolons, Writes, Semi, Space, Keyword, Operator, Param, Property, Line, Lit, Comment, StrLit, Str, Symbol, Punct, Position, Commit, Deeper, Shallower, BeginLines, AllowBreak, EndLines};
+ghost use Rattle.std.specs.Prelude.{◌≡◌, ◌<◌, true, false};
+ghost use Rattle.swc_ecma_codegen_common.specs.Refusals.{in_short, reason_of};
+ghost use Rattle.swc_ecma_codegen_common.specs.declared.errors.Refusal.{Refusal};
+ghost use Rattle.swc_ecma_codegen_text_writer.specs.Reach.{is_in_line};
+ghost use Rattle.swc_ecma_codegen_text_writer.specs.Sheet.{Sheet, answered, holds_semicolons, is_settled, Writes, Semi, Space, Keyword, Operator, Param, Property, Line, Lit, Comment, StrLit, Str, Symbol, Punct, Position, Commit, Deeper, Shallower, BeginLines, AllowBreak, EndLines};
 
 mod basic_impl;
 mod boxed;
@@ -19,8 +21,9 @@ mod positions;
 mod semicolon;
 
 pub use crate::basic_impl::{JsWriter, PositionsWriter};
+pub use crate::positions::is_in_line;
 pub use crate::semicolon::{OmitTrailingSemi, omit_trailing_semi};
-use swc_ecma_codegen_common::{BytePos, Result, Span};
+use swc_ecma_codegen_common::{BytePos, Error, Result, Span};
 
 /// A writer of tokens. Its value is a sheet, and each call has one effect on it, or is refused.
 ///
@@ -28,6 +31,8 @@ use swc_ecma_codegen_common::{BytePos, Result, Span};
 /// a `Result` answers `Failed`, one of an empty text too. swc's `text_writer::WriteJs`.
 pub trait WriteJs {
     ghost sheet: { Self → Sheet };
+
+    ghost reason: { Self → Refusal };
 
     /// One level of indentation more, for lines that begin from now on.
     fn increase_indent(&mut self) -> Result
@@ -122,6 +127,24 @@ pub trait WriteJs {
     /// Whether names keep U+0000 after a backslash.
     fn can_ignore_invalid_unicodes(&mut self) -> bool
         ensures answer { result ≡ (sheet self.old).keeps_invalid }
+        ensures same { sheet self.new ≡ sheet self.old };
+
+    /// Whether no semicolon is held back now.
+    fn is_settled(&self) -> bool
+        ensures { result ≡ is_settled (sheet self.now).semicolons };
+
+    /// Writes a text that stays in its line, where no semicolon is held back, as `write_str` does. Whether it was written: where it
+    /// was refused, `take_reason` says why.
+    fn writes_in_line(&mut self, s: &str) -> bool
+        requires settled { (sheet self.old).refused ≡ false →
+            is_settled (sheet self.old).semicolons ≡ true }
+        requires in_line { is_in_line s.now ≡ true }
+        ensures { Writes (Str s.now) (sheet self.old) (sheet self.new)
+            (answered result (reason self.new)) };
+
+    /// Why `writes_in_line` was refused, with the error of the writer under it, which is given once.
+    fn take_reason(&mut self) -> Error
+        ensures reason { reason_of result ≡ reason self.old }
         ensures same { sheet self.new ≡ sheet self.old };
 
     /// Whether it holds semicolons back until it knows what follows.

@@ -1,7 +1,7 @@
 //! The bytes go out here: one call of `write` at a time, and each fault is counted.
 
 ghost use Rattle.std.specs.Prelude.{◌≡◌, ◌<◌, ◌≤◌, [], ◌++◌, length, take, IfOk, OnOk, OnErr, IsSome};
-ghost use Rattle.std.specs.Str.{is_utf8};
+ghost use Rattle.std.specs.Str.{IsUtf8, is_utf8};
 ghost use Rattle.std.proofs.Props.{props};
 ghost use Rattle.swc_ecma_codegen_text_writer.specs.Contents.{Rises, IsPrefix, TellsSince};
 
@@ -25,6 +25,17 @@ pub struct Outlet<W: Write> {
     log: Log,
     ghost tells: { TellsSince (W.contents before.value) log.bytes
         (W.contents inner) } by { Prim.hlevel props },
+}
+
+/// The bytes of a text of N bytes.
+#[inline(always)]
+fn bytes_of<const N: usize>(text: &str) -> [u8; N]
+    requires { length text.now ≡ N }
+    ensures { result ≡ text.now }
+{
+    let mut bytes = [0; N];
+    bytes.copy_from_slice(text.as_bytes());
+    bytes
 }
 
 impl<W: Write> Outlet<W> {
@@ -133,7 +144,47 @@ impl<W: Write> Outlet<W> {
         ensures whole { OnOk result (is_utf8 (bytes_so_far self.new)
             ≡ is_utf8 (bytes_so_far self.old)) }
     {
-        let mut rest = text.as_bytes();
+        self.write_bytes(text.as_bytes())
+    }
+
+    /// The same of a text of N bytes: a copy of them is written that stands in registers. So no call copies bytes, and none has to look
+    /// whether the text overlaps the room that it goes to.
+    #[inline(always)]
+    pub fn write_array<const N: usize>(&mut self, text: &str) -> Result<(), Fault>
+        requires { length text.now ≡ N }
+        ensures before { self.new.before ≡ self.old.before }
+        ensures bytes { OnOk result (bytes_so_far self.new ≡ bytes_so_far self.old ++ text.now) }
+        ensures logged { OnOk result (self.new.log.bytes ≡ self.old.log.bytes ++ text.now) }
+        ensures faults { OnOk result (self.new.faults ≡ self.old.faults) }
+        ensures grows { OnErr result (IsPrefix (bytes_so_far self.old) (bytes_so_far self.new)) }
+        ensures front { OnErr result (IsPrefix (bytes_so_far self.new)
+            (bytes_so_far self.old ++ text.now)) }
+        ensures counted { OnErr result (Rises self.old.faults self.new.faults) }
+        // What was text stays text, and what wasn't doesn't become it.
+        ensures whole { OnOk result (is_utf8 (bytes_so_far self.new)
+            ≡ is_utf8 (bytes_so_far self.old)) }
+    {
+        let bytes: [u8; N] = bytes_of(text);
+        self.write_bytes(&bytes)
+    }
+
+    /// The same of the bytes of a text.
+    #[inline(always)]
+    pub fn write_bytes(&mut self, bytes: &[u8]) -> Result<(), Fault>
+        requires { IsUtf8 bytes.now }
+        ensures before { self.new.before ≡ self.old.before }
+        ensures bytes { OnOk result (bytes_so_far self.new ≡ bytes_so_far self.old ++ bytes.now) }
+        ensures logged { OnOk result (self.new.log.bytes ≡ self.old.log.bytes ++ bytes.now) }
+        ensures faults { OnOk result (self.new.faults ≡ self.old.faults) }
+        ensures grows { OnErr result (IsPrefix (bytes_so_far self.old) (bytes_so_far self.new)) }
+        ensures front { OnErr result (IsPrefix (bytes_so_far self.new)
+            (bytes_so_far self.old ++ bytes.now)) }
+        ensures counted { OnErr result (Rises self.old.faults self.new.faults) }
+        // What was text stays text, and what wasn't doesn't become it.
+        ensures whole { OnOk result (is_utf8 (bytes_so_far self.new)
+            ≡ is_utf8 (bytes_so_far self.old)) }
+    {
+        let mut rest = bytes;
         while !rest.is_empty() {
             let taken = self.write_once(rest)?;
             rest = &rest[taken..];

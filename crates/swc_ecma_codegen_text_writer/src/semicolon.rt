@@ -7,7 +7,7 @@ ghost use Rattle.swc_ecma_codegen_text_writer.specs.Sheet.{holds_semicolons, is_
 ghost use Rattle.swc_ecma_codegen_text_writer.specs.PendingSemi.{with_held, IsSettled, Settles, WritesAtOnce};
 
 use crate::WriteJs;
-use swc_ecma_codegen_common::{BytePos, Result, Span};
+use swc_ecma_codegen_common::{BytePos, Error, Result, Span};
 
 /// A semicolon that is held: its span, and whether a break was allowed since.
 #[derive(Clone, Copy, Drop)]
@@ -100,6 +100,8 @@ impl<W: WriteJs> OmitTrailingSemi<W> {
 #[tactic(auto, using(crate::proofs::Semicolons::calls))]
 impl<W: WriteJs> WriteJs for OmitTrailingSemi<W> {
     ghost sheet = { λ w. with_held w.pending (W.sheet w.inner) };
+
+    ghost reason = { λ w. W.reason w.inner };
 
     fn increase_indent(&mut self) -> Result {
         self.settle()?;
@@ -225,6 +227,22 @@ impl<W: WriteJs> WriteJs for OmitTrailingSemi<W> {
     #[tactic(auto, unfolding(crate::specs::PendingSemi::with_held))]
     fn can_ignore_invalid_unicodes(&mut self) -> bool {
         self.inner.can_ignore_invalid_unicodes()
+    }
+
+    #[tactic(auto, using(crate::proofs::Semicolons::none_held), unfolding(crate::specs::PendingSemi::with_held))]
+    fn is_settled(&self) -> bool {
+        self.pending.is_none()
+    }
+
+    #[inline(always)]
+    #[tactic(auto, using(crate::proofs::Semicolons::text_passes, crate::proofs::Semicolons::at_once_settled, crate::proofs::Semicolons::kept), unfolding(crate::specs::PendingSemi::with_held))]
+    fn writes_in_line(&mut self, s: &str) -> bool {
+        self.inner.writes_in_line(s)
+    }
+
+    #[tactic(auto, unfolding(crate::specs::PendingSemi::with_held))]
+    fn take_reason(&mut self) -> Error {
+        self.inner.take_reason()
     }
 
     #[tactic(auto, using(crate::proofs::Semicolons::held_back), unfolding(crate::specs::PendingSemi::with_held))]

@@ -4,12 +4,14 @@ use crate::WriteJs;
 use crate::basic_impl::Lines;
 use crate::kept::KeepsPositions;
 use std::io::Write;
-use swc_ecma_codegen_common::{BytePos, Result, Span};
+use swc_ecma_codegen_common::{BytePos, Error, Result, Span};
 
 impl<W: Write, K: KeepsPositions> WriteJs for Lines<'_, W, K> {
     ghost use Rattle.swc_ecma_codegen_text_writer.specs.View.{sheet_of};
 
     ghost sheet = { sheet_of };
+
+    ghost reason = { λ w. w.reason };
 
     fn increase_indent(&mut self) -> Result {
         let answer = self.deepen();
@@ -144,6 +146,22 @@ impl<W: Write, K: KeepsPositions> WriteJs for Lines<'_, W, K> {
     #[tactic(auto, unfolding(crate::specs::View::sheet_of))]
     fn can_ignore_invalid_unicodes(&mut self) -> bool {
         false
+    }
+
+    #[inline(always)]
+    #[tactic(auto, unfolding(crate::specs::View::sheet_of))]
+    fn is_settled(&self) -> bool {
+        true
+    }
+
+    #[inline(always)]
+    #[tactic(auto, unfolding(crate::specs::Sheet::effect), using(crate::proofs::Steps::text_at_once))]
+    fn writes_in_line(&mut self, s: &str) -> bool {
+        self.writes_known(s)
+    }
+
+    fn take_reason(&mut self) -> Error {
+        self.refuse(self.reason)
     }
 
     #[tactic(auto, unfolding(crate::specs::View::sheet_of))]

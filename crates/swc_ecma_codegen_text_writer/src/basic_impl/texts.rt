@@ -4,6 +4,7 @@ ghost use Rattle.std.specs.Prelude.{◌≡◌, ◌<◌, true, false};
 
 use crate::basic_impl::Lines;
 use crate::kept::KeepsPositions;
+use crate::positions::is_in_line;
 use std::io::Write;
 use swc_ecma_codegen_common::{Answer, Refusal, Span};
 
@@ -17,7 +18,8 @@ fn is_nowhere(span: Span) -> bool
 
 impl<W: Write, K: KeepsPositions> Lines<'_, W, K> {
     ghost use Rattle.std.specs.Prelude.{length, Some, None};
-    ghost use Rattle.swc_ecma_codegen_text_writer.specs.Sheet.{appended};
+    ghost use Rattle.swc_ecma_codegen_text_writer.specs.Reach.{is_in_line};
+    ghost use Rattle.swc_ecma_codegen_text_writer.specs.Sheet.{answered, appended, written};
     ghost use Rattle.swc_ecma_codegen_text_writer.specs.View.{sheet_of, Reaches, WritesText, WritesLiteral, WritesLine};
 
     /// Writes a text, after the indentation at a line's start.
@@ -60,28 +62,69 @@ impl<W: Write, K: KeepsPositions> Lines<'_, W, K> {
         requires { length text.now ≡ 1 }
         ensures { WritesText None text.now (sheet_of self.old) (sheet_of self.new) result }
     {
-        if self.plain {
-            self.send_few::<1>(text)
-        } else {
-            self.write_first_byte(text)
+        if !self.plain {
+            return self.write_first_byte(text);
         }
+        self.send_byte(text)
     }
 
-    /// The same where it is only sent, of a text of a known length: that takes no call that copies bytes.
+    /// The same where it is only sent.
+    #[inline(always)]
+    fn send_byte(&mut self, text: &str) -> Answer
+        requires plain { self.old.plain ≡ true }
+        requires length { length text.now ≡ 1 }
+        ensures { WritesText None text.now (sheet_of self.old) (sheet_of self.new) result }
+    {
+        self.send_few::<1>(text)
+    }
+
+    /// Sends a text of N bytes, where it is only sent. Most stay in their line.
     #[inline(always)]
     fn send_few<const N: usize>(&mut self, text: &str) -> Answer
         requires plain { self.old.plain ≡ true }
-        requires some { 0 < N }
         requires length { length text.now ≡ N }
-        ensures { WritesText None text.now (sheet_of self.old) (sheet_of self.new) result }
+        ensures { Reaches (appended text.now (sheet_of self.old)) (sheet_of self.old)
+            (sheet_of self.new) result }
     {
         if text.len() != N {
             unreachable!();
         }
-        self.send_plainly(text)
+        if !is_in_line(text.as_bytes()) {
+            return self.send(text);
+        }
+        self.release_array::<N>(text)
     }
 
-    /// The same at a line's start, where positions are kept, while lines are filled, or after a refusal.
+    /// Sends a text of any length, where it is only sent. Most names and keywords have up to sixteen bytes.
+    #[inline(never)]
+    fn send_by_length(&mut self, text: &str) -> Answer
+        requires { self.old.plain ≡ true }
+        ensures { Reaches (appended text.now (sheet_of self.old)) (sheet_of self.old)
+            (sheet_of self.new) result }
+    {
+        match text.len() {
+            0 => Ok(()),
+            1 => self.send_few::<1>(text),
+            2 => self.send_few::<2>(text),
+            3 => self.send_few::<3>(text),
+            4 => self.send_few::<4>(text),
+            5 => self.send_few::<5>(text),
+            6 => self.send_few::<6>(text),
+            7 => self.send_few::<7>(text),
+            8 => self.send_few::<8>(text),
+            9 => self.send_few::<9>(text),
+            10 => self.send_few::<10>(text),
+            11 => self.send_few::<11>(text),
+            12 => self.send_few::<12>(text),
+            13 => self.send_few::<13>(text),
+            14 => self.send_few::<14>(text),
+            15 => self.send_few::<15>(text),
+            16 => self.send_few::<16>(text),
+            _ => self.send(text),
+        }
+    }
+
+    /// The same at a line's start, while lines are filled, or after a refusal.
     #[inline(never)]
     #[tactic(auto, unfolding(crate::specs::View::sheet_of))]
     fn write_first_byte(&mut self, text: &str) -> Answer
@@ -172,7 +215,38 @@ impl<W: Write, K: KeepsPositions> Lines<'_, W, K> {
     fn write_anyhow(&mut self, text: &str) -> Answer
         ensures { WritesText None text.now (sheet_of self.old) (sheet_of self.new) result }
     {
-        self.write_here(None, text)
+        if self.failed {
+            return Err(Refusal::Failed);
+        }
+        if text.is_empty() {
+            return Ok(());
+        }
+        self.put_text(text)
+    }
+
+    /// Writes a text that isn't empty: once its line has begun, it is mostly only sent.
+    #[inline(always)]
+    fn put_text(&mut self, text: &str) -> Answer
+        requires fresh { (sheet_of self.old).refused ≡ false }
+        requires some { 0 < length text.now }
+        ensures { Reaches (written None text.now (sheet_of self.old)) (sheet_of self.old)
+            (sheet_of self.new) result }
+    {
+        self.start_line()?;
+        self.send_begun(text)
+    }
+
+    /// Sends a text in a line that has begun.
+    #[inline(always)]
+    fn send_begun(&mut self, text: &str) -> Answer
+        requires { (sheet_of self.old).refused ≡ false }
+        ensures { Reaches (appended text.now (sheet_of self.old)) (sheet_of self.old)
+            (sheet_of self.new) result }
+    {
+        if !self.plain {
+            return self.send(text);
+        }
+        self.send_by_length(text)
     }
 
     /// Writes a text of any length, without a span. Each way is a function of its own, so that none goes through the other.
@@ -180,46 +254,22 @@ impl<W: Write, K: KeepsPositions> Lines<'_, W, K> {
     fn write_bytes(&mut self, text: &str) -> Answer
         ensures { WritesText None text.now (sheet_of self.old) (sheet_of self.new) result }
     {
-        if self.plain {
-            self.send_bytes(text)
-        } else {
-            self.write_first_bytes(text)
+        if !self.plain {
+            return self.write_first_bytes(text);
         }
+        self.send_bytes(text)
     }
 
-    /// The same where it is only sent. Most names and keywords have up to ten bytes.
-    #[inline(never)]
+    /// The same where it is only sent.
+    #[inline(always)]
     fn send_bytes(&mut self, text: &str) -> Answer
         requires { self.old.plain ≡ true }
         ensures { WritesText None text.now (sheet_of self.old) (sheet_of self.new) result }
     {
-        match text.len() {
-            0 => Ok(()),
-            1 => self.send_few::<1>(text),
-            2 => self.send_few::<2>(text),
-            3 => self.send_few::<3>(text),
-            4 => self.send_few::<4>(text),
-            5 => self.send_few::<5>(text),
-            6 => self.send_few::<6>(text),
-            7 => self.send_few::<7>(text),
-            8 => self.send_few::<8>(text),
-            9 => self.send_few::<9>(text),
-            10 => self.send_few::<10>(text),
-            _ => self.send_many(text),
-        }
+        self.send_by_length(text)
     }
 
-    /// The same of a text of any length that isn't empty.
-    #[inline(never)]
-    fn send_many(&mut self, text: &str) -> Answer
-        requires plain { self.old.plain ≡ true }
-        requires some { 0 < length text.now }
-        ensures { WritesText None text.now (sheet_of self.old) (sheet_of self.new) result }
-    {
-        self.send_plainly(text)
-    }
-
-    /// The same at a line's start, where positions are kept, while lines are filled, or after a refusal.
+    /// The same at a line's start, while lines are filled, or after a refusal.
     #[inline(never)]
     #[tactic(auto, unfolding(crate::specs::View::sheet_of))]
     fn write_first_bytes(&mut self, text: &str) -> Answer
@@ -256,27 +306,210 @@ impl<W: Write, K: KeepsPositions> Lines<'_, W, K> {
         self.put(span, text)
     }
 
+    /// Writes a text that stays in its line, without a span: a blank or a punctuator of one byte where it is called. Whether it was
+    /// written: else `reason` says why not.
+    #[inline(always)]
+    pub(super) fn writes_known(&mut self, text: &str) -> bool
+        requires { is_in_line text.now ≡ true }
+        ensures { WritesText None text.now (sheet_of self.old) (sheet_of self.new)
+            (answered result self.new.reason) }
+    {
+        if text.len() == 1 {
+            self.writes_known_byte(text)
+        } else {
+            self.writes_known_bytes(text)
+        }
+    }
+
+    /// The same of one byte.
+    #[inline(always)]
+    fn writes_known_byte(&mut self, text: &str) -> bool
+        requires looked { is_in_line text.now ≡ true }
+        requires length { length text.now ≡ 1 }
+        ensures { WritesText None text.now (sheet_of self.old) (sheet_of self.new)
+            (answered result self.new.reason) }
+    {
+        if !self.plain {
+            return self.writes_first_byte(text);
+        }
+        self.sends_known_byte(text)
+    }
+
+    /// The same where it is only sent.
+    #[inline(always)]
+    fn sends_known_byte(&mut self, text: &str) -> bool
+        requires plain { self.old.plain ≡ true }
+        requires looked { is_in_line text.now ≡ true }
+        requires length { length text.now ≡ 1 }
+        ensures { WritesText None text.now (sheet_of self.old) (sheet_of self.new)
+            (answered result self.new.reason) }
+    {
+        self.sends_known::<1>(text)
+    }
+
+    /// The same of any length.
+    #[inline(always)]
+    fn writes_known_bytes(&mut self, text: &str) -> bool
+        requires { is_in_line text.now ≡ true }
+        ensures { WritesText None text.now (sheet_of self.old) (sheet_of self.new)
+            (answered result self.new.reason) }
+    {
+        if !self.plain {
+            return self.writes_first_bytes(text);
+        }
+        self.sends_known_bytes(text)
+    }
+
+    /// The same where it is only sent.
+    #[inline(always)]
+    fn sends_known_bytes(&mut self, text: &str) -> bool
+        requires plain { self.old.plain ≡ true }
+        requires looked { is_in_line text.now ≡ true }
+        ensures { WritesText None text.now (sheet_of self.old) (sheet_of self.new)
+            (answered result self.new.reason) }
+    {
+        self.sends_known_by_length(text)
+    }
+
+    /// The same at a line's start, while lines are filled, or after a refusal: of one byte.
+    #[inline(never)]
+    #[tactic(auto, unfolding(crate::specs::View::sheet_of))]
+    fn writes_first_byte(&mut self, text: &str) -> bool
+        requires { length text.now ≡ 1 }
+        ensures { WritesText None text.now (sheet_of self.old) (sheet_of self.new)
+            (answered result self.new.reason) }
+    {
+        if text.len() != 1 {
+            unreachable!();
+        }
+        if self.failed || self.line_start {
+            let answer = self.write_byte_anyhow(text);
+            return self.notes_reason(answer);
+        }
+        let answer = self.write_begun(text);
+        self.notes_reason(answer)
+    }
+
+    /// The same of any length.
+    #[inline(never)]
+    #[tactic(auto, unfolding(crate::specs::View::sheet_of))]
+    fn writes_first_bytes(&mut self, text: &str) -> bool
+        ensures { WritesText None text.now (sheet_of self.old) (sheet_of self.new)
+            (answered result self.new.reason) }
+    {
+        if text.is_empty() || self.failed || self.line_start {
+            let answer = self.write_anyhow(text);
+            return self.notes_reason(answer);
+        }
+        let answer = self.write_begun(text);
+        self.notes_reason(answer)
+    }
+
+    /// Whether a call did what it was to do. Why it was refused is kept.
+    #[inline(always)]
+    #[tactic(auto, unfolding(crate::specs::View::sheet_of))]
+    fn notes_reason(&mut self, answer: Answer) -> bool
+        ensures answer { answer ≡ answered result self.new.reason }
+        ensures same { sheet_of self.new ≡ sheet_of self.old }
+    {
+        match answer {
+            Ok(()) => true,
+            Err(refusal) => {
+                self.reason = refusal;
+                false
+            }
+        }
+    }
+
+    /// Sends a text of N bytes that stays in its line, where it is only sent.
+    #[inline(always)]
+    fn sends_known<const N: usize>(&mut self, text: &str) -> bool
+        requires plain { self.old.plain ≡ true }
+        requires looked { is_in_line text.now ≡ true }
+        requires length { length text.now ≡ N }
+        ensures { Reaches (appended text.now (sheet_of self.old)) (sheet_of self.old)
+            (sheet_of self.new) (answered result self.new.reason) }
+    {
+        if self.sends_array::<N>(text) {
+            return true;
+        }
+        self.reason = Refusal::Writer;
+        false
+    }
+
+    /// The same of any length.
+    #[inline(never)]
+    fn sends_known_by_length(&mut self, text: &str) -> bool
+        requires plain { self.old.plain ≡ true }
+        requires looked { is_in_line text.now ≡ true }
+        ensures { Reaches (appended text.now (sheet_of self.old)) (sheet_of self.old)
+            (sheet_of self.new) (answered result self.new.reason) }
+    {
+        match text.len() {
+            0 => true,
+            1 => self.sends_known::<1>(text),
+            2 => self.sends_known::<2>(text),
+            3 => self.sends_known::<3>(text),
+            4 => self.sends_known::<4>(text),
+            5 => self.sends_known::<5>(text),
+            6 => self.sends_known::<6>(text),
+            7 => self.sends_known::<7>(text),
+            8 => self.sends_known::<8>(text),
+            9 => self.sends_known::<9>(text),
+            10 => self.sends_known::<10>(text),
+            11 => self.sends_known::<11>(text),
+            12 => self.sends_known::<12>(text),
+            13 => self.sends_known::<13>(text),
+            14 => self.sends_known::<14>(text),
+            15 => self.sends_known::<15>(text),
+            16 => self.sends_known::<16>(text),
+            _ => self.sends_long(text),
+        }
+    }
+
+    /// The same of a long one.
+    #[inline(never)]
+    fn sends_long(&mut self, text: &str) -> bool
+        requires { self.old.plain ≡ true }
+        ensures { Reaches (appended text.now (sheet_of self.old)) (sheet_of self.old)
+            (sheet_of self.new) (answered result self.new.reason) }
+    {
+        let answer = self.send(text);
+        self.notes_reason(answer)
+    }
+
     /// Writes a literal: its start is recorded before the line begins.
     pub(super) fn literal(&mut self, span: Span, text: &str) -> Answer
         ensures { WritesLiteral span text.now (sheet_of self.old) (sheet_of self.new) result }
     {
-        if self.plain {
+        if self.is_bare() {
             return self.send_literal(span, text);
         }
         self.write_first_literal(span, text)
     }
 
-    /// The same where it is only sent.
+    /// Whether a text is only sent, and no positions are kept.
+    #[inline(always)]
+    #[tactic(auto, unfolding(crate::specs::View::sheet_of))]
+    fn is_bare(&self) -> bool
+        ensures plain { result ≡ true → self.now.plain ≡ true }
+        ensures bare { result ≡ true → (sheet_of self.now).keeps_positions ≡ false }
+    {
+        self.plain && !self.kept.is_kept()
+    }
+
+    /// Writes a literal that is only sent.
     #[inline(always)]
     fn send_literal(&mut self, span: Span, text: &str) -> Answer
-        requires { self.old.plain ≡ true }
+        requires plain { self.old.plain ≡ true }
+        requires bare { (sheet_of self.old).keeps_positions ≡ false }
         ensures { WritesLiteral span text.now (sheet_of self.old) (sheet_of self.new) result }
     {
         let _ = span;
         if text.is_empty() {
             return Ok(());
         }
-        self.send_plainly(text)
+        self.send_by_length(text)
     }
 
     /// The same at a line's start, where positions are kept, or after a refusal.
@@ -302,7 +535,7 @@ impl<W: Write, K: KeepsPositions> Lines<'_, W, K> {
         if !self.plain || text.len() != 1 {
             return self.end_any_line();
         }
-        self.send_plainly(text)?;
+        self.send_plainly::<1>(text)?;
         self.set_line_start();
         Ok(())
     }

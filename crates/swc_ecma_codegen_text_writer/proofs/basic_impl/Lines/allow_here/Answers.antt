@@ -22,9 +22,6 @@ pass_known-requires g c =
 pub invariant_of-self-in-Ok-clause-plain_flowing : goal.invariant_of-self-in-Ok-clause-plain_flowing
 invariant_of-self-in-Ok-clause-plain_flowing g c = λ p. absurd (none_some _ _ (c.args.self.now.plain_flowing p) c.in-Some.is)
 
-pub invariant_of-self-in-Ok-clause-plain_bare : goal.invariant_of-self-in-Ok-clause-plain_bare
-invariant_of-self-in-Ok-clause-plain_bare g c = λ p. c.pass.ensures.keeps ∙ c.args.self.now.plain_bare p
-
 pub invariant_of-self-in-Ok-clause-held_bare : goal.invariant_of-self-in-Ok-clause-held_bare
 invariant_of-self-in-Ok-clause-held_bare g c = λ b. c.clear.ensures.notes
 

@@ -30,6 +30,3 @@ invariant_of-self-clause-counted g c = λ f e. subst (λ z. Shows (g.K.KeepsPosi
 
 pub invariant_of-self-clause-shown : goal.invariant_of-self-clause-shown
 invariant_of-self-clause-shown g c = λ f. subst (λ z. Stands c.pass_sent.new.self.units z) (sym (place_on _ _ _ c.in-Ok.ensures.logged)) (c.pass_sent.ensures _ (c.args.self.now.shown f))
-
-pub invariant_of-self-clause-plain_bare : goal.invariant_of-self-clause-plain_bare
-invariant_of-self-clause-plain_bare g c = λ p. c.pass.ensures.keeps ∙ c.args.self.now.plain_bare p

@@ -3,7 +3,7 @@ use Rattle.std.proofs.lemmas.Bool.{and_parts, true≢false}
 use Rattle.swc_ecma_codegen_text_writer.specs.Held.{flow_of}
 use Rattle.swc_ecma_codegen_text_writer.specs.Sheet.{Sheet, Segment, Filling, fills_lines, recorded}
 use Rattle.swc_ecma_codegen_text_writer.specs.View.{sheet_of, Reaches}
-use Rattle.swc_ecma_codegen_text_writer.proofs.Flushes.{may_hold}
+use Rattle.swc_ecma_codegen_text_writer.proofs.Flushes.{may_hold, none_some}
 use Rattle.swc_ecma_codegen_text_writer.proofs.Sheets.{recorded_alike}
 use Rattle.swc_ecma_codegen_text_writer.proofs.Steps.{recorded_flowing, recorded_filling, reaches_to, refused_here}
 use Rattle.swc_ecma_codegen_text_writer.proofs.basic_impl.Lines.record_or_hold.Goals as goal
@@ -16,10 +16,9 @@ pub note-requires-clause-keeps : goal.note-requires-clause-keeps
 unfolding sheet_of
 note-requires-clause-keeps g c = (and_parts _ (not (c.args.pos.0 == 0)) c.requires.recorded).0
 
--- positions are kept here, so the writer isn't plain
+-- a text is held here, so the writer isn't plain
 pub invariant_of-self-in-Ok-clause-plain_flowing : goal.invariant_of-self-in-Ok-clause-plain_flowing
-unfolding sheet_of
-invariant_of-self-in-Ok-clause-plain_flowing g c = λ p. absurd (true≢false (sym (and_parts _ (not (c.args.pos.0 == 0)) c.requires.recorded).0 ∙ c.args.self.now.plain_bare p))
+invariant_of-self-in-Ok-clause-plain_flowing g c = λ p. absurd (none_some _ _ (c.args.self.now.plain_flowing p) c.in-Some.is)
 
 pub invariant_of-self-in-Ok-clause-held_bare : goal.invariant_of-self-in-Ok-clause-held_bare
 unfolding sheet_of

@@ -1,11 +1,12 @@
-use Rattle.std.proofs.Common.{◌≡◌, length, refl, sym, ◌∙◌, rules}
-use Rattle.std.specs.Prelude.{None}
+use Rattle.std.proofs.Common.{◌≡◌, false, refl, sym}
 use Rattle.swc_ecma_codegen_text_writer.specs.View.{sheet_of}
-use Rattle.swc_ecma_codegen_text_writer.proofs.Steps.{writes_ok, written_nil}
+use Rattle.swc_ecma_codegen_text_writer.proofs.Steps.{reaches_to, writes_way, written_begun}
 use Rattle.swc_ecma_codegen_text_writer.proofs.basic_impl.Lines.send_bytes.Goals as goal
 
-pub returns-in-0 : goal.returns-in-0
-unfolding sheet_of
-returns-in-0 g c x e =
-    let h : length c.args.text.now ≡ 0 = search rules in
-    writes_ok x _ _ (c.args.self.now.plain_fresh c.requires) (written_nil None c.args.text.now _ h ∙ sym (e refl))
+pub returns : goal.returns
+returns g c x e =
+    let s = sheet_of c.args.self.now in
+    let in_line : s.at_line_start ≡ false = unfold sheet_of in c.args.self.now.plain_in_line c.requires in
+    let fresh : s.refused ≡ false = unfold sheet_of in c.args.self.now.plain_fresh c.requires in
+    writes_way x _ _ _ _ (sym (e (unfold sheet_of in refl))) (unfold sheet_of in refl) (unfold sheet_of in refl) fresh
+    (reaches_to _ _ _ _ _ (written_begun c.args.text.now s in_line) c.send_by_length.ensures)

@@ -1,13 +1,17 @@
-use Rattle.std.proofs.Common.{◌≡◌, ◌<◌, length, false, refl, sym, arith}
+use Rattle.std.proofs.Common.{ap, sym}
+use Rattle.swc_ecma_codegen_text_writer.specs.Held.{flow_of}
 use Rattle.swc_ecma_codegen_text_writer.specs.View.{sheet_of}
-use Rattle.swc_ecma_codegen_text_writer.proofs.Steps.{reaches_to, writes_way, written_in_line}
+use Rattle.swc_ecma_codegen_text_writer.proofs.Steps.{appended_flowing, reaches_to}
 use Rattle.swc_ecma_codegen_text_writer.proofs.basic_impl.Lines.send_few.Goals as goal
 
+pub release_array-requires-clause-fresh : goal.release_array-requires-clause-fresh
+unfolding sheet_of
+release_array-requires-clause-fresh g c = c.args.self.now.plain_fresh c.requires.plain
+
+pub send-requires : goal.send-requires
+unfolding sheet_of
+send-requires g c = c.args.self.now.plain_fresh c.requires.plain
+
 pub returns : goal.returns
-returns g c x e =
-    let s = sheet_of c.args.self.now in
-    let some : 0 < length c.args.text.now = omega (arith, c.requires.some, c.requires.length) in
-    let in_line : s.at_line_start ≡ false = unfold sheet_of in c.args.self.now.plain_in_line c.requires.plain in
-    let fresh : s.refused ≡ false = unfold sheet_of in c.args.self.now.plain_fresh c.requires.plain in
-    writes_way x _ _ _ _ (sym (e (unfold sheet_of in refl))) (unfold sheet_of in refl) (unfold sheet_of in refl) fresh
-    (reaches_to _ _ _ _ _ (written_in_line c.args.text.now s some in_line) c.send_plainly.ensures)
+unfolding sheet_of
+returns g c = reaches_to _ _ _ _ _ (sym (appended_flowing c.args.text.now (sheet_of c.args.self.now) (ap flow_of (c.args.self.now.plain_flowing c.requires.plain)))) c.release_array.ensures

@@ -8,4 +8,4 @@ pub returns : goal.returns
 unfolding sheet_of
 returns g c =
     let none : c.args.self.now.held ≡ None = search rules in
-    reaches_to _ _ _ _ _ (sym (appended_flowing c.args.text.now (sheet_of c.args.self.now) (ap flow_of none))) c.release_known.ensures
+    reaches_to _ _ _ _ _ (sym (appended_flowing c.args.text.now (sheet_of c.args.self.now) (ap flow_of none))) c.release_array.ensures

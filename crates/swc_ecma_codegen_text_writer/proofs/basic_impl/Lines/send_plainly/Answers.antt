@@ -1,8 +1,8 @@
 use Rattle.std.proofs.Common.{refl, sym, ◌∙◌, ap, subst, Err}
-use Rattle.std.proofs.lemmas.Bool.{true≢false}
 use Rattle.swc_ecma_codegen_text_writer.specs.Sheet.{released}
 use Rattle.swc_ecma_codegen_text_writer.specs.Held.{flow_of}
 use Rattle.swc_ecma_codegen_text_writer.specs.Columns.{Stands}
+use Rattle.swc_ecma_codegen_text_writer.specs.Reach.{Shows}
 use Rattle.swc_ecma_codegen_text_writer.specs.View.{sheet_of, Reaches, HasReason}
 use Rattle.swc_ecma_codegen_text_writer.proofs.Sheets.{front_refl}
 use Rattle.swc_ecma_codegen_text_writer.proofs.Steps.{sent_sheet, reaches_to, appended_flowing, place_on, place_since}
@@ -11,24 +11,24 @@ use Rattle.swc_ecma_codegen_text_writer.proofs.basic_impl.Lines.send_plainly.Goa
 pub returns-in-Ok : goal.returns-in-Ok
 unfolding sheet_of Reaches
 returns-in-Ok g c =
-    sent_sheet c.args.text.now (sheet_of c.args.self.now) _ _ _ _ _ _ _ _ c.in-Ok.ensures.bytes c.in-Ok.ensures.whole c.in-Ok.ensures.faults (place_on _ _ _ c.in-Ok.ensures.logged) refl refl refl refl
-    ∙ sym (appended_flowing c.args.text.now (sheet_of c.args.self.now) (ap flow_of (c.args.self.now.plain_flowing c.requires)))
+    sent_sheet c.args.text.now (sheet_of c.args.self.now) _ _ _ _ _ _ _ _ c.in-Ok.ensures.bytes c.in-Ok.ensures.whole c.in-Ok.ensures.faults (place_on _ _ _ c.in-Ok.ensures.logged) c.pass.ensures.keeps c.pass.ensures.keeps c.pass.ensures.pairs c.pass.ensures.pending
+    ∙ sym (appended_flowing c.args.text.now (sheet_of c.args.self.now) (ap flow_of (c.args.self.now.plain_flowing c.requires.plain)))
 
 pub returns-in-Err : goal.returns-in-Err
 unfolding sheet_of Reaches HasReason released
-returns-in-Err g c = reaches_to _ _ _ _ (Err _) (sym (appended_flowing c.args.text.now (sheet_of c.args.self.now) (ap flow_of (c.args.self.now.plain_flowing c.requires)))) (record {
+returns-in-Err g c = reaches_to _ _ _ _ (Err _) (sym (appended_flowing c.args.text.now (sheet_of c.args.self.now) (ap flow_of (c.args.self.now.plain_flowing c.requires.plain)))) (record {
   reason = c.in-Err.ensures.counted;
   grows = c.in-Err.ensures.grows;
   front = c.in-Err.ensures.front;
-  place = place_since c.args.self.now.outlet c.write_text.new.self c.in-Err.ensures.before c.in-Err.ensures.grows;
+  place = place_since c.args.self.now.outlet c.write_array.new.self c.in-Err.ensures.before c.in-Err.ensures.grows;
   more_pairs = front_refl _;
   front_pairs = front_refl _;
   same = refl;
 })
 
+-- the place is that after what went out before and the text
+pub invariant_of-self-clause-counted : goal.invariant_of-self-clause-counted
+invariant_of-self-clause-counted g c = λ f e. subst (λ z. Shows (g.K.KeepsPositions.reached c.pass.new.self) z) (sym (place_on _ _ _ c.in-Ok.ensures.logged)) (c.pass.ensures.counted _ (c.args.self.now.counted f) e)
+
 pub invariant_of-self-clause-shown : goal.invariant_of-self-clause-shown
 invariant_of-self-clause-shown g c = λ f. subst (λ z. Stands c.pass_sent.new.self.units z) (sym (place_on _ _ _ c.in-Ok.ensures.logged)) (c.pass_sent.ensures _ (c.args.self.now.shown f))
-
--- no positions are kept, so none are counted
-pub invariant_of-self-clause-counted : goal.invariant_of-self-clause-counted
-invariant_of-self-clause-counted g c = λ f e. absurd (true≢false (sym e ∙ c.args.self.now.plain_bare c.requires))

@@ -1,13 +1,12 @@
-use Rattle.std.proofs.Common.{◌≡◌, ◌<◌, length, false, refl, sym}
+use Rattle.std.proofs.Common.{◌≡◌, false, refl, sym}
 use Rattle.swc_ecma_codegen_text_writer.specs.View.{sheet_of}
-use Rattle.swc_ecma_codegen_text_writer.proofs.Steps.{reaches_to, writes_way, written_in_line}
-use Rattle.swc_ecma_codegen_text_writer.proofs.basic_impl.Lines.send_many.Goals as goal
+use Rattle.swc_ecma_codegen_text_writer.proofs.Steps.{reaches_to, writes_way, written_begun}
+use Rattle.swc_ecma_codegen_text_writer.proofs.basic_impl.Lines.send_byte.Goals as goal
 
 pub returns : goal.returns
 returns g c x e =
     let s = sheet_of c.args.self.now in
-    let some : 0 < length c.args.text.now = c.requires.some in
     let in_line : s.at_line_start ≡ false = unfold sheet_of in c.args.self.now.plain_in_line c.requires.plain in
     let fresh : s.refused ≡ false = unfold sheet_of in c.args.self.now.plain_fresh c.requires.plain in
     writes_way x _ _ _ _ (sym (e (unfold sheet_of in refl))) (unfold sheet_of in refl) (unfold sheet_of in refl) fresh
-    (reaches_to _ _ _ _ _ (written_in_line c.args.text.now s some in_line) c.send_plainly.ensures)
+    (reaches_to _ _ _ _ _ (written_begun c.args.text.now s in_line) c.send_few.ensures)
