@@ -27,3 +27,5 @@ pub mod TsDeclsPossible
 pub mod TsExprsPossible
 pub mod UnitsLeft
 pub mod WholeSizes
+pub mod Each
+pub mod Depths

@@ -1,8 +1,11 @@
 //! The first fault of a program: the way to its node, and the rule that is broken.
 
-ghost use Rattle.std.specs.Prelude.{◌≡◌, false, IfOk, not};
-ghost use Rattle.std.specs.Option.{is_some};
+ghost use Rattle.std.specs.Prelude.{◌≡◌, ◌||◌, ◌∷◌, [], false, codes, IfOk, IfSome, not};
+ghost use Rattle.std.specs.Option.{is_none, is_some};
+ghost use Rattle.swc_ecma_codegen_grammar.specs.declared.roles.Role.{Role as InRole};
 ghost use Rattle.swc_ecma_codegen_grammar.specs.TreePhrases.{is_well_formed};
+ghost use Rattle.swc_ecma_codegen_validate.specs.Rules.{Findings, Finds, Named, below, by_rule, in_each, in_some, path_of, place_of};
+ghost use Rattle.swc_ecma_codegen_validate.specs.TreeRules.{IsTold};
 
 mod decls;
 mod exprs;
@@ -14,7 +17,7 @@ mod stmts;
 mod ts;
 mod types;
 
-use crate::forms::{Fits, LinkRole};
+use crate::forms::LinkRole;
 use crate::recursion::is_well_formed;
 use std::alloc::{AllocError, Global};
 use swc_ecma_codegen_grammar::roles::Role;
@@ -36,111 +39,169 @@ pub struct Fault {
     pub rule: &'static str,
 }
 
-/// The way to a node.
-pub(crate) type Path = Vec<Step>;
+/// A rule that is broken, and the way from its node up to where the search stands: the last step comes first.
+#[derive(Drop)]
+pub(crate) struct Broken {
+    way_up: Vec<Step>,
+    rule: &'static str,
+}
 
-/// The rule that is broken, if one is. Then the path leads to the node whose rule it is; else it is as it was.
-pub(crate) type Found = Result<Option<&'static str>, AllocError>;
+impl Broken {
+    /// A rule of the node itself.
+    pub(crate) fn here(alloc: Global, rule: &'static str) -> Broken
+        ensures path { path_of result ≡ [] }
+        ensures rule { result.rule ≡ rule.entry }
+    {
+        Broken {
+            way_up: Vec::new(alloc),
+            rule,
+        }
+    }
 
-/// What isn't well-formed wherever it stands, and what may not stand where it does.
-pub(crate) const NOT_HERE: &str = "a node of this kind may not stand here";
+    /// The same, as seen from the node that this step leads from.
+    pub(crate) fn below(self, step: Step) -> Result<Broken, AllocError>
+        ensures path { IfOk result (λ b. path_of b ≡ place_of step ∷ path_of self) }
+        ensures rule { IfOk result (λ b. b.rule ≡ self.rule) }
+    {
+        let Broken { mut way_up, rule } = self;
+        way_up.push(step)?;
+        Ok(Broken { way_up, rule })
+    }
+}
+
+/// The first rule that is broken, if one is.
+pub(crate) type Found = Result<Option<Broken>, AllocError>;
 
 /// What finds the first fault in it.
 pub(crate) trait FindsFault {
-    fn fault(&self, path: &mut Path) -> Found;
+    ghost found: { Self → Findings };
+
+    fn fault(&self, alloc: Global) -> Found
+        ensures { IfOk result (Finds (found self.now)) };
 }
 
 /// What a link holds.
-pub(crate) trait FaultIn: Fits {
+pub(crate) trait FaultIn {
+    ghost found_as: { Self → InRole → Findings };
+
     /// The first fault of what stands in this role.
-    fn fault_as(&self, role: Role, path: &mut Path) -> Found;
+    fn fault_as(&self, role: Role, alloc: Global) -> Found
+        ensures { IfOk result (Finds (found_as self.now role)) };
 }
 
-pub(crate) fn broken(rule: &'static str) -> Found {
-    Ok(Some(rule))
+/// The fault of a node whose rule doesn't hold.
+pub(crate) fn broken_unless(alloc: Global, holds: bool, rule: &'static str) -> Found
+    ensures { IfOk result (Finds (by_rule holds rule.now)) }
+{
+    if holds {
+        return Ok(None);
+    }
+    Ok(Some(Broken::here(alloc, rule)))
 }
 
-pub(crate) fn broken_unless(fine: bool, rule: &'static str) -> Found {
-    if fine { Ok(None) } else { Ok(Some(rule)) }
+/// The fault of a node that isn't well-formed wherever it stands, or may not stand where it does.
+pub(crate) fn not_here(alloc: Global) -> Found
+    ensures { IfOk result (Finds (by_rule false (codes "a node of this kind may not stand here"))) }
+{
+    broken_unless(alloc, false, "a node of this kind may not stand here")
 }
 
-/// A rule of a field is broken.
-pub(crate) fn at_field(path: &mut Path, name: &'static str, rule: &'static str) -> Found {
-    path.push(Step::Field(name))?;
-    broken(rule)
+/// Whether there is the second only where the first is.
+pub(crate) fn stands_with<A, B>(first: &Option<A>, second: &Option<B>) -> bool
+    ensures { result ≡ (is_some first.now || is_none second.now) }
+{
+    first.is_some() || second.is_none()
 }
 
 /// The first fault of a field.
-pub(crate) fn under<T: FindsFault>(path: &mut Path, name: &'static str, node: &T) -> Found {
-    path.push(Step::Field(name))?;
-    let found = node.fault(path)?;
-    if found.is_none() {
-        let _ = path.pop();
+pub(crate) fn under<T: FindsFault>(alloc: Global, name: &'static str, node: &T) -> Found
+    ensures { IfOk result (Finds (below (Named name.now) (T.found node.now))) }
+{
+    match node.fault(alloc)? {
+        Some(broken) => Ok(Some(broken.below(Step::Field(name))?)),
+        None => Ok(None),
     }
-    Ok(found)
 }
 
 /// The first fault of a link, to what stands in this role.
 pub(crate) fn under_as<K, N: FaultIn>(
-    path: &mut Path,
+    alloc: Global,
     name: &'static str,
     link: &Link<K, N>,
     role: Role,
-) -> Found {
-    path.push(Step::Field(name))?;
-    let found = link.target().fault_as(role, path)?;
-    if found.is_none() {
-        let _ = path.pop();
+) -> Found
+    ensures { IfOk result (Finds (below (Named name.now) (N.found_as link.now.node.value role))) }
+{
+    match link.target().fault_as(role, alloc)? {
+        Some(broken) => Ok(Some(broken.below(Step::Field(name))?)),
+        None => Ok(None),
     }
-    Ok(found)
 }
+
+/// The first fault that one of these finds, in their order.
+macro_rules! in_turn {
+    ($($found:expr,)+) => {{
+        $(
+            if let Some(broken) = $found? {
+                return Ok(Some(broken));
+            }
+        )+
+        Ok(None)
+    }};
+}
+
+pub(crate) use in_turn;
 
 /// The first fault of these fields, in their order.
 macro_rules! within {
-    ($node:ident, $path:ident; $($field:ident)*) => {{
-        let mut found: Option<&'static str> = None;
+    ($node:ident, $alloc:ident; $($field:ident)+) => {{
         $(
-            if found.is_none() {
-                found = crate::faults::under($path, stringify!($field), &$node.$field)?;
+            if let Some(broken) = crate::faults::under($alloc, stringify!($field), &$node.$field)? {
+                return Ok(Some(broken));
             }
-        )*
-        let found: crate::faults::Found = Ok(found);
-        found
+        )+
+        Ok(None)
     }};
 }
 
 pub(crate) use within;
 
 impl<K: LinkRole, N: FaultIn> FindsFault for Link<K, N> {
-    fn fault(&self, path: &mut Path) -> Found {
-        self.target().fault_as(K::ROLE, path)
+    ghost found = { λ n. N.found_as n.node.value K.ROLE };
+
+    fn fault(&self, alloc: Global) -> Found {
+        self.target().fault_as(K::ROLE, alloc)
     }
 }
 
 impl<T: FindsFault> FindsFault for Option<T> {
-    fn fault(&self, path: &mut Path) -> Found {
+    ghost found = { λ n. in_some T.found n };
+
+    #[tactic(auto, unfolding(crate::specs::Rules::in_some))]
+    fn fault(&self, alloc: Global) -> Found {
         match self {
-            Some(node) => node.fault(path),
+            Some(node) => node.fault(alloc),
             None => Ok(None),
         }
     }
 }
 
 impl<T: FindsFault> FindsFault for Box<T> {
-    fn fault(&self, path: &mut Path) -> Found {
-        (**self).fault(path)
+    ghost found = { λ n. T.found n.value };
+
+    fn fault(&self, alloc: Global) -> Found {
+        (**self).fault(alloc)
     }
 }
 
 impl<T: FindsFault> FindsFault for Vec<T> {
-    fn fault(&self, path: &mut Path) -> Found {
+    ghost found = { λ n. in_each T.found 0 n.items };
+
+    fn fault(&self, alloc: Global) -> Found {
         for (index, node) in self.iter().enumerate() {
-            path.push(Step::Element(index))?;
-            let found = node.fault(path)?;
-            if found.is_some() {
-                return Ok(found);
+            if let Some(broken) = node.fault(alloc)? {
+                return Ok(Some(broken.below(Step::Element(index))?));
             }
-            let _ = path.pop();
         }
         Ok(None)
     }
@@ -150,16 +211,24 @@ impl<T: FindsFault> FindsFault for Vec<T> {
 /// program is well-formed.
 ///
 /// Of `a + (b c)`, where `b c` is one name, the path is `body`, 0, `expr`, `right`, and the rule is `a name holds a character
-/// that no name may`. A node's own rule is looked at before its fields, and these in the order in which they are written.
-/// Takes memory for the path alone, and fails only where this is refused. That the path leads to such a node is tested, and
-/// not proved.
+/// that no name may`. A node's own rules are looked at before its fields, and these in the order in which they are written.
+/// Takes memory for the path alone, and fails only where this is refused.
+#[tactic(auto, unfolding(crate::specs::TreeRules::found_in_program))]
 pub fn first_fault(alloc: Global, program: &Program) -> Result<Option<Fault>, AllocError>
-    ensures { IfOk result (λ found. is_some found ≡ not (is_well_formed program.now)) }
+    ensures exact { IfOk result (λ found. is_some found ≡ not (is_well_formed program.now)) }
+    ensures place { IfOk result (λ found. IfSome found (IsTold program.now)) }
 {
     if is_well_formed(program) {
         return Ok(None);
     }
-    let mut path = Vec::new(alloc);
-    let rule = program.fault(&mut path)?.unwrap_or("it isn't well-formed");
-    Ok(Some(Fault { path, rule }))
+    match program.fault(alloc)? {
+        Some(Broken { mut way_up, rule }) => {
+            way_up.reverse();
+            Ok(Some(Fault { path: way_up, rule }))
+        }
+        None => Ok(Some(Fault {
+            path: Vec::new(alloc),
+            rule: "it isn't well-formed",
+        })),
+    }
 }

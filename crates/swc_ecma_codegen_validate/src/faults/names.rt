@@ -1,66 +1,93 @@
 //! Names and literals.
 
+ghost use Rattle.std.specs.Prelude.{IfOk};
+ghost use Rattle.swc_ecma_codegen_validate.specs.Rules.{findings, no_links, Finds};
+ghost use Rattle.swc_ecma_codegen_validate.specs.NameRules.{ident, ident_name, binding_ident, private_name, str_lit, bool_lit, null_lit, number, big_int, regex, lit, name_rules};
+
 use crate::big_integers::are_digits;
-use crate::faults::{FaultIn, FindsFault, Found, NOT_HERE, Path, broken, broken_unless, within};
+use crate::faults::{FaultIn, FindsFault, Found, broken_unless, in_turn, not_here, within};
 use crate::forms::WellFormed;
 use crate::names::is_name;
 use crate::regexes::{are_flags, is_body};
-use crate::strings::spells_units;
+use std::alloc::Global;
 use swc_ecma_codegen_tree::{
     BigInt, BindingIdent, Bool, Ident, IdentName, Lit, Null, Number, PrivateName, Regex, Str,
 };
 
 impl FindsFault for Ident {
-    fn fault(&self, _path: &mut Path) -> Found {
-        name_fault(&self.sym)
+    ghost found = { λ n. findings no_links (ident n) };
+
+    #[tactic(auto, unfolding(crate::specs::NameRules::ident, crate::specs::Rules::findings))]
+    fn fault(&self, alloc: Global) -> Found {
+        name_fault(alloc, &self.sym)
     }
 }
 
 impl FindsFault for IdentName {
-    fn fault(&self, _path: &mut Path) -> Found {
-        name_fault(&self.sym)
+    ghost found = { λ n. findings no_links (ident_name n) };
+
+    #[tactic(auto, unfolding(crate::specs::NameRules::ident_name, crate::specs::Rules::findings))]
+    fn fault(&self, alloc: Global) -> Found {
+        name_fault(alloc, &self.sym)
     }
 }
 
 impl<N: FaultIn> FindsFault for BindingIdent<N> {
-    fn fault(&self, path: &mut Path) -> Found {
-        within!(self, path; id type_ann)
+    ghost found = { λ n. findings N.found_as (binding_ident n) };
+
+    #[tactic(auto, unfolding(crate::specs::NameRules::binding_ident, crate::specs::Rules::findings))]
+    fn fault(&self, alloc: Global) -> Found {
+        within!(self, alloc; id type_ann)
     }
 }
 
 impl FindsFault for PrivateName {
-    fn fault(&self, _path: &mut Path) -> Found {
-        name_fault(&self.name)
+    ghost found = { λ n. findings no_links (private_name n) };
+
+    #[tactic(auto, unfolding(crate::specs::NameRules::private_name, crate::specs::Rules::findings))]
+    fn fault(&self, alloc: Global) -> Found {
+        name_fault(alloc, &self.name)
     }
 }
 
 impl FindsFault for Str {
-    fn fault(&self, _path: &mut Path) -> Found {
+    ghost found = { λ n. findings no_links (str_lit n) };
+
+    #[tactic(auto, unfolding(crate::specs::NameRules::str_lit, crate::specs::Rules::findings))]
+    fn fault(&self, alloc: Global) -> Found {
         broken_unless(
-            match &self.raw {
-                Some(raw) => spells_units(&self.value, raw),
-                None => true,
-            },
+            alloc,
+            self.is_well_formed(),
             "the raw of a string spells another string",
         )
     }
 }
 
 impl FindsFault for Bool {
-    fn fault(&self, _path: &mut Path) -> Found {
+    ghost found = { λ n. findings no_links (bool_lit n) };
+
+    #[tactic(auto, unfolding(crate::specs::NameRules::bool_lit, crate::specs::Rules::findings))]
+    fn fault(&self, _alloc: Global) -> Found {
         Ok(None)
     }
 }
 
 impl FindsFault for Null {
-    fn fault(&self, _path: &mut Path) -> Found {
+    ghost found = { λ n. findings no_links (null_lit n) };
+
+    #[tactic(auto, unfolding(crate::specs::NameRules::null_lit, crate::specs::Rules::findings))]
+    fn fault(&self, _alloc: Global) -> Found {
         Ok(None)
     }
 }
 
 impl FindsFault for Number {
-    fn fault(&self, _path: &mut Path) -> Found {
+    ghost found = { λ n. findings no_links (number n) };
+
+    #[tactic(auto, unfolding(crate::specs::NameRules::number, crate::specs::Rules::findings))]
+    fn fault(&self, alloc: Global) -> Found {
         broken_unless(
+            alloc,
             self.is_well_formed(),
             "the raw of a number spells another number",
         )
@@ -68,49 +95,57 @@ impl FindsFault for Number {
 }
 
 impl FindsFault for BigInt {
-    fn fault(&self, _path: &mut Path) -> Found {
-        if !are_digits(self.radix, &self.digits) {
-            return broken(
-                "a big integer has a digit that isn't one of its radix, or a zero too many",
-            );
+    ghost found = { λ n. findings no_links (big_int n) };
+
+    #[tactic(auto, unfolding(crate::specs::NameRules::big_int, crate::specs::Rules::findings))]
+    fn fault(&self, alloc: Global) -> Found {
+        in_turn! {
+            broken_unless(alloc, are_digits(self.radix, &self.digits), "a big integer has a digit that isn't one of its radix, or a zero too many"),
+            broken_unless(alloc, self.is_well_formed(), "the raw of a big integer spells another one"),
         }
-        broken_unless(
-            self.is_well_formed(),
-            "the raw of a big integer spells another one",
-        )
     }
 }
 
 impl FindsFault for Regex {
-    fn fault(&self, _path: &mut Path) -> Found {
-        if !is_body(&self.exp) {
-            return broken("the pattern of a regular expression ends before its end");
+    ghost found = { λ n. findings no_links (regex n) };
+
+    #[tactic(auto, unfolding(crate::specs::NameRules::regex, crate::specs::Rules::findings))]
+    fn fault(&self, alloc: Global) -> Found {
+        in_turn! {
+            broken_unless(alloc, is_body(&self.exp), "the pattern of a regular expression ends before its end"),
+            broken_unless(alloc, are_flags(&self.flags), "a flag of a regular expression is no letter"),
         }
-        broken_unless(
-            are_flags(&self.flags),
-            "a flag of a regular expression is no letter",
-        )
     }
 }
 
 impl FindsFault for Lit {
-    fn fault(&self, path: &mut Path) -> Found {
+    ghost found = { λ n. findings no_links (lit n) };
+
+    #[tactic(auto, unfolding(crate::specs::NameRules::lit, crate::specs::Rules::findings))]
+    fn fault(&self, alloc: Global) -> Found {
         match self {
-            Lit::Str(node) => node.fault(path),
-            Lit::Bool(node) => node.fault(path),
-            Lit::Null(node) => node.fault(path),
-            Lit::Num(node) => node.fault(path),
-            Lit::BigInt(node) => node.fault(path),
-            Lit::Regex(node) => node.fault(path),
-            Lit::JSXText(_) => broken(NOT_HERE),
+            Lit::Str(node) => node.fault(alloc),
+            Lit::Bool(node) => node.fault(alloc),
+            Lit::Null(node) => node.fault(alloc),
+            Lit::Num(node) => node.fault(alloc),
+            Lit::BigInt(node) => node.fault(alloc),
+            Lit::Regex(node) => node.fault(alloc),
+            Lit::JSXText(_) => not_here(alloc),
         }
     }
 }
 
 /// What is wrong with a name.
-fn name_fault(name: &str) -> Found {
-    if name.is_empty() {
-        return broken("a name is empty");
+#[tactic(auto, unfolding(crate::specs::NameRules::name_rules, crate::specs::Rules::findings))]
+fn name_fault(alloc: Global, name: &str) -> Found
+    ensures { IfOk result (Finds (findings no_links (name_rules name.now))) }
+{
+    in_turn! {
+        broken_unless(alloc, !name.is_empty(), "a name is empty"),
+        broken_unless(
+            alloc,
+            is_name(name),
+            "a name holds a character that no name may",
+        ),
     }
-    broken_unless(is_name(name), "a name holds a character that no name may")
 }
