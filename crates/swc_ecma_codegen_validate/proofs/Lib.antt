@@ -29,3 +29,13 @@ pub mod UnitsLeft
 pub mod WholeSizes
 pub mod Each
 pub mod Depths
+pub mod Fitting
+pub mod FitsNames
+pub mod FitsExprs
+pub mod FitsTs
+pub mod FitsPats
+pub mod FitsTypes
+pub mod FitsDecls
+pub mod FitsJsx
+pub mod FitsStmts
+pub mod FitsTree

@@ -1,5 +1,5 @@
 -- The rules of a whole tree.
-use Rattle.std.specs.Prelude.{ℕ, suc, zero, true, false, not, [], codes, ◌≡◌, ◌⊎◌, map}
+use Rattle.std.specs.Prelude.{ℕ, suc, zero, true, false, not, codes, map}
 use Rattle.swc_ecma_codegen_tree.specs.declared.exprs.Expr.{Expr}
 use Rattle.swc_ecma_codegen_tree.specs.declared.exprs.MemberExpr.{MemberExpr}
 use Rattle.swc_ecma_codegen_tree.specs.declared.links.AnyNode.{AnyNode}
@@ -178,9 +178,6 @@ found_in n role = record {
 unfoldable pub found_in_program : Program AnyNode → Findings
 found_in_program p = findings found_in (program p)
 
--- What is told of a program: the path to the first rule that is broken in it, and the words of that rule. Where none of the rules is broken
--- it is said of the program itself that it isn't well-formed.
+-- What is told of a program: the path to the first rule that is broken in it, and the words of that rule.
 abbrev pub IsTold : Program AnyNode → Fault → Type 0
-IsTold p fault =
-    (found_in_program p).first (map place_of fault.path.items) fault.rule.now
-    ⊎ ((found_in_program p).none × (fault.path.items ≡ []) × (fault.rule.now ≡ codes "it isn't well-formed"))
+IsTold p fault = (found_in_program p).first (map place_of fault.path.items) fault.rule.now

@@ -213,7 +213,7 @@ impl<T: FindsFault> FindsFault for Vec<T> {
 /// Of `a + (b c)`, where `b c` is one name, the path is `body`, 0, `expr`, `right`, and the rule is `a name holds a character
 /// that no name may`. A node's own rules are looked at before its fields, and these in the order in which they are written.
 /// Takes memory for the path alone, and fails only where this is refused.
-#[tactic(auto, unfolding(crate::specs::TreeRules::found_in_program))]
+#[tactic(auto, using(crate::proofs::FitsTree::program_is_well_formed), unfolding(crate::specs::TreeRules::found_in_program))]
 pub fn first_fault(alloc: Global, program: &Program) -> Result<Option<Fault>, AllocError>
     ensures exact { IfOk result (λ found. is_some found ≡ not (is_well_formed program.now)) }
     ensures place { IfOk result (λ found. IfSome found (IsTold program.now)) }
@@ -226,9 +226,7 @@ pub fn first_fault(alloc: Global, program: &Program) -> Result<Option<Fault>, Al
             way_up.reverse();
             Ok(Some(Fault { path: way_up, rule }))
         }
-        None => Ok(Some(Fault {
-            path: Vec::new(alloc),
-            rule: "it isn't well-formed",
-        })),
+        // A program in which no rule is broken is well-formed, and has been answered.
+        None => Ok(None),
     }
 }
