@@ -2,6 +2,7 @@
 pub mod AfterBlanks
 pub mod AfterPunctuators
 pub mod Entries
+pub mod InLine
 pub mod Indented
 pub mod Marks
 pub mod NoPunctuator

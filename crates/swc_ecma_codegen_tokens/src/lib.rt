@@ -8,6 +8,7 @@ ghost use Rattle.swc_ecma_codegen_tokens.specs.PreviousToken.{class_of};
 
 mod answers;
 mod attributes;
+mod calls;
 mod comments;
 mod guard;
 mod keys;
@@ -24,6 +25,7 @@ mod private_names;
 mod raws;
 mod refusals;
 mod short_names;
+mod shortest;
 mod starts;
 mod tags;
 mod templates;
@@ -51,6 +53,8 @@ pub struct LowerEmitter {
     token: Snapshot<PreviousToken>,
     failed: bool,
     fault: Option<io::Error>,
+    // Why the last call was refused that only says whether it was.
+    reason: Refusal,
     ghost class: { failed ≡ false → class_of token.value ≡ last },
     ghost of_class: { IsRowOf last row },
 }
@@ -69,6 +73,7 @@ impl LowerEmitter {
             token: Snapshot::of(&PreviousToken::Start),
             failed: false,
             fault: None,
+            reason: Refusal::Failed,
         }
     }
 
@@ -77,6 +82,14 @@ impl LowerEmitter {
         ensures { result ≡ self.now.failed }
     {
         self.failed
+    }
+
+    /// Why the last call was refused that only says whether it was.
+    #[inline(always)]
+    pub fn reason(&self) -> Refusal
+        ensures { result ≡ self.now.reason }
+    {
+        self.reason
     }
 
     /// The error of a refusal, with the one that the writer gave.

@@ -2,7 +2,7 @@
 
 ghost use Rattle.std.specs.Prelude.{◌≡◌, ◌&&◌, is_some, OnOk};
 ghost use Rattle.swc_ecma_codegen_literals.specs.Punctuators.{spelling};
-ghost use Rattle.swc_ecma_codegen_text_writer.specs.Sheet.{AllowBreak};
+ghost use Rattle.swc_ecma_codegen_text_writer.specs.Sheet.{AllowBreak, answered};
 ghost use Rattle.swc_ecma_codegen_tokens.specs.Run.{Does, step, Plain};
 ghost use Rattle.swc_ecma_codegen_tokens.specs.Words.{formatting_line, line_end, begin_lines, end_lines, allow_break, allows_break, break_behind};
 ghost use Rattle.swc_ecma_codegen_tokens.specs.View.{state_of};
@@ -39,20 +39,33 @@ pub(crate) fn allows_break(mark: Punctuator) -> bool
 }
 
 impl LowerEmitter {
-    /// Ends the line, unless at a line's start.
+    /// Ends the line, unless at a line's start. Whether that was done: else `reason` says why not.
     #[inline(never)]
+    pub fn writes_line<W: WriteJs>(&mut self, cfg: &Config, wr: &mut W) -> bool
+        ensures items { Does (line_end) (state_of cfg.now (W.sheet wr.old) self.old)
+            (state_of cfg.now (W.sheet wr.new) self.new) (answered result self.new.reason) }
+        ensures level { OnOk (answered result self.new.reason)
+            ((W.sheet wr.new).indentation ≡ (W.sheet wr.old).indentation) }
+    {
+        let _ = cfg;
+        if self.failed {
+            self.reason = Refusal::Failed;
+            return false;
+        }
+        let before = self.note(PreviousToken::Separated);
+        let answer = wr.write_line();
+        self.settles_noted(answer, before)
+    }
+
+    /// The same, with the reason.
+    #[inline(always)]
     pub fn line<W: WriteJs>(&mut self, cfg: &Config, wr: &mut W) -> Answer
         ensures items { Does (line_end) (state_of cfg.now (W.sheet wr.old) self.old)
             (state_of cfg.now (W.sheet wr.new) self.new) result }
         ensures level { OnOk result ((W.sheet wr.new).indentation ≡ (W.sheet wr.old).indentation) }
     {
-        let _ = cfg;
-        if self.failed {
-            return Err(Refusal::Failed);
-        }
-        let before = self.note(PreviousToken::Separated);
-        let answer = wr.write_line();
-        self.settle_noted(answer, before)
+        let done = self.writes_line(cfg, wr);
+        self.answer(done)
     }
 
     /// From here on lines have at most `max` UTF-16 units, as far as breaks are allowed.

@@ -21,7 +21,7 @@ pub(crate) fn has_backslash(name: &str) -> bool
 
 /// Whether a name has at most 32 bytes and none of them is a backslash: `foo`, and not `\u0061`.
 #[inline(always)]
-fn is_short_without_backslash(name: &[u8]) -> bool
+pub(crate) fn is_short_without_backslash(name: &[u8]) -> bool
     ensures { OnTrue result (has_byte 92 name.now ≡ false) }
 {
     lacks_backslash(name)

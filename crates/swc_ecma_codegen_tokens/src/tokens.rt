@@ -8,13 +8,11 @@ ghost use Rattle.std.specs.Prelude.{◌≡◌, None, OnOk, Option, [], ◌∷◌
 ghost use Rattle.std.specs.Str.{chars};
 ghost use Rattle.swc_ecma_codegen_literals.specs.Punctuators.{spelling};
 ghost use Rattle.swc_ecma_codegen_tokens.specs.Starts.{begins_letter, start_class};
-ghost use Rattle.swc_ecma_codegen_spans.specs.Spans.{dummy_span};
-ghost use Rattle.swc_ecma_codegen_text_writer.specs.Sheet.{Semi, Keyword, Operator, Symbol, Punct, Position};
+ghost use Rattle.swc_ecma_codegen_text_writer.specs.Sheet.{Position};
 ghost use Rattle.swc_ecma_codegen_grammar.specs.GapRules.{fuses};
-ghost use Rattle.swc_ecma_codegen_grammar.specs.declared.kinds.Kind.TheVariants as kind;
 ghost use Rattle.swc_ecma_codegen_grammar.specs.Tokens as lexical;
 ghost use Rattle.swc_ecma_codegen_tokens.specs.PreviousToken.{last_at};
-ghost use Rattle.swc_ecma_codegen_tokens.specs.Run.{Does, step, Guard, Token, Plain};
+ghost use Rattle.swc_ecma_codegen_tokens.specs.Run.{Does, step, Guard, Plain};
 ghost use Rattle.swc_ecma_codegen_tokens.specs.Words.{bare_punct, bare_semi, keyword, operator, operator_between, punct_between, word_operator, punct, placed_punct, semi, space, formatting_space, commit_pending_semi, position, position_before};
 ghost use Rattle.swc_ecma_codegen_tokens.specs.Written.{IsWord};
 ghost use Rattle.swc_ecma_codegen_tokens.specs.Adds.{Adds};
@@ -22,9 +20,10 @@ ghost use Rattle.swc_ecma_codegen_tokens.specs.View.{state_of};
 
 use crate::LowerEmitter;
 use crate::guard::blank_due_after;
+use crate::lines::is_bounded;
 use crate::previous::PreviousToken;
 use crate::starts::StartClass;
-use swc_ecma_codegen_common::{Answer, BytePos, DUMMY_SP, Refusal, Span};
+use swc_ecma_codegen_common::{Answer, BytePos, Refusal, Span};
 use swc_ecma_codegen_literals::Punctuator;
 use swc_ecma_codegen_text_writer::WriteJs;
 use swc_ecma_codegen_util::config::Config;
@@ -33,7 +32,7 @@ impl LowerEmitter {
     /// Whether a punctuator doesn't go the shortest way: it is `!`, or a blank is due before it, as before the second `-` of `a - -b`, or
     /// an earlier call was refused.
     #[inline(always)]
-    fn is_apart(&self, mark: Punctuator) -> bool {
+    pub(crate) fn is_apart(&self, mark: Punctuator) -> bool {
         if self.failed {
             return true;
         }
@@ -102,7 +101,12 @@ impl LowerEmitter {
 
     /// The same before a word of the grammar.
     #[tactic(auto, using(crate::proofs::Gaps::Starting::letter_start))]
-    fn guard_word<W: WriteJs>(&mut self, cfg: &Config, wr: &mut W, word: &'static str) -> Answer
+    pub(crate) fn guard_word<W: WriteJs>(
+        &mut self,
+        cfg: &Config,
+        wr: &mut W,
+        word: &'static str,
+    ) -> Answer
         requires { begins_letter word.now ≡ true }
         ensures items { Does (step (Guard word.now)) (state_of cfg.now (W.sheet wr.old) self.old)
             (state_of cfg.now (W.sheet wr.new) self.new) result }
@@ -110,116 +114,6 @@ impl LowerEmitter {
         ensures fresh { OnOk result (self.new.failed ≡ false) }
     {
         self.guard(cfg, wr, word, StartClass::NameCharacter)
-    }
-
-    /// The call of a keyword.
-    #[inline(always)]
-    fn put_keyword<W: WriteJs>(
-        &mut self,
-        cfg: &Config,
-        wr: &mut W,
-        span: Option<Span>,
-        text: &'static str,
-    ) -> Answer
-        requires { self.old.failed ≡ false }
-        ensures items { Does (step (Token kind.Word (Keyword span text.now)))
-            (state_of cfg.now (W.sheet wr.old) self.old)
-            (state_of cfg.now (W.sheet wr.new) self.new) result }
-        ensures level { OnOk result ((W.sheet wr.new).indentation ≡ (W.sheet wr.old).indentation) }
-    {
-        let _ = cfg;
-        let before = self.note(PreviousToken::WordEnd);
-        let answer = wr.write_keyword(span, text);
-        self.settle_noted(answer, before)
-    }
-
-    /// The call of an operator that is a punctuator.
-    #[inline(always)]
-    fn put_operator<W: WriteJs>(&mut self, cfg: &Config, wr: &mut W, mark: Punctuator) -> Answer
-        requires { self.old.failed ≡ false }
-        ensures items { Does (step (Token kind.Punctuator (Operator None (spelling mark))))
-            (state_of cfg.now (W.sheet wr.old) self.old)
-            (state_of cfg.now (W.sheet wr.new) self.new) result }
-        ensures level { OnOk result ((W.sheet wr.new).indentation ≡ (W.sheet wr.old).indentation) }
-    {
-        let _ = cfg;
-        let last = PreviousToken::after(self.last, mark);
-        let before = self.note(last);
-        let answer = wr.write_operator(None, mark.as_str());
-        self.settle_noted(answer, before)
-    }
-
-    /// The call of an operator that is a word.
-    #[inline(always)]
-    fn put_word_operator<W: WriteJs>(
-        &mut self,
-        cfg: &Config,
-        wr: &mut W,
-        text: &'static str,
-    ) -> Answer
-        requires { self.old.failed ≡ false }
-        ensures items { Does (step (Token kind.Word (Operator None text.now)))
-            (state_of cfg.now (W.sheet wr.old) self.old)
-            (state_of cfg.now (W.sheet wr.new) self.new) result }
-        ensures level { OnOk result ((W.sheet wr.new).indentation ≡ (W.sheet wr.old).indentation) }
-    {
-        let _ = cfg;
-        let before = self.note(PreviousToken::WordEnd);
-        let answer = wr.write_operator(None, text);
-        self.settle_noted(answer, before)
-    }
-
-    /// The call of a punctuator.
-    #[inline(always)]
-    fn put_punct<W: WriteJs>(
-        &mut self,
-        cfg: &Config,
-        wr: &mut W,
-        span: Option<Span>,
-        mark: Punctuator,
-    ) -> Answer
-        requires { self.old.failed ≡ false }
-        ensures items { Does (step (Token kind.Punctuator (Punct span (spelling mark))))
-            (state_of cfg.now (W.sheet wr.old) self.old)
-            (state_of cfg.now (W.sheet wr.new) self.new) result }
-        ensures level { OnOk result ((W.sheet wr.new).indentation ≡ (W.sheet wr.old).indentation) }
-    {
-        let _ = cfg;
-        let last = PreviousToken::after(self.last, mark);
-        let before = self.note(last);
-        let answer = wr.write_punct(span, mark.as_str());
-        self.settle_noted(answer, before)
-    }
-
-    /// The call of a semicolon.
-    #[inline(always)]
-    fn put_semi<W: WriteJs>(&mut self, cfg: &Config, wr: &mut W) -> Answer
-        requires { self.old.failed ≡ false }
-        ensures items { Does (step (Token kind.Ending (Semi None)))
-            (state_of cfg.now (W.sheet wr.old) self.old)
-            (state_of cfg.now (W.sheet wr.new) self.new) result }
-        ensures level { OnOk result ((W.sheet wr.new).indentation ≡ (W.sheet wr.old).indentation) }
-    {
-        let _ = cfg;
-        let last = PreviousToken::after(self.last, Punctuator::Semicolon);
-        let before = self.note(last);
-        let answer = wr.write_semi(None);
-        self.settle_noted(answer, before)
-    }
-
-    /// The call of a name.
-    #[inline(always)]
-    pub(crate) fn put_symbol<W: WriteJs>(&mut self, cfg: &Config, wr: &mut W, text: &str) -> Answer
-        requires { self.old.failed ≡ false }
-        ensures items { Does (step (Token kind.Name (Symbol dummy_span text.now)))
-            (state_of cfg.now (W.sheet wr.old) self.old)
-            (state_of cfg.now (W.sheet wr.new) self.new) result }
-        ensures level { OnOk result ((W.sheet wr.new).indentation ≡ (W.sheet wr.old).indentation) }
-    {
-        let _ = cfg;
-        let before = self.note(PreviousToken::WordEnd);
-        let answer = wr.write_symbol(DUMMY_SP, text);
-        self.settle_noted(answer, before)
     }
 
     /// Writes a keyword.
@@ -239,10 +133,47 @@ impl LowerEmitter {
             cfg.now (W.sheet wr.old) self.old (W.sheet wr.new) self.new result }
         ensures level { OnOk result ((W.sheet wr.new).indentation ≡ (W.sheet wr.old).indentation) }
     {
-        if self.failed || blank_due_after(self.row, StartClass::NameCharacter) {
-            return self.keyword_apart(cfg, wr, span, word);
+        match span {
+            None => self.plain_keyword(cfg, wr, word),
+            Some(_) => self.keyword_apart(cfg, wr, span, word),
         }
-        self.keyword_here(cfg, wr, span, word)
+    }
+
+    /// The same without a span.
+    #[inline(always)]
+    fn plain_keyword<W: WriteJs>(&mut self, cfg: &Config, wr: &mut W, word: &'static str) -> Answer
+        requires { begins_letter word.now ≡ true }
+        ensures items { Does (keyword None word.now) (state_of cfg.now (W.sheet wr.old) self.old)
+            (state_of cfg.now (W.sheet wr.new) self.new) result }
+        ensures reads { IsWord word.now → Adds (lexical.word word.now ∷ [])
+            cfg.now (W.sheet wr.old) self.old (W.sheet wr.new) self.new result }
+        ensures level { OnOk result ((W.sheet wr.new).indentation ≡ (W.sheet wr.old).indentation) }
+    {
+        if self.failed || blank_due_after(self.row, StartClass::NameCharacter) {
+            return self.keyword_apart(cfg, wr, None, word);
+        }
+        self.plain_keyword_here(cfg, wr, word)
+    }
+
+    /// The same, where it is called.
+    #[inline(always)]
+    #[tactic(auto, unfolding(crate::specs::Words::keyword))]
+    fn plain_keyword_here<W: WriteJs>(
+        &mut self,
+        cfg: &Config,
+        wr: &mut W,
+        word: &'static str,
+    ) -> Answer
+        requires { begins_letter word.now ≡ true }
+        ensures items { Does (keyword None word.now) (state_of cfg.now (W.sheet wr.old) self.old)
+            (state_of cfg.now (W.sheet wr.new) self.new) result }
+        ensures reads { IsWord word.now → Adds (lexical.word word.now ∷ [])
+            cfg.now (W.sheet wr.old) self.old (W.sheet wr.new) self.new result }
+        ensures level { OnOk result ((W.sheet wr.new).indentation ≡ (W.sheet wr.old).indentation) }
+    {
+        self.guard_word(cfg, wr, word)?;
+        self.put_keyword(cfg, wr, word)?;
+        Ok(())
     }
 
     /// The same in a function of its own: a token that goes the shortest way takes fewer registers.
@@ -267,7 +198,7 @@ impl LowerEmitter {
     /// The same, where it is called.
     #[inline(always)]
     #[tactic(auto, unfolding(crate::specs::Words::keyword))]
-    fn keyword_here<W: WriteJs>(
+    pub(crate) fn keyword_here<W: WriteJs>(
         &mut self,
         cfg: &Config,
         wr: &mut W,
@@ -282,7 +213,7 @@ impl LowerEmitter {
         ensures level { OnOk result ((W.sheet wr.new).indentation ≡ (W.sheet wr.old).indentation) }
     {
         self.guard_word(cfg, wr, word)?;
-        self.put_keyword(cfg, wr, span, word)?;
+        self.put_placed_keyword(cfg, wr, span, word)?;
         Ok(())
     }
 
@@ -396,7 +327,7 @@ impl LowerEmitter {
         ensures level { OnOk result ((W.sheet wr.new).indentation ≡ (W.sheet wr.old).indentation) }
     {
         self.guard_mark(cfg, wr, mark)?;
-        self.put_punct(cfg, wr, None, mark)?;
+        self.put_punct(cfg, wr, mark)?;
         Ok(())
     }
 
@@ -411,7 +342,7 @@ impl LowerEmitter {
         ensures level { OnOk result ((W.sheet wr.new).indentation ≡ (W.sheet wr.old).indentation) }
     {
         self.guard_mark(cfg, wr, mark)?;
-        self.put_punct(cfg, wr, None, mark)?;
+        self.put_punct(cfg, wr, mark)?;
         self.break_behind(cfg, wr, mark)?;
         Ok(())
     }
@@ -434,7 +365,7 @@ impl LowerEmitter {
         ensures level { OnOk result ((W.sheet wr.new).indentation ≡ (W.sheet wr.old).indentation) }
     {
         self.guard_mark(cfg, wr, mark)?;
-        self.put_punct(cfg, wr, Some(span), mark)?;
+        self.put_placed_punct(cfg, wr, span, mark)?;
         Ok(())
     }
 
@@ -468,8 +399,20 @@ impl LowerEmitter {
 
     /// Writes a semicolon behind which no line may be ended: that of a function without a body.
     #[inline(never)]
-    #[tactic(auto, unfolding(crate::specs::Words::bare_semi))]
     pub fn bare_semi<W: WriteJs>(&mut self, cfg: &Config, wr: &mut W) -> Answer
+        ensures items { Does (bare_semi) (state_of cfg.now (W.sheet wr.old) self.old)
+            (state_of cfg.now (W.sheet wr.new) self.new) result }
+        ensures reads { Adds (lexical.ending ∷ [])
+            cfg.now (W.sheet wr.old) self.old (W.sheet wr.new) self.new result }
+        ensures level { OnOk result ((W.sheet wr.new).indentation ≡ (W.sheet wr.old).indentation) }
+    {
+        self.bare_semi_here(cfg, wr)
+    }
+
+    /// The same, where it is called.
+    #[inline(always)]
+    #[tactic(auto, unfolding(crate::specs::Words::bare_semi))]
+    fn bare_semi_here<W: WriteJs>(&mut self, cfg: &Config, wr: &mut W) -> Answer
         ensures items { Does (bare_semi) (state_of cfg.now (W.sheet wr.old) self.old)
             (state_of cfg.now (W.sheet wr.new) self.new) result }
         ensures reads { Adds (lexical.ending ∷ [])
@@ -505,22 +448,6 @@ impl LowerEmitter {
         ensures level { OnOk result ((W.sheet wr.new).indentation ≡ (W.sheet wr.old).indentation) }
     {
         self.space_here(cfg, wr)
-    }
-
-    /// The same, where it is called.
-    #[inline(always)]
-    fn space_here<W: WriteJs>(&mut self, cfg: &Config, wr: &mut W) -> Answer
-        ensures items { Does (space) (state_of cfg.now (W.sheet wr.old) self.old)
-            (state_of cfg.now (W.sheet wr.new) self.new) result }
-        ensures level { OnOk result ((W.sheet wr.new).indentation ≡ (W.sheet wr.old).indentation) }
-    {
-        let _ = cfg;
-        if self.failed {
-            return Err(Refusal::Failed);
-        }
-        let before = self.note(PreviousToken::Separated);
-        let answer = wr.write_space();
-        self.settle_noted(answer, before)
     }
 
     /// Writes an operator that is a punctuator, between two blanks: ` + `.
@@ -584,10 +511,24 @@ impl LowerEmitter {
             (state_of cfg.now (W.sheet wr.new) self.new) result }
         ensures level { OnOk result ((W.sheet wr.new).indentation ≡ (W.sheet wr.old).indentation) }
     {
-        let _ = cfg;
         if self.failed {
             return Err(Refusal::Failed);
         }
+        if wr.is_settled() {
+            return Ok(());
+        }
+        self.call_pending_semi(cfg, wr)
+    }
+
+    /// The same where one may be held.
+    #[inline(never)]
+    fn call_pending_semi<W: WriteJs>(&mut self, cfg: &Config, wr: &mut W) -> Answer
+        requires { self.old.failed ≡ false }
+        ensures items { Does (commit_pending_semi) (state_of cfg.now (W.sheet wr.old) self.old)
+            (state_of cfg.now (W.sheet wr.new) self.new) result }
+        ensures level { OnOk result ((W.sheet wr.new).indentation ≡ (W.sheet wr.old).indentation) }
+    {
+        let _ = cfg;
         let answer = wr.commit_pending_semi();
         self.keep(answer)
     }

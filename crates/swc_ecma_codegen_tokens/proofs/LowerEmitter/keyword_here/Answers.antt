@@ -7,4 +7,4 @@ use Rattle.swc_ecma_codegen_tokens.proofs.LowerEmitter.keyword_here.Goals as goa
 
 pub returns-clause-reads : goal.returns-clause-reads
 unfolding words.keyword with_source
-returns-clause-reads g c = λ w old tokens rs h. keyword_so_far c.args.span c.args.word.now old tokens rs _ _ w (λ rest z r f. c.in_ok-guard_word.ensures.items no_lines no_maps _ z r (c.in_ok-put_keyword.ensures.items no_lines no_maps rest z r f)) h
+returns-clause-reads g c = λ w old tokens rs h. keyword_so_far c.args.span c.args.word.now old tokens rs _ _ w (λ rest z r f. c.in_ok-guard_word.ensures.items no_lines no_maps _ z r (c.in_ok-put_placed_keyword.ensures.items no_lines no_maps rest z r f)) h

@@ -1,0 +1,535 @@
+//! The tokens that trees have most of, by the shortest way. Each call only says whether its token was written, so that its answer is one
+//! bit: else `reason` says why not.
+
+ghost use Rattle.std.specs.Prelude.{◌≡◌, None, OnOk, [], ◌∷◌, true, false};
+ghost use Rattle.std.specs.Str.{chars};
+ghost use Rattle.swc_ecma_codegen_grammar.specs.Comments.{maps_in};
+ghost use Rattle.swc_ecma_codegen_grammar.specs.GapRules.{fuses};
+ghost use Rattle.swc_ecma_codegen_literals.specs.Punctuators.{spelling};
+ghost use Rattle.swc_ecma_codegen_literals.specs.ValidNames.{has_byte};
+ghost use Rattle.swc_ecma_codegen_text_writer.specs.Reach.{is_in_line};
+ghost use Rattle.swc_ecma_codegen_text_writer.specs.Sheet.{answered, is_settled};
+ghost use Rattle.swc_ecma_codegen_tokens.specs.PreviousToken.{last_at};
+ghost use Rattle.swc_ecma_codegen_tokens.specs.Run.{Does, DoesTaking};
+ghost use Rattle.swc_ecma_codegen_tokens.specs.Starts.{begins_letter};
+ghost use Rattle.swc_ecma_codegen_tokens.specs.Targets.{wants_escapes};
+ghost use Rattle.swc_ecma_codegen_tokens.specs.Words.{bare_punct, bare_semi, break_behind, allow_break, keyword, name, name_text, operator, operator_between, punct, punct_between, semi, space, spelled_symbol, symbol, valid_symbol};
+ghost use Rattle.swc_ecma_codegen_tokens.specs.View.{state_of};
+
+use crate::LowerEmitter;
+use crate::guard::blank_due_after;
+use crate::lines::is_bounded;
+use crate::short_names::is_short_without_backslash;
+use crate::starts::StartClass;
+use swc_ecma_codegen_common::Span;
+use swc_ecma_codegen_grammar::comments::Comments;
+use swc_ecma_codegen_literals::Punctuator;
+use swc_ecma_codegen_text_writer::{WriteJs, is_in_line};
+use swc_ecma_codegen_util::config::Config;
+
+impl LowerEmitter {
+    /// Writes a punctuator.
+    #[inline(always)]
+    pub fn writes_punct<W: WriteJs>(&mut self, cfg: &Config, wr: &mut W, mark: Punctuator) -> bool
+        ensures items { Does (punct (spelling mark)) (state_of cfg.now (W.sheet wr.old) self.old)
+            (state_of cfg.now (W.sheet wr.new) self.new) (answered result self.new.reason) }
+        ensures level { OnOk (answered result self.new.reason)
+            ((W.sheet wr.new).indentation ≡ (W.sheet wr.old).indentation) }
+    {
+        if self.is_apart(mark) {
+            return self.writes_punct_apart(cfg, wr, mark);
+        }
+        self.writes_punct_here(cfg, wr, mark)
+    }
+
+    /// The same in a function of its own: a token that goes the shortest way takes fewer registers.
+    #[inline(never)]
+    fn writes_punct_apart<W: WriteJs>(&mut self, cfg: &Config, wr: &mut W, mark: Punctuator) -> bool
+        ensures items { Does (punct (spelling mark)) (state_of cfg.now (W.sheet wr.old) self.old)
+            (state_of cfg.now (W.sheet wr.new) self.new) (answered result self.new.reason) }
+        ensures level { OnOk (answered result self.new.reason)
+            ((W.sheet wr.new).indentation ≡ (W.sheet wr.old).indentation) }
+    {
+        self.writes_punct_here(cfg, wr, mark)
+    }
+
+    /// The same, where it is called.
+    #[inline(always)]
+    #[tactic(auto, unfolding(crate::specs::Words::punct))]
+    fn writes_punct_here<W: WriteJs>(&mut self, cfg: &Config, wr: &mut W, mark: Punctuator) -> bool
+        ensures items { Does (punct (spelling mark)) (state_of cfg.now (W.sheet wr.old) self.old)
+            (state_of cfg.now (W.sheet wr.new) self.new) (answered result self.new.reason) }
+        ensures level { OnOk (answered result self.new.reason)
+            ((W.sheet wr.new).indentation ≡ (W.sheet wr.old).indentation) }
+    {
+        if !self.writes_bare_punct(cfg, wr, mark) {
+            return false;
+        }
+        self.breaks_behind(cfg, wr, mark)
+    }
+
+    /// The same, but for the break behind it.
+    #[inline(always)]
+    #[tactic(auto, unfolding(crate::specs::Words::bare_punct))]
+    fn writes_bare_punct<W: WriteJs>(&mut self, cfg: &Config, wr: &mut W, mark: Punctuator) -> bool
+        ensures items { Does (bare_punct (spelling mark)) (state_of cfg.now (W.sheet wr.old) self.old)
+            (state_of cfg.now (W.sheet wr.new) self.new) (answered result self.new.reason) }
+        ensures level { OnOk (answered result self.new.reason)
+            ((W.sheet wr.new).indentation ≡ (W.sheet wr.old).indentation) }
+    {
+        match self.guard_mark(cfg, wr, mark) {
+            Ok(()) => (),
+            Err(refusal) => {
+                self.reason = refusal;
+                return false;
+            }
+        }
+        self.puts_punct(cfg, wr, mark)
+    }
+
+    /// The break that is allowed behind a punctuator.
+    #[inline(always)]
+    fn breaks_behind<W: WriteJs>(&mut self, cfg: &Config, wr: &mut W, mark: Punctuator) -> bool
+        ensures items { Does (break_behind (spelling mark)) (state_of cfg.now (W.sheet wr.old) self.old)
+            (state_of cfg.now (W.sheet wr.new) self.new) (answered result self.new.reason) }
+        ensures level { OnOk (answered result self.new.reason)
+            ((W.sheet wr.new).indentation ≡ (W.sheet wr.old).indentation) }
+    {
+        match self.break_behind(cfg, wr, mark) {
+            Ok(()) => true,
+            Err(refusal) => {
+                self.reason = refusal;
+                false
+            }
+        }
+    }
+
+    /// Writes a semicolon that may be left out where it isn't needed.
+    #[inline(always)]
+    pub fn writes_semi<W: WriteJs>(&mut self, cfg: &Config, wr: &mut W) -> bool
+        ensures items { Does (semi) (state_of cfg.now (W.sheet wr.old) self.old)
+            (state_of cfg.now (W.sheet wr.new) self.new) (answered result self.new.reason) }
+        ensures level { OnOk (answered result self.new.reason)
+            ((W.sheet wr.new).indentation ≡ (W.sheet wr.old).indentation) }
+    {
+        if self.is_apart(Punctuator::Semicolon) {
+            return self.writes_semi_apart(cfg, wr);
+        }
+        self.writes_semi_here(cfg, wr)
+    }
+
+    /// The same in a function of its own: a token that goes the shortest way takes fewer registers.
+    #[inline(never)]
+    fn writes_semi_apart<W: WriteJs>(&mut self, cfg: &Config, wr: &mut W) -> bool
+        ensures items { Does (semi) (state_of cfg.now (W.sheet wr.old) self.old)
+            (state_of cfg.now (W.sheet wr.new) self.new) (answered result self.new.reason) }
+        ensures level { OnOk (answered result self.new.reason)
+            ((W.sheet wr.new).indentation ≡ (W.sheet wr.old).indentation) }
+    {
+        self.writes_semi_here(cfg, wr)
+    }
+
+    /// The same, where it is called.
+    #[inline(always)]
+    #[tactic(auto, unfolding(crate::specs::Words::semi, crate::specs::Words::bare_semi))]
+    fn writes_semi_here<W: WriteJs>(&mut self, cfg: &Config, wr: &mut W) -> bool
+        ensures items { Does (semi) (state_of cfg.now (W.sheet wr.old) self.old)
+            (state_of cfg.now (W.sheet wr.new) self.new) (answered result self.new.reason) }
+        ensures level { OnOk (answered result self.new.reason)
+            ((W.sheet wr.new).indentation ≡ (W.sheet wr.old).indentation) }
+    {
+        match self.guard_mark(cfg, wr, Punctuator::Semicolon) {
+            Ok(()) => (),
+            Err(refusal) => {
+                self.reason = refusal;
+                return false;
+            }
+        }
+        if !self.puts_semi(cfg, wr) {
+            return false;
+        }
+        match self.allow_break(cfg, wr) {
+            Ok(()) => true,
+            Err(refusal) => {
+                self.reason = refusal;
+                false
+            }
+        }
+    }
+
+    /// Writes a keyword.
+    #[inline(always)]
+    pub fn writes_keyword<W: WriteJs>(
+        &mut self,
+        cfg: &Config,
+        wr: &mut W,
+        span: Option<Span>,
+        word: &'static str,
+    ) -> bool
+        requires { begins_letter word.now ≡ true }
+        ensures items { Does (keyword span word.now) (state_of cfg.now (W.sheet wr.old) self.old)
+            (state_of cfg.now (W.sheet wr.new) self.new) (answered result self.new.reason) }
+        ensures level { OnOk (answered result self.new.reason)
+            ((W.sheet wr.new).indentation ≡ (W.sheet wr.old).indentation) }
+    {
+        match span {
+            None => self.writes_plain_keyword(cfg, wr, word),
+            Some(_) => self.writes_keyword_apart(cfg, wr, span, word),
+        }
+    }
+
+    /// The same without a span.
+    #[inline(always)]
+    fn writes_plain_keyword<W: WriteJs>(
+        &mut self,
+        cfg: &Config,
+        wr: &mut W,
+        word: &'static str,
+    ) -> bool
+        requires { begins_letter word.now ≡ true }
+        ensures items { Does (keyword None word.now) (state_of cfg.now (W.sheet wr.old) self.old)
+            (state_of cfg.now (W.sheet wr.new) self.new) (answered result self.new.reason) }
+        ensures level { OnOk (answered result self.new.reason)
+            ((W.sheet wr.new).indentation ≡ (W.sheet wr.old).indentation) }
+    {
+        if self.failed || blank_due_after(self.row, StartClass::NameCharacter) {
+            return self.writes_keyword_apart(cfg, wr, None, word);
+        }
+        self.writes_keyword_here(cfg, wr, word)
+    }
+
+    /// The same in a function of its own: a token that goes the shortest way takes fewer registers.
+    #[inline(never)]
+    fn writes_keyword_apart<W: WriteJs>(
+        &mut self,
+        cfg: &Config,
+        wr: &mut W,
+        span: Option<Span>,
+        word: &'static str,
+    ) -> bool
+        requires { begins_letter word.now ≡ true }
+        ensures items { Does (keyword span word.now) (state_of cfg.now (W.sheet wr.old) self.old)
+            (state_of cfg.now (W.sheet wr.new) self.new) (answered result self.new.reason) }
+        ensures level { OnOk (answered result self.new.reason)
+            ((W.sheet wr.new).indentation ≡ (W.sheet wr.old).indentation) }
+    {
+        match self.keyword_here(cfg, wr, span, word) {
+            Ok(()) => true,
+            Err(refusal) => {
+                self.reason = refusal;
+                false
+            }
+        }
+    }
+
+    /// The same, where it is called.
+    #[inline(always)]
+    #[tactic(auto, unfolding(crate::specs::Words::keyword))]
+    fn writes_keyword_here<W: WriteJs>(
+        &mut self,
+        cfg: &Config,
+        wr: &mut W,
+        word: &'static str,
+    ) -> bool
+        requires { begins_letter word.now ≡ true }
+        ensures items { Does (keyword None word.now) (state_of cfg.now (W.sheet wr.old) self.old)
+            (state_of cfg.now (W.sheet wr.new) self.new) (answered result self.new.reason) }
+        ensures level { OnOk (answered result self.new.reason)
+            ((W.sheet wr.new).indentation ≡ (W.sheet wr.old).indentation) }
+    {
+        match self.guard_word(cfg, wr, word) {
+            Ok(()) => (),
+            Err(refusal) => {
+                self.reason = refusal;
+                return false;
+            }
+        }
+        self.puts_keyword(cfg, wr, word)
+    }
+
+    /// Writes a blank.
+    #[inline(never)]
+    pub fn writes_space<W: WriteJs>(&mut self, cfg: &Config, wr: &mut W) -> bool
+        ensures items { Does (space) (state_of cfg.now (W.sheet wr.old) self.old)
+            (state_of cfg.now (W.sheet wr.new) self.new) (answered result self.new.reason) }
+        ensures level { OnOk (answered result self.new.reason)
+            ((W.sheet wr.new).indentation ≡ (W.sheet wr.old).indentation) }
+    {
+        self.puts_space(cfg, wr)
+    }
+
+    /// Writes an operator that is a punctuator, between two blanks: ` + `.
+    #[inline(always)]
+    #[tactic(auto, unfolding(crate::specs::Words::operator_between))]
+    pub fn writes_operator_between<W: WriteJs>(
+        &mut self,
+        cfg: &Config,
+        wr: &mut W,
+        mark: Punctuator,
+    ) -> bool
+        ensures items { Does (operator_between (spelling mark)) (state_of cfg.now (W.sheet wr.old) self.old)
+            (state_of cfg.now (W.sheet wr.new) self.new) (answered result self.new.reason) }
+        ensures level { OnOk (answered result self.new.reason)
+            ((W.sheet wr.new).indentation ≡ (W.sheet wr.old).indentation) }
+    {
+        if !self.puts_space(cfg, wr) {
+            return false;
+        }
+        if !self.writes_operator(cfg, wr, mark) {
+            return false;
+        }
+        self.puts_space(cfg, wr)
+    }
+
+    /// Writes an operator that is a punctuator.
+    #[inline(always)]
+    pub fn writes_operator<W: WriteJs>(
+        &mut self,
+        cfg: &Config,
+        wr: &mut W,
+        mark: Punctuator,
+    ) -> bool
+        ensures items { Does (operator (spelling mark)) (state_of cfg.now (W.sheet wr.old) self.old)
+            (state_of cfg.now (W.sheet wr.new) self.new) (answered result self.new.reason) }
+        ensures level { OnOk (answered result self.new.reason)
+            ((W.sheet wr.new).indentation ≡ (W.sheet wr.old).indentation) }
+    {
+        if self.is_apart(mark) {
+            return self.writes_operator_apart(cfg, wr, mark);
+        }
+        self.writes_operator_here(cfg, wr, mark)
+    }
+
+    /// The same in a function of its own: a token that goes the shortest way takes fewer registers.
+    #[inline(never)]
+    fn writes_operator_apart<W: WriteJs>(
+        &mut self,
+        cfg: &Config,
+        wr: &mut W,
+        mark: Punctuator,
+    ) -> bool
+        ensures items { Does (operator (spelling mark)) (state_of cfg.now (W.sheet wr.old) self.old)
+            (state_of cfg.now (W.sheet wr.new) self.new) (answered result self.new.reason) }
+        ensures level { OnOk (answered result self.new.reason)
+            ((W.sheet wr.new).indentation ≡ (W.sheet wr.old).indentation) }
+    {
+        self.writes_operator_here(cfg, wr, mark)
+    }
+
+    /// The same, where it is called.
+    #[inline(always)]
+    #[tactic(auto, unfolding(crate::specs::Words::operator))]
+    fn writes_operator_here<W: WriteJs>(
+        &mut self,
+        cfg: &Config,
+        wr: &mut W,
+        mark: Punctuator,
+    ) -> bool
+        ensures items { Does (operator (spelling mark)) (state_of cfg.now (W.sheet wr.old) self.old)
+            (state_of cfg.now (W.sheet wr.new) self.new) (answered result self.new.reason) }
+        ensures level { OnOk (answered result self.new.reason)
+            ((W.sheet wr.new).indentation ≡ (W.sheet wr.old).indentation) }
+    {
+        match self.guard_mark(cfg, wr, mark) {
+            Ok(()) => (),
+            Err(refusal) => {
+                self.reason = refusal;
+                return false;
+            }
+        }
+        self.puts_operator(cfg, wr, mark)
+    }
+
+    /// Writes a punctuator between two blanks: ` ? `.
+    #[inline(always)]
+    #[tactic(auto, unfolding(crate::specs::Words::punct_between))]
+    pub fn writes_punct_between<W: WriteJs>(
+        &mut self,
+        cfg: &Config,
+        wr: &mut W,
+        mark: Punctuator,
+    ) -> bool
+        ensures items { Does (punct_between (spelling mark)) (state_of cfg.now (W.sheet wr.old) self.old)
+            (state_of cfg.now (W.sheet wr.new) self.new) (answered result self.new.reason) }
+        ensures level { OnOk (answered result self.new.reason)
+            ((W.sheet wr.new).indentation ≡ (W.sheet wr.old).indentation) }
+    {
+        if !self.puts_space(cfg, wr) {
+            return false;
+        }
+        if !self.writes_punct(cfg, wr, mark) {
+            return false;
+        }
+        self.puts_space(cfg, wr)
+    }
+
+    /// Whether a name goes the shortest way: it stays in its line and has no backslash, no blank is due before it, and nothing is to be
+    /// escaped.
+    #[inline(always)]
+    #[tactic(auto, unfolding(crate::specs::Targets::wants_escapes))]
+    fn is_plain<W: WriteJs>(&self, cfg: &Config, wr: &mut W, sym: &str) -> bool
+        ensures unfailed { result ≡ true → self.now.failed ≡ false }
+        ensures passes { result ≡ true →
+            fuses (last_at self.now.token.value) (chars sym.now) ≡ false }
+        ensures in_line { result ≡ true → is_in_line sym.now ≡ true }
+        ensures unescaped { result ≡ true → has_byte 92 sym.now ≡ false }
+        ensures as_it_is { result ≡ true → wants_escapes cfg.now sym.now ≡ false }
+        ensures valid { result ≡ true → (W.sheet wr.old).keeps_invalid ≡ false }
+        ensures same { W.sheet wr.new ≡ W.sheet wr.old }
+    {
+        if self.failed {
+            return false;
+        }
+        if cfg.ascii_only {
+            return false;
+        }
+        if wr.can_ignore_invalid_unicodes() {
+            return false;
+        }
+        if blank_due_after(self.row, StartClass::of_text(sym)) {
+            return false;
+        }
+        if !is_short_without_backslash(sym.as_bytes()) {
+            return false;
+        }
+        is_in_line(sym.as_bytes())
+    }
+
+    /// Writes a name with its comments, and `?` after an optional one.
+    #[inline(always)]
+    #[tactic(auto, unfolding(crate::specs::Words::name))]
+    pub fn writes_name<W: WriteJs, C: Comments>(
+        &mut self,
+        cfg: &Config,
+        comments: &mut Option<C>,
+        wr: &mut W,
+        span: Span,
+        sym: &str,
+        optional: bool,
+    ) -> bool
+        ensures items { DoesTaking (name span sym.now optional) (maps_in C.maps comments.old)
+            (maps_in C.maps comments.new) (state_of cfg.now (W.sheet wr.old) self.old)
+            (state_of cfg.now (W.sheet wr.new) self.new) (answered result self.new.reason) }
+        ensures level { OnOk (answered result self.new.reason)
+            ((W.sheet wr.new).indentation ≡ (W.sheet wr.old).indentation) }
+    {
+        match self.leading_comments(cfg, comments, wr, span.lo) {
+            Ok(()) => (),
+            Err(refusal) => {
+                self.reason = refusal;
+                return false;
+            }
+        }
+        match self.put_pending_semi(cfg, wr) {
+            Ok(()) => (),
+            Err(refusal) => {
+                self.reason = refusal;
+                return false;
+            }
+        }
+        if !self.writes_name_text(cfg, wr, span, sym) {
+            return false;
+        }
+        match self.question(cfg, wr, optional) {
+            Ok(()) => true,
+            Err(refusal) => {
+                self.reason = refusal;
+                false
+            }
+        }
+    }
+
+    /// Writes the text of a name, as the writer takes names.
+    #[inline(always)]
+    fn writes_name_text<W: WriteJs>(
+        &mut self,
+        cfg: &Config,
+        wr: &mut W,
+        span: Span,
+        sym: &str,
+    ) -> bool
+        ensures items { Does (name_text span sym.now) (state_of cfg.now (W.sheet wr.old) self.old)
+            (state_of cfg.now (W.sheet wr.new) self.new) (answered result self.new.reason) }
+        ensures level { OnOk (answered result self.new.reason)
+            ((W.sheet wr.new).indentation ≡ (W.sheet wr.old).indentation) }
+    {
+        if !self.is_plain(cfg, wr, sym) {
+            return self.writes_name_text_apart(cfg, wr, span, sym);
+        }
+        self.writes_plain_text(cfg, wr, span, sym)
+    }
+
+    /// The same in a function of its own, whatever the name is.
+    #[inline(never)]
+    fn writes_name_text_apart<W: WriteJs>(
+        &mut self,
+        cfg: &Config,
+        wr: &mut W,
+        span: Span,
+        sym: &str,
+    ) -> bool
+        ensures items { Does (name_text span sym.now) (state_of cfg.now (W.sheet wr.old) self.old)
+            (state_of cfg.now (W.sheet wr.new) self.new) (answered result self.new.reason) }
+        ensures level { OnOk (answered result self.new.reason)
+            ((W.sheet wr.new).indentation ≡ (W.sheet wr.old).indentation) }
+    {
+        match self.name_text(cfg, wr, span, sym) {
+            Ok(()) => true,
+            Err(refusal) => {
+                self.reason = refusal;
+                false
+            }
+        }
+    }
+
+    /// The same of a name that goes the shortest way.
+    #[inline(always)]
+    fn writes_plain_text<W: WriteJs>(
+        &mut self,
+        cfg: &Config,
+        wr: &mut W,
+        span: Span,
+        sym: &str,
+    ) -> bool
+        requires unfailed { self.old.failed ≡ false }
+        requires passes { fuses (last_at self.old.token.value) (chars sym.now) ≡ false }
+        requires in_line { is_in_line sym.now ≡ true }
+        requires unescaped { has_byte 92 sym.now ≡ false }
+        requires as_it_is { wants_escapes cfg.now sym.now ≡ false }
+        requires valid { (W.sheet wr.old).keeps_invalid ≡ false }
+        ensures items { Does (name_text span sym.now) (state_of cfg.now (W.sheet wr.old) self.old)
+            (state_of cfg.now (W.sheet wr.new) self.new) (answered result self.new.reason) }
+        ensures level { OnOk (answered result self.new.reason)
+            ((W.sheet wr.new).indentation ≡ (W.sheet wr.old).indentation) }
+    {
+        self.writes_plain_symbol(cfg, wr, span, sym)
+    }
+
+    /// Writes such a name by its text, and records its position.
+    #[inline(always)]
+    #[tactic(auto, unfolding(crate::specs::Words::symbol))]
+    fn writes_plain_symbol<W: WriteJs>(
+        &mut self,
+        cfg: &Config,
+        wr: &mut W,
+        span: Span,
+        sym: &str,
+    ) -> bool
+        requires unfailed { self.old.failed ≡ false }
+        requires passes { fuses (last_at self.old.token.value) (chars sym.now) ≡ false }
+        requires in_line { is_in_line sym.now ≡ true }
+        ensures items { Does (symbol span sym.now) (state_of cfg.now (W.sheet wr.old) self.old)
+            (state_of cfg.now (W.sheet wr.new) self.new) (answered result self.new.reason) }
+        ensures level { OnOk (answered result self.new.reason)
+            ((W.sheet wr.new).indentation ≡ (W.sheet wr.old).indentation) }
+    {
+        match self.position(cfg, wr, span.lo) {
+            Ok(()) => (),
+            Err(refusal) => {
+                self.reason = refusal;
+                return false;
+            }
+        }
+        self.puts_known_symbol(cfg, wr, sym)
+    }
+}
