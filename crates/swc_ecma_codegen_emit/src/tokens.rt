@@ -14,7 +14,7 @@ ghost use Rattle.swc_ecma_codegen_emit.specs.Lists.{unsupported};
 ghost use Rattle.swc_ecma_codegen_emit.specs.Programs.{last_semi};
 
 use crate::emitter::Emitter;
-use crate::refusals::keep;
+use crate::refusals::{keep, keep_reason};
 use swc_ecma_codegen_common::{BytePos, Span};
 use swc_ecma_codegen_grammar::comments::Comments;
 use swc_ecma_codegen_grammar::mapper::SourceMapper;
@@ -48,10 +48,10 @@ impl<W: WriteJs, S: SourceMapper, C: Comments> Emitter<'_, W, S, C> {
         if self.refusal.is_some() {
             return;
         }
-        keep(
-            &mut self.refusal,
-            self.lower.keyword(&self.cfg, &mut self.wr, span, text),
-        );
+        let done = self
+            .lower
+            .writes_keyword(&self.cfg, &mut self.wr, span, text);
+        keep_reason(&mut self.refusal, done, &self.lower);
     }
 
     /// Writes an operator that is a punctuator.
@@ -64,10 +64,8 @@ impl<W: WriteJs, S: SourceMapper, C: Comments> Emitter<'_, W, S, C> {
         if self.refusal.is_some() {
             return;
         }
-        keep(
-            &mut self.refusal,
-            self.lower.operator(&self.cfg, &mut self.wr, mark),
-        );
+        let done = self.lower.writes_operator(&self.cfg, &mut self.wr, mark);
+        keep_reason(&mut self.refusal, done, &self.lower);
     }
 
     /// Writes an operator that is a word.
@@ -95,10 +93,8 @@ impl<W: WriteJs, S: SourceMapper, C: Comments> Emitter<'_, W, S, C> {
         if self.refusal.is_some() {
             return;
         }
-        keep(
-            &mut self.refusal,
-            self.lower.punct(&self.cfg, &mut self.wr, mark),
-        );
+        let done = self.lower.writes_punct(&self.cfg, &mut self.wr, mark);
+        keep_reason(&mut self.refusal, done, &self.lower);
     }
 
     /// Writes a punctuator of an element, behind which no line may be ended.
@@ -230,7 +226,8 @@ impl<W: WriteJs, S: SourceMapper, C: Comments> Emitter<'_, W, S, C> {
         if self.refusal.is_some() {
             return;
         }
-        keep(&mut self.refusal, self.lower.line(&self.cfg, &mut self.wr));
+        let done = self.lower.writes_line(&self.cfg, &mut self.wr);
+        keep_reason(&mut self.refusal, done, &self.lower);
     }
 
     /// One level of indentation more.
@@ -272,7 +269,8 @@ impl<W: WriteJs, S: SourceMapper, C: Comments> Emitter<'_, W, S, C> {
         if self.refusal.is_some() {
             return;
         }
-        keep(&mut self.refusal, self.lower.semi(&self.cfg, &mut self.wr));
+        let done = self.lower.writes_semi(&self.cfg, &mut self.wr);
+        keep_reason(&mut self.refusal, done, &self.lower);
     }
 
     /// Writes a blank.
@@ -283,7 +281,8 @@ impl<W: WriteJs, S: SourceMapper, C: Comments> Emitter<'_, W, S, C> {
         if self.refusal.is_some() {
             return;
         }
-        keep(&mut self.refusal, self.lower.space(&self.cfg, &mut self.wr));
+        let done = self.lower.writes_space(&self.cfg, &mut self.wr);
+        keep_reason(&mut self.refusal, done, &self.lower);
     }
 
     /// Writes a blank, unless the settings are to minify.
@@ -450,17 +449,15 @@ impl<W: WriteJs, S: SourceMapper, C: Comments> Emitter<'_, W, S, C> {
         if self.refusal.is_some() {
             return;
         }
-        keep(
-            &mut self.refusal,
-            self.lower.name(
-                &self.cfg,
-                &mut self.comments,
-                &mut self.wr,
-                span,
-                sym,
-                optional,
-            ),
+        let done = self.lower.writes_name(
+            &self.cfg,
+            &mut self.comments,
+            &mut self.wr,
+            span,
+            sym,
+            optional,
         );
+        keep_reason(&mut self.refusal, done, &self.lower);
     }
 
     /// Writes a private name with its comments.
@@ -537,10 +534,10 @@ impl<W: WriteJs, S: SourceMapper, C: Comments> Emitter<'_, W, S, C> {
         if self.refusal.is_some() {
             return;
         }
-        keep(
-            &mut self.refusal,
-            self.lower.punct_between(&self.cfg, &mut self.wr, mark),
-        );
+        let done = self
+            .lower
+            .writes_punct_between(&self.cfg, &mut self.wr, mark);
+        keep_reason(&mut self.refusal, done, &self.lower);
     }
 
     /// Writes an operator that is a punctuator, between two blanks.
@@ -553,10 +550,10 @@ impl<W: WriteJs, S: SourceMapper, C: Comments> Emitter<'_, W, S, C> {
         if self.refusal.is_some() {
             return;
         }
-        keep(
-            &mut self.refusal,
-            self.lower.operator_between(&self.cfg, &mut self.wr, mark),
-        );
+        let done = self
+            .lower
+            .writes_operator_between(&self.cfg, &mut self.wr, mark);
+        keep_reason(&mut self.refusal, done, &self.lower);
     }
 
     /// Writes the comments before a node, and records its start.

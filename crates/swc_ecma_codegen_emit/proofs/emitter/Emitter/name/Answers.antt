@@ -4,4 +4,4 @@ use Rattle.swc_ecma_codegen_emit.proofs.Standings.{takes_made}
 use Rattle.swc_ecma_codegen_emit.proofs.emitter.Emitter.name.Goals as goal
 
 pub returns : goal.returns
-returns g c = record { items = takes_made (g.S.SourceMapper.lines c.args.self.now.cm.now) (maps_in g.C.Comments.maps c.args.self.now.comments) _ _ _ _ _ _ _ c.name.ensures.items c.name.ensures.level (search rules) c.keep.ensures }
+returns g c = record { items = takes_made (g.S.SourceMapper.lines c.args.self.now.cm.now) (maps_in g.C.Comments.maps c.args.self.now.comments) _ _ _ _ _ _ _ c.writes_name-done.ensures.items c.writes_name-done.ensures.level (search rules) c.keep_reason.ensures }
