@@ -20,7 +20,8 @@ ghost use Rattle.swc_ecma_codegen_uniqueness.specs.Parses.{expr_before, expr_par
 /// The parse tree of an expression is a node round what its production says, wherever the expression stands.
 #[tactic(auto, using(crate::proofs::ParseLaws::expr_parse_at))]
 pub fn parse_trees_go_by_productions()
-    ensures { (s : Settings) (c : Given) (a : Expr AnyNode) (rest : ParseTree) → expr_before s c a rest
+    ensures { (s : Settings) (c : Given) (a : Expr AnyNode) (rest : ParseTree) →
+        expr_before s c a rest
         ≡ Node (expr_variant a) (form_parse (parse s) s (expr_form false false c a) End) rest }
 {}
 
@@ -28,7 +29,8 @@ pub fn parse_trees_go_by_productions()
 /// that syntax leaves open, as in `[a,] = b` and `(a) => b`. ECMA-262, section 13.
 #[tactic(auto, using(crate::proofs::Unique::parse_tokens))]
 pub fn parse_trees_have_their_tokens()
-    ensures { (s : Settings) (c : Given) (a : Expr AnyNode) (ts : List Token) → DerivesExpr true s Expression c a ts
+    ensures { (s : Settings) (c : Given) (a : Expr AnyNode) (ts : List Token)
+        → DerivesExpr true s Expression c a ts
         → (p : ParseTree) × (settled p ≡ expr_parse s c a) × AreCommasAndParentheses p
         × ((us : List Token) → tokens_of p us ≡ ts ++ us) }
 {}
@@ -91,7 +93,8 @@ pub fn kept_programs_are_told()
 /// syntax leaves open.
 #[tactic(auto, using(crate::proofs::Programs::program_tokens))]
 pub fn program_trees_have_their_tokens()
-    ensures { (s : Settings) (a : Program AnyNode) (ts : List Token) → DerivesProgram true s a ts
+    ensures { (s : Settings) (a : Program AnyNode) (ts : List Token)
+        → DerivesProgram true s a ts
         → (p : ParseTree) × (settled p ≡ program_parse s a) × AreCommasAndParentheses p
         × ((us : List Token) → tokens_of p us ≡ ts ++ us) }
 {}
