@@ -6,8 +6,9 @@ use Rattle.swc_ecma_codegen_tree.specs.declared.links.AnyNode.{AnyNode, out-AnyN
 use Rattle.swc_ecma_codegen_grammar.specs.Settings.{Settings}
 use Rattle.swc_ecma_codegen_grammar.specs.Tokens.{Token, punctuator}
 use Rattle.swc_ecma_codegen_grammar.specs.declared.roles.Role.{Role}
-use Rattle.swc_ecma_codegen_grammar.specs.declared.roles.Role.TheVariants.{Statement, Block}
+use Rattle.swc_ecma_codegen_grammar.specs.declared.roles.Role.TheVariants.{Statement, Block, Member}
 use Rattle.swc_ecma_codegen_syntax.specs.declared.nonterminals.Nonterminal.{Nonterminal}
+use Rattle.swc_ecma_codegen_syntax.specs.declared.nonterminals.Nonterminal.TheVariants as nt
 use Rattle.swc_ecma_codegen_syntax.specs.declared.parameters.Parameters.{Parameters}
 use Rattle.swc_ecma_codegen_syntax.specs.Nonterminals.{takes, is_optional}
 use Rattle.swc_ecma_codegen_syntax.specs.Forms.{Form, stands as stands_there, is_met}
@@ -53,8 +54,14 @@ pub record FitItem (b : Bool) (variant : Variant) (inside : ParseTree) : Type 0 
   pub known : is_known variant ≡ true
   pub good : Good (Whole variant (item_of b)) inside
 
+-- and of a member of a class
+pub record FitMember (variant : Variant) (inside : ParseTree) : Type 0 where
+  pub known : is_known variant ≡ true
+  pub good : Good (Whole variant nt.ClassElement) inside
+
 abbrev pub NodeFit : Role → Parameters → Variant → Nonterminal → ParseTree → Type 0
 NodeFit Statement c variant n inside = FitItem c.before_else variant inside
+NodeFit Member c variant n inside = FitMember variant inside
 NodeFit role c variant n inside = Fit variant (cover n) inside
 
 -- a block, which has no node of its own

@@ -31,7 +31,7 @@ use Rattle.swc_ecma_codegen_syntax.specs.declared.nonterminals.Nonterminal.TheVa
 use Rattle.swc_ecma_codegen_syntax.specs.declared.parameters.Parameters.{Parameters}
 use Rattle.swc_ecma_codegen_syntax.specs.Nonterminals.{takes, is_pattern_target, is_pattern_element, is_last_element}
 use Rattle.swc_ecma_codegen_syntax.specs.Parameters.{of_function_name}
-use Rattle.swc_ecma_codegen_syntax.specs.Forms.{Fixed, Part, Provided, ByRule, ByScope, is_met, in_order, ending_after, ending_listed}
+use Rattle.swc_ecma_codegen_syntax.specs.Forms.{Form, Fixed, Part, Provided, ByRule, ByScope, is_met, in_order, each_after, listed, ending_after, ending_listed}
 use Rattle.swc_ecma_codegen_syntax.specs.FunctionForms.{type_params_form, decorators_form, bound_name_form, optional_name_form, pat_in, param_form, params_form, body_form, own_of, rest_of_function, function_form, fn_expr_form, fn_decl_form}
 use Rattle.swc_ecma_codegen_syntax.specs.PatForms.{pat_form, pat_nonterminal}
 use Rattle.swc_ecma_codegen_syntax.specs.NodeForms.{node_form, node_nonterminal, part_form, stmt_part_form, jsx_part_form}
@@ -74,7 +74,7 @@ pub record Behind (n : Within) (m : ParseTree) : Type 0 where
   pub spliced : (s : Variant) → decide (Parameter n.place) (Some s) token ≡ Splice
   pub good : Good (Rest (passed_to (Parameter n.place) (class token)) n.variant n.of) rest
 
-no_decorators : {s : Settings} (c : Parameters) (ns : List (Decorator AnyNode)) {ts : List Token} (d : Derives true s (decorators_form c ns) ts) (rest : ParseTree) → derived_parse d rest ≡ rest
+pub no_decorators : {s : Settings} (c : Parameters) (ns : List (Decorator AnyNode)) {ts : List Token} (d : Derives true s (decorators_form c ns) ts) (rest : ParseTree) → derived_parse d rest ≡ rest
 unfolding decorators_form in_order is_some_listed is_met derived_parse read_phrase
 no_decorators c [] (provided h (fixed g)) rest = refl
 no_decorators c (n ∷ ns) (provided h d) rest = absurd (true≢false (sym h))
@@ -115,20 +115,42 @@ unfolding param_form pat_in is_met AllGood derived_parse
 last_good n c x b (both k (provided h d)) (y, o) m rest g =
     subst (λ z. Good (Rest (Parameter n.place) n.variant n.of) z) (sym (no_decorators c x.decorators.items k (derived_parse d (Read (punctuator (codes ")")) rest)))) (last_by n c x.pat h b d o m g)
 
-params_after : {s : Settings} (n : Within) (c : Parameters) (x : Param AnyNode) (xs : List (Param AnyNode)) {ts : List Token} → c.is_binding ≡ true → (d : Derives true s (ending_after (param_form c) (x ∷ xs)) ts) → AllGood d → s.minify ≡ c.minify →
+-- what each of a list is read as: before another, and as the last one
+pub record EachRead (s : Settings) (n : Within) {A : Type 0} (each : Nonterminal → A → Form AnyNode) : Type 0 where
+  pub element : (x : A) (ts : List Token) (d : Derives true s (each nt.PatternElement x) ts) → AllGood d → (m : ParseTree) → Behind n m → Good (Rest (Parameter n.place) n.variant n.of) (derived_parse d m)
+  pub last : (x : A) (ts : List Token) (d : Derives true s (each nt.LastElement x) ts) → AllGood d → (m : ParseTree) → Good (Rest (AfterParameters n.place) n.variant n.of) m →
+      Good (Rest (Parameter n.place) n.variant n.of) (derived_parse d (Read (punctuator (codes ")")) m))
+
+pub each_param : {s : Settings} (n : Within) (c : Parameters) → c.is_binding ≡ true → s.minify ≡ c.minify → EachRead s n (param_form {X = AnyNode} c)
+each_param n c b m = record { element = λ x ts d o rest behind. param_good n c x b d o m rest behind; last = λ x ts d o rest r. last_good n c x b d o m rest r }
+
+each_after_one : {s : Settings} (n : Within) {A : Type 0} {each : Nonterminal → A → Form AnyNode} → EachRead s n each → (x : A) (xs : List A) {ts : List Token} (d : Derives true s (ending_after each (x ∷ xs)) ts) → AllGood d →
     (m : ParseTree) → Good (Rest (AfterParameters n.place) n.variant n.of) m → Behind n (derived_parse d (Read (punctuator (codes ")")) m))
 unfolding ending_after AllGood derived_parse read_phrase
-params_after n c x [] b (both (fixed g) (both d (fixed h))) (y, (o, z)) m rest r = behind_comma n (last_good n c x b d o m rest r)
-params_after n c x (y ∷ ys) b (both (fixed g) (both d e)) (z, (o, q)) m rest r =
-    behind_comma n (param_good n c x b d o m (derived_parse e (Read (punctuator (codes ")")) rest)) (params_after n c y ys b e q m rest r))
+each_after_one n k x [] (both (fixed g) (both d (fixed h))) (y, (o, z)) rest r = behind_comma n (k.last x _ d o rest r)
+each_after_one n k x (y ∷ ys) (both (fixed g) (both d e)) (z, (o, q)) rest r =
+    behind_comma n (k.element x _ d o (derived_parse e (Read (punctuator (codes ")")) rest)) (each_after_one n k y ys e q rest r))
 
-params_good : {s : Settings} (n : Within) (c : Parameters) (xs : List (Param AnyNode)) {ts : List Token} → c.is_binding ≡ true → (d : Derives true s (params_form c xs) ts) → AllGood d → s.minify ≡ c.minify → (m : ParseTree) →
+pub params_good : {s : Settings} (n : Within) {A : Type 0} {each : Nonterminal → A → Form AnyNode} → EachRead s n each → (xs : List A) {ts : List Token} (d : Derives true s (ending_listed each xs) ts) → AllGood d → (m : ParseTree) →
     Good (Rest (AfterParameters n.place) n.variant n.of) m → Good (Rest (Parameter n.place) n.variant n.of) (derived_parse d (Read (punctuator (codes ")")) m))
 unfolding ending_listed AllGood derived_parse read_phrase
-params_good n c [] b (fixed g) o m rest r = no_parameters_then n r
-params_good n c (x ∷ []) b (both d (fixed h)) (o, z) m rest r = last_good n c x b d o m rest r
-params_good n c (x ∷ y ∷ ys) b (both d e) (o, q) m rest r =
-    param_good n c x b d o m (derived_parse e (Read (punctuator (codes ")")) rest)) (params_after n c y ys b e q m rest r)
+params_good n k [] (fixed g) o rest r = no_parameters_then n r
+params_good n k (x ∷ []) (both d (fixed h)) (o, z) rest r = k.last x _ d o rest r
+params_good n k (x ∷ y ∷ ys) (both d e) (o, q) rest r =
+    k.element x _ d o (derived_parse e (Read (punctuator (codes ")")) rest)) (each_after_one n k y ys e q rest r)
+
+-- none of them a rest
+plain_after : {s : Settings} (n : Within) {A : Type 0} {each : Nonterminal → A → Form AnyNode} → EachRead s n each → (xs : List A) {ts : List Token} (d : Derives true s (each_after (codes ",") (each nt.PatternElement) xs) ts) → AllGood d →
+    (m : ParseTree) → Good (Rest (AfterParameters n.place) n.variant n.of) m → Behind n (derived_parse d (Read (punctuator (codes ")")) m))
+unfolding each_after AllGood derived_parse read_phrase
+plain_after n k [] (fixed g) o rest r = behind_close n r
+plain_after n k (x ∷ xs) (both (fixed g) (both d e)) (y, (o, q)) rest r = behind_comma n (k.element x _ d o (derived_parse e (Read (punctuator (codes ")")) rest)) (plain_after n k xs e q rest r))
+
+pub plain_params_good : {s : Settings} (n : Within) {A : Type 0} {each : Nonterminal → A → Form AnyNode} → EachRead s n each → (xs : List A) {ts : List Token} (d : Derives true s (listed (codes ",") (each nt.PatternElement) xs) ts) → AllGood d →
+    (m : ParseTree) → Good (Rest (AfterParameters n.place) n.variant n.of) m → Good (Rest (Parameter n.place) n.variant n.of) (derived_parse d (Read (punctuator (codes ")")) m))
+unfolding listed AllGood derived_parse read_phrase
+plain_params_good n k [] (fixed g) o rest r = no_parameters_then n r
+plain_params_good n k (x ∷ xs) (both d e) (o, q) rest r = k.element x _ d o (derived_parse e (Read (punctuator (codes ")")) rest)) (plain_after n k xs e q rest r)
 
 -- ---- what stands behind the name
 
@@ -137,7 +159,7 @@ unfolding type_params_form is_met derived_parse read_phrase
 no_type_params c None (fixed g) rest = refl
 no_type_params c (Some n) (provided h d) rest = absurd (true≢false (sym h))
 
-body_good : {s : Settings} (n : Within) (c : Parameters) (o : Option (BlockStmtBox AnyNode)) {ts : List Token} → is_list n.place ≡ true → (d : Derives true s (body_form c o) ts) → AllGood d → s.minify ≡ c.minify → (rest : ParseTree) →
+pub body_good : {s : Settings} (n : Within) (c : Parameters) (o : Option (BlockStmtBox AnyNode)) {ts : List Token} → is_list n.place ≡ true → (d : Derives true s (body_form c o) ts) → AllGood d → s.minify ≡ c.minify → (rest : ParseTree) →
     Good (Rest (closing n.place) n.variant n.of) rest → Good (Rest (AfterParameters n.place) n.variant n.of) (derived_parse d rest)
 unfolding body_form is_met AllGood PlacedGood derived_parse placed is_inlined
 body_good n c None i (provided h d) o m rest g = absurd (true≢false (sym h))
@@ -151,14 +173,14 @@ pub record Tail (f : ParseTree → ParseTree) : Type 0 where
   pub is : (rest : ParseTree) → f rest ≡ Read (punctuator (codes "(")) (inner rest)
   pub good : (n : Within) → is_list n.place ≡ true → (rest : ParseTree) → Good (Rest (closing n.place) n.variant n.of) rest → Good (Rest (Parameter n.place) n.variant n.of) (inner rest)
 
-rest_good : {s : Settings} (c : Parameters) (x : functions.Function AnyNode) {ts : List Token} (d : Derives true s (rest_of_function c x) ts) → AllGood d → s.minify ≡ c.minify → Tail (derived_parse d)
+pub rest_good : {s : Settings} (c : Parameters) (x : functions.Function AnyNode) {ts : List Token} (d : Derives true s (rest_of_function c x) ts) → AllGood d → s.minify ≡ c.minify → Tail (derived_parse d)
 unfolding rest_of_function AllGood derived_parse read_phrase
 rest_good c x (both t (both (fixed g) (both d (both (fixed h) (both a e))))) (y, (z, (o, (u, (v, q))))) m = record {
   inner = λ rest. derived_parse d (Read (punctuator (codes ")")) (derived_parse a (derived_parse e rest)));
   is = λ rest. no_type_params c x.type_params t _;
   good =
       λ n i rest r. subst (λ w. Good (Rest (Parameter n.place) n.variant n.of) (derived_parse d (Read (punctuator (codes ")")) w))) (sym (no_annotation c x.return_type a (derived_parse e rest)))
-      (params_good n (own_of c x) x.params.items refl d o m (derived_parse e rest) (body_good n (own_of c x) x.body i e q m rest r));
+      (params_good n (each_param n (own_of c x) refl m) x.params.items d o (derived_parse e rest) (body_good n (own_of c x) x.body i e q m rest r));
 }
 
 function_by : {s : Settings} (b : Bool) (c : Parameters) (x : functions.Function AnyNode) {ts : List Token} (d : Derives true s (if b then Provided ByRule false (Fixed phrases.Never) else rest_of_function c x) ts) → AllGood d → s.minify ≡ c.minify →
@@ -235,7 +257,7 @@ plain_tail : (n : Nonterminal) {f : ParseTree → ParseTree} → Tail f → Good
 unfolding punctuator
 plain_tail n t = subst (λ z. Good (Rest AfterFunction Fn n) z) (sym (t.is End)) (shifted refl (t.good (alone n) refl End (ended Fn n)))
 
-bound_read : {s : Settings} (c : Parameters) (n : Ident) {ts : List Token} (d : Derives true s (bound_name_form c n) ts) (rest : ParseTree) → derived_parse d rest ≡ Read (tokens.name (name_value (spelled_name (string_bytes n.sym)))) rest
+pub bound_read : {s : Settings} (c : Parameters) (n : Ident) {ts : List Token} (d : Derives true s (bound_name_form c n) ts) (rest : ParseTree) → derived_parse d rest ≡ Read (tokens.name (name_value (spelled_name (string_bytes n.sym)))) rest
 unfolding bound_name_form derived_parse
 bound_read c n (provided h d) rest = name_read c n d rest
 
@@ -252,7 +274,7 @@ fn_expr_good c n (both h (both i t)) (o, (p, q)) m =
     (begun (word (codes "function")) Fn nt.PrimaryExpression AfterFunction _ refl refl refl
     (star_then r.starred nt.PrimaryExpression (optional_tail nt.PrimaryExpression (of_function_name c) n.ident i (tail_good c n.function.node.value t q m))))
 
-no_declare : {s : Settings} (b : Bool) {ts : List Token} (d : Derives true s (Provided ByScope (not b) (Fixed (declare_word b))) ts) (rest : ParseTree) → derived_parse d rest ≡ rest
+pub no_declare : {s : Settings} (b : Bool) {ts : List Token} (d : Derives true s (Provided ByScope (not b) (Fixed (declare_word b))) ts) (rest : ParseTree) → derived_parse d rest ≡ rest
 unfolding declare_word word_if is_met derived_parse read_phrase
 no_declare true (provided h d) rest = absurd (true≢false (sym h))
 no_declare false (provided h (fixed g)) rest = refl

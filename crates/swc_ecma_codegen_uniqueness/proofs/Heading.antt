@@ -8,19 +8,21 @@ use Rattle.swc_ecma_codegen_grammar.specs.declared.kinds.Kind.TheVariants as kin
 use Rattle.swc_ecma_codegen_grammar.specs.FunctionPhrases.{is_some_listed}
 use Rattle.swc_ecma_codegen_grammar.specs.Tokens.{Token, Value, Characters}
 use Rattle.swc_ecma_codegen_syntax.specs.declared.lookahead.Lookahead.TheVariants.{StatementStart, BodyStart}
-use Rattle.swc_ecma_codegen_syntax.specs.Lookahead.{Sign, OpenBrace as BraceSign, FunctionWord as FunctionSign, word_sign, mark_sign, sign_of, sign, begun, beginning, is_statement_start, is_brace, excludes}
+use Rattle.swc_ecma_codegen_syntax.specs.NameForms.{is_one_of}
+use Rattle.swc_ecma_codegen_syntax.specs.Lookahead.{Sign, OpenBrace as BraceSign, FunctionWord as FunctionSign, ClassWord as ClassSign, word_sign, mark_sign, sign_of, sign, begun, beginning, is_statement_start, is_brace, excludes}
 use Rattle.swc_ecma_codegen_uniqueness.specs.ParseTrees.{ParseTree, tokens_of}
-use Rattle.swc_ecma_codegen_uniqueness.proofs.Classes.{Class, words, marks, look, class_of, class}
+use Rattle.swc_ecma_codegen_uniqueness.proofs.Classes.{Class, Strange, words, marks, look, class_of, class}
 use Rattle.swc_ecma_codegen_uniqueness.proofs.Tables.{starts}
 use Rattle.swc_ecma_codegen_uniqueness.proofs.TableLaws.{is_barred}
 use Rattle.swc_ecma_codegen_uniqueness.proofs.Machine.{Heads}
 use Rattle.swc_ecma_codegen_uniqueness.proofs.StatementShapes.{MayStand, is_open_brace}
 
--- ---- what is barred is `{` and `function`
+-- ---- what is barred is `{`, `function` and `class`
 
-abbrev keyed : List (List ℕ × Class) → List ℕ → Bool
-keyed [] key = true
-keyed (e ∷ es) key = (not (is_barred e.1) || bytes_eq e.0 key) && keyed es key
+-- a class that f tells has these texts
+abbrev keyed : (Class → Bool) → List (List ℕ) → List (List ℕ × Class) → Bool
+keyed f keys [] = true
+keyed f keys (e ∷ es) = (not (f e.1) || is_one_of keys e.0) && keyed f keys es
 
 not_or : (a b : Bool) → (not a || b) ≡ true → b ≡ false → a ≡ false
 not_or false b h k = refl
@@ -30,33 +32,39 @@ pub not_true : (b : Bool) → not b ≡ true → b ≡ false
 not_true false h = refl
 not_true true h = absurd (true≢false (sym h))
 
-look_by : (b : Bool) (e : List ℕ × Class) (es : List (List ℕ × Class)) (key text : List ℕ) → bytes_eq text e.0 ≡ b → (not (is_barred e.1) || bytes_eq e.0 key) ≡ true → bytes_eq text key ≡ false → is_barred (look es text) ≡ false →
-    is_barred (cond b e.1 (look es text)) ≡ false
-look_by false e es key text q h k i = i
-look_by true e es key text q h k i = not_or (is_barred e.1) (bytes_eq e.0 key) h (sym (ap (λ z. bytes_eq z key) ((bytes_eq-Decides text e.0).0 q)) ∙ k)
+look_by : (f : Class → Bool) (keys : List (List ℕ)) (b : Bool) (e : List ℕ × Class) (es : List (List ℕ × Class)) (text : List ℕ) → bytes_eq text e.0 ≡ b → (not (f e.1) || is_one_of keys e.0) ≡ true → is_one_of keys text ≡ false →
+    f (look es text) ≡ false → f (cond b e.1 (look es text)) ≡ false
+look_by f keys false e es text q h k i = i
+look_by f keys true e es text q h k i = not_or (f e.1) (is_one_of keys e.0) h (sym (ap (is_one_of keys) ((bytes_eq-Decides text e.0).0 q)) ∙ k)
 
-look_free : (es : List (List ℕ × Class)) (key text : List ℕ) → keyed es key ≡ true → bytes_eq text key ≡ false → is_barred (look es text) ≡ false
-look_free [] key text h k = refl
-look_free (e ∷ es) key text h k =
-    let p = and_parts (not (is_barred e.1) || bytes_eq e.0 key) (keyed es key) h in
-    look_by (bytes_eq text e.0) e es key text refl p.0 k (look_free es key text p.1 k)
+look_free : (f : Class → Bool) (keys : List (List ℕ)) (es : List (List ℕ × Class)) (text : List ℕ) → f Strange ≡ false → keyed f keys es ≡ true → is_one_of keys text ≡ false → f (look es text) ≡ false
+look_free f keys [] text z h k = z
+look_free f keys (e ∷ es) text z h k =
+    let p = and_parts (not (f e.1) || is_one_of keys e.0) (keyed f keys es) h in
+    look_by f keys (bytes_eq text e.0) e es text refl p.0 k (look_free f keys es text z p.1 k)
 
 abbrev Barred : Class → Sign → Type 0
-Barred c g = (is_barred c ≡ false) ⊎ ((g ≡ BraceSign) ⊎ (g ≡ FunctionSign))
+Barred c g = (is_barred c ≡ false) ⊎ ((g ≡ BraceSign) ⊎ ((g ≡ FunctionSign) ⊎ (g ≡ ClassSign)))
+
+not_either : (a b : Bool) → a ≡ false → b ≡ false → (a || (b || false)) ≡ false
+not_either false false h k = refl
+not_either true b h k = absurd (true≢false h)
+not_either false true h k = absurd (true≢false k)
 
 mark_by : (b : Bool) (text : List ℕ) → bytes_eq text (codes "{") ≡ b → Barred (look marks text) (mark_sign text)
-unfolding mark_sign
+unfolding mark_sign is_one_of
 mark_by true text e = inr (inl (ap mark_sign ((bytes_eq-Decides text (codes "{")).0 e)))
-mark_by false text e = inl (look_free marks (codes "{") text refl e)
+mark_by false text e = inl (look_free is_barred (codes "{" ∷ []) marks text refl refl (not_either false (bytes_eq text (codes "{")) refl e))
 
-word_by : (b : Bool) (text : List ℕ) → bytes_eq text (codes "function") ≡ b → Barred (look words text) (word_sign text)
-unfolding word_sign
-word_by true text e = inr (inr (ap word_sign ((bytes_eq-Decides text (codes "function")).0 e)))
-word_by false text e = inl (look_free words (codes "function") text refl e)
+word_by : (b k : Bool) (text : List ℕ) → bytes_eq text (codes "function") ≡ b → bytes_eq text (codes "class") ≡ k → Barred (look words text) (word_sign text)
+unfolding word_sign is_one_of
+word_by true k text e h = inr (inr (inl (ap word_sign ((bytes_eq-Decides text (codes "function")).0 e))))
+word_by false true text e h = inr (inr (inr (ap word_sign ((bytes_eq-Decides text (codes "class")).0 h))))
+word_by false false text e h = inl (look_free is_barred (codes "function" ∷ codes "class" ∷ []) words text refl refl (not_either _ _ e h))
 
 signs_by : (k : Kind) (v : Value) → Barred (class_of k v) (sign_of k v)
 unfolding sign_of
-signs_by kinds.Word (Characters text) = word_by (bytes_eq text (codes "function")) text refl
+signs_by kinds.Word (Characters text) = word_by (bytes_eq text (codes "function")) (bytes_eq text (codes "class")) text refl refl
 signs_by kinds.Punctuator (Characters text) = mark_by (bytes_eq text (codes "{")) text refl
 signs_by (kinds.Template part) v = inl refl
 signs_by (kinds.TemplateRest part) v = inl refl
@@ -68,51 +76,25 @@ signs t = signs_by t.kind t.value
 
 -- ---- what a lookahead restriction says of the first token
 
-begun_barred : (g : Sign) (gs : List Sign) → (g ≡ BraceSign) ⊎ (g ≡ FunctionSign) → is_statement_start (begun (g ∷ gs)) ≡ true
+begun_barred : (g : Sign) (gs : List Sign) → (g ≡ BraceSign) ⊎ ((g ≡ FunctionSign) ⊎ (g ≡ ClassSign)) → is_statement_start (begun (g ∷ gs)) ≡ true
 unfolding begun is_statement_start
 begun_barred g gs (inl e) = subst (λ z. is_statement_start (begun (z ∷ gs)) ≡ true) (sym e) refl
-begun_barred g gs (inr e) = subst (λ z. is_statement_start (begun (z ∷ gs)) ≡ true) (sym e) refl
+begun_barred g gs (inr (inl e)) = subst (λ z. is_statement_start (begun (z ∷ gs)) ≡ true) (sym e) refl
+begun_barred g gs (inr (inr e)) = subst (λ z. is_statement_start (begun (z ∷ gs)) ≡ true) (sym e) refl
 
 barred_first : (t : Token) (ts : List Token) → excludes StatementStart (beginning (t ∷ ts)) ≡ false → is_barred (class t) ≡ false
 unfolding excludes beginning
 barred_first t ts h = elim (signs t) [ inl e ↦ e | inr e ↦ absurd (true≢false (sym (begun_barred (sign t) _ e) ∙ h)) ]
 
 -- `{` alone begins no value of an arrow function
-abbrev keyed_open : List (List ℕ × Class) → List ℕ → Bool
-keyed_open [] key = true
-keyed_open (e ∷ es) key = (not (is_open_brace e.1) || bytes_eq e.0 key) && keyed_open es key
-
-open_look_by : (b : Bool) (e : List ℕ × Class) (es : List (List ℕ × Class)) (key text : List ℕ) → bytes_eq text e.0 ≡ b → (not (is_open_brace e.1) || bytes_eq e.0 key) ≡ true → bytes_eq text key ≡ false → is_open_brace (look es text) ≡ false →
-    is_open_brace (cond b e.1 (look es text)) ≡ false
-open_look_by false e es key text q h k i = i
-open_look_by true e es key text q h k i = not_or (is_open_brace e.1) (bytes_eq e.0 key) h (sym (ap (λ z. bytes_eq z key) ((bytes_eq-Decides text e.0).0 q)) ∙ k)
-
-open_free : (es : List (List ℕ × Class)) (key text : List ℕ) → keyed_open es key ≡ true → bytes_eq text key ≡ false → is_open_brace (look es text) ≡ false
-open_free [] key text h k = refl
-open_free (e ∷ es) key text h k =
-    let p = and_parts (not (is_open_brace e.1) || bytes_eq e.0 key) (keyed_open es key) h in
-    open_look_by (bytes_eq text e.0) e es key text refl p.0 k (open_free es key text p.1 k)
-
 open_mark_by : (b : Bool) (text : List ℕ) → bytes_eq text (codes "{") ≡ b → (is_open_brace (look marks text) ≡ false) ⊎ (mark_sign text ≡ BraceSign)
-unfolding mark_sign
+unfolding mark_sign is_one_of
 open_mark_by true text e = inr (ap mark_sign ((bytes_eq-Decides text (codes "{")).0 e))
-open_mark_by false text e = inl (open_free marks (codes "{") text refl e)
-
-abbrev none_open : List (List ℕ × Class) → Bool
-none_open [] = true
-none_open (e ∷ es) = not (is_open_brace e.1) && none_open es
-
-never_open_by : (b : Bool) (c d : Class) → not (is_open_brace c) ≡ true → is_open_brace d ≡ false → is_open_brace (cond b c d) ≡ false
-never_open_by true c d h k = not_true (is_open_brace c) h
-never_open_by false c d h k = k
-
-never_open : (text : List ℕ) (es : List (List ℕ × Class)) → none_open es ≡ true → is_open_brace (look es text) ≡ false
-never_open text [] h = refl
-never_open text (e ∷ es) h = let p = and_parts (not (is_open_brace e.1)) (none_open es) h in never_open_by (bytes_eq text e.0) e.1 (look es text) p.0 (never_open text es p.1)
+open_mark_by false text e = inl (look_free is_open_brace (codes "{" ∷ []) marks text refl refl (not_either false (bytes_eq text (codes "{")) refl e))
 
 open_signs_by : (k : Kind) (v : Value) → (is_open_brace (class_of k v) ≡ false) ⊎ (sign_of k v ≡ BraceSign)
-unfolding sign_of
-open_signs_by kinds.Word (Characters text) = inl (never_open text words refl)
+unfolding sign_of is_one_of
+open_signs_by kinds.Word (Characters text) = inl (look_free is_open_brace [] words text refl refl refl)
 open_signs_by kinds.Punctuator (Characters text) = open_mark_by (bytes_eq text (codes "{")) text refl
 open_signs_by (kinds.Template part) v = inl refl
 open_signs_by (kinds.TemplateRest part) v = inl refl

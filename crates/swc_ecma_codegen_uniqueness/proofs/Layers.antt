@@ -7,6 +7,8 @@ use Rattle.swc_ecma_codegen_tree.specs.declared.links.AnyNode.TheOpen as nodes
 use Rattle.swc_ecma_codegen_tree.specs.declared.exprs.Expr.{Expr}
 use Rattle.swc_ecma_codegen_tree.specs.declared.exprs.Expr.TheVariants as exprs
 use Rattle.swc_ecma_codegen_tree.specs.declared.parts.ExprPart.TheVariants as expr_parts
+use Rattle.swc_ecma_codegen_tree.specs.declared.parts.StmtPart.{StmtPart}
+use Rattle.swc_ecma_codegen_tree.specs.declared.parts.StmtPart.TheVariants as stmt_parts
 use Rattle.swc_ecma_codegen_tree.specs.declared.pats.AssignTarget.{AssignTarget}
 use Rattle.swc_ecma_codegen_tree.specs.declared.pats.AssignTarget.TheVariants as targets
 use Rattle.swc_ecma_codegen_tree.specs.declared.pats.AssignTargetPat.TheVariants as target_pats
@@ -20,19 +22,20 @@ use Rattle.swc_ecma_codegen_grammar.specs.Settings.{Settings}
 use Rattle.swc_ecma_codegen_grammar.specs.Tokens.{Token, word}
 use Rattle.swc_ecma_codegen_grammar.specs.Tokens as tokens
 use Rattle.swc_ecma_codegen_grammar.specs.declared.roles.Role.{Role}
-use Rattle.swc_ecma_codegen_grammar.specs.declared.roles.Role.TheVariants.{Expression, Callee, Statement, Block, Pattern, AssignmentTarget}
+use Rattle.swc_ecma_codegen_grammar.specs.declared.roles.Role.TheVariants.{Expression, Callee, Statement, Block, Pattern, AssignmentTarget, Member as MemberOfClass, FieldValue}
 use Rattle.swc_ecma_codegen_syntax.specs.declared.nonterminals.Nonterminal.{Nonterminal}
 use Rattle.swc_ecma_codegen_syntax.specs.declared.nonterminals.Nonterminal.TheVariants as nt
 use Rattle.swc_ecma_codegen_syntax.specs.declared.parameters.Parameters.{Parameters}
 use Rattle.swc_ecma_codegen_syntax.specs.Nonterminals.{is_optional}
 use Rattle.swc_ecma_codegen_syntax.specs.Forms.{Form}
 use Rattle.swc_ecma_codegen_syntax.specs.CallForms.{new_nonterminal, has_arguments}
+use Rattle.swc_ecma_codegen_syntax.specs.ClassForms.{field_expr_form}
 use Rattle.swc_ecma_codegen_syntax.specs.PatForms.{pat_nonterminal}
 use Rattle.swc_ecma_codegen_syntax.specs.TargetForms.{target_nonterminal}
 use Rattle.swc_ecma_codegen_syntax.specs.ExprForms.{expr_form, expr_nonterminal, call_or_member}
-use Rattle.swc_ecma_codegen_syntax.specs.NodeForms.{node_form, node_nonterminal, part_form, part_nonterminal}
+use Rattle.swc_ecma_codegen_syntax.specs.NodeForms.{node_form, node_nonterminal, part_form, part_nonterminal, stmt_part_form}
 use Rattle.swc_ecma_codegen_syntax.specs.Derives.{Derives, fixed, part, simple, restricted, lone, lone_in_parentheses, both, provided, closed, comma_closed, followed, bare}
-use Rattle.swc_ecma_codegen_uniqueness.specs.ParseTrees.{Variant, ParseTree, End, Read, Optional, This, Bin, Member, New, TaggedTpl, PrivateName, is_known, AreKnown, expr_variant, simple_target_variant, target_pat_variant, target_variant, pat_variant, part_variant, node_variant}
+use Rattle.swc_ecma_codegen_uniqueness.specs.ParseTrees.{Variant, ParseTree, End, Read, Optional, This, Bin, Member, New, TaggedTpl, PrivateName, is_known, AreKnown, expr_variant, simple_target_variant, target_pat_variant, target_variant, pat_variant, part_variant, field_variant, element_variant, node_variant}
 use Rattle.swc_ecma_codegen_uniqueness.specs.Parses.{placed, is_inlined, is_inlined_pattern, read_all}
 use Rattle.swc_ecma_codegen_uniqueness.proofs.Classes.{Level, Power}
 use Rattle.swc_ecma_codegen_uniqueness.proofs.Tables.{made}
@@ -40,7 +43,7 @@ use Rattle.swc_ecma_codegen_uniqueness.proofs.TableLaws.{is_place, is_sequence, 
 use Rattle.swc_ecma_codegen_uniqueness.proofs.Machine.{Whole, Good}
 use Rattle.swc_ecma_codegen_uniqueness.proofs.Shapes.{is_chain, is_several, atom}
 use Rattle.swc_ecma_codegen_uniqueness.proofs.Reading.{read_phrase, derived_parse}
-use Rattle.swc_ecma_codegen_uniqueness.proofs.Fits.{Fit, NodeFit, BlockFit, InlinedGood, PlacedGood, AllGood, no_form}
+use Rattle.swc_ecma_codegen_uniqueness.proofs.Fits.{Fit, FitMember, NodeFit, BlockFit, InlinedGood, PlacedGood, AllGood, no_form}
 use Rattle.swc_ecma_codegen_uniqueness.proofs.Operators.{level, binary_made, unary_good, update_good, bin_good, cond_good, assign_good, yield_good, await_good, seq_good, paren_good}
 use Rattle.swc_ecma_codegen_uniqueness.proofs.Objects.{object_good}
 use Rattle.swc_ecma_codegen_uniqueness.proofs.Lists.{array_good, call_good, new_good}
@@ -49,6 +52,8 @@ use Rattle.swc_ecma_codegen_uniqueness.proofs.Atoms.{name_good, lit_good, meta_g
 use Rattle.swc_ecma_codegen_uniqueness.proofs.Patterns.{pat_good, target_good}
 use Rattle.swc_ecma_codegen_uniqueness.proofs.Arrows.{arrow_good}
 use Rattle.swc_ecma_codegen_uniqueness.proofs.Functions.{fn_expr_good}
+use Rattle.swc_ecma_codegen_uniqueness.proofs.ClassElements.{element_good}
+use Rattle.swc_ecma_codegen_uniqueness.proofs.ClassDefinitions.{class_expr_good}
 use Rattle.swc_ecma_codegen_uniqueness.proofs.Statements.{stmt_good, block_in}
 
 -- ---- an expression
@@ -89,7 +94,7 @@ expr_good keeps called c (exprs.PrivateName n) (fixed g) o m k = private_good _
 expr_good keeps called c (exprs.OptChain n) d o m k = chain_good c n d o m
 expr_good keeps called c (exprs.Arrow n) d o m k = arrow_good c n.value d o m
 expr_good keeps called c (exprs.Fn n) d o m k = fn_expr_good c n d o m
-expr_good keeps called c (exprs.Class n) d o m k = absurd (true≢false (sym k))
+expr_good keeps called c (exprs.Class n) d o m k = class_expr_good c n d o m
 expr_good keeps called c (exprs.JSXElement n) d o m k = absurd (true≢false (sym k))
 expr_good keeps called c (exprs.JSXFragment n) d o m k = absurd (true≢false (sym k))
 expr_good keeps called c n d o m k = absurd (no_form d)
@@ -124,7 +129,6 @@ expr_agrees keeps called c (exprs.Bin n) k = subst (Agree Bin) (sym (binary_made
 expr_agrees keeps called c (exprs.Member n) k = called_agrees Member refl refl called
 expr_agrees keeps called c (exprs.TaggedTpl n) k = called_agrees TaggedTpl refl refl called
 expr_agrees keeps called c (exprs.New n) k = new_agrees (has_arguments c keeps n.args)
-expr_agrees keeps called c (exprs.Class n) k = absurd (true≢false (sym k))
 expr_agrees keeps called c (exprs.JSXElement n) k = absurd (true≢false (sym k))
 expr_agrees keeps called c (exprs.JSXFragment n) k = absurd (true≢false (sym k))
 expr_agrees keeps called c n k = ((refl, refl, refl), refl)
@@ -154,16 +158,32 @@ fit {variant = variant} {p = p} k a g = subst (λ z. Fit variant z p) (sym a.1) 
 
 -- ---- a node in a role
 
+-- the value of a field
+field_good : {s : Settings} (k : Bool) (c : Parameters) (n : Expr AnyNode) {ts : List Token} (d : Derives true s (field_expr_form (expr_form false k c n) n) ts) → AllGood d → s.minify ≡ c.minify → is_known (field_variant n) ≡ true →
+    Fit (field_variant n) (cover (expr_nonterminal false k c n)) (derived_parse d End)
+unfolding field_expr_form field_variant is_known
+field_good k c (exprs.Seq n) d o m h = absurd (true≢false (sym h))
+field_good k c n d o m h = fit h (expr_agrees false k c n h) (expr_good false k c n d o m h)
+
+-- a member of a class
+element_in : {s : Settings} (c : Parameters) (n : StmtPart AnyNode) {ts : List Token} (d : Derives true s (stmt_part_form c n MemberOfClass) ts) → AllGood d → s.minify ≡ c.minify → is_known (element_variant n) ≡ true →
+    FitMember (element_variant n) (derived_parse d End)
+unfolding stmt_part_form element_variant is_known
+element_in c (stmt_parts.ClassMember n) d o m h = record { known = h; good = element_good c n.value d o m }
+element_in c n d o m h = absurd (true≢false (sym h))
+
 -- an expression, what is called, what is assigned to, a pattern
 node_good : {s : Settings} (k : Bool) (c : Parameters) (y : AnyNode-F AnyNode) (role : Role) {ts : List Token} (d : Derives true s (node_form k c y role) ts) → AllGood d → s.minify ≡ c.minify → is_inlined role y ≡ false →
     is_known (node_variant y role) ≡ true → NodeFit role c (node_variant y role) (node_nonterminal k c y role) (derived_parse d End)
 unfolding node_form node_nonterminal node_variant part_form part_nonterminal part_variant is_inlined is_inlined_pattern is_known
 node_good k c (nodes.Expr n) Expression d o m i h = fit h (expr_agrees false k c n h) (expr_good false k c n d o m h)
 node_good k c (nodes.Expr n) Callee d o m i h = fit h (expr_agrees true k c n h) (expr_good true k c n d o m h)
+node_good k c (nodes.Expr n) FieldValue d o m i h = field_good k c n d o m h
 node_good k c (nodes.ExprPart (expr_parts.AssignTarget n)) AssignmentTarget d o m i h =
     subst (λ z. Fit (target_variant n) z (derived_parse d End)) (sym (target_covered n)) (fit_at h (target_signs n) (target_good k c n d o m))
 node_good k c (nodes.ExprPart (expr_parts.Pat n)) Pattern d o m i h = fit_at h (pat_signs n) (pat_good k c n d o m i)
 node_good k c (nodes.Stmt n) Statement d o m i h = record { known = h; good = stmt_good c n d o m }
+node_good k c (nodes.StmtPart n) MemberOfClass d o m i h = element_in c n d o m h
 node_good k c y role d o m i h = absurd (true≢false (sym h))
 
 -- ---- a derivation

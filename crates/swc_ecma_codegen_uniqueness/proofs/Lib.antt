@@ -1,5 +1,7 @@
 pub mod Arrows
 pub mod Atoms
+pub mod ClassDefinitions
+pub mod ClassElements
 pub mod Classes
 pub mod Fits
 pub mod Heading

@@ -85,7 +85,7 @@ unfolding where_ Generates read_phrase
 where_read s true t ts g rest = refl
 where_read s false t ts g rest = absurd g
 
-part_rest : {mode : Mode} {place : Nonterminal} {z : Variant} {p r m : ParseTree} → Operand place z p → r ≡ m → Good mode (Node z p m) → Good mode (Node z p r)
+pub part_rest : {mode : Mode} {place : Nonterminal} {z : Variant} {p r m : ParseTree} → Operand place z p → r ≡ m → Good mode (Node z p m) → Good mode (Node z p r)
 part_rest {mode = mode} {z = z} {p = p} o e g = subst (λ w. Good mode (Node z p w)) (sym e) g
 
 rest_good : {s : Settings} (variant : Variant) (n : Nonterminal) (c : Parameters) (with_tag : Bool) (es : List (ExprBox AnyNode)) (qs : List TplElement) {ts : List Token} →

@@ -130,7 +130,7 @@ acted_once Push t f s h reduced = At (record { control = start t; so_far = λ re
 acted_once Wrap t f s h reduced = At (record { control = wrap_at h t; so_far = λ rest. held h (Read t rest); other = λ rest. turned_hand h t rest } ∷ f ∷ s) Empty
 acted_once Reduce t f s h reduced = reduced
 acted_once Turn t f s h reduced = At (record { control = shift f.control None t; so_far = λ rest. f.other (Read t rest); other = λ rest. f.other (Read t rest) } ∷ s) Empty
-acted_once Begin t f s h reduced = At (record { control = begin t; so_far = λ rest. Read t rest; other = λ rest. Read t rest } ∷ f ∷ s) Empty
+acted_once Begin t f s h reduced = At (record { control = begin f.control t; so_far = λ rest. Read t rest; other = λ rest. Read t rest } ∷ f ∷ s) Empty
 acted_once Enter t f s h reduced = At (record { control = start t; so_far = λ rest. Read t rest; other = λ rest. Read t rest } ∷ within (entered f.control) f ∷ s) Empty
 acted_once Leave t f s h reduced = At (record { control = wrap_at h t; so_far = λ rest. left_hand h t rest; other = λ rest. left_hand h t rest } ∷ within (outside f.control) f ∷ s) Empty
 acted_once Splice t f s h reduced =
@@ -184,7 +184,7 @@ goes_on a = false
 -- A token is taken: `b` of `a.b`. A part is read, and the token behind it is taken: `b` and `)` of `a(b)`. Nothing is left, and the node ends
 -- before each token that ends it. A part is left, and before each token that ends the node the part ends, and the node: `b` of `a + b`.
 -- The token behind these two tells that they were otherwise: `=>` of `(a, b) => c`; `]` of `[a,] = b`, behind a part or not. What is of one
--- nonterminal is of another that derives it. `{` begins a block. An expression and `;` are a statement, and `a:` begins one, whose first token begins the
+-- nonterminal is of another that derives it. `{` begins a block, and `static` a member of a class. An expression and `;` are a statement, and `a:` begins one, whose first token begins the
 -- expression; so does that of the value of an arrow function. A part has no node of its own: a parameter before `,`, an item before the next one or `}`. An item behind `case a:` has one.
 pub data Good : Mode → ParseTree → Type 0 where
   headed : {variant : Variant} {n : Nonterminal} {t : Token} {m : ParseTree} → ((c : Control) → stands c n ≡ true → decide c None t ≡ Push) →
@@ -208,8 +208,8 @@ pub data Good : Mode → ParseTree → Type 0 where
       Good (Rest (shift (shift at (Some part) t) None u) variant n) m → p ≡ turned part inside t (Read u m) → Good (Rest at variant n) p
   shifted_turned : {at : Control} {variant : Variant} {n : Nonterminal} {t u : Token} {m : ParseTree} → decide at None t ≡ Shift → decide (shift at None t) None u ≡ Turn →
       Good (Rest (shift (shift at None t) None u) variant n) m → Good (Rest at variant n) (Optional t (Read u m))
-  headed_block : {variant : Variant} {n : Nonterminal} {t : Token} {m : ParseTree} → ((c : Control) → stands c n ≡ true → decide c None t ≡ Begin) →
-      Good (Rest (begin t) variant n) m → Good (Whole variant n) (Read t m)
+  headed_block : {at : Control} {variant : Variant} {n : Nonterminal} {t : Token} {m : ParseTree} → ((c : Control) → stands c n ≡ true → (decide c None t ≡ Begin) × (begin c t ≡ at)) →
+      Good (Rest at variant n) m → Good (Whole variant n) (Read t m)
   stated : {variant left : Variant} {n k : Nonterminal} {inside m p : ParseTree} (t : Token) → Good (Whole left k) inside → closes t k ≡ true →
       ((c : Control) → stands c n ≡ true → (stands (entered c) k ≡ true) × (decide (entered c) (Some left) t ≡ Leave) × (outside (entered c) ≡ c)) →
       Heads (λ u. (c : Control) → stands c n ≡ true → Enters c u) inside → Good (Rest (wrap left t) variant n) m → p ≡ left_with left inside t m → Good (Whole variant n) p
@@ -321,7 +321,9 @@ reads (shifted_turned {at = at} {t = u} {u = v} {m = m} e k g) = λ b o f s t ts
     ∙ ap (run (tokens_of m (t ∷ ts))) (went Turn v next (f ∷ s) Empty k)
     ∙ reads g (λ rest. b (Optional u (Read v rest))) (λ rest. b (Optional u (Read v rest))) f s t ts cl
 reads (headed_block {t = u} {m = m} push g) = λ f s t ts st cl.
-    ap (run (tokens_of m (t ∷ ts))) (went Begin u f s Empty (push f.control st)) ∙ reads g (λ rest. Read u rest) (λ rest. Read u rest) f s t ts cl
+    ap (run (tokens_of m (t ∷ ts)))
+    (went Begin u f s Empty (push f.control st).0 ∙ ap (λ z. At (record { control = z; so_far = λ rest. Read u rest; other = λ rest. Read u rest } ∷ f ∷ s) Empty) (push f.control st).1)
+    ∙ reads g (λ rest. Read u rest) (λ rest. Read u rest) f s t ts cl
 reads (stated {variant = variant} {left = left} {inside = p} {m = m} {p = q} u i c w h g same) = λ f s t ts st cl.
     let top : Frame = within (entered f.control) f in
     let head = h (u ∷ tokens_of m (t ∷ ts)) in

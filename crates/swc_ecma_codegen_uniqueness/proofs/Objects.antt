@@ -30,7 +30,7 @@ use Rattle.swc_ecma_codegen_uniqueness.specs.ParseTrees.{ParseTree, End, Read, O
 use Rattle.swc_ecma_codegen_uniqueness.specs.Parses.{placed, is_inlined}
 use Rattle.swc_ecma_codegen_uniqueness.proofs.Tables.{InMethod, AtKey, AfterKey, AtSetter, AfterSetter, SetterParameter, AfterParameters}
 use Rattle.swc_ecma_codegen_uniqueness.proofs.Machine.{Whole, Rest, Good, shifted}
-use Rattle.swc_ecma_codegen_uniqueness.proofs.Shapes.{InObject, InProperties, OnProperty, property_place, a_member, a_setter, takes_self, assignment_taken, part_then, Operand, properties_closed, property_next, no_properties, object, value_then, spread_property}
+use Rattle.swc_ecma_codegen_uniqueness.proofs.Shapes.{InObject, InProperties, OnProperty, object_key, property_place, a_member, a_setter, takes_self, assignment_taken, part_then, Operand, properties_closed, property_next, no_properties, object, value_then, spread_property}
 use Rattle.swc_ecma_codegen_uniqueness.proofs.Reading.{read_phrase, derived_parse}
 use Rattle.swc_ecma_codegen_uniqueness.proofs.Fits.{BlockFit, at_place, PlacedGood, AllGood, no_form}
 use Rattle.swc_ecma_codegen_uniqueness.proofs.Atoms.{name_read, no_annotation}
@@ -99,7 +99,7 @@ no_own c (Some n) (provided h d) rest = absurd (true≢false (sym h))
 getter_good : {s : Settings} (b : Bool) (c : Parameters) (n : GetterProp AnyNode) {ts : List Token} (d : Derives true s (getter_form c n) ts) → AllGood d → s.minify ≡ c.minify → (rest : ParseTree) → OnProperty rest → InProperties b (derived_parse d rest)
 unfolding getter_form AllGood derived_parse read_phrase punctuator
 getter_good b c n (both (fixed g) (both k (both (fixed h) (both (fixed i) (both a e))))) (x, (o, (y, (z, (w, q))))) m rest on =
-    getter_then b (own_key_good a_member c n.key k o m _
+    getter_then b (own_key_good (object_key a_member) nt.AnyPropertyName c n.key k o m _
     (shifted refl (no_parameters_then in_object (subst (λ w. Good (Rest (AfterParameters InMethod) Object nt.PrimaryExpression) w) (sym (no_annotation c n.type_ann a (derived_parse e rest))) (body_good c n.body e q m rest on.0)))))
 
 setter_parameter : {s : Variant} {p m : ParseTree} → Operand nt.AssignmentExpression s p → Good (Rest (AfterParameters InMethod) Object nt.PrimaryExpression) m → InObject AfterSetter (Read (punctuator (codes "(")) (Node s p (Read (punctuator (codes ")")) m)))
@@ -110,7 +110,7 @@ setter_good : {s : Settings} (b : Bool) (c : Parameters) (n : SetterProp AnyNode
 unfolding setter_form AllGood derived_parse read_phrase
 setter_good b c n (both (fixed g) (both k (both (fixed h) (both w (both p (both (fixed i) e)))))) (x, (o, (y, (z, (q, (u, r)))))) m rest on =
     let v = covered_at nt.PatternElement no_rest _ n.param.node.value p q m in
-    setter_then b (own_key_good a_setter c n.key k o m _
+    setter_then b (own_key_good (object_key a_setter) nt.AnyPropertyName c n.key k o m _
     (subst (λ t. InObject AfterSetter (Read (punctuator (codes "(")) t)) (sym (no_own c n.this_param w _ ∙ v.is (Read (punctuator (codes ")")) (derived_parse e rest))))
     (setter_parameter v.operand (body_good c n.body e r m rest on.0))))
 
@@ -119,12 +119,12 @@ unfolding method_prop_form AllGood PlacedGood derived_parse placed is_inlined pu
 method_good b c n (both (part a sa h) (both k e)) (x, (o, q)) m rest on =
     let t = tail_good c n.function.node.value e q m in
     let r : InObject AfterKey (derived_parse e rest) = subst (λ z. InObject AfterKey z) (sym (t.is rest)) (shifted refl (t.good in_object refl rest on.0)) in
-    head_in b a c (out-AnyNode n.function.node.value) h (key_good (property_place b) c n.key k o m (derived_parse e rest) r) (key_good a_member c n.key k o m (derived_parse e rest) r)
+    head_in b a c (out-AnyNode n.function.node.value) h (key_good (object_key (property_place b)) c n.key k o m (derived_parse e rest) r) (key_good (object_key a_member) c n.key k o m (derived_parse e rest) r)
 
 property_good : {s : Settings} (b : Bool) (c : Parameters) (n : Prop AnyNode) {ts : List Token} (d : Derives true s (property_form c n) ts) → AllGood d → s.minify ≡ c.minify → (rest : ParseTree) → OnProperty rest → InProperties b (derived_parse d rest)
 unfolding property_form key_value_form assign_prop_form is_met AllGood PlacedGood derived_parse read_phrase placed is_inlined
 property_good b c (props.Shorthand n) d o m rest on = subst (λ z. InProperties b z) (sym (name_read c n d rest)) (named_then b _ on.0)
-property_good b c (props.KeyValue n) (both d (both (fixed g) (part a sa e))) (o, (x, q)) m rest on = key_good (property_place b) c n.key d o m _ (value_then (at_place _ _ sa (q m)) on)
+property_good b c (props.KeyValue n) (both d (both (fixed g) (part a sa e))) (o, (x, q)) m rest on = key_good (object_key (property_place b)) c n.key d o m _ (value_then (at_place _ _ sa (q m)) on)
 property_good b c (props.Assign n) (provided h d) o m rest on = absurd (true≢false (sym h))
 property_good b c (props.Getter n) d o m rest on = getter_good b c n d o m rest on
 property_good b c (props.Setter n) d o m rest on = setter_good b c n d o m rest on

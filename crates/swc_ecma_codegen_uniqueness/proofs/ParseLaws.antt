@@ -1,5 +1,5 @@
 -- What a derivation makes of a list is what its tree says, with what syntax leaves open.
-use Rattle.std.proofs.Common.{◌≡◌, Bool, true, false, not, List, [], ◌∷◌, ◌++◌, Option, Some, None, inl, inr, refl, sym, ap, ap₂, ◌∙◌}
+use Rattle.std.proofs.Common.{◌≡◌, Bool, true, false, not, List, [], ◌∷◌, ◌++◌, Option, Some, None, Box, Global, inl, inr, refl, sym, ap, ap₂, ◌∙◌}
 use Rattle.std.specs.Prelude.{codes}
 use Rattle.swc_ecma_codegen_tree.specs.Links.{PatBox}
 use Rattle.swc_ecma_codegen_tree.specs.declared.links.AnyNode.{AnyNode, AnyNode-F, map-AnyNode, roll-AnyNode, out-AnyNode, fold-AnyNode}
@@ -7,6 +7,8 @@ use Rattle.swc_ecma_codegen_tree.specs.declared.links.AnyNode.TheOpen as nodes
 use Rattle.swc_ecma_codegen_tree.specs.declared.links.AnyNode.TheVariants as whole
 use Rattle.swc_ecma_codegen_tree.specs.declared.links.AnyNode.TheViews.{roll-out-AnyNode}
 use Rattle.swc_ecma_codegen_tree.specs.declared.links.AnyNode.TheFolds.{fold-roll-AnyNode}
+use Rattle.swc_ecma_codegen_tree.specs.declared.classes.ClassMember as class_members
+use Rattle.swc_ecma_codegen_tree.specs.declared.classes.ClassMember.TheVariants as members
 use Rattle.swc_ecma_codegen_tree.specs.declared.exprs.Expr.{Expr}
 use Rattle.swc_ecma_codegen_tree.specs.declared.exprs.Expr.TheVariants as exprs
 use Rattle.swc_ecma_codegen_tree.specs.declared.parts.ExprPart.{ExprPart}
@@ -22,6 +24,7 @@ use Rattle.swc_ecma_codegen_tree.specs.declared.pats.AssignTarget.TheVariants as
 use Rattle.swc_ecma_codegen_tree.specs.declared.pats.AssignTargetPat.TheVariants as target_pats
 use Rattle.swc_ecma_codegen_tree.specs.declared.pats.SimpleAssignTarget.TheVariants as simple_targets
 use Rattle.swc_ecma_codegen_tree.specs.declared.decls.Decl.TheVariants as decls
+use Rattle.swc_ecma_codegen_tree.specs.declared.parts.StmtPart.{StmtPart}
 use Rattle.swc_ecma_codegen_tree.specs.declared.parts.StmtPart.TheVariants as stmt_parts
 use Rattle.swc_ecma_codegen_tree.specs.declared.stmts.Stmt.TheVariants as stmts
 use Rattle.swc_ecma_codegen_tree.specs.declared.stmts.Stmt.{Stmt}
@@ -30,7 +33,7 @@ use Rattle.swc_ecma_codegen_grammar.specs.Phrases.{Phrase, Never, Nothing, One, 
 use Rattle.swc_ecma_codegen_grammar.specs.Settings.{Settings}
 use Rattle.swc_ecma_codegen_grammar.specs.Tokens.{Token}
 use Rattle.swc_ecma_codegen_grammar.specs.declared.roles.Role.{Role}
-use Rattle.swc_ecma_codegen_grammar.specs.declared.roles.Role.TheVariants.{Expression, Callee, FieldValue, FunctionHead, Statement, Pattern, AssignmentTarget}
+use Rattle.swc_ecma_codegen_grammar.specs.declared.roles.Role.TheVariants.{Expression, Callee, FieldValue, FunctionHead, Statement, Pattern, AssignmentTarget, Member as MemberOfClass}
 use Rattle.swc_ecma_codegen_syntax.specs.declared.nonterminals.Nonterminal.TheVariants as nt
 use Rattle.swc_ecma_codegen_syntax.specs.declared.parameters.Parameters.{Parameters}
 use Rattle.swc_ecma_codegen_syntax.specs.Parameters.{before, of_targets}
@@ -44,7 +47,7 @@ use Rattle.swc_ecma_codegen_syntax.specs.TargetForms.{target_pat_form, target_fo
 use Rattle.swc_ecma_codegen_syntax.specs.NodeForms.{node_form, part_form}
 use Rattle.swc_ecma_codegen_syntax.specs.Derives.{Derives, fixed, part, simple, restricted, lone, lone_in_parentheses, both, provided, closed, comma_closed, followed, bare}
 use Rattle.swc_ecma_codegen_syntax.proofs.TreeFacts.{node_mapped}
-use Rattle.swc_ecma_codegen_uniqueness.specs.ParseTrees.{Variant, ParseTree, End, Read, Optional, Node, settled, expr_variant, simple_target_variant, target_pat_variant, target_variant, pat_variant, decl_variant, stmt_variant, part_variant, node_variant}
+use Rattle.swc_ecma_codegen_uniqueness.specs.ParseTrees.{Variant, ParseTree, End, Read, Optional, Node, settled, expr_variant, simple_target_variant, target_pat_variant, target_variant, pat_variant, decl_variant, stmt_variant, part_variant, field_variant, member_variant, element_variant, node_variant}
 use Rattle.swc_ecma_codegen_uniqueness.specs.Parses.{phrase_tokens, read_all, is_inlined_pat, is_inlined_pattern, is_plain_head, is_inlined, placed, is_empty_variant, is_empty_parse, form_parse, node_parse, parse, expr_before}
 use Rattle.swc_ecma_codegen_uniqueness.proofs.Reading.{read_phrase, derived_parse}
 
@@ -87,11 +90,28 @@ stmt_variant_mapped g (stmts.Decl n) = refl
 stmt_variant_mapped g (stmts.Empty n) = refl
 stmt_variant_mapped g n = refl
 
+field_variant_mapped : {X Y : Type 0} (g : X → Y) (n : Expr X) → node_variant (map-AnyNode X Y g (nodes.Expr n)) FieldValue ≡ field_variant n
+unfolding node_variant field_variant expr_variant
+field_variant_mapped g (exprs.Seq n) = refl
+field_variant_mapped g n = refl
+
+member_variant_by : {X Y : Type 0} (g : X → Y) (b : Box (class_members.ClassMember X) Global) (n : class_members.ClassMember X) → node_variant (map-AnyNode X Y g (nodes.StmtPart (stmt_parts.ClassMember (record b { value = n })))) MemberOfClass ≡ member_variant n
+unfolding node_variant element_variant member_variant
+member_variant_by g b (members.Empty n) = refl
+member_variant_by g b n = refl
+
+element_variant_mapped : {X Y : Type 0} (g : X → Y) (n : StmtPart X) → node_variant (map-AnyNode X Y g (nodes.StmtPart n)) MemberOfClass ≡ element_variant n
+unfolding node_variant element_variant
+element_variant_mapped g (stmt_parts.ClassMember n) = member_variant_by g n n.value
+element_variant_mapped g n = refl
+
 variant_mapped : {X Y : Type 0} (g : X → Y) (y : AnyNode-F X) (role : Role) → node_variant (map-AnyNode X Y g y) role ≡ node_variant y role
 unfolding node_variant part_variant
 variant_mapped g (nodes.Expr n) Expression = expr_variant_mapped g n
 variant_mapped g (nodes.Expr n) Callee = expr_variant_mapped g n
+variant_mapped g (nodes.Expr n) FieldValue = field_variant_mapped g n
 variant_mapped g (nodes.Stmt n) Statement = stmt_variant_mapped g n
+variant_mapped g (nodes.StmtPart n) MemberOfClass = element_variant_mapped g n
 variant_mapped g (nodes.ExprPart (expr_parts.AssignTarget n)) AssignmentTarget = target_variant_mapped g n
 variant_mapped g (nodes.ExprPart (expr_parts.Pat n)) Pattern = pat_variant_mapped g n
 variant_mapped g y role = refl

@@ -37,7 +37,7 @@ use Rattle.swc_ecma_codegen_uniqueness.specs.Parses.{placed, is_inlined, is_inli
 use Rattle.swc_ecma_codegen_uniqueness.proofs.Tables.{AfterKey}
 use Rattle.swc_ecma_codegen_uniqueness.proofs.TableLaws.{cover, cover_taken}
 use Rattle.swc_ecma_codegen_uniqueness.proofs.Machine.{Whole, Good}
-use Rattle.swc_ecma_codegen_uniqueness.proofs.Shapes.{Operand, widened, raised_to, left_taken, left_shared, left_assigned, assigned, InElements, BehindElement, BehindHole, element_then, spread_element, elements_comma_closed, no_elements, array, InObject, InProperties, property_place, OnProperty, properties_closed, properties_comma_closed, property_next, no_properties, object, value_then, initializer_then, spread_property}
+use Rattle.swc_ecma_codegen_uniqueness.proofs.Shapes.{Operand, object_key, widened, raised_to, left_taken, left_shared, left_assigned, assigned, InElements, BehindElement, BehindHole, element_then, spread_element, elements_comma_closed, no_elements, array, InObject, InProperties, property_place, OnProperty, properties_closed, properties_comma_closed, property_next, no_properties, object, value_then, initializer_then, spread_property}
 use Rattle.swc_ecma_codegen_uniqueness.proofs.Reading.{read_phrase, derived_parse}
 use Rattle.swc_ecma_codegen_uniqueness.proofs.Fits.{Fit, in_place, taken_at, at_place, PlacedGood, AllGood}
 use Rattle.swc_ecma_codegen_uniqueness.proofs.Atoms.{no_annotation, binding_read, binding_good, simple_target_good}
@@ -189,7 +189,7 @@ prop_good : {s : Settings} (last b : Bool) (c : Parameters) (n : ObjectPatProp A
 unfolding pat_prop_form key_value_pat_form assign_pat_prop_form AllGood derived_parse read_phrase
 prop_good last b c (pat_props.KeyValue n) (both d (both (fixed g) e)) (o, (x, q)) m rest on =
     let v = covered_at nt.PatternElement no_rest c n.value.node.value e q m in
-    key_good (property_place b) c n.key d o m _ (subst (λ z. InObject AfterKey (Read (punctuator (codes ":")) z)) (sym (v.is rest)) (value_then v.operand on))
+    key_good (object_key (property_place b)) c n.key d o m _ (subst (λ z. InObject AfterKey (Read (punctuator (codes ":")) z)) (sym (v.is rest)) (value_then v.operand on))
 prop_good last b c (pat_props.Assign n) (both d e) (o, q) m rest on =
     subst (λ z. InProperties b z) (sym (binding_read c n.key d (derived_parse e rest))) (named_then b _ (initializer_good c n.value e q m rest on))
 prop_good last b c (pat_props.Rest n) (provided h d) o m rest on =

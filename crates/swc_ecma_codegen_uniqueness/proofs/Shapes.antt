@@ -10,7 +10,7 @@ use Rattle.swc_ecma_codegen_syntax.specs.UnitProductions.{here, step, expression
 use Rattle.swc_ecma_codegen_syntax.proofs.Taken.{chain_takes}
 use Rattle.swc_ecma_codegen_uniqueness.specs.ParseTrees.{Variant, ParseTree, End, Read, Optional, Node, Array, Object, Update, Bin, Assign, Member, SuperProp, Cond, Call, New, Seq, Tpl, TaggedTpl, Arrow, Yield, MetaProp, Paren, OptChain}
 use Rattle.swc_ecma_codegen_uniqueness.proofs.Classes.{OpenParen, Level, Class, Infix, Assigns, Ask, Comma, Dot, ChainDot, OpenBracket, Line, Twice, First, Later, class, NameToken, LiteralToken}
-use Rattle.swc_ecma_codegen_uniqueness.proofs.Tables.{starts, is_item, ArrowBody, left, left_of, right_of, made, Tail, OfInfix, OfCond, OfAssign, OfYield, whole, last as last_of, tail_variant, Control, Closed, Open, InParen, Index, Arguments, Elements, NextElement, Properties, NextProperty, AfterKey, InKey, InValue, Middle, Substitution, Dotted, Chained, AfterNew, AfterImport, AfterSuper, AfterYield, Postfix, Listed, AfterAsync, waits, decide, Shift, Turn, shift, shifted_to, passed_to, start, started, template, wrapped_to, chained, without, with_operand, AtKey, AtSetter, AfterSetter, InSetterKey}
+use Rattle.swc_ecma_codegen_uniqueness.proofs.Tables.{starts, is_item, is_listed, ArrowBody, left, left_of, right_of, made, Tail, OfInfix, OfCond, OfAssign, OfYield, whole, last as last_of, tail_variant, Control, Closed, Open, InParen, Index, Arguments, Elements, NextElement, Properties, NextProperty, AfterKey, InKey, InValue, Middle, Substitution, Dotted, Chained, AfterNew, AfterImport, AfterSuper, AfterYield, Postfix, Listed, AfterAsync, waits, decide, Shift, Turn, shift, shifted_to, passed_to, start, started, template, wrapped_to, chained, without, with_operand, AtKey, AtSetter, AfterSetter, InSetterKey}
 use Rattle.swc_ecma_codegen_uniqueness.proofs.TableLaws.{ended_by, ending, takes_on, is_sequence, assignment_single, taken_there, arrow_wraps, is_place, pushes, or_left, is_infix, made_by, Wraps, infix_wraps, Linked, linked_closes, links, link_wraps, Calling, calling_linked, call_wraps, tail_ends, new_ends, yield_ends, yield_alone, listed_ends, member_plain, call_plain, callee_plain}
 use Rattle.swc_ecma_codegen_uniqueness.proofs.Machine.{Whole, Rest, Good, headed, wrapped, shifted, inner, closed, last, wrapped_turned, inner_turned, shifted_turned, raised, turned, opened}
 
@@ -65,9 +65,13 @@ ended variant n = closed refl (λ t h. refl)
 pub tail_rest : (t : Tail) {s : Variant} {p : ParseTree} → Operand (last_of t) s p → Good (Rest (Open t) (tail_variant t) (whole t)) (Node s p End)
 tail_rest t {s = s} o = last refl (or_left _ _ o.taken) o.good (tail_ends t o.of s o.taken)
 
-pub raised_to : (n k : Nonterminal) {variant : Variant} {p : ParseTree} → takes n k ≡ true → is_private n ≡ false → is_item n ≡ false → Good (Whole variant k) p → Good (Whole variant n) p
+no_item : (n : Nonterminal) → is_listed n ≡ false → is_item n ≡ false
+no_item nt.ClassElement h = refl
+no_item n h = h
+
+pub raised_to : (n k : Nonterminal) {variant : Variant} {p : ParseTree} → takes n k ≡ true → is_private n ≡ false → is_listed n ≡ false → Good (Whole variant k) p → Good (Whole variant n) p
 raised_to n k h q i g =
-    raised (λ c s. or_left _ _ (takes_on (waits c) n k (taken_there (waits c) n _ _ q i s) h)) (λ t e. ended_by (class t) k (takes_on (left (class t)) n k (ending (class t) n i e) h)) g
+    raised (λ c s. or_left _ _ (takes_on (waits c) n k (taken_there (waits c) n _ _ q (no_item n i) s) h)) (λ t e. ended_by (class t) k (takes_on (left (class t)) n k (ending (class t) n i e) h)) g
 
 -- ---- nodes that begin with a token
 
@@ -338,30 +342,39 @@ property_place true = next_property
 property_place false = a_property
 
 -- a key that is one token
-abbrev pub IsKey : Token → Type 0
-IsKey t = (at after : Control) → KeyPlace at after → (decide at None t ≡ Shift) × (shift at None t ≡ after)
+abbrev pub is_key : Class → Bool
+is_key NameToken = true
+is_key LiteralToken = true
+is_key l = false
 
-pub named_key : (t : Token) → class t ≡ NameToken → IsKey t
-named_key t e at after a_property = (ap (without Properties) e, ap (shifted_to Properties) e)
-named_key t e at after next_property = (ap (without NextProperty) e, ap (shifted_to NextProperty) e)
-named_key t e at after a_member = (ap (without AtKey) e, ap (shifted_to AtKey) e)
-named_key t e at after a_setter = (ap (without AtSetter) e, ap (shifted_to AtSetter) e)
+-- what a key begins, and what stands behind it
+pub record Keyed (Before Behind : ParseTree → Type 0) : Type 0 where
+  pub token : (t : Token) (m : ParseTree) → is_key (class t) ≡ true → Behind m → Before (Read t m)
+  pub computed : (s : Variant) (p m : ParseTree) → Operand nt.AssignmentExpression s p → Behind m → Before (Read open_bracket (Node s p (Read close_bracket m)))
 
-pub literal_key : (t : Token) → class t ≡ LiteralToken → IsKey t
-literal_key t e at after a_property = (ap (without Properties) e, ap (shifted_to Properties) e)
-literal_key t e at after next_property = (ap (without NextProperty) e, ap (shifted_to NextProperty) e)
-literal_key t e at after a_member = (ap (without AtKey) e, ap (shifted_to AtKey) e)
-literal_key t e at after a_setter = (ap (without AtSetter) e, ap (shifted_to AtSetter) e)
+key_shifts : {at after : Control} → KeyPlace at after → (l : Class) → is_key l ≡ true → (without at l ≡ Shift) × (shifted_to at l ≡ after)
+key_shifts a_property NameToken h = (refl, refl)
+key_shifts a_property LiteralToken h = (refl, refl)
+key_shifts next_property NameToken h = (refl, refl)
+key_shifts next_property LiteralToken h = (refl, refl)
+key_shifts a_member NameToken h = (refl, refl)
+key_shifts a_member LiteralToken h = (refl, refl)
+key_shifts a_setter NameToken h = (refl, refl)
+key_shifts a_setter LiteralToken h = (refl, refl)
+key_shifts k l h = absurd (true≢false (sym h))
 
-pub key_then : {at after : Control} (k : KeyPlace at after) (t : Token) {m : ParseTree} → IsKey t → InObject after m → InObject at (Read t m)
-key_then {at = at} {after = after} k t {m = m} i g = let e = i at after k in shifted e.0 (subst (λ z. InObject z m) (sym e.1) g)
+key_then : {at after : Control} (k : KeyPlace at after) (t : Token) {m : ParseTree} → is_key (class t) ≡ true → InObject after m → InObject at (Read t m)
+key_then k t {m = m} i g = let e = key_shifts k (class t) i in shifted e.0 (subst (λ z. InObject z m) (sym e.1) g)
 
-pub computed_then : {at after : Control} (k : KeyPlace at after) {s : Variant} {p m : ParseTree} → Operand nt.AssignmentExpression s p → InObject after m → InObject at (Read open_bracket (Node s p (Read close_bracket m)))
+computed_then : {at after : Control} (k : KeyPlace at after) {s : Variant} {p m : ParseTree} → Operand nt.AssignmentExpression s p → InObject after m → InObject at (Read open_bracket (Node s p (Read close_bracket m)))
 unfolding punctuator
 computed_then a_property {m = m} o g = shifted refl (part_then InKey (Read close_bracket m) (takes_self nt.AssignmentExpression) o (assignment_taken, λ z. refl, g))
 computed_then next_property {m = m} o g = shifted refl (part_then InKey (Read close_bracket m) (takes_self nt.AssignmentExpression) o (assignment_taken, λ z. refl, g))
 computed_then a_member {m = m} o g = shifted refl (part_then InKey (Read close_bracket m) (takes_self nt.AssignmentExpression) o (assignment_taken, λ z. refl, g))
 computed_then a_setter {m = m} o g = shifted refl (part_then InSetterKey (Read close_bracket m) (takes_self nt.AssignmentExpression) o (assignment_taken, λ z. refl, g))
+
+pub object_key : {at after : Control} → KeyPlace at after → Keyed (InObject at) (InObject after)
+object_key k = record { token = λ t m i g. key_then k t i g; computed = λ s p m o g. computed_then k o g }
 
 pub value_then : {s : Variant} {p rest : ParseTree} → Operand nt.AssignmentExpression s p → OnProperty rest → InObject AfterKey (Read (punctuator (codes ":")) (Node s p rest))
 unfolding punctuator

@@ -9,9 +9,9 @@ use Rattle.swc_ecma_codegen_syntax.specs.Nonterminals.{takes, is_private, is_unc
 use Rattle.swc_ecma_codegen_syntax.specs.UnitProductions.{step, pattern_element_is_pattern_target}
 use Rattle.swc_ecma_codegen_syntax.proofs.Chains.{takes_chain}
 use Rattle.swc_ecma_codegen_syntax.proofs.Taken.{chain_takes}
-use Rattle.swc_ecma_codegen_uniqueness.specs.ParseTrees.{Variant, ParseTree, End, Read, Node, Fn, Arrow, BlockStmt, EmptyStmt, ExprStmt, IfStmt, LabeledStmt, VarDecl, tokens_of, DoWhileStmt, TryStmt, SwitchStmt}
+use Rattle.swc_ecma_codegen_uniqueness.specs.ParseTrees.{Variant, ParseTree, End, Read, Node, Fn, Arrow, BlockStmt, EmptyStmt, ExprStmt, IfStmt, LabeledStmt, VarDecl, tokens_of, DoWhileStmt, TryStmt, SwitchStmt, Class as AClass}
 use Rattle.swc_ecma_codegen_uniqueness.proofs.Classes.{Class, Infix, Plus, OpenBrace, ElseWord, Semi, Colon, class, CatchWord, FinallyWord}
-use Rattle.swc_ecma_codegen_uniqueness.proofs.Tables.{Reduce, outside, starts, is_item, is_behind, left, Where, InList, OfIf, OfElse, OfLabel, OfLoop, Control, Closed, ArrowBody, OfArrow, Statement, Entered, AfterFunction, Parameter, RestParameter, AfterParameters, AfterWord, Valued, Jump, Headed, Test, Declarators, stands, entered, Action, Shift, Begin, Enter, Leave, Splice, Take, Wrap, without, with_operand, decide, shift, passed_to, start, InTry, InCatch, InClause, OfDo, closing, shifted_to, closed_by, AfterDo, AfterTry, BehindTry, AfterCatch, CatchParameter, BehindParameter, BehindCatch, AfterFinally, Case, InMethod}
+use Rattle.swc_ecma_codegen_uniqueness.proofs.Tables.{Reduce, outside, starts, is_item, is_behind, left, Where, InList, OfIf, OfElse, OfLabel, OfLoop, Control, Closed, ArrowBody, OfArrow, Statement, Entered, AfterFunction, AfterClass, Parameter, RestParameter, AfterParameters, AfterWord, Valued, Jump, Headed, Test, Declarators, stands, entered, Action, Shift, Begin, Enter, Leave, Splice, Take, Wrap, without, with_operand, decide, shift, passed_to, start, begin, InTry, InCatch, InClause, OfDo, closing, shifted_to, closed_by, AfterDo, AfterTry, BehindTry, AfterCatch, CatchParameter, BehindParameter, BehindCatch, AfterFinally, Case, InMethod}
 use Rattle.swc_ecma_codegen_uniqueness.proofs.TableLaws.{takes_on, ended_by, or_left, is_keyword, keyword_pushes, is_barred, item_there, place_of, ItemPlace, item_place, enters, begins_operand, is_list, list_takes, no_item_wraps}
 use Rattle.swc_ecma_codegen_uniqueness.proofs.Machine.{Whole, Rest, Good, Heads, Enters, goes_on, headed, headed_block, wrapped, wrapped_turned, stated, entering, shifted, inner, last, splicing, taking, raised, joined, turned_tokens, left_tokens, keeping, closed}
 use Rattle.swc_ecma_codegen_uniqueness.proofs.Shapes.{Operand, takes_self, assignment_taken, left_taken, left_assigned, part_then, ended, tail_rest}
@@ -40,7 +40,7 @@ operand_heads (wrapped {t = t} {m = m} i c w g) st = λ us. operand_heads i (w (
 operand_heads (wrapped_turned {left = left} {inside = inside} {m = m} {p = p} t u i c w e g same) st = λ us.
     let h = operand_heads i (w (Entered OfElse) st).0 (t ∷ u ∷ tokens_of m us) in
     (h.0, h.1, turned_tokens left inside t u m p us same ∙ h.2, h.3)
-operand_heads (headed_block {t = t} push g) st = absurd (no_begin (class t) (push (Entered OfElse) st))
+operand_heads (headed_block {t = t} push g) st = absurd (no_begin (class t) (push (Entered OfElse) st).0)
 operand_heads (stated {left = left} {inside = inside} {m = m} {p = p} t i c w h g same) st = λ us.
     let k = operand_heads i (w (Entered OfElse) st).0 (t ∷ tokens_of m us) in
     (k.0, k.1, left_tokens left inside t m p us same ∙ k.2, k.3)
@@ -50,16 +50,20 @@ operand_heads (raised st c g) s = operand_heads g (st (Entered OfElse) s)
 abbrev pub GoesOn : Where → Token → Type 0
 GoesOn place u = goes_on (without (Statement place) (class u)) ≡ true
 
-pub item_heads : (place : Where) {variant : Variant} {n : Nonterminal} {p : ParseTree} → Good (Whole variant n) p → stands (Statement place) n ≡ true → Heads (GoesOn place) p
+-- with which token what stands in a list begins, where no operand does
+pub listed_heads : (at : Control) → ((l : Class) → with_operand at l ≡ Wrap → ⊥) → {variant : Variant} {n : Nonterminal} {p : ParseTree} → Good (Whole variant n) p → stands at n ≡ true → Heads (λ u. goes_on (without at (class u)) ≡ true) p
 unfolding tokens_of
-item_heads place (headed {t = t} {m = m} push g) st = λ us. (t, tokens_of m us, refl, ap goes_on (push (Statement place) st))
-item_heads place (wrapped {t = t} i c w g) st = absurd (no_item_wraps place (class t) (w (Statement place) st).1)
-item_heads place (wrapped_turned t u i c w e g same) st = absurd (no_item_wraps place (class t) (w (Statement place) st).1)
-item_heads place (headed_block {t = t} {m = m} push g) st = λ us. (t, tokens_of m us, refl, ap goes_on (push (Statement place) st))
-item_heads place (stated {left = left} {inside = inside} {m = m} {p = p} t i c w h g same) st = λ us.
+listed_heads at never (headed {t = t} {m = m} push g) st = λ us. (t, tokens_of m us, refl, ap goes_on (push at st))
+listed_heads at never (wrapped {t = t} i c w g) st = absurd (never (class t) (w at st).1)
+listed_heads at never (wrapped_turned t u i c w e g same) st = absurd (never (class t) (w at st).1)
+listed_heads at never (headed_block {t = t} {m = m} push g) st = λ us. (t, tokens_of m us, refl, ap goes_on (push at st).0)
+listed_heads at never (stated {left = left} {inside = inside} {m = m} {p = p} t i c w h g same) st = λ us.
     let k = h (t ∷ tokens_of m us) in
-    (k.0, k.1, left_tokens left inside t m p us same ∙ k.2, ap goes_on (k.3 (Statement place) st).0)
-item_heads place (raised st c g) s = item_heads place g (st (Statement place) s)
+    (k.0, k.1, left_tokens left inside t m p us same ∙ k.2, ap goes_on (k.3 at st).0)
+listed_heads at never (raised st c g) s = listed_heads at never g (st at s)
+
+pub item_heads : (place : Where) {variant : Variant} {n : Nonterminal} {p : ParseTree} → Good (Whole variant n) p → stands (Statement place) n ≡ true → Heads (GoesOn place) p
+item_heads place g st = listed_heads (Statement place) (no_item_wraps place) g st
 
 -- ---- a statement in another, and in a list
 
@@ -198,12 +202,11 @@ pub clause_item : (variant : Variant) (n : Nonterminal) {v : Variant} {p m : Par
 clause_item variant n g h r = keeping (item_stands false InClause) g (λ us. let k = h us in (k.0, k.1, k.2, (goes_behind InClause (class k.0) k.3, refl, k.3))) r
 
 -- `{ .. }`
-begun_there : (c : Control) → ItemPlace c → without c (class (punctuator (codes "{"))) ≡ Begin
+begun_there : (c : Control) → ItemPlace c → (decide c None (punctuator (codes "{")) ≡ Begin) × (begin c (punctuator (codes "{")) ≡ Statement (InList BlockStmt))
 unfolding punctuator
-begun_there c (item_place place) = refl
+begun_there c (item_place place) = (refl, refl)
 
-block_begins : (b : Bool) (c : Control) → stands c (item_of b) ≡ true → without c (class (punctuator (codes "{"))) ≡ Begin
-unfolding punctuator
+block_begins : (b : Bool) (c : Control) → stands c (item_of b) ≡ true → (decide c None (punctuator (codes "{")) ≡ Begin) × (begin c (punctuator (codes "{")) ≡ Statement (InList BlockStmt))
 block_begins b c st = begun_there c (place_of c (item_there (item_of b) (is_an_item b) c st))
 
 pub block_good : (b : Bool) {m : ParseTree} → Good (Rest (Statement (InList BlockStmt)) BlockStmt (item_of b)) m → Good (Whole BlockStmt (item_of b)) (Read (punctuator (codes "{")) m)
@@ -329,6 +332,10 @@ no_parameters_then n g = shifted refl g
 pub parameters_end : (n : Within) {m : ParseTree} → Good (Rest (Statement n.place) n.variant n.of) m → Good (Rest (AfterParameters n.place) n.variant n.of) (Read (punctuator (codes "{")) m)
 unfolding punctuator
 parameters_end n g = shifted refl g
+
+pub class_item : (b : Bool) {m : ParseTree} → Good (Rest AfterClass AClass (item_of b)) m → Good (Whole AClass (item_of b)) (Read (word (codes "class")) m)
+unfolding word
+class_item b {m = m} g = keyword_begun (word (codes "class")) AClass b AfterClass m refl refl g
 
 pub function_item : (b : Bool) {m : ParseTree} → Good (Rest AfterFunction Fn (item_of b)) m → Good (Whole Fn (item_of b)) (Read (word (codes "function")) m)
 unfolding word

@@ -5,7 +5,6 @@ use Rattle.std.proofs.lemmas.Bool.{true≢false, and_parts}
 use Rattle.swc_ecma_codegen_tree.specs.Links.{ExprBox, StmtBox, BlockStmtBox, PatBox}
 use Rattle.swc_ecma_codegen_tree.specs.declared.links.AnyNode.{AnyNode, AnyNode-F, out-AnyNode}
 use Rattle.swc_ecma_codegen_tree.specs.declared.links.AnyNode.TheOpen as nodes
-use Rattle.swc_ecma_codegen_tree.specs.declared.decls.ClassDecl.{ClassDecl}
 use Rattle.swc_ecma_codegen_tree.specs.declared.decls.Decl.{Decl}
 use Rattle.swc_ecma_codegen_tree.specs.declared.decls.Decl.TheVariants as decls
 use Rattle.swc_ecma_codegen_tree.specs.declared.decls.VarDecl as var_decls
@@ -32,7 +31,7 @@ use Rattle.swc_ecma_codegen_grammar.specs.Settings.{Settings, is_up_to_es5}
 use Rattle.swc_ecma_codegen_grammar.specs.StmtPhrases.{empty_stmt, debugger_stmt}
 use Rattle.swc_ecma_codegen_grammar.specs.Tokens.{Token, punctuator, word, ending, same_line}
 use Rattle.swc_ecma_codegen_grammar.specs.Tokens as tokens
-use Rattle.swc_ecma_codegen_grammar.specs.declared.roles.Role.TheVariants.{Block, ClassHead}
+use Rattle.swc_ecma_codegen_grammar.specs.declared.roles.Role.TheVariants.{Block}
 use Rattle.swc_ecma_codegen_syntax.specs.declared.nonterminals.Nonterminal.{Nonterminal}
 use Rattle.swc_ecma_codegen_syntax.specs.declared.nonterminals.Nonterminal.TheVariants as nt
 use Rattle.swc_ecma_codegen_syntax.specs.declared.parameters.Parameters.{Parameters}
@@ -40,13 +39,12 @@ use Rattle.swc_ecma_codegen_syntax.specs.NameForms.{is_one_of}
 use Rattle.swc_ecma_codegen_syntax.specs.Nonterminals.{takes}
 use Rattle.swc_ecma_codegen_syntax.specs.Parameters.{of_bindings, of_declarations, in_list}
 use Rattle.swc_ecma_codegen_syntax.specs.Forms.{Fixed, is_met, each_after, in_order}
-use Rattle.swc_ecma_codegen_syntax.specs.ClassForms.{class_decl_form}
 use Rattle.swc_ecma_codegen_syntax.specs.DeclForms.{is_const, value_form, declarator_form, declarators_form, var_decl_form, head_at, decl_form}
 use Rattle.swc_ecma_codegen_syntax.specs.PatForms.{pat_form, pat_nonterminal}
 use Rattle.swc_ecma_codegen_syntax.specs.StmtForms.{expr_stmt_form, with_form, return_rest_form, return_form, labeled_form, jump_form, break_form, continue_form, branches_form, if_form, switch_form, throw_form, try_form, while_form, do_while_form, for_form, for_in_form, for_of_form, stmt_form, begins_empty, list_form, block_form, finalizer_form, catch_param_form, handler_form, catch_form, clause_item_form, clause_list_form, case_test_form, case_form}
 use Rattle.swc_ecma_codegen_syntax.specs.NodeForms.{node_form, part_form, stmt_part_form, jsx_part_form}
 use Rattle.swc_ecma_codegen_syntax.specs.Derives.{Derives, fixed, part, restricted, both, provided, bare, followed}
-use Rattle.swc_ecma_codegen_uniqueness.specs.ParseTrees.{Variant, ParseTree, End, Read, Node, BlockStmt, DebuggerStmt, WithStmt, ReturnStmt, LabeledStmt, BreakStmt, ContinueStmt, IfStmt, ThrowStmt, WhileStmt, VarDecl, ExprStmt, tokens_of, is_known, is_known_kind, AreKnown, decl_variant, stmt_variant, part_variant, node_variant, DoWhileStmt, TryStmt, SwitchStmt}
+use Rattle.swc_ecma_codegen_uniqueness.specs.ParseTrees.{Variant, ParseTree, End, Read, Node, BlockStmt, DebuggerStmt, WithStmt, ReturnStmt, LabeledStmt, BreakStmt, ContinueStmt, IfStmt, ThrowStmt, WhileStmt, VarDecl, ExprStmt, tokens_of, is_known_kind, AreKnown, decl_variant, stmt_variant, DoWhileStmt, TryStmt, SwitchStmt}
 use Rattle.swc_ecma_codegen_uniqueness.specs.Parses.{placed, is_inlined, read_all}
 use Rattle.swc_ecma_codegen_uniqueness.proofs.Classes.{class}
 use Rattle.swc_ecma_codegen_uniqueness.proofs.Tables.{InList, Statement, Declarators, Initializer, AfterWord, Jump, Splice, Shift, shift, start, decide, passed_to, left, Where, InTry, InCatch, InClause, AfterDo, BehindTry, BehindCatch, AfterCatch, closing}
@@ -62,6 +60,7 @@ use Rattle.swc_ecma_codegen_uniqueness.proofs.Fits.{BlockFit, at_place, PlacedGo
 use Rattle.swc_ecma_codegen_uniqueness.proofs.Atoms.{name_read, name_atom}
 use Rattle.swc_ecma_codegen_uniqueness.proofs.Patterns.{pat_good, covered_at, no_rest_target}
 use Rattle.swc_ecma_codegen_uniqueness.proofs.Functions.{not_inlined, fn_decl_good}
+use Rattle.swc_ecma_codegen_uniqueness.proofs.ClassDefinitions.{class_decl_good}
 
 -- ---- declarations of variables
 
@@ -175,20 +174,11 @@ other_word : (t : Token) → is_known_kind t.kind t.value ≡ false → AreKnown
 unfolding AreKnown
 other_word t h k = true≢false (sym k.0 ∙ h)
 
-no_class : {X : Type 0} (y : AnyNode-F X) → is_known (node_variant y ClassHead) ≡ true → ⊥
-unfolding node_variant part_variant is_known
-no_class (nodes.ExprPart (expr_parts.Pat n)) k = true≢false (sym k)
-no_class y k = true≢false (sym k)
-
-class_unknown : {s : Settings} (c : Parameters) (n : ClassDecl AnyNode) {ts : List Token} (d : Derives true s (class_decl_form c n) ts) → AllGood d → s.minify ≡ c.minify → ⊥
-unfolding class_decl_form AllGood PlacedGood is_inlined
-class_unknown c n (both k (both (part a sa d) e)) (x, (o, y)) m = no_class (out-AnyNode n.class.node.value) (o m).known
-
 decl_good : {s : Settings} (b : Bool) (c : Parameters) (n : Decl AnyNode) {ts : List Token} (d : Derives true s (decl_form c n) ts) → AllGood d → s.minify ≡ c.minify → Good (Whole (decl_variant n) (item_of b)) (derived_parse d End)
 unfolding decl_form decl_variant AllGood derived_parse
 decl_good b c (decls.Var n) (both d e) (o, x) m = var_good b (of_declarations c) n d e o m
 decl_good b c (decls.Fn n) d o m = fn_decl_good b (head_at c.position) c n d o m
-decl_good b c (decls.Class n) d o m = absurd (class_unknown c n d o m)
+decl_good b c (decls.Class n) d o m = class_decl_good b c n d o m
 decl_good b c n d o m = absurd (no_form d)
 
 labeled_good : {s : Settings} (c : Parameters) (n : labeled.LabeledStmt AnyNode) {ts : List Token} (d : Derives true s (labeled_form c n) ts) → AllGood d → s.minify ≡ c.minify → Good (Whole LabeledStmt (item_of c.before_else)) (derived_parse d End)

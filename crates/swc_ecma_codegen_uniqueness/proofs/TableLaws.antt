@@ -9,8 +9,8 @@ use Rattle.swc_ecma_codegen_syntax.specs.UnitProductions.{UnitProduction, Chain,
 use Rattle.swc_ecma_codegen_syntax.proofs.Chains.{takes_chain}
 use Rattle.swc_ecma_codegen_syntax.proofs.Taken.{chain_takes}
 use Rattle.swc_ecma_codegen_uniqueness.specs.ParseTrees.{Variant}
-use Rattle.swc_ecma_codegen_uniqueness.proofs.Classes.{Power, Plus, Within, Coalescing, Class, Infix, Assigns, Ask, Comma, Dot, ChainDot, OpenParen, OpenBracket, OpenBrace, Line, First, class, FunctionWord, ReturnWord, ThrowWord, BreakWord, ContinueWord, DebuggerWord, IfWord, WhileWord, WithWord, VarWord, Semicolon, DoWord, TryWord, SwitchWord, ElseWord}
-use Rattle.swc_ecma_codegen_uniqueness.proofs.Tables.{made, left_of, left, closes, Tail, OfInfix, whole, last, Control, Open, Arguments, Elements, NextElement, AfterNew, AfterYield, YieldLine, Listed, AsyncLine, InParen, Index, Middle, InKey, InValue, Substitution, waits, stands, decide, Action, Push, Wrap, Reduce, Shift, Turn, Begin, Enter, Leave, Splice, Take, starts, is_item, closed_by, at_item, Where, InList, OfElse, Statement, Entered, Parameter, RestParameter, Valued, Test, Declarators, Initializer, entered, without, with_operand, Keep, CatchParameter, Case, InTry, InCatch, InClause, InMethod, InSetterKey, SetterParameter, OfIf, OfDo}
+use Rattle.swc_ecma_codegen_uniqueness.proofs.Classes.{Power, Plus, Within, Coalescing, Class, Infix, Assigns, Ask, Comma, Dot, ChainDot, OpenParen, OpenBracket, OpenBrace, Line, First, class, FunctionWord, ReturnWord, ThrowWord, BreakWord, ContinueWord, DebuggerWord, IfWord, WhileWord, WithWord, VarWord, Semicolon, DoWord, TryWord, SwitchWord, ElseWord, CloseBrace, ClassWord}
+use Rattle.swc_ecma_codegen_uniqueness.proofs.Tables.{made, left_of, left, closes, Tail, OfInfix, whole, last, Control, Open, Arguments, Elements, NextElement, AfterNew, AfterYield, YieldLine, Listed, AsyncLine, InParen, Index, Middle, InKey, InValue, Substitution, waits, stands, decide, Action, Push, Wrap, Reduce, Shift, Turn, Begin, Enter, Leave, Splice, Take, starts, is_item, is_listed, begin, begun_at, shifted_to, Heritage, Members, AtMember, InMemberKey, FieldPlace, closed_by, at_item, Where, InList, OfElse, Statement, Entered, Parameter, RestParameter, Valued, Test, Declarators, Initializer, entered, without, with_operand, Keep, CatchParameter, Case, InTry, InCatch, InClause, InMethod, InSetterKey, SetterParameter, OfIf, OfDo}
 
 -- ---- chains of unit productions
 
@@ -30,7 +30,7 @@ told : (a b : Bool) → if_so a b ≡ true → a ≡ true → b ≡ true
 told true b h k = h
 told false b h k = absurd (true≢false (sym k))
 
-abbrev is_wrap : Action → Bool
+abbrev pub is_wrap : Action → Bool
 is_wrap Wrap = true
 is_wrap action = false
 
@@ -74,6 +74,7 @@ is_place nt.AssignmentTarget = true
 is_place nt.AssignmentPattern = true
 is_place nt.Statement = true
 is_place nt.Block = true
+is_place nt.ClassElement = true
 is_place nt.Uncovered = true
 is_place n = false
 
@@ -116,16 +117,18 @@ or_none false true h = absurd (true≢false h)
 pub ended_by : (l : Class) (n : Nonterminal) → takes (left l) n ≡ true → closed_by l n ≡ true
 ended_by l nt.Statement h = absurd (true≢false (sym h ∙ (or_none _ _ (ends_none l)).0))
 ended_by l nt.Block h = absurd (true≢false (sym h ∙ (or_none _ _ (ends_none l)).1))
+ended_by l nt.ClassElement h = refl
 ended_by l n h = h
 
-pub ending : (l : Class) (n : Nonterminal) → is_item n ≡ false → closed_by l n ≡ true → takes (left l) n ≡ true
+pub ending : (l : Class) (n : Nonterminal) → is_listed n ≡ false → closed_by l n ≡ true → takes (left l) n ≡ true
 ending l nt.Statement i h = absurd (true≢false i)
 ending l nt.Block i h = absurd (true≢false i)
+ending l nt.ClassElement i h = absurd (true≢false i)
 ending l n i h = h
 
-tail_item : (t : Tail) → is_item (whole t) ≡ false
-tail_item (OfInfix Power) = refl
-tail_item t = refl
+tail_listed : (t : Tail) → is_listed (whole t) ≡ false
+tail_listed (OfInfix Power) = refl
+tail_listed t = refl
 
 -- ---- where a node ends with a part, what ends the node ends the part
 
@@ -136,12 +139,13 @@ tail_test t (Infix Power) = refl
 tail_test t c = refl
 
 pub tail_closes : (t : Tail) (u : Token) (k : Nonterminal) → takes (last t) k ≡ true → closes u (whole t) ≡ true → closes u k ≡ true
-tail_closes t u k h e = ended_by (class u) k (takes_on (left (class u)) (last t) k (told _ _ (tail_test t (class u)) (ending (class u) (whole t) (tail_item t) e)) h)
+tail_closes t u k h e = ended_by (class u) k (takes_on (left (class u)) (last t) k (told _ _ (tail_test t (class u)) (ending (class u) (whole t) (tail_listed t) e)) h)
 
 -- ---- where a node stands, its first token begins it
 
 abbrev is_waiting : Control → Bool
 is_waiting (Open t) = true
+is_waiting Members = false
 is_waiting c = not (takes nt.Uncovered (waits c))
 
 start_test : (c : Control) (l : Class) → if_so (starts l && is_waiting c) (is_push (without c l)) ≡ true
@@ -156,6 +160,14 @@ nothing_stands nt.Uncovered b s = refl
 nothing_stands nt.Statement b s = refl
 nothing_stands nt.Block b s = refl
 nothing_stands n b s = absurd (true≢false (sym s))
+
+-- a member of a class
+element_stands : (n : Nonterminal) → (takes nt.ClassElement n || ((is_private n && takes nt.ClassElement nt.RelationalExpression) || (is_item n && false))) ≡ true → is_place n ≡ true
+unfolding is_member is_new is_call is_callee is_chained is_left_hand_side is_update is_unary is_exponentiation is_multiplicative is_additive is_shift is_relational is_in_left is_equality is_bitwise_and is_bitwise_xor is_bitwise_or is_logical_and is_logical_or is_coalesce_head is_short_circuit is_conditional is_assignment is_expression is_assignment_target is_pattern_target is_pattern_element is_last_element is_coalesce is_private is_optional is_primary is_template is_property_name is_chain_link is_assignment_pattern is_pattern_name is_rest is_statement is_hoistable_declaration is_block is_variable_declarations is_declaration is_statement_list_item is_labelled_item is_module_declaration is_exported_head is_function_head is_generator_head is_async_function_head is_async_generator_head is_function_tail is_getter_tail is_setter_tail is_method_head is_decorator_list is_class_head is_class_tail is_class_element is_constructor_name is_any_function_head is_head_without_yield is_head_without_await is_any_property_name is_jsx_element is_jsx_object is_uncovered takes
+element_stands nt.ClassElement s = refl
+element_stands nt.Statement s = refl
+element_stands nt.Block s = refl
+element_stands n s = absurd (true≢false (sym s))
 
 stands_waiting : (c : Control) (n : Nonterminal) → is_place n ≡ false → stands c n ≡ true → is_waiting c ≡ true
 unfolding is_member is_new is_call is_callee is_chained is_left_hand_side is_update is_unary is_exponentiation is_multiplicative is_additive is_shift is_relational is_in_left is_equality is_bitwise_and is_bitwise_xor is_bitwise_or is_logical_and is_logical_or is_coalesce_head is_short_circuit is_conditional is_assignment is_expression is_assignment_target is_pattern_target is_pattern_element is_last_element is_coalesce is_private is_optional is_primary is_template is_property_name is_chain_link is_assignment_pattern is_pattern_name is_rest is_statement is_hoistable_declaration is_block is_variable_declarations is_declaration is_statement_list_item is_labelled_item is_module_declaration is_exported_head is_function_head is_generator_head is_async_function_head is_async_generator_head is_function_tail is_getter_tail is_setter_tail is_method_head is_decorator_list is_class_head is_class_tail is_class_element is_constructor_name is_any_function_head is_head_without_yield is_head_without_await is_any_property_name is_jsx_element is_jsx_object is_uncovered takes
@@ -184,6 +196,10 @@ stands_waiting CatchParameter n h s = refl
 stands_waiting Case n h s = refl
 stands_waiting InSetterKey n h s = refl
 stands_waiting SetterParameter n h s = refl
+stands_waiting Heritage n h s = refl
+stands_waiting InMemberKey n h s = refl
+stands_waiting (FieldPlace variant) n h s = refl
+stands_waiting Members n h s = absurd (true≢false (sym (element_stands n s) ∙ h))
 stands_waiting (Statement place) n h s = absurd (true≢false (sym (nothing_stands n true s) ∙ h))
 stands_waiting c n h s = absurd (true≢false (sym (nothing_stands n false s) ∙ h))
 
@@ -446,7 +462,7 @@ abbrev pub Ended : Control → Nonterminal → Nonterminal → Variant → Type 
 Ended c n k variant = (t : Token) → closes t n ≡ true → (closes t k ≡ true) × (decide c (Some variant) t ≡ Reduce)
 
 pub tail_ends : (t : Tail) (k : Nonterminal) (variant : Variant) → takes (last t) k ≡ true → Ended (Open t) (whole t) k variant
-tail_ends t k variant h u e = (tail_closes t u k h e, ends_reduce (whole t) (class u) (ending (class u) (whole t) (tail_item t) e))
+tail_ends t k variant h u e = (tail_closes t u k h e, ends_reduce (whole t) (class u) (ending (class u) (whole t) (tail_listed t) e))
 
 new_reduced : (l : Class) → takes (left l) nt.NewExpression ≡ true → with_operand AfterNew l ≡ Reduce
 unfolding is_member is_new is_call is_callee is_chained is_left_hand_side is_update is_unary is_exponentiation is_multiplicative is_additive is_shift is_relational is_in_left is_equality is_bitwise_and is_bitwise_xor is_bitwise_or is_logical_and is_logical_or is_coalesce_head is_short_circuit is_conditional is_assignment is_expression is_assignment_target is_pattern_target is_pattern_element is_last_element is_coalesce is_private is_optional is_primary is_template is_property_name is_chain_link is_assignment_pattern is_pattern_name is_rest is_statement is_hoistable_declaration is_block is_variable_declarations is_declaration is_statement_list_item is_labelled_item is_module_declaration is_exported_head is_function_head is_generator_head is_async_function_head is_async_generator_head is_function_tail is_getter_tail is_setter_tail is_method_head is_decorator_list is_class_head is_class_tail is_class_element is_constructor_name is_any_function_head is_head_without_yield is_head_without_await is_any_property_name is_jsx_element is_jsx_object is_uncovered takes
@@ -508,6 +524,7 @@ assignment_single k h = refl
 
 abbrev pub is_keyword : Class → Bool
 is_keyword FunctionWord = true
+is_keyword ClassWord = true
 is_keyword ReturnWord = true
 is_keyword ThrowWord = true
 is_keyword BreakWord = true
@@ -568,6 +585,7 @@ enter_is Keep h = absurd (true≢false (sym h))
 abbrev pub is_barred : Class → Bool
 is_barred OpenBrace = true
 is_barred FunctionWord = true
+is_barred ClassWord = true
 is_barred l = false
 
 enter_test : (place : Where) (l : Class) → if_so (starts l && not (is_barred l)) (is_enter (without (Statement place) l)) ≡ true
@@ -599,6 +617,29 @@ begins_test l = refl
 
 pub begins_operand : (t : Token) → decide (Entered OfElse) None t ≡ Push → starts (class t) ≡ true
 begins_operand t e = told _ _ (begins_test (class t)) (ap is_push e)
+
+-- ---- members of a class
+
+-- the place of one
+pub data ElementPlace : Control → Type 0 where
+  element_place : ElementPlace Members
+
+pub element_there : (c : Control) → stands c nt.ClassElement ≡ true → ElementPlace c
+unfolding is_member is_new is_call is_callee is_chained is_left_hand_side is_update is_unary is_exponentiation is_multiplicative is_additive is_shift is_relational is_in_left is_equality is_bitwise_and is_bitwise_xor is_bitwise_or is_logical_and is_logical_or is_coalesce_head is_short_circuit is_conditional is_assignment is_expression is_assignment_target is_pattern_target is_pattern_element is_last_element is_coalesce is_private is_optional is_primary is_template is_property_name is_chain_link is_assignment_pattern is_pattern_name is_rest is_statement is_hoistable_declaration is_block is_variable_declarations is_declaration is_statement_list_item is_labelled_item is_module_declaration is_exported_head is_function_head is_generator_head is_async_function_head is_async_generator_head is_function_tail is_getter_tail is_setter_tail is_method_head is_decorator_list is_class_head is_class_tail is_class_element is_constructor_name is_any_function_head is_head_without_yield is_head_without_await is_any_property_name is_jsx_element is_jsx_object is_uncovered takes
+element_there Members s = element_place
+element_there (Open (OfInfix Power)) s = absurd (true≢false (sym s))
+element_there c s = absurd (true≢false (sym s))
+
+abbrev pub is_close_brace : Class → Bool
+is_close_brace CloseBrace = true
+is_close_brace l = false
+
+begun_in : (c : Control) (l : Class) → ElementPlace c → is_close_brace l ≡ false → (without c l ≡ Begin) × (begun_at c l ≡ shifted_to AtMember l)
+begun_in c CloseBrace element_place h = absurd (true≢false h)
+begun_in c l element_place h = (refl, refl)
+
+pub element_begins : (t : Token) → is_close_brace (class t) ≡ false → (c : Control) → stands c nt.ClassElement ≡ true → (decide c None t ≡ Begin) × (begin c t ≡ shifted_to AtMember (class t))
+element_begins t h c s = begun_in c (class t) (element_there c s) h
 
 -- ---- lists
 

@@ -7,8 +7,8 @@ use Rattle.swc_ecma_codegen_grammar.specs.Tokens.{Token, Value, Characters}
 use Rattle.swc_ecma_codegen_syntax.specs.declared.nonterminals.Nonterminal.{Nonterminal}
 use Rattle.swc_ecma_codegen_syntax.specs.declared.nonterminals.Nonterminal.TheVariants as nt
 use Rattle.swc_ecma_codegen_syntax.specs.Nonterminals.{takes, is_private}
-use Rattle.swc_ecma_codegen_uniqueness.specs.ParseTrees.{Variant, This, Array, Object, Unary, Update, Bin, Assign, Member, SuperProp, Cond, Call, New, Seq, Ident, Lit, Tpl, TaggedTpl, Arrow, Yield, MetaProp, Await, Paren, PrivateName, OptChain, Fn, BlockStmt, EmptyStmt, DebuggerStmt, WithStmt, ReturnStmt, LabeledStmt, BreakStmt, ContinueStmt, IfStmt, ThrowStmt, WhileStmt, VarDecl, ExprStmt, Other, SwitchStmt, TryStmt, DoWhileStmt}
-use Rattle.swc_ecma_codegen_uniqueness.proofs.Classes.{Level, Class, class, Power, Times, Plus, Shifting, Comparing, Within, Equating, BitAnds, BitXors, BitOrs, Ands, Ors, Coalescing, Infix, Assigns, Ask, Colon, Comma, Dot, ChainDot, OpenParen, CloseParen, OpenBracket, CloseBracket, OpenBrace, CloseBrace, Dots, Line, Twice, Bang, FatArrow, Semi, Semicolon, FirstLine, First, Later, NameToken, PrivateToken, LiteralToken, ThisWord, NewWord, SuperWord, ImportWord, YieldWord, AwaitWord, AsyncWord, FunctionWord, ReturnWord, ThrowWord, BreakWord, ContinueWord, DebuggerWord, IfWord, ElseWord, WhileWord, WithWord, DoWord, TryWord, CatchWord, FinallyWord, SwitchWord, CaseWord, DefaultWord, GetWord, SetWord, VarWord, UnaryWord, TargetWord, MetaWord}
+use Rattle.swc_ecma_codegen_uniqueness.specs.ParseTrees.{Variant, This, Array, Object, Unary, Update, Bin, Assign, Member, SuperProp, Cond, Call, New, Seq, Ident, Lit, Tpl, TaggedTpl, Arrow, Yield, MetaProp, Await, Paren, PrivateName, OptChain, Fn, BlockStmt, EmptyStmt, DebuggerStmt, WithStmt, ReturnStmt, LabeledStmt, BreakStmt, ContinueStmt, IfStmt, ThrowStmt, WhileStmt, VarDecl, ExprStmt, Other, SwitchStmt, TryStmt, DoWhileStmt, Class as AClass, Constructor, ClassMethod, PrivateMethod, ClassProp, PrivateProp, StaticBlock}
+use Rattle.swc_ecma_codegen_uniqueness.proofs.Classes.{Level, Class, class, Power, Times, Plus, Shifting, Comparing, Within, Equating, BitAnds, BitXors, BitOrs, Ands, Ors, Coalescing, Infix, Assigns, Ask, Colon, Comma, Dot, ChainDot, OpenParen, CloseParen, OpenBracket, CloseBracket, OpenBrace, CloseBrace, Dots, Line, Twice, Bang, FatArrow, Semi, Semicolon, FirstLine, First, Later, NameToken, PrivateToken, LiteralToken, ThisWord, NewWord, SuperWord, ImportWord, YieldWord, AwaitWord, AsyncWord, FunctionWord, ClassWord, ExtendsWord, StaticWord, ConstructorWord, ReturnWord, ThrowWord, BreakWord, ContinueWord, DebuggerWord, IfWord, ElseWord, WhileWord, WithWord, DoWord, TryWord, CatchWord, FinallyWord, SwitchWord, CaseWord, DefaultWord, GetWord, SetWord, VarWord, UnaryWord, TargetWord, MetaWord}
 
 -- ---- levels: the nonterminal of each operator, and of its operands
 
@@ -64,6 +64,7 @@ left CloseParen = nt.Expression
 left CloseBracket = nt.Expression
 left CloseBrace = nt.Expression
 left (Later opens) = nt.Expression
+left OpenBrace = nt.LeftHandSideExpression
 left Line = nt.LeftHandSideExpression
 left Semi = nt.Expression
 left c = nt.Uncovered
@@ -73,6 +74,11 @@ abbrev pub is_item : Nonterminal → Bool
 is_item nt.Statement = true
 is_item nt.Block = true
 is_item n = false
+
+-- an item, or a member of a class: no unit production says what ends it
+abbrev pub is_listed : Nonterminal → Bool
+is_listed nt.ClassElement = true
+is_listed n = is_item n
 
 -- what stands behind an item begins no part of it
 abbrev pub is_behind : Class → Bool
@@ -89,6 +95,7 @@ is_behind_or_else c = is_behind c
 abbrev pub closed_by : Class → Nonterminal → Bool
 closed_by c nt.Statement = is_behind c
 closed_by c nt.Block = is_behind_or_else c
+closed_by c nt.ClassElement = true
 closed_by c n = takes (left c) n
 
 -- a token ends what is of a nonterminal
@@ -116,6 +123,7 @@ starts YieldWord = true
 starts AwaitWord = true
 starts AsyncWord = true
 starts FunctionWord = true
+starts ClassWord = true
 starts c = false
 
 -- ---- what is begun
@@ -169,7 +177,8 @@ pub data Where : Type 0 where
 -- `async`, what stays on its line behind that, and its parameters; behind `=>`. Before a statement, and behind the first token of an expression in its
 -- place; behind `function`, behind the name, among parameters, behind `...` of them, and behind them; behind `return`, before a value, and before a label;
 -- behind `if`, and behind `if (`; behind `let`, and before a value of it; behind `do a; while (b)`; behind `try`, and its block; behind `catch`, `catch (`,
--- `catch (a)`, and its block; behind `finally`; behind `switch (a)`, `case`, and `default`.
+-- `catch (a)`, and its block; behind `finally`; behind `switch (a)`, `case`, and `default`. Behind `class`, with its name or not; behind `extends`; before a member
+-- of a class; behind `static`, `get`, `async` and `*` of one; behind `[` of its key, behind its key, and before its value.
 pub data Control : Type 0 where
   Closed : (variant : Variant) → Control
   Open : (tail : Tail) → Control
@@ -188,6 +197,8 @@ pub data Control : Type 0 where
   AfterWord Valued Jump Headed Test : (variant : Variant) → Control
   Declarators Initializer : Control
   AfterDo AfterTry BehindTry AfterCatch CatchParameter BehindParameter BehindCatch AfterFinally AfterSwitch Case AfterDefault : Control
+  AfterClass Heritage Members AtMember InMemberKey : Control
+  MemberKey FieldPlace : (variant : Variant) → Control
 
 -- the nonterminal that stands there
 abbrev pub waits : Control → Nonterminal
@@ -216,6 +227,10 @@ waits Declarators = nt.LeftHandSideExpression
 waits Initializer = nt.AssignmentExpression
 waits CatchParameter = nt.LeftHandSideExpression
 waits Case = nt.Expression
+waits Heritage = nt.LeftHandSideExpression
+waits Members = nt.ClassElement
+waits InMemberKey = nt.AssignmentExpression
+waits (FieldPlace variant) = nt.AssignmentExpression
 waits c = nt.Uncovered
 
 abbrev pub at_item : Control → Bool
@@ -254,9 +269,9 @@ variant_of c = Other
 -- ---- what the machine does
 
 -- takes the token, begins a node with it, begins one with the operand at hand and it, ends the topmost one; takes the token, which tells that what
--- stands before it was otherwise: `]` that the comma before it ends the list, `=>` that what is in parentheses are parameters. `{` begins a block; a
--- token begins an expression in the place of a statement, and with it, `;` ends the statement; what is at hand has no node of its own, before a token
--- that is taken, or before another item. An item has one.
+-- stands before it was otherwise: `]` that the comma before it ends the list, `=>` that what is in parentheses are parameters. `{` begins a block, and any
+-- token a member of a class; a token begins an expression in the place of a statement, and with it, `;` ends the statement; what is at hand has no node of
+-- its own, before a token that is taken, or before another item. An item has one.
 pub data Action : Type 0 where
   Shift Push Wrap Reduce Turn Begin Enter Leave Splice Take Keep : Action
 
@@ -345,6 +360,7 @@ without (Statement place) DoWord = Push
 without (Statement place) TryWord = Push
 without (Statement place) SwitchWord = Push
 without (Statement place) FunctionWord = Push
+without (Statement place) ClassWord = Push
 without (Statement place) ReturnWord = Push
 without (Statement place) ThrowWord = Push
 without (Statement place) BreakWord = Push
@@ -398,6 +414,16 @@ without AfterFinally OpenBrace = Shift
 without AfterSwitch OpenBrace = Shift
 without Case c = Push
 without AfterDefault Colon = Shift
+without AfterClass NameToken = Shift
+without AfterClass ExtendsWord = Shift
+without AfterClass OpenBrace = Shift
+without Heritage c = Push
+without Members CloseBrace = Shift
+without Members c = Begin
+without AtMember c = Shift
+without InMemberKey c = Push
+without (MemberKey variant) c = Shift
+without (FieldPlace variant) c = Push
 without control c = Reduce
 
 abbrev ends : Nonterminal → Class → Action
@@ -446,6 +472,10 @@ with_operand Declarators Comma = Splice
 with_operand Declarators Semi = Splice
 with_operand Initializer Comma = Shift
 with_operand Initializer Semi = Shift
+with_operand Heritage OpenBrace = Shift
+with_operand Members c = Keep
+with_operand InMemberKey CloseBracket = Shift
+with_operand (FieldPlace variant) Semi = Shift
 with_operand Listed Comma = Shift
 with_operand Listed c = ends nt.Expression c
 with_operand control c = Wrap
@@ -464,6 +494,11 @@ closing InTry = BehindTry
 closing InCatch = BehindCatch
 closing InMethod = AfterKey
 closing place = Closed SwitchStmt
+
+-- the field that begins with a key, or the method
+abbrev pub field_of : Variant → Variant
+field_of PrivateMethod = PrivateProp
+field_of variant = ClassProp
 
 -- behind a token that is taken with no operand at hand
 abbrev pub shifted_to : Control → Class → Control
@@ -546,6 +581,19 @@ shifted_to BehindCatch c = AfterFinally
 shifted_to AfterFinally c = Statement (InList TryStmt)
 shifted_to AfterSwitch c = Statement InClause
 shifted_to AfterDefault c = Statement InClause
+shifted_to AfterClass ExtendsWord = Heritage
+shifted_to AfterClass OpenBrace = Members
+shifted_to Members c = Closed AClass
+shifted_to AtMember NameToken = MemberKey ClassMethod
+shifted_to AtMember LiteralToken = MemberKey ClassMethod
+shifted_to AtMember PrivateToken = MemberKey PrivateMethod
+shifted_to AtMember ConstructorWord = MemberKey Constructor
+shifted_to AtMember OpenBracket = InMemberKey
+shifted_to AtMember OpenBrace = Statement (InList StaticBlock)
+shifted_to AtMember Semicolon = Closed EmptyStmt
+shifted_to (MemberKey variant) OpenParen = Parameter (InList variant)
+shifted_to (MemberKey variant) Assigns = FieldPlace (field_of variant)
+shifted_to (MemberKey variant) c = Closed (field_of variant)
 shifted_to control c = control
 
 -- behind one that is taken with an operand at hand
@@ -582,6 +630,9 @@ passed_to Declarators Comma = Declarators
 passed_to Declarators c = Closed VarDecl
 passed_to Initializer Comma = Declarators
 passed_to Initializer c = Closed VarDecl
+passed_to Heritage c = Members
+passed_to InMemberKey c = MemberKey ClassMethod
+passed_to (FieldPlace variant) c = Closed variant
 passed_to control c = control
 
 abbrev pub moved : Control → Option Variant → Class → Control
@@ -616,6 +667,7 @@ started YieldWord = AfterYield
 started AwaitWord = Open OfAwait
 started AsyncWord = AfterAsync
 started FunctionWord = AfterFunction
+started ClassWord = AfterClass
 started ReturnWord = AfterWord ReturnStmt
 started ThrowWord = AfterWord ThrowStmt
 started BreakWord = AfterWord BreakStmt
@@ -634,9 +686,13 @@ started c = Closed Other
 abbrev pub start : Token → Control
 start t = started (class t)
 
--- behind the `{` of a block
-abbrev pub begin : Token → Control
-begin t = Statement (InList BlockStmt)
+-- behind the `{` of a block, and behind the first token of a member
+abbrev pub begun_at : Control → Class → Control
+begun_at Members c = shifted_to AtMember c
+begun_at control c = Statement (InList BlockStmt)
+
+abbrev pub begin : Control → Token → Control
+begin control t = begun_at control (class t)
 
 -- behind an operand and a token: behind an optional chain a link is one more of it
 abbrev pub chained : Variant → Variant → Variant

@@ -1,10 +1,14 @@
 -- Parse trees: tokens, and round the tokens of each node what node it is.
 use Rattle.std.specs.Prelude.{◌≡◌, ◌⊎◌, ℕ, Bool, true, false, not, codes, List, [], ◌∷◌}
 use Rattle.swc_ecma_codegen_tree.specs.declared.links.AnyNode.TheOpen as nodes
+use Rattle.swc_ecma_codegen_tree.specs.declared.classes.ClassMember as class_members
+use Rattle.swc_ecma_codegen_tree.specs.declared.classes.ClassMember.TheVariants as members
 use Rattle.swc_ecma_codegen_tree.specs.declared.exprs.Expr.{Expr}
 use Rattle.swc_ecma_codegen_tree.specs.declared.exprs.Expr.TheVariants as exprs
 use Rattle.swc_ecma_codegen_tree.specs.declared.parts.ExprPart.{ExprPart}
 use Rattle.swc_ecma_codegen_tree.specs.declared.parts.ExprPart.TheVariants as expr_parts
+use Rattle.swc_ecma_codegen_tree.specs.declared.parts.StmtPart.{StmtPart}
+use Rattle.swc_ecma_codegen_tree.specs.declared.parts.StmtPart.TheVariants as stmt_parts
 use Rattle.swc_ecma_codegen_tree.specs.declared.pats.AssignTarget.{AssignTarget}
 use Rattle.swc_ecma_codegen_tree.specs.declared.pats.AssignTarget.TheVariants as targets
 use Rattle.swc_ecma_codegen_tree.specs.declared.pats.AssignTargetPat.{AssignTargetPat}
@@ -19,17 +23,18 @@ use Rattle.swc_ecma_codegen_tree.specs.declared.stmts.Stmt.{Stmt}
 use Rattle.swc_ecma_codegen_tree.specs.declared.stmts.Stmt.TheVariants as stmts
 use Rattle.swc_ecma_codegen_tree.specs.declared.links.AnyNode.{AnyNode-F}
 use Rattle.swc_ecma_codegen_grammar.specs.declared.roles.Role.{Role}
-use Rattle.swc_ecma_codegen_grammar.specs.declared.roles.Role.TheVariants.{Expression, Callee, Statement, Pattern, AssignmentTarget}
+use Rattle.swc_ecma_codegen_grammar.specs.declared.roles.Role.TheVariants.{Expression, Callee, Statement, Pattern, AssignmentTarget, Member as MemberOfClass, FieldValue}
 use Rattle.swc_ecma_codegen_grammar.specs.Phrases.{comma, open_parenthesis, close_parenthesis}
 use Rattle.swc_ecma_codegen_grammar.specs.Tokens.{Token, Value, Characters}
 use Rattle.swc_ecma_codegen_grammar.specs.declared.kinds.Kind.{Kind}
 use Rattle.swc_ecma_codegen_grammar.specs.declared.kinds.Kind.TheVariants.{Word}
 use Rattle.swc_ecma_codegen_syntax.specs.NameForms.{is_one_of}
 
--- What node it is, by the name of its variant in `Expr` or `Stmt`. A node that no production derives is foreign, as those of TypeScript. Of other nodes the
--- laws don't speak: async functions, methods, classes, JSX.
+-- What node it is, by the name of its variant in `Expr` or `Stmt`, or of its type where a class has it. A node that no production derives is foreign, as those of
+-- TypeScript. Of other nodes the laws don't speak: async functions, JSX.
 pub data Variant : Type 0 where
   This Array Object Fn Unary Update Bin Assign Member SuperProp Cond Call New Seq Ident Lit Tpl TaggedTpl Arrow Yield MetaProp Await Paren PrivateName OptChain : Variant
+  Class Constructor ClassMethod PrivateMethod ClassProp PrivateProp StaticBlock : Variant
   BlockStmt EmptyStmt DebuggerStmt WithStmt ReturnStmt LabeledStmt BreakStmt ContinueStmt IfStmt SwitchStmt ThrowStmt TryStmt WhileStmt DoWhileStmt VarDecl ExprStmt : Variant
   Foreign : Variant
   Other : Variant
@@ -70,7 +75,7 @@ is_known variant = true
 
 -- the words of statements and declarations of which the laws don't speak
 abbrev other_words : List (List ℕ)
-other_words = codes "for" ∷ codes "class" ∷ []
+other_words = codes "for" ∷ []
 
 unfoldable pub is_known_kind : Kind → Value → Bool
 is_known_kind Word (Characters text) = not (is_one_of other_words text)
@@ -102,7 +107,7 @@ expr_variant (exprs.Lit n) = Lit
 expr_variant (exprs.Tpl n) = Tpl
 expr_variant (exprs.TaggedTpl n) = TaggedTpl
 expr_variant (exprs.Arrow n) = Arrow
-expr_variant (exprs.Class n) = Other
+expr_variant (exprs.Class n) = Class
 expr_variant (exprs.Yield n) = Yield
 expr_variant (exprs.MetaProp n) = MetaProp
 expr_variant (exprs.Await n) = Await
@@ -142,7 +147,7 @@ pat_variant n = Foreign
 unfoldable pub decl_variant : {X : Type 0} → Decl X → Variant
 decl_variant (decls.Var n) = VarDecl
 decl_variant (decls.Fn n) = Fn
-decl_variant (decls.Class n) = Other
+decl_variant (decls.Class n) = Class
 decl_variant n = Foreign
 
 unfoldable pub stmt_variant : {X : Type 0} → Stmt X → Variant
@@ -164,15 +169,37 @@ stmt_variant (stmts.Decl n) = decl_variant n
 stmt_variant (stmts.Expr n) = ExprStmt
 stmt_variant n = Other
 
+-- a member of a class
+unfoldable pub member_variant : {X : Type 0} → class_members.ClassMember X → Variant
+member_variant (members.Constructor n) = Constructor
+member_variant (members.Method n) = ClassMethod
+member_variant (members.PrivateMethod n) = PrivateMethod
+member_variant (members.ClassProp n) = ClassProp
+member_variant (members.PrivateProp n) = PrivateProp
+member_variant (members.Empty n) = EmptyStmt
+member_variant (members.StaticBlock n) = StaticBlock
+member_variant n = Foreign
+
+-- The value of a field. Of a sequence the laws don't speak: the parentheses of `a = (b, c)` may be its own, or those of a Paren.
+unfoldable pub field_variant : {X : Type 0} → Expr X → Variant
+field_variant (exprs.Seq n) = Other
+field_variant n = expr_variant n
+
 -- what node it is in a role
 unfoldable pub part_variant : {X : Type 0} → ExprPart X → Role → Variant
 part_variant (expr_parts.AssignTarget n) AssignmentTarget = target_variant n
 part_variant (expr_parts.Pat n) Pattern = pat_variant n
 part_variant n role = Other
 
+unfoldable pub element_variant : {X : Type 0} → StmtPart X → Variant
+element_variant (stmt_parts.ClassMember n) = member_variant n.value
+element_variant n = Other
+
 unfoldable pub node_variant : {X : Type 0} → AnyNode-F X → Role → Variant
 node_variant (nodes.Expr n) Expression = expr_variant n
 node_variant (nodes.Expr n) Callee = expr_variant n
+node_variant (nodes.Expr n) FieldValue = field_variant n
 node_variant (nodes.ExprPart n) role = part_variant n role
 node_variant (nodes.Stmt n) Statement = stmt_variant n
+node_variant (nodes.StmtPart n) MemberOfClass = element_variant n
 node_variant n role = Other

@@ -19,7 +19,7 @@ use Rattle.swc_ecma_codegen_grammar.specs.Settings.{Settings}
 use Rattle.swc_ecma_codegen_grammar.specs.Tokens.{Token}
 use Rattle.swc_ecma_codegen_grammar.specs.Tokens as tokens
 use Rattle.swc_ecma_codegen_grammar.specs.declared.roles.Role.{Role}
-use Rattle.swc_ecma_codegen_grammar.specs.declared.roles.Role.TheVariants.{Expression, Pattern, Statement, Block, Function, FunctionHead, MethodHead, PropertyName, ChainMember, ChainCall, Template, TaggedTemplate}
+use Rattle.swc_ecma_codegen_grammar.specs.declared.roles.Role.TheVariants.{Expression, Pattern, Statement, Block, Function, FunctionHead, MethodHead, MethodDecorators, MethodTail, AccessorTail, ClassHead, ClassWord, ClassTail, PropertyName, ChainMember, ChainCall, Template, TaggedTemplate}
 use Rattle.swc_ecma_codegen_syntax.specs.declared.parameters.Parameters.{Parameters}
 use Rattle.swc_ecma_codegen_syntax.specs.Parameters.{before}
 use Rattle.swc_ecma_codegen_syntax.specs.Forms.{Form, Fixed, Part, Simple, Restricted, Lone, Both, Provided, Closed, Bare, Followed, role_in}
@@ -60,8 +60,8 @@ unfoldable pub is_plain_head : {X : Type 0} → AnyNode-F X → Bool
 is_plain_head (nodes.StmtPart (stmt_parts.Function n)) = not n.value.is_async
 is_plain_head n = false
 
--- They are parts of the node above them, and no nodes of their own; so are a template, a link of an optional chain, a block, a key, and a function without
--- its name.
+-- They are parts of the node above them, and no nodes of their own; so are a template, a link of an optional chain, a block, a key, a function without
+-- its name, and a class without its own.
 unfoldable pub is_inlined : {X : Type 0} → Role → AnyNode-F X → Bool
 is_inlined (ChainMember optional) n = true
 is_inlined (ChainCall optional) n = true
@@ -72,6 +72,12 @@ is_inlined Block n = true
 is_inlined Function n = true
 is_inlined FunctionHead n = is_plain_head n
 is_inlined MethodHead n = true
+is_inlined MethodDecorators n = true
+is_inlined MethodTail n = true
+is_inlined AccessorTail n = true
+is_inlined ClassHead n = true
+is_inlined ClassWord n = true
+is_inlined ClassTail n = true
 is_inlined PropertyName n = true
 is_inlined role n = false
 
