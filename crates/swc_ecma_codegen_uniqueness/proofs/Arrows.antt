@@ -1,5 +1,5 @@
 -- Arrow functions are read as they are: what stands before `=>` are parameters.
-use Rattle.std.proofs.Common.{◌≡◌, Bool, true, false, ◌||◌, not, List, [], ◌∷◌, Option, Some, None, refl, sym, ap, ◌∙◌, subst}
+use Rattle.std.proofs.Common.{◌≡◌, ℕ, Bool, true, false, ◌||◌, not, List, [], ◌∷◌, Option, Some, None, refl, sym, ap, ◌∙◌, subst}
 use Rattle.std.specs.Prelude.{codes, is_some}
 use Rattle.std.proofs.lemmas.Bool.{true≢false}
 use Rattle.swc_ecma_codegen_tree.specs.Links.{PatBox, TsTypeAnnBox, TsTypeParamDeclBox}
@@ -17,6 +17,7 @@ use Rattle.swc_ecma_codegen_grammar.specs.Phrases.{Phrase, Never, Nothing, One, 
 use Rattle.swc_ecma_codegen_grammar.specs.Phrases as phrases
 use Rattle.swc_ecma_codegen_grammar.specs.Settings.{Settings}
 use Rattle.swc_ecma_codegen_grammar.specs.Tokens.{Token, punctuator, same_line}
+use Rattle.swc_ecma_codegen_grammar.specs.Tokens as tokens
 use Rattle.swc_ecma_codegen_grammar.specs.TreePhrases.{phrase, node_phrase}
 use Rattle.swc_ecma_codegen_grammar.proofs.TreeLaws.{phrase_at}
 use Rattle.swc_ecma_codegen_grammar.specs.declared.roles.Role.TheVariants.{Pattern, PlainParameter}
@@ -26,14 +27,15 @@ use Rattle.swc_ecma_codegen_syntax.specs.Parameters.{of_arrow_parameters}
 use Rattle.swc_ecma_codegen_syntax.specs.Forms.{Fixed, Provided, ByRule, ◌⇢◌, is_met, ending_after, ending_listed}
 use Rattle.swc_ecma_codegen_syntax.specs.FunctionForms.{type_params_form, arrow_params_form, arrow_body_form, async_form, arrow_form}
 use Rattle.swc_ecma_codegen_syntax.specs.MemberForms.{annotation_form}
-use Rattle.swc_ecma_codegen_syntax.specs.PatForms.{pat_part, pat_nonterminal}
-use Rattle.swc_ecma_codegen_syntax.specs.NodeForms.{node_form, node_nonterminal, part_nonterminal}
+use Rattle.swc_ecma_codegen_syntax.specs.PatForms.{pat_form, pat_part, pat_nonterminal}
+use Rattle.swc_ecma_codegen_syntax.specs.NodeForms.{node_form, node_nonterminal, part_form, part_nonterminal}
 use Rattle.swc_ecma_codegen_syntax.specs.Derives.{Derives, fixed, part, restricted, lone, lone_in_parentheses, both, provided}
 use Rattle.swc_ecma_codegen_uniqueness.specs.ParseTrees.{Variant, ParseTree, End, Read, Optional, Node, Ident, Seq, Arrow, Paren, is_known, part_variant, pat_variant, node_variant, tokens_of}
 use Rattle.swc_ecma_codegen_uniqueness.specs.Parses.{placed, is_inlined, is_inlined_pattern, is_inlined_pat}
+use Rattle.swc_ecma_codegen_uniqueness.proofs.Classes.{class}
 use Rattle.swc_ecma_codegen_uniqueness.proofs.Tables.{Listed, ArrowBody, InList}
-use Rattle.swc_ecma_codegen_uniqueness.proofs.TableLaws.{cover, or_left, takes_on}
-use Rattle.swc_ecma_codegen_uniqueness.proofs.Machine.{Whole, Rest, Good, turned}
+use Rattle.swc_ecma_codegen_uniqueness.proofs.TableLaws.{cover, or_left, takes_on, is_function}
+use Rattle.swc_ecma_codegen_uniqueness.proofs.Machine.{Whole, Rest, Good, Heads, turned}
 use Rattle.swc_ecma_codegen_uniqueness.proofs.Joined.{derived_joined}
 use Rattle.swc_ecma_codegen_uniqueness.proofs.Parsed.{tokens_before}
 use Rattle.swc_ecma_codegen_uniqueness.proofs.StatementShapes.{operand_heads, arrow_value, arrow_block}
@@ -41,7 +43,7 @@ use Rattle.swc_ecma_codegen_uniqueness.proofs.Heading.{may_be_value, not_exclude
 use Rattle.swc_ecma_codegen_uniqueness.proofs.Shapes.{Operand, takes_self, assignment_taken, widened, left_taken, left_assigned, listed_first, listed_next, listed_last, listed_rest, no_parameters, several_parameters, one_parameter, rest_parameter, one_turned, arrow_mark, arrow, async_arrow, ended}
 use Rattle.swc_ecma_codegen_uniqueness.proofs.Reading.{read_phrase, derived_parse}
 use Rattle.swc_ecma_codegen_uniqueness.proofs.Fits.{Fit, in_place, at_place, PlacedGood, AllGood}
-use Rattle.swc_ecma_codegen_uniqueness.proofs.Atoms.{no_annotation}
+use Rattle.swc_ecma_codegen_uniqueness.proofs.Atoms.{no_annotation, binding_read}
 use Rattle.swc_ecma_codegen_uniqueness.proofs.Patterns.{covered_at, LastPart, an_element, a_rest, last_at, no_rest}
 
 -- ---- several parameters are covered by a sequence
@@ -84,14 +86,24 @@ record Turned (f : ParseTree → ParseTree) : Type 0 where
   inside : ParseTree
   operand : Operand nt.LeftHandSideExpression variant inside
   is : (rest : ParseTree) → f (Read same_line rest) ≡ turned variant inside same_line rest
+  heads : Heads (λ u. is_function (class u) ≡ false) inside
+
+-- what begins with `(`
+parenthesis_heads : (p : ParseTree) → Heads (λ u. is_function (class u) ≡ false) (Read (punctuator (codes "(")) p)
+unfolding tokens_of punctuator
+parenthesis_heads p = λ us. (_, tokens_of p us, refl, refl)
+
+name_heads : (text : List ℕ) (p : ParseTree) → p ≡ Read (tokens.name text) End → Heads (λ u. is_function (class u) ≡ false) p
+unfolding tokens_of tokens.name
+name_heads text p e = λ us. (tokens.name text, us, ap (λ z. tokens_of z us) e, refl)
 
 -- a name alone needs no parentheses
 lone_in : {s : Settings} (called : Bool) (c : Parameters) (y : AnyNode-F AnyNode) {ts : List Token} (d : Derives true s (node_form called c y Pattern) ts) → is_never (node_phrase phrase y PlainParameter) ≡ false →
     PlacedGood (is_inlined Pattern y) (s.minify ≡ c.minify → Fit (node_variant y Pattern) (cover (node_nonterminal called c y Pattern)) (derived_parse d End)) (AllGood d) → s.minify ≡ c.minify →
     Turned (placed (is_inlined Pattern y) (node_variant y Pattern) (derived_parse d))
-unfolding node_phrase expr_part plain_parameter is_never node_nonterminal part_nonterminal pat_nonterminal node_variant part_variant pat_variant is_known PlacedGood placed is_inlined is_inlined_pattern is_inlined_pat same_line
+unfolding node_phrase expr_part plain_parameter is_never node_form part_form pat_form node_nonterminal part_nonterminal pat_nonterminal node_variant part_variant pat_variant is_known PlacedGood placed is_inlined is_inlined_pattern is_inlined_pat same_line
 lone_in called c (nodes.ExprPart (expr_parts.Pat (pats.Ident n))) d h o m =
-    record { variant = Ident; inside = derived_parse d End; operand = in_place (takes_self nt.LeftHandSideExpression) (o m); is = λ rest. refl }
+    record { variant = Ident; inside = derived_parse d End; operand = in_place (takes_self nt.LeftHandSideExpression) (o m); is = λ rest. refl; heads = name_heads _ _ (binding_read c n d End) }
 lone_in called c (nodes.ExprPart (expr_parts.Pat n)) d h o m = absurd (true≢false h)
 lone_in called c y d h o m = absurd (true≢false (sym (o m).known))
 
@@ -102,30 +114,33 @@ one_read (an_element v) = record {
   inside = Read (punctuator (codes "(")) (Node v.variant v.inside (Read (punctuator (codes ")")) End));
   operand = widened left_taken (one_parameter v.operand);
   is = λ rest. ap (Optional (punctuator (codes "("))) (v.is (Optional (punctuator (codes ")")) (Read same_line rest))) ∙ one_turned rest v.operand;
+  heads = parenthesis_heads _;
 }
 one_read (a_rest v) = record {
   variant = Paren;
   inside = Read (punctuator (codes "(")) (Read (punctuator (codes "...")) (Node v.covered.variant v.covered.inside (Read (punctuator (codes ")")) End)));
   operand = widened left_taken (rest_parameter (widened left_assigned v.covered.operand));
   is = λ rest. ap (Optional (punctuator (codes "("))) (v.is _ ∙ ap (Read (punctuator (codes "..."))) (v.covered.is _));
+  heads = parenthesis_heads _;
 }
 
 params_read : {s : Settings} (typed : Bool) (c : Parameters) (ns : List (PatBox AnyNode)) {ts : List Token} → typed ≡ false → (d : Derives true s (arrow_params_form c typed ns) ts) → AllGood d → s.minify ≡ c.minify → Turned (derived_parse d)
 unfolding arrow_params_form ending_listed AllGood derived_parse read_phrase same_line
 params_read true c ns t d o m = absurd (true≢false t)
 params_read false c [] t (both (fixed g) (both (fixed h) (fixed k))) o m =
-    record { variant = Paren; inside = Read (punctuator (codes "(")) (Read (punctuator (codes ")")) End); operand = widened left_taken no_parameters; is = λ rest. refl }
+    record { variant = Paren; inside = Read (punctuator (codes "(")) (Read (punctuator (codes ")")) End); operand = widened left_taken no_parameters; is = λ rest. refl; heads = parenthesis_heads _ }
 params_read false c (n ∷ []) t (lone h (part called st d)) o m =
     let v = lone_in called c (out-AnyNode n.node.value) d (ap is_never (sym (phrase_at n.node.value PlainParameter)) ∙ h) o m in
-    record { variant = v.variant; inside = v.inside; operand = v.operand; is = v.is }
+    record { variant = v.variant; inside = v.inside; operand = v.operand; is = v.is; heads = v.heads }
 params_read false c (n ∷ []) t (lone_in_parentheses d) o m =
     let v = one_read (last_at c n.node.value d o m) in
-    record { variant = v.variant; inside = v.inside; operand = v.operand; is = v.is }
+    record { variant = v.variant; inside = v.inside; operand = v.operand; is = v.is; heads = v.heads }
 params_read false c (x ∷ y ∷ ys) t (both (fixed g) (both d (fixed h))) (z, (o, w)) m = record {
   variant = Paren;
   inside = Read (punctuator (codes "(")) (Node Seq (derived_parse d End) (Read (punctuator (codes ")")) End));
   operand = widened left_taken (several_parameters (params_seq c x y ys d o m));
   is = λ rest. ap (Read (punctuator (codes "("))) (sym (derived_joined d End (Read (punctuator (codes ")")) (Read same_line rest))));
+  heads = parenthesis_heads _;
 }
 
 -- ---- the rest of it
@@ -163,6 +178,7 @@ record Shaped (m : ParseTree) : Type 0 where
   variant : Variant
   inside : ParseTree
   operand : Operand nt.LeftHandSideExpression variant inside
+  heads : Heads (λ u. is_function (class u) ≡ false) inside
   body : ParseTree
   good : Good (Rest ArrowBody Arrow nt.AssignmentExpression) body
   is : m ≡ turned variant inside same_line (Read arrow_mark body)
@@ -178,6 +194,7 @@ shaped b c n star types params annotation body o q m =
       variant = p.variant;
       inside = p.inside;
       operand = p.operand;
+      heads = p.heads;
       body = derived_parse body End;
       good = body_read c b n.body body q m;
       is =
@@ -194,7 +211,7 @@ arrow_by : {s : Settings} (b : Bool) (c : Parameters) (n : ArrowExpr AnyNode) {t
 unfolding async_form AllGood derived_parse read_phrase
 arrow_by true c n (both (fixed a) (both (fixed l) (both star (both types (both params (both annotation (both (fixed g) (both (fixed h) body)))))))) (y, (z, (u, (v, (o, (w, (x, (k, q)))))))) m =
     let r = shaped true c n star types params annotation body o q m in
-    async_arrow r.operand r.good r.is
+    async_arrow r.operand r.heads r.good r.is
 arrow_by false c n (both star (both types (both params (both annotation (both (fixed g) (both (fixed h) body)))))) (u, (v, (o, (w, (x, (k, q)))))) m =
     let r = shaped false c n star types params annotation body o q m in
     arrow r.operand r.good r.is

@@ -52,7 +52,7 @@ use Rattle.swc_ecma_codegen_uniqueness.proofs.Linking.{where_read, target_member
 
 -- ---- names
 
-named_read : (s : Settings) (b : Bool) (at : BytePos) (bytes : List ℕ) (ts : List Token) (g : Generates s (Then (NameOf at bytes) (if b then mark (codes "?") else Nothing)) ts) → not b ≡ true →
+pub named_read : (s : Settings) (b : Bool) (at : BytePos) (bytes : List ℕ) (ts : List Token) (g : Generates s (Then (NameOf at bytes) (if b then mark (codes "?") else Nothing)) ts) → not b ≡ true →
     (rest : ParseTree) → read_phrase s (Then (NameOf at bytes) (if b then mark (codes "?") else Nothing)) ts g rest ≡ Read (tokens.name (name_value (spelled_name bytes))) rest
 unfolding read_phrase
 named_read s false at bytes ts g h rest = refl

@@ -25,7 +25,7 @@ use Rattle.swc_ecma_codegen_syntax.specs.declared.nonterminals.Nonterminal.{Nont
 use Rattle.swc_ecma_codegen_syntax.specs.declared.nonterminals.Nonterminal.TheVariants as nt
 use Rattle.swc_ecma_codegen_syntax.specs.declared.parameters.Parameters.{Parameters}
 use Rattle.swc_ecma_codegen_syntax.specs.Parameters.{of_class}
-use Rattle.swc_ecma_codegen_syntax.specs.ClassForms.{heritage_form, implemented_form, implements_form, members_form, class_tail_form, class_word_form, class_decl_form, class_expr_form}
+use Rattle.swc_ecma_codegen_syntax.specs.ClassForms.{heritage_form, implemented_form, implements_form, members_form, class_tail_form, class_word_form, class_rest_form, class_decl_form, class_expr_form}
 use Rattle.swc_ecma_codegen_syntax.specs.Forms.{Fixed, Part, Provided, ByScope, is_met, in_order}
 use Rattle.swc_ecma_codegen_syntax.specs.FunctionForms.{decorators_form, bound_name_form, optional_name_form}
 use Rattle.swc_ecma_codegen_syntax.specs.Nonterminals.{takes, is_class_element, is_private}
@@ -153,11 +153,33 @@ pub class_rest : {s : Settings} (n : Nonterminal) (c : Parameters) (x : ClassExp
     Good (Rest AfterClass AClass n) (derived_parse d (derived_parse e End))
 class_rest n c x d e o m = optional_class n (of_class c) x.ident d _ (class_tail_good n c x.class.node.value e o m)
 
+-- what is read behind `class`
+pub record ClassRead (n : Nonterminal) (m : ParseTree) : Type 0 where
+  pub rest : ParseTree
+  pub is : m ≡ Read (word (codes "class")) rest
+  pub good : Good (Rest AfterClass AClass n) rest
+
+pub class_expr_read : {s : Settings} (at : Nonterminal) (c : Parameters) (n : ClassExpr AnyNode) {ts : List Token} (d : Derives true s (class_expr_form c n) ts) → AllGood d → s.minify ≡ c.minify → ClassRead at (derived_parse d End)
+unfolding class_expr_form AllGood derived_parse
+class_expr_read at c n (both h (both w (both i t))) (x, (y, (z, o))) m = record {
+  rest = _;
+  is = no_class_decorators c n.class.node.value h _ ∙ class_word_read c n.class.node.value w _;
+  good = class_rest at c n i t o m;
+}
+
 pub class_expr_good : {s : Settings} (c : Parameters) (n : ClassExpr AnyNode) {ts : List Token} (d : Derives true s (class_expr_form c n) ts) → AllGood d → s.minify ≡ c.minify → Good (Whole AClass nt.PrimaryExpression) (derived_parse d End)
-unfolding class_expr_form AllGood derived_parse word
-class_expr_good c n (both h (both w (both i t))) (x, (y, (z, o))) m =
-    subst (λ p. Good (Whole AClass nt.PrimaryExpression) p) (sym (no_class_decorators c n.class.node.value h _ ∙ class_word_read c n.class.node.value w _))
-    (begun (word (codes "class")) AClass nt.PrimaryExpression AfterClass _ refl refl refl (class_rest nt.PrimaryExpression c n i t o m))
+unfolding word
+class_expr_good c n d o m =
+    let r = class_expr_read nt.PrimaryExpression c n d o m in subst (λ p. Good (Whole AClass nt.PrimaryExpression) p) (sym r.is) (begun (word (codes "class")) AClass nt.PrimaryExpression AfterClass _ refl refl refl r.good)
+
+-- behind `export`
+pub class_rest_read : {s : Settings} (at : Nonterminal) (c : Parameters) (n : ClassDecl AnyNode) {ts : List Token} (d : Derives true s (class_rest_form c n) ts) → AllGood d → s.minify ≡ c.minify → ClassRead at (derived_parse d End)
+unfolding class_rest_form AllGood derived_parse
+class_rest_read at c n (both k (both w (both i t))) (x, (y, (z, o))) m = record {
+  rest = _;
+  is = no_declare n.declare k _ ∙ class_word_read c n.class.node.value w _;
+  good = bound_class at (of_class c) n.ident i _ (class_tail_good at c n.class.node.value t o m);
+}
 
 pub class_decl_good : {s : Settings} (b : Bool) (c : Parameters) (n : ClassDecl AnyNode) {ts : List Token} (d : Derives true s (class_decl_form c n) ts) → AllGood d → s.minify ≡ c.minify → Good (Whole AClass (item_of b)) (derived_parse d End)
 unfolding class_decl_form AllGood derived_parse

@@ -14,7 +14,7 @@ pub data Class : Type 0 where
   Infix : (level : Level) → Class
   Assigns Ask Colon Comma Dot ChainDot OpenParen CloseParen OpenBracket CloseBracket OpenBrace CloseBrace Dots Line Twice Bang FatArrow Semi Semicolon FirstLine : Class
   First Later : (opens : Bool) → Class
-  NameToken PrivateToken LiteralToken ThisWord NewWord SuperWord ImportWord YieldWord AwaitWord AsyncWord FunctionWord ClassWord ExtendsWord StaticWord ConstructorWord ReturnWord ThrowWord BreakWord ContinueWord DebuggerWord IfWord ElseWord WhileWord WithWord DoWord TryWord CatchWord FinallyWord SwitchWord CaseWord DefaultWord GetWord SetWord VarWord UnaryWord TargetWord MetaWord Strange : Class
+  NameToken PrivateToken LiteralToken ThisWord NewWord SuperWord ImportWord YieldWord AwaitWord AsyncWord FunctionWord ClassWord ExtendsWord StaticWord ConstructorWord ExportWord ReturnWord ThrowWord BreakWord ContinueWord DebuggerWord IfWord ElseWord WhileWord WithWord DoWord TryWord CatchWord FinallyWord SwitchWord CaseWord DefaultWord GetWord SetWord VarWord UnaryWord TargetWord MetaWord Strange : Class
 
 abbrev pub look : List (List ℕ × Class) → List ℕ → Class
 look [] text = Strange
@@ -25,6 +25,7 @@ words =
     (codes "this", ThisWord) ∷ (codes "new", NewWord) ∷ (codes "super", SuperWord) ∷ (codes "import", ImportWord) ∷ (codes "yield", YieldWord)
     ∷ (codes "await", AwaitWord) ∷ (codes "async", AsyncWord) ∷ (codes "function", FunctionWord)
     ∷ (codes "class", ClassWord) ∷ (codes "extends", ExtendsWord) ∷ (codes "static", StaticWord) ∷ (codes "constructor", ConstructorWord)
+    ∷ (codes "export", ExportWord)
     ∷ (codes "return", ReturnWord) ∷ (codes "throw", ThrowWord) ∷ (codes "break", BreakWord) ∷ (codes "continue", ContinueWord) ∷ (codes "debugger", DebuggerWord)
     ∷ (codes "if", IfWord) ∷ (codes "else", ElseWord) ∷ (codes "while", WhileWord) ∷ (codes "do", DoWord) ∷ (codes "try", TryWord) ∷ (codes "catch", CatchWord) ∷ (codes "finally", FinallyWord)
     ∷ (codes "switch", SwitchWord) ∷ (codes "case", CaseWord) ∷ (codes "default", DefaultWord)

@@ -1,4 +1,4 @@
--- Functions that aren't async are read as they are.
+-- Functions are read as they are.
 use Rattle.std.proofs.Common.{◌≡◌, ℕ, Bool, true, false, not, List, [], ◌∷◌, Option, Some, None, refl, sym, ap, ◌∙◌, subst}
 use Rattle.std.specs.Prelude.{codes, string_bytes, if◌then◌else◌}
 use Rattle.std.proofs.lemmas.Bool.{true≢false}
@@ -23,7 +23,7 @@ use Rattle.swc_ecma_codegen_grammar.specs.Phrases.{Generates, Then, mark}
 use Rattle.swc_ecma_codegen_grammar.specs.Phrases as phrases
 use Rattle.swc_ecma_codegen_grammar.specs.Settings.{Settings}
 use Rattle.swc_ecma_codegen_grammar.specs.SpelledNames.{spelled_name}
-use Rattle.swc_ecma_codegen_grammar.specs.Tokens.{Token, punctuator, word}
+use Rattle.swc_ecma_codegen_grammar.specs.Tokens.{Token, punctuator, word, same_line}
 use Rattle.swc_ecma_codegen_grammar.specs.Tokens as tokens
 use Rattle.swc_ecma_codegen_grammar.specs.declared.roles.Role.TheVariants.{Function, FunctionHead}
 use Rattle.swc_ecma_codegen_syntax.specs.declared.nonterminals.Nonterminal.{Nonterminal}
@@ -32,22 +32,21 @@ use Rattle.swc_ecma_codegen_syntax.specs.declared.parameters.Parameters.{Paramet
 use Rattle.swc_ecma_codegen_syntax.specs.Nonterminals.{takes, is_pattern_target, is_pattern_element, is_last_element}
 use Rattle.swc_ecma_codegen_syntax.specs.Parameters.{of_function_name}
 use Rattle.swc_ecma_codegen_syntax.specs.Forms.{Form, Fixed, Part, Provided, ByRule, ByScope, is_met, in_order, each_after, listed, ending_after, ending_listed}
-use Rattle.swc_ecma_codegen_syntax.specs.FunctionForms.{type_params_form, decorators_form, bound_name_form, optional_name_form, pat_in, param_form, params_form, body_form, own_of, rest_of_function, function_form, fn_expr_form, fn_decl_form}
+use Rattle.swc_ecma_codegen_syntax.specs.FunctionForms.{type_params_form, decorators_form, bound_name_form, optional_name_form, pat_in, param_form, params_form, body_form, own_of, rest_of_function, function_form, fn_expr_form, fn_default_form, fn_decl_form}
 use Rattle.swc_ecma_codegen_syntax.specs.PatForms.{pat_form, pat_nonterminal}
-use Rattle.swc_ecma_codegen_syntax.specs.NodeForms.{node_form, node_nonterminal, part_form, stmt_part_form, jsx_part_form}
+use Rattle.swc_ecma_codegen_syntax.specs.NodeForms.{node_form, part_form, stmt_part_form, jsx_part_form}
 use Rattle.swc_ecma_codegen_syntax.specs.Derives.{Derives, fixed, part, both, provided}
-use Rattle.swc_ecma_codegen_uniqueness.specs.ParseTrees.{Variant, ParseTree, End, Read, Fn, is_known, part_variant, node_variant}
-use Rattle.swc_ecma_codegen_uniqueness.specs.Parses.{placed, is_inlined, is_plain_head, is_inlined_pat}
+use Rattle.swc_ecma_codegen_uniqueness.specs.ParseTrees.{Variant, ParseTree, End, Read, Fn}
+use Rattle.swc_ecma_codegen_uniqueness.specs.Parses.{placed, is_inlined, is_inlined_pat}
 use Rattle.swc_ecma_codegen_uniqueness.proofs.Classes.{class}
-use Rattle.swc_ecma_codegen_uniqueness.proofs.Tables.{AfterFunction, AfterName, Parameter, AfterParameters, Splice, decide, passed_to, left, InList, closing}
+use Rattle.swc_ecma_codegen_uniqueness.proofs.Tables.{AfterAsync, AfterFunction, AfterName, Parameter, AfterParameters, Splice, decide, passed_to, left, InList, closing}
 use Rattle.swc_ecma_codegen_uniqueness.proofs.TableLaws.{cover, cover_taken, is_list}
 use Rattle.swc_ecma_codegen_uniqueness.proofs.Machine.{Whole, Rest, Good, shifted}
 use Rattle.swc_ecma_codegen_uniqueness.proofs.Shapes.{takes_self, assignment_taken, begun, ended}
-use Rattle.swc_ecma_codegen_uniqueness.proofs.StatementShapes.{Within, item_of, parameter_then, rest_then, no_parameters_then, parameters_end, function_item}
-use Rattle.swc_ecma_codegen_uniqueness.proofs.Heading.{not_true}
+use Rattle.swc_ecma_codegen_uniqueness.proofs.StatementShapes.{Within, item_of, parameter_then, rest_then, no_parameters_then, parameters_end, function_item, async_item}
 use Rattle.swc_ecma_codegen_uniqueness.proofs.Reading.{read_phrase, derived_parse}
 use Rattle.swc_ecma_codegen_uniqueness.proofs.Joined.{derived_joined}
-use Rattle.swc_ecma_codegen_uniqueness.proofs.Fits.{Fit, PlacedGood, AllGood, no_form}
+use Rattle.swc_ecma_codegen_uniqueness.proofs.Fits.{PlacedGood, AllGood, no_form}
 use Rattle.swc_ecma_codegen_uniqueness.proofs.Atoms.{no_annotation, name_read}
 use Rattle.swc_ecma_codegen_uniqueness.proofs.Patterns.{rest_covered, pat_good, no_rest_target}
 
@@ -202,40 +201,40 @@ tail_good c x (part k sk d) o m = let t = function_in k c (out-AnyNode x) d o m 
 
 -- ---- the words before it
 
-pub record Head (f : ParseTree → ParseTree) : Type 0 where
-  pub starred : Bool
-  pub is : (rest : ParseTree) → f rest ≡ Read (word (codes "function")) (if starred then Read (punctuator (codes "*")) rest else rest)
+abbrev pub behind_async : Bool → ParseTree → ParseTree
+behind_async true m = Read (word (codes "async")) (Read same_line m)
+behind_async false m = m
 
-head_by : (s : Settings) (a b : Bool) (ts : List Token) (g : Generates s (after_async a (Then (phrases.word (codes "function")) (word_if b (mark (codes "*"))))) ts) → a ≡ false →
+pub record Head (f : ParseTree → ParseTree) : Type 0 where
+  pub is_async : Bool
+  pub starred : Bool
+  pub is : (rest : ParseTree) → f rest ≡ behind_async is_async (Read (word (codes "function")) (if starred then Read (punctuator (codes "*")) rest else rest))
+
+head_by : (s : Settings) (a b : Bool) (ts : List Token) (g : Generates s (after_async a (Then (phrases.word (codes "function")) (word_if b (mark (codes "*"))))) ts) →
     Head (read_phrase s (after_async a (Then (phrases.word (codes "function")) (word_if b (mark (codes "*"))))) ts g)
 unfolding after_async word_if read_phrase
-head_by s true b ts g h = absurd (true≢false h)
-head_by s false true ts g h = record { starred = true; is = λ rest. refl }
-head_by s false false ts g h = record { starred = false; is = λ rest. refl }
+head_by s true true ts g = record { is_async = true; starred = true; is = λ rest. refl }
+head_by s true false ts g = record { is_async = true; starred = false; is = λ rest. refl }
+head_by s false true ts g = record { is_async = false; starred = true; is = λ rest. refl }
+head_by s false false ts g = record { is_async = false; starred = false; is = λ rest. refl }
 
--- an async function has a node there, which the laws don't know
-head_of : {s : Settings} (b : Bool) (x : functions.Function AnyNode) (c : Parameters) (variant : Variant) (n : Nonterminal) {ts : List Token} (d : Derives true s (Fixed (function_head x)) ts) → not x.is_async ≡ b → is_known variant ≡ false →
-    PlacedGood b (s.minify ≡ c.minify → Fit variant n (derived_parse d End)) (AllGood d) → s.minify ≡ c.minify → Head (placed b variant (derived_parse d))
-unfolding function_head PlacedGood placed derived_parse
-head_of {s = s} true x c variant n (fixed {ts = ts} g) h k o m =
-    let r = head_by s x.is_async x.is_generator ts g (not_true x.is_async h) in
-    record { starred = r.starred; is = r.is }
-head_of false x c variant n d h k o m = absurd (true≢false (sym (o m).known ∙ k))
+same_head : {f g : ParseTree → ParseTree} → ((rest : ParseTree) → f rest ≡ g rest) → Head g → Head f
+same_head e t = record { is_async = t.is_async; starred = t.starred; is = λ rest. e rest ∙ t.is rest }
 
-head_in : {s : Settings} (k : Bool) (c : Parameters) (y : AnyNode-F AnyNode) {ts : List Token} (d : Derives true s (node_form k c y FunctionHead) ts) →
-    PlacedGood (is_inlined FunctionHead y) (s.minify ≡ c.minify → Fit (node_variant y FunctionHead) (cover (node_nonterminal k c y FunctionHead)) (derived_parse d End)) (AllGood d) → s.minify ≡ c.minify →
-    Head (placed (is_inlined FunctionHead y) (node_variant y FunctionHead) (derived_parse d))
-unfolding node_form part_form stmt_part_form jsx_part_form node_variant part_variant is_known is_inlined is_plain_head is_met
-head_in k c (nodes.StmtPart (stmt_parts.Function x)) d o m =
-    let r = head_of (not x.value.is_async) x.value c _ _ d refl refl o m in
-    record { starred = r.starred; is = r.is }
-head_in k c (nodes.ExprPart (expr_parts.Tpl x)) d o m = absurd (no_form d)
-head_in k c (nodes.JSXPart (jsx_parts.JSXElement x)) d o m = absurd (no_form d)
-head_in k c y d o m = absurd (no_form d)
+head_of : {s : Settings} (x : functions.Function AnyNode) {ts : List Token} (d : Derives true s (Fixed (function_head x)) ts) → Head (derived_parse d)
+unfolding function_head derived_parse
+head_of {s = s} x (fixed {ts = ts} g) = same_head (λ rest. refl) (head_by s x.is_async x.is_generator ts g)
 
-head_good : {s : Settings} (place : Nonterminal) (c : Parameters) (x : AnyNode) {ts : List Token} (d : Derives true s (Part place c FunctionHead x) ts) → AllGood d → s.minify ≡ c.minify → Head (derived_parse d)
-unfolding AllGood derived_parse
-head_good place c x (part k sk d) o m = let r = head_in k c (out-AnyNode x) d o m in record { starred = r.starred; is = r.is }
+head_in : {s : Settings} (k : Bool) (c : Parameters) (y : AnyNode-F AnyNode) {ts : List Token} (d : Derives true s (node_form k c y FunctionHead) ts) → Head (derived_parse d)
+unfolding node_form part_form stmt_part_form jsx_part_form
+head_in k c (nodes.StmtPart (stmt_parts.Function x)) d = head_of x.value d
+head_in k c (nodes.ExprPart (expr_parts.Tpl x)) d = absurd (no_form d)
+head_in k c (nodes.JSXPart (jsx_parts.JSXElement x)) d = absurd (no_form d)
+head_in k c y d = absurd (no_form d)
+
+head_good : {s : Settings} (place : Nonterminal) (c : Parameters) (x : AnyNode) {ts : List Token} (d : Derives true s (Part place c FunctionHead x) ts) → Head (derived_parse d)
+unfolding derived_parse placed is_inlined
+head_good place c x (part k sk d) = same_head (λ rest. refl) (head_in k c (out-AnyNode x) d)
 
 -- ---- functions
 
@@ -266,24 +265,57 @@ unfolding optional_name_form derived_parse read_phrase
 optional_tail n c None (fixed g) t = plain_tail n t
 optional_tail n c (Some x) d {f = f} t = subst (λ z. Good (Rest AfterFunction Fn n) z) (sym (bound_read c x d (f End))) (named_tail n _ t)
 
+-- what is read behind `function`
+pub record FunctionRead (n : Nonterminal) (m : ParseTree) : Type 0 where
+  pub is_async : Bool
+  pub rest : ParseTree
+  pub is : m ≡ behind_async is_async (Read (word (codes "function")) rest)
+  pub good : Good (Rest AfterFunction Fn n) rest
+
+parts_read : {s : Settings} (at place : Nonterminal) (c named : Parameters) (n : FnExpr AnyNode) {ts us vs : List Token} (h : Derives true s (Part place c FunctionHead n.function.node.value) ts) (i : Derives true s (optional_name_form named n.ident) us)
+    (t : Derives true s (Part nt.FunctionTail c Function n.function.node.value) vs) → AllGood t → s.minify ≡ c.minify → FunctionRead at (derived_parse h (derived_parse i (derived_parse t End)))
+parts_read at place c named n h i t q m =
+    let r = head_good place c n.function.node.value h in
+    record {
+      is_async = r.is_async;
+      rest = _;
+      is = r.is (derived_parse i (derived_parse t End));
+      good = star_then r.starred at (optional_tail at named n.ident i (tail_good c n.function.node.value t q m));
+    }
+
+expression_by : (b : Bool) {m : ParseTree} → Good (Rest AfterFunction Fn nt.PrimaryExpression) m → Good (Whole Fn nt.PrimaryExpression) (behind_async b (Read (word (codes "function")) m))
+unfolding word same_line
+expression_by true g = begun (word (codes "async")) Fn nt.PrimaryExpression AfterAsync _ refl refl refl (shifted refl (shifted refl g))
+expression_by false g = begun (word (codes "function")) Fn nt.PrimaryExpression AfterFunction _ refl refl refl g
+
 pub fn_expr_good : {s : Settings} (c : Parameters) (n : FnExpr AnyNode) {ts : List Token} (d : Derives true s (fn_expr_form c n) ts) → AllGood d → s.minify ≡ c.minify → Good (Whole Fn nt.PrimaryExpression) (derived_parse d End)
-unfolding fn_expr_form AllGood derived_parse word
+unfolding fn_expr_form AllGood derived_parse
 fn_expr_good c n (both h (both i t)) (o, (p, q)) m =
-    let r = head_good _ c n.function.node.value h o m in
-    subst (λ z. Good (Whole Fn nt.PrimaryExpression) z) (sym (r.is (derived_parse i (derived_parse t End))))
-    (begun (word (codes "function")) Fn nt.PrimaryExpression AfterFunction _ refl refl refl
-    (star_then r.starred nt.PrimaryExpression (optional_tail nt.PrimaryExpression (of_function_name c) n.ident i (tail_good c n.function.node.value t q m))))
+    let r = parts_read nt.PrimaryExpression _ c (of_function_name c) n h i t q m in subst (λ z. Good (Whole Fn nt.PrimaryExpression) z) (sym r.is) (expression_by r.is_async r.good)
+
+pub fn_default_read : {s : Settings} (at : Nonterminal) (c : Parameters) (n : FnExpr AnyNode) {ts : List Token} (d : Derives true s (fn_default_form c n) ts) → AllGood d → s.minify ≡ c.minify → FunctionRead at (derived_parse d End)
+unfolding fn_default_form AllGood derived_parse
+fn_default_read at c n (both h (both i t)) (o, (p, q)) m = let r = parts_read at _ c c n h i t q m in record { is_async = r.is_async; rest = r.rest; is = r.is; good = r.good }
 
 pub no_declare : {s : Settings} (b : Bool) {ts : List Token} (d : Derives true s (Provided ByScope (not b) (Fixed (declare_word b))) ts) (rest : ParseTree) → derived_parse d rest ≡ rest
 unfolding declare_word word_if is_met derived_parse read_phrase
 no_declare true (provided h d) rest = absurd (true≢false (sym h))
 no_declare false (provided h (fixed g)) rest = refl
 
-pub fn_decl_good : {s : Settings} (b : Bool) (head : Nonterminal) (c : Parameters) (n : FnDecl AnyNode) {ts : List Token} (d : Derives true s (fn_decl_form head c n) ts) → AllGood d → s.minify ≡ c.minify → Good (Whole Fn (item_of b)) (derived_parse d End)
+pub fn_decl_read : {s : Settings} (at : Nonterminal) (head : Nonterminal) (c : Parameters) (n : FnDecl AnyNode) {ts : List Token} (d : Derives true s (fn_decl_form head c n) ts) → AllGood d → s.minify ≡ c.minify → FunctionRead at (derived_parse d End)
 unfolding fn_decl_form AllGood derived_parse
-fn_decl_good b head c n (both k (both h (both i t))) (x, (o, (p, q))) m =
-    let r = head_good head c n.function.node.value h o m in
-    subst (λ z. Good (Whole Fn (item_of b)) z)
-    (sym (no_declare n.declare k _ ∙ r.is (derived_parse i (derived_parse t End))))
-    (function_item b (star_then r.starred (item_of b) (subst (λ z. Good (Rest AfterFunction Fn (item_of b)) z) (sym (bound_read c n.ident i (derived_parse t End)))
-    (named_tail (item_of b) _ (tail_good c n.function.node.value t q m)))))
+fn_decl_read at head c n (both k (both h (both i t))) (x, (o, (p, q))) m =
+    let r = head_good head c n.function.node.value h in
+    record {
+      is_async = r.is_async;
+      rest = _;
+      is = no_declare n.declare k _ ∙ r.is (derived_parse i (derived_parse t End));
+      good = star_then r.starred at (subst (λ z. Good (Rest AfterFunction Fn at) z) (sym (bound_read c n.ident i (derived_parse t End))) (named_tail at _ (tail_good c n.function.node.value t q m)));
+    }
+
+item_by : (b k : Bool) {m : ParseTree} → Good (Rest AfterFunction Fn (item_of b)) m → Good (Whole Fn (item_of b)) (behind_async k (Read (word (codes "function")) m))
+item_by b true g = async_item b g
+item_by b false g = function_item b g
+
+pub fn_decl_good : {s : Settings} (b : Bool) (head : Nonterminal) (c : Parameters) (n : FnDecl AnyNode) {ts : List Token} (d : Derives true s (fn_decl_form head c n) ts) → AllGood d → s.minify ≡ c.minify → Good (Whole Fn (item_of b)) (derived_parse d End)
+fn_decl_good b head c n d o m = let r = fn_decl_read (item_of b) head c n d o m in subst (λ z. Good (Whole Fn (item_of b)) z) (sym r.is) (item_by b r.is_async r.good)

@@ -11,6 +11,7 @@ pub mod Layers
 pub mod Linking
 pub mod Lists
 pub mod Machine
+pub mod Modules
 pub mod Objects
 pub mod Operators
 pub mod Parsed

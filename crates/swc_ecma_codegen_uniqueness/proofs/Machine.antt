@@ -5,7 +5,7 @@ use Rattle.swc_ecma_codegen_grammar.specs.Tokens.{Token}
 use Rattle.swc_ecma_codegen_syntax.specs.declared.nonterminals.Nonterminal.{Nonterminal}
 use Rattle.swc_ecma_codegen_uniqueness.specs.ParseTrees.{Variant, Seq, Paren, ParseTree, End, Read, Optional, Node, tokens_of}
 use Rattle.swc_ecma_codegen_uniqueness.proofs.Classes.{Class, Line, Colon, class}
-use Rattle.swc_ecma_codegen_uniqueness.proofs.Tables.{InParen, Control, Action, Shift, Push, Wrap, Reduce, Turn, Begin, Enter, Leave, Splice, Take, Keep, begin, entered, outside, decide, shift, start, wrap, stands, closes, variant_of}
+use Rattle.swc_ecma_codegen_uniqueness.proofs.Tables.{InParen, Control, Action, Shift, Push, Wrap, Reduce, Turn, Begin, Enter, Leave, Splice, Take, Keep, EnterBelow, Merge, begin, entered, outside, as_expression, decide, shift, start, wrap, stands, closes, variant_of}
 
 -- what is at hand: nothing, or a node
 pub data Hand : Type 0 where
@@ -137,13 +137,20 @@ acted_once Splice t f s h reduced =
     At (record { control = shift f.control (sign h) t; so_far = λ rest. f.so_far (spliced h (Read t rest)); other = λ rest. f.so_far (spliced h (Read t rest)) } ∷ s) Empty
 acted_once Take t f s h reduced = Fail
 acted_once Keep t f s h reduced = Fail
+acted_once EnterBelow t f s h reduced = Fail
+acted_once Merge t f s h reduced = Fail
 
--- an item is taken, and then its list goes on with the token
+-- an item is taken, and then its list goes on with the token; what was begun is of an expression, in the place below, or it is no node
 abbrev pub acted : Action → Token → Frame → List Frame → Hand → State → State
 acted Take t f s h reduced =
     acted_once (decide f.control None t) t (record { control = f.control; so_far = λ rest. f.so_far (spliced h rest); other = λ rest. f.so_far (spliced h rest) }) s Empty Fail
 acted Keep t f s h reduced =
     acted_once (decide f.control None t) t (record { control = f.control; so_far = λ rest. f.so_far (held h rest); other = λ rest. f.so_far (held h rest) }) s Empty Fail
+acted EnterBelow t f [] h reduced = Fail
+acted EnterBelow t f (g ∷ s) h reduced = acted_once (decide (as_expression f.control) (sign h) t) t (within (as_expression f.control) f) (within (entered g.control) g ∷ s) h Fail
+acted Merge t f [] h reduced = Fail
+acted Merge t f (g ∷ s) h reduced =
+    At (record { control = shift f.control None t; so_far = λ rest. g.so_far (f.so_far (Read t rest)); other = λ rest. g.so_far (f.so_far (Read t rest)) } ∷ s) Empty
 acted a t f s h reduced = acted_once a t f s h reduced
 
 abbrev pub step : Token → List Frame → Hand → State
@@ -168,6 +175,14 @@ pub data Mode : Type 0 where
 -- what begins with a token of which something is said
 abbrev pub Heads : (Token → Type 0) → ParseTree → Type 0
 Heads P m = (us : List Token) → (u : Token) × (vs : List Token) × (tokens_of m us ≡ u ∷ vs) × P u
+
+-- the same before a token
+abbrev pub HeadsBefore : Token → (Token → Type 0) → ParseTree → Type 0
+HeadsBefore t P m = (us : List Token) → (u : Token) × (vs : List Token) × (tokens_of m (t ∷ us) ≡ u ∷ vs) × P u
+
+-- tokens of an expression are read in a place as in the one that they enter
+abbrev pub Entering : Frame → List Token → Type 0
+Entering f ts = (s : List Frame) → run ts (At (f ∷ s) Empty) ≡ run ts (At (within (entered f.control) f ∷ s) Empty)
 
 abbrev pub Enters : Control → Token → Type 0
 Enters c u = (decide c None u ≡ Enter) × (decide (entered c) None u ≡ Push)
@@ -212,8 +227,12 @@ pub data Good : Mode → ParseTree → Type 0 where
       Good (Rest at variant n) m → Good (Whole variant n) (Read t m)
   stated : {variant left : Variant} {n k : Nonterminal} {inside m p : ParseTree} (t : Token) → Good (Whole left k) inside → closes t k ≡ true →
       ((c : Control) → stands c n ≡ true → (stands (entered c) k ≡ true) × (decide (entered c) (Some left) t ≡ Leave) × (outside (entered c) ≡ c)) →
-      Heads (λ u. (c : Control) → stands c n ≡ true → Enters c u) inside → Good (Rest (wrap left t) variant n) m → p ≡ left_with left inside t m → Good (Whole variant n) p
-  entering : {at : Control} {variant : Variant} {n : Nonterminal} {m : ParseTree} → Heads (Enters at) m → Good (Rest (entered at) variant n) m → Good (Rest at variant n) m
+      ((f : Frame) (us : List Token) → stands f.control n ≡ true → Entering f (tokens_of inside (t ∷ us))) → HeadsBefore t (λ u. (c : Control) → stands c n ≡ true → goes_on (decide c None u) ≡ true) inside →
+      Good (Rest (wrap left t) variant n) m → p ≡ left_with left inside t m → Good (Whole variant n) p
+  entering : {at : Control} {variant : Variant} {n : Nonterminal} {m : ParseTree} → ((b o : ParseTree → ParseTree) (t : Token) (us : List Token) → Entering (record { control = at; so_far = b; other = o }) (tokens_of m (t ∷ us))) →
+      Good (Rest (entered at) variant n) m → Good (Rest at variant n) m
+  merged : {at begun line : Control} {variant : Variant} {n : Nonterminal} {m : ParseTree} (t u v : Token) → decide at None t ≡ Begin → begin at t ≡ begun → decide begun None u ≡ Shift → shift begun None u ≡ line → decide line None v ≡ Merge →
+      Good (Rest (shift line None v) variant n) m → Good (Rest at variant n) (Read t (Read u (Read v m)))
   splicing : {at : Control} {variant part : Variant} {n k : Nonterminal} {inside m p : ParseTree} (t : Token) → stands at k ≡ true → Good (Whole part k) inside →
       closes t k ≡ true → decide at (Some part) t ≡ Splice → Good (Rest (shift at (Some part) t) variant n) m → p ≡ joined inside (Read t m) → Good (Rest at variant n) p
   taking : {at : Control} {variant part : Variant} {n k : Nonterminal} {inside m p : ParseTree} → stands at k ≡ true → Good (Whole part k) inside →
@@ -252,26 +271,49 @@ joined_so : (p m q : ParseTree) (us : List Token) → q ≡ joined p m → token
 joined_so p m q us e = ap (λ z. tokens_of z us) e ∙ joined_tokens p m us
 
 -- a token that begins an expression does so in the place that it enters
-entering_there : (f : Frame) (s : List Frame) (ts : List Token) (u : Token) (vs : List Token) → ts ≡ u ∷ vs → Enters f.control u → run ts (At (f ∷ s) Empty) ≡ run ts (At (within (entered f.control) f ∷ s) Empty)
+pub entering_there : (f : Frame) (s : List Frame) (ts : List Token) (u : Token) (vs : List Token) → ts ≡ u ∷ vs → Enters f.control u → run ts (At (f ∷ s) Empty) ≡ run ts (At (within (entered f.control) f ∷ s) Empty)
 entering_there f s ts u vs e i =
     ap (λ us. run us (At (f ∷ s) Empty)) e
     ∙ ap (run vs) (went Enter u f s Empty i.0 ∙ sym (went Push u (within (entered f.control) f) s Empty i.1))
     ∙ ap (λ us. run us (At (within (entered f.control) f ∷ s) Empty)) (sym e)
 
 -- a list goes on at a token as if it held nothing
-taken_there : (at : Control) (b : ParseTree → ParseTree) (u : Token) (s : List Frame) (a : Action) → decide at None u ≡ a → goes_on a ≡ true →
-    acted_once (decide at None u) u (record { control = at; so_far = b; other = b }) s Empty Fail ≡ step u (record { control = at; so_far = b; other = b } ∷ s) Empty
-taken_there at b u s Shift e h = ap (λ a. acted_once a u (record { control = at; so_far = b; other = b }) s Empty Fail) e ∙ sym (went Shift u (record { control = at; so_far = b; other = b }) s Empty e)
-taken_there at b u s Push e h = ap (λ a. acted_once a u (record { control = at; so_far = b; other = b }) s Empty Fail) e ∙ sym (went Push u (record { control = at; so_far = b; other = b }) s Empty e)
-taken_there at b u s Begin e h = ap (λ a. acted_once a u (record { control = at; so_far = b; other = b }) s Empty Fail) e ∙ sym (went Begin u (record { control = at; so_far = b; other = b }) s Empty e)
-taken_there at b u s Enter e h = ap (λ a. acted_once a u (record { control = at; so_far = b; other = b }) s Empty Fail) e ∙ sym (went Enter u (record { control = at; so_far = b; other = b }) s Empty e)
-taken_there at b u s Wrap e h = absurd (true≢false (sym h))
-taken_there at b u s Reduce e h = absurd (true≢false (sym h))
-taken_there at b u s Turn e h = absurd (true≢false (sym h))
-taken_there at b u s Leave e h = absurd (true≢false (sym h))
-taken_there at b u s Splice e h = absurd (true≢false (sym h))
-taken_there at b u s Take e h = absurd (true≢false (sym h))
-taken_there at b u s Keep e h = absurd (true≢false (sym h))
+once_there : (u : Token) (g : Frame) (s : List Frame) (a : Action) → decide g.control None u ≡ a → goes_on a ≡ true → acted_once (decide g.control None u) u g s Empty Fail ≡ step u (g ∷ s) Empty
+once_there u g s Shift e h = ap (λ a. acted_once a u g s Empty Fail) e ∙ sym (went Shift u g s Empty e)
+once_there u g s Push e h = ap (λ a. acted_once a u g s Empty Fail) e ∙ sym (went Push u g s Empty e)
+once_there u g s Begin e h = ap (λ a. acted_once a u g s Empty Fail) e ∙ sym (went Begin u g s Empty e)
+once_there u g s Enter e h = ap (λ a. acted_once a u g s Empty Fail) e ∙ sym (went Enter u g s Empty e)
+once_there u g s a e h = absurd (true≢false (sym h))
+
+-- what was begun in the place of an item goes on as an expression's
+lowered : (v : Token) (top f : Frame) (s : List Frame) (a : Action) → decide top.control None v ≡ EnterBelow → decide (as_expression top.control) None v ≡ a → goes_on a ≡ true →
+    step v (top ∷ f ∷ s) Empty ≡ step v (within (as_expression top.control) top ∷ within (entered f.control) f ∷ s) Empty
+lowered v top f s a e h k = went EnterBelow v top (f ∷ s) Empty e ∙ once_there v (within (as_expression top.control) top) (within (entered f.control) f ∷ s) a h k
+
+-- `import(`: the second token tells that the first begins an expression
+pub second_enters : (f : Frame) (u v : Token) (ts : List Token) (k : Control) (a : Action) → decide f.control None u ≡ Begin → begin f.control u ≡ k → decide k None v ≡ EnterBelow → decide (entered f.control) None u ≡ Push →
+    start u ≡ as_expression k → decide (as_expression k) None v ≡ a → goes_on a ≡ true → Entering f (u ∷ v ∷ ts)
+second_enters f u v ts k a b q e p r h g = λ s.
+    let as_begun : Control → Frame = λ z. record { control = z; so_far = λ rest. Read u rest; other = λ rest. Read u rest } in
+    ap (run (v ∷ ts)) (went Begin u f s Empty b ∙ ap (λ z. At (as_begun z ∷ f ∷ s) Empty) q)
+    ∙ ap (run ts) (lowered v (as_begun k) f s a e h g)
+    ∙ ap (λ z. run (v ∷ ts) (At (as_begun z ∷ within (entered f.control) f ∷ s) Empty)) (sym r)
+    ∙ ap (run (v ∷ ts)) (sym (went Push u (within (entered f.control) f) s Empty p))
+
+-- `async =>`: the third token tells
+pub third_enters : (f : Frame) (u v w : Token) (ts : List Token) (k l : Control) (a : Action) → decide f.control None u ≡ Begin → begin f.control u ≡ k → decide k None v ≡ Shift → shift k None v ≡ l → decide l None w ≡ EnterBelow →
+    decide (entered f.control) None u ≡ Push → start u ≡ as_expression k → decide (as_expression k) None v ≡ Shift → shift (as_expression k) None v ≡ as_expression l → decide (as_expression l) None w ≡ a → goes_on a ≡ true → Entering f (u ∷ v ∷ w ∷ ts)
+third_enters f u v w ts k l a b q x y e p r z i h g = λ s.
+    let below : Frame = within (entered f.control) f in
+    let as_begun : Control → Frame = λ c. record { control = c; so_far = λ rest. Read u rest; other = λ rest. Read u rest } in
+    let as_gone : Control → Frame = λ c. record { control = c; so_far = λ rest. Read u (Read v rest); other = λ rest. Read u (Optional v rest) } in
+    ap (run (v ∷ w ∷ ts)) (went Begin u f s Empty b ∙ ap (λ c. At (as_begun c ∷ f ∷ s) Empty) q)
+    ∙ ap (run (w ∷ ts)) (went Shift v (as_begun k) (f ∷ s) Empty x ∙ ap (λ c. At (as_gone c ∷ f ∷ s) Empty) y)
+    ∙ ap (run ts) (lowered w (as_gone l) f s a e h g)
+    ∙ ap (λ c. run (w ∷ ts) (At (as_gone c ∷ below ∷ s) Empty)) (sym i)
+    ∙ ap (run (w ∷ ts)) (sym (went Shift v (as_begun (as_expression k)) (below ∷ s) Empty z))
+    ∙ ap (λ c. run (v ∷ w ∷ ts) (At (as_begun c ∷ below ∷ s) Empty)) (sym r)
+    ∙ ap (run (v ∷ w ∷ ts)) (sym (went Push u below s Empty p))
 
 pub reads : {mode : Mode} {m : ParseTree} → Good mode m → Claim mode m
 unfolding tokens_of
@@ -324,20 +366,24 @@ reads (headed_block {t = u} {m = m} push g) = λ f s t ts st cl.
     ap (run (tokens_of m (t ∷ ts)))
     (went Begin u f s Empty (push f.control st).0 ∙ ap (λ z. At (record { control = z; so_far = λ rest. Read u rest; other = λ rest. Read u rest } ∷ f ∷ s) Empty) (push f.control st).1)
     ∙ reads g (λ rest. Read u rest) (λ rest. Read u rest) f s t ts cl
-reads (stated {variant = variant} {left = left} {inside = p} {m = m} {p = q} u i c w h g same) = λ f s t ts st cl.
+reads (stated {variant = variant} {left = left} {inside = p} {m = m} {p = q} u i c w h b g same) = λ f s t ts st cl.
     let top : Frame = within (entered f.control) f in
-    let head = h (u ∷ tokens_of m (t ∷ ts)) in
     ap (λ us. run us (At (f ∷ s) Empty)) (left_tokens left p u m q (t ∷ ts) same)
-    ∙ entering_there f s (tokens_of p (u ∷ tokens_of m (t ∷ ts))) head.0 head.1 head.2 (head.3 f.control st)
+    ∙ h f (tokens_of m (t ∷ ts)) st s
     ∙ reads i top s u (tokens_of m (t ∷ ts)) (w f.control st).0 c
     ∙ ap (run (tokens_of m (t ∷ ts))) (went Leave u top s (Full left p) (w f.control st).1)
     ∙ ap (λ z. run (tokens_of m (t ∷ ts)) (At (record { control = wrap left u; so_far = λ rest. left_with left p u rest; other = λ rest. left_with left p u rest } ∷ within z f ∷ s) Empty)) (w f.control st).2
     ∙ reads g (λ rest. left_with left p u rest) (λ rest. left_with left p u rest) f s t ts cl
     ∙ ap (λ z. run (t ∷ ts) (At (f ∷ s) (Full variant z))) (sym same)
-reads (entering {at = at} {m = m} h g) = λ b o f s t ts cl.
+reads (entering h g) = λ b o f s t ts cl. h b o t ts (f ∷ s) ∙ reads g b o f s t ts cl
+reads (merged {at = at} {begun = k} {line = l} {m = m} x y z e q i j a g) = λ b o f s t ts cl.
     let top : Frame = record { control = at; so_far = b; other = o } in
-    let head = h (t ∷ ts) in
-    entering_there top (f ∷ s) (tokens_of m (t ∷ ts)) head.0 head.1 head.2 head.3 ∙ reads g b o f s t ts cl
+    let as_begun : Control → Frame = λ c. record { control = c; so_far = λ rest. Read x rest; other = λ rest. Read x rest } in
+    let as_gone : Control → Frame = λ c. record { control = c; so_far = λ rest. Read x (Read y rest); other = λ rest. Read x (Optional y rest) } in
+    ap (run (y ∷ z ∷ tokens_of m (t ∷ ts))) (went Begin x top (f ∷ s) Empty e ∙ ap (λ c. At (as_begun c ∷ top ∷ f ∷ s) Empty) q)
+    ∙ ap (run (z ∷ tokens_of m (t ∷ ts))) (went Shift y (as_begun k) (top ∷ f ∷ s) Empty i ∙ ap (λ c. At (as_gone c ∷ top ∷ f ∷ s) Empty) j)
+    ∙ ap (run (tokens_of m (t ∷ ts))) (went Merge z (as_gone l) (top ∷ f ∷ s) Empty a)
+    ∙ reads g (λ rest. b (Read x (Read y (Read z rest)))) (λ rest. b (Read x (Read y (Read z rest)))) f s t ts cl
 reads (splicing {at = at} {variant = variant} {part = part} {inside = p} {m = m} {p = q} u st i c e g same) = λ b o f s t ts cl.
     let top : Frame = record { control = at; so_far = b; other = o } in
     ap (λ us. run us (At (top ∷ f ∷ s) Empty)) (joined_so p (Read u m) q (t ∷ ts) same)
@@ -351,7 +397,7 @@ reads (taking {at = at} {variant = variant} {part = part} {inside = p} {m = m} {
     ap (λ us. run us (At (top ∷ f ∷ s) Empty)) (joined_so p m q (t ∷ ts) same ∙ ap (tokens_of p) head.2)
     ∙ reads i top (f ∷ s) head.0 head.1 st head.3.0
     ∙ ap (run head.1) (went Take head.0 top (f ∷ s) (Full part p) head.3.1)
-    ∙ ap (run head.1) (taken_there at (λ rest. b (joined p rest)) head.0 (f ∷ s) (decide at None head.0) refl head.3.2)
+    ∙ ap (run head.1) (once_there head.0 (record { control = at; so_far = λ rest. b (joined p rest); other = λ rest. b (joined p rest) }) (f ∷ s) (decide at None head.0) refl head.3.2)
     ∙ ap (λ us. run us (At (record { control = at; so_far = λ rest. b (joined p rest); other = λ rest. b (joined p rest) } ∷ f ∷ s) Empty)) (sym head.2)
     ∙ reads g (λ rest. b (joined p rest)) (λ rest. b (joined p rest)) f s t ts cl
     ∙ ap (λ z. run (t ∷ ts) (At (f ∷ s) (Full variant (b z)))) (sym same)
@@ -361,10 +407,33 @@ reads (keeping {at = at} {part = part} {inside = p} {m = m} st i h g) = λ b o f
     ap (λ us. run us (At (top ∷ f ∷ s) Empty)) (ap (tokens_of p) head.2)
     ∙ reads i top (f ∷ s) head.0 head.1 st head.3.0
     ∙ ap (run head.1) (went Keep head.0 top (f ∷ s) (Full part p) head.3.1)
-    ∙ ap (run head.1) (taken_there at (λ rest. b (Node part p rest)) head.0 (f ∷ s) (decide at None head.0) refl head.3.2)
+    ∙ ap (run head.1) (once_there head.0 (record { control = at; so_far = λ rest. b (Node part p rest); other = λ rest. b (Node part p rest) }) (f ∷ s) (decide at None head.0) refl head.3.2)
     ∙ ap (λ us. run us (At (record { control = at; so_far = λ rest. b (Node part p rest); other = λ rest. b (Node part p rest) } ∷ f ∷ s) Empty)) (sym head.2)
     ∙ reads g (λ rest. b (Node part p rest)) (λ rest. b (Node part p rest)) f s t ts cl
 reads (raised st c g) = λ f s t ts h cl. reads g f s t ts (st f.control h) (c t cl)
+
+-- ---- what fails goes on to fail
+
+abbrev is_fail : State → Bool
+is_fail (At s h) = false
+is_fail Fail = true
+
+run_fails : (ts : List Token) → run ts Fail ≡ Fail
+run_fails [] = refl
+run_fails (t ∷ ts) = run_fails ts
+
+-- Where one that is read as it is begins with a token, the next one isn't kept: behind `import` of an expression stands `(` or `.`.
+pub never_kept : (c : Control) (t u v : Token) (ts : List Token) {s : Variant} {n : Nonterminal} {p : ParseTree} → Good (Whole s n) p → stands c n ≡ true → closes t n ≡ true → decide c (Some s) t ≡ Leave → tokens_of p (t ∷ []) ≡ u ∷ v ∷ ts →
+    decide c None u ≡ Push → decide (start u) None v ≡ Keep → ⊥
+never_kept c t u v ts {s = s} {p = p} g st cl l e a k =
+    let f : Frame = record { control = c; so_far = λ rest. rest; other = λ rest. rest } in
+    let top : Frame = record { control = start u; so_far = λ rest. Read u rest; other = λ rest. Read u rest } in
+    true≢false (
+    sym (ap is_fail (run_fails ts))
+    ∙ ap (λ q. is_fail (run ts q))
+    (sym (ap (next v) (went Push u f [] Empty a) ∙ went Keep v top (f ∷ []) Empty k ∙ ap (λ z. acted_once z v (record { control = start u; so_far = λ rest. Read u rest; other = λ rest. Read u rest }) (f ∷ []) Empty Fail) k))
+    ∙ ap (λ us. is_fail (run us (At (f ∷ []) Empty))) (sym e) ∙ ap is_fail (reads g f [] t [] st cl ∙ went Leave t f [] (Full s p) l)
+    )
 
 -- ---- so its tokens tell it
 

@@ -48,7 +48,7 @@ use Rattle.swc_ecma_codegen_syntax.specs.NodeForms.{node_form, part_form}
 use Rattle.swc_ecma_codegen_syntax.specs.Derives.{Derives, fixed, part, simple, restricted, lone, lone_in_parentheses, both, provided, closed, comma_closed, followed, bare}
 use Rattle.swc_ecma_codegen_syntax.proofs.TreeFacts.{node_mapped}
 use Rattle.swc_ecma_codegen_uniqueness.specs.ParseTrees.{Variant, ParseTree, End, Read, Optional, Node, settled, expr_variant, simple_target_variant, target_pat_variant, target_variant, pat_variant, decl_variant, stmt_variant, part_variant, field_variant, member_variant, element_variant, node_variant}
-use Rattle.swc_ecma_codegen_uniqueness.specs.Parses.{phrase_tokens, read_all, is_inlined_pat, is_inlined_pattern, is_plain_head, is_inlined, placed, is_empty_variant, is_empty_parse, form_parse, node_parse, parse, expr_before}
+use Rattle.swc_ecma_codegen_uniqueness.specs.Parses.{phrase_tokens, read_all, is_inlined_pat, is_inlined_pattern, is_inlined, placed, is_empty_variant, is_empty_parse, form_parse, node_parse, parse, expr_before}
 use Rattle.swc_ecma_codegen_uniqueness.proofs.Reading.{read_phrase, derived_parse}
 
 -- ---- what a node says, by what its links hold
@@ -126,15 +126,9 @@ unfolding is_inlined_pattern
 inlined_pattern_mapped g (nodes.ExprPart (expr_parts.Pat n)) = inlined_pat_mapped g n
 inlined_pattern_mapped g y = refl
 
-plain_head_mapped : {X Y : Type 0} (g : X → Y) (y : AnyNode-F X) → is_plain_head (map-AnyNode X Y g y) ≡ is_plain_head y
-unfolding is_plain_head
-plain_head_mapped g (nodes.StmtPart (stmt_parts.Function n)) = refl
-plain_head_mapped g y = refl
-
 inlined_mapped : {X Y : Type 0} (g : X → Y) (role : Role) (y : AnyNode-F X) → is_inlined role (map-AnyNode X Y g y) ≡ is_inlined role y
 unfolding is_inlined
 inlined_mapped g Pattern y = inlined_pattern_mapped g y
-inlined_mapped g FunctionHead y = plain_head_mapped g y
 inlined_mapped g role y = refl
 
 placed_alike : (b k : Bool) (variant z : Variant) (f g : ParseTree → ParseTree) → b ≡ k → variant ≡ z → ((rest : ParseTree) → f rest ≡ g rest) → (rest : ParseTree) → placed b variant f rest ≡ placed k z g rest

@@ -24,7 +24,7 @@ use Rattle.swc_ecma_codegen_syntax.specs.ModuleForms.{item_form, begins_empty_it
 use Rattle.swc_ecma_codegen_syntax.specs.Derives.{Derives, DerivesProgram, bare_phrase, program_verdict, fixed, part, both}
 use Rattle.swc_ecma_codegen_syntax.specs.Verdicts.{holds}
 use Rattle.swc_ecma_codegen_syntax.proofs.RootLaws.{program_complete}
-use Rattle.swc_ecma_codegen_uniqueness.specs.ParseTrees.{ParseTree, End, Read, Optional, Node, BlockStmt, is_known, AreCommasAndParentheses, AreKnown, part_variant, node_variant, settled, tokens_of}
+use Rattle.swc_ecma_codegen_uniqueness.specs.ParseTrees.{ParseTree, End, Read, Optional, Node, BlockStmt, AreCommasAndParentheses, AreKnown, settled, tokens_of}
 use Rattle.swc_ecma_codegen_uniqueness.specs.Parses.{placed, is_inlined, form_parse, program_parse}
 use Rattle.swc_ecma_codegen_uniqueness.proofs.Tables.{InList, Statement}
 use Rattle.swc_ecma_codegen_uniqueness.proofs.Machine.{Rest, Good, joined, shifted, one_rest}
@@ -34,7 +34,8 @@ use Rattle.swc_ecma_codegen_uniqueness.proofs.Joined.{derived_joined}
 use Rattle.swc_ecma_codegen_uniqueness.proofs.Parsed.{tokens_before, derived_allowed}
 use Rattle.swc_ecma_codegen_uniqueness.proofs.Fits.{PlacedGood, AllGood}
 use Rattle.swc_ecma_codegen_uniqueness.proofs.Linking.{where_read}
-use Rattle.swc_ecma_codegen_uniqueness.proofs.Statements.{InItems, item_good, list_good, list_end}
+use Rattle.swc_ecma_codegen_uniqueness.proofs.Modules.{module_item}
+use Rattle.swc_ecma_codegen_uniqueness.proofs.Statements.{InItems, item_taken, item_good, list_good, list_end}
 use Rattle.swc_ecma_codegen_uniqueness.proofs.Layers.{all_good}
 use Rattle.swc_ecma_codegen_uniqueness.proofs.ParseLaws.{derived_settled}
 use Rattle.swc_ecma_codegen_uniqueness.proofs.Unique.{known_before}
@@ -44,16 +45,12 @@ use Rattle.swc_ecma_codegen_uniqueness.proofs.Unique.{known_before}
 abbrev InProgram : ParseTree → Type 0
 InProgram m = InItems (InList BlockStmt) BlockStmt nt.Statement m
 
-no_declaration : {X : Type 0} (y : AnyNode-F X) → is_known (node_variant y ModuleDeclaration) ≡ true → ⊥
-unfolding node_variant part_variant is_known
-no_declaration (nodes.ExprPart (expr_parts.Pat n)) k = true≢false (sym k)
-no_declaration y k = true≢false (sym k)
-
 items_good : {s : Settings} (c : Parameters) (xs : List (ModuleItem AnyNode)) {ts : List Token} (d : Derives true s (items_form c xs) ts) → AllGood d → s.minify ≡ c.minify → (rest : ParseTree) → InProgram rest → InProgram (derived_parse d rest)
-unfolding items_form item_form AllGood PlacedGood derived_parse read_phrase is_inlined
+unfolding items_form item_form AllGood PlacedGood derived_parse read_phrase placed is_inlined
 items_good c [] (fixed g) o m rest r = r
 items_good c (module_items.Stmt x ∷ xs) (both d e) (o, q) m rest r = item_good (InList BlockStmt) BlockStmt nt.Statement (begins_empty_item xs) c x refl d o m (derived_parse e rest) (items_good c xs e q m rest r)
-items_good c (module_items.ModuleDecl x ∷ xs) (both (part a sa d) e) (o, q) m rest r = absurd (no_declaration (out-AnyNode x.node.value) (o m).known)
+items_good c (module_items.ModuleDecl x ∷ xs) (both (part a sa d) e) (o, q) m rest r =
+    item_taken (InList BlockStmt) BlockStmt nt.Statement refl d (module_item a (in_list (begins_empty_item xs) c) (out-AnyNode x.node.value) d o m).good (derived_parse e rest) (items_good c xs e q m rest r)
 
 first_line : (s : Settings) {Z : Type 0} (o : Option (String Z)) (ts : List Token) (g : Generates s (shebang o) ts) {m : ParseTree} → Good (Rest (Statement (InList BlockStmt)) BlockStmt nt.Statement) m →
     Good (Rest (Statement (InList BlockStmt)) BlockStmt nt.Statement) (read_phrase s (shebang o) ts g m)

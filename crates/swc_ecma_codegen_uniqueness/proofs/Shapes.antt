@@ -1,5 +1,5 @@
 -- The shapes of nodes, each read by the machine as it is.
-use Rattle.std.proofs.Common.{◌≡◌, Bool, true, false, Some, None, refl, sym, ap, ◌∙◌, subst}
+use Rattle.std.proofs.Common.{◌≡◌, Bool, true, false, ◌∷◌, Some, None, refl, sym, ap, ◌∙◌, subst}
 use Rattle.std.specs.Prelude.{codes}
 use Rattle.std.proofs.lemmas.Bool.{true≢false}
 use Rattle.swc_ecma_codegen_grammar.specs.Tokens.{Token, word, punctuator, same_line}
@@ -8,11 +8,11 @@ use Rattle.swc_ecma_codegen_syntax.specs.declared.nonterminals.Nonterminal.TheVa
 use Rattle.swc_ecma_codegen_syntax.specs.Nonterminals.{takes, is_optional, is_private, is_assignment, is_conditional, is_short_circuit, is_logical_or, is_logical_and, is_bitwise_or, is_bitwise_xor, is_bitwise_and, is_equality, is_relational, is_shift, is_additive, is_multiplicative, is_exponentiation, is_unary, is_update, is_left_hand_side, is_new, is_member}
 use Rattle.swc_ecma_codegen_syntax.specs.UnitProductions.{here, step, expression_is_assignment_expression, new_expression_is_member_expression, chain_base_is_member_expression}
 use Rattle.swc_ecma_codegen_syntax.proofs.Taken.{chain_takes}
-use Rattle.swc_ecma_codegen_uniqueness.specs.ParseTrees.{Variant, ParseTree, End, Read, Optional, Node, Array, Object, Update, Bin, Assign, Member, SuperProp, Cond, Call, New, Seq, Tpl, TaggedTpl, Arrow, Yield, MetaProp, Paren, OptChain}
+use Rattle.swc_ecma_codegen_uniqueness.specs.ParseTrees.{Variant, ParseTree, End, Read, Optional, Node, tokens_of, Array, Object, Update, Bin, Assign, Member, SuperProp, Cond, Call, New, Seq, Tpl, TaggedTpl, Arrow, Yield, MetaProp, Paren, OptChain}
 use Rattle.swc_ecma_codegen_uniqueness.proofs.Classes.{OpenParen, Level, Class, Infix, Assigns, Ask, Comma, Dot, ChainDot, OpenBracket, Line, Twice, First, Later, class, NameToken, LiteralToken}
-use Rattle.swc_ecma_codegen_uniqueness.proofs.Tables.{starts, is_item, is_listed, ArrowBody, left, left_of, right_of, made, Tail, OfInfix, OfCond, OfAssign, OfYield, whole, last as last_of, tail_variant, Control, Closed, Open, InParen, Index, Arguments, Elements, NextElement, Properties, NextProperty, AfterKey, InKey, InValue, Middle, Substitution, Dotted, Chained, AfterNew, AfterImport, AfterSuper, AfterYield, Postfix, Listed, AfterAsync, waits, decide, Shift, Turn, shift, shifted_to, passed_to, start, started, template, wrapped_to, chained, without, with_operand, AtKey, AtSetter, AfterSetter, InSetterKey}
-use Rattle.swc_ecma_codegen_uniqueness.proofs.TableLaws.{ended_by, ending, takes_on, is_sequence, assignment_single, taken_there, arrow_wraps, is_place, pushes, or_left, is_infix, made_by, Wraps, infix_wraps, Linked, linked_closes, links, link_wraps, Calling, calling_linked, call_wraps, tail_ends, new_ends, yield_ends, yield_alone, listed_ends, member_plain, call_plain, callee_plain}
-use Rattle.swc_ecma_codegen_uniqueness.proofs.Machine.{Whole, Rest, Good, headed, wrapped, shifted, inner, closed, last, wrapped_turned, inner_turned, shifted_turned, raised, turned, opened}
+use Rattle.swc_ecma_codegen_uniqueness.proofs.Tables.{starts, is_item, is_listed, ArrowBody, left, left_of, right_of, made, Tail, OfInfix, OfCond, OfAssign, OfYield, whole, last as last_of, tail_variant, Control, Closed, Open, InParen, Index, Arguments, Elements, NextElement, Properties, NextProperty, AfterKey, InKey, InValue, Middle, Substitution, Dotted, Chained, AfterNew, AfterImport, AfterSuper, AfterYield, Postfix, Listed, AfterAsync, AsyncLine, Enter, waits, decide, Shift, Turn, shift, shifted_to, passed_to, start, started, template, wrapped_to, chained, without, with_operand, AtKey, AtSetter, AfterSetter, InSetterKey}
+use Rattle.swc_ecma_codegen_uniqueness.proofs.TableLaws.{ended_by, ending, takes_on, is_sequence, assignment_single, taken_there, arrow_wraps, is_function, async_enters, is_place, pushes, or_left, is_infix, made_by, Wraps, infix_wraps, Linked, linked_closes, links, link_wraps, Calling, calling_linked, call_wraps, tail_ends, new_ends, yield_ends, yield_alone, listed_ends, member_plain, call_plain, callee_plain}
+use Rattle.swc_ecma_codegen_uniqueness.proofs.Machine.{Whole, Rest, Good, headed, wrapped, shifted, inner, closed, last, wrapped_turned, inner_turned, shifted_turned, entering, entering_there, turned_tokens, Heads, raised, turned, opened}
 
 -- ---- parts
 
@@ -547,12 +547,19 @@ pub arrow : {s : Variant} {p m q : ParseTree} → Operand nt.LeftHandSideExpress
 unfolding same_line punctuator
 arrow {s = s} o g e = wrapped_turned same_line arrow_mark o.good (ended_by Line o.of o.taken) (arrow_wraps same_line o.of s refl o.taken o.own) refl g e
 
-pub async_arrow : {s : Variant} {p m q : ParseTree} → Operand nt.LeftHandSideExpression s p → Good (Rest ArrowBody Arrow nt.AssignmentExpression) m → q ≡ turned s p same_line (Read arrow_mark m) →
+async_value : (l : Class) → is_function l ≡ false → without AsyncLine l ≡ Enter
+async_value l h = (async_enters l h).2
+
+pub async_arrow : {s : Variant} {p m q : ParseTree} → Operand nt.LeftHandSideExpression s p → Heads (λ u. is_function (class u) ≡ false) p → Good (Rest ArrowBody Arrow nt.AssignmentExpression) m → q ≡ turned s p same_line (Read arrow_mark m) →
     Good (Whole Arrow nt.AssignmentExpression) (Read (word (codes "async")) (Read same_line q))
-unfolding same_line punctuator word
-async_arrow {s = s} {q = q} o g e =
+unfolding same_line punctuator word tokens_of
+async_arrow {s = s} {p = p} {m = m} {q = q} o h g e =
     begun (word (codes "async")) Arrow nt.AssignmentExpression AfterAsync (Read same_line q) refl refl refl
-    (shifted refl (inner_turned same_line arrow_mark (or_left _ _ o.taken) o.good (ended_by Line o.of o.taken) refl refl g e))
+    (shifted refl (entering
+    (λ b i t us w.
+    let k = h (same_line ∷ arrow_mark ∷ tokens_of m (t ∷ us)) in
+    entering_there (record { control = AsyncLine; so_far = b; other = i }) w (tokens_of q (t ∷ us)) k.0 k.1 (turned_tokens s p same_line arrow_mark m q (t ∷ us) e ∙ k.2) (async_value (class k.0) k.3, refl))
+    (inner_turned same_line arrow_mark (or_left _ _ o.taken) o.good (ended_by Line o.of o.taken) refl refl g e)))
 
 -- ---- templates
 

@@ -1,5 +1,5 @@
 -- The shapes of statements and functions, each read by the machine as it is.
-use Rattle.std.proofs.Common.{◌≡◌, Bool, true, false, ◌∷◌, Some, None, refl, sym, ap, ◌∙◌, subst}
+use Rattle.std.proofs.Common.{◌≡◌, Bool, true, false, List, ◌∷◌, Some, None, refl, sym, ap, ◌∙◌, subst}
 use Rattle.std.specs.Prelude.{codes}
 use Rattle.std.proofs.lemmas.Bool.{true≢false}
 use Rattle.swc_ecma_codegen_grammar.specs.Tokens.{Token, word, punctuator, same_line, ending}
@@ -9,11 +9,11 @@ use Rattle.swc_ecma_codegen_syntax.specs.Nonterminals.{takes, is_private, is_unc
 use Rattle.swc_ecma_codegen_syntax.specs.UnitProductions.{step, pattern_element_is_pattern_target}
 use Rattle.swc_ecma_codegen_syntax.proofs.Chains.{takes_chain}
 use Rattle.swc_ecma_codegen_syntax.proofs.Taken.{chain_takes}
-use Rattle.swc_ecma_codegen_uniqueness.specs.ParseTrees.{Variant, ParseTree, End, Read, Node, Fn, Arrow, BlockStmt, EmptyStmt, ExprStmt, IfStmt, LabeledStmt, VarDecl, tokens_of, DoWhileStmt, TryStmt, SwitchStmt, Class as AClass}
-use Rattle.swc_ecma_codegen_uniqueness.proofs.Classes.{Class, Infix, Plus, OpenBrace, ElseWord, Semi, Colon, class, CatchWord, FinallyWord}
-use Rattle.swc_ecma_codegen_uniqueness.proofs.Tables.{Reduce, outside, starts, is_item, is_behind, left, Where, InList, OfIf, OfElse, OfLabel, OfLoop, Control, Closed, ArrowBody, OfArrow, Statement, Entered, AfterFunction, AfterClass, Parameter, RestParameter, AfterParameters, AfterWord, Valued, Jump, Headed, Test, Declarators, stands, entered, Action, Shift, Begin, Enter, Leave, Splice, Take, Wrap, without, with_operand, decide, shift, passed_to, start, begin, InTry, InCatch, InClause, OfDo, closing, shifted_to, closed_by, AfterDo, AfterTry, BehindTry, AfterCatch, CatchParameter, BehindParameter, BehindCatch, AfterFinally, Case, InMethod}
-use Rattle.swc_ecma_codegen_uniqueness.proofs.TableLaws.{takes_on, ended_by, or_left, is_keyword, keyword_pushes, is_barred, item_there, place_of, ItemPlace, item_place, enters, begins_operand, is_list, list_takes, no_item_wraps}
-use Rattle.swc_ecma_codegen_uniqueness.proofs.Machine.{Whole, Rest, Good, Heads, Enters, goes_on, headed, headed_block, wrapped, wrapped_turned, stated, entering, shifted, inner, last, splicing, taking, raised, joined, turned_tokens, left_tokens, keeping, closed}
+use Rattle.swc_ecma_codegen_uniqueness.specs.ParseTrees.{Variant, ParseTree, End, Read, Node, Fn, Arrow, BlockStmt, EmptyStmt, ExprStmt, IfStmt, LabeledStmt, VarDecl, tokens_of, DoWhileStmt, TryStmt, SwitchStmt, Class as AClass, Other}
+use Rattle.swc_ecma_codegen_uniqueness.proofs.Classes.{Class, Infix, Plus, OpenBrace, ElseWord, Semi, Colon, ImportWord, AsyncWord, class, CatchWord, FinallyWord}
+use Rattle.swc_ecma_codegen_uniqueness.proofs.Tables.{Reduce, outside, starts, is_item, is_behind, left, Where, InList, OfIf, OfElse, OfLabel, OfLoop, Control, Closed, ArrowBody, OfArrow, Statement, Entered, AfterFunction, AfterClass, AfterExport, Parameter, RestParameter, AfterParameters, AfterWord, Valued, Jump, Headed, Test, Declarators, stands, entered, Action, Shift, Begin, Enter, Leave, Splice, Take, Wrap, without, with_operand, decide, shift, passed_to, start, started, begin, begun_at, ImportItem, AsyncItem, AsyncItemLine, Enter, InTry, InCatch, InClause, OfDo, closing, shifted_to, closed_by, AfterDo, AfterTry, BehindTry, AfterCatch, CatchParameter, BehindParameter, BehindCatch, AfterFinally, Case, InMethod}
+use Rattle.swc_ecma_codegen_uniqueness.proofs.TableLaws.{takes_on, ended_by, or_left, is_keyword, keyword_pushes, is_barred, item_there, place_of, ItemPlace, item_place, enters, is_delayed, is_import_call, import_begins, import_called, is_line, is_function, async_begins, async_line, async_enters, begins_operand, is_list, list_takes, no_item_wraps}
+use Rattle.swc_ecma_codegen_uniqueness.proofs.Machine.{Whole, Rest, Good, Frame, Heads, HeadsBefore, Entering, entering_there, second_enters, third_enters, goes_on, headed, headed_block, wrapped, wrapped_turned, stated, entering, shifted, inner, last, splicing, taking, raised, joined, turned_tokens, left_tokens, keeping, closed}
 use Rattle.swc_ecma_codegen_uniqueness.proofs.Shapes.{Operand, takes_self, assignment_taken, left_taken, left_assigned, part_then, ended, tail_rest}
 
 abbrev pub is_open_brace : Class → Bool
@@ -41,7 +41,7 @@ operand_heads (wrapped_turned {left = left} {inside = inside} {m = m} {p = p} t 
     let h = operand_heads i (w (Entered OfElse) st).0 (t ∷ u ∷ tokens_of m us) in
     (h.0, h.1, turned_tokens left inside t u m p us same ∙ h.2, h.3)
 operand_heads (headed_block {t = t} push g) st = absurd (no_begin (class t) (push (Entered OfElse) st).0)
-operand_heads (stated {left = left} {inside = inside} {m = m} {p = p} t i c w h g same) st = λ us.
+operand_heads (stated {left = left} {inside = inside} {m = m} {p = p} t i c w h b g same) st = λ us.
     let k = operand_heads i (w (Entered OfElse) st).0 (t ∷ tokens_of m us) in
     (k.0, k.1, left_tokens left inside t m p us same ∙ k.2, k.3)
 operand_heads (raised st c g) s = operand_heads g (st (Entered OfElse) s)
@@ -57,9 +57,9 @@ listed_heads at never (headed {t = t} {m = m} push g) st = λ us. (t, tokens_of 
 listed_heads at never (wrapped {t = t} i c w g) st = absurd (never (class t) (w at st).1)
 listed_heads at never (wrapped_turned t u i c w e g same) st = absurd (never (class t) (w at st).1)
 listed_heads at never (headed_block {t = t} {m = m} push g) st = λ us. (t, tokens_of m us, refl, ap goes_on (push at st).0)
-listed_heads at never (stated {left = left} {inside = inside} {m = m} {p = p} t i c w h g same) st = λ us.
-    let k = h (t ∷ tokens_of m us) in
-    (k.0, k.1, left_tokens left inside t m p us same ∙ k.2, ap goes_on (k.3 at st).0)
+listed_heads at never (stated {left = left} {inside = inside} {m = m} {p = p} t i c w h b g same) st = λ us.
+    let k = b (tokens_of m us) in
+    (k.0, k.1, left_tokens left inside t m p us same ∙ k.2, k.3 at st)
 listed_heads at never (raised st c g) s = listed_heads at never g (st at s)
 
 pub item_heads : (place : Where) {variant : Variant} {n : Nonterminal} {p : ParseTree} → Good (Whole variant n) p → stands (Statement place) n ≡ true → Heads (GoesOn place) p
@@ -137,12 +137,35 @@ pub empty_good : (b : Bool) → Good (Whole EmptyStmt (item_of b)) (Read (punctu
 unfolding punctuator
 empty_good b = keyword_begun (punctuator (codes ";")) EmptyStmt b (Closed EmptyStmt) End refl refl (ended EmptyStmt (item_of b))
 
--- what begins with an operand that is entered: `a;`, `a: b;`
-abbrev pub MayStand : ParseTree → Type 0
-MayStand p = Heads (λ u. (starts (class u) ≡ true) × (is_barred (class u) ≡ false)) p
+-- what begins with an operand that is entered: `a;`, `a: b;`, `import(a);`
+pub data MayEnter (bars : Class → Bool) : List Token → Type 0 where
+  at_once : {u : Token} {ts : List Token} → starts (class u) ≡ true → bars (class u) ≡ false → is_delayed (class u) ≡ false → MayEnter bars (u ∷ ts)
+  behind_import : {u v : Token} {ts : List Token} → class u ≡ ImportWord → is_import_call (class v) ≡ true → MayEnter bars (u ∷ v ∷ ts)
+  behind_async : {u v w : Token} {ts : List Token} → class u ≡ AsyncWord → is_line (class v) ≡ true → is_function (class w) ≡ false → MayEnter bars (u ∷ v ∷ w ∷ ts)
 
-entered_there : (b : Bool) (p : ParseTree) → MayStand p → Heads (λ u. (c : Control) → stands c (item_of b) ≡ true → Enters c u) p
-entered_there b p h = λ us. let k = h us in (k.0, k.1, k.2, λ c s. enters k.0 k.3.0 k.3.1 c (place_of c (item_there (item_of b) (is_an_item b) c s)))
+-- before a token
+abbrev pub MayStand : Token → ParseTree → Type 0
+MayStand t p = (us : List Token) → MayEnter is_barred (tokens_of p (t ∷ us))
+
+entered_there : (f : Frame) → ItemPlace f.control → (ts : List Token) → MayEnter is_barred ts → Entering f ts
+entered_there f i ts (at_once {u = u} {ts = vs} h b k) = λ s. entering_there f s (u ∷ vs) u vs refl (enters u h b k f.control i)
+entered_there f i ts (behind_import {u = u} {v = v} {ts = vs} e k) =
+    let x = import_begins f.control i in
+    let y = import_called (class v) k in
+    second_enters f u v vs ImportItem Shift (ap (without f.control) e ∙ x.0) (ap (begun_at f.control) e ∙ x.1) y.0 (ap (without (entered f.control)) e ∙ x.2) (ap started e) y.1 refl
+entered_there f i ts (behind_async {u = u} {v = v} {w = w} {ts = vs} e h k) =
+    let x = async_begins f.control i in
+    let y = async_line (class v) h in
+    let z = async_enters (class w) k in
+    third_enters f u v w vs AsyncItem AsyncItemLine Enter (ap (without f.control) e ∙ x.0) (ap (begun_at f.control) e ∙ x.1) y.0 y.1 z.0 (ap (without (entered f.control)) e ∙ x.2) (ap started e) y.4 y.5 z.2 refl
+
+entered_heads : (ts : List Token) → MayEnter is_barred ts → (u : Token) × (vs : List Token) × (ts ≡ u ∷ vs) × ((c : Control) → ItemPlace c → goes_on (decide c None u) ≡ true)
+entered_heads ts (at_once {u = u} {ts = vs} h b k) = (u, vs, refl, λ c i. ap goes_on (enters u h b k c i).0)
+entered_heads ts (behind_import {u = u} {v = v} {ts = vs} e k) = (u, v ∷ vs, refl, λ c i. ap goes_on (ap (without c) e ∙ (import_begins c i).0))
+entered_heads ts (behind_async {u = u} {v = v} {w = w} {ts = vs} e h k) = (u, v ∷ w ∷ vs, refl, λ c i. ap goes_on (ap (without c) e ∙ (async_begins c i).0))
+
+item_place_of : (b : Bool) (c : Control) → stands c (item_of b) ≡ true → ItemPlace c
+item_place_of b c st = place_of c (item_there (item_of b) (is_an_item b) c st)
 
 -- where the operand stands, and the token behind it ends its place
 abbrev Left : Control → Nonterminal → Variant → Token → Type 0
@@ -151,18 +174,21 @@ Left c k s t = (stands (entered c) k ≡ true) × (decide (entered c) (Some s) t
 left_there : (k : Nonterminal) (s : Variant) (t : Token) → takes nt.Expression k ≡ true → ((place : Where) → decide (Entered place) (Some s) t ≡ Leave) → (c : Control) → ItemPlace c → Left c k s t
 left_there k s t h e c (item_place place) = (or_left _ _ h, e place, refl)
 
-pub expression_stated : (b : Bool) {s : Variant} {p : ParseTree} → Operand nt.Expression s p → MayStand p → Good (Whole ExprStmt (item_of b)) (Node s p (Read ending End))
-unfolding ending
-expression_stated b {s = s} o h =
-    stated ending o.good (ended_by Semi o.of o.taken) (λ c st. left_there o.of s ending o.taken (λ place. refl) c (place_of c (item_there (item_of b) (is_an_item b) c st)))
-    (entered_there b _ h) (ended ExprStmt (item_of b)) refl
+stated_heads : (b : Bool) (t : Token) (p : ParseTree) → MayStand t p → HeadsBefore t (λ u. (c : Control) → stands c (item_of b) ≡ true → goes_on (decide c None u) ≡ true) p
+stated_heads b t p h = λ us. let k = entered_heads _ (h us) in (k.0, k.1, k.2, λ c st. k.3 c (item_place_of b c st))
 
-pub labelled : (b : Bool) (name : Token) {n : Nonterminal} {s v : Variant} {q : ParseTree} → takes nt.Expression n ≡ true → Good (Whole s n) (Read name End) → MayStand (Read name End) → Good (Whole v (item_of b)) q →
+pub expression_stated : (b : Bool) {s : Variant} {p : ParseTree} → Operand nt.Expression s p → MayStand ending p → Good (Whole ExprStmt (item_of b)) (Node s p (Read ending End))
+unfolding ending
+expression_stated b {s = s} {p = p} o h =
+    stated ending o.good (ended_by Semi o.of o.taken) (λ c st. left_there o.of s ending o.taken (λ place. refl) c (item_place_of b c st)) (λ f us st. entered_there f (item_place_of b f.control st) _ (h us)) (stated_heads b ending p h)
+    (ended ExprStmt (item_of b)) refl
+
+pub labelled : (b : Bool) (name : Token) {n : Nonterminal} {s v : Variant} {q : ParseTree} → takes nt.Expression n ≡ true → Good (Whole s n) (Read name End) → MayStand (punctuator (codes ":")) (Read name End) → Good (Whole v (item_of b)) q →
     Good (Whole LabeledStmt (item_of b)) (Read name (Read (punctuator (codes ":")) (Node v q End)))
 unfolding punctuator
 labelled b name {n = n} {s = s} t g h body =
-    stated (punctuator (codes ":")) g (ended_by Colon n t) (λ c st. left_there n s (punctuator (codes ":")) t (λ place. refl) c (place_of c (item_there (item_of b) (is_an_item b) c st)))
-    (entered_there b _ h) (last refl (item_stands b OfLabel) body (λ t e. (e, refl))) refl
+    stated (punctuator (codes ":")) g (ended_by Colon n t) (λ c st. left_there n s (punctuator (codes ":")) t (λ place. refl) c (item_place_of b c st)) (λ f us st. entered_there f (item_place_of b f.control st) _ (h us))
+    (stated_heads b (punctuator (codes ":")) (Read name End) h) (last refl (item_stands b OfLabel) body (λ t e. (e, refl))) refl
 
 -- ---- lists
 
@@ -207,7 +233,7 @@ unfolding punctuator
 begun_there c (item_place place) = (refl, refl)
 
 block_begins : (b : Bool) (c : Control) → stands c (item_of b) ≡ true → (decide c None (punctuator (codes "{")) ≡ Begin) × (begin c (punctuator (codes "{")) ≡ Statement (InList BlockStmt))
-block_begins b c st = begun_there c (place_of c (item_there (item_of b) (is_an_item b) c st))
+block_begins b c st = begun_there c (item_place_of b c st)
 
 pub block_good : (b : Bool) {m : ParseTree} → Good (Rest (Statement (InList BlockStmt)) BlockStmt (item_of b)) m → Good (Whole BlockStmt (item_of b)) (Read (punctuator (codes "{")) m)
 block_good b g = headed_block (block_begins b) g
@@ -333,6 +359,19 @@ pub parameters_end : (n : Within) {m : ParseTree} → Good (Rest (Statement n.pl
 unfolding punctuator
 parameters_end n g = shifted refl g
 
+-- `async function a() {}`
+pub async_item : (b : Bool) {m : ParseTree} → Good (Rest AfterFunction Fn (item_of b)) m → Good (Whole Fn (item_of b)) (Read (word (codes "async")) (Read same_line (Read (word (codes "function")) m)))
+unfolding word same_line
+async_item b g = headed_block (λ c st. let x = async_begins c (item_place_of b c st) in (x.0, x.1)) (shifted refl (shifted refl g))
+
+pub import_item : {m : ParseTree} → Good (Rest ImportItem Other nt.Statement) m → Good (Whole Other nt.Statement) (Read (word (codes "import")) m)
+unfolding word
+import_item g = headed_block (λ c st. let x = import_begins c (item_place_of false c st) in (x.0, x.1)) g
+
+pub export_item : {v : Variant} {m : ParseTree} → Good (Rest AfterExport v nt.Statement) m → Good (Whole v nt.Statement) (Read (word (codes "export")) m)
+unfolding word
+export_item {v = v} {m = m} g = keyword_begun (word (codes "export")) v false AfterExport m refl refl g
+
 pub class_item : (b : Bool) {m : ParseTree} → Good (Rest AfterClass AClass (item_of b)) m → Good (Whole AClass (item_of b)) (Read (word (codes "class")) m)
 unfolding word
 class_item b {m = m} g = keyword_begun (word (codes "class")) AClass b AfterClass m refl refl g
@@ -350,7 +389,8 @@ value_enters l h = refl
 -- a value, and a block
 pub arrow_value : {s : Variant} {p : ParseTree} → Operand nt.AssignmentExpression s p → Heads (λ u. is_open_brace (class u) ≡ false) p → Good (Rest ArrowBody Arrow nt.AssignmentExpression) (Node s p End)
 unfolding tokens_of
-arrow_value o h = entering (λ us. let k = h us in (k.0, k.1, k.2, (value_enters (class k.0) k.3, refl))) (tail_rest OfArrow o)
+arrow_value {s = s} {p = p} o h =
+    entering (λ b q t us w. let k = h (t ∷ us) in entering_there (record { control = ArrowBody; so_far = b; other = q }) w (tokens_of p (t ∷ us)) k.0 k.1 k.2 (value_enters (class k.0) k.3, refl)) (tail_rest OfArrow o)
 
 pub arrow_block : {m : ParseTree} → Good (Rest (Statement (InList Arrow)) Arrow nt.AssignmentExpression) m → Good (Rest ArrowBody Arrow nt.AssignmentExpression) (Read (punctuator (codes "{")) m)
 unfolding punctuator

@@ -38,7 +38,7 @@ use Rattle.swc_ecma_codegen_syntax.specs.declared.parameters.Parameters.{Paramet
 use Rattle.swc_ecma_codegen_syntax.specs.NameForms.{is_one_of}
 use Rattle.swc_ecma_codegen_syntax.specs.Nonterminals.{takes}
 use Rattle.swc_ecma_codegen_syntax.specs.Parameters.{of_bindings, of_declarations, in_list}
-use Rattle.swc_ecma_codegen_syntax.specs.Forms.{Fixed, is_met, each_after, in_order}
+use Rattle.swc_ecma_codegen_syntax.specs.Forms.{Form, Fixed, is_met, each_after, in_order}
 use Rattle.swc_ecma_codegen_syntax.specs.DeclForms.{is_const, value_form, declarator_form, declarators_form, var_decl_form, head_at, decl_form}
 use Rattle.swc_ecma_codegen_syntax.specs.PatForms.{pat_form, pat_nonterminal}
 use Rattle.swc_ecma_codegen_syntax.specs.StmtForms.{expr_stmt_form, with_form, return_rest_form, return_form, labeled_form, jump_form, break_form, continue_form, branches_form, if_form, switch_form, throw_form, try_form, while_form, do_while_form, for_form, for_in_form, for_of_form, stmt_form, begins_empty, list_form, block_form, finalizer_form, catch_param_form, handler_form, catch_form, clause_item_form, clause_list_form, case_test_form, case_form}
@@ -46,12 +46,12 @@ use Rattle.swc_ecma_codegen_syntax.specs.NodeForms.{node_form, part_form, stmt_p
 use Rattle.swc_ecma_codegen_syntax.specs.Derives.{Derives, fixed, part, restricted, both, provided, bare, followed}
 use Rattle.swc_ecma_codegen_uniqueness.specs.ParseTrees.{Variant, ParseTree, End, Read, Node, BlockStmt, DebuggerStmt, WithStmt, ReturnStmt, LabeledStmt, BreakStmt, ContinueStmt, IfStmt, ThrowStmt, WhileStmt, VarDecl, ExprStmt, tokens_of, is_known_kind, AreKnown, decl_variant, stmt_variant, DoWhileStmt, TryStmt, SwitchStmt}
 use Rattle.swc_ecma_codegen_uniqueness.specs.Parses.{placed, is_inlined, read_all}
-use Rattle.swc_ecma_codegen_uniqueness.proofs.Classes.{class}
-use Rattle.swc_ecma_codegen_uniqueness.proofs.Tables.{InList, Statement, Declarators, Initializer, AfterWord, Jump, Splice, Shift, shift, start, decide, passed_to, left, Where, InTry, InCatch, InClause, AfterDo, BehindTry, BehindCatch, AfterCatch, closing}
-use Rattle.swc_ecma_codegen_uniqueness.proofs.TableLaws.{cover, cover_taken, or_left, takes_on, is_keyword, is_list}
+use Rattle.swc_ecma_codegen_uniqueness.proofs.Classes.{Semi, VarWord, class}
+use Rattle.swc_ecma_codegen_uniqueness.proofs.Tables.{InList, Statement, Declarators, Initializer, AfterWord, Jump, Splice, Shift, shift, start, started, decide, passed_to, left, Where, InTry, InCatch, InClause, AfterDo, BehindTry, BehindCatch, AfterCatch, closing}
+use Rattle.swc_ecma_codegen_uniqueness.proofs.TableLaws.{cover, cover_taken, ended_by, or_left, takes_on, is_keyword, is_list}
 use Rattle.swc_ecma_codegen_uniqueness.proofs.Machine.{Whole, Rest, Good, Heads, joined_tokens}
 use Rattle.swc_ecma_codegen_uniqueness.proofs.Shapes.{Operand, After, takes_self, assignment_taken, left_assigned, part_then, ended}
-use Rattle.swc_ecma_codegen_uniqueness.proofs.StatementShapes.{operand_heads, GoesOn, item_heads, item_of, item_stands, if_alone, if_else, looped, word_alone, word_valued, word_labelled, empty_good, expression_stated, labelled, no_items, end_heads, item_then, block_good, declarators_begun, declarator_spliced, primary_assigned, primary_expression, target_element, do_good, do_ends, do_ended, try_begun, try_ends, finally_then, catch_then, catch_block, catch_parameter, switch_begun, switch_ends, case_then, default_then, clause_item}
+use Rattle.swc_ecma_codegen_uniqueness.proofs.StatementShapes.{at_once, GoesOn, item_heads, item_of, item_stands, if_alone, if_else, looped, word_alone, word_valued, word_labelled, empty_good, expression_stated, labelled, no_items, end_heads, item_then, block_good, declarators_begun, declarator_spliced, primary_assigned, primary_expression, target_element, do_good, do_ends, do_ended, try_begun, try_ends, finally_then, catch_then, catch_block, catch_parameter, switch_begun, switch_ends, case_then, default_then, clause_item}
 use Rattle.swc_ecma_codegen_uniqueness.proofs.Heading.{may_stand, not_excluded}
 use Rattle.swc_ecma_codegen_uniqueness.proofs.Reading.{read_phrase, derived_parse}
 use Rattle.swc_ecma_codegen_uniqueness.proofs.Joined.{derived_joined}
@@ -116,22 +116,36 @@ unfolding declarators_form AllGood derived_parse read_phrase Generates
 declarators_good n c constant [] (fixed g) o m = absurd g
 declarators_good n c constant (x ∷ xs) (both d e) (o, q) m = declarator_good n c constant x d o m (derived_parse e (Read ending End)) (declarators_after n c constant xs e q m)
 
-var_word : (s : Settings) (b : Bool) (kind : VarDeclKind) (ts : List Token) (g : Generates s (var_kind kind) ts) {m : ParseTree} → Good (Rest Declarators VarDecl (item_of b)) m → Good (Whole VarDecl (item_of b)) (read_phrase s (var_kind kind) ts g m)
+-- what is read behind `let`
+pub record VarsRead (n : Nonterminal) (m : ParseTree) : Type 0 where
+  pub token : Token
+  pub rest : ParseTree
+  pub is : m ≡ Read token rest
+  pub var : class token ≡ VarWord
+  pub good : Good (Rest Declarators VarDecl n) rest
+
+var_word : (s : Settings) (n : Nonterminal) (kind : VarDeclKind) (ts : List Token) (g : Generates s (var_kind kind) ts) (m : ParseTree) → Good (Rest Declarators VarDecl n) m → VarsRead n (read_phrase s (var_kind kind) ts g m)
 unfolding var_kind read_phrase word
-var_word s b Var ts g h = declarators_begun (word (codes "var")) b refl refl h
-var_word s b Let ts g h = declarators_begun (word (codes "let")) b refl refl h
-var_word s b Const ts g h = declarators_begun (word (codes "const")) b refl refl h
+var_word s n Var ts g m h = record { token = word (codes "var"); rest = m; is = refl; var = refl; good = h }
+var_word s n Let ts g m h = record { token = word (codes "let"); rest = m; is = refl; var = refl; good = h }
+var_word s n Const ts g m h = record { token = word (codes "const"); rest = m; is = refl; var = refl; good = h }
 
 no_declare : {s : Settings} (b : Bool) {ts : List Token} → not b ≡ true → (d : Derives true s (Fixed (declare_word b)) ts) (rest : ParseTree) → derived_parse d rest ≡ rest
 unfolding declare_word word_if derived_parse read_phrase
 no_declare true h d rest = absurd (true≢false (sym h))
 no_declare false h (fixed g) rest = refl
 
+pub vars_read : {s : Settings} (at : Nonterminal) (c : Parameters) (n : var_decls.VarDecl AnyNode) {ts us : List Token} (d : Derives true s (var_decl_form c n) ts) (e : Derives true s (Fixed phrases.ending) us) → AllGood d → s.minify ≡ c.minify →
+    VarsRead at (derived_parse d (derived_parse e End))
+unfolding var_decl_form is_met AllGood derived_parse read_phrase
+vars_read at c n (provided h (provided k (both w (both (fixed g) d)))) (fixed j) (x, (y, o)) m =
+    let r = var_word _ at n.kind _ g _ (declarators_good at c (is_const n.kind) n.decls.items d o m) in
+    record { token = r.token; rest = r.rest; is = no_declare n.declare h w _ ∙ r.is; var = r.var; good = r.good }
+
 var_good : {s : Settings} (b : Bool) (c : Parameters) (n : var_decls.VarDecl AnyNode) {ts us : List Token} (d : Derives true s (var_decl_form c n) ts) (e : Derives true s (Fixed phrases.ending) us) → AllGood d → s.minify ≡ c.minify →
     Good (Whole VarDecl (item_of b)) (derived_parse d (derived_parse e End))
-unfolding var_decl_form is_met AllGood derived_parse read_phrase
-var_good b c n (provided h (provided k (both w (both (fixed g) d)))) (fixed j) (x, (y, o)) m =
-    subst (λ z. Good (Whole VarDecl (item_of b)) z) (sym (no_declare n.declare h w _)) (var_word _ b n.kind _ g (declarators_good (item_of b) c (is_const n.kind) n.decls.items d o m))
+var_good b c n d e o m =
+    let r = vars_read (item_of b) c n d e o m in subst (λ z. Good (Whole VarDecl (item_of b)) z) (sym r.is) (declarators_begun r.token b (ap is_keyword r.var) (ap started r.var) r.good)
 
 -- ---- statements
 
@@ -164,10 +178,10 @@ jump_by b t variant c (Some n) (both (fixed g) (both d (fixed h))) k e i =
     subst (λ z. Good (Whole variant (item_of b)) (Read t (Read same_line z))) (sym (name_read c n d (Read ending End))) (word_labelled t (tokens.name _) variant b k e i refl)
 
 expr_good : {s : Settings} (b : Bool) (c : Parameters) (n : expr_stmts.ExprStmt AnyNode) {ts : List Token} (d : Derives true s (expr_stmt_form c n) ts) → AllGood d → s.minify ≡ c.minify → Good (Whole ExprStmt (item_of b)) (derived_parse d End)
-unfolding expr_stmt_form is_met AllGood PlacedGood derived_parse read_phrase placed is_inlined tokens_of
+unfolding expr_stmt_form is_met AllGood PlacedGood derived_parse read_phrase placed is_inlined tokens_of ending
 expr_good b c n (both (restricted {ts = ts} h (part a sa d)) (fixed g)) (o, x) m =
     let v = at_place _ _ sa (o m) in
-    expression_stated b v (may_stand (derived_parse d End) ts (λ us. tokens_before d End us) (operand_heads v.good (or_left _ _ v.taken)) (not_excluded _ h))
+    expression_stated b v (may_stand ending (derived_parse d End) ts (λ us. tokens_before d End us) v.good (or_left _ _ v.taken) (ended_by Semi v.of v.taken) refl (not_excluded _ h))
 
 -- a word of another statement is unknown
 other_word : (t : Token) → is_known_kind t.kind t.value ≡ false → AreKnown (Read t End) → ⊥
@@ -185,7 +199,7 @@ labeled_good : {s : Settings} (c : Parameters) (n : labeled.LabeledStmt AnyNode)
 unfolding labeled_form AllGood PlacedGood derived_parse read_phrase placed is_inlined tokens.name tokens_of
 labeled_good c n (both k (both (fixed g) (part a sa d))) (x, (y, o)) m =
     subst (λ z. Good (Whole LabeledStmt (item_of c.before_else)) z) (sym (name_read c n.label k _))
-    (labelled c.before_else (tokens.name _) primary_expression (name_atom nt.PrimaryExpression refl _) (λ us. (_, us, refl, (refl, refl))) (o m).good)
+    (labelled c.before_else (tokens.name _) primary_expression (name_atom nt.PrimaryExpression refl _) (λ us. at_once refl refl refl) (o m).good)
 
 -- ---- `do`, `try`, `switch`
 
@@ -288,14 +302,17 @@ stmt_good c (stmts.Expr n) d o m = expr_good c.before_else c n d o m
 abbrev pub InItems : Where → Variant → Nonterminal → ParseTree → Type 0
 InItems place variant n m = Good (Rest (Statement place) variant n) m × Heads (GoesOn place) m
 
-pub item_good : {s : Settings} (place : Where) (variant : Variant) (n : Nonterminal) (empty : Bool) (c : Parameters) (x : Stmt AnyNode) {ts : List Token} → is_list place ≡ true → (d : Derives true s (stmt_form (in_list empty c) x) ts) → AllGood d → s.minify ≡ c.minify →
+pub item_taken : {s : Settings} {a : Form AnyNode} {ts : List Token} (place : Where) (variant : Variant) (n : Nonterminal) {v : Variant} → is_list place ≡ true → (d : Derives true s a ts) → Good (Whole v nt.Statement) (derived_parse d End) →
     (rest : ParseTree) → InItems place variant n rest → InItems place variant n (derived_parse d rest)
-item_good place variant n empty c x i d o m rest r =
-    let g = stmt_good (in_list empty c) x d o m in
+item_taken place variant n i d g rest r =
     let same = sym (derived_joined d End rest) in (
       item_then place variant n i g r.1 r.0 same,
       λ us. let k = item_heads place g (item_stands false place) (tokens_of rest us) in (k.0, k.1, ap (λ z. tokens_of z us) same ∙ joined_tokens (derived_parse d End) rest us ∙ k.2, k.3),
     )
+
+pub item_good : {s : Settings} (place : Where) (variant : Variant) (n : Nonterminal) (empty : Bool) (c : Parameters) (x : Stmt AnyNode) {ts : List Token} → is_list place ≡ true → (d : Derives true s (stmt_form (in_list empty c) x) ts) → AllGood d → s.minify ≡ c.minify →
+    (rest : ParseTree) → InItems place variant n rest → InItems place variant n (derived_parse d rest)
+item_good place variant n empty c x i d o m rest r = item_taken place variant n i d (stmt_good (in_list empty c) x d o m) rest r
 
 pub list_good : {s : Settings} (place : Where) (variant : Variant) (n : Nonterminal) (c : Parameters) (xs : List (Stmt AnyNode)) {ts : List Token} → is_list place ≡ true → (d : Derives true s (list_form c xs) ts) → AllGood d → s.minify ≡ c.minify → (rest : ParseTree) →
     InItems place variant n rest → InItems place variant n (derived_parse d rest)

@@ -9,8 +9,8 @@ use Rattle.swc_ecma_codegen_syntax.specs.UnitProductions.{UnitProduction, Chain,
 use Rattle.swc_ecma_codegen_syntax.proofs.Chains.{takes_chain}
 use Rattle.swc_ecma_codegen_syntax.proofs.Taken.{chain_takes}
 use Rattle.swc_ecma_codegen_uniqueness.specs.ParseTrees.{Variant}
-use Rattle.swc_ecma_codegen_uniqueness.proofs.Classes.{Power, Plus, Within, Coalescing, Class, Infix, Assigns, Ask, Comma, Dot, ChainDot, OpenParen, OpenBracket, OpenBrace, Line, First, class, FunctionWord, ReturnWord, ThrowWord, BreakWord, ContinueWord, DebuggerWord, IfWord, WhileWord, WithWord, VarWord, Semicolon, DoWord, TryWord, SwitchWord, ElseWord, CloseBrace, ClassWord}
-use Rattle.swc_ecma_codegen_uniqueness.proofs.Tables.{made, left_of, left, closes, Tail, OfInfix, whole, last, Control, Open, Arguments, Elements, NextElement, AfterNew, AfterYield, YieldLine, Listed, AsyncLine, InParen, Index, Middle, InKey, InValue, Substitution, waits, stands, decide, Action, Push, Wrap, Reduce, Shift, Turn, Begin, Enter, Leave, Splice, Take, starts, is_item, is_listed, begin, begun_at, shifted_to, Heritage, Members, AtMember, InMemberKey, FieldPlace, closed_by, at_item, Where, InList, OfElse, Statement, Entered, Parameter, RestParameter, Valued, Test, Declarators, Initializer, entered, without, with_operand, Keep, CatchParameter, Case, InTry, InCatch, InClause, InMethod, InSetterKey, SetterParameter, OfIf, OfDo}
+use Rattle.swc_ecma_codegen_uniqueness.proofs.Classes.{Power, Plus, Within, Coalescing, Class, Infix, Assigns, Ask, Comma, Dot, ChainDot, OpenParen, OpenBracket, OpenBrace, Line, First, class, FunctionWord, ReturnWord, ThrowWord, BreakWord, ContinueWord, DebuggerWord, IfWord, WhileWord, WithWord, VarWord, Semicolon, DoWord, TryWord, SwitchWord, ElseWord, CloseBrace, ClassWord, ExportWord, ImportWord, AsyncWord}
+use Rattle.swc_ecma_codegen_uniqueness.proofs.Tables.{made, left_of, left, closes, Tail, OfInfix, whole, last, Control, Open, Arguments, Elements, NextElement, AfterNew, AfterYield, YieldLine, Listed, InParen, Index, Middle, InKey, InValue, Substitution, waits, stands, decide, Action, Push, Wrap, Reduce, Shift, Turn, Begin, Enter, Leave, Splice, Take, starts, is_item, is_listed, begin, begun_at, shifted_to, Heritage, Members, AtMember, InMemberKey, FieldPlace, DefaultValue, ImportItem, AfterImport, EnterBelow, Merge, AsyncItem, AsyncItemLine, AsyncDefault, AsyncDefaultLine, AfterAsync, AsyncLine, AsyncOperand, closed_by, at_item, Where, InList, OfElse, Statement, Entered, Parameter, RestParameter, Valued, Test, Declarators, Initializer, entered, without, with_operand, Keep, CatchParameter, Case, InTry, InCatch, InClause, InMethod, InSetterKey, SetterParameter, OfIf, OfDo}
 
 -- ---- chains of unit productions
 
@@ -46,6 +46,8 @@ wrap_is Leave h = absurd (true≢false (sym h))
 wrap_is Splice h = absurd (true≢false (sym h))
 wrap_is Take h = absurd (true≢false (sym h))
 wrap_is Keep h = absurd (true≢false (sym h))
+wrap_is EnterBelow h = absurd (true≢false (sym h))
+wrap_is Merge h = absurd (true≢false (sym h))
 
 abbrev is_push : Action → Bool
 is_push Push = true
@@ -63,6 +65,8 @@ push_is Leave h = absurd (true≢false (sym h))
 push_is Splice h = absurd (true≢false (sym h))
 push_is Take h = absurd (true≢false (sym h))
 push_is Keep h = absurd (true≢false (sym h))
+push_is EnterBelow h = absurd (true≢false (sym h))
+push_is Merge h = absurd (true≢false (sym h))
 
 -- names of places, of which no node is; and patterns, of which none is here
 abbrev pub is_place : Nonterminal → Bool
@@ -184,7 +188,7 @@ stands_waiting (Substitution variant) n h s = refl
 stands_waiting AfterNew n h s = refl
 stands_waiting YieldLine n h s = refl
 stands_waiting Listed n h s = refl
-stands_waiting AsyncLine n h s = refl
+stands_waiting AsyncOperand n h s = refl
 stands_waiting (Entered place) n h s = refl
 stands_waiting (Parameter place) n h s = refl
 stands_waiting (RestParameter place) n h s = refl
@@ -199,6 +203,7 @@ stands_waiting SetterParameter n h s = refl
 stands_waiting Heritage n h s = refl
 stands_waiting InMemberKey n h s = refl
 stands_waiting (FieldPlace variant) n h s = refl
+stands_waiting DefaultValue n h s = refl
 stands_waiting Members n h s = absurd (true≢false (sym (element_stands n s) ∙ h))
 stands_waiting (Statement place) n h s = absurd (true≢false (sym (nothing_stands n true s) ∙ h))
 stands_waiting c n h s = absurd (true≢false (sym (nothing_stands n false s) ∙ h))
@@ -525,6 +530,7 @@ assignment_single k h = refl
 abbrev pub is_keyword : Class → Bool
 is_keyword FunctionWord = true
 is_keyword ClassWord = true
+is_keyword ExportWord = true
 is_keyword ReturnWord = true
 is_keyword ThrowWord = true
 is_keyword BreakWord = true
@@ -580,6 +586,8 @@ enter_is Leave h = absurd (true≢false (sym h))
 enter_is Splice h = absurd (true≢false (sym h))
 enter_is Take h = absurd (true≢false (sym h))
 enter_is Keep h = absurd (true≢false (sym h))
+enter_is EnterBelow h = absurd (true≢false (sym h))
+enter_is Merge h = absurd (true≢false (sym h))
 
 -- what begins no expression in the place of a statement
 abbrev pub is_barred : Class → Bool
@@ -588,7 +596,13 @@ is_barred FunctionWord = true
 is_barred ClassWord = true
 is_barred l = false
 
-enter_test : (place : Where) (l : Class) → if_so (starts l && not (is_barred l)) (is_enter (without (Statement place) l)) ≡ true
+-- what begins one there or an item, as a later token tells
+abbrev pub is_delayed : Class → Bool
+is_delayed ImportWord = true
+is_delayed AsyncWord = true
+is_delayed l = false
+
+enter_test : (place : Where) (l : Class) → if_so (starts l && (not (is_barred l) && not (is_delayed l))) (is_enter (without (Statement place) l)) ≡ true
 enter_test (InList ends) (Infix Plus) = refl
 enter_test place (Infix Plus) = refl
 enter_test (InList ends) l = refl
@@ -606,9 +620,65 @@ pub place_of : (c : Control) → at_item c ≡ true → ItemPlace c
 place_of (Statement place) h = item_place place
 place_of c h = absurd (true≢false (sym h))
 
-pub enters : (t : Token) → starts (class t) ≡ true → is_barred (class t) ≡ false → (c : Control) → ItemPlace c → (decide c None t ≡ Enter) × (decide (entered c) None t ≡ Push)
-enters t h b c (item_place place) =
-    (enter_is _ (told _ _ (enter_test place (class t)) (and_from _ _ h (ap not b))), push_is _ (told _ _ (entered_test place (class t)) h))
+pub enters : (t : Token) → starts (class t) ≡ true → is_barred (class t) ≡ false → is_delayed (class t) ≡ false → (c : Control) → ItemPlace c → (decide c None t ≡ Enter) × (decide (entered c) None t ≡ Push)
+enters t h b k c (item_place place) =
+    (enter_is _ (told _ _ (enter_test place (class t)) (and_from _ _ h (and_from _ _ (ap not b) (ap not k)))), push_is _ (told _ _ (entered_test place (class t)) h))
+
+-- `import` is either, and `(` or `.` behind it tells which
+abbrev pub is_import_call : Class → Bool
+is_import_call OpenParen = true
+is_import_call Dot = true
+is_import_call l = false
+
+pub import_begins : (c : Control) → ItemPlace c → (without c ImportWord ≡ Begin) × (begun_at c ImportWord ≡ ImportItem) × (without (entered c) ImportWord ≡ Push)
+import_begins c (item_place place) = (refl, refl, refl)
+
+pub import_called : (l : Class) → is_import_call l ≡ true → (without ImportItem l ≡ EnterBelow) × (without AfterImport l ≡ Shift)
+import_called OpenParen h = (refl, refl)
+import_called Dot h = (refl, refl)
+import_called l h = absurd (true≢false (sym h))
+
+pub import_kept : (l : Class) → is_import_call l ≡ false → without AfterImport l ≡ Keep
+import_kept OpenParen h = absurd (true≢false h)
+import_kept Dot h = absurd (true≢false h)
+import_kept l h = refl
+
+-- so is `async`, and `function` on its line tells
+abbrev pub is_line : Class → Bool
+is_line Line = true
+is_line l = false
+
+abbrev pub is_function : Class → Bool
+is_function FunctionWord = true
+is_function l = false
+
+pub async_begins : (c : Control) → ItemPlace c → (without c AsyncWord ≡ Begin) × (begun_at c AsyncWord ≡ AsyncItem) × (without (entered c) AsyncWord ≡ Push)
+async_begins c (item_place place) = (refl, refl, refl)
+
+-- behind the word, and behind what stays on its line; the same behind `export default`
+pub async_line : (l : Class) → is_line l ≡ true → (without AsyncItem l ≡ Shift) × (shifted_to AsyncItem l ≡ AsyncItemLine) × (without AsyncDefault l ≡ Shift) × (shifted_to AsyncDefault l ≡ AsyncDefaultLine)
+    × (without AfterAsync l ≡ Shift) × (shifted_to AfterAsync l ≡ AsyncLine)
+async_line Line h = (refl, refl, refl, refl, refl, refl)
+async_line l h = absurd (true≢false (sym h))
+
+pub async_kept : (l : Class) → is_line l ≡ false → without AfterAsync l ≡ Keep
+async_kept Line h = absurd (true≢false h)
+async_kept l h = refl
+
+pub async_enters : (l : Class) → is_function l ≡ false → (without AsyncItemLine l ≡ EnterBelow) × (without AsyncDefaultLine l ≡ EnterBelow) × (without AsyncLine l ≡ Enter)
+async_enters FunctionWord h = absurd (true≢false h)
+async_enters l h = (refl, refl, refl)
+
+-- what ends an expression statement, or stands behind a label, is neither
+pub leaves_alone : (l : Class) → with_operand (Entered OfElse) l ≡ Leave → (is_line l ≡ false) × (is_function l ≡ false)
+leaves_alone Line h = absurd (true≢false (ap is_wrap h))
+leaves_alone FunctionWord h = absurd (true≢false (ap is_wrap h))
+leaves_alone l h = (refl, refl)
+
+pub delayed_by : (l : Class) → (is_delayed l ≡ false) ⊎ ((l ≡ ImportWord) ⊎ (l ≡ AsyncWord))
+delayed_by ImportWord = inr (inl refl)
+delayed_by AsyncWord = inr (inr refl)
+delayed_by l = inl refl
 
 -- with which token an operand begins, by what the machine does at it in the place of a statement
 begins_test : (l : Class) → if_so (is_push (without (Entered OfElse) l)) (starts l) ≡ true
@@ -667,6 +737,8 @@ take_is Enter h = absurd (true≢false (sym h))
 take_is Leave h = absurd (true≢false (sym h))
 take_is Splice h = absurd (true≢false (sym h))
 take_is Keep h = absurd (true≢false (sym h))
+take_is EnterBelow h = absurd (true≢false (sym h))
+take_is Merge h = absurd (true≢false (sym h))
 
 take_test : (place : Where) (l : Class) → if_so (is_list place) (is_take (with_operand (Statement place) l)) ≡ true
 take_test (InList ends) l = refl

@@ -8,7 +8,7 @@ use Rattle.swc_ecma_codegen_syntax.specs.declared.nonterminals.Nonterminal.{Nont
 use Rattle.swc_ecma_codegen_syntax.specs.declared.nonterminals.Nonterminal.TheVariants as nt
 use Rattle.swc_ecma_codegen_syntax.specs.Nonterminals.{takes, is_private}
 use Rattle.swc_ecma_codegen_uniqueness.specs.ParseTrees.{Variant, This, Array, Object, Unary, Update, Bin, Assign, Member, SuperProp, Cond, Call, New, Seq, Ident, Lit, Tpl, TaggedTpl, Arrow, Yield, MetaProp, Await, Paren, PrivateName, OptChain, Fn, BlockStmt, EmptyStmt, DebuggerStmt, WithStmt, ReturnStmt, LabeledStmt, BreakStmt, ContinueStmt, IfStmt, ThrowStmt, WhileStmt, VarDecl, ExprStmt, Other, SwitchStmt, TryStmt, DoWhileStmt, Class as AClass, Constructor, ClassMethod, PrivateMethod, ClassProp, PrivateProp, StaticBlock}
-use Rattle.swc_ecma_codegen_uniqueness.proofs.Classes.{Level, Class, class, Power, Times, Plus, Shifting, Comparing, Within, Equating, BitAnds, BitXors, BitOrs, Ands, Ors, Coalescing, Infix, Assigns, Ask, Colon, Comma, Dot, ChainDot, OpenParen, CloseParen, OpenBracket, CloseBracket, OpenBrace, CloseBrace, Dots, Line, Twice, Bang, FatArrow, Semi, Semicolon, FirstLine, First, Later, NameToken, PrivateToken, LiteralToken, ThisWord, NewWord, SuperWord, ImportWord, YieldWord, AwaitWord, AsyncWord, FunctionWord, ClassWord, ExtendsWord, StaticWord, ConstructorWord, ReturnWord, ThrowWord, BreakWord, ContinueWord, DebuggerWord, IfWord, ElseWord, WhileWord, WithWord, DoWord, TryWord, CatchWord, FinallyWord, SwitchWord, CaseWord, DefaultWord, GetWord, SetWord, VarWord, UnaryWord, TargetWord, MetaWord}
+use Rattle.swc_ecma_codegen_uniqueness.proofs.Classes.{Level, Class, class, Power, Times, Plus, Shifting, Comparing, Within, Equating, BitAnds, BitXors, BitOrs, Ands, Ors, Coalescing, Infix, Assigns, Ask, Colon, Comma, Dot, ChainDot, OpenParen, CloseParen, OpenBracket, CloseBracket, OpenBrace, CloseBrace, Dots, Line, Twice, Bang, FatArrow, Semi, Semicolon, FirstLine, First, Later, NameToken, PrivateToken, LiteralToken, ThisWord, NewWord, SuperWord, ImportWord, YieldWord, AwaitWord, AsyncWord, FunctionWord, ClassWord, ExtendsWord, StaticWord, ConstructorWord, ExportWord, ReturnWord, ThrowWord, BreakWord, ContinueWord, DebuggerWord, IfWord, ElseWord, WhileWord, WithWord, DoWord, TryWord, CatchWord, FinallyWord, SwitchWord, CaseWord, DefaultWord, GetWord, SetWord, VarWord, UnaryWord, TargetWord, MetaWord}
 
 -- ---- levels: the nonterminal of each operator, and of its operands
 
@@ -179,6 +179,9 @@ pub data Where : Type 0 where
 -- behind `if`, and behind `if (`; behind `let`, and before a value of it; behind `do a; while (b)`; behind `try`, and its block; behind `catch`, `catch (`,
 -- `catch (a)`, and its block; behind `finally`; behind `switch (a)`, `case`, and `default`. Behind `class`, with its name or not; behind `extends`; before a member
 -- of a class; behind `static`, `get`, `async` and `*` of one; behind `[` of its key, behind its key, and before its value.
+-- Behind `import` in the place of an item; among the names of an import or an export, and behind `a,` of them; behind `export` and `export default`, and before the
+-- value of that. Behind `async` in the place of an item, and behind what stays on its line behind that; the same behind `export default`; before the parameters of an
+-- async arrow function.
 pub data Control : Type 0 where
   Closed : (variant : Variant) → Control
   Open : (tail : Tail) → Control
@@ -198,6 +201,8 @@ pub data Control : Type 0 where
   Declarators Initializer : Control
   AfterDo AfterTry BehindTry AfterCatch CatchParameter BehindParameter BehindCatch AfterFinally AfterSwitch Case AfterDefault : Control
   AfterClass Heritage Members AtMember InMemberKey : Control
+  ImportItem Clause ClauseComma AfterExport AfterExportDefault DefaultValue : Control
+  AsyncItem AsyncItemLine AsyncDefault AsyncDefaultLine AsyncOperand : Control
   MemberKey FieldPlace : (variant : Variant) → Control
 
 -- the nonterminal that stands there
@@ -215,7 +220,7 @@ waits (Substitution variant) = nt.Expression
 waits AfterNew = nt.NewExpression
 waits YieldLine = nt.AssignmentExpression
 waits Listed = nt.AssignmentExpression
-waits AsyncLine = nt.LeftHandSideExpression
+waits AsyncOperand = nt.LeftHandSideExpression
 waits (Entered place) = nt.Expression
 waits (Parameter place) = nt.AssignmentExpression
 waits (RestParameter place) = nt.LeftHandSideExpression
@@ -231,6 +236,7 @@ waits Heritage = nt.LeftHandSideExpression
 waits Members = nt.ClassElement
 waits InMemberKey = nt.AssignmentExpression
 waits (FieldPlace variant) = nt.AssignmentExpression
+waits DefaultValue = nt.AssignmentExpression
 waits c = nt.Uncovered
 
 abbrev pub at_item : Control → Bool
@@ -245,11 +251,22 @@ stands c n = takes (waits c) n || ((is_private n && takes (waits c) nt.Relationa
 abbrev pub entered : Control → Control
 entered (Statement place) = Entered place
 entered ArrowBody = Open OfArrow
+entered AfterExportDefault = DefaultValue
+entered AsyncLine = AsyncOperand
 entered c = c
 
 abbrev pub outside : Control → Control
 outside (Entered place) = Statement place
 outside c = c
+
+-- what was begun in the place of an item, as it is begun in an expression
+abbrev pub as_expression : Control → Control
+as_expression ImportItem = AfterImport
+as_expression AsyncItem = AfterAsync
+as_expression AsyncItemLine = AsyncLine
+as_expression AsyncDefault = AfterAsync
+as_expression AsyncDefaultLine = AsyncLine
+as_expression c = c
 
 abbrev pub variant_of : Control → Variant
 variant_of (Closed variant) = variant
@@ -271,9 +288,10 @@ variant_of c = Other
 -- takes the token, begins a node with it, begins one with the operand at hand and it, ends the topmost one; takes the token, which tells that what
 -- stands before it was otherwise: `]` that the comma before it ends the list, `=>` that what is in parentheses are parameters. `{` begins a block, and any
 -- token a member of a class; a token begins an expression in the place of a statement, and with it, `;` ends the statement; what is at hand has no node of
--- its own, before a token that is taken, or before another item. An item has one.
+-- its own, before a token that is taken, or before another item. An item has one. A token tells that what was begun in the place of an item begins an expression:
+-- `(` of `import(a)`; or that it has no node of its own: `function` of `export default async function () {}`.
 pub data Action : Type 0 where
-  Shift Push Wrap Reduce Turn Begin Enter Leave Splice Take Keep : Action
+  Shift Push Wrap Reduce Turn Begin Enter Leave Splice Take Keep EnterBelow Merge : Action
 
 -- with no operand at hand
 abbrev pub without : Control → Class → Action
@@ -333,6 +351,7 @@ without AfterNew c = Push
 without AfterNewDot TargetWord = Shift
 without AfterImport OpenParen = Shift
 without AfterImport Dot = Shift
+without AfterImport c = Keep
 without AfterImportDot MetaWord = Shift
 without AfterSuper OpenParen = Shift
 without AfterSuper Dot = Shift
@@ -343,7 +362,18 @@ without YieldLine c = Push
 without Postfix Twice = Shift
 without Postfix FatArrow = Turn
 without AfterAsync Line = Shift
-without AsyncLine c = Push
+without AfterAsync c = Keep
+without AsyncLine FunctionWord = Shift
+without AsyncLine c = Enter
+without AsyncOperand c = Push
+without AsyncItem Line = Shift
+without AsyncItem c = EnterBelow
+without AsyncItemLine FunctionWord = Shift
+without AsyncItemLine c = EnterBelow
+without AsyncDefault Line = Shift
+without AsyncDefault c = EnterBelow
+without AsyncDefaultLine FunctionWord = Merge
+without AsyncDefaultLine c = EnterBelow
 without AsyncParameters FatArrow = Turn
 without ArrowBody OpenBrace = Shift
 without ArrowBody c = Enter
@@ -361,6 +391,9 @@ without (Statement place) TryWord = Push
 without (Statement place) SwitchWord = Push
 without (Statement place) FunctionWord = Push
 without (Statement place) ClassWord = Push
+without (Statement place) ExportWord = Push
+without (Statement place) ImportWord = Begin
+without (Statement place) AsyncWord = Begin
 without (Statement place) ReturnWord = Push
 without (Statement place) ThrowWord = Push
 without (Statement place) BreakWord = Push
@@ -414,6 +447,18 @@ without AfterFinally OpenBrace = Shift
 without AfterSwitch OpenBrace = Shift
 without Case c = Push
 without AfterDefault Colon = Shift
+without ImportItem OpenParen = EnterBelow
+without ImportItem Dot = EnterBelow
+without ImportItem c = Shift
+without Clause c = Shift
+without ClauseComma CloseBrace = Turn
+without ClauseComma c = Shift
+without AfterExport c = Shift
+without AfterExportDefault FunctionWord = Shift
+without AfterExportDefault ClassWord = Shift
+without AfterExportDefault AsyncWord = Begin
+without AfterExportDefault c = Enter
+without DefaultValue c = Push
 without AfterClass NameToken = Shift
 without AfterClass ExtendsWord = Shift
 without AfterClass OpenBrace = Shift
@@ -447,7 +492,7 @@ with_operand (Substitution variant) (Later opens) = Shift
 with_operand AfterNew OpenParen = Shift
 with_operand AfterNew c = ends nt.NewExpression c
 with_operand YieldLine c = ends nt.AssignmentExpression c
-with_operand AsyncLine Line = Shift
+with_operand AsyncOperand Line = Shift
 with_operand (Statement (InList ends)) c = Take
 with_operand (Statement InTry) c = Take
 with_operand (Statement InCatch) c = Take
@@ -476,6 +521,7 @@ with_operand Heritage OpenBrace = Shift
 with_operand Members c = Keep
 with_operand InMemberKey CloseBracket = Shift
 with_operand (FieldPlace variant) Semi = Shift
+with_operand DefaultValue Semi = Shift
 with_operand Listed Comma = Shift
 with_operand Listed c = ends nt.Expression c
 with_operand control c = Wrap
@@ -545,6 +591,11 @@ shifted_to AfterKey CloseBrace = Closed Object
 shifted_to AfterKey OpenParen = Parameter InMethod
 shifted_to AfterKey c = NextProperty
 shifted_to AfterAsync c = AsyncLine
+shifted_to AsyncLine c = AfterFunction
+shifted_to AsyncItem c = AsyncItemLine
+shifted_to AsyncItemLine c = AfterFunction
+shifted_to AsyncDefault c = AsyncDefaultLine
+shifted_to AsyncDefaultLine c = AfterFunction
 shifted_to AsyncParameters c = ArrowBody
 shifted_to ArrowBody c = Statement (InList Arrow)
 shifted_to (Statement (InList ends)) FirstLine = Statement (InList ends)
@@ -594,6 +645,19 @@ shifted_to AtMember Semicolon = Closed EmptyStmt
 shifted_to (MemberKey variant) OpenParen = Parameter (InList variant)
 shifted_to (MemberKey variant) Assigns = FieldPlace (field_of variant)
 shifted_to (MemberKey variant) c = Closed (field_of variant)
+shifted_to ImportItem c = Clause
+shifted_to Clause Comma = ClauseComma
+shifted_to Clause Semi = Closed Other
+shifted_to ClauseComma c = Clause
+shifted_to AfterExport VarWord = Declarators
+shifted_to AfterExport ClassWord = AfterClass
+shifted_to AfterExport FunctionWord = AfterFunction
+shifted_to AfterExport DefaultWord = AfterExportDefault
+shifted_to AfterExport AsyncWord = AfterExport
+shifted_to AfterExport Line = AfterExport
+shifted_to AfterExport c = Clause
+shifted_to AfterExportDefault FunctionWord = AfterFunction
+shifted_to AfterExportDefault c = AfterClass
 shifted_to control c = control
 
 -- behind one that is taken with an operand at hand
@@ -610,7 +674,7 @@ passed_to InKey c = AfterKey
 passed_to InValue CloseBrace = Closed Object
 passed_to InValue c = NextProperty
 passed_to (Substitution variant) (Later false) = Closed variant
-passed_to AsyncLine c = AsyncParameters
+passed_to AsyncOperand c = AsyncParameters
 passed_to (Statement OfDo) c = Headed DoWhileStmt
 passed_to (Statement place) c = Statement OfElse
 passed_to CatchParameter c = BehindParameter
@@ -633,6 +697,7 @@ passed_to Initializer c = Closed VarDecl
 passed_to Heritage c = Members
 passed_to InMemberKey c = MemberKey ClassMethod
 passed_to (FieldPlace variant) c = Closed variant
+passed_to DefaultValue c = Closed Other
 passed_to control c = control
 
 abbrev pub moved : Control → Option Variant → Class → Control
@@ -668,6 +733,7 @@ started AwaitWord = Open OfAwait
 started AsyncWord = AfterAsync
 started FunctionWord = AfterFunction
 started ClassWord = AfterClass
+started ExportWord = AfterExport
 started ReturnWord = AfterWord ReturnStmt
 started ThrowWord = AfterWord ThrowStmt
 started BreakWord = AfterWord BreakStmt
@@ -686,9 +752,12 @@ started c = Closed Other
 abbrev pub start : Token → Control
 start t = started (class t)
 
--- behind the `{` of a block, and behind the first token of a member
+-- behind the `{` of a block, behind `import` and `async`, and behind the first token of a member
 abbrev pub begun_at : Control → Class → Control
 begun_at Members c = shifted_to AtMember c
+begun_at AfterExportDefault c = AsyncDefault
+begun_at control ImportWord = ImportItem
+begun_at control AsyncWord = AsyncItem
 begun_at control c = Statement (InList BlockStmt)
 
 abbrev pub begin : Control → Token → Control

@@ -31,7 +31,7 @@ use Rattle.swc_ecma_codegen_grammar.specs.declared.kinds.Kind.TheVariants.{Word}
 use Rattle.swc_ecma_codegen_syntax.specs.NameForms.{is_one_of}
 
 -- What node it is, by the name of its variant in `Expr` or `Stmt`, or of its type where a class has it. A node that no production derives is foreign, as those of
--- TypeScript. Of other nodes the laws don't speak: async functions, JSX.
+-- TypeScript. Of other nodes the laws don't speak: JSX.
 pub data Variant : Type 0 where
   This Array Object Fn Unary Update Bin Assign Member SuperProp Cond Call New Seq Ident Lit Tpl TaggedTpl Arrow Yield MetaProp Await Paren PrivateName OptChain : Variant
   Class Constructor ClassMethod PrivateMethod ClassProp PrivateProp StaticBlock : Variant

@@ -1,13 +1,12 @@
 -- What a tree says, as pure data: its parse tree, without spans, without raws, and without what syntax leaves open. Each node is what its production in
 -- `swc_ecma_codegen_syntax` says, so no type of node has a line here.
-use Rattle.std.specs.Prelude.{Bool, true, false, not, List, [], ◌∷◌, ◌++◌}
+use Rattle.std.specs.Prelude.{Bool, true, false, List, [], ◌∷◌, ◌++◌}
 use Rattle.std.specs.Str.{chars}
 use Rattle.swc_ecma_codegen_tree.specs.declared.links.AnyNode.{AnyNode, AnyNode-F, fold-AnyNode}
 use Rattle.swc_ecma_codegen_tree.specs.declared.links.AnyNode.TheVariants as whole
 use Rattle.swc_ecma_codegen_tree.specs.declared.links.AnyNode.TheOpen as nodes
 use Rattle.swc_ecma_codegen_tree.specs.declared.exprs.Expr.{Expr}
 use Rattle.swc_ecma_codegen_tree.specs.declared.parts.ExprPart.TheVariants as expr_parts
-use Rattle.swc_ecma_codegen_tree.specs.declared.parts.StmtPart.TheVariants as stmt_parts
 use Rattle.swc_ecma_codegen_tree.specs.declared.pats.Pat.{Pat}
 use Rattle.swc_ecma_codegen_tree.specs.declared.pats.Pat.TheVariants as pats
 use Rattle.swc_ecma_codegen_tree.specs.declared.programs.Program.{Program}
@@ -19,7 +18,7 @@ use Rattle.swc_ecma_codegen_grammar.specs.Settings.{Settings}
 use Rattle.swc_ecma_codegen_grammar.specs.Tokens.{Token}
 use Rattle.swc_ecma_codegen_grammar.specs.Tokens as tokens
 use Rattle.swc_ecma_codegen_grammar.specs.declared.roles.Role.{Role}
-use Rattle.swc_ecma_codegen_grammar.specs.declared.roles.Role.TheVariants.{Expression, Pattern, Statement, Block, Function, FunctionHead, MethodHead, MethodDecorators, MethodTail, AccessorTail, ClassHead, ClassWord, ClassTail, PropertyName, ChainMember, ChainCall, Template, TaggedTemplate}
+use Rattle.swc_ecma_codegen_grammar.specs.declared.roles.Role.TheVariants.{Expression, Pattern, Statement, Block, Function, FunctionHead, MethodHead, MethodDecorators, MethodTail, AccessorTail, ClassHead, ClassWord, ClassTail, ModuleDeclaration, ExportedHead, ExportedTail, PropertyName, ChainMember, ChainCall, Template, TaggedTemplate}
 use Rattle.swc_ecma_codegen_syntax.specs.declared.parameters.Parameters.{Parameters}
 use Rattle.swc_ecma_codegen_syntax.specs.Parameters.{before}
 use Rattle.swc_ecma_codegen_syntax.specs.Forms.{Form, Fixed, Part, Simple, Restricted, Lone, Both, Provided, Closed, Bare, Followed, role_in}
@@ -55,13 +54,8 @@ unfoldable pub is_inlined_pattern : {X : Type 0} → AnyNode-F X → Bool
 is_inlined_pattern (nodes.ExprPart (expr_parts.Pat n)) = is_inlined_pat n
 is_inlined_pattern n = false
 
--- the words before a function that isn't async
-unfoldable pub is_plain_head : {X : Type 0} → AnyNode-F X → Bool
-is_plain_head (nodes.StmtPart (stmt_parts.Function n)) = not n.value.is_async
-is_plain_head n = false
-
 -- They are parts of the node above them, and no nodes of their own; so are a template, a link of an optional chain, a block, a key, a function without
--- its name, and a class without its own.
+-- its name, a class without its own, an item of a module, and a declaration that is exported.
 unfoldable pub is_inlined : {X : Type 0} → Role → AnyNode-F X → Bool
 is_inlined (ChainMember optional) n = true
 is_inlined (ChainCall optional) n = true
@@ -70,7 +64,7 @@ is_inlined TaggedTemplate n = true
 is_inlined Pattern n = is_inlined_pattern n
 is_inlined Block n = true
 is_inlined Function n = true
-is_inlined FunctionHead n = is_plain_head n
+is_inlined FunctionHead n = true
 is_inlined MethodHead n = true
 is_inlined MethodDecorators n = true
 is_inlined MethodTail n = true
@@ -78,6 +72,9 @@ is_inlined AccessorTail n = true
 is_inlined ClassHead n = true
 is_inlined ClassWord n = true
 is_inlined ClassTail n = true
+is_inlined ModuleDeclaration n = true
+is_inlined ExportedHead n = true
+is_inlined ExportedTail n = true
 is_inlined PropertyName n = true
 is_inlined role n = false
 
