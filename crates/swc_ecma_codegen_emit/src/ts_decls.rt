@@ -4,9 +4,10 @@ ghost use Rattle.std.specs.Prelude.{◌≡◌};
 ghost use Rattle.swc_ecma_codegen_emit.specs.Standing.{Performs};
 ghost use Rattle.swc_ecma_codegen_emit.specs.TsDecls.{declare_word, ts_expr_with_type_args, extended_format, extended_list, some_extends, extends_clause, ts_interface_decl, ts_type_alias_decl, ts_enum_member_id, ts_enum_member, enum_format, enum_members, enum_body, ts_enum_decl, ts_module_name, module_head, module_tail, ts_module_decl, ts_external_module_ref, ts_module_ref, ts_import_equals_decl, ts_export_assignment, ts_namespace_export_decl};
 ghost use Rattle.swc_ecma_codegen_emit.specs.Namespaces.{module_block_format, block_items, ts_module_block, ts_namespace_decl, namespace_inside, braced_body, dotted_body, ts_namespace_body};
+ghost use Rattle.swc_ecma_codegen_emit.specs.Places.{in_context};
 
 use crate::emitter::Emitter;
-use crate::nodes::{Child, EmitAt, LinkTarget, Place};
+use crate::nodes::{Child, Context, EmitAt, LinkTarget, Place};
 use swc_ecma_codegen_common::Span;
 use swc_ecma_codegen_grammar::ListFormat;
 use swc_ecma_codegen_grammar::comments::Comments;
@@ -52,8 +53,8 @@ impl<N: LinkTarget> EmitAt for TsExprWithTypeArgs<N> {
         place: Place,
     ) {
         e.leading_comments(self.span.lo);
-        self.expr.target().emit_at(e, Place::Plain);
-        e.type_args(Place::Plain, &self.type_args);
+        self.expr.target().emit_in(e, Context::Plain);
+        e.type_args(Context::Plain, &self.type_args);
     }
 }
 
@@ -78,11 +79,11 @@ impl<N: LinkTarget> EmitAt for TsInterfaceDecl<N> {
         e.declare_word(self.declare);
         e.keyword(None, "interface");
         e.space();
-        self.id.emit_at(e, Place::Plain);
+        self.id.emit_in(e, Context::Plain);
         e.type_params(&self.type_params);
         e.extends_clause(self.span, &self.extends);
         e.formatting_space();
-        self.body.target().emit_at(e, Place::Plain);
+        self.body.target().emit_in(e, Context::Plain);
     }
 }
 
@@ -99,10 +100,10 @@ impl<N: LinkTarget> EmitAt for TsTypeAliasDecl<N> {
         e.declare_word(self.declare);
         e.keyword(None, "type");
         e.space();
-        self.id.emit_at(e, Place::Plain);
+        self.id.emit_in(e, Context::Plain);
         e.type_params(&self.type_params);
         e.spaced_punct(Punctuator::Equal);
-        self.type_ann.target().emit_at(e, Place::Plain);
+        self.type_ann.target().emit_in(e, Context::Plain);
         e.semi();
     }
 }
@@ -117,8 +118,8 @@ impl EmitAt for TsEnumMemberId {
         place: Place,
     ) {
         match self {
-            TsEnumMemberId::Ident(node) => node.emit_at(e, Place::Plain),
-            TsEnumMemberId::Str(node) => node.emit_at(e, Place::Plain),
+            TsEnumMemberId::Ident(node) => node.emit_in(e, Context::Plain),
+            TsEnumMemberId::Str(node) => node.emit_in(e, Context::Plain),
         }
     }
 }
@@ -133,7 +134,7 @@ impl<N: LinkTarget> EmitAt for TsEnumMember<N> {
         place: Place,
     ) {
         e.leading_comments(self.span.lo);
-        self.id.emit_at(e, Place::Plain);
+        self.id.emit_in(e, Context::Plain);
         e.initializer(&self.init);
     }
 }
@@ -160,7 +161,7 @@ impl<N: LinkTarget> EmitAt for TsEnumDecl<N> {
         e.word_before(self.is_const, "const");
         e.keyword(None, "enum");
         e.space();
-        self.id.emit_at(e, Place::Plain);
+        self.id.emit_in(e, Context::Plain);
         e.formatting_space();
         e.enum_body(self);
     }
@@ -179,12 +180,12 @@ impl EmitAt for TsModuleName {
             TsModuleName::Ident(node) => {
                 e.keyword(None, "namespace");
                 e.space();
-                node.emit_at(e, Place::Plain)
+                node.emit_in(e, Context::Plain)
             }
             TsModuleName::Str(node) => {
                 e.keyword(None, "module");
                 e.space();
-                node.emit_at(e, Place::Plain)
+                node.emit_in(e, Context::Plain)
             }
         }
     }
@@ -233,14 +234,14 @@ impl<N: LinkTarget> EmitAt for TsNamespaceDecl<N> {
         e.declare_word(self.declare);
         e.keyword(None, "namespace");
         e.space();
-        self.id.emit_at(e, Place::Plain);
+        self.id.emit_in(e, Context::Plain);
         e.formatting_space();
-        self.body.target().emit_at(e, Place::Plain);
+        self.body.target().emit_in(e, Context::Plain);
     }
 }
 
 impl<N: LinkTarget> EmitAt for TsNamespaceBody<N> {
-    ghost items = { ts_namespace_body N.answers N.items };
+    ghost items = { λ n. in_context (ts_namespace_body N.answers N.items n) };
 
     #[tactic(auto, unfolding(crate::specs::Namespaces::ts_namespace_body))]
     fn emit_at<W: WriteJs, S: SourceMapper, C: Comments>(
@@ -249,7 +250,7 @@ impl<N: LinkTarget> EmitAt for TsNamespaceBody<N> {
         place: Place,
     ) {
         match place {
-            Place::Dotted => e.dotted_body(self),
+            Place::Whole(Context::Dotted) => e.dotted_body(self),
             _ => e.braced_body(self),
         }
     }
@@ -267,7 +268,7 @@ impl EmitAt for TsExternalModuleRef {
         e.leading_comments(self.span.lo);
         e.keyword(None, "require");
         e.punct(Punctuator::LeftParenthesis);
-        self.expr.emit_at(e, Place::Plain);
+        self.expr.emit_in(e, Context::Plain);
         e.punct(Punctuator::RightParenthesis);
     }
 }
@@ -282,8 +283,8 @@ impl<N: LinkTarget> EmitAt for TsModuleRef<N> {
         place: Place,
     ) {
         match self {
-            TsModuleRef::TsEntityName(node) => node.target().emit_at(e, Place::Plain),
-            TsModuleRef::TsExternalModuleRef(node) => node.emit_at(e, Place::Plain),
+            TsModuleRef::TsEntityName(node) => node.target().emit_in(e, Context::Plain),
+            TsModuleRef::TsExternalModuleRef(node) => node.emit_in(e, Context::Plain),
         }
     }
 }
@@ -302,9 +303,9 @@ impl<N: LinkTarget> EmitAt for TsImportEqualsDecl<N> {
         e.keyword(None, "import");
         e.space();
         e.word_before(self.is_type_only, "type");
-        self.id.emit_at(e, Place::Plain);
+        self.id.emit_in(e, Context::Plain);
         e.spaced_punct(Punctuator::Equal);
-        self.module_ref.emit_at(e, Place::Plain);
+        self.module_ref.emit_in(e, Context::Plain);
         e.semi();
     }
 }
@@ -321,7 +322,7 @@ impl<N: LinkTarget> EmitAt for TsExportAssignment<N> {
         e.leading_comments(self.span.lo);
         e.keyword(None, "export");
         e.spaced_punct(Punctuator::Equal);
-        self.expr.target().emit_at(e, Place::Plain);
+        self.expr.target().emit_in(e, Context::Plain);
         e.semi();
     }
 }
@@ -342,7 +343,7 @@ impl EmitAt for TsNamespaceExportDecl {
         e.space();
         e.keyword(None, "namespace");
         e.space();
-        self.id.emit_at(e, Place::Plain);
+        self.id.emit_in(e, Context::Plain);
         e.semi();
     }
 }
@@ -416,7 +417,7 @@ impl<W: WriteJs, S: SourceMapper, C: Comments> Emitter<'_, W, S, C> {
         if global {
             return self.keyword(None, "global");
         }
-        name.emit_at(self, Place::Plain)
+        name.emit_in(self, Context::Plain)
     }
 
     /// Writes the body behind the name, or the semicolon in its place.
@@ -426,7 +427,7 @@ impl<W: WriteJs, S: SourceMapper, C: Comments> Emitter<'_, W, S, C> {
             S.lines C.maps W.sheet self.old self.new }
     {
         match body {
-            Some(node) => node.target().emit_at(self, Place::Dotted),
+            Some(node) => node.target().emit_in(self, Context::Dotted),
             None => self.semi(),
         }
     }
@@ -446,8 +447,8 @@ impl<W: WriteJs, S: SourceMapper, C: Comments> Emitter<'_, W, S, C> {
             S.lines C.maps W.sheet self.old self.new }
     {
         match node {
-            TsNamespaceBody::TsModuleBlock(node) => node.emit_at(self, Place::Plain),
-            TsNamespaceBody::TsNamespaceDecl(node) => node.emit_at(self, Place::Plain),
+            TsNamespaceBody::TsModuleBlock(node) => node.emit_in(self, Context::Plain),
+            TsNamespaceBody::TsNamespaceDecl(node) => node.emit_in(self, Context::Plain),
         }
     }
 
@@ -478,8 +479,8 @@ impl<W: WriteJs, S: SourceMapper, C: Comments> Emitter<'_, W, S, C> {
             }
             TsNamespaceBody::TsNamespaceDecl(node) => {
                 self.punct(Punctuator::Dot);
-                node.id.emit_at(self, Place::Plain);
-                node.body.target().emit_at(self, Place::Dotted)
+                node.id.emit_in(self, Context::Plain);
+                node.body.target().emit_in(self, Context::Dotted)
             }
         }
     }
