@@ -3,18 +3,18 @@
 
 use std::process::ExitCode;
 use std::{env, io};
-use swc_ecma_codegen_tool::{refuse_words, run};
+use swc_ecma_codegen_tool::{Ecmagen, refuse_words, run};
 
 fn main(rt: HostRuntime) -> ExitCode {
     let status = match words(&rt) {
-        Ok(words) => run(
+        Ok(words) => run::<Ecmagen, _, _, _>(
             rt.alloc(),
             &words,
             &mut rt.stdin(),
             &mut rt.stdout(),
             &mut rt.stderr(),
         ),
-        Err(error) => refuse_words(&error, &mut rt.stderr()),
+        Err(error) => refuse_words::<Ecmagen, _>(&error, &mut rt.stderr()),
     };
     ExitCode::from(status)
 }

@@ -10,7 +10,7 @@ use Rattle.swc_ecma_codegen_json.specs.declared.errors.ReadError.{ReadError}
 use Rattle.swc_ecma_codegen_json.specs.declared.errors.ReadError.TheVariants as unread
 use Rattle.swc_ecma_codegen_tokens.specs.Run.{Part, State, Follows, nothing, start}
 use Rattle.swc_ecma_codegen_tool.specs.declared.faults.Fault.{Fault}
-use Rattle.swc_ecma_codegen_tool.specs.declared.faults.Fault.TheVariants.{Usage, CannotRead, BadTree, NotWellFormed, Writer, Memory, UnsupportedNode, BadShape, NameOutOfTarget, PositionTooLarge, Failed}
+use Rattle.swc_ecma_codegen_tool.specs.declared.faults.Fault.TheVariants.{Usage, CannotRead, BadTree, NotWellFormed, NotADerivation, Writer, Memory, UnsupportedNode, BadShape, NameOutOfTarget, PositionTooLarge, Failed}
 use Rattle.swc_ecma_codegen_tool.specs.declared.words.Options.{Options}
 use Rattle.swc_ecma_codegen_tool.specs.Prints.{sheet_for}
 use Rattle.swc_ecma_codegen_tool.specs.Words.{settings_of}
@@ -41,16 +41,17 @@ abbrev pub GivesFault : Options → Part → Fault → Type 0
 GivesFault options part fault =
     (ended : State) × EndsWithFault part (start no_lines no_maps (settings_of options) (sheet_for options)) ended fault
 
--- the line that tells of a fault
-abbrev pub line_of : Fault → List ℕ
-line_of Usage = codes "usage: ecmagen [options]\n"
-line_of CannotRead = codes "cannot read\n"
-line_of BadTree = codes "bad tree\n"
-line_of NotWellFormed = codes "not well-formed\n"
-line_of Writer = codes "refused: writer\n"
-line_of Memory = codes "refused: memory\n"
-line_of UnsupportedNode = codes "refused: unsupported node\n"
-line_of BadShape = codes "refused: bad shape\n"
-line_of NameOutOfTarget = codes "refused: name out of target\n"
-line_of PositionTooLarge = codes "refused: position too large\n"
-line_of Failed = codes "refused: failed\n"
+-- the line that tells of a fault; that of wrong words names the program
+abbrev pub line_of : List ℕ → Fault → List ℕ
+line_of usage Usage = usage
+line_of usage CannotRead = codes "cannot read\n"
+line_of usage BadTree = codes "bad tree\n"
+line_of usage NotWellFormed = codes "not well-formed\n"
+line_of usage NotADerivation = codes "not a derivation\n"
+line_of usage Writer = codes "refused: writer\n"
+line_of usage Memory = codes "refused: memory\n"
+line_of usage UnsupportedNode = codes "refused: unsupported node\n"
+line_of usage BadShape = codes "refused: bad shape\n"
+line_of usage NameOutOfTarget = codes "refused: name out of target\n"
+line_of usage PositionTooLarge = codes "refused: position too large\n"
+line_of usage Failed = codes "refused: failed\n"

@@ -41,18 +41,23 @@ text_with options part = (printed part (start no_lines no_maps (settings_of opti
 abbrev pub MayPrint : Options → Program AnyNode → Type 0
 MayPrint options p = options.any ≡ false → is_well_formed p ≡ true
 
--- a text is that of a program
-abbrev pub IsText : Options → List ℕ → Type 0
-IsText options text = (p : Program AnyNode) × MayPrint options p × (text ≡ text_with options (by_itself (program any_answers any_items p)))
+-- what is done with a program before it is printed: what it was, and what it is then
+abbrev pub Preparation : Type 1
+Preparation = Options → Program AnyNode → Program AnyNode → Type 0
 
--- the text of one program is added to what a writer tells
-abbrev pub AddsText : Options → Option (List ℕ) → Option (List ℕ) → Type 0
-AddsText options old new = (text : List ℕ) × IsText options text × Appends old new text
+-- a text is that of what was made of a program
+abbrev pub IsText : Preparation → Options → List ℕ → Type 0
+IsText prepared options text =
+    (p r : Program AnyNode) × MayPrint options p × prepared options p r × (text ≡ text_with options (by_itself (program any_answers any_items r)))
+
+-- the text of what was made of one program is added to what a writer tells
+abbrev pub AddsText : Preparation → Options → Option (List ℕ) → Option (List ℕ) → Type 0
+AddsText prepared options old new = (text : List ℕ) × IsText prepared options text × Appends old new text
 
 -- a beginning of a text is added to it, which may be nothing
 abbrev pub AddsFront : List ℕ → Option (List ℕ) → Option (List ℕ) → Type 0
 AddsFront text old new = (front : List ℕ) × IsPrefix front text × Appends old new front
 
--- a beginning of the text of one program is added to it
-abbrev pub AddsFrontOfText : Options → Option (List ℕ) → Option (List ℕ) → Type 0
-AddsFrontOfText options old new = (text : List ℕ) × IsText options text × AddsFront text old new
+-- a beginning of such a text is added to it
+abbrev pub AddsFrontOfText : Preparation → Options → Option (List ℕ) → Option (List ℕ) → Type 0
+AddsFrontOfText prepared options old new = (text : List ℕ) × IsText prepared options text × AddsFront text old new

@@ -44,7 +44,7 @@ is_max_line word = bytes_eq word (codes "--max-line")
 abbrev pub wants_more : List ℕ → Bool
 wants_more word = is_target word || is_max_line word
 
--- a word is an option
+-- a word is an option of each program
 abbrev pub is_option : List ℕ → Bool
 is_option word =
     bytes_eq word (codes "--minify")
@@ -56,22 +56,22 @@ is_option word =
     || (bytes_eq word (codes "--any")
     || wants_more word))))))
 
--- a word may come right after another, or after none, which is an empty one here
-abbrev pub may_follow : List ℕ → List ℕ → Bool
-may_follow before word =
+-- a word may come right after another, or after none, which is an empty one here; a program may have options of its own
+abbrev pub may_follow : (List ℕ → Bool) → List ℕ → List ℕ → Bool
+may_follow is_own before word =
     if is_target before then is_some (version_named word)
     else if is_max_line before then is_some (length_named word)
-    else is_option word
+    else (is_option word || is_own word)
 
 -- each word is an option, and the name of a version comes after each `--target`, a length after each `--max-line`, and neither
 -- anywhere else, where this word came before
-abbrev pub are_options_after : {Z : Type 0} → List ℕ → List (String Z) → Bool
-are_options_after before [] = not (wants_more before)
-are_options_after before (word ∷ words) = may_follow before (string_bytes word) && are_options_after (string_bytes word) words
+abbrev pub are_options_after : {Z : Type 0} → (List ℕ → Bool) → List ℕ → List (String Z) → Bool
+are_options_after is_own before [] = not (wants_more before)
+are_options_after is_own before (word ∷ words) = may_follow is_own before (string_bytes word) && are_options_after is_own (string_bytes word) words
 
 -- the words are options: `--target es5 --minify`
-abbrev pub are_options : {Z : Type 0} → List (String Z) → Bool
-are_options words = are_options_after [] words
+abbrev pub are_options : {Z : Type 0} → (List ℕ → Bool) → List (String Z) → Bool
+are_options is_own words = are_options_after is_own [] words
 
 -- a word stands among these, once or more often
 abbrev pub is_given : {Z : Type 0} → List ℕ → List (String Z) → Bool
@@ -100,6 +100,7 @@ options_of words =
       max_line = last_length None words;
       positions = is_given (codes "--positions") words;
       any = is_given (codes "--any") words;
+      fewest = is_given (codes "--fewest") words;
     }
 
 -- the settings that this asks for

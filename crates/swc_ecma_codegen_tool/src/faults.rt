@@ -14,6 +14,7 @@ pub enum Fault {
     CannotRead,
     BadTree,
     NotWellFormed,
+    NotADerivation,
     Writer,
     Memory,
     UnsupportedNode,
@@ -51,15 +52,16 @@ impl Fault {
         }
     }
 
-    /// The line that tells of it.
-    pub fn line(self) -> &'static str
-        ensures { result.now ≡ line_of self }
+    /// The line that tells of it; `usage` is that of wrong words.
+    pub fn line(self, usage: &'static str) -> &'static str
+        ensures { result.now ≡ line_of usage.now self }
     {
         match self {
-            Fault::Usage => "usage: ecmagen [options]\n",
+            Fault::Usage => usage,
             Fault::CannotRead => "cannot read\n",
             Fault::BadTree => "bad tree\n",
             Fault::NotWellFormed => "not well-formed\n",
+            Fault::NotADerivation => "not a derivation\n",
             Fault::Writer => "refused: writer\n",
             Fault::Memory => "refused: memory\n",
             Fault::UnsupportedNode => "refused: unsupported node\n",

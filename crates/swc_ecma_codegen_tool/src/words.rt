@@ -1,6 +1,6 @@
 //! The words of a run.
 
-ghost use Rattle.std.specs.Prelude.{◌≡◌, false, true, None, Err, Ok};
+ghost use Rattle.std.specs.Prelude.{◌≡◌, ◌||◌, ℕ, List, Bool, false, true, None, Err, Ok};
 ghost use Rattle.swc_ecma_codegen_tool.specs.Words.{
   are_options,
   is_given,
@@ -18,6 +18,22 @@ ghost use Rattle.swc_ecma_codegen_tool.specs.Words.{
 use crate::faults::Fault;
 use swc_ecma_codegen::Config;
 use swc_ecma_codegen_common::EsVersion;
+
+/// What differs from program to program in the words of a run.
+pub trait Words {
+    /// The line that tells of wrong words.
+    ghost usage_line: { List ℕ };
+    /// A word is an option of this program, besides those of `ecmagen`.
+    ghost is_own: { List ℕ → Bool };
+
+    /// The line that tells of wrong words.
+    fn usage_line() -> &'static str
+        ensures { result.now ≡ usage_line };
+
+    /// Whether a word is an option of this program, besides those of `ecmagen`.
+    fn is_own(word: &str) -> bool
+        ensures { result ≡ is_own word.now };
+}
 
 /// What the words of a run ask for. A word that is given again asks for nothing more.
 #[derive(Debug, Clone, Copy, PartialEq, Eq)]
@@ -41,15 +57,17 @@ pub struct Options {
     pub positions: bool,
     /// `--any`: a program that isn't well-formed is printed too.
     pub any: bool,
+    /// `--fewest`, where a program has this option: the parentheses of the tree are taken away first.
+    pub fewest: bool,
 }
 
 impl Options {
-    /// What the words ask for. Where one of them is no option, they are wrong words.
-    pub fn of_words(words: &[String]) -> Result<Options, Fault>
-        ensures taken { are_options words.now ≡ true → result ≡ Ok (options_of words.now) }
-        ensures wrong { are_options words.now ≡ false → result ≡ Err Fault.Usage }
+    /// What the words ask for. Where one of them is no option of the program, they are wrong words.
+    pub fn of_words<T: Words>(words: &[String]) -> Result<Options, Fault>
+        ensures taken { are_options T.is_own words.now ≡ true → result ≡ Ok (options_of words.now) }
+        ensures wrong { are_options T.is_own words.now ≡ false → result ≡ Err Fault.Usage }
     {
-        if !are_options(words) {
+        if !are_options::<T>(words) {
             return Err(Fault::Usage);
         }
         Ok(Options {
@@ -62,6 +80,7 @@ impl Options {
             max_line: last_length(words),
             positions: is_given(words, "--positions"),
             any: is_given(words, "--any"),
+            fewest: is_given(words, "--fewest"),
         })
     }
 
@@ -111,8 +130,15 @@ fn length_named(word: &str) -> Option<u32>
     word.parse().ok()
 }
 
-/// Whether a word is an option.
-fn is_option(word: &str) -> bool
+/// Whether a word is an option of a program.
+fn is_option<T: Words>(word: &str) -> bool
+    ensures { result ≡ (is_option word.now || T.is_own word.now) }
+{
+    is_common_option(word) || T::is_own(word)
+}
+
+/// Whether a word is an option of each program.
+fn is_common_option(word: &str) -> bool
     ensures { result ≡ is_option word.now }
 {
     matches!(
@@ -137,24 +163,24 @@ fn wants_more(word: &str) -> bool
 }
 
 /// Whether a word may come right after another, or after none, which is an empty one here.
-fn may_follow(before: &str, word: &str) -> bool
-    ensures { result ≡ may_follow before.now word.now }
+fn may_follow<T: Words>(before: &str, word: &str) -> bool
+    ensures { result ≡ may_follow T.is_own before.now word.now }
 {
     match before {
         "--target" => version_named(word).is_some(),
         "--max-line" => length_named(word).is_some(),
-        _ => is_option(word),
+        _ => is_option::<T>(word),
     }
 }
 
 /// Whether each of these words is an option, and the name of a version comes after each `--target`, a length after each
 /// `--max-line`, and neither anywhere else.
-fn are_options(words: &[String]) -> bool
-    ensures { result ≡ are_options words.now }
+fn are_options<T: Words>(words: &[String]) -> bool
+    ensures { result ≡ are_options T.is_own words.now }
 {
     let mut before = "";
     for word in words {
-        if !may_follow(before, word) {
+        if !may_follow::<T>(before, word) {
             return false;
         }
         before = word.as_str();

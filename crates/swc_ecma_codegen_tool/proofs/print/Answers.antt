@@ -1,11 +1,7 @@
-use Rattle.std.proofs.Common.{◌≡◌, ◌||◌, Bool, true, false, List, ℕ, Result, Ok, Err, OnErr, subst, sym, ap, ◌∙◌, inr, rules}
+use Rattle.std.proofs.Common.{◌≡◌, List, ℕ, Result, Ok, Err, OnErr, subst, inr, rules}
 use Rattle.std.specs.Io.KnownBytes.{Appends}
 use Rattle.swc_ecma_codegen_tool.specs.Prints.{AddsFront}
 use Rattle.swc_ecma_codegen_tool.proofs.print.Goals as goal
-
--- where not any program is printed, this one is well-formed
-allowed : (any well all : Bool) → all ≡ (any || well) → all ≡ true → any ≡ false → well ≡ true
-allowed any well all same may none = sym (ap (λ b. b || well) none) ∙ sym same ∙ may
 
 -- the bytes that went out are those of the text
 pub returns-clause-printed : goal.returns-clause-printed
@@ -13,8 +9,7 @@ returns-clause-printed g c =
     let text = c.in_ok-text.text.items in
     let same : c.deref.result.now ≡ text = search rules in
     let Sent : List ℕ → Type 0 = λ t. Appends (g.O.Write.contents c.args.out.now) (g.O.Write.contents c.send.new.out) t in
-    let may : c.may_print.result ≡ true = search rules in
-    (text, (c.in_ok-program.program, allowed _ _ _ c.may_print.ensures may, c.in_ok-text.ensures.text), subst Sent same c.in_ok-send.ensures.sent)
+    (text, (c.in_ok-tree.tree.0, c.in_ok-prepared.prepared.0, c.in_ok-tree.ensures.may, c.in_ok-prepared.ensures.prepared, c.in_ok-text.ensures.text), subst Sent same c.in_ok-send.ensures.sent)
 
 -- what holds whatever comes holds after a fault
 after_fault : {T E P : Type 0} (r : Result T E) → P → OnErr r P
@@ -27,5 +22,4 @@ returns-in_err-send-clause-begun g c =
     let text = c.in_ok-text.text.items in
     let same : c.deref.result.now ≡ text = search rules in
     let Begun : List ℕ → Type 0 = λ t. AddsFront t (g.O.Write.contents c.args.out.now) (g.O.Write.contents c.send.new.out) in
-    let may : c.may_print.result ≡ true = search rules in
-    after_fault _ (inr (text, (c.in_ok-program.program, allowed _ _ _ c.may_print.ensures may, c.in_ok-text.ensures.text), subst Begun same c.in_err-send.ensures.begun))
+    after_fault _ (inr (text, (c.in_ok-tree.tree.0, c.in_ok-prepared.prepared.0, c.in_ok-tree.ensures.may, c.in_ok-prepared.ensures.prepared, c.in_ok-text.ensures.text), subst Begun same c.in_err-send.ensures.begun))

@@ -14,14 +14,14 @@ is_asked false made asked taken wrong = let same = wrong refl in absurd (cc)
 
 pub returns-after-options-clause-printed : goal.returns-after-options-clause-printed
 returns-after-options-clause-printed g c = λ _.
-    let same : c.in-Ok.options ≡ options_of c.args.words.now = is_asked (are_options c.args.words.now) _ _ c.in-Ok.ensures.taken c.in-Ok.ensures.wrong in
-    let Printed : Options → Type 0 = λ o. AddsText o (g.O.Write.contents c.args.out.now) (g.O.Write.contents c.print.new.out) in
+    let same : c.in-Ok.options ≡ options_of c.args.words.now = is_asked (are_options g.T.Words.is_own c.args.words.now) _ _ c.in-Ok.ensures.taken c.in-Ok.ensures.wrong in
+    let Printed : Options → Type 0 = λ o. AddsText g.T.Tool.prepared o (g.O.Write.contents c.args.out.now) (g.O.Write.contents c.print.new.out) in
     subst Printed same c.in-Ok-print.ensures.printed
 
 pub returns-in-Err-print-clause-begun : goal.returns-in-Err-print-clause-begun
 returns-in-Err-print-clause-begun g c = λ _.
-    let same : c.in-Ok.options ≡ options_of c.args.words.now = is_asked (are_options c.args.words.now) _ _ c.in-Ok.ensures.taken c.in-Ok.ensures.wrong in
-    let Begun : Options → Type 0 = λ o. (c.print.new.out ≡ c.args.out.now) ⊎ AddsFrontOfText o (g.O.Write.contents c.args.out.now) (g.O.Write.contents c.print.new.out) in
+    let same : c.in-Ok.options ≡ options_of c.args.words.now = is_asked (are_options g.T.Words.is_own c.args.words.now) _ _ c.in-Ok.ensures.taken c.in-Ok.ensures.wrong in
+    let Begun : Options → Type 0 = λ o. (c.print.new.out ≡ c.args.out.now) ⊎ AddsFrontOfText g.T.Tool.prepared o (g.O.Write.contents c.args.out.now) (g.O.Write.contents c.print.new.out) in
     subst Begun same c.in-Err-print.ensures.begun
 
 -- what is told of words that are no options is that they are wrong
@@ -31,8 +31,8 @@ is_usage false fault taken wrong = let same = wrong refl in cc
 
 pub returns-in-Err-clause-told_usage : goal.returns-in-Err-clause-told_usage
 returns-in-Err-clause-told_usage g c = λ _.
-    let same : c.in-Err.fault ≡ Usage = is_usage (are_options c.args.words.now) _ c.in-Err.ensures.taken c.in-Err.ensures.wrong in
-    let Told : Fault → Type 0 = λ f. AddsFront (line_of f) (g.E.Write.contents c.args.err.now) (g.E.Write.contents c.tell.new.err) in
+    let same : c.in-Err.fault ≡ Usage = is_usage (are_options g.T.Words.is_own c.args.words.now) _ c.in-Err.ensures.taken c.in-Err.ensures.wrong in
+    let Told : Fault → Type 0 = λ f. AddsFront (line_of g.T.Words.usage_line f) (g.E.Write.contents c.args.err.now) (g.E.Write.contents c.tell.new.err) in
     subst Told same c.tell.ensures.told
 
 pub returns-in-Err-print-clause-told : goal.returns-in-Err-print-clause-told

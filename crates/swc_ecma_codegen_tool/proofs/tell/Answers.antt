@@ -1,5 +1,6 @@
-use Rattle.std.proofs.Common.{List, ℕ, [], Option, Result, Ok, Err, OnOk, OnErr, sym, ◌∙◌, subst, append-nil}
+use Rattle.std.proofs.Common.{List, ℕ, [], Option, Result, Ok, Err, OnOk, OnErr, sym, ◌∙◌, subst, append-nil, ap}
 use Rattle.std.specs.Io.KnownBytes.{Appends}
+use Rattle.swc_ecma_codegen_tool.specs.Faults.{line_of}
 use Rattle.swc_ecma_codegen_tool.specs.Prints.{AddsFront}
 use Rattle.swc_ecma_codegen_tool.proofs.tell.Goals as goal
 
@@ -11,4 +12,4 @@ begun_at_least (Err e) old new text sent begun = begun
 pub returns-clause-told : goal.returns-clause-told
 returns-clause-told g c =
     let Begun : List ℕ → Type 0 = λ t. AddsFront t (g.E.Write.contents c.args.err.now) (g.E.Write.contents c.send.new.out) in
-    subst Begun (c.as_bytes.ensures.value ∙ c.line.ensures) (begun_at_least c.send.result _ _ _ c.send.ensures.sent c.send.ensures.begun)
+    subst Begun (c.as_bytes.ensures.value ∙ c.line-line.ensures ∙ ap (λ usage. line_of usage c.args.fault) c.usage_line.ensures) (begun_at_least c.send.result _ _ _ c.send.ensures.sent c.send.ensures.begun)

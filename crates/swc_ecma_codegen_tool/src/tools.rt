@@ -1,0 +1,47 @@
+//! Programs that print a tree, by what they do with it before.
+
+ghost use Rattle.std.specs.Prelude.{◌≡◌, ◌≢◌, ℕ, List, Bool, false, codes, Err, IfOk};
+ghost use Rattle.swc_ecma_codegen_tree.specs.declared.links.AnyNode.{AnyNode};
+ghost use Rattle.swc_ecma_codegen_tree.specs.declared.programs.Program.{Program};
+ghost use Rattle.swc_ecma_codegen_tool.specs.declared.words.Options.{Options};
+
+use crate::faults::Fault;
+use crate::words::{Options, Words};
+use std::alloc::Global;
+use swc_ecma_codegen_json::Tree;
+
+/// A program that prints a tree.
+pub trait Tool: Words {
+    /// What a program was, and is as it is printed, by what the words of a run ask for.
+    ghost prepared: { Options → Program AnyNode → Program AnyNode → Type 0 };
+
+    /// Makes of a tree what is printed of it.
+    fn prepare(alloc: Global, options: Options, tree: Tree) -> Result<Tree, Fault>
+        ensures prepared { IfOk result (λ r. prepared options tree.0 r.0) }
+        ensures no_usage { result ≢ Err Fault.Usage };
+}
+
+/// `ecmagen`, which prints a tree as it is.
+pub struct Ecmagen;
+
+impl Words for Ecmagen {
+    ghost usage_line = { codes "usage: ecmagen [options]\n" };
+
+    ghost is_own = { λ word. false };
+
+    fn usage_line() -> &'static str {
+        "usage: ecmagen [options]\n"
+    }
+
+    fn is_own(_word: &str) -> bool {
+        false
+    }
+}
+
+impl Tool for Ecmagen {
+    ghost prepared = { λ options p r. p ≡ r };
+
+    fn prepare(_alloc: Global, _options: Options, tree: Tree) -> Result<Tree, Fault> {
+        Ok(tree)
+    }
+}
