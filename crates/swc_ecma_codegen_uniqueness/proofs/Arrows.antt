@@ -33,14 +33,15 @@ use Rattle.swc_ecma_codegen_syntax.specs.Derives.{Derives, fixed, part, restrict
 use Rattle.swc_ecma_codegen_uniqueness.specs.ParseTrees.{Variant, ParseTree, End, Read, Optional, Node, Ident, Seq, Arrow, Paren, is_known, part_variant, pat_variant, node_variant, tokens_of}
 use Rattle.swc_ecma_codegen_uniqueness.specs.Parses.{placed, is_inlined, is_inlined_pattern, is_inlined_pat}
 use Rattle.swc_ecma_codegen_uniqueness.proofs.Classes.{class}
-use Rattle.swc_ecma_codegen_uniqueness.proofs.Tables.{Listed, ArrowBody, InList}
-use Rattle.swc_ecma_codegen_uniqueness.proofs.TableLaws.{cover, or_left, takes_on, is_function}
-use Rattle.swc_ecma_codegen_uniqueness.proofs.Machine.{Whole, Rest, Good, Heads, turned}
+use Rattle.swc_ecma_codegen_uniqueness.proofs.Controls.{Listed, ArrowBody, InList}
+use Rattle.swc_ecma_codegen_uniqueness.proofs.PlaceLaws.{is_function}
+use Rattle.swc_ecma_codegen_uniqueness.proofs.TableLaws.{cover, or_left, takes_on}
+use Rattle.swc_ecma_codegen_uniqueness.proofs.Machine.{Whole, Rest, Good, Heads, turned, spine_free, turned_low}
 use Rattle.swc_ecma_codegen_uniqueness.proofs.Joined.{derived_joined}
 use Rattle.swc_ecma_codegen_uniqueness.proofs.Parsed.{tokens_before}
 use Rattle.swc_ecma_codegen_uniqueness.proofs.StatementShapes.{operand_heads, arrow_value, arrow_block}
 use Rattle.swc_ecma_codegen_uniqueness.proofs.Heading.{may_be_value, not_excluded}
-use Rattle.swc_ecma_codegen_uniqueness.proofs.Shapes.{Operand, takes_self, assignment_taken, widened, left_taken, left_assigned, listed_first, listed_next, listed_last, listed_rest, no_parameters, several_parameters, one_parameter, rest_parameter, one_turned, arrow_mark, arrow, async_arrow, ended}
+use Rattle.swc_ecma_codegen_uniqueness.proofs.Shapes.{Operand, shift_left, takes_self, assignment_taken, widened, left_taken, left_assigned, listed_first, listed_next, listed_last, listed_rest, no_parameters, several_parameters, one_parameter, rest_parameter, one_turned, arrow_mark, arrow, async_arrow, ended}
 use Rattle.swc_ecma_codegen_uniqueness.proofs.Reading.{read_phrase, derived_parse}
 use Rattle.swc_ecma_codegen_uniqueness.proofs.Fits.{Fit, in_place, at_place, PlacedGood, AllGood}
 use Rattle.swc_ecma_codegen_uniqueness.proofs.Atoms.{no_annotation, binding_read}
@@ -99,7 +100,7 @@ name_heads text p e = λ us. (tokens.name text, us, ap (λ z. tokens_of z us) e,
 
 -- a name alone needs no parentheses
 lone_in : {s : Settings} (called : Bool) (c : Parameters) (y : AnyNode-F AnyNode) {ts : List Token} (d : Derives true s (node_form called c y Pattern) ts) → is_never (node_phrase phrase y PlainParameter) ≡ false →
-    PlacedGood (is_inlined Pattern y) (s.minify ≡ c.minify → Fit (node_variant y Pattern) (cover (node_nonterminal called c y Pattern)) (derived_parse d End)) (AllGood d) → s.minify ≡ c.minify →
+    PlacedGood (is_inlined Pattern y) (s.minify ≡ c.minify → Fit c (node_variant y Pattern) (cover (node_nonterminal called c y Pattern)) (derived_parse d End)) (AllGood d) → s.minify ≡ c.minify →
     Turned (placed (is_inlined Pattern y) (node_variant y Pattern) (derived_parse d))
 unfolding node_phrase expr_part plain_parameter is_never node_form part_form pat_form node_nonterminal part_nonterminal pat_nonterminal node_variant part_variant pat_variant is_known PlacedGood placed is_inlined is_inlined_pattern is_inlined_pat same_line
 lone_in called c (nodes.ExprPart (expr_parts.Pat (pats.Ident n))) d h o m =
@@ -219,3 +220,18 @@ arrow_by false c n (both star (both types (both params (both annotation (both (f
 pub arrow_good : {s : Settings} (c : Parameters) (n : ArrowExpr AnyNode) {ts : List Token} (d : Derives true s (arrow_form c n) ts) → AllGood d → s.minify ≡ c.minify → Good (Whole Arrow nt.AssignmentExpression) (derived_parse d End)
 unfolding arrow_form
 arrow_good c n d o m = arrow_by n.is_async c n d o m
+
+-- no `in` takes what an arrow function begins with
+arrow_free_by : {s : Settings} (b : Bool) (c : Parameters) (n : ArrowExpr AnyNode) {ts : List Token} →
+    (d : Derives true s (async_form b (Provided ByRule (not n.is_generator) (Fixed (word_if n.is_generator (mark (codes "*")))) ⇢ type_params_form c n.type_params
+    ⇢ arrow_params_form (of_arrow_parameters b c) (is_typed_arrow n) n.params.items ⇢ annotation_form c n.return_type ⇢ Fixed phrases.same_line ⇢ Fixed (mark (codes "=>")) ⇢ arrow_body_form c b n.body)) ts) →
+    AllGood d → s.minify ≡ c.minify → spine_free (derived_parse d End) ≡ true
+unfolding async_form AllGood derived_parse read_phrase same_line
+arrow_free_by true c n (both (fixed a) d) o m = refl
+arrow_free_by false c n (both star (both types (both params (both annotation (both (fixed g) (both (fixed h) body)))))) (u, (v, (o, (w, (x, (k, q)))))) m =
+    let r = shaped false c n star types params annotation body o q m in
+    ap spine_free r.is ∙ turned_low same_line (Read arrow_mark r.body) r.operand.good (or_left _ _ (takes_on nt.ShiftExpression nt.LeftHandSideExpression r.operand.of shift_left r.operand.taken)) refl
+
+pub arrow_free : {s : Settings} (c : Parameters) (n : ArrowExpr AnyNode) {ts : List Token} (d : Derives true s (arrow_form c n) ts) → AllGood d → s.minify ≡ c.minify → spine_free (derived_parse d End) ≡ true
+unfolding arrow_form
+arrow_free c n d o m = arrow_free_by n.is_async c n d o m

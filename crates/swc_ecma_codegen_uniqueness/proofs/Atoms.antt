@@ -42,7 +42,8 @@ use Rattle.swc_ecma_codegen_syntax.specs.Derives.{Derives, fixed, part, simple, 
 use Rattle.swc_ecma_codegen_uniqueness.specs.ParseTrees.{ParseTree, End, Read, Ident as a_name, Lit as a_literal, MetaProp, Paren, simple_target_variant}
 use Rattle.swc_ecma_codegen_uniqueness.specs.Parses.{placed, is_inlined}
 use Rattle.swc_ecma_codegen_uniqueness.proofs.Classes.{LiteralToken, class}
-use Rattle.swc_ecma_codegen_uniqueness.proofs.Tables.{starts, started}
+use Rattle.swc_ecma_codegen_uniqueness.proofs.Controls.{starts}
+use Rattle.swc_ecma_codegen_uniqueness.proofs.Tables.{started}
 use Rattle.swc_ecma_codegen_uniqueness.proofs.TableLaws.{is_place}
 use Rattle.swc_ecma_codegen_uniqueness.proofs.Machine.{Whole, Good}
 use Rattle.swc_ecma_codegen_uniqueness.proofs.Shapes.{atom, parenthesized, new_target, import_meta}

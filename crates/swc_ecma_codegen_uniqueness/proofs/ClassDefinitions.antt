@@ -1,6 +1,6 @@
 -- Classes are read as they are.
 use Rattle.std.proofs.Common.{◌≡◌, Bool, true, false, not, List, [], ◌∷◌, Option, Some, None, refl, sym, ap, ◌∙◌, subst}
-use Rattle.std.specs.Prelude.{codes, string_bytes}
+use Rattle.std.specs.Prelude.{codes}
 use Rattle.std.proofs.lemmas.Bool.{true≢false}
 use Rattle.swc_ecma_codegen_tree.specs.Links.{ClassMemberBox, ExprBox, TsTypeParamInstantiationBox}
 use Rattle.swc_ecma_codegen_tree.specs.declared.links.AnyNode.{AnyNode, AnyNode-F, out-AnyNode}
@@ -20,21 +20,22 @@ use Rattle.swc_ecma_codegen_grammar.specs.Phrases as phrases
 use Rattle.swc_ecma_codegen_grammar.specs.Settings.{Settings}
 use Rattle.swc_ecma_codegen_grammar.specs.Tokens.{Token, punctuator, word}
 use Rattle.swc_ecma_codegen_grammar.specs.Tokens as tokens
-use Rattle.swc_ecma_codegen_grammar.specs.declared.roles.Role.TheVariants.{ClassHead, ClassWord, ClassTail, Member}
+use Rattle.swc_ecma_codegen_grammar.specs.declared.roles.Role.TheVariants.{ClassHead, ClassWord, ClassTail}
 use Rattle.swc_ecma_codegen_syntax.specs.declared.nonterminals.Nonterminal.{Nonterminal}
 use Rattle.swc_ecma_codegen_syntax.specs.declared.nonterminals.Nonterminal.TheVariants as nt
 use Rattle.swc_ecma_codegen_syntax.specs.declared.parameters.Parameters.{Parameters}
 use Rattle.swc_ecma_codegen_syntax.specs.Parameters.{of_class}
 use Rattle.swc_ecma_codegen_syntax.specs.ClassForms.{heritage_form, implemented_form, implements_form, members_form, class_tail_form, class_word_form, class_rest_form, class_decl_form, class_expr_form}
 use Rattle.swc_ecma_codegen_syntax.specs.Forms.{Fixed, Part, Provided, ByScope, is_met, in_order}
-use Rattle.swc_ecma_codegen_syntax.specs.FunctionForms.{decorators_form, bound_name_form, optional_name_form}
+use Rattle.swc_ecma_codegen_syntax.specs.FunctionForms.{bound_name_form, optional_name_form}
 use Rattle.swc_ecma_codegen_syntax.specs.Nonterminals.{takes, is_class_element, is_private}
 use Rattle.swc_ecma_codegen_syntax.specs.NodeForms.{node_form, part_form, stmt_part_form, jsx_part_form}
 use Rattle.swc_ecma_codegen_syntax.specs.Derives.{Derives, fixed, part, both, provided}
 use Rattle.swc_ecma_codegen_uniqueness.specs.ParseTrees.{Variant, ParseTree, End, Read, Node, Class as AClass, tokens_of}
 use Rattle.swc_ecma_codegen_uniqueness.specs.Parses.{placed, is_inlined}
 use Rattle.swc_ecma_codegen_uniqueness.proofs.Classes.{Class, class}
-use Rattle.swc_ecma_codegen_uniqueness.proofs.Tables.{AfterClass, Heritage, Members, Wrap, stands, without, with_operand}
+use Rattle.swc_ecma_codegen_uniqueness.proofs.Controls.{AfterClass, Heritage, Members, stands}
+use Rattle.swc_ecma_codegen_uniqueness.proofs.Tables.{Wrap, without, with_operand}
 use Rattle.swc_ecma_codegen_uniqueness.proofs.TableLaws.{is_wrap}
 use Rattle.swc_ecma_codegen_uniqueness.proofs.Machine.{Whole, Rest, Good, Heads, goes_on, shifted, keeping}
 use Rattle.swc_ecma_codegen_uniqueness.proofs.Shapes.{takes_self, part_then, begun, ended}

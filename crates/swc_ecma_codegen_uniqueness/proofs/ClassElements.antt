@@ -1,5 +1,5 @@
 -- Members of classes are read as they are.
-use Rattle.std.proofs.Common.{◌≡◌, ℕ, Bool, true, false, ◌&&◌, ◌||◌, not, List, [], ◌∷◌, Option, Some, None, refl, sym, ap, ◌∙◌, subst}
+use Rattle.std.proofs.Common.{◌≡◌, ℕ, Bool, true, false, ◌&&◌, ◌||◌, not, List, Option, Some, None, refl, sym, ◌∙◌, subst}
 use Rattle.std.specs.Prelude.{codes, is_none, if◌then◌else◌}
 use Rattle.std.proofs.lemmas.Bool.{true≢false}
 use Rattle.swc_ecma_codegen_tree.specs.Links.{ExprBox, FunctionBox, TsTypeAnnBox}
@@ -33,20 +33,20 @@ use Rattle.swc_ecma_codegen_grammar.specs.Tokens.{Token, punctuator, word, endin
 use Rattle.swc_ecma_codegen_grammar.specs.Tokens as tokens
 use Rattle.swc_ecma_codegen_grammar.specs.TsDeclPhrases.{declare_word}
 use Rattle.swc_ecma_codegen_grammar.specs.declared.roles.Role.TheVariants.{MethodHead, MethodDecorators, MethodTail, AccessorTail}
-use Rattle.swc_ecma_codegen_syntax.specs.declared.nonterminals.Nonterminal.{Nonterminal}
 use Rattle.swc_ecma_codegen_syntax.specs.declared.nonterminals.Nonterminal.TheVariants as nt
 use Rattle.swc_ecma_codegen_syntax.specs.declared.parameters.Parameters.{Parameters}
 use Rattle.swc_ecma_codegen_syntax.specs.Parameters.{of_function}
 use Rattle.swc_ecma_codegen_syntax.specs.ClassForms.{accessibility_form, constructor_param_form, constructor_form, rest_of_accessor, accessor_form, tail_of, kind_form, method_kind_form, optional_mark_form, method_form, private_method_form, field_value_form, plain_modifiers, field_type_form, field_form, plain_private_modifiers, private_field_form, static_block_form, member_of_class_form}
 use Rattle.swc_ecma_codegen_syntax.specs.Forms.{Fixed, Part, Provided, ByRule, ByScope, is_met}
-use Rattle.swc_ecma_codegen_syntax.specs.FunctionForms.{own_of, decorators_form}
+use Rattle.swc_ecma_codegen_syntax.specs.FunctionForms.{own_of}
 use Rattle.swc_ecma_codegen_syntax.specs.NodeForms.{node_form, part_form, stmt_part_form, jsx_part_form}
 use Rattle.swc_ecma_codegen_syntax.specs.Derives.{Derives, fixed, part, both, provided}
 use Rattle.swc_ecma_codegen_uniqueness.specs.ParseTrees.{Variant, ParseTree, End, Read, Node, Constructor, ClassMethod, PrivateMethod, ClassProp, PrivateProp, StaticBlock, EmptyStmt, member_variant}
 use Rattle.swc_ecma_codegen_uniqueness.specs.Parses.{placed, is_inlined}
 use Rattle.swc_ecma_codegen_uniqueness.proofs.Classes.{Class, NameToken, LiteralToken, class}
-use Rattle.swc_ecma_codegen_uniqueness.proofs.Tables.{Control, InList, Parameter, AfterParameters, AtMember, InMemberKey, MemberKey, FieldPlace, field_of, shifted_to}
-use Rattle.swc_ecma_codegen_uniqueness.proofs.TableLaws.{is_close_brace, element_begins}
+use Rattle.swc_ecma_codegen_uniqueness.proofs.Controls.{Control, InList, Parameter, AfterParameters, AtMember, InMemberKey, MemberKey, FieldPlace}
+use Rattle.swc_ecma_codegen_uniqueness.proofs.Tables.{field_of, shifted_to}
+use Rattle.swc_ecma_codegen_uniqueness.proofs.PlaceLaws.{is_close_brace, element_begins}
 use Rattle.swc_ecma_codegen_uniqueness.proofs.Machine.{Whole, Rest, Good, headed_block, shifted}
 use Rattle.swc_ecma_codegen_uniqueness.proofs.Shapes.{Operand, takes_self, assignment_taken, part_then, ended, is_key, Keyed}
 use Rattle.swc_ecma_codegen_uniqueness.proofs.StatementShapes.{Within}

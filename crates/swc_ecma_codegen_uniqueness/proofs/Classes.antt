@@ -5,16 +5,17 @@ use Rattle.swc_ecma_codegen_grammar.specs.declared.kinds.Kind.{Kind}
 use Rattle.swc_ecma_codegen_grammar.specs.declared.kinds.Kind.TheVariants as kinds
 use Rattle.swc_ecma_codegen_grammar.specs.Tokens.{Token, Value, Characters}
 
--- the binary operators of one nonterminal; `in` has a left operand of its own
+-- the binary operators of one nonterminal; `in` has a left operand of its own, and `<` begins an element of JSX too
 pub data Level : Type 0 where
-  Power Times Plus Shifting Comparing Within Equating BitAnds BitXors BitOrs Ands Ors Coalescing : Level
+  Power Times Plus Shifting Less Comparing Within Equating BitAnds BitXors BitOrs Ands Ors Coalescing : Level
 
 -- what a token is
 pub data Class : Type 0 where
   Infix : (level : Level) → Class
   Assigns Ask Colon Comma Dot ChainDot OpenParen CloseParen OpenBracket CloseBracket OpenBrace CloseBrace Dots Line Twice Bang FatArrow Semi Semicolon FirstLine : Class
   First Later : (opens : Bool) → Class
-  NameToken PrivateToken LiteralToken ThisWord NewWord SuperWord ImportWord YieldWord AwaitWord AsyncWord FunctionWord ClassWord ExtendsWord StaticWord ConstructorWord ExportWord ReturnWord ThrowWord BreakWord ContinueWord DebuggerWord IfWord ElseWord WhileWord WithWord DoWord TryWord CatchWord FinallyWord SwitchWord CaseWord DefaultWord GetWord SetWord VarWord UnaryWord TargetWord MetaWord Strange : Class
+  TagName TagString TagText TagClose ChildTagMark ChildBraceMark : Class
+  NameToken PrivateToken LiteralToken ThisWord NewWord SuperWord ImportWord YieldWord AwaitWord AsyncWord FunctionWord ClassWord ExtendsWord StaticWord ConstructorWord ExportWord ForWord OfWord ReturnWord ThrowWord BreakWord ContinueWord DebuggerWord IfWord ElseWord WhileWord WithWord DoWord TryWord CatchWord FinallyWord SwitchWord CaseWord DefaultWord GetWord SetWord VarWord UnaryWord TargetWord MetaWord Strange : Class
 
 abbrev pub look : List (List ℕ × Class) → List ℕ → Class
 look [] text = Strange
@@ -25,7 +26,7 @@ words =
     (codes "this", ThisWord) ∷ (codes "new", NewWord) ∷ (codes "super", SuperWord) ∷ (codes "import", ImportWord) ∷ (codes "yield", YieldWord)
     ∷ (codes "await", AwaitWord) ∷ (codes "async", AsyncWord) ∷ (codes "function", FunctionWord)
     ∷ (codes "class", ClassWord) ∷ (codes "extends", ExtendsWord) ∷ (codes "static", StaticWord) ∷ (codes "constructor", ConstructorWord)
-    ∷ (codes "export", ExportWord)
+    ∷ (codes "export", ExportWord) ∷ (codes "for", ForWord) ∷ (codes "of", OfWord)
     ∷ (codes "return", ReturnWord) ∷ (codes "throw", ThrowWord) ∷ (codes "break", BreakWord) ∷ (codes "continue", ContinueWord) ∷ (codes "debugger", DebuggerWord)
     ∷ (codes "if", IfWord) ∷ (codes "else", ElseWord) ∷ (codes "while", WhileWord) ∷ (codes "do", DoWord) ∷ (codes "try", TryWord) ∷ (codes "catch", CatchWord) ∷ (codes "finally", FinallyWord)
     ∷ (codes "switch", SwitchWord) ∷ (codes "case", CaseWord) ∷ (codes "default", DefaultWord)
@@ -38,7 +39,7 @@ abbrev operators : List (List ℕ × Class) → List (List ℕ × Class)
 operators more =
     (codes "**", Infix Power) ∷ (codes "*", Infix Times) ∷ (codes "/", Infix Times) ∷ (codes "%", Infix Times) ∷ (codes "+", Infix Plus) ∷ (codes "-", Infix Plus)
     ∷ (codes "<<", Infix Shifting) ∷ (codes ">>", Infix Shifting) ∷ (codes ">>>", Infix Shifting)
-    ∷ (codes "<", Infix Comparing) ∷ (codes ">", Infix Comparing) ∷ (codes "<=", Infix Comparing) ∷ (codes ">=", Infix Comparing)
+    ∷ (codes "<", Infix Less) ∷ (codes ">", Infix Comparing) ∷ (codes "<=", Infix Comparing) ∷ (codes ">=", Infix Comparing)
     ∷ (codes "==", Infix Equating) ∷ (codes "!=", Infix Equating) ∷ (codes "===", Infix Equating) ∷ (codes "!==", Infix Equating)
     ∷ (codes "&", Infix BitAnds) ∷ (codes "^", Infix BitXors) ∷ (codes "|", Infix BitOrs) ∷ (codes "&&", Infix Ands) ∷ (codes "||", Infix Ors)
     ∷ (codes "??", Infix Coalescing) ∷ more
@@ -56,6 +57,10 @@ marks =
     ∷ (codes "[", OpenBracket) ∷ (codes "]", CloseBracket) ∷ (codes "{", OpenBrace) ∷ (codes "}", CloseBrace) ∷ (codes "...", Dots) ∷ (codes "++", Twice) ∷ (codes "--", Twice) ∷ (codes "!", Bang) ∷ (codes "~", Bang)
     ∷ (codes "=>", FatArrow) ∷ (codes ";", Semicolon) ∷ []))
 
+-- what begins a child of an element of JSX
+abbrev pub child_marks : List (List ℕ × Class)
+child_marks = (codes "<", ChildTagMark) ∷ (codes "{", ChildBraceMark) ∷ []
+
 abbrev pub class_of : Kind → Value → Class
 class_of kinds.Word (Characters text) = look words text
 class_of kinds.Punctuator (Characters text) = look marks text
@@ -70,6 +75,11 @@ class_of (kinds.TemplateRest part) v = Later part.opens
 class_of kinds.SameLine v = Line
 class_of kinds.Ending v = Semi
 class_of kinds.Hashbang v = FirstLine
+class_of kinds.Close v = TagClose
+class_of kinds.JsxName v = TagName
+class_of kinds.JsxString v = TagString
+class_of kinds.JsxText v = TagText
+class_of kinds.JsxOpen (Characters text) = look child_marks text
 class_of kind v = Strange
 
 abbrev pub class : Token → Class

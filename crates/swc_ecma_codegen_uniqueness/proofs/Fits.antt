@@ -5,8 +5,9 @@ use Rattle.std.proofs.lemmas.Bool.{true≢false}
 use Rattle.swc_ecma_codegen_tree.specs.declared.links.AnyNode.{AnyNode, out-AnyNode}
 use Rattle.swc_ecma_codegen_grammar.specs.Settings.{Settings}
 use Rattle.swc_ecma_codegen_grammar.specs.Tokens.{Token, punctuator}
+use Rattle.swc_ecma_codegen_grammar.specs.Tokens as tokens
 use Rattle.swc_ecma_codegen_grammar.specs.declared.roles.Role.{Role}
-use Rattle.swc_ecma_codegen_grammar.specs.declared.roles.Role.TheVariants.{Statement, Block, Member}
+use Rattle.swc_ecma_codegen_grammar.specs.declared.roles.Role.TheVariants.{Statement, Block, Member, Child, Element, TagObject}
 use Rattle.swc_ecma_codegen_syntax.specs.declared.nonterminals.Nonterminal.{Nonterminal}
 use Rattle.swc_ecma_codegen_syntax.specs.declared.nonterminals.Nonterminal.TheVariants as nt
 use Rattle.swc_ecma_codegen_syntax.specs.declared.parameters.Parameters.{Parameters}
@@ -14,22 +15,25 @@ use Rattle.swc_ecma_codegen_syntax.specs.Nonterminals.{takes, is_optional}
 use Rattle.swc_ecma_codegen_syntax.specs.Forms.{Form, stands as stands_there, is_met}
 use Rattle.swc_ecma_codegen_syntax.specs.NodeForms.{missing_form, node_nonterminal}
 use Rattle.swc_ecma_codegen_syntax.specs.Derives.{Derives, fixed, part, simple, restricted, lone, lone_in_parentheses, both, provided, closed, comma_closed, followed, bare}
-use Rattle.swc_ecma_codegen_uniqueness.specs.ParseTrees.{Variant, ParseTree, End, Read, is_known, AreKnown, node_variant}
+use Rattle.swc_ecma_codegen_uniqueness.specs.ParseTrees.{Variant, ParseTree, End, Read, JSXElement, is_known, node_variant}
 use Rattle.swc_ecma_codegen_uniqueness.specs.Parses.{is_inlined}
-use Rattle.swc_ecma_codegen_uniqueness.proofs.Tables.{Statement as AtStatement, Where, closing}
-use Rattle.swc_ecma_codegen_uniqueness.proofs.TableLaws.{is_place, is_sequence, cover, cover_taken, is_list}
-use Rattle.swc_ecma_codegen_uniqueness.proofs.Machine.{Whole, Rest, Good}
+use Rattle.swc_ecma_codegen_uniqueness.proofs.Controls.{Control, OpenTag, InTag, ChildTag, ClosingTag, ClosingName, Statement as AtStatement, Where}
+use Rattle.swc_ecma_codegen_uniqueness.proofs.Tables.{closing}
+use Rattle.swc_ecma_codegen_uniqueness.proofs.PlaceLaws.{is_list}
+use Rattle.swc_ecma_codegen_uniqueness.proofs.TableLaws.{is_place, is_sequence, cover, cover_taken}
+use Rattle.swc_ecma_codegen_uniqueness.proofs.Machine.{Whole, Rest, Good, spine_free}
 use Rattle.swc_ecma_codegen_uniqueness.proofs.Shapes.{is_chain, is_several, Operand}
-use Rattle.swc_ecma_codegen_uniqueness.proofs.Reading.{read_phrase, derived_parse}
+use Rattle.swc_ecma_codegen_uniqueness.proofs.Reading.{derived_parse}
 use Rattle.swc_ecma_codegen_uniqueness.proofs.StatementShapes.{item_of}
 
--- a node is read as it is, in the place of the nonterminal that covers it
-pub record Fit (variant : Variant) (n : Nonterminal) (inside : ParseTree) : Type 0 where
+-- a node is read as it is, in the place of the nonterminal that covers it; under [~In] no `in` takes what it begins with
+pub record Fit (c : Parameters) (variant : Variant) (n : Nonterminal) (inside : ParseTree) : Type 0 where
   pub known : is_known variant ≡ true
   pub own : is_place n ≡ false
   pub chain : is_chain variant ≡ is_optional n
   pub several : is_several variant ≡ is_sequence n
   pub good : Good (Whole variant n) inside
+  pub free : c.has_in ≡ false → spine_free inside ≡ true
 
 or_same : (b : Bool) → (b || false) ≡ true → b ≡ true
 or_same true h = refl
@@ -39,10 +43,10 @@ pub taken_at : (place n : Nonterminal) → stands_there true place n ≡ true �
 unfolding stands_there
 taken_at place n h = or_same (takes place n) h
 
-pub in_place : {place n : Nonterminal} {variant : Variant} {inside : ParseTree} → takes place n ≡ true → Fit variant n inside → Operand place variant inside
+pub in_place : {c : Parameters} {place n : Nonterminal} {variant : Variant} {inside : ParseTree} → takes place n ≡ true → Fit c variant n inside → Operand place variant inside
 in_place {n = n} h fit = record { of = n; taken = h; own = fit.own; chain = fit.chain; several = fit.several; good = fit.good }
 
-pub at_place : (place n : Nonterminal) {variant : Variant} {inside : ParseTree} → stands_there true place n ≡ true → Fit variant (cover n) inside → Operand (cover place) variant inside
+pub at_place : {c : Parameters} (place n : Nonterminal) {variant : Variant} {inside : ParseTree} → stands_there true place n ≡ true → Fit c variant (cover n) inside → Operand (cover place) variant inside
 at_place place n h fit = in_place (cover_taken place n (taken_at place n h)) fit
 
 unfoldable pub PlacedGood : Bool → Type 0 → Type 0 → Type 0
@@ -54,15 +58,16 @@ pub record FitItem (b : Bool) (variant : Variant) (inside : ParseTree) : Type 0 
   pub known : is_known variant ≡ true
   pub good : Good (Whole variant (item_of b)) inside
 
--- and of a member of a class
-pub record FitMember (variant : Variant) (inside : ParseTree) : Type 0 where
+-- and of a member of a class, or an element between tags
+pub record FitMember (n : Nonterminal) (variant : Variant) (inside : ParseTree) : Type 0 where
   pub known : is_known variant ≡ true
-  pub good : Good (Whole variant nt.ClassElement) inside
+  pub good : Good (Whole variant n) inside
 
 abbrev pub NodeFit : Role → Parameters → Variant → Nonterminal → ParseTree → Type 0
 NodeFit Statement c variant n inside = FitItem c.before_else variant inside
-NodeFit Member c variant n inside = FitMember variant inside
-NodeFit role c variant n inside = Fit variant (cover n) inside
+NodeFit Member c variant n inside = FitMember nt.ClassElement variant inside
+NodeFit Child c variant n inside = FitMember nt.JSXElement variant inside
+NodeFit role c variant n inside = Fit c variant (cover n) inside
 
 -- a block, which has no node of its own
 pub record BlockFit (f : ParseTree → ParseTree) : Type 0 where
@@ -70,16 +75,44 @@ pub record BlockFit (f : ParseTree → ParseTree) : Type 0 where
   pub is : (rest : ParseTree) → f rest ≡ Read (punctuator (codes "{")) (inner rest)
   pub good : (place : Where) → is_list place ≡ true → (variant : Variant) (n : Nonterminal) (rest : ParseTree) → Good (Rest (closing place) variant n) rest → Good (Rest (AtStatement place) variant n) (inner rest)
 
-abbrev pub InlinedGood : Role → Type 0 → Type 0 → Type 0
-InlinedGood Block fit inside = fit
-InlinedGood role fit inside = inside
+-- an element of JSX, as an expression or between tags: what is read behind its `<`
+abbrev pub opening : Bool → Token
+opening true = tokens.child_open (codes "<")
+opening false = punctuator (codes "<")
 
--- Each node right below is read as it is, where the settings minify as its parameters say; no word is one of other statements.
+abbrev pub tag_at : Bool → Control
+tag_at true = ChildTag
+tag_at false = OpenTag
+
+pub record ElementFit (b : Bool) (f : ParseTree → ParseTree) : Type 0 where
+  pub inner : ParseTree → ParseTree
+  pub is : (rest : ParseTree) → f rest ≡ Read (opening b) (inner rest)
+  pub good : (n : Nonterminal) → Good (Rest (tag_at b) JSXElement n) (inner End)
+
+-- where a name stands in a tag, and what stands behind its first part
+pub data NamePlace : Control → Control → Type 0 where
+  of_element : NamePlace OpenTag InTag
+  of_child : NamePlace ChildTag InTag
+  of_attribute : NamePlace InTag InTag
+  of_closing : NamePlace ClosingTag ClosingName
+  in_closing : NamePlace ClosingName ClosingName
+
+-- a part of a name has no node either
+pub record ObjectFit (f : ParseTree → ParseTree) : Type 0 where
+  pub good : (a b : Control) → NamePlace a b → (n : Nonterminal) (m : ParseTree) → Good (Rest b JSXElement n) m → Good (Rest a JSXElement n) (f m)
+
+abbrev pub InlinedGood : Role → Type 0 → Type 0 → Type 0 → Type 0 → Type 0
+InlinedGood Block block element object inside = block
+InlinedGood Element block element object inside = element
+InlinedGood TagObject block element object inside = object
+InlinedGood role block element object inside = inside
+
+-- Each node right below is read as it is, where the settings minify as its parameters say.
 unfoldable pub AllGood : {s : Settings} {a : Form AnyNode} {ts : List Token} → Derives true s a ts → Type 0
-AllGood {s = s} (fixed {p = p} {ts = ts} g) = AreKnown (read_phrase s p ts g End)
+AllGood (fixed g) = Unit {0}
 AllGood {s = s} (part {c = c} {role = role} {n = n} called st d) =
     PlacedGood (is_inlined role (out-AnyNode n)) (s.minify ≡ c.minify → NodeFit role c (node_variant (out-AnyNode n) role) (node_nonterminal called c (out-AnyNode n) role) (derived_parse d End))
-    (InlinedGood role (s.minify ≡ c.minify → BlockFit (derived_parse d)) (AllGood d))
+    (InlinedGood role (s.minify ≡ c.minify → BlockFit (derived_parse d)) (s.minify ≡ c.minify → ElementFit false (derived_parse d)) (ObjectFit (derived_parse d)) (AllGood d))
 AllGood (simple h d) = AllGood d
 AllGood (restricted h d) = AllGood d
 AllGood (lone h d) = AllGood d

@@ -32,15 +32,17 @@ use Rattle.swc_ecma_codegen_syntax.specs.declared.parameters.Parameters.{Paramet
 use Rattle.swc_ecma_codegen_syntax.specs.Nonterminals.{takes, is_pattern_target, is_pattern_element, is_last_element}
 use Rattle.swc_ecma_codegen_syntax.specs.Parameters.{of_function_name}
 use Rattle.swc_ecma_codegen_syntax.specs.Forms.{Form, Fixed, Part, Provided, ByRule, ByScope, is_met, in_order, each_after, listed, ending_after, ending_listed}
-use Rattle.swc_ecma_codegen_syntax.specs.FunctionForms.{type_params_form, decorators_form, bound_name_form, optional_name_form, pat_in, param_form, params_form, body_form, own_of, rest_of_function, function_form, fn_expr_form, fn_default_form, fn_decl_form}
+use Rattle.swc_ecma_codegen_syntax.specs.FunctionForms.{type_params_form, decorators_form, bound_name_form, optional_name_form, pat_in, param_form, body_form, own_of, rest_of_function, function_form, fn_expr_form, fn_default_form, fn_decl_form}
 use Rattle.swc_ecma_codegen_syntax.specs.PatForms.{pat_form, pat_nonterminal}
 use Rattle.swc_ecma_codegen_syntax.specs.NodeForms.{node_form, part_form, stmt_part_form, jsx_part_form}
 use Rattle.swc_ecma_codegen_syntax.specs.Derives.{Derives, fixed, part, both, provided}
 use Rattle.swc_ecma_codegen_uniqueness.specs.ParseTrees.{Variant, ParseTree, End, Read, Fn}
 use Rattle.swc_ecma_codegen_uniqueness.specs.Parses.{placed, is_inlined, is_inlined_pat}
 use Rattle.swc_ecma_codegen_uniqueness.proofs.Classes.{class}
-use Rattle.swc_ecma_codegen_uniqueness.proofs.Tables.{AfterAsync, AfterFunction, AfterName, Parameter, AfterParameters, Splice, decide, passed_to, left, InList, closing}
-use Rattle.swc_ecma_codegen_uniqueness.proofs.TableLaws.{cover, cover_taken, is_list}
+use Rattle.swc_ecma_codegen_uniqueness.proofs.Controls.{AfterAsync, AfterFunction, AfterName, Parameter, AfterParameters, left, InList}
+use Rattle.swc_ecma_codegen_uniqueness.proofs.Tables.{Splice, decide, passed_to, closing}
+use Rattle.swc_ecma_codegen_uniqueness.proofs.PlaceLaws.{is_list}
+use Rattle.swc_ecma_codegen_uniqueness.proofs.TableLaws.{cover, cover_taken}
 use Rattle.swc_ecma_codegen_uniqueness.proofs.Machine.{Whole, Rest, Good, shifted}
 use Rattle.swc_ecma_codegen_uniqueness.proofs.Shapes.{takes_self, assignment_taken, begun, ended}
 use Rattle.swc_ecma_codegen_uniqueness.proofs.StatementShapes.{Within, item_of, parameter_then, rest_then, no_parameters_then, parameters_end, function_item, async_item}

@@ -14,9 +14,10 @@ use Rattle.swc_ecma_codegen_syntax.specs.declared.lookahead.Lookahead.TheVariant
 use Rattle.swc_ecma_codegen_syntax.specs.NameForms.{is_one_of}
 use Rattle.swc_ecma_codegen_syntax.specs.Lookahead.{Sign, OpenBrace as BraceSign, FunctionWord as FunctionSign, ClassWord as ClassSign, AsyncWord as AsyncSign, NoLineEnd, word_sign, mark_sign, sign_of, sign, begun, beginning, is_statement_start, is_default_start, is_brace, excludes}
 use Rattle.swc_ecma_codegen_uniqueness.specs.ParseTrees.{Variant, ParseTree, tokens_of}
-use Rattle.swc_ecma_codegen_uniqueness.proofs.Classes.{Class, Strange, FunctionWord, ClassWord, ImportWord, AsyncWord, words, marks, look, class_of, class}
-use Rattle.swc_ecma_codegen_uniqueness.proofs.Tables.{OfElse, Entered, Leave, starts, started, decide, without, stands as stands_at, closes as closes_at}
-use Rattle.swc_ecma_codegen_uniqueness.proofs.TableLaws.{is_barred, is_import_call, import_kept, is_line, is_function, async_kept, leaves_alone, delayed_by}
+use Rattle.swc_ecma_codegen_uniqueness.proofs.Classes.{Class, Strange, FunctionWord, ClassWord, ImportWord, AsyncWord, words, marks, child_marks, look, class_of, class}
+use Rattle.swc_ecma_codegen_uniqueness.proofs.Controls.{OfElse, Entered, starts, stands as stands_at, closes as closes_at}
+use Rattle.swc_ecma_codegen_uniqueness.proofs.Tables.{Leave, started, decide, without}
+use Rattle.swc_ecma_codegen_uniqueness.proofs.PlaceLaws.{is_barred, is_import_call, import_kept, is_line, is_function, async_kept, leaves_alone, delayed_by}
 use Rattle.swc_ecma_codegen_uniqueness.proofs.Machine.{Whole, Good, Heads, never_kept}
 use Rattle.swc_ecma_codegen_uniqueness.proofs.StatementShapes.{operand_heads, MayEnter, at_once, behind_import, behind_async, MayStand, is_open_brace}
 
@@ -66,9 +67,10 @@ word_by false true text e h = inr (inr (inr (ap word_sign ((bytes_eq-Decides tex
 word_by false false text e h = inl (look_free is_barred (codes "function" ∷ codes "class" ∷ []) words text refl refl (not_either _ _ e h))
 
 signs_by : (k : Kind) (v : Value) → Barred (class_of k v) (sign_of k v)
-unfolding sign_of
+unfolding sign_of is_one_of
 signs_by kinds.Word (Characters text) = word_by (bytes_eq text (codes "function")) (bytes_eq text (codes "class")) text refl refl
 signs_by kinds.Punctuator (Characters text) = mark_by (bytes_eq text (codes "{")) text refl
+signs_by kinds.JsxOpen (Characters text) = inl (look_free is_barred [] child_marks text refl refl refl)
 signs_by (kinds.Template part) v = inl refl
 signs_by (kinds.TemplateRest part) v = inl refl
 signs_by k v = inl refl
@@ -99,6 +101,7 @@ open_signs_by : (k : Kind) (v : Value) → (is_open_brace (class_of k v) ≡ fal
 unfolding sign_of is_one_of
 open_signs_by kinds.Word (Characters text) = inl (look_free is_open_brace [] words text refl refl refl)
 open_signs_by kinds.Punctuator (Characters text) = open_mark_by (bytes_eq text (codes "{")) text refl
+open_signs_by kinds.JsxOpen (Characters text) = inl (look_free is_open_brace [] child_marks text refl refl refl)
 open_signs_by (kinds.Template part) v = inl refl
 open_signs_by (kinds.TemplateRest part) v = inl refl
 open_signs_by k v = inl refl
@@ -134,6 +137,7 @@ default_signs_by : (k : Kind) (v : Value) → Declared (class_of k v) (sign_of k
 unfolding sign_of is_one_of
 default_signs_by kinds.Word (Characters text) = default_word_by (bytes_eq text (codes "function")) (bytes_eq text (codes "class")) text refl refl
 default_signs_by kinds.Punctuator (Characters text) = inl (look_free is_default_word [] marks text refl refl refl)
+default_signs_by kinds.JsxOpen (Characters text) = inl (look_free is_default_word [] child_marks text refl refl refl)
 default_signs_by (kinds.Template part) v = inl refl
 default_signs_by (kinds.TemplateRest part) v = inl refl
 default_signs_by k v = inl refl
@@ -166,6 +170,7 @@ async_signs_by : (k : Kind) (v : Value) → (is_async (class_of k v) ≡ false) 
 unfolding sign_of is_one_of
 async_signs_by kinds.Word (Characters text) = async_word_by (bytes_eq text (codes "async")) text refl
 async_signs_by kinds.Punctuator (Characters text) = inl (look_free is_async [] marks text refl refl refl)
+async_signs_by kinds.JsxOpen (Characters text) = inl (look_free is_async [] child_marks text refl refl refl)
 async_signs_by (kinds.Template part) v = inl refl
 async_signs_by (kinds.TemplateRest part) v = inl refl
 async_signs_by k v = inl refl
@@ -179,6 +184,7 @@ function_signs_by : (k : Kind) (v : Value) → (is_function (class_of k v) ≡ f
 unfolding sign_of is_one_of
 function_signs_by kinds.Word (Characters text) = function_word_by (bytes_eq text (codes "function")) text refl
 function_signs_by kinds.Punctuator (Characters text) = inl (look_free is_function [] marks text refl refl refl)
+function_signs_by kinds.JsxOpen (Characters text) = inl (look_free is_function [] child_marks text refl refl refl)
 function_signs_by (kinds.Template part) v = inl refl
 function_signs_by (kinds.TemplateRest part) v = inl refl
 function_signs_by k v = inl refl
@@ -188,6 +194,7 @@ unfolding sign_of is_one_of
 line_signs_by kinds.Word (Characters text) = inl (look_free is_line [] words text refl refl refl)
 line_signs_by kinds.Punctuator (Characters text) = inl (look_free is_line [] marks text refl refl refl)
 line_signs_by kinds.SameLine v = inr refl
+line_signs_by kinds.JsxOpen (Characters text) = inl (look_free is_line [] child_marks text refl refl refl)
 line_signs_by (kinds.Template part) v = inl refl
 line_signs_by (kinds.TemplateRest part) v = inl refl
 line_signs_by k v = inl refl

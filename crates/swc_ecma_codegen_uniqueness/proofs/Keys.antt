@@ -1,18 +1,12 @@
 -- Keys are read as they are.
-use Rattle.std.proofs.Common.{◌≡◌, ℕ, Bool, true, false, List, [], ◌∷◌, refl, sym, ap, subst}
-use Rattle.std.specs.Prelude.{codes, string_bytes, if◌then◌else◌}
-use Rattle.std.proofs.lemmas.Bool.{true≢false}
+use Rattle.std.proofs.Common.{◌≡◌, ℕ, Bool, true, false, List, refl, sym, ap, subst}
+use Rattle.std.specs.Prelude.{string_bytes, if◌then◌else◌}
 use Rattle.swc_ecma_codegen_tree.specs.Links.{PropNameBox}
 use Rattle.swc_ecma_codegen_tree.specs.declared.links.AnyNode.{AnyNode, AnyNode-F, out-AnyNode}
 use Rattle.swc_ecma_codegen_tree.specs.declared.links.AnyNode.TheOpen as nodes
 use Rattle.swc_ecma_codegen_tree.specs.declared.parts.ExprPart.TheVariants as expr_parts
 use Rattle.swc_ecma_codegen_tree.specs.declared.parts.JSXPart.TheVariants as jsx_parts
 use Rattle.swc_ecma_codegen_tree.specs.declared.parts.StmtPart.TheVariants as stmt_parts
-use Rattle.swc_ecma_codegen_tree.specs.declared.exprs.ObjectLit.{ObjectLit}
-use Rattle.swc_ecma_codegen_tree.specs.declared.exprs.Prop.{Prop}
-use Rattle.swc_ecma_codegen_tree.specs.declared.exprs.Prop.TheVariants as props
-use Rattle.swc_ecma_codegen_tree.specs.declared.exprs.PropOrSpread.{PropOrSpread}
-use Rattle.swc_ecma_codegen_tree.specs.declared.exprs.PropOrSpread.TheVariants as prop_or_spreads
 use Rattle.swc_ecma_codegen_tree.specs.declared.exprs.PropName.{PropName}
 use Rattle.swc_ecma_codegen_tree.specs.declared.exprs.PropName.TheVariants as prop_names
 use Rattle.swc_ecma_codegen_grammar.specs.Keys.{key_token, is_quoted}
@@ -22,24 +16,22 @@ use Rattle.swc_ecma_codegen_grammar.specs.SpelledNames.{spelled_name}
 use Rattle.swc_ecma_codegen_grammar.specs.Tokens.{Token, Value, punctuator}
 use Rattle.swc_ecma_codegen_grammar.specs.Tokens as tokens
 use Rattle.swc_ecma_codegen_grammar.specs.declared.kinds.Kind.TheVariants as kinds
-use Rattle.swc_ecma_codegen_grammar.specs.declared.roles.Role.TheVariants.{PropertyName, MethodHead}
+use Rattle.swc_ecma_codegen_grammar.specs.declared.roles.Role.TheVariants.{PropertyName}
 use Rattle.swc_ecma_codegen_syntax.specs.declared.nonterminals.Nonterminal.{Nonterminal}
-use Rattle.swc_ecma_codegen_syntax.specs.declared.nonterminals.Nonterminal.TheVariants as nt
 use Rattle.swc_ecma_codegen_syntax.specs.declared.parameters.Parameters.{Parameters}
-use Rattle.swc_ecma_codegen_syntax.specs.Forms.{Part, is_met, each_after, listed}
+use Rattle.swc_ecma_codegen_syntax.specs.Forms.{Part, is_met}
 use Rattle.swc_ecma_codegen_syntax.specs.MemberForms.{computed_form}
 use Rattle.swc_ecma_codegen_syntax.specs.NodeForms.{node_form, part_form, stmt_part_form, jsx_part_form}
 use Rattle.swc_ecma_codegen_syntax.specs.ObjectForms.{prop_name_form}
 use Rattle.swc_ecma_codegen_syntax.specs.Derives.{Derives, fixed, part, both, provided}
-use Rattle.swc_ecma_codegen_uniqueness.specs.ParseTrees.{ParseTree, End, Read, Object, is_known, part_variant, node_variant}
+use Rattle.swc_ecma_codegen_uniqueness.specs.ParseTrees.{ParseTree, Read}
 use Rattle.swc_ecma_codegen_uniqueness.specs.Parses.{placed, is_inlined}
 use Rattle.swc_ecma_codegen_uniqueness.proofs.Classes.{class}
-use Rattle.swc_ecma_codegen_uniqueness.proofs.Tables.{AfterKey}
-use Rattle.swc_ecma_codegen_uniqueness.proofs.Machine.{Whole, Good}
+use Rattle.swc_ecma_codegen_uniqueness.proofs.Controls.{AfterKey}
 use Rattle.swc_ecma_codegen_uniqueness.proofs.Shapes.{InObject, InProperties, property_place, is_key, Keyed, object_key}
 use Rattle.swc_ecma_codegen_uniqueness.proofs.Reading.{read_phrase, derived_parse}
 use Rattle.swc_ecma_codegen_uniqueness.proofs.Fits.{at_place, PlacedGood, AllGood, no_form}
-use Rattle.swc_ecma_codegen_uniqueness.proofs.Atoms.{IsLiteral, number_literal, str_literal, big_literal, name_read}
+use Rattle.swc_ecma_codegen_uniqueness.proofs.Atoms.{IsLiteral, number_literal, str_literal, big_literal}
 
 -- ---- keys
 

@@ -3,6 +3,8 @@ pub mod Atoms
 pub mod ClassDefinitions
 pub mod ClassElements
 pub mod Classes
+pub mod Controls
+pub mod Elements
 pub mod Fits
 pub mod Heading
 pub mod Joined
@@ -10,6 +12,7 @@ pub mod Keys
 pub mod Layers
 pub mod Linking
 pub mod Lists
+pub mod Loops
 pub mod Machine
 pub mod Modules
 pub mod Objects
@@ -17,12 +20,15 @@ pub mod Operators
 pub mod Parsed
 pub mod ParseLaws
 pub mod Patterns
+pub mod PlaceLaws
 pub mod Programs
 pub mod Reading
 pub mod Shapes
+pub mod Spines
 pub mod Functions
 pub mod StatementShapes
 pub mod Statements
 pub mod TableLaws
 pub mod Tables
 pub mod Unique
+pub mod Variables

@@ -166,10 +166,10 @@ tag_good false c n (both (part a sa d) (both t (part b sb e))) (o, (x, q)) m =
 on_chain : {s : Settings} {z : Variant} {p : ParseTree} (c : Parameters) (prop : MemberProp AnyNode) {ts us : List Token} (g : Derives true s (Fixed (chain_mark false prop)) us) (d : Derives true s (chain_prop_form c prop) ts) → AllGood d →
     s.minify ≡ c.minify → Operand nt.OptionalExpression z p → Good (Whole OptChain nt.OptionalExpression) (Node z p (derived_parse g (derived_parse d End)))
 unfolding chain_mark chain_prop_form computed_form ident_name private_name AllGood PlacedGood derived_parse read_phrase placed is_inlined
-on_chain c (member_props.Ident n) (fixed k) (fixed g) o m x = member_named _ OptChain of_chain (name_is_name _) (chained_so _ Member (of_a_chain x)) x
-on_chain c (member_props.PrivateName n) (fixed k) (fixed g) o m x = member_named _ OptChain of_chain (private_is_name _) (chained_so _ Member (of_a_chain x)) x
-on_chain c (member_props.Computed n) (fixed k) (both (fixed g) (both (part a sa d) (fixed e))) (y, (o, v)) m x =
-    member_indexed OptChain of_chain (chained_so _ Member (of_a_chain x)) x (at_place _ _ sa (o m))
+on_chain {z = z} c (member_props.Ident n) (fixed k) (fixed g) o m x = member_named _ OptChain of_chain (name_is_name _) (chained_so z Member (of_a_chain x)) x
+on_chain {z = z} c (member_props.PrivateName n) (fixed k) (fixed g) o m x = member_named _ OptChain of_chain (private_is_name _) (chained_so z Member (of_a_chain x)) x
+on_chain {z = z} c (member_props.Computed n) (fixed k) (both (fixed g) (both (part a sa d) (fixed e))) (y, (o, v)) m x =
+    member_indexed OptChain of_chain (chained_so z Member (of_a_chain x)) x (at_place _ _ sa (o m))
 
 to_chain : {s : Settings} {z : Variant} {p : ParseTree} (c : Parameters) (prop : MemberProp AnyNode) {ts us : List Token} (g : Derives true s (Fixed (chain_mark true prop)) us) (d : Derives true s (chain_prop_form c prop) ts) → AllGood d →
     s.minify ≡ c.minify → Operand nt.ChainBase z p → Good (Whole OptChain nt.OptionalExpression) (Node z p (derived_parse g (derived_parse d End)))

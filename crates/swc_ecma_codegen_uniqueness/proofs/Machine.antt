@@ -1,11 +1,13 @@
 -- A machine that reads a token at a time, with a stack of what is open.
-use Rattle.std.proofs.Common.{◌≡◌, Bool, true, false, List, [], ◌∷◌, Option, Some, None, refl, sym, ap, ◌∙◌}
-use Rattle.std.proofs.lemmas.Bool.{true≢false}
+use Rattle.std.proofs.Common.{◌≡◌, Bool, true, false, ◌&&◌, not, ◌⊎◌, inl, inr, List, [], ◌∷◌, Option, Some, None, refl, sym, ap, ◌∙◌}
+use Rattle.std.proofs.lemmas.Bool.{true≢false, and_parts}
 use Rattle.swc_ecma_codegen_grammar.specs.Tokens.{Token}
 use Rattle.swc_ecma_codegen_syntax.specs.declared.nonterminals.Nonterminal.{Nonterminal}
 use Rattle.swc_ecma_codegen_uniqueness.specs.ParseTrees.{Variant, Seq, Paren, ParseTree, End, Read, Optional, Node, tokens_of}
-use Rattle.swc_ecma_codegen_uniqueness.proofs.Classes.{Class, Line, Colon, class}
-use Rattle.swc_ecma_codegen_uniqueness.proofs.Tables.{InParen, Control, Action, Shift, Push, Wrap, Reduce, Turn, Begin, Enter, Leave, Splice, Take, Keep, EnterBelow, Merge, begin, entered, outside, as_expression, decide, shift, start, wrap, stands, closes, variant_of}
+use Rattle.swc_ecma_codegen_uniqueness.proofs.Classes.{Class, Line, Colon, Comparing, class}
+use Rattle.swc_ecma_codegen_uniqueness.proofs.Controls.{InParen, Open, OfInfix, ForHead, ForPlain, is_within, Control, entered, outside, as_expression, stands, closes, variant_of}
+use Rattle.swc_ecma_codegen_uniqueness.proofs.Tables.{Action, Shift, Push, Wrap, Reduce, Turn, Begin, Enter, Leave, Splice, Take, Keep, EnterBelow, Merge, begin, decide, shift, start, wrap}
+use Rattle.swc_ecma_codegen_uniqueness.proofs.TableLaws.{head_pushes, head_wraps, plain_begins, plain_leaves, turn_outside, low_wraps, low_leaves}
 
 -- what is at hand: nothing, or a node
 pub data Hand : Type 0 where
@@ -165,6 +167,51 @@ abbrev pub run : List Token → State → State
 run [] q = q
 run (t ∷ ts) q = run ts (next t q)
 
+-- ---- the head of a `for`
+
+-- no `in` takes what stands first
+abbrev pub spine_free : ParseTree → Bool
+spine_free (Node s p (Read t m)) = not (is_within (class t)) && spine_free p
+spine_free (Node s p (Optional t m)) = spine_free p
+spine_free p = true
+
+parameters_free : (s : Variant) (p : ParseTree) (t : Token) (rest : ParseTree) → spine_free (parameters s p (Read t rest)) ≡ true → spine_free p ≡ true
+parameters_free Paren (Read o p) t rest h = refl
+parameters_free Paren p t rest h = (and_parts _ _ h).1
+parameters_free s p t rest h = (and_parts _ _ h).1
+
+turned_free : (c : Class) (s : Variant) (p : ParseTree) (t : Token) (rest : ParseTree) → spine_free (turned_by c s p t rest) ≡ true → spine_free p ≡ true
+turned_free Line s p t rest h = parameters_free s p t rest h
+turned_free c s p t rest h = h
+
+pub not_within : (b k : Bool) → b ≡ false → k ≡ true → (not b && k) ≡ true
+not_within false true h i = refl
+not_within true k h i = absurd (true≢false h)
+not_within false false h i = absurd (true≢false (sym i))
+
+opened_free : (o : Token) (p : ParseTree) (t : Token) (rest : ParseTree) → is_within (class t) ≡ false → spine_free (opened o p (Read t rest)) ≡ true
+opened_free o (Read c End) t rest h = refl
+opened_free o (Node Seq q (Read c End)) t rest h = refl
+opened_free o (Node s q (Read c End)) t rest h = refl
+opened_free o (Read d (Node s q (Read c End))) t rest h = refl
+opened_free o p t rest h = not_within _ _ h refl
+
+parameters_are_free : (s : Variant) (p : ParseTree) (t : Token) (rest : ParseTree) → is_within (class t) ≡ false → spine_free p ≡ true → spine_free (parameters s p (Read t rest)) ≡ true
+parameters_are_free Paren (Read o p) t rest h i = opened_free o p t rest h
+parameters_are_free Paren p t rest h i = not_within _ _ h i
+parameters_are_free s p t rest h i = not_within _ _ h i
+
+turned_are_free : (c : Class) (s : Variant) (p : ParseTree) (t : Token) (rest : ParseTree) → is_within (class t) ≡ false → spine_free p ≡ true → spine_free (turned_by c s p t rest) ≡ true
+turned_are_free Line s p t rest h i = parameters_are_free s p t rest h i
+turned_are_free c s p t rest h i = i
+
+-- What stands somewhere; in the head of a `for`, what stands where `in` is an operator, and begins with none of it.
+pub data HeadPlace : Control → Type 0 where
+  head_place : HeadPlace ForHead
+
+abbrev pub Stands : Control → Nonterminal → ParseTree → Type 0
+Stands c n p = (stands c n ≡ true) ⊎ (HeadPlace c × (stands ForPlain n ≡ true) × (spine_free p ≡ true))
+
 -- ---- what the machine reads as it is
 
 -- a whole node, of a nonterminal; what is left of one that is begun
@@ -231,6 +278,8 @@ pub data Good : Mode → ParseTree → Type 0 where
       Good (Rest (wrap left t) variant n) m → p ≡ left_with left inside t m → Good (Whole variant n) p
   entering : {at : Control} {variant : Variant} {n : Nonterminal} {m : ParseTree} → ((b o : ParseTree → ParseTree) (t : Token) (us : List Token) → Entering (record { control = at; so_far = b; other = o }) (tokens_of m (t ∷ us))) →
       Good (Rest (entered at) variant n) m → Good (Rest at variant n) m
+  merged_two : {at begun : Control} {variant : Variant} {n : Nonterminal} {m : ParseTree} (t u : Token) → decide at None t ≡ Begin → begin at t ≡ begun → decide begun None u ≡ Merge → Good (Rest (shift begun None u) variant n) m →
+      Good (Rest at variant n) (Read t (Read u m))
   merged : {at begun line : Control} {variant : Variant} {n : Nonterminal} {m : ParseTree} (t u v : Token) → decide at None t ≡ Begin → begin at t ≡ begun → decide begun None u ≡ Shift → shift begun None u ≡ line → decide line None v ≡ Merge →
       Good (Rest (shift line None v) variant n) m → Good (Rest at variant n) (Read t (Read u (Read v m)))
   splicing : {at : Control} {variant part : Variant} {n k : Nonterminal} {inside m p : ParseTree} (t : Token) → stands at k ≡ true → Good (Whole part k) inside →
@@ -241,11 +290,13 @@ pub data Good : Mode → ParseTree → Type 0 where
   keeping : {at : Control} {variant part : Variant} {n k : Nonterminal} {inside m : ParseTree} → stands at k ≡ true → Good (Whole part k) inside →
       Heads (λ u. (closes u k ≡ true) × (decide at (Some part) u ≡ Keep) × (goes_on (decide at None u) ≡ true)) m → Good (Rest at variant n) m →
       Good (Rest at variant n) (Node part inside m)
+  heading : {variant part : Variant} {n k : Nonterminal} {t : Token} {inside m : ParseTree} → stands ForPlain k ≡ true → spine_free inside ≡ true → Good (Whole part k) inside → closes t k ≡ true → decide ForHead (Some part) t ≡ Shift →
+      Good (Rest (shift ForHead (Some part) t) variant n) m → Good (Rest ForHead variant n) (Node part inside (Read t m))
   raised : {variant : Variant} {n k : Nonterminal} {p : ParseTree} → ((c : Control) → stands c n ≡ true → stands c k ≡ true) → ((t : Token) → closes t n ≡ true → closes t k ≡ true) →
       Good (Whole variant k) p → Good (Whole variant n) p
 
 abbrev pub Claim : Mode → ParseTree → Type 0
-Claim (Whole variant n) p = (f : Frame) (s : List Frame) (t : Token) (ts : List Token) → stands f.control n ≡ true → closes t n ≡ true →
+Claim (Whole variant n) p = (f : Frame) (s : List Frame) (t : Token) (ts : List Token) → Stands f.control n p → closes t n ≡ true →
     run (tokens_of p (t ∷ ts)) (At (f ∷ s) Empty) ≡ run (t ∷ ts) (At (f ∷ s) (Full variant p))
 Claim (Rest at variant n) m = (b o : ParseTree → ParseTree) (f : Frame) (s : List Frame) (t : Token) (ts : List Token) → closes t n ≡ true →
     run (tokens_of m (t ∷ ts)) (At (record { control = at; so_far = b; other = o } ∷ f ∷ s) Empty) ≡ run (t ∷ ts) (At (f ∷ s) (Full variant (b m)))
@@ -269,6 +320,33 @@ left_tokens s p t m q us e = ap (λ z. tokens_of z us) e ∙ left_by_tokens (cla
 
 joined_so : (p m q : ParseTree) (us : List Token) → q ≡ joined p m → tokens_of q us ≡ tokens_of p (tokens_of m us)
 joined_so p m q us e = ap (λ z. tokens_of z us) e ∙ joined_tokens p m us
+
+-- what a node asks of each place where it stands, in the head of a `for` too
+push_at : (n : Nonterminal) (p : ParseTree) (t : Token) → ((c : Control) → stands c n ≡ true → decide c None t ≡ Push) → (c : Control) → Stands c n p → decide c None t ≡ Push
+push_at n p t push c (inl h) = push c h
+push_at n p t push c (inr (head_place, h, q)) = head_pushes (class t) (push ForPlain h)
+
+wrap_there : (n k : Nonterminal) (operand : Variant) (inside p : ParseTree) (t : Token) → ((c : Control) → stands c n ≡ true → (stands c k ≡ true) × (decide c (Some operand) t ≡ Wrap)) →
+    (spine_free p ≡ true → (is_within (class t) ≡ false) × (spine_free inside ≡ true)) → (c : Control) → Stands c n p → Stands c k inside × (decide c (Some operand) t ≡ Wrap)
+wrap_there n k operand inside p t w free c (inl h) = (inl (w c h).0, (w c h).1)
+wrap_there n k operand inside p t w free c (inr (head_place, h, q)) = let e = free q in (inr (head_place, (w ForPlain h).0, e.1), head_wraps (class t) (w ForPlain h).1 e.0)
+
+not_so : (b k : Bool) → (not b && k) ≡ true → (b ≡ false) × (k ≡ true)
+not_so false k h = (refl, h)
+not_so true k h = absurd (true≢false (sym h))
+
+block_there : (n : Nonterminal) (p : ParseTree) (at : Control) (t : Token) → ((c : Control) → stands c n ≡ true → (decide c None t ≡ Begin) × (begin c t ≡ at)) → (c : Control) → Stands c n p → stands c n ≡ true
+block_there n p at t push c (inl h) = h
+block_there n p at t push c (inr (head_place, h, q)) = absurd (plain_begins (class t) (push ForPlain h).0)
+
+stated_there : (n k : Nonterminal) (operand : Variant) (p : ParseTree) (t : Token) → ((c : Control) → stands c n ≡ true → (stands (entered c) k ≡ true) × (decide (entered c) (Some operand) t ≡ Leave) × (outside (entered c) ≡ c)) →
+    (c : Control) → Stands c n p → stands c n ≡ true
+stated_there n k operand p t w c (inl h) = h
+stated_there n k operand p t w c (inr (head_place, h, q)) = absurd (plain_leaves (class t) (w ForPlain h).1)
+
+raised_there : (n k : Nonterminal) (p : ParseTree) → ((c : Control) → stands c n ≡ true → stands c k ≡ true) → (c : Control) → Stands c n p → Stands c k p
+raised_there n k p st c (inl h) = inl (st c h)
+raised_there n k p st c (inr (a, h, q)) = inr (a, st ForPlain h, q)
 
 -- a token that begins an expression does so in the place that it enters
 pub entering_there : (f : Frame) (s : List Frame) (ts : List Token) (u : Token) (vs : List Token) → ts ≡ u ∷ vs → Enters f.control u → run ts (At (f ∷ s) Empty) ≡ run ts (At (within (entered f.control) f ∷ s) Empty)
@@ -317,18 +395,19 @@ third_enters f u v w ts k l a b q x y e p r z i h g = λ s.
 
 pub reads : {mode : Mode} {m : ParseTree} → Good mode m → Claim mode m
 unfolding tokens_of
-reads (headed {t = u} {m = m} push g) = λ f s t ts st cl.
-    ap (run (tokens_of m (t ∷ ts))) (went Push u f s Empty (push f.control st)) ∙ reads g (λ rest. Read u rest) (λ rest. Read u rest) f s t ts cl
-reads (wrapped {left = left} {t = u} {inside = p} {m = m} i c w g) = λ f s t ts st cl.
-    reads i f s u (tokens_of m (t ∷ ts)) (w f.control st).0 c
-    ∙ ap (run (tokens_of m (t ∷ ts))) (went Wrap u f s (Full left p) (w f.control st).1)
+reads (headed {n = n} {t = u} {m = m} push g) = λ f s t ts st cl.
+    ap (run (tokens_of m (t ∷ ts))) (went Push u f s Empty (push_at n (Read u m) u push f.control st)) ∙ reads g (λ rest. Read u rest) (λ rest. Read u rest) f s t ts cl
+reads (wrapped {left = left} {n = n} {k = k} {t = u} {inside = p} {m = m} i c w g) = λ f s t ts st cl.
+    let x = wrap_there n k left p (Node left p (Read u m)) u w (not_so (is_within (class u)) (spine_free p)) f.control st in
+    reads i f s u (tokens_of m (t ∷ ts)) x.0 c
+    ∙ ap (run (tokens_of m (t ∷ ts))) (went Wrap u f s (Full left p) x.1)
     ∙ reads g (λ rest. Node left p (Read u rest)) (λ rest. turned left p u rest) f s t ts cl
 reads (shifted {at = at} {t = u} {m = m} e g) = λ b o f s t ts cl.
     let top : Frame = record { control = at; so_far = b; other = o } in
     ap (run (tokens_of m (t ∷ ts))) (went Shift u top (f ∷ s) Empty e) ∙ reads g (λ rest. b (Read u rest)) (λ rest. b (Optional u rest)) f s t ts cl
 reads (inner {at = at} {part = part} {t = u} {inside = p} {m = m} st i c e g) = λ b o f s t ts cl.
     let top : Frame = record { control = at; so_far = b; other = o } in
-    reads i top (f ∷ s) u (tokens_of m (t ∷ ts)) st c
+    reads i top (f ∷ s) u (tokens_of m (t ∷ ts)) (inl st) c
     ∙ ap (run (tokens_of m (t ∷ ts))) (went Shift u top (f ∷ s) (Full part p) e)
     ∙ reads g (λ rest. b (Node part p (Read u rest))) (λ rest. b (turned part p u rest)) f s t ts cl
 reads (closed {at = at} {variant = variant} q e) = λ b o f s t ts cl.
@@ -336,14 +415,15 @@ reads (closed {at = at} {variant = variant} q e) = λ b o f s t ts cl.
     ap (run ts) (went Reduce t top (f ∷ s) Empty (e t cl)) ∙ named (variant_of at) variant (b End) t ts f s q
 reads (last {at = at} {variant = variant} {part = part} {inside = p} q st i e) = λ b o f s t ts cl.
     let top : Frame = record { control = at; so_far = b; other = o } in
-    reads i top (f ∷ s) t ts st (e t cl).0
+    reads i top (f ∷ s) t ts (inl st) (e t cl).0
     ∙ ap (run ts) (went Reduce t top (f ∷ s) (Full part p) (e t cl).1)
     ∙ named (variant_of at) variant (b (Node part p End)) t ts f s q
-reads (wrapped_turned {variant = variant} {left = left} {inside = p} {m = m} {p = q} u v i c w e g same) = λ f s t ts st cl.
+reads (wrapped_turned {variant = variant} {left = left} {n = n} {k = k} {inside = p} {m = m} {p = q} u v i c w e g same) = λ f s t ts st cl.
     let top : Frame = record { control = wrap left u; so_far = λ rest. Node left p (Read u rest); other = λ rest. turned left p u rest } in
+    let x = wrap_there n k left p q u w (λ z. (turn_outside left (class u) (class v) e, turned_free (class u) left p u (Read v m) (ap spine_free (sym same) ∙ z))) f.control st in
     ap (λ us. run us (At (f ∷ s) Empty)) (turned_tokens left p u v m q (t ∷ ts) same)
-    ∙ reads i f s u (v ∷ tokens_of m (t ∷ ts)) (w f.control st).0 c
-    ∙ ap (run (v ∷ tokens_of m (t ∷ ts))) (went Wrap u f s (Full left p) (w f.control st).1)
+    ∙ reads i f s u (v ∷ tokens_of m (t ∷ ts)) x.0 c
+    ∙ ap (run (v ∷ tokens_of m (t ∷ ts))) (went Wrap u f s (Full left p) x.1)
     ∙ ap (run (tokens_of m (t ∷ ts))) (went Turn v top (f ∷ s) Empty e)
     ∙ reads g (λ rest. turned left p u (Read v rest)) (λ rest. turned left p u (Read v rest)) f s t ts cl
     ∙ ap (λ z. run (t ∷ ts) (At (f ∷ s) (Full variant z))) (sym same)
@@ -351,7 +431,7 @@ reads (inner_turned {at = at} {variant = variant} {part = part} {inside = p} {m 
     let top : Frame = record { control = at; so_far = b; other = o } in
     let next : Frame = record { control = shift at (Some part) u; so_far = λ rest. b (Node part p (Read u rest)); other = λ rest. b (turned part p u rest) } in
     ap (λ us. run us (At (top ∷ f ∷ s) Empty)) (turned_tokens part p u v m q (t ∷ ts) same)
-    ∙ reads i top (f ∷ s) u (v ∷ tokens_of m (t ∷ ts)) st c
+    ∙ reads i top (f ∷ s) u (v ∷ tokens_of m (t ∷ ts)) (inl st) c
     ∙ ap (run (v ∷ tokens_of m (t ∷ ts))) (went Shift u top (f ∷ s) (Full part p) e)
     ∙ ap (run (tokens_of m (t ∷ ts))) (went Turn v next (f ∷ s) Empty k)
     ∙ reads g (λ rest. b (turned part p u (Read v rest))) (λ rest. b (turned part p u (Read v rest))) f s t ts cl
@@ -362,20 +442,27 @@ reads (shifted_turned {at = at} {t = u} {u = v} {m = m} e k g) = λ b o f s t ts
     ap (run (v ∷ tokens_of m (t ∷ ts))) (went Shift u top (f ∷ s) Empty e)
     ∙ ap (run (tokens_of m (t ∷ ts))) (went Turn v next (f ∷ s) Empty k)
     ∙ reads g (λ rest. b (Optional u (Read v rest))) (λ rest. b (Optional u (Read v rest))) f s t ts cl
-reads (headed_block {t = u} {m = m} push g) = λ f s t ts st cl.
-    ap (run (tokens_of m (t ∷ ts)))
-    (went Begin u f s Empty (push f.control st).0 ∙ ap (λ z. At (record { control = z; so_far = λ rest. Read u rest; other = λ rest. Read u rest } ∷ f ∷ s) Empty) (push f.control st).1)
+reads (headed_block {at = at} {n = n} {t = u} {m = m} push g) = λ f s t ts st cl.
+    let x = push f.control (block_there n (Read u m) at u push f.control st) in
+    ap (run (tokens_of m (t ∷ ts))) (went Begin u f s Empty x.0 ∙ ap (λ z. At (record { control = z; so_far = λ rest. Read u rest; other = λ rest. Read u rest } ∷ f ∷ s) Empty) x.1)
     ∙ reads g (λ rest. Read u rest) (λ rest. Read u rest) f s t ts cl
-reads (stated {variant = variant} {left = left} {inside = p} {m = m} {p = q} u i c w h b g same) = λ f s t ts st cl.
+reads (stated {variant = variant} {left = left} {n = n} {k = k} {inside = p} {m = m} {p = q} u i c w h b g same) = λ f s t ts x cl.
+    let st = stated_there n k left q u w f.control x in
     let top : Frame = within (entered f.control) f in
     ap (λ us. run us (At (f ∷ s) Empty)) (left_tokens left p u m q (t ∷ ts) same)
     ∙ h f (tokens_of m (t ∷ ts)) st s
-    ∙ reads i top s u (tokens_of m (t ∷ ts)) (w f.control st).0 c
+    ∙ reads i top s u (tokens_of m (t ∷ ts)) (inl (w f.control st).0) c
     ∙ ap (run (tokens_of m (t ∷ ts))) (went Leave u top s (Full left p) (w f.control st).1)
     ∙ ap (λ z. run (tokens_of m (t ∷ ts)) (At (record { control = wrap left u; so_far = λ rest. left_with left p u rest; other = λ rest. left_with left p u rest } ∷ within z f ∷ s) Empty)) (w f.control st).2
     ∙ reads g (λ rest. left_with left p u rest) (λ rest. left_with left p u rest) f s t ts cl
     ∙ ap (λ z. run (t ∷ ts) (At (f ∷ s) (Full variant z))) (sym same)
 reads (entering h g) = λ b o f s t ts cl. h b o t ts (f ∷ s) ∙ reads g b o f s t ts cl
+reads (merged_two {at = at} {begun = k} {m = m} x y e q a g) = λ b o f s t ts cl.
+    let top : Frame = record { control = at; so_far = b; other = o } in
+    let as_begun : Control → Frame = λ c. record { control = c; so_far = λ rest. Read x rest; other = λ rest. Read x rest } in
+    ap (run (y ∷ tokens_of m (t ∷ ts))) (went Begin x top (f ∷ s) Empty e ∙ ap (λ c. At (as_begun c ∷ top ∷ f ∷ s) Empty) q)
+    ∙ ap (run (tokens_of m (t ∷ ts))) (went Merge y (as_begun k) (top ∷ f ∷ s) Empty a)
+    ∙ reads g (λ rest. b (Read x (Read y rest))) (λ rest. b (Read x (Read y rest))) f s t ts cl
 reads (merged {at = at} {begun = k} {line = l} {m = m} x y z e q i j a g) = λ b o f s t ts cl.
     let top : Frame = record { control = at; so_far = b; other = o } in
     let as_begun : Control → Frame = λ c. record { control = c; so_far = λ rest. Read x rest; other = λ rest. Read x rest } in
@@ -387,7 +474,7 @@ reads (merged {at = at} {begun = k} {line = l} {m = m} x y z e q i j a g) = λ b
 reads (splicing {at = at} {variant = variant} {part = part} {inside = p} {m = m} {p = q} u st i c e g same) = λ b o f s t ts cl.
     let top : Frame = record { control = at; so_far = b; other = o } in
     ap (λ us. run us (At (top ∷ f ∷ s) Empty)) (joined_so p (Read u m) q (t ∷ ts) same)
-    ∙ reads i top (f ∷ s) u (tokens_of m (t ∷ ts)) st c
+    ∙ reads i top (f ∷ s) u (tokens_of m (t ∷ ts)) (inl st) c
     ∙ ap (run (tokens_of m (t ∷ ts))) (went Splice u top (f ∷ s) (Full part p) e)
     ∙ reads g (λ rest. b (joined p (Read u rest))) (λ rest. b (joined p (Read u rest))) f s t ts cl
     ∙ ap (λ z. run (t ∷ ts) (At (f ∷ s) (Full variant (b z)))) (sym same)
@@ -395,7 +482,7 @@ reads (taking {at = at} {variant = variant} {part = part} {inside = p} {m = m} {
     let top : Frame = record { control = at; so_far = b; other = o } in
     let head = h (t ∷ ts) in
     ap (λ us. run us (At (top ∷ f ∷ s) Empty)) (joined_so p m q (t ∷ ts) same ∙ ap (tokens_of p) head.2)
-    ∙ reads i top (f ∷ s) head.0 head.1 st head.3.0
+    ∙ reads i top (f ∷ s) head.0 head.1 (inl st) head.3.0
     ∙ ap (run head.1) (went Take head.0 top (f ∷ s) (Full part p) head.3.1)
     ∙ ap (run head.1) (once_there head.0 (record { control = at; so_far = λ rest. b (joined p rest); other = λ rest. b (joined p rest) }) (f ∷ s) (decide at None head.0) refl head.3.2)
     ∙ ap (λ us. run us (At (record { control = at; so_far = λ rest. b (joined p rest); other = λ rest. b (joined p rest) } ∷ f ∷ s) Empty)) (sym head.2)
@@ -405,12 +492,32 @@ reads (keeping {at = at} {part = part} {inside = p} {m = m} st i h g) = λ b o f
     let top : Frame = record { control = at; so_far = b; other = o } in
     let head = h (t ∷ ts) in
     ap (λ us. run us (At (top ∷ f ∷ s) Empty)) (ap (tokens_of p) head.2)
-    ∙ reads i top (f ∷ s) head.0 head.1 st head.3.0
+    ∙ reads i top (f ∷ s) head.0 head.1 (inl st) head.3.0
     ∙ ap (run head.1) (went Keep head.0 top (f ∷ s) (Full part p) head.3.1)
     ∙ ap (run head.1) (once_there head.0 (record { control = at; so_far = λ rest. b (Node part p rest); other = λ rest. b (Node part p rest) }) (f ∷ s) (decide at None head.0) refl head.3.2)
     ∙ ap (λ us. run us (At (record { control = at; so_far = λ rest. b (Node part p rest); other = λ rest. b (Node part p rest) } ∷ f ∷ s) Empty)) (sym head.2)
     ∙ reads g (λ rest. b (Node part p rest)) (λ rest. b (Node part p rest)) f s t ts cl
-reads (raised st c g) = λ f s t ts h cl. reads g f s t ts (st f.control h) (c t cl)
+reads (heading {part = part} {t = u} {inside = p} {m = m} st q i c e g) = λ b o f s t ts cl.
+    let top : Frame = record { control = ForHead; so_far = b; other = o } in
+    reads i top (f ∷ s) u (tokens_of m (t ∷ ts)) (inr (head_place, st, q)) c
+    ∙ ap (run (tokens_of m (t ∷ ts))) (went Shift u top (f ∷ s) (Full part p) e)
+    ∙ reads g (λ rest. b (Node part p (Read u rest))) (λ rest. b (turned part p u rest)) f s t ts cl
+reads (raised {n = n} {k = k} {p = p} st c g) = λ f s t ts h cl. reads g f s t ts (raised_there n k p st f.control h) (c t cl)
+
+-- ---- what ends before `in` begins with none of it
+
+pub low_free : {s : Variant} {n : Nonterminal} {p : ParseTree} → Good (Whole s n) p → stands (Open (OfInfix Comparing)) n ≡ true → spine_free p ≡ true
+low_free (headed push g) st = refl
+low_free (wrapped {t = t} i c w g) st = let x = w (Open (OfInfix Comparing)) st in not_within _ _ (low_wraps (class t) x.1) (low_free i x.0)
+low_free (wrapped_turned {left = left} {inside = inside} {m = m} t u i c w e g same) st =
+    let x = w (Open (OfInfix Comparing)) st in ap spine_free same ∙ turned_are_free (class t) left inside t (Read u m) (low_wraps (class t) x.1) (low_free i x.0)
+low_free (headed_block push g) st = refl
+low_free (stated t i c w h b g same) st = absurd (low_leaves (class t) (w (Open (OfInfix Comparing)) st).1)
+low_free (raised st c g) s = low_free g (st (Open (OfInfix Comparing)) s)
+
+-- parameters, and `=>`
+pub turned_low : {s : Variant} {n : Nonterminal} {p : ParseTree} (t : Token) (rest : ParseTree) → Good (Whole s n) p → stands (Open (OfInfix Comparing)) n ≡ true → is_within (class t) ≡ false → spine_free (turned s p t rest) ≡ true
+turned_low {s = s} {p = p} t rest g st h = turned_are_free (class t) s p t rest h (low_free g st)
 
 -- ---- what fails goes on to fail
 
@@ -432,7 +539,7 @@ never_kept c t u v ts {s = s} {p = p} g st cl l e a k =
     sym (ap is_fail (run_fails ts))
     ∙ ap (λ q. is_fail (run ts q))
     (sym (ap (next v) (went Push u f [] Empty a) ∙ went Keep v top (f ∷ []) Empty k ∙ ap (λ z. acted_once z v (record { control = start u; so_far = λ rest. Read u rest; other = λ rest. Read u rest }) (f ∷ []) Empty Fail) k))
-    ∙ ap (λ us. is_fail (run us (At (f ∷ []) Empty))) (sym e) ∙ ap is_fail (reads g f [] t [] st cl ∙ went Leave t f [] (Full s p) l)
+    ∙ ap (λ us. is_fail (run us (At (f ∷ []) Empty))) (sym e) ∙ ap is_fail (reads g f [] t [] (inl st) cl ∙ went Leave t f [] (Full s p) l)
     )
 
 -- ---- so its tokens tell it
@@ -456,7 +563,7 @@ whole_found : (c : Control) (t : Token) (s : Variant) (n : Nonterminal) (p : Par
     found (run (tokens_of p (t ∷ [])) (At (record { control = c; so_far = λ rest. rest; other = λ rest. rest } ∷ []) Empty)) ≡ Node s p End
 whole_found c t s n p e g =
     let f : Frame = record { control = c; so_far = λ rest. rest; other = λ rest. rest } in
-    ap found (reads g f [] t [] e.0 e.1 ∙ went Shift t f [] (Full s p) e.2)
+    ap found (reads g f [] t [] (inl e.0) e.1 ∙ went Shift t f [] (Full s p) e.2)
 
 pub one_tree : (c : Control) (t : Token) (s z : Variant) (n k : Nonterminal) (p q : ParseTree) → Ends c t s n → Ends c t z k → Good (Whole s n) p → Good (Whole z k) q →
     tokens_of p (t ∷ []) ≡ tokens_of q (t ∷ []) → Node s p End ≡ Node z q End

@@ -13,7 +13,6 @@ use Rattle.swc_ecma_codegen_tree.specs.declared.modules.DefaultDecl.{DefaultDecl
 use Rattle.swc_ecma_codegen_tree.specs.declared.modules.DefaultDecl.TheVariants as default_decls
 use Rattle.swc_ecma_codegen_tree.specs.declared.modules.ExportAll.{ExportAll}
 use Rattle.swc_ecma_codegen_tree.specs.declared.modules.ExportDecl.{ExportDecl}
-use Rattle.swc_ecma_codegen_tree.specs.declared.modules.ExportDefaultDecl.{ExportDefaultDecl}
 use Rattle.swc_ecma_codegen_tree.specs.declared.modules.ExportDefaultExpr.{ExportDefaultExpr}
 use Rattle.swc_ecma_codegen_tree.specs.declared.modules.ExportSpecifier.{ExportSpecifier}
 use Rattle.swc_ecma_codegen_tree.specs.declared.modules.ExportSpecifier.TheVariants as exported
@@ -45,7 +44,7 @@ use Rattle.swc_ecma_codegen_syntax.specs.declared.nonterminals.Nonterminal.TheVa
 use Rattle.swc_ecma_codegen_syntax.specs.declared.parameters.Parameters.{Parameters}
 use Rattle.swc_ecma_codegen_syntax.specs.CallForms.{is_evaluation}
 use Rattle.swc_ecma_codegen_syntax.specs.DeclForms.{head_at, decl_form}
-use Rattle.swc_ecma_codegen_syntax.specs.Forms.{Part, is_met}
+use Rattle.swc_ecma_codegen_syntax.specs.Forms.{is_met}
 use Rattle.swc_ecma_codegen_syntax.specs.Parameters.{of_declarations}
 use Rattle.swc_ecma_codegen_syntax.specs.ModuleForms.{is_plain, is_export_name, is_optional_name, is_plain_import, are_plain_imports, attributes_form, import_form, is_plain_name, is_plain_export, are_plain_exports, from_form, export_named_form, export_all_form, exported_head_form, exported_tail_form, export_decl_form, export_default_form, default_form, default_decl_form, module_decl_form}
 use Rattle.swc_ecma_codegen_syntax.specs.NameForms.{has_no_escape}
@@ -55,8 +54,10 @@ use Rattle.swc_ecma_codegen_syntax.specs.Derives.{Derives, fixed, part, restrict
 use Rattle.swc_ecma_codegen_uniqueness.specs.ParseTrees.{Variant, ParseTree, End, Read, Node, Class as AClass, Fn, VarDecl, Other, tokens_of}
 use Rattle.swc_ecma_codegen_uniqueness.specs.Parses.{placed, is_inlined}
 use Rattle.swc_ecma_codegen_uniqueness.proofs.Classes.{Class, Infix, Times, OpenBrace, NameToken, LiteralToken, FunctionWord, ClassWord, AsyncWord, Semi, Strange, class}
-use Rattle.swc_ecma_codegen_uniqueness.proofs.Tables.{Control, ImportItem, Clause, ClauseComma, AfterExport, AfterExportDefault, AsyncDefault, AsyncDefaultLine, DefaultValue, AfterFunction, Shift, Enter, without, shifted_to, begun_at, started, entered}
-use Rattle.swc_ecma_codegen_uniqueness.proofs.TableLaws.{ended_by, or_left, takes_on, is_delayed, async_line, async_enters}
+use Rattle.swc_ecma_codegen_uniqueness.proofs.Controls.{Control, ImportItem, Clause, ClauseComma, AfterExport, AfterExportDefault, AsyncDefault, AsyncDefaultLine, DefaultValue, AfterFunction, entered}
+use Rattle.swc_ecma_codegen_uniqueness.proofs.Tables.{Shift, Enter, without, shifted_to, begun_at, started}
+use Rattle.swc_ecma_codegen_uniqueness.proofs.PlaceLaws.{is_delayed, async_line, async_enters}
+use Rattle.swc_ecma_codegen_uniqueness.proofs.TableLaws.{ended_by, or_left, takes_on}
 use Rattle.swc_ecma_codegen_uniqueness.proofs.Machine.{Whole, Rest, Good, Frame, Entering, entering_there, third_enters, shifted, shifted_turned, entering, merged}
 use Rattle.swc_ecma_codegen_uniqueness.proofs.Shapes.{Operand, takes_self, assignment_taken, part_then, ended}
 use Rattle.swc_ecma_codegen_uniqueness.proofs.StatementShapes.{MayEnter, at_once, behind_import, behind_async, import_item, export_item}
@@ -67,7 +68,7 @@ use Rattle.swc_ecma_codegen_uniqueness.proofs.Fits.{at_place, PlacedGood, AllGoo
 use Rattle.swc_ecma_codegen_uniqueness.proofs.Atoms.{named_read, str_literal}
 use Rattle.swc_ecma_codegen_uniqueness.proofs.Functions.{behind_async as async_before, fn_decl_read, fn_default_read}
 use Rattle.swc_ecma_codegen_uniqueness.proofs.ClassDefinitions.{no_class_decorators, class_expr_read, class_rest_read}
-use Rattle.swc_ecma_codegen_uniqueness.proofs.Statements.{vars_read}
+use Rattle.swc_ecma_codegen_uniqueness.proofs.Variables.{vars_read}
 
 -- ---- the names of an import or an export hold no node
 

@@ -1,6 +1,6 @@
 -- Objects are read as they are.
-use Rattle.std.proofs.Common.{◌≡◌, ℕ, Bool, true, false, List, [], ◌∷◌, Option, Some, None, refl, sym, ap, ◌∙◌, subst}
-use Rattle.std.specs.Prelude.{codes, string_bytes, if◌then◌else◌}
+use Rattle.std.proofs.Common.{◌≡◌, Bool, true, false, List, [], ◌∷◌, Option, Some, None, refl, sym, ◌∙◌, subst}
+use Rattle.std.specs.Prelude.{codes}
 use Rattle.std.proofs.lemmas.Bool.{true≢false}
 use Rattle.swc_ecma_codegen_tree.specs.declared.links.AnyNode.{AnyNode, AnyNode-F, out-AnyNode}
 use Rattle.swc_ecma_codegen_tree.specs.declared.links.AnyNode.TheOpen as nodes
@@ -10,29 +10,22 @@ use Rattle.swc_ecma_codegen_tree.specs.declared.exprs.Prop.{Prop}
 use Rattle.swc_ecma_codegen_tree.specs.declared.exprs.Prop.TheVariants as props
 use Rattle.swc_ecma_codegen_tree.specs.declared.exprs.PropOrSpread.{PropOrSpread}
 use Rattle.swc_ecma_codegen_tree.specs.declared.exprs.PropOrSpread.TheVariants as prop_or_spreads
-use Rattle.swc_ecma_codegen_tree.specs.declared.exprs.PropName.{PropName}
-use Rattle.swc_ecma_codegen_tree.specs.declared.exprs.PropName.TheVariants as prop_names
-use Rattle.swc_ecma_codegen_grammar.specs.Keys.{key_token, is_quoted}
-use Rattle.swc_ecma_codegen_grammar.specs.LitPhrases.{number}
 use Rattle.swc_ecma_codegen_grammar.specs.Settings.{Settings}
-use Rattle.swc_ecma_codegen_grammar.specs.SpelledNames.{spelled_name}
 use Rattle.swc_ecma_codegen_grammar.specs.Tokens.{Token, punctuator, word}
 use Rattle.swc_ecma_codegen_grammar.specs.Tokens as tokens
-use Rattle.swc_ecma_codegen_grammar.specs.declared.kinds.Kind.TheVariants as kinds
-use Rattle.swc_ecma_codegen_grammar.specs.declared.roles.Role.TheVariants.{PropertyName, MethodHead}
+use Rattle.swc_ecma_codegen_grammar.specs.declared.roles.Role.TheVariants.{MethodHead}
 use Rattle.swc_ecma_codegen_syntax.specs.declared.nonterminals.Nonterminal.TheVariants as nt
 use Rattle.swc_ecma_codegen_syntax.specs.declared.parameters.Parameters.{Parameters}
 use Rattle.swc_ecma_codegen_syntax.specs.Forms.{is_met, each_after, listed}
-use Rattle.swc_ecma_codegen_syntax.specs.MemberForms.{computed_form}
-use Rattle.swc_ecma_codegen_syntax.specs.ObjectForms.{prop_name_form, key_value_form, assign_prop_form, getter_form, setter_form, method_prop_form, property_form, spread_form, prop_or_spread_form, object_form, accessor_body_form, this_param_form}
+use Rattle.swc_ecma_codegen_syntax.specs.ObjectForms.{key_value_form, assign_prop_form, getter_form, setter_form, method_prop_form, property_form, spread_form, prop_or_spread_form, object_form, accessor_body_form, this_param_form}
 use Rattle.swc_ecma_codegen_syntax.specs.Derives.{Derives, fixed, part, both, provided}
-use Rattle.swc_ecma_codegen_uniqueness.specs.ParseTrees.{ParseTree, End, Read, Object, is_known, part_variant, node_variant}
+use Rattle.swc_ecma_codegen_uniqueness.specs.ParseTrees.{ParseTree, End, Read, Object}
 use Rattle.swc_ecma_codegen_uniqueness.specs.Parses.{placed, is_inlined}
-use Rattle.swc_ecma_codegen_uniqueness.proofs.Tables.{InMethod, AtKey, AfterKey, AtSetter, AfterSetter, SetterParameter, AfterParameters}
+use Rattle.swc_ecma_codegen_uniqueness.proofs.Controls.{InMethod, AtKey, AfterKey, AtSetter, AfterSetter, SetterParameter, AfterParameters}
 use Rattle.swc_ecma_codegen_uniqueness.proofs.Machine.{Whole, Rest, Good, shifted}
 use Rattle.swc_ecma_codegen_uniqueness.proofs.Shapes.{InObject, InProperties, OnProperty, object_key, property_place, a_member, a_setter, takes_self, assignment_taken, part_then, Operand, properties_closed, property_next, no_properties, object, value_then, spread_property}
 use Rattle.swc_ecma_codegen_uniqueness.proofs.Reading.{read_phrase, derived_parse}
-use Rattle.swc_ecma_codegen_uniqueness.proofs.Fits.{BlockFit, at_place, PlacedGood, AllGood, no_form}
+use Rattle.swc_ecma_codegen_uniqueness.proofs.Fits.{at_place, PlacedGood, AllGood, no_form}
 use Rattle.swc_ecma_codegen_uniqueness.proofs.Atoms.{name_read, no_annotation}
 use Rattle.swc_ecma_codegen_tree.specs.Links.{BlockStmtBox, PatBox}
 use Rattle.swc_ecma_codegen_tree.specs.declared.exprs.GetterProp.{GetterProp}

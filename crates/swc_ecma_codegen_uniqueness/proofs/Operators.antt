@@ -44,8 +44,9 @@ use Rattle.swc_ecma_codegen_syntax.specs.Derives.{Derives, fixed, part, simple, 
 use Rattle.swc_ecma_codegen_syntax.proofs.TreeFacts.{simple_of}
 use Rattle.swc_ecma_codegen_uniqueness.specs.ParseTrees.{Variant, ParseTree, End, Read, Unary, Update, Bin, Assign, Cond, Seq, Yield, Await, Paren}
 use Rattle.swc_ecma_codegen_uniqueness.specs.Parses.{placed, is_inlined}
-use Rattle.swc_ecma_codegen_uniqueness.proofs.Classes.{Level, Power, Times, Plus, Shifting, Comparing, Within, Equating, BitAnds, BitXors, BitOrs, Ands, Ors, Coalescing, Infix, Assigns, Twice, class}
-use Rattle.swc_ecma_codegen_uniqueness.proofs.Tables.{starts, left_of, right_of, made, OfUnary, OfUpdate, OfAwait, Open, Listed, start, started}
+use Rattle.swc_ecma_codegen_uniqueness.proofs.Classes.{Level, Power, Times, Plus, Shifting, Less, Comparing, Within, Equating, BitAnds, BitXors, BitOrs, Ands, Ors, Coalescing, Infix, Assigns, Twice, class}
+use Rattle.swc_ecma_codegen_uniqueness.proofs.Controls.{starts, left_of, right_of, made, OfUnary, OfUpdate, OfAwait, Open, Listed}
+use Rattle.swc_ecma_codegen_uniqueness.proofs.Tables.{start, started}
 use Rattle.swc_ecma_codegen_uniqueness.proofs.TableLaws.{cover, cover_taken}
 use Rattle.swc_ecma_codegen_uniqueness.proofs.Machine.{Whole, Rest, Good}
 use Rattle.swc_ecma_codegen_uniqueness.proofs.Shapes.{prefixed, parenthesized, binary, assigned, conditional, stepped, yield_bare, yield_part, yield_star, listed_first, listed_next, listed_last}
@@ -69,7 +70,7 @@ unfolding update_op update_text punctuator
 update_twice updates.PlusPlus = refl
 update_twice op = refl
 
-assign_class : (op : AssignOp) → class (assign_op op) ≡ Assigns
+pub assign_class : (op : AssignOp) → class (assign_op op) ≡ Assigns
 unfolding assign_op assign_text punctuator
 assign_class assigns.Assign = refl
 assign_class op = refl
@@ -84,7 +85,7 @@ level binaries.Sub = Plus
 level binaries.LShift = Shifting
 level binaries.RShift = Shifting
 level binaries.ZeroFillRShift = Shifting
-level binaries.Lt = Comparing
+level binaries.Lt = Less
 level binaries.Gt = Comparing
 level binaries.LtEq = Comparing
 level binaries.GtEq = Comparing
@@ -174,7 +175,7 @@ unfolding cond_form AllGood PlacedGood derived_parse read_phrase placed is_inlin
 cond_good c n (both (part a sa d) (both (fixed g) (both (part b sb e) (both (fixed h) (part k sk f))))) (o, (x, (p, (y, q)))) m =
     conditional (at_place _ _ sa (o m)) (at_place _ _ sb (p m)) (at_place _ _ sk (q m))
 
-target_covered : (op : AssignOp) → cover (target_of op) ≡ nt.LeftHandSideExpression
+pub target_covered : (op : AssignOp) → cover (target_of op) ≡ nt.LeftHandSideExpression
 unfolding target_of
 target_covered assigns.Assign = refl
 target_covered op = refl

@@ -24,6 +24,8 @@ use Rattle.swc_ecma_codegen_tree.specs.declared.pats.AssignTarget.TheVariants as
 use Rattle.swc_ecma_codegen_tree.specs.declared.pats.AssignTargetPat.TheVariants as target_pats
 use Rattle.swc_ecma_codegen_tree.specs.declared.pats.SimpleAssignTarget.TheVariants as simple_targets
 use Rattle.swc_ecma_codegen_tree.specs.declared.decls.Decl.TheVariants as decls
+use Rattle.swc_ecma_codegen_tree.specs.declared.parts.JSXPart.{JSXPart}
+use Rattle.swc_ecma_codegen_tree.specs.declared.parts.JSXPart.TheVariants as jsx_parts
 use Rattle.swc_ecma_codegen_tree.specs.declared.parts.StmtPart.{StmtPart}
 use Rattle.swc_ecma_codegen_tree.specs.declared.parts.StmtPart.TheVariants as stmt_parts
 use Rattle.swc_ecma_codegen_tree.specs.declared.stmts.Stmt.TheVariants as stmts
@@ -33,7 +35,7 @@ use Rattle.swc_ecma_codegen_grammar.specs.Phrases.{Phrase, Never, Nothing, One, 
 use Rattle.swc_ecma_codegen_grammar.specs.Settings.{Settings}
 use Rattle.swc_ecma_codegen_grammar.specs.Tokens.{Token}
 use Rattle.swc_ecma_codegen_grammar.specs.declared.roles.Role.{Role}
-use Rattle.swc_ecma_codegen_grammar.specs.declared.roles.Role.TheVariants.{Expression, Callee, FieldValue, FunctionHead, Statement, Pattern, AssignmentTarget, Member as MemberOfClass}
+use Rattle.swc_ecma_codegen_grammar.specs.declared.roles.Role.TheVariants.{Expression, Callee, FieldValue, Statement, Pattern, AssignmentTarget, Member as MemberOfClass, Child}
 use Rattle.swc_ecma_codegen_syntax.specs.declared.nonterminals.Nonterminal.TheVariants as nt
 use Rattle.swc_ecma_codegen_syntax.specs.declared.parameters.Parameters.{Parameters}
 use Rattle.swc_ecma_codegen_syntax.specs.Parameters.{before, of_targets}
@@ -47,7 +49,7 @@ use Rattle.swc_ecma_codegen_syntax.specs.TargetForms.{target_pat_form, target_fo
 use Rattle.swc_ecma_codegen_syntax.specs.NodeForms.{node_form, part_form}
 use Rattle.swc_ecma_codegen_syntax.specs.Derives.{Derives, fixed, part, simple, restricted, lone, lone_in_parentheses, both, provided, closed, comma_closed, followed, bare}
 use Rattle.swc_ecma_codegen_syntax.proofs.TreeFacts.{node_mapped}
-use Rattle.swc_ecma_codegen_uniqueness.specs.ParseTrees.{Variant, ParseTree, End, Read, Optional, Node, settled, expr_variant, simple_target_variant, target_pat_variant, target_variant, pat_variant, decl_variant, stmt_variant, part_variant, field_variant, member_variant, element_variant, node_variant}
+use Rattle.swc_ecma_codegen_uniqueness.specs.ParseTrees.{Variant, ParseTree, End, Read, Optional, Node, settled, expr_variant, simple_target_variant, target_pat_variant, target_variant, pat_variant, decl_variant, stmt_variant, part_variant, field_variant, member_variant, element_variant, child_variant, node_variant}
 use Rattle.swc_ecma_codegen_uniqueness.specs.Parses.{phrase_tokens, read_all, is_inlined_pat, is_inlined_pattern, is_inlined, placed, is_empty_variant, is_empty_parse, form_parse, node_parse, parse, expr_before}
 use Rattle.swc_ecma_codegen_uniqueness.proofs.Reading.{read_phrase, derived_parse}
 
@@ -105,6 +107,11 @@ unfolding node_variant element_variant
 element_variant_mapped g (stmt_parts.ClassMember n) = member_variant_by g n n.value
 element_variant_mapped g n = refl
 
+child_variant_mapped : {X Y : Type 0} (g : X → Y) (n : JSXPart X) → node_variant (map-AnyNode X Y g (nodes.JSXPart n)) Child ≡ child_variant n
+unfolding node_variant child_variant
+child_variant_mapped g (jsx_parts.JSXElement n) = refl
+child_variant_mapped g n = refl
+
 variant_mapped : {X Y : Type 0} (g : X → Y) (y : AnyNode-F X) (role : Role) → node_variant (map-AnyNode X Y g y) role ≡ node_variant y role
 unfolding node_variant part_variant
 variant_mapped g (nodes.Expr n) Expression = expr_variant_mapped g n
@@ -112,6 +119,7 @@ variant_mapped g (nodes.Expr n) Callee = expr_variant_mapped g n
 variant_mapped g (nodes.Expr n) FieldValue = field_variant_mapped g n
 variant_mapped g (nodes.Stmt n) Statement = stmt_variant_mapped g n
 variant_mapped g (nodes.StmtPart n) MemberOfClass = element_variant_mapped g n
+variant_mapped g (nodes.JSXPart n) Child = child_variant_mapped g n
 variant_mapped g (nodes.ExprPart (expr_parts.AssignTarget n)) AssignmentTarget = target_variant_mapped g n
 variant_mapped g (nodes.ExprPart (expr_parts.Pat n)) Pattern = pat_variant_mapped g n
 variant_mapped g y role = refl

@@ -34,7 +34,7 @@ use Rattle.swc_ecma_codegen_syntax.specs.NodeForms.{node_form, node_nonterminal,
 use Rattle.swc_ecma_codegen_syntax.specs.Derives.{Derives, fixed, part, simple, both, provided, closed, comma_closed}
 use Rattle.swc_ecma_codegen_uniqueness.specs.ParseTrees.{Variant, ParseTree, End, Read, Optional, Node, Array, Object, Assign, pat_variant, target_pat_variant, target_variant, node_variant}
 use Rattle.swc_ecma_codegen_uniqueness.specs.Parses.{placed, is_inlined, is_inlined_pattern, is_inlined_pat}
-use Rattle.swc_ecma_codegen_uniqueness.proofs.Tables.{AfterKey}
+use Rattle.swc_ecma_codegen_uniqueness.proofs.Controls.{AfterKey}
 use Rattle.swc_ecma_codegen_uniqueness.proofs.TableLaws.{cover, cover_taken}
 use Rattle.swc_ecma_codegen_uniqueness.proofs.Machine.{Whole, Good}
 use Rattle.swc_ecma_codegen_uniqueness.proofs.Shapes.{Operand, object_key, widened, raised_to, left_taken, left_shared, left_assigned, assigned, InElements, BehindElement, BehindHole, element_then, spread_element, elements_comma_closed, no_elements, array, InObject, InProperties, property_place, OnProperty, properties_closed, properties_comma_closed, property_next, no_properties, object, value_then, initializer_then, spread_property}
@@ -60,7 +60,7 @@ covered_expr place comma c n (provided h (simple k (part b sb d))) o m t =
     record { variant = _; inside = derived_parse d End; is = λ rest. refl; operand = widened (cover_taken place nt.PatternName t) (at_place _ _ sb (o m)) }
 
 covered_in : {s : Settings} (place : Nonterminal) → takes place nt.RestElement ≡ false → (called : Bool) (c : Parameters) (y : AnyNode-F AnyNode) {ts : List Token} (d : Derives true s (node_form called c y Pattern) ts) →
-    PlacedGood (is_inlined Pattern y) (s.minify ≡ c.minify → Fit (node_variant y Pattern) (cover (node_nonterminal called c y Pattern)) (derived_parse d End)) (AllGood d) → s.minify ≡ c.minify →
+    PlacedGood (is_inlined Pattern y) (s.minify ≡ c.minify → Fit c (node_variant y Pattern) (cover (node_nonterminal called c y Pattern)) (derived_parse d End)) (AllGood d) → s.minify ≡ c.minify →
     takes place (node_nonterminal called c y Pattern) ≡ true → Covered place (placed (is_inlined Pattern y) (node_variant y Pattern) (derived_parse d))
 unfolding node_form node_nonterminal part_form part_nonterminal pat_nonterminal PlacedGood placed is_inlined is_inlined_pattern is_inlined_pat
 covered_in place r called c (nodes.ExprPart (expr_parts.Pat (pats.Expr n))) d o m t =
@@ -97,7 +97,7 @@ pub data LastPart (f : ParseTree → ParseTree) : Type 0 where
   a_rest : Spread nt.PatternTarget f → LastPart f
 
 last_in : {s : Settings} (called : Bool) (c : Parameters) (y : AnyNode-F AnyNode) {ts : List Token} (d : Derives true s (node_form called c y Pattern) ts) →
-    PlacedGood (is_inlined Pattern y) (s.minify ≡ c.minify → Fit (node_variant y Pattern) (cover (node_nonterminal called c y Pattern)) (derived_parse d End)) (AllGood d) → s.minify ≡ c.minify →
+    PlacedGood (is_inlined Pattern y) (s.minify ≡ c.minify → Fit c (node_variant y Pattern) (cover (node_nonterminal called c y Pattern)) (derived_parse d End)) (AllGood d) → s.minify ≡ c.minify →
     takes nt.LastElement (node_nonterminal called c y Pattern) ≡ true → LastPart (placed (is_inlined Pattern y) (node_variant y Pattern) (derived_parse d))
 unfolding node_form node_nonterminal part_form part_nonterminal pat_form pat_nonterminal PlacedGood placed is_inlined is_inlined_pattern is_inlined_pat takes is_pattern_target
 last_in called c (nodes.ExprPart (expr_parts.Pat (pats.Expr n))) d o m t =

@@ -2,10 +2,7 @@
 use Rattle.std.proofs.Common.{◌≡◌, Bool, true, List, [], ◌∷◌, ◌++◌, Option, Some, None, refl, sym, ap, ◌∙◌, subst}
 use Rattle.std.specs.Prelude.{codes}
 use Rattle.std.specs.declared.string.String.{String}
-use Rattle.std.proofs.lemmas.Bool.{true≢false}
-use Rattle.swc_ecma_codegen_tree.specs.declared.links.AnyNode.{AnyNode, AnyNode-F, out-AnyNode}
-use Rattle.swc_ecma_codegen_tree.specs.declared.links.AnyNode.TheOpen as nodes
-use Rattle.swc_ecma_codegen_tree.specs.declared.parts.ExprPart.TheVariants as expr_parts
+use Rattle.swc_ecma_codegen_tree.specs.declared.links.AnyNode.{AnyNode, out-AnyNode}
 use Rattle.swc_ecma_codegen_tree.specs.declared.programs.ModuleItem.{ModuleItem}
 use Rattle.swc_ecma_codegen_tree.specs.declared.programs.ModuleItem.TheVariants as module_items
 use Rattle.swc_ecma_codegen_tree.specs.declared.programs.Program.{Program}
@@ -15,18 +12,16 @@ use Rattle.swc_ecma_codegen_grammar.specs.Settings.{Settings}
 use Rattle.swc_ecma_codegen_grammar.specs.StmtPhrases.{shebang}
 use Rattle.swc_ecma_codegen_grammar.specs.Tokens.{Token, punctuator, token_of}
 use Rattle.swc_ecma_codegen_grammar.specs.TreePhrases.{program_phrase}
-use Rattle.swc_ecma_codegen_grammar.specs.declared.roles.Role.TheVariants.{ModuleDeclaration}
 use Rattle.swc_ecma_codegen_syntax.specs.declared.nonterminals.Nonterminal.TheVariants as nt
 use Rattle.swc_ecma_codegen_syntax.specs.declared.parameters.Parameters.{Parameters}
 use Rattle.swc_ecma_codegen_syntax.specs.Parameters.{in_list, of_module, of_script}
-use Rattle.swc_ecma_codegen_syntax.specs.Forms.{Form}
 use Rattle.swc_ecma_codegen_syntax.specs.ModuleForms.{item_form, begins_empty_item, items_form, module_form, script_form, program_form}
 use Rattle.swc_ecma_codegen_syntax.specs.Derives.{Derives, DerivesProgram, bare_phrase, program_verdict, fixed, part, both}
 use Rattle.swc_ecma_codegen_syntax.specs.Verdicts.{holds}
 use Rattle.swc_ecma_codegen_syntax.proofs.RootLaws.{program_complete}
 use Rattle.swc_ecma_codegen_uniqueness.specs.ParseTrees.{ParseTree, End, Read, Optional, Node, BlockStmt, AreCommasAndParentheses, AreKnown, settled, tokens_of}
-use Rattle.swc_ecma_codegen_uniqueness.specs.Parses.{placed, is_inlined, form_parse, program_parse}
-use Rattle.swc_ecma_codegen_uniqueness.proofs.Tables.{InList, Statement}
+use Rattle.swc_ecma_codegen_uniqueness.specs.Parses.{placed, is_inlined, program_parse}
+use Rattle.swc_ecma_codegen_uniqueness.proofs.Controls.{InList, Statement}
 use Rattle.swc_ecma_codegen_uniqueness.proofs.Machine.{Rest, Good, joined, shifted, one_rest}
 use Rattle.swc_ecma_codegen_uniqueness.proofs.Shapes.{ended}
 use Rattle.swc_ecma_codegen_uniqueness.proofs.Reading.{read_phrase, derived_parse}

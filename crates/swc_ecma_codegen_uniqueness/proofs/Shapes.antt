@@ -10,9 +10,11 @@ use Rattle.swc_ecma_codegen_syntax.specs.UnitProductions.{here, step, expression
 use Rattle.swc_ecma_codegen_syntax.proofs.Taken.{chain_takes}
 use Rattle.swc_ecma_codegen_uniqueness.specs.ParseTrees.{Variant, ParseTree, End, Read, Optional, Node, tokens_of, Array, Object, Update, Bin, Assign, Member, SuperProp, Cond, Call, New, Seq, Tpl, TaggedTpl, Arrow, Yield, MetaProp, Paren, OptChain}
 use Rattle.swc_ecma_codegen_uniqueness.proofs.Classes.{OpenParen, Level, Class, Infix, Assigns, Ask, Comma, Dot, ChainDot, OpenBracket, Line, Twice, First, Later, class, NameToken, LiteralToken}
-use Rattle.swc_ecma_codegen_uniqueness.proofs.Tables.{starts, is_item, is_listed, ArrowBody, left, left_of, right_of, made, Tail, OfInfix, OfCond, OfAssign, OfYield, whole, last as last_of, tail_variant, Control, Closed, Open, InParen, Index, Arguments, Elements, NextElement, Properties, NextProperty, AfterKey, InKey, InValue, Middle, Substitution, Dotted, Chained, AfterNew, AfterImport, AfterSuper, AfterYield, Postfix, Listed, AfterAsync, AsyncLine, Enter, waits, decide, Shift, Turn, shift, shifted_to, passed_to, start, started, template, wrapped_to, chained, without, with_operand, AtKey, AtSetter, AfterSetter, InSetterKey}
-use Rattle.swc_ecma_codegen_uniqueness.proofs.TableLaws.{ended_by, ending, takes_on, is_sequence, assignment_single, taken_there, arrow_wraps, is_function, async_enters, is_place, pushes, or_left, is_infix, made_by, Wraps, infix_wraps, Linked, linked_closes, links, link_wraps, Calling, calling_linked, call_wraps, tail_ends, new_ends, yield_ends, yield_alone, listed_ends, member_plain, call_plain, callee_plain}
-use Rattle.swc_ecma_codegen_uniqueness.proofs.Machine.{Whole, Rest, Good, headed, wrapped, shifted, inner, closed, last, wrapped_turned, inner_turned, shifted_turned, entering, entering_there, turned_tokens, Heads, raised, turned, opened}
+use Rattle.swc_ecma_codegen_uniqueness.proofs.Controls.{starts, is_item, is_listed, ArrowBody, left, left_of, right_of, made, Tail, OfInfix, OfCond, OfAssign, OfYield, whole, last as last_of, tail_variant, Control, Closed, Open, InParen, Index, Arguments, Elements, NextElement, Properties, NextProperty, AfterKey, InKey, InValue, Middle, Substitution, Dotted, Chained, AfterNew, AfterImport, AfterSuper, AfterYield, Postfix, Listed, AfterAsync, AsyncLine, waits, AtKey, AtSetter, AfterSetter, InSetterKey}
+use Rattle.swc_ecma_codegen_uniqueness.proofs.Tables.{Enter, decide, Shift, Turn, shift, shifted_to, passed_to, start, started, template, wrapped_to, chained, without, with_operand}
+use Rattle.swc_ecma_codegen_uniqueness.proofs.PlaceLaws.{is_function, async_enters}
+use Rattle.swc_ecma_codegen_uniqueness.proofs.TableLaws.{ended_by, ending, takes_on, is_sequence, assignment_single, taken_there, arrow_wraps, is_place, pushes, or_left, is_infix, made_by, Wraps, infix_wraps, Linked, linked_closes, links, link_wraps, Calling, calling_linked, call_wraps, tail_ends, new_ends, yield_ends, yield_alone, listed_ends, member_plain, call_plain, callee_plain}
+use Rattle.swc_ecma_codegen_uniqueness.proofs.Machine.{Whole, Rest, Good, headed, wrapped, shifted, inner, closed, last, wrapped_turned, inner_turned, shifted_turned, entering, entering_there, turned_tokens, Heads, raised, turned, opened, spine_free, low_free}
 
 -- ---- parts
 
@@ -67,6 +69,7 @@ tail_rest t {s = s} o = last refl (or_left _ _ o.taken) o.good (tail_ends t o.of
 
 no_item : (n : Nonterminal) → is_listed n ≡ false → is_item n ≡ false
 no_item nt.ClassElement h = refl
+no_item nt.JSXElement h = refl
 no_item n h = h
 
 pub raised_to : (n k : Nonterminal) {variant : Variant} {p : ParseTree} → takes n k ≡ true → is_private n ≡ false → is_listed n ≡ false → Good (Whole variant k) p → Good (Whole variant n) p
@@ -477,6 +480,13 @@ left_shared = refl
 pub left_assigned : takes nt.AssignmentExpression nt.LeftHandSideExpression ≡ true
 unfolding takes is_assignment is_conditional is_short_circuit is_logical_or is_logical_and is_bitwise_or is_bitwise_xor is_bitwise_and is_equality is_relational is_shift is_additive is_multiplicative is_exponentiation is_unary is_update is_left_hand_side
 left_assigned = refl
+
+pub shift_left : takes nt.ShiftExpression nt.LeftHandSideExpression ≡ true
+unfolding takes is_shift is_additive is_multiplicative is_exponentiation is_unary is_update is_left_hand_side
+shift_left = refl
+
+pub operand_free : {s : Variant} {p : ParseTree} → Operand nt.LeftHandSideExpression s p → spine_free p ≡ true
+operand_free o = low_free o.good (or_left _ _ (takes_on nt.ShiftExpression nt.LeftHandSideExpression o.of shift_left o.taken))
 
 -- parameters, by what covers them: in parentheses none, several, a rest, one; or a name alone
 pub no_parameters : Operand nt.PrimaryExpression Paren (Read open_parenthesis (Read close_parenthesis End))

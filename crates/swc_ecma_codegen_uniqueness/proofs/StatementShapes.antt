@@ -11,8 +11,10 @@ use Rattle.swc_ecma_codegen_syntax.proofs.Chains.{takes_chain}
 use Rattle.swc_ecma_codegen_syntax.proofs.Taken.{chain_takes}
 use Rattle.swc_ecma_codegen_uniqueness.specs.ParseTrees.{Variant, ParseTree, End, Read, Node, Fn, Arrow, BlockStmt, EmptyStmt, ExprStmt, IfStmt, LabeledStmt, VarDecl, tokens_of, DoWhileStmt, TryStmt, SwitchStmt, Class as AClass, Other}
 use Rattle.swc_ecma_codegen_uniqueness.proofs.Classes.{Class, Infix, Plus, OpenBrace, ElseWord, Semi, Colon, ImportWord, AsyncWord, class, CatchWord, FinallyWord}
-use Rattle.swc_ecma_codegen_uniqueness.proofs.Tables.{Reduce, outside, starts, is_item, is_behind, left, Where, InList, OfIf, OfElse, OfLabel, OfLoop, Control, Closed, ArrowBody, OfArrow, Statement, Entered, AfterFunction, AfterClass, AfterExport, Parameter, RestParameter, AfterParameters, AfterWord, Valued, Jump, Headed, Test, Declarators, stands, entered, Action, Shift, Begin, Enter, Leave, Splice, Take, Wrap, without, with_operand, decide, shift, passed_to, start, started, begin, begun_at, ImportItem, AsyncItem, AsyncItemLine, Enter, InTry, InCatch, InClause, OfDo, closing, shifted_to, closed_by, AfterDo, AfterTry, BehindTry, AfterCatch, CatchParameter, BehindParameter, BehindCatch, AfterFinally, Case, InMethod}
-use Rattle.swc_ecma_codegen_uniqueness.proofs.TableLaws.{takes_on, ended_by, or_left, is_keyword, keyword_pushes, is_barred, item_there, place_of, ItemPlace, item_place, enters, is_delayed, is_import_call, import_begins, import_called, is_line, is_function, async_begins, async_line, async_enters, begins_operand, is_list, list_takes, no_item_wraps}
+use Rattle.swc_ecma_codegen_uniqueness.proofs.Controls.{outside, starts, is_item, is_behind, left, Where, InList, OfIf, OfElse, OfLabel, OfLoop, Control, Closed, ArrowBody, OfArrow, Statement, Entered, AfterFunction, AfterClass, AfterExport, AfterFor, ForHead, Parameter, RestParameter, AfterParameters, AfterWord, Valued, Jump, Headed, Test, Declarators, stands, entered, ImportItem, AsyncItem, AsyncItemLine, InTry, InCatch, InClause, OfDo, closed_by, AfterDo, AfterTry, BehindTry, AfterCatch, CatchParameter, BehindCatch, Case, InMethod}
+use Rattle.swc_ecma_codegen_uniqueness.proofs.Tables.{Reduce, Action, Shift, Begin, Enter, Leave, Splice, Wrap, without, with_operand, decide, shift, passed_to, start, started, begin, begun_at, Enter, closing, shifted_to}
+use Rattle.swc_ecma_codegen_uniqueness.proofs.PlaceLaws.{is_keyword, keyword_pushes, is_barred, item_there, place_of, ItemPlace, item_place, enters, is_delayed, is_import_call, import_begins, import_called, is_line, is_function, async_begins, async_line, async_enters, begins_operand, is_list, list_takes, no_item_wraps}
+use Rattle.swc_ecma_codegen_uniqueness.proofs.TableLaws.{takes_on, ended_by, or_left}
 use Rattle.swc_ecma_codegen_uniqueness.proofs.Machine.{Whole, Rest, Good, Frame, Heads, HeadsBefore, Entering, entering_there, second_enters, third_enters, goes_on, headed, headed_block, wrapped, wrapped_turned, stated, entering, shifted, inner, last, splicing, taking, raised, joined, turned_tokens, left_tokens, keeping, closed}
 use Rattle.swc_ecma_codegen_uniqueness.proofs.Shapes.{Operand, takes_self, assignment_taken, left_taken, left_assigned, part_then, ended, tail_rest}
 
@@ -104,6 +106,10 @@ if_else b {v = v} {w = w} {q = q} {r = r} o g h =
     (shifted refl (part_then (Test IfStmt) (Read (punctuator (codes ")")) (Node v q (Read (word (codes "else")) (Node w r End)))) (takes_self nt.Expression) o
     (takes_self nt.Expression, λ z. refl, inner (item_stands true OfIf) g refl refl (last refl (item_stands b OfElse) h (λ t e. (e, refl))))))
 
+-- the body of a loop
+pub loop_body : (b : Bool) (variant : Variant) {v : Variant} {q : ParseTree} → Good (Whole v (item_of b)) q → Good (Rest (Statement (OfLoop variant)) variant (item_of b)) (Node v q End)
+loop_body b variant g = last refl (item_stands b (OfLoop variant)) g (λ t e. (e, refl))
+
 -- `while (a) b`, `with (a) b`
 pub looped : (t : Token) (variant : Variant) (b : Bool) {s v : Variant} {p q : ParseTree} → is_keyword (class t) ≡ true → start t ≡ Headed variant → passed_to (Test variant) (class (punctuator (codes ")"))) ≡ Statement (OfLoop variant) →
     Operand nt.Expression s p → Good (Whole v (item_of b)) q → Good (Whole variant (item_of b)) (Read t (Read (punctuator (codes "(")) (Node s p (Read (punctuator (codes ")")) (Node v q End)))))
@@ -111,7 +117,17 @@ unfolding punctuator
 looped t variant b {v = v} {q = q} k e i o g =
     keyword_begun t variant b (Headed variant) _ k e
     (shifted refl (part_then (Test variant) (Read (punctuator (codes ")")) (Node v q End)) (takes_self nt.Expression) o
-    (takes_self nt.Expression, λ z. refl, subst (λ z. Good (Rest z variant (item_of b)) (Node v q End)) (sym i) (last refl (item_stands b (OfLoop variant)) g (λ t e. (e, refl))))))
+    (takes_self nt.Expression, λ z. refl, subst (λ z. Good (Rest z variant (item_of b)) (Node v q End)) (sym i) (loop_body b variant g))))
+
+-- `for (`, `for await (`
+pub for_begun : (b : Bool) (variant : Variant) {m : ParseTree} → Good (Rest ForHead variant (item_of b)) m → Good (Whole variant (item_of b)) (Read (word (codes "for")) (Read (punctuator (codes "(")) m))
+unfolding word punctuator
+for_begun b variant g = keyword_begun (word (codes "for")) variant b AfterFor _ refl refl (shifted refl g)
+
+pub for_await_begun : (b : Bool) (variant : Variant) {m : ParseTree} → Good (Rest ForHead variant (item_of b)) m →
+    Good (Whole variant (item_of b)) (Read (word (codes "for")) (Read (word (codes "await")) (Read (punctuator (codes "(")) m)))
+unfolding word punctuator
+for_await_begun b variant g = keyword_begun (word (codes "for")) variant b AfterFor _ refl refl (shifted refl (shifted refl g))
 
 -- `return;`, `return a;`, `break a;`
 pub word_alone : (t : Token) (variant : Variant) (b : Bool) → is_keyword (class t) ≡ true → start t ≡ AfterWord variant → Good (Whole variant (item_of b)) (Read t (Read ending End))
@@ -242,11 +258,6 @@ block_good b g = headed_block (block_begins b) g
 
 pub declarators_begun : (t : Token) (b : Bool) {m : ParseTree} → is_keyword (class t) ≡ true → start t ≡ Declarators → Good (Rest Declarators VarDecl (item_of b)) m → Good (Whole VarDecl (item_of b)) (Read t m)
 declarators_begun t b {m = m} k e g = keyword_begun t VarDecl b Declarators m k e g
-
--- a name or a pattern that no link holds, and the token behind it
-pub declarator_spliced : (t : Token) (n k : Nonterminal) {v : Variant} {p m q : ParseTree} → takes nt.LeftHandSideExpression k ≡ true → Good (Whole v k) p → takes (left (class t)) nt.LeftHandSideExpression ≡ true →
-    ((s : Variant) → decide Declarators (Some s) t ≡ Splice) → Good (Rest (passed_to Declarators (class t)) VarDecl n) m → q ≡ joined p (Read t m) → Good (Rest Declarators VarDecl n) q
-declarator_spliced t n k {v = v} h g c e r same = splicing t (or_left _ _ h) g (ended_by (class t) k (takes_on (left (class t)) nt.LeftHandSideExpression k c h)) (e v) r same
 
 pub primary_assigned : takes nt.AssignmentExpression nt.PrimaryExpression ≡ true
 primary_assigned = takes_on nt.AssignmentExpression nt.LeftHandSideExpression nt.PrimaryExpression left_assigned left_taken

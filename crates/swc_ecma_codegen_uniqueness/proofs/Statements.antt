@@ -1,16 +1,13 @@
 -- Statements are read as they are.
 use Rattle.std.proofs.Common.{◌≡◌, Bool, true, false, ◌||◌, not, List, [], ◌∷◌, Option, Some, None, refl, sym, ap, ◌∙◌, subst}
 use Rattle.std.specs.Prelude.{codes, is_some, if◌then◌else◌}
-use Rattle.std.proofs.lemmas.Bool.{true≢false, and_parts}
+use Rattle.std.proofs.lemmas.Bool.{true≢false}
 use Rattle.swc_ecma_codegen_tree.specs.Links.{ExprBox, StmtBox, BlockStmtBox, PatBox}
-use Rattle.swc_ecma_codegen_tree.specs.declared.links.AnyNode.{AnyNode, AnyNode-F, out-AnyNode}
+use Rattle.swc_ecma_codegen_tree.specs.declared.links.AnyNode.{AnyNode, AnyNode-F}
 use Rattle.swc_ecma_codegen_tree.specs.declared.links.AnyNode.TheOpen as nodes
 use Rattle.swc_ecma_codegen_tree.specs.declared.decls.Decl.{Decl}
 use Rattle.swc_ecma_codegen_tree.specs.declared.decls.Decl.TheVariants as decls
 use Rattle.swc_ecma_codegen_tree.specs.declared.decls.VarDecl as var_decls
-use Rattle.swc_ecma_codegen_tree.specs.declared.decls.VarDeclarator.{VarDeclarator}
-use Rattle.swc_ecma_codegen_tree.specs.declared.decls.VarDeclKind.{VarDeclKind}
-use Rattle.swc_ecma_codegen_tree.specs.declared.decls.VarDeclKind.TheVariants.{Var, Let, Const}
 use Rattle.swc_ecma_codegen_tree.specs.declared.idents.Ident.{Ident}
 use Rattle.swc_ecma_codegen_tree.specs.declared.parts.ExprPart.TheVariants as expr_parts
 use Rattle.swc_ecma_codegen_tree.specs.declared.parts.JSXPart.TheVariants as jsx_parts
@@ -22,11 +19,8 @@ use Rattle.swc_ecma_codegen_tree.specs.declared.stmts.CatchClause.{CatchClause}
 use Rattle.swc_ecma_codegen_tree.specs.declared.stmts.SwitchCase.{SwitchCase}
 use Rattle.swc_ecma_codegen_tree.specs.declared.stmts.ExprStmt as expr_stmts
 use Rattle.swc_ecma_codegen_tree.specs.declared.stmts.LabeledStmt as labeled
-use Rattle.swc_ecma_codegen_grammar.specs.DeclPhrases.{var_kind}
-use Rattle.swc_ecma_codegen_grammar.specs.FunctionPhrases.{word_if}
 use Rattle.swc_ecma_codegen_grammar.specs.Phrases.{Generates, chosen}
 use Rattle.swc_ecma_codegen_grammar.specs.Phrases as phrases
-use Rattle.swc_ecma_codegen_grammar.specs.TsDeclPhrases.{declare_word}
 use Rattle.swc_ecma_codegen_grammar.specs.Settings.{Settings, is_up_to_es5}
 use Rattle.swc_ecma_codegen_grammar.specs.StmtPhrases.{empty_stmt, debugger_stmt}
 use Rattle.swc_ecma_codegen_grammar.specs.Tokens.{Token, punctuator, word, ending, same_line}
@@ -35,112 +29,35 @@ use Rattle.swc_ecma_codegen_grammar.specs.declared.roles.Role.TheVariants.{Block
 use Rattle.swc_ecma_codegen_syntax.specs.declared.nonterminals.Nonterminal.{Nonterminal}
 use Rattle.swc_ecma_codegen_syntax.specs.declared.nonterminals.Nonterminal.TheVariants as nt
 use Rattle.swc_ecma_codegen_syntax.specs.declared.parameters.Parameters.{Parameters}
-use Rattle.swc_ecma_codegen_syntax.specs.NameForms.{is_one_of}
-use Rattle.swc_ecma_codegen_syntax.specs.Nonterminals.{takes}
 use Rattle.swc_ecma_codegen_syntax.specs.Parameters.{of_bindings, of_declarations, in_list}
-use Rattle.swc_ecma_codegen_syntax.specs.Forms.{Form, Fixed, is_met, each_after, in_order}
-use Rattle.swc_ecma_codegen_syntax.specs.DeclForms.{is_const, value_form, declarator_form, declarators_form, var_decl_form, head_at, decl_form}
-use Rattle.swc_ecma_codegen_syntax.specs.PatForms.{pat_form, pat_nonterminal}
-use Rattle.swc_ecma_codegen_syntax.specs.StmtForms.{expr_stmt_form, with_form, return_rest_form, return_form, labeled_form, jump_form, break_form, continue_form, branches_form, if_form, switch_form, throw_form, try_form, while_form, do_while_form, for_form, for_in_form, for_of_form, stmt_form, begins_empty, list_form, block_form, finalizer_form, catch_param_form, handler_form, catch_form, clause_item_form, clause_list_form, case_test_form, case_form}
+use Rattle.swc_ecma_codegen_syntax.specs.Forms.{Form, Fixed, is_met, in_order}
+use Rattle.swc_ecma_codegen_syntax.specs.DeclForms.{var_decl_form, head_at, decl_form}
+use Rattle.swc_ecma_codegen_syntax.specs.StmtForms.{expr_stmt_form, with_form, return_rest_form, return_form, labeled_form, jump_form, break_form, continue_form, branches_form, if_form, switch_form, throw_form, try_form, while_form, do_while_form, stmt_form, begins_empty, list_form, block_form, finalizer_form, catch_param_form, handler_form, catch_form, clause_item_form, clause_list_form, case_test_form, case_form}
 use Rattle.swc_ecma_codegen_syntax.specs.NodeForms.{node_form, part_form, stmt_part_form, jsx_part_form}
 use Rattle.swc_ecma_codegen_syntax.specs.Derives.{Derives, fixed, part, restricted, both, provided, bare, followed}
-use Rattle.swc_ecma_codegen_uniqueness.specs.ParseTrees.{Variant, ParseTree, End, Read, Node, BlockStmt, DebuggerStmt, WithStmt, ReturnStmt, LabeledStmt, BreakStmt, ContinueStmt, IfStmt, ThrowStmt, WhileStmt, VarDecl, ExprStmt, tokens_of, is_known_kind, AreKnown, decl_variant, stmt_variant, DoWhileStmt, TryStmt, SwitchStmt}
+use Rattle.swc_ecma_codegen_uniqueness.specs.ParseTrees.{Variant, ParseTree, End, Read, Node, BlockStmt, DebuggerStmt, WithStmt, ReturnStmt, LabeledStmt, BreakStmt, ContinueStmt, IfStmt, ThrowStmt, WhileStmt, VarDecl, ExprStmt, tokens_of, decl_variant, stmt_variant, DoWhileStmt, TryStmt, SwitchStmt}
 use Rattle.swc_ecma_codegen_uniqueness.specs.Parses.{placed, is_inlined, read_all}
-use Rattle.swc_ecma_codegen_uniqueness.proofs.Classes.{Semi, VarWord, class}
-use Rattle.swc_ecma_codegen_uniqueness.proofs.Tables.{InList, Statement, Declarators, Initializer, AfterWord, Jump, Splice, Shift, shift, start, started, decide, passed_to, left, Where, InTry, InCatch, InClause, AfterDo, BehindTry, BehindCatch, AfterCatch, closing}
-use Rattle.swc_ecma_codegen_uniqueness.proofs.TableLaws.{cover, cover_taken, ended_by, or_left, takes_on, is_keyword, is_list}
+use Rattle.swc_ecma_codegen_uniqueness.proofs.Classes.{Semi, class}
+use Rattle.swc_ecma_codegen_uniqueness.proofs.Controls.{InList, Statement, AfterWord, Jump, Where, InTry, InCatch, InClause, AfterDo, BehindTry, BehindCatch, AfterCatch}
+use Rattle.swc_ecma_codegen_uniqueness.proofs.Tables.{shift, start, started, closing}
+use Rattle.swc_ecma_codegen_uniqueness.proofs.PlaceLaws.{is_keyword, is_list}
+use Rattle.swc_ecma_codegen_uniqueness.proofs.TableLaws.{ended_by, or_left}
 use Rattle.swc_ecma_codegen_uniqueness.proofs.Machine.{Whole, Rest, Good, Heads, joined_tokens}
-use Rattle.swc_ecma_codegen_uniqueness.proofs.Shapes.{Operand, After, takes_self, assignment_taken, left_assigned, part_then, ended}
-use Rattle.swc_ecma_codegen_uniqueness.proofs.StatementShapes.{at_once, GoesOn, item_heads, item_of, item_stands, if_alone, if_else, looped, word_alone, word_valued, word_labelled, empty_good, expression_stated, labelled, no_items, end_heads, item_then, block_good, declarators_begun, declarator_spliced, primary_assigned, primary_expression, target_element, do_good, do_ends, do_ended, try_begun, try_ends, finally_then, catch_then, catch_block, catch_parameter, switch_begun, switch_ends, case_then, default_then, clause_item}
+use Rattle.swc_ecma_codegen_uniqueness.proofs.Shapes.{Operand, ended}
+use Rattle.swc_ecma_codegen_uniqueness.proofs.StatementShapes.{at_once, GoesOn, item_heads, item_of, item_stands, if_alone, if_else, looped, word_alone, word_valued, word_labelled, empty_good, expression_stated, labelled, no_items, end_heads, item_then, block_good, declarators_begun, primary_expression, do_good, do_ends, do_ended, try_begun, try_ends, finally_then, catch_then, catch_block, catch_parameter, switch_begun, switch_ends, case_then, default_then, clause_item}
 use Rattle.swc_ecma_codegen_uniqueness.proofs.Heading.{may_stand, not_excluded}
 use Rattle.swc_ecma_codegen_uniqueness.proofs.Reading.{read_phrase, derived_parse}
 use Rattle.swc_ecma_codegen_uniqueness.proofs.Joined.{derived_joined}
 use Rattle.swc_ecma_codegen_uniqueness.proofs.Parsed.{tokens_before}
 use Rattle.swc_ecma_codegen_uniqueness.proofs.Fits.{BlockFit, at_place, PlacedGood, AllGood, no_form}
 use Rattle.swc_ecma_codegen_uniqueness.proofs.Atoms.{name_read, name_atom}
-use Rattle.swc_ecma_codegen_uniqueness.proofs.Patterns.{pat_good, covered_at, no_rest_target}
-use Rattle.swc_ecma_codegen_uniqueness.proofs.Functions.{not_inlined, fn_decl_good}
+use Rattle.swc_ecma_codegen_uniqueness.proofs.Patterns.{covered_at, no_rest_target}
+use Rattle.swc_ecma_codegen_uniqueness.proofs.Functions.{fn_decl_good}
 use Rattle.swc_ecma_codegen_uniqueness.proofs.ClassDefinitions.{class_decl_good}
+use Rattle.swc_ecma_codegen_uniqueness.proofs.Variables.{vars_read}
+use Rattle.swc_ecma_codegen_uniqueness.proofs.Loops.{for_good, for_in_good, for_of_good}
 
 -- ---- declarations of variables
-
--- what stands behind a name or a value: `,` or `;`
-pub record BehindVar (n : Nonterminal) (m : ParseTree) : Type 0 where
-  pub token : Token
-  pub rest : ParseTree
-  pub is : m ≡ Read token rest
-  pub ends : takes (left (class token)) nt.AssignmentExpression ≡ true
-  pub spliced : (s : Variant) → decide Declarators (Some s) token ≡ Splice
-  pub named : Good (Rest (passed_to Declarators (class token)) VarDecl n) rest
-  pub shifted : (s : Variant) → decide Initializer (Some s) token ≡ Shift
-  pub valued : Good (Rest (passed_to Initializer (class token)) VarDecl n) rest
-
-declarator_by : {s : Settings} (n : Nonterminal) (c : Parameters) (constant : Bool) (x : VarDeclarator AnyNode) {ts us : List Token} → takes nt.PatternTarget (pat_nonterminal x.name) ≡ true →
-    (d : Derives true s (pat_form false (of_bindings c) x.name) ts) (o : Option (ExprBox AnyNode)) (e : Derives true s (value_form c o) us) → AllGood d → AllGood e → s.minify ≡ c.minify → (m : ParseTree) → BehindVar n m →
-    Good (Rest Declarators VarDecl n) (derived_parse d (derived_parse e m))
-unfolding value_form AllGood PlacedGood derived_parse read_phrase placed is_inlined punctuator
-declarator_by n c constant x h d None (fixed g) o q m rest behind =
-    declarator_spliced behind.token n (cover (pat_nonterminal x.name)) (cover_taken nt.PatternTarget (pat_nonterminal x.name) h)
-    (pat_good false (of_bindings c) x.name d o m (not_inlined (of_bindings c) x.name (target_element _ h) refl d)) (takes_on (left (class behind.token)) nt.AssignmentExpression nt.LeftHandSideExpression behind.ends left_assigned) behind.spliced behind.named
-    (ap (derived_parse d) behind.is ∙ sym (derived_joined d End (Read behind.token behind.rest)))
-declarator_by n c constant x h d (Some v) (both (fixed g) (part a sa e)) o (y, q) m rest behind =
-    let w = at_place _ _ sa (q m) in
-    declarator_spliced (punctuator (codes "=")) n (cover (pat_nonterminal x.name)) (cover_taken nt.PatternTarget (pat_nonterminal x.name) h)
-    (pat_good false (of_bindings c) x.name d o m (not_inlined (of_bindings c) x.name (target_element _ h) refl d)) (takes_self nt.LeftHandSideExpression) (λ z. refl)
-    (part_then Initializer rest (takes_self nt.AssignmentExpression) w (subst (λ z. After Initializer nt.AssignmentExpression VarDecl n z) (sym behind.is) (behind.ends, behind.shifted, behind.valued)))
-    (sym (derived_joined d End _))
-
-declarator_good : {s : Settings} (n : Nonterminal) (c : Parameters) (constant : Bool) (x : VarDeclarator AnyNode) {ts : List Token} (d : Derives true s (declarator_form c constant x) ts) → AllGood d → s.minify ≡ c.minify → (m : ParseTree) → BehindVar n m →
-    Good (Rest Declarators VarDecl n) (derived_parse d m)
-unfolding declarator_form is_met AllGood derived_parse
-declarator_good n c constant x (provided h (provided k (both d e))) (o, q) m rest behind = declarator_by n c constant x (and_parts _ _ k).1 d x.init e o q m rest behind
-
-behind_ending : (n : Nonterminal) → BehindVar n (Read ending End)
-unfolding ending
-behind_ending n = record { token = _; rest = End; is = refl; ends = assignment_taken; spliced = λ s. refl; named = ended VarDecl n; shifted = λ s. refl; valued = ended VarDecl n }
-
-behind_comma : (n : Nonterminal) {m : ParseTree} → Good (Rest Declarators VarDecl n) m → BehindVar n (Read (punctuator (codes ",")) m)
-unfolding punctuator
-behind_comma n g = record { token = _; rest = _; is = refl; ends = takes_self nt.AssignmentExpression; spliced = λ s. refl; named = g; shifted = λ s. refl; valued = g }
-
-declarators_after : {s : Settings} (n : Nonterminal) (c : Parameters) (constant : Bool) (xs : List (VarDeclarator AnyNode)) {ts : List Token} (d : Derives true s (each_after (codes ",") (declarator_form c constant) xs) ts) → AllGood d → s.minify ≡ c.minify →
-    BehindVar n (derived_parse d (Read ending End))
-unfolding each_after AllGood derived_parse read_phrase
-declarators_after n c constant [] (fixed g) o m = behind_ending n
-declarators_after n c constant (x ∷ xs) (both (fixed g) (both d e)) (y, (o, q)) m =
-    behind_comma n (declarator_good n c constant x d o m (derived_parse e (Read ending End)) (declarators_after n c constant xs e q m))
-
-declarators_good : {s : Settings} (n : Nonterminal) (c : Parameters) (constant : Bool) (xs : List (VarDeclarator AnyNode)) {ts : List Token} (d : Derives true s (declarators_form c constant xs) ts) → AllGood d → s.minify ≡ c.minify →
-    Good (Rest Declarators VarDecl n) (derived_parse d (Read ending End))
-unfolding declarators_form AllGood derived_parse read_phrase Generates
-declarators_good n c constant [] (fixed g) o m = absurd g
-declarators_good n c constant (x ∷ xs) (both d e) (o, q) m = declarator_good n c constant x d o m (derived_parse e (Read ending End)) (declarators_after n c constant xs e q m)
-
--- what is read behind `let`
-pub record VarsRead (n : Nonterminal) (m : ParseTree) : Type 0 where
-  pub token : Token
-  pub rest : ParseTree
-  pub is : m ≡ Read token rest
-  pub var : class token ≡ VarWord
-  pub good : Good (Rest Declarators VarDecl n) rest
-
-var_word : (s : Settings) (n : Nonterminal) (kind : VarDeclKind) (ts : List Token) (g : Generates s (var_kind kind) ts) (m : ParseTree) → Good (Rest Declarators VarDecl n) m → VarsRead n (read_phrase s (var_kind kind) ts g m)
-unfolding var_kind read_phrase word
-var_word s n Var ts g m h = record { token = word (codes "var"); rest = m; is = refl; var = refl; good = h }
-var_word s n Let ts g m h = record { token = word (codes "let"); rest = m; is = refl; var = refl; good = h }
-var_word s n Const ts g m h = record { token = word (codes "const"); rest = m; is = refl; var = refl; good = h }
-
-no_declare : {s : Settings} (b : Bool) {ts : List Token} → not b ≡ true → (d : Derives true s (Fixed (declare_word b)) ts) (rest : ParseTree) → derived_parse d rest ≡ rest
-unfolding declare_word word_if derived_parse read_phrase
-no_declare true h d rest = absurd (true≢false (sym h))
-no_declare false h (fixed g) rest = refl
-
-pub vars_read : {s : Settings} (at : Nonterminal) (c : Parameters) (n : var_decls.VarDecl AnyNode) {ts us : List Token} (d : Derives true s (var_decl_form c n) ts) (e : Derives true s (Fixed phrases.ending) us) → AllGood d → s.minify ≡ c.minify →
-    VarsRead at (derived_parse d (derived_parse e End))
-unfolding var_decl_form is_met AllGood derived_parse read_phrase
-vars_read at c n (provided h (provided k (both w (both (fixed g) d)))) (fixed j) (x, (y, o)) m =
-    let r = var_word _ at n.kind _ g _ (declarators_good at c (is_const n.kind) n.decls.items d o m) in
-    record { token = r.token; rest = r.rest; is = no_declare n.declare h w _ ∙ r.is; var = r.var; good = r.good }
 
 var_good : {s : Settings} (b : Bool) (c : Parameters) (n : var_decls.VarDecl AnyNode) {ts us : List Token} (d : Derives true s (var_decl_form c n) ts) (e : Derives true s (Fixed phrases.ending) us) → AllGood d → s.minify ≡ c.minify →
     Good (Whole VarDecl (item_of b)) (derived_parse d (derived_parse e End))
@@ -182,11 +99,6 @@ unfolding expr_stmt_form is_met AllGood PlacedGood derived_parse read_phrase pla
 expr_good b c n (both (restricted {ts = ts} h (part a sa d)) (fixed g)) (o, x) m =
     let v = at_place _ _ sa (o m) in
     expression_stated b v (may_stand ending (derived_parse d End) ts (λ us. tokens_before d End us) v.good (or_left _ _ v.taken) (ended_by Semi v.of v.taken) refl (not_excluded _ h))
-
--- a word of another statement is unknown
-other_word : (t : Token) → is_known_kind t.kind t.value ≡ false → AreKnown (Read t End) → ⊥
-unfolding AreKnown
-other_word t h k = true≢false (sym k.0 ∙ h)
 
 decl_good : {s : Settings} (b : Bool) (c : Parameters) (n : Decl AnyNode) {ts : List Token} (d : Derives true s (decl_form c n) ts) → AllGood d → s.minify ≡ c.minify → Good (Whole (decl_variant n) (item_of b)) (derived_parse d End)
 unfolding decl_form decl_variant AllGood derived_parse
@@ -265,7 +177,7 @@ cases_good n c (x ∷ xs) (both (both k (both (fixed h) d)) e) ((y, (z, o)), q) 
     case_good n c x.test k y m (derived_parse d (derived_parse e rest)) (clauses_good n c x.cons.items d o m (derived_parse e rest) (cases_good n c xs e q m r))
 
 pub stmt_good : {s : Settings} (c : Parameters) (n : Stmt AnyNode) {ts : List Token} (d : Derives true s (stmt_form c n) ts) → AllGood d → s.minify ≡ c.minify → Good (Whole (stmt_variant n) (item_of c.before_else)) (derived_parse d End)
-unfolding stmt_form stmt_variant with_form return_form break_form continue_form if_form switch_form throw_form try_form while_form do_while_form for_form for_in_form for_of_form empty_stmt debugger_stmt is_met is_one_of is_known_kind AllGood PlacedGood derived_parse read_phrase chosen placed is_inlined word same_line
+unfolding stmt_form stmt_variant with_form return_form break_form continue_form if_form switch_form throw_form try_form while_form do_while_form empty_stmt debugger_stmt is_met AllGood PlacedGood derived_parse read_phrase chosen placed is_inlined word same_line
 stmt_good c (stmts.Block n) (part a sa d) o m =
     let v = o m in
     subst (λ z. Good (Whole BlockStmt (item_of c.before_else)) z) (sym (v.is End))
@@ -290,9 +202,9 @@ stmt_good c (stmts.While n) (both (fixed g) (both (fixed k) (both (part a sa d) 
     looped (word (codes "while")) WhileStmt c.before_else refl refl refl (at_place _ _ sa (o m)) (q m).good
 stmt_good {s = s} c (stmts.DoWhile n) (provided h (both (fixed g) (both (part a sa d) (both (fixed k) (both (fixed l) (both (part b sb e) (both (fixed i) (fixed j)))))))) (x, (o, (y, (z, (q, (w, v)))))) m =
     do_good c.before_else (o m).good (at_place _ _ sb (q m)) (do_left c.before_else (is_up_to_es5 s.target))
-stmt_good c (stmts.For n) (both (fixed g) d) (k, o) m = absurd (other_word (word (codes "for")) refl k)
-stmt_good c (stmts.ForIn n) (both (fixed g) d) (k, o) m = absurd (other_word (word (codes "for")) refl k)
-stmt_good c (stmts.ForOf n) (provided h (both (fixed g) d)) (k, o) m = absurd (other_word (word (codes "for")) refl k)
+stmt_good c (stmts.For n) d o m = for_good c n d o m
+stmt_good c (stmts.ForIn n) d o m = for_in_good c n d o m
+stmt_good c (stmts.ForOf n) d o m = for_of_good c n d o m
 stmt_good c (stmts.Decl n) d o m = decl_good c.before_else c n d o m
 stmt_good c (stmts.Expr n) d o m = expr_good c.before_else c n d o m
 

@@ -9,8 +9,9 @@ use Rattle.swc_ecma_codegen_syntax.specs.UnitProductions.{UnitProduction, Chain,
 use Rattle.swc_ecma_codegen_syntax.proofs.Chains.{takes_chain}
 use Rattle.swc_ecma_codegen_syntax.proofs.Taken.{chain_takes}
 use Rattle.swc_ecma_codegen_uniqueness.specs.ParseTrees.{Variant}
-use Rattle.swc_ecma_codegen_uniqueness.proofs.Classes.{Power, Plus, Within, Coalescing, Class, Infix, Assigns, Ask, Comma, Dot, ChainDot, OpenParen, OpenBracket, OpenBrace, Line, First, class, FunctionWord, ReturnWord, ThrowWord, BreakWord, ContinueWord, DebuggerWord, IfWord, WhileWord, WithWord, VarWord, Semicolon, DoWord, TryWord, SwitchWord, ElseWord, CloseBrace, ClassWord, ExportWord, ImportWord, AsyncWord}
-use Rattle.swc_ecma_codegen_uniqueness.proofs.Tables.{made, left_of, left, closes, Tail, OfInfix, whole, last, Control, Open, Arguments, Elements, NextElement, AfterNew, AfterYield, YieldLine, Listed, InParen, Index, Middle, InKey, InValue, Substitution, waits, stands, decide, Action, Push, Wrap, Reduce, Shift, Turn, Begin, Enter, Leave, Splice, Take, starts, is_item, is_listed, begin, begun_at, shifted_to, Heritage, Members, AtMember, InMemberKey, FieldPlace, DefaultValue, ImportItem, AfterImport, EnterBelow, Merge, AsyncItem, AsyncItemLine, AsyncDefault, AsyncDefaultLine, AfterAsync, AsyncLine, AsyncOperand, closed_by, at_item, Where, InList, OfElse, Statement, Entered, Parameter, RestParameter, Valued, Test, Declarators, Initializer, entered, without, with_operand, Keep, CatchParameter, Case, InTry, InCatch, InClause, InMethod, InSetterKey, SetterParameter, OfIf, OfDo}
+use Rattle.swc_ecma_codegen_uniqueness.proofs.Classes.{Power, Plus, Within, Coalescing, Class, Infix, Assigns, Ask, Comma, Dot, ChainDot, OpenParen, OpenBracket, Line, First, class, Comparing}
+use Rattle.swc_ecma_codegen_uniqueness.proofs.Controls.{made, left_of, left, closes, Tail, OfInfix, whole, last, Control, Open, Arguments, Elements, NextElement, AfterNew, AfterYield, YieldLine, Listed, InParen, Index, Middle, InKey, InValue, Substitution, waits, stands, starts, is_item, is_listed, Heritage, Members, InMemberKey, FieldPlace, DefaultValue, AttributeElement, AttributeBraces, Children, ChildBraces, ForHead, ForPlain, ForVars, ForValue, ForTest, ForUpdate, ForIn, ForOf, is_within, AsyncOperand, closed_by, at_item, Statement, Entered, Parameter, RestParameter, Valued, Test, Declarators, Initializer, CatchParameter, Case, InSetterKey, SetterParameter}
+use Rattle.swc_ecma_codegen_uniqueness.proofs.Tables.{decide, Action, Push, Wrap, Reduce, Shift, Turn, Begin, Enter, Leave, Splice, Take, wrapped_to, EnterBelow, Merge, without, with_operand, Keep}
 
 -- ---- chains of unit productions
 
@@ -23,10 +24,10 @@ takes_on a b c h k = chain_takes a c (chain_on (takes_chain a b h) (takes_chain 
 
 -- ---- tests
 
-abbrev if_so : Bool → Bool → Bool
+abbrev pub if_so : Bool → Bool → Bool
 if_so a b = not a || b
 
-told : (a b : Bool) → if_so a b ≡ true → a ≡ true → b ≡ true
+pub told : (a b : Bool) → if_so a b ≡ true → a ≡ true → b ≡ true
 told true b h k = h
 told false b h k = absurd (true≢false (sym k))
 
@@ -49,11 +50,11 @@ wrap_is Keep h = absurd (true≢false (sym h))
 wrap_is EnterBelow h = absurd (true≢false (sym h))
 wrap_is Merge h = absurd (true≢false (sym h))
 
-abbrev is_push : Action → Bool
+abbrev pub is_push : Action → Bool
 is_push Push = true
 is_push action = false
 
-push_is : (a : Action) → is_push a ≡ true → a ≡ Push
+pub push_is : (a : Action) → is_push a ≡ true → a ≡ Push
 push_is Push h = refl
 push_is Shift h = absurd (true≢false (sym h))
 push_is Wrap h = absurd (true≢false (sym h))
@@ -79,6 +80,7 @@ is_place nt.AssignmentPattern = true
 is_place nt.Statement = true
 is_place nt.Block = true
 is_place nt.ClassElement = true
+is_place nt.JSXElement = true
 is_place nt.Uncovered = true
 is_place n = false
 
@@ -122,12 +124,14 @@ pub ended_by : (l : Class) (n : Nonterminal) → takes (left l) n ≡ true → c
 ended_by l nt.Statement h = absurd (true≢false (sym h ∙ (or_none _ _ (ends_none l)).0))
 ended_by l nt.Block h = absurd (true≢false (sym h ∙ (or_none _ _ (ends_none l)).1))
 ended_by l nt.ClassElement h = refl
+ended_by l nt.JSXElement h = refl
 ended_by l n h = h
 
 pub ending : (l : Class) (n : Nonterminal) → is_listed n ≡ false → closed_by l n ≡ true → takes (left l) n ≡ true
 ending l nt.Statement i h = absurd (true≢false i)
 ending l nt.Block i h = absurd (true≢false i)
 ending l nt.ClassElement i h = absurd (true≢false i)
+ending l nt.JSXElement i h = absurd (true≢false i)
 ending l n i h = h
 
 tail_listed : (t : Tail) → is_listed (whole t) ≡ false
@@ -150,6 +154,7 @@ tail_closes t u k h e = ended_by (class u) k (takes_on (left (class u)) (last t)
 abbrev is_waiting : Control → Bool
 is_waiting (Open t) = true
 is_waiting Members = false
+is_waiting Children = false
 is_waiting c = not (takes nt.Uncovered (waits c))
 
 start_test : (c : Control) (l : Class) → if_so (starts l && is_waiting c) (is_push (without c l)) ≡ true
@@ -172,6 +177,14 @@ element_stands nt.ClassElement s = refl
 element_stands nt.Statement s = refl
 element_stands nt.Block s = refl
 element_stands n s = absurd (true≢false (sym s))
+
+-- an element between tags
+child_stands : (n : Nonterminal) → (takes nt.JSXElement n || ((is_private n && takes nt.JSXElement nt.RelationalExpression) || (is_item n && false))) ≡ true → is_place n ≡ true
+unfolding is_member is_new is_call is_callee is_chained is_left_hand_side is_update is_unary is_exponentiation is_multiplicative is_additive is_shift is_relational is_in_left is_equality is_bitwise_and is_bitwise_xor is_bitwise_or is_logical_and is_logical_or is_coalesce_head is_short_circuit is_conditional is_assignment is_expression is_assignment_target is_pattern_target is_pattern_element is_last_element is_coalesce is_private is_optional is_primary is_template is_property_name is_chain_link is_assignment_pattern is_pattern_name is_rest is_statement is_hoistable_declaration is_block is_variable_declarations is_declaration is_statement_list_item is_labelled_item is_module_declaration is_exported_head is_function_head is_generator_head is_async_function_head is_async_generator_head is_function_tail is_getter_tail is_setter_tail is_method_head is_decorator_list is_class_head is_class_tail is_class_element is_constructor_name is_any_function_head is_head_without_yield is_head_without_await is_any_property_name is_jsx_element is_jsx_object is_uncovered takes
+child_stands nt.JSXElement s = refl
+child_stands nt.Statement s = refl
+child_stands nt.Block s = refl
+child_stands n s = absurd (true≢false (sym s))
 
 stands_waiting : (c : Control) (n : Nonterminal) → is_place n ≡ false → stands c n ≡ true → is_waiting c ≡ true
 unfolding is_member is_new is_call is_callee is_chained is_left_hand_side is_update is_unary is_exponentiation is_multiplicative is_additive is_shift is_relational is_in_left is_equality is_bitwise_and is_bitwise_xor is_bitwise_or is_logical_and is_logical_or is_coalesce_head is_short_circuit is_conditional is_assignment is_expression is_assignment_target is_pattern_target is_pattern_element is_last_element is_coalesce is_private is_optional is_primary is_template is_property_name is_chain_link is_assignment_pattern is_pattern_name is_rest is_statement is_hoistable_declaration is_block is_variable_declarations is_declaration is_statement_list_item is_labelled_item is_module_declaration is_exported_head is_function_head is_generator_head is_async_function_head is_async_generator_head is_function_tail is_getter_tail is_setter_tail is_method_head is_decorator_list is_class_head is_class_tail is_class_element is_constructor_name is_any_function_head is_head_without_yield is_head_without_await is_any_property_name is_jsx_element is_jsx_object is_uncovered takes
@@ -204,6 +217,17 @@ stands_waiting Heritage n h s = refl
 stands_waiting InMemberKey n h s = refl
 stands_waiting (FieldPlace variant) n h s = refl
 stands_waiting DefaultValue n h s = refl
+stands_waiting ForPlain n h s = refl
+stands_waiting ForVars n h s = refl
+stands_waiting ForValue n h s = refl
+stands_waiting ForTest n h s = refl
+stands_waiting ForUpdate n h s = refl
+stands_waiting ForIn n h s = refl
+stands_waiting ForOf n h s = refl
+stands_waiting AttributeElement n h s = refl
+stands_waiting AttributeBraces n h s = refl
+stands_waiting ChildBraces n h s = refl
+stands_waiting Children n h s = absurd (true≢false (sym (child_stands n s) ∙ h))
 stands_waiting Members n h s = absurd (true≢false (sym (element_stands n s) ∙ h))
 stands_waiting (Statement place) n h s = absurd (true≢false (sym (nothing_stands n true s) ∙ h))
 stands_waiting c n h s = absurd (true≢false (sym (nothing_stands n false s) ∙ h))
@@ -525,233 +549,52 @@ unfolding is_member is_new is_call is_callee is_chained is_left_hand_side is_upd
 assignment_single nt.Expression h = sym h
 assignment_single k h = refl
 
--- ---- statements: where one stands, its first token begins it, and no operand does
+-- ---- the head of a `for`, where `in` takes no operand
 
-abbrev pub is_keyword : Class → Bool
-is_keyword FunctionWord = true
-is_keyword ClassWord = true
-is_keyword ExportWord = true
-is_keyword ReturnWord = true
-is_keyword ThrowWord = true
-is_keyword BreakWord = true
-is_keyword ContinueWord = true
-is_keyword DebuggerWord = true
-is_keyword IfWord = true
-is_keyword WhileWord = true
-is_keyword WithWord = true
-is_keyword DoWord = true
-is_keyword TryWord = true
-is_keyword SwitchWord = true
-is_keyword VarWord = true
-is_keyword Semicolon = true
-is_keyword l = false
+head_push_test : (l : Class) → if_so (is_push (without ForPlain l)) (is_push (without ForHead l)) ≡ true
+head_push_test (Infix Plus) = refl
+head_push_test l = refl
 
-waits_test : (c : Control) (n : Nonterminal) → if_so (is_item n) (not (takes (waits c) n) && not (is_private n)) ≡ true
+pub head_pushes : (l : Class) → without ForPlain l ≡ Push → without ForHead l ≡ Push
+head_pushes l h = push_is _ (told _ _ (head_push_test l) (ap is_push h))
+
+head_wrap_test : (l : Class) → if_so (is_wrap (with_operand ForPlain l) && not (is_within l)) (is_wrap (with_operand ForHead l)) ≡ true
+head_wrap_test (Infix Within) = refl
+head_wrap_test l = refl
+
+pub head_wraps : (l : Class) → with_operand ForPlain l ≡ Wrap → is_within l ≡ false → with_operand ForHead l ≡ Wrap
+head_wraps l h k = wrap_is _ (told _ _ (head_wrap_test l) (and_from _ _ (ap is_wrap h) (ap not k)))
+
+abbrev is_other : Action → Bool
+is_other Begin = true
+is_other Leave = true
+is_other a = false
+
+plain_test : (l : Class) → (is_other (without ForPlain l) || is_other (with_operand ForPlain l)) ≡ false
+plain_test (Infix Plus) = refl
+plain_test l = refl
+
+pub plain_begins : (l : Class) → without ForPlain l ≡ Begin → ⊥
+plain_begins l h = true≢false (sym (ap is_other h) ∙ (or_none _ _ (plain_test l)).0)
+
+pub plain_leaves : (l : Class) → with_operand ForPlain l ≡ Leave → ⊥
+plain_leaves l h = true≢false (sym (ap is_other h) ∙ (or_none _ _ (plain_test l)).1)
+
+-- the token behind an operand that the next one turns
+pub turn_outside : (operand : Variant) (l m : Class) → without (wrapped_to operand l) m ≡ Turn → is_within l ≡ false
+turn_outside operand (Infix Within) m h = absurd (true≢false (ap is_push h))
+turn_outside operand l m h = refl
+
+-- where no `in` takes an operand, though an operand stands: behind `<`
+pub low_wraps : (l : Class) → with_operand (Open (OfInfix Comparing)) l ≡ Wrap → is_within l ≡ false
 unfolding is_member is_new is_call is_callee is_chained is_left_hand_side is_update is_unary is_exponentiation is_multiplicative is_additive is_shift is_relational is_in_left is_equality is_bitwise_and is_bitwise_xor is_bitwise_or is_logical_and is_logical_or is_coalesce_head is_short_circuit is_conditional is_assignment is_expression is_assignment_target is_pattern_target is_pattern_element is_last_element is_coalesce is_private is_optional is_primary is_template is_property_name is_chain_link is_assignment_pattern is_pattern_name is_rest is_statement is_hoistable_declaration is_block is_variable_declarations is_declaration is_statement_list_item is_labelled_item is_module_declaration is_exported_head is_function_head is_generator_head is_async_function_head is_async_generator_head is_function_tail is_getter_tail is_setter_tail is_method_head is_decorator_list is_class_head is_class_tail is_class_element is_constructor_name is_any_function_head is_head_without_yield is_head_without_await is_any_property_name is_jsx_element is_jsx_object is_uncovered takes
-waits_test (Open (OfInfix Power)) nt.Statement = refl
-waits_test c nt.Statement = refl
-waits_test (Open (OfInfix Power)) nt.Block = refl
-waits_test c nt.Block = refl
-waits_test c n = refl
+low_wraps (Infix Within) h = absurd (true≢false (sym (ap is_wrap h)))
+low_wraps l h = refl
 
-item_cases : (a b c d : Bool) → (not a && not b) ≡ true → (a || ((b && c) || d)) ≡ true → d ≡ true
-item_cases false false c d h s = s
-item_cases true b c d h s = absurd (true≢false (sym h))
-item_cases false true c d h s = absurd (true≢false (sym h))
-
-pub item_there : (n : Nonterminal) → is_item n ≡ true → (c : Control) → stands c n ≡ true → at_item c ≡ true
-item_there n i c s = (and_parts _ _ (item_cases (takes (waits c) n) (is_private n) (takes (waits c) nt.RelationalExpression) (is_item n && at_item c) (told _ _ (waits_test c n) i) s)).1
-
-keyword_test : (c : Control) (l : Class) → if_so (at_item c && is_keyword l) (is_push (without c l)) ≡ true
-keyword_test (Statement place) FunctionWord = refl
-keyword_test c FunctionWord = refl
-keyword_test c l = refl
-
-pub keyword_pushes : (t : Token) (n : Nonterminal) → is_keyword (class t) ≡ true → is_item n ≡ true → (c : Control) → stands c n ≡ true → decide c None t ≡ Push
-keyword_pushes t n k i c s = push_is _ (told _ _ (keyword_test c (class t)) (and_from _ _ (item_there n i c s) k))
-
-abbrev is_enter : Action → Bool
-is_enter Enter = true
-is_enter a = false
-
-enter_is : (a : Action) → is_enter a ≡ true → a ≡ Enter
-enter_is Enter h = refl
-enter_is Shift h = absurd (true≢false (sym h))
-enter_is Push h = absurd (true≢false (sym h))
-enter_is Wrap h = absurd (true≢false (sym h))
-enter_is Reduce h = absurd (true≢false (sym h))
-enter_is Turn h = absurd (true≢false (sym h))
-enter_is Begin h = absurd (true≢false (sym h))
-enter_is Leave h = absurd (true≢false (sym h))
-enter_is Splice h = absurd (true≢false (sym h))
-enter_is Take h = absurd (true≢false (sym h))
-enter_is Keep h = absurd (true≢false (sym h))
-enter_is EnterBelow h = absurd (true≢false (sym h))
-enter_is Merge h = absurd (true≢false (sym h))
-
--- what begins no expression in the place of a statement
-abbrev pub is_barred : Class → Bool
-is_barred OpenBrace = true
-is_barred FunctionWord = true
-is_barred ClassWord = true
-is_barred l = false
-
--- what begins one there or an item, as a later token tells
-abbrev pub is_delayed : Class → Bool
-is_delayed ImportWord = true
-is_delayed AsyncWord = true
-is_delayed l = false
-
-enter_test : (place : Where) (l : Class) → if_so (starts l && (not (is_barred l) && not (is_delayed l))) (is_enter (without (Statement place) l)) ≡ true
-enter_test (InList ends) (Infix Plus) = refl
-enter_test place (Infix Plus) = refl
-enter_test (InList ends) l = refl
-enter_test place l = refl
-
-entered_test : (place : Where) (l : Class) → if_so (starts l) (is_push (without (Entered place) l)) ≡ true
-entered_test place (Infix Plus) = refl
-entered_test place l = refl
-
--- a statement's place
-pub data ItemPlace : Control → Type 0 where
-  item_place : (place : Where) → ItemPlace (Statement place)
-
-pub place_of : (c : Control) → at_item c ≡ true → ItemPlace c
-place_of (Statement place) h = item_place place
-place_of c h = absurd (true≢false (sym h))
-
-pub enters : (t : Token) → starts (class t) ≡ true → is_barred (class t) ≡ false → is_delayed (class t) ≡ false → (c : Control) → ItemPlace c → (decide c None t ≡ Enter) × (decide (entered c) None t ≡ Push)
-enters t h b k c (item_place place) =
-    (enter_is _ (told _ _ (enter_test place (class t)) (and_from _ _ h (and_from _ _ (ap not b) (ap not k)))), push_is _ (told _ _ (entered_test place (class t)) h))
-
--- `import` is either, and `(` or `.` behind it tells which
-abbrev pub is_import_call : Class → Bool
-is_import_call OpenParen = true
-is_import_call Dot = true
-is_import_call l = false
-
-pub import_begins : (c : Control) → ItemPlace c → (without c ImportWord ≡ Begin) × (begun_at c ImportWord ≡ ImportItem) × (without (entered c) ImportWord ≡ Push)
-import_begins c (item_place place) = (refl, refl, refl)
-
-pub import_called : (l : Class) → is_import_call l ≡ true → (without ImportItem l ≡ EnterBelow) × (without AfterImport l ≡ Shift)
-import_called OpenParen h = (refl, refl)
-import_called Dot h = (refl, refl)
-import_called l h = absurd (true≢false (sym h))
-
-pub import_kept : (l : Class) → is_import_call l ≡ false → without AfterImport l ≡ Keep
-import_kept OpenParen h = absurd (true≢false h)
-import_kept Dot h = absurd (true≢false h)
-import_kept l h = refl
-
--- so is `async`, and `function` on its line tells
-abbrev pub is_line : Class → Bool
-is_line Line = true
-is_line l = false
-
-abbrev pub is_function : Class → Bool
-is_function FunctionWord = true
-is_function l = false
-
-pub async_begins : (c : Control) → ItemPlace c → (without c AsyncWord ≡ Begin) × (begun_at c AsyncWord ≡ AsyncItem) × (without (entered c) AsyncWord ≡ Push)
-async_begins c (item_place place) = (refl, refl, refl)
-
--- behind the word, and behind what stays on its line; the same behind `export default`
-pub async_line : (l : Class) → is_line l ≡ true → (without AsyncItem l ≡ Shift) × (shifted_to AsyncItem l ≡ AsyncItemLine) × (without AsyncDefault l ≡ Shift) × (shifted_to AsyncDefault l ≡ AsyncDefaultLine)
-    × (without AfterAsync l ≡ Shift) × (shifted_to AfterAsync l ≡ AsyncLine)
-async_line Line h = (refl, refl, refl, refl, refl, refl)
-async_line l h = absurd (true≢false (sym h))
-
-pub async_kept : (l : Class) → is_line l ≡ false → without AfterAsync l ≡ Keep
-async_kept Line h = absurd (true≢false h)
-async_kept l h = refl
-
-pub async_enters : (l : Class) → is_function l ≡ false → (without AsyncItemLine l ≡ EnterBelow) × (without AsyncDefaultLine l ≡ EnterBelow) × (without AsyncLine l ≡ Enter)
-async_enters FunctionWord h = absurd (true≢false h)
-async_enters l h = (refl, refl, refl)
-
--- what ends an expression statement, or stands behind a label, is neither
-pub leaves_alone : (l : Class) → with_operand (Entered OfElse) l ≡ Leave → (is_line l ≡ false) × (is_function l ≡ false)
-leaves_alone Line h = absurd (true≢false (ap is_wrap h))
-leaves_alone FunctionWord h = absurd (true≢false (ap is_wrap h))
-leaves_alone l h = (refl, refl)
-
-pub delayed_by : (l : Class) → (is_delayed l ≡ false) ⊎ ((l ≡ ImportWord) ⊎ (l ≡ AsyncWord))
-delayed_by ImportWord = inr (inl refl)
-delayed_by AsyncWord = inr (inr refl)
-delayed_by l = inl refl
-
--- with which token an operand begins, by what the machine does at it in the place of a statement
-begins_test : (l : Class) → if_so (is_push (without (Entered OfElse) l)) (starts l) ≡ true
-begins_test (Infix Plus) = refl
-begins_test l = refl
-
-pub begins_operand : (t : Token) → decide (Entered OfElse) None t ≡ Push → starts (class t) ≡ true
-begins_operand t e = told _ _ (begins_test (class t)) (ap is_push e)
-
--- ---- members of a class
-
--- the place of one
-pub data ElementPlace : Control → Type 0 where
-  element_place : ElementPlace Members
-
-pub element_there : (c : Control) → stands c nt.ClassElement ≡ true → ElementPlace c
+low_test : (l : Class) → is_other (with_operand (Open (OfInfix Comparing)) l) ≡ false
 unfolding is_member is_new is_call is_callee is_chained is_left_hand_side is_update is_unary is_exponentiation is_multiplicative is_additive is_shift is_relational is_in_left is_equality is_bitwise_and is_bitwise_xor is_bitwise_or is_logical_and is_logical_or is_coalesce_head is_short_circuit is_conditional is_assignment is_expression is_assignment_target is_pattern_target is_pattern_element is_last_element is_coalesce is_private is_optional is_primary is_template is_property_name is_chain_link is_assignment_pattern is_pattern_name is_rest is_statement is_hoistable_declaration is_block is_variable_declarations is_declaration is_statement_list_item is_labelled_item is_module_declaration is_exported_head is_function_head is_generator_head is_async_function_head is_async_generator_head is_function_tail is_getter_tail is_setter_tail is_method_head is_decorator_list is_class_head is_class_tail is_class_element is_constructor_name is_any_function_head is_head_without_yield is_head_without_await is_any_property_name is_jsx_element is_jsx_object is_uncovered takes
-element_there Members s = element_place
-element_there (Open (OfInfix Power)) s = absurd (true≢false (sym s))
-element_there c s = absurd (true≢false (sym s))
+low_test (Infix Power) = refl
+low_test l = refl
 
-abbrev pub is_close_brace : Class → Bool
-is_close_brace CloseBrace = true
-is_close_brace l = false
-
-begun_in : (c : Control) (l : Class) → ElementPlace c → is_close_brace l ≡ false → (without c l ≡ Begin) × (begun_at c l ≡ shifted_to AtMember l)
-begun_in c CloseBrace element_place h = absurd (true≢false h)
-begun_in c l element_place h = (refl, refl)
-
-pub element_begins : (t : Token) → is_close_brace (class t) ≡ false → (c : Control) → stands c nt.ClassElement ≡ true → (decide c None t ≡ Begin) × (begin c t ≡ shifted_to AtMember (class t))
-element_begins t h c s = begun_in c (class t) (element_there c s) h
-
--- ---- lists
-
--- a list whose items have no nodes of their own
-abbrev pub is_list : Where → Bool
-is_list (InList ends) = true
-is_list InTry = true
-is_list InCatch = true
-is_list InMethod = true
-is_list place = false
-
-abbrev is_take : Action → Bool
-is_take Take = true
-is_take a = false
-
-take_is : (a : Action) → is_take a ≡ true → a ≡ Take
-take_is Take h = refl
-take_is Shift h = absurd (true≢false (sym h))
-take_is Push h = absurd (true≢false (sym h))
-take_is Wrap h = absurd (true≢false (sym h))
-take_is Reduce h = absurd (true≢false (sym h))
-take_is Turn h = absurd (true≢false (sym h))
-take_is Begin h = absurd (true≢false (sym h))
-take_is Enter h = absurd (true≢false (sym h))
-take_is Leave h = absurd (true≢false (sym h))
-take_is Splice h = absurd (true≢false (sym h))
-take_is Keep h = absurd (true≢false (sym h))
-take_is EnterBelow h = absurd (true≢false (sym h))
-take_is Merge h = absurd (true≢false (sym h))
-
-take_test : (place : Where) (l : Class) → if_so (is_list place) (is_take (with_operand (Statement place) l)) ≡ true
-take_test (InList ends) l = refl
-take_test place l = refl
-
-pub list_takes : (place : Where) (l : Class) → is_list place ≡ true → with_operand (Statement place) l ≡ Take
-list_takes place l h = take_is _ (told _ _ (take_test place l) h)
-
--- an item is no operand
-no_wrap_test : (place : Where) (l : Class) → is_wrap (with_operand (Statement place) l) ≡ false
-no_wrap_test OfIf ElseWord = refl
-no_wrap_test OfDo WhileWord = refl
-no_wrap_test place l = refl
-
-pub no_item_wraps : (place : Where) (l : Class) → with_operand (Statement place) l ≡ Wrap → ⊥
-no_item_wraps place l h = true≢false (sym (ap is_wrap h) ∙ no_wrap_test place l)
+pub low_leaves : (l : Class) → with_operand (Open (OfInfix Comparing)) l ≡ Leave → ⊥
+low_leaves l h = true≢false (sym (ap is_other h) ∙ low_test l)

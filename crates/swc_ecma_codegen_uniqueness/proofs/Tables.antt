@@ -1,287 +1,13 @@
--- The machine's tables: what a token is behind an operand, what is begun, and what the machine does at a token.
-use Rattle.std.proofs.Common.{ℕ, Bool, true, false, ◌&&◌, ◌||◌, List, [], ◌∷◌, Option, Some, None, cond}
-use Rattle.std.specs.Prelude.{codes, bytes_eq, if◌then◌else◌}
-use Rattle.swc_ecma_codegen_grammar.specs.declared.kinds.Kind.{Kind}
-use Rattle.swc_ecma_codegen_grammar.specs.declared.kinds.Kind.TheVariants as kinds
-use Rattle.swc_ecma_codegen_grammar.specs.Tokens.{Token, Value, Characters}
+-- The machine's tables: what it does at a token, and where it is then.
+use Rattle.std.proofs.Common.{Bool, true, false, Option, Some, None}
+use Rattle.std.specs.Prelude.{if◌then◌else◌}
+use Rattle.swc_ecma_codegen_grammar.specs.Tokens.{Token}
 use Rattle.swc_ecma_codegen_syntax.specs.declared.nonterminals.Nonterminal.{Nonterminal}
 use Rattle.swc_ecma_codegen_syntax.specs.declared.nonterminals.Nonterminal.TheVariants as nt
-use Rattle.swc_ecma_codegen_syntax.specs.Nonterminals.{takes, is_private}
-use Rattle.swc_ecma_codegen_uniqueness.specs.ParseTrees.{Variant, This, Array, Object, Unary, Update, Bin, Assign, Member, SuperProp, Cond, Call, New, Seq, Ident, Lit, Tpl, TaggedTpl, Arrow, Yield, MetaProp, Await, Paren, PrivateName, OptChain, Fn, BlockStmt, EmptyStmt, DebuggerStmt, WithStmt, ReturnStmt, LabeledStmt, BreakStmt, ContinueStmt, IfStmt, ThrowStmt, WhileStmt, VarDecl, ExprStmt, Other, SwitchStmt, TryStmt, DoWhileStmt, Class as AClass, Constructor, ClassMethod, PrivateMethod, ClassProp, PrivateProp, StaticBlock}
-use Rattle.swc_ecma_codegen_uniqueness.proofs.Classes.{Level, Class, class, Power, Times, Plus, Shifting, Comparing, Within, Equating, BitAnds, BitXors, BitOrs, Ands, Ors, Coalescing, Infix, Assigns, Ask, Colon, Comma, Dot, ChainDot, OpenParen, CloseParen, OpenBracket, CloseBracket, OpenBrace, CloseBrace, Dots, Line, Twice, Bang, FatArrow, Semi, Semicolon, FirstLine, First, Later, NameToken, PrivateToken, LiteralToken, ThisWord, NewWord, SuperWord, ImportWord, YieldWord, AwaitWord, AsyncWord, FunctionWord, ClassWord, ExtendsWord, StaticWord, ConstructorWord, ExportWord, ReturnWord, ThrowWord, BreakWord, ContinueWord, DebuggerWord, IfWord, ElseWord, WhileWord, WithWord, DoWord, TryWord, CatchWord, FinallyWord, SwitchWord, CaseWord, DefaultWord, GetWord, SetWord, VarWord, UnaryWord, TargetWord, MetaWord}
-
--- ---- levels: the nonterminal of each operator, and of its operands
-
-abbrev pub made : Level → Nonterminal
-made Power = nt.ExponentiationExpression
-made Times = nt.MultiplicativeExpression
-made Plus = nt.AdditiveExpression
-made Shifting = nt.ShiftExpression
-made Comparing = nt.RelationalExpression
-made Within = nt.RelationalExpression
-made Equating = nt.EqualityExpression
-made BitAnds = nt.BitwiseAndExpression
-made BitXors = nt.BitwiseXorExpression
-made BitOrs = nt.BitwiseOrExpression
-made Ands = nt.LogicalAndExpression
-made Ors = nt.LogicalOrExpression
-made Coalescing = nt.CoalesceExpression
-
-abbrev pub left_of : Level → Nonterminal
-left_of Power = nt.UpdateExpression
-left_of Within = nt.InLeft
-left_of Coalescing = nt.CoalesceExpressionHead
-left_of level = made level
-
-abbrev pub right_of : Level → Nonterminal
-right_of Power = nt.ExponentiationExpression
-right_of Times = nt.ExponentiationExpression
-right_of Plus = nt.MultiplicativeExpression
-right_of Shifting = nt.AdditiveExpression
-right_of Comparing = nt.ShiftExpression
-right_of Within = nt.ShiftExpression
-right_of Equating = nt.RelationalExpression
-right_of BitAnds = nt.EqualityExpression
-right_of BitXors = nt.BitwiseAndExpression
-right_of BitOrs = nt.BitwiseXorExpression
-right_of Ands = nt.BitwiseOrExpression
-right_of Ors = nt.LogicalAndExpression
-right_of Coalescing = nt.BitwiseOrExpression
-
--- the widest nonterminal that stands before a token
-abbrev pub left : Class → Nonterminal
-left (Infix level) = left_of level
-left Assigns = nt.LeftHandSideExpression
-left Ask = nt.ShortCircuitExpression
-left Colon = nt.Expression
-left Comma = nt.AssignmentExpression
-left Dot = nt.ChainBase
-left ChainDot = nt.ChainBase
-left OpenParen = nt.ChainBase
-left OpenBracket = nt.ChainBase
-left (First opens) = nt.ChainBase
-left CloseParen = nt.Expression
-left CloseBracket = nt.Expression
-left CloseBrace = nt.Expression
-left (Later opens) = nt.Expression
-left OpenBrace = nt.LeftHandSideExpression
-left Line = nt.LeftHandSideExpression
-left Semi = nt.Expression
-left c = nt.Uncovered
-
--- an item of a list of statements, or a statement in another: not before `else`, and before `else` too
-abbrev pub is_item : Nonterminal → Bool
-is_item nt.Statement = true
-is_item nt.Block = true
-is_item n = false
-
--- an item, or a member of a class: no unit production says what ends it
-abbrev pub is_listed : Nonterminal → Bool
-is_listed nt.ClassElement = true
-is_listed n = is_item n
-
--- what stands behind an item begins no part of it
-abbrev pub is_behind : Class → Bool
-is_behind ElseWord = false
-is_behind CatchWord = false
-is_behind FinallyWord = false
-is_behind Semi = false
-is_behind c = true
-
-abbrev pub is_behind_or_else : Class → Bool
-is_behind_or_else ElseWord = true
-is_behind_or_else c = is_behind c
-
-abbrev pub closed_by : Class → Nonterminal → Bool
-closed_by c nt.Statement = is_behind c
-closed_by c nt.Block = is_behind_or_else c
-closed_by c nt.ClassElement = true
-closed_by c n = takes (left c) n
-
--- a token ends what is of a nonterminal
-abbrev pub closes : Token → Nonterminal → Bool
-closes t n = closed_by (class t) n
-
--- where an operand stands, its first token begins it
-abbrev pub starts : Class → Bool
-starts NameToken = true
-starts PrivateToken = true
-starts LiteralToken = true
-starts ThisWord = true
-starts OpenParen = true
-starts OpenBracket = true
-starts OpenBrace = true
-starts (First opens) = true
-starts (Infix Plus) = true
-starts Bang = true
-starts UnaryWord = true
-starts Twice = true
-starts NewWord = true
-starts SuperWord = true
-starts ImportWord = true
-starts YieldWord = true
-starts AwaitWord = true
-starts AsyncWord = true
-starts FunctionWord = true
-starts ClassWord = true
-starts c = false
-
--- ---- what is begun
-
--- a node that waits for its last part
-pub data Tail : Type 0 where
-  OfInfix : (level : Level) → Tail
-  OfUnary OfUpdate OfCond OfAssign OfAwait OfYield OfArrow : Tail
-
--- its nonterminal, that of its last part, and its variant
-abbrev pub whole : Tail → Nonterminal
-whole (OfInfix level) = made level
-whole OfUnary = nt.UnaryExpression
-whole OfUpdate = nt.UpdateExpression
-whole OfCond = nt.ConditionalExpression
-whole OfAssign = nt.AssignmentExpression
-whole OfAwait = nt.UnaryExpression
-whole OfYield = nt.AssignmentExpression
-whole OfArrow = nt.AssignmentExpression
-
-abbrev pub last : Tail → Nonterminal
-last (OfInfix level) = right_of level
-last OfUnary = nt.UnaryExpression
-last OfUpdate = nt.LeftHandSideExpression
-last OfCond = nt.AssignmentExpression
-last OfAssign = nt.AssignmentExpression
-last OfAwait = nt.UnaryExpression
-last OfYield = nt.AssignmentExpression
-last OfArrow = nt.AssignmentExpression
-
-abbrev pub tail_variant : Tail → Variant
-tail_variant (OfInfix level) = Bin
-tail_variant OfUnary = Unary
-tail_variant OfUpdate = Update
-tail_variant OfCond = Cond
-tail_variant OfAssign = Assign
-tail_variant OfAwait = Await
-tail_variant OfYield = Yield
-tail_variant OfArrow = Arrow
-
--- where a statement stands: in a list, of what ends with `}`, behind `try {`, behind `catch {`, behind `case a:`, in a method of an object; behind `if (a)`, behind `else`, behind
--- `do`, behind `while (a)` or `with (a)`, behind `a:`
-pub data Where : Type 0 where
-  InList : (ends : Variant) → Where
-  InTry InCatch InClause InMethod OfIf OfElse OfDo OfLabel : Where
-  OfLoop : (variant : Variant) → Where
-
--- Where a node is that is begun: at its end; before its last part; in parentheses; behind `a[`; among arguments; among elements, and behind `a,` of
--- them; behind `a ?`; in a template; behind `a.`; in an object before a property, behind a comma, behind a key, behind `[` of a key, and before a value;
--- behind `a?.`, `new`, `new.`, `import`, `import.`, `super`, `yield`, what stays on its line behind that, `a` before `++` or `=>`, and `a,`; behind
--- `async`, what stays on its line behind that, and its parameters; behind `=>`. Before a statement, and behind the first token of an expression in its
--- place; behind `function`, behind the name, among parameters, behind `...` of them, and behind them; behind `return`, before a value, and before a label;
--- behind `if`, and behind `if (`; behind `let`, and before a value of it; behind `do a; while (b)`; behind `try`, and its block; behind `catch`, `catch (`,
--- `catch (a)`, and its block; behind `finally`; behind `switch (a)`, `case`, and `default`. Behind `class`, with its name or not; behind `extends`; before a member
--- of a class; behind `static`, `get`, `async` and `*` of one; behind `[` of its key, behind its key, and before its value.
--- Behind `import` in the place of an item; among the names of an import or an export, and behind `a,` of them; behind `export` and `export default`, and before the
--- value of that. Behind `async` in the place of an item, and behind what stays on its line behind that; the same behind `export default`; before the parameters of an
--- async arrow function.
-pub data Control : Type 0 where
-  Closed : (variant : Variant) → Control
-  Open : (tail : Tail) → Control
-  InParen : Control
-  Index : (variant : Variant) → Control
-  Arguments : (variant : Variant) → Control
-  Elements NextElement Middle : Control
-  Substitution : (variant : Variant) → Control
-  Dotted : (variant : Variant) → Control
-  Properties NextProperty AfterKey InKey InValue : Control
-  Chained AfterNew AfterNewDot AfterImport AfterImportDot AfterSuper AfterYield YieldLine Postfix Listed AfterAsync AsyncLine AsyncParameters ArrowBody : Control
-  Statement Entered : (place : Where) → Control
-  AfterFunction AfterName : Control
-  Parameter RestParameter AfterParameters : (place : Where) → Control
-  AtKey AsyncKey AtSetter InSetterKey AfterSetter SetterParameter : Control
-  AfterWord Valued Jump Headed Test : (variant : Variant) → Control
-  Declarators Initializer : Control
-  AfterDo AfterTry BehindTry AfterCatch CatchParameter BehindParameter BehindCatch AfterFinally AfterSwitch Case AfterDefault : Control
-  AfterClass Heritage Members AtMember InMemberKey : Control
-  ImportItem Clause ClauseComma AfterExport AfterExportDefault DefaultValue : Control
-  AsyncItem AsyncItemLine AsyncDefault AsyncDefaultLine AsyncOperand : Control
-  MemberKey FieldPlace : (variant : Variant) → Control
-
--- the nonterminal that stands there
-abbrev pub waits : Control → Nonterminal
-waits (Open tail) = last tail
-waits InParen = nt.Expression
-waits (Index variant) = nt.Expression
-waits (Arguments variant) = nt.AssignmentExpression
-waits Elements = nt.AssignmentExpression
-waits NextElement = nt.AssignmentExpression
-waits Middle = nt.AssignmentExpression
-waits InKey = nt.AssignmentExpression
-waits InValue = nt.AssignmentExpression
-waits (Substitution variant) = nt.Expression
-waits AfterNew = nt.NewExpression
-waits YieldLine = nt.AssignmentExpression
-waits Listed = nt.AssignmentExpression
-waits AsyncOperand = nt.LeftHandSideExpression
-waits (Entered place) = nt.Expression
-waits (Parameter place) = nt.AssignmentExpression
-waits (RestParameter place) = nt.LeftHandSideExpression
-waits InSetterKey = nt.AssignmentExpression
-waits SetterParameter = nt.AssignmentExpression
-waits (Valued variant) = nt.Expression
-waits (Test variant) = nt.Expression
-waits Declarators = nt.LeftHandSideExpression
-waits Initializer = nt.AssignmentExpression
-waits CatchParameter = nt.LeftHandSideExpression
-waits Case = nt.Expression
-waits Heritage = nt.LeftHandSideExpression
-waits Members = nt.ClassElement
-waits InMemberKey = nt.AssignmentExpression
-waits (FieldPlace variant) = nt.AssignmentExpression
-waits DefaultValue = nt.AssignmentExpression
-waits c = nt.Uncovered
-
-abbrev pub at_item : Control → Bool
-at_item (Statement place) = true
-at_item c = false
-
--- A node stands there; `#a` does where `#a in b` would; a statement does.
-abbrev pub stands : Control → Nonterminal → Bool
-stands c n = takes (waits c) n || ((is_private n && takes (waits c) nt.RelationalExpression) || (is_item n && at_item c))
-
--- behind the first token of an expression, and back
-abbrev pub entered : Control → Control
-entered (Statement place) = Entered place
-entered ArrowBody = Open OfArrow
-entered AfterExportDefault = DefaultValue
-entered AsyncLine = AsyncOperand
-entered c = c
-
-abbrev pub outside : Control → Control
-outside (Entered place) = Statement place
-outside c = c
-
--- what was begun in the place of an item, as it is begun in an expression
-abbrev pub as_expression : Control → Control
-as_expression ImportItem = AfterImport
-as_expression AsyncItem = AfterAsync
-as_expression AsyncItemLine = AsyncLine
-as_expression AsyncDefault = AfterAsync
-as_expression AsyncDefaultLine = AsyncLine
-as_expression c = c
-
-abbrev pub variant_of : Control → Variant
-variant_of (Closed variant) = variant
-variant_of (Open tail) = tail_variant tail
-variant_of AfterNew = New
-variant_of AfterYield = Yield
-variant_of YieldLine = Yield
-variant_of Listed = Seq
-variant_of (Statement OfIf) = IfStmt
-variant_of (Statement OfElse) = IfStmt
-variant_of (Statement OfLabel) = LabeledStmt
-variant_of AfterDo = DoWhileStmt
-variant_of BehindCatch = TryStmt
-variant_of (Statement (OfLoop variant)) = variant
-variant_of c = Other
+use Rattle.swc_ecma_codegen_syntax.specs.Nonterminals.{takes}
+use Rattle.swc_ecma_codegen_uniqueness.specs.ParseTrees.{Variant, This, Array, Object, Update, Member, SuperProp, Call, New, Ident, Lit, Tpl, TaggedTpl, Arrow, MetaProp, Paren, PrivateName, OptChain, Fn, BlockStmt, EmptyStmt, DebuggerStmt, WithStmt, ReturnStmt, BreakStmt, ContinueStmt, IfStmt, ThrowStmt, WhileStmt, VarDecl, ExprStmt, Other, SwitchStmt, TryStmt, DoWhileStmt, ForStmt, ForInStmt, ForOfStmt, JSXElement, Class as AClass, Constructor, ClassMethod, PrivateMethod, ClassProp, PrivateProp, StaticBlock}
+use Rattle.swc_ecma_codegen_uniqueness.proofs.Classes.{Class, class, Times, Less, Within, Infix, Assigns, Ask, Colon, Comma, Dot, ChainDot, OpenParen, CloseParen, OpenBracket, CloseBracket, OpenBrace, CloseBrace, Dots, Line, Twice, Bang, FatArrow, Semi, Semicolon, FirstLine, First, Later, TagName, TagClose, ChildTagMark, ChildBraceMark, NameToken, PrivateToken, LiteralToken, ThisWord, NewWord, SuperWord, ImportWord, YieldWord, AwaitWord, AsyncWord, FunctionWord, ClassWord, ExtendsWord, ConstructorWord, ExportWord, ForWord, OfWord, ReturnWord, ThrowWord, BreakWord, ContinueWord, DebuggerWord, IfWord, ElseWord, WhileWord, WithWord, DoWord, TryWord, CatchWord, FinallyWord, SwitchWord, CaseWord, DefaultWord, GetWord, SetWord, VarWord, UnaryWord, TargetWord, MetaWord}
+use Rattle.swc_ecma_codegen_uniqueness.proofs.Controls.{AfterAsync, AfterCatch, AfterClass, AfterDefault, AfterDo, AfterExport, AfterExportDefault, AfterFinally, AfterFor, AfterFunction, AfterImport, AfterImportDot, AfterKey, AfterName, AfterNew, AfterNewDot, AfterParameters, AfterSetter, AfterSuper, AfterSwitch, AfterTry, AfterWord, AfterYield, Arguments, ArrowBody, AsyncDefault, AsyncDefaultLine, AsyncItem, AsyncItemLine, AsyncKey, AsyncLine, AsyncOperand, AsyncParameters, AtKey, AtMember, AtSetter, AttributeBraces, AttributeElement, AttributeValue, BehindCatch, BehindParameter, BehindTry, Case, CatchParameter, Chained, ChildBraces, ChildTag, Children, Clause, ClauseComma, Closed, ClosingName, ClosingTag, Control, Declarators, DefaultValue, Dotted, Elements, Entered, FieldPlace, ForHead, ForIn, ForOf, ForPlain, ForTest, ForUpdate, ForValue, ForVars, Headed, Heritage, ImportItem, InCatch, InClause, InKey, InList, InMemberKey, InMethod, InParen, InSetterKey, InTag, InTry, InValue, Index, Initializer, Jump, Listed, MemberKey, Members, Middle, NextElement, NextProperty, OfAssign, OfAwait, OfCond, OfDo, OfElse, OfIf, OfInfix, OfLabel, OfLoop, OfUnary, OfUpdate, OfYield, Open, OpenTag, Parameter, Postfix, Properties, RestParameter, SelfClosing, SetterParameter, Statement, Substitution, Test, Valued, Where, YieldLine, left, starts, whole}
 
 -- ---- what the machine does
 
@@ -392,6 +118,7 @@ without (Statement place) SwitchWord = Push
 without (Statement place) FunctionWord = Push
 without (Statement place) ClassWord = Push
 without (Statement place) ExportWord = Push
+without (Statement place) ForWord = Push
 without (Statement place) ImportWord = Begin
 without (Statement place) AsyncWord = Begin
 without (Statement place) ReturnWord = Push
@@ -459,6 +186,37 @@ without AfterExportDefault ClassWord = Shift
 without AfterExportDefault AsyncWord = Begin
 without AfterExportDefault c = Enter
 without DefaultValue c = Push
+without OpenTag c = Shift
+without InTag c = Shift
+without AttributeValue (Infix Less) = Enter
+without AttributeValue c = Shift
+without AttributeElement c = Push
+without AttributeBraces CloseBrace = Shift
+without AttributeBraces Dots = Shift
+without AttributeBraces c = Push
+without SelfClosing c = Shift
+without ChildTag (Infix Times) = Merge
+without ChildTag c = Shift
+without Children ChildTagMark = Begin
+without Children c = Shift
+without ChildBraces CloseBrace = Shift
+without ChildBraces Dots = Shift
+without ChildBraces c = Push
+without ClosingTag c = Shift
+without ClosingName c = Shift
+without AfterFor c = Shift
+without ForHead Semicolon = Shift
+without ForHead VarWord = Shift
+without ForHead c = if starts c then Push else Reduce
+without ForPlain c = if starts c then Push else Reduce
+without ForVars c = Push
+without ForValue c = Push
+without ForTest Semicolon = Shift
+without ForTest c = Push
+without ForUpdate CloseParen = Shift
+without ForUpdate c = Push
+without ForIn c = Push
+without ForOf c = Push
 without AfterClass NameToken = Shift
 without AfterClass ExtendsWord = Shift
 without AfterClass OpenBrace = Shift
@@ -522,6 +280,29 @@ with_operand Members c = Keep
 with_operand InMemberKey CloseBracket = Shift
 with_operand (FieldPlace variant) Semi = Shift
 with_operand DefaultValue Semi = Shift
+with_operand AttributeElement TagName = Splice
+with_operand AttributeElement OpenBrace = Splice
+with_operand AttributeElement (Infix Times) = Splice
+with_operand AttributeElement TagClose = Splice
+with_operand AttributeBraces CloseBrace = Shift
+with_operand Children c = Keep
+with_operand ChildBraces CloseBrace = Shift
+with_operand ForHead Semicolon = Shift
+with_operand ForHead (Infix Within) = Shift
+with_operand ForHead OfWord = Shift
+with_operand ForPlain Semicolon = Shift
+with_operand ForPlain OfWord = Shift
+with_operand ForVars Assigns = Splice
+with_operand ForVars Comma = Splice
+with_operand ForVars Semicolon = Splice
+with_operand ForVars (Infix Within) = Splice
+with_operand ForVars OfWord = Splice
+with_operand ForValue Comma = Shift
+with_operand ForValue Semicolon = Shift
+with_operand ForTest Semicolon = Shift
+with_operand ForUpdate CloseParen = Shift
+with_operand ForIn CloseParen = Shift
+with_operand ForOf CloseParen = Shift
 with_operand Listed Comma = Shift
 with_operand Listed c = ends nt.Expression c
 with_operand control c = Wrap
@@ -656,6 +437,29 @@ shifted_to AfterExport DefaultWord = AfterExportDefault
 shifted_to AfterExport AsyncWord = AfterExport
 shifted_to AfterExport Line = AfterExport
 shifted_to AfterExport c = Clause
+shifted_to OpenTag TagClose = Children
+shifted_to OpenTag c = InTag
+shifted_to InTag Assigns = AttributeValue
+shifted_to InTag OpenBrace = AttributeBraces
+shifted_to InTag (Infix Times) = SelfClosing
+shifted_to InTag TagClose = Children
+shifted_to AttributeValue OpenBrace = AttributeBraces
+shifted_to AttributeValue c = InTag
+shifted_to AttributeBraces CloseBrace = InTag
+shifted_to SelfClosing c = Closed JSXElement
+shifted_to ChildTag TagClose = Children
+shifted_to ChildTag (Infix Times) = ClosingTag
+shifted_to ChildTag c = InTag
+shifted_to Children ChildBraceMark = ChildBraces
+shifted_to ChildBraces CloseBrace = Children
+shifted_to ClosingTag TagClose = Closed JSXElement
+shifted_to ClosingTag c = ClosingName
+shifted_to ClosingName TagClose = Closed JSXElement
+shifted_to AfterFor OpenParen = ForHead
+shifted_to ForHead Semicolon = ForTest
+shifted_to ForHead c = ForVars
+shifted_to ForTest c = ForUpdate
+shifted_to ForUpdate c = Statement (OfLoop ForStmt)
 shifted_to AfterExportDefault FunctionWord = AfterFunction
 shifted_to AfterExportDefault c = AfterClass
 shifted_to control c = control
@@ -698,6 +502,23 @@ passed_to Heritage c = Members
 passed_to InMemberKey c = MemberKey ClassMethod
 passed_to (FieldPlace variant) c = Closed variant
 passed_to DefaultValue c = Closed Other
+passed_to AttributeElement c = shifted_to InTag c
+passed_to AttributeBraces c = InTag
+passed_to ChildBraces c = Children
+passed_to ForHead Semicolon = ForTest
+passed_to ForHead (Infix Within) = ForIn
+passed_to ForHead c = ForOf
+passed_to ForVars Assigns = ForValue
+passed_to ForVars Comma = ForVars
+passed_to ForVars Semicolon = ForTest
+passed_to ForVars (Infix Within) = ForIn
+passed_to ForVars c = ForOf
+passed_to ForValue Comma = ForVars
+passed_to ForValue c = ForTest
+passed_to ForTest c = ForUpdate
+passed_to ForUpdate c = Statement (OfLoop ForStmt)
+passed_to ForIn c = Statement (OfLoop ForInStmt)
+passed_to ForOf c = Statement (OfLoop ForOfStmt)
 passed_to control c = control
 
 abbrev pub moved : Control → Option Variant → Class → Control
@@ -721,6 +542,7 @@ started OpenParen = InParen
 started OpenBracket = Elements
 started OpenBrace = Properties
 started (First opens) = template Tpl opens
+started (Infix Less) = OpenTag
 started (Infix level) = Open OfUnary
 started Bang = Open OfUnary
 started UnaryWord = Open OfUnary
@@ -734,6 +556,7 @@ started AsyncWord = AfterAsync
 started FunctionWord = AfterFunction
 started ClassWord = AfterClass
 started ExportWord = AfterExport
+started ForWord = AfterFor
 started ReturnWord = AfterWord ReturnStmt
 started ThrowWord = AfterWord ThrowStmt
 started BreakWord = AfterWord BreakStmt
@@ -752,9 +575,10 @@ started c = Closed Other
 abbrev pub start : Token → Control
 start t = started (class t)
 
--- behind the `{` of a block, behind `import` and `async`, and behind the first token of a member
+-- behind the `{` of a block, behind `import` and `async`, behind the first token of a member, and behind the `<` of a child
 abbrev pub begun_at : Control → Class → Control
 begun_at Members c = shifted_to AtMember c
+begun_at Children c = ChildTag
 begun_at AfterExportDefault c = AsyncDefault
 begun_at control ImportWord = ImportItem
 begun_at control AsyncWord = AsyncItem

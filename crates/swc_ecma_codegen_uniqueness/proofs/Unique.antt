@@ -19,7 +19,7 @@ use Rattle.swc_ecma_codegen_syntax.specs.Derives.{Derives, DerivesExpr, part, ba
 use Rattle.swc_ecma_codegen_uniqueness.specs.ParseTrees.{Variant, ParseTree, End, Read, Optional, Node, tokens_of, settled, AreCommasAndParentheses, AreKnown}
 use Rattle.swc_ecma_codegen_uniqueness.specs.Parses.{placed, is_inlined, form_parse, expr_parse}
 use Rattle.swc_ecma_codegen_uniqueness.proofs.Classes.{CloseParen}
-use Rattle.swc_ecma_codegen_uniqueness.proofs.Tables.{InParen}
+use Rattle.swc_ecma_codegen_uniqueness.proofs.Controls.{InParen}
 use Rattle.swc_ecma_codegen_uniqueness.proofs.Machine.{Whole, Good, one_tree}
 use Rattle.swc_ecma_codegen_uniqueness.proofs.TableLaws.{ended_by, or_left, cover_taken}
 use Rattle.swc_ecma_codegen_uniqueness.proofs.Reading.{derived_parse}
@@ -59,7 +59,7 @@ expr_derived a x = derived_settled x.1 End
 pub known_before : (p : ParseTree) → AreKnown (settled p) → AreKnown p
 unfolding AreKnown settled
 known_before End k = k
-known_before (Read t p) (e, k) = (e, known_before p k)
+known_before (Read t p) k = known_before p k
 known_before (Optional t p) k = known_before p k
 known_before (Node s p q) (e, h, k) = (e, known_before p h, known_before q k)
 

@@ -1,5 +1,5 @@
 -- Parse trees: tokens, and round the tokens of each node what node it is.
-use Rattle.std.specs.Prelude.{◌≡◌, ◌⊎◌, ℕ, Bool, true, false, not, codes, List, [], ◌∷◌}
+use Rattle.std.specs.Prelude.{◌≡◌, ◌⊎◌, Bool, true, false, List, ◌∷◌}
 use Rattle.swc_ecma_codegen_tree.specs.declared.links.AnyNode.TheOpen as nodes
 use Rattle.swc_ecma_codegen_tree.specs.declared.classes.ClassMember as class_members
 use Rattle.swc_ecma_codegen_tree.specs.declared.classes.ClassMember.TheVariants as members
@@ -7,6 +7,8 @@ use Rattle.swc_ecma_codegen_tree.specs.declared.exprs.Expr.{Expr}
 use Rattle.swc_ecma_codegen_tree.specs.declared.exprs.Expr.TheVariants as exprs
 use Rattle.swc_ecma_codegen_tree.specs.declared.parts.ExprPart.{ExprPart}
 use Rattle.swc_ecma_codegen_tree.specs.declared.parts.ExprPart.TheVariants as expr_parts
+use Rattle.swc_ecma_codegen_tree.specs.declared.parts.JSXPart.{JSXPart}
+use Rattle.swc_ecma_codegen_tree.specs.declared.parts.JSXPart.TheVariants as jsx_parts
 use Rattle.swc_ecma_codegen_tree.specs.declared.parts.StmtPart.{StmtPart}
 use Rattle.swc_ecma_codegen_tree.specs.declared.parts.StmtPart.TheVariants as stmt_parts
 use Rattle.swc_ecma_codegen_tree.specs.declared.pats.AssignTarget.{AssignTarget}
@@ -23,19 +25,17 @@ use Rattle.swc_ecma_codegen_tree.specs.declared.stmts.Stmt.{Stmt}
 use Rattle.swc_ecma_codegen_tree.specs.declared.stmts.Stmt.TheVariants as stmts
 use Rattle.swc_ecma_codegen_tree.specs.declared.links.AnyNode.{AnyNode-F}
 use Rattle.swc_ecma_codegen_grammar.specs.declared.roles.Role.{Role}
-use Rattle.swc_ecma_codegen_grammar.specs.declared.roles.Role.TheVariants.{Expression, Callee, Statement, Pattern, AssignmentTarget, Member as MemberOfClass, FieldValue}
+use Rattle.swc_ecma_codegen_grammar.specs.declared.roles.Role.TheVariants.{Expression, Callee, Statement, Pattern, AssignmentTarget, Member as MemberOfClass, FieldValue, Child}
 use Rattle.swc_ecma_codegen_grammar.specs.Phrases.{comma, open_parenthesis, close_parenthesis}
-use Rattle.swc_ecma_codegen_grammar.specs.Tokens.{Token, Value, Characters}
-use Rattle.swc_ecma_codegen_grammar.specs.declared.kinds.Kind.{Kind}
-use Rattle.swc_ecma_codegen_grammar.specs.declared.kinds.Kind.TheVariants.{Word}
-use Rattle.swc_ecma_codegen_syntax.specs.NameForms.{is_one_of}
+use Rattle.swc_ecma_codegen_grammar.specs.Tokens.{Token}
 
 -- What node it is, by the name of its variant in `Expr` or `Stmt`, or of its type where a class has it. A node that no production derives is foreign, as those of
--- TypeScript. Of other nodes the laws don't speak: JSX.
+-- TypeScript. A fragment is an element without a name. Of other nodes the laws don't speak.
 pub data Variant : Type 0 where
   This Array Object Fn Unary Update Bin Assign Member SuperProp Cond Call New Seq Ident Lit Tpl TaggedTpl Arrow Yield MetaProp Await Paren PrivateName OptChain : Variant
+  JSXElement : Variant
   Class Constructor ClassMethod PrivateMethod ClassProp PrivateProp StaticBlock : Variant
-  BlockStmt EmptyStmt DebuggerStmt WithStmt ReturnStmt LabeledStmt BreakStmt ContinueStmt IfStmt SwitchStmt ThrowStmt TryStmt WhileStmt DoWhileStmt VarDecl ExprStmt : Variant
+  BlockStmt EmptyStmt DebuggerStmt WithStmt ReturnStmt LabeledStmt BreakStmt ContinueStmt IfStmt SwitchStmt ThrowStmt TryStmt WhileStmt DoWhileStmt ForStmt ForInStmt ForOfStmt VarDecl ExprStmt : Variant
   Foreign : Variant
   Other : Variant
 
@@ -73,17 +73,9 @@ unfoldable pub is_known : Variant → Bool
 is_known Other = false
 is_known variant = true
 
--- the words of statements and declarations of which the laws don't speak
-abbrev other_words : List (List ℕ)
-other_words = codes "for" ∷ []
-
-unfoldable pub is_known_kind : Kind → Value → Bool
-is_known_kind Word (Characters text) = not (is_one_of other_words text)
-is_known_kind kind value = true
-
 unfoldable pub AreKnown : ParseTree → Type 0
 AreKnown End = Unit {0}
-AreKnown (Read t rest) = (is_known_kind t.kind t.value ≡ true) × AreKnown rest
+AreKnown (Read t rest) = AreKnown rest
 AreKnown (Optional t rest) = AreKnown rest
 AreKnown (Node variant inside rest) = (is_known variant ≡ true) × AreKnown inside × AreKnown rest
 
@@ -112,8 +104,8 @@ expr_variant (exprs.Yield n) = Yield
 expr_variant (exprs.MetaProp n) = MetaProp
 expr_variant (exprs.Await n) = Await
 expr_variant (exprs.Paren n) = Paren
-expr_variant (exprs.JSXElement n) = Other
-expr_variant (exprs.JSXFragment n) = Other
+expr_variant (exprs.JSXElement n) = JSXElement
+expr_variant (exprs.JSXFragment n) = JSXElement
 expr_variant (exprs.PrivateName n) = PrivateName
 expr_variant (exprs.OptChain n) = OptChain
 expr_variant n = Foreign
@@ -165,9 +157,11 @@ stmt_variant (stmts.Throw n) = ThrowStmt
 stmt_variant (stmts.Try n) = TryStmt
 stmt_variant (stmts.While n) = WhileStmt
 stmt_variant (stmts.DoWhile n) = DoWhileStmt
+stmt_variant (stmts.For n) = ForStmt
+stmt_variant (stmts.ForIn n) = ForInStmt
+stmt_variant (stmts.ForOf n) = ForOfStmt
 stmt_variant (stmts.Decl n) = decl_variant n
 stmt_variant (stmts.Expr n) = ExprStmt
-stmt_variant n = Other
 
 -- a member of a class
 unfoldable pub member_variant : {X : Type 0} → class_members.ClassMember X → Variant
@@ -195,6 +189,12 @@ unfoldable pub element_variant : {X : Type 0} → StmtPart X → Variant
 element_variant (stmt_parts.ClassMember n) = member_variant n.value
 element_variant n = Other
 
+-- an element between tags
+unfoldable pub child_variant : {X : Type 0} → JSXPart X → Variant
+child_variant (jsx_parts.JSXElement n) = JSXElement
+child_variant (jsx_parts.JSXFragment n) = JSXElement
+child_variant n = Other
+
 unfoldable pub node_variant : {X : Type 0} → AnyNode-F X → Role → Variant
 node_variant (nodes.Expr n) Expression = expr_variant n
 node_variant (nodes.Expr n) Callee = expr_variant n
@@ -202,4 +202,5 @@ node_variant (nodes.Expr n) FieldValue = field_variant n
 node_variant (nodes.ExprPart n) role = part_variant n role
 node_variant (nodes.Stmt n) Statement = stmt_variant n
 node_variant (nodes.StmtPart n) MemberOfClass = element_variant n
+node_variant (nodes.JSXPart n) Child = child_variant n
 node_variant n role = Other

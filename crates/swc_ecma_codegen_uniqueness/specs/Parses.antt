@@ -18,7 +18,7 @@ use Rattle.swc_ecma_codegen_grammar.specs.Settings.{Settings}
 use Rattle.swc_ecma_codegen_grammar.specs.Tokens.{Token}
 use Rattle.swc_ecma_codegen_grammar.specs.Tokens as tokens
 use Rattle.swc_ecma_codegen_grammar.specs.declared.roles.Role.{Role}
-use Rattle.swc_ecma_codegen_grammar.specs.declared.roles.Role.TheVariants.{Expression, Pattern, Statement, Block, Function, FunctionHead, MethodHead, MethodDecorators, MethodTail, AccessorTail, ClassHead, ClassWord, ClassTail, ModuleDeclaration, ExportedHead, ExportedTail, PropertyName, ChainMember, ChainCall, Template, TaggedTemplate}
+use Rattle.swc_ecma_codegen_grammar.specs.declared.roles.Role.TheVariants.{Expression, Pattern, Statement, Block, Function, FunctionHead, MethodHead, MethodDecorators, MethodTail, AccessorTail, ClassHead, ClassWord, ClassTail, ModuleDeclaration, ExportedHead, ExportedTail, VariableDeclaration, Element, TagObject, PropertyName, ChainMember, ChainCall, Template, TaggedTemplate}
 use Rattle.swc_ecma_codegen_syntax.specs.declared.parameters.Parameters.{Parameters}
 use Rattle.swc_ecma_codegen_syntax.specs.Parameters.{before}
 use Rattle.swc_ecma_codegen_syntax.specs.Forms.{Form, Fixed, Part, Simple, Restricted, Lone, Both, Provided, Closed, Bare, Followed, role_in}
@@ -55,7 +55,8 @@ is_inlined_pattern (nodes.ExprPart (expr_parts.Pat n)) = is_inlined_pat n
 is_inlined_pattern n = false
 
 -- They are parts of the node above them, and no nodes of their own; so are a template, a link of an optional chain, a block, a key, a function without
--- its name, a class without its own, an item of a module, and a declaration that is exported.
+-- its name, a class without its own, an item of a module, a declaration that is exported or
+-- stands in the head of a `for`, an element of JSX that isn't between tags, and a part of a tag's name.
 unfoldable pub is_inlined : {X : Type 0} → Role → AnyNode-F X → Bool
 is_inlined (ChainMember optional) n = true
 is_inlined (ChainCall optional) n = true
@@ -75,6 +76,9 @@ is_inlined ClassTail n = true
 is_inlined ModuleDeclaration n = true
 is_inlined ExportedHead n = true
 is_inlined ExportedTail n = true
+is_inlined VariableDeclaration n = true
+is_inlined Element n = true
+is_inlined TagObject n = true
 is_inlined PropertyName n = true
 is_inlined role n = false
 

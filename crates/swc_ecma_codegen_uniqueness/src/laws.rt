@@ -40,7 +40,7 @@ pub fn parse_trees_have_their_tokens()
 ///
 /// `a + b * c` isn't read as the product of `a + b` and `c`, `new a().b` not as `new (a().b)`, `a?.b.c` not as a member of
 /// `(a?.b)`, `(a, b) => c` not as a sequence, and `else` goes with the `if` next before it. A pattern has the parse tree of the
-/// expression that covers it. Of JSX, `for` and a field whose value is a sequence (`a = (b, c);` of a class) nothing is said:
+/// expression that covers it. Of a field whose value is a sequence (`a = (b, c);` of a class) nothing is said:
 /// `AreKnown` leaves out trees that hold one. Words of the grammar and names are different tokens here: the word `yield` isn't the
 /// name `yield`.
 /// ECMA-262, sections 13 to 15.
@@ -69,8 +69,8 @@ pub fn kept_trees_are_told()
 ///
 /// `if (a) if (b) c; else d;` isn't read with `else` of the first `if`, nor `a` and `++b;` as `a++` and `b;`: `[no LineTerminator
 /// here]` is a token. So whoever reads the tokens by the grammar gets the program that they were printed of, if it holds nothing
-/// that `AreKnown` leaves out: JSX, `for`, fields whose value is a sequence. An item of a module has no node of its own in it, nor has
-/// a declaration that is exported. ECMA-262, section 16.
+/// that `AreKnown` leaves out: a field whose value is a sequence. An item of a module has no node of its own in it, nor has a declaration
+/// that is exported or stands in the head of a `for`, or an element of JSX that isn't between tags. ECMA-262, section 16.
 #[tactic(auto, using(crate::proofs::Programs::one_program))]
 pub fn tokens_tell_the_program()
     ensures { (s t : Settings) (a b : Program AnyNode) (ts : List Token)
