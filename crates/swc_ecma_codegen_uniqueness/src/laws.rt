@@ -87,7 +87,8 @@ pub fn kept_programs_are_told()
         → holds true (program_verdict a) ≡ true → holds true (program_verdict b) ≡ true
         → Generates s (bare_phrase (program_phrase a)) ts
         → Generates t (bare_phrase (program_phrase b)) ts
-        → AreKnown (program_parse s a) → AreKnown (program_parse t b)
+        → AreKnown (program_parse s a)
+        → AreKnown (program_parse t b)
         → program_parse s a ≡ program_parse t b }
 {}
 
