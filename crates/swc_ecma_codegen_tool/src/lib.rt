@@ -37,9 +37,8 @@ use swc_ecma_codegen_json::{Tree, program_from_slice};
 /// On a fault `err` gets one line, and `out` nothing, save what it took before a fault of its own. The status is 2 for
 /// wrong words, else 1: `cannot read` for a failed read and for bytes that aren't UTF-8, `bad tree` for what is no
 /// program's JSON, `not well-formed` for a program that isn't, and `refused: ` and a reason for an emission that is refused, for
-/// want of memory, and for a fault of `out`, an interruption too (`refused: writer`). Faults are found in this order; those that a
-/// program finds in a tree which is well-formed come before the refusals, as `not a derivation` of `ecmafix`. A fault of `err`
-/// changes no status.
+/// want of memory, and for a fault of `out`, an interruption too (`refused: writer`). Faults are found in this order; what a
+/// program of its own finds in a tree that is well-formed comes before the refusals. A fault of `err` changes no status.
 pub fn run<T: Tool, R: Read, O: Write, E: Write>(
     alloc: Global,
     words: &[String],
