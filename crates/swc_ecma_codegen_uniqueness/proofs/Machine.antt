@@ -242,12 +242,22 @@ goes_on Begin = true
 goes_on Enter = true
 goes_on a = false
 
--- A token begins the node, wherever one of its nonterminal stands: `-` of `-a`. An operand and the token behind it do: `a` and `+` of `a + b`.
--- A token is taken: `b` of `a.b`. A part is read, and the token behind it is taken: `b` and `)` of `a(b)`. Nothing is left, and the node ends
--- before each token that ends it. A part is left, and before each token that ends the node the part ends, and the node: `b` of `a + b`.
--- The token behind these two tells that they were otherwise: `=>` of `(a, b) => c`; `]` of `[a,] = b`, behind a part or not. What is of one
--- nonterminal is of another that derives it. `{` begins a block, and `static` a member of a class. An expression and `;` are a statement, and `a:` begins one, whose first token begins the
--- expression; so does that of the value of an arrow function. A part has no node of its own: a parameter before `,`, an item before the next one or `}`. An item behind `case a:` has one.
+-- A tree that the machine reads as it is: at each of its places one thing alone is to be done.
+-- `headed`: a token begins the node, wherever one of its nonterminal stands: `-` of `-a`.
+-- `wrapped`: an operand and the token behind it begin it: `a` and `+` of `a + b`.
+-- `shifted`: a token is taken: `b` of `a.b`.
+-- `inner`: a part is read, and the token behind it is taken: `b` and `)` of `a(b)`.
+-- `closed`: nothing is left, and the node ends before each token that ends it.
+-- `last`: a part is left. Before each token that ends the node the part ends, and then the node: `b` of `a + b`.
+-- `wrapped_turned`, `inner_turned`, `shifted_turned`: the next token tells that what was read is otherwise: `=>` of `(a, b) => c`, `]` of `[a,] = b`.
+-- `headed_block`: a token begins a node of a list: `{` a block, `static` a member of a class.
+-- `stated`: an expression and the token behind it begin a statement: `a` and `;`, `a` and `:`. The expression is read in the place that it enters.
+-- `entering`: what is left is read as in the place that it enters: the value of an arrow function.
+-- `merged_two`, `merged`: the second or the third token tells that what was begun is no node: `/` of `</a>`, `function` of `async function () {}`.
+-- `splicing`, `taking`: a part has no node of its own: a parameter before `,`, an item before the next one or `}`.
+-- `keeping`: a part is a node in a list, before the next one: a member of a class, an item behind `case a:`.
+-- `heading`: an expression in the head of a `for` has no `in` along its left edge: `a` of `for (a in b)`.
+-- `raised`: what is of one nonterminal is of another that derives it.
 pub data Good : Mode → ParseTree → Type 0 where
   headed : {variant : Variant} {n : Nonterminal} {t : Token} {m : ParseTree} → ((c : Control) → stands c n ≡ true → decide c None t ≡ Push) →
       Good (Rest (start t) variant n) m → Good (Whole variant n) (Read t m)
