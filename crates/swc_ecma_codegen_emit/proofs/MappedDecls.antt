@@ -18,10 +18,8 @@ use Rattle.swc_ecma_codegen_grammar.proofs.MappedStmts.{by_init}
 use Rattle.swc_ecma_codegen_tokens.specs.Lists.{ListChild, list}
 use Rattle.swc_ecma_codegen_tokens.specs.Run.{Plan, Part}
 use Rattle.swc_ecma_codegen_tokens.specs.Words.{keyword, semi, space, commit_pending_semi, start_of, leading_comments}
-use Rattle.swc_ecma_codegen_emit.specs.declared.nodes.Context.TheVariants.{Plain}
 use Rattle.swc_ecma_codegen_emit.specs.declared.nodes.Place.{Place}
-use Rattle.swc_ecma_codegen_emit.specs.declared.nodes.Place.TheVariants.{Whole}
-use Rattle.swc_ecma_codegen_emit.specs.Places.{context_of}
+use Rattle.swc_ecma_codegen_emit.specs.declared.nodes.Place.TheVariants.{Plain}
 use Rattle.swc_ecma_codegen_emit.specs.Answers.{Answers, place_of}
 use Rattle.swc_ecma_codegen_emit.specs.Decls.{declarators_format, fn_decl, var_declarator, declarator_place, var_kind, is_unmarked, first_is_unmarked, var_decl, await_word, using_decl, decl_end, by_export, without_head, exported_class, variables, resources, decl}
 use Rattle.swc_ecma_codegen_emit.specs.Classes.{class_decl}
@@ -56,9 +54,9 @@ definite_mapped g asks items id (Some t) rest = refl
 
 pub declared_pat_mapped : {X Y : Type 0} (g : X → Y) (asks : Y → Answers) (items : Y → Place → Part) (definite : Bool) (n : Pat X) (rest : Plan) → declared_in asks items definite (map-AnyNode X Y g (nodes.ExprPart (expr_parts.Pat n))) rest ≡ declared_pat (λ x. asks (g x)) (λ x. items (g x)) definite n rest
 unfolding node_items expr_part declared_pat definite_pat
-declared_pat_mapped g asks items false n rest = pat_mapped g asks items n (Whole Plain) rest
+declared_pat_mapped g asks items false n rest = pat_mapped g asks items n Plain rest
 declared_pat_mapped g asks items true (pats.Ident n) rest = definite_mapped g asks items n.id n.type_ann rest
-declared_pat_mapped g asks items true n rest = pat_mapped g asks items n (Whole Plain) rest
+declared_pat_mapped g asks items true n rest = pat_mapped g asks items n Plain rest
 
 first_mapped : {X Y : Type 0} (g : VarDeclarator X → VarDeclarator Y) → ((n : VarDeclarator X) → pat_kind (g n).name ≡ pat_kind n.name) → (ns : List (VarDeclarator X)) → first_is_unmarked (map g ns) ≡ first_is_unmarked ns
 unfolding first_is_unmarked
@@ -82,7 +80,7 @@ without_head_same place p q h rest = ap (λ z. without_head place z rest) (λ i.
 pub decl_mapped : {X Y : Type 0} (g : X → Y) (asks : Y → Answers) (items : Y → Place → Part) (n : Decl X) (place : Place) (rest : Plan) → node_items asks items (map-AnyNode X Y g (nodes.StmtPart (stmt_parts.Decl n))) place rest ≡ decl (λ x. asks (g x)) (λ x. items (g x)) n place rest
 unfolding node_items expr_part stmt_part decl without_head by_export variables resources exported_class class_decl fn_decl using_decl var_declarator initializer
 decl_mapped g asks items (decls.Fn n) place rest = refl
-decl_mapped g asks items (decls.Var n) place rest = without_head_same place _ _ (λ after. var_decl_mapped g asks items n place (semi (decl_end (context_of place) n.span after))) rest
+decl_mapped g asks items (decls.Var n) place rest = without_head_same place _ _ (λ after. var_decl_mapped g asks items n place (semi (decl_end place n.span after))) rest
 decl_mapped {X} g asks items (decls.Using n) place rest = without_head_same place _ _ (λ after. ap (λ z. leading_comments n.span.lo (await_word n.is_await (keyword None (codes "using") (space z))))
     (children_mapped {A = VarDeclarator X} _ _ _ (by_init {X = X} _ (λ span name definite. declarator_same span _ (declared_pat (λ x. asks (g x)) (λ x. items (g x)) definite name) (λ after. after) (declared_pat_mapped g asks items definite name)) (λ span name init definite. declarator_same span _ (declared_pat (λ x. asks (g x)) (λ x. items (g x)) definite name) (initializer (λ x. items (g x)) (Some init)) (declared_pat_mapped g asks items definite name))) declarators_format n.span n.decls.items (semi after))) rest
 decl_mapped g asks items (decls.TsInterface n) place rest = without_head_same place _ _ (λ after. interface_mapped g asks items n after) rest

@@ -5,11 +5,10 @@ ghost use Rattle.swc_ecma_codegen_grammar.specs.FunctionPhrases.{is_some_listed}
 ghost use Rattle.swc_ecma_codegen_tokens.specs.Lists.{list};
 ghost use Rattle.swc_ecma_codegen_emit.specs.Standing.{Performs};
 ghost use Rattle.swc_ecma_codegen_emit.specs.Blocks.{block_format, flat_block_format, block_children, block_list, block_lines, block_start, block_stmt};
-ghost use Rattle.swc_ecma_codegen_emit.specs.Places.{in_context};
 
 use crate::commented::wants_lines;
 use crate::emitter::Emitter;
-use crate::nodes::{Context, EmitAt, LinkTarget, Place};
+use crate::nodes::{EmitAt, LinkTarget, Place};
 use bitflags::Flags;
 use swc_ecma_codegen_common::Span;
 use swc_ecma_codegen_grammar::ListFormat;
@@ -58,7 +57,7 @@ pub(crate) fn is_some_listed<T>(nodes: &[T]) -> bool
 }
 
 impl<N: LinkTarget> EmitAt for BlockStmt<N> {
-    ghost items = { λ n. in_context (block_stmt N.answers N.items n) };
+    ghost items = { block_stmt N.answers N.items };
 
     #[tactic(auto, unfolding(crate::specs::Blocks::block_stmt))]
     fn emit_at<W: WriteJs, S: SourceMapper, C: Comments>(
@@ -67,7 +66,7 @@ impl<N: LinkTarget> EmitAt for BlockStmt<N> {
         place: Place,
     ) {
         e.leading_comments(self.span.lo);
-        e.block_start(place.context(), self.span);
+        e.block_start(place, self.span);
         e.punct(Punctuator::LeftBrace);
         e.block_lines(self);
         e.comments_before_end(self.span.hi);
@@ -79,12 +78,11 @@ impl<N: LinkTarget> EmitAt for BlockStmt<N> {
 impl<W: WriteJs, S: SourceMapper, C: Comments> Emitter<'_, W, S, C> {
     /// Records the start of a block, unless it is a body.
     #[tactic(auto, unfolding(crate::specs::Blocks::block_start))]
-    fn block_start(&mut self, context: Context, span: Span)
-        ensures items { Performs (block_start context span)
-            S.lines C.maps W.sheet self.old self.new }
+    fn block_start(&mut self, place: Place, span: Span)
+        ensures items { Performs (block_start place span) S.lines C.maps W.sheet self.old self.new }
     {
-        match context {
-            Context::Body => {}
+        match place {
+            Place::Body => {}
             _ => self.start_of(span),
         }
     }

@@ -3,10 +3,9 @@
 ghost use Rattle.std.specs.Prelude.{◌≡◌};
 ghost use Rattle.swc_ecma_codegen_emit.specs.Standing.{Performs};
 ghost use Rattle.swc_ecma_codegen_emit.specs.Exprs.{member, member_prop, member_at, object_place, chain_mark, chain_prop, chain_member, opt_chain, super_prop, super_prop_expr};
-ghost use Rattle.swc_ecma_codegen_emit.specs.Places.{in_context};
 
 use crate::emitter::Emitter;
-use crate::nodes::{Context, EmitAt, LinkTarget, Place};
+use crate::nodes::{EmitAt, LinkTarget, Place};
 use swc_ecma_codegen_grammar::comments::Comments;
 use swc_ecma_codegen_grammar::mapper::SourceMapper;
 use swc_ecma_codegen_literals::Punctuator;
@@ -17,13 +16,13 @@ use swc_ecma_codegen_tree::{
 
 /// The place of the object before a property.
 #[tactic(auto, unfolding(crate::specs::Exprs::object_place))]
-fn object_place<N>(prop: &MemberProp<N>) -> Context
+fn object_place<N>(prop: &MemberProp<N>) -> Place
     ensures { result ≡ object_place prop.now }
 {
     match prop {
-        MemberProp::Ident(name) => Context::DottedObject(name.span.lo),
-        MemberProp::PrivateName(name) => Context::DottedObject(name.span.lo),
-        MemberProp::Computed(_) => Context::Object,
+        MemberProp::Ident(name) => Place::DottedObject(name.span.lo),
+        MemberProp::PrivateName(name) => Place::DottedObject(name.span.lo),
+        MemberProp::Computed(_) => Place::Object,
     }
 }
 
@@ -38,14 +37,14 @@ impl<N: LinkTarget> EmitAt for OptChainExpr<N> {
     ) {
         e.leading_comments(self.span.lo);
         match &self.base {
-            OptChainBase::Member(node) => node.target().emit_in(e, Context::Chain(self.optional)),
-            OptChainBase::Call(node) => node.target().emit_in(e, Context::Chain(self.optional)),
+            OptChainBase::Member(node) => node.target().emit_at(e, Place::Chain(self.optional)),
+            OptChainBase::Call(node) => node.target().emit_at(e, Place::Chain(self.optional)),
         }
     }
 }
 
 impl<N: LinkTarget> EmitAt for MemberExpr<N> {
-    ghost items = { λ n. in_context (member_at N.items n) };
+    ghost items = { member_at N.items };
 
     #[inline(never)]
     #[tactic(auto, unfolding(crate::specs::Exprs::member_at, crate::specs::Exprs::member))]
@@ -54,11 +53,11 @@ impl<N: LinkTarget> EmitAt for MemberExpr<N> {
         e: &mut Emitter<'_, W, S, C>,
         place: Place,
     ) {
-        if let Place::Whole(Context::Chain(optional)) = place {
+        if let Place::Chain(optional) = place {
             return e.chain_member(self, optional);
         }
         e.opened(self.span);
-        self.obj.target().emit_in(e, object_place(&self.prop));
+        self.obj.target().emit_at(e, object_place(&self.prop));
         e.member_prop(&self.prop);
         e.end_of(self.span);
     }
@@ -74,7 +73,7 @@ impl<N: LinkTarget> EmitAt for SuperPropExpr<N> {
         place: Place,
     ) {
         e.opened(self.span);
-        self.obj.emit_in(e, Context::Plain);
+        self.obj.emit_at(e, Place::Plain);
         e.super_prop(&self.prop);
     }
 }
@@ -90,13 +89,13 @@ impl<W: WriteJs, S: SourceMapper, C: Comments> Emitter<'_, W, S, C> {
             MemberProp::Ident(name) => {
                 self.comments_before(name.span.lo);
                 self.punct(Punctuator::Dot);
-                name.emit_in(self, Context::Plain)
+                name.emit_at(self, Place::Plain)
             }
-            MemberProp::Computed(name) => name.emit_in(self, Context::Plain),
+            MemberProp::Computed(name) => name.emit_at(self, Place::Plain),
             MemberProp::PrivateName(name) => {
                 self.comments_before(name.span.lo);
                 self.punct(Punctuator::Dot);
-                name.emit_in(self, Context::Plain)
+                name.emit_at(self, Place::Plain)
             }
         }
     }
@@ -111,9 +110,9 @@ impl<W: WriteJs, S: SourceMapper, C: Comments> Emitter<'_, W, S, C> {
             SuperProp::Ident(name) => {
                 self.comments_before(name.span.lo);
                 self.punct(Punctuator::Dot);
-                name.emit_in(self, Context::Plain)
+                name.emit_at(self, Place::Plain)
             }
-            SuperProp::Computed(name) => name.emit_in(self, Context::Plain),
+            SuperProp::Computed(name) => name.emit_at(self, Place::Plain),
         }
     }
 
@@ -123,7 +122,7 @@ impl<W: WriteJs, S: SourceMapper, C: Comments> Emitter<'_, W, S, C> {
         ensures items { Performs (chain_member N.items optional node.now)
             S.lines C.maps W.sheet self.old self.new }
     {
-        node.obj.target().emit_in(self, Context::Callee);
+        node.obj.target().emit_at(self, Place::Callee);
         self.chain_mark(optional, &node.prop);
         self.chain_prop(&node.prop);
     }
@@ -148,9 +147,9 @@ impl<W: WriteJs, S: SourceMapper, C: Comments> Emitter<'_, W, S, C> {
             S.lines C.maps W.sheet self.old self.new }
     {
         match prop {
-            MemberProp::Ident(name) => name.emit_in(self, Context::Plain),
-            MemberProp::Computed(name) => name.emit_in(self, Context::Plain),
-            MemberProp::PrivateName(name) => name.emit_in(self, Context::Plain),
+            MemberProp::Ident(name) => name.emit_at(self, Place::Plain),
+            MemberProp::Computed(name) => name.emit_at(self, Place::Plain),
+            MemberProp::PrivateName(name) => name.emit_at(self, Place::Plain),
         }
     }
 }

@@ -9,7 +9,7 @@ ghost use Rattle.swc_ecma_codegen_emit.specs.Classes.{class_members_format, heri
 
 use crate::emitter::Emitter;
 use crate::functions::comma_list_format;
-use crate::nodes::{Asked, Child, Context, EmitAt, LinkTarget, Piece, Place};
+use crate::nodes::{Asked, Child, EmitAt, LinkTarget, Place};
 use swc_ecma_codegen_common::Span;
 use swc_ecma_codegen_grammar::ListFormat;
 use swc_ecma_codegen_grammar::comments::Comments;
@@ -63,11 +63,11 @@ impl<N: LinkTarget> EmitAt for ClassDecl<N> {
         e.leading_comments(span.lo);
         e.start_of(span);
         e.declare_word(self.declare);
-        self.class.target().emit_piece(e, Piece::ClassHead);
-        self.class.target().emit_piece(e, Piece::ClassWord);
+        self.class.target().emit_at(e, Place::ClassHead);
+        self.class.target().emit_at(e, Place::ClassWord);
         e.space();
-        self.ident.emit_in(e, Context::Plain);
-        self.class.target().emit_in(e, Context::Plain);
+        self.ident.emit_at(e, Place::Plain);
+        self.class.target().emit_at(e, Place::Plain);
     }
 }
 
@@ -83,10 +83,10 @@ impl<N: LinkTarget> EmitAt for ClassExpr<N> {
         let span = self.class.target().place();
         e.leading_comments(span.lo);
         e.start_of(span);
-        self.class.target().emit_piece(e, Piece::ClassHead);
-        self.class.target().emit_piece(e, Piece::ClassWord);
+        self.class.target().emit_at(e, Place::ClassHead);
+        self.class.target().emit_at(e, Place::ClassWord);
         e.optional_name(&self.ident);
-        self.class.target().emit_in(e, Context::Plain);
+        self.class.target().emit_at(e, Place::Plain);
     }
 }
 
@@ -100,8 +100,8 @@ impl<N: LinkTarget> EmitAt for Class<N> {
         place: Place,
     ) {
         match place {
-            Place::Only(Piece::ClassHead) => e.decorator_lines(&self.decorators),
-            Place::Only(Piece::ClassWord) => e.class_word(self),
+            Place::ClassHead => e.decorator_lines(&self.decorators),
+            Place::ClassWord => e.class_word(self),
             _ => e.class_trailing(self),
         }
     }
@@ -117,14 +117,14 @@ impl<N: LinkTarget> EmitAt for ClassMember<N> {
         place: Place,
     ) {
         match self {
-            ClassMember::Constructor(node) => node.emit_in(e, Context::Plain),
-            ClassMember::Method(node) => node.emit_in(e, Context::Plain),
-            ClassMember::PrivateMethod(node) => node.emit_in(e, Context::Plain),
-            ClassMember::ClassProp(node) => node.emit_in(e, Context::Plain),
-            ClassMember::PrivateProp(node) => node.emit_in(e, Context::Plain),
+            ClassMember::Constructor(node) => node.emit_at(e, Place::Plain),
+            ClassMember::Method(node) => node.emit_at(e, Place::Plain),
+            ClassMember::PrivateMethod(node) => node.emit_at(e, Place::Plain),
+            ClassMember::ClassProp(node) => node.emit_at(e, Place::Plain),
+            ClassMember::PrivateProp(node) => node.emit_at(e, Place::Plain),
             ClassMember::Empty(node) => e.empty_member(node),
-            ClassMember::StaticBlock(node) => node.emit_in(e, Context::Plain),
-            ClassMember::AutoAccessor(node) => node.emit_in(e, Context::Plain),
+            ClassMember::StaticBlock(node) => node.emit_at(e, Place::Plain),
+            ClassMember::AutoAccessor(node) => node.emit_at(e, Place::Plain),
             ClassMember::TsIndexSignature(node) => e.index_member(node),
         }
     }
@@ -141,9 +141,7 @@ impl<N: LinkTarget> EmitAt for PrivateMethod<N> {
     ) {
         e.leading_comments(self.span.lo);
         e.start_of(self.span);
-        self.function
-            .target()
-            .emit_piece(e, Piece::MethodDecorators);
+        self.function.target().emit_at(e, Place::MethodDecorators);
         e.accessibility_word(self.accessibility);
         e.private_words(self);
         e.private_kind(self);
@@ -163,9 +161,7 @@ impl<N: LinkTarget> EmitAt for ClassMethod<N> {
         e.leading_comments(self.span.lo);
         e.leading_comments(self.key.target().place().lo);
         e.start_of(self.span);
-        self.function
-            .target()
-            .emit_piece(e, Piece::MethodDecorators);
+        self.function.target().emit_at(e, Place::MethodDecorators);
         e.accessibility_word(self.accessibility);
         e.method_kind(self);
         e.method_rest(self);
@@ -199,8 +195,8 @@ impl<N: LinkTarget> EmitAt for ParamOrTsParamProp<N> {
         place: Place,
     ) {
         match self {
-            ParamOrTsParamProp::Param(node) => node.emit_in(e, Context::Plain),
-            ParamOrTsParamProp::TsParamProp(node) => node.emit_in(e, Context::Plain),
+            ParamOrTsParamProp::Param(node) => node.emit_at(e, Place::Plain),
+            ParamOrTsParamProp::TsParamProp(node) => node.emit_at(e, Place::Plain),
         }
     }
 }
@@ -219,7 +215,7 @@ impl<N: LinkTarget> EmitAt for TsParamProp<N> {
         e.decorator_lines(&self.decorators);
         e.word_before(self.is_override, "override");
         e.word_before(self.readonly, "readonly");
-        self.param.emit_in(e, Context::Plain);
+        self.param.emit_at(e, Place::Plain);
     }
 }
 
@@ -235,11 +231,11 @@ impl<N: LinkTarget> EmitAt for TsParamPropParam<N> {
         match self {
             TsParamPropParam::Ident(node) => {
                 e.leading_comments(node.id.span.lo);
-                node.emit_in(e, Context::Plain)
+                node.emit_at(e, Place::Plain)
             }
             TsParamPropParam::Assign(node) => {
                 e.leading_comments(node.span.lo);
-                node.emit_in(e, Context::Plain)
+                node.emit_at(e, Place::Plain)
             }
         }
     }
@@ -269,7 +265,7 @@ impl<N: LinkTarget> EmitAt for StaticBlock<N> {
         e.leading_comments(self.span.lo);
         e.start_of(self.span);
         e.keyword(None, "static");
-        self.body.target().emit_in(e, Context::Plain);
+        self.body.target().emit_at(e, Place::Plain);
         e.end_of(self.span);
     }
 }
@@ -356,8 +352,8 @@ impl<W: WriteJs, S: SourceMapper, C: Comments> Emitter<'_, W, S, C> {
                 self.space();
                 self.keyword(None, "extends");
                 self.blank(super_class.target().starts());
-                super_class.target().emit_in(self, Context::Plain);
-                self.type_args(Context::Plain, args)
+                super_class.target().emit_at(self, Place::Plain);
+                self.type_args(Place::Plain, args)
             }
             None => {}
         }
@@ -420,7 +416,7 @@ impl<W: WriteJs, S: SourceMapper, C: Comments> Emitter<'_, W, S, C> {
         ensures items { Performs (index_member N.answers N.items node.now)
             S.lines C.maps W.sheet self.old self.new }
     {
-        node.emit_in(self, Context::Plain);
+        node.emit_at(self, Place::Plain);
         self.semi();
     }
 
@@ -483,12 +479,12 @@ impl<W: WriteJs, S: SourceMapper, C: Comments> Emitter<'_, W, S, C> {
         if node.is_abstract || node.is_override {
             self.space();
             self.method_modifiers(node.is_abstract, node.is_override);
-            return node.function.target().emit_piece(self, Piece::MethodHead);
+            return node.function.target().emit_at(self, Place::MethodHead);
         }
         let starts = node.key.target().starts();
         node.function
             .target()
-            .emit_piece(self, Piece::StaticHead(starts));
+            .emit_at(self, Place::StaticHead(starts));
     }
 
     /// Writes `static abstract override async *` of a method.
@@ -502,7 +498,7 @@ impl<W: WriteJs, S: SourceMapper, C: Comments> Emitter<'_, W, S, C> {
             return self.static_method(node);
         }
         self.method_modifiers(node.is_abstract, node.is_override);
-        node.function.target().emit_piece(self, Piece::MethodHead);
+        node.function.target().emit_at(self, Place::MethodHead);
     }
 
     /// Writes `static abstract override ` of a getter or a setter.
@@ -521,9 +517,9 @@ impl<W: WriteJs, S: SourceMapper, C: Comments> Emitter<'_, W, S, C> {
         ensures items { Performs (method_rest N.items node.now)
             S.lines C.maps W.sheet self.old self.new }
     {
-        node.key.target().emit_in(self, Context::Plain);
+        node.key.target().emit_at(self, Place::Plain);
         self.question(node.is_optional);
-        node.function.target().emit_piece(self, Piece::MethodTail);
+        node.function.target().emit_at(self, Place::MethodTail);
     }
 
     /// Writes what stands between the accessibility of a method and its key.
@@ -560,11 +556,9 @@ impl<W: WriteJs, S: SourceMapper, C: Comments> Emitter<'_, W, S, C> {
         ensures items { Performs (private_rest N.items node.now)
             S.lines C.maps W.sheet self.old self.new }
     {
-        node.key.emit_in(self, Context::Plain);
+        node.key.emit_at(self, Place::Plain);
         self.question(node.is_optional);
-        node.function
-            .target()
-            .emit_piece(self, Piece::DeclarationTail);
+        node.function.target().emit_at(self, Place::DeclarationTail);
     }
 
     /// Writes what stands between the modifiers of a private method and its name.
@@ -574,7 +568,7 @@ impl<W: WriteJs, S: SourceMapper, C: Comments> Emitter<'_, W, S, C> {
             S.lines C.maps W.sheet self.old self.new }
     {
         match node.kind {
-            MethodKind::Method => node.function.target().emit_piece(self, Piece::MethodHead),
+            MethodKind::Method => node.function.target().emit_at(self, Place::MethodHead),
             MethodKind::Getter => self.getter_word(true),
             MethodKind::Setter => self.setter_word(true),
         }
@@ -587,7 +581,7 @@ impl<W: WriteJs, S: SourceMapper, C: Comments> Emitter<'_, W, S, C> {
             S.lines C.maps W.sheet self.old self.new }
     {
         match body {
-            Some(body) => body.target().emit_in(self, Context::Plain),
+            Some(body) => body.target().emit_at(self, Place::Plain),
             None => self.semi(),
         }
     }

@@ -3,14 +3,12 @@
 ghost use Rattle.std.specs.Prelude.{◌≡◌};
 ghost use Rattle.swc_ecma_codegen_emit.specs.Standing.{Performs};
 ghost use Rattle.swc_ecma_codegen_emit.specs.Decls.{declarators_format, fn_decl, var_declarator, declarators, var_kind, is_unmarked, first_is_unmarked, var_decl, await_word, using_decl, decl_end, by_export, without_head, exported_class, variables, resources, decl};
-ghost use Rattle.swc_ecma_codegen_emit.specs.declared.nodes.Piece.TheVariants.{ClassHead};
-ghost use Rattle.swc_ecma_codegen_emit.specs.declared.nodes.Place.TheVariants.{Only};
-ghost use Rattle.swc_ecma_codegen_emit.specs.Places.{context_of};
+ghost use Rattle.swc_ecma_codegen_emit.specs.declared.nodes.Place.TheVariants.{ClassHead};
 ghost use Rattle.swc_ecma_codegen_emit.specs.Classes.{class_decl};
 ghost use Rattle.swc_ecma_codegen_emit.specs.TsDecls.{ts_interface_decl, ts_type_alias_decl, ts_enum_decl, ts_module_decl};
 
 use crate::emitter::Emitter;
-use crate::nodes::{Child, Context, EmitAt, LinkTarget, Piece, Place};
+use crate::nodes::{Child, EmitAt, LinkTarget, Place};
 use crate::patterns::{PatternKind, kind_of_pat};
 use swc_ecma_codegen_common::Span;
 use swc_ecma_codegen_grammar::ListFormat;
@@ -104,9 +102,9 @@ impl<N: LinkTarget> EmitAt for FnDecl<N> {
         e.commit_pending_semi();
         e.start_of(span);
         e.declare_word(self.declare);
-        self.function.target().emit_piece(e, Piece::DeclarationHead);
-        self.ident.emit_in(e, Context::Plain);
-        self.function.target().emit_piece(e, Piece::DeclarationTail);
+        self.function.target().emit_at(e, Place::DeclarationHead);
+        self.ident.emit_at(e, Place::Plain);
+        self.function.target().emit_at(e, Place::DeclarationTail);
     }
 }
 
@@ -187,18 +185,14 @@ impl<W: WriteJs, S: SourceMapper, C: Comments> Emitter<'_, W, S, C> {
     /// Writes a class, or what of it stands before or after `export`.
     #[tactic(auto, unfolding(crate::specs::Decls::by_export))]
     fn class_by_place<N: LinkTarget>(&mut self, node: &ClassDecl<N>, place: Place)
-        ensures items { Performs (by_export place
-            (N.items node.now.class.node.value (Only ClassHead))
+        ensures items { Performs (by_export place (N.items node.now.class.node.value ClassHead)
             (exported_class N.answers N.items node.now) (class_decl N.answers N.items node.now))
             S.lines C.maps W.sheet self.old self.new }
     {
         match place {
-            Place::Only(Piece::ExportedHead) => node
-                .class
-                .target()
-                .emit_piece(self, Piece::ClassHead),
-            Place::Only(Piece::ExportedTail) => self.exported_class(node),
-            _ => node.emit_in(self, Context::Plain),
+            Place::ExportedHead => node.class.target().emit_at(self, Place::ClassHead),
+            Place::ExportedTail => self.exported_class(node),
+            _ => node.emit_at(self, Place::Plain),
         }
     }
 
@@ -212,10 +206,10 @@ impl<W: WriteJs, S: SourceMapper, C: Comments> Emitter<'_, W, S, C> {
         self.leading_comments(span.lo);
         self.start_of(span);
         self.declare_word(node.declare);
-        node.class.target().emit_piece(self, Piece::ClassWord);
+        node.class.target().emit_at(self, Place::ClassWord);
         self.space();
-        node.ident.emit_in(self, Context::Plain);
-        node.class.target().emit_in(self, Context::Plain);
+        node.ident.emit_at(self, Place::Plain);
+        node.class.target().emit_at(self, Place::Plain);
     }
 
     /// Writes a function, before `export` nothing.
@@ -225,24 +219,23 @@ impl<W: WriteJs, S: SourceMapper, C: Comments> Emitter<'_, W, S, C> {
             S.lines C.maps W.sheet self.old self.new }
     {
         match place {
-            Place::Only(Piece::ExportedHead) => {}
-            _ => node.emit_in(self, Context::Plain),
+            Place::ExportedHead => {}
+            _ => node.emit_at(self, Place::Plain),
         }
     }
 
     /// Writes variables, before `export` nothing.
     #[tactic(auto, unfolding(crate::specs::Decls::without_head, crate::specs::Decls::by_export, crate::specs::Decls::variables))]
     fn var_by_place<N: LinkTarget>(&mut self, node: &VarDecl<N>, place: Place)
-        ensures items { Performs (without_head place
-            (variables N.answers N.items node.now (context_of place)))
+        ensures items { Performs (without_head place (variables N.answers N.items node.now place))
             S.lines C.maps W.sheet self.old self.new }
     {
         match place {
-            Place::Only(Piece::ExportedHead) => {}
+            Place::ExportedHead => {}
             _ => {
-                node.emit_in(self, Context::Plain);
+                node.emit_at(self, Place::Plain);
                 self.semi();
-                self.decl_end(place.context(), node.span)
+                self.decl_end(place, node.span)
             }
         }
     }
@@ -254,9 +247,9 @@ impl<W: WriteJs, S: SourceMapper, C: Comments> Emitter<'_, W, S, C> {
             S.lines C.maps W.sheet self.old self.new }
     {
         match place {
-            Place::Only(Piece::ExportedHead) => {}
+            Place::ExportedHead => {}
             _ => {
-                node.emit_in(self, Context::Plain);
+                node.emit_at(self, Place::Plain);
                 self.semi()
             }
         }
@@ -269,8 +262,8 @@ impl<W: WriteJs, S: SourceMapper, C: Comments> Emitter<'_, W, S, C> {
             S.lines C.maps W.sheet self.old self.new }
     {
         match place {
-            Place::Only(Piece::ExportedHead) => {}
-            _ => node.emit_in(self, Context::Plain),
+            Place::ExportedHead => {}
+            _ => node.emit_at(self, Place::Plain),
         }
     }
 
@@ -281,8 +274,8 @@ impl<W: WriteJs, S: SourceMapper, C: Comments> Emitter<'_, W, S, C> {
             S.lines C.maps W.sheet self.old self.new }
     {
         match place {
-            Place::Only(Piece::ExportedHead) => {}
-            _ => node.emit_in(self, Context::Plain),
+            Place::ExportedHead => {}
+            _ => node.emit_at(self, Place::Plain),
         }
     }
 
@@ -293,8 +286,8 @@ impl<W: WriteJs, S: SourceMapper, C: Comments> Emitter<'_, W, S, C> {
             S.lines C.maps W.sheet self.old self.new }
     {
         match place {
-            Place::Only(Piece::ExportedHead) => {}
-            _ => node.emit_in(self, Context::Plain),
+            Place::ExportedHead => {}
+            _ => node.emit_at(self, Place::Plain),
         }
     }
 
@@ -305,18 +298,18 @@ impl<W: WriteJs, S: SourceMapper, C: Comments> Emitter<'_, W, S, C> {
             S.lines C.maps W.sheet self.old self.new }
     {
         match place {
-            Place::Only(Piece::ExportedHead) => {}
-            _ => node.emit_in(self, Context::Plain),
+            Place::ExportedHead => {}
+            _ => node.emit_at(self, Place::Plain),
         }
     }
 
     /// Records the end of a declaration of variables, unless it is a statement.
     #[tactic(auto, unfolding(crate::specs::Decls::decl_end))]
-    fn decl_end(&mut self, context: Context, span: Span)
-        ensures items { Performs (decl_end context span) S.lines C.maps W.sheet self.old self.new }
+    fn decl_end(&mut self, place: Place, span: Span)
+        ensures items { Performs (decl_end place span) S.lines C.maps W.sheet self.old self.new }
     {
-        match context {
-            Context::Statement => {}
+        match place {
+            Place::Statement => {}
             _ => self.end_of(span),
         }
     }

@@ -5,7 +5,7 @@ ghost use Rattle.swc_ecma_codegen_common.specs.Refusals.{in_short};
 ghost use Rattle.swc_ecma_codegen_tokens.specs.Run.{Follows, nothing, start};
 
 use crate::node::Node;
-use crate::nodes::{Context, EmitAt, Place};
+use crate::nodes::{EmitAt, Place};
 use std::alloc::Global;
 use swc_ecma_codegen_common::{Error, Refusal, Result};
 use swc_ecma_codegen_grammar::comments::Comments;
@@ -104,7 +104,7 @@ impl<'a, W: WriteJs, S: SourceMapper, C: Comments> Emitter<'a, W, S, C> {
     {
         match self.cfg.max_line {
             Some(max) if self.cfg.minify => Place::Lines(max),
-            _ => Place::Whole(Context::Plain),
+            _ => Place::Plain,
         }
     }
 

@@ -7,7 +7,7 @@ ghost use Rattle.swc_ecma_codegen_emit.specs.Modules.{named_format, exported_as,
 
 use crate::emitter::Emitter;
 use crate::modules::named_format;
-use crate::nodes::{Child, Context, EmitAt, LinkTarget, Piece, Place};
+use crate::nodes::{Child, EmitAt, LinkTarget, Place};
 use crate::specifiers::{Specifier, has_braced, has_star};
 use swc_ecma_codegen_common::Span;
 use swc_ecma_codegen_grammar::comments::Comments;
@@ -39,7 +39,7 @@ impl EmitAt for ExportNamedSpecifier {
         e.leading_comments(self.span.lo);
         e.start_of(self.span);
         e.word_before(self.is_type_only, "type");
-        self.orig.emit_in(e, Context::Plain);
+        self.orig.emit_at(e, Place::Plain);
         e.exported_as(&self.exported);
         e.end_of(self.span);
     }
@@ -55,8 +55,8 @@ impl EmitAt for ExportSpecifier {
         place: Place,
     ) {
         match self {
-            ExportSpecifier::Named(node) => node.emit_in(e, Context::Plain),
-            ExportSpecifier::Namespace(node) => node.emit_in(e, Context::Plain),
+            ExportSpecifier::Named(node) => node.emit_at(e, Place::Plain),
+            ExportSpecifier::Namespace(node) => node.emit_at(e, Place::Plain),
             ExportSpecifier::Default(_) => e.unsupported(),
         }
     }
@@ -103,7 +103,7 @@ impl EmitAt for ExportNamespaceSpecifier {
         e.leading_comments(self.span.lo);
         e.start_of(self.span);
         e.star_as();
-        self.name.emit_in(e, Context::Plain);
+        self.name.emit_at(e, Place::Plain);
         e.end_of(self.span);
     }
 }
@@ -153,10 +153,10 @@ impl<N: LinkTarget> EmitAt for ExportDecl<N> {
         place: Place,
     ) {
         e.start_of(self.span);
-        self.decl.target().emit_piece(e, Piece::ExportedHead);
+        self.decl.target().emit_at(e, Place::ExportedHead);
         e.keyword(None, "export");
         e.space();
-        self.decl.target().emit_piece(e, Piece::ExportedTail);
+        self.decl.target().emit_at(e, Place::ExportedTail);
     }
 }
 
@@ -170,9 +170,9 @@ impl<N: LinkTarget> EmitAt for DefaultDecl<N> {
         place: Place,
     ) {
         match self {
-            DefaultDecl::Class(node) => node.emit_in(e, Context::Plain),
-            DefaultDecl::Fn(node) => node.emit_in(e, Context::DefaultExport),
-            DefaultDecl::TsInterfaceDecl(node) => node.emit_in(e, Context::Plain),
+            DefaultDecl::Class(node) => node.emit_at(e, Place::Plain),
+            DefaultDecl::Fn(node) => node.emit_at(e, Place::DeclarationTail),
+            DefaultDecl::TsInterfaceDecl(node) => node.emit_at(e, Place::Plain),
         }
     }
 }
@@ -190,7 +190,7 @@ impl<N: LinkTarget> EmitAt for ExportDefaultDecl<N> {
         e.start_of(self.span);
         e.export_default();
         e.space();
-        self.decl.emit_in(e, Context::Plain);
+        self.decl.emit_at(e, Place::Plain);
     }
 }
 
@@ -206,7 +206,7 @@ impl<N: LinkTarget> EmitAt for ExportDefaultExpr<N> {
         e.start_of(self.span);
         e.export_default();
         e.blank(self.expr.target().starts());
-        self.expr.target().emit_in(e, Context::Plain);
+        self.expr.target().emit_at(e, Place::Plain);
         e.semi();
         e.end_of(self.span);
     }
@@ -221,7 +221,7 @@ impl<W: WriteJs, S: SourceMapper, C: Comments> Emitter<'_, W, S, C> {
         match name {
             Some(name) => {
                 self.as_word();
-                name.emit_in(self, Context::Plain)
+                name.emit_at(self, Place::Plain)
             }
             None => {}
         }
@@ -254,7 +254,7 @@ impl<W: WriteJs, S: SourceMapper, C: Comments> Emitter<'_, W, S, C> {
     {
         for specifier in specifiers {
             if let ExportSpecifier::Namespace(node) = specifier {
-                return node.emit_in(self, Context::Plain);
+                return node.emit_at(self, Place::Plain);
             }
         }
     }
@@ -310,7 +310,7 @@ impl<W: WriteJs, S: SourceMapper, C: Comments> Emitter<'_, W, S, C> {
             Some(src) => {
                 self.blank(needed);
                 self.from_word();
-                src.emit_in(self, Context::Plain);
+                src.emit_at(self, Place::Plain);
                 self.attributes(with)
             }
             None => {}

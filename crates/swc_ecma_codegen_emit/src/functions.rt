@@ -7,11 +7,10 @@ ghost use Rattle.swc_ecma_codegen_literals.specs.Punctuators.{spelling};
 ghost use Rattle.swc_ecma_codegen_emit.specs.Standing.{Performs};
 ghost use Rattle.swc_ecma_codegen_emit.specs.FunctionExprs.{comma_list_format, star, optional_name, fn_expr, is_plain, is_name, is_only, async_arrow, parenthesis, has_comment_behind, arrow_children, arrow_list, arrow_within, arrow_parameters, arrow_body, arrow_result, arrow_expr};
 ghost use Rattle.swc_ecma_codegen_emit.specs.Functions.{decorators_format, decorator, decorators, decorator_lines, param, function_body, parameters, fn_trailing, break_without_body, declaration_tail, static_gap, static_head, method_body, method_tail, async_word, function_head, star_or_space, declaration_head, method_head, function};
-ghost use Rattle.swc_ecma_codegen_emit.specs.Places.{function_tail, in_context};
 
 use crate::commented::has_comment_after;
 use crate::emitter::Emitter;
-use crate::nodes::{Asked, Child, Context, EmitAt, LinkTarget, Piece, Place};
+use crate::nodes::{Asked, Child, EmitAt, LinkTarget, Place};
 use crate::patterns::PatternKind;
 use swc_ecma_codegen_common::Span;
 use swc_ecma_codegen_grammar::ListFormat;
@@ -119,7 +118,7 @@ impl<N: LinkTarget> EmitAt for ArrowExpr<N> {
         e.arrow_parameters(self);
         e.arrow_result(&self.return_type);
         e.punct(Punctuator::Arrow);
-        self.body.emit_in(e, Context::Plain);
+        self.body.emit_at(e, Place::Plain);
     }
 }
 
@@ -135,7 +134,7 @@ impl<N: LinkTarget> EmitAt for Decorator<N> {
         e.leading_comments(self.span.lo);
         e.start_of(self.span);
         e.punct(Punctuator::At);
-        self.expr.target().emit_in(e, Context::Plain);
+        self.expr.target().emit_at(e, Place::Plain);
         e.line();
         e.end_of(self.span);
     }
@@ -149,18 +148,8 @@ impl<N: LinkTarget> Child for Decorator<N> {
     }
 }
 
-/// What is written behind the name: of a function that is exported by default what is of a declaration.
-fn function_tail(context: Context) -> Place
-    ensures { result ≡ function_tail context }
-{
-    match context {
-        Context::DefaultExport => Place::Only(Piece::DeclarationTail),
-        _ => Place::Whole(Context::Plain),
-    }
-}
-
 impl<N: LinkTarget> EmitAt for FnExpr<N> {
-    ghost items = { λ n. in_context (fn_expr N.answers N.items n) };
+    ghost items = { fn_expr N.answers N.items };
 
     #[tactic(auto, unfolding(crate::specs::FunctionExprs::fn_expr))]
     fn emit_at<W: WriteJs, S: SourceMapper, C: Comments>(
@@ -172,11 +161,9 @@ impl<N: LinkTarget> EmitAt for FnExpr<N> {
         e.leading_comments(span.lo);
         e.commit_pending_semi();
         e.start_of(span);
-        self.function.target().emit_piece(e, Piece::FunctionHead);
+        self.function.target().emit_at(e, Place::FunctionHead);
         e.optional_name(&self.ident);
-        self.function
-            .target()
-            .emit_at(e, function_tail(place.context()));
+        self.function.target().emit_at(e, place);
     }
 }
 
@@ -190,13 +177,13 @@ impl<N: LinkTarget> EmitAt for Function<N> {
         place: Place,
     ) {
         match place {
-            Place::Only(Piece::FunctionHead) => e.function_head(self),
-            Place::Only(Piece::MethodHead) => e.method_head(self),
-            Place::Only(Piece::DeclarationHead) => e.declaration_head(self),
-            Place::Only(Piece::DeclarationTail) => e.declaration_tail(self),
-            Place::Only(Piece::StaticHead(starts)) => e.static_head(starts, self),
-            Place::Only(Piece::MethodDecorators) => e.decorator_lines(&self.decorators),
-            Place::Only(Piece::MethodTail) => e.method_tail(self),
+            Place::FunctionHead => e.function_head(self),
+            Place::MethodHead => e.method_head(self),
+            Place::DeclarationHead => e.declaration_head(self),
+            Place::DeclarationTail => e.declaration_tail(self),
+            Place::StaticHead(starts) => e.static_head(starts, self),
+            Place::MethodDecorators => e.decorator_lines(&self.decorators),
+            Place::MethodTail => e.method_tail(self),
             _ => e.fn_trailing(self),
         }
     }
@@ -212,10 +199,10 @@ impl<N: LinkTarget> EmitAt for BlockStmtOrExpr<N> {
         place: Place,
     ) {
         match self {
-            BlockStmtOrExpr::BlockStmt(node) => node.target().emit_in(e, Context::Body),
+            BlockStmtOrExpr::BlockStmt(node) => node.target().emit_at(e, Place::Body),
             BlockStmtOrExpr::Expr(node) => {
                 e.deeper();
-                node.target().emit_in(e, Context::Plain);
+                node.target().emit_at(e, Place::Plain);
                 e.shallower()
             }
         }
@@ -234,7 +221,7 @@ impl<N: LinkTarget> EmitAt for Param<N> {
         e.leading_comments(self.span.lo);
         e.start_of(self.span);
         e.decorators(self);
-        self.pat.emit_in(e, Context::Plain);
+        self.pat.emit_at(e, Place::Plain);
         e.end_of(self.span);
     }
 }
@@ -365,7 +352,7 @@ impl<W: WriteJs, S: SourceMapper, C: Comments> Emitter<'_, W, S, C> {
         match body {
             Some(body) => {
                 self.formatting_space();
-                body.target().emit_in(self, Context::Plain)
+                body.target().emit_at(self, Place::Plain)
             }
             None => self.semi(),
         }
@@ -433,7 +420,7 @@ impl<W: WriteJs, S: SourceMapper, C: Comments> Emitter<'_, W, S, C> {
         match body {
             Some(body) => {
                 self.formatting_space();
-                body.target().emit_in(self, Context::Body)
+                body.target().emit_at(self, Place::Body)
             }
             None => self.bare_semi(),
         }
@@ -491,7 +478,7 @@ impl<W: WriteJs, S: SourceMapper, C: Comments> Emitter<'_, W, S, C> {
             Some(node) => {
                 self.punct(Punctuator::Colon);
                 self.formatting_space();
-                node.target().emit_in(self, Context::Plain);
+                node.target().emit_at(self, Place::Plain);
                 self.formatting_space()
             }
             None => {}

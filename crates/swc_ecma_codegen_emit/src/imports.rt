@@ -9,7 +9,7 @@ ghost use Rattle.swc_ecma_codegen_emit.specs.Modules.{named_format, imported_as,
 
 use crate::emitter::Emitter;
 use crate::modules::named_format;
-use crate::nodes::{Child, Context, EmitAt, LinkTarget, Place};
+use crate::nodes::{Child, EmitAt, LinkTarget, Place};
 use crate::specifiers::{Specifier, has_braced, has_star};
 use swc_ecma_codegen_common::Span;
 use swc_ecma_codegen_grammar::comments::Comments;
@@ -63,7 +63,7 @@ impl EmitAt for ImportNamedSpecifier {
         e.start_of(self.span);
         e.word_before(self.is_type_only, "type");
         e.imported_as(&self.imported);
-        self.local.emit_in(e, Context::Plain);
+        self.local.emit_at(e, Place::Plain);
         e.end_of(self.span);
     }
 }
@@ -78,7 +78,7 @@ impl EmitAt for ImportSpecifier {
         place: Place,
     ) {
         match self {
-            ImportSpecifier::Named(node) => node.emit_in(e, Context::Plain),
+            ImportSpecifier::Named(node) => node.emit_at(e, Place::Plain),
             ImportSpecifier::Default(_) | ImportSpecifier::Namespace(_) => {}
         }
     }
@@ -143,7 +143,7 @@ impl<W: WriteJs, S: SourceMapper, C: Comments> Emitter<'_, W, S, C> {
     {
         match name {
             Some(name) => {
-                name.emit_in(self, Context::Plain);
+                name.emit_at(self, Place::Plain);
                 self.as_word()
             }
             None => {}
@@ -166,11 +166,11 @@ impl<W: WriteJs, S: SourceMapper, C: Comments> Emitter<'_, W, S, C> {
     {
         match specifier {
             ImportSpecifier::Named(_) => {}
-            ImportSpecifier::Default(node) => node.local.emit_in(self, Context::Plain),
+            ImportSpecifier::Default(node) => node.local.emit_at(self, Place::Plain),
             ImportSpecifier::Namespace(node) => {
                 self.comma(first);
                 self.star_as();
-                node.local.emit_in(self, Context::Plain)
+                node.local.emit_at(self, Place::Plain)
             }
         }
     }

@@ -6,10 +6,9 @@ ghost use Rattle.swc_ecma_codegen_tokens.specs.Attributes.{attribute_string, jsx
 ghost use Rattle.swc_ecma_codegen_tokens.specs.Tags.{tag_name, child_open, close};
 ghost use Rattle.swc_ecma_codegen_emit.specs.Jsx.{jsx_element_parts, jsx_fragment_parts, tag_ident, tag_ident_name, jsx_member_expr, jsx_namespaced_name, jsx_object, jsx_element_name, jsx_attr_name, open_at, jsx_expr, jsx_expr_container, jsx_spread_child, jsx_attr_lit, jsx_attr_value, attr_initializer, jsx_attr, jsx_attr_or_spread, jsx_attributes, self_closing, jsx_opening_element, jsx_closing_element, jsx_element_child, jsx_children, optional_closing, jsx_element, opening_fragment, closing_fragment, jsx_fragment, jsx_part};
 ghost use Rattle.swc_ecma_codegen_emit.specs.Standing.{Performs};
-ghost use Rattle.swc_ecma_codegen_emit.specs.Places.{in_context};
 
 use crate::emitter::Emitter;
-use crate::nodes::{Context, EmitAt, LinkTarget, Place};
+use crate::nodes::{EmitAt, LinkTarget, Place};
 use crate::refusals::keep;
 use swc_ecma_codegen_common::Span;
 use swc_ecma_codegen_grammar::comments::Comments;
@@ -24,7 +23,7 @@ use swc_ecma_codegen_tree::{
 };
 
 impl<N: LinkTarget> EmitAt for JSXElement<N> {
-    ghost items = { λ n. in_context (jsx_element N.answers N.items n) };
+    ghost items = { jsx_element N.answers N.items };
 
     fn emit_at<W: WriteJs, S: SourceMapper, C: Comments>(
         &self,
@@ -33,13 +32,13 @@ impl<N: LinkTarget> EmitAt for JSXElement<N> {
     ) {
         let max_line = e.cfg.max_line;
         e.cfg.max_line = None;
-        e.jsx_element_parts(self, place.context());
+        e.jsx_element_parts(self, place);
         e.cfg.max_line = max_line;
     }
 }
 
 impl<N: LinkTarget> EmitAt for JSXOpeningElement<N> {
-    ghost items = { λ n. in_context (jsx_opening_element N.answers N.items n) };
+    ghost items = { jsx_opening_element N.answers N.items };
 
     #[tactic(auto, unfolding(crate::specs::Jsx::jsx_opening_element))]
     fn emit_at<W: WriteJs, S: SourceMapper, C: Comments>(
@@ -47,9 +46,9 @@ impl<N: LinkTarget> EmitAt for JSXOpeningElement<N> {
         e: &mut Emitter<'_, W, S, C>,
         place: Place,
     ) {
-        e.open_at(place.context(), Punctuator::Less);
-        self.name.emit_in(e, Context::Plain);
-        e.type_args(Context::Plain, &self.type_args);
+        e.open_at(place, Punctuator::Less);
+        self.name.emit_at(e, Place::Plain);
+        e.type_args(Place::Plain, &self.type_args);
         e.jsx_attributes(&self.attrs);
         e.self_closing(self.self_closing);
         e.close();
@@ -67,8 +66,8 @@ impl<N: LinkTarget> EmitAt for JSXElementName<N> {
     ) {
         match self {
             JSXElementName::Ident(node) => e.tag_ident(node),
-            JSXElementName::JSXMemberExpr(node) => node.emit_in(e, Context::Plain),
-            JSXElementName::JSXNamespacedName(node) => node.emit_in(e, Context::Plain),
+            JSXElementName::JSXMemberExpr(node) => node.emit_at(e, Place::Plain),
+            JSXElementName::JSXNamespacedName(node) => node.emit_at(e, Place::Plain),
         }
     }
 }
@@ -82,10 +81,10 @@ impl<N: LinkTarget> EmitAt for JSXAttr<N> {
         e: &mut Emitter<'_, W, S, C>,
         place: Place,
     ) {
-        self.name.emit_in(e, Context::Plain);
+        self.name.emit_at(e, Place::Plain);
         if let Some(value) = &self.value {
             e.punct(Punctuator::Equal);
-            value.emit_in(e, Context::Plain);
+            value.emit_at(e, Place::Plain);
         }
     }
 }
@@ -101,9 +100,9 @@ impl<N: LinkTarget> EmitAt for JSXAttrValue<N> {
     ) {
         match self {
             JSXAttrValue::Lit(node) => e.jsx_attr_lit(node),
-            JSXAttrValue::JSXExprContainer(node) => node.emit_in(e, Context::Plain),
-            JSXAttrValue::JSXElement(node) => node.target().emit_in(e, Context::Plain),
-            JSXAttrValue::JSXFragment(node) => node.target().emit_in(e, Context::Plain),
+            JSXAttrValue::JSXExprContainer(node) => node.emit_at(e, Place::Plain),
+            JSXAttrValue::JSXElement(node) => node.target().emit_at(e, Place::Plain),
+            JSXAttrValue::JSXFragment(node) => node.target().emit_at(e, Place::Plain),
         }
     }
 }
@@ -119,7 +118,7 @@ impl EmitAt for JSXAttrName {
     ) {
         match self {
             JSXAttrName::Ident(node) => e.tag_ident_name(node),
-            JSXAttrName::JSXNamespacedName(node) => node.emit_in(e, Context::Plain),
+            JSXAttrName::JSXNamespacedName(node) => node.emit_at(e, Place::Plain),
         }
     }
 }
@@ -134,10 +133,10 @@ impl<N: LinkTarget> EmitAt for JSXAttrOrSpread<N> {
         place: Place,
     ) {
         match self {
-            JSXAttrOrSpread::JSXAttr(node) => node.emit_in(e, Context::Plain),
+            JSXAttrOrSpread::JSXAttr(node) => node.emit_at(e, Place::Plain),
             JSXAttrOrSpread::SpreadElement(node) => {
                 e.bare_punct(Punctuator::LeftBrace);
-                node.emit_in(e, Context::Plain);
+                node.emit_at(e, Place::Plain);
                 e.punct(Punctuator::RightBrace);
             }
         }
@@ -154,11 +153,11 @@ impl<N: LinkTarget> EmitAt for JSXElementChild<N> {
         place: Place,
     ) {
         match self {
-            JSXElementChild::JSXElement(node) => node.target().emit_in(e, Context::Child),
-            JSXElementChild::JSXExprContainer(node) => node.emit_in(e, Context::Child),
-            JSXElementChild::JSXFragment(node) => node.target().emit_in(e, Context::Child),
-            JSXElementChild::JSXSpreadChild(node) => node.emit_in(e, Context::Child),
-            JSXElementChild::JSXText(node) => node.emit_in(e, Context::Child),
+            JSXElementChild::JSXElement(node) => node.target().emit_at(e, Place::Child),
+            JSXElementChild::JSXExprContainer(node) => node.emit_at(e, Place::Child),
+            JSXElementChild::JSXFragment(node) => node.target().emit_at(e, Place::Child),
+            JSXElementChild::JSXSpreadChild(node) => node.emit_at(e, Place::Child),
+            JSXElementChild::JSXText(node) => node.emit_at(e, Place::Child),
         }
     }
 }
@@ -174,13 +173,13 @@ impl<N: LinkTarget> EmitAt for JSXSpreadChild<N> {
     ) {
         e.child_open(Punctuator::LeftBrace);
         e.punct(Punctuator::Ellipsis);
-        self.expr.target().emit_in(e, Context::Plain);
+        self.expr.target().emit_at(e, Place::Plain);
         e.punct(Punctuator::RightBrace);
     }
 }
 
 impl<N: LinkTarget> EmitAt for JSXExprContainer<N> {
-    ghost items = { λ n. in_context (jsx_expr_container N.items n) };
+    ghost items = { jsx_expr_container N.items };
 
     #[tactic(auto, unfolding(crate::specs::Jsx::jsx_expr_container))]
     fn emit_at<W: WriteJs, S: SourceMapper, C: Comments>(
@@ -188,8 +187,8 @@ impl<N: LinkTarget> EmitAt for JSXExprContainer<N> {
         e: &mut Emitter<'_, W, S, C>,
         place: Place,
     ) {
-        e.open_at(place.context(), Punctuator::LeftBrace);
-        self.expr.emit_in(e, Context::Plain);
+        e.open_at(place, Punctuator::LeftBrace);
+        self.expr.emit_at(e, Place::Plain);
         e.punct(Punctuator::RightBrace);
     }
 }
@@ -204,8 +203,8 @@ impl<N: LinkTarget> EmitAt for JSXExpr<N> {
         place: Place,
     ) {
         match self {
-            JSXExpr::Expr(node) => node.target().emit_in(e, Context::Plain),
-            JSXExpr::JSXEmptyExpr(node) => node.emit_in(e, Context::Plain),
+            JSXExpr::Expr(node) => node.target().emit_at(e, Place::Plain),
+            JSXExpr::JSXEmptyExpr(node) => node.emit_at(e, Place::Plain),
         }
     }
 }
@@ -221,13 +220,13 @@ impl<N: LinkTarget> EmitAt for JSXClosingElement<N> {
     ) {
         e.child_open(Punctuator::Less);
         e.punct(Punctuator::Slash);
-        self.name.emit_in(e, Context::Plain);
+        self.name.emit_at(e, Place::Plain);
         e.close();
     }
 }
 
 impl<N: LinkTarget> EmitAt for JSXFragment<N> {
-    ghost items = { λ n. in_context (jsx_fragment N.items n) };
+    ghost items = { jsx_fragment N.items };
 
     fn emit_at<W: WriteJs, S: SourceMapper, C: Comments>(
         &self,
@@ -236,13 +235,13 @@ impl<N: LinkTarget> EmitAt for JSXFragment<N> {
     ) {
         let max_line = e.cfg.max_line;
         e.cfg.max_line = None;
-        e.jsx_fragment_parts(self, place.context());
+        e.jsx_fragment_parts(self, place);
         e.cfg.max_line = max_line;
     }
 }
 
 impl EmitAt for JSXOpeningFragment {
-    ghost items = { λ _. in_context opening_fragment };
+    ghost items = { λ _ place. opening_fragment place };
 
     #[tactic(auto, unfolding(crate::specs::Jsx::opening_fragment))]
     fn emit_at<W: WriteJs, S: SourceMapper, C: Comments>(
@@ -250,7 +249,7 @@ impl EmitAt for JSXOpeningFragment {
         e: &mut Emitter<'_, W, S, C>,
         place: Place,
     ) {
-        e.open_at(place.context(), Punctuator::Less);
+        e.open_at(place, Punctuator::Less);
         e.close();
     }
 }
@@ -323,7 +322,7 @@ impl<N: LinkTarget> EmitAt for JSXMemberExpr<N> {
         e: &mut Emitter<'_, W, S, C>,
         place: Place,
     ) {
-        self.obj.target().emit_in(e, Context::Plain);
+        self.obj.target().emit_at(e, Place::Plain);
         e.punct(Punctuator::Dot);
         e.tag_ident_name(&self.prop);
     }
@@ -340,7 +339,7 @@ impl<N: LinkTarget> EmitAt for JSXObject<N> {
     ) {
         match self {
             JSXObject::Ident(node) => e.tag_ident(node),
-            JSXObject::JSXMemberExpr(node) => node.emit_in(e, Context::Plain),
+            JSXObject::JSXMemberExpr(node) => node.emit_at(e, Place::Plain),
         }
     }
 }
@@ -367,27 +366,27 @@ impl<W: WriteJs, S: SourceMapper, C: Comments> Emitter<'_, W, S, C> {
     /// Writes an element; its caller says that no line may be ended in it.
     #[inline(always)]
     #[tactic(auto, unfolding(crate::specs::Jsx::jsx_element_parts, crate::specs::Jsx::optional_closing))]
-    fn jsx_element_parts<N: LinkTarget>(&mut self, node: &JSXElement<N>, context: Context)
-        ensures items { Performs (jsx_element_parts N.answers N.items node.now context)
+    fn jsx_element_parts<N: LinkTarget>(&mut self, node: &JSXElement<N>, place: Place)
+        ensures items { Performs (jsx_element_parts N.answers N.items node.now place)
             S.lines C.maps W.sheet self.old self.new }
     {
-        node.opening.emit_in(self, context);
+        node.opening.emit_at(self, place);
         self.jsx_children(&node.children);
         if let Some(closing) = &node.closing {
-            closing.emit_in(self, Context::Plain);
+            closing.emit_at(self, Place::Plain);
         }
     }
 
     /// Writes a fragment; its caller says that no line may be ended in it.
     #[inline(always)]
     #[tactic(auto, unfolding(crate::specs::Jsx::jsx_fragment_parts))]
-    fn jsx_fragment_parts<N: LinkTarget>(&mut self, node: &JSXFragment<N>, context: Context)
-        ensures items { Performs (jsx_fragment_parts N.items node.now context)
+    fn jsx_fragment_parts<N: LinkTarget>(&mut self, node: &JSXFragment<N>, place: Place)
+        ensures items { Performs (jsx_fragment_parts N.items node.now place)
             S.lines C.maps W.sheet self.old self.new }
     {
-        node.opening.emit_in(self, context);
+        node.opening.emit_at(self, place);
         self.jsx_children(&node.children);
-        node.closing.emit_in(self, Context::Plain);
+        node.closing.emit_at(self, Place::Plain);
     }
 
     /// Writes a name in a tag with its comments.
@@ -440,12 +439,12 @@ impl<W: WriteJs, S: SourceMapper, C: Comments> Emitter<'_, W, S, C> {
 
     /// Writes the `<` or `{` of what may be a child.
     #[tactic(auto, unfolding(crate::specs::Jsx::open_at))]
-    fn open_at(&mut self, context: Context, mark: Punctuator)
-        ensures items { Performs (open_at context (spelling mark))
+    fn open_at(&mut self, place: Place, mark: Punctuator)
+        ensures items { Performs (open_at place (spelling mark))
             S.lines C.maps W.sheet self.old self.new }
     {
-        match context {
-            Context::Child => self.child_open(mark),
+        match place {
+            Place::Child => self.child_open(mark),
             _ => self.bare_punct(mark),
         }
     }
@@ -494,7 +493,7 @@ impl<W: WriteJs, S: SourceMapper, C: Comments> Emitter<'_, W, S, C> {
     {
         match node {
             Lit::Str(text) => self.attribute_string(text),
-            _ => node.emit_in(self, Context::Plain),
+            _ => node.emit_at(self, Place::Plain),
         }
     }
 
@@ -523,7 +522,7 @@ impl<W: WriteJs, S: SourceMapper, C: Comments> Emitter<'_, W, S, C> {
         let mut first = true;
         for node in nodes {
             self.blank(first);
-            node.emit_in(self, Context::Plain);
+            node.emit_at(self, Place::Plain);
             first = false;
         }
     }

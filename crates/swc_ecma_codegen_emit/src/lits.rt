@@ -7,10 +7,9 @@ ghost use Rattle.std.specs.Prelude.{◌≡◌};
 ghost use Rattle.swc_ecma_codegen_emit.specs.Standing.{Performs};
 ghost use Rattle.swc_ecma_codegen_tokens.specs.Lits.{str_lit, bool_node, null_lit, number_lit, number_object, big_int_lit, regex_lit, lit};
 ghost use Rattle.swc_ecma_codegen_emit.specs.Lits.{lit_at, is_object, is_number_object};
-ghost use Rattle.swc_ecma_codegen_emit.specs.Places.{in_context};
 
 use crate::emitter::Emitter;
-use crate::nodes::{Context, EmitAt, Place};
+use crate::nodes::{EmitAt, Place};
 use crate::refusals::keep;
 use swc_ecma_codegen_common::BytePos;
 use swc_ecma_codegen_grammar::comments::Comments;
@@ -18,30 +17,30 @@ use swc_ecma_codegen_grammar::mapper::SourceMapper;
 use swc_ecma_codegen_text_writer::WriteJs;
 use swc_ecma_codegen_tree::{BigInt, Bool, Lit, Null, Number, Regex, Str};
 
-/// Whether a member's object stands there.
+/// Whether it is the place of a member's object.
 #[tactic(auto, unfolding(crate::specs::Lits::is_object))]
-fn is_object(context: Context) -> bool
-    ensures { result ≡ is_object context }
+fn is_object(place: Place) -> bool
+    ensures { result ≡ is_object place }
 {
-    match context {
-        Context::Object | Context::DottedObject(_) => true,
+    match place {
+        Place::Object | Place::DottedObject(_) => true,
         _ => false,
     }
 }
 
 /// Whether it is a number that is an object, as `10` of `10..x`.
 #[tactic(auto, unfolding(crate::specs::Lits::is_number_object))]
-pub(crate) fn is_number_object(node: &Lit, context: Context) -> bool
-    ensures { result ≡ is_number_object node.now context }
+pub(crate) fn is_number_object(node: &Lit, place: Place) -> bool
+    ensures { result ≡ is_number_object node.now place }
 {
     match node {
-        Lit::Num(_) => is_object(context),
+        Lit::Num(_) => is_object(place),
         _ => false,
     }
 }
 
 impl EmitAt for Lit {
-    ghost items = { λ n. in_context (lit_at n) };
+    ghost items = { lit_at };
 
     #[tactic(auto, unfolding(crate::specs::Lits::lit_at))]
     fn emit_at<W: WriteJs, S: SourceMapper, C: Comments>(
@@ -50,10 +49,8 @@ impl EmitAt for Lit {
         place: Place,
     ) {
         match (self, place) {
-            (Lit::Num(node), Place::Whole(Context::Object)) => e.number_lit(node),
-            (Lit::Num(node), Place::Whole(Context::DottedObject(prop))) => {
-                e.number_object(node, prop)
-            }
+            (Lit::Num(node), Place::Object) => e.number_lit(node),
+            (Lit::Num(node), Place::DottedObject(prop)) => e.number_object(node, prop),
             (Lit::JSXText(node), _) => e.jsx_text_lit(node),
             _ => e.lit(self),
         }

@@ -9,7 +9,7 @@ ghost use Rattle.swc_ecma_codegen_tokens.specs.Starts.{begins_letter};
 ghost use Rattle.swc_ecma_codegen_emit.specs.Stmts.{case_body, cases_format, lines_format, case_format, case_test, is_single, case_list, case_children, case_stmts, switch_case, cases, switch_cases, switch_stmt, while_stmt, loop_test, do_while_stmt, var_decl_or_expr, for_init, for_value, for_clause, for_control, for_stmt, for_head, for_right, for_each, for_in_stmt, for_await, for_of_stmt};
 
 use crate::emitter::Emitter;
-use crate::nodes::{Asked, Child, Context, EmitAt, LinkTarget, Place};
+use crate::nodes::{Asked, Child, EmitAt, LinkTarget, Place};
 use bitflags::Flags;
 use swc_ecma_codegen_common::{EsVersion, Span};
 use swc_ecma_codegen_grammar::ListFormat;
@@ -126,9 +126,9 @@ impl<N: LinkTarget> EmitAt for ForHead<N> {
         place: Place,
     ) {
         match self {
-            ForHead::Pat(node) => node.target().emit_in(e, Context::Plain),
-            ForHead::VarDecl(node) => node.target().emit_in(e, Context::Plain),
-            ForHead::UsingDecl(node) => (**node).emit_in(e, Context::Plain),
+            ForHead::Pat(node) => node.target().emit_at(e, Place::Plain),
+            ForHead::VarDecl(node) => node.target().emit_at(e, Place::Plain),
+            ForHead::UsingDecl(node) => (**node).emit_at(e, Place::Plain),
         }
     }
 }
@@ -182,7 +182,7 @@ impl<N: LinkTarget> EmitAt for WhileStmt<N> {
     ) {
         e.stmt_word(self.span, "while");
         e.enclosed(&self.test);
-        self.body.target().emit_in(e, Context::Plain);
+        self.body.target().emit_at(e, Place::Plain);
     }
 }
 
@@ -214,7 +214,7 @@ impl<N: LinkTarget> EmitAt for ForStmt<N> {
     ) {
         e.stmt_word(self.span, "for");
         e.for_control(self);
-        self.body.target().emit_in(e, Context::Plain);
+        self.body.target().emit_at(e, Place::Plain);
     }
 }
 
@@ -229,7 +229,7 @@ impl<N: LinkTarget> EmitAt for ForInStmt<N> {
     ) {
         e.stmt_word(self.span, "for");
         e.for_each("in", &self.left, &self.right);
-        self.body.target().emit_in(e, Context::Plain);
+        self.body.target().emit_at(e, Place::Plain);
     }
 }
 
@@ -246,7 +246,7 @@ impl<N: LinkTarget> EmitAt for ForOfStmt<N> {
         e.for_await(self.is_await);
         e.formatting_space();
         e.for_each("of", &self.left, &self.right);
-        self.body.target().emit_in(e, Context::Plain);
+        self.body.target().emit_at(e, Place::Plain);
     }
 }
 
@@ -260,8 +260,8 @@ impl<N: LinkTarget> EmitAt for VarDeclOrExpr<N> {
         place: Place,
     ) {
         match self {
-            VarDeclOrExpr::Expr(node) => node.target().emit_in(e, Context::Plain),
-            VarDeclOrExpr::VarDecl(node) => node.target().emit_in(e, Context::Plain),
+            VarDeclOrExpr::Expr(node) => node.target().emit_at(e, Place::Plain),
+            VarDeclOrExpr::VarDecl(node) => node.target().emit_at(e, Place::Plain),
         }
     }
 }
@@ -360,7 +360,7 @@ impl<W: WriteJs, S: SourceMapper, C: Comments> Emitter<'_, W, S, C> {
             S.lines C.maps W.sheet self.old self.new }
     {
         match init {
-            Some(node) => node.emit_in(self, Context::Plain),
+            Some(node) => node.emit_at(self, Place::Plain),
             None => {}
         }
     }
@@ -374,7 +374,7 @@ impl<W: WriteJs, S: SourceMapper, C: Comments> Emitter<'_, W, S, C> {
         match value {
             Some(node) => {
                 self.formatting_space();
-                node.target().emit_in(self, Context::Plain)
+                node.target().emit_at(self, Place::Plain)
             }
             None => {}
         }
@@ -423,7 +423,7 @@ impl<W: WriteJs, S: SourceMapper, C: Comments> Emitter<'_, W, S, C> {
             S.lines C.maps W.sheet self.old self.new }
     {
         self.punct(Punctuator::LeftParenthesis);
-        left.emit_in(self, Context::Plain);
+        left.emit_at(self, Place::Plain);
         self.for_right(text, head_ends(left), right);
         self.punct(Punctuator::RightParenthesis);
     }

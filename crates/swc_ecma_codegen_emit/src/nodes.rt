@@ -4,8 +4,6 @@ ghost use Rattle.std.specs.Prelude.{◌≡◌};
 ghost use Rattle.swc_ecma_codegen_tokens.specs.Run.{Part};
 ghost use Rattle.swc_ecma_codegen_emit.specs.Standing.{Performs};
 ghost use Rattle.swc_ecma_codegen_emit.specs.declared.nodes.Place.{Place as At};
-ghost use Rattle.swc_ecma_codegen_emit.specs.declared.nodes.Place.TheVariants.{Only, Whole};
-ghost use Rattle.swc_ecma_codegen_emit.specs.Places.{context_of};
 ghost use Rattle.swc_ecma_codegen_emit.specs.Answers.{Answers, reply_of};
 ghost use Rattle.swc_ecma_codegen_common.specs.declared.positions.Span.{Span as Stretch};
 ghost use Rattle.swc_ecma_codegen_spans.specs.Spans.{option_span};
@@ -20,34 +18,10 @@ use swc_ecma_codegen_grammar::mapper::SourceMapper;
 use swc_ecma_codegen_text_writer::WriteJs;
 use swc_ecma_codegen_tree::Link;
 
-/// What is printed of a node.
+/// Where a node stands in the one above it.
 #[derive(Debug, Clone, Copy, PartialEq, Eq)]
 pub enum Place {
-    /// The whole node, in this context.
-    Whole(Context),
-    /// This piece of it alone.
-    Only(Piece),
-    /// A whole module or script by itself, in lines of this greatest length: with 2, `a;b` is `a;` LF `b`
-    Lines(u32),
-}
-
-impl Place {
-    /// The context: `Plain`, unless a whole node stands in another.
-    #[inline(always)]
-    pub(crate) fn context(self) -> Context
-        ensures { result ≡ context_of self }
-    {
-        match self {
-            Place::Whole(context) => context,
-            _ => Context::Plain,
-        }
-    }
-}
-
-/// The context that a whole node stands in.
-#[derive(Debug, Clone, Copy, PartialEq, Eq)]
-pub enum Context {
-    /// Any other. A function or a class by itself is what stands behind its name, as in swc: `(a) { b; }` of `function f(a) { b; }`
+    /// Anywhere else.
     Plain,
     /// The left operand of a binary operator: `a + b` in `a + b + c`.
     LeftOperand,
@@ -61,26 +35,6 @@ pub enum Context {
     Chain(bool),
     /// A block as the body of a function: `{ a; }` of `function f() { a; }`
     Body,
-    /// A function that is exported by default, whose end is that of a declaration: `function f() {}` of `export default function f() {}`
-    DefaultExport,
-    /// A declaration as a statement: where one of variables ends isn't recorded there.
-    Statement,
-    /// A template after its tag.
-    Tagged,
-    /// The value of a field, where a sequence stands in parentheses: `(a, b)` of `class B { c = (a, b); }`
-    FieldValue,
-    /// Between two tags: `<b/>` and `{c}` of `<a><b/>{c}</a>`
-    Child,
-    /// Type arguments behind the name of a type, and the type of a getter, which leave the comments before them: `<B>` of `A<B>`, `C` of
-    /// `{ get a(): C; }`
-    Reference,
-    /// The body of a namespace behind its name: ` {}` of `namespace a {}`, `.b {}` of `namespace a.b {}`
-    Dotted,
-}
-
-/// A piece of a node. What another node has, a name or the word `export`, stands between two pieces.
-#[derive(Debug, Clone, Copy, PartialEq, Eq)]
-pub enum Piece {
     /// What of a function stands before its name: `async function*`
     FunctionHead,
     /// What of a method stands before its name: `async *`
@@ -90,6 +44,10 @@ pub enum Piece {
     /// What of a function that is declared, or of a private method, stands behind its name: `(a) { b; }`, and `(a);` where it has no body.
     /// Behind that semicolon a line may be ended, since neither is an expression.
     DeclarationTail,
+    /// A declaration as a statement: where one of variables ends isn't recorded there.
+    Statement,
+    /// A template after its tag.
+    Tagged,
     /// What of a class stands before the word: `@a` of `@a class B {}`
     ClassHead,
     /// The word of a class, and what stands right before it: `abstract class`
@@ -100,10 +58,21 @@ pub enum Piece {
     MethodDecorators,
     /// The function of a method, whose decorators stand elsewhere: `() {}` of `@a b() {}`
     MethodTail,
+    /// The value of a field, where a sequence stands in parentheses: `(a, b)` of `class B { c = (a, b); }`
+    FieldValue,
     /// What of a declaration stands before `export`: `@a` of `@a export class B {}`
     ExportedHead,
     /// And what stands after it: `class B {}`
     ExportedTail,
+    /// Between two tags: `<b/>` and `{c}` of `<a><b/>{c}</a>`
+    Child,
+    /// Type arguments behind the name of a type, and the type of a getter, which leave the comments before them: `<B>` of `A<B>`, `C` of
+    /// `{ get a(): C; }`
+    Reference,
+    /// The body of a namespace behind its name: ` {}` of `namespace a {}`, `.b {}` of `namespace a.b {}`
+    Dotted,
+    /// By itself, with this greatest length of lines, where it is a module or script: `a;b` by itself with 2 is `a;` LF `b`
+    Lines(u32),
 }
 
 /// What a node tells those above it.
@@ -229,39 +198,13 @@ pub trait Asked: Known {
 pub trait EmitAt {
     ghost items: { Self → At → Part };
 
-    /// Prints this of it, unless a call was refused before. Why one is, the emitter keeps.
+    /// Prints it, unless a call was refused before. Why one is, the emitter keeps.
     fn emit_at<W: WriteJs, S: SourceMapper, C: Comments>(
         &self,
         e: &mut Emitter<'_, W, S, C>,
         place: Place,
     )
         ensures items { Performs (items self.now place) S.lines C.maps W.sheet e.old e.new };
-
-    /// Prints the whole of it, in this context.
-    #[inline(always)]
-    final fn emit_in<W: WriteJs, S: SourceMapper, C: Comments>(
-        &self,
-        e: &mut Emitter<'_, W, S, C>,
-        context: Context,
-    )
-        ensures items { Performs (items self.now (Whole context))
-            S.lines C.maps W.sheet e.old e.new }
-    {
-        self.emit_at(e, Place::Whole(context))
-    }
-
-    /// Prints this piece of it alone.
-    #[inline(always)]
-    final fn emit_piece<W: WriteJs, S: SourceMapper, C: Comments>(
-        &self,
-        e: &mut Emitter<'_, W, S, C>,
-        piece: Piece,
-    )
-        ensures items { Performs (items self.now (Only piece))
-            S.lines C.maps W.sheet e.old e.new }
-    {
-        self.emit_at(e, Place::Only(piece))
-    }
 }
 
 /// What a list has to know of a child, besides how it is printed.

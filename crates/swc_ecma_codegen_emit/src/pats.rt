@@ -8,7 +8,7 @@ ghost use Rattle.swc_ecma_codegen_emit.specs.Pats.{initializer, array_pat_format
 
 use crate::calls::ends_with_hole;
 use crate::emitter::Emitter;
-use crate::nodes::{Asked, Child, Context, EmitAt, LinkTarget, Place};
+use crate::nodes::{Asked, Child, EmitAt, LinkTarget, Place};
 use bitflags::Flags;
 use swc_ecma_codegen_common::Span;
 use swc_ecma_codegen_grammar::ListFormat;
@@ -50,13 +50,13 @@ impl<N: LinkTarget> EmitAt for Pat<N> {
         place: Place,
     ) {
         match self {
-            Pat::Ident(node) => node.emit_in(e, Context::Plain),
-            Pat::Array(node) => node.emit_in(e, Context::Plain),
-            Pat::Rest(node) => node.emit_in(e, Context::Plain),
-            Pat::Object(node) => node.emit_in(e, Context::Plain),
-            Pat::Assign(node) => node.emit_in(e, Context::Plain),
+            Pat::Ident(node) => node.emit_at(e, Place::Plain),
+            Pat::Array(node) => node.emit_at(e, Place::Plain),
+            Pat::Rest(node) => node.emit_at(e, Place::Plain),
+            Pat::Object(node) => node.emit_at(e, Place::Plain),
+            Pat::Assign(node) => node.emit_at(e, Place::Plain),
             Pat::Invalid(_) => e.unsupported(),
-            Pat::Expr(node) => node.target().emit_in(e, Context::Plain),
+            Pat::Expr(node) => node.target().emit_at(e, Place::Plain),
         }
         e.trailing_comments(pat_place(self).hi, true);
     }
@@ -73,7 +73,7 @@ impl<N: LinkTarget> EmitAt for RestPat<N> {
     ) {
         e.leading_comments(self.span.lo);
         e.placed_punct(self.dot3_token, Punctuator::Ellipsis);
-        self.arg.target().emit_in(e, Context::Plain);
+        self.arg.target().emit_at(e, Place::Plain);
         e.annotation(&self.type_ann);
     }
 }
@@ -88,8 +88,8 @@ impl<N: LinkTarget> EmitAt for AssignTargetPat<N> {
         place: Place,
     ) {
         match self {
-            AssignTargetPat::Array(node) => node.emit_in(e, Context::Plain),
-            AssignTargetPat::Object(node) => node.emit_in(e, Context::Plain),
+            AssignTargetPat::Array(node) => node.emit_at(e, Place::Plain),
+            AssignTargetPat::Object(node) => node.emit_at(e, Place::Plain),
             AssignTargetPat::Invalid(_) => e.unsupported(),
         }
     }
@@ -124,9 +124,9 @@ impl<N: LinkTarget> EmitAt for AssignPat<N> {
         place: Place,
     ) {
         e.opened(self.span);
-        self.left.target().emit_in(e, Context::Plain);
+        self.left.target().emit_at(e, Place::Plain);
         e.spaced_punct(Punctuator::Equal);
-        self.right.target().emit_in(e, Context::Plain);
+        self.right.target().emit_at(e, Place::Plain);
         e.end_of(self.span);
     }
 }
@@ -160,9 +160,9 @@ impl<N: LinkTarget> EmitAt for ObjectPatProp<N> {
         place: Place,
     ) {
         match self {
-            ObjectPatProp::KeyValue(node) => node.emit_in(e, Context::Plain),
-            ObjectPatProp::Assign(node) => node.emit_in(e, Context::Plain),
-            ObjectPatProp::Rest(node) => node.emit_in(e, Context::Plain),
+            ObjectPatProp::KeyValue(node) => node.emit_at(e, Place::Plain),
+            ObjectPatProp::Assign(node) => node.emit_at(e, Place::Plain),
+            ObjectPatProp::Rest(node) => node.emit_at(e, Place::Plain),
         }
     }
 }
@@ -193,10 +193,10 @@ impl<N: LinkTarget> EmitAt for KeyValuePatProp<N> {
         place: Place,
     ) {
         e.opened(self.key.span());
-        self.key.emit_in(e, Context::Plain);
+        self.key.emit_at(e, Place::Plain);
         e.punct(Punctuator::Colon);
         e.formatting_space();
-        self.value.target().emit_in(e, Context::Plain);
+        self.value.target().emit_at(e, Place::Plain);
         e.end_of(self.value.target().place());
     }
 }
@@ -211,7 +211,7 @@ impl<N: LinkTarget> EmitAt for AssignPatProp<N> {
         place: Place,
     ) {
         e.opened(self.span);
-        self.key.emit_in(e, Context::Plain);
+        self.key.emit_at(e, Place::Plain);
         e.initializer(&self.value);
         e.end_of(self.span);
     }
@@ -257,7 +257,7 @@ impl<W: WriteJs, S: SourceMapper, C: Comments> Emitter<'_, W, S, C> {
         ensures items { Performs (definite_ident N.items node.now)
             S.lines C.maps W.sheet self.old self.new }
     {
-        node.id.emit_in(self, Context::Plain);
+        node.id.emit_at(self, Place::Plain);
         self.punct(Punctuator::Bang);
         self.annotation(&node.type_ann);
         self.trailing_comments(node.id.span.hi, true);
@@ -271,7 +271,7 @@ impl<W: WriteJs, S: SourceMapper, C: Comments> Emitter<'_, W, S, C> {
     {
         match node {
             Pat::Ident(node) => self.definite_ident(node),
-            _ => node.emit_in(self, Context::Plain),
+            _ => node.emit_at(self, Place::Plain),
         }
     }
 
@@ -284,7 +284,7 @@ impl<W: WriteJs, S: SourceMapper, C: Comments> Emitter<'_, W, S, C> {
         if definite {
             return self.definite_pat(node);
         }
-        node.emit_in(self, Context::Plain);
+        node.emit_at(self, Place::Plain);
     }
 
     /// Writes `= b` of `a = b`.
@@ -296,7 +296,7 @@ impl<W: WriteJs, S: SourceMapper, C: Comments> Emitter<'_, W, S, C> {
         match value {
             Some(value) => {
                 self.spaced_punct(Punctuator::Equal);
-                value.target().emit_in(self, Context::Plain)
+                value.target().emit_at(self, Place::Plain)
             }
             None => {}
         }

@@ -13,7 +13,7 @@ ghost use Rattle.swc_ecma_codegen_emit.specs.Props.{key_end, value_start, key_va
 use crate::blocks::is_some_listed;
 use crate::commented::wants_lines;
 use crate::emitter::Emitter;
-use crate::nodes::{Child, Context, EmitAt, LinkTarget, Piece, Place};
+use crate::nodes::{Child, EmitAt, LinkTarget, Place};
 use crate::places::{prop_place, spread_element_place};
 use bitflags::Flags;
 use swc_ecma_codegen_common::Span;
@@ -55,10 +55,10 @@ impl<N: LinkTarget> EmitAt for PropName<N> {
     ) {
         match self {
             PropName::Ident(name) => e.key(name.span, &name.sym),
-            PropName::Str(node) => (**node).emit_in(e, Context::Plain),
-            PropName::Num(node) => (**node).emit_in(e, Context::Plain),
-            PropName::BigInt(node) => (**node).emit_in(e, Context::Plain),
-            PropName::Computed(node) => node.emit_in(e, Context::Plain),
+            PropName::Str(node) => (**node).emit_at(e, Place::Plain),
+            PropName::Num(node) => (**node).emit_at(e, Place::Plain),
+            PropName::BigInt(node) => (**node).emit_at(e, Place::Plain),
+            PropName::Computed(node) => node.emit_at(e, Place::Plain),
         }
     }
 }
@@ -90,12 +90,12 @@ impl<N: LinkTarget> EmitAt for Prop<N> {
         place: Place,
     ) {
         match self {
-            Prop::Shorthand(node) => node.emit_in(e, Context::Plain),
-            Prop::KeyValue(node) => node.emit_in(e, Context::Plain),
-            Prop::Assign(node) => node.emit_in(e, Context::Plain),
-            Prop::Getter(node) => node.emit_in(e, Context::Plain),
-            Prop::Setter(node) => node.emit_in(e, Context::Plain),
-            Prop::Method(node) => node.emit_in(e, Context::Plain),
+            Prop::Shorthand(node) => node.emit_at(e, Place::Plain),
+            Prop::KeyValue(node) => node.emit_at(e, Place::Plain),
+            Prop::Assign(node) => node.emit_at(e, Place::Plain),
+            Prop::Getter(node) => node.emit_at(e, Place::Plain),
+            Prop::Setter(node) => node.emit_at(e, Place::Plain),
+            Prop::Method(node) => node.emit_at(e, Place::Plain),
         }
     }
 }
@@ -112,12 +112,12 @@ impl<N: LinkTarget> EmitAt for KeyValueProp<N> {
         let name = self.key.span();
         let value = self.value.target().place();
         e.opened(name);
-        self.key.emit_in(e, Context::Plain);
+        self.key.emit_at(e, Place::Plain);
         e.key_end(name, value);
         e.punct(Punctuator::Colon);
         e.formatting_space();
         e.value_start(name, value);
-        self.value.target().emit_in(e, Context::Plain);
+        self.value.target().emit_at(e, Place::Plain);
     }
 }
 
@@ -131,9 +131,9 @@ impl<N: LinkTarget> EmitAt for AssignProp<N> {
         place: Place,
     ) {
         e.opened(self.key.span);
-        self.key.emit_in(e, Context::Plain);
+        self.key.emit_at(e, Place::Plain);
         e.punct(Punctuator::Equal);
-        self.value.target().emit_in(e, Context::Plain);
+        self.value.target().emit_at(e, Place::Plain);
     }
 }
 
@@ -169,7 +169,7 @@ impl<N: LinkTarget> EmitAt for SetterProp<N> {
         e.accessor("set", &self.key);
         e.punct(Punctuator::LeftParenthesis);
         e.this_param(&self.this_param);
-        self.param.target().emit_in(e, Context::Plain);
+        self.param.target().emit_at(e, Place::Plain);
         e.punct(Punctuator::RightParenthesis);
         e.optional_body(&self.body);
     }
@@ -185,10 +185,10 @@ impl<N: LinkTarget> EmitAt for MethodProp<N> {
         place: Place,
     ) {
         e.opened(self.key.span());
-        self.function.target().emit_piece(e, Piece::MethodHead);
-        self.key.emit_in(e, Context::Plain);
+        self.function.target().emit_at(e, Place::MethodHead);
+        self.key.emit_at(e, Place::Plain);
         e.formatting_space();
-        self.function.target().emit_piece(e, Piece::DeclarationTail);
+        self.function.target().emit_at(e, Place::DeclarationTail);
     }
 }
 
@@ -202,8 +202,8 @@ impl<N: LinkTarget> EmitAt for PropOrSpread<N> {
         place: Place,
     ) {
         match self {
-            PropOrSpread::Spread(node) => node.emit_in(e, Context::Plain),
-            PropOrSpread::Prop(node) => node.emit_in(e, Context::Plain),
+            PropOrSpread::Spread(node) => node.emit_at(e, Place::Plain),
+            PropOrSpread::Prop(node) => node.emit_at(e, Place::Plain),
         }
     }
 }
@@ -250,7 +250,7 @@ impl<W: WriteJs, S: SourceMapper, C: Comments> Emitter<'_, W, S, C> {
     {
         self.keyword(None, word);
         self.blank(name.target().starts());
-        name.target().emit_in(self, Context::Plain);
+        name.target().emit_at(self, Place::Plain);
         self.formatting_space();
     }
 
@@ -263,7 +263,7 @@ impl<W: WriteJs, S: SourceMapper, C: Comments> Emitter<'_, W, S, C> {
         match ty {
             Some(node) => {
                 self.punct(Punctuator::Colon);
-                node.target().emit_in(self, Context::Plain)
+                node.target().emit_at(self, Place::Plain)
             }
             None => {}
         }
@@ -277,7 +277,7 @@ impl<W: WriteJs, S: SourceMapper, C: Comments> Emitter<'_, W, S, C> {
     {
         match param {
             Some(node) => {
-                node.target().emit_in(self, Context::Plain);
+                node.target().emit_at(self, Place::Plain);
                 self.punct(Punctuator::Comma);
                 self.formatting_space();
             }
@@ -292,7 +292,7 @@ impl<W: WriteJs, S: SourceMapper, C: Comments> Emitter<'_, W, S, C> {
             S.lines C.maps W.sheet self.old self.new }
     {
         match body {
-            Some(body) => body.target().emit_in(self, Context::Plain),
+            Some(body) => body.target().emit_at(self, Place::Plain),
             None => {}
         }
     }

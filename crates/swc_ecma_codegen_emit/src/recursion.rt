@@ -55,7 +55,7 @@ impl EmitAt for AnyNode {
         place: Place,
     ) {
         match self {
-            AnyNode::Expr(node) => placed_expr(node, e, place.context()),
+            AnyNode::Expr(node) => placed_expr(node, e, place),
             AnyNode::Stmt(node) => node.emit_at(e, place),
             AnyNode::MemberExpr(node) => node.emit_at(e, place),
             AnyNode::ExprPart(node) => node.emit_at(e, place),

@@ -15,7 +15,7 @@ ghost use Rattle.swc_ecma_codegen_emit.specs.Programs.{start_if_empty, program_s
 
 use crate::branches::is_block;
 use crate::emitter::Emitter;
-use crate::nodes::{Child, Context, EmitAt, LinkTarget, Place};
+use crate::nodes::{Child, EmitAt, LinkTarget, Place};
 use crate::places::stmt_place;
 use swc_ecma_codegen_common::Span;
 use swc_ecma_codegen_grammar::comments::Comments;
@@ -39,25 +39,25 @@ fn stmt_parts<N: LinkTarget, W: WriteJs, S: SourceMapper, C: Comments>(
         S.lines C.maps W.sheet e.old e.new }
 {
     match node {
-        Stmt::Expr(node) => node.emit_in(e, Context::Plain),
-        Stmt::Block(node) => node.target().emit_in(e, Context::Plain),
-        Stmt::Empty(node) => node.emit_in(e, Context::Plain),
-        Stmt::Debugger(node) => node.emit_in(e, Context::Plain),
-        Stmt::With(node) => node.emit_in(e, Context::Plain),
-        Stmt::Return(node) => node.emit_in(e, Context::Plain),
-        Stmt::Labeled(node) => node.emit_in(e, Context::Plain),
-        Stmt::Break(node) => node.emit_in(e, Context::Plain),
-        Stmt::Continue(node) => node.emit_in(e, Context::Plain),
-        Stmt::If(node) => node.emit_in(e, Context::Plain),
-        Stmt::Switch(node) => node.emit_in(e, Context::Plain),
-        Stmt::Throw(node) => node.emit_in(e, Context::Plain),
-        Stmt::Try(node) => node.emit_in(e, Context::Plain),
-        Stmt::While(node) => node.emit_in(e, Context::Plain),
-        Stmt::DoWhile(node) => node.emit_in(e, Context::Plain),
-        Stmt::For(node) => node.emit_in(e, Context::Plain),
-        Stmt::ForIn(node) => node.emit_in(e, Context::Plain),
-        Stmt::ForOf(node) => node.emit_in(e, Context::Plain),
-        Stmt::Decl(node) => node.emit_in(e, Context::Statement),
+        Stmt::Expr(node) => node.emit_at(e, Place::Plain),
+        Stmt::Block(node) => node.target().emit_at(e, Place::Plain),
+        Stmt::Empty(node) => node.emit_at(e, Place::Plain),
+        Stmt::Debugger(node) => node.emit_at(e, Place::Plain),
+        Stmt::With(node) => node.emit_at(e, Place::Plain),
+        Stmt::Return(node) => node.emit_at(e, Place::Plain),
+        Stmt::Labeled(node) => node.emit_at(e, Place::Plain),
+        Stmt::Break(node) => node.emit_at(e, Place::Plain),
+        Stmt::Continue(node) => node.emit_at(e, Place::Plain),
+        Stmt::If(node) => node.emit_at(e, Place::Plain),
+        Stmt::Switch(node) => node.emit_at(e, Place::Plain),
+        Stmt::Throw(node) => node.emit_at(e, Place::Plain),
+        Stmt::Try(node) => node.emit_at(e, Place::Plain),
+        Stmt::While(node) => node.emit_at(e, Place::Plain),
+        Stmt::DoWhile(node) => node.emit_at(e, Place::Plain),
+        Stmt::For(node) => node.emit_at(e, Place::Plain),
+        Stmt::ForIn(node) => node.emit_at(e, Place::Plain),
+        Stmt::ForOf(node) => node.emit_at(e, Place::Plain),
+        Stmt::Decl(node) => node.emit_at(e, Place::Statement),
     }
 }
 
@@ -94,7 +94,7 @@ impl<N: LinkTarget> EmitAt for ExprStmt<N> {
         place: Place,
     ) {
         e.leading_comments(self.span.lo);
-        self.expr.target().emit_in(e, Context::Plain);
+        self.expr.target().emit_at(e, Place::Plain);
         e.semi();
     }
 }
@@ -143,7 +143,7 @@ impl<N: LinkTarget> EmitAt for WithStmt<N> {
         e.keyword(None, "with");
         e.formatting_space();
         e.enclosed(&self.obj);
-        self.body.target().emit_in(e, Context::Plain);
+        self.body.target().emit_at(e, Place::Plain);
     }
 }
 
@@ -172,10 +172,10 @@ impl<N: LinkTarget> EmitAt for LabeledStmt<N> {
         place: Place,
     ) {
         e.commit_pending_semi();
-        self.label.emit_in(e, Context::Plain);
+        self.label.emit_at(e, Place::Plain);
         e.punct(Punctuator::Colon);
         e.formatting_space();
-        self.body.target().emit_in(e, Context::Plain);
+        self.body.target().emit_at(e, Place::Plain);
     }
 }
 
@@ -217,7 +217,7 @@ impl<N: LinkTarget> EmitAt for IfStmt<N> {
         e.spaced_word(self.span, "if");
         e.enclosed(&self.test);
         e.formatting_space();
-        self.cons.target().emit_in(e, Context::Plain);
+        self.cons.target().emit_at(e, Place::Plain);
         e.else_branch(self.cons.target().block(), &self.alt);
     }
 }
@@ -236,7 +236,7 @@ impl<N: LinkTarget> EmitAt for CatchClause<N> {
         e.formatting_space();
         e.catch_param(&self.param);
         e.formatting_space();
-        self.body.target().emit_in(e, Context::Plain);
+        self.body.target().emit_at(e, Place::Plain);
     }
 }
 
@@ -266,7 +266,7 @@ impl<N: LinkTarget> EmitAt for TryStmt<N> {
         place: Place,
     ) {
         e.spaced_word(self.span, "try");
-        self.block.target().emit_in(e, Context::Plain);
+        self.block.target().emit_at(e, Place::Plain);
         e.handler(&self.handler);
         e.finalizer(&self.finalizer);
     }
@@ -373,7 +373,7 @@ impl<W: WriteJs, S: SourceMapper, C: Comments> Emitter<'_, W, S, C> {
             S.lines C.maps W.sheet self.old self.new }
     {
         self.punct(Punctuator::LeftParenthesis);
-        node.target().emit_in(self, Context::Plain);
+        node.target().emit_at(self, Place::Plain);
         self.punct(Punctuator::RightParenthesis);
     }
 
@@ -384,7 +384,7 @@ impl<W: WriteJs, S: SourceMapper, C: Comments> Emitter<'_, W, S, C> {
             S.lines C.maps W.sheet self.old self.new }
     {
         self.blank(node.starts());
-        node.emit_in(self, Context::Plain);
+        node.emit_at(self, Place::Plain);
     }
 
     /// Writes an argument behind a word.
@@ -405,7 +405,7 @@ impl<W: WriteJs, S: SourceMapper, C: Comments> Emitter<'_, W, S, C> {
     {
         if breaks {
             self.punct(Punctuator::LeftParenthesis);
-            node.emit_in(self, Context::Plain);
+            node.emit_at(self, Place::Plain);
             self.punct(Punctuator::RightParenthesis);
         } else {
             self.spaced(node);
@@ -499,7 +499,7 @@ impl<W: WriteJs, S: SourceMapper, C: Comments> Emitter<'_, W, S, C> {
         match param {
             Some(node) => {
                 self.punct(Punctuator::LeftParenthesis);
-                node.target().emit_in(self, Context::Plain);
+                node.target().emit_at(self, Place::Plain);
                 self.punct(Punctuator::RightParenthesis)
             }
             None => {}
@@ -515,7 +515,7 @@ impl<W: WriteJs, S: SourceMapper, C: Comments> Emitter<'_, W, S, C> {
         match node {
             Some(node) => {
                 self.formatting_space();
-                node.emit_in(self, Context::Plain)
+                node.emit_at(self, Place::Plain)
             }
             None => {}
         }
@@ -531,7 +531,7 @@ impl<W: WriteJs, S: SourceMapper, C: Comments> Emitter<'_, W, S, C> {
             Some(node) => {
                 self.formatting_space();
                 self.keyword(None, "finally");
-                node.target().emit_in(self, Context::Plain)
+                node.target().emit_at(self, Place::Plain)
             }
             None => {}
         }

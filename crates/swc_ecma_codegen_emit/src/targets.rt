@@ -4,7 +4,7 @@ ghost use Rattle.swc_ecma_codegen_emit.specs.Names.{binding_ident};
 ghost use Rattle.swc_ecma_codegen_emit.specs.Targets.{simple_assign_target, assign_target};
 
 use crate::emitter::Emitter;
-use crate::nodes::{Context, EmitAt, LinkTarget, Place};
+use crate::nodes::{EmitAt, LinkTarget, Place};
 use swc_ecma_codegen_grammar::comments::Comments;
 use swc_ecma_codegen_grammar::mapper::SourceMapper;
 use swc_ecma_codegen_text_writer::WriteJs;
@@ -51,7 +51,7 @@ impl<N: LinkTarget> EmitAt for SimpleAssignTarget<N> {
     ) {
         match self {
             SimpleAssignTarget::Ident(node) => node.emit_at(e, place),
-            SimpleAssignTarget::Member(node) => node.emit_in(e, Context::Plain),
+            SimpleAssignTarget::Member(node) => node.emit_at(e, Place::Plain),
             SimpleAssignTarget::SuperProp(node) => node.emit_at(e, place),
             SimpleAssignTarget::Paren(node) => node.emit_at(e, place),
             SimpleAssignTarget::OptChain(node) => node.emit_at(e, place),

@@ -4,10 +4,9 @@ ghost use Rattle.std.specs.Prelude.{◌≡◌};
 ghost use Rattle.swc_ecma_codegen_emit.specs.Standing.{Performs};
 ghost use Rattle.swc_ecma_codegen_emit.specs.TsDecls.{declare_word, ts_expr_with_type_args, extended_format, extended_list, some_extends, extends_clause, ts_interface_decl, ts_type_alias_decl, ts_enum_member_id, ts_enum_member, enum_format, enum_members, enum_body, ts_enum_decl, ts_module_name, module_head, module_tail, ts_module_decl, ts_external_module_ref, ts_module_ref, ts_import_equals_decl, ts_export_assignment, ts_namespace_export_decl};
 ghost use Rattle.swc_ecma_codegen_emit.specs.Namespaces.{module_block_format, block_items, ts_module_block, ts_namespace_decl, namespace_inside, braced_body, dotted_body, ts_namespace_body};
-ghost use Rattle.swc_ecma_codegen_emit.specs.Places.{in_context};
 
 use crate::emitter::Emitter;
-use crate::nodes::{Child, Context, EmitAt, LinkTarget, Place};
+use crate::nodes::{Child, EmitAt, LinkTarget, Place};
 use swc_ecma_codegen_common::Span;
 use swc_ecma_codegen_grammar::ListFormat;
 use swc_ecma_codegen_grammar::comments::Comments;
@@ -53,8 +52,8 @@ impl<N: LinkTarget> EmitAt for TsExprWithTypeArgs<N> {
         place: Place,
     ) {
         e.leading_comments(self.span.lo);
-        self.expr.target().emit_in(e, Context::Plain);
-        e.type_args(Context::Plain, &self.type_args);
+        self.expr.target().emit_at(e, Place::Plain);
+        e.type_args(Place::Plain, &self.type_args);
     }
 }
 
@@ -79,11 +78,11 @@ impl<N: LinkTarget> EmitAt for TsInterfaceDecl<N> {
         e.declare_word(self.declare);
         e.keyword(None, "interface");
         e.space();
-        self.id.emit_in(e, Context::Plain);
+        self.id.emit_at(e, Place::Plain);
         e.type_params(&self.type_params);
         e.extends_clause(self.span, &self.extends);
         e.formatting_space();
-        self.body.target().emit_in(e, Context::Plain);
+        self.body.target().emit_at(e, Place::Plain);
     }
 }
 
@@ -100,10 +99,10 @@ impl<N: LinkTarget> EmitAt for TsTypeAliasDecl<N> {
         e.declare_word(self.declare);
         e.keyword(None, "type");
         e.space();
-        self.id.emit_in(e, Context::Plain);
+        self.id.emit_at(e, Place::Plain);
         e.type_params(&self.type_params);
         e.spaced_punct(Punctuator::Equal);
-        self.type_ann.target().emit_in(e, Context::Plain);
+        self.type_ann.target().emit_at(e, Place::Plain);
         e.semi();
     }
 }
@@ -118,8 +117,8 @@ impl EmitAt for TsEnumMemberId {
         place: Place,
     ) {
         match self {
-            TsEnumMemberId::Ident(node) => node.emit_in(e, Context::Plain),
-            TsEnumMemberId::Str(node) => node.emit_in(e, Context::Plain),
+            TsEnumMemberId::Ident(node) => node.emit_at(e, Place::Plain),
+            TsEnumMemberId::Str(node) => node.emit_at(e, Place::Plain),
         }
     }
 }
@@ -134,7 +133,7 @@ impl<N: LinkTarget> EmitAt for TsEnumMember<N> {
         place: Place,
     ) {
         e.leading_comments(self.span.lo);
-        self.id.emit_in(e, Context::Plain);
+        self.id.emit_at(e, Place::Plain);
         e.initializer(&self.init);
     }
 }
@@ -161,7 +160,7 @@ impl<N: LinkTarget> EmitAt for TsEnumDecl<N> {
         e.word_before(self.is_const, "const");
         e.keyword(None, "enum");
         e.space();
-        self.id.emit_in(e, Context::Plain);
+        self.id.emit_at(e, Place::Plain);
         e.formatting_space();
         e.enum_body(self);
     }
@@ -180,12 +179,12 @@ impl EmitAt for TsModuleName {
             TsModuleName::Ident(node) => {
                 e.keyword(None, "namespace");
                 e.space();
-                node.emit_in(e, Context::Plain)
+                node.emit_at(e, Place::Plain)
             }
             TsModuleName::Str(node) => {
                 e.keyword(None, "module");
                 e.space();
-                node.emit_in(e, Context::Plain)
+                node.emit_at(e, Place::Plain)
             }
         }
     }
@@ -234,14 +233,14 @@ impl<N: LinkTarget> EmitAt for TsNamespaceDecl<N> {
         e.declare_word(self.declare);
         e.keyword(None, "namespace");
         e.space();
-        self.id.emit_in(e, Context::Plain);
+        self.id.emit_at(e, Place::Plain);
         e.formatting_space();
-        self.body.target().emit_in(e, Context::Plain);
+        self.body.target().emit_at(e, Place::Plain);
     }
 }
 
 impl<N: LinkTarget> EmitAt for TsNamespaceBody<N> {
-    ghost items = { λ n. in_context (ts_namespace_body N.answers N.items n) };
+    ghost items = { ts_namespace_body N.answers N.items };
 
     #[tactic(auto, unfolding(crate::specs::Namespaces::ts_namespace_body))]
     fn emit_at<W: WriteJs, S: SourceMapper, C: Comments>(
@@ -250,7 +249,7 @@ impl<N: LinkTarget> EmitAt for TsNamespaceBody<N> {
         place: Place,
     ) {
         match place {
-            Place::Whole(Context::Dotted) => e.dotted_body(self),
+            Place::Dotted => e.dotted_body(self),
             _ => e.braced_body(self),
         }
     }
@@ -268,7 +267,7 @@ impl EmitAt for TsExternalModuleRef {
         e.leading_comments(self.span.lo);
         e.keyword(None, "require");
         e.punct(Punctuator::LeftParenthesis);
-        self.expr.emit_in(e, Context::Plain);
+        self.expr.emit_at(e, Place::Plain);
         e.punct(Punctuator::RightParenthesis);
     }
 }
@@ -283,8 +282,8 @@ impl<N: LinkTarget> EmitAt for TsModuleRef<N> {
         place: Place,
     ) {
         match self {
-            TsModuleRef::TsEntityName(node) => node.target().emit_in(e, Context::Plain),
-            TsModuleRef::TsExternalModuleRef(node) => node.emit_in(e, Context::Plain),
+            TsModuleRef::TsEntityName(node) => node.target().emit_at(e, Place::Plain),
+            TsModuleRef::TsExternalModuleRef(node) => node.emit_at(e, Place::Plain),
         }
     }
 }
@@ -303,9 +302,9 @@ impl<N: LinkTarget> EmitAt for TsImportEqualsDecl<N> {
         e.keyword(None, "import");
         e.space();
         e.word_before(self.is_type_only, "type");
-        self.id.emit_in(e, Context::Plain);
+        self.id.emit_at(e, Place::Plain);
         e.spaced_punct(Punctuator::Equal);
-        self.module_ref.emit_in(e, Context::Plain);
+        self.module_ref.emit_at(e, Place::Plain);
         e.semi();
     }
 }
@@ -322,7 +321,7 @@ impl<N: LinkTarget> EmitAt for TsExportAssignment<N> {
         e.leading_comments(self.span.lo);
         e.keyword(None, "export");
         e.spaced_punct(Punctuator::Equal);
-        self.expr.target().emit_in(e, Context::Plain);
+        self.expr.target().emit_at(e, Place::Plain);
         e.semi();
     }
 }
@@ -343,7 +342,7 @@ impl EmitAt for TsNamespaceExportDecl {
         e.space();
         e.keyword(None, "namespace");
         e.space();
-        self.id.emit_in(e, Context::Plain);
+        self.id.emit_at(e, Place::Plain);
         e.semi();
     }
 }
@@ -417,7 +416,7 @@ impl<W: WriteJs, S: SourceMapper, C: Comments> Emitter<'_, W, S, C> {
         if global {
             return self.keyword(None, "global");
         }
-        name.emit_in(self, Context::Plain)
+        name.emit_at(self, Place::Plain)
     }
 
     /// Writes the body behind the name, or the semicolon in its place.
@@ -427,7 +426,7 @@ impl<W: WriteJs, S: SourceMapper, C: Comments> Emitter<'_, W, S, C> {
             S.lines C.maps W.sheet self.old self.new }
     {
         match body {
-            Some(node) => node.target().emit_in(self, Context::Dotted),
+            Some(node) => node.target().emit_at(self, Place::Dotted),
             None => self.semi(),
         }
     }
@@ -447,8 +446,8 @@ impl<W: WriteJs, S: SourceMapper, C: Comments> Emitter<'_, W, S, C> {
             S.lines C.maps W.sheet self.old self.new }
     {
         match node {
-            TsNamespaceBody::TsModuleBlock(node) => node.emit_in(self, Context::Plain),
-            TsNamespaceBody::TsNamespaceDecl(node) => node.emit_in(self, Context::Plain),
+            TsNamespaceBody::TsModuleBlock(node) => node.emit_at(self, Place::Plain),
+            TsNamespaceBody::TsNamespaceDecl(node) => node.emit_at(self, Place::Plain),
         }
     }
 
@@ -479,8 +478,8 @@ impl<W: WriteJs, S: SourceMapper, C: Comments> Emitter<'_, W, S, C> {
             }
             TsNamespaceBody::TsNamespaceDecl(node) => {
                 self.punct(Punctuator::Dot);
-                node.id.emit_in(self, Context::Plain);
-                node.body.target().emit_in(self, Context::Dotted)
+                node.id.emit_at(self, Place::Plain);
+                node.body.target().emit_at(self, Place::Dotted)
             }
         }
     }

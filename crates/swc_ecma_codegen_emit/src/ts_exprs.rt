@@ -3,7 +3,7 @@
 ghost use Rattle.swc_ecma_codegen_emit.specs.TsExprs.{ts_as_expr, ts_const_assertion, ts_satisfies_expr, ts_non_null_expr, ts_type_assertion, ts_instantiation};
 
 use crate::emitter::Emitter;
-use crate::nodes::{Context, EmitAt, LinkTarget, Place};
+use crate::nodes::{EmitAt, LinkTarget, Place};
 use swc_ecma_codegen_grammar::comments::Comments;
 use swc_ecma_codegen_grammar::mapper::SourceMapper;
 use swc_ecma_codegen_literals::Punctuator;
@@ -22,11 +22,11 @@ impl<N: LinkTarget> EmitAt for TsAsExpr<N> {
         place: Place,
     ) {
         e.leading_comments(self.span.lo);
-        self.expr.target().emit_in(e, Context::Plain);
+        self.expr.target().emit_at(e, Place::Plain);
         e.space();
         e.keyword(None, "as");
         e.space();
-        self.type_ann.target().emit_in(e, Context::Plain);
+        self.type_ann.target().emit_at(e, Place::Plain);
     }
 }
 
@@ -40,7 +40,7 @@ impl<N: LinkTarget> EmitAt for TsConstAssertion<N> {
         place: Place,
     ) {
         e.leading_comments(self.span.lo);
-        self.expr.target().emit_in(e, Context::Plain);
+        self.expr.target().emit_at(e, Place::Plain);
         e.space();
         e.keyword(None, "as");
         e.space();
@@ -58,11 +58,11 @@ impl<N: LinkTarget> EmitAt for TsSatisfiesExpr<N> {
         place: Place,
     ) {
         e.leading_comments(self.span.lo);
-        self.expr.target().emit_in(e, Context::Plain);
+        self.expr.target().emit_at(e, Place::Plain);
         e.space();
         e.keyword(None, "satisfies");
         e.space();
-        self.type_ann.target().emit_in(e, Context::Plain);
+        self.type_ann.target().emit_at(e, Place::Plain);
     }
 }
 
@@ -76,7 +76,7 @@ impl<N: LinkTarget> EmitAt for TsNonNullExpr<N> {
         place: Place,
     ) {
         e.leading_comments(self.span.lo);
-        self.expr.target().emit_in(e, Context::Plain);
+        self.expr.target().emit_at(e, Place::Plain);
         e.punct(Punctuator::Bang);
     }
 }
@@ -92,9 +92,9 @@ impl<N: LinkTarget> EmitAt for TsTypeAssertion<N> {
     ) {
         e.leading_comments(self.span.lo);
         e.punct(Punctuator::Less);
-        self.type_ann.target().emit_in(e, Context::Plain);
+        self.type_ann.target().emit_at(e, Place::Plain);
         e.close();
-        self.expr.target().emit_in(e, Context::Plain);
+        self.expr.target().emit_at(e, Place::Plain);
     }
 }
 
@@ -108,7 +108,7 @@ impl<N: LinkTarget> EmitAt for TsInstantiation<N> {
         place: Place,
     ) {
         e.leading_comments(self.span.lo);
-        self.expr.target().emit_in(e, Context::Plain);
-        self.type_args.target().emit_in(e, Context::Plain);
+        self.expr.target().emit_at(e, Place::Plain);
+        self.type_args.target().emit_at(e, Place::Plain);
     }
 }

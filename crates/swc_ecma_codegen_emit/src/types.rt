@@ -7,10 +7,9 @@ ghost use Rattle.swc_ecma_codegen_emit.specs.Standing.{Performs};
 ghost use Rattle.swc_ecma_codegen_emit.specs.Templates.{tpl_parts};
 ghost use Rattle.swc_ecma_codegen_emit.specs.Annotations.{word_before};
 ghost use Rattle.swc_ecma_codegen_emit.specs.Types.{type_at, ts_keyword_type, ts_this_type, ts_tpl_lit_type, ts_lit, ts_lit_type, qualifier, ts_import_type, ts_type_query_expr, ts_type_query, members_format, listed_members, ts_type_lit, ts_array_type, label, ts_tuple_element, listed_elements, ts_tuple_type, ts_optional_type, ts_rest_type, union_format, intersection_format, joined_list, union_types, intersection_types, ts_union_type, ts_intersection_type, ts_union_or_intersection_type, ts_parenthesized_type, ts_type_operator, ts_indexed_access_type, ts_conditional_type, ts_infer_type, ts_type, ts_type_ann};
-ghost use Rattle.swc_ecma_codegen_emit.specs.Places.{in_context};
 
 use crate::emitter::Emitter;
-use crate::nodes::{Child, Context, EmitAt, LinkTarget, Place};
+use crate::nodes::{Child, EmitAt, LinkTarget, Place};
 use crate::templates::is_counted;
 use crate::type_params::types_format;
 use swc_ecma_codegen_common::Span;
@@ -139,11 +138,11 @@ impl<N: LinkTarget> EmitAt for TsLit<N> {
         place: Place,
     ) {
         match self {
-            TsLit::Number(node) => node.emit_in(e, Context::Plain),
-            TsLit::Str(node) => node.emit_in(e, Context::Plain),
-            TsLit::Bool(node) => node.emit_in(e, Context::Plain),
-            TsLit::BigInt(node) => node.emit_in(e, Context::Plain),
-            TsLit::Tpl(node) => node.emit_in(e, Context::Plain),
+            TsLit::Number(node) => node.emit_at(e, Place::Plain),
+            TsLit::Str(node) => node.emit_at(e, Place::Plain),
+            TsLit::Bool(node) => node.emit_at(e, Place::Plain),
+            TsLit::BigInt(node) => node.emit_at(e, Place::Plain),
+            TsLit::Tpl(node) => node.emit_at(e, Place::Plain),
         }
     }
 }
@@ -158,7 +157,7 @@ impl<N: LinkTarget> EmitAt for TsLitType<N> {
         place: Place,
     ) {
         e.leading_comments(self.span.lo);
-        self.lit.emit_in(e, Context::Plain);
+        self.lit.emit_at(e, Place::Plain);
     }
 }
 
@@ -174,10 +173,10 @@ impl<N: LinkTarget> EmitAt for TsImportType<N> {
         e.leading_comments(self.span.lo);
         e.keyword(None, "import");
         e.punct(Punctuator::LeftParenthesis);
-        self.arg.emit_in(e, Context::Plain);
+        self.arg.emit_at(e, Place::Plain);
         e.punct(Punctuator::RightParenthesis);
         e.qualifier(&self.qualifier);
-        e.type_args(Context::Plain, &self.type_args);
+        e.type_args(Place::Plain, &self.type_args);
     }
 }
 
@@ -191,8 +190,8 @@ impl<N: LinkTarget> EmitAt for TsTypeQueryExpr<N> {
         place: Place,
     ) {
         match self {
-            TsTypeQueryExpr::TsEntityName(node) => node.target().emit_in(e, Context::Plain),
-            TsTypeQueryExpr::Import(node) => node.emit_in(e, Context::Plain),
+            TsTypeQueryExpr::TsEntityName(node) => node.target().emit_at(e, Place::Plain),
+            TsTypeQueryExpr::Import(node) => node.emit_at(e, Place::Plain),
         }
     }
 }
@@ -209,8 +208,8 @@ impl<N: LinkTarget> EmitAt for TsTypeQuery<N> {
         e.leading_comments(self.span.lo);
         e.keyword(None, "typeof");
         e.space();
-        self.expr_name.emit_in(e, Context::Plain);
-        e.type_args(Context::Plain, &self.type_args);
+        self.expr_name.emit_at(e, Place::Plain);
+        e.type_args(Place::Plain, &self.type_args);
     }
 }
 
@@ -240,7 +239,7 @@ impl<N: LinkTarget> EmitAt for TsArrayType<N> {
         place: Place,
     ) {
         e.leading_comments(self.span.lo);
-        self.elem_type.target().emit_in(e, Context::Plain);
+        self.elem_type.target().emit_at(e, Place::Plain);
         e.punct(Punctuator::LeftBracket);
         e.punct(Punctuator::RightBracket);
     }
@@ -257,7 +256,7 @@ impl<N: LinkTarget> EmitAt for TsTupleElement<N> {
     ) {
         e.leading_comments(self.span.lo);
         e.label(&self.label);
-        self.ty.target().emit_in(e, Context::Plain);
+        self.ty.target().emit_at(e, Place::Plain);
     }
 }
 
@@ -295,7 +294,7 @@ impl<N: LinkTarget> EmitAt for TsOptionalType<N> {
         place: Place,
     ) {
         e.leading_comments(self.span.lo);
-        self.type_ann.target().emit_in(e, Context::Plain);
+        self.type_ann.target().emit_at(e, Place::Plain);
         e.punct(Punctuator::Question);
     }
 }
@@ -311,7 +310,7 @@ impl<N: LinkTarget> EmitAt for TsRestType<N> {
     ) {
         e.leading_comments(self.span.lo);
         e.punct(Punctuator::Ellipsis);
-        self.type_ann.target().emit_in(e, Context::Plain);
+        self.type_ann.target().emit_at(e, Place::Plain);
     }
 }
 
@@ -353,8 +352,8 @@ impl<N: LinkTarget> EmitAt for TsUnionOrIntersectionType<N> {
         place: Place,
     ) {
         match self {
-            TsUnionOrIntersectionType::TsUnionType(node) => node.emit_in(e, Context::Plain),
-            TsUnionOrIntersectionType::TsIntersectionType(node) => node.emit_in(e, Context::Plain),
+            TsUnionOrIntersectionType::TsUnionType(node) => node.emit_at(e, Place::Plain),
+            TsUnionOrIntersectionType::TsIntersectionType(node) => node.emit_at(e, Place::Plain),
         }
     }
 }
@@ -370,7 +369,7 @@ impl<N: LinkTarget> EmitAt for TsParenthesizedType<N> {
     ) {
         e.leading_comments(self.span.lo);
         e.punct(Punctuator::LeftParenthesis);
-        self.type_ann.target().emit_in(e, Context::Plain);
+        self.type_ann.target().emit_at(e, Place::Plain);
         e.punct(Punctuator::RightParenthesis);
     }
 }
@@ -387,7 +386,7 @@ impl<N: LinkTarget> EmitAt for TsTypeOperator<N> {
         e.leading_comments(self.span.lo);
         e.keyword(None, type_operator(self.op));
         e.space();
-        self.type_ann.target().emit_in(e, Context::Plain);
+        self.type_ann.target().emit_at(e, Place::Plain);
     }
 }
 
@@ -401,9 +400,9 @@ impl<N: LinkTarget> EmitAt for TsIndexedAccessType<N> {
         place: Place,
     ) {
         e.leading_comments(self.span.lo);
-        self.obj_type.target().emit_in(e, Context::Plain);
+        self.obj_type.target().emit_at(e, Place::Plain);
         e.punct(Punctuator::LeftBracket);
-        self.index_type.target().emit_in(e, Context::Plain);
+        self.index_type.target().emit_at(e, Place::Plain);
         e.punct(Punctuator::RightBracket);
     }
 }
@@ -418,15 +417,15 @@ impl<N: LinkTarget> EmitAt for TsConditionalType<N> {
         place: Place,
     ) {
         e.leading_comments(self.span.lo);
-        self.check_type.target().emit_in(e, Context::Plain);
+        self.check_type.target().emit_at(e, Place::Plain);
         e.space();
         e.keyword(None, "extends");
         e.space();
-        self.extends_type.target().emit_in(e, Context::Plain);
+        self.extends_type.target().emit_at(e, Place::Plain);
         e.punct_between(Punctuator::Question);
-        self.true_type.target().emit_in(e, Context::Plain);
+        self.true_type.target().emit_at(e, Place::Plain);
         e.punct_between(Punctuator::Colon);
-        self.false_type.target().emit_in(e, Context::Plain);
+        self.false_type.target().emit_at(e, Place::Plain);
     }
 }
 
@@ -442,7 +441,7 @@ impl<N: LinkTarget> EmitAt for TsInferType<N> {
         e.leading_comments(self.span.lo);
         e.keyword(None, "infer");
         e.space();
-        self.type_param.emit_in(e, Context::Plain);
+        self.type_param.emit_at(e, Place::Plain);
     }
 }
 
@@ -456,32 +455,32 @@ impl<N: LinkTarget> EmitAt for TsType<N> {
         place: Place,
     ) {
         match self {
-            TsType::TsKeywordType(node) => node.emit_in(e, Context::Plain),
-            TsType::TsThisType(node) => node.emit_in(e, Context::Plain),
-            TsType::TsFnOrConstructorType(node) => (**node).emit_in(e, Context::Plain),
-            TsType::TsTypeRef(node) => node.emit_in(e, Context::Plain),
-            TsType::TsTypeQuery(node) => (**node).emit_in(e, Context::Plain),
-            TsType::TsTypeLit(node) => node.emit_in(e, Context::Plain),
-            TsType::TsArrayType(node) => node.emit_in(e, Context::Plain),
-            TsType::TsTupleType(node) => node.emit_in(e, Context::Plain),
-            TsType::TsOptionalType(node) => node.emit_in(e, Context::Plain),
-            TsType::TsRestType(node) => node.emit_in(e, Context::Plain),
-            TsType::TsUnionOrIntersectionType(node) => node.emit_in(e, Context::Plain),
-            TsType::TsConditionalType(node) => node.emit_in(e, Context::Plain),
-            TsType::TsInferType(node) => (**node).emit_in(e, Context::Plain),
-            TsType::TsParenthesizedType(node) => node.emit_in(e, Context::Plain),
-            TsType::TsTypeOperator(node) => node.emit_in(e, Context::Plain),
-            TsType::TsIndexedAccessType(node) => node.emit_in(e, Context::Plain),
-            TsType::TsMappedType(node) => (**node).emit_in(e, Context::Plain),
-            TsType::TsLitType(node) => (**node).emit_in(e, Context::Plain),
-            TsType::TsTypePredicate(node) => (**node).emit_in(e, Context::Plain),
-            TsType::TsImportType(node) => (**node).emit_in(e, Context::Plain),
+            TsType::TsKeywordType(node) => node.emit_at(e, Place::Plain),
+            TsType::TsThisType(node) => node.emit_at(e, Place::Plain),
+            TsType::TsFnOrConstructorType(node) => (**node).emit_at(e, Place::Plain),
+            TsType::TsTypeRef(node) => node.emit_at(e, Place::Plain),
+            TsType::TsTypeQuery(node) => (**node).emit_at(e, Place::Plain),
+            TsType::TsTypeLit(node) => node.emit_at(e, Place::Plain),
+            TsType::TsArrayType(node) => node.emit_at(e, Place::Plain),
+            TsType::TsTupleType(node) => node.emit_at(e, Place::Plain),
+            TsType::TsOptionalType(node) => node.emit_at(e, Place::Plain),
+            TsType::TsRestType(node) => node.emit_at(e, Place::Plain),
+            TsType::TsUnionOrIntersectionType(node) => node.emit_at(e, Place::Plain),
+            TsType::TsConditionalType(node) => node.emit_at(e, Place::Plain),
+            TsType::TsInferType(node) => (**node).emit_at(e, Place::Plain),
+            TsType::TsParenthesizedType(node) => node.emit_at(e, Place::Plain),
+            TsType::TsTypeOperator(node) => node.emit_at(e, Place::Plain),
+            TsType::TsIndexedAccessType(node) => node.emit_at(e, Place::Plain),
+            TsType::TsMappedType(node) => (**node).emit_at(e, Place::Plain),
+            TsType::TsLitType(node) => (**node).emit_at(e, Place::Plain),
+            TsType::TsTypePredicate(node) => (**node).emit_at(e, Place::Plain),
+            TsType::TsImportType(node) => (**node).emit_at(e, Place::Plain),
         }
     }
 }
 
 impl<N: LinkTarget> EmitAt for TsTypeAnn<N> {
-    ghost items = { λ n. in_context (ts_type_ann N.answers N.items n) };
+    ghost items = { ts_type_ann N.answers N.items };
 
     #[tactic(auto, unfolding(crate::specs::Types::ts_type_ann))]
     fn emit_at<W: WriteJs, S: SourceMapper, C: Comments>(
@@ -490,10 +489,10 @@ impl<N: LinkTarget> EmitAt for TsTypeAnn<N> {
         place: Place,
     ) {
         match place {
-            Place::Whole(Context::Reference) => self.type_ann.emit_in(e, Context::Plain),
+            Place::Reference => self.type_ann.emit_at(e, Place::Plain),
             _ => {
                 e.leading_comments(self.span.lo);
-                self.type_ann.emit_in(e, Context::Plain)
+                self.type_ann.emit_at(e, Place::Plain)
             }
         }
     }
@@ -530,7 +529,7 @@ impl<W: WriteJs, S: SourceMapper, C: Comments> Emitter<'_, W, S, C> {
         match name {
             Some(node) => {
                 self.punct(Punctuator::Dot);
-                node.target().emit_in(self, Context::Plain)
+                node.target().emit_at(self, Place::Plain)
             }
             None => {}
         }
@@ -551,7 +550,7 @@ impl<W: WriteJs, S: SourceMapper, C: Comments> Emitter<'_, W, S, C> {
     {
         match pat {
             Some(node) => {
-                node.target().emit_in(self, Context::Plain);
+                node.target().emit_at(self, Place::Plain);
                 self.punct(Punctuator::Colon);
                 self.formatting_space()
             }
