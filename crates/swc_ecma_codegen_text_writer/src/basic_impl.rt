@@ -11,6 +11,7 @@ ghost use Rattle.swc_ecma_codegen_text_writer.specs.Held.{notes_in};
 
 mod calls;
 mod lengths;
+mod recording;
 mod texts;
 
 use crate::columns::Column;
@@ -157,8 +158,8 @@ impl<'a, W: Write, K: KeepsPositions> Lines<'a, W, K> {
     ghost use Rattle.std.specs.Str.{is_utf8};
     ghost use Rattle.swc_ecma_codegen_common.specs.Refusals.{in_short, reason_of};
     ghost use Rattle.swc_ecma_codegen_text_writer.specs.Contents.{or_empty};
-    ghost use Rattle.swc_ecma_codegen_text_writer.specs.Sheet.{Writes, answered, Deeper, Shallower, released, appended, indented, noted, is_recorded, recorded, start_recorded, end_recorded, pending_recorded, started, written, literal_written};
-    ghost use Rattle.swc_ecma_codegen_text_writer.specs.View.{sheet_of, new_sheet, keeping, Prefaces, Tells, Reaches, WritesPosition, WritesNothing};
+    ghost use Rattle.swc_ecma_codegen_text_writer.specs.Sheet.{Writes, answered, Deeper, Shallower, released, appended, indented, recorded, start_recorded, end_recorded, started, written, literal_written};
+    ghost use Rattle.swc_ecma_codegen_text_writer.specs.View.{sheet_of, new_sheet, keeping, Prefaces, Tells, Reaches, WritesNothing};
 
     /// A writer at a line's start, with what keeps its positions.
     #[tactic(auto, unfolding(crate::specs::View::sheet_of, crate::specs::Places::after_text))]
@@ -461,117 +462,6 @@ impl<'a, W: Write, K: KeepsPositions> Lines<'a, W, K> {
         Ok(())
     }
 
-    /// Records a position, where positions are kept: while lines are filled it is held.
-    #[inline(always)]
-    fn record(&mut self, pos: BytePos) -> Answer
-        requires { (sheet_of self.old).refused ≡ false }
-        ensures { Reaches (recorded pos (sheet_of self.old)) (sheet_of self.old) (sheet_of self.new)
-            result }
-    {
-        if pos.0 == 0 || !self.kept.is_kept() {
-            return Ok(());
-        }
-        self.record_or_hold(pos)
-    }
-
-    /// The same where positions are kept, of one that isn't 0.
-    #[inline(always)]
-    fn record_or_hold(&mut self, pos: BytePos) -> Answer
-        requires fresh { (sheet_of self.old).refused ≡ false }
-        requires recorded { is_recorded pos (sheet_of self.old) ≡ true }
-        ensures { Reaches (recorded pos (sheet_of self.old)) (sheet_of self.old) (sheet_of self.new)
-            result }
-    {
-        match &mut self.held {
-            None => self.note(pos),
-            Some(held) => match held.segment.push_note(pos) {
-                Ok(()) => Ok(()),
-                Err(refusal) => {
-                    self.failed = true;
-                    self.plain = false;
-                    Err(refusal)
-                }
-            },
-        }
-    }
-
-    /// Records a position where the text ends that is out.
-    #[inline(always)]
-    fn note(&mut self, pos: BytePos) -> Answer
-        requires fresh { (sheet_of self.old).refused ≡ false }
-        requires keeps { (sheet_of self.old).keeps_positions ≡ true }
-        ensures { Reaches (noted pos (sheet_of self.old)) (sheet_of self.old) (sheet_of self.new)
-            result }
-    {
-        match self.kept.record(pos) {
-            Ok(()) => Ok(()),
-            Err(refusal) => {
-                self.failed = true;
-                self.plain = false;
-                Err(refusal)
-            }
-        }
-    }
-
-    /// Records the position that is pending.
-    #[inline(always)]
-    fn record_pending(&mut self) -> Answer
-        requires { (sheet_of self.old).refused ≡ false }
-        ensures { Reaches (pending_recorded (sheet_of self.old).pending (sheet_of self.old))
-            (sheet_of self.old) (sheet_of self.new) result }
-    {
-        match self.kept.take_pending() {
-            None => Ok(()),
-            Some(pos) => self.record_taken(pos),
-        }
-    }
-
-    /// Records the position that was pending.
-    #[inline(never)]
-    fn record_taken(&mut self, pos: BytePos) -> Answer
-        requires { (sheet_of self.old).refused ≡ false }
-        ensures { Reaches (recorded pos (sheet_of self.old)) (sheet_of self.old) (sheet_of self.new)
-            result }
-    {
-        self.record(pos)
-    }
-
-    /// Forgets the position that is pending.
-    #[tactic(auto, unfolding(crate::specs::View::sheet_of))]
-    fn drop_pending(&mut self)
-        ensures { sheet_of self.new ≡ record (sheet_of self.old) { pending = None } }
-    {
-        let _ = self.kept.take_pending();
-    }
-
-    /// Records where a span starts.
-    #[inline(always)]
-    #[tactic(auto, unfolding(crate::specs::View::Reaches, crate::specs::Sheet::start_recorded))]
-    fn record_start(&mut self, span: Option<Span>) -> Answer
-        requires { (sheet_of self.old).refused ≡ false }
-        ensures { Reaches (start_recorded span (sheet_of self.old)) (sheet_of self.old)
-            (sheet_of self.new) result }
-    {
-        match span {
-            None => Ok(()),
-            Some(span) => self.record(span.lo),
-        }
-    }
-
-    /// Records where a span ends.
-    #[inline(always)]
-    #[tactic(auto, unfolding(crate::specs::View::Reaches, crate::specs::Sheet::end_recorded))]
-    fn record_end(&mut self, span: Option<Span>) -> Answer
-        requires { (sheet_of self.old).refused ≡ false }
-        ensures { Reaches (end_recorded span (sheet_of self.old)) (sheet_of self.old)
-            (sheet_of self.new) result }
-    {
-        match span {
-            None => Ok(()),
-            Some(span) => self.record(span.hi),
-        }
-    }
-
     /// At a line's start, sends the indentation, and records the position that is pending.
     #[inline(always)]
     fn start_line(&mut self) -> Answer
@@ -633,20 +523,6 @@ impl<'a, W: Write, K: KeepsPositions> Lines<'a, W, K> {
         self.record(span.lo)?;
         self.put(None, text)?;
         self.record(span.hi)
-    }
-
-    /// Records a position for what comes next: at a line's start, once the line has begun.
-    fn point(&mut self, pos: BytePos) -> Answer
-        ensures { WritesPosition pos (sheet_of self.old) (sheet_of self.new) result }
-    {
-        if self.failed {
-            return Err(Refusal::Failed);
-        }
-        if self.kept.is_kept() && self.line_start {
-            self.kept.point(pos);
-            return Ok(());
-        }
-        self.record(pos)
     }
 
     /// One level more.
