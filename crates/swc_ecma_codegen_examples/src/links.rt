@@ -28,7 +28,8 @@ pub fn emitted_link_reads<K, N: EmitAt + Spanned, W: WriteJs, S: SourceMapper, C
         (state_of S.lines C.maps W.sheet e.old) (state_of S.lines C.maps W.sheet e.new)
         (in_short result) }
     ensures reads { (root : Root) → by_itself (N.items link.now.node.value) ≡ root_items root →
-        ReadsAsRoot root (state_of S.lines C.maps W.sheet e.old) (state_of S.lines C.maps W.sheet e.new)
+        ReadsAsRoot root (state_of S.lines C.maps W.sheet e.old)
+        (state_of S.lines C.maps W.sheet e.new)
         result }
 {
     link.emit_with(e)
@@ -43,7 +44,8 @@ pub fn emitted_ref_reads<T: EmitAt + Spanned, W: WriteJs, S: SourceMapper, C: Co
         (state_of S.lines C.maps W.sheet e.old) (state_of S.lines C.maps W.sheet e.new)
         (in_short result) }
     ensures reads { (root : Root) → by_itself (T.items node.now.now) ≡ root_items root →
-        ReadsAsRoot root (state_of S.lines C.maps W.sheet e.old) (state_of S.lines C.maps W.sheet e.new)
+        ReadsAsRoot root (state_of S.lines C.maps W.sheet e.old)
+        (state_of S.lines C.maps W.sheet e.new)
         result }
 {
     node.emit_with(e)
@@ -58,7 +60,8 @@ pub fn emitted_box_reads<T: EmitAt + Spanned, W: WriteJs, S: SourceMapper, C: Co
         (state_of S.lines C.maps W.sheet e.old) (state_of S.lines C.maps W.sheet e.new)
         (in_short result) }
     ensures reads { (root : Root) → by_itself (T.items node.now.value) ≡ root_items root →
-        ReadsAsRoot root (state_of S.lines C.maps W.sheet e.old) (state_of S.lines C.maps W.sheet e.new)
+        ReadsAsRoot root (state_of S.lines C.maps W.sheet e.old)
+        (state_of S.lines C.maps W.sheet e.new)
         result }
 {
     node.emit_with(e)
@@ -74,7 +77,8 @@ pub fn emitted_option_reads<T: EmitAt + Spanned, W: WriteJs, S: SourceMapper, C:
         (state_of S.lines C.maps W.sheet e.new) (in_short result) }
     ensures reads { (some : T) (root : Root) → node.now ≡ Some some →
         by_itself (T.items some) ≡ root_items root →
-        ReadsAsRoot root (state_of S.lines C.maps W.sheet e.old) (state_of S.lines C.maps W.sheet e.new)
+        ReadsAsRoot root (state_of S.lines C.maps W.sheet e.old)
+        (state_of S.lines C.maps W.sheet e.new)
         result }
     ensures none { node.now ≡ None →
         state_of S.lines C.maps W.sheet e.new ≡ state_of S.lines C.maps W.sheet e.old }

@@ -163,8 +163,9 @@ fn page_over<P: Node>(
     tree: &P,
 ) -> Result<Page<CommentMaps>, Error>
     ensures made { IfOk result (λ page. IsMadeOf (P.part tree.now)
-        (start_with (lines_over source.now first) (maps_in ⟦<CommentMaps as Comments>⟧.maps comments)
-        config) page.text.items page.positions.items
+        (start_with (lines_over source.now first)
+        (maps_in ⟦<CommentMaps as Comments>⟧.maps comments) config)
+        page.text.items page.positions.items
         (maps_in ⟦<CommentMaps as Comments>⟧.maps page.comments)) }
     ensures cause { IfErr result (λ error. (error ≡ OutOfMemory)
         ⊎ GivesCause (P.part tree.now) (start_with (lines_over source.now first)

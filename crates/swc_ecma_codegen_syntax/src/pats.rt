@@ -211,7 +211,8 @@ fn front_props<N: Answers>(
     parameters: Parameters,
 ) -> Verdict
     ensures { result
-        ≡ verdict_all (λ n v. judge N.answers v (pat_prop_form false parameters n)) so_far props.now }
+        ≡ verdict_all (λ n v. judge N.answers v (pat_prop_form false parameters n))
+        so_far props.now }
 {
     let mut verdict = so_far;
     for node in props {

@@ -52,7 +52,8 @@ pub fn run<T: Tool, R: Read, O: Write, E: Write>(
     ensures usage { are_options T.is_own words.now ≡ false → result ≡ 2 }
     ensures no_usage { are_options T.is_own words.now ≡ true → result ≢ 2 }
     // Wrong words leave `input` and `out` alone; a text that went out whole leaves `err` alone without `--positions`.
-    ensures unread { are_options T.is_own words.now ≡ false → (input.new ≡ input.old) × (out.new ≡ out.old) }
+    ensures unread { are_options T.is_own words.now ≡ false →
+        (input.new ≡ input.old) × (out.new ≡ out.old) }
     ensures silent { result ≡ 0 → (options_of words.now).positions ≡ false → err.new ≡ err.old }
     // Otherwise `err` gets the line of a fault, or a beginning of it where it fails itself: that of wrong words for these, and else another.
     ensures told_usage { result ≡ 2 →
