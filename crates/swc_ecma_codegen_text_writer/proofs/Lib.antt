@@ -1,4 +1,5 @@
 pub mod AsStrings
+pub mod Begun
 pub mod Characters
 pub mod Pairs
 mod Commuting

@@ -19,7 +19,7 @@ fn is_nowhere(span: Span) -> bool
 impl<W: Write, K: KeepsPositions> Lines<'_, W, K> {
     ghost use Rattle.std.specs.Prelude.{length, Some, None};
     ghost use Rattle.swc_ecma_codegen_text_writer.specs.Reach.{is_in_line};
-    ghost use Rattle.swc_ecma_codegen_text_writer.specs.Sheet.{answered, appended, written};
+    ghost use Rattle.swc_ecma_codegen_text_writer.specs.Sheet.{answered, appended, started, written};
     ghost use Rattle.swc_ecma_codegen_text_writer.specs.View.{sheet_of, Reaches, WritesText, WritesLiteral, WritesLine};
 
     /// Writes a text, after the indentation at a line's start.
@@ -375,33 +375,125 @@ impl<W: Write, K: KeepsPositions> Lines<'_, W, K> {
     #[inline(never)]
     #[tactic(auto, unfolding(crate::specs::View::sheet_of))]
     fn writes_first_byte(&mut self, text: &str) -> bool
-        requires { length text.now ≡ 1 }
+        requires looked { is_in_line text.now ≡ true }
+        requires length { length text.now ≡ 1 }
         ensures { WritesText None text.now (sheet_of self.old) (sheet_of self.new)
             (answered result self.new.reason) }
     {
         if text.len() != 1 {
             unreachable!();
         }
-        if self.failed || self.line_start {
+        if self.failed {
             let answer = self.write_byte_anyhow(text);
             return self.notes_reason(answer);
         }
-        let answer = self.write_begun(text);
-        self.notes_reason(answer)
+        if !self.line_start {
+            let answer = self.write_begun(text);
+            return self.notes_reason(answer);
+        }
+        self.starts_line_by_byte(text)
     }
 
     /// The same of any length.
     #[inline(never)]
     #[tactic(auto, unfolding(crate::specs::View::sheet_of))]
     fn writes_first_bytes(&mut self, text: &str) -> bool
+        requires { is_in_line text.now ≡ true }
         ensures { WritesText None text.now (sheet_of self.old) (sheet_of self.new)
             (answered result self.new.reason) }
     {
-        if text.is_empty() || self.failed || self.line_start {
+        if text.is_empty() || self.failed {
             let answer = self.write_anyhow(text);
             return self.notes_reason(answer);
         }
-        let answer = self.write_begun(text);
+        if !self.line_start {
+            let answer = self.write_begun(text);
+            return self.notes_reason(answer);
+        }
+        self.starts_line_by(text)
+    }
+
+    /// Sends the indentation of a line, and then a text of one byte.
+    #[inline(never)]
+    fn starts_line_by_byte(&mut self, text: &str) -> bool
+        requires fresh { (sheet_of self.old).refused ≡ false }
+        requires start { (sheet_of self.old).at_line_start ≡ true }
+        requires looked { is_in_line text.now ≡ true }
+        requires length { length text.now ≡ 1 }
+        ensures { Reaches (written None text.now (sheet_of self.old)) (sheet_of self.old)
+            (sheet_of self.new) (answered result self.new.reason) }
+    {
+        if !self.begins_line() {
+            return false;
+        }
+        self.sends_begun_byte(text)
+    }
+
+    /// The same of a text of any length that isn't empty.
+    #[inline(never)]
+    fn starts_line_by(&mut self, text: &str) -> bool
+        requires fresh { (sheet_of self.old).refused ≡ false }
+        requires start { (sheet_of self.old).at_line_start ≡ true }
+        requires looked { is_in_line text.now ≡ true }
+        requires some { 0 < length text.now }
+        ensures { Reaches (written None text.now (sheet_of self.old)) (sheet_of self.old)
+            (sheet_of self.new) (answered result self.new.reason) }
+    {
+        if !self.begins_line() {
+            return false;
+        }
+        self.sends_begun(text)
+    }
+
+    /// Begins a line. Whether that was done: else `reason` says why not.
+    #[inline(always)]
+    fn begins_line(&mut self) -> bool
+        requires fresh { (sheet_of self.old).refused ≡ false }
+        requires start { (sheet_of self.old).at_line_start ≡ true }
+        ensures { Reaches (started (sheet_of self.old)) (sheet_of self.old) (sheet_of self.new)
+            (answered result self.new.reason) }
+    {
+        let answer = self.begin_line();
+        self.notes_reason(answer)
+    }
+
+    /// Sends a text of one byte that stays in its line, in a line that has begun.
+    #[inline(always)]
+    fn sends_begun_byte(&mut self, text: &str) -> bool
+        requires fresh { (sheet_of self.old).refused ≡ false }
+        requires looked { is_in_line text.now ≡ true }
+        requires length { length text.now ≡ 1 }
+        ensures { Reaches (appended text.now (sheet_of self.old)) (sheet_of self.old)
+            (sheet_of self.new) (answered result self.new.reason) }
+    {
+        if !self.plain {
+            return self.sends_any(text);
+        }
+        self.sends_known::<1>(text)
+    }
+
+    /// The same of any length.
+    #[inline(always)]
+    fn sends_begun(&mut self, text: &str) -> bool
+        requires fresh { (sheet_of self.old).refused ≡ false }
+        requires looked { is_in_line text.now ≡ true }
+        ensures { Reaches (appended text.now (sheet_of self.old)) (sheet_of self.old)
+            (sheet_of self.new) (answered result self.new.reason) }
+    {
+        if !self.plain {
+            return self.sends_any(text);
+        }
+        self.sends_known_by_length(text)
+    }
+
+    /// The same of a long one, or while lines are filled.
+    #[inline(never)]
+    fn sends_any(&mut self, text: &str) -> bool
+        requires { (sheet_of self.old).refused ≡ false }
+        ensures { Reaches (appended text.now (sheet_of self.old)) (sheet_of self.old)
+            (sheet_of self.new) (answered result self.new.reason) }
+    {
+        let answer = self.send(text);
         self.notes_reason(answer)
     }
 
@@ -463,19 +555,8 @@ impl<W: Write, K: KeepsPositions> Lines<'_, W, K> {
             14 => self.sends_known::<14>(text),
             15 => self.sends_known::<15>(text),
             16 => self.sends_known::<16>(text),
-            _ => self.sends_long(text),
+            _ => self.sends_any(text),
         }
-    }
-
-    /// The same of a long one.
-    #[inline(never)]
-    fn sends_long(&mut self, text: &str) -> bool
-        requires { self.old.plain ≡ true }
-        ensures { Reaches (appended text.now (sheet_of self.old)) (sheet_of self.old)
-            (sheet_of self.new) (answered result self.new.reason) }
-    {
-        let answer = self.send(text);
-        self.notes_reason(answer)
     }
 
     /// Writes a literal: its start is recorded before the line begins.

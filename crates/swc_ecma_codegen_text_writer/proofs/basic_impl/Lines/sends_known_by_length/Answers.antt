@@ -8,3 +8,7 @@ unfolding Reaches
 returns-in-0 g c =
     let h : length c.args.text.now ≡ 0 = search rules in
     appended_nil c.args.text.now (sheet_of c.args.self.now) h
+
+pub sends_any-requires : goal.sends_any-requires
+unfolding sheet_of
+sends_any-requires g c = c.args.self.now.plain_fresh c.requires.plain
