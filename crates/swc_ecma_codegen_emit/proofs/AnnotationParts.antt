@@ -14,8 +14,9 @@ use Rattle.swc_ecma_codegen_tokens.proofs.Reading.Phrased.{then, after, before, 
 use Rattle.swc_ecma_codegen_tokens.proofs.Reading.Printed.{EndsLines, makes_wider, writes_nothing, writes_space, writes_formatting_space}
 use Rattle.swc_ecma_codegen_tokens.proofs.Filling.Shapes.{open_, loose}
 use Rattle.swc_ecma_codegen_tokens.proofs.Jsx.TagPrints.{prints_spots, prints_none, wider_on}
-use Rattle.swc_ecma_codegen_emit.specs.declared.nodes.Place.{Place}
-use Rattle.swc_ecma_codegen_emit.specs.declared.nodes.Place.TheVariants.{Plain}
+use Rattle.swc_ecma_codegen_emit.specs.declared.nodes.Context.{Context}
+use Rattle.swc_ecma_codegen_emit.specs.declared.nodes.Context.TheVariants.{Plain}
+use Rattle.swc_ecma_codegen_emit.specs.Places.{Whole}
 use Rattle.swc_ecma_codegen_emit.specs.Annotations as words
 use Rattle.swc_ecma_codegen_emit.proofs.Linked.{Linked}
 use Rattle.swc_ecma_codegen_emit.proofs.MarkWords as marks
@@ -25,12 +26,12 @@ use Rattle.swc_ecma_codegen_emit.proofs.TypeWords as type_words
 pub annotation_prints : {X : Type 0} (l : Linked X) (n : Option (TsTypeAnnBox X)) → PrintsAt open_ l.env (words.annotation l.items n) (lists.annotation l.reads n)
 unfolding words.annotation lists.annotation
 annotation_prints l None = prints_nothing
-annotation_prints l (Some n) = prints_wider open_ refl (then (before (prints_punct l.env (codes ":") marks.colon) (writes_formatting_space l.env)) (l.law n.node.value Plain Annotation))
+annotation_prints l (Some n) = prints_wider open_ refl (then (before (prints_punct l.env (codes ":") marks.colon) (writes_formatting_space l.env)) (l.law n.node.value (Whole Plain) Annotation))
 
 pub spaced_annotation_prints : {X : Type 0} (l : Linked X) (n : Option (TsTypeAnnBox X)) → PrintsAt open_ l.env (words.spaced_annotation l.items n) (lists.annotation l.reads n)
 unfolding words.spaced_annotation lists.annotation
 spaced_annotation_prints l None = prints_nothing
-spaced_annotation_prints l (Some n) = prints_wider open_ refl (then (before (prints_punct l.env (codes ":") marks.colon) (writes_space l.env)) (l.law n.node.value Plain Annotation))
+spaced_annotation_prints l (Some n) = prints_wider open_ refl (then (before (prints_punct l.env (codes ":") marks.colon) (writes_space l.env)) (l.law n.node.value (Whole Plain) Annotation))
 
 pub question_prints : (env : Env) (optional : Bool) → PrintsAt open_ env (parts.question optional) (lists.question optional)
 unfolding parts.question lists.question
@@ -47,26 +48,26 @@ unfolding words.field_annotation lists.field_annotation
 field_annotation_prints l definite None = prints_where (not definite) (λ h. prints_nothing)
 field_annotation_prints l definite (Some n) =
     prints_wider open_ refl
-    (then (bang_prints l.env definite) (then (before (prints_punct l.env (codes ":") marks.colon) (writes_space l.env)) (l.law n.node.value Plain Annotation)))
+    (then (bang_prints l.env definite) (then (before (prints_punct l.env (codes ":") marks.colon) (writes_space l.env)) (l.law n.node.value (Whole Plain) Annotation)))
 
-pub type_args_print : {X : Type 0} (l : Linked X) (place : Place) (n : Option (TsTypeParamInstantiationBox X)) → PrintsAt open_ l.env (words.type_args l.items place n) (lists.type_args l.reads n)
+pub type_args_print : {X : Type 0} (l : Linked X) (context : Context) (n : Option (TsTypeParamInstantiationBox X)) → PrintsAt open_ l.env (words.type_args l.items context n) (lists.type_args l.reads n)
 unfolding words.type_args lists.type_args
-type_args_print l place None = prints_nothing
-type_args_print l place (Some n) = prints_wider open_ refl (prints_spots Anything Anything refl refl (l.law n.node.value place TypeArguments))
+type_args_print l context None = prints_nothing
+type_args_print l context (Some n) = prints_wider open_ refl (prints_spots Anything Anything refl refl (l.law n.node.value (Whole context) TypeArguments))
 
 -- behind the name of a tag
 pub tag_types_print : {X : Type 0} (l : Linked X) (n : Option (TsTypeParamInstantiationBox X)) → PrintsOn InName InName open_ l.env (words.type_args l.items Plain n) (lists.type_args l.reads n)
 unfolding words.type_args lists.type_args
 tag_types_print l None = prints_none
-tag_types_print l (Some n) = wider_on open_ refl (prints_spots InName InName refl refl (l.law n.node.value Plain TypeArguments))
+tag_types_print l (Some n) = wider_on open_ refl (prints_spots InName InName refl refl (l.law n.node.value (Whole Plain) TypeArguments))
 
 pub type_params_print : {X : Type 0} (l : Linked X) (n : Option (TsTypeParamDeclBox X)) → PrintsAt open_ l.env (words.type_params l.items n) (lists.type_params l.reads n)
 unfolding words.type_params lists.type_params
 type_params_print l None = prints_nothing
-type_params_print l (Some n) = prints_wider open_ refl (l.law n.node.value Plain TypeParameters)
+type_params_print l (Some n) = prints_wider open_ refl (l.law n.node.value (Whole Plain) TypeParameters)
 
-pub ann_at : {X : Type 0} (l : Linked X) (n : TsTypeAnnBox X) → Prints l.env (l.items n.node.value Plain) (types.ann_at l.reads n)
-ann_at l n = l.law n.node.value Plain Annotation
+pub ann_at : {X : Type 0} (l : Linked X) (n : TsTypeAnnBox X) → Prints l.env (l.items n.node.value (Whole Plain)) (types.ann_at l.reads n)
+ann_at l n = l.law n.node.value (Whole Plain) Annotation
 
 -- a word and a blank, where it is so
 pub word_before_prints : (env : Env) (wanted : Bool) (t : List ℕ) → IsWord t → PrintsAt open_ env (words.word_before wanted t) (word_if wanted (word t))

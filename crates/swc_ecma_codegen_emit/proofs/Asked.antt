@@ -15,7 +15,7 @@ use Rattle.swc_ecma_codegen_emit.specs.Commented.{has_comment_inside}
 use Rattle.swc_ecma_codegen_emit.specs.Exprs.{yield_argument, yield_argument_in}
 use Rattle.swc_ecma_codegen_emit.specs.Props.{object_list, object_by_maps}
 use Rattle.swc_ecma_codegen_emit.specs.Stmts.{argument, argument_in}
-use Rattle.swc_ecma_codegen_emit.specs.declared.nodes.Place.{Place}
+use Rattle.swc_ecma_codegen_emit.specs.Places.{Place}
 use Rattle.swc_ecma_codegen_grammar.specs.Settings.{is_up_to_es5}
 use Rattle.swc_ecma_codegen_tokens.specs.Choices.{empty_arguments, loop_ending, attributes_word}
 use Rattle.swc_ecma_codegen_tokens.proofs.Reading.Choices.{ended_same, not_ended_same, assert_same, with_same}

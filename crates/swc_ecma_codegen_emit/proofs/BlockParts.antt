@@ -17,8 +17,8 @@ use Rattle.swc_ecma_codegen_tokens.proofs.Listing.ListLaws.{IsUndelimited, child
 use Rattle.swc_ecma_codegen_tokens.proofs.Reading.Phrased.{Prints, prints_by_maps, after, prints_same, prints_punct, prints_wider}
 use Rattle.swc_ecma_codegen_tokens.proofs.Reading.Printed.{writes_nothing, writes_position, writes_position_before, Fills, makes_wider}
 use Rattle.swc_ecma_codegen_tokens.proofs.Commenting.CommentPrints.{writes_before_end, writes_leading}
-use Rattle.swc_ecma_codegen_emit.specs.declared.nodes.Place.{Place}
-use Rattle.swc_ecma_codegen_emit.specs.declared.nodes.Place.TheVariants.{Body}
+use Rattle.swc_ecma_codegen_emit.specs.declared.nodes.Context.{Context}
+use Rattle.swc_ecma_codegen_emit.specs.declared.nodes.Context.TheVariants.{Body}
 use Rattle.swc_ecma_codegen_emit.specs.Answers.{place_of}
 use Rattle.swc_ecma_codegen_emit.specs.Blocks as words
 use Rattle.swc_ecma_codegen_emit.specs.Blocks.{block_format, flat_block_format}
@@ -34,10 +34,10 @@ use Rattle.swc_ecma_codegen_emit.proofs.Between.{punct_in}
 pub behind_bracket : (env : Env) (t : List ℕ) (p q : Part) → ((maps : Maps) (rest : Plan) → p rest (at_maps maps env) ≡ q rest (at_maps maps env)) → (maps : Maps) (rest : Plan) → punct t (p rest) (at_maps maps env) ≡ punct t (q rest) (at_maps maps env)
 behind_bracket env t p q same maps rest = punct_in t (p rest) (q rest) (at_maps maps env) (same maps rest)
 
-writes_block_start : (env : Env) (place : Place) (span : Span) → Fills env (words.block_start place span)
+writes_block_start : (env : Env) (context : Context) (span : Span) → Fills env (words.block_start context span)
 unfolding words.block_start
 writes_block_start env Body span = writes_nothing env
-writes_block_start env place span = writes_position env span.lo
+writes_block_start env context span = writes_position env span.lo
 
 -- statements have no delimiter, whatever the lines
 abbrev format_of : Bool → ℕ
@@ -83,6 +83,6 @@ block_lines_print l n =
     let ask : Maps → Part = λ maps rest. punct (codes "{") (lines maps rest) in
     prints_same _ (by_maps ask) (λ maps rest. punct_in (codes "{") (words.block_lines some n.span children (closing n rest)) (lines maps rest) (at_maps maps l.env) refl) (prints_by_maps ask (λ maps. stmts_print l n (is_some_listed n.stmts.items || has_comment_inside n.span maps)))
 
-pub block_stmt_prints : {X : Type 0} (l : Linked X) (n : BlockStmt X) (place : Place) → Prints l.env (words.block_stmt l.asks l.items n place) (lists.block_stmt l.reads n)
+pub block_stmt_prints : {X : Type 0} (l : Linked X) (n : BlockStmt X) (context : Context) → Prints l.env (words.block_stmt l.asks l.items n context) (lists.block_stmt l.reads n)
 unfolding words.block_stmt lists.block_stmt
-block_stmt_prints l n place = after (writes_leading l.env n.span.lo) (after (writes_block_start l.env place n.span) (block_lines_print l n))
+block_stmt_prints l n context = after (writes_leading l.env n.span.lo) (after (writes_block_start l.env context n.span) (block_lines_print l n))

@@ -23,13 +23,13 @@ use Rattle.swc_ecma_codegen_tokens.proofs.Reading.Phrased.{before, prints_never,
 use Rattle.swc_ecma_codegen_tokens.proofs.Reading.Printed.{env_after}
 use Rattle.swc_ecma_codegen_tokens.proofs.Filling.Shapes.{Shape, is_within, loose, loose_at, unbroken, unbroken_at}
 use Rattle.swc_ecma_codegen_tokens.proofs.Jsx.TagPrints.{prints_spots}
-use Rattle.swc_ecma_codegen_emit.specs.declared.nodes.Place.{Place}
-use Rattle.swc_ecma_codegen_emit.specs.declared.nodes.Place.TheVariants.{Plain, DeclarationTail, Lines}
+use Rattle.swc_ecma_codegen_emit.specs.declared.nodes.Context.TheVariants.{ByItself, Plain}
+use Rattle.swc_ecma_codegen_emit.specs.declared.nodes.Piece.TheVariants.{DeclarationTail}
 use Rattle.swc_ecma_codegen_emit.specs.Calls.{keeps_arguments}
 use Rattle.swc_ecma_codegen_emit.specs.Lined.{unfilled}
 use Rattle.swc_ecma_codegen_emit.specs.Lists.{in_order}
 use Rattle.swc_ecma_codegen_emit.specs.Modules.{module_item}
-use Rattle.swc_ecma_codegen_emit.specs.Places.{alone, by_itself, placed, with_lines}
+use Rattle.swc_ecma_codegen_emit.specs.Places.{Place, Whole, Only, alone, by_itself, context_of, placed, with_lines}
 use Rattle.swc_ecma_codegen_emit.specs.Programs as programs
 use Rattle.swc_ecma_codegen_emit.specs.Roots.{Root, OfExpr, OfStmt, OfItem, OfModule, OfScript, OfProgram, OfLink, root_at, root_items, read_alone, root_phrase, root_hashbang, is_program}
 use Rattle.swc_ecma_codegen_emit.specs.Stmts.{stmt}
@@ -45,39 +45,39 @@ use Rattle.swc_ecma_codegen_emit.proofs.TreeLaw.{prints, known}
 
 -- ---- where a node stands by itself
 
-plain_by : (b : Bool) (m : Option ℕ) → (is_some m && b) ≡ false → (if b then with_lines m else Plain) ≡ Plain
+plain_by : (b : Bool) (m : Option ℕ) → (is_some m && b) ≡ false → (if b then with_lines m else Whole Plain) ≡ Whole Plain
 plain_by false m h = refl
 plain_by true None h = refl
 plain_by true (Some max) h = absurd (true≢false h)
 
-pub alone_plain : (env : Env) → is_bounded env ≡ false → alone env ≡ Plain
+pub alone_plain : (env : Env) → is_bounded env ≡ false → alone env ≡ Whole Plain
 alone_plain env h = plain_by env.config.minify env.max_line h
 
-lines_by : (b : Bool) (m : Option ℕ) → (is_some m && b) ≡ true → (max : ℕ) × ((if b then with_lines m else Plain) ≡ Lines max)
+lines_by : (b : Bool) (m : Option ℕ) → (is_some m && b) ≡ true → (max : ℕ) × ((if b then with_lines m else Whole Plain) ≡ Whole (ByItself max))
 lines_by true (Some max) h = (max, refl)
 lines_by false (Some max) h = absurd (true≢false (sym h))
 lines_by b None h = absurd (true≢false (sym h))
 
-pub alone_lines : (env : Env) → is_bounded env ≡ true → (max : ℕ) × (alone env ≡ Lines max)
+pub alone_lines : (env : Env) → is_bounded env ≡ true → (max : ℕ) × (alone env ≡ Whole (ByItself max))
 alone_lines env h = lines_by env.config.minify env.max_line h
 
-or_by : (b : Bool) (m : Option ℕ) → ((if b then with_lines m else Plain) ≡ Plain) ⊎ ((max : ℕ) × ((if b then with_lines m else Plain) ≡ Lines max))
+or_by : (b : Bool) (m : Option ℕ) → ((if b then with_lines m else Whole Plain) ≡ Whole Plain) ⊎ ((max : ℕ) × ((if b then with_lines m else Whole Plain) ≡ Whole (ByItself max)))
 or_by false m = inl refl
 or_by true None = inl refl
 or_by true (Some max) = inr (max, refl)
 
-pub alone_or : (env : Env) → (alone env ≡ Plain) ⊎ ((max : ℕ) × (alone env ≡ Lines max))
+pub alone_or : (env : Env) → (alone env ≡ Whole Plain) ⊎ ((max : ℕ) × (alone env ≡ Whole (ByItself max)))
 alone_or env = or_by env.config.minify env.max_line
 
 -- at the greatest length that the settings tell
-pub alone_at : (env : Env) (max : ℕ) → env.config.minify ≡ true → env.max_line ≡ Some max → alone env ≡ Lines max
-alone_at env max h k = ap (λ b. if b then with_lines env.max_line else Plain) h ∙ ap with_lines k
+pub alone_at : (env : Env) (max : ℕ) → env.config.minify ≡ true → env.max_line ≡ Some max → alone env ≡ Whole (ByItself max)
+alone_at env max h k = ap (λ b. if b then with_lines env.max_line else Whole Plain) h ∙ ap with_lines k
 
 pub bounded_at : (env : Env) (max : ℕ) → env.config.minify ≡ true → env.max_line ≡ Some max → is_bounded env ≡ true
 bounded_at env max h k = and_from (is_some env.max_line) env.config.minify (ap is_some k) h
 
 -- that is no place of what is called
-leaves_by : (b : Bool) (m : Option ℕ) → keeps_arguments (if b then with_lines m else Plain) ≡ false
+leaves_by : (b : Bool) (m : Option ℕ) → keeps_arguments (context_of (if b then with_lines m else Whole Plain)) ≡ false
 leaves_by false m = refl
 leaves_by true None = refl
 leaves_by true (Some max) = refl
@@ -88,7 +88,7 @@ unfolding by_itself
 alone_prints items env h = prints_same (by_itself items) (unbounded (items (alone env))) (λ maps rest. refl) (prints_at_length None env (items (alone env)) h)
 
 -- the steps of one in lines
-pub lines_alone : (items : Place → Part) (env : Env) (max : ℕ) → alone env ≡ Lines max → items (Lines max) ≡ bounded max (items Plain) → (rest : Plan) → by_itself items rest env ≡ in_lines max (unfilled max items) rest env
+pub lines_alone : (items : Place → Part) (env : Env) (max : ℕ) → alone env ≡ Whole (ByItself max) → items (Whole (ByItself max)) ≡ bounded max (items (Whole Plain)) → (rest : Plan) → by_itself items rest env ≡ in_lines max (unfilled max items) rest env
 unfolding by_itself bounded in_lines begin_lines end_lines with_max_line step after_step
 lines_alone items env max here same rest =
     ap (λ z. with_max_line None (items z) rest env) here ∙ ap (λ z. with_max_line None z rest env) same
@@ -96,7 +96,7 @@ lines_alone items env max here same rest =
 -- ---- roots that are no program
 
 function_within : (place : Place) → is_within (function_shape place) unbroken ≡ true
-function_within DeclarationTail = refl
+function_within (Only DeclarationTail) = refl
 function_within place = refl
 
 role_within : (role : Role) (place : Place) → is_within (role_shape role place) unbroken ≡ true
@@ -130,7 +130,7 @@ abbrev none_of : Env → Env
 none_of env = at_length None env
 
 pub part_prints : (env : Env) → env.keeps_invalid ≡ false → (n : Root) → is_program n ≡ false → PrintsAt (root_shape n) env (root_items n) (root_phrase n)
-part_prints env e (OfExpr n) h = alone_prints (root_at (OfExpr n)) env (prints_wider unbroken refl (plain_expr_prints (known (none_of env) e) n (alone env) (leaves_by env.config.minify env.max_line)))
+part_prints env e (OfExpr n) h = alone_prints (root_at (OfExpr n)) env (prints_wider unbroken refl (plain_expr_prints (known (none_of env) e) n (context_of (alone env)) (leaves_by env.config.minify env.max_line)))
 part_prints env e (OfStmt n) h = alone_prints (root_at (OfStmt n)) env (prints_wider unbroken refl (stmt_prints (known (none_of env) e) n))
 part_prints env e (OfItem n) h = alone_prints (root_at (OfItem n)) env (prints_wider unbroken refl (module_item_prints (known (none_of env) e) n))
 part_prints env e (OfLink n role) h = alone_prints (root_at (OfLink n role)) env (link_prints (none_of env) e n (alone env) role)
@@ -149,7 +149,7 @@ program_unbroken : {env : Env} {p : Part} {f : Phrase} (anywhere : Bool) → Pri
 program_unbroken anywhere h = prints_wider (unbroken_at anywhere) (loose_within anywhere) h
 
 -- without lines
-pub plain_prints : (env : Env) → env.keeps_invalid ≡ false → (n : Root) → is_program n ≡ true → PrintsAt (root_shape n) env (root_at n Plain) (root_phrase n)
+pub plain_prints : (env : Env) → env.keeps_invalid ≡ false → (n : Root) → is_program n ≡ true → PrintsAt (root_shape n) env (root_at n (Whole Plain)) (root_phrase n)
 unfolding programs.program programs.script programs.whole_module programs.has_hashbang stmt_lists.program
 plain_prints env e (OfModule n) h = program_unbroken _ (module_prints (known env e) n)
 plain_prints env e (OfScript n) h = program_unbroken _ (script_prints (known env e) n)
@@ -160,7 +160,7 @@ plain_prints env e (OfStmt n) h = absurd (true≢false (sym h))
 plain_prints env e (OfItem n) h = absurd (true≢false (sym h))
 plain_prints env e (OfLink n role) h = absurd (true≢false (sym h))
 
-pub program_lines : (n : Root) → is_program n ≡ true → (max : ℕ) → root_at n (Lines max) ≡ bounded max (root_at n Plain)
+pub program_lines : (n : Root) → is_program n ≡ true → (max : ℕ) → root_at n (Whole (ByItself max)) ≡ bounded max (root_at n (Whole Plain))
 unfolding programs.program programs.script programs.whole_module
 program_lines (OfModule n) h max = refl
 program_lines (OfScript n) h max = refl
@@ -223,13 +223,13 @@ program_plain env e n h b =
     alone_prints (root_at n) env (subst P (sym (alone_plain env b)) (plain_prints (none_of env) e n h))
 
 -- and where they are
-unfoldable pub program_in : (env : Env) (max : ℕ) → env.keeps_invalid ≡ false → (n : Root) → is_program n ≡ true → is_bounded env ≡ true → alone env ≡ Lines max → InLines (root_shape n) env (root_items n) (root_phrase n)
+unfoldable pub program_in : (env : Env) (max : ℕ) → env.keeps_invalid ≡ false → (n : Root) → is_program n ≡ true → is_bounded env ≡ true → alone env ≡ Whole (ByItself max) → InLines (root_shape n) env (root_items n) (root_phrase n)
 program_in env max e n h b here =
     record {
       max = max;
       inner = unfilled max (root_at n);
       same = lines_alone (root_at n) env max here (program_lines n h max) nothing;
-      prints = prints_at_length (Some max) env (root_at n Plain) (plain_prints (at_length (Some max) env) e n h);
+      prints = prints_at_length (Some max) env (root_at n (Whole Plain)) (plain_prints (at_length (Some max) env) e n h);
       bounded = b;
       ends = program_last env e n h max;
     }

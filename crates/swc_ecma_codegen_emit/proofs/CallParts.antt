@@ -32,7 +32,8 @@ use Rattle.swc_ecma_codegen_tokens.proofs.Commenting.CommentPrints.{writes_leadi
 use Rattle.swc_ecma_codegen_tokens.proofs.Reading.Phrased.{Prints, then, after, before, prints_nothing, prints_keyword, prints_punct, PrintsAt, prints_wider, loosened}
 use Rattle.swc_ecma_codegen_tokens.proofs.Reading.Choices.{prints_empty_arguments}
 use Rattle.swc_ecma_codegen_tokens.proofs.Listing.ListLaws.{prints_bracketed, prints_bracketed_some, prints_forced_closing}
-use Rattle.swc_ecma_codegen_emit.specs.declared.nodes.Place.TheVariants.{Plain, Callee}
+use Rattle.swc_ecma_codegen_emit.specs.declared.nodes.Context.TheVariants.{Plain, Callee}
+use Rattle.swc_ecma_codegen_emit.specs.Places.{Whole}
 use Rattle.swc_ecma_codegen_emit.specs.Answers.{place_of}
 use Rattle.swc_ecma_codegen_emit.specs.Calls as words
 use Rattle.swc_ecma_codegen_emit.specs.Lists.{child_of, if_some_at}
@@ -99,7 +100,7 @@ expr_or_spread_prints : {X : Type 0} (l : Linked X) (n : ExprOrSpread X) → Pri
 unfolding words.expr_or_spread lists.expr_or_spread
 expr_or_spread_prints l n = after (writes_leading l.env (expr_or_spread_span (place_of l.asks) n).lo) (then (spread_mark_prints l.env n.spread) (expr_at l n.expr Plain))
 
-element_prints : {X : Type 0} (l : Linked X) (n : Option (ExprOrSpread X)) → PrintsAt open_ l.env (if_some_at (words.argument_items l.asks l.items) n Plain) (element (lists.expr_or_spread l.reads) n)
+element_prints : {X : Type 0} (l : Linked X) (n : Option (ExprOrSpread X)) → PrintsAt open_ l.env (if_some_at (words.argument_items l.asks l.items) n (Whole Plain)) (element (lists.expr_or_spread l.reads) n)
 unfolding if_some_at element
 element_prints l None = prints_nothing
 element_prints l (Some n) = prints_wider open_ refl (expr_or_spread_prints l n)
@@ -118,9 +119,9 @@ array_by : {X : Type 0} (l : Linked X) (span : Span) (hole : Bool) (xs : List (O
 unfolding lists.array_elements last_is_hole
 array_by l span true [] h = absurd (false≢true h)
 array_by l span true (x ∷ xs) h =
-    prints_bracketed_some l.env (codes "[") open_bracket_is_mark (λ rest. rest) (makes_wider loose refl (writes_nothing l.env)) (words.array_format true) span (option_span (words.argument_place l.asks)) (λ n. if_some_at (words.argument_items l.asks l.items) n Plain) (element (lists.expr_or_spread l.reads)) (mark (codes ",")) (mark (codes "]")) (λ rest. punct (codes "]") (position span.hi rest)) (λ n. prints_wider loose refl (element_prints l n)) refl (λ last. prints_forced_closing l.env (words.array_format true) span last refl refl refl) (closing_bracket_prints l.env span) x xs
+    prints_bracketed_some l.env (codes "[") open_bracket_is_mark (λ rest. rest) (makes_wider loose refl (writes_nothing l.env)) (words.array_format true) span (option_span (words.argument_place l.asks)) (λ n. if_some_at (words.argument_items l.asks l.items) n (Whole Plain)) (element (lists.expr_or_spread l.reads)) (mark (codes ",")) (mark (codes "]")) (λ rest. punct (codes "]") (position span.hi rest)) (λ n. prints_wider loose refl (element_prints l n)) refl (λ last. prints_forced_closing l.env (words.array_format true) span last refl refl refl) (closing_bracket_prints l.env span) x xs
 array_by l span false xs h =
-    prints_bracketed l.env (codes "[") open_bracket_is_mark (λ rest. rest) (makes_wider loose refl (writes_nothing l.env)) (words.array_format false) span (option_span (words.argument_place l.asks)) (λ n. if_some_at (words.argument_items l.asks l.items) n Plain) (element (lists.expr_or_spread l.reads)) (mark (codes "]")) (λ rest. punct (codes "]") (position span.hi rest)) (λ n. prints_wider loose refl (element_prints l n)) refl refl refl (closing_bracket_prints l.env span) xs
+    prints_bracketed l.env (codes "[") open_bracket_is_mark (λ rest. rest) (makes_wider loose refl (writes_nothing l.env)) (words.array_format false) span (option_span (words.argument_place l.asks)) (λ n. if_some_at (words.argument_items l.asks l.items) n (Whole Plain)) (element (lists.expr_or_spread l.reads)) (mark (codes "]")) (λ rest. punct (codes "]") (position span.hi rest)) (λ n. prints_wider loose refl (element_prints l n)) refl refl refl (closing_bracket_prints l.env span) xs
 
 pub array_lit_prints : {X : Type 0} (l : Linked X) (n : ArrayLit X) → Prints l.env (words.array_lit l.asks l.items n) (lists.array_lit l.reads n)
 unfolding words.array_lit lists.array_lit
@@ -138,7 +139,7 @@ callee_prints : {X : Type 0} (l : Linked X) (n : callee_exprs.Callee X) → Prin
 unfolding words.callee words.super_keyword words.import_callee lists.callee lists.import_callee
 callee_prints l (callees.Super n) = prints_keyword l.env (Some n.span) (codes "super") super_is_word
 callee_prints l (callees.Import n) = then (prints_keyword l.env (Some n.span) (codes "import") import_is_word) (import_phase_prints l.env n.phase)
-callee_prints l (callees.Expr n) = l.law n.node.value Callee IsCallee
+callee_prints l (callees.Expr n) = l.law n.node.value (Whole Callee) IsCallee
 
 pub call_prints : {X : Type 0} (l : Linked X) (n : CallExpr X) → Prints l.env (words.call_expr l.asks l.items n) (lists.call_expr l.reads n)
 unfolding words.call_expr lists.call_expr
@@ -185,6 +186,6 @@ call_mark_prints env false = prints_nothing
 pub chain_call_prints : {X : Type 0} (l : Linked X) (optional : Bool) (n : OptCall X) → Prints l.env (words.chain_call l.asks l.items optional n) (lists.chain_call l.reads optional n)
 unfolding words.chain_call lists.chain_call
 chain_call_prints l optional n =
-    then (l.law n.callee.node.value Callee IsCallee)
+    then (l.law n.callee.node.value (Whole Callee) IsCallee)
     (then (call_mark_prints l.env optional)
     (then (type_args_print l Plain n.type_args) (arguments_print l words.call_format refl refl refl n.span n.args.items)))

@@ -41,13 +41,13 @@ use Rattle.swc_ecma_codegen_tokens.proofs.Reading.Phrased.{Prints, PrintsAt, pri
 use Rattle.swc_ecma_codegen_tokens.proofs.Reading.Printed.{makes_wider, writes_nothing, writes_space, writes_formatting_space, writes_position, writes_position_before}
 use Rattle.swc_ecma_codegen_tokens.proofs.Commenting.CommentPrints.{writes_leading}
 use Rattle.swc_ecma_codegen_tokens.proofs.Filling.Shapes.{open_, ended_if_any, closed, loose, joining_if_any, ended}
-use Rattle.swc_ecma_codegen_emit.specs.declared.nodes.Place.{Place}
-use Rattle.swc_ecma_codegen_emit.specs.declared.nodes.Place.TheVariants.{Plain, MethodHead, DeclarationTail, StaticHead, MethodTail}
+use Rattle.swc_ecma_codegen_emit.specs.declared.nodes.Context.TheVariants.{Plain}
+use Rattle.swc_ecma_codegen_emit.specs.declared.nodes.Piece.TheVariants.{MethodHead, DeclarationTail, StaticHead, MethodTail}
 use Rattle.swc_ecma_codegen_emit.specs.Classes as words
 use Rattle.swc_ecma_codegen_emit.specs.Classes.{implemented_format}
 use Rattle.swc_ecma_codegen_emit.specs.TsDecls.{extended_place, ts_expr_with_type_args}
 use Rattle.swc_ecma_codegen_emit.specs.Annotations.{word_before}
-use Rattle.swc_ecma_codegen_emit.specs.Places.{behind_key}
+use Rattle.swc_ecma_codegen_emit.specs.Places.{Place, Whole, Only, behind_key}
 use Rattle.swc_ecma_codegen_emit.specs.FunctionExprs.{comma_list_format}
 use Rattle.swc_ecma_codegen_emit.specs.Functions.{decorators_format, decorator, decorator_lines, decorator_place}
 use Rattle.swc_ecma_codegen_emit.proofs.AnnotationParts.{field_annotation_prints, question_prints, type_args_print, type_params_print, word_before_prints, word_space_prints}
@@ -73,8 +73,8 @@ heritage_prints l (Some n) args =
     (then (prints_keyword l.env None (codes "extends") marks.extends_word)
     (after (writes_blank l.env (l.asks n.node.value).starts) (then (expr_at l n Plain) (type_args_print l Plain args)))))
 
-member_at : {X : Type 0} (l : Linked X) (n : ClassMemberBox X) → PrintsAt loose l.env (l.items n.node.value Plain) (l.reads n.node.value Member)
-member_at l n = l.law n.node.value Plain Member
+member_at : {X : Type 0} (l : Linked X) (n : ClassMemberBox X) → PrintsAt loose l.env (l.items n.node.value (Whole Plain)) (l.reads n.node.value Member)
+member_at l n = l.law n.node.value (Whole Plain) Member
 
 members_undelimited : IsUndelimited words.class_members_format
 members_undelimited = record { no_comma = refl; no_bar = refl; no_ampersand = refl }
@@ -84,7 +84,7 @@ closing_prints env n = after (writes_position_before env n.span.hi) (prints_punc
 
 braced_prints : {X : Type 0} (l : Linked X) (n : class_nodes.Class X) → Prints l.env (λ rest. punct (codes "{") (words.member_list l.asks l.items n (last_of n.span (punct (codes "}") rest)))) (mark (codes "{") > phrases.in_order (map (lists.member_at l.reads) n.body.items) > mark (codes "}"))
 braced_prints l n =
-    prints_bracketed_in_order l.env (codes "{") marks.left_brace (λ rest. rest) (makes_wider loose refl (writes_nothing l.env)) words.class_members_format n.span (λ m. (l.asks m.node.value).place) (λ m. l.items m.node.value Plain) (lists.member_at l.reads) (mark (codes "}")) (λ rest. last_of n.span (punct (codes "}") rest))
+    prints_bracketed_in_order l.env (codes "{") marks.left_brace (λ rest. rest) (makes_wider loose refl (writes_nothing l.env)) words.class_members_format n.span (λ m. (l.asks m.node.value).place) (λ m. l.items m.node.value (Whole Plain)) (lists.member_at l.reads) (mark (codes "}")) (λ rest. last_of n.span (punct (codes "}") rest))
     (member_at l) members_undelimited (closing_prints l.env n) n.body.items
 
 implements_print : {X : Type 0} (l : Linked X) (span : Span) (ns : List (TsExprWithTypeArgs X)) → PrintsAt ended_if_any l.env (words.implements_clause l.items span ns) (lists.implements_clause l.reads ns)
@@ -117,9 +117,9 @@ class_decl_prints l n =
     after (writes_leading l.env (l.asks n.class.node.value).place.lo)
     (after (writes_position l.env (l.asks n.class.node.value).place.lo)
     (then (declare_prints l.env n.declare)
-    (then (l.law n.class.node.value Plain HeadOfClass)
-    (then (l.law n.class.node.value Plain ClassWord)
-    (after (writes_space l.env) (then (ident_prints l n.ident) (l.law n.class.node.value Plain ClassTail)))))))
+    (then (l.law n.class.node.value (Whole Plain) HeadOfClass)
+    (then (l.law n.class.node.value (Whole Plain) ClassWord)
+    (after (writes_space l.env) (then (ident_prints l n.ident) (l.law n.class.node.value (Whole Plain) ClassTail)))))))
 
 -- ---- members
 
@@ -196,16 +196,16 @@ unfolding words.accessor_word
 set_prints env starts = before (prints_keyword env None (codes "set") marks.set_word) (writes_blank env starts)
 
 -- `async *` behind `static`, where another word stands between or none
-static_method_prints : {X : Type 0} (l : Linked X) (n : ClassMethod X) (is_abstract is_override : Bool) → PrintsAt joining_if_any l.env (λ rest. keyword None (codes "static") (cond (is_abstract || is_override) (space (words.method_modifiers is_abstract is_override (l.items n.function.node.value MethodHead rest))) (l.items n.function.node.value (StaticHead (l.asks n.key.node.value).starts) rest))) (word (codes "static") > word_if is_abstract (word (codes "abstract")) > word_if is_override (word (codes "override")) > l.reads n.function.node.value HeadOfMethod)
+static_method_prints : {X : Type 0} (l : Linked X) (n : ClassMethod X) (is_abstract is_override : Bool) → PrintsAt joining_if_any l.env (λ rest. keyword None (codes "static") (cond (is_abstract || is_override) (space (words.method_modifiers is_abstract is_override (l.items n.function.node.value (Only MethodHead) rest))) (l.items n.function.node.value (Only (StaticHead (l.asks n.key.node.value).starts)) rest))) (word (codes "static") > word_if is_abstract (word (codes "abstract")) > word_if is_override (word (codes "override")) > l.reads n.function.node.value HeadOfMethod)
 unfolding words.method_modifiers
-static_method_prints l n true is_override = prints_wider joining_if_any refl (then (word_space_prints l.env (codes "static") marks.static_word) (then (abstract_prints l.env true) (then (override_prints l.env is_override) (l.law n.function.node.value Plain HeadOfMethod))))
-static_method_prints l n false true = prints_wider joining_if_any refl (then (word_space_prints l.env (codes "static") marks.static_word) (then (abstract_prints l.env false) (then (override_prints l.env true) (l.law n.function.node.value Plain HeadOfMethod))))
-static_method_prints l n false false = prints_wider joining_if_any refl (then (prints_keyword l.env None (codes "static") marks.static_word) (then (no_word_prints l.env (codes "abstract")) (then (no_word_prints l.env (codes "override")) (l.law n.function.node.value (StaticHead (l.asks n.key.node.value).starts) HeadOfMethod))))
+static_method_prints l n true is_override = prints_wider joining_if_any refl (then (word_space_prints l.env (codes "static") marks.static_word) (then (abstract_prints l.env true) (then (override_prints l.env is_override) (l.law n.function.node.value (Whole Plain) HeadOfMethod))))
+static_method_prints l n false true = prints_wider joining_if_any refl (then (word_space_prints l.env (codes "static") marks.static_word) (then (abstract_prints l.env false) (then (override_prints l.env true) (l.law n.function.node.value (Whole Plain) HeadOfMethod))))
+static_method_prints l n false false = prints_wider joining_if_any refl (then (prints_keyword l.env None (codes "static") marks.static_word) (then (no_word_prints l.env (codes "abstract")) (then (no_word_prints l.env (codes "override")) (l.law n.function.node.value (Only (StaticHead (l.asks n.key.node.value).starts)) HeadOfMethod))))
 
-word_prints : {X : Type 0} (l : Linked X) (n : ClassMethod X) (is_static : Bool) → PrintsAt joining_if_any l.env (λ rest. cond is_static (keyword None (codes "static") (words.static_method l.asks l.items n rest)) (words.method_modifiers n.is_abstract n.is_override (l.items n.function.node.value MethodHead rest))) (word_if is_static (word (codes "static")) > word_if n.is_abstract (word (codes "abstract")) > word_if n.is_override (word (codes "override")) > l.reads n.function.node.value HeadOfMethod)
+word_prints : {X : Type 0} (l : Linked X) (n : ClassMethod X) (is_static : Bool) → PrintsAt joining_if_any l.env (λ rest. cond is_static (keyword None (codes "static") (words.static_method l.asks l.items n rest)) (words.method_modifiers n.is_abstract n.is_override (l.items n.function.node.value (Only MethodHead) rest))) (word_if is_static (word (codes "static")) > word_if n.is_abstract (word (codes "abstract")) > word_if n.is_override (word (codes "override")) > l.reads n.function.node.value HeadOfMethod)
 unfolding word_if words.static_method words.method_modifiers
 word_prints l n true = static_method_prints l n n.is_abstract n.is_override
-word_prints l n false = prints_wider joining_if_any refl (then prints_nothing (then (abstract_prints l.env n.is_abstract) (then (override_prints l.env n.is_override) (l.law n.function.node.value Plain HeadOfMethod))))
+word_prints l n false = prints_wider joining_if_any refl (then prints_nothing (then (abstract_prints l.env n.is_abstract) (then (override_prints l.env n.is_override) (l.law n.function.node.value (Whole Plain) HeadOfMethod))))
 
 -- `static abstract override get`
 words_then : (env : Env) (is_static is_abstract is_override : Bool) {p : Part} {f : Phrase} → PrintsAt joining_if_any env p f → PrintsAt joining_if_any env (λ rest. words.static_word is_static (words.method_modifiers is_abstract is_override (p rest))) (word_if is_static (word (codes "static")) > word_if is_abstract (word (codes "abstract")) > word_if is_override (word (codes "override")) > f)
@@ -230,14 +230,14 @@ method_prints l n =
     after (writes_leading l.env n.span.lo)
     (after (writes_leading l.env (l.asks n.key.node.value).place.lo)
     (after (writes_position l.env n.span.lo)
-    (then (l.law n.function.node.value Plain DecoratorsOfMethod)
+    (then (l.law n.function.node.value (Whole Plain) DecoratorsOfMethod)
     (then (accessibility_prints l.env n.accessibility)
     (then (kind_prints l n n.kind)
-    (then (prop_name_at l n.key) (then (question_prints l.env n.is_optional) (tail_prints l n.function MethodTail n.kind))))))))
+    (then (prop_name_at l n.key) (then (question_prints l.env n.is_optional) (tail_prints l n.function (Only MethodTail) n.kind))))))))
 
 private_kind_prints : {X : Type 0} (l : Linked X) (n : PrivateMethod X) (kind : MethodKind) → PrintsAt joining_if_any l.env (words.private_kind l.items kind n) (lists.kind_head l.reads kind n.function)
 unfolding words.private_kind lists.kind_head
-private_kind_prints l n Method = l.law n.function.node.value Plain HeadOfMethod
+private_kind_prints l n Method = l.law n.function.node.value (Whole Plain) HeadOfMethod
 private_kind_prints l n Getter = prints_wider joining_if_any refl (get_prints l.env true)
 private_kind_prints l n Setter = prints_wider joining_if_any refl (set_prints l.env true)
 
@@ -250,10 +250,10 @@ unfolding words.private_method words.private_rest lists.private_method
 private_method_prints l n =
     after (writes_leading l.env n.span.lo)
     (after (writes_position l.env n.span.lo)
-    (then (l.law n.function.node.value Plain DecoratorsOfMethod)
+    (then (l.law n.function.node.value (Whole Plain) DecoratorsOfMethod)
     (then (accessibility_prints l.env n.accessibility)
     (then (private_words_print l n)
-    (then (private_name_prints l n.key) (then (question_prints l.env n.is_optional) (tail_prints l n.function DeclarationTail n.kind)))))))
+    (then (private_name_prints l n.key) (then (question_prints l.env n.is_optional) (tail_prints l n.function (Only DeclarationTail) n.kind)))))))
 
 value_prints : {X : Type 0} (l : Linked X) (n : Option (ExprBox X)) → PrintsAt open_ l.env (words.prop_value l.items n) (lists.prop_value l.reads n)
 unfolding words.prop_value lists.prop_value
@@ -262,7 +262,7 @@ value_prints l (Some n) =
     prints_wider open_ refl
     (after (writes_formatting_space l.env)
     (then (prints_punct l.env (codes "=") marks.equal)
-    (after (writes_formatting_space l.env) (l.law n.node.value Plain ValueOfField))))
+    (after (writes_formatting_space l.env) (l.law n.node.value (Whole Plain) ValueOfField))))
 
 prop_modifiers_print : {X : Type 0} (env : Env) (n : ClassProp X) → PrintsAt open_ env (words.prop_modifiers n) (lists.prop_modifiers n)
 unfolding words.prop_modifiers lists.prop_modifiers

@@ -21,9 +21,10 @@ use Rattle.swc_ecma_codegen_tokens.proofs.Listing.ListLaws.{prints_list_on_line}
 use Rattle.swc_ecma_codegen_tokens.proofs.Reading.Phrased.{Prints, then, after, before, prints_nothing, prints_never, prints_keyword, prints_semi, PrintsAt, prints_wider, joined_then}
 use Rattle.swc_ecma_codegen_tokens.proofs.Reading.Printed.{writes_nothing, writes_space, writes_commit, writes_position, Fills}
 use Rattle.swc_ecma_codegen_tokens.proofs.Commenting.CommentPrints.{writes_leading}
-use Rattle.swc_ecma_codegen_emit.specs.declared.nodes.Place.{Place}
-use Rattle.swc_ecma_codegen_emit.specs.declared.nodes.Place.TheVariants.{Plain, DeclarationHead, DeclarationTail, ExportedHead, ExportedTail, Statement}
-use Rattle.swc_ecma_codegen_emit.specs.Places.{declared}
+use Rattle.swc_ecma_codegen_emit.specs.declared.nodes.Context.{Context}
+use Rattle.swc_ecma_codegen_emit.specs.declared.nodes.Context.TheVariants.{Plain, Statement}
+use Rattle.swc_ecma_codegen_emit.specs.declared.nodes.Piece.TheVariants.{DeclarationHead, DeclarationTail, ExportedHead, ExportedTail}
+use Rattle.swc_ecma_codegen_emit.specs.Places.{Whole, Only}
 use Rattle.swc_ecma_codegen_emit.specs.Decls as words
 use Rattle.swc_ecma_codegen_emit.specs.Decls.{declarators_format, declarator_place}
 use Rattle.swc_ecma_codegen_emit.proofs.ExprParts.{writes_blank, writes_opened, ident_prints}
@@ -42,8 +43,8 @@ fn_decl_prints l n =
     (after (writes_commit l.env)
     (after (writes_position l.env (l.asks n.function.node.value).place.lo)
     (then (declare_prints l.env n.declare)
-    (then (l.law n.function.node.value DeclarationHead FunctionHead)
-    (then (ident_prints l n.ident) (l.law n.function.node.value DeclarationTail Function))))))
+    (then (l.law n.function.node.value (Only DeclarationHead) FunctionHead)
+    (then (ident_prints l n.ident) (l.law n.function.node.value (Only DeclarationTail) Function))))))
 
 -- ---- variables
 
@@ -88,34 +89,28 @@ using_decl_prints l n =
 
 -- ---- all of them
 
-writes_decl_end : (env : Env) (place : Place) (span : Span) → Fills env (words.decl_end place span)
+writes_decl_end : (env : Env) (context : Context) (span : Span) → Fills env (words.decl_end context span)
 unfolding words.decl_end
 writes_decl_end env Statement span = writes_nothing env
-writes_decl_end env place span = writes_position env span.hi
-
-by_prints : (env : Env) (place : Place) (head tail : Part) {whole : Part} {f : phrases.Phrase} → PrintsAt ended env whole f → PrintsAt ended env (words.by_export (declared place) head tail whole) f
-unfolding words.by_export
-by_prints env ExportedHead head tail h = h
-by_prints env ExportedTail head tail h = h
-by_prints env place head tail h = h
+writes_decl_end env context span = writes_position env span.hi
 
 -- one that isn't exported
-pub decl_prints : {X : Type 0} (l : Linked X) (n : Decl X) (place : Place) → PrintsAt ended l.env (words.decl l.asks l.items n (declared place)) (lists.decl l.reads n)
-unfolding words.decl words.without_head words.variables words.resources lists.decl
-decl_prints l (decls.Class n) place = by_prints l.env place _ _ (prints_wider ended refl (class_decl_prints l n))
-decl_prints l (decls.Fn n) place = by_prints l.env place _ _ (fn_decl_prints l n)
-decl_prints l (decls.Var n) place = by_prints l.env place _ _ (then (var_decl_prints l n) (before (prints_semi l.env) (writes_decl_end l.env (declared place) n.span)))
-decl_prints l (decls.Using n) place = by_prints l.env place _ _ (then (using_decl_prints l n) (prints_semi l.env))
-decl_prints l (decls.TsInterface n) place = by_prints l.env place _ _ (prints_wider ended refl (interface_prints l n.value))
-decl_prints l (decls.TsTypeAlias n) place = by_prints l.env place _ _ (alias_prints l n.value)
-decl_prints l (decls.TsEnum n) place = by_prints l.env place _ _ (prints_wider ended refl (enum_prints l n.value))
-decl_prints l (decls.TsModule n) place = by_prints l.env place _ _ (module_prints l n.value)
+pub decl_prints : {X : Type 0} (l : Linked X) (n : Decl X) (context : Context) → PrintsAt ended l.env (words.decl l.asks l.items n (Whole context)) (lists.decl l.reads n)
+unfolding words.decl words.whole_decl words.variables words.resources lists.decl
+decl_prints l (decls.Class n) context = prints_wider ended refl (class_decl_prints l n)
+decl_prints l (decls.Fn n) context = fn_decl_prints l n
+decl_prints l (decls.Var n) context = then (var_decl_prints l n) (before (prints_semi l.env) (writes_decl_end l.env context n.span))
+decl_prints l (decls.Using n) context = then (using_decl_prints l n) (prints_semi l.env)
+decl_prints l (decls.TsInterface n) context = prints_wider ended refl (interface_prints l n.value)
+decl_prints l (decls.TsTypeAlias n) context = alias_prints l n.value
+decl_prints l (decls.TsEnum n) context = prints_wider ended refl (enum_prints l n.value)
+decl_prints l (decls.TsModule n) context = module_prints l n.value
 
 -- ---- one that is exported
 
-pub exported_head_prints : {X : Type 0} (l : Linked X) (n : Decl X) → PrintsAt ended_if_any l.env (words.decl l.asks l.items n ExportedHead) (module_lists.exported_head l.reads n)
-unfolding words.decl words.without_head words.by_export module_lists.exported_head
-exported_head_prints l (decls.Class n) = l.law n.class.node.value Plain HeadOfClass
+pub exported_head_prints : {X : Type 0} (l : Linked X) (n : Decl X) → PrintsAt ended_if_any l.env (words.decl l.asks l.items n (Only ExportedHead)) (module_lists.exported_head l.reads n)
+unfolding words.decl words.exported_head module_lists.exported_head
+exported_head_prints l (decls.Class n) = l.law n.class.node.value (Whole Plain) HeadOfClass
 exported_head_prints l n = prints_wider ended_if_any refl prints_nothing
 
 exported_class_prints : {X : Type 0} (l : Linked X) (n : ClassDecl X) → Prints l.env (words.exported_class l.asks l.items n) (declare_word n.declare > l.reads n.class.node.value ClassWord > ident_list n.ident > l.reads n.class.node.value ClassTail)
@@ -124,11 +119,11 @@ exported_class_prints l n =
     after (writes_leading l.env (l.asks n.class.node.value).place.lo)
     (after (writes_position l.env (l.asks n.class.node.value).place.lo)
     (then (declare_prints l.env n.declare)
-    (then (l.law n.class.node.value Plain ClassWord)
-    (after (writes_space l.env) (then (ident_prints l n.ident) (l.law n.class.node.value Plain ClassTail))))))
+    (then (l.law n.class.node.value (Whole Plain) ClassWord)
+    (after (writes_space l.env) (then (ident_prints l n.ident) (l.law n.class.node.value (Whole Plain) ClassTail))))))
 
-pub exported_tail_prints : {X : Type 0} (l : Linked X) (n : Decl X) → PrintsAt ended l.env (words.decl l.asks l.items n ExportedTail) (module_lists.exported_tail l.reads n)
-unfolding words.decl words.without_head words.by_export words.variables words.resources words.decl_end lists.decl module_lists.exported_tail
+pub exported_tail_prints : {X : Type 0} (l : Linked X) (n : Decl X) → PrintsAt ended l.env (words.decl l.asks l.items n (Only ExportedTail)) (module_lists.exported_tail l.reads n)
+unfolding words.decl words.exported_tail words.whole_decl words.variables words.resources words.decl_end lists.decl module_lists.exported_tail
 exported_tail_prints l (decls.Class n) = prints_wider ended refl (exported_class_prints l n)
 exported_tail_prints l (decls.Fn n) = fn_decl_prints l n
 exported_tail_prints l (decls.Var n) = then (var_decl_prints l n) (before (prints_semi l.env) (writes_position l.env n.span.hi))

@@ -66,8 +66,9 @@ use Rattle.swc_ecma_codegen_tokens.proofs.Reading.Choices.{prints_bare, prints_o
 use Rattle.swc_ecma_codegen_tokens.proofs.LiteralTokens.EachLit.{prints_lit}
 use Rattle.swc_ecma_codegen_tokens.proofs.LiteralTokens.NumberPrints.{prints_number, prints_number_object}
 use Rattle.swc_ecma_codegen_tokens.proofs.Reading.Phrased.{Prints, prints_by_maps, then, after, before, prints_nothing, prints_never, prints_keyword, prints_operator, prints_punct, prints_ident, prints_name, PrintsAt, prints_wider, prints_joined_operator, joined_then, prints_unbroken}
-use Rattle.swc_ecma_codegen_emit.specs.declared.nodes.Place.{Place}
-use Rattle.swc_ecma_codegen_emit.specs.declared.nodes.Place.TheVariants.{Plain, LeftOperand, Object, DottedObject, Callee, Chain}
+use Rattle.swc_ecma_codegen_emit.specs.declared.nodes.Context.{Context}
+use Rattle.swc_ecma_codegen_emit.specs.declared.nodes.Context.TheVariants.{Plain, LeftOperand, Object, DottedObject, Callee}
+use Rattle.swc_ecma_codegen_emit.specs.Places.{Whole, chain}
 use Rattle.swc_ecma_codegen_emit.specs.Answers.{Answers, place_of}
 use Rattle.swc_ecma_codegen_emit.specs.Operands.{is_word_op, operand_space}
 use Rattle.swc_ecma_codegen_emit.specs.Exprs as words
@@ -94,10 +95,10 @@ pub writes_opened : (env : Env) (span : Span) → Fills env (words.opened span)
 unfolding words.opened
 writes_opened env span = writes_then env (leading_comments span.lo) (position span.lo) [] [] (writes_leading env span.lo) (writes_position env span.lo)
 
-writes_bin_opened : (env : Env) (place : Place) (span : Span) → Fills env (words.bin_opened place span)
+writes_bin_opened : (env : Env) (context : Context) (span : Span) → Fills env (words.bin_opened context span)
 unfolding words.bin_opened
 writes_bin_opened env LeftOperand span = writes_nothing env
-writes_bin_opened env place span = writes_opened env span
+writes_bin_opened env context span = writes_opened env span
 
 writes_unary_gap : (env : Env) (op : UnaryOp) (arg : Answers) → Fills env (words.unary_gap op arg)
 unfolding words.unary_gap
@@ -280,10 +281,10 @@ pub update_prints : {X : Type 0} (l : Linked X) (n : UpdateExpr X) → Prints l.
 unfolding words.update words.update_parts lists.update_expr
 update_prints l n = after (writes_opened l.env n.span) (update_case l.env n.prefix n.op _ _ (expr_at l n.arg Plain))
 
-pub bin_prints : {X : Type 0} (l : Linked X) (n : BinExpr X) (place : Place) → Prints l.env (words.bin l.asks l.items n place) (lists.bin_expr l.reads n)
+pub bin_prints : {X : Type 0} (l : Linked X) (n : BinExpr X) (context : Context) → Prints l.env (words.bin l.asks l.items n context) (lists.bin_expr l.reads n)
 unfolding words.bin words.bin_trailing words.bin_operator lists.bin_expr
-bin_prints l n place =
-    after (writes_bin_opened l.env place n.span)
+bin_prints l n context =
+    after (writes_bin_opened l.env context n.span)
     (then (expr_at l n.left LeftOperand)
     (after (writes_blank l.env (words.before_op n.op (l.asks n.left.node.value)))
     (then (binary_op_prints l.env n.op)
@@ -304,11 +305,11 @@ member_prop_prints l (member_props.Computed n) = computed_prints l n
 member_prop_prints l (member_props.PrivateName n) = after (writes_comments_before l.env n.span.lo) (then (prints_punct l.env (codes ".") dot_is_mark) (private_name_prints l n))
 
 -- the object before a property
-object_prints : {X : Type 0} (l : Linked X) (n : ExprBox X) (prop : MemberProp X) → Prints l.env (l.items n.node.value (words.object_place prop)) (callee_at l.reads n)
+object_prints : {X : Type 0} (l : Linked X) (n : ExprBox X) (prop : MemberProp X) → Prints l.env (l.items n.node.value (Whole (words.object_place prop))) (callee_at l.reads n)
 unfolding words.object_place
-object_prints l n (member_props.Ident prop) = l.law n.node.value (DottedObject prop.span.lo) IsCallee
-object_prints l n (member_props.PrivateName prop) = l.law n.node.value (DottedObject prop.span.lo) IsCallee
-object_prints l n (member_props.Computed prop) = l.law n.node.value Object IsCallee
+object_prints l n (member_props.Ident prop) = l.law n.node.value (Whole (DottedObject prop.span.lo)) IsCallee
+object_prints l n (member_props.PrivateName prop) = l.law n.node.value (Whole (DottedObject prop.span.lo)) IsCallee
+object_prints l n (member_props.Computed prop) = l.law n.node.value (Whole Object) IsCallee
 
 pub member_prints : {X : Type 0} (l : Linked X) (n : MemberExpr X) → Prints l.env (words.member l.items n) (lists.member_expr l.reads n)
 unfolding words.member lists.member_expr
@@ -339,12 +340,12 @@ chain_prop_prints l (member_props.PrivateName n) = private_name_prints l n
 
 pub chain_member_prints : {X : Type 0} (l : Linked X) (optional : Bool) (n : MemberExpr X) → Prints l.env (words.chain_member l.items optional n) (lists.chain_member l.reads optional n)
 unfolding words.chain_member lists.chain_member
-chain_member_prints l optional n = then (l.law n.obj.node.value Callee IsCallee) (then (chain_mark_prints l.env optional n.prop) (chain_prop_prints l n.prop))
+chain_member_prints l optional n = then (l.law n.obj.node.value (Whole Callee) IsCallee) (then (chain_mark_prints l.env optional n.prop) (chain_prop_prints l n.prop))
 
 chain_base_prints : {X : Type 0} (l : Linked X) (optional : Bool) (n : OptChainBase X) → Prints l.env (words.chain_base l.items optional n) (lists.chain_base l.reads optional n)
 unfolding words.chain_base lists.chain_base
-chain_base_prints l optional (chain_bases.Member n) = l.law n.node.value (Chain optional) (ChainMember optional)
-chain_base_prints l optional (chain_bases.Call n) = l.law n.node.value (Chain optional) (ChainCall optional)
+chain_base_prints l optional (chain_bases.Member n) = l.law n.node.value (Whole (chain optional)) (ChainMember optional)
+chain_base_prints l optional (chain_bases.Call n) = l.law n.node.value (Whole (chain optional)) (ChainCall optional)
 
 pub opt_chain_prints : {X : Type 0} (l : Linked X) (n : OptChainExpr X) → Prints l.env (words.opt_chain l.items n) (lists.opt_chain_expr l.reads n)
 unfolding words.opt_chain lists.opt_chain_expr
@@ -365,7 +366,7 @@ pub assign_prints : {X : Type 0} (l : Linked X) (n : AssignExpr X) → Prints l.
 unfolding words.assign lists.assign_expr
 assign_prints l n =
     after (writes_leading l.env n.span.lo)
-    (then (l.law n.left.node.value Plain AssignmentTarget)
+    (then (l.law n.left.node.value (Whole Plain) AssignmentTarget)
     (after (writes_formatting_space l.env)
     (then (assign_op_prints l.env n.op) (after (writes_formatting_space l.env) (expr_at l n.right Plain)))))
 
@@ -424,9 +425,9 @@ paren_prints l n =
     (then (expr_at l n.expr Plain)
     (after (writes_position_before l.env n.span.hi) (prints_punct l.env (codes ")") paren_closes_is_mark)))))
 
-pub lit_prints : (env : Env) (n : Lit) (place : Place) → Prints env (lit_at n place) (lit_lists.lit n)
+pub lit_prints : (env : Env) (n : Lit) (context : Context) → Prints env (lit_at n context) (lit_lists.lit n)
 unfolding lit_at lit_lists.lit
 lit_prints env (lits.Num n) Object = prints_number env n.value
 lit_prints env (lits.Num n) (DottedObject prop) = prints_number_object env n.value prop
-lit_prints env (lits.JSXText n) place = prints_never
-lit_prints env n place = prints_lit env n
+lit_prints env (lits.JSXText n) context = prints_never
+lit_prints env n context = prints_lit env n

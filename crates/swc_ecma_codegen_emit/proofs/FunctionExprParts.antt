@@ -31,7 +31,9 @@ use Rattle.swc_ecma_codegen_tokens.proofs.Listing.ListLaws.{children_of, prints_
 use Rattle.swc_ecma_codegen_tokens.proofs.Reading.Phrased.{Prints, prints_by_maps, then, after, before, prints_nothing, prints_same, prints_punct, prints_ident, mark_spelled, PrintsAt, prints_wider, loosened, joined_then, joined_mark, prints_joined_punct, prints_regrouped}
 use Rattle.swc_ecma_codegen_tokens.proofs.Reading.Printed.{with_room, within_then, deeper_within, writes_same, writes_if, writes_nothing, writes_space, writes_formatting_space, writes_commit, writes_position, writes_shallower, Fills, joined_punct_within, punct_shape}
 use Rattle.swc_ecma_codegen_tokens.proofs.Commenting.CommentPrints.{writes_leading}
-use Rattle.swc_ecma_codegen_emit.specs.declared.nodes.Place.TheVariants.{Plain, Body, DeclarationTail}
+use Rattle.swc_ecma_codegen_emit.specs.declared.nodes.Context.TheVariants.{Plain, Body, DefaultExport}
+use Rattle.swc_ecma_codegen_emit.specs.declared.nodes.Piece.TheVariants.{DeclarationTail}
+use Rattle.swc_ecma_codegen_emit.specs.Places.{Whole, Only}
 use Rattle.swc_ecma_codegen_emit.specs.ClassExprs as class_words
 use Rattle.swc_ecma_codegen_emit.specs.FunctionExprs as words
 use Rattle.swc_ecma_codegen_emit.specs.Commented.{has_comment_after}
@@ -60,18 +62,18 @@ fn_expr_prints l n =
     after (writes_leading l.env (l.asks n.function.node.value).place.lo)
     (after (writes_commit l.env)
     (after (writes_position l.env (l.asks n.function.node.value).place.lo)
-    (then (l.law n.function.node.value Plain FunctionHead)
-    (then (name_prints l n.ident) (l.law n.function.node.value Plain Function)))))
+    (then (l.law n.function.node.value (Whole Plain) FunctionHead)
+    (then (name_prints l n.ident) (l.law n.function.node.value (Whole Plain) Function)))))
 
 -- one that is exported by default is declared
-pub default_fn_prints : {X : Type 0} (l : Linked X) (n : FnExpr X) → PrintsAt ended l.env (words.fn_expr l.asks l.items n DeclarationTail) (lists.fn_expr l.reads n)
+pub default_fn_prints : {X : Type 0} (l : Linked X) (n : FnExpr X) → PrintsAt ended l.env (words.fn_expr l.asks l.items n DefaultExport) (lists.fn_expr l.reads n)
 unfolding words.fn_expr lists.fn_expr
 default_fn_prints l n =
     after (writes_leading l.env (l.asks n.function.node.value).place.lo)
     (after (writes_commit l.env)
     (after (writes_position l.env (l.asks n.function.node.value).place.lo)
-    (then (l.law n.function.node.value Plain FunctionHead)
-    (then (name_prints l n.ident) (l.law n.function.node.value DeclarationTail Function)))))
+    (then (l.law n.function.node.value (Whole Plain) FunctionHead)
+    (then (name_prints l n.ident) (l.law n.function.node.value (Only DeclarationTail) Function)))))
 
 -- ---- arrow functions
 
@@ -94,10 +96,10 @@ unfolding words.parenthesis no_part
 no_parenthesis env t small = writes_same env (words.parenthesis true t) (λ rest. rest) [] (λ maps rest. minified_same no_part (punct t) rest (at_maps maps env) small) (writes_nothing env)
 
 abbrev params_list : {X : Type 0} → Linked X → Span → List (PatBox X) → Part
-params_list l span ns = list comma_list_format span (children_of (λ p. (l.asks p.node.value).place) (λ p. l.items p.node.value Plain) ns)
+params_list l span ns = list comma_list_format span (children_of (λ p. (l.asks p.node.value).place) (λ p. l.items p.node.value (Whole Plain)) ns)
 
 params_list_prints : {X : Type 0} (l : Linked X) (span : Span) (ns : List (PatBox X)) → PrintsAt loose l.env (params_list l span ns) (phrases.listed (codes ",") (map (pats.pat_at l.reads) ns))
-params_list_prints l span ns = prints_list l.env comma_list_format span (λ p. (l.asks p.node.value).place) (λ p. l.items p.node.value Plain) (pats.pat_at l.reads) (λ n. loosened (pat_at l n)) refl refl refl refl ns
+params_list_prints l span ns = prints_list l.env comma_list_format span (λ p. (l.asks p.node.value).place) (λ p. l.items p.node.value (Whole Plain)) (pats.pat_at l.reads) (λ n. loosened (pat_at l n)) refl refl refl refl ns
 
 params_prints : {X : Type 0} (l : Linked X) (span : Span) (ns : List (PatBox X)) → Prints l.env (λ rest. words.parenthesis false (codes "(") (params_list l span ns (words.parenthesis false (codes ")") rest))) (mark (codes "(") > phrases.listed (codes ",") (map (pats.pat_at l.reads) ns) > mark (codes ")"))
 params_prints l span ns =
@@ -105,7 +107,7 @@ params_prints l span ns =
     (then (params_list_prints l span ns) (other_parenthesis l.env (codes ")") marks.right_parenthesis))
 
 only_list_prints : {X : Type 0} (l : Linked X) (span : Span) (n : PatBox X) → Prints l.env (params_list l span (n ∷ [])) (pats.pat_at l.reads n)
-only_list_prints l span n = prints_one_child l.env comma_list_format span (λ p. (l.asks p.node.value).place) (λ p. l.items p.node.value Plain) n (pat_at l n) refl refl refl refl refl
+only_list_prints l span n = prints_one_child l.env comma_list_format span (λ p. (l.asks p.node.value).place) (λ p. l.items p.node.value (Whole Plain)) n (pat_at l n) refl refl refl refl refl
 
 abbrev only_part : {X : Type 0} → Linked X → Bool → Span → PatBox X → Part
 only_part l plain span n rest = words.parenthesis plain (codes "(") (params_list l span (n ∷ []) (words.parenthesis plain (codes ")") rest))
@@ -145,7 +147,7 @@ only_commented l span n true true e =
     let P : Phrase → Type 0 = λ z. Prints l.env (only_part l false span n) (cond (is_never z) (mark (codes "(") > pats.pat_at l.reads n > mark (codes ")")) (OptionalParentheses (pats.pat_at l.reads n))) in
     subst P (sym e) (kept_or_never l span n (is_never (pats.pat_at l.reads n)) refl)
 
-arrow_params_prints : {X : Type 0} (l : Linked X) (span : Span) (typed : Bool) (ns : List (PatBox X)) (maps : Maps) → Prints l.env (words.arrow_within (not typed && (words.is_only words.is_plain l.asks ns && not (words.has_comment_behind l.asks ns maps))) span (children_of (λ p. (l.asks p.node.value).place) (λ p. l.items p.node.value Plain) ns)) (lists.arrow_parameters l.reads typed ns)
+arrow_params_prints : {X : Type 0} (l : Linked X) (span : Span) (typed : Bool) (ns : List (PatBox X)) (maps : Maps) → Prints l.env (words.arrow_within (not typed && (words.is_only words.is_plain l.asks ns && not (words.has_comment_behind l.asks ns maps))) span (children_of (λ p. (l.asks p.node.value).place) (λ p. l.items p.node.value (Whole Plain)) ns)) (lists.arrow_parameters l.reads typed ns)
 unfolding words.arrow_within words.is_only words.has_comment_behind lists.arrow_parameters
 arrow_params_prints l span true [] maps = params_prints l span []
 arrow_params_prints l span true (n ∷ []) maps = params_prints l span (n ∷ [])
@@ -160,7 +162,7 @@ arrow_result_prints l None = prints_nothing
 arrow_result_prints l (Some n) =
     prints_wider open_ refl
     (then (before (prints_punct l.env (codes ":") marks.colon) (writes_formatting_space l.env))
-    (before (l.law n.node.value Plain Annotation) (writes_formatting_space l.env)))
+    (before (l.law n.node.value (Whole Plain) Annotation) (writes_formatting_space l.env)))
 
 arrow_ends_nothing : is_ending (codes "=>") ≡ false
 unfolding is_ending
@@ -197,5 +199,5 @@ unfolding class_words.class_expr classes.class_expr
 class_expr_prints l n =
     after (writes_leading l.env (l.asks n.class.node.value).place.lo)
     (after (writes_position l.env (l.asks n.class.node.value).place.lo)
-    (then (l.law n.class.node.value Plain ClassHead)
-    (then (l.law n.class.node.value Plain ClassWord) (then (name_prints l n.ident) (l.law n.class.node.value Plain ClassTail)))))
+    (then (l.law n.class.node.value (Whole Plain) ClassHead)
+    (then (l.law n.class.node.value (Whole Plain) ClassWord) (then (name_prints l n.ident) (l.law n.class.node.value (Whole Plain) ClassTail)))))

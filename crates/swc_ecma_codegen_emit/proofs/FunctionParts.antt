@@ -15,9 +15,9 @@ use Rattle.swc_ecma_codegen_tokens.proofs.Listing.ListLaws.{IsUndelimited, print
 use Rattle.swc_ecma_codegen_tokens.proofs.Reading.Phrased.{prints_bare_semi, Prints, then, after, before, prints_nothing, prints_never, prints_keyword, prints_punct, prints_semi, PrintsAt, prints_wider, joined_then}
 use Rattle.swc_ecma_codegen_tokens.proofs.Reading.Printed.{writes_then, writes_if, writes_space, writes_formatting_space, writes_line, writes_position, Fills}
 use Rattle.swc_ecma_codegen_tokens.proofs.Commenting.CommentPrints.{writes_leading}
-use Rattle.swc_ecma_codegen_emit.specs.declared.nodes.Place.{Place}
-use Rattle.swc_ecma_codegen_emit.specs.declared.nodes.Place.TheVariants.{Plain, Body, DeclarationHead, DeclarationTail, StaticHead, MethodTail}
-use Rattle.swc_ecma_codegen_emit.specs.Places.{before_name, before_method, behind_key, behind_name}
+use Rattle.swc_ecma_codegen_emit.specs.declared.nodes.Context.TheVariants.{Plain, Body}
+use Rattle.swc_ecma_codegen_emit.specs.declared.nodes.Piece.TheVariants.{DeclarationHead, DeclarationTail, StaticHead, MethodTail}
+use Rattle.swc_ecma_codegen_emit.specs.Places.{Place, Only, before_name, before_method, behind_key, behind_name}
 use Rattle.swc_ecma_codegen_emit.specs.Annotations.{annotation, type_params}
 use Rattle.swc_ecma_codegen_emit.specs.Functions as words
 use Rattle.swc_ecma_codegen_emit.specs.FunctionExprs.{comma_list_format}
@@ -105,7 +105,7 @@ unless_decorated false h = h
 -- a function, or one that is declared
 pub fn_tail_prints : {X : Type 0} (l : Linked X) (n : functions.Function X) (place : Place) → PrintsIn Function place l.env (words.function l.asks l.items n (behind_name place)) (lists.function l.reads n)
 unfolding words.function lists.function classes.method_tail
-fn_tail_prints l n DeclarationTail = unless_decorated (is_some_listed n.decorators.items) (declared_tail_prints l n)
+fn_tail_prints l n (Only DeclarationTail) = unless_decorated (is_some_listed n.decorators.items) (declared_tail_prints l n)
 fn_tail_prints l n place = unless_decorated (is_some_listed n.decorators.items) (private_tail_prints l n)
 
 -- behind `async`, where it is so
@@ -138,9 +138,9 @@ unfolding words.declaration_head lists.function_head
 declaration_head_prints env n = async_then env n.is_async (then (prints_keyword env None (codes "function") marks.function_word) (space_prints env n.is_generator))
 
 -- what stands before its name, with a blank where the function is declared
-pub head_prints : {X : Type 0} (l : Linked X) (n : functions.Function X) (place : Place) → Prints l.env (words.function l.asks l.items n (before_name place)) (lists.function_head n)
+pub head_prints : {X : Type 0} (l : Linked X) (n : functions.Function X) (place : Place) → Prints l.env (words.function l.asks l.items n (Only (before_name place))) (lists.function_head n)
 unfolding words.function
-head_prints l n DeclarationHead = declaration_head_prints l.env n
+head_prints l n (Only DeclarationHead) = declaration_head_prints l.env n
 head_prints l n place = function_head_prints l.env n
 
 pub method_head_prints : {X : Type 0} (env : Env) (n : functions.Function X) → PrintsAt joining_if_any env (words.method_head n) (lists.method_head n)
@@ -152,9 +152,9 @@ unfolding words.static_head
 static_head_prints env starts n = after (writes_static_gap env _) (method_head_prints env n)
 
 -- of a static method, with the blank before it
-pub before_method_prints : {X : Type 0} (l : Linked X) (n : functions.Function X) (place : Place) → PrintsAt joining_if_any l.env (words.function l.asks l.items n (before_method place)) (lists.method_head n)
+pub before_method_prints : {X : Type 0} (l : Linked X) (n : functions.Function X) (place : Place) → PrintsAt joining_if_any l.env (words.function l.asks l.items n (Only (before_method place))) (lists.method_head n)
 unfolding words.function
-before_method_prints l n (StaticHead starts) = static_head_prints l.env starts n
+before_method_prints l n (Only (StaticHead starts)) = static_head_prints l.env starts n
 before_method_prints l n place = method_head_prints l.env n
 
 pub decorators_print : {X : Type 0} (l : Linked X) (ns : List (Decorator X)) → PrintsAt ended_if_any l.env (words.decorator_lines l.items ns) (classes.decorators l.reads ns)
@@ -168,8 +168,8 @@ method_decorators_print l n = decorators_print l n.decorators.items
 -- what of a method stands behind its key, private or not
 pub method_tail_prints : {X : Type 0} (l : Linked X) (n : functions.Function X) (place : Place) → PrintsAt ended l.env (words.function l.asks l.items n (behind_key place)) (classes.method_tail l.reads n)
 unfolding words.function
-method_tail_prints l n MethodTail = plain_tail_prints l n
-method_tail_prints l n DeclarationTail = declared_tail_prints l n
+method_tail_prints l n (Only MethodTail) = plain_tail_prints l n
+method_tail_prints l n (Only DeclarationTail) = declared_tail_prints l n
 method_tail_prints l n place = prints_wider ended refl (private_tail_prints l n)
 
 never_or : {env : Env} {p : Part} {f : Phrase} (never : Bool) → PrintsAt ended env p f → PrintsAt ended env p (cond never Never f)

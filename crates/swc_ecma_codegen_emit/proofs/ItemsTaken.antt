@@ -32,9 +32,8 @@ use Rattle.swc_ecma_codegen_emit.specs.Left.{NoneBefore, NoneBeforeItems}
 use Rattle.swc_ecma_codegen_emit.specs.Lists.{in_order}
 use Rattle.swc_ecma_codegen_emit.specs.Modules.{module_item, module_item_by}
 use Rattle.swc_ecma_codegen_emit.specs.Programs.{last_semi, module_parts, program, whole_module}
-use Rattle.swc_ecma_codegen_emit.specs.declared.nodes.Place.{Place}
-use Rattle.swc_ecma_codegen_emit.specs.declared.nodes.Place.TheVariants.{Plain, Lines}
-use Rattle.swc_ecma_codegen_emit.specs.Places.{alone, by_itself}
+use Rattle.swc_ecma_codegen_emit.specs.declared.nodes.Context.TheVariants.{ByItself, Plain}
+use Rattle.swc_ecma_codegen_emit.specs.Places.{Place, Whole, alone, by_itself}
 use Rattle.swc_ecma_codegen_emit.specs.Roots.{Root, OfExpr, OfStmt, OfItem, OfModule, OfScript, OfProgram, OfLink, root_items}
 use Rattle.swc_ecma_codegen_emit.specs.Tree.{any_items}
 use Rattle.swc_ecma_codegen_emit.proofs.ByItself.{alone_or}
@@ -113,7 +112,7 @@ module _ {X : Type 0} (l : Linked X) where
 -- ---- as the calls say it
 
 -- in lines and without, and whatever comes behind it
-module_left_at : (n : Module AnyNode) (place : Place) (rest : Plan) (env : Env) → env.keeps_invalid ≡ false → is_well_formed (programs.Module n) ≡ true → is_out env.config (lists.whole_module phrase n) ≡ false → (place ≡ Plain) ⊎ ((max : ℕ) × (place ≡ Lines max)) → NoneBeforeItems n (maps_after (steps_of (unbounded (whole_module any_answers any_items n place) rest env)) env.maps)
+module_left_at : (n : Module AnyNode) (place : Place) (rest : Plan) (env : Env) → env.keeps_invalid ≡ false → is_well_formed (programs.Module n) ≡ true → is_out env.config (lists.whole_module phrase n) ≡ false → (place ≡ Whole Plain) ⊎ ((max : ℕ) × (place ≡ Whole (ByItself max))) → NoneBeforeItems n (maps_after (steps_of (unbounded (whole_module any_answers any_items n place) rest env)) env.maps)
 unfolding lists.program whole_module with_max_line bounded in_lines begin_lines end_lines step steps_of maps_after after_step
 module_left_at n place rest env e w o (inl h) =
     let P : Place → Type 0 = λ z. NoneBeforeItems n (maps_after (steps_of (unbounded (whole_module any_answers any_items n z) rest env)) env.maps) in

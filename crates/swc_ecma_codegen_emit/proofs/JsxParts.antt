@@ -51,12 +51,12 @@ use Rattle.swc_ecma_codegen_tokens.proofs.Filling.Shapes.{open_, whole}
 use Rattle.swc_ecma_codegen_tokens.proofs.Gaps.Spots.{is_narrower}
 use Rattle.swc_ecma_codegen_tokens.proofs.Jsx.TagPrints.{less_is_mark, slash_is_mark, prints_spots, prints_never_on, prints_where_on, prints_tag_name, prints_named_bare, prints_named_mark, writes_named_gap, prints_tag_end, prints_less_open, prints_opens, prints_brace_end, prints_none, wider_on}
 use Rattle.swc_ecma_codegen_tokens.proofs.Jsx.TagStrings.{prints_attribute_string, prints_text_node}
-use Rattle.swc_ecma_codegen_emit.specs.declared.nodes.Place.{Place}
-use Rattle.swc_ecma_codegen_emit.specs.declared.nodes.Place.TheVariants.{Plain, Child}
+use Rattle.swc_ecma_codegen_emit.specs.declared.nodes.Context.{Context}
+use Rattle.swc_ecma_codegen_emit.specs.declared.nodes.Context.TheVariants.{Plain, Child}
 use Rattle.swc_ecma_codegen_emit.specs.Exprs.{blank}
 use Rattle.swc_ecma_codegen_emit.specs.Jsx as words
 use Rattle.swc_ecma_codegen_emit.specs.Lists.{in_order}
-use Rattle.swc_ecma_codegen_emit.specs.Places.{placed}
+use Rattle.swc_ecma_codegen_emit.specs.Places.{Place, Whole, placed}
 use Rattle.swc_ecma_codegen_emit.proofs.AnnotationParts.{tag_types_print}
 use Rattle.swc_ecma_codegen_emit.proofs.ExprParts.{spread_element_prints}
 use Rattle.swc_ecma_codegen_emit.proofs.Linked.{Linked, unbounded_linked, PrintsIn, expr_at}
@@ -103,7 +103,7 @@ named_slash env = prints_named_mark env (codes "/") refl refl refl slash_is_mark
 
 member_prints : {X : Type 0} (l : Linked X) (n : JSXMemberExpr X) → PrintsOn Anything InName whole l.env (words.jsx_member_expr l.items n) (lists.jsx_member_expr l.reads n)
 unfolding words.jsx_member_expr lists.jsx_member_expr
-member_prints l n = then_on (l.law n.obj.node.value Plain TagObject) (then_on (named_dot l.env) (behind_mark (tag_ident_name_prints l.env n.prop)))
+member_prints l n = then_on (l.law n.obj.node.value (Whole Plain) TagObject) (then_on (named_dot l.env) (behind_mark (tag_ident_name_prints l.env n.prop)))
 
 namespaced_prints : (env : Env) (n : JSXNamespacedName) → PrintsOn InName InName whole env (words.jsx_namespaced_name n) (lists.jsx_namespaced_name n)
 unfolding words.jsx_namespaced_name lists.jsx_namespaced_name
@@ -132,7 +132,7 @@ abbrev before_open : Bool → Spot
 before_open true = InText
 before_open false = Anything
 
-abbrev child_place : Bool → Place
+abbrev child_place : Bool → Context
 child_place true = Child
 child_place false = Plain
 
@@ -177,8 +177,8 @@ value_prints : {X : Type 0} (l : Linked X) (n : JSXAttrValue X) → PrintsOn Any
 unfolding words.jsx_attr_value lists.jsx_attr_value
 value_prints l (attr_values.Lit n) = at_name (attr_lit_prints l.env n)
 value_prints l (attr_values.JSXExprContainer n) = prints_spots Anything InName refl refl (container_prints l false n)
-value_prints l (attr_values.JSXElement n) = prints_spots Anything InName refl refl (l.law n.node.value Plain Element)
-value_prints l (attr_values.JSXFragment n) = prints_spots Anything InName refl refl (l.law n.node.value Plain Element)
+value_prints l (attr_values.JSXElement n) = prints_spots Anything InName refl refl (l.law n.node.value (Whole Plain) Element)
+value_prints l (attr_values.JSXFragment n) = prints_spots Anything InName refl refl (l.law n.node.value (Whole Plain) Element)
 
 initializer_prints : {X : Type 0} (l : Linked X) (n : Option (JSXAttrValue X)) → PrintsOn InName InName open_ l.env (words.attr_initializer l.items n) (lists.jsx_attr_init l.reads n)
 unfolding words.attr_initializer lists.jsx_attr_init
@@ -246,8 +246,8 @@ unfolding lists.is_text words.jsx_element_child lists.jsx_element_child
 child_prints l (children.JSXText n) = some_text (prints_text_node l.env n)
 child_prints l (children.JSXExprContainer n) = no_text (container_prints l true n)
 child_prints l (children.JSXSpreadChild n) = no_text (spread_child_prints l n)
-child_prints l (children.JSXElement n) = no_text (l.law n.node.value Child IsChild)
-child_prints l (children.JSXFragment n) = no_text (l.law n.node.value Child IsChild)
+child_prints l (children.JSXElement n) = no_text (l.law n.node.value (Whole Child) IsChild)
+child_prints l (children.JSXFragment n) = no_text (l.law n.node.value (Whole Child) IsChild)
 
 behind_spot : (b : Bool) → is_narrower (spot_behind b) InText ≡ true
 behind_spot true = refl

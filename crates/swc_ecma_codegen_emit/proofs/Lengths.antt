@@ -6,8 +6,7 @@ use Rattle.swc_ecma_codegen_tokens.proofs.Filling.Lengths.{at_length}
 use Rattle.swc_ecma_codegen_tokens.proofs.Filling.MaxLines.{lengthened, follows_keeps, follows_length}
 use Rattle.swc_ecma_codegen_emit.specs.Standing.{Standing, outcome, Leads, LeadsAfter, Makes}
 use Rattle.swc_ecma_codegen_emit.proofs.Standings.{makes_ended, makes_same}
-use Rattle.swc_ecma_codegen_emit.specs.declared.nodes.Place.{Place}
-use Rattle.swc_ecma_codegen_emit.specs.Places.{alone, by_itself}
+use Rattle.swc_ecma_codegen_emit.specs.Places.{Place, alone, by_itself}
 
 -- where an emission stands, with another greatest length of lines
 abbrev pub standing_at : Option ℕ → Standing → Standing

@@ -8,16 +8,17 @@ use Rattle.swc_ecma_codegen_tokens.specs.Run.{Env, Part}
 use Rattle.swc_ecma_codegen_tokens.specs.Written.{Spot, Anything, Between, InText, InName}
 use Rattle.swc_ecma_codegen_tokens.proofs.Filling.Lengths.{at_length}
 use Rattle.swc_ecma_codegen_tokens.proofs.Reading.Phrased.{Prints, PrintsAt, PrintsOn}
-use Rattle.swc_ecma_codegen_emit.specs.declared.nodes.Place.{Place}
-use Rattle.swc_ecma_codegen_emit.specs.declared.nodes.Place.TheVariants.{Plain, DeclarationTail}
+use Rattle.swc_ecma_codegen_emit.specs.declared.nodes.Context.{Context}
+use Rattle.swc_ecma_codegen_emit.specs.declared.nodes.Context.TheVariants.{Plain}
+use Rattle.swc_ecma_codegen_emit.specs.declared.nodes.Piece.TheVariants.{DeclarationTail}
 use Rattle.swc_ecma_codegen_emit.specs.Answers.{Answers}
 use Rattle.swc_ecma_codegen_emit.specs.FunctionExprs.{is_plain}
-use Rattle.swc_ecma_codegen_emit.specs.Places.{placed}
+use Rattle.swc_ecma_codegen_emit.specs.Places.{Place, Whole, Only, placed}
 use Rattle.swc_ecma_codegen_tokens.proofs.Filling.Shapes.{Shape, whole, loose, ended, ended_if_any, joining_if_any}
 
 -- a function that is declared may end behind its semicolon
 abbrev pub function_shape : Place → Shape
-function_shape DeclarationTail = ended
+function_shape (Only DeclarationTail) = ended
 function_shape place = whole
 
 -- A statement may end with the end of its line or behind its semicolon, as declarations and members of classes do, and declarations of
@@ -71,20 +72,20 @@ pub record Linked (X : Type 0) : Type 0 where
 abbrev pub unbounded_linked : {X : Type 0} → Linked X → Linked X
 unbounded_linked l = record { env = at_length None l.env; leaves_out = l.leaves_out; asks = l.asks; items = l.items; reads = l.reads; plain = l.plain; law = l.inside; inside = l.inside }
 
-pub expr_at : {X : Type 0} (l : Linked X) (n : ExprBox X) (place : Place) → Prints l.env (l.items n.node.value (placed Expression place)) (l.reads n.node.value Expression)
-expr_at l n place = l.law n.node.value place Expression
+pub expr_at : {X : Type 0} (l : Linked X) (n : ExprBox X) (context : Context) → Prints l.env (l.items n.node.value (placed Expression (Whole context))) (l.reads n.node.value Expression)
+expr_at l n context = l.law n.node.value (Whole context) Expression
 
-pub stmt_at : {X : Type 0} (l : Linked X) (n : StmtBox X) → PrintsAt ended l.env (l.items n.node.value Plain) (l.reads n.node.value Statement)
-stmt_at l n = l.law n.node.value Plain Statement
+pub stmt_at : {X : Type 0} (l : Linked X) (n : StmtBox X) → PrintsAt ended l.env (l.items n.node.value (Whole Plain)) (l.reads n.node.value Statement)
+stmt_at l n = l.law n.node.value (Whole Plain) Statement
 
-pub pat_at : {X : Type 0} (l : Linked X) (n : PatBox X) → Prints l.env (l.items n.node.value Plain) (l.reads n.node.value Pattern)
-pat_at l n = l.law n.node.value Plain Pattern
+pub pat_at : {X : Type 0} (l : Linked X) (n : PatBox X) → Prints l.env (l.items n.node.value (Whole Plain)) (l.reads n.node.value Pattern)
+pat_at l n = l.law n.node.value (Whole Plain) Pattern
 
-pub prop_name_at : {X : Type 0} (l : Linked X) (n : PropNameBox X) → Prints l.env (l.items n.node.value Plain) (l.reads n.node.value PropertyName)
-prop_name_at l n = l.law n.node.value Plain PropertyName
+pub prop_name_at : {X : Type 0} (l : Linked X) (n : PropNameBox X) → Prints l.env (l.items n.node.value (Whole Plain)) (l.reads n.node.value PropertyName)
+prop_name_at l n = l.law n.node.value (Whole Plain) PropertyName
 
-pub block_at : {X : Type 0} (l : Linked X) (n : BlockStmtBox X) (place : Place) → Prints l.env (l.items n.node.value place) (l.reads n.node.value Block)
-block_at l n place = l.law n.node.value place Block
+pub block_at : {X : Type 0} (l : Linked X) (n : BlockStmtBox X) (context : Context) → Prints l.env (l.items n.node.value (Whole context)) (l.reads n.node.value Block)
+block_at l n context = l.law n.node.value (Whole context) Block
 
-pub var_decl_at : {X : Type 0} (l : Linked X) (n : VarDeclBox X) → PrintsAt ended l.env (l.items n.node.value Plain) (l.reads n.node.value VariableDeclaration)
-var_decl_at l n = l.law n.node.value Plain VariableDeclaration
+pub var_decl_at : {X : Type 0} (l : Linked X) (n : VarDeclBox X) → PrintsAt ended l.env (l.items n.node.value (Whole Plain)) (l.reads n.node.value VariableDeclaration)
+var_decl_at l n = l.law n.node.value (Whole Plain) VariableDeclaration

@@ -27,7 +27,8 @@ use Rattle.swc_ecma_codegen_tokens.proofs.Reading.Choices.{prints_loop_ending}
 use Rattle.swc_ecma_codegen_tokens.proofs.Listing.ListLaws.{IsUndelimited, prints_bracketed_in_order}
 use Rattle.swc_ecma_codegen_tokens.proofs.Reading.Phrased.{Prints, then, after, before, prints_nothing, prints_same, prints_keyword, prints_punct, PrintsAt, prints_wider, joined_then}
 use Rattle.swc_ecma_codegen_tokens.proofs.Reading.Printed.{writes_nothing, writes_space, writes_formatting_space, writes_commit, writes_position, writes_position_before, makes_wider}
-use Rattle.swc_ecma_codegen_emit.specs.declared.nodes.Place.TheVariants.{Plain}
+use Rattle.swc_ecma_codegen_emit.specs.declared.nodes.Context.TheVariants.{Plain}
+use Rattle.swc_ecma_codegen_emit.specs.Places.{Whole}
 use Rattle.swc_ecma_codegen_emit.specs.Exprs.{space_if}
 use Rattle.swc_ecma_codegen_emit.specs.Stmts as words
 use Rattle.swc_ecma_codegen_emit.specs.Stmts.{cases_format, case_format, case_place}
@@ -77,7 +78,7 @@ undelimited false = record { no_comma = refl; no_bar = refl; no_ampersand = refl
 case_list_prints : {X : Type 0} (l : Linked X) (single : Bool) (span : Span) (ns : List (StmtBox X)) → PrintsAt ended l.env (words.case_list single span (words.case_children l.asks l.items ns)) (mark (codes ":") > phrases.in_order (map (lists.stmt_at l.reads) ns))
 unfolding words.case_list words.case_body
 case_list_prints l single span ns = prints_last (codes ":")
-    (prints_bracketed_in_order l.env (codes ":") marks.colon (space_if single) (makes_wider loose refl (writes_space_if l.env single)) (case_format single) span (λ s. (l.asks s.node.value).place) (λ s. l.items s.node.value Plain) (lists.stmt_at l.reads) phrases.Nothing (λ rest. rest)
+    (prints_bracketed_in_order l.env (codes ":") marks.colon (space_if single) (makes_wider loose refl (writes_space_if l.env single)) (case_format single) span (λ s. (l.asks s.node.value).place) (λ s. l.items s.node.value (Whole Plain)) (lists.stmt_at l.reads) phrases.Nothing (λ rest. rest)
     (λ s. prints_wider loose refl (stmt_at l s)) (undelimited single) prints_nothing ns)
 
 case_stmts_print : {X : Type 0} (l : Linked X) (n : SwitchCase X) → PrintsAt ended l.env (words.case_stmts l.asks l.items n) (mark (codes ":") > phrases.in_order (map (lists.stmt_at l.reads) n.cons.items))

@@ -29,8 +29,9 @@ use Rattle.swc_ecma_codegen_grammar.proofs.MappedTsDecls.{by_args}
 use Rattle.swc_ecma_codegen_tokens.specs.Lists.{ListChild, list}
 use Rattle.swc_ecma_codegen_tokens.specs.Run.{Plan, Part}
 use Rattle.swc_ecma_codegen_tokens.specs.Words.{keyword, punct, space, formatting_space, start_of, last_of, leading_comments}
-use Rattle.swc_ecma_codegen_emit.specs.declared.nodes.Place.{Place}
-use Rattle.swc_ecma_codegen_emit.specs.declared.nodes.Place.TheVariants.{Plain, ClassHead, ClassWord}
+use Rattle.swc_ecma_codegen_emit.specs.declared.nodes.Context.TheVariants.{Plain}
+use Rattle.swc_ecma_codegen_emit.specs.declared.nodes.Piece.TheVariants.{ClassHead, ClassWord}
+use Rattle.swc_ecma_codegen_emit.specs.Places.{Place, Whole, Only}
 use Rattle.swc_ecma_codegen_emit.specs.Annotations.{annotation, field_annotation, type_args, type_params, types_format, word_before}
 use Rattle.swc_ecma_codegen_emit.specs.Answers.{Answers}
 use Rattle.swc_ecma_codegen_emit.specs.Classes.{class_members_format, heritage, implemented_format, some_implements, implements_clause, class_body, class_tail, class_word, class, accessibility_word, ts_param_prop_param, ts_param_prop, constructor_param, constructor_param_place, constructor_body, constructor_tail, constructor_word, class_constructor, static_method, method_word, accessor_words, method_kind, method_rest, class_method, private_kind, private_words, private_rest, private_method, prop_value, prop_modifiers, prop_tail, class_prop, private_modifiers, private_prop_tail, private_prop, accessor_key, accessor_modifiers, accessor_tail, auto_accessor, static_block, index_member, class_member}
@@ -73,25 +74,25 @@ class_same e g asks items known put implemented same n head ns ms rest =
     ap head (implements_mapped e items put implemented n.span ns (braced n (map (member_child asks items) (map g ms)) rest))
     ∙ ap (λ cs. head (implements_clause put n.span ns (braced n cs rest))) (list_mapped g (member_child asks items) (member_child known put) same ms)
 
-class_by : {X Y : Type 0} (g : X → Y) (asks : Y → Answers) (items : Y → Place → Part) (b : Box (classes.Class X) Global) (n : classes.Class X) (super_class : Option (ExprBox X)) (type_params : Option (TsTypeParamDeclBox X)) (super_type_params : Option (TsTypeParamInstantiationBox X)) (rest : Plan) → node_items asks items (map-AnyNode X Y g (nodes.StmtPart (stmt_parts.Class (record b { value = with_class_parts n super_class type_params super_type_params })))) Plain rest ≡ class_tail (λ x. asks (g x)) (λ x. items (g x)) (with_class_parts n super_class type_params super_type_params) rest
+class_by : {X Y : Type 0} (g : X → Y) (asks : Y → Answers) (items : Y → Place → Part) (b : Box (classes.Class X) Global) (n : classes.Class X) (super_class : Option (ExprBox X)) (type_params : Option (TsTypeParamDeclBox X)) (super_type_params : Option (TsTypeParamInstantiationBox X)) (rest : Plan) → node_items asks items (map-AnyNode X Y g (nodes.StmtPart (stmt_parts.Class (record b { value = with_class_parts n super_class type_params super_type_params })))) (Whole Plain) rest ≡ class_tail (λ x. asks (g x)) (λ x. items (g x)) (with_class_parts n super_class type_params super_type_params) rest
 unfolding node_items stmt_part class class_tail class_body heritage ts_expr_with_type_args type_args type_params
 class_by {X} {Y} g asks items b n None None None rest = class_same {X = X} {Y = Y} _ _ asks items (λ x. asks (g x)) (λ x. items (g x)) (by_args {X = X} _ (λ e. refl) (λ e a. refl)) (λ m. refl) n (λ z. z) n.implements.items n.body.items rest
 class_by {X} {Y} g asks items b n None None (Some t) rest = class_same {X = X} {Y = Y} _ _ asks items (λ x. asks (g x)) (λ x. items (g x)) (by_args {X = X} _ (λ e. refl) (λ e a. refl)) (λ m. refl) n (λ z. z) n.implements.items n.body.items rest
-class_by {X} {Y} g asks items b n None (Some q) None rest = class_same {X = X} {Y = Y} _ _ asks items (λ x. asks (g x)) (λ x. items (g x)) (by_args {X = X} _ (λ e. refl) (λ e a. refl)) (λ m. refl) n (λ z. items (g q.node.value) Plain (z)) n.implements.items n.body.items rest
-class_by {X} {Y} g asks items b n None (Some q) (Some t) rest = class_same {X = X} {Y = Y} _ _ asks items (λ x. asks (g x)) (λ x. items (g x)) (by_args {X = X} _ (λ e. refl) (λ e a. refl)) (λ m. refl) n (λ z. items (g q.node.value) Plain (z)) n.implements.items n.body.items rest
-class_by {X} {Y} g asks items b n (Some s) None None rest = class_same {X = X} {Y = Y} _ _ asks items (λ x. asks (g x)) (λ x. items (g x)) (by_args {X = X} _ (λ e. refl) (λ e a. refl)) (λ m. refl) n (λ z. space (keyword None (codes "extends") (blank (asks (g s.node.value)).starts (items (g s.node.value) Plain (z))))) n.implements.items n.body.items rest
-class_by {X} {Y} g asks items b n (Some s) None (Some t) rest = class_same {X = X} {Y = Y} _ _ asks items (λ x. asks (g x)) (λ x. items (g x)) (by_args {X = X} _ (λ e. refl) (λ e a. refl)) (λ m. refl) n (λ z. space (keyword None (codes "extends") (blank (asks (g s.node.value)).starts (items (g s.node.value) Plain (items (g t.node.value) Plain z))))) n.implements.items n.body.items rest
-class_by {X} {Y} g asks items b n (Some s) (Some q) None rest = class_same {X = X} {Y = Y} _ _ asks items (λ x. asks (g x)) (λ x. items (g x)) (by_args {X = X} _ (λ e. refl) (λ e a. refl)) (λ m. refl) n (λ z. items (g q.node.value) Plain (space (keyword None (codes "extends") (blank (asks (g s.node.value)).starts (items (g s.node.value) Plain (z)))))) n.implements.items n.body.items rest
-class_by {X} {Y} g asks items b n (Some s) (Some q) (Some t) rest = class_same {X = X} {Y = Y} _ _ asks items (λ x. asks (g x)) (λ x. items (g x)) (by_args {X = X} _ (λ e. refl) (λ e a. refl)) (λ m. refl) n (λ z. items (g q.node.value) Plain (space (keyword None (codes "extends") (blank (asks (g s.node.value)).starts (items (g s.node.value) Plain (items (g t.node.value) Plain z)))))) n.implements.items n.body.items rest
+class_by {X} {Y} g asks items b n None (Some q) None rest = class_same {X = X} {Y = Y} _ _ asks items (λ x. asks (g x)) (λ x. items (g x)) (by_args {X = X} _ (λ e. refl) (λ e a. refl)) (λ m. refl) n (λ z. items (g q.node.value) (Whole Plain) (z)) n.implements.items n.body.items rest
+class_by {X} {Y} g asks items b n None (Some q) (Some t) rest = class_same {X = X} {Y = Y} _ _ asks items (λ x. asks (g x)) (λ x. items (g x)) (by_args {X = X} _ (λ e. refl) (λ e a. refl)) (λ m. refl) n (λ z. items (g q.node.value) (Whole Plain) (z)) n.implements.items n.body.items rest
+class_by {X} {Y} g asks items b n (Some s) None None rest = class_same {X = X} {Y = Y} _ _ asks items (λ x. asks (g x)) (λ x. items (g x)) (by_args {X = X} _ (λ e. refl) (λ e a. refl)) (λ m. refl) n (λ z. space (keyword None (codes "extends") (blank (asks (g s.node.value)).starts (items (g s.node.value) (Whole Plain) (z))))) n.implements.items n.body.items rest
+class_by {X} {Y} g asks items b n (Some s) None (Some t) rest = class_same {X = X} {Y = Y} _ _ asks items (λ x. asks (g x)) (λ x. items (g x)) (by_args {X = X} _ (λ e. refl) (λ e a. refl)) (λ m. refl) n (λ z. space (keyword None (codes "extends") (blank (asks (g s.node.value)).starts (items (g s.node.value) (Whole Plain) (items (g t.node.value) (Whole Plain) z))))) n.implements.items n.body.items rest
+class_by {X} {Y} g asks items b n (Some s) (Some q) None rest = class_same {X = X} {Y = Y} _ _ asks items (λ x. asks (g x)) (λ x. items (g x)) (by_args {X = X} _ (λ e. refl) (λ e a. refl)) (λ m. refl) n (λ z. items (g q.node.value) (Whole Plain) (space (keyword None (codes "extends") (blank (asks (g s.node.value)).starts (items (g s.node.value) (Whole Plain) (z)))))) n.implements.items n.body.items rest
+class_by {X} {Y} g asks items b n (Some s) (Some q) (Some t) rest = class_same {X = X} {Y = Y} _ _ asks items (λ x. asks (g x)) (λ x. items (g x)) (by_args {X = X} _ (λ e. refl) (λ e a. refl)) (λ m. refl) n (λ z. items (g q.node.value) (Whole Plain) (space (keyword None (codes "extends") (blank (asks (g s.node.value)).starts (items (g s.node.value) (Whole Plain) (items (g t.node.value) (Whole Plain) z)))))) n.implements.items n.body.items rest
 
-head_mapped : {X Y : Type 0} (g : X → Y) (asks : Y → Answers) (items : Y → Place → Part) (b : Box (classes.Class X) Global) (rest : Plan) → node_items asks items (map-AnyNode X Y g (nodes.StmtPart (stmt_parts.Class b))) ClassHead rest ≡ decorator_lines (λ x. items (g x)) b.value.decorators.items rest
+head_mapped : {X Y : Type 0} (g : X → Y) (asks : Y → Answers) (items : Y → Place → Part) (b : Box (classes.Class X) Global) (rest : Plan) → node_items asks items (map-AnyNode X Y g (nodes.StmtPart (stmt_parts.Class b))) (Only ClassHead) rest ≡ decorator_lines (λ x. items (g x)) b.value.decorators.items rest
 unfolding node_items stmt_part class decorator
 head_mapped g asks items b rest = decorators_mapped _ items (λ x. items (g x)) (λ d. refl) b.value.decorators.items rest
 
 pub class_mapped : {X Y : Type 0} (g : X → Y) (asks : Y → Answers) (items : Y → Place → Part) (b : Box (classes.Class X) Global) (place : Place) (rest : Plan) → node_items asks items (map-AnyNode X Y g (nodes.StmtPart (stmt_parts.Class b))) place rest ≡ class (λ x. asks (g x)) (λ x. items (g x)) b.value place rest
 unfolding node_items stmt_part class class_word
-class_mapped g asks items b ClassHead rest = head_mapped g asks items b rest
-class_mapped g asks items b ClassWord rest = refl
+class_mapped g asks items b (Only ClassHead) rest = head_mapped g asks items b rest
+class_mapped g asks items b (Only ClassWord) rest = refl
 class_mapped g asks items b place rest = class_by g asks items b b.value b.value.super_class b.value.type_params b.value.super_type_params rest
 
 -- ---- members
@@ -110,10 +111,10 @@ constructor_by : {X Y : Type 0} (g : X → Y) (asks : Y → Answers) (items : Y 
 unfolding node_items expr_part stmt_part class_member class_constructor constructor_word constructor_tail constructor_param constructor_param_place ts_param_prop ts_param_prop_param binding_ident annotation assign_pat constructor_body param decorator
 constructor_by {X} {Y} g asks items b n None place rest = constructor_same n _ _ (children_mapped {A = ParamOrTsParamProp X} _ _ _ (each_param {X = X} _
     (by_param_prop {X = X} _ (λ m id. param_prop_same m.span m.accessibility m.is_override m.readonly _ _ _ (decorators_mapped _ items (λ x. items (g x)) (λ d. refl) m.decorators.items)) (λ m id t. param_prop_same m.span m.accessibility m.is_override m.readonly _ _ _ (decorators_mapped _ items (λ x. items (g x)) (λ d. refl) m.decorators.items)) (λ m a. param_prop_same m.span m.accessibility m.is_override m.readonly _ _ _ (decorators_mapped _ items (λ x. items (g x)) (λ d. refl) m.decorators.items)))
-    (λ p. param_same p.span _ _ _ _ (list_mapped {A = Decorator X} _ _ (child_of decorator_place (λ d place. decorator (λ x. items (g x)) d)) (λ d. refl) p.decorators.items) (pat_mapped g asks items p.pat Plain))) comma_list_format n.span n.params.items _)
+    (λ p. param_same p.span _ _ _ _ (list_mapped {A = Decorator X} _ _ (child_of decorator_place (λ d place. decorator (λ x. items (g x)) d)) (λ d. refl) p.decorators.items) (pat_mapped g asks items p.pat (Whole Plain)))) comma_list_format n.span n.params.items _)
 constructor_by {X} {Y} g asks items b n (Some body) place rest = constructor_same n _ _ (children_mapped {A = ParamOrTsParamProp X} _ _ _ (each_param {X = X} _
     (by_param_prop {X = X} _ (λ m id. param_prop_same m.span m.accessibility m.is_override m.readonly _ _ _ (decorators_mapped _ items (λ x. items (g x)) (λ d. refl) m.decorators.items)) (λ m id t. param_prop_same m.span m.accessibility m.is_override m.readonly _ _ _ (decorators_mapped _ items (λ x. items (g x)) (λ d. refl) m.decorators.items)) (λ m a. param_prop_same m.span m.accessibility m.is_override m.readonly _ _ _ (decorators_mapped _ items (λ x. items (g x)) (λ d. refl) m.decorators.items)))
-    (λ p. param_same p.span _ _ _ _ (list_mapped {A = Decorator X} _ _ (child_of decorator_place (λ d place. decorator (λ x. items (g x)) d)) (λ d. refl) p.decorators.items) (pat_mapped g asks items p.pat Plain))) comma_list_format n.span n.params.items _)
+    (λ p. param_same p.span _ _ _ _ (list_mapped {A = Decorator X} _ _ (child_of decorator_place (λ d place. decorator (λ x. items (g x)) d)) (λ d. refl) p.decorators.items) (pat_mapped g asks items p.pat (Whole Plain)))) comma_list_format n.span n.params.items _)
 
 method_by : {X Y : Type 0} (g : X → Y) (asks : Y → Answers) (items : Y → Place → Part) (b : Box (class_members.ClassMember X) Global) (n : ClassMethod X) (kind : MethodKind) (place : Place) (rest : Plan) → node_items asks items (map-AnyNode X Y g (as_member b (members.Method (record n { kind = kind })))) place rest ≡ class_method (λ x. asks (g x)) (λ x. items (g x)) (record n { kind = kind }) rest
 unfolding node_items stmt_part class_member class_method method_rest method_kind accessor_words method_word static_method

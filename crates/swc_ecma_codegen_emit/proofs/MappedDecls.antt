@@ -18,10 +18,12 @@ use Rattle.swc_ecma_codegen_grammar.proofs.MappedStmts.{by_init}
 use Rattle.swc_ecma_codegen_tokens.specs.Lists.{ListChild, list}
 use Rattle.swc_ecma_codegen_tokens.specs.Run.{Plan, Part}
 use Rattle.swc_ecma_codegen_tokens.specs.Words.{keyword, semi, space, commit_pending_semi, start_of, leading_comments}
-use Rattle.swc_ecma_codegen_emit.specs.declared.nodes.Place.{Place}
-use Rattle.swc_ecma_codegen_emit.specs.declared.nodes.Place.TheVariants.{Plain}
+use Rattle.swc_ecma_codegen_emit.specs.declared.nodes.Context.{Context}
+use Rattle.swc_ecma_codegen_emit.specs.declared.nodes.Context.TheVariants.{Plain}
+use Rattle.swc_ecma_codegen_emit.specs.declared.nodes.Piece.TheVariants.{ExportedHead, ExportedTail}
+use Rattle.swc_ecma_codegen_emit.specs.Places.{Place, Whole, Only, context_of}
 use Rattle.swc_ecma_codegen_emit.specs.Answers.{Answers, place_of}
-use Rattle.swc_ecma_codegen_emit.specs.Decls.{declarators_format, fn_decl, var_declarator, declarator_place, var_kind, is_unmarked, first_is_unmarked, var_decl, await_word, using_decl, decl_end, by_export, without_head, exported_class, variables, resources, decl}
+use Rattle.swc_ecma_codegen_emit.specs.Decls.{declarators_format, fn_decl, var_declarator, declarator_place, var_kind, is_unmarked, first_is_unmarked, var_decl, await_word, using_decl, decl_end, exported_class, exported_head, exported_tail, variables, resources, whole_decl, decl}
 use Rattle.swc_ecma_codegen_emit.specs.Classes.{class_decl}
 use Rattle.swc_ecma_codegen_emit.specs.TsDecls.{declare_word}
 use Rattle.swc_ecma_codegen_emit.proofs.MappedTsDecls.{interface_mapped, alias_mapped, enum_mapped, module_mapped}
@@ -54,9 +56,9 @@ definite_mapped g asks items id (Some t) rest = refl
 
 pub declared_pat_mapped : {X Y : Type 0} (g : X → Y) (asks : Y → Answers) (items : Y → Place → Part) (definite : Bool) (n : Pat X) (rest : Plan) → declared_in asks items definite (map-AnyNode X Y g (nodes.ExprPart (expr_parts.Pat n))) rest ≡ declared_pat (λ x. asks (g x)) (λ x. items (g x)) definite n rest
 unfolding node_items expr_part declared_pat definite_pat
-declared_pat_mapped g asks items false n rest = pat_mapped g asks items n Plain rest
+declared_pat_mapped g asks items false n rest = pat_mapped g asks items n (Whole Plain) rest
 declared_pat_mapped g asks items true (pats.Ident n) rest = definite_mapped g asks items n.id n.type_ann rest
-declared_pat_mapped g asks items true n rest = pat_mapped g asks items n Plain rest
+declared_pat_mapped g asks items true n rest = pat_mapped g asks items n (Whole Plain) rest
 
 first_mapped : {X Y : Type 0} (g : VarDeclarator X → VarDeclarator Y) → ((n : VarDeclarator X) → pat_kind (g n).name ≡ pat_kind n.name) → (ns : List (VarDeclarator X)) → first_is_unmarked (map g ns) ≡ first_is_unmarked ns
 unfolding first_is_unmarked
@@ -74,20 +76,33 @@ unfolding node_items expr_part node_pattern part_pattern stmt_part var_decl var_
 var_decl_mapped {X} {Y} g asks items n place rest = ap (λ z. leading_comments n.span.lo (commit_pending_semi (start_of n.span (declare_word n.declare (var_kind n.kind z)))))
     (declared_mapped {X = X} {Y = Y} _ _ _ (λ d. pat_kind_mapped g d.name) (by_init {X = X} _ (λ span name definite. declarator_same span _ (declared_pat (λ x. asks (g x)) (λ x. items (g x)) definite name) (λ after. after) (declared_pat_mapped g asks items definite name)) (λ span name init definite. declarator_same span _ (declared_pat (λ x. asks (g x)) (λ x. items (g x)) definite name) (initializer (λ x. items (g x)) (Some init)) (declared_pat_mapped g asks items definite name))) n.span n.decls.items rest)
 
-without_head_same : (place : Place) (p q : Part) → ((rest : Plan) → p rest ≡ q rest) → (rest : Plan) → without_head place p rest ≡ without_head place q rest
-without_head_same place p q h rest = ap (λ z. without_head place z rest) (λ i. λ after. h after i)
+whole_mapped : {X Y : Type 0} (g : X → Y) (asks : Y → Answers) (items : Y → Place → Part) (n : Decl X) (context : Context) (rest : Plan) → node_items asks items (map-AnyNode X Y g (nodes.StmtPart (stmt_parts.Decl n))) (Whole context) rest ≡ whole_decl (λ x. asks (g x)) (λ x. items (g x)) n context rest
+unfolding node_items expr_part stmt_part decl whole_decl variables resources class_decl fn_decl using_decl var_declarator initializer
+whole_mapped g asks items (decls.Fn n) context rest = refl
+whole_mapped g asks items (decls.Var n) context rest = var_decl_mapped g asks items n (Whole context) (semi (decl_end context n.span rest))
+whole_mapped {X} g asks items (decls.Using n) context rest = ap (λ z. leading_comments n.span.lo (await_word n.is_await (keyword None (codes "using") (space z))))
+    (children_mapped {A = VarDeclarator X} _ _ _ (by_init {X = X} _ (λ span name definite. declarator_same span _ (declared_pat (λ x. asks (g x)) (λ x. items (g x)) definite name) (λ after. after) (declared_pat_mapped g asks items definite name)) (λ span name init definite. declarator_same span _ (declared_pat (λ x. asks (g x)) (λ x. items (g x)) definite name) (initializer (λ x. items (g x)) (Some init)) (declared_pat_mapped g asks items definite name))) declarators_format n.span n.decls.items (semi rest))
+whole_mapped g asks items (decls.TsInterface n) context rest = interface_mapped g asks items n rest
+whole_mapped g asks items (decls.TsTypeAlias n) context rest = alias_mapped g asks items n rest
+whole_mapped g asks items (decls.TsEnum n) context rest = enum_mapped g asks items n rest
+whole_mapped g asks items (decls.TsModule n) context rest = module_mapped g asks items n rest
+whole_mapped g asks items n context rest = refl
+
+head_mapped : {X Y : Type 0} (g : X → Y) (asks : Y → Answers) (items : Y → Place → Part) (n : Decl X) (rest : Plan) → node_items asks items (map-AnyNode X Y g (nodes.StmtPart (stmt_parts.Decl n))) (Only ExportedHead) rest ≡ exported_head (λ x. items (g x)) n rest
+unfolding node_items stmt_part decl exported_head
+head_mapped g asks items (decls.Class n) rest = refl
+head_mapped g asks items n rest = refl
+
+tail_mapped : {X Y : Type 0} (g : X → Y) (asks : Y → Answers) (items : Y → Place → Part) (n : Decl X) (rest : Plan) → node_items asks items (map-AnyNode X Y g (nodes.StmtPart (stmt_parts.Decl n))) (Only ExportedTail) rest ≡ exported_tail (λ x. asks (g x)) (λ x. items (g x)) n rest
+unfolding node_items stmt_part decl exported_tail exported_class
+tail_mapped g asks items (decls.Class n) rest = refl
+tail_mapped g asks items n rest = whole_mapped g asks items n Plain rest
 
 pub decl_mapped : {X Y : Type 0} (g : X → Y) (asks : Y → Answers) (items : Y → Place → Part) (n : Decl X) (place : Place) (rest : Plan) → node_items asks items (map-AnyNode X Y g (nodes.StmtPart (stmt_parts.Decl n))) place rest ≡ decl (λ x. asks (g x)) (λ x. items (g x)) n place rest
-unfolding node_items expr_part stmt_part decl without_head by_export variables resources exported_class class_decl fn_decl using_decl var_declarator initializer
-decl_mapped g asks items (decls.Fn n) place rest = refl
-decl_mapped g asks items (decls.Var n) place rest = without_head_same place _ _ (λ after. var_decl_mapped g asks items n place (semi (decl_end place n.span after))) rest
-decl_mapped {X} g asks items (decls.Using n) place rest = without_head_same place _ _ (λ after. ap (λ z. leading_comments n.span.lo (await_word n.is_await (keyword None (codes "using") (space z))))
-    (children_mapped {A = VarDeclarator X} _ _ _ (by_init {X = X} _ (λ span name definite. declarator_same span _ (declared_pat (λ x. asks (g x)) (λ x. items (g x)) definite name) (λ after. after) (declared_pat_mapped g asks items definite name)) (λ span name init definite. declarator_same span _ (declared_pat (λ x. asks (g x)) (λ x. items (g x)) definite name) (initializer (λ x. items (g x)) (Some init)) (declared_pat_mapped g asks items definite name))) declarators_format n.span n.decls.items (semi after))) rest
-decl_mapped g asks items (decls.TsInterface n) place rest = without_head_same place _ _ (λ after. interface_mapped g asks items n after) rest
-decl_mapped g asks items (decls.TsTypeAlias n) place rest = without_head_same place _ _ (λ after. alias_mapped g asks items n after) rest
-decl_mapped g asks items (decls.TsEnum n) place rest = without_head_same place _ _ (λ after. enum_mapped g asks items n after) rest
-decl_mapped g asks items (decls.TsModule n) place rest = without_head_same place _ _ (λ after. module_mapped g asks items n after) rest
-decl_mapped g asks items n place rest = refl
+unfolding node_items stmt_part decl
+decl_mapped g asks items n (Only ExportedHead) rest = head_mapped g asks items n rest
+decl_mapped g asks items n (Only ExportedTail) rest = tail_mapped g asks items n rest
+decl_mapped g asks items n place rest = whole_mapped g asks items n (context_of place) rest
 
 pub decl_placed : {X Y : Type 0} (g : X → Y) (asks : Y → Answers) (n : Decl X) → node_span (place_of asks) (map-AnyNode X Y g (nodes.StmtPart (stmt_parts.Decl n))) ≡ decl_span (place_of (λ x. asks (g x))) n
 unfolding node_span stmt_part_span decl_span class_decl_span fn_decl_span

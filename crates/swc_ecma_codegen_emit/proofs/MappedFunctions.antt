@@ -21,8 +21,10 @@ use Rattle.swc_ecma_codegen_grammar.specs.TreePhrases.{is_sequence}
 use Rattle.swc_ecma_codegen_tokens.specs.Run.{Plan, Part}
 use Rattle.swc_ecma_codegen_tokens.specs.Lists.{ListChild, list}
 use Rattle.swc_ecma_codegen_tokens.specs.Words.{allow_break, by_maps, punct, leading_comments, start_of, end_of}
-use Rattle.swc_ecma_codegen_emit.specs.declared.nodes.Place.{Place}
-use Rattle.swc_ecma_codegen_emit.specs.declared.nodes.Place.TheVariants.{Plain, FunctionHead, MethodHead, DeclarationHead, DeclarationTail, StaticHead, MethodDecorators, MethodTail}
+use Rattle.swc_ecma_codegen_emit.specs.declared.nodes.Context.{Context}
+use Rattle.swc_ecma_codegen_emit.specs.declared.nodes.Context.TheVariants.{Plain}
+use Rattle.swc_ecma_codegen_emit.specs.declared.nodes.Piece.TheVariants.{FunctionHead, MethodHead, DeclarationHead, DeclarationTail, StaticHead, MethodDecorators, MethodTail}
+use Rattle.swc_ecma_codegen_emit.specs.Places.{Place, Whole, Only, context_of}
 use Rattle.swc_ecma_codegen_emit.specs.declared.patterns.PatternKind.{PatternKind}
 use Rattle.swc_ecma_codegen_emit.specs.Annotations.{annotation, type_params}
 use Rattle.swc_ecma_codegen_emit.specs.Answers.{Answers, place_of}
@@ -51,18 +53,18 @@ param_same span cs ds p q e h = ap (λ z. param_child span z p) e ∙ ap (param_
 abbrev with_parts : {X : Type 0} → functions.Function X → Option (BlockStmtBox X) → Option (TsTypeParamDeclBox X) → Option (TsTypeAnnBox X) → functions.Function X
 with_parts n body type_params return_type = record n { body = body; type_params = type_params; return_type = return_type }
 
-trailing_mapped : {X Y : Type 0} (g : X → Y) (asks : Y → Answers) (items : Y → Place → Part) (b : Box (functions.Function X) Global) (n : functions.Function X) (body : Option (BlockStmtBox X)) (type_params : Option (TsTypeParamDeclBox X)) (return_type : Option (TsTypeAnnBox X)) (rest : Plan) → node_items asks items (map-AnyNode X Y g (nodes.StmtPart (stmt_parts.Function (record b { value = with_parts n body type_params return_type })))) Plain rest ≡ fn_trailing (λ x. asks (g x)) (λ x. items (g x)) (with_parts n body type_params return_type) rest
+trailing_mapped : {X Y : Type 0} (g : X → Y) (asks : Y → Answers) (items : Y → Place → Part) (b : Box (functions.Function X) Global) (n : functions.Function X) (body : Option (BlockStmtBox X)) (type_params : Option (TsTypeParamDeclBox X)) (return_type : Option (TsTypeAnnBox X)) (rest : Plan) → node_items asks items (map-AnyNode X Y g (nodes.StmtPart (stmt_parts.Function (record b { value = with_parts n body type_params return_type })))) (Whole Plain) rest ≡ fn_trailing (λ x. asks (g x)) (λ x. items (g x)) (with_parts n body type_params return_type) rest
 unfolding node_items expr_part stmt_part function fn_trailing function_body param decorator annotation type_params
-trailing_mapped {X} {Y} g asks items b n None None None rest = ap (λ z. punct (codes "(") z) (children_mapped {A = Param X} _ _ _ (λ p. param_same p.span _ _ _ _ (list_mapped {A = Decorator X} _ _ (child_of decorator_place (λ d place. decorator (λ x. items (g x)) d)) (λ d. refl) p.decorators.items) (pat_mapped g asks items p.pat Plain)) comma_list_format n.span n.params.items _)
-trailing_mapped {X} {Y} g asks items b n None None (Some t) rest = ap (λ z. punct (codes "(") z) (children_mapped {A = Param X} _ _ _ (λ p. param_same p.span _ _ _ _ (list_mapped {A = Decorator X} _ _ (child_of decorator_place (λ d place. decorator (λ x. items (g x)) d)) (λ d. refl) p.decorators.items) (pat_mapped g asks items p.pat Plain)) comma_list_format n.span n.params.items _)
-trailing_mapped {X} {Y} g asks items b n None (Some q) None rest = ap (λ z. items (g q.node.value) Plain (punct (codes "(") z)) (children_mapped {A = Param X} _ _ _ (λ p. param_same p.span _ _ _ _ (list_mapped {A = Decorator X} _ _ (child_of decorator_place (λ d place. decorator (λ x. items (g x)) d)) (λ d. refl) p.decorators.items) (pat_mapped g asks items p.pat Plain)) comma_list_format n.span n.params.items _)
-trailing_mapped {X} {Y} g asks items b n None (Some q) (Some t) rest = ap (λ z. items (g q.node.value) Plain (punct (codes "(") z)) (children_mapped {A = Param X} _ _ _ (λ p. param_same p.span _ _ _ _ (list_mapped {A = Decorator X} _ _ (child_of decorator_place (λ d place. decorator (λ x. items (g x)) d)) (λ d. refl) p.decorators.items) (pat_mapped g asks items p.pat Plain)) comma_list_format n.span n.params.items _)
-trailing_mapped {X} {Y} g asks items b n (Some body) None None rest = ap (λ z. punct (codes "(") z) (children_mapped {A = Param X} _ _ _ (λ p. param_same p.span _ _ _ _ (list_mapped {A = Decorator X} _ _ (child_of decorator_place (λ d place. decorator (λ x. items (g x)) d)) (λ d. refl) p.decorators.items) (pat_mapped g asks items p.pat Plain)) comma_list_format n.span n.params.items _)
-trailing_mapped {X} {Y} g asks items b n (Some body) None (Some t) rest = ap (λ z. punct (codes "(") z) (children_mapped {A = Param X} _ _ _ (λ p. param_same p.span _ _ _ _ (list_mapped {A = Decorator X} _ _ (child_of decorator_place (λ d place. decorator (λ x. items (g x)) d)) (λ d. refl) p.decorators.items) (pat_mapped g asks items p.pat Plain)) comma_list_format n.span n.params.items _)
-trailing_mapped {X} {Y} g asks items b n (Some body) (Some q) None rest = ap (λ z. items (g q.node.value) Plain (punct (codes "(") z)) (children_mapped {A = Param X} _ _ _ (λ p. param_same p.span _ _ _ _ (list_mapped {A = Decorator X} _ _ (child_of decorator_place (λ d place. decorator (λ x. items (g x)) d)) (λ d. refl) p.decorators.items) (pat_mapped g asks items p.pat Plain)) comma_list_format n.span n.params.items _)
-trailing_mapped {X} {Y} g asks items b n (Some body) (Some q) (Some t) rest = ap (λ z. items (g q.node.value) Plain (punct (codes "(") z)) (children_mapped {A = Param X} _ _ _ (λ p. param_same p.span _ _ _ _ (list_mapped {A = Decorator X} _ _ (child_of decorator_place (λ d place. decorator (λ x. items (g x)) d)) (λ d. refl) p.decorators.items) (pat_mapped g asks items p.pat Plain)) comma_list_format n.span n.params.items _)
+trailing_mapped {X} {Y} g asks items b n None None None rest = ap (λ z. punct (codes "(") z) (children_mapped {A = Param X} _ _ _ (λ p. param_same p.span _ _ _ _ (list_mapped {A = Decorator X} _ _ (child_of decorator_place (λ d place. decorator (λ x. items (g x)) d)) (λ d. refl) p.decorators.items) (pat_mapped g asks items p.pat (Whole Plain))) comma_list_format n.span n.params.items _)
+trailing_mapped {X} {Y} g asks items b n None None (Some t) rest = ap (λ z. punct (codes "(") z) (children_mapped {A = Param X} _ _ _ (λ p. param_same p.span _ _ _ _ (list_mapped {A = Decorator X} _ _ (child_of decorator_place (λ d place. decorator (λ x. items (g x)) d)) (λ d. refl) p.decorators.items) (pat_mapped g asks items p.pat (Whole Plain))) comma_list_format n.span n.params.items _)
+trailing_mapped {X} {Y} g asks items b n None (Some q) None rest = ap (λ z. items (g q.node.value) (Whole Plain) (punct (codes "(") z)) (children_mapped {A = Param X} _ _ _ (λ p. param_same p.span _ _ _ _ (list_mapped {A = Decorator X} _ _ (child_of decorator_place (λ d place. decorator (λ x. items (g x)) d)) (λ d. refl) p.decorators.items) (pat_mapped g asks items p.pat (Whole Plain))) comma_list_format n.span n.params.items _)
+trailing_mapped {X} {Y} g asks items b n None (Some q) (Some t) rest = ap (λ z. items (g q.node.value) (Whole Plain) (punct (codes "(") z)) (children_mapped {A = Param X} _ _ _ (λ p. param_same p.span _ _ _ _ (list_mapped {A = Decorator X} _ _ (child_of decorator_place (λ d place. decorator (λ x. items (g x)) d)) (λ d. refl) p.decorators.items) (pat_mapped g asks items p.pat (Whole Plain))) comma_list_format n.span n.params.items _)
+trailing_mapped {X} {Y} g asks items b n (Some body) None None rest = ap (λ z. punct (codes "(") z) (children_mapped {A = Param X} _ _ _ (λ p. param_same p.span _ _ _ _ (list_mapped {A = Decorator X} _ _ (child_of decorator_place (λ d place. decorator (λ x. items (g x)) d)) (λ d. refl) p.decorators.items) (pat_mapped g asks items p.pat (Whole Plain))) comma_list_format n.span n.params.items _)
+trailing_mapped {X} {Y} g asks items b n (Some body) None (Some t) rest = ap (λ z. punct (codes "(") z) (children_mapped {A = Param X} _ _ _ (λ p. param_same p.span _ _ _ _ (list_mapped {A = Decorator X} _ _ (child_of decorator_place (λ d place. decorator (λ x. items (g x)) d)) (λ d. refl) p.decorators.items) (pat_mapped g asks items p.pat (Whole Plain))) comma_list_format n.span n.params.items _)
+trailing_mapped {X} {Y} g asks items b n (Some body) (Some q) None rest = ap (λ z. items (g q.node.value) (Whole Plain) (punct (codes "(") z)) (children_mapped {A = Param X} _ _ _ (λ p. param_same p.span _ _ _ _ (list_mapped {A = Decorator X} _ _ (child_of decorator_place (λ d place. decorator (λ x. items (g x)) d)) (λ d. refl) p.decorators.items) (pat_mapped g asks items p.pat (Whole Plain))) comma_list_format n.span n.params.items _)
+trailing_mapped {X} {Y} g asks items b n (Some body) (Some q) (Some t) rest = ap (λ z. items (g q.node.value) (Whole Plain) (punct (codes "(") z)) (children_mapped {A = Param X} _ _ _ (λ p. param_same p.span _ _ _ _ (list_mapped {A = Decorator X} _ _ (child_of decorator_place (λ d place. decorator (λ x. items (g x)) d)) (λ d. refl) p.decorators.items) (pat_mapped g asks items p.pat (Whole Plain))) comma_list_format n.span n.params.items _)
 
-declared_mapped : {X Y : Type 0} (g : X → Y) (asks : Y → Answers) (items : Y → Place → Part) (b : Box (functions.Function X) Global) (n : functions.Function X) (body : Option (BlockStmtBox X)) (type_params : Option (TsTypeParamDeclBox X)) (return_type : Option (TsTypeAnnBox X)) (rest : Plan) → node_items asks items (map-AnyNode X Y g (nodes.StmtPart (stmt_parts.Function (record b { value = with_parts n body type_params return_type })))) DeclarationTail rest ≡ declaration_tail (λ x. asks (g x)) (λ x. items (g x)) (with_parts n body type_params return_type) rest
+declared_mapped : {X Y : Type 0} (g : X → Y) (asks : Y → Answers) (items : Y → Place → Part) (b : Box (functions.Function X) Global) (n : functions.Function X) (body : Option (BlockStmtBox X)) (type_params : Option (TsTypeParamDeclBox X)) (return_type : Option (TsTypeAnnBox X)) (rest : Plan) → node_items asks items (map-AnyNode X Y g (nodes.StmtPart (stmt_parts.Function (record b { value = with_parts n body type_params return_type })))) (Only DeclarationTail) rest ≡ declaration_tail (λ x. asks (g x)) (λ x. items (g x)) (with_parts n body type_params return_type) rest
 unfolding node_items stmt_part function declaration_tail break_without_body
 declared_mapped g asks items b n None ps r rest = trailing_mapped g asks items b n None ps r (allow_break rest)
 declared_mapped g asks items b n (Some body) ps r rest = trailing_mapped g asks items b n (Some body) ps r rest
@@ -75,42 +77,42 @@ in_order_mapped g e d same (x ∷ xs) rest = ap (λ part. part (in_order e (map 
 pub decorators_mapped : {X Y : Type 0} (g : Decorator X → Decorator Y) (items : Y → Place → Part) (put : X → Place → Part) → ((n : Decorator X) → decorator items (g n) ≡ decorator put n) → (ns : List (Decorator X)) (rest : Plan) → decorator_lines items (map g ns) rest ≡ decorator_lines put ns rest
 decorators_mapped g items put same ns rest = in_order_mapped g (decorator items) (decorator put) same ns rest
 
-tail_mapped : {X Y : Type 0} (g : X → Y) (asks : Y → Answers) (items : Y → Place → Part) (b : Box (functions.Function X) Global) (n : functions.Function X) (body : Option (BlockStmtBox X)) (type_params : Option (TsTypeParamDeclBox X)) (return_type : Option (TsTypeAnnBox X)) (rest : Plan) → node_items asks items (map-AnyNode X Y g (nodes.StmtPart (stmt_parts.Function (record b { value = with_parts n body type_params return_type })))) MethodTail rest ≡ method_tail (λ x. asks (g x)) (λ x. items (g x)) (with_parts n body type_params return_type) rest
+tail_mapped : {X Y : Type 0} (g : X → Y) (asks : Y → Answers) (items : Y → Place → Part) (b : Box (functions.Function X) Global) (n : functions.Function X) (body : Option (BlockStmtBox X)) (type_params : Option (TsTypeParamDeclBox X)) (return_type : Option (TsTypeAnnBox X)) (rest : Plan) → node_items asks items (map-AnyNode X Y g (nodes.StmtPart (stmt_parts.Function (record b { value = with_parts n body type_params return_type })))) (Only MethodTail) rest ≡ method_tail (λ x. asks (g x)) (λ x. items (g x)) (with_parts n body type_params return_type) rest
 unfolding node_items expr_part stmt_part function method_tail method_body param decorator annotation type_params
-tail_mapped {X} {Y} g asks items b n None None None rest = ap (λ z. punct (codes "(") z) (children_mapped {A = Param X} _ _ _ (λ p. param_same p.span _ _ _ _ (list_mapped {A = Decorator X} _ _ (child_of decorator_place (λ d place. decorator (λ x. items (g x)) d)) (λ d. refl) p.decorators.items) (pat_mapped g asks items p.pat Plain)) comma_list_format n.span n.params.items _)
-tail_mapped {X} {Y} g asks items b n None None (Some t) rest = ap (λ z. punct (codes "(") z) (children_mapped {A = Param X} _ _ _ (λ p. param_same p.span _ _ _ _ (list_mapped {A = Decorator X} _ _ (child_of decorator_place (λ d place. decorator (λ x. items (g x)) d)) (λ d. refl) p.decorators.items) (pat_mapped g asks items p.pat Plain)) comma_list_format n.span n.params.items _)
-tail_mapped {X} {Y} g asks items b n None (Some q) None rest = ap (λ z. items (g q.node.value) Plain (punct (codes "(") z)) (children_mapped {A = Param X} _ _ _ (λ p. param_same p.span _ _ _ _ (list_mapped {A = Decorator X} _ _ (child_of decorator_place (λ d place. decorator (λ x. items (g x)) d)) (λ d. refl) p.decorators.items) (pat_mapped g asks items p.pat Plain)) comma_list_format n.span n.params.items _)
-tail_mapped {X} {Y} g asks items b n None (Some q) (Some t) rest = ap (λ z. items (g q.node.value) Plain (punct (codes "(") z)) (children_mapped {A = Param X} _ _ _ (λ p. param_same p.span _ _ _ _ (list_mapped {A = Decorator X} _ _ (child_of decorator_place (λ d place. decorator (λ x. items (g x)) d)) (λ d. refl) p.decorators.items) (pat_mapped g asks items p.pat Plain)) comma_list_format n.span n.params.items _)
-tail_mapped {X} {Y} g asks items b n (Some body) None None rest = ap (λ z. punct (codes "(") z) (children_mapped {A = Param X} _ _ _ (λ p. param_same p.span _ _ _ _ (list_mapped {A = Decorator X} _ _ (child_of decorator_place (λ d place. decorator (λ x. items (g x)) d)) (λ d. refl) p.decorators.items) (pat_mapped g asks items p.pat Plain)) comma_list_format n.span n.params.items _)
-tail_mapped {X} {Y} g asks items b n (Some body) None (Some t) rest = ap (λ z. punct (codes "(") z) (children_mapped {A = Param X} _ _ _ (λ p. param_same p.span _ _ _ _ (list_mapped {A = Decorator X} _ _ (child_of decorator_place (λ d place. decorator (λ x. items (g x)) d)) (λ d. refl) p.decorators.items) (pat_mapped g asks items p.pat Plain)) comma_list_format n.span n.params.items _)
-tail_mapped {X} {Y} g asks items b n (Some body) (Some q) None rest = ap (λ z. items (g q.node.value) Plain (punct (codes "(") z)) (children_mapped {A = Param X} _ _ _ (λ p. param_same p.span _ _ _ _ (list_mapped {A = Decorator X} _ _ (child_of decorator_place (λ d place. decorator (λ x. items (g x)) d)) (λ d. refl) p.decorators.items) (pat_mapped g asks items p.pat Plain)) comma_list_format n.span n.params.items _)
-tail_mapped {X} {Y} g asks items b n (Some body) (Some q) (Some t) rest = ap (λ z. items (g q.node.value) Plain (punct (codes "(") z)) (children_mapped {A = Param X} _ _ _ (λ p. param_same p.span _ _ _ _ (list_mapped {A = Decorator X} _ _ (child_of decorator_place (λ d place. decorator (λ x. items (g x)) d)) (λ d. refl) p.decorators.items) (pat_mapped g asks items p.pat Plain)) comma_list_format n.span n.params.items _)
+tail_mapped {X} {Y} g asks items b n None None None rest = ap (λ z. punct (codes "(") z) (children_mapped {A = Param X} _ _ _ (λ p. param_same p.span _ _ _ _ (list_mapped {A = Decorator X} _ _ (child_of decorator_place (λ d place. decorator (λ x. items (g x)) d)) (λ d. refl) p.decorators.items) (pat_mapped g asks items p.pat (Whole Plain))) comma_list_format n.span n.params.items _)
+tail_mapped {X} {Y} g asks items b n None None (Some t) rest = ap (λ z. punct (codes "(") z) (children_mapped {A = Param X} _ _ _ (λ p. param_same p.span _ _ _ _ (list_mapped {A = Decorator X} _ _ (child_of decorator_place (λ d place. decorator (λ x. items (g x)) d)) (λ d. refl) p.decorators.items) (pat_mapped g asks items p.pat (Whole Plain))) comma_list_format n.span n.params.items _)
+tail_mapped {X} {Y} g asks items b n None (Some q) None rest = ap (λ z. items (g q.node.value) (Whole Plain) (punct (codes "(") z)) (children_mapped {A = Param X} _ _ _ (λ p. param_same p.span _ _ _ _ (list_mapped {A = Decorator X} _ _ (child_of decorator_place (λ d place. decorator (λ x. items (g x)) d)) (λ d. refl) p.decorators.items) (pat_mapped g asks items p.pat (Whole Plain))) comma_list_format n.span n.params.items _)
+tail_mapped {X} {Y} g asks items b n None (Some q) (Some t) rest = ap (λ z. items (g q.node.value) (Whole Plain) (punct (codes "(") z)) (children_mapped {A = Param X} _ _ _ (λ p. param_same p.span _ _ _ _ (list_mapped {A = Decorator X} _ _ (child_of decorator_place (λ d place. decorator (λ x. items (g x)) d)) (λ d. refl) p.decorators.items) (pat_mapped g asks items p.pat (Whole Plain))) comma_list_format n.span n.params.items _)
+tail_mapped {X} {Y} g asks items b n (Some body) None None rest = ap (λ z. punct (codes "(") z) (children_mapped {A = Param X} _ _ _ (λ p. param_same p.span _ _ _ _ (list_mapped {A = Decorator X} _ _ (child_of decorator_place (λ d place. decorator (λ x. items (g x)) d)) (λ d. refl) p.decorators.items) (pat_mapped g asks items p.pat (Whole Plain))) comma_list_format n.span n.params.items _)
+tail_mapped {X} {Y} g asks items b n (Some body) None (Some t) rest = ap (λ z. punct (codes "(") z) (children_mapped {A = Param X} _ _ _ (λ p. param_same p.span _ _ _ _ (list_mapped {A = Decorator X} _ _ (child_of decorator_place (λ d place. decorator (λ x. items (g x)) d)) (λ d. refl) p.decorators.items) (pat_mapped g asks items p.pat (Whole Plain))) comma_list_format n.span n.params.items _)
+tail_mapped {X} {Y} g asks items b n (Some body) (Some q) None rest = ap (λ z. items (g q.node.value) (Whole Plain) (punct (codes "(") z)) (children_mapped {A = Param X} _ _ _ (λ p. param_same p.span _ _ _ _ (list_mapped {A = Decorator X} _ _ (child_of decorator_place (λ d place. decorator (λ x. items (g x)) d)) (λ d. refl) p.decorators.items) (pat_mapped g asks items p.pat (Whole Plain))) comma_list_format n.span n.params.items _)
+tail_mapped {X} {Y} g asks items b n (Some body) (Some q) (Some t) rest = ap (λ z. items (g q.node.value) (Whole Plain) (punct (codes "(") z)) (children_mapped {A = Param X} _ _ _ (λ p. param_same p.span _ _ _ _ (list_mapped {A = Decorator X} _ _ (child_of decorator_place (λ d place. decorator (λ x. items (g x)) d)) (λ d. refl) p.decorators.items) (pat_mapped g asks items p.pat (Whole Plain))) comma_list_format n.span n.params.items _)
 
-method_decorators_mapped : {X Y : Type 0} (g : X → Y) (asks : Y → Answers) (items : Y → Place → Part) (b : Box (functions.Function X) Global) (rest : Plan) → node_items asks items (map-AnyNode X Y g (nodes.StmtPart (stmt_parts.Function b))) MethodDecorators rest ≡ decorator_lines (λ x. items (g x)) b.value.decorators.items rest
+method_decorators_mapped : {X Y : Type 0} (g : X → Y) (asks : Y → Answers) (items : Y → Place → Part) (b : Box (functions.Function X) Global) (rest : Plan) → node_items asks items (map-AnyNode X Y g (nodes.StmtPart (stmt_parts.Function b))) (Only MethodDecorators) rest ≡ decorator_lines (λ x. items (g x)) b.value.decorators.items rest
 unfolding node_items stmt_part function decorator
 method_decorators_mapped g asks items b rest = decorators_mapped _ items (λ x. items (g x)) (λ d. refl) b.value.decorators.items rest
 
 pub function_mapped : {X Y : Type 0} (g : X → Y) (asks : Y → Answers) (items : Y → Place → Part) (b : Box (functions.Function X) Global) (place : Place) (rest : Plan) → node_items asks items (map-AnyNode X Y g (nodes.StmtPart (stmt_parts.Function b))) place rest ≡ function (λ x. asks (g x)) (λ x. items (g x)) b.value place rest
 unfolding node_items stmt_part function function_head declaration_head method_head static_head
-function_mapped g asks items b FunctionHead rest = refl
-function_mapped g asks items b MethodHead rest = refl
-function_mapped g asks items b DeclarationHead rest = refl
-function_mapped g asks items b DeclarationTail rest = declared_mapped g asks items b b.value b.value.body b.value.type_params b.value.return_type rest
-function_mapped g asks items b (StaticHead starts) rest = refl
-function_mapped g asks items b MethodDecorators rest = method_decorators_mapped g asks items b rest
-function_mapped g asks items b MethodTail rest = tail_mapped g asks items b b.value b.value.body b.value.type_params b.value.return_type rest
+function_mapped g asks items b (Only FunctionHead) rest = refl
+function_mapped g asks items b (Only MethodHead) rest = refl
+function_mapped g asks items b (Only DeclarationHead) rest = refl
+function_mapped g asks items b (Only DeclarationTail) rest = declared_mapped g asks items b b.value b.value.body b.value.type_params b.value.return_type rest
+function_mapped g asks items b (Only (StaticHead starts)) rest = refl
+function_mapped g asks items b (Only MethodDecorators) rest = method_decorators_mapped g asks items b rest
+function_mapped g asks items b (Only MethodTail) rest = tail_mapped g asks items b b.value b.value.body b.value.type_params b.value.return_type rest
 function_mapped g asks items b place rest = trailing_mapped g asks items b b.value b.value.body b.value.type_params b.value.return_type rest
 
 -- ---- blocks
 
-statements_same : {X : Type 0} (place : Place) (n : BlockStmt X) (some other : Bool) (cs ds : List ListChild) (after : Plan) → some ≡ other → cs ≡ ds → leading_comments n.span.lo (block_start place n.span (punct (codes "{") (block_lines some n.span cs after))) ≡ leading_comments n.span.lo (block_start place n.span (punct (codes "{") (block_lines other n.span ds after)))
-statements_same place n some other cs ds after e h =
-    ap (λ z. leading_comments n.span.lo (block_start place n.span (punct (codes "{") (block_lines z n.span cs after)))) e
-    ∙ ap (λ z. leading_comments n.span.lo (block_start place n.span (punct (codes "{") (block_lines other n.span z after)))) h
+statements_same : {X : Type 0} (context : Context) (n : BlockStmt X) (some other : Bool) (cs ds : List ListChild) (after : Plan) → some ≡ other → cs ≡ ds → leading_comments n.span.lo (block_start context n.span (punct (codes "{") (block_lines some n.span cs after))) ≡ leading_comments n.span.lo (block_start context n.span (punct (codes "{") (block_lines other n.span ds after)))
+statements_same context n some other cs ds after e h =
+    ap (λ z. leading_comments n.span.lo (block_start context n.span (punct (codes "{") (block_lines z n.span cs after)))) e
+    ∙ ap (λ z. leading_comments n.span.lo (block_start context n.span (punct (codes "{") (block_lines other n.span z after)))) h
 
-pub block_mapped : {X Y : Type 0} (g : X → Y) (asks : Y → Answers) (items : Y → Place → Part) (n : BlockStmt X) (place : Place) (rest : Plan) → node_items asks items (map-AnyNode X Y g (nodes.StmtPart (stmt_parts.BlockStmt n))) place rest ≡ block_stmt (λ x. asks (g x)) (λ x. items (g x)) n place rest
+pub block_mapped : {X Y : Type 0} (g : X → Y) (asks : Y → Answers) (items : Y → Place → Part) (n : BlockStmt X) (place : Place) (rest : Plan) → node_items asks items (map-AnyNode X Y g (nodes.StmtPart (stmt_parts.BlockStmt n))) place rest ≡ block_stmt (λ x. asks (g x)) (λ x. items (g x)) n (context_of place) rest
 unfolding node_items node_span stmt_part block_stmt
-block_mapped {X} g asks items n place rest = statements_same place n _ _ _ _ _ (some_mapped _ n.stmts.items) (list_mapped {A = Stmt X} _ _ (child_of (stmt_span (place_of (λ x. asks (g x)))) (λ s place. stmt (λ x. asks (g x)) (λ x. items (g x)) s)) (stmt_child_mapped g asks items) n.stmts.items)
+block_mapped {X} g asks items n place rest = statements_same (context_of place) n _ _ _ _ _ (some_mapped _ n.stmts.items) (list_mapped {A = Stmt X} _ _ (child_of (stmt_span (place_of (λ x. asks (g x)))) (λ s place. stmt (λ x. asks (g x)) (λ x. items (g x)) s)) (stmt_child_mapped g asks items) n.stmts.items)
 
 -- ---- arrow functions
 
@@ -142,16 +144,16 @@ typed_head n before named cs after = head_of n named (before (by_maps (λ maps. 
 typed_same : {X : Type 0} (n : ArrowExpr X) (before : Plan → Plan) (named other : Bool) (cs ds : List ListChild) (after : Plan) → named ≡ other → cs ≡ ds → typed_head n before named cs after ≡ typed_head n before other ds after
 typed_same n before named other cs ds after e h = ap (λ z. typed_head n before z cs after) e ∙ ap (λ z. typed_head n before other z after) h
 
-arrow_mapped : {X Y : Type 0} (g : X → Y) (asks : Y → Answers) (items : Y → Place → Part) (b : Box (ArrowExpr X) Global) (n : ArrowExpr X) (body : BlockStmtOrExpr X) (type_params : Option (TsTypeParamDeclBox X)) (return_type : Option (TsTypeAnnBox X)) (place : Place) (rest : Plan) → node_items asks items (map-AnyNode X Y g (nodes.Expr (exprs.Arrow (record b { value = record n { body = body; type_params = type_params; return_type = return_type } })))) place rest ≡ expr (λ x. asks (g x)) (λ x. items (g x)) (exprs.Arrow (record b { value = record n { body = body; type_params = type_params; return_type = return_type } })) place rest
+arrow_mapped : {X Y : Type 0} (g : X → Y) (asks : Y → Answers) (items : Y → Place → Part) (b : Box (ArrowExpr X) Global) (n : ArrowExpr X) (body : BlockStmtOrExpr X) (type_params : Option (TsTypeParamDeclBox X)) (return_type : Option (TsTypeAnnBox X)) (place : Place) (rest : Plan) → node_items asks items (map-AnyNode X Y g (nodes.Expr (exprs.Arrow (record b { value = record n { body = body; type_params = type_params; return_type = return_type } })))) place rest ≡ expr (λ x. asks (g x)) (λ x. items (g x)) (exprs.Arrow (record b { value = record n { body = body; type_params = type_params; return_type = return_type } })) (context_of place) rest
 unfolding node_items expr expr_parts expr_closed expr_span leaves_comments placed_expr is_wrapped is_sequence arrow_expr arrow_parameters arrow_body arrow_result type_params
 arrow_mapped {X} g asks items b n (bodies.BlockStmt m) None None place rest = arrow_same n _ _ _ _ _ _ _ _ _ (only_mapped _ is_name asks (λ x. asks (g x)) (λ p. refl) n.params.items) (only_mapped _ is_plain asks (λ x. asks (g x)) (λ p. refl) n.params.items) (behind_mapped _ asks (λ x. asks (g x)) (λ p. refl) n.params.items) (list_mapped {A = PatBox X} _ _ (child_of (λ p. (asks (g p.node.value)).place) (λ p place. items (g p.node.value) place)) (λ p. refl) n.params.items)
 arrow_mapped {X} g asks items b n (bodies.BlockStmt m) None (Some t) place rest = typed_same n (λ z. z) _ _ _ _ _ (only_mapped _ is_name asks (λ x. asks (g x)) (λ p. refl) n.params.items) (list_mapped {A = PatBox X} _ _ (child_of (λ p. (asks (g p.node.value)).place) (λ p place. items (g p.node.value) place)) (λ p. refl) n.params.items)
-arrow_mapped {X} g asks items b n (bodies.BlockStmt m) (Some q) None place rest = typed_same n (λ z. items (g q.node.value) Plain z) _ _ _ _ _ (only_mapped _ is_name asks (λ x. asks (g x)) (λ p. refl) n.params.items) (list_mapped {A = PatBox X} _ _ (child_of (λ p. (asks (g p.node.value)).place) (λ p place. items (g p.node.value) place)) (λ p. refl) n.params.items)
-arrow_mapped {X} g asks items b n (bodies.BlockStmt m) (Some q) (Some t) place rest = typed_same n (λ z. items (g q.node.value) Plain z) _ _ _ _ _ (only_mapped _ is_name asks (λ x. asks (g x)) (λ p. refl) n.params.items) (list_mapped {A = PatBox X} _ _ (child_of (λ p. (asks (g p.node.value)).place) (λ p place. items (g p.node.value) place)) (λ p. refl) n.params.items)
+arrow_mapped {X} g asks items b n (bodies.BlockStmt m) (Some q) None place rest = typed_same n (λ z. items (g q.node.value) (Whole Plain) z) _ _ _ _ _ (only_mapped _ is_name asks (λ x. asks (g x)) (λ p. refl) n.params.items) (list_mapped {A = PatBox X} _ _ (child_of (λ p. (asks (g p.node.value)).place) (λ p place. items (g p.node.value) place)) (λ p. refl) n.params.items)
+arrow_mapped {X} g asks items b n (bodies.BlockStmt m) (Some q) (Some t) place rest = typed_same n (λ z. items (g q.node.value) (Whole Plain) z) _ _ _ _ _ (only_mapped _ is_name asks (λ x. asks (g x)) (λ p. refl) n.params.items) (list_mapped {A = PatBox X} _ _ (child_of (λ p. (asks (g p.node.value)).place) (λ p place. items (g p.node.value) place)) (λ p. refl) n.params.items)
 arrow_mapped {X} g asks items b n (bodies.Expr m) None None place rest = arrow_same n _ _ _ _ _ _ _ _ _ (only_mapped _ is_name asks (λ x. asks (g x)) (λ p. refl) n.params.items) (only_mapped _ is_plain asks (λ x. asks (g x)) (λ p. refl) n.params.items) (behind_mapped _ asks (λ x. asks (g x)) (λ p. refl) n.params.items) (list_mapped {A = PatBox X} _ _ (child_of (λ p. (asks (g p.node.value)).place) (λ p place. items (g p.node.value) place)) (λ p. refl) n.params.items)
 arrow_mapped {X} g asks items b n (bodies.Expr m) None (Some t) place rest = typed_same n (λ z. z) _ _ _ _ _ (only_mapped _ is_name asks (λ x. asks (g x)) (λ p. refl) n.params.items) (list_mapped {A = PatBox X} _ _ (child_of (λ p. (asks (g p.node.value)).place) (λ p place. items (g p.node.value) place)) (λ p. refl) n.params.items)
-arrow_mapped {X} g asks items b n (bodies.Expr m) (Some q) None place rest = typed_same n (λ z. items (g q.node.value) Plain z) _ _ _ _ _ (only_mapped _ is_name asks (λ x. asks (g x)) (λ p. refl) n.params.items) (list_mapped {A = PatBox X} _ _ (child_of (λ p. (asks (g p.node.value)).place) (λ p place. items (g p.node.value) place)) (λ p. refl) n.params.items)
-arrow_mapped {X} g asks items b n (bodies.Expr m) (Some q) (Some t) place rest = typed_same n (λ z. items (g q.node.value) Plain z) _ _ _ _ _ (only_mapped _ is_name asks (λ x. asks (g x)) (λ p. refl) n.params.items) (list_mapped {A = PatBox X} _ _ (child_of (λ p. (asks (g p.node.value)).place) (λ p place. items (g p.node.value) place)) (λ p. refl) n.params.items)
+arrow_mapped {X} g asks items b n (bodies.Expr m) (Some q) None place rest = typed_same n (λ z. items (g q.node.value) (Whole Plain) z) _ _ _ _ _ (only_mapped _ is_name asks (λ x. asks (g x)) (λ p. refl) n.params.items) (list_mapped {A = PatBox X} _ _ (child_of (λ p. (asks (g p.node.value)).place) (λ p place. items (g p.node.value) place)) (λ p. refl) n.params.items)
+arrow_mapped {X} g asks items b n (bodies.Expr m) (Some q) (Some t) place rest = typed_same n (λ z. items (g q.node.value) (Whole Plain) z) _ _ _ _ _ (only_mapped _ is_name asks (λ x. asks (g x)) (λ p. refl) n.params.items) (list_mapped {A = PatBox X} _ _ (child_of (λ p. (asks (g p.node.value)).place) (λ p place. items (g p.node.value) place)) (λ p. refl) n.params.items)
 
-pub arrow_expr_mapped : {X Y : Type 0} (g : X → Y) (asks : Y → Answers) (items : Y → Place → Part) (b : Box (ArrowExpr X) Global) (place : Place) (rest : Plan) → node_items asks items (map-AnyNode X Y g (nodes.Expr (exprs.Arrow b))) place rest ≡ expr (λ x. asks (g x)) (λ x. items (g x)) (exprs.Arrow b) place rest
+pub arrow_expr_mapped : {X Y : Type 0} (g : X → Y) (asks : Y → Answers) (items : Y → Place → Part) (b : Box (ArrowExpr X) Global) (place : Place) (rest : Plan) → node_items asks items (map-AnyNode X Y g (nodes.Expr (exprs.Arrow b))) place rest ≡ expr (λ x. asks (g x)) (λ x. items (g x)) (exprs.Arrow b) (context_of place) rest
 arrow_expr_mapped g asks items b place rest = arrow_mapped g asks items b b.value b.value.body b.value.type_params b.value.return_type place rest

@@ -32,8 +32,9 @@ use Rattle.swc_ecma_codegen_tree.specs.declared.parts.JSXPart.TheVariants as jsx
 use Rattle.swc_ecma_codegen_spans.specs.Spans.{spread_element_span}
 use Rattle.swc_ecma_codegen_tokens.specs.Run.{Plan, Part}
 use Rattle.swc_ecma_codegen_tokens.specs.Tags.{close}
-use Rattle.swc_ecma_codegen_emit.specs.declared.nodes.Place.{Place}
-use Rattle.swc_ecma_codegen_emit.specs.declared.nodes.Place.TheVariants.{Plain}
+use Rattle.swc_ecma_codegen_emit.specs.declared.nodes.Context.{Context}
+use Rattle.swc_ecma_codegen_emit.specs.declared.nodes.Context.TheVariants.{Plain}
+use Rattle.swc_ecma_codegen_emit.specs.Places.{Place, context_of}
 use Rattle.swc_ecma_codegen_emit.specs.Annotations.{type_args}
 use Rattle.swc_ecma_codegen_emit.specs.Answers.{Answers}
 use Rattle.swc_ecma_codegen_emit.specs.Exprs.{blank, spread_element}
@@ -108,15 +109,15 @@ children_mapped : {X Y : Type 0} (g : JSXElementChild X → JSXElementChild Y) (
 unfolding jsx_children
 children_mapped g items put same ns rest = in_order_mapped g (jsx_element_child items) (jsx_element_child put) same ns rest
 
-opening_same : {X Y : Type 0} (asks : Y → Answers) (items : Y → Place → Part) (said : X → Answers) (put : X → Place → Part) (o : JSXOpeningElement Y) (n : JSXOpeningElement X) (place : Place)
+opening_same : {X Y : Type 0} (asks : Y → Answers) (items : Y → Place → Part) (said : X → Answers) (put : X → Place → Part) (o : JSXOpeningElement Y) (n : JSXOpeningElement X) (context : Context)
     → ((rest : Plan) → type_args items Plain o.type_args rest ≡ type_args put Plain n.type_args rest)
     → ((rest : Plan) → jsx_element_name items o.name rest ≡ jsx_element_name put n.name rest)
     → ((rest : Plan) → jsx_attributes (jsx_attr_or_spread asks items) true o.attrs.items rest ≡ jsx_attributes (jsx_attr_or_spread said put) true n.attrs.items rest)
     → o.self_closing ≡ n.self_closing
-    → (rest : Plan) → jsx_opening_element asks items o place rest ≡ jsx_opening_element said put n place rest
+    → (rest : Plan) → jsx_opening_element asks items o context rest ≡ jsx_opening_element said put n context rest
 unfolding jsx_opening_element
-opening_same asks items said put o n place typed name listed closes rest =
-    ap (open_at place (codes "<"))
+opening_same asks items said put o n context typed name listed closes rest =
+    ap (open_at context (codes "<"))
     (name (type_args items Plain o.type_args (jsx_attributes (jsx_attr_or_spread asks items) true o.attrs.items (self_closing o.self_closing (close rest))))
     ∙ ap (jsx_element_name put n.name)
     (typed (jsx_attributes (jsx_attr_or_spread asks items) true o.attrs.items (self_closing o.self_closing (close rest)))
@@ -124,19 +125,19 @@ opening_same asks items said put o n place typed name listed closes rest =
     (listed (self_closing o.self_closing (close rest))
     ∙ ap (λ c. jsx_attributes (jsx_attr_or_spread said put) true n.attrs.items (self_closing c (close rest))) closes)))
 
-element_same : {X Y : Type 0} (asks : Y → Answers) (items : Y → Place → Part) (said : X → Answers) (put : X → Place → Part) (o : JSXElement Y) (n : JSXElement X) (place : Place)
-    → ((rest : Plan) → jsx_opening_element asks items o.opening place rest ≡ jsx_opening_element said put n.opening place rest)
+element_same : {X Y : Type 0} (asks : Y → Answers) (items : Y → Place → Part) (said : X → Answers) (put : X → Place → Part) (o : JSXElement Y) (n : JSXElement X) (context : Context)
+    → ((rest : Plan) → jsx_opening_element asks items o.opening context rest ≡ jsx_opening_element said put n.opening context rest)
     → ((rest : Plan) → jsx_children items o.children.items rest ≡ jsx_children put n.children.items rest)
     → ((rest : Plan) → optional_closing items o.closing rest ≡ optional_closing put n.closing rest)
-    → (rest : Plan) → jsx_element asks items o place rest ≡ jsx_element said put n place rest
+    → (rest : Plan) → jsx_element asks items o context rest ≡ jsx_element said put n context rest
 unfolding jsx_element jsx_element_parts
-element_same asks items said put o n place opening children closing = unbounded_alike (jsx_element_parts asks items o place) (jsx_element_parts said put n place) (λ rest.
-    ap (jsx_opening_element asks items o.opening place) (children (optional_closing items o.closing rest) ∙ ap (jsx_children put n.children.items) (closing rest))
+element_same asks items said put o n context opening children closing = unbounded_alike (jsx_element_parts asks items o context) (jsx_element_parts said put n context) (λ rest.
+    ap (jsx_opening_element asks items o.opening context) (children (optional_closing items o.closing rest) ∙ ap (jsx_children put n.children.items) (closing rest))
     ∙ opening (jsx_children put n.children.items (optional_closing put n.closing rest)))
 
-fragment_same : {X Y : Type 0} (items : Y → Place → Part) (put : X → Place → Part) (o : JSXFragment Y) (n : JSXFragment X) (place : Place) → ((rest : Plan) → jsx_children items o.children.items rest ≡ jsx_children put n.children.items rest) → (rest : Plan) → jsx_fragment items o place rest ≡ jsx_fragment put n place rest
+fragment_same : {X Y : Type 0} (items : Y → Place → Part) (put : X → Place → Part) (o : JSXFragment Y) (n : JSXFragment X) (context : Context) → ((rest : Plan) → jsx_children items o.children.items rest ≡ jsx_children put n.children.items rest) → (rest : Plan) → jsx_fragment items o context rest ≡ jsx_fragment put n context rest
 unfolding jsx_fragment jsx_fragment_parts
-fragment_same items put o n place children = unbounded_alike (jsx_fragment_parts items o place) (jsx_fragment_parts put n place) (λ rest. ap (opening_fragment place) (children (closing_fragment rest)))
+fragment_same items put o n context children = unbounded_alike (jsx_fragment_parts items o context) (jsx_fragment_parts put n context) (λ rest. ap (opening_fragment context) (children (closing_fragment rest)))
 
 -- ---- what links hold
 
@@ -145,9 +146,9 @@ unfolding node_items jsx_part jsx_object jsx_member_expr
 object_mapped g asks items (objects.JSXMemberExpr n) place rest = refl
 object_mapped g asks items (objects.Ident n) place rest = refl
 
-fragment_mapped : {X Y : Type 0} (g : X → Y) (asks : Y → Answers) (items : Y → Place → Part) (n : JSXFragment X) (place : Place) (rest : Plan) → node_items asks items (map-AnyNode X Y g (nodes.JSXPart (jsx_parts.JSXFragment n))) place rest ≡ jsx_fragment (λ x. items (g x)) n place rest
+fragment_mapped : {X Y : Type 0} (g : X → Y) (asks : Y → Answers) (items : Y → Place → Part) (n : JSXFragment X) (place : Place) (rest : Plan) → node_items asks items (map-AnyNode X Y g (nodes.JSXPart (jsx_parts.JSXFragment n))) place rest ≡ jsx_fragment (λ x. items (g x)) n (context_of place) rest
 unfolding node_items jsx_part jsx_element_child jsx_expr_container jsx_expr jsx_spread_child
-fragment_mapped {X} {Y} g asks items n place rest = fragment_same items (λ x. items (g x)) _ n place (children_mapped {X = X} {Y = Y} _ items (λ x. items (g x)) (by_child {X = X} _ (λ m after. refl) (λ span m after. refl) (λ span m after. refl) (λ m after. refl) (λ m after. refl) (λ m after. refl)) n.children.items) rest
+fragment_mapped {X} {Y} g asks items n place rest = fragment_same items (λ x. items (g x)) _ n (context_of place) (children_mapped {X = X} {Y = Y} _ items (λ x. items (g x)) (by_child {X = X} _ (λ m after. refl) (λ span m after. refl) (λ span m after. refl) (λ m after. refl) (λ m after. refl) (λ m after. refl)) n.children.items) rest
 
 -- ---- an element, part for part
 
@@ -188,11 +189,11 @@ unfolding optional_closing
 closing_mapped g items b n None rest = refl
 closing_mapped g items b n (Some c) rest = closed_mapped g items b n c.span c.name rest
 
-element_mapped : {X Y : Type 0} (g : X → Y) (asks : Y → Answers) (items : Y → Place → Part) (b : Box (JSXElement X) Global) (place : Place) (rest : Plan) → node_items asks items (map-AnyNode X Y g (nodes.JSXPart (jsx_parts.JSXElement b))) place rest ≡ jsx_element (λ x. asks (g x)) (λ x. items (g x)) b.value place rest
+element_mapped : {X Y : Type 0} (g : X → Y) (asks : Y → Answers) (items : Y → Place → Part) (b : Box (JSXElement X) Global) (place : Place) (rest : Plan) → node_items asks items (map-AnyNode X Y g (nodes.JSXPart (jsx_parts.JSXElement b))) place rest ≡ jsx_element (λ x. asks (g x)) (λ x. items (g x)) b.value (context_of place) rest
 unfolding node_items jsx_part jsx_attr_or_spread jsx_attr attr_initializer jsx_attr_value jsx_expr_container jsx_expr jsx_spread_child jsx_element_child spread_element spread_element_span
 element_mapped {X} {Y} g asks items b place rest =
-    element_same asks items (λ x. asks (g x)) (λ x. items (g x)) _ b.value place
-    (opening_same asks items (λ x. asks (g x)) (λ x. items (g x)) _ b.value.opening place
+    element_same asks items (λ x. asks (g x)) (λ x. items (g x)) _ b.value (context_of place)
+    (opening_same asks items (λ x. asks (g x)) (λ x. items (g x)) _ b.value.opening (context_of place)
     (types_mapped g items b b.value b.value.opening.type_args)
     (name_mapped g items b b.value b.value.opening.name)
     (attributes_mapped {A = JSXAttrOrSpread X} _ (jsx_attr_or_spread asks items) (jsx_attr_or_spread (λ x. asks (g x)) (λ x. items (g x))) (by_attr {X = X} _ (λ m after. refl) (λ m v after. refl) (λ m at v after. refl) (λ m at v after. refl) (λ m v after. refl) (λ m v after. refl) (λ m after. refl)) true b.value.opening.attrs.items)

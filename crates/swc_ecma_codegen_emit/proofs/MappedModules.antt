@@ -21,8 +21,8 @@ use Rattle.swc_ecma_codegen_spans.specs.Spans.{module_decl_span}
 use Rattle.swc_ecma_codegen_tokens.specs.Run.{Plan, Part}
 use Rattle.swc_ecma_codegen_grammar.proofs.MappedTsDecls.{by_args}
 use Rattle.swc_ecma_codegen_tokens.specs.Words.{keyword, space, formatting_line, start_of, leading_comments, trailing_comments, formatting_space}
-use Rattle.swc_ecma_codegen_emit.specs.declared.nodes.Place.{Place}
-use Rattle.swc_ecma_codegen_emit.specs.declared.nodes.Place.TheVariants.{Plain}
+use Rattle.swc_ecma_codegen_emit.specs.declared.nodes.Context.TheVariants.{Plain}
+use Rattle.swc_ecma_codegen_emit.specs.Places.{Place, Whole}
 use Rattle.swc_ecma_codegen_emit.specs.Annotations.{type_args, type_params}
 use Rattle.swc_ecma_codegen_emit.specs.Answers.{Answers}
 use Rattle.swc_ecma_codegen_emit.specs.ClassExprs.{class_expr}
@@ -56,8 +56,8 @@ all_by g asks items b n (Some w) place rest = refl
 
 default_interface : {X Y : Type 0} (g : X → Y) (asks : Y → Answers) (items : Y → Place → Part) (b : Box (ModuleDecl X) Global) (n : ExportDefaultDecl X) (i : TsInterfaceDecl X) (type_params : Option (TsTypeParamDeclBox X)) (place : Place) (rest : Plan) → node_items asks items (map-AnyNode X Y g (as_decl b (module_decls.ExportDefaultDecl (record n { decl = default_decls.TsInterfaceDecl (record i { type_params = type_params }) })))) place rest ≡ module_decl (λ x. asks (g x)) (λ x. items (g x)) (module_decls.ExportDefaultDecl (record n { decl = default_decls.TsInterfaceDecl (record i { type_params = type_params }) })) rest
 unfolding node_items stmt_part module_decl module_decl_by module_decl_span export_default_decl default_decl ts_interface_decl ts_expr_with_type_args type_params type_args
-default_interface {X} {Y} g asks items b n i None place rest = ap (λ z. leading_comments n.span.lo (leading_comments n.span.lo (start_of n.span (export_default (space (leading_comments i.span.lo (declare_word i.declare (keyword None (codes "interface") (space (ident i.id z)))))))))) (extends_mapped {X = X} {Y = Y} _ items (λ x. items (g x)) (by_args {X = X} _ (λ e. refl) (λ e t. refl)) i.span i.extends.items (formatting_space (items (g i.body.node.value) Plain (trailing_comments true n.span.hi (formatting_line rest)))))
-default_interface {X} {Y} g asks items b n i (Some t) place rest = ap (λ z. leading_comments n.span.lo (leading_comments n.span.lo (start_of n.span (export_default (space (leading_comments i.span.lo (declare_word i.declare (keyword None (codes "interface") (space (ident i.id (items (g t.node.value) Plain z))))))))))) (extends_mapped {X = X} {Y = Y} _ items (λ x. items (g x)) (by_args {X = X} _ (λ e. refl) (λ e t. refl)) i.span i.extends.items (formatting_space (items (g i.body.node.value) Plain (trailing_comments true n.span.hi (formatting_line rest)))))
+default_interface {X} {Y} g asks items b n i None place rest = ap (λ z. leading_comments n.span.lo (leading_comments n.span.lo (start_of n.span (export_default (space (leading_comments i.span.lo (declare_word i.declare (keyword None (codes "interface") (space (ident i.id z)))))))))) (extends_mapped {X = X} {Y = Y} _ items (λ x. items (g x)) (by_args {X = X} _ (λ e. refl) (λ e t. refl)) i.span i.extends.items (formatting_space (items (g i.body.node.value) (Whole Plain) (trailing_comments true n.span.hi (formatting_line rest)))))
+default_interface {X} {Y} g asks items b n i (Some t) place rest = ap (λ z. leading_comments n.span.lo (leading_comments n.span.lo (start_of n.span (export_default (space (leading_comments i.span.lo (declare_word i.declare (keyword None (codes "interface") (space (ident i.id (items (g t.node.value) (Whole Plain) z))))))))))) (extends_mapped {X = X} {Y = Y} _ items (λ x. items (g x)) (by_args {X = X} _ (λ e. refl) (λ e t. refl)) i.span i.extends.items (formatting_space (items (g i.body.node.value) (Whole Plain) (trailing_comments true n.span.hi (formatting_line rest)))))
 
 default_by : {X Y : Type 0} (g : X → Y) (asks : Y → Answers) (items : Y → Place → Part) (b : Box (ModuleDecl X) Global) (n : ExportDefaultDecl X) (decl : DefaultDecl X) (place : Place) (rest : Plan) → node_items asks items (map-AnyNode X Y g (as_decl b (module_decls.ExportDefaultDecl (record n { decl = decl })))) place rest ≡ module_decl (λ x. asks (g x)) (λ x. items (g x)) (module_decls.ExportDefaultDecl (record n { decl = decl })) rest
 unfolding node_items stmt_part module_decl module_decl_by module_decl_span export_default_decl default_decl class_expr fn_expr optional_name

@@ -36,8 +36,8 @@ use Rattle.swc_ecma_codegen_spans.specs.Spans.{expr_span, fn_expr_span, class_ex
 use Rattle.swc_ecma_codegen_grammar.specs.TreePhrases.{is_sequence}
 use Rattle.swc_ecma_codegen_tokens.specs.Run.{Plan, Part, refuse}
 use Rattle.swc_ecma_codegen_tokens.specs.Words.{punct, trailing_comments}
-use Rattle.swc_ecma_codegen_emit.specs.declared.nodes.Place.{Place}
-use Rattle.swc_ecma_codegen_emit.specs.declared.nodes.Place.TheVariants.{Plain, Chain, FieldValue}
+use Rattle.swc_ecma_codegen_emit.specs.declared.nodes.Context.TheVariants.{Plain, Chain, OptionalChain, FieldValue}
+use Rattle.swc_ecma_codegen_emit.specs.Places.{Place, Whole, context_of}
 use Rattle.swc_ecma_codegen_emit.specs.Answers.{Answers, any_answers}
 use Rattle.swc_ecma_codegen_emit.specs.Lists.{comma, listed, unsupported}
 use Rattle.swc_ecma_codegen_emit.specs.Exprs.{this, unary, update, update_parts, bin, bin_operator, bin_trailing, member, member_at, member_prop, object_place, computed_prop_name, super_prop, super_prop_expr, chain_mark, chain_prop, chain_member, chain_base, opt_chain, meta_prop_expr, assign, yield_argument_in, yield_argument, yield_arg, yield_expr, await_expr, choice, seq, held, paren, ident, opened}
@@ -71,46 +71,46 @@ unfolding listed
 listed_mapped g e d same first [] rest = refl
 listed_mapped g e d same first (x ∷ xs) rest = ap (λ part. comma first (part (listed e false (map g xs) rest))) (same x) ∙ ap (λ after. comma first (d x after)) (listed_mapped g e d same false xs rest)
 
-member_mapped : {X Y : Type 0} (g : X → Y) (asks : Y → Answers) (items : Y → Place → Part) (span : Span) (obj : ExprBox X) (prop : MemberProp X) (place : Place) (rest : Plan) → node_items asks items (map-AnyNode X Y g (nodes.MemberExpr (record { span = span; obj = obj; prop = prop }))) place rest ≡ member_at (λ x. items (g x)) (record { span = span; obj = obj; prop = prop }) place rest
+member_mapped : {X Y : Type 0} (g : X → Y) (asks : Y → Answers) (items : Y → Place → Part) (span : Span) (obj : ExprBox X) (prop : MemberProp X) (place : Place) (rest : Plan) → node_items asks items (map-AnyNode X Y g (nodes.MemberExpr (record { span = span; obj = obj; prop = prop }))) place rest ≡ member_at (λ x. items (g x)) (record { span = span; obj = obj; prop = prop }) (context_of place) rest
 unfolding node_items member_at member member_prop object_place computed_prop_name chain_member chain_mark chain_prop unsupported refuse
-member_mapped g asks items span obj (member_props.Ident n) (Chain true) rest = refl
-member_mapped g asks items span obj (member_props.Ident n) (Chain false) rest = refl
+member_mapped g asks items span obj (member_props.Ident n) (Whole OptionalChain) rest = refl
+member_mapped g asks items span obj (member_props.Ident n) (Whole Chain) rest = refl
 member_mapped g asks items span obj (member_props.Ident n) place rest = refl
-member_mapped g asks items span obj (member_props.Computed n) (Chain true) rest = refl
-member_mapped g asks items span obj (member_props.Computed n) (Chain false) rest = refl
+member_mapped g asks items span obj (member_props.Computed n) (Whole OptionalChain) rest = refl
+member_mapped g asks items span obj (member_props.Computed n) (Whole Chain) rest = refl
 member_mapped g asks items span obj (member_props.Computed n) place rest = refl
-member_mapped g asks items span obj n (Chain true) rest = refl
-member_mapped g asks items span obj n (Chain false) rest = refl
+member_mapped g asks items span obj n (Whole OptionalChain) rest = refl
+member_mapped g asks items span obj n (Whole Chain) rest = refl
 member_mapped g asks items span obj n place rest = refl
 
-super_mapped : {X Y : Type 0} (g : X → Y) (asks : Y → Answers) (items : Y → Place → Part) (n : SuperPropExpr X) (prop : SuperProp X) (place : Place) (rest : Plan) → node_items asks items (map-AnyNode X Y g (nodes.Expr (exprs.SuperProp (record n { prop = prop })))) place rest ≡ expr (λ x. asks (g x)) (λ x. items (g x)) (exprs.SuperProp (record n { prop = prop })) place rest
+super_mapped : {X Y : Type 0} (g : X → Y) (asks : Y → Answers) (items : Y → Place → Part) (n : SuperPropExpr X) (prop : SuperProp X) (place : Place) (rest : Plan) → node_items asks items (map-AnyNode X Y g (nodes.Expr (exprs.SuperProp (record n { prop = prop })))) place rest ≡ expr (λ x. asks (g x)) (λ x. items (g x)) (exprs.SuperProp (record n { prop = prop })) (context_of place) rest
 unfolding node_items expr expr_parts expr_closed expr_span leaves_comments placed_expr is_wrapped is_sequence super_prop_expr super_prop computed_prop_name
 super_mapped g asks items n (super_props.Ident p) place rest = refl
 super_mapped g asks items n (super_props.Computed p) place rest = refl
 
-chain_mapped : {X Y : Type 0} (g : X → Y) (asks : Y → Answers) (items : Y → Place → Part) (n : OptChainExpr X) (base : OptChainBase X) (place : Place) (rest : Plan) → node_items asks items (map-AnyNode X Y g (nodes.Expr (exprs.OptChain (record n { base = base })))) place rest ≡ expr (λ x. asks (g x)) (λ x. items (g x)) (exprs.OptChain (record n { base = base })) place rest
+chain_mapped : {X Y : Type 0} (g : X → Y) (asks : Y → Answers) (items : Y → Place → Part) (n : OptChainExpr X) (base : OptChainBase X) (place : Place) (rest : Plan) → node_items asks items (map-AnyNode X Y g (nodes.Expr (exprs.OptChain (record n { base = base })))) place rest ≡ expr (λ x. asks (g x)) (λ x. items (g x)) (exprs.OptChain (record n { base = base })) (context_of place) rest
 unfolding node_items expr expr_parts expr_closed expr_span leaves_comments placed_expr is_wrapped is_sequence opt_chain chain_base unsupported refuse
 chain_mapped g asks items n (chain_bases.Member b) place rest = refl
 chain_mapped g asks items n (chain_bases.Call b) place rest = refl
 
-yield_mapped : {X Y : Type 0} (g : X → Y) (asks : Y → Answers) (items : Y → Place → Part) (n : YieldExpr X) (arg : Option (ExprBox X)) (place : Place) (rest : Plan) → node_items asks items (map-AnyNode X Y g (nodes.Expr (exprs.Yield (record n { arg = arg })))) place rest ≡ expr (λ x. asks (g x)) (λ x. items (g x)) (exprs.Yield (record n { arg = arg })) place rest
+yield_mapped : {X Y : Type 0} (g : X → Y) (asks : Y → Answers) (items : Y → Place → Part) (n : YieldExpr X) (arg : Option (ExprBox X)) (place : Place) (rest : Plan) → node_items asks items (map-AnyNode X Y g (nodes.Expr (exprs.Yield (record n { arg = arg })))) place rest ≡ expr (λ x. asks (g x)) (λ x. items (g x)) (exprs.Yield (record n { arg = arg })) (context_of place) rest
 unfolding node_items expr expr_parts expr_closed expr_span leaves_comments placed_expr is_wrapped is_sequence yield_expr yield_arg yield_argument yield_argument_in
 yield_mapped g asks items n None place rest = refl
 yield_mapped g asks items n (Some x) place rest = refl
 
-seq_mapped : {X Y : Type 0} (g : X → Y) (asks : Y → Answers) (items : Y → Place → Part) (n : SeqExpr X) (rest : Plan) → node_items asks items (map-AnyNode X Y g (nodes.Expr (exprs.Seq n))) Plain rest ≡ expr (λ x. asks (g x)) (λ x. items (g x)) (exprs.Seq n) Plain rest
+seq_mapped : {X Y : Type 0} (g : X → Y) (asks : Y → Answers) (items : Y → Place → Part) (n : SeqExpr X) (rest : Plan) → node_items asks items (map-AnyNode X Y g (nodes.Expr (exprs.Seq n))) (Whole Plain) rest ≡ expr (λ x. asks (g x)) (λ x. items (g x)) (exprs.Seq n) Plain rest
 unfolding node_items expr expr_parts expr_closed expr_span leaves_comments placed_expr is_wrapped is_field_value is_sequence seq
 seq_mapped {X} g asks items n rest = ap (opened n.span) (listed_mapped {A = ExprBox X} _ (held items) (held (λ x. items (g x))) (λ x. refl) true n.exprs.items (trailing_comments true n.span.hi rest))
 
-expr_mapped : {X Y : Type 0} (g : X → Y) (asks : Y → Answers) (items : Y → Place → Part) (n : Expr X) (place : Place) (rest : Plan) → node_items asks items (map-AnyNode X Y g (nodes.Expr n)) place rest ≡ placed_expr (λ x. asks (g x)) (λ x. items (g x)) n place rest
+expr_mapped : {X Y : Type 0} (g : X → Y) (asks : Y → Answers) (items : Y → Place → Part) (n : Expr X) (place : Place) (rest : Plan) → node_items asks items (map-AnyNode X Y g (nodes.Expr n)) place rest ≡ placed_expr (λ x. asks (g x)) (λ x. items (g x)) n (context_of place) rest
 unfolding node_items expr expr_parts expr_closed expr_span fn_expr_span class_expr_span leaves_comments placed_expr wrapped is_wrapped is_field_value is_sequence member_at unsupported refuse fn_expr class_expr optional_name this unary update update_parts bin bin_operator bin_trailing assign meta_prop_expr await_expr choice seq paren ident ts_as_expr ts_const_assertion ts_satisfies_expr ts_non_null_expr ts_type_assertion ts_instantiation expr_part jsx_member_expr jsx_member_expr_span
-expr_mapped g asks items (exprs.Seq n) FieldValue rest = ap (punct (codes "(")) (seq_mapped g asks items n (punct (codes ")") rest))
+expr_mapped g asks items (exprs.Seq n) (Whole FieldValue) rest = ap (punct (codes "(")) (seq_mapped g asks items n (punct (codes ")") rest))
 expr_mapped g asks items (exprs.Seq n) place rest = seq_mapped g asks items n rest
 expr_mapped g asks items (exprs.Array n) place rest = array_lit_mapped g asks items n place rest
-expr_mapped g asks items (exprs.Object n) place rest = object_lit_mapped g asks items n Plain (trailing_comments true n.span.hi rest)
+expr_mapped g asks items (exprs.Object n) place rest = object_lit_mapped g asks items n (Whole Plain) (trailing_comments true n.span.hi rest)
 expr_mapped g asks items (exprs.Call n) place rest = call_mapped g asks items n place rest
 expr_mapped g asks items (exprs.New n) place rest = new_mapped g asks items n place rest
-expr_mapped g asks items (exprs.Member n) place rest = member_mapped g asks items n.span n.obj n.prop Plain (trailing_comments true n.span.hi rest)
+expr_mapped g asks items (exprs.Member n) place rest = member_mapped g asks items n.span n.obj n.prop (Whole Plain) (trailing_comments true n.span.hi rest)
 expr_mapped g asks items (exprs.SuperProp n) place rest = super_mapped g asks items n n.prop place rest
 expr_mapped g asks items (exprs.OptChain n) place rest = chain_mapped g asks items n n.base place rest
 expr_mapped g asks items (exprs.Yield n) place rest = yield_mapped g asks items n n.arg place rest
@@ -140,7 +140,7 @@ chain_target_mapped g asks items n (chain_bases.Call b) place rest = refl
 simple_target_mapped : {X Y : Type 0} (g : X → Y) (asks : Y → Answers) (items : Y → Place → Part) (n : SimpleAssignTarget X) (place : Place) (rest : Plan) → node_items asks items (map-AnyNode X Y g (as_target n)) place rest ≡ simple_assign_target (λ x. items (g x)) n rest
 unfolding node_items expr_part assign_target simple_assign_target member_at paren ts_as_expr ts_satisfies_expr ts_non_null_expr ts_type_assertion ts_instantiation unsupported refuse
 simple_target_mapped g asks items (simple_targets.Ident n) place rest = binding_target_mapped g asks items n.id n.type_ann place rest
-simple_target_mapped g asks items (simple_targets.Member n) place rest = member_mapped g asks items n.span n.obj n.prop Plain rest
+simple_target_mapped g asks items (simple_targets.Member n) place rest = member_mapped g asks items n.span n.obj n.prop (Whole Plain) rest
 simple_target_mapped g asks items (simple_targets.SuperProp n) place rest = super_target_mapped g asks items n n.prop place rest
 simple_target_mapped g asks items (simple_targets.OptChain n) place rest = chain_target_mapped g asks items n n.base place rest
 simple_target_mapped g asks items n place rest = refl
@@ -196,7 +196,7 @@ items_of {X} g n place = λ i. λ rest. (items_of_layer (map-AnyNode X AnyNode g
 pub any_items_of : (n : AnyNode) (place : Place) → any_items n place ≡ node_items any_answers any_items (out-AnyNode n) place
 any_items_of n place = λ i. λ rest. (at_rest (ap any_items (sym (roll-out-AnyNode n))) place rest ∙ items_of_layer (out-AnyNode n) place rest) i
 
-pub any_items_expr : (n : Expr AnyNode) (place : Place) → any_items (whole.Expr n) place ≡ placed_expr any_answers any_items n place
+pub any_items_expr : (n : Expr AnyNode) (place : Place) → any_items (whole.Expr n) place ≡ placed_expr any_answers any_items n (context_of place)
 unfolding node_items
 any_items_expr n place = λ i. λ rest. (at_rest (ap any_items (sym (whole.rolls-Expr n))) place rest ∙ items_of_layer (nodes.Expr n) place rest) i
 
@@ -205,15 +205,15 @@ never_wrapped true = refl
 never_wrapped false = refl
 
 -- where nothing is asked of it, it has no parentheses of its own
-pub any_items_plain_expr : (n : Expr AnyNode) → any_items (whole.Expr n) Plain ≡ expr any_answers any_items n Plain
+pub any_items_plain_expr : (n : Expr AnyNode) → any_items (whole.Expr n) (Whole Plain) ≡ expr any_answers any_items n Plain
 unfolding placed_expr is_wrapped is_field_value
-any_items_plain_expr n = any_items_expr n Plain ∙ (λ i. λ rest. ap (λ b. cond b (wrapped any_answers any_items n rest) (expr any_answers any_items n Plain rest)) (never_wrapped (is_sequence n)) i)
+any_items_plain_expr n = any_items_expr n (Whole Plain) ∙ (λ i. λ rest. ap (λ b. cond b (wrapped any_answers any_items n rest) (expr any_answers any_items n Plain rest)) (never_wrapped (is_sequence n)) i)
 
 pub any_items_stmt : (n : Stmt AnyNode) (place : Place) → any_items (whole.Stmt n) place ≡ stmt any_answers any_items n
 unfolding node_items
 any_items_stmt n place = λ i. λ rest. (at_rest (ap any_items (sym (whole.rolls-Stmt n))) place rest ∙ items_of_layer (nodes.Stmt n) place rest) i
 
-pub any_items_member_expr : (n : MemberExpr AnyNode) (place : Place) → any_items (whole.MemberExpr n) place ≡ member_at any_items n place
+pub any_items_member_expr : (n : MemberExpr AnyNode) (place : Place) → any_items (whole.MemberExpr n) place ≡ member_at any_items n (context_of place)
 unfolding node_items
 any_items_member_expr n place = λ i. λ rest. (at_rest (ap any_items (sym (whole.rolls-MemberExpr n))) place rest ∙ items_of_layer (nodes.MemberExpr n) place rest) i
 

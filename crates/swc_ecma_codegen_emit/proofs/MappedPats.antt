@@ -24,8 +24,8 @@ use Rattle.swc_ecma_codegen_grammar.proofs.MappedPats.{by_cases}
 use Rattle.swc_ecma_codegen_tokens.specs.Run.{Plan, Part, refuse}
 use Rattle.swc_ecma_codegen_tokens.specs.Lists.{ListChild, list}
 use Rattle.swc_ecma_codegen_tokens.specs.Words.{punct, formatting_space, end_of}
-use Rattle.swc_ecma_codegen_emit.specs.declared.nodes.Place.{Place}
-use Rattle.swc_ecma_codegen_emit.specs.declared.nodes.Place.TheVariants.{Plain}
+use Rattle.swc_ecma_codegen_emit.specs.declared.nodes.Context.TheVariants.{Plain}
+use Rattle.swc_ecma_codegen_emit.specs.Places.{Place, Whole}
 use Rattle.swc_ecma_codegen_emit.specs.Annotations.{annotation, spaced_annotation}
 use Rattle.swc_ecma_codegen_emit.specs.Answers.{Answers, place_of}
 use Rattle.swc_ecma_codegen_emit.specs.Exprs.{opened, computed_prop_name}
@@ -103,10 +103,10 @@ object_mapped : {X Y : Type 0} (g : X → Y) (asks : Y → Answers) (items : Y �
 unfolding node_items node_span expr_part expr_part_span pat pat_parts pat_span object_pat object_pat_prop object_pat_prop_span key_value_pat_prop_span key_value_pat_prop assign_pat_prop rest_pat initializer binding_ident spaced_annotation annotation
 object_mapped {X} {Y} g asks items n None place rest =
     ap (λ z. opened n.span (punct (codes "{") z)) (children_mapped {A = ObjectPatProp X} _ _ _ (by_cases {X = X} _
-    (λ p. key_value_same _ _ (asks (g p.value.node.value)).place _ _ (items (g p.value.node.value) Plain) (prop_name_placed g asks p.key) (prop_name_mapped g asks items p.key Plain)) (λ span id. refl) (λ span id x. refl) (λ span id t. refl) (λ span id t x. refl) (λ span dots arg. refl) (λ span dots arg t. refl)) object_pat_format n.span n.props.items _)
+    (λ p. key_value_same _ _ (asks (g p.value.node.value)).place _ _ (items (g p.value.node.value) (Whole Plain)) (prop_name_placed g asks p.key) (prop_name_mapped g asks items p.key (Whole Plain))) (λ span id. refl) (λ span id x. refl) (λ span id t. refl) (λ span id t x. refl) (λ span dots arg. refl) (λ span dots arg t. refl)) object_pat_format n.span n.props.items _)
 object_mapped {X} {Y} g asks items n (Some t) place rest =
     ap (λ z. opened n.span (punct (codes "{") z)) (children_mapped {A = ObjectPatProp X} _ _ _ (by_cases {X = X} _
-    (λ p. key_value_same _ _ (asks (g p.value.node.value)).place _ _ (items (g p.value.node.value) Plain) (prop_name_placed g asks p.key) (prop_name_mapped g asks items p.key Plain)) (λ span id. refl) (λ span id x. refl) (λ span id t. refl) (λ span id t x. refl) (λ span dots arg. refl) (λ span dots arg t. refl)) object_pat_format n.span n.props.items _)
+    (λ p. key_value_same _ _ (asks (g p.value.node.value)).place _ _ (items (g p.value.node.value) (Whole Plain)) (prop_name_placed g asks p.key) (prop_name_mapped g asks items p.key (Whole Plain))) (λ span id. refl) (λ span id x. refl) (λ span id t. refl) (λ span id t x. refl) (λ span dots arg. refl) (λ span dots arg t. refl)) object_pat_format n.span n.props.items _)
 
 pub pat_mapped : {X Y : Type 0} (g : X → Y) (asks : Y → Answers) (items : Y → Place → Part) (n : Pat X) (place : Place) (rest : Plan) → node_items asks items (map-AnyNode X Y g (nodes.ExprPart (expr_parts.Pat n))) place rest ≡ pat (λ x. asks (g x)) (λ x. items (g x)) n rest
 unfolding node_items expr_part pat pat_parts pat_span assign_pat unsupported refuse
@@ -140,10 +140,10 @@ target_object_mapped : {X Y : Type 0} (g : X → Y) (asks : Y → Answers) (item
 unfolding node_items node_span expr_part expr_part_span assign_target assign_target_pat object_pat object_pat_prop object_pat_prop_span key_value_pat_prop_span key_value_pat_prop assign_pat_prop rest_pat initializer binding_ident spaced_annotation annotation
 target_object_mapped {X} {Y} g asks items n None place rest =
     ap (λ z. opened n.span (punct (codes "{") z)) (children_mapped {A = ObjectPatProp X} _ _ _ (by_cases {X = X} _
-    (λ p. key_value_same _ _ (asks (g p.value.node.value)).place _ _ (items (g p.value.node.value) Plain) (prop_name_placed g asks p.key) (prop_name_mapped g asks items p.key Plain)) (λ span id. refl) (λ span id x. refl) (λ span id t. refl) (λ span id t x. refl) (λ span dots arg. refl) (λ span dots arg t. refl)) object_pat_format n.span n.props.items _)
+    (λ p. key_value_same _ _ (asks (g p.value.node.value)).place _ _ (items (g p.value.node.value) (Whole Plain)) (prop_name_placed g asks p.key) (prop_name_mapped g asks items p.key (Whole Plain))) (λ span id. refl) (λ span id x. refl) (λ span id t. refl) (λ span id t x. refl) (λ span dots arg. refl) (λ span dots arg t. refl)) object_pat_format n.span n.props.items _)
 target_object_mapped {X} {Y} g asks items n (Some t) place rest =
     ap (λ z. opened n.span (punct (codes "{") z)) (children_mapped {A = ObjectPatProp X} _ _ _ (by_cases {X = X} _
-    (λ p. key_value_same _ _ (asks (g p.value.node.value)).place _ _ (items (g p.value.node.value) Plain) (prop_name_placed g asks p.key) (prop_name_mapped g asks items p.key Plain)) (λ span id. refl) (λ span id x. refl) (λ span id t. refl) (λ span id t x. refl) (λ span dots arg. refl) (λ span dots arg t. refl)) object_pat_format n.span n.props.items _)
+    (λ p. key_value_same _ _ (asks (g p.value.node.value)).place _ _ (items (g p.value.node.value) (Whole Plain)) (prop_name_placed g asks p.key) (prop_name_mapped g asks items p.key (Whole Plain))) (λ span id. refl) (λ span id x. refl) (λ span id t. refl) (λ span id t x. refl) (λ span dots arg. refl) (λ span dots arg t. refl)) object_pat_format n.span n.props.items _)
 
 pub target_pat_mapped : {X Y : Type 0} (g : X → Y) (asks : Y → Answers) (items : Y → Place → Part) (n : AssignTargetPat X) (place : Place) (rest : Plan) → node_items asks items (map-AnyNode X Y g (nodes.ExprPart (expr_parts.AssignTarget (targets.Pat n)))) place rest ≡ assign_target_pat (λ x. asks (g x)) (λ x. items (g x)) n rest
 unfolding node_items expr_part assign_target assign_target_pat unsupported refuse

@@ -13,8 +13,9 @@ use Rattle.swc_ecma_codegen_grammar.proofs.MappedProps.{by_prop, each_prop}
 use Rattle.swc_ecma_codegen_tokens.specs.Run.{Plan, Part}
 use Rattle.swc_ecma_codegen_tokens.specs.Lists.{ListChild}
 use Rattle.swc_ecma_codegen_tokens.specs.Words.{punct, formatting_space}
-use Rattle.swc_ecma_codegen_emit.specs.declared.nodes.Place.{Place}
-use Rattle.swc_ecma_codegen_emit.specs.declared.nodes.Place.TheVariants.{Plain, MethodHead, DeclarationTail}
+use Rattle.swc_ecma_codegen_emit.specs.declared.nodes.Context.TheVariants.{Plain}
+use Rattle.swc_ecma_codegen_emit.specs.declared.nodes.Piece.TheVariants.{MethodHead, DeclarationTail}
+use Rattle.swc_ecma_codegen_emit.specs.Places.{Place, Whole, Only}
 use Rattle.swc_ecma_codegen_emit.specs.Answers.{Answers, place_of}
 use Rattle.swc_ecma_codegen_emit.specs.Exprs.{opened, spread_element}
 use Rattle.swc_ecma_codegen_emit.specs.Lists.{child_at, child_of}
@@ -44,6 +45,6 @@ object_same n some other cs ds after e h =
 pub object_lit_mapped : {X Y : Type 0} (g : X → Y) (asks : Y → Answers) (items : Y → Place → Part) (n : ObjectLit X) (place : Place) (rest : Plan) → node_items asks items (map-AnyNode X Y g (nodes.ExprPart (expr_parts.ObjectLit n))) place rest ≡ object_lit (λ x. asks (g x)) (λ x. items (g x)) n rest
 unfolding node_items node_span expr_part expr_part_span object_lit object_children prop_or_spread prop_or_spread_span spread_element spread_element_span prop prop_span key_value_prop key_value_prop_span assign_prop assign_prop_span getter_prop tight_annotation setter_prop this_param method_prop method_prop_span accessor optional_body
 object_lit_mapped {X} g asks items n place rest = object_same n _ _ _ _ _ (some_mapped _ n.props.items) (list_mapped {A = PropOrSpread X} _ _ (child_of (prop_or_spread_span (place_of (λ x. asks (g x)))) (λ p place. prop_or_spread (λ x. asks (g x)) (λ x. items (g x)) p)) (each_prop {X = X} _ (λ m. refl) (by_prop {X = X} _
-    (λ m. refl) (λ m. key_value_same _ _ (asks (g m.value.node.value)).place _ _ (items (g m.value.node.value) Plain) (prop_name_placed g asks m.key) (prop_name_mapped g asks items m.key Plain))
+    (λ m. refl) (λ m. key_value_same _ _ (asks (g m.value.node.value)).place _ _ (items (g m.value.node.value) (Whole Plain)) (prop_name_placed g asks m.key) (prop_name_mapped g asks items m.key (Whole Plain)))
     (λ m. refl) (λ m. refl) (λ m body. refl) (λ m t. refl) (λ m t body. refl) (λ m. refl) (λ m body. refl) (λ m this. refl) (λ m this body. refl)
-    (λ m. method_same _ _ (asks (g m.function.node.value)).place (items (g m.function.node.value) MethodHead) _ _ (items (g m.function.node.value) DeclarationTail) (prop_name_placed g asks m.key) (prop_name_mapped g asks items m.key Plain)))) n.props.items)
+    (λ m. method_same _ _ (asks (g m.function.node.value)).place (items (g m.function.node.value) (Only MethodHead)) _ _ (items (g m.function.node.value) (Only DeclarationTail)) (prop_name_placed g asks m.key) (prop_name_mapped g asks items m.key (Whole Plain))))) n.props.items)

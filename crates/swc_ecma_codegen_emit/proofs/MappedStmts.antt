@@ -33,8 +33,8 @@ use Rattle.swc_ecma_codegen_util.proofs.Finishes.{declarators_mapped as ends_map
 use Rattle.swc_ecma_codegen_tokens.specs.Lists.{ListChild, by_lines, list}
 use Rattle.swc_ecma_codegen_tokens.specs.Run.{Plan, Part}
 use Rattle.swc_ecma_codegen_tokens.specs.Words.{keyword, punct, space, formatting_space, last_of, leading_comments, trailing_comments, formatting_line}
-use Rattle.swc_ecma_codegen_emit.specs.declared.nodes.Place.{Place}
-use Rattle.swc_ecma_codegen_emit.specs.declared.nodes.Place.TheVariants.{Plain, Statement}
+use Rattle.swc_ecma_codegen_emit.specs.declared.nodes.Context.TheVariants.{Plain, Statement}
+use Rattle.swc_ecma_codegen_emit.specs.Places.{Place, Whole}
 use Rattle.swc_ecma_codegen_emit.specs.Answers.{Answers, place_of}
 use Rattle.swc_ecma_codegen_emit.specs.Branches.{is_block}
 use Rattle.swc_ecma_codegen_emit.specs.Decls.{declarators_format, var_declarator, await_word, using_decl}
@@ -130,7 +130,7 @@ for_in_by : {X Y : Type 0} (g : X → Y) (asks : Y → Answers) (items : Y → P
 unfolding node_items expr_part stmt stmt_parts stmt_closed is_block stmt_span for_in_stmt for_each for_head head_ends for_right spaced using_decl var_declarator initializer declarator_ends init_ends expr_part_ends node_ends
 for_in_by g asks items n (heads.VarDecl h) place rest = refl
 for_in_by {X} g asks items n (heads.UsingDecl h) place rest = both_same
-    (λ cs ends. stmt_word n.span (codes "for") (punct (codes "(") (using_head h.value cs (for_right (λ x. asks (g x)) (λ x. items (g x)) (codes "in") ends n.right (punct (codes ")") (items (g n.body.node.value) Plain (ended n.span rest)))))))
+    (λ cs ends. stmt_word n.span (codes "for") (punct (codes "(") (using_head h.value cs (for_right (λ x. asks (g x)) (λ x. items (g x)) (codes "in") ends n.right (punct (codes ")") (items (g n.body.node.value) (Whole Plain) (ended n.span rest)))))))
     _ _ _ _ (list_mapped {A = VarDeclarator X} _ (declarator_child asks items) (declarator_child (λ x. asks (g x)) (λ x. items (g x))) (by_init {X = X} _ (λ span name definite. declarator_same span _ (declared_pat (λ x. asks (g x)) (λ x. items (g x)) definite name) (λ after. after) (declared_pat_mapped g asks items definite name)) (λ span name init definite. declarator_same span _ (declared_pat (λ x. asks (g x)) (λ x. items (g x)) definite name) (initializer (λ x. items (g x)) (Some init)) (declared_pat_mapped g asks items definite name))) h.value.decls.items)
     (ends_mapped _ (λ y. (asks y).ends) (λ x. (asks (g x)).ends) (λ x y. refl) (λ x. pat_ends_mapped g (λ y. (asks y).ends) x.name) h.value.decls.items)
 for_in_by g asks items n (heads.Pat h) place rest = refl
@@ -139,7 +139,7 @@ for_of_by : {X Y : Type 0} (g : X → Y) (asks : Y → Answers) (items : Y → P
 unfolding node_items expr_part stmt stmt_parts stmt_closed is_block stmt_span for_of_stmt for_each for_head head_ends for_right spaced using_decl var_declarator initializer declarator_ends init_ends expr_part_ends node_ends
 for_of_by g asks items n (heads.VarDecl h) place rest = refl
 for_of_by {X} g asks items n (heads.UsingDecl h) place rest = both_same
-    (λ cs ends. stmt_word n.span (codes "for") (for_await n.is_await (formatting_space (punct (codes "(") (using_head h.value cs (for_right (λ x. asks (g x)) (λ x. items (g x)) (codes "of") ends n.right (punct (codes ")") (items (g n.body.node.value) Plain (ended n.span rest)))))))))
+    (λ cs ends. stmt_word n.span (codes "for") (for_await n.is_await (formatting_space (punct (codes "(") (using_head h.value cs (for_right (λ x. asks (g x)) (λ x. items (g x)) (codes "of") ends n.right (punct (codes ")") (items (g n.body.node.value) (Whole Plain) (ended n.span rest)))))))))
     _ _ _ _ (list_mapped {A = VarDeclarator X} _ (declarator_child asks items) (declarator_child (λ x. asks (g x)) (λ x. items (g x))) (by_init {X = X} _ (λ span name definite. declarator_same span _ (declared_pat (λ x. asks (g x)) (λ x. items (g x)) definite name) (λ after. after) (declared_pat_mapped g asks items definite name)) (λ span name init definite. declarator_same span _ (declared_pat (λ x. asks (g x)) (λ x. items (g x)) definite name) (initializer (λ x. items (g x)) (Some init)) (declared_pat_mapped g asks items definite name))) h.value.decls.items)
     (ends_mapped _ (λ y. (asks y).ends) (λ x. (asks (g x)).ends) (λ x y. refl) (λ x. pat_ends_mapped g (λ y. (asks y).ends) x.name) h.value.decls.items)
 for_of_by g asks items n (heads.Pat h) place rest = refl
@@ -147,8 +147,8 @@ for_of_by g asks items n (heads.Pat h) place rest = refl
 decl_by : {X Y : Type 0} (g : X → Y) (asks : Y → Answers) (items : Y → Place → Part) (n : Decl X) (place : Place) (rest : Plan) → node_items asks items (map-AnyNode X Y g (nodes.Stmt (stmts.Decl n))) place rest ≡ stmt (λ x. asks (g x)) (λ x. items (g x)) (stmts.Decl n) rest
 unfolding node_items node_span stmt_part stmt_part_span stmt stmt_parts stmt_closed is_block stmt_span
 decl_by {X} {Y} g asks items n place rest =
-    ap (λ z. node_items asks items (map-AnyNode X Y g (nodes.StmtPart (stmt_parts.Decl n))) Statement (ended z rest)) (decl_placed g asks n)
-    ∙ decl_mapped g asks items n Statement (ended (decl_span (place_of (λ x. asks (g x))) n) rest)
+    ap (λ z. node_items asks items (map-AnyNode X Y g (nodes.StmtPart (stmt_parts.Decl n))) (Whole Statement) (ended z rest)) (decl_placed g asks n)
+    ∙ decl_mapped g asks items n (Whole Statement) (ended (decl_span (place_of (λ x. asks (g x))) n) rest)
 
 pub stmt_mapped : {X Y : Type 0} (g : X → Y) (asks : Y → Answers) (items : Y → Place → Part) (n : Stmt X) (place : Place) (rest : Plan) → node_items asks items (map-AnyNode X Y g (nodes.Stmt n)) place rest ≡ stmt (λ x. asks (g x)) (λ x. items (g x)) n rest
 unfolding node_items stmt stmt_parts stmt_closed is_block stmt_span empty_stmt expr_stmt debugger_stmt with_stmt labeled_stmt break_stmt continue_stmt throw_stmt while_stmt loop_test do_while_stmt enclosed argument argument_in spaced
@@ -169,5 +169,5 @@ stmt_placed g asks (stmts.Decl n) = decl_placed g asks n
 stmt_placed g asks n = refl
 
 -- a statement, as a child of a list
-pub stmt_child_mapped : {X Y : Type 0} (g : X → Y) (asks : Y → Answers) (items : Y → Place → Part) (n : Stmt X) → child_at (node_span (place_of asks) (map-AnyNode X Y g (nodes.Stmt n))) (node_items asks items (map-AnyNode X Y g (nodes.Stmt n)) Plain) ≡ child_at (stmt_span (place_of (λ x. asks (g x))) n) (stmt (λ x. asks (g x)) (λ x. items (g x)) n)
-stmt_child_mapped g asks items n = child_same _ _ _ _ (stmt_placed g asks n) (stmt_mapped g asks items n Plain)
+pub stmt_child_mapped : {X Y : Type 0} (g : X → Y) (asks : Y → Answers) (items : Y → Place → Part) (n : Stmt X) → child_at (node_span (place_of asks) (map-AnyNode X Y g (nodes.Stmt n))) (node_items asks items (map-AnyNode X Y g (nodes.Stmt n)) (Whole Plain)) ≡ child_at (stmt_span (place_of (λ x. asks (g x))) n) (stmt (λ x. asks (g x)) (λ x. items (g x)) n)
+stmt_child_mapped g asks items n = child_same _ _ _ _ (stmt_placed g asks n) (stmt_mapped g asks items n (Whole Plain))

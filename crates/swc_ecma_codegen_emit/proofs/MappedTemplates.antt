@@ -17,7 +17,7 @@ use Rattle.swc_ecma_codegen_tokens.specs.Run.{unbounded, Plan, Part}
 use Rattle.swc_ecma_codegen_tokens.specs.Templates.{tpl_element}
 use Rattle.swc_ecma_codegen_tokens.specs.Words.{start_of, end_of, leading_comments}
 use Rattle.swc_ecma_codegen_emit.specs.Exprs.{held}
-use Rattle.swc_ecma_codegen_emit.specs.declared.nodes.Place.{Place}
+use Rattle.swc_ecma_codegen_emit.specs.Places.{Place, context_of}
 use Rattle.swc_ecma_codegen_emit.specs.Answers.{Answers}
 use Rattle.swc_ecma_codegen_emit.specs.AnyExpr as words
 use Rattle.swc_ecma_codegen_emit.specs.AnyExpr.{expr}
@@ -57,14 +57,14 @@ counted_mapped g items put same tagged span es qs rest =
     ap (λ k. cond (length qs == k + 1) (placed items tagged span (map g es) qs rest) (bad_shape rest)) (length_mapped g es)
     ∙ ap (λ z. cond (is_counted es qs) (leading_comments span.lo (start_of span z)) (bad_shape rest)) (parts_mapped g items put same tagged es qs (end_of span rest))
 
-pub tpl_mapped : {X Y : Type 0} (g : X → Y) (asks : Y → Answers) (items : Y → Place → Part) (n : Tpl X) (place : Place) (rest : Plan) → node_items asks items (map-AnyNode X Y g (nodes.ExprPart (expr_parts.Tpl n))) place rest ≡ tpl (λ x. items (g x)) (is_tagged place) n rest
+pub tpl_mapped : {X Y : Type 0} (g : X → Y) (asks : Y → Answers) (items : Y → Place → Part) (n : Tpl X) (place : Place) (rest : Plan) → node_items asks items (map-AnyNode X Y g (nodes.ExprPart (expr_parts.Tpl n))) place rest ≡ tpl (λ x. items (g x)) (is_tagged (context_of place)) n rest
 unfolding node_items expr_part tpl tpl_placed
-tpl_mapped {X} {Y} g asks items n place rest = counted_mapped {A = ExprBox X} {B = ExprBox Y} _ (held items) (held (λ x. items (g x))) (λ x. refl) (is_tagged place) n.span n.exprs.items n.quasis.items rest
+tpl_mapped {X} {Y} g asks items n place rest = counted_mapped {A = ExprBox X} {B = ExprBox Y} _ (held items) (held (λ x. items (g x))) (λ x. refl) (is_tagged (context_of place)) n.span n.exprs.items n.quasis.items rest
 
-tagged_by : {X Y : Type 0} (g : X → Y) (asks : Y → Answers) (items : Y → Place → Part) (n : TaggedTpl X) (type_params : Option (TsTypeParamInstantiationBox X)) (place : Place) (rest : Plan) → node_items asks items (map-AnyNode X Y g (nodes.Expr (exprs.TaggedTpl (record n { type_params = type_params })))) place rest ≡ expr (λ x. asks (g x)) (λ x. items (g x)) (exprs.TaggedTpl (record n { type_params = type_params })) place rest
+tagged_by : {X Y : Type 0} (g : X → Y) (asks : Y → Answers) (items : Y → Place → Part) (n : TaggedTpl X) (type_params : Option (TsTypeParamInstantiationBox X)) (place : Place) (rest : Plan) → node_items asks items (map-AnyNode X Y g (nodes.Expr (exprs.TaggedTpl (record n { type_params = type_params })))) place rest ≡ expr (λ x. asks (g x)) (λ x. items (g x)) (exprs.TaggedTpl (record n { type_params = type_params })) (context_of place) rest
 unfolding node_items expr words.expr_parts words.expr_closed expr_span words.leaves_comments words.placed_expr words.is_wrapped is_sequence tagged_tpl type_args
 tagged_by g asks items n None place rest = refl
 tagged_by g asks items n (Some t) place rest = refl
 
-pub tagged_tpl_mapped : {X Y : Type 0} (g : X → Y) (asks : Y → Answers) (items : Y → Place → Part) (n : TaggedTpl X) (place : Place) (rest : Plan) → node_items asks items (map-AnyNode X Y g (nodes.Expr (exprs.TaggedTpl n))) place rest ≡ expr (λ x. asks (g x)) (λ x. items (g x)) (exprs.TaggedTpl n) place rest
+pub tagged_tpl_mapped : {X Y : Type 0} (g : X → Y) (asks : Y → Answers) (items : Y → Place → Part) (n : TaggedTpl X) (place : Place) (rest : Plan) → node_items asks items (map-AnyNode X Y g (nodes.Expr (exprs.TaggedTpl n))) place rest ≡ expr (λ x. asks (g x)) (λ x. items (g x)) (exprs.TaggedTpl n) (context_of place) rest
 tagged_tpl_mapped g asks items n place rest = tagged_by g asks items n n.type_params place rest

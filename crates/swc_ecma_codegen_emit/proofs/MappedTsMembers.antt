@@ -20,8 +20,8 @@ use Rattle.swc_ecma_codegen_spans.specs.Spans.{dummy_span, ts_type_element_span}
 use Rattle.swc_ecma_codegen_grammar.proofs.MappedTsMembers.{as_member}
 use Rattle.swc_ecma_codegen_tokens.specs.Run.{Plan, Part}
 use Rattle.swc_ecma_codegen_tokens.specs.Words.{keyword, punct, punct_between, question, semi, space, formatting_space, leading_comments}
-use Rattle.swc_ecma_codegen_emit.specs.declared.nodes.Place.{Place}
-use Rattle.swc_ecma_codegen_emit.specs.declared.nodes.Place.TheVariants.{Plain}
+use Rattle.swc_ecma_codegen_emit.specs.declared.nodes.Context.TheVariants.{Plain}
+use Rattle.swc_ecma_codegen_emit.specs.Places.{Place, Whole}
 use Rattle.swc_ecma_codegen_emit.specs.Annotations.{annotation, spaced_annotation, type_params, types_format, word_before}
 use Rattle.swc_ecma_codegen_emit.specs.Answers.{Answers}
 use Rattle.swc_ecma_codegen_emit.specs.Lists.{child_at, child_of}
@@ -51,23 +51,23 @@ place_of_member n = dummy_span
 call_mapped : {X Y : Type 0} (g : X → Y) (asks : Y → Answers) (items : Y → Place → Part) (b : TsTypeLit X) (n : TsCallSignatureDecl X) (type_params : Option (TsTypeParamDeclBox X)) (type_ann : Option (TsTypeAnnBox X)) (rest : Plan) → member_of asks items (map-AnyNode X Y g (as_member b (elements.TsCallSignatureDecl (record n { type_params = type_params; type_ann = type_ann })))) rest ≡ ts_type_element (λ x. asks (g x)) (λ x. items (g x)) (elements.TsCallSignatureDecl (record n { type_params = type_params; type_ann = type_ann })) rest
 unfolding ts_type_element ts_signature ts_call_signature_decl type_params signature_params annotation_between
 call_mapped {X} g asks items b n None None rest = ap (λ z. leading_comments n.span.lo (punct (codes "(") z)) (children_mapped {A = TsFnParamBox X} _ (child_of (fn_param_place asks) (fn_param_items items)) (child_of (fn_param_place (λ x. asks (g x))) (fn_param_items (λ x. items (g x)))) (λ x. refl) types_format n.span n.params.items (punct (codes ")") (semi rest)))
-call_mapped {X} g asks items b n None (Some a) rest = ap (λ z. leading_comments n.span.lo (punct (codes "(") z)) (children_mapped {A = TsFnParamBox X} _ (child_of (fn_param_place asks) (fn_param_items items)) (child_of (fn_param_place (λ x. asks (g x))) (fn_param_items (λ x. items (g x)))) (λ x. refl) types_format n.span n.params.items (punct (codes ")") (punct_between (codes ":") (items (g a.node.value) Plain (semi rest)))))
-call_mapped {X} g asks items b n (Some t) None rest = ap (λ z. leading_comments n.span.lo (items (g t.node.value) Plain (punct (codes "(") z))) (children_mapped {A = TsFnParamBox X} _ (child_of (fn_param_place asks) (fn_param_items items)) (child_of (fn_param_place (λ x. asks (g x))) (fn_param_items (λ x. items (g x)))) (λ x. refl) types_format n.span n.params.items (punct (codes ")") (semi rest)))
-call_mapped {X} g asks items b n (Some t) (Some a) rest = ap (λ z. leading_comments n.span.lo (items (g t.node.value) Plain (punct (codes "(") z))) (children_mapped {A = TsFnParamBox X} _ (child_of (fn_param_place asks) (fn_param_items items)) (child_of (fn_param_place (λ x. asks (g x))) (fn_param_items (λ x. items (g x)))) (λ x. refl) types_format n.span n.params.items (punct (codes ")") (punct_between (codes ":") (items (g a.node.value) Plain (semi rest)))))
+call_mapped {X} g asks items b n None (Some a) rest = ap (λ z. leading_comments n.span.lo (punct (codes "(") z)) (children_mapped {A = TsFnParamBox X} _ (child_of (fn_param_place asks) (fn_param_items items)) (child_of (fn_param_place (λ x. asks (g x))) (fn_param_items (λ x. items (g x)))) (λ x. refl) types_format n.span n.params.items (punct (codes ")") (punct_between (codes ":") (items (g a.node.value) (Whole Plain) (semi rest)))))
+call_mapped {X} g asks items b n (Some t) None rest = ap (λ z. leading_comments n.span.lo (items (g t.node.value) (Whole Plain) (punct (codes "(") z))) (children_mapped {A = TsFnParamBox X} _ (child_of (fn_param_place asks) (fn_param_items items)) (child_of (fn_param_place (λ x. asks (g x))) (fn_param_items (λ x. items (g x)))) (λ x. refl) types_format n.span n.params.items (punct (codes ")") (semi rest)))
+call_mapped {X} g asks items b n (Some t) (Some a) rest = ap (λ z. leading_comments n.span.lo (items (g t.node.value) (Whole Plain) (punct (codes "(") z))) (children_mapped {A = TsFnParamBox X} _ (child_of (fn_param_place asks) (fn_param_items items)) (child_of (fn_param_place (λ x. asks (g x))) (fn_param_items (λ x. items (g x)))) (λ x. refl) types_format n.span n.params.items (punct (codes ")") (punct_between (codes ":") (items (g a.node.value) (Whole Plain) (semi rest)))))
 
 construct_mapped : {X Y : Type 0} (g : X → Y) (asks : Y → Answers) (items : Y → Place → Part) (b : TsTypeLit X) (n : TsConstructSignatureDecl X) (type_params : Option (TsTypeParamDeclBox X)) (type_ann : Option (TsTypeAnnBox X)) (rest : Plan) → member_of asks items (map-AnyNode X Y g (as_member b (elements.TsConstructSignatureDecl (record n { type_params = type_params; type_ann = type_ann })))) rest ≡ ts_type_element (λ x. asks (g x)) (λ x. items (g x)) (elements.TsConstructSignatureDecl (record n { type_params = type_params; type_ann = type_ann })) rest
 unfolding ts_type_element ts_signature ts_construct_signature_decl params_behind_new signature_params spaced_annotation
 construct_mapped {X} g asks items b n None None rest = ap (λ z. leading_comments n.span.lo (keyword None (codes "new") (punct (codes "(") z))) (children_mapped {A = TsFnParamBox X} _ (child_of (fn_param_place asks) (fn_param_items items)) (child_of (fn_param_place (λ x. asks (g x))) (fn_param_items (λ x. items (g x)))) (λ x. refl) types_format n.span n.params.items (punct (codes ")") (semi rest)))
-construct_mapped {X} g asks items b n None (Some a) rest = ap (λ z. leading_comments n.span.lo (keyword None (codes "new") (punct (codes "(") z))) (children_mapped {A = TsFnParamBox X} _ (child_of (fn_param_place asks) (fn_param_items items)) (child_of (fn_param_place (λ x. asks (g x))) (fn_param_items (λ x. items (g x)))) (λ x. refl) types_format n.span n.params.items (punct (codes ")") (punct (codes ":") (space (items (g a.node.value) Plain (semi rest))))))
-construct_mapped {X} g asks items b n (Some t) None rest = ap (λ z. leading_comments n.span.lo (keyword None (codes "new") (space (items (g t.node.value) Plain (punct (codes "(") z))))) (children_mapped {A = TsFnParamBox X} _ (child_of (fn_param_place asks) (fn_param_items items)) (child_of (fn_param_place (λ x. asks (g x))) (fn_param_items (λ x. items (g x)))) (λ x. refl) types_format n.span n.params.items (punct (codes ")") (semi rest)))
-construct_mapped {X} g asks items b n (Some t) (Some a) rest = ap (λ z. leading_comments n.span.lo (keyword None (codes "new") (space (items (g t.node.value) Plain (punct (codes "(") z))))) (children_mapped {A = TsFnParamBox X} _ (child_of (fn_param_place asks) (fn_param_items items)) (child_of (fn_param_place (λ x. asks (g x))) (fn_param_items (λ x. items (g x)))) (λ x. refl) types_format n.span n.params.items (punct (codes ")") (punct (codes ":") (space (items (g a.node.value) Plain (semi rest))))))
+construct_mapped {X} g asks items b n None (Some a) rest = ap (λ z. leading_comments n.span.lo (keyword None (codes "new") (punct (codes "(") z))) (children_mapped {A = TsFnParamBox X} _ (child_of (fn_param_place asks) (fn_param_items items)) (child_of (fn_param_place (λ x. asks (g x))) (fn_param_items (λ x. items (g x)))) (λ x. refl) types_format n.span n.params.items (punct (codes ")") (punct (codes ":") (space (items (g a.node.value) (Whole Plain) (semi rest))))))
+construct_mapped {X} g asks items b n (Some t) None rest = ap (λ z. leading_comments n.span.lo (keyword None (codes "new") (space (items (g t.node.value) (Whole Plain) (punct (codes "(") z))))) (children_mapped {A = TsFnParamBox X} _ (child_of (fn_param_place asks) (fn_param_items items)) (child_of (fn_param_place (λ x. asks (g x))) (fn_param_items (λ x. items (g x)))) (λ x. refl) types_format n.span n.params.items (punct (codes ")") (semi rest)))
+construct_mapped {X} g asks items b n (Some t) (Some a) rest = ap (λ z. leading_comments n.span.lo (keyword None (codes "new") (space (items (g t.node.value) (Whole Plain) (punct (codes "(") z))))) (children_mapped {A = TsFnParamBox X} _ (child_of (fn_param_place asks) (fn_param_items items)) (child_of (fn_param_place (λ x. asks (g x))) (fn_param_items (λ x. items (g x)))) (λ x. refl) types_format n.span n.params.items (punct (codes ")") (punct (codes ":") (space (items (g a.node.value) (Whole Plain) (semi rest))))))
 
 method_mapped : {X Y : Type 0} (g : X → Y) (asks : Y → Answers) (items : Y → Place → Part) (b : TsTypeLit X) (n : TsMethodSignature X) (type_params : Option (TsTypeParamDeclBox X)) (type_ann : Option (TsTypeAnnBox X)) (rest : Plan) → member_of asks items (map-AnyNode X Y g (as_member b (elements.TsMethodSignature (record n { type_params = type_params; type_ann = type_ann })))) rest ≡ ts_type_element (λ x. asks (g x)) (λ x. items (g x)) (elements.TsMethodSignature (record n { type_params = type_params; type_ann = type_ann })) rest
 unfolding ts_type_element ts_signature ts_method_signature signature_key type_params signature_params annotation
 method_mapped {X} g asks items b n None None rest = ap (λ z. leading_comments n.span.lo (signature_key (λ x. items (g x)) n.computed n.key (question n.optional (punct (codes "(") z)))) (children_mapped {A = TsFnParamBox X} _ (child_of (fn_param_place asks) (fn_param_items items)) (child_of (fn_param_place (λ x. asks (g x))) (fn_param_items (λ x. items (g x)))) (λ x. refl) types_format n.span n.params.items (punct (codes ")") (semi rest)))
-method_mapped {X} g asks items b n None (Some a) rest = ap (λ z. leading_comments n.span.lo (signature_key (λ x. items (g x)) n.computed n.key (question n.optional (punct (codes "(") z)))) (children_mapped {A = TsFnParamBox X} _ (child_of (fn_param_place asks) (fn_param_items items)) (child_of (fn_param_place (λ x. asks (g x))) (fn_param_items (λ x. items (g x)))) (λ x. refl) types_format n.span n.params.items (punct (codes ")") (punct (codes ":") (formatting_space (items (g a.node.value) Plain (semi rest))))))
-method_mapped {X} g asks items b n (Some t) None rest = ap (λ z. leading_comments n.span.lo (signature_key (λ x. items (g x)) n.computed n.key (question n.optional (items (g t.node.value) Plain (punct (codes "(") z))))) (children_mapped {A = TsFnParamBox X} _ (child_of (fn_param_place asks) (fn_param_items items)) (child_of (fn_param_place (λ x. asks (g x))) (fn_param_items (λ x. items (g x)))) (λ x. refl) types_format n.span n.params.items (punct (codes ")") (semi rest)))
-method_mapped {X} g asks items b n (Some t) (Some a) rest = ap (λ z. leading_comments n.span.lo (signature_key (λ x. items (g x)) n.computed n.key (question n.optional (items (g t.node.value) Plain (punct (codes "(") z))))) (children_mapped {A = TsFnParamBox X} _ (child_of (fn_param_place asks) (fn_param_items items)) (child_of (fn_param_place (λ x. asks (g x))) (fn_param_items (λ x. items (g x)))) (λ x. refl) types_format n.span n.params.items (punct (codes ")") (punct (codes ":") (formatting_space (items (g a.node.value) Plain (semi rest))))))
+method_mapped {X} g asks items b n None (Some a) rest = ap (λ z. leading_comments n.span.lo (signature_key (λ x. items (g x)) n.computed n.key (question n.optional (punct (codes "(") z)))) (children_mapped {A = TsFnParamBox X} _ (child_of (fn_param_place asks) (fn_param_items items)) (child_of (fn_param_place (λ x. asks (g x))) (fn_param_items (λ x. items (g x)))) (λ x. refl) types_format n.span n.params.items (punct (codes ")") (punct (codes ":") (formatting_space (items (g a.node.value) (Whole Plain) (semi rest))))))
+method_mapped {X} g asks items b n (Some t) None rest = ap (λ z. leading_comments n.span.lo (signature_key (λ x. items (g x)) n.computed n.key (question n.optional (items (g t.node.value) (Whole Plain) (punct (codes "(") z))))) (children_mapped {A = TsFnParamBox X} _ (child_of (fn_param_place asks) (fn_param_items items)) (child_of (fn_param_place (λ x. asks (g x))) (fn_param_items (λ x. items (g x)))) (λ x. refl) types_format n.span n.params.items (punct (codes ")") (semi rest)))
+method_mapped {X} g asks items b n (Some t) (Some a) rest = ap (λ z. leading_comments n.span.lo (signature_key (λ x. items (g x)) n.computed n.key (question n.optional (items (g t.node.value) (Whole Plain) (punct (codes "(") z))))) (children_mapped {A = TsFnParamBox X} _ (child_of (fn_param_place asks) (fn_param_items items)) (child_of (fn_param_place (λ x. asks (g x))) (fn_param_items (λ x. items (g x)))) (λ x. refl) types_format n.span n.params.items (punct (codes ")") (punct (codes ":") (formatting_space (items (g a.node.value) (Whole Plain) (semi rest))))))
 
 property_mapped : {X Y : Type 0} (g : X → Y) (asks : Y → Answers) (items : Y → Place → Part) (b : TsTypeLit X) (n : TsPropertySignature X) (type_ann : Option (TsTypeAnnBox X)) (rest : Plan) → member_of asks items (map-AnyNode X Y g (as_member b (elements.TsPropertySignature (record n { type_ann = type_ann })))) rest ≡ ts_type_element (λ x. asks (g x)) (λ x. items (g x)) (elements.TsPropertySignature (record n { type_ann = type_ann })) rest
 unfolding ts_type_element ts_signature ts_property_signature signature_key annotation
@@ -82,7 +82,7 @@ getter_mapped g asks items b n (Some a) rest = refl
 index_mapped : {X Y : Type 0} (g : X → Y) (asks : Y → Answers) (items : Y → Place → Part) (b : TsTypeLit X) (n : TsIndexSignature X) (type_ann : Option (TsTypeAnnBox X)) (rest : Plan) → member_of asks items (map-AnyNode X Y g (as_member b (elements.TsIndexSignature (record n { type_ann = type_ann })))) rest ≡ ts_type_element (λ x. asks (g x)) (λ x. items (g x)) (elements.TsIndexSignature (record n { type_ann = type_ann })) rest
 unfolding ts_type_element ts_signature ts_index_signature annotation
 index_mapped {X} g asks items b n None rest = ap (λ z. leading_comments n.span.lo (word_before n.is_static (codes "static") (readonly_index n.readonly (punct (codes "[") z)))) (children_mapped {A = TsFnParamBox X} _ (child_of (fn_param_place asks) (fn_param_items items)) (child_of (fn_param_place (λ x. asks (g x))) (fn_param_items (λ x. items (g x)))) (λ x. refl) types_format n.span n.params.items (punct (codes "]") (semi rest)))
-index_mapped {X} g asks items b n (Some a) rest = ap (λ z. leading_comments n.span.lo (word_before n.is_static (codes "static") (readonly_index n.readonly (punct (codes "[") z)))) (children_mapped {A = TsFnParamBox X} _ (child_of (fn_param_place asks) (fn_param_items items)) (child_of (fn_param_place (λ x. asks (g x))) (fn_param_items (λ x. items (g x)))) (λ x. refl) types_format n.span n.params.items (punct (codes "]") (punct (codes ":") (formatting_space (items (g a.node.value) Plain (semi rest))))))
+index_mapped {X} g asks items b n (Some a) rest = ap (λ z. leading_comments n.span.lo (word_before n.is_static (codes "static") (readonly_index n.readonly (punct (codes "[") z)))) (children_mapped {A = TsFnParamBox X} _ (child_of (fn_param_place asks) (fn_param_items items)) (child_of (fn_param_place (λ x. asks (g x))) (fn_param_items (λ x. items (g x)))) (λ x. refl) types_format n.span n.params.items (punct (codes "]") (punct (codes ":") (formatting_space (items (g a.node.value) (Whole Plain) (semi rest))))))
 
 -- wherever it stands
 pub type_element_mapped : {X Y : Type 0} (g : X → Y) (asks : Y → Answers) (items : Y → Place → Part) (b : TsTypeLit X) (n : TsTypeElement X) (rest : Plan) → member_of asks items (map-AnyNode X Y g (as_member b n)) rest ≡ ts_type_element (λ x. asks (g x)) (λ x. items (g x)) n rest

@@ -51,8 +51,8 @@ use Rattle.swc_ecma_codegen_grammar.proofs.MappedTypes.{by_param, by_element}
 use Rattle.swc_ecma_codegen_tokens.specs.Run.{Plan, Part}
 use Rattle.swc_ecma_codegen_tokens.specs.Tags.{close}
 use Rattle.swc_ecma_codegen_tokens.specs.Words.{keyword, punct, space, leading_comments}
-use Rattle.swc_ecma_codegen_emit.specs.declared.nodes.Place.{Place}
-use Rattle.swc_ecma_codegen_emit.specs.declared.nodes.Place.TheVariants.{Plain, Reference}
+use Rattle.swc_ecma_codegen_emit.specs.declared.nodes.Context.TheVariants.{Plain, Reference}
+use Rattle.swc_ecma_codegen_emit.specs.Places.{Place, Whole, context_of}
 use Rattle.swc_ecma_codegen_emit.specs.Annotations.{annotation, spaced_annotation, type_args, type_params, types_format, word_before}
 use Rattle.swc_ecma_codegen_emit.specs.Answers.{Answers}
 use Rattle.swc_ecma_codegen_emit.specs.Exprs.{opened, spaced_punct}
@@ -80,13 +80,13 @@ unfolding node_items ts_part ts_entity_name ts_qualified_name
 entity_mapped g asks items (entity_names.TsQualifiedName n) place rest = refl
 entity_mapped g asks items (entity_names.Ident n) place rest = refl
 
-listed_mapped : {X Y : Type 0} (g : X → Y) (asks : Y → Answers) (items : Y → Place → Part) (n : TsTypeParamInstantiation X) (rest : Plan) → node_items asks items (map-AnyNode X Y g (nodes.TsPart (ts_parts.TsTypeParamInstantiation n))) Reference rest ≡ type_arguments (λ x. asks (g x)) (λ x. items (g x)) n rest
+listed_mapped : {X Y : Type 0} (g : X → Y) (asks : Y → Answers) (items : Y → Place → Part) (n : TsTypeParamInstantiation X) (rest : Plan) → node_items asks items (map-AnyNode X Y g (nodes.TsPart (ts_parts.TsTypeParamInstantiation n))) (Whole Reference) rest ≡ type_arguments (λ x. asks (g x)) (λ x. items (g x)) n rest
 unfolding node_items ts_part ts_type_param_instantiation type_arguments
 listed_mapped {X} g asks items n rest = ap (punct (codes "<")) (children_mapped {A = TsTypeBox X} _ (child_of (type_place asks) (type_items items)) (child_of (type_place (λ x. asks (g x))) (type_items (λ x. items (g x)))) (λ x. refl) types_format n.span n.params.items (close rest))
 
-arguments_mapped : {X Y : Type 0} (g : X → Y) (asks : Y → Answers) (items : Y → Place → Part) (n : TsTypeParamInstantiation X) (place : Place) (rest : Plan) → node_items asks items (map-AnyNode X Y g (nodes.TsPart (ts_parts.TsTypeParamInstantiation n))) place rest ≡ ts_type_param_instantiation (λ x. asks (g x)) (λ x. items (g x)) n place rest
+arguments_mapped : {X Y : Type 0} (g : X → Y) (asks : Y → Answers) (items : Y → Place → Part) (n : TsTypeParamInstantiation X) (place : Place) (rest : Plan) → node_items asks items (map-AnyNode X Y g (nodes.TsPart (ts_parts.TsTypeParamInstantiation n))) place rest ≡ ts_type_param_instantiation (λ x. asks (g x)) (λ x. items (g x)) n (context_of place) rest
 unfolding node_items ts_part ts_type_param_instantiation type_arguments
-arguments_mapped g asks items n Reference rest = listed_mapped g asks items n rest
+arguments_mapped g asks items n (Whole Reference) rest = listed_mapped g asks items n rest
 arguments_mapped g asks items n place rest = ap (leading_comments n.span.lo) (listed_mapped g asks items n rest)
 
 params_mapped : {X Y : Type 0} (g : X → Y) (asks : Y → Answers) (items : Y → Place → Part) (n : TsTypeParamDecl X) (place : Place) (rest : Plan) → node_items asks items (map-AnyNode X Y g (nodes.TsPart (ts_parts.TsTypeParamDecl n))) place rest ≡ ts_type_param_decl (λ x. items (g x)) n rest
@@ -112,8 +112,8 @@ param_rest_mapped g asks items n (Some t) place rest = refl
 
 param_object_mapped : {X Y : Type 0} (g : X → Y) (asks : Y → Answers) (items : Y → Place → Part) (n : ObjectPat X) (type_ann : Option (TsTypeAnnBox X)) (place : Place) (rest : Plan) → node_items asks items (map-AnyNode X Y g (nodes.TsPart (ts_parts.TsFnParam (fn_params.Object (record n { type_ann = type_ann }))))) place rest ≡ object_pat (λ x. asks (g x)) (λ x. items (g x)) (record n { type_ann = type_ann }) rest
 unfolding node_items node_span expr_part expr_part_span ts_part ts_fn_param object_pat object_pat_prop object_pat_prop_span key_value_pat_prop_span key_value_pat_prop assign_pat_prop rest_pat initializer binding_ident annotation spaced_annotation
-param_object_mapped {X} {Y} g asks items n None place rest = ap (λ z. opened n.span (punct (codes "{") z)) (children_mapped {A = ObjectPatProp X} _ _ _ (by_cases {X = X} _ (λ p. key_value_same _ _ (asks (g p.value.node.value)).place _ _ (items (g p.value.node.value) Plain) (prop_name_placed g asks p.key) (prop_name_mapped g asks items p.key Plain)) (λ span id. refl) (λ span id x. refl) (λ span id t. refl) (λ span id t x. refl) (λ span dots arg. refl) (λ span dots arg t. refl)) object_pat_format n.span n.props.items _)
-param_object_mapped {X} {Y} g asks items n (Some t) place rest = ap (λ z. opened n.span (punct (codes "{") z)) (children_mapped {A = ObjectPatProp X} _ _ _ (by_cases {X = X} _ (λ p. key_value_same _ _ (asks (g p.value.node.value)).place _ _ (items (g p.value.node.value) Plain) (prop_name_placed g asks p.key) (prop_name_mapped g asks items p.key Plain)) (λ span id. refl) (λ span id x. refl) (λ span id t. refl) (λ span id t x. refl) (λ span dots arg. refl) (λ span dots arg t. refl)) object_pat_format n.span n.props.items _)
+param_object_mapped {X} {Y} g asks items n None place rest = ap (λ z. opened n.span (punct (codes "{") z)) (children_mapped {A = ObjectPatProp X} _ _ _ (by_cases {X = X} _ (λ p. key_value_same _ _ (asks (g p.value.node.value)).place _ _ (items (g p.value.node.value) (Whole Plain)) (prop_name_placed g asks p.key) (prop_name_mapped g asks items p.key (Whole Plain))) (λ span id. refl) (λ span id x. refl) (λ span id t. refl) (λ span id t x. refl) (λ span dots arg. refl) (λ span dots arg t. refl)) object_pat_format n.span n.props.items _)
+param_object_mapped {X} {Y} g asks items n (Some t) place rest = ap (λ z. opened n.span (punct (codes "{") z)) (children_mapped {A = ObjectPatProp X} _ _ _ (by_cases {X = X} _ (λ p. key_value_same _ _ (asks (g p.value.node.value)).place _ _ (items (g p.value.node.value) (Whole Plain)) (prop_name_placed g asks p.key) (prop_name_mapped g asks items p.key (Whole Plain))) (λ span id. refl) (λ span id x. refl) (λ span id t. refl) (λ span id t x. refl) (λ span dots arg. refl) (λ span dots arg t. refl)) object_pat_format n.span n.props.items _)
 
 fn_param_mapped : {X Y : Type 0} (g : X → Y) (asks : Y → Answers) (items : Y → Place → Part) (n : TsFnParam X) (place : Place) (rest : Plan) → node_items asks items (map-AnyNode X Y g (nodes.TsPart (ts_parts.TsFnParam n))) place rest ≡ ts_fn_param (λ x. asks (g x)) (λ x. items (g x)) n rest
 unfolding node_items ts_part ts_fn_param
@@ -131,13 +131,13 @@ ref_mapped g asks items n (Some t) place rest = refl
 
 fn_mapped : {X Y : Type 0} (g : X → Y) (asks : Y → Answers) (items : Y → Place → Part) (b : Box (TsFnOrConstructorType X) Global) (n : TsFnType X) (type_params : Option (TsTypeParamDeclBox X)) (place : Place) (rest : Plan) → node_items asks items (map-AnyNode X Y g (as_type (types.TsFnOrConstructorType (with_value b (function_types.TsFnType (record n { type_params = type_params })))))) place rest ≡ ts_fn_type (λ x. asks (g x)) (λ x. items (g x)) (record n { type_params = type_params }) rest
 unfolding node_items ts_part ts_type ts_fn_or_constructor_type ts_fn_type type_params signature_type
-fn_mapped {X} g asks items b n None place rest = ap (λ z. leading_comments n.span.lo (punct (codes "(") z)) (children_mapped {A = TsFnParamBox X} _ (child_of (fn_param_place asks) (fn_param_items items)) (child_of (fn_param_place (λ x. asks (g x))) (fn_param_items (λ x. items (g x)))) (λ x. refl) types_format n.span n.params.items (punct (codes ")") (spaced_punct (codes "=>") (items (g n.type_ann.node.value) Plain rest))))
-fn_mapped {X} g asks items b n (Some t) place rest = ap (λ z. leading_comments n.span.lo (items (g t.node.value) Plain (punct (codes "(") z))) (children_mapped {A = TsFnParamBox X} _ (child_of (fn_param_place asks) (fn_param_items items)) (child_of (fn_param_place (λ x. asks (g x))) (fn_param_items (λ x. items (g x)))) (λ x. refl) types_format n.span n.params.items (punct (codes ")") (spaced_punct (codes "=>") (items (g n.type_ann.node.value) Plain rest))))
+fn_mapped {X} g asks items b n None place rest = ap (λ z. leading_comments n.span.lo (punct (codes "(") z)) (children_mapped {A = TsFnParamBox X} _ (child_of (fn_param_place asks) (fn_param_items items)) (child_of (fn_param_place (λ x. asks (g x))) (fn_param_items (λ x. items (g x)))) (λ x. refl) types_format n.span n.params.items (punct (codes ")") (spaced_punct (codes "=>") (items (g n.type_ann.node.value) (Whole Plain) rest))))
+fn_mapped {X} g asks items b n (Some t) place rest = ap (λ z. leading_comments n.span.lo (items (g t.node.value) (Whole Plain) (punct (codes "(") z))) (children_mapped {A = TsFnParamBox X} _ (child_of (fn_param_place asks) (fn_param_items items)) (child_of (fn_param_place (λ x. asks (g x))) (fn_param_items (λ x. items (g x)))) (λ x. refl) types_format n.span n.params.items (punct (codes ")") (spaced_punct (codes "=>") (items (g n.type_ann.node.value) (Whole Plain) rest))))
 
 constructor_mapped : {X Y : Type 0} (g : X → Y) (asks : Y → Answers) (items : Y → Place → Part) (b : Box (TsFnOrConstructorType X) Global) (n : TsConstructorType X) (type_params : Option (TsTypeParamDeclBox X)) (place : Place) (rest : Plan) → node_items asks items (map-AnyNode X Y g (as_type (types.TsFnOrConstructorType (with_value b (function_types.TsConstructorType (record n { type_params = type_params })))))) place rest ≡ ts_constructor_type (λ x. asks (g x)) (λ x. items (g x)) (record n { type_params = type_params }) rest
 unfolding node_items ts_part ts_type ts_fn_or_constructor_type ts_constructor_type spaced_params type_params signature_type
-constructor_mapped {X} g asks items b n None place rest = ap (λ z. leading_comments n.span.lo (word_before n.is_abstract (codes "abstract") (keyword None (codes "new") (punct (codes "(") z)))) (children_mapped {A = TsFnParamBox X} _ (child_of (fn_param_place asks) (fn_param_items items)) (child_of (fn_param_place (λ x. asks (g x))) (fn_param_items (λ x. items (g x)))) (λ x. refl) types_format n.span n.params.items (punct (codes ")") (spaced_punct (codes "=>") (items (g n.type_ann.node.value) Plain rest))))
-constructor_mapped {X} g asks items b n (Some t) place rest = ap (λ z. leading_comments n.span.lo (word_before n.is_abstract (codes "abstract") (keyword None (codes "new") (space (items (g t.node.value) Plain (punct (codes "(") z)))))) (children_mapped {A = TsFnParamBox X} _ (child_of (fn_param_place asks) (fn_param_items items)) (child_of (fn_param_place (λ x. asks (g x))) (fn_param_items (λ x. items (g x)))) (λ x. refl) types_format n.span n.params.items (punct (codes ")") (spaced_punct (codes "=>") (items (g n.type_ann.node.value) Plain rest))))
+constructor_mapped {X} g asks items b n None place rest = ap (λ z. leading_comments n.span.lo (word_before n.is_abstract (codes "abstract") (keyword None (codes "new") (punct (codes "(") z)))) (children_mapped {A = TsFnParamBox X} _ (child_of (fn_param_place asks) (fn_param_items items)) (child_of (fn_param_place (λ x. asks (g x))) (fn_param_items (λ x. items (g x)))) (λ x. refl) types_format n.span n.params.items (punct (codes ")") (spaced_punct (codes "=>") (items (g n.type_ann.node.value) (Whole Plain) rest))))
+constructor_mapped {X} g asks items b n (Some t) place rest = ap (λ z. leading_comments n.span.lo (word_before n.is_abstract (codes "abstract") (keyword None (codes "new") (space (items (g t.node.value) (Whole Plain) (punct (codes "(") z)))))) (children_mapped {A = TsFnParamBox X} _ (child_of (fn_param_place asks) (fn_param_items items)) (child_of (fn_param_place (λ x. asks (g x))) (fn_param_items (λ x. items (g x)))) (λ x. refl) types_format n.span n.params.items (punct (codes ")") (spaced_punct (codes "=>") (items (g n.type_ann.node.value) (Whole Plain) rest))))
 
 function_mapped : {X Y : Type 0} (g : X → Y) (asks : Y → Answers) (items : Y → Place → Part) (b : Box (TsFnOrConstructorType X) Global) (n : TsFnOrConstructorType X) (place : Place) (rest : Plan) → node_items asks items (map-AnyNode X Y g (as_type (types.TsFnOrConstructorType (with_value b n)))) place rest ≡ ts_fn_or_constructor_type (λ x. asks (g x)) (λ x. items (g x)) n rest
 unfolding node_items ts_part ts_type ts_fn_or_constructor_type
@@ -253,6 +253,6 @@ ts_part_mapped g asks items (ts_parts.TsTypeParamInstantiation n) place rest = a
 ts_part_mapped g asks items (ts_parts.TsFnParam n) place rest = fn_param_mapped g asks items n place rest
 ts_part_mapped g asks items (ts_parts.TsInterfaceBody n) place rest = interface_body_mapped g asks items n place rest
 ts_part_mapped g asks items (ts_parts.TsEntityName n) place rest = entity_mapped g asks items n place rest
-ts_part_mapped g asks items (ts_parts.TsTypeAnn n) Reference rest = type_mapped g asks items n.type_ann Plain rest
-ts_part_mapped g asks items (ts_parts.TsTypeAnn n) place rest = ap (leading_comments n.span.lo) (type_mapped g asks items n.type_ann Plain rest)
+ts_part_mapped g asks items (ts_parts.TsTypeAnn n) (Whole Reference) rest = type_mapped g asks items n.type_ann (Whole Plain) rest
+ts_part_mapped g asks items (ts_parts.TsTypeAnn n) place rest = ap (leading_comments n.span.lo) (type_mapped g asks items n.type_ann (Whole Plain) rest)
 ts_part_mapped g asks items (ts_parts.TsNamespaceBody n) place rest = namespace_body_mapped g asks items n place rest

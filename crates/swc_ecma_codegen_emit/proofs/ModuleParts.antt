@@ -49,7 +49,8 @@ use Rattle.swc_ecma_codegen_tokens.proofs.Reading.Phrased.{Prints, PrintsAt, pri
 use Rattle.swc_ecma_codegen_tokens.proofs.Reading.Printed.{writes_space, writes_formatting_space, writes_formatting_line, writes_position}
 use Rattle.swc_ecma_codegen_tokens.proofs.Commenting.CommentPrints.{writes_leading, writes_trailing}
 use Rattle.swc_ecma_codegen_tokens.proofs.LiteralTokens.StringPrints.{prints_str}
-use Rattle.swc_ecma_codegen_emit.specs.declared.nodes.Place.TheVariants.{Plain}
+use Rattle.swc_ecma_codegen_emit.specs.declared.nodes.Context.TheVariants.{Plain}
+use Rattle.swc_ecma_codegen_emit.specs.Places.{Whole}
 use Rattle.swc_ecma_codegen_emit.specs.Answers.{place_of}
 use Rattle.swc_ecma_codegen_emit.specs.Exprs.{ident as words_ident}
 use Rattle.swc_ecma_codegen_emit.specs.Lists.{comma}
@@ -251,7 +252,7 @@ unfolding words.attributes lists.attributes
 attributes_print l None = prints_nothing
 attributes_print l (Some n) =
     prints_wider open_ refl
-    (after (writes_formatting_space l.env) (then prints_attributes_word (after (writes_formatting_space l.env) (l.law n.node.value Plain ObjectLiteral))))
+    (after (writes_formatting_space l.env) (then prints_attributes_word (after (writes_formatting_space l.env) (l.law n.node.value (Whole Plain) ObjectLiteral))))
 
 source_end_prints : {X : Type 0} (l : Linked X) (src : Str) (with_ : Option (ObjectLitBox X)) (span : Span) → PrintsAt ended l.env (words.source_end l.items src with_ span) (str_lit src > lists.attributes l.reads with_ > ending)
 unfolding words.source_end
@@ -404,8 +405,8 @@ export_decl_prints : {X : Type 0} (l : Linked X) (n : ExportDecl X) → PrintsAt
 unfolding words.export_decl lists.export_decl
 export_decl_prints l n =
     after (writes_position l.env n.span.lo)
-    (then (l.law n.decl.node.value Plain HeadOfExported)
-    (then (prints_keyword l.env None (codes "export") marks.export_word) (after (writes_space l.env) (l.law n.decl.node.value Plain TailOfExported))))
+    (then (l.law n.decl.node.value (Whole Plain) HeadOfExported)
+    (then (prints_keyword l.env None (codes "export") marks.export_word) (after (writes_space l.env) (l.law n.decl.node.value (Whole Plain) TailOfExported))))
 
 default_decl_prints : {X : Type 0} (l : Linked X) (n : DefaultDecl X) → PrintsAt ended l.env (words.default_decl l.asks l.items n) (lists.default_decl l.reads n)
 unfolding words.default_decl lists.default_decl
@@ -451,7 +452,7 @@ module_decl_prints l n =
 
 item_by_prints : {X : Type 0} (l : Linked X) (n : ModuleItem X) → PrintsAt ended l.env (words.module_item_by l.asks l.items n) (stmt_lists.module_item l.reads n)
 unfolding words.module_item_by stmt_lists.module_item
-item_by_prints l (module_items.ModuleDecl n) = l.law n.node.value Plain ModuleDeclaration
+item_by_prints l (module_items.ModuleDecl n) = l.law n.node.value (Whole Plain) ModuleDeclaration
 item_by_prints l (module_items.Stmt n) = stmt_prints l n
 
 pub module_item_prints : {X : Type 0} (l : Linked X) (n : ModuleItem X) → PrintsAt ended l.env (words.module_item l.asks l.items n) (stmt_lists.module_item l.reads n)

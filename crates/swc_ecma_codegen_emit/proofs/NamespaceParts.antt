@@ -20,7 +20,8 @@ use Rattle.swc_ecma_codegen_tokens.proofs.Reading.Phrased.{Prints, prints_wider,
 use Rattle.swc_ecma_codegen_tokens.proofs.Reading.Printed.{with_room, within_then, punct_within, deeper_within, writes_formatting_space, writes_shallower, MakesAt}
 use Rattle.swc_ecma_codegen_tokens.proofs.Commenting.CommentPrints.{writes_leading}
 use Rattle.swc_ecma_codegen_tokens.proofs.Filling.Shapes.{loose, ended}
-use Rattle.swc_ecma_codegen_emit.specs.declared.nodes.Place.TheVariants.{Plain}
+use Rattle.swc_ecma_codegen_emit.specs.declared.nodes.Context.TheVariants.{Plain}
+use Rattle.swc_ecma_codegen_emit.specs.Places.{Whole}
 use Rattle.swc_ecma_codegen_emit.specs.Answers.{place_of}
 use Rattle.swc_ecma_codegen_emit.specs.Modules as modules
 use Rattle.swc_ecma_codegen_emit.specs.Namespaces as words
@@ -55,7 +56,7 @@ block_prints l n =
 
 dotted_prints : {X : Type 0} (l : Linked X) (n : TsNamespaceDecl X) → Prints l.env (words.dotted_body l.asks l.items (bodies.TsNamespaceDecl n)) (lists.dotted_namespace l.reads n)
 unfolding words.dotted_body lists.dotted_namespace
-dotted_prints l n = prints_where (not n.declare) (λ h. then (prints_punct l.env (codes ".") type_words.dot) (then (ident_prints l n.id) (l.law n.body.node.value Plain DottedBody)))
+dotted_prints l n = prints_where (not n.declare) (λ h. then (prints_punct l.env (codes ".") type_words.dot) (then (ident_prints l n.id) (l.law n.body.node.value (Whole Plain) DottedBody)))
 
 pub dotted_body_prints : {X : Type 0} (l : Linked X) (n : TsNamespaceBody X) → Prints l.env (words.dotted_body l.asks l.items n) (lists.dotted_body l.reads n)
 unfolding words.dotted_body lists.dotted_body

@@ -8,10 +8,9 @@ use Rattle.swc_ecma_codegen_grammar.specs.declared.roles.Role.{Role}
 use Rattle.swc_ecma_codegen_grammar.specs.declared.roles.Role.TheVariants.{AssignmentTarget, Pattern, PlainParameter, PropertyName, ObjectLiteral, Function, FunctionHead, MethodHead, Block, Declaration, VariableDeclaration, ChainCall, Template, TaggedTemplate, ClassHead, ClassWord, ClassTail, Member, MethodDecorators, MethodTail, AccessorTail, ModuleDeclaration, ExportedHead, ExportedTail, AnyType, Annotation, TypeArguments, TypeParameters, EntityName, SignatureParameter, InterfaceBody, NamespaceBody, DottedBody}
 use Rattle.swc_ecma_codegen_grammar.specs.PartPhrases as lists
 use Rattle.swc_ecma_codegen_tokens.proofs.Jsx.TagPrints.{prints_never_on}
-use Rattle.swc_ecma_codegen_emit.specs.declared.nodes.Place.{Place}
 use Rattle.swc_ecma_codegen_emit.specs.Namespaces.{ts_namespace_body}
 use Rattle.swc_ecma_codegen_emit.specs.Parts as words
-use Rattle.swc_ecma_codegen_emit.specs.Places.{placed}
+use Rattle.swc_ecma_codegen_emit.specs.Places.{Place, placed, context_of}
 use Rattle.swc_ecma_codegen_emit.specs.Classes.{class}
 use Rattle.swc_ecma_codegen_emit.specs.Functions.{function}
 use Rattle.swc_ecma_codegen_emit.proofs.BlockParts.{block_stmt_prints}
@@ -38,7 +37,8 @@ part_prints l (expr_parts.Pat n) place Pattern = pat_prints l n
 part_prints l (expr_parts.Pat n) place PlainParameter = plain_prints l n
 part_prints l (expr_parts.ObjectLit n) place ObjectLiteral = object_lit_prints l n
 part_prints l (expr_parts.PropName n) place PropertyName = prop_name_prints l n
-part_prints l (expr_parts.OptCall n) place (ChainCall optional) = chain_call_prints l optional n
+part_prints l (expr_parts.OptCall n) place (ChainCall true) = chain_call_prints l true n
+part_prints l (expr_parts.OptCall n) place (ChainCall false) = chain_call_prints l false n
 part_prints l (expr_parts.AssignTarget n) place AssignmentTarget = assign_target_prints l n
 part_prints l (expr_parts.Tpl n) place Template = tpl_prints l false n
 part_prints l (expr_parts.Tpl n) place TaggedTemplate = tpl_prints l true n
@@ -56,8 +56,8 @@ stmt_part_prints l (stmt_parts.Class n) place ClassHead = class_head_prints l n.
 stmt_part_prints l (stmt_parts.Class n) place ClassWord = class_word_prints l n.value
 stmt_part_prints l (stmt_parts.Class n) place ClassTail = class_tail_prints l n.value
 stmt_part_prints l (stmt_parts.ClassMember n) place Member = class_member_prints l n.value
-stmt_part_prints l (stmt_parts.BlockStmt n) place Block = block_stmt_prints l n place
-stmt_part_prints l (stmt_parts.Decl n) place Declaration = decl_prints l n place
+stmt_part_prints l (stmt_parts.BlockStmt n) place Block = block_stmt_prints l n (context_of place)
+stmt_part_prints l (stmt_parts.Decl n) place Declaration = decl_prints l n (context_of place)
 stmt_part_prints l (stmt_parts.Decl n) place ExportedHead = exported_head_prints l n
 stmt_part_prints l (stmt_parts.Decl n) place ExportedTail = exported_tail_prints l n
 stmt_part_prints l (stmt_parts.ModuleDecl n) place ModuleDeclaration = module_decl_prints l n.value
@@ -67,9 +67,9 @@ stmt_part_prints l n place role = prints_never_on
 pub ts_part_prints : {X : Type 0} (l : Linked X) (n : TsPart X) (place : Place) (role : Role) → PrintsIn role place l.env (words.ts_part l.asks l.items n (placed role place)) (lists.ts_part l.reads n role)
 unfolding words.ts_part lists.ts_part ts_namespace_body
 ts_part_prints l (ts_parts.TsType n) place AnyType = type_prints l n
-ts_part_prints l (ts_parts.TsTypeAnn n) place Annotation = ann_prints l n place
+ts_part_prints l (ts_parts.TsTypeAnn n) place Annotation = ann_prints l n (context_of place)
 ts_part_prints l (ts_parts.TsTypeParamDecl n) place TypeParameters = params_print l n
-ts_part_prints l (ts_parts.TsTypeParamInstantiation n) place TypeArguments = arguments_print l n place
+ts_part_prints l (ts_parts.TsTypeParamInstantiation n) place TypeArguments = arguments_print l n (context_of place)
 ts_part_prints l (ts_parts.TsFnParam n) place SignatureParameter = fn_param_prints l n
 ts_part_prints l (ts_parts.TsInterfaceBody n) place InterfaceBody = interface_body_prints l n
 ts_part_prints l (ts_parts.TsEntityName n) place EntityName = entity_prints l n

@@ -28,7 +28,8 @@ use Rattle.swc_ecma_codegen_tokens.proofs.Listing.ListLaws.{children_of, writes_
 use Rattle.swc_ecma_codegen_tokens.proofs.Reading.Phrased.{Prints, then, after, before, prints_nothing, prints_never, prints_punct, prints_placed_punct, prints_regrouped, PrintsAt, prints_wider, loosened}
 use Rattle.swc_ecma_codegen_tokens.proofs.Reading.Printed.{writes_formatting_space, writes_position}
 use Rattle.swc_ecma_codegen_tokens.proofs.Commenting.CommentPrints.{writes_leading, writes_trailing}
-use Rattle.swc_ecma_codegen_emit.specs.declared.nodes.Place.TheVariants.{Plain}
+use Rattle.swc_ecma_codegen_emit.specs.declared.nodes.Context.TheVariants.{Plain}
+use Rattle.swc_ecma_codegen_emit.specs.Places.{Whole}
 use Rattle.swc_ecma_codegen_emit.specs.Annotations.{spaced_annotation}
 use Rattle.swc_ecma_codegen_emit.specs.Answers.{place_of}
 use Rattle.swc_ecma_codegen_emit.specs.Lists.{if_some_at}
@@ -49,7 +50,7 @@ initializer_prints l (Some n) = prints_wider open_ refl (then (spaced_prints l.e
 
 -- ---- arrays
 
-element_prints : {X : Type 0} (l : Linked X) (n : Option (PatBox X)) → PrintsAt open_ l.env (if_some_at (pat_items l.items) n Plain) (element (lists.pat_at l.reads) n)
+element_prints : {X : Type 0} (l : Linked X) (n : Option (PatBox X)) → PrintsAt open_ l.env (if_some_at (pat_items l.items) n (Whole Plain)) (element (lists.pat_at l.reads) n)
 unfolding if_some_at element
 element_prints l None = prints_nothing
 element_prints l (Some n) = prints_wider open_ refl (pat_at l n)
@@ -69,14 +70,14 @@ is_flat true = refl
 is_flat false = refl
 
 abbrev elements_list : {X : Type 0} → Linked X → Span → List (Option (PatBox X)) → Part
-elements_list l parent xs = list (array_pat_format (last_is_hole xs)) parent (children_of (option_span (pat_place l.asks)) (λ o. if_some_at (pat_items l.items) o Plain) xs)
+elements_list l parent xs = list (array_pat_format (last_is_hole xs)) parent (children_of (option_span (pat_place l.asks)) (λ o. if_some_at (pat_items l.items) o (Whole Plain)) xs)
 
 elements_prints : {X : Type 0} (l : Linked X) (parent : Span) (close : Part) → Prints l.env close (mark (codes "]")) → (xs : List (Option (PatBox X))) → PrintsAt closed l.env (λ rest. elements_list l parent xs (close rest)) (phrases.listed (codes ",") (map (element (lists.pat_at l.reads)) xs) > elements_end (last_is_hole xs) xs)
 unfolding phrases.listed elements_end closing_of closing_mark last_is_hole
 elements_prints l parent close h [] = after (writes_no_list l.env (array_pat_format false) parent) (then prints_nothing h)
 elements_prints l parent close h (x ∷ xs) =
     let hole : Bool = last_is_hole (x ∷ xs) in
-    prints_some l.env (array_pat_format hole) parent (option_span (pat_place l.asks)) (λ o. if_some_at (pat_items l.items) o Plain) (element (lists.pat_at l.reads)) (elements_end hole (x ∷ xs)) close
+    prints_some l.env (array_pat_format hole) parent (option_span (pat_place l.asks)) (λ o. if_some_at (pat_items l.items) o (Whole Plain)) (element (lists.pat_at l.reads)) (elements_end hole (x ∷ xs)) close
     (λ n. prints_wider loose refl (element_prints l n)) (is_list hole) (is_flat hole) (λ last. end_prints l.env hole parent last close h x xs) x xs
 
 -- one part more behind a list and its end: `Then` is right-associated

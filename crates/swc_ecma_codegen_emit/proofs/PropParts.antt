@@ -29,7 +29,9 @@ use Rattle.swc_ecma_codegen_tokens.proofs.Emission.Emitting.{minified_same, pret
 use Rattle.swc_ecma_codegen_tokens.proofs.Listing.ListLaws.{children_of, prints_list, prints_bracketed}
 use Rattle.swc_ecma_codegen_tokens.proofs.Reading.Phrased.{Prints, then, after, before, prints_nothing, prints_same, prints_by_maps, prints_keyword, prints_punct, PrintsAt, prints_wider}
 use Rattle.swc_ecma_codegen_tokens.proofs.Reading.Printed.{writes_if, writes_nothing, writes_formatting_space, writes_line, writes_position, writes_position_before, Fills}
-use Rattle.swc_ecma_codegen_emit.specs.declared.nodes.Place.TheVariants.{Plain, DeclarationTail}
+use Rattle.swc_ecma_codegen_emit.specs.declared.nodes.Context.TheVariants.{Plain}
+use Rattle.swc_ecma_codegen_emit.specs.declared.nodes.Piece.TheVariants.{DeclarationTail}
+use Rattle.swc_ecma_codegen_emit.specs.Places.{Whole, Only}
 use Rattle.swc_ecma_codegen_emit.specs.Answers.{place_of}
 use Rattle.swc_ecma_codegen_emit.specs.Props as words
 use Rattle.swc_ecma_codegen_emit.specs.Props.{object_format, flat_object_format}
@@ -74,7 +76,7 @@ body_prints l (Some n) = prints_wider open_ refl (block_at l n Plain)
 tight_annotation_prints : {X : Type 0} (l : Linked X) (n : Option (TsTypeAnnBox X)) → PrintsAt open_ l.env (words.tight_annotation l.items n) (annotation l.reads n)
 unfolding words.tight_annotation annotation
 tight_annotation_prints l None = prints_nothing
-tight_annotation_prints l (Some n) = prints_wider open_ refl (then (prints_punct l.env (codes ":") marks.colon) (l.law n.node.value Plain Annotation))
+tight_annotation_prints l (Some n) = prints_wider open_ refl (then (prints_punct l.env (codes ":") marks.colon) (l.law n.node.value (Whole Plain) Annotation))
 
 getter_prints : {X : Type 0} (l : Linked X) (n : GetterProp X) → Prints l.env (words.getter_prop l.asks l.items n) (lists.getter_prop l.reads n)
 unfolding words.getter_prop words.accessor lists.getter_prop
@@ -105,8 +107,8 @@ method_prints : {X : Type 0} (l : Linked X) (n : MethodProp X) → PrintsAt ende
 unfolding words.method_prop lists.method_prop
 method_prints l n =
     after (writes_opened l.env (prop_name_span n.key))
-    (then (l.law n.function.node.value Plain MethodHead)
-    (then (before (prop_name_prints l n.key) (writes_formatting_space l.env)) (l.law n.function.node.value DeclarationTail Function)))
+    (then (l.law n.function.node.value (Whole Plain) MethodHead)
+    (then (before (prop_name_prints l n.key) (writes_formatting_space l.env)) (l.law n.function.node.value (Only DeclarationTail) Function)))
 
 prop_prints : {X : Type 0} (l : Linked X) (n : Prop X) → PrintsAt ended l.env (words.prop l.asks l.items n) (lists.prop l.reads n)
 unfolding words.prop lists.prop

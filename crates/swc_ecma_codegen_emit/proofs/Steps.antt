@@ -8,7 +8,7 @@ use Rattle.swc_ecma_codegen_tree.specs.declared.modules.ImportSpecifier.{ImportS
 use Rattle.swc_ecma_codegen_tokens.specs.Run.{Plan, Part}
 use Rattle.swc_ecma_codegen_common.specs.declared.positions.Span.{Span}
 use Rattle.swc_ecma_codegen_tokens.specs.Lists.{ListChild, more_children, last_place, next_child, list_closing, list_after, list, level_if, list_levels}
-use Rattle.swc_ecma_codegen_emit.specs.declared.nodes.Place.{Place}
+use Rattle.swc_ecma_codegen_emit.specs.Places.{Place}
 use Rattle.swc_ecma_codegen_tree.specs.declared.exprs.TplElement.{TplElement}
 use Rattle.swc_ecma_codegen_grammar.specs.TemplatePhrases.{part_before}
 use Rattle.swc_ecma_codegen_tokens.specs.Templates.{tpl_element}

@@ -13,7 +13,8 @@ use Rattle.swc_ecma_codegen_tokens.proofs.Filling.Shapes.{open_}
 use Rattle.swc_ecma_codegen_tokens.proofs.Reading.Printed.{writes_position}
 use Rattle.swc_ecma_codegen_tokens.proofs.Commenting.CommentPrints.{writes_leading}
 use Rattle.swc_ecma_codegen_tokens.proofs.LiteralTokens.TemplatePrints.{tpl_element_prints}
-use Rattle.swc_ecma_codegen_emit.specs.declared.nodes.Place.TheVariants.{Plain, Callee}
+use Rattle.swc_ecma_codegen_emit.specs.declared.nodes.Context.TheVariants.{Plain, Callee}
+use Rattle.swc_ecma_codegen_emit.specs.Places.{Whole}
 use Rattle.swc_ecma_codegen_grammar.specs.CallPhrases.{value_at}
 use Rattle.swc_ecma_codegen_emit.specs.Exprs.{held}
 use Rattle.swc_ecma_codegen_emit.specs.Templates as words
@@ -57,5 +58,5 @@ unfolding words.tagged_tpl lists.tagged_tpl
 tagged_tpl_prints l n =
     after (writes_leading l.env n.span.lo)
     (after (writes_position l.env n.span.lo)
-    (then (l.law n.tag.node.value Callee IsCallee)
-    (then (type_args_print l Plain n.type_params) (before (l.law n.tpl.node.value Plain TaggedTemplate) (writes_position l.env n.span.hi)))))
+    (then (l.law n.tag.node.value (Whole Callee) IsCallee)
+    (then (type_args_print l Plain n.type_params) (before (l.law n.tpl.node.value (Whole Plain) TaggedTemplate) (writes_position l.env n.span.hi)))))

@@ -13,13 +13,13 @@ use Rattle.swc_ecma_codegen_grammar.proofs.TreeLaws.{phrase_of}
 use Rattle.swc_ecma_codegen_tokens.specs.Run.{Env, Part}
 use Rattle.swc_ecma_codegen_tokens.proofs.Filling.Lengths.{at_length}
 use Rattle.swc_ecma_codegen_tokens.proofs.Jsx.TagPrints.{prints_never_on}
-use Rattle.swc_ecma_codegen_emit.specs.declared.nodes.Place.{Place}
-use Rattle.swc_ecma_codegen_emit.specs.declared.nodes.Place.TheVariants.{Object, DottedObject, Callee, FieldValue}
+use Rattle.swc_ecma_codegen_emit.specs.declared.nodes.Context.{Context}
+use Rattle.swc_ecma_codegen_emit.specs.declared.nodes.Context.TheVariants.{Object, DottedObject, Callee, FieldValue}
 use Rattle.swc_ecma_codegen_emit.specs.Answers.{any_answers}
 use Rattle.swc_ecma_codegen_emit.specs.Exprs.{member_at}
 use Rattle.swc_ecma_codegen_emit.specs.AnyExpr.{is_field_value}
 use Rattle.swc_ecma_codegen_emit.specs.Calls.{keeps_arguments}
-use Rattle.swc_ecma_codegen_emit.specs.Places.{placed, outside, inside}
+use Rattle.swc_ecma_codegen_emit.specs.Places.{Place, placed, outside, inside, context_of}
 use Rattle.swc_ecma_codegen_emit.specs.Tree.{node_items, any_items}
 use Rattle.swc_ecma_codegen_emit.proofs.MappedNodes.{items_of}
 use Rattle.swc_ecma_codegen_emit.proofs.Linked.{Linked, PrintsIn}
@@ -31,42 +31,43 @@ use Rattle.swc_ecma_codegen_emit.proofs.PatternLaws.{plain_reads}
 use Rattle.swc_ecma_codegen_emit.proofs.StmtParts.{stmt_prints}
 
 -- `new A()` keeps its parentheses inside of a callee alone
-outside_leaves : (place : Place) → keeps_arguments (outside place) ≡ false
+outside_leaves : (context : Context) → keeps_arguments (outside context) ≡ false
 outside_leaves Object = refl
 outside_leaves (DottedObject prop) = refl
 outside_leaves Callee = refl
 outside_leaves FieldValue = refl
-outside_leaves place = refl
+outside_leaves context = refl
 
-inside_keeps : (place : Place) → keeps_arguments (inside place) ≡ true
+inside_keeps : (context : Context) → keeps_arguments (inside context) ≡ true
 inside_keeps Object = refl
 inside_keeps (DottedObject prop) = refl
-inside_keeps place = refl
+inside_keeps context = refl
 
 -- neither of the two is the place of a field's value
-outside_elsewhere : (place : Place) → is_field_value (outside place) ≡ false
+outside_elsewhere : (context : Context) → is_field_value (outside context) ≡ false
 unfolding is_field_value
 outside_elsewhere Object = refl
 outside_elsewhere (DottedObject prop) = refl
 outside_elsewhere Callee = refl
 outside_elsewhere FieldValue = refl
-outside_elsewhere place = refl
+outside_elsewhere context = refl
 
-inside_elsewhere : (place : Place) → is_field_value (inside place) ≡ false
+inside_elsewhere : (context : Context) → is_field_value (inside context) ≡ false
 unfolding is_field_value
 inside_elsewhere Object = refl
 inside_elsewhere (DottedObject prop) = refl
-inside_elsewhere place = refl
+inside_elsewhere context = refl
 
 -- one node, in its role: in any other it is Never
 node_prints : {X : Type 0} (l : Linked X) (n : AnyNode-F X) (place : Place) (role : Role) → PrintsIn role place l.env (node_items l.asks l.items n (placed role place)) (node_phrase l.reads n role)
 unfolding node_items node_phrase member_at
-node_prints l (nodes.Expr n) place Expression = unwrapped_prints l n (outside place) (outside_elsewhere place) (plain_expr_prints l n (outside place) (outside_leaves place))
-node_prints l (nodes.Expr n) place IsCallee = unwrapped_prints l n (inside place) (inside_elsewhere place) (callee_expr_prints l n (inside place) (inside_keeps place))
+node_prints l (nodes.Expr n) place Expression = unwrapped_prints l n (outside (context_of place)) (outside_elsewhere (context_of place)) (plain_expr_prints l n (outside (context_of place)) (outside_leaves (context_of place)))
+node_prints l (nodes.Expr n) place IsCallee = unwrapped_prints l n (inside (context_of place)) (inside_elsewhere (context_of place)) (callee_expr_prints l n (inside (context_of place)) (inside_keeps (context_of place)))
 node_prints l (nodes.Expr n) place ValueOfField = field_value_prints l n
 node_prints l (nodes.Stmt n) place Statement = stmt_prints l n
 node_prints l (nodes.MemberExpr n) place MemberExpression = member_prints l n
-node_prints l (nodes.MemberExpr n) place (ChainMember optional) = chain_member_prints l optional n
+node_prints l (nodes.MemberExpr n) place (ChainMember true) = chain_member_prints l true n
+node_prints l (nodes.MemberExpr n) place (ChainMember false) = chain_member_prints l false n
 node_prints l (nodes.ExprPart n) place role = part_prints l n place role
 node_prints l (nodes.StmtPart n) place role = stmt_part_prints l n place role
 node_prints l (nodes.JSXPart n) place role = jsx_part_prints l n place role

@@ -29,7 +29,8 @@ use Rattle.swc_ecma_codegen_tokens.proofs.Reading.Printed.{writes_space, writes_
 use Rattle.swc_ecma_codegen_tokens.proofs.Commenting.CommentPrints.{writes_leading}
 use Rattle.swc_ecma_codegen_tokens.proofs.Filling.Shapes.{open_, ended_if_any, ended}
 use Rattle.swc_ecma_codegen_tokens.proofs.LiteralTokens.StringPrints.{prints_str}
-use Rattle.swc_ecma_codegen_emit.specs.declared.nodes.Place.TheVariants.{Plain}
+use Rattle.swc_ecma_codegen_emit.specs.declared.nodes.Context.TheVariants.{Plain}
+use Rattle.swc_ecma_codegen_emit.specs.Places.{Whole}
 use Rattle.swc_ecma_codegen_emit.specs.TsDecls as words
 use Rattle.swc_ecma_codegen_emit.specs.TsDecls.{extended_format, extended_place, enum_format, enum_member_place}
 use Rattle.swc_ecma_codegen_emit.proofs.AnnotationParts.{type_args_print, type_params_print, word_before_prints, word_space_prints, no_line}
@@ -67,7 +68,7 @@ interface_prints l n =
     (then (word_space_prints l.env (codes "interface") decl_words.interface_word)
     (then (ident_prints l n.id)
     (then (type_params_print l n.type_params)
-    (then (extends_print l n.span n.extends.items) (after (writes_formatting_space l.env) (l.law n.body.node.value Plain InterfaceBody)))))))
+    (then (extends_print l n.span n.extends.items) (after (writes_formatting_space l.env) (l.law n.body.node.value (Whole Plain) InterfaceBody)))))))
 
 pub alias_prints : {X : Type 0} (l : Linked X) (n : TsTypeAliasDecl X) → PrintsAt ended l.env (words.ts_type_alias_decl l.items n) (lists.ts_type_alias_decl l.reads n)
 unfolding words.ts_type_alias_decl lists.ts_type_alias_decl
@@ -117,7 +118,7 @@ module_head_prints l false n = module_name_prints l n
 module_tail_prints : {X : Type 0} (l : Linked X) (n : Option (TsNamespaceBodyBox X)) → PrintsAt ended l.env (words.module_tail l.items n) (lists.module_tail l.reads n)
 unfolding words.module_tail lists.module_tail
 module_tail_prints l None = prints_semi l.env
-module_tail_prints l (Some n) = prints_wider ended refl (l.law n.node.value Plain DottedBody)
+module_tail_prints l (Some n) = prints_wider ended refl (l.law n.node.value (Whole Plain) DottedBody)
 
 pub module_prints : {X : Type 0} (l : Linked X) (n : TsModuleDecl X) → PrintsAt ended l.env (words.ts_module_decl l.items n) (lists.ts_module_decl l.reads n)
 unfolding words.ts_module_decl lists.ts_module_decl

@@ -13,7 +13,8 @@ use Rattle.swc_ecma_codegen_tokens.proofs.Reading.Phrased.{Prints, then, after, 
 use Rattle.swc_ecma_codegen_tokens.proofs.Reading.Printed.{writes_space}
 use Rattle.swc_ecma_codegen_tokens.proofs.Commenting.CommentPrints.{writes_leading}
 use Rattle.swc_ecma_codegen_tokens.proofs.Jsx.TagPrints.{prints_spots}
-use Rattle.swc_ecma_codegen_emit.specs.declared.nodes.Place.TheVariants.{Plain}
+use Rattle.swc_ecma_codegen_emit.specs.declared.nodes.Context.TheVariants.{Plain}
+use Rattle.swc_ecma_codegen_emit.specs.Places.{Whole}
 use Rattle.swc_ecma_codegen_emit.specs.TsExprs as words
 use Rattle.swc_ecma_codegen_emit.proofs.AnnotationParts.{word_space_prints}
 use Rattle.swc_ecma_codegen_emit.proofs.Linked.{Linked, expr_at}
@@ -58,4 +59,4 @@ pub instantiation_prints : {X : Type 0} (l : Linked X) (n : TsInstantiation X) â
 unfolding words.ts_instantiation lists.ts_instantiation
 instantiation_prints l n =
     after (writes_leading l.env n.span.lo)
-    (then (expr_at l n.expr Plain) (prints_spots Anything Anything refl refl (l.law n.type_args.node.value Plain TypeArguments)))
+    (then (expr_at l n.expr Plain) (prints_spots Anything Anything refl refl (l.law n.type_args.node.value (Whole Plain) TypeArguments)))

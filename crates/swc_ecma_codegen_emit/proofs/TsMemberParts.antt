@@ -28,7 +28,8 @@ use Rattle.swc_ecma_codegen_tokens.proofs.Reading.Phrased.{Prints, PrintsAt, pri
 use Rattle.swc_ecma_codegen_tokens.proofs.Reading.Printed.{writes_space, writes_formatting_space}
 use Rattle.swc_ecma_codegen_tokens.proofs.Commenting.CommentPrints.{writes_leading}
 use Rattle.swc_ecma_codegen_tokens.proofs.Filling.Shapes.{open_, ended, loose}
-use Rattle.swc_ecma_codegen_emit.specs.declared.nodes.Place.TheVariants.{Plain, Reference}
+use Rattle.swc_ecma_codegen_emit.specs.declared.nodes.Context.TheVariants.{Plain, Reference}
+use Rattle.swc_ecma_codegen_emit.specs.Places.{Whole}
 use Rattle.swc_ecma_codegen_emit.specs.TsMembers as words
 use Rattle.swc_ecma_codegen_emit.specs.TsMembers.{interface_format, fn_param_place, fn_param_items}
 use Rattle.swc_ecma_codegen_emit.specs.Annotations.{types_format}
@@ -45,10 +46,10 @@ key_prints l true n = then (prints_punct l.env (codes "[") marks.left_bracket) (
 key_prints l false n = expr_at l n Plain
 
 -- parameters in brackets, and what stands behind them
-bracketed_prints : {X : Type 0} (l : Linked X) (first last : List ℕ) → allows_break last ≡ false → IsMark first → IsMark last → (span : Span) (ns : List (TsFnParamBox X)) {p : Part} {f : Phrase} → PrintsAt open_ l.env p f → Prints l.env (λ rest. punct first (list types_format span (map (λ n. record { place = fn_param_place l.asks n; part = fn_param_items l.items n Plain }) ns) (punct last (p rest)))) (mark first > lists.signature_params l.reads ns > mark last > f)
+bracketed_prints : {X : Type 0} (l : Linked X) (first last : List ℕ) → allows_break last ≡ false → IsMark first → IsMark last → (span : Span) (ns : List (TsFnParamBox X)) {p : Part} {f : Phrase} → PrintsAt open_ l.env p f → Prints l.env (λ rest. punct first (list types_format span (map (λ n. record { place = fn_param_place l.asks n; part = fn_param_items l.items n (Whole Plain) }) ns) (punct last (p rest)))) (mark first > lists.signature_params l.reads ns > mark last > f)
 bracketed_prints l first last u o c span ns {p} {f} h =
-    prints_bracketed l.env first o (λ rest. rest) (no_line l.env) types_format span (fn_param_place l.asks) (λ n. fn_param_items l.items n Plain) (signature_param_at l.reads) (mark last > f) (λ rest. punct last (p rest))
-    (λ n. loosened (l.law n.node.value Plain SignatureParameter)) refl refl refl (then (prints_unbroken l.env last u c) h) ns
+    prints_bracketed l.env first o (λ rest. rest) (no_line l.env) types_format span (fn_param_place l.asks) (λ n. fn_param_items l.items n (Whole Plain)) (signature_param_at l.reads) (mark last > f) (λ rest. punct last (p rest))
+    (λ n. loosened (l.law n.node.value (Whole Plain) SignatureParameter)) refl refl refl (then (prints_unbroken l.env last u c) h) ns
 
 signature_prints : {X : Type 0} (l : Linked X) (span : Span) (ns : List (TsFnParamBox X)) {p : Part} {f : Phrase} → PrintsAt open_ l.env p f → Prints l.env (λ rest. words.signature_params l.asks l.items span ns (p rest)) (mark (codes "(") > lists.signature_params l.reads ns > mark (codes ")") > f)
 unfolding words.signature_params
@@ -62,12 +63,12 @@ annotation_between_prints l (Some n) = prints_wider open_ refl (then (between_pr
 params_behind_new_print : {X : Type 0} (l : Linked X) (n : Option (TsTypeParamDeclBox X)) → PrintsAt open_ l.env (words.params_behind_new l.items n) (annotations.type_params l.reads n)
 unfolding words.params_behind_new annotations.type_params
 params_behind_new_print l None = prints_nothing
-params_behind_new_print l (Some n) = prints_wider open_ refl (after (writes_space l.env) (l.law n.node.value Plain TypeParameters))
+params_behind_new_print l (Some n) = prints_wider open_ refl (after (writes_space l.env) (l.law n.node.value (Whole Plain) TypeParameters))
 
 getter_annotation_prints : {X : Type 0} (l : Linked X) (n : Option (TsTypeAnnBox X)) → PrintsAt open_ l.env (words.getter_annotation l.items n) (annotations.annotation l.reads n)
 unfolding words.getter_annotation annotations.annotation
 getter_annotation_prints l None = prints_nothing
-getter_annotation_prints l (Some n) = prints_wider open_ refl (then (before (prints_punct l.env (codes ":") marks.colon) (writes_formatting_space l.env)) (l.law n.node.value Reference Annotation))
+getter_annotation_prints l (Some n) = prints_wider open_ refl (then (before (prints_punct l.env (codes ":") marks.colon) (writes_formatting_space l.env)) (l.law n.node.value (Whole Reference) Annotation))
 
 readonly_index_prints : (env : Env) (wanted : Bool) → PrintsAt open_ env (words.readonly_index wanted) (word_if wanted (word (codes "readonly")))
 unfolding words.readonly_index word_if
@@ -108,7 +109,7 @@ setter_prints l n =
     then (word_space_prints l.env (codes "set") marks.set_word)
     (then (key_prints l n.computed n.key)
     (then (prints_punct l.env (codes "(") marks.left_parenthesis)
-    (then (l.law n.param.node.value Plain SignatureParameter) (prints_punct l.env (codes ")") marks.right_parenthesis))))
+    (then (l.law n.param.node.value (Whole Plain) SignatureParameter) (prints_punct l.env (codes ")") marks.right_parenthesis))))
 
 method_prints : {X : Type 0} (l : Linked X) (n : TsMethodSignature X) → Prints l.env (words.ts_method_signature l.asks l.items n) (lists.ts_method_signature l.reads n)
 unfolding words.ts_method_signature lists.ts_method_signature
@@ -149,5 +150,5 @@ pub interface_body_prints : {X : Type 0} (l : Linked X) (n : TsInterfaceBody X) 
 unfolding words.ts_interface_body lists.ts_interface_body
 interface_body_prints l n =
     after (writes_leading l.env n.span.lo)
-    (prints_bracketed_in_order l.env (codes "{") marks.left_brace (λ rest. rest) (no_line l.env) interface_format n.span ts_type_element_span (λ m. words.member_items l.asks l.items m Plain) (lists.ts_type_element l.reads)
+    (prints_bracketed_in_order l.env (codes "{") marks.left_brace (λ rest. rest) (no_line l.env) interface_format n.span ts_type_element_span (λ m. words.member_items l.asks l.items m (Whole Plain)) (lists.ts_type_element l.reads)
     (mark (codes "}")) (punct (codes "}")) (λ m. prints_wider loose refl (type_element_prints l m)) members_undelimited (prints_punct l.env (codes "}") marks.right_brace) n.body.items)

@@ -80,8 +80,9 @@ use Rattle.swc_ecma_codegen_tokens.proofs.Commenting.CommentPrints.{writes_leadi
 use Rattle.swc_ecma_codegen_tokens.proofs.Filling.Shapes.{open_, whole, ended, closed, loose}
 use Rattle.swc_ecma_codegen_tokens.proofs.LiteralTokens.StringPrints.{prints_str}
 use Rattle.swc_ecma_codegen_tokens.proofs.Jsx.TagPrints.{prints_named_mark}
-use Rattle.swc_ecma_codegen_emit.specs.declared.nodes.Place.{Place}
-use Rattle.swc_ecma_codegen_emit.specs.declared.nodes.Place.TheVariants.{Plain, Reference}
+use Rattle.swc_ecma_codegen_emit.specs.declared.nodes.Context.{Context}
+use Rattle.swc_ecma_codegen_emit.specs.declared.nodes.Context.TheVariants.{Plain, Reference}
+use Rattle.swc_ecma_codegen_emit.specs.Places.{Whole}
 use Rattle.swc_ecma_codegen_emit.specs.Annotations.{type_params, types_format}
 use Rattle.swc_ecma_codegen_emit.specs.Exprs.{spaced_punct}
 use Rattle.swc_ecma_codegen_emit.specs.TsMembers.{fn_param_place, fn_param_items, member_items}
@@ -98,10 +99,10 @@ use Rattle.swc_ecma_codegen_emit.proofs.TsMemberParts.{type_element_prints}
 use Rattle.swc_ecma_codegen_emit.proofs.TypeWords as type_words
 
 pub type_at : {X : Type 0} (l : Linked X) (n : TsTypeBox X) → Prints l.env (words.type_at l.items n) (lists.type_at l.reads n)
-type_at l n = l.law n.node.value Plain AnyType
+type_at l n = l.law n.node.value (Whole Plain) AnyType
 
-pub entity_at : {X : Type 0} (l : Linked X) (n : TsEntityNameBox X) → Prints l.env (l.items n.node.value Plain) (l.reads n.node.value EntityName)
-entity_at l n = l.law n.node.value Plain EntityName
+pub entity_at : {X : Type 0} (l : Linked X) (n : TsEntityNameBox X) → Prints l.env (l.items n.node.value (Whole Plain)) (l.reads n.node.value EntityName)
+entity_at l n = l.law n.node.value (Whole Plain) EntityName
 
 behind_prints : {X : Type 0} (l : Linked X) (t : List ℕ) → IsWord t → (n : Option (TsTypeBox X)) → PrintsAt open_ l.env (words.type_behind l.items t n) (lists.type_behind l.reads (word t) n)
 unfolding words.type_behind lists.type_behind
@@ -143,12 +144,12 @@ named_list env parent place part e law (x ∷ xs) = then_on (named_less env) (th
 
 type_arguments_print : {X : Type 0} (l : Linked X) (n : TsTypeParamInstantiation X) → PrintsOn InName Anything whole l.env (words.type_arguments l.asks l.items n) (lists.ts_type_param_instantiation l.reads n)
 unfolding words.type_arguments lists.ts_type_param_instantiation
-type_arguments_print l n = named_list l.env n.span (words.type_place l.asks) (λ x. words.type_items l.items x Plain) (lists.type_at l.reads) (type_at l) n.params.items
+type_arguments_print l n = named_list l.env n.span (words.type_place l.asks) (λ x. words.type_items l.items x (Whole Plain)) (lists.type_at l.reads) (type_at l) n.params.items
 
-pub arguments_print : {X : Type 0} (l : Linked X) (n : TsTypeParamInstantiation X) (place : Place) → PrintsOn InName Anything whole l.env (words.ts_type_param_instantiation l.asks l.items n place) (lists.ts_type_param_instantiation l.reads n)
+pub arguments_print : {X : Type 0} (l : Linked X) (n : TsTypeParamInstantiation X) (context : Context) → PrintsOn InName Anything whole l.env (words.ts_type_param_instantiation l.asks l.items n context) (lists.ts_type_param_instantiation l.reads n)
 unfolding words.ts_type_param_instantiation
 arguments_print l n Reference = type_arguments_print l n
-arguments_print l n place = after_on (writes_named_leading l.env n.span.lo) (type_arguments_print l n)
+arguments_print l n context = after_on (writes_named_leading l.env n.span.lo) (type_arguments_print l n)
 
 param_prints : {X : Type 0} (l : Linked X) (n : TsTypeParam X) → Prints l.env (words.ts_type_param l.items n) (lists.ts_type_param l.reads n)
 unfolding words.ts_type_param lists.ts_type_param
@@ -202,9 +203,9 @@ fn_param_prints l (fn_params.Object n) = object_pat_prints l n
 signature_prints : {X : Type 0} (l : Linked X) (span : Span) (ns : List (TsFnParamBox X)) (result : TsTypeAnnBox X) → Prints l.env (words.signature_type l.asks l.items span ns result) (mark (codes "(") > phrases.listed (codes ",") (map (signature_param_at l.reads) ns) > mark (codes ")") > mark (codes "=>") > lists.ann_at l.reads result)
 unfolding words.signature_type
 signature_prints l span ns result =
-    prints_bracketed l.env (codes "(") marks.left_parenthesis (λ rest. rest) (no_line l.env) types_format span (fn_param_place l.asks) (λ x. fn_param_items l.items x Plain) (signature_param_at l.reads)
-    (mark (codes ")") > mark (codes "=>") > lists.ann_at l.reads result) (λ rest. punct (codes ")") (spaced_punct (codes "=>") (l.items result.node.value Plain rest)))
-    (λ n. loosened (l.law n.node.value Plain SignatureParameter)) refl refl refl
+    prints_bracketed l.env (codes "(") marks.left_parenthesis (λ rest. rest) (no_line l.env) types_format span (fn_param_place l.asks) (λ x. fn_param_items l.items x (Whole Plain)) (signature_param_at l.reads)
+    (mark (codes ")") > mark (codes "=>") > lists.ann_at l.reads result) (λ rest. punct (codes ")") (spaced_punct (codes "=>") (l.items result.node.value (Whole Plain) rest)))
+    (λ n. loosened (l.law n.node.value (Whole Plain) SignatureParameter)) refl refl refl
     (then (prints_punct l.env (codes ")") marks.right_parenthesis) (then (spaced_prints l.env (codes "=>") refl marks.arrow) (ann_at l result))) ns
 
 fn_type_prints : {X : Type 0} (l : Linked X) (n : TsFnType X) → Prints l.env (words.ts_fn_type l.asks l.items n) (lists.ts_fn_type l.reads n)
@@ -215,7 +216,7 @@ fn_type_prints l n = after (writes_leading l.env n.span.lo) (then (type_params_p
 spaced_params_print : {X : Type 0} (l : Linked X) (n : Option (TsTypeParamDeclBox X)) → PrintsAt open_ l.env (λ rest. cond (is_some n) (space (type_params l.items n rest)) rest) (annotations.type_params l.reads n)
 unfolding type_params annotations.type_params
 spaced_params_print l None = prints_nothing
-spaced_params_print l (Some n) = prints_wider open_ refl (after (writes_space l.env) (l.law n.node.value Plain TypeParameters))
+spaced_params_print l (Some n) = prints_wider open_ refl (after (writes_space l.env) (l.law n.node.value (Whole Plain) TypeParameters))
 
 constructor_type_prints : {X : Type 0} (l : Linked X) (n : TsConstructorType X) → Prints l.env (words.ts_constructor_type l.asks l.items n) (lists.ts_constructor_type l.reads n)
 unfolding words.ts_constructor_type words.spaced_params lists.ts_constructor_type
@@ -283,7 +284,7 @@ type_lit_prints : {X : Type 0} (l : Linked X) (n : TsTypeLit X) → Prints l.env
 unfolding words.ts_type_lit lists.ts_type_lit
 type_lit_prints l n =
     after (writes_leading l.env n.span.lo)
-    (prints_bracketed_in_order l.env (codes "{") marks.left_brace (λ rest. rest) (no_line l.env) members_format n.span ts_type_element_span (λ x. member_items l.asks l.items x Plain) (ts_type_element l.reads)
+    (prints_bracketed_in_order l.env (codes "{") marks.left_brace (λ rest. rest) (no_line l.env) members_format n.span ts_type_element_span (λ x. member_items l.asks l.items x (Whole Plain)) (ts_type_element l.reads)
     (mark (codes "}")) (punct (codes "}")) (λ m. prints_wider loose refl (type_element_prints l m)) members_undelimited (prints_punct l.env (codes "}") marks.right_brace) n.members.items)
 
 -- `[` and `]`
@@ -384,8 +385,8 @@ intersection_joined = record { joins = λ rest. refl; is_mark = type_words.amper
 
 joined_type_prints : {X : Type 0} (l : Linked X) (n : TsUnionOrIntersectionType X) → Prints l.env (words.ts_union_or_intersection_type l.asks l.items n) (lists.ts_union_or_intersection_type l.reads n)
 unfolding words.ts_union_or_intersection_type words.ts_union_type words.ts_intersection_type lists.ts_union_or_intersection_type lists.ts_union_type lists.ts_intersection_type
-joined_type_prints l (joined_types.TsUnionType n) = after (writes_leading l.env n.span.lo) (prints_joined l.env union_format (codes "|") n.span (words.type_place l.asks) (λ x. words.type_items l.items x Plain) (lists.type_at l.reads) (type_at l) union_joined n.types.items)
-joined_type_prints l (joined_types.TsIntersectionType n) = after (writes_leading l.env n.span.lo) (prints_joined l.env intersection_format (codes "&") n.span (words.type_place l.asks) (λ x. words.type_items l.items x Plain) (lists.type_at l.reads) (type_at l) intersection_joined n.types.items)
+joined_type_prints l (joined_types.TsUnionType n) = after (writes_leading l.env n.span.lo) (prints_joined l.env union_format (codes "|") n.span (words.type_place l.asks) (λ x. words.type_items l.items x (Whole Plain)) (lists.type_at l.reads) (type_at l) union_joined n.types.items)
+joined_type_prints l (joined_types.TsIntersectionType n) = after (writes_leading l.env n.span.lo) (prints_joined l.env intersection_format (codes "&") n.span (words.type_place l.asks) (λ x. words.type_items l.items x (Whole Plain)) (lists.type_at l.reads) (type_at l) intersection_joined n.types.items)
 
 parenthesized_prints : {X : Type 0} (l : Linked X) (n : TsParenthesizedType X) → Prints l.env (words.ts_parenthesized_type l.items n) (lists.ts_parenthesized_type l.reads n)
 unfolding words.ts_parenthesized_type lists.ts_parenthesized_type
@@ -461,7 +462,7 @@ type_prints l (types.TsLitType n) = lit_type_prints l n.value
 type_prints l (types.TsTypePredicate n) = predicate_prints l n.value
 type_prints l (types.TsImportType n) = import_type_prints l n.value
 
-pub ann_prints : {X : Type 0} (l : Linked X) (n : TsTypeAnn X) (place : Place) → Prints l.env (words.ts_type_ann l.asks l.items n place) (lists.ts_type_ann l.reads n)
+pub ann_prints : {X : Type 0} (l : Linked X) (n : TsTypeAnn X) (context : Context) → Prints l.env (words.ts_type_ann l.asks l.items n context) (lists.ts_type_ann l.reads n)
 unfolding words.ts_type_ann lists.ts_type_ann
 ann_prints l n Reference = type_prints l n.type_ann
-ann_prints l n place = after (writes_leading l.env n.span.lo) (type_prints l n.type_ann)
+ann_prints l n context = after (writes_leading l.env n.span.lo) (type_prints l n.type_ann)

@@ -14,7 +14,8 @@ use Rattle.swc_ecma_codegen_tokens.specs.Run.{Env, Plan, Part, State, Follows, m
 use Rattle.swc_ecma_codegen_tokens.specs.Words.{leading_comments, trailing_comments, comments_before_end}
 use Rattle.swc_ecma_codegen_tokens.proofs.Emission.Made.{run_env}
 use Rattle.swc_ecma_codegen_tokens.proofs.Commenting.NoComments.{IsSilent, silent_leading, silent_trailing, silent_before_end, silent_child, none_after as none_left}
-use Rattle.swc_ecma_codegen_emit.specs.declared.nodes.Place.{Place}
+use Rattle.swc_ecma_codegen_emit.specs.declared.nodes.Context.{Context}
+use Rattle.swc_ecma_codegen_emit.specs.Places.{Place}
 use Rattle.swc_ecma_codegen_emit.specs.Answers.{Answers, place_of}
 use Rattle.swc_ecma_codegen_emit.specs.AnyExpr.{leaves_comments, expr_parts, expr_closed, expr}
 use Rattle.swc_ecma_codegen_emit.specs.Commented.{has_comment_after, has_comment_inside}
@@ -92,7 +93,7 @@ silent_closed true span rest a c r m h = h
 silent_closed false span rest a c r m h = silent_trailing true span.hi rest a c r m h
 
 -- none stand after an expression
-pub expr_bare : {X : Type 0} (asks : X → Answers) (items : X → Place → Part) (n : Expr X) (place : Place) (a b : Standing) → a.state.env.maps ≡ no_maps → Makes (expr_parts asks items n place) a b → Makes (expr asks items n place) a b
+pub expr_bare : {X : Type 0} (asks : X → Answers) (items : X → Place → Part) (n : Expr X) (context : Context) (a b : Standing) → a.state.env.maps ≡ no_maps → Makes (expr_parts asks items n context) a b → Makes (expr asks items n context) a b
 unfolding expr
-expr_bare asks items n place a b m h =
-    then_silently (expr_parts asks items n place) (expr_closed (leaves_comments n place) (expr_span (place_of asks) n)) a b (silent_closed (leaves_comments n place) (expr_span (place_of asks) n)) m h
+expr_bare asks items n context a b m h =
+    then_silently (expr_parts asks items n context) (expr_closed (leaves_comments n context) (expr_span (place_of asks) n)) a b (silent_closed (leaves_comments n context) (expr_span (place_of asks) n)) m h

@@ -7,8 +7,9 @@ use Rattle.swc_ecma_codegen_grammar.specs.FunctionPhrases.{is_some_listed}
 use Rattle.swc_ecma_codegen_tokens.specs.Lists.{ListChild, list}
 use Rattle.swc_ecma_codegen_tokens.specs.Run.{Part, when_minified}
 use Rattle.swc_ecma_codegen_tokens.specs.Words.{by_maps, comments_before_end, punct, start_of, last_of, leading_comments}
-use Rattle.swc_ecma_codegen_emit.specs.declared.nodes.Place.{Place}
-use Rattle.swc_ecma_codegen_emit.specs.declared.nodes.Place.TheVariants.{Body}
+use Rattle.swc_ecma_codegen_emit.specs.declared.nodes.Context.{Context}
+use Rattle.swc_ecma_codegen_emit.specs.declared.nodes.Context.TheVariants.{Body}
+use Rattle.swc_ecma_codegen_emit.specs.Places.{Place}
 use Rattle.swc_ecma_codegen_emit.specs.Answers.{Answers, place_of}
 use Rattle.swc_ecma_codegen_emit.specs.Commented.{has_comment_inside}
 use Rattle.swc_ecma_codegen_emit.specs.Lists.{child_of}
@@ -34,15 +35,15 @@ unfoldable pub block_lines : Bool → Span → List ListChild → Part
 block_lines some span cs = by_maps (λ maps. block_list (some || has_comment_inside span maps) span cs)
 
 -- the start of a body isn't recorded
-unfoldable pub block_start : Place → Span → Part
+unfoldable pub block_start : Context → Span → Part
 block_start Body span rest = rest
-block_start place span rest = start_of span rest
+block_start context span rest = start_of span rest
 
 -- `{ a; }`
-unfoldable pub block_stmt : {X : Type 0} → (X → Answers) → (X → Place → Part) → BlockStmt X → Place → Part
-block_stmt asks items n place rest =
+unfoldable pub block_stmt : {X : Type 0} → (X → Answers) → (X → Place → Part) → BlockStmt X → Context → Part
+block_stmt asks items n context rest =
     leading_comments n.span.lo
-    (block_start place n.span
+    (block_start context n.span
     (punct (codes "{")
     (block_lines (is_some_listed n.stmts.items) n.span (block_children asks items n)
     (comments_before_end n.span.hi (last_of n.span (punct (codes "}") rest))))))

@@ -19,8 +19,9 @@ use Rattle.swc_ecma_codegen_tokens.specs.Run.{Part}
 use Rattle.swc_ecma_codegen_tokens.specs.Choices.{empty_arguments}
 use Rattle.swc_ecma_codegen_tokens.specs.Lists.{list}
 use Rattle.swc_ecma_codegen_tokens.specs.Words.{keyword, punct, space, formatting_space, commit_pending_semi, start_of, end_of, leading_comments}
-use Rattle.swc_ecma_codegen_emit.specs.declared.nodes.Place.{Place}
-use Rattle.swc_ecma_codegen_emit.specs.declared.nodes.Place.TheVariants.{Plain, Object, DottedObject, Callee, Chain}
+use Rattle.swc_ecma_codegen_emit.specs.declared.nodes.Context.{Context}
+use Rattle.swc_ecma_codegen_emit.specs.declared.nodes.Context.TheVariants.{Plain, Object, DottedObject, Callee, OptionalChain}
+use Rattle.swc_ecma_codegen_emit.specs.Places.{Place, Whole}
 use Rattle.swc_ecma_codegen_emit.specs.Answers.{Answers, place_of}
 use Rattle.swc_ecma_codegen_emit.specs.Annotations.{type_args}
 use Rattle.swc_ecma_codegen_emit.specs.Lists.{child_of, if_some_at}
@@ -32,7 +33,7 @@ spread_mark (Some dots) rest = punct (codes "...") rest
 
 -- `a` or `...a` of `f(a, ...a)`
 unfoldable pub expr_or_spread : {X : Type 0} → (X → Answers) → (X → Place → Part) → ExprOrSpread X → Part
-expr_or_spread asks items n rest = leading_comments (expr_or_spread_span (place_of asks) n).lo (spread_mark n.spread (items n.expr.node.value Plain rest))
+expr_or_spread asks items n rest = leading_comments (expr_or_spread_span (place_of asks) n).lo (spread_mark n.spread (items n.expr.node.value (Whole Plain) rest))
 
 -- where it stands, and what is written of it wherever it is put
 abbrev pub argument_place : {X : Type 0} → (X → Answers) → ExprOrSpread X → Span
@@ -89,7 +90,7 @@ super_keyword n rest = keyword (Some n.span) (codes "super") rest
 unfoldable pub callee : {X : Type 0} → (X → Place → Part) → callee_exprs.Callee X → Part
 callee items (callees.Super n) rest = super_keyword n rest
 callee items (callees.Import n) rest = import_callee n rest
-callee items (callees.Expr n) rest = items n.node.value Callee rest
+callee items (callees.Expr n) rest = items n.node.value (Whole Callee) rest
 
 -- `f<A>(a, b)`
 unfoldable pub call_expr : {X : Type 0} → (X → Answers) → (X → Place → Part) → CallExpr X → Part
@@ -101,11 +102,11 @@ call_expr asks items n rest =
 -- ---- `new`
 
 -- where `new A()` keeps its parentheses: what is called, or has a property
-abbrev pub keeps_arguments : Place → Bool
+abbrev pub keeps_arguments : Context → Bool
 keeps_arguments Object = true
 keeps_arguments (DottedObject prop) = true
 keeps_arguments Callee = true
-keeps_arguments place = false
+keeps_arguments context = false
 
 unfoldable pub parentheses : Part
 parentheses rest = punct (codes "(") (punct (codes ")") rest)
@@ -131,7 +132,7 @@ new_expr asks items keeps n rest =
     (start_of n.span
     (keyword None (codes "new")
     (new_gap (asks n.callee.node.value).starts
-    (items n.callee.node.value Plain (type_args items Plain n.type_args (new_arguments asks items n.span keeps n.args rest)))))))
+    (items n.callee.node.value (Whole Plain) (type_args items Plain n.type_args (new_arguments asks items n.span keeps n.args rest)))))))
 
 -- ---- calls in optional chains
 
@@ -142,10 +143,10 @@ call_mark optional rest = if optional then punct (codes "?.") rest else rest
 -- A call in an optional chain has neither comments nor positions of its own.
 unfoldable pub chain_call : {X : Type 0} → (X → Answers) → (X → Place → Part) → Bool → OptCall X → Part
 chain_call asks items optional n rest =
-    items n.callee.node.value Callee
+    items n.callee.node.value (Whole Callee)
     (call_mark optional (type_args items Plain n.type_args (arguments asks items call_format n.span n.args.items rest)))
 
 -- its place says whether `?.` stands before its arguments
-abbrev pub is_optional : Place → Bool
-is_optional (Chain optional) = optional
-is_optional place = false
+abbrev pub is_optional : Context → Bool
+is_optional OptionalChain = true
+is_optional context = false

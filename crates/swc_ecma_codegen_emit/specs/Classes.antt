@@ -30,8 +30,9 @@ use Rattle.swc_ecma_codegen_grammar.specs.ClassPhrases.{accessibility_of}
 use Rattle.swc_ecma_codegen_tokens.specs.Run.{Part}
 use Rattle.swc_ecma_codegen_tokens.specs.Lists.{list}
 use Rattle.swc_ecma_codegen_tokens.specs.Words.{keyword, punct, question, semi, space, formatting_space, start_of, end_of, last_of, leading_comments}
-use Rattle.swc_ecma_codegen_emit.specs.declared.nodes.Place.{Place}
-use Rattle.swc_ecma_codegen_emit.specs.declared.nodes.Place.TheVariants.{Plain, ClassHead, ClassWord, MethodHead, DeclarationTail, StaticHead, MethodDecorators, MethodTail, FieldValue}
+use Rattle.swc_ecma_codegen_emit.specs.declared.nodes.Context.TheVariants.{Plain, FieldValue}
+use Rattle.swc_ecma_codegen_emit.specs.declared.nodes.Piece.TheVariants.{ClassHead, ClassWord, MethodHead, DeclarationTail, StaticHead, MethodDecorators, MethodTail}
+use Rattle.swc_ecma_codegen_emit.specs.Places.{Place, Whole, Only}
 use Rattle.swc_ecma_codegen_emit.specs.Answers.{Answers}
 use Rattle.swc_ecma_codegen_emit.specs.FunctionExprs.{comma_list_format}
 use Rattle.swc_ecma_codegen_emit.specs.Functions.{decorator, decorator_lines, decorators_format, decorator_place, param}
@@ -50,7 +51,7 @@ class_members_format = 65
 -- `extends A<B>`, minified `extends(A)`
 unfoldable pub heritage : {X : Type 0} → (X → Answers) → (X → Place → Part) → Option (ExprBox X) → Option (TsTypeParamInstantiationBox X) → Part
 heritage asks items None args rest = rest
-heritage asks items (Some n) args rest = space (keyword None (codes "extends") (blank (asks n.node.value).starts (items n.node.value Plain (type_args items Plain args rest))))
+heritage asks items (Some n) args rest = space (keyword None (codes "extends") (blank (asks n.node.value).starts (items n.node.value (Whole Plain) (type_args items Plain args rest))))
 
 abbrev pub member_list : {X : Type 0} → (X → Answers) → (X → Place → Part) → classes.Class X → Part
 member_list asks items n = list class_members_format n.span (map (child_of (λ m. (asks m.node.value).place) (λ m place. items m.node.value place)) n.body.items)
@@ -88,8 +89,8 @@ class_word n rest = word_before n.is_abstract (codes "abstract") (keyword None (
 
 -- a class, or what of it stands before its name
 unfoldable pub class : {X : Type 0} → (X → Answers) → (X → Place → Part) → classes.Class X → Place → Part
-class asks items n ClassHead rest = decorator_lines items n.decorators.items rest
-class asks items n ClassWord rest = class_word n rest
+class asks items n (Only ClassHead) rest = decorator_lines items n.decorators.items rest
+class asks items n (Only ClassWord) rest = class_word n rest
 class asks items n place rest = class_tail asks items n rest
 
 -- `declare @a abstract class B { c; }`
@@ -98,7 +99,7 @@ class_decl asks items n rest =
     let class = n.class.node.value in
     leading_comments (asks class).place.lo
     (start_of (asks class).place
-    (declare_word n.declare (items class ClassHead (items class ClassWord (space (ident n.ident (items class Plain rest)))))))
+    (declare_word n.declare (items class (Only ClassHead) (items class (Only ClassWord) (space (ident n.ident (items class (Whole Plain) rest)))))))
 
 -- ---- members
 
@@ -131,7 +132,7 @@ constructor_param_place (params.TsParamProp n) = n.span
 -- `{ a; }` without a blank, or the semicolon in its place
 unfoldable pub constructor_body : {X : Type 0} → (X → Place → Part) → Option (BlockStmtBox X) → Part
 constructor_body items None rest = semi rest
-constructor_body items (Some n) rest = items n.node.value Plain rest
+constructor_body items (Some n) rest = items n.node.value (Whole Plain) rest
 
 abbrev pub constructor_params : {X : Type 0} → (X → Answers) → (X → Place → Part) → Constructor X → Part
 constructor_params asks items n = list comma_list_format n.span (map (child_of constructor_param_place (λ p place. constructor_param asks items p)) n.params.items)
@@ -163,14 +164,14 @@ method_modifiers is_abstract is_override rest = word_before is_abstract (codes "
 -- `async *` of a static method, behind that word: where another stands between, that has a blank before it
 unfoldable pub static_method : {X : Type 0} → (X → Answers) → (X → Place → Part) → ClassMethod X → Part
 static_method asks items n rest =
-    if n.is_abstract || n.is_override then space (method_modifiers n.is_abstract n.is_override (items n.function.node.value MethodHead rest))
-    else items n.function.node.value (StaticHead (asks n.key.node.value).starts) rest
+    if n.is_abstract || n.is_override then space (method_modifiers n.is_abstract n.is_override (items n.function.node.value (Only MethodHead) rest))
+    else items n.function.node.value (Only (StaticHead (asks n.key.node.value).starts)) rest
 
 -- `static abstract override async *` of a method
 unfoldable pub method_word : {X : Type 0} → (X → Answers) → (X → Place → Part) → ClassMethod X → Part
 method_word asks items n rest =
     if n.is_static then keyword None (codes "static") (static_method asks items n rest)
-    else method_modifiers n.is_abstract n.is_override (items n.function.node.value MethodHead rest)
+    else method_modifiers n.is_abstract n.is_override (items n.function.node.value (Only MethodHead) rest)
 
 -- `static abstract override ` of a getter or a setter
 unfoldable pub accessor_words : {X : Type 0} → ClassMethod X → Part
@@ -184,7 +185,7 @@ method_kind asks items Setter n rest = accessor_words n (accessor_word (codes "s
 
 -- `b?(c) { d; }`
 unfoldable pub method_rest : {X : Type 0} → (X → Place → Part) → ClassMethod X → Part
-method_rest items n rest = items n.key.node.value Plain (question n.is_optional (items n.function.node.value MethodTail rest))
+method_rest items n rest = items n.key.node.value (Whole Plain) (question n.is_optional (items n.function.node.value (Only MethodTail) rest))
 
 -- `@a private static async *b?(c) { d; }`
 unfoldable pub class_method : {X : Type 0} → (X → Answers) → (X → Place → Part) → ClassMethod X → Part
@@ -192,11 +193,11 @@ class_method asks items n rest =
     leading_comments n.span.lo
     (leading_comments (asks n.key.node.value).place.lo
     (start_of n.span
-    (items n.function.node.value MethodDecorators (accessibility_word n.accessibility (method_kind asks items n.kind n (method_rest items n rest))))))
+    (items n.function.node.value (Only MethodDecorators) (accessibility_word n.accessibility (method_kind asks items n.kind n (method_rest items n rest))))))
 
 -- what stands between the modifiers of a private method and its name, with blanks whatever begins it: `get #a() {}`
 unfoldable pub private_kind : {X : Type 0} → (X → Place → Part) → MethodKind → PrivateMethod X → Part
-private_kind items Method n rest = items n.function.node.value MethodHead rest
+private_kind items Method n rest = items n.function.node.value (Only MethodHead) rest
 private_kind items Getter n rest = accessor_word (codes "get") true rest
 private_kind items Setter n rest = accessor_word (codes "set") true rest
 
@@ -206,20 +207,20 @@ private_words n rest = static_word n.is_static (method_modifiers n.is_abstract n
 
 -- `#b?(c) { d; }`
 unfoldable pub private_rest : {X : Type 0} → (X → Place → Part) → PrivateMethod X → Part
-private_rest items n rest = private_name n.key (question n.is_optional (items n.function.node.value DeclarationTail rest))
+private_rest items n rest = private_name n.key (question n.is_optional (items n.function.node.value (Only DeclarationTail) rest))
 
 -- `@a static async *#b?(c) { d; }`
 unfoldable pub private_method : {X : Type 0} → (X → Place → Part) → PrivateMethod X → Part
 private_method items n rest =
     leading_comments n.span.lo
     (start_of n.span
-    (items n.function.node.value MethodDecorators
+    (items n.function.node.value (Only MethodDecorators)
     (accessibility_word n.accessibility (private_words n (private_kind items n.kind n (private_rest items n rest))))))
 
 -- `= a` of `class B { c = a; }`; a sequence stands in parentheses, `= (a, b)`
 unfoldable pub prop_value : {X : Type 0} → (X → Place → Part) → Option (ExprBox X) → Part
 prop_value items None rest = rest
-prop_value items (Some n) rest = formatting_space (punct (codes "=") (formatting_space (items n.node.value FieldValue rest)))
+prop_value items (Some n) rest = formatting_space (punct (codes "=") (formatting_space (items n.node.value (Whole FieldValue) rest)))
 
 -- `declare private static abstract override readonly ` of a field
 unfoldable pub prop_modifiers : {X : Type 0} → ClassProp X → Part
@@ -232,7 +233,7 @@ prop_modifiers n rest =
 -- `b!: A = c;`
 unfoldable pub prop_tail : {X : Type 0} → (X → Place → Part) → ClassProp X → Part
 prop_tail items n rest =
-    items n.key.node.value Plain
+    items n.key.node.value (Whole Plain)
     (question n.is_optional (field_annotation items n.definite n.type_ann (prop_value items n.value (semi (end_of n.span rest)))))
 
 -- `@a private static b!: A = c;`
@@ -261,7 +262,7 @@ private_prop items n rest =
     leading_comments n.span.lo (start_of n.span (private_decorators items n (private_modifiers n (private_prop_tail items n rest))))
 
 unfoldable pub accessor_key : {X : Type 0} → (X → Place → Part) → Key X → Part
-accessor_key items (keys.Public n) rest = items n.node.value Plain rest
+accessor_key items (keys.Public n) rest = items n.node.value (Whole Plain) rest
 accessor_key items (keys.Private n) rest = private_name n rest
 
 abbrev pub accessor_decorators : {X : Type 0} → (X → Place → Part) → AutoAccessor X → Part
@@ -283,7 +284,7 @@ auto_accessor items n rest = accessor_decorators items n (accessor_modifiers n (
 
 -- `static{ a; }`
 unfoldable pub static_block : {X : Type 0} → (X → Place → Part) → StaticBlock X → Part
-static_block items n rest = leading_comments n.span.lo (start_of n.span (keyword None (codes "static") (items n.body.node.value Plain (end_of n.span rest))))
+static_block items n rest = leading_comments n.span.lo (start_of n.span (keyword None (codes "static") (items n.body.node.value (Whole Plain) (end_of n.span rest))))
 
 unfoldable pub empty_member : EmptyStmt → Part
 empty_member n rest = leading_comments n.span.lo (punct (codes ";") rest)

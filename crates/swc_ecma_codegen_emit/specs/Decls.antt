@@ -13,8 +13,10 @@ use Rattle.swc_ecma_codegen_tree.specs.declared.decls.VarDeclarator.{VarDeclarat
 use Rattle.swc_ecma_codegen_tokens.specs.Run.{Part}
 use Rattle.swc_ecma_codegen_tokens.specs.Lists.{list}
 use Rattle.swc_ecma_codegen_tokens.specs.Words.{keyword, semi, space, commit_pending_semi, start_of, end_of, leading_comments}
-use Rattle.swc_ecma_codegen_emit.specs.declared.nodes.Place.{Place}
-use Rattle.swc_ecma_codegen_emit.specs.declared.nodes.Place.TheVariants.{Plain, ClassHead, ClassWord, DeclarationHead, DeclarationTail, ExportedHead, ExportedTail, Statement}
+use Rattle.swc_ecma_codegen_emit.specs.declared.nodes.Context.{Context}
+use Rattle.swc_ecma_codegen_emit.specs.declared.nodes.Context.TheVariants.{Plain, Statement}
+use Rattle.swc_ecma_codegen_emit.specs.declared.nodes.Piece.TheVariants.{ClassHead, ClassWord, DeclarationHead, DeclarationTail, ExportedHead, ExportedTail}
+use Rattle.swc_ecma_codegen_emit.specs.Places.{Place, Whole, Only, context_of}
 use Rattle.swc_ecma_codegen_emit.specs.declared.patterns.PatternKind.{PatternKind}
 use Rattle.swc_ecma_codegen_emit.specs.declared.patterns.PatternKind.TheVariants.{Marked}
 use Rattle.swc_ecma_codegen_emit.specs.Answers.{Answers}
@@ -36,7 +38,7 @@ fn_decl asks items n rest =
     leading_comments (asks function).place.lo
     (commit_pending_semi
     (start_of (asks function).place
-    (declare_word n.declare (items function DeclarationHead (ident n.ident (items function DeclarationTail rest))))))
+    (declare_word n.declare (items function (Only DeclarationHead) (ident n.ident (items function (Only DeclarationTail) rest))))))
 
 -- `a`, `a = b`, `a!: A`
 unfoldable pub var_declarator : {X : Type 0} → (X → Answers) → (X → Place → Part) → VarDeclarator X → Part
@@ -81,15 +83,9 @@ unfoldable pub using_decl : {X : Type 0} → (X → Answers) → (X → Place �
 using_decl asks items n rest = leading_comments n.span.lo (await_word n.is_await (keyword None (codes "using") (space (declarators asks items n.span n.decls.items rest))))
 
 -- the end of one of variables is recorded, unless it is a statement
-unfoldable pub decl_end : Place → Span → Part
+unfoldable pub decl_end : Context → Span → Part
 decl_end Statement span rest = rest
-decl_end place span rest = end_of span rest
-
--- what is exported stands around the word: its head, its tail, or the whole where there is no such word
-unfoldable pub by_export : Place → Part → Part → Part → Part
-by_export ExportedHead head tail whole rest = head rest
-by_export ExportedTail head tail whole rest = tail rest
-by_export place head tail whole rest = whole rest
+decl_end context span rest = end_of span rest
 
 -- `class A {}` of `@b export class A {}`: decorators stand before the word
 unfoldable pub exported_class : {X : Type 0} → (X → Answers) → (X → Place → Part) → ClassDecl X → Part
@@ -97,27 +93,39 @@ exported_class asks items n rest =
     let class = n.class.node.value in
     leading_comments (asks class).place.lo
     (start_of (asks class).place
-    (declare_word n.declare (items class ClassWord (space (ident n.ident (items class Plain rest))))))
-
--- one that has no head
-unfoldable pub without_head : Place → Part → Part
-without_head place part rest = by_export place (λ after. after) part part rest
+    (declare_word n.declare (items class (Only ClassWord) (space (ident n.ident (items class (Whole Plain) rest))))))
 
 -- `let a = b;`
-unfoldable pub variables : {X : Type 0} → (X → Answers) → (X → Place → Part) → VarDecl X → Place → Part
-variables asks items n place rest = var_decl asks items n (semi (decl_end place n.span rest))
+unfoldable pub variables : {X : Type 0} → (X → Answers) → (X → Place → Part) → VarDecl X → Context → Part
+variables asks items n context rest = var_decl asks items n (semi (decl_end context n.span rest))
 
 -- `using a = b;`
 unfoldable pub resources : {X : Type 0} → (X → Answers) → (X → Place → Part) → UsingDecl X → Part
 resources asks items n rest = using_decl asks items n (semi rest)
 
 -- a declaration by its variant
+unfoldable pub whole_decl : {X : Type 0} → (X → Answers) → (X → Place → Part) → Decl X → Context → Part
+whole_decl asks items (decls.Class n) context rest = class_decl asks items n rest
+whole_decl asks items (decls.Fn n) context rest = fn_decl asks items n rest
+whole_decl asks items (decls.Var n) context rest = variables asks items n context rest
+whole_decl asks items (decls.Using n) context rest = resources asks items n rest
+whole_decl asks items (decls.TsInterface n) context rest = ts_interface_decl items n.value rest
+whole_decl asks items (decls.TsTypeAlias n) context rest = ts_type_alias_decl items n.value rest
+whole_decl asks items (decls.TsEnum n) context rest = ts_enum_decl items n.value rest
+whole_decl asks items (decls.TsModule n) context rest = ts_module_decl items n.value rest
+
+-- what of it stands before `export`: `@a` of a class, of another nothing
+unfoldable pub exported_head : {X : Type 0} → (X → Place → Part) → Decl X → Part
+exported_head items (decls.Class n) rest = items n.class.node.value (Only ClassHead) rest
+exported_head items n rest = rest
+
+-- and what stands after it
+unfoldable pub exported_tail : {X : Type 0} → (X → Answers) → (X → Place → Part) → Decl X → Part
+exported_tail asks items (decls.Class n) rest = exported_class asks items n rest
+exported_tail asks items n rest = whole_decl asks items n Plain rest
+
+-- the whole, or what of it is exported beside the word
 unfoldable pub decl : {X : Type 0} → (X → Answers) → (X → Place → Part) → Decl X → Place → Part
-decl asks items (decls.Class n) place rest = by_export place (items n.class.node.value ClassHead) (exported_class asks items n) (class_decl asks items n) rest
-decl asks items (decls.Fn n) place rest = without_head place (fn_decl asks items n) rest
-decl asks items (decls.Var n) place rest = without_head place (variables asks items n place) rest
-decl asks items (decls.Using n) place rest = without_head place (resources asks items n) rest
-decl asks items (decls.TsInterface n) place rest = without_head place (ts_interface_decl items n.value) rest
-decl asks items (decls.TsTypeAlias n) place rest = without_head place (ts_type_alias_decl items n.value) rest
-decl asks items (decls.TsEnum n) place rest = without_head place (ts_enum_decl items n.value) rest
-decl asks items (decls.TsModule n) place rest = without_head place (ts_module_decl items n.value) rest
+decl asks items n (Only ExportedHead) rest = exported_head items n rest
+decl asks items n (Only ExportedTail) rest = exported_tail asks items n rest
+decl asks items n place rest = whole_decl asks items n (context_of place) rest

@@ -40,8 +40,9 @@ use Rattle.swc_ecma_codegen_tokens.specs.PrivateNames as names
 use Rattle.swc_ecma_codegen_tokens.specs.Run.{Part}
 use Rattle.swc_ecma_codegen_tokens.specs.Choices.{optional_parentheses}
 use Rattle.swc_ecma_codegen_tokens.specs.Words.{allow_break, by_maps, keyword, operator, word_operator, punct, space, formatting_space, commit_pending_semi, start_of, end_of, last_of, leading_comments, name}
-use Rattle.swc_ecma_codegen_emit.specs.declared.nodes.Place.{Place}
-use Rattle.swc_ecma_codegen_emit.specs.declared.nodes.Place.TheVariants.{Plain, LeftOperand, Object, DottedObject, Callee, Chain}
+use Rattle.swc_ecma_codegen_emit.specs.declared.nodes.Context.{Context}
+use Rattle.swc_ecma_codegen_emit.specs.declared.nodes.Context.TheVariants.{Plain, LeftOperand, Object, DottedObject, Callee, Chain, OptionalChain}
+use Rattle.swc_ecma_codegen_emit.specs.Places.{Place, Whole, chain}
 use Rattle.swc_ecma_codegen_emit.specs.Answers.{Answers, place_of}
 use Rattle.swc_ecma_codegen_emit.specs.Operands.{is_word_op, space_after, operand_space}
 use Rattle.swc_ecma_codegen_emit.specs.Calls.{super_keyword}
@@ -88,11 +89,11 @@ unfoldable pub unary_gap : UnaryOp → Answers → Part
 unary_gap op arg rest = if starts.is_word_op op then blank arg.starts rest else space_if (operand_space op arg.kind) rest
 
 unfoldable pub unary : {X : Type 0} → (X → Answers) → (X → Place → Part) → UnaryExpr X → Part
-unary asks items n rest = opened n.span (unary_op n.op (unary_gap n.op (asks n.arg.node.value) (items n.arg.node.value Plain rest)))
+unary asks items n rest = opened n.span (unary_op n.op (unary_gap n.op (asks n.arg.node.value) (items n.arg.node.value (Whole Plain) rest)))
 
 -- `++a`, `a++`
 unfoldable pub update_parts : {X : Type 0} → (X → Place → Part) → UpdateExpr X → Part
-update_parts items n rest = if n.prefix then operator (update_text n.op) (items n.arg.node.value Plain rest) else items n.arg.node.value Plain (operator (update_text n.op) rest)
+update_parts items n rest = if n.prefix then operator (update_text n.op) (items n.arg.node.value (Whole Plain) rest) else items n.arg.node.value (Whole Plain) (operator (update_text n.op) rest)
 
 unfoldable pub update : {X : Type 0} → (X → Place → Part) → UpdateExpr X → Part
 update items n rest = opened n.span (update_parts items n rest)
@@ -130,22 +131,22 @@ word_between t rest = space (word_operator t (space rest))
 
 -- the operator and the right operand
 unfoldable pub bin_trailing : {X : Type 0} → (X → Answers) → (X → Place → Part) → BinExpr X → Part
-bin_trailing asks items n rest = bin_operator asks n (items n.right.node.value Plain rest)
+bin_trailing asks items n rest = bin_operator asks n (items n.right.node.value (Whole Plain) rest)
 
 -- an inner left operand has no comments before it, and its start isn't recorded
-unfoldable pub bin_opened : Place → Span → Part
+unfoldable pub bin_opened : Context → Span → Part
 bin_opened LeftOperand span rest = rest
-bin_opened place span rest = opened span rest
+bin_opened context span rest = opened span rest
 
-unfoldable pub bin : {X : Type 0} → (X → Answers) → (X → Place → Part) → BinExpr X → Place → Part
-bin asks items n place rest = bin_opened place n.span (items n.left.node.value LeftOperand (bin_trailing asks items n rest))
+unfoldable pub bin : {X : Type 0} → (X → Answers) → (X → Place → Part) → BinExpr X → Context → Part
+bin asks items n context rest = bin_opened context n.span (items n.left.node.value (Whole LeftOperand) (bin_trailing asks items n rest))
 
 -- the comments at the position before one
 unfoldable pub comments_before : BytePos → Part
 comments_before pos rest = if pos.0 == 0 then rest else leading_comments (record { 0 = pos.0 - 1 }) rest
 
 unfoldable pub computed_prop_name : {X : Type 0} → (X → Place → Part) → ComputedPropName X → Part
-computed_prop_name items n rest = start_of n.span (punct (codes "[") (items n.expr.node.value Plain (punct (codes "]") (end_of n.span rest))))
+computed_prop_name items n rest = start_of n.span (punct (codes "[") (items n.expr.node.value (Whole Plain) (punct (codes "]") (end_of n.span rest))))
 
 -- `.b`, `[b]`
 unfoldable pub member_prop : {X : Type 0} → (X → Place → Part) → MemberProp X → Part
@@ -154,13 +155,13 @@ member_prop items (member_props.PrivateName n) rest = comments_before n.span.lo 
 member_prop items (member_props.Computed n) rest = computed_prop_name items n rest
 
 -- the place of the object before it
-unfoldable pub object_place : {X : Type 0} → MemberProp X → Place
+unfoldable pub object_place : {X : Type 0} → MemberProp X → Context
 object_place (member_props.Ident n) = DottedObject n.span.lo
 object_place (member_props.PrivateName n) = DottedObject n.span.lo
 object_place (member_props.Computed n) = Object
 
 unfoldable pub member : {X : Type 0} → (X → Place → Part) → MemberExpr X → Part
-member items n rest = opened n.span (items n.obj.node.value (object_place n.prop) (member_prop items n.prop (end_of n.span rest)))
+member items n rest = opened n.span (items n.obj.node.value (Whole (object_place n.prop)) (member_prop items n.prop (end_of n.span rest)))
 
 -- `.a`, `[a]`
 unfoldable pub super_prop : {X : Type 0} → (X → Place → Part) → SuperProp X → Part
@@ -183,16 +184,17 @@ chain_prop items (member_props.Computed n) rest = computed_prop_name items n res
 
 -- A member of an optional chain has neither comments nor positions of its own.
 unfoldable pub chain_member : {X : Type 0} → (X → Place → Part) → Bool → MemberExpr X → Part
-chain_member items optional n rest = items n.obj.node.value Callee (chain_mark optional n.prop (chain_prop items n.prop rest))
+chain_member items optional n rest = items n.obj.node.value (Whole Callee) (chain_mark optional n.prop (chain_prop items n.prop rest))
 
 -- a member where it stands
-unfoldable pub member_at : {X : Type 0} → (X → Place → Part) → MemberExpr X → Place → Part
-member_at items n (Chain optional) rest = chain_member items optional n rest
-member_at items n place rest = member items n rest
+unfoldable pub member_at : {X : Type 0} → (X → Place → Part) → MemberExpr X → Context → Part
+member_at items n Chain rest = chain_member items false n rest
+member_at items n OptionalChain rest = chain_member items true n rest
+member_at items n context rest = member items n rest
 
 unfoldable pub chain_base : {X : Type 0} → (X → Place → Part) → Bool → OptChainBase X → Part
-chain_base items optional (chain_bases.Member n) rest = items n.node.value (Chain optional) rest
-chain_base items optional (chain_bases.Call n) rest = items n.node.value (Chain optional) rest
+chain_base items optional (chain_bases.Member n) rest = items n.node.value (Whole (chain optional)) rest
+chain_base items optional (chain_bases.Call n) rest = items n.node.value (Whole (chain optional)) rest
 
 unfoldable pub opt_chain : {X : Type 0} → (X → Place → Part) → OptChainExpr X → Part
 opt_chain items n rest = leading_comments n.span.lo (chain_base items n.optional n.base rest)
@@ -209,16 +211,16 @@ meta_prop_expr n rest = opened n.span (meta_prop n.kind rest)
 unfoldable pub assign : {X : Type 0} → (X → Place → Part) → AssignExpr X → Part
 assign items n rest =
     leading_comments n.span.lo
-    (items n.left.node.value Plain
-    (formatting_space (operator (assign_text n.op) (formatting_space (items n.right.node.value Plain rest)))))
+    (items n.left.node.value (Whole Plain)
+    (formatting_space (operator (assign_text n.op) (formatting_space (items n.right.node.value (Whole Plain) rest)))))
 
 -- `*` of `yield* a`
 unfoldable pub yield_star : Bool → Part
 yield_star delegate rest = if delegate then operator (codes "*") rest else rest
 
 unfoldable pub yield_argument_in : {X : Type 0} → (X → Answers) → (X → Place → Part) → Bool → X → Bool → Part
-yield_argument_in asks items delegate x true rest = optional_parentheses true (items x Plain) rest
-yield_argument_in asks items delegate x false rest = blank (if delegate then false else (asks x).starts) (items x Plain rest)
+yield_argument_in asks items delegate x true rest = optional_parentheses true (items x (Whole Plain)) rest
+yield_argument_in asks items delegate x false rest = blank (if delegate then false else (asks x).starts) (items x (Whole Plain) rest)
 
 -- its argument, in parentheses where a line ends in or after a comment before it
 unfoldable pub yield_argument : {X : Type 0} → (X → Answers) → (X → Place → Part) → Bool → X → Part
@@ -236,24 +238,24 @@ yield_expr asks items n rest = opened n.span (keyword None (codes "yield") (yiel
 unfoldable pub spread_element : {X : Type 0} → (X → Answers) → (X → Place → Part) → SpreadElement X → Part
 spread_element asks items n rest =
     opened (spread_element_span (place_of asks) n)
-    (punct (codes "...") (items n.expr.node.value Plain (end_of (spread_element_span (place_of asks) n) rest)))
+    (punct (codes "...") (items n.expr.node.value (Whole Plain) (end_of (spread_element_span (place_of asks) n) rest)))
 
 -- a blank always: `await (a)`
 unfoldable pub await_expr : {X : Type 0} → (X → Place → Part) → AwaitExpr X → Part
-await_expr items n rest = opened n.span (keyword None (codes "await") (space (items n.arg.node.value Plain rest)))
+await_expr items n rest = opened n.span (keyword None (codes "await") (space (items n.arg.node.value (Whole Plain) rest)))
 
 unfoldable pub choice : {X : Type 0} → (X → Place → Part) → CondExpr X → Part
 choice items n rest =
     opened n.span
-    (items n.test.node.value Plain (spaced_punct (codes "?")
-    (items n.cons.node.value Plain (spaced_punct (codes ":") (items n.alt.node.value Plain rest)))))
+    (items n.test.node.value (Whole Plain) (spaced_punct (codes "?")
+    (items n.cons.node.value (Whole Plain) (spaced_punct (codes ":") (items n.alt.node.value (Whole Plain) rest)))))
 
 -- what a link holds
 abbrev pub held : {X : Type 0} → (X → Place → Part) → ExprBox X → Part
-held items n = items n.node.value Plain
+held items n = items n.node.value (Whole Plain)
 
 unfoldable pub seq : {X : Type 0} → (X → Place → Part) → SeqExpr X → Part
 seq items n rest = opened n.span (listed (held items) true n.exprs.items rest)
 
 unfoldable pub paren : {X : Type 0} → (X → Place → Part) → ParenExpr X → Part
-paren items n rest = commit_pending_semi (opened n.span (punct (codes "(") (items n.expr.node.value Plain (last_of n.span (punct (codes ")") rest)))))
+paren items n rest = commit_pending_semi (opened n.span (punct (codes "(") (items n.expr.node.value (Whole Plain) (last_of n.span (punct (codes ")") rest)))))

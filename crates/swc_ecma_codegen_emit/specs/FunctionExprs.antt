@@ -9,8 +9,10 @@ use Rattle.swc_ecma_codegen_tree.specs.declared.idents.Ident.{Ident}
 use Rattle.swc_ecma_codegen_tokens.specs.Run.{Part, when_minified, no_part}
 use Rattle.swc_ecma_codegen_tokens.specs.Lists.{ListChild, list, deeper, shallower}
 use Rattle.swc_ecma_codegen_tokens.specs.Words.{by_maps, keyword, punct, space, formatting_space, commit_pending_semi, start_of, leading_comments, name}
-use Rattle.swc_ecma_codegen_emit.specs.declared.nodes.Place.{Place}
-use Rattle.swc_ecma_codegen_emit.specs.declared.nodes.Place.TheVariants.{Plain, Body, FunctionHead}
+use Rattle.swc_ecma_codegen_emit.specs.declared.nodes.Context.{Context}
+use Rattle.swc_ecma_codegen_emit.specs.declared.nodes.Context.TheVariants.{Plain, Body}
+use Rattle.swc_ecma_codegen_emit.specs.declared.nodes.Piece.TheVariants.{FunctionHead}
+use Rattle.swc_ecma_codegen_emit.specs.Places.{Place, Whole, Only, function_tail}
 use Rattle.swc_ecma_codegen_emit.specs.declared.patterns.PatternKind.{PatternKind}
 use Rattle.swc_ecma_codegen_emit.specs.declared.patterns.PatternKind.TheVariants.{PlainName, Name}
 use Rattle.swc_ecma_codegen_emit.specs.Answers.{Answers}
@@ -34,12 +36,12 @@ unfoldable pub optional_name : Option Ident → Part
 optional_name None rest = rest
 optional_name (Some n) rest = space (name n.span (string_bytes n.sym) n.optional rest)
 
-unfoldable pub fn_expr : {X : Type 0} → (X → Answers) → (X → Place → Part) → FnExpr X → Place → Part
-fn_expr asks items n tail rest =
+unfoldable pub fn_expr : {X : Type 0} → (X → Answers) → (X → Place → Part) → FnExpr X → Context → Part
+fn_expr asks items n context rest =
     let function = n.function.node.value in
     leading_comments (asks function).place.lo
     (commit_pending_semi
-    (start_of (asks function).place (items function FunctionHead (optional_name n.ident (items function tail rest)))))
+    (start_of (asks function).place (items function (Only FunctionHead) (optional_name n.ident (items function (function_tail context) rest)))))
 
 -- ---- arrow functions
 
@@ -87,13 +89,13 @@ arrow_parameters asks items n = by_maps (λ maps. arrow_within (not (is_typed_ar
 
 -- an expression is indented, whatever the settings
 unfoldable pub arrow_body : {X : Type 0} → (X → Place → Part) → BlockStmtOrExpr X → Part
-arrow_body items (bodies.BlockStmt n) rest = items n.node.value Body rest
-arrow_body items (bodies.Expr n) rest = deeper (items n.node.value Plain (shallower rest))
+arrow_body items (bodies.BlockStmt n) rest = items n.node.value (Whole Body) rest
+arrow_body items (bodies.Expr n) rest = deeper (items n.node.value (Whole Plain) (shallower rest))
 
 -- `: A ` of `(a): A => b`
 unfoldable pub arrow_result : {X : Type 0} → (X → Place → Part) → Option (TsTypeAnnBox X) → Part
 arrow_result items None rest = rest
-arrow_result items (Some n) rest = punct (codes ":") (formatting_space (items n.node.value Plain (formatting_space rest)))
+arrow_result items (Some n) rest = punct (codes ":") (formatting_space (items n.node.value (Whole Plain) (formatting_space rest)))
 
 -- `async <A>(a, b): B => c`
 unfoldable pub arrow_expr : {X : Type 0} → (X → Answers) → (X → Place → Part) → ArrowExpr X → Part

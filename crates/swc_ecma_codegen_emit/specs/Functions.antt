@@ -8,8 +8,9 @@ use Rattle.swc_ecma_codegen_tree.specs.declared.decls.Function as functions
 use Rattle.swc_ecma_codegen_tokens.specs.Run.{Part}
 use Rattle.swc_ecma_codegen_tokens.specs.Lists.{list}
 use Rattle.swc_ecma_codegen_tokens.specs.Words.{allow_break, keyword, punct, bare_semi, semi, space, formatting_space, line_end, start_of, end_of, leading_comments}
-use Rattle.swc_ecma_codegen_emit.specs.declared.nodes.Place.{Place}
-use Rattle.swc_ecma_codegen_emit.specs.declared.nodes.Place.TheVariants.{Plain, Body, FunctionHead, MethodHead, DeclarationHead, DeclarationTail, StaticHead, MethodDecorators, MethodTail}
+use Rattle.swc_ecma_codegen_emit.specs.declared.nodes.Context.TheVariants.{Plain, Body}
+use Rattle.swc_ecma_codegen_emit.specs.declared.nodes.Piece.TheVariants.{FunctionHead, MethodHead, DeclarationHead, DeclarationTail, StaticHead, MethodDecorators, MethodTail}
+use Rattle.swc_ecma_codegen_emit.specs.Places.{Place, Whole, Only}
 use Rattle.swc_ecma_codegen_emit.specs.Annotations.{annotation, type_params}
 use Rattle.swc_ecma_codegen_emit.specs.Answers.{Answers}
 use Rattle.swc_ecma_codegen_emit.specs.FunctionExprs.{comma_list_format, star}
@@ -22,7 +23,7 @@ decorators_format = 1025
 
 -- `@a`, and the end of its line
 unfoldable pub decorator : {X : Type 0} → (X → Place → Part) → Decorator X → Part
-decorator items n rest = leading_comments n.span.lo (start_of n.span (punct (codes "@") (items n.expr.node.value Plain (line_end (end_of n.span rest)))))
+decorator items n rest = leading_comments n.span.lo (start_of n.span (punct (codes "@") (items n.expr.node.value (Whole Plain) (line_end (end_of n.span rest)))))
 
 abbrev pub decorator_place : {X : Type 0} → Decorator X → Span
 decorator_place n = n.span
@@ -45,7 +46,7 @@ param_place n = n.span
 -- `{ a; }`, or the semicolon in its place: a function without a body may be an expression, so no line is ended behind it
 unfoldable pub function_body : {X : Type 0} → (X → Place → Part) → Option (BlockStmtBox X) → Part
 function_body items None rest = bare_semi rest
-function_body items (Some n) rest = formatting_space (items n.node.value Body rest)
+function_body items (Some n) rest = formatting_space (items n.node.value (Whole Body) rest)
 
 -- the parameters of a function, with commas between
 abbrev pub parameters : {X : Type 0} → (X → Answers) → (X → Place → Part) → functions.Function X → Part
@@ -102,7 +103,7 @@ decorator_lines items ns = in_order (decorator items) ns
 -- the body of a method, or the semicolon in its place
 unfoldable pub method_body : {X : Type 0} → (X → Place → Part) → Option (BlockStmtBox X) → Part
 method_body items None rest = semi rest
-method_body items (Some n) rest = formatting_space (items n.node.value Plain rest)
+method_body items (Some n) rest = formatting_space (items n.node.value (Whole Plain) rest)
 
 -- `<A>(a): B { c; }` of a method, whose decorators stand elsewhere
 unfoldable pub method_tail : {X : Type 0} → (X → Answers) → (X → Place → Part) → functions.Function X → Part
@@ -114,11 +115,11 @@ method_tail asks items n rest =
 
 -- a function, or what of it stands before its name
 unfoldable pub function : {X : Type 0} → (X → Answers) → (X → Place → Part) → functions.Function X → Place → Part
-function asks items n FunctionHead rest = function_head n rest
-function asks items n MethodHead rest = method_head n rest
-function asks items n DeclarationHead rest = declaration_head n rest
-function asks items n DeclarationTail rest = declaration_tail asks items n rest
-function asks items n (StaticHead starts) rest = static_head starts n rest
-function asks items n MethodDecorators rest = decorator_lines items n.decorators.items rest
-function asks items n MethodTail rest = method_tail asks items n rest
+function asks items n (Only FunctionHead) rest = function_head n rest
+function asks items n (Only MethodHead) rest = method_head n rest
+function asks items n (Only DeclarationHead) rest = declaration_head n rest
+function asks items n (Only DeclarationTail) rest = declaration_tail asks items n rest
+function asks items n (Only (StaticHead starts)) rest = static_head starts n rest
+function asks items n (Only MethodDecorators) rest = decorator_lines items n.decorators.items rest
+function asks items n (Only MethodTail) rest = method_tail asks items n rest
 function asks items n place rest = fn_trailing asks items n rest

@@ -33,8 +33,9 @@ use Rattle.swc_ecma_codegen_tokens.specs.Run.{unbounded, Part}
 use Rattle.swc_ecma_codegen_tokens.specs.Attributes.{attribute_string, jsx_text_node}
 use Rattle.swc_ecma_codegen_tokens.specs.Tags.{tag_name, child_open, close}
 use Rattle.swc_ecma_codegen_tokens.specs.Words.{bare_punct, punct}
-use Rattle.swc_ecma_codegen_emit.specs.declared.nodes.Place.{Place}
-use Rattle.swc_ecma_codegen_emit.specs.declared.nodes.Place.TheVariants.{Plain, Child}
+use Rattle.swc_ecma_codegen_emit.specs.declared.nodes.Context.{Context}
+use Rattle.swc_ecma_codegen_emit.specs.declared.nodes.Context.TheVariants.{Plain, Child}
+use Rattle.swc_ecma_codegen_emit.specs.Places.{Place, Whole, context_of}
 use Rattle.swc_ecma_codegen_emit.specs.Annotations.{type_args}
 use Rattle.swc_ecma_codegen_emit.specs.Answers.{Answers}
 use Rattle.swc_ecma_codegen_emit.specs.Exprs.{blank, spread_element}
@@ -51,7 +52,7 @@ tag_ident_name n rest = tag_name n.span (string_bytes n.sym) rest
 
 -- `a.b`
 unfoldable pub jsx_member_expr : {X : Type 0} → (X → Place → Part) → JSXMemberExpr X → Part
-jsx_member_expr items n rest = items n.obj.node.value Plain (punct (codes ".") (tag_ident_name n.prop rest))
+jsx_member_expr items n rest = items n.obj.node.value (Whole Plain) (punct (codes ".") (tag_ident_name n.prop rest))
 
 -- `a:b`
 unfoldable pub jsx_namespaced_name : JSXNamespacedName → Part
@@ -73,21 +74,21 @@ jsx_attr_name (attr_names.JSXNamespacedName n) rest = jsx_namespaced_name n rest
 -- ---- expressions in braces
 
 -- the `{` or `<` of a child, and of what is none
-unfoldable pub open_at : Place → List ℕ → Part
+unfoldable pub open_at : Context → List ℕ → Part
 open_at Child t rest = child_open t rest
-open_at place t rest = bare_punct t rest
+open_at context t rest = bare_punct t rest
 
 unfoldable pub jsx_expr : {X : Type 0} → (X → Place → Part) → JSXExpr X → Part
 jsx_expr items (contents.JSXEmptyExpr n) rest = rest
-jsx_expr items (contents.Expr n) rest = items n.node.value Plain rest
+jsx_expr items (contents.Expr n) rest = items n.node.value (Whole Plain) rest
 
 -- `{a}`, `{}`
-unfoldable pub jsx_expr_container : {X : Type 0} → (X → Place → Part) → JSXExprContainer X → Place → Part
-jsx_expr_container items n place rest = open_at place (codes "{") (jsx_expr items n.expr (punct (codes "}") rest))
+unfoldable pub jsx_expr_container : {X : Type 0} → (X → Place → Part) → JSXExprContainer X → Context → Part
+jsx_expr_container items n context rest = open_at context (codes "{") (jsx_expr items n.expr (punct (codes "}") rest))
 
 -- `{...a}` between tags
 unfoldable pub jsx_spread_child : {X : Type 0} → (X → Place → Part) → JSXSpreadChild X → Part
-jsx_spread_child items n rest = child_open (codes "{") (punct (codes "...") (items n.expr.node.value Plain (punct (codes "}") rest)))
+jsx_spread_child items n rest = child_open (codes "{") (punct (codes "...") (items n.expr.node.value (Whole Plain) (punct (codes "}") rest)))
 
 -- ---- attributes
 
@@ -99,8 +100,8 @@ jsx_attr_lit n rest = lit_at n Plain rest
 unfoldable pub jsx_attr_value : {X : Type 0} → (X → Place → Part) → JSXAttrValue X → Part
 jsx_attr_value items (attr_values.Lit n) rest = jsx_attr_lit n rest
 jsx_attr_value items (attr_values.JSXExprContainer n) rest = jsx_expr_container items n Plain rest
-jsx_attr_value items (attr_values.JSXElement n) rest = items n.node.value Plain rest
-jsx_attr_value items (attr_values.JSXFragment n) rest = items n.node.value Plain rest
+jsx_attr_value items (attr_values.JSXElement n) rest = items n.node.value (Whole Plain) rest
+jsx_attr_value items (attr_values.JSXFragment n) rest = items n.node.value (Whole Plain) rest
 
 -- `="b"`
 unfoldable pub attr_initializer : {X : Type 0} → (X → Place → Part) → Option (JSXAttrValue X) → Part
@@ -126,9 +127,9 @@ unfoldable pub self_closing : Bool → Part
 self_closing closes rest = if closes then punct (codes "/") rest else rest
 
 -- `<a<A> b="c">`, `<a/>`
-unfoldable pub jsx_opening_element : {X : Type 0} → (X → Answers) → (X → Place → Part) → JSXOpeningElement X → Place → Part
-jsx_opening_element asks items n place rest =
-    open_at place (codes "<")
+unfoldable pub jsx_opening_element : {X : Type 0} → (X → Answers) → (X → Place → Part) → JSXOpeningElement X → Context → Part
+jsx_opening_element asks items n context rest =
+    open_at context (codes "<")
     (jsx_element_name items n.name
     (type_args items Plain n.type_args
     (jsx_attributes (jsx_attr_or_spread asks items) true n.attrs.items (self_closing n.self_closing (close rest)))))
@@ -141,8 +142,8 @@ unfoldable pub jsx_element_child : {X : Type 0} → (X → Place → Part) → J
 jsx_element_child items (children.JSXText n) rest = jsx_text_node n rest
 jsx_element_child items (children.JSXExprContainer n) rest = jsx_expr_container items n Child rest
 jsx_element_child items (children.JSXSpreadChild n) rest = jsx_spread_child items n rest
-jsx_element_child items (children.JSXElement n) rest = items n.node.value Child rest
-jsx_element_child items (children.JSXFragment n) rest = items n.node.value Child rest
+jsx_element_child items (children.JSXElement n) rest = items n.node.value (Whole Child) rest
+jsx_element_child items (children.JSXFragment n) rest = items n.node.value (Whole Child) rest
 
 -- nothing stands between children
 unfoldable pub jsx_children : {X : Type 0} → (X → Place → Part) → List (JSXElementChild X) → Part
@@ -152,29 +153,29 @@ unfoldable pub optional_closing : {X : Type 0} → (X → Place → Part) → Op
 optional_closing items None rest = rest
 optional_closing items (Some n) rest = jsx_closing_element items n rest
 
-unfoldable pub jsx_element_parts : {X : Type 0} → (X → Answers) → (X → Place → Part) → JSXElement X → Place → Part
-jsx_element_parts asks items n place rest = jsx_opening_element asks items n.opening place (jsx_children items n.children.items (optional_closing items n.closing rest))
+unfoldable pub jsx_element_parts : {X : Type 0} → (X → Answers) → (X → Place → Part) → JSXElement X → Context → Part
+jsx_element_parts asks items n context rest = jsx_opening_element asks items n.opening context (jsx_children items n.children.items (optional_closing items n.closing rest))
 
 -- no line may be ended in it
-unfoldable pub jsx_element : {X : Type 0} → (X → Answers) → (X → Place → Part) → JSXElement X → Place → Part
-jsx_element asks items n place = unbounded (jsx_element_parts asks items n place)
+unfoldable pub jsx_element : {X : Type 0} → (X → Answers) → (X → Place → Part) → JSXElement X → Context → Part
+jsx_element asks items n context = unbounded (jsx_element_parts asks items n context)
 
 -- `<>`, `</>`
-unfoldable pub opening_fragment : Place → Part
-opening_fragment place rest = open_at place (codes "<") (close rest)
+unfoldable pub opening_fragment : Context → Part
+opening_fragment context rest = open_at context (codes "<") (close rest)
 
 unfoldable pub closing_fragment : Part
 closing_fragment rest = child_open (codes "<") (punct (codes "/") (close rest))
 
-unfoldable pub jsx_fragment_parts : {X : Type 0} → (X → Place → Part) → JSXFragment X → Place → Part
-jsx_fragment_parts items n place rest = opening_fragment place (jsx_children items n.children.items (closing_fragment rest))
+unfoldable pub jsx_fragment_parts : {X : Type 0} → (X → Place → Part) → JSXFragment X → Context → Part
+jsx_fragment_parts items n context rest = opening_fragment context (jsx_children items n.children.items (closing_fragment rest))
 
-unfoldable pub jsx_fragment : {X : Type 0} → (X → Place → Part) → JSXFragment X → Place → Part
-jsx_fragment items n place = unbounded (jsx_fragment_parts items n place)
+unfoldable pub jsx_fragment : {X : Type 0} → (X → Place → Part) → JSXFragment X → Context → Part
+jsx_fragment items n context = unbounded (jsx_fragment_parts items n context)
 
 -- ---- the parts of JSX that links hold, by their sorts
 
 unfoldable pub jsx_part : {X : Type 0} → (X → Answers) → (X → Place → Part) → JSXPart X → Place → Part
-jsx_part asks items (jsx_parts.JSXElement n) place rest = jsx_element asks items n.value place rest
-jsx_part asks items (jsx_parts.JSXFragment n) place rest = jsx_fragment items n place rest
+jsx_part asks items (jsx_parts.JSXElement n) place rest = jsx_element asks items n.value (context_of place) rest
+jsx_part asks items (jsx_parts.JSXFragment n) place rest = jsx_fragment items n (context_of place) rest
 jsx_part asks items (jsx_parts.JSXObject n) place rest = jsx_object items n rest

@@ -5,8 +5,8 @@ use Rattle.swc_ecma_codegen_tokens.specs.declared.refusals.Unprintable.TheVarian
 use Rattle.swc_ecma_codegen_common.specs.declared.positions.Span.{Span}
 use Rattle.swc_ecma_codegen_spans.specs.Spans.{dummy_span}
 use Rattle.swc_ecma_codegen_grammar.specs.ListFormats.{preserves_lines}
-use Rattle.swc_ecma_codegen_emit.specs.declared.nodes.Place.{Place}
-use Rattle.swc_ecma_codegen_emit.specs.declared.nodes.Place.TheVariants.{Plain}
+use Rattle.swc_ecma_codegen_emit.specs.declared.nodes.Context.TheVariants.{Plain}
+use Rattle.swc_ecma_codegen_emit.specs.Places.{Place, Whole}
 use Rattle.swc_ecma_codegen_tokens.specs.Lists.{ListChild, first_child, next_child, list_after, list}
 use Rattle.swc_ecma_codegen_tokens.specs.Words.{punct, formatting_space}
 
@@ -25,7 +25,7 @@ listed each first (x ∷ xs) rest = comma first (each x (listed each false xs re
 
 -- a node that stands anywhere
 abbrev pub plainly : {A : Type 0} → (A → Place → Part) → A → Part
-plainly items x = items x Plain
+plainly items x = items x (Whole Plain)
 
 -- the nodes, one after another
 unfoldable pub in_order : {A : Type 0} → (A → Part) → List A → Part
@@ -42,7 +42,7 @@ abbrev pub child_at : Span → Part → ListChild
 child_at place part = record { place = place; part = part }
 
 abbrev pub child_of : {A : Type 0} → (A → Span) → (A → Place → Part) → A → ListChild
-child_of place items x = child_at (place x) (items x Plain)
+child_of place items x = child_at (place x) (items x (Whole Plain))
 
 -- A place, as far as the lines of a list ask for it: only those do that end where the source text's do.
 unfoldable pub as_asked : ℕ → Span → Span

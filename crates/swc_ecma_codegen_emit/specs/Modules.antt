@@ -33,8 +33,9 @@ use Rattle.swc_ecma_codegen_tokens.specs.Run.{Part}
 use Rattle.swc_ecma_codegen_tokens.specs.Lists.{list}
 use Rattle.swc_ecma_codegen_tokens.specs.Lits.{str_lit}
 use Rattle.swc_ecma_codegen_tokens.specs.Words.{keyword, punct, semi, space, formatting_space, formatting_line, start_of, end_of, leading_comments, trailing_comments}
-use Rattle.swc_ecma_codegen_emit.specs.declared.nodes.Place.{Place}
-use Rattle.swc_ecma_codegen_emit.specs.declared.nodes.Place.TheVariants.{Plain, DeclarationTail, ExportedHead, ExportedTail}
+use Rattle.swc_ecma_codegen_emit.specs.declared.nodes.Context.TheVariants.{Plain, DefaultExport}
+use Rattle.swc_ecma_codegen_emit.specs.declared.nodes.Piece.TheVariants.{ExportedHead, ExportedTail}
+use Rattle.swc_ecma_codegen_emit.specs.Places.{Place, Whole, Only}
 use Rattle.swc_ecma_codegen_emit.specs.Answers.{Answers, place_of}
 use Rattle.swc_ecma_codegen_emit.specs.ClassExprs.{class_expr}
 use Rattle.swc_ecma_codegen_emit.specs.Exprs.{blank, ident}
@@ -144,7 +145,7 @@ phase_word Defer rest = space (keyword None (codes "defer") rest)
 -- ` with { type: 'json' }`, minified `with{type:"json"}`, where there is such
 unfoldable pub attributes : {X : Type 0} → (X → Place → Part) → Option (ObjectLitBox X) → Part
 attributes items None rest = rest
-attributes items (Some n) rest = formatting_space (attributes_word (formatting_space (items n.node.value Plain rest)))
+attributes items (Some n) rest = formatting_space (attributes_word (formatting_space (items n.node.value (Whole Plain) rest)))
 
 -- `'b' with { type: 'json' };`, the end of an import or an export
 unfoldable pub source_end : {X : Type 0} → (X → Place → Part) → Str → Option (ObjectLitBox X) → Span → Part
@@ -251,12 +252,12 @@ export_all items n rest = leading_comments n.span.lo (start_of n.span (keyword N
 
 -- `export let a = b;`; decorators of a class stand before the word
 unfoldable pub export_decl : {X : Type 0} → (X → Place → Part) → ExportDecl X → Part
-export_decl items n rest = start_of n.span (items n.decl.node.value ExportedHead (keyword None (codes "export") (space (items n.decl.node.value ExportedTail rest))))
+export_decl items n rest = start_of n.span (items n.decl.node.value (Only ExportedHead) (keyword None (codes "export") (space (items n.decl.node.value (Only ExportedTail) rest))))
 
 -- `class {}` of `export default class {}`
 unfoldable pub default_decl : {X : Type 0} → (X → Answers) → (X → Place → Part) → DefaultDecl X → Part
 default_decl asks items (default_decls.Class n) rest = class_expr asks items n rest
-default_decl asks items (default_decls.Fn n) rest = fn_expr asks items n DeclarationTail rest
+default_decl asks items (default_decls.Fn n) rest = fn_expr asks items n DefaultExport rest
 default_decl asks items (default_decls.TsInterfaceDecl n) rest = ts_interface_decl items n rest
 
 -- `export default`
@@ -268,7 +269,7 @@ export_default_decl asks items n rest = leading_comments n.span.lo (start_of n.s
 
 -- `export default a;`, minified `export default[a]`
 unfoldable pub export_default_expr : {X : Type 0} → (X → Answers) → (X → Place → Part) → ExportDefaultExpr X → Part
-export_default_expr asks items n rest = start_of n.span (export_default (blank (asks n.expr.node.value).starts (items n.expr.node.value Plain (semi (end_of n.span rest)))))
+export_default_expr asks items n rest = start_of n.span (export_default (blank (asks n.expr.node.value).starts (items n.expr.node.value (Whole Plain) (semi (end_of n.span rest)))))
 
 -- ---- all of them
 
@@ -289,7 +290,7 @@ module_decl asks items n rest =
     leading_comments (module_decl_span n).lo (module_decl_by asks items n (trailing_comments true (module_decl_span n).hi (formatting_line rest)))
 
 unfoldable pub module_item_by : {X : Type 0} → (X → Answers) → (X → Place → Part) → ModuleItem X → Part
-module_item_by asks items (module_items.ModuleDecl n) rest = items n.node.value Plain rest
+module_item_by asks items (module_items.ModuleDecl n) rest = items n.node.value (Whole Plain) rest
 module_item_by asks items (module_items.Stmt n) rest = stmt asks items n rest
 
 unfoldable pub module_item : {X : Type 0} → (X → Answers) → (X → Place → Part) → ModuleItem X → Part

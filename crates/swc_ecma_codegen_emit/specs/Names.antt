@@ -6,7 +6,7 @@ use Rattle.swc_ecma_codegen_tree.specs.declared.idents.BindingIdent.{BindingIden
 use Rattle.swc_ecma_codegen_tokens.specs.Keys.{key}
 use Rattle.swc_ecma_codegen_tokens.specs.Lits.{str_lit, number_lit, big_int_lit}
 use Rattle.swc_ecma_codegen_tokens.specs.Run.{Part}
-use Rattle.swc_ecma_codegen_emit.specs.declared.nodes.Place.{Place}
+use Rattle.swc_ecma_codegen_emit.specs.Places.{Place}
 use Rattle.swc_ecma_codegen_emit.specs.Annotations.{annotation}
 use Rattle.swc_ecma_codegen_emit.specs.Exprs.{ident, computed_prop_name}
 

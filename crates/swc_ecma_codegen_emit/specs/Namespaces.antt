@@ -8,8 +8,9 @@ use Rattle.swc_ecma_codegen_spans.specs.Spans.{module_item_span, ts_namespace_bo
 use Rattle.swc_ecma_codegen_tokens.specs.Run.{Part}
 use Rattle.swc_ecma_codegen_tokens.specs.Lists.{list, deeper, shallower}
 use Rattle.swc_ecma_codegen_tokens.specs.Words.{keyword, punct, space, formatting_space, leading_comments}
-use Rattle.swc_ecma_codegen_emit.specs.declared.nodes.Place.{Place}
-use Rattle.swc_ecma_codegen_emit.specs.declared.nodes.Place.TheVariants.{Plain, Dotted}
+use Rattle.swc_ecma_codegen_emit.specs.declared.nodes.Context.{Context}
+use Rattle.swc_ecma_codegen_emit.specs.declared.nodes.Context.TheVariants.{Plain, Dotted}
+use Rattle.swc_ecma_codegen_emit.specs.Places.{Place, Whole}
 use Rattle.swc_ecma_codegen_emit.specs.Answers.{Answers, place_of}
 use Rattle.swc_ecma_codegen_emit.specs.Exprs.{ident}
 use Rattle.swc_ecma_codegen_emit.specs.Lists.{child_of}
@@ -32,7 +33,7 @@ unfoldable pub ts_namespace_decl : {X : Type 0} → (X → Place → Part) → T
 ts_namespace_decl items n rest =
     leading_comments n.span.lo
     (declare_word n.declare
-    (keyword None (codes "namespace") (space (ident n.id (formatting_space (items n.body.node.value Plain rest))))))
+    (keyword None (codes "namespace") (space (ident n.id (formatting_space (items n.body.node.value (Whole Plain) rest))))))
 
 unfoldable pub namespace_inside : {X : Type 0} → (X → Answers) → (X → Place → Part) → TsNamespaceBody X → Part
 namespace_inside asks items (bodies.TsModuleBlock n) rest = ts_module_block asks items n rest
@@ -47,8 +48,8 @@ braced_body asks items n rest =
 -- the same behind the name, or a further name: ` { b; }` or `.b { c; }`
 unfoldable pub dotted_body : {X : Type 0} → (X → Answers) → (X → Place → Part) → TsNamespaceBody X → Part
 dotted_body asks items (bodies.TsModuleBlock n) rest = formatting_space (braced_body asks items (bodies.TsModuleBlock n) rest)
-dotted_body asks items (bodies.TsNamespaceDecl n) rest = punct (codes ".") (ident n.id (items n.body.node.value Dotted rest))
+dotted_body asks items (bodies.TsNamespaceDecl n) rest = punct (codes ".") (ident n.id (items n.body.node.value (Whole Dotted) rest))
 
-unfoldable pub ts_namespace_body : {X : Type 0} → (X → Answers) → (X → Place → Part) → TsNamespaceBody X → Place → Part
+unfoldable pub ts_namespace_body : {X : Type 0} → (X → Answers) → (X → Place → Part) → TsNamespaceBody X → Context → Part
 ts_namespace_body asks items n Dotted rest = dotted_body asks items n rest
-ts_namespace_body asks items n place rest = braced_body asks items n rest
+ts_namespace_body asks items n context rest = braced_body asks items n rest

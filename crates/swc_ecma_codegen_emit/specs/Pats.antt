@@ -20,8 +20,8 @@ use Rattle.swc_ecma_codegen_grammar.specs.ElementPhrases.{last_is_hole}
 use Rattle.swc_ecma_codegen_tokens.specs.Run.{Part}
 use Rattle.swc_ecma_codegen_tokens.specs.Lists.{list}
 use Rattle.swc_ecma_codegen_tokens.specs.Words.{punct, placed_punct, question, formatting_space, end_of, leading_comments, trailing_comments}
-use Rattle.swc_ecma_codegen_emit.specs.declared.nodes.Place.{Place}
-use Rattle.swc_ecma_codegen_emit.specs.declared.nodes.Place.TheVariants.{Plain}
+use Rattle.swc_ecma_codegen_emit.specs.declared.nodes.Context.TheVariants.{Plain}
+use Rattle.swc_ecma_codegen_emit.specs.Places.{Place, Whole}
 use Rattle.swc_ecma_codegen_emit.specs.Annotations.{annotation, spaced_annotation}
 use Rattle.swc_ecma_codegen_emit.specs.Answers.{Answers, place_of}
 use Rattle.swc_ecma_codegen_emit.specs.Exprs.{opened, ident, spaced_punct}
@@ -38,7 +38,7 @@ pat_items items n place = items n.node.value place
 -- `= b` of `a = b`
 unfoldable pub initializer : {X : Type 0} → (X → Place → Part) → Option (ExprBox X) → Part
 initializer items None rest = rest
-initializer items (Some n) rest = spaced_punct (codes "=") (items n.node.value Plain rest)
+initializer items (Some n) rest = spaced_punct (codes "=") (items n.node.value (Whole Plain) rest)
 
 -- `ArrayBindingPatternElements`, with `ForceTrailingComma` where a hole is last
 abbrev pub array_pat_format : Bool → ℕ
@@ -58,17 +58,17 @@ array_pat asks items n rest =
 
 -- `...a: A`
 unfoldable pub rest_pat : {X : Type 0} → (X → Place → Part) → RestPat X → Part
-rest_pat items n rest = leading_comments n.span.lo (placed_punct n.dot3_token (codes "...") (items n.arg.node.value Plain (annotation items n.type_ann rest)))
+rest_pat items n rest = leading_comments n.span.lo (placed_punct n.dot3_token (codes "...") (items n.arg.node.value (Whole Plain) (annotation items n.type_ann rest)))
 
 -- `a = b`
 unfoldable pub assign_pat : {X : Type 0} → (X → Place → Part) → AssignPat X → Part
-assign_pat items n rest = opened n.span (items n.left.node.value Plain (spaced_punct (codes "=") (items n.right.node.value Plain (end_of n.span rest))))
+assign_pat items n rest = opened n.span (items n.left.node.value (Whole Plain) (spaced_punct (codes "=") (items n.right.node.value (Whole Plain) (end_of n.span rest))))
 
 -- `a: b`, from where its name begins to where its pattern ends
 unfoldable pub key_value_pat_prop : {X : Type 0} → (X → Answers) → (X → Place → Part) → KeyValuePatProp X → Part
 key_value_pat_prop asks items n rest =
     opened (prop_name_span n.key)
-    (prop_name items n.key (punct (codes ":") (formatting_space (items n.value.node.value Plain (end_of (asks n.value.node.value).place rest)))))
+    (prop_name items n.key (punct (codes ":") (formatting_space (items n.value.node.value (Whole Plain) (end_of (asks n.value.node.value).place rest)))))
 
 -- `a`, `a = b`
 unfoldable pub assign_pat_prop : {X : Type 0} → (X → Place → Part) → AssignPatProp X → Part
@@ -103,7 +103,7 @@ pat_parts asks items (pats.Rest n) rest = rest_pat items n rest
 pat_parts asks items (pats.Object n) rest = object_pat asks items n rest
 pat_parts asks items (pats.Assign n) rest = assign_pat items n rest
 pat_parts asks items (pats.Invalid n) rest = unsupported rest
-pat_parts asks items (pats.Expr n) rest = items n.node.value Plain rest
+pat_parts asks items (pats.Expr n) rest = items n.node.value (Whole Plain) rest
 
 -- the comments after it
 unfoldable pub pat : {X : Type 0} → (X → Answers) → (X → Place → Part) → Pat X → Part

@@ -9,8 +9,8 @@ use Rattle.swc_ecma_codegen_tree.specs.declared.programs.Program.TheVariants as 
 use Rattle.swc_ecma_codegen_tokens.specs.Literals.{hashbang}
 use Rattle.swc_ecma_codegen_tokens.specs.Run.{Part}
 use Rattle.swc_ecma_codegen_tokens.specs.Words.{bounded, commit_pending_semi, start_of, leading_comments, trailing_comments}
-use Rattle.swc_ecma_codegen_emit.specs.declared.nodes.Place.{Place}
-use Rattle.swc_ecma_codegen_emit.specs.declared.nodes.Place.TheVariants.{Lines}
+use Rattle.swc_ecma_codegen_emit.specs.declared.nodes.Context.TheVariants.{ByItself}
+use Rattle.swc_ecma_codegen_emit.specs.Places.{Place, Whole}
 use Rattle.swc_ecma_codegen_emit.specs.Answers.{Answers}
 use Rattle.swc_ecma_codegen_emit.specs.Lists.{in_order}
 use Rattle.swc_ecma_codegen_emit.specs.Modules.{module_item}
@@ -32,7 +32,7 @@ program_start (Some text) body span rest = start_if_empty body span (hashbang (s
 
 -- a part with lines of the greatest length that its place tells
 abbrev pub lined : Place → Part → Part
-lined (Lines max) part = bounded max part
+lined (Whole (ByItself max)) part = bounded max part
 lined place part = part
 
 unfoldable pub script_parts : {X : Type 0} → (X → Answers) → (X → Place → Part) → Script X → Part

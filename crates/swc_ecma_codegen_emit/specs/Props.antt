@@ -18,8 +18,9 @@ use Rattle.swc_ecma_codegen_tokens.specs.Lists.{ListChild, list}
 use Rattle.swc_ecma_codegen_tokens.specs.Run.{Part, when_minified}
 use Rattle.swc_ecma_codegen_emit.specs.Commented.{has_comment_inside}
 use Rattle.swc_ecma_codegen_tokens.specs.Words.{by_maps, keyword, punct, formatting_space, line_end, position, last_of}
-use Rattle.swc_ecma_codegen_emit.specs.declared.nodes.Place.{Place}
-use Rattle.swc_ecma_codegen_emit.specs.declared.nodes.Place.TheVariants.{Plain, MethodHead, DeclarationTail}
+use Rattle.swc_ecma_codegen_emit.specs.declared.nodes.Context.TheVariants.{Plain}
+use Rattle.swc_ecma_codegen_emit.specs.declared.nodes.Piece.TheVariants.{MethodHead, DeclarationTail}
+use Rattle.swc_ecma_codegen_emit.specs.Places.{Place, Whole, Only}
 use Rattle.swc_ecma_codegen_emit.specs.Answers.{Answers, place_of}
 use Rattle.swc_ecma_codegen_emit.specs.Exprs.{blank, opened, ident, spread_element}
 use Rattle.swc_ecma_codegen_emit.specs.Lists.{child_of}
@@ -37,25 +38,25 @@ unfoldable pub key_value_prop : {X : Type 0} → (X → Answers) → (X → Plac
 key_value_prop asks items n rest =
     let name = prop_name_span n.key in
     let value = (asks n.value.node.value).place in
-    opened name (prop_name items n.key (key_end name value (punct (codes ":") (formatting_space (value_start name value (items n.value.node.value Plain rest))))))
+    opened name (prop_name items n.key (key_end name value (punct (codes ":") (formatting_space (value_start name value (items n.value.node.value (Whole Plain) rest))))))
 
 -- `a=b`
 unfoldable pub assign_prop : {X : Type 0} → (X → Place → Part) → AssignProp X → Part
-assign_prop items n rest = opened n.key.span (ident n.key (punct (codes "=") (items n.value.node.value Plain rest)))
+assign_prop items n rest = opened n.key.span (ident n.key (punct (codes "=") (items n.value.node.value (Whole Plain) rest)))
 
 -- `get ` before a name, and its name
 unfoldable pub accessor : {X : Type 0} → (X → Answers) → (X → Place → Part) → List ℕ → X → Part
-accessor asks items word name rest = keyword None word (blank (asks name).starts (items name Plain (formatting_space rest)))
+accessor asks items word name rest = keyword None word (blank (asks name).starts (items name (Whole Plain) (formatting_space rest)))
 
 -- a body, where there is one
 unfoldable pub optional_body : {X : Type 0} → (X → Place → Part) → Option (BlockStmtBox X) → Part
 optional_body items None rest = rest
-optional_body items (Some n) rest = items n.node.value Plain rest
+optional_body items (Some n) rest = items n.node.value (Whole Plain) rest
 
 -- `:T` of `get a():T { b; }`, without a blank
 unfoldable pub tight_annotation : {X : Type 0} → (X → Place → Part) → Option (TsTypeAnnBox X) → Part
 tight_annotation items None rest = rest
-tight_annotation items (Some n) rest = punct (codes ":") (items n.node.value Plain rest)
+tight_annotation items (Some n) rest = punct (codes ":") (items n.node.value (Whole Plain) rest)
 
 -- `get a () { b; }`
 unfoldable pub getter_prop : {X : Type 0} → (X → Answers) → (X → Place → Part) → GetterProp X → Part
@@ -67,21 +68,21 @@ getter_prop asks items n rest =
 -- `this: T, ` of `set a (this: T, b){ c; }`
 unfoldable pub this_param : {X : Type 0} → (X → Place → Part) → Option (PatBox X) → Part
 this_param items None rest = rest
-this_param items (Some n) rest = items n.node.value Plain (punct (codes ",") (formatting_space rest))
+this_param items (Some n) rest = items n.node.value (Whole Plain) (punct (codes ",") (formatting_space rest))
 
 -- `set a (b){ c; }`
 unfoldable pub setter_prop : {X : Type 0} → (X → Answers) → (X → Place → Part) → SetterProp X → Part
 setter_prop asks items n rest =
     opened n.span
     (accessor asks items (codes "set") n.key.node.value
-    (punct (codes "(") (this_param items n.this_param (items n.param.node.value Plain (punct (codes ")") (optional_body items n.body rest))))))
+    (punct (codes "(") (this_param items n.this_param (items n.param.node.value (Whole Plain) (punct (codes ")") (optional_body items n.body rest))))))
 
 -- `async *a() { b; }`
 unfoldable pub method_prop : {X : Type 0} → (X → Answers) → (X → Place → Part) → MethodProp X → Part
 method_prop asks items n rest =
     let function = n.function.node.value in
     opened (prop_name_span n.key)
-    (items function MethodHead (prop_name items n.key (formatting_space (items function DeclarationTail rest))))
+    (items function (Only MethodHead) (prop_name items n.key (formatting_space (items function (Only DeclarationTail) rest))))
 
 unfoldable pub prop : {X : Type 0} → (X → Answers) → (X → Place → Part) → Prop X → Part
 prop asks items (props.Shorthand n) rest = ident n rest

@@ -16,9 +16,8 @@ use Rattle.swc_ecma_codegen_grammar.specs.TreePhrases.{phrase, expr_phrase, stmt
 use Rattle.swc_ecma_codegen_text_writer.specs.Sheet.{Flowing}
 use Rattle.swc_ecma_codegen_tokens.specs.Run.{Part, State}
 use Rattle.swc_ecma_codegen_tokens.specs.Written.{IsNew, IsAtMargin}
-use Rattle.swc_ecma_codegen_emit.specs.declared.nodes.Place.{Place}
 use Rattle.swc_ecma_codegen_emit.specs.Answers.{any_answers}
-use Rattle.swc_ecma_codegen_emit.specs.Places.{by_itself, placed}
+use Rattle.swc_ecma_codegen_emit.specs.Places.{Place, by_itself, in_context, placed}
 use Rattle.swc_ecma_codegen_emit.specs.AnyExpr.{expr}
 use Rattle.swc_ecma_codegen_emit.specs.Stmts.{stmt}
 use Rattle.swc_ecma_codegen_emit.specs.Modules.{module_item}
@@ -37,7 +36,7 @@ pub data Root : Type 0 where
 
 -- what is written of it at a place
 abbrev pub root_at : Root → Place → Part
-root_at (OfExpr n) = expr any_answers any_items n
+root_at (OfExpr n) = in_context (expr any_answers any_items n)
 root_at (OfStmt n) = λ place. stmt any_answers any_items n
 root_at (OfItem n) = λ place. module_item any_answers any_items n
 root_at (OfModule n) = whole_module any_answers any_items n

@@ -36,8 +36,8 @@ use Rattle.swc_ecma_codegen_tokens.specs.Choices.{loop_ending, optional_parenthe
 use Rattle.swc_ecma_codegen_tokens.specs.Lists.{ListChild, by_lines, blank_if, list}
 use Rattle.swc_ecma_codegen_tokens.specs.Run.{Part}
 use Rattle.swc_ecma_codegen_tokens.specs.Words.{by_maps, keyword, punct, semi, space, formatting_space, formatting_line, commit_pending_semi, start_of, end_of, last_of, leading_comments, trailing_comments}
-use Rattle.swc_ecma_codegen_emit.specs.declared.nodes.Place.{Place}
-use Rattle.swc_ecma_codegen_emit.specs.declared.nodes.Place.TheVariants.{Plain, Statement}
+use Rattle.swc_ecma_codegen_emit.specs.declared.nodes.Context.TheVariants.{Plain, Statement}
+use Rattle.swc_ecma_codegen_emit.specs.Places.{Place, Whole}
 use Rattle.swc_ecma_codegen_emit.specs.Answers.{Answers, place_of}
 use Rattle.swc_ecma_codegen_emit.specs.Branches.{is_block}
 use Rattle.swc_ecma_codegen_emit.specs.Decls.{using_decl, decl}
@@ -49,15 +49,15 @@ use Rattle.swc_ecma_codegen_emit.specs.Lists.{child_of}
 
 -- an expression in parentheses: `(a)`
 unfoldable pub enclosed : {X : Type 0} → (X → Place → Part) → ExprBox X → Part
-enclosed items n rest = punct (codes "(") (items n.node.value Plain (punct (codes ")") rest))
+enclosed items n rest = punct (codes "(") (items n.node.value (Whole Plain) (punct (codes ")") rest))
 
 -- a blank, where a word stands before it, and a node: `return a`, minified `return[a]`
 unfoldable pub spaced : {X : Type 0} → (X → Answers) → (X → Place → Part) → X → Part
-spaced asks items x rest = blank (asks x).starts (items x Plain rest)
+spaced asks items x rest = blank (asks x).starts (items x (Whole Plain) rest)
 
 -- An argument behind such a word, in parentheses where a line ends in or after a comment before it: `return (// a` LF `b)`.
 unfoldable pub argument_in : {X : Type 0} → (X → Answers) → (X → Place → Part) → X → Bool → Part
-argument_in asks items x true rest = optional_parentheses true (items x Plain) rest
+argument_in asks items x true rest = optional_parentheses true (items x (Whole Plain)) rest
 argument_in asks items x false rest = spaced asks items x rest
 
 unfoldable pub argument : {X : Type 0} → (X → Answers) → (X → Place → Part) → X → Part
@@ -81,14 +81,14 @@ unfoldable pub empty_stmt : EmptyStmt → Part
 empty_stmt n rest = leading_comments n.span.lo (punct (codes ";") rest)
 
 unfoldable pub expr_stmt : {X : Type 0} → (X → Place → Part) → ExprStmt X → Part
-expr_stmt items n rest = leading_comments n.span.lo (items n.expr.node.value Plain (semi rest))
+expr_stmt items n rest = leading_comments n.span.lo (items n.expr.node.value (Whole Plain) (semi rest))
 
 unfoldable pub debugger_stmt : DebuggerStmt → Part
 debugger_stmt n rest = commit_pending_semi (leading_comments n.span.lo (keyword (Some n.span) (codes "debugger") (semi rest)))
 
 -- `with (a) b;`
 unfoldable pub with_stmt : {X : Type 0} → (X → Place → Part) → WithStmt X → Part
-with_stmt items n rest = commit_pending_semi (start_of n.span (keyword None (codes "with") (formatting_space (enclosed items n.obj (items n.body.node.value Plain rest)))))
+with_stmt items n rest = commit_pending_semi (start_of n.span (keyword None (codes "with") (formatting_space (enclosed items n.obj (items n.body.node.value (Whole Plain) rest)))))
 
 -- `return a;`, `return;`
 unfoldable pub return_arg : {X : Type 0} → (X → Answers) → (X → Place → Part) → Option (ExprBox X) → Part
@@ -100,7 +100,7 @@ return_stmt asks items n rest = stmt_word n.span (codes "return") (return_arg as
 
 -- `a: b;`
 unfoldable pub labeled_stmt : {X : Type 0} → (X → Place → Part) → LabeledStmt X → Part
-labeled_stmt items n rest = commit_pending_semi (ident n.label (punct (codes ":") (formatting_space (items n.body.node.value Plain rest))))
+labeled_stmt items n rest = commit_pending_semi (ident n.label (punct (codes ":") (formatting_space (items n.body.node.value (Whole Plain) rest))))
 
 unfoldable pub break_stmt : BreakStmt → Part
 break_stmt n rest = jump n.span (codes "break") n.label rest
@@ -118,15 +118,15 @@ unfoldable pub if_stmt : {X : Type 0} → (X → Answers) → (X → Place → P
 if_stmt asks items n rest =
     spaced_word n.span (codes "if")
     (enclosed items n.test
-    (formatting_space (items n.cons.node.value Plain (else_branch asks items (asks n.cons.node.value).block n.alt rest))))
+    (formatting_space (items n.cons.node.value (Whole Plain) (else_branch asks items (asks n.cons.node.value).block n.alt rest))))
 
 -- `catch {`, `catch (a) {`, with two blanks where nothing is caught
 unfoldable pub catch_param : {X : Type 0} → (X → Place → Part) → Option (PatBox X) → Part
 catch_param items None rest = rest
-catch_param items (Some n) rest = punct (codes "(") (items n.node.value Plain (punct (codes ")") rest))
+catch_param items (Some n) rest = punct (codes "(") (items n.node.value (Whole Plain) (punct (codes ")") rest))
 
 unfoldable pub catch_clause : {X : Type 0} → (X → Place → Part) → CatchClause X → Part
-catch_clause items n rest = opened n.span (keyword None (codes "catch") (formatting_space (catch_param items n.param (formatting_space (items n.body.node.value Plain rest)))))
+catch_clause items n rest = opened n.span (keyword None (codes "catch") (formatting_space (catch_param items n.param (formatting_space (items n.body.node.value (Whole Plain) rest)))))
 
 unfoldable pub handler : {X : Type 0} → (X → Place → Part) → Option (CatchClause X) → Part
 handler items None rest = rest
@@ -135,11 +135,11 @@ handler items (Some n) rest = formatting_space (catch_clause items n rest)
 -- ` finally{`
 unfoldable pub finalizer : {X : Type 0} → (X → Place → Part) → Option (BlockStmtBox X) → Part
 finalizer items None rest = rest
-finalizer items (Some n) rest = formatting_space (keyword None (codes "finally") (items n.node.value Plain rest))
+finalizer items (Some n) rest = formatting_space (keyword None (codes "finally") (items n.node.value (Whole Plain) rest))
 
 -- `try { a; } catch (b) { c; } finally{ d; }`
 unfoldable pub try_stmt : {X : Type 0} → (X → Place → Part) → TryStmt X → Part
-try_stmt items n rest = spaced_word n.span (codes "try") (items n.block.node.value Plain (handler items n.handler (finalizer items n.finalizer rest)))
+try_stmt items n rest = spaced_word n.span (codes "try") (items n.block.node.value (Whole Plain) (handler items n.handler (finalizer items n.finalizer rest)))
 
 unfoldable pub throw_stmt : {X : Type 0} → (X → Answers) → (X → Place → Part) → ThrowStmt X → Part
 throw_stmt asks items n rest = opened n.span (keyword None (codes "throw") (argument asks items n.arg.node.value (semi rest)))
@@ -208,7 +208,7 @@ switch_stmt asks items n rest = stmt_word n.span (codes "switch") (enclosed item
 
 -- `while(a)b;`
 unfoldable pub while_stmt : {X : Type 0} → (X → Place → Part) → WhileStmt X → Part
-while_stmt items n rest = stmt_word n.span (codes "while") (enclosed items n.test (items n.body.node.value Plain rest))
+while_stmt items n rest = stmt_word n.span (codes "while") (enclosed items n.test (items n.body.node.value (Whole Plain) rest))
 
 -- `while (a)` at the end of a loop
 unfoldable pub loop_test : {X : Type 0} → (X → Place → Part) → ExprBox X → Part
@@ -219,8 +219,8 @@ unfoldable pub do_while_stmt : {X : Type 0} → (X → Answers) → (X → Place
 do_while_stmt asks items n rest = stmt_word n.span (codes "do") (spaced asks items n.body.node.value (loop_test items n.test (loop_ending (end_of n.span rest))))
 
 unfoldable pub var_decl_or_expr : {X : Type 0} → (X → Place → Part) → VarDeclOrExpr X → Part
-var_decl_or_expr items (inits.VarDecl n) rest = items n.node.value Plain rest
-var_decl_or_expr items (inits.Expr n) rest = items n.node.value Plain rest
+var_decl_or_expr items (inits.VarDecl n) rest = items n.node.value (Whole Plain) rest
+var_decl_or_expr items (inits.Expr n) rest = items n.node.value (Whole Plain) rest
 
 unfoldable pub for_init : {X : Type 0} → (X → Place → Part) → Option (VarDeclOrExpr X) → Part
 for_init items None rest = rest
@@ -229,7 +229,7 @@ for_init items (Some n) rest = var_decl_or_expr items n rest
 -- a semicolon, and an expression behind a blank, where there is one: `; a`
 unfoldable pub for_value : {X : Type 0} → (X → Place → Part) → Option (ExprBox X) → Part
 for_value items None rest = rest
-for_value items (Some n) rest = formatting_space (items n.node.value Plain rest)
+for_value items (Some n) rest = formatting_space (items n.node.value (Whole Plain) rest)
 
 unfoldable pub for_clause : {X : Type 0} → (X → Place → Part) → Option (ExprBox X) → Part
 for_clause items n rest = punct (codes ";") (for_value items n rest)
@@ -240,13 +240,13 @@ for_control items n rest = punct (codes "(") (for_init items n.init (for_clause 
 
 -- `for(a; b; c)d;`
 unfoldable pub for_stmt : {X : Type 0} → (X → Place → Part) → ForStmt X → Part
-for_stmt items n rest = stmt_word n.span (codes "for") (for_control items n (items n.body.node.value Plain rest))
+for_stmt items n rest = stmt_word n.span (codes "for") (for_control items n (items n.body.node.value (Whole Plain) rest))
 
 -- `let a` of `for (let a of b) c;`
 unfoldable pub for_head : {X : Type 0} → (X → Answers) → (X → Place → Part) → ForHead X → Part
-for_head asks items (heads.VarDecl n) rest = items n.node.value Plain rest
+for_head asks items (heads.VarDecl n) rest = items n.node.value (Whole Plain) rest
 for_head asks items (heads.UsingDecl n) rest = using_decl asks items n.value rest
-for_head asks items (heads.Pat n) rest = items n.node.value Plain rest
+for_head asks items (heads.Pat n) rest = items n.node.value (Whole Plain) rest
 
 -- ` of b`, minified ` of[b]` after a name and `of b` after a bracket
 unfoldable pub for_right : {X : Type 0} → (X → Answers) → (X → Place → Part) → List ℕ → Bool → ExprBox X → Part
@@ -258,7 +258,7 @@ for_each asks items t left right rest = punct (codes "(") (for_head asks items l
 
 -- `for(a in b)c;`
 unfoldable pub for_in_stmt : {X : Type 0} → (X → Answers) → (X → Place → Part) → ForInStmt X → Part
-for_in_stmt asks items n rest = stmt_word n.span (codes "for") (for_each asks items (codes "in") n.left n.right (items n.body.node.value Plain rest))
+for_in_stmt asks items n rest = stmt_word n.span (codes "for") (for_each asks items (codes "in") n.left n.right (items n.body.node.value (Whole Plain) rest))
 
 -- ` await`, where it is so
 unfoldable pub for_await : Bool → Part
@@ -269,13 +269,13 @@ unfoldable pub for_of_stmt : {X : Type 0} → (X → Answers) → (X → Place �
 for_of_stmt asks items n rest =
     stmt_word n.span (codes "for")
     (for_await n.is_await
-    (formatting_space (for_each asks items (codes "of") n.left n.right (items n.body.node.value Plain rest))))
+    (formatting_space (for_each asks items (codes "of") n.left n.right (items n.body.node.value (Whole Plain) rest))))
 
 -- ---- all of them
 
 -- a statement by its variant
 unfoldable pub stmt_parts : {X : Type 0} → (X → Answers) → (X → Place → Part) → Stmt X → Part
-stmt_parts asks items (stmts.Block n) rest = items n.node.value Plain rest
+stmt_parts asks items (stmts.Block n) rest = items n.node.value (Whole Plain) rest
 stmt_parts asks items (stmts.Empty n) rest = empty_stmt n rest
 stmt_parts asks items (stmts.Debugger n) rest = debugger_stmt n rest
 stmt_parts asks items (stmts.With n) rest = with_stmt items n rest
@@ -292,7 +292,7 @@ stmt_parts asks items (stmts.DoWhile n) rest = do_while_stmt asks items n rest
 stmt_parts asks items (stmts.For n) rest = for_stmt items n rest
 stmt_parts asks items (stmts.ForIn n) rest = for_in_stmt asks items n rest
 stmt_parts asks items (stmts.ForOf n) rest = for_of_stmt asks items n rest
-stmt_parts asks items (stmts.Decl n) rest = decl asks items n Statement rest
+stmt_parts asks items (stmts.Decl n) rest = decl asks items n (Whole Statement) rest
 stmt_parts asks items (stmts.Expr n) rest = expr_stmt items n rest
 
 -- the comments after a statement, and the end of its line, which a block doesn't end

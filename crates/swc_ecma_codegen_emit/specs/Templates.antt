@@ -8,8 +8,9 @@ use Rattle.swc_ecma_codegen_tokens.specs.Run.{unbounded, Part, refuse}
 use Rattle.swc_ecma_codegen_tokens.specs.Templates.{tpl_element}
 use Rattle.swc_ecma_codegen_tokens.specs.Words.{start_of, end_of, leading_comments}
 use Rattle.swc_ecma_codegen_tokens.specs.declared.refusals.Unprintable.TheVariants as unprintable
-use Rattle.swc_ecma_codegen_emit.specs.declared.nodes.Place.{Place}
-use Rattle.swc_ecma_codegen_emit.specs.declared.nodes.Place.TheVariants.{Plain, Callee, Tagged}
+use Rattle.swc_ecma_codegen_emit.specs.declared.nodes.Context.{Context}
+use Rattle.swc_ecma_codegen_emit.specs.declared.nodes.Context.TheVariants.{Plain, Callee, Tagged}
+use Rattle.swc_ecma_codegen_emit.specs.Places.{Place, Whole}
 use Rattle.swc_ecma_codegen_emit.specs.Annotations.{type_args}
 use Rattle.swc_ecma_codegen_emit.specs.Exprs.{held}
 
@@ -38,13 +39,13 @@ unfoldable pub tpl : {X : Type 0} → (X → Place → Part) → Bool → Tpl X 
 tpl items tagged n rest = if is_counted n.exprs.items n.quasis.items then tpl_placed items tagged n rest else bad_shape rest
 
 -- its place says whether it has a tag
-abbrev pub is_tagged : Place → Bool
+abbrev pub is_tagged : Context → Bool
 is_tagged Tagged = true
-is_tagged place = false
+is_tagged context = false
 
 -- `` a<B>`c` ``
 unfoldable pub tagged_tpl : {X : Type 0} → (X → Place → Part) → TaggedTpl X → Part
 tagged_tpl items n rest =
     leading_comments n.span.lo
     (start_of n.span
-    (items n.tag.node.value Callee (type_args items Plain n.type_params (items n.tpl.node.value Tagged (end_of n.span rest)))))
+    (items n.tag.node.value (Whole Callee) (type_args items Plain n.type_params (items n.tpl.node.value (Whole Tagged) (end_of n.span rest)))))

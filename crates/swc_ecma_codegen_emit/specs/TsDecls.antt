@@ -22,8 +22,8 @@ use Rattle.swc_ecma_codegen_tokens.specs.Run.{Part}
 use Rattle.swc_ecma_codegen_tokens.specs.Lists.{list}
 use Rattle.swc_ecma_codegen_tokens.specs.Lits.{str_lit}
 use Rattle.swc_ecma_codegen_tokens.specs.Words.{keyword, punct, semi, space, formatting_space, leading_comments}
-use Rattle.swc_ecma_codegen_emit.specs.declared.nodes.Place.{Place}
-use Rattle.swc_ecma_codegen_emit.specs.declared.nodes.Place.TheVariants.{Plain, Dotted}
+use Rattle.swc_ecma_codegen_emit.specs.declared.nodes.Context.TheVariants.{Plain, Dotted}
+use Rattle.swc_ecma_codegen_emit.specs.Places.{Place, Whole}
 use Rattle.swc_ecma_codegen_emit.specs.Annotations.{type_args, type_params, word_before}
 use Rattle.swc_ecma_codegen_emit.specs.Exprs.{ident, spaced_punct}
 use Rattle.swc_ecma_codegen_emit.specs.Lists.{child_of}
@@ -38,7 +38,7 @@ declare_word declared rest = word_before declared (codes "declare") rest
 
 -- `A<B>`
 unfoldable pub ts_expr_with_type_args : {X : Type 0} → (X → Place → Part) → TsExprWithTypeArgs X → Part
-ts_expr_with_type_args items n rest = leading_comments n.span.lo (items n.expr.node.value Plain (type_args items Plain n.type_args rest))
+ts_expr_with_type_args items n rest = leading_comments n.span.lo (items n.expr.node.value (Whole Plain) (type_args items Plain n.type_args rest))
 
 abbrev pub extended_place : {X : Type 0} → TsExprWithTypeArgs X → Span
 extended_place n = n.span
@@ -68,7 +68,7 @@ ts_interface_decl items n rest =
     (ident n.id
     (type_params items n.type_params
     (extends_clause items n.span n.extends.items
-    (formatting_space (items n.body.node.value Plain rest))))))))
+    (formatting_space (items n.body.node.value (Whole Plain) rest))))))))
 
 -- `declare type A<B> = C;`
 unfoldable pub ts_type_alias_decl : {X : Type 0} → (X → Place → Part) → TsTypeAliasDecl X → Part
@@ -127,7 +127,7 @@ module_head global n rest = if global then keyword None (codes "global") rest el
 -- `.b { c; }`, ` { c; }`, or the semicolon in its place
 unfoldable pub module_tail : {X : Type 0} → (X → Place → Part) → Option (TsNamespaceBodyBox X) → Part
 module_tail items None rest = semi rest
-module_tail items (Some n) rest = items n.node.value Dotted rest
+module_tail items (Some n) rest = items n.node.value (Whole Dotted) rest
 
 -- `declare namespace a.b { c; }`
 unfoldable pub ts_module_decl : {X : Type 0} → (X → Place → Part) → TsModuleDecl X → Part
@@ -141,7 +141,7 @@ ts_external_module_ref n rest =
     leading_comments n.span.lo (keyword None (codes "require") (punct (codes "(") (str_lit n.expr (punct (codes ")") rest))))
 
 unfoldable pub ts_module_ref : {X : Type 0} → (X → Place → Part) → TsModuleRef X → Part
-ts_module_ref items (module_refs.TsEntityName n) rest = items n.node.value Plain rest
+ts_module_ref items (module_refs.TsEntityName n) rest = items n.node.value (Whole Plain) rest
 ts_module_ref items (module_refs.TsExternalModuleRef n) rest = ts_external_module_ref n rest
 
 -- `export import type a = b.c;`
@@ -157,7 +157,7 @@ ts_import_equals_decl items n rest =
 -- `export = a;`
 unfoldable pub ts_export_assignment : {X : Type 0} → (X → Place → Part) → TsExportAssignment X → Part
 ts_export_assignment items n rest =
-    leading_comments n.span.lo (keyword None (codes "export") (spaced_punct (codes "=") (items n.expr.node.value Plain (semi rest))))
+    leading_comments n.span.lo (keyword None (codes "export") (spaced_punct (codes "=") (items n.expr.node.value (Whole Plain) (semi rest))))
 
 -- `export as namespace a;`
 unfoldable pub ts_namespace_export_decl : TsNamespaceExportDecl → Part

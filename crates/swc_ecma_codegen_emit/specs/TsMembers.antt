@@ -16,8 +16,8 @@ use Rattle.swc_ecma_codegen_tokens.specs.Run.{Part}
 use Rattle.swc_ecma_codegen_tokens.specs.Lists.{list}
 use Rattle.swc_ecma_codegen_tokens.specs.Words.{keyword, punct, punct_between, question, semi, space, formatting_space, leading_comments}
 use Rattle.swc_ecma_codegen_spans.specs.Spans.{ts_type_element_span}
-use Rattle.swc_ecma_codegen_emit.specs.declared.nodes.Place.{Place}
-use Rattle.swc_ecma_codegen_emit.specs.declared.nodes.Place.TheVariants.{Plain, Reference}
+use Rattle.swc_ecma_codegen_emit.specs.declared.nodes.Context.TheVariants.{Plain, Reference}
+use Rattle.swc_ecma_codegen_emit.specs.Places.{Place, Whole}
 use Rattle.swc_ecma_codegen_emit.specs.Annotations.{annotation, spaced_annotation, type_params, types_format, word_before}
 use Rattle.swc_ecma_codegen_emit.specs.Answers.{Answers}
 use Rattle.swc_ecma_codegen_emit.specs.Lists.{child_of}
@@ -25,7 +25,7 @@ use Rattle.swc_ecma_codegen_emit.specs.Lists.{child_of}
 -- `a` or `[a]`
 unfoldable pub signature_key : {X : Type 0} → (X → Place → Part) → Bool → ExprBox X → Part
 signature_key items computed n rest =
-    if computed then punct (codes "[") (items n.node.value Plain (punct (codes "]") rest)) else items n.node.value Plain rest
+    if computed then punct (codes "[") (items n.node.value (Whole Plain) (punct (codes "]") rest)) else items n.node.value (Whole Plain) rest
 
 -- parameters that links hold
 abbrev pub fn_param_place : {X : Type 0} → (X → Answers) → TsFnParamBox X → Span
@@ -44,7 +44,7 @@ signature_params asks items span ns rest = punct (codes "(") (fn_params_list ask
 -- ` : A`, between two blanks
 unfoldable pub annotation_between : {X : Type 0} → (X → Place → Part) → Option (TsTypeAnnBox X) → Part
 annotation_between items None rest = rest
-annotation_between items (Some n) rest = punct_between (codes ":") (items n.node.value Plain rest)
+annotation_between items (Some n) rest = punct_between (codes ":") (items n.node.value (Whole Plain) rest)
 
 -- `<A>(a: A) : B`
 unfoldable pub ts_call_signature_decl : {X : Type 0} → (X → Answers) → (X → Place → Part) → TsCallSignatureDecl X → Part
@@ -55,7 +55,7 @@ ts_call_signature_decl asks items n rest =
 -- type parameters behind `new`, and the blank before them
 unfoldable pub params_behind_new : {X : Type 0} → (X → Place → Part) → Option (TsTypeParamDeclBox X) → Part
 params_behind_new items None rest = rest
-params_behind_new items (Some n) rest = space (items n.node.value Plain rest)
+params_behind_new items (Some n) rest = space (items n.node.value (Whole Plain) rest)
 
 -- `new <A>(a: A): B`
 unfoldable pub ts_construct_signature_decl : {X : Type 0} → (X → Answers) → (X → Place → Part) → TsConstructSignatureDecl X → Part
@@ -74,7 +74,7 @@ ts_property_signature items n rest =
 -- `: B` of a getter, which leaves the comments before it
 unfoldable pub getter_annotation : {X : Type 0} → (X → Place → Part) → Option (TsTypeAnnBox X) → Part
 getter_annotation items None rest = rest
-getter_annotation items (Some n) rest = punct (codes ":") (formatting_space (items n.node.value Reference rest))
+getter_annotation items (Some n) rest = punct (codes ":") (formatting_space (items n.node.value (Whole Reference) rest))
 
 -- `get a(): B`
 unfoldable pub ts_getter_signature : {X : Type 0} → (X → Place → Part) → TsGetterSignature X → Part
@@ -86,7 +86,7 @@ ts_getter_signature items n rest =
 unfoldable pub ts_setter_signature : {X : Type 0} → (X → Place → Part) → TsSetterSignature X → Part
 ts_setter_signature items n rest =
     keyword None (codes "set")
-    (space (signature_key items n.computed n.key (punct (codes "(") (items n.param.node.value Plain (punct (codes ")") rest)))))
+    (space (signature_key items n.computed n.key (punct (codes "(") (items n.param.node.value (Whole Plain) (punct (codes ")") rest)))))
 
 -- `a?<B>(b: B): C`
 unfoldable pub ts_method_signature : {X : Type 0} → (X → Answers) → (X → Place → Part) → TsMethodSignature X → Part

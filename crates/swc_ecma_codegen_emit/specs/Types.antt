@@ -57,8 +57,9 @@ use Rattle.swc_ecma_codegen_tokens.specs.Lits.{str_lit, bool_node, number_lit, b
 use Rattle.swc_ecma_codegen_tokens.specs.Tags.{close}
 use Rattle.swc_ecma_codegen_tokens.specs.Words.{keyword, punct, punct_between, semi, space, formatting_space, line_end, leading_comments}
 use Rattle.swc_ecma_codegen_spans.specs.Spans.{ts_type_element_span}
-use Rattle.swc_ecma_codegen_emit.specs.declared.nodes.Place.{Place}
-use Rattle.swc_ecma_codegen_emit.specs.declared.nodes.Place.TheVariants.{Plain, Reference}
+use Rattle.swc_ecma_codegen_emit.specs.declared.nodes.Context.{Context}
+use Rattle.swc_ecma_codegen_emit.specs.declared.nodes.Context.TheVariants.{Plain, Reference}
+use Rattle.swc_ecma_codegen_emit.specs.Places.{Place, Whole}
 use Rattle.swc_ecma_codegen_emit.specs.Annotations.{types_format, word_before, type_args, type_params}
 use Rattle.swc_ecma_codegen_emit.specs.Answers.{Answers}
 use Rattle.swc_ecma_codegen_emit.specs.Exprs.{ident, ident_name, spaced_punct}
@@ -76,7 +77,7 @@ abbrev pub type_items : {X : Type 0} → (X → Place → Part) → TsTypeBox X 
 type_items items n place = items n.node.value place
 
 abbrev pub type_at : {X : Type 0} → (X → Place → Part) → TsTypeBox X → Part
-type_at items n = items n.node.value Plain
+type_at items n = items n.node.value (Whole Plain)
 
 -- a type, where there is one, behind a word between two blanks: ` extends A`
 unfoldable pub type_behind : {X : Type 0} → (X → Place → Part) → List ℕ → Option (TsTypeBox X) → Part
@@ -92,7 +93,7 @@ default_type items (Some n) rest = spaced_punct (codes "=") (type_at items n res
 
 -- `a.B`
 unfoldable pub ts_qualified_name : {X : Type 0} → (X → Place → Part) → TsQualifiedName X → Part
-ts_qualified_name items n rest = leading_comments n.span.lo (items n.left.node.value Plain (punct (codes ".") (ident_name n.right rest)))
+ts_qualified_name items n rest = leading_comments n.span.lo (items n.left.node.value (Whole Plain) (punct (codes ".") (ident_name n.right rest)))
 
 unfoldable pub ts_entity_name : {X : Type 0} → (X → Place → Part) → TsEntityName X → Part
 ts_entity_name items (entity_names.TsQualifiedName n) rest = ts_qualified_name items n rest
@@ -100,7 +101,7 @@ ts_entity_name items (entity_names.Ident n) rest = ident n rest
 
 -- `A<B>`: its arguments leave their comments
 unfoldable pub ts_type_ref : {X : Type 0} → (X → Place → Part) → TsTypeRef X → Part
-ts_type_ref items n rest = leading_comments n.span.lo (items n.type_name.node.value Plain (type_args items Reference n.type_params rest))
+ts_type_ref items n rest = leading_comments n.span.lo (items n.type_name.node.value (Whole Plain) (type_args items Reference n.type_params rest))
 
 -- ---- arguments and parameters
 
@@ -112,9 +113,9 @@ unfoldable pub type_arguments : {X : Type 0} → (X → Answers) → (X → Plac
 type_arguments asks items n rest = punct (codes "<") (listed_types asks items n (close rest))
 
 -- `<A, B>`, with its comments but behind the name of a type
-unfoldable pub ts_type_param_instantiation : {X : Type 0} → (X → Answers) → (X → Place → Part) → TsTypeParamInstantiation X → Place → Part
+unfoldable pub ts_type_param_instantiation : {X : Type 0} → (X → Answers) → (X → Place → Part) → TsTypeParamInstantiation X → Context → Part
 ts_type_param_instantiation asks items n Reference rest = type_arguments asks items n rest
-ts_type_param_instantiation asks items n place rest = leading_comments n.span.lo (type_arguments asks items n rest)
+ts_type_param_instantiation asks items n context rest = leading_comments n.span.lo (type_arguments asks items n rest)
 
 -- `const in out A extends B = C`
 unfoldable pub ts_type_param : {X : Type 0} → (X → Place → Part) → TsTypeParam X → Part
@@ -159,7 +160,7 @@ unfoldable pub signature_type : {X : Type 0} → (X → Answers) → (X → Plac
 signature_type asks items span ns result rest =
     punct (codes "(")
     (fn_params_list asks items span ns
-    (punct (codes ")") (spaced_punct (codes "=>") (items result.node.value Plain rest))))
+    (punct (codes ")") (spaced_punct (codes "=>") (items result.node.value (Whole Plain) rest))))
 
 -- `<A>(a: A) => B`
 unfoldable pub ts_fn_type : {X : Type 0} → (X → Answers) → (X → Place → Part) → TsFnType X → Part
@@ -206,7 +207,7 @@ ts_lit_type items n rest = leading_comments n.span.lo (ts_lit items n.lit rest)
 -- `.B` of `import("a").B`
 unfoldable pub qualifier : {X : Type 0} → (X → Place → Part) → Option (TsEntityNameBox X) → Part
 qualifier items None rest = rest
-qualifier items (Some n) rest = punct (codes ".") (items n.node.value Plain rest)
+qualifier items (Some n) rest = punct (codes ".") (items n.node.value (Whole Plain) rest)
 
 -- `import("a").B<C>`
 unfoldable pub ts_import_type : {X : Type 0} → (X → Place → Part) → TsImportType X → Part
@@ -216,7 +217,7 @@ ts_import_type items n rest =
     (punct (codes "(") (str_lit n.arg (punct (codes ")") (qualifier items n.qualifier (type_args items Plain n.type_args rest))))))
 
 unfoldable pub ts_type_query_expr : {X : Type 0} → (X → Place → Part) → TsTypeQueryExpr X → Part
-ts_type_query_expr items (query_exprs.TsEntityName n) rest = items n.node.value Plain rest
+ts_type_query_expr items (query_exprs.TsEntityName n) rest = items n.node.value (Whole Plain) rest
 ts_type_query_expr items (query_exprs.Import n) rest = ts_import_type items n rest
 
 -- `typeof a.b<C>`
@@ -243,7 +244,7 @@ ts_array_type items n rest = leading_comments n.span.lo (type_at items n.elem_ty
 -- `b: ` of `[b: B]`
 unfoldable pub label : {X : Type 0} → (X → Place → Part) → Option (PatBox X) → Part
 label items None rest = rest
-label items (Some n) rest = items n.node.value Plain (punct (codes ":") (formatting_space rest))
+label items (Some n) rest = items n.node.value (Whole Plain) (punct (codes ":") (formatting_space rest))
 
 unfoldable pub ts_tuple_element : {X : Type 0} → (X → Place → Part) → TsTupleElement X → Part
 ts_tuple_element items n rest = leading_comments n.span.lo (label items n.label (type_at items n.ty rest))
@@ -372,7 +373,7 @@ ts_this_type_or_ident (predicate_names.Ident n) rest = ident n rest
 -- ` is B`
 unfoldable pub is_behind : {X : Type 0} → (X → Place → Part) → Option (TsTypeAnnBox X) → Part
 is_behind items None rest = rest
-is_behind items (Some n) rest = space (keyword None (codes "is") (space (items n.node.value Plain rest)))
+is_behind items (Some n) rest = space (keyword None (codes "is") (space (items n.node.value (Whole Plain) rest)))
 
 -- `asserts a is B`
 unfoldable pub ts_type_predicate : {X : Type 0} → (X → Place → Part) → TsTypePredicate X → Part
@@ -403,6 +404,6 @@ ts_type asks items (types.TsTypePredicate n) rest = ts_type_predicate items n.va
 ts_type asks items (types.TsImportType n) rest = ts_import_type items n.value rest
 
 -- with its comments but as the type of a getter
-unfoldable pub ts_type_ann : {X : Type 0} → (X → Answers) → (X → Place → Part) → TsTypeAnn X → Place → Part
+unfoldable pub ts_type_ann : {X : Type 0} → (X → Answers) → (X → Place → Part) → TsTypeAnn X → Context → Part
 ts_type_ann asks items n Reference rest = ts_type asks items n.type_ann rest
-ts_type_ann asks items n place rest = leading_comments n.span.lo (ts_type asks items n.type_ann rest)
+ts_type_ann asks items n context rest = leading_comments n.span.lo (ts_type asks items n.type_ann rest)

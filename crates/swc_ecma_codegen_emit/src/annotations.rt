@@ -5,7 +5,7 @@ ghost use Rattle.swc_ecma_codegen_tokens.specs.Words.{question};
 ghost use Rattle.swc_ecma_codegen_emit.specs.Standing.{Performs};
 
 use crate::emitter::Emitter;
-use crate::nodes::{EmitAt, LinkTarget, Place};
+use crate::nodes::{Context, EmitAt, LinkTarget};
 use swc_ecma_codegen_grammar::comments::Comments;
 use swc_ecma_codegen_grammar::mapper::SourceMapper;
 use swc_ecma_codegen_literals::Punctuator;
@@ -23,7 +23,7 @@ impl<W: WriteJs, S: SourceMapper, C: Comments> Emitter<'_, W, S, C> {
             Some(node) => {
                 self.punct(Punctuator::Colon);
                 self.formatting_space();
-                node.target().emit_at(self, Place::Plain)
+                node.target().emit_at(self, Context::Plain)
             }
             None => {}
         }
@@ -49,7 +49,7 @@ impl<W: WriteJs, S: SourceMapper, C: Comments> Emitter<'_, W, S, C> {
             Some(node) => {
                 self.punct(Punctuator::Colon);
                 self.space();
-                node.target().emit_at(self, Place::Plain)
+                node.target().emit_at(self, Context::Plain)
             }
             None => {}
         }
@@ -80,7 +80,7 @@ impl<W: WriteJs, S: SourceMapper, C: Comments> Emitter<'_, W, S, C> {
                 self.bang(definite);
                 self.punct(Punctuator::Colon);
                 self.space();
-                node.target().emit_at(self, Place::Plain)
+                node.target().emit_at(self, Context::Plain)
             }
             None => {}
         }
@@ -90,14 +90,14 @@ impl<W: WriteJs, S: SourceMapper, C: Comments> Emitter<'_, W, S, C> {
     #[tactic(auto, unfolding(crate::specs::Annotations::type_args))]
     pub(crate) fn type_args<N: LinkTarget>(
         &mut self,
-        place: Place,
+        context: Context,
         args: &Option<TsTypeParamInstantiationBox<N>>,
     )
-        ensures items { Performs (type_args N.items place args.now)
+        ensures items { Performs (type_args N.items context args.now)
             S.lines C.maps W.sheet self.old self.new }
     {
         match args {
-            Some(node) => node.target().emit_at(self, place),
+            Some(node) => node.target().emit_at(self, context),
             None => {}
         }
     }
@@ -109,7 +109,7 @@ impl<W: WriteJs, S: SourceMapper, C: Comments> Emitter<'_, W, S, C> {
             S.lines C.maps W.sheet self.old self.new }
     {
         match params {
-            Some(node) => node.target().emit_at(self, Place::Plain),
+            Some(node) => node.target().emit_at(self, Context::Plain),
             None => {}
         }
     }

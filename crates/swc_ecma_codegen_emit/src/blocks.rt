@@ -5,10 +5,11 @@ ghost use Rattle.swc_ecma_codegen_grammar.specs.FunctionPhrases.{is_some_listed}
 ghost use Rattle.swc_ecma_codegen_tokens.specs.Lists.{list};
 ghost use Rattle.swc_ecma_codegen_emit.specs.Standing.{Performs};
 ghost use Rattle.swc_ecma_codegen_emit.specs.Blocks.{block_format, flat_block_format, block_children, block_list, block_lines, block_start, block_stmt};
+ghost use Rattle.swc_ecma_codegen_emit.specs.Places.{in_context};
 
 use crate::commented::wants_lines;
 use crate::emitter::Emitter;
-use crate::nodes::{EmitAt, LinkTarget, Place};
+use crate::nodes::{Context, EmitAt, LinkTarget};
 use bitflags::Flags;
 use swc_ecma_codegen_common::Span;
 use swc_ecma_codegen_grammar::ListFormat;
@@ -57,16 +58,16 @@ pub(crate) fn is_some_listed<T>(nodes: &[T]) -> bool
 }
 
 impl<N: LinkTarget> EmitAt for BlockStmt<N> {
-    ghost items = { block_stmt N.answers N.items };
+    ghost items = { λ n. in_context (block_stmt N.answers N.items n) };
 
     #[tactic(auto, unfolding(crate::specs::Blocks::block_stmt))]
     fn emit_at<W: WriteJs, S: SourceMapper, C: Comments>(
         &self,
         e: &mut Emitter<'_, W, S, C>,
-        place: Place,
+        context: Context,
     ) {
         e.leading_comments(self.span.lo);
-        e.block_start(place, self.span);
+        e.block_start(context, self.span);
         e.punct(Punctuator::LeftBrace);
         e.block_lines(self);
         e.comments_before_end(self.span.hi);
@@ -78,11 +79,12 @@ impl<N: LinkTarget> EmitAt for BlockStmt<N> {
 impl<W: WriteJs, S: SourceMapper, C: Comments> Emitter<'_, W, S, C> {
     /// Records the start of a block, unless it is a body.
     #[tactic(auto, unfolding(crate::specs::Blocks::block_start))]
-    fn block_start(&mut self, place: Place, span: Span)
-        ensures items { Performs (block_start place span) S.lines C.maps W.sheet self.old self.new }
+    fn block_start(&mut self, context: Context, span: Span)
+        ensures items { Performs (block_start context span)
+            S.lines C.maps W.sheet self.old self.new }
     {
-        match place {
-            Place::Body => {}
+        match context {
+            Context::Body => {}
             _ => self.start_of(span),
         }
     }

@@ -5,9 +5,10 @@ ghost use Rattle.swc_ecma_codegen_grammar.specs.ElementPhrases.{last_is_hole};
 ghost use Rattle.swc_ecma_codegen_tokens.specs.Choices.{empty_arguments};
 ghost use Rattle.swc_ecma_codegen_emit.specs.Standing.{Performs};
 ghost use Rattle.swc_ecma_codegen_emit.specs.Calls.{spread_mark, argument_place, argument_items, array_format, array_elements, array_lit, call_format, new_format, arguments, import_phase, import_callee, super_keyword, callee, call_expr, keeps_arguments, listed_arguments, new_arguments, new_gap, parentheses, new_expr, call_mark, chain_call, is_optional};
+ghost use Rattle.swc_ecma_codegen_emit.specs.Places.{context_of};
 
 use crate::emitter::Emitter;
-use crate::nodes::{Asked, Child, EmitAt, LinkTarget, Place};
+use crate::nodes::{Asked, Child, Context, EmitAt, LinkTarget};
 use crate::places::expr_or_spread_place;
 use bitflags::Flags;
 use swc_ecma_codegen_common::Span;
@@ -57,21 +58,21 @@ fn new_format() -> ListFormat
 }
 
 /// Whether `new A()` keeps its parentheses there: where it is called, or has a property.
-fn keeps_arguments(place: Place) -> bool
-    ensures { result ≡ keeps_arguments place }
+fn keeps_arguments(context: Context) -> bool
+    ensures { result ≡ keeps_arguments context }
 {
-    match place {
-        Place::Object | Place::DottedObject(_) | Place::Callee => true,
+    match context {
+        Context::Object | Context::DottedObject(_) | Context::Callee => true,
         _ => false,
     }
 }
 
-/// Whether `?.` stands before the arguments of a call in an optional chain, by its place.
-fn is_optional(place: Place) -> bool
-    ensures { result ≡ is_optional place }
+/// Whether `?.` stands before the arguments of a call in an optional chain, by its context.
+fn is_optional(context: Context) -> bool
+    ensures { result ≡ is_optional context }
 {
-    match place {
-        Place::Chain(optional) => optional,
+    match context {
+        Context::OptionalChain => true,
         _ => false,
     }
 }
@@ -83,12 +84,12 @@ impl<N: LinkTarget> EmitAt for Callee<N> {
     fn emit_at<W: WriteJs, S: SourceMapper, C: Comments>(
         &self,
         e: &mut Emitter<'_, W, S, C>,
-        place: Place,
+        context: Context,
     ) {
         match self {
-            Callee::Super(node) => node.emit_at(e, Place::Plain),
-            Callee::Import(node) => node.emit_at(e, Place::Plain),
-            Callee::Expr(node) => node.target().emit_at(e, Place::Callee),
+            Callee::Super(node) => node.emit_at(e, Context::Plain),
+            Callee::Import(node) => node.emit_at(e, Context::Plain),
+            Callee::Expr(node) => node.target().emit_at(e, Context::Callee),
         }
     }
 }
@@ -100,7 +101,7 @@ impl EmitAt for Super {
     fn emit_at<W: WriteJs, S: SourceMapper, C: Comments>(
         &self,
         e: &mut Emitter<'_, W, S, C>,
-        place: Place,
+        context: Context,
     ) {
         e.keyword(Some(self.span), "super")
     }
@@ -113,7 +114,7 @@ impl EmitAt for Import {
     fn emit_at<W: WriteJs, S: SourceMapper, C: Comments>(
         &self,
         e: &mut Emitter<'_, W, S, C>,
-        place: Place,
+        context: Context,
     ) {
         e.keyword(Some(self.span), "import");
         e.import_phase(self.phase);
@@ -121,17 +122,17 @@ impl EmitAt for Import {
 }
 
 impl<N: LinkTarget> EmitAt for OptCall<N> {
-    ghost items = { λ n place. chain_call N.answers N.items (is_optional place) n };
+    ghost items = { λ n place. chain_call N.answers N.items (is_optional (context_of place)) n };
 
     #[tactic(auto, unfolding(crate::specs::Calls::chain_call))]
     fn emit_at<W: WriteJs, S: SourceMapper, C: Comments>(
         &self,
         e: &mut Emitter<'_, W, S, C>,
-        place: Place,
+        context: Context,
     ) {
-        self.callee.target().emit_at(e, Place::Callee);
-        e.call_mark(is_optional(place));
-        e.type_args(Place::Plain, &self.type_args);
+        self.callee.target().emit_at(e, Context::Callee);
+        e.call_mark(is_optional(context));
+        e.type_args(Context::Plain, &self.type_args);
         e.arguments(call_format(), self.span, &self.args);
     }
 }
@@ -143,34 +144,34 @@ impl<N: LinkTarget> EmitAt for CallExpr<N> {
     fn emit_at<W: WriteJs, S: SourceMapper, C: Comments>(
         &self,
         e: &mut Emitter<'_, W, S, C>,
-        place: Place,
+        context: Context,
     ) {
         e.commit_pending_semi();
         e.leading_comments(self.span.lo);
         e.start_of(self.span);
-        self.callee.emit_at(e, Place::Plain);
-        e.type_args(Place::Plain, &self.type_args);
+        self.callee.emit_at(e, Context::Plain);
+        e.type_args(Context::Plain, &self.type_args);
         e.arguments(call_format(), self.span, &self.args);
     }
 }
 
 impl<N: LinkTarget> EmitAt for NewExpr<N> {
-    ghost items = { λ n place. new_expr N.answers N.items (keeps_arguments place) n };
+    ghost items = { λ n place. new_expr N.answers N.items (keeps_arguments (context_of place)) n };
 
     #[tactic(auto, unfolding(crate::specs::Calls::new_expr))]
     fn emit_at<W: WriteJs, S: SourceMapper, C: Comments>(
         &self,
         e: &mut Emitter<'_, W, S, C>,
-        place: Place,
+        context: Context,
     ) {
         e.commit_pending_semi();
         e.leading_comments(self.span.lo);
         e.start_of(self.span);
         e.keyword(None, "new");
         e.new_gap(self.callee.target().starts());
-        self.callee.target().emit_at(e, Place::Plain);
-        e.type_args(Place::Plain, &self.type_args);
-        e.new_arguments(self.span, keeps_arguments(place), &self.args);
+        self.callee.target().emit_at(e, Context::Plain);
+        e.type_args(Context::Plain, &self.type_args);
+        e.new_arguments(self.span, keeps_arguments(context), &self.args);
     }
 }
 
@@ -181,11 +182,11 @@ impl<N: LinkTarget> EmitAt for ExprOrSpread<N> {
     fn emit_at<W: WriteJs, S: SourceMapper, C: Comments>(
         &self,
         e: &mut Emitter<'_, W, S, C>,
-        place: Place,
+        context: Context,
     ) {
         e.leading_comments(expr_or_spread_place(self).lo);
         e.spread_mark(self.spread);
-        self.expr.target().emit_at(e, Place::Plain);
+        self.expr.target().emit_at(e, Context::Plain);
     }
 }
 
@@ -204,7 +205,7 @@ impl<N: LinkTarget> EmitAt for ArrayLit<N> {
     fn emit_at<W: WriteJs, S: SourceMapper, C: Comments>(
         &self,
         e: &mut Emitter<'_, W, S, C>,
-        place: Place,
+        context: Context,
     ) {
         e.leading_comments(self.span.lo);
         e.start_of(self.span);

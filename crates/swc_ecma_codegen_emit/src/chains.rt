@@ -3,9 +3,10 @@
 ghost use Rattle.std.specs.Prelude.{◌≡◌};
 ghost use Rattle.swc_ecma_codegen_emit.specs.Standing.{Performs};
 ghost use Rattle.swc_ecma_codegen_emit.specs.Exprs.{member, member_prop, member_at, object_place, chain_mark, chain_prop, chain_member, opt_chain, super_prop, super_prop_expr};
+ghost use Rattle.swc_ecma_codegen_emit.specs.Places.{chain, in_context};
 
 use crate::emitter::Emitter;
-use crate::nodes::{EmitAt, LinkTarget, Place};
+use crate::nodes::{Context, EmitAt, LinkTarget};
 use swc_ecma_codegen_grammar::comments::Comments;
 use swc_ecma_codegen_grammar::mapper::SourceMapper;
 use swc_ecma_codegen_literals::Punctuator;
@@ -16,13 +17,24 @@ use swc_ecma_codegen_tree::{
 
 /// The place of the object before a property.
 #[tactic(auto, unfolding(crate::specs::Exprs::object_place))]
-fn object_place<N>(prop: &MemberProp<N>) -> Place
+fn object_place<N>(prop: &MemberProp<N>) -> Context
     ensures { result ≡ object_place prop.now }
 {
     match prop {
-        MemberProp::Ident(name) => Place::DottedObject(name.span.lo),
-        MemberProp::PrivateName(name) => Place::DottedObject(name.span.lo),
-        MemberProp::Computed(_) => Place::Object,
+        MemberProp::Ident(name) => Context::DottedObject(name.span.lo),
+        MemberProp::PrivateName(name) => Context::DottedObject(name.span.lo),
+        MemberProp::Computed(_) => Context::Object,
+    }
+}
+
+/// The context of a member or a call in an optional chain.
+fn chain(optional: bool) -> Context
+    ensures { result ≡ chain optional }
+{
+    if optional {
+        Context::OptionalChain
+    } else {
+        Context::Chain
     }
 }
 
@@ -33,33 +45,36 @@ impl<N: LinkTarget> EmitAt for OptChainExpr<N> {
     fn emit_at<W: WriteJs, S: SourceMapper, C: Comments>(
         &self,
         e: &mut Emitter<'_, W, S, C>,
-        place: Place,
+        context: Context,
     ) {
         e.leading_comments(self.span.lo);
         match &self.base {
-            OptChainBase::Member(node) => node.target().emit_at(e, Place::Chain(self.optional)),
-            OptChainBase::Call(node) => node.target().emit_at(e, Place::Chain(self.optional)),
+            OptChainBase::Member(node) => node.target().emit_at(e, chain(self.optional)),
+            OptChainBase::Call(node) => node.target().emit_at(e, chain(self.optional)),
         }
     }
 }
 
 impl<N: LinkTarget> EmitAt for MemberExpr<N> {
-    ghost items = { member_at N.items };
+    ghost items = { λ n. in_context (member_at N.items n) };
 
     #[inline(never)]
     #[tactic(auto, unfolding(crate::specs::Exprs::member_at, crate::specs::Exprs::member))]
     fn emit_at<W: WriteJs, S: SourceMapper, C: Comments>(
         &self,
         e: &mut Emitter<'_, W, S, C>,
-        place: Place,
+        context: Context,
     ) {
-        if let Place::Chain(optional) = place {
-            return e.chain_member(self, optional);
+        match context {
+            Context::Chain => e.chain_member(self, false),
+            Context::OptionalChain => e.chain_member(self, true),
+            _ => {
+                e.opened(self.span);
+                self.obj.target().emit_at(e, object_place(&self.prop));
+                e.member_prop(&self.prop);
+                e.end_of(self.span);
+            }
         }
-        e.opened(self.span);
-        self.obj.target().emit_at(e, object_place(&self.prop));
-        e.member_prop(&self.prop);
-        e.end_of(self.span);
     }
 }
 
@@ -70,10 +85,10 @@ impl<N: LinkTarget> EmitAt for SuperPropExpr<N> {
     fn emit_at<W: WriteJs, S: SourceMapper, C: Comments>(
         &self,
         e: &mut Emitter<'_, W, S, C>,
-        place: Place,
+        context: Context,
     ) {
         e.opened(self.span);
-        self.obj.emit_at(e, Place::Plain);
+        self.obj.emit_at(e, Context::Plain);
         e.super_prop(&self.prop);
     }
 }
@@ -89,13 +104,13 @@ impl<W: WriteJs, S: SourceMapper, C: Comments> Emitter<'_, W, S, C> {
             MemberProp::Ident(name) => {
                 self.comments_before(name.span.lo);
                 self.punct(Punctuator::Dot);
-                name.emit_at(self, Place::Plain)
+                name.emit_at(self, Context::Plain)
             }
-            MemberProp::Computed(name) => name.emit_at(self, Place::Plain),
+            MemberProp::Computed(name) => name.emit_at(self, Context::Plain),
             MemberProp::PrivateName(name) => {
                 self.comments_before(name.span.lo);
                 self.punct(Punctuator::Dot);
-                name.emit_at(self, Place::Plain)
+                name.emit_at(self, Context::Plain)
             }
         }
     }
@@ -110,9 +125,9 @@ impl<W: WriteJs, S: SourceMapper, C: Comments> Emitter<'_, W, S, C> {
             SuperProp::Ident(name) => {
                 self.comments_before(name.span.lo);
                 self.punct(Punctuator::Dot);
-                name.emit_at(self, Place::Plain)
+                name.emit_at(self, Context::Plain)
             }
-            SuperProp::Computed(name) => name.emit_at(self, Place::Plain),
+            SuperProp::Computed(name) => name.emit_at(self, Context::Plain),
         }
     }
 
@@ -122,7 +137,7 @@ impl<W: WriteJs, S: SourceMapper, C: Comments> Emitter<'_, W, S, C> {
         ensures items { Performs (chain_member N.items optional node.now)
             S.lines C.maps W.sheet self.old self.new }
     {
-        node.obj.target().emit_at(self, Place::Callee);
+        node.obj.target().emit_at(self, Context::Callee);
         self.chain_mark(optional, &node.prop);
         self.chain_prop(&node.prop);
     }
@@ -147,9 +162,9 @@ impl<W: WriteJs, S: SourceMapper, C: Comments> Emitter<'_, W, S, C> {
             S.lines C.maps W.sheet self.old self.new }
     {
         match prop {
-            MemberProp::Ident(name) => name.emit_at(self, Place::Plain),
-            MemberProp::Computed(name) => name.emit_at(self, Place::Plain),
-            MemberProp::PrivateName(name) => name.emit_at(self, Place::Plain),
+            MemberProp::Ident(name) => name.emit_at(self, Context::Plain),
+            MemberProp::Computed(name) => name.emit_at(self, Context::Plain),
+            MemberProp::PrivateName(name) => name.emit_at(self, Context::Plain),
         }
     }
 }

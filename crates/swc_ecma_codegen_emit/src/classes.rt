@@ -9,7 +9,7 @@ ghost use Rattle.swc_ecma_codegen_emit.specs.Classes.{class_members_format, heri
 
 use crate::emitter::Emitter;
 use crate::functions::comma_list_format;
-use crate::nodes::{Asked, Child, EmitAt, LinkTarget, Place};
+use crate::nodes::{Child, Context, EmitAt, EmitPiece, LinkTarget, Piece};
 use swc_ecma_codegen_common::Span;
 use swc_ecma_codegen_grammar::ListFormat;
 use swc_ecma_codegen_grammar::comments::Comments;
@@ -57,17 +57,17 @@ impl<N: LinkTarget> EmitAt for ClassDecl<N> {
     fn emit_at<W: WriteJs, S: SourceMapper, C: Comments>(
         &self,
         e: &mut Emitter<'_, W, S, C>,
-        place: Place,
+        context: Context,
     ) {
         let span = self.class.target().place();
         e.leading_comments(span.lo);
         e.start_of(span);
         e.declare_word(self.declare);
-        self.class.target().emit_at(e, Place::ClassHead);
-        self.class.target().emit_at(e, Place::ClassWord);
+        self.class.target().emit_piece(e, Piece::ClassHead);
+        self.class.target().emit_piece(e, Piece::ClassWord);
         e.space();
-        self.ident.emit_at(e, Place::Plain);
-        self.class.target().emit_at(e, Place::Plain);
+        self.ident.emit_at(e, Context::Plain);
+        self.class.target().emit_at(e, Context::Plain);
     }
 }
 
@@ -78,15 +78,15 @@ impl<N: LinkTarget> EmitAt for ClassExpr<N> {
     fn emit_at<W: WriteJs, S: SourceMapper, C: Comments>(
         &self,
         e: &mut Emitter<'_, W, S, C>,
-        place: Place,
+        context: Context,
     ) {
         let span = self.class.target().place();
         e.leading_comments(span.lo);
         e.start_of(span);
-        self.class.target().emit_at(e, Place::ClassHead);
-        self.class.target().emit_at(e, Place::ClassWord);
+        self.class.target().emit_piece(e, Piece::ClassHead);
+        self.class.target().emit_piece(e, Piece::ClassWord);
         e.optional_name(&self.ident);
-        self.class.target().emit_at(e, Place::Plain);
+        self.class.target().emit_at(e, Context::Plain);
     }
 }
 
@@ -97,11 +97,22 @@ impl<N: LinkTarget> EmitAt for Class<N> {
     fn emit_at<W: WriteJs, S: SourceMapper, C: Comments>(
         &self,
         e: &mut Emitter<'_, W, S, C>,
-        place: Place,
+        context: Context,
     ) {
-        match place {
-            Place::ClassHead => e.decorator_lines(&self.decorators),
-            Place::ClassWord => e.class_word(self),
+        e.class_trailing(self);
+    }
+}
+
+impl<N: LinkTarget> EmitPiece for Class<N> {
+    #[tactic(auto, unfolding(crate::specs::Classes::class))]
+    fn emit_piece<W: WriteJs, S: SourceMapper, C: Comments>(
+        &self,
+        e: &mut Emitter<'_, W, S, C>,
+        piece: Piece,
+    ) {
+        match piece {
+            Piece::ClassHead => e.decorator_lines(&self.decorators),
+            Piece::ClassWord => e.class_word(self),
             _ => e.class_trailing(self),
         }
     }
@@ -114,17 +125,17 @@ impl<N: LinkTarget> EmitAt for ClassMember<N> {
     fn emit_at<W: WriteJs, S: SourceMapper, C: Comments>(
         &self,
         e: &mut Emitter<'_, W, S, C>,
-        place: Place,
+        context: Context,
     ) {
         match self {
-            ClassMember::Constructor(node) => node.emit_at(e, Place::Plain),
-            ClassMember::Method(node) => node.emit_at(e, Place::Plain),
-            ClassMember::PrivateMethod(node) => node.emit_at(e, Place::Plain),
-            ClassMember::ClassProp(node) => node.emit_at(e, Place::Plain),
-            ClassMember::PrivateProp(node) => node.emit_at(e, Place::Plain),
+            ClassMember::Constructor(node) => node.emit_at(e, Context::Plain),
+            ClassMember::Method(node) => node.emit_at(e, Context::Plain),
+            ClassMember::PrivateMethod(node) => node.emit_at(e, Context::Plain),
+            ClassMember::ClassProp(node) => node.emit_at(e, Context::Plain),
+            ClassMember::PrivateProp(node) => node.emit_at(e, Context::Plain),
             ClassMember::Empty(node) => e.empty_member(node),
-            ClassMember::StaticBlock(node) => node.emit_at(e, Place::Plain),
-            ClassMember::AutoAccessor(node) => node.emit_at(e, Place::Plain),
+            ClassMember::StaticBlock(node) => node.emit_at(e, Context::Plain),
+            ClassMember::AutoAccessor(node) => node.emit_at(e, Context::Plain),
             ClassMember::TsIndexSignature(node) => e.index_member(node),
         }
     }
@@ -137,11 +148,13 @@ impl<N: LinkTarget> EmitAt for PrivateMethod<N> {
     fn emit_at<W: WriteJs, S: SourceMapper, C: Comments>(
         &self,
         e: &mut Emitter<'_, W, S, C>,
-        place: Place,
+        context: Context,
     ) {
         e.leading_comments(self.span.lo);
         e.start_of(self.span);
-        self.function.target().emit_at(e, Place::MethodDecorators);
+        self.function
+            .target()
+            .emit_piece(e, Piece::MethodDecorators);
         e.accessibility_word(self.accessibility);
         e.private_words(self);
         e.private_kind(self);
@@ -156,12 +169,14 @@ impl<N: LinkTarget> EmitAt for ClassMethod<N> {
     fn emit_at<W: WriteJs, S: SourceMapper, C: Comments>(
         &self,
         e: &mut Emitter<'_, W, S, C>,
-        place: Place,
+        context: Context,
     ) {
         e.leading_comments(self.span.lo);
         e.leading_comments(self.key.target().place().lo);
         e.start_of(self.span);
-        self.function.target().emit_at(e, Place::MethodDecorators);
+        self.function
+            .target()
+            .emit_piece(e, Piece::MethodDecorators);
         e.accessibility_word(self.accessibility);
         e.method_kind(self);
         e.method_rest(self);
@@ -175,7 +190,7 @@ impl<N: LinkTarget> EmitAt for Constructor<N> {
     fn emit_at<W: WriteJs, S: SourceMapper, C: Comments>(
         &self,
         e: &mut Emitter<'_, W, S, C>,
-        place: Place,
+        context: Context,
     ) {
         e.leading_comments(self.span.lo);
         e.start_of(self.span);
@@ -192,11 +207,11 @@ impl<N: LinkTarget> EmitAt for ParamOrTsParamProp<N> {
     fn emit_at<W: WriteJs, S: SourceMapper, C: Comments>(
         &self,
         e: &mut Emitter<'_, W, S, C>,
-        place: Place,
+        context: Context,
     ) {
         match self {
-            ParamOrTsParamProp::Param(node) => node.emit_at(e, Place::Plain),
-            ParamOrTsParamProp::TsParamProp(node) => node.emit_at(e, Place::Plain),
+            ParamOrTsParamProp::Param(node) => node.emit_at(e, Context::Plain),
+            ParamOrTsParamProp::TsParamProp(node) => node.emit_at(e, Context::Plain),
         }
     }
 }
@@ -208,14 +223,14 @@ impl<N: LinkTarget> EmitAt for TsParamProp<N> {
     fn emit_at<W: WriteJs, S: SourceMapper, C: Comments>(
         &self,
         e: &mut Emitter<'_, W, S, C>,
-        place: Place,
+        context: Context,
     ) {
         e.leading_comments(self.span.lo);
         e.accessibility_word(self.accessibility);
         e.decorator_lines(&self.decorators);
         e.word_before(self.is_override, "override");
         e.word_before(self.readonly, "readonly");
-        self.param.emit_at(e, Place::Plain);
+        self.param.emit_at(e, Context::Plain);
     }
 }
 
@@ -226,16 +241,16 @@ impl<N: LinkTarget> EmitAt for TsParamPropParam<N> {
     fn emit_at<W: WriteJs, S: SourceMapper, C: Comments>(
         &self,
         e: &mut Emitter<'_, W, S, C>,
-        place: Place,
+        context: Context,
     ) {
         match self {
             TsParamPropParam::Ident(node) => {
                 e.leading_comments(node.id.span.lo);
-                node.emit_at(e, Place::Plain)
+                node.emit_at(e, Context::Plain)
             }
             TsParamPropParam::Assign(node) => {
                 e.leading_comments(node.span.lo);
-                node.emit_at(e, Place::Plain)
+                node.emit_at(e, Context::Plain)
             }
         }
     }
@@ -260,12 +275,12 @@ impl<N: LinkTarget> EmitAt for StaticBlock<N> {
     fn emit_at<W: WriteJs, S: SourceMapper, C: Comments>(
         &self,
         e: &mut Emitter<'_, W, S, C>,
-        place: Place,
+        context: Context,
     ) {
         e.leading_comments(self.span.lo);
         e.start_of(self.span);
         e.keyword(None, "static");
-        self.body.target().emit_at(e, Place::Plain);
+        self.body.target().emit_at(e, Context::Plain);
         e.end_of(self.span);
     }
 }
@@ -352,8 +367,8 @@ impl<W: WriteJs, S: SourceMapper, C: Comments> Emitter<'_, W, S, C> {
                 self.space();
                 self.keyword(None, "extends");
                 self.blank(super_class.target().starts());
-                super_class.target().emit_at(self, Place::Plain);
-                self.type_args(Place::Plain, args)
+                super_class.target().emit_at(self, Context::Plain);
+                self.type_args(Context::Plain, args)
             }
             None => {}
         }
@@ -416,7 +431,7 @@ impl<W: WriteJs, S: SourceMapper, C: Comments> Emitter<'_, W, S, C> {
         ensures items { Performs (index_member N.answers N.items node.now)
             S.lines C.maps W.sheet self.old self.new }
     {
-        node.emit_at(self, Place::Plain);
+        node.emit_at(self, Context::Plain);
         self.semi();
     }
 
@@ -479,12 +494,12 @@ impl<W: WriteJs, S: SourceMapper, C: Comments> Emitter<'_, W, S, C> {
         if node.is_abstract || node.is_override {
             self.space();
             self.method_modifiers(node.is_abstract, node.is_override);
-            return node.function.target().emit_at(self, Place::MethodHead);
+            return node.function.target().emit_piece(self, Piece::MethodHead);
         }
         let starts = node.key.target().starts();
         node.function
             .target()
-            .emit_at(self, Place::StaticHead(starts));
+            .emit_piece(self, Piece::StaticHead(starts));
     }
 
     /// Writes `static abstract override async *` of a method.
@@ -498,7 +513,7 @@ impl<W: WriteJs, S: SourceMapper, C: Comments> Emitter<'_, W, S, C> {
             return self.static_method(node);
         }
         self.method_modifiers(node.is_abstract, node.is_override);
-        node.function.target().emit_at(self, Place::MethodHead);
+        node.function.target().emit_piece(self, Piece::MethodHead);
     }
 
     /// Writes `static abstract override ` of a getter or a setter.
@@ -517,9 +532,9 @@ impl<W: WriteJs, S: SourceMapper, C: Comments> Emitter<'_, W, S, C> {
         ensures items { Performs (method_rest N.items node.now)
             S.lines C.maps W.sheet self.old self.new }
     {
-        node.key.target().emit_at(self, Place::Plain);
+        node.key.target().emit_at(self, Context::Plain);
         self.question(node.is_optional);
-        node.function.target().emit_at(self, Place::MethodTail);
+        node.function.target().emit_piece(self, Piece::MethodTail);
     }
 
     /// Writes what stands between the accessibility of a method and its key.
@@ -556,9 +571,11 @@ impl<W: WriteJs, S: SourceMapper, C: Comments> Emitter<'_, W, S, C> {
         ensures items { Performs (private_rest N.items node.now)
             S.lines C.maps W.sheet self.old self.new }
     {
-        node.key.emit_at(self, Place::Plain);
+        node.key.emit_at(self, Context::Plain);
         self.question(node.is_optional);
-        node.function.target().emit_at(self, Place::DeclarationTail);
+        node.function
+            .target()
+            .emit_piece(self, Piece::DeclarationTail);
     }
 
     /// Writes what stands between the modifiers of a private method and its name.
@@ -568,7 +585,7 @@ impl<W: WriteJs, S: SourceMapper, C: Comments> Emitter<'_, W, S, C> {
             S.lines C.maps W.sheet self.old self.new }
     {
         match node.kind {
-            MethodKind::Method => node.function.target().emit_at(self, Place::MethodHead),
+            MethodKind::Method => node.function.target().emit_piece(self, Piece::MethodHead),
             MethodKind::Getter => self.getter_word(true),
             MethodKind::Setter => self.setter_word(true),
         }
@@ -581,7 +598,7 @@ impl<W: WriteJs, S: SourceMapper, C: Comments> Emitter<'_, W, S, C> {
             S.lines C.maps W.sheet self.old self.new }
     {
         match body {
-            Some(body) => body.target().emit_at(self, Place::Plain),
+            Some(body) => body.target().emit_at(self, Context::Plain),
             None => self.semi(),
         }
     }

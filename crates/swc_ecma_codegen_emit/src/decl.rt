@@ -2,13 +2,10 @@
 
 ghost use Rattle.std.specs.Prelude.{◌≡◌};
 ghost use Rattle.swc_ecma_codegen_emit.specs.Standing.{Performs};
-ghost use Rattle.swc_ecma_codegen_emit.specs.Decls.{declarators_format, fn_decl, var_declarator, declarators, var_kind, is_unmarked, first_is_unmarked, var_decl, await_word, using_decl, decl_end, by_export, without_head, exported_class, variables, resources, decl};
-ghost use Rattle.swc_ecma_codegen_emit.specs.declared.nodes.Place.TheVariants.{ClassHead};
-ghost use Rattle.swc_ecma_codegen_emit.specs.Classes.{class_decl};
-ghost use Rattle.swc_ecma_codegen_emit.specs.TsDecls.{ts_interface_decl, ts_type_alias_decl, ts_enum_decl, ts_module_decl};
+ghost use Rattle.swc_ecma_codegen_emit.specs.Decls.{declarators_format, fn_decl, var_declarator, declarators, var_kind, is_unmarked, first_is_unmarked, var_decl, await_word, using_decl, decl_end, exported_class, exported_head, exported_tail, decl};
 
 use crate::emitter::Emitter;
-use crate::nodes::{Child, EmitAt, LinkTarget, Place};
+use crate::nodes::{Child, Context, EmitAt, EmitPiece, LinkTarget, Piece};
 use crate::patterns::{PatternKind, kind_of_pat};
 use swc_ecma_codegen_common::Span;
 use swc_ecma_codegen_grammar::ListFormat;
@@ -52,21 +49,43 @@ fn first_is_unmarked<N>(declarators: &[VarDeclarator<N>]) -> bool
 impl<N: LinkTarget> EmitAt for Decl<N> {
     ghost items = { decl N.answers N.items };
 
-    #[tactic(auto, unfolding(crate::specs::Decls::decl))]
+    #[tactic(auto, unfolding(crate::specs::Decls::decl, crate::specs::Decls::whole_decl, crate::specs::Decls::variables, crate::specs::Decls::resources))]
     fn emit_at<W: WriteJs, S: SourceMapper, C: Comments>(
         &self,
         e: &mut Emitter<'_, W, S, C>,
-        place: Place,
+        context: Context,
     ) {
         match self {
-            Decl::Class(node) => e.class_by_place(node, place),
-            Decl::Fn(node) => e.fn_by_place(node, place),
-            Decl::Var(node) => e.var_by_place(node, place),
-            Decl::Using(node) => e.using_by_place(node, place),
-            Decl::TsInterface(node) => e.interface_by_place(node, place),
-            Decl::TsTypeAlias(node) => e.alias_by_place(node, place),
-            Decl::TsEnum(node) => e.enum_by_place(node, place),
-            Decl::TsModule(node) => e.module_by_place(node, place),
+            Decl::Class(node) => node.emit_at(e, Context::Plain),
+            Decl::Fn(node) => node.emit_at(e, Context::Plain),
+            Decl::Var(node) => {
+                node.emit_at(e, Context::Plain);
+                e.semi();
+                e.decl_end(context, node.span)
+            }
+            Decl::Using(node) => {
+                node.emit_at(e, Context::Plain);
+                e.semi()
+            }
+            Decl::TsInterface(node) => node.emit_at(e, Context::Plain),
+            Decl::TsTypeAlias(node) => node.emit_at(e, Context::Plain),
+            Decl::TsEnum(node) => node.emit_at(e, Context::Plain),
+            Decl::TsModule(node) => node.emit_at(e, Context::Plain),
+        }
+    }
+}
+
+impl<N: LinkTarget> EmitPiece for Decl<N> {
+    #[tactic(auto, unfolding(crate::specs::Decls::decl))]
+    fn emit_piece<W: WriteJs, S: SourceMapper, C: Comments>(
+        &self,
+        e: &mut Emitter<'_, W, S, C>,
+        piece: Piece,
+    ) {
+        match piece {
+            Piece::ExportedHead => e.exported_head(self),
+            Piece::ExportedTail => e.exported_tail(self),
+            _ => self.emit_at(e, Context::Plain),
         }
     }
 }
@@ -78,7 +97,7 @@ impl<N: LinkTarget> EmitAt for UsingDecl<N> {
     fn emit_at<W: WriteJs, S: SourceMapper, C: Comments>(
         &self,
         e: &mut Emitter<'_, W, S, C>,
-        place: Place,
+        context: Context,
     ) {
         e.leading_comments(self.span.lo);
         e.await_word(self.is_await);
@@ -95,16 +114,16 @@ impl<N: LinkTarget> EmitAt for FnDecl<N> {
     fn emit_at<W: WriteJs, S: SourceMapper, C: Comments>(
         &self,
         e: &mut Emitter<'_, W, S, C>,
-        place: Place,
+        context: Context,
     ) {
         let span = self.function.target().place();
         e.leading_comments(span.lo);
         e.commit_pending_semi();
         e.start_of(span);
         e.declare_word(self.declare);
-        self.function.target().emit_at(e, Place::DeclarationHead);
-        self.ident.emit_at(e, Place::Plain);
-        self.function.target().emit_at(e, Place::DeclarationTail);
+        self.function.target().emit_piece(e, Piece::DeclarationHead);
+        self.ident.emit_at(e, Context::Plain);
+        self.function.target().emit_piece(e, Piece::DeclarationTail);
     }
 }
 
@@ -115,7 +134,7 @@ impl<N: LinkTarget> EmitAt for VarDecl<N> {
     fn emit_at<W: WriteJs, S: SourceMapper, C: Comments>(
         &self,
         e: &mut Emitter<'_, W, S, C>,
-        place: Place,
+        context: Context,
     ) {
         e.leading_comments(self.span.lo);
         e.commit_pending_semi();
@@ -134,7 +153,7 @@ impl<N: LinkTarget> EmitAt for VarDeclarator<N> {
     fn emit_at<W: WriteJs, S: SourceMapper, C: Comments>(
         &self,
         e: &mut Emitter<'_, W, S, C>,
-        place: Place,
+        context: Context,
     ) {
         e.opened(self.span);
         e.declared_pat(self.definite, &self.name);
@@ -182,17 +201,27 @@ impl<W: WriteJs, S: SourceMapper, C: Comments> Emitter<'_, W, S, C> {
         }
     }
 
-    /// Writes a class, or what of it stands before or after `export`.
-    #[tactic(auto, unfolding(crate::specs::Decls::by_export))]
-    fn class_by_place<N: LinkTarget>(&mut self, node: &ClassDecl<N>, place: Place)
-        ensures items { Performs (by_export place (N.items node.now.class.node.value ClassHead)
-            (exported_class N.answers N.items node.now) (class_decl N.answers N.items node.now))
+    /// Writes what of a declaration stands before `export`: the decorators of a class.
+    #[tactic(auto, unfolding(crate::specs::Decls::exported_head))]
+    fn exported_head<N: LinkTarget>(&mut self, node: &Decl<N>)
+        ensures items { Performs (exported_head N.items node.now)
             S.lines C.maps W.sheet self.old self.new }
     {
-        match place {
-            Place::ExportedHead => node.class.target().emit_at(self, Place::ClassHead),
-            Place::ExportedTail => self.exported_class(node),
-            _ => node.emit_at(self, Place::Plain),
+        match node {
+            Decl::Class(node) => node.class.target().emit_piece(self, Piece::ClassHead),
+            _ => {}
+        }
+    }
+
+    /// Writes what of a declaration stands after `export`.
+    #[tactic(auto, unfolding(crate::specs::Decls::exported_tail, crate::specs::Decls::decl))]
+    fn exported_tail<N: LinkTarget>(&mut self, node: &Decl<N>)
+        ensures items { Performs (exported_tail N.answers N.items node.now)
+            S.lines C.maps W.sheet self.old self.new }
+    {
+        match node {
+            Decl::Class(node) => self.exported_class(node),
+            _ => node.emit_at(self, Context::Plain),
         }
     }
 
@@ -206,110 +235,19 @@ impl<W: WriteJs, S: SourceMapper, C: Comments> Emitter<'_, W, S, C> {
         self.leading_comments(span.lo);
         self.start_of(span);
         self.declare_word(node.declare);
-        node.class.target().emit_at(self, Place::ClassWord);
+        node.class.target().emit_piece(self, Piece::ClassWord);
         self.space();
-        node.ident.emit_at(self, Place::Plain);
-        node.class.target().emit_at(self, Place::Plain);
-    }
-
-    /// Writes a function, before `export` nothing.
-    #[tactic(auto, unfolding(crate::specs::Decls::without_head, crate::specs::Decls::by_export))]
-    fn fn_by_place<N: LinkTarget>(&mut self, node: &FnDecl<N>, place: Place)
-        ensures items { Performs (without_head place (fn_decl N.answers N.items node.now))
-            S.lines C.maps W.sheet self.old self.new }
-    {
-        match place {
-            Place::ExportedHead => {}
-            _ => node.emit_at(self, Place::Plain),
-        }
-    }
-
-    /// Writes variables, before `export` nothing.
-    #[tactic(auto, unfolding(crate::specs::Decls::without_head, crate::specs::Decls::by_export, crate::specs::Decls::variables))]
-    fn var_by_place<N: LinkTarget>(&mut self, node: &VarDecl<N>, place: Place)
-        ensures items { Performs (without_head place (variables N.answers N.items node.now place))
-            S.lines C.maps W.sheet self.old self.new }
-    {
-        match place {
-            Place::ExportedHead => {}
-            _ => {
-                node.emit_at(self, Place::Plain);
-                self.semi();
-                self.decl_end(place, node.span)
-            }
-        }
-    }
-
-    /// Writes resources, before `export` nothing.
-    #[tactic(auto, unfolding(crate::specs::Decls::without_head, crate::specs::Decls::by_export, crate::specs::Decls::resources))]
-    fn using_by_place<N: LinkTarget>(&mut self, node: &UsingDecl<N>, place: Place)
-        ensures items { Performs (without_head place (resources N.answers N.items node.now))
-            S.lines C.maps W.sheet self.old self.new }
-    {
-        match place {
-            Place::ExportedHead => {}
-            _ => {
-                node.emit_at(self, Place::Plain);
-                self.semi()
-            }
-        }
-    }
-
-    /// Writes an interface, before `export` nothing.
-    #[tactic(auto, unfolding(crate::specs::Decls::without_head, crate::specs::Decls::by_export))]
-    fn interface_by_place<N: LinkTarget>(&mut self, node: &TsInterfaceDecl<N>, place: Place)
-        ensures items { Performs (without_head place (ts_interface_decl N.items node.now))
-            S.lines C.maps W.sheet self.old self.new }
-    {
-        match place {
-            Place::ExportedHead => {}
-            _ => node.emit_at(self, Place::Plain),
-        }
-    }
-
-    /// Writes an alias of a type, before `export` nothing.
-    #[tactic(auto, unfolding(crate::specs::Decls::without_head, crate::specs::Decls::by_export))]
-    fn alias_by_place<N: LinkTarget>(&mut self, node: &TsTypeAliasDecl<N>, place: Place)
-        ensures items { Performs (without_head place (ts_type_alias_decl N.items node.now))
-            S.lines C.maps W.sheet self.old self.new }
-    {
-        match place {
-            Place::ExportedHead => {}
-            _ => node.emit_at(self, Place::Plain),
-        }
-    }
-
-    /// Writes an enum, before `export` nothing.
-    #[tactic(auto, unfolding(crate::specs::Decls::without_head, crate::specs::Decls::by_export))]
-    fn enum_by_place<N: LinkTarget>(&mut self, node: &TsEnumDecl<N>, place: Place)
-        ensures items { Performs (without_head place (ts_enum_decl N.items node.now))
-            S.lines C.maps W.sheet self.old self.new }
-    {
-        match place {
-            Place::ExportedHead => {}
-            _ => node.emit_at(self, Place::Plain),
-        }
-    }
-
-    /// Writes a namespace or a module, before `export` nothing.
-    #[tactic(auto, unfolding(crate::specs::Decls::without_head, crate::specs::Decls::by_export))]
-    fn module_by_place<N: LinkTarget>(&mut self, node: &TsModuleDecl<N>, place: Place)
-        ensures items { Performs (without_head place (ts_module_decl N.items node.now))
-            S.lines C.maps W.sheet self.old self.new }
-    {
-        match place {
-            Place::ExportedHead => {}
-            _ => node.emit_at(self, Place::Plain),
-        }
+        node.ident.emit_at(self, Context::Plain);
+        node.class.target().emit_at(self, Context::Plain);
     }
 
     /// Records the end of a declaration of variables, unless it is a statement.
     #[tactic(auto, unfolding(crate::specs::Decls::decl_end))]
-    fn decl_end(&mut self, place: Place, span: Span)
-        ensures items { Performs (decl_end place span) S.lines C.maps W.sheet self.old self.new }
+    fn decl_end(&mut self, context: Context, span: Span)
+        ensures items { Performs (decl_end context span) S.lines C.maps W.sheet self.old self.new }
     {
-        match place {
-            Place::Statement => {}
+        match context {
+            Context::Statement => {}
             _ => self.end_of(span),
         }
     }

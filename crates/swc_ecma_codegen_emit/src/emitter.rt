@@ -5,7 +5,7 @@ ghost use Rattle.swc_ecma_codegen_common.specs.Refusals.{in_short};
 ghost use Rattle.swc_ecma_codegen_tokens.specs.Run.{Follows, nothing, start};
 
 use crate::node::Node;
-use crate::nodes::{EmitAt, Place};
+use crate::nodes::{Context, EmitAt};
 use std::alloc::Global;
 use swc_ecma_codegen_common::{Error, Refusal, Result};
 use swc_ecma_codegen_grammar::comments::Comments;
@@ -37,7 +37,7 @@ impl<'a, W: WriteJs, S: SourceMapper, C: Comments> Emitter<'a, W, S, C> {
     ghost use Rattle.swc_ecma_codegen_emit.specs.Standing.{outcome, Performs};
     ghost use Rattle.swc_ecma_codegen_emit.specs.Modules.{module_export_name};
     ghost use Rattle.swc_ecma_codegen_emit.specs.Roots.{OfItem, OfModule, OfProgram, OfScript, root_items};
-    ghost use Rattle.swc_ecma_codegen_emit.specs.Places.{alone, by_itself};
+    ghost use Rattle.swc_ecma_codegen_emit.specs.Places.{Whole, alone, by_itself};
     ghost use Rattle.swc_ecma_codegen_emit.specs.Emission.{Emission, IsMadeUnhindered, IsRefusedForCause, SendsFront};
 
     /// An emitter that has written nothing. Takes no memory.
@@ -91,20 +91,20 @@ impl<'a, W: WriteJs, S: SourceMapper, C: Comments> Emitter<'a, W, S, C> {
         ensures items { Performs (by_itself (T.items node.now))
             S.lines C.maps W.sheet self.old self.new }
     {
-        let place = self.place_alone();
+        let context = self.context_alone();
         let max_line = self.cfg.max_line;
         self.cfg.max_line = None;
-        node.emit_at(self, place);
+        node.emit_at(self, context);
         self.cfg.max_line = max_line;
     }
 
     /// Where a node stands by itself: the greatest length of lines acts in a module or script that is minified.
-    fn place_alone(&self) -> Place
-        ensures { result ≡ alone (state_of S.lines C.maps W.sheet self.now).env }
+    fn context_alone(&self) -> Context
+        ensures { Whole result ≡ alone (state_of S.lines C.maps W.sheet self.now).env }
     {
         match self.cfg.max_line {
-            Some(max) if self.cfg.minify => Place::Lines(max),
-            _ => Place::Plain,
+            Some(max) if self.cfg.minify => Context::ByItself(max),
+            _ => Context::Plain,
         }
     }
 

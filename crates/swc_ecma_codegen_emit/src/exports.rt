@@ -7,7 +7,7 @@ ghost use Rattle.swc_ecma_codegen_emit.specs.Modules.{named_format, exported_as,
 
 use crate::emitter::Emitter;
 use crate::modules::named_format;
-use crate::nodes::{Child, EmitAt, LinkTarget, Place};
+use crate::nodes::{Child, Context, EmitAt, LinkTarget, Piece};
 use crate::specifiers::{Specifier, has_braced, has_star};
 use swc_ecma_codegen_common::Span;
 use swc_ecma_codegen_grammar::comments::Comments;
@@ -34,12 +34,12 @@ impl EmitAt for ExportNamedSpecifier {
     fn emit_at<W: WriteJs, S: SourceMapper, C: Comments>(
         &self,
         e: &mut Emitter<'_, W, S, C>,
-        place: Place,
+        context: Context,
     ) {
         e.leading_comments(self.span.lo);
         e.start_of(self.span);
         e.word_before(self.is_type_only, "type");
-        self.orig.emit_at(e, Place::Plain);
+        self.orig.emit_at(e, Context::Plain);
         e.exported_as(&self.exported);
         e.end_of(self.span);
     }
@@ -52,11 +52,11 @@ impl EmitAt for ExportSpecifier {
     fn emit_at<W: WriteJs, S: SourceMapper, C: Comments>(
         &self,
         e: &mut Emitter<'_, W, S, C>,
-        place: Place,
+        context: Context,
     ) {
         match self {
-            ExportSpecifier::Named(node) => node.emit_at(e, Place::Plain),
-            ExportSpecifier::Namespace(node) => node.emit_at(e, Place::Plain),
+            ExportSpecifier::Named(node) => node.emit_at(e, Context::Plain),
+            ExportSpecifier::Namespace(node) => node.emit_at(e, Context::Plain),
             ExportSpecifier::Default(_) => e.unsupported(),
         }
     }
@@ -98,12 +98,12 @@ impl EmitAt for ExportNamespaceSpecifier {
     fn emit_at<W: WriteJs, S: SourceMapper, C: Comments>(
         &self,
         e: &mut Emitter<'_, W, S, C>,
-        place: Place,
+        context: Context,
     ) {
         e.leading_comments(self.span.lo);
         e.start_of(self.span);
         e.star_as();
-        self.name.emit_at(e, Place::Plain);
+        self.name.emit_at(e, Context::Plain);
         e.end_of(self.span);
     }
 }
@@ -115,7 +115,7 @@ impl<N: LinkTarget> EmitAt for NamedExport<N> {
     fn emit_at<W: WriteJs, S: SourceMapper, C: Comments>(
         &self,
         e: &mut Emitter<'_, W, S, C>,
-        place: Place,
+        context: Context,
     ) {
         e.leading_comments(self.span.lo);
         e.start_of(self.span);
@@ -133,7 +133,7 @@ impl<N: LinkTarget> EmitAt for ExportAll<N> {
     fn emit_at<W: WriteJs, S: SourceMapper, C: Comments>(
         &self,
         e: &mut Emitter<'_, W, S, C>,
-        place: Place,
+        context: Context,
     ) {
         e.leading_comments(self.span.lo);
         e.start_of(self.span);
@@ -150,13 +150,13 @@ impl<N: LinkTarget> EmitAt for ExportDecl<N> {
     fn emit_at<W: WriteJs, S: SourceMapper, C: Comments>(
         &self,
         e: &mut Emitter<'_, W, S, C>,
-        place: Place,
+        context: Context,
     ) {
         e.start_of(self.span);
-        self.decl.target().emit_at(e, Place::ExportedHead);
+        self.decl.target().emit_piece(e, Piece::ExportedHead);
         e.keyword(None, "export");
         e.space();
-        self.decl.target().emit_at(e, Place::ExportedTail);
+        self.decl.target().emit_piece(e, Piece::ExportedTail);
     }
 }
 
@@ -167,12 +167,12 @@ impl<N: LinkTarget> EmitAt for DefaultDecl<N> {
     fn emit_at<W: WriteJs, S: SourceMapper, C: Comments>(
         &self,
         e: &mut Emitter<'_, W, S, C>,
-        place: Place,
+        context: Context,
     ) {
         match self {
-            DefaultDecl::Class(node) => node.emit_at(e, Place::Plain),
-            DefaultDecl::Fn(node) => node.emit_at(e, Place::DeclarationTail),
-            DefaultDecl::TsInterfaceDecl(node) => node.emit_at(e, Place::Plain),
+            DefaultDecl::Class(node) => node.emit_at(e, Context::Plain),
+            DefaultDecl::Fn(node) => node.emit_at(e, Context::DefaultExport),
+            DefaultDecl::TsInterfaceDecl(node) => node.emit_at(e, Context::Plain),
         }
     }
 }
@@ -184,13 +184,13 @@ impl<N: LinkTarget> EmitAt for ExportDefaultDecl<N> {
     fn emit_at<W: WriteJs, S: SourceMapper, C: Comments>(
         &self,
         e: &mut Emitter<'_, W, S, C>,
-        place: Place,
+        context: Context,
     ) {
         e.leading_comments(self.span.lo);
         e.start_of(self.span);
         e.export_default();
         e.space();
-        self.decl.emit_at(e, Place::Plain);
+        self.decl.emit_at(e, Context::Plain);
     }
 }
 
@@ -201,12 +201,12 @@ impl<N: LinkTarget> EmitAt for ExportDefaultExpr<N> {
     fn emit_at<W: WriteJs, S: SourceMapper, C: Comments>(
         &self,
         e: &mut Emitter<'_, W, S, C>,
-        place: Place,
+        context: Context,
     ) {
         e.start_of(self.span);
         e.export_default();
         e.blank(self.expr.target().starts());
-        self.expr.target().emit_at(e, Place::Plain);
+        self.expr.target().emit_at(e, Context::Plain);
         e.semi();
         e.end_of(self.span);
     }
@@ -221,7 +221,7 @@ impl<W: WriteJs, S: SourceMapper, C: Comments> Emitter<'_, W, S, C> {
         match name {
             Some(name) => {
                 self.as_word();
-                name.emit_at(self, Place::Plain)
+                name.emit_at(self, Context::Plain)
             }
             None => {}
         }
@@ -254,7 +254,7 @@ impl<W: WriteJs, S: SourceMapper, C: Comments> Emitter<'_, W, S, C> {
     {
         for specifier in specifiers {
             if let ExportSpecifier::Namespace(node) = specifier {
-                return node.emit_at(self, Place::Plain);
+                return node.emit_at(self, Context::Plain);
             }
         }
     }
@@ -310,7 +310,7 @@ impl<W: WriteJs, S: SourceMapper, C: Comments> Emitter<'_, W, S, C> {
             Some(src) => {
                 self.blank(needed);
                 self.from_word();
-                src.emit_at(self, Place::Plain);
+                src.emit_at(self, Context::Plain);
                 self.attributes(with)
             }
             None => {}

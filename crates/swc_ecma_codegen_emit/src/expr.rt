@@ -9,14 +9,15 @@ ghost use Rattle.swc_ecma_codegen_spans.specs.Spans.{expr_span};
 ghost use Rattle.swc_ecma_codegen_emit.specs.Answers.{place_of};
 ghost use Rattle.swc_ecma_codegen_emit.specs.Lists.{unsupported};
 ghost use Rattle.swc_ecma_codegen_emit.specs.Operands.{operand_space};
-ghost use Rattle.swc_ecma_codegen_emit.specs.declared.nodes.Place.TheVariants.{Plain};
+ghost use Rattle.swc_ecma_codegen_emit.specs.declared.nodes.Context.TheVariants.{Plain};
 ghost use Rattle.swc_ecma_codegen_util.specs.Starts.{is_word_op as is_word_unary};
+ghost use Rattle.swc_ecma_codegen_emit.specs.Places.{Whole, in_context};
 
 use crate::branches::is_wrapped;
 use crate::emitter::Emitter;
 use crate::lits::is_number_object;
 use crate::marks::{assign_mark, binary_mark, unary_mark, update_mark};
-use crate::nodes::{Asked, EmitAt, LinkTarget, Place};
+use crate::nodes::{Asked, Context, EmitAt, LinkTarget};
 use crate::operands::{begins_greater, is_word_op, operand_space, space_after};
 use crate::places::{expr_place, spread_element_place};
 use swc_ecma_codegen_common::{BinaryOp, Span, UnaryOp};
@@ -30,23 +31,23 @@ use swc_ecma_codegen_tree::{
     UnaryExpr, UpdateExpr, YieldExpr,
 };
 
-/// Whether it is the place of a left operand.
+/// Whether a left operand stands there.
 #[tactic(auto, unfolding(crate::specs::AnyExpr::is_left_operand))]
-fn is_left_operand(place: Place) -> bool
-    ensures { result ≡ is_left_operand place }
+fn is_left_operand(context: Context) -> bool
+    ensures { result ≡ is_left_operand context }
 {
-    matches!(place, Place::LeftOperand)
+    matches!(context, Context::LeftOperand)
 }
 
 /// Whether the comments after it are left where they are: those of an inner left operand, as `a + b` in `a + b + c`, and of
 /// a number that is an object, as `10` in `10..x`.
 #[tactic(auto, unfolding(crate::specs::AnyExpr::leaves_comments))]
-fn leaves_comments<N>(node: &Expr<N>, place: Place) -> bool
-    ensures { result ≡ leaves_comments node.now place }
+fn leaves_comments<N>(node: &Expr<N>, context: Context) -> bool
+    ensures { result ≡ leaves_comments node.now context }
 {
     match node {
-        Expr::Bin(_) => is_left_operand(place),
-        Expr::Lit(lit) => is_number_object(lit, place),
+        Expr::Bin(_) => is_left_operand(context),
+        Expr::Lit(lit) => is_number_object(lit, context),
         _ => false,
     }
 }
@@ -57,9 +58,10 @@ fn plainly<N: LinkTarget, W: WriteJs, S: SourceMapper, C: Comments>(
     node: &N,
     e: &mut Emitter<'_, W, S, C>,
 )
-    ensures items { Performs (N.items node.now Plain) S.lines C.maps W.sheet e.old e.new }
+    ensures items { Performs (N.items node.now (Whole Plain))
+        S.lines C.maps W.sheet e.old e.new }
 {
-    node.emit_at(e, Place::Plain);
+    node.emit_at(e, Context::Plain);
 }
 
 /// Writes an expression by its variant, without the comments after it.
@@ -68,49 +70,49 @@ fn plainly<N: LinkTarget, W: WriteJs, S: SourceMapper, C: Comments>(
 fn expr_parts<N: LinkTarget, W: WriteJs, S: SourceMapper, C: Comments>(
     node: &Expr<N>,
     e: &mut Emitter<'_, W, S, C>,
-    place: Place,
+    context: Context,
 )
-    ensures items { Performs (expr_parts N.answers N.items node.now place)
+    ensures items { Performs (expr_parts N.answers N.items node.now context)
         S.lines C.maps W.sheet e.old e.new }
 {
     match node {
-        Expr::This(node) => node.emit_at(e, place),
-        Expr::Object(node) => node.emit_at(e, Place::Plain),
-        Expr::Fn(node) => node.emit_at(e, Place::Plain),
-        Expr::Array(node) => node.emit_at(e, place),
-        Expr::Unary(node) => node.emit_at(e, place),
-        Expr::Update(node) => node.emit_at(e, place),
-        Expr::Bin(node) => node.emit_at(e, place),
-        Expr::Assign(node) => node.emit_at(e, place),
-        Expr::Member(node) => node.emit_at(e, Place::Plain),
-        Expr::SuperProp(node) => node.emit_at(e, place),
-        Expr::Cond(node) => node.emit_at(e, place),
-        Expr::Call(node) => node.emit_at(e, place),
-        Expr::New(node) => node.emit_at(e, place),
-        Expr::Seq(node) => node.emit_at(e, place),
-        Expr::Ident(node) => node.emit_at(e, place),
-        Expr::Lit(node) => node.emit_at(e, place),
+        Expr::This(node) => node.emit_at(e, context),
+        Expr::Object(node) => node.emit_at(e, Context::Plain),
+        Expr::Fn(node) => node.emit_at(e, Context::Plain),
+        Expr::Array(node) => node.emit_at(e, context),
+        Expr::Unary(node) => node.emit_at(e, context),
+        Expr::Update(node) => node.emit_at(e, context),
+        Expr::Bin(node) => node.emit_at(e, context),
+        Expr::Assign(node) => node.emit_at(e, context),
+        Expr::Member(node) => node.emit_at(e, Context::Plain),
+        Expr::SuperProp(node) => node.emit_at(e, context),
+        Expr::Cond(node) => node.emit_at(e, context),
+        Expr::Call(node) => node.emit_at(e, context),
+        Expr::New(node) => node.emit_at(e, context),
+        Expr::Seq(node) => node.emit_at(e, context),
+        Expr::Ident(node) => node.emit_at(e, context),
+        Expr::Lit(node) => node.emit_at(e, context),
         Expr::Tpl(node) => plainly(node.target(), e),
-        Expr::TaggedTpl(node) => node.emit_at(e, place),
-        Expr::Arrow(node) => (**node).emit_at(e, place),
-        Expr::Class(node) => node.emit_at(e, place),
-        Expr::Yield(node) => node.emit_at(e, place),
-        Expr::MetaProp(node) => node.emit_at(e, place),
-        Expr::Await(node) => node.emit_at(e, place),
-        Expr::Paren(node) => node.emit_at(e, place),
-        Expr::PrivateName(node) => node.emit_at(e, place),
-        Expr::OptChain(node) => node.emit_at(e, place),
-        Expr::JSXMember(node) => node.emit_at(e, place),
-        Expr::JSXNamespacedName(node) => node.emit_at(e, place),
-        Expr::JSXEmpty(node) => node.emit_at(e, place),
+        Expr::TaggedTpl(node) => node.emit_at(e, context),
+        Expr::Arrow(node) => (**node).emit_at(e, context),
+        Expr::Class(node) => node.emit_at(e, context),
+        Expr::Yield(node) => node.emit_at(e, context),
+        Expr::MetaProp(node) => node.emit_at(e, context),
+        Expr::Await(node) => node.emit_at(e, context),
+        Expr::Paren(node) => node.emit_at(e, context),
+        Expr::PrivateName(node) => node.emit_at(e, context),
+        Expr::OptChain(node) => node.emit_at(e, context),
+        Expr::JSXMember(node) => node.emit_at(e, context),
+        Expr::JSXNamespacedName(node) => node.emit_at(e, context),
+        Expr::JSXEmpty(node) => node.emit_at(e, context),
         Expr::JSXElement(node) => plainly(node.target(), e),
         Expr::JSXFragment(node) => plainly(node.target(), e),
-        Expr::TsTypeAssertion(node) => node.emit_at(e, place),
-        Expr::TsConstAssertion(node) => node.emit_at(e, place),
-        Expr::TsNonNull(node) => node.emit_at(e, place),
-        Expr::TsAs(node) => node.emit_at(e, place),
-        Expr::TsInstantiation(node) => node.emit_at(e, place),
-        Expr::TsSatisfies(node) => node.emit_at(e, place),
+        Expr::TsTypeAssertion(node) => node.emit_at(e, context),
+        Expr::TsConstAssertion(node) => node.emit_at(e, context),
+        Expr::TsNonNull(node) => node.emit_at(e, context),
+        Expr::TsAs(node) => node.emit_at(e, context),
+        Expr::TsInstantiation(node) => node.emit_at(e, context),
+        Expr::TsSatisfies(node) => node.emit_at(e, context),
         Expr::Invalid(_) => e.unsupported(),
     }
 }
@@ -121,27 +123,27 @@ impl EmitAt for Invalid {
     fn emit_at<W: WriteJs, S: SourceMapper, C: Comments>(
         &self,
         e: &mut Emitter<'_, W, S, C>,
-        place: Place,
+        context: Context,
     ) {
         e.unsupported();
     }
 }
 
 impl<N: LinkTarget> EmitAt for Expr<N> {
-    ghost items = { expr N.answers N.items };
+    ghost items = { λ n. in_context (expr N.answers N.items n) };
 
     #[inline(always)]
     #[tactic(auto, using(crate::proofs::Without::none_there, crate::proofs::Without::expr_bare))]
     fn emit_at<W: WriteJs, S: SourceMapper, C: Comments>(
         &self,
         e: &mut Emitter<'_, W, S, C>,
-        place: Place,
+        context: Context,
     ) {
         if e.comments.is_some() {
-            return commented(self, e, place);
+            return commented(self, e, context);
         }
         // Nothing comes after it, so there is no frame for it at each level of a tree.
-        expr_parts(self, e, place);
+        expr_parts(self, e, context);
     }
 }
 
@@ -151,13 +153,13 @@ impl<N: LinkTarget> EmitAt for Expr<N> {
 fn commented<N: LinkTarget, W: WriteJs, S: SourceMapper, C: Comments>(
     node: &Expr<N>,
     e: &mut Emitter<'_, W, S, C>,
-    place: Place,
+    context: Context,
 )
-    ensures items { Performs (expr N.answers N.items node.now place)
+    ensures items { Performs (expr N.answers N.items node.now context)
         S.lines C.maps W.sheet e.old e.new }
 {
-    expr_parts(node, e, place);
-    e.expr_closed(node, place);
+    expr_parts(node, e, context);
+    e.expr_closed(node, context);
 }
 
 /// Writes an expression in parentheses.
@@ -171,7 +173,7 @@ fn wrapped<N: LinkTarget, W: WriteJs, S: SourceMapper, C: Comments>(
         S.lines C.maps W.sheet e.old e.new }
 {
     e.punct(Punctuator::LeftParenthesis);
-    commented(node, e, Place::Plain);
+    commented(node, e, Context::Plain);
     e.punct(Punctuator::RightParenthesis);
 }
 
@@ -181,15 +183,15 @@ fn wrapped<N: LinkTarget, W: WriteJs, S: SourceMapper, C: Comments>(
 pub(crate) fn placed_expr<N: LinkTarget, W: WriteJs, S: SourceMapper, C: Comments>(
     node: &Expr<N>,
     e: &mut Emitter<'_, W, S, C>,
-    place: Place,
+    context: Context,
 )
-    ensures items { Performs (placed_expr N.answers N.items node.now place)
+    ensures items { Performs (placed_expr N.answers N.items node.now context)
         S.lines C.maps W.sheet e.old e.new }
 {
-    if is_wrapped(node, place) {
+    if is_wrapped(node, context) {
         return wrapped(node, e);
     }
-    node.emit_at(e, place);
+    node.emit_at(e, context);
 }
 
 impl EmitAt for MetaPropExpr {
@@ -199,7 +201,7 @@ impl EmitAt for MetaPropExpr {
     fn emit_at<W: WriteJs, S: SourceMapper, C: Comments>(
         &self,
         e: &mut Emitter<'_, W, S, C>,
-        place: Place,
+        context: Context,
     ) {
         e.opened(self.span);
         match self.kind {
@@ -224,26 +226,26 @@ impl<N: LinkTarget> EmitAt for AssignExpr<N> {
     fn emit_at<W: WriteJs, S: SourceMapper, C: Comments>(
         &self,
         e: &mut Emitter<'_, W, S, C>,
-        place: Place,
+        context: Context,
     ) {
         e.leading_comments(self.span.lo);
-        self.left.target().emit_at(e, Place::Plain);
+        self.left.target().emit_at(e, Context::Plain);
         e.formatted_operator(assign_mark(self.op));
-        self.right.target().emit_at(e, Place::Plain)
+        self.right.target().emit_at(e, Context::Plain)
     }
 }
 
 impl<N: LinkTarget> EmitAt for BinExpr<N> {
-    ghost items = { bin N.answers N.items };
+    ghost items = { λ n. in_context (bin N.answers N.items n) };
 
     #[tactic(auto, unfolding(crate::specs::Exprs::bin))]
     fn emit_at<W: WriteJs, S: SourceMapper, C: Comments>(
         &self,
         e: &mut Emitter<'_, W, S, C>,
-        place: Place,
+        context: Context,
     ) {
-        e.bin_opened(place, self.span);
-        self.left.target().emit_at(e, Place::LeftOperand);
+        e.bin_opened(context, self.span);
+        self.left.target().emit_at(e, Context::LeftOperand);
         e.bin_trailing(self);
     }
 }
@@ -255,7 +257,7 @@ impl<N: LinkTarget> EmitAt for SeqExpr<N> {
     fn emit_at<W: WriteJs, S: SourceMapper, C: Comments>(
         &self,
         e: &mut Emitter<'_, W, S, C>,
-        place: Place,
+        context: Context,
     ) {
         e.opened(self.span);
         e.exprs(&self.exprs);
@@ -269,11 +271,11 @@ impl<N: LinkTarget> EmitAt for ComputedPropName<N> {
     fn emit_at<W: WriteJs, S: SourceMapper, C: Comments>(
         &self,
         e: &mut Emitter<'_, W, S, C>,
-        place: Place,
+        context: Context,
     ) {
         e.start_of(self.span);
         e.punct(Punctuator::LeftBracket);
-        self.expr.target().emit_at(e, Place::Plain);
+        self.expr.target().emit_at(e, Context::Plain);
         e.punct(Punctuator::RightBracket);
         e.end_of(self.span);
     }
@@ -286,14 +288,14 @@ impl<N: LinkTarget> EmitAt for CondExpr<N> {
     fn emit_at<W: WriteJs, S: SourceMapper, C: Comments>(
         &self,
         e: &mut Emitter<'_, W, S, C>,
-        place: Place,
+        context: Context,
     ) {
         e.opened(self.span);
-        self.test.target().emit_at(e, Place::Plain);
+        self.test.target().emit_at(e, Context::Plain);
         e.spaced_punct(Punctuator::Question);
-        self.cons.target().emit_at(e, Place::Plain);
+        self.cons.target().emit_at(e, Context::Plain);
         e.spaced_punct(Punctuator::Colon);
-        self.alt.target().emit_at(e, Place::Plain)
+        self.alt.target().emit_at(e, Context::Plain)
     }
 }
 
@@ -304,7 +306,7 @@ impl EmitAt for ThisExpr {
     fn emit_at<W: WriteJs, S: SourceMapper, C: Comments>(
         &self,
         e: &mut Emitter<'_, W, S, C>,
-        place: Place,
+        context: Context,
     ) {
         e.leading_comments(self.span.lo);
         e.keyword(Some(self.span), "this");
@@ -318,12 +320,12 @@ impl<N: LinkTarget> EmitAt for UnaryExpr<N> {
     fn emit_at<W: WriteJs, S: SourceMapper, C: Comments>(
         &self,
         e: &mut Emitter<'_, W, S, C>,
-        place: Place,
+        context: Context,
     ) {
         e.opened(self.span);
         e.unary_op(self.op);
         e.unary_gap(self.op, self.arg.target());
-        self.arg.target().emit_at(e, Place::Plain);
+        self.arg.target().emit_at(e, Context::Plain);
     }
 }
 
@@ -334,14 +336,14 @@ impl<N: LinkTarget> EmitAt for UpdateExpr<N> {
     fn emit_at<W: WriteJs, S: SourceMapper, C: Comments>(
         &self,
         e: &mut Emitter<'_, W, S, C>,
-        place: Place,
+        context: Context,
     ) {
         e.opened(self.span);
         if self.prefix {
             e.operator(update_mark(self.op));
-            self.arg.target().emit_at(e, Place::Plain);
+            self.arg.target().emit_at(e, Context::Plain);
         } else {
-            self.arg.target().emit_at(e, Place::Plain);
+            self.arg.target().emit_at(e, Context::Plain);
             e.operator(update_mark(self.op));
         }
     }
@@ -354,7 +356,7 @@ impl<N: LinkTarget> EmitAt for YieldExpr<N> {
     fn emit_at<W: WriteJs, S: SourceMapper, C: Comments>(
         &self,
         e: &mut Emitter<'_, W, S, C>,
-        place: Place,
+        context: Context,
     ) {
         e.opened(self.span);
         e.keyword(None, "yield");
@@ -370,12 +372,12 @@ impl<N: LinkTarget> EmitAt for AwaitExpr<N> {
     fn emit_at<W: WriteJs, S: SourceMapper, C: Comments>(
         &self,
         e: &mut Emitter<'_, W, S, C>,
-        place: Place,
+        context: Context,
     ) {
         e.opened(self.span);
         e.keyword(None, "await");
         e.space();
-        self.arg.target().emit_at(e, Place::Plain);
+        self.arg.target().emit_at(e, Context::Plain);
     }
 }
 
@@ -386,12 +388,12 @@ impl<N: LinkTarget> EmitAt for ParenExpr<N> {
     fn emit_at<W: WriteJs, S: SourceMapper, C: Comments>(
         &self,
         e: &mut Emitter<'_, W, S, C>,
-        place: Place,
+        context: Context,
     ) {
         e.commit_pending_semi();
         e.opened(self.span);
         e.punct(Punctuator::LeftParenthesis);
-        self.expr.target().emit_at(e, Place::Plain);
+        self.expr.target().emit_at(e, Context::Plain);
         e.last_of(self.span);
         e.punct(Punctuator::RightParenthesis);
     }
@@ -404,7 +406,7 @@ impl EmitAt for Ident {
     fn emit_at<W: WriteJs, S: SourceMapper, C: Comments>(
         &self,
         e: &mut Emitter<'_, W, S, C>,
-        place: Place,
+        context: Context,
     ) {
         e.name(self.span, &self.sym, self.optional);
     }
@@ -417,7 +419,7 @@ impl EmitAt for PrivateName {
     fn emit_at<W: WriteJs, S: SourceMapper, C: Comments>(
         &self,
         e: &mut Emitter<'_, W, S, C>,
-        place: Place,
+        context: Context,
     ) {
         e.private_name(self.span, &self.name)
     }
@@ -430,7 +432,7 @@ impl EmitAt for IdentName {
     fn emit_at<W: WriteJs, S: SourceMapper, C: Comments>(
         &self,
         e: &mut Emitter<'_, W, S, C>,
-        place: Place,
+        context: Context,
     ) {
         e.name(self.span, &self.sym, false);
     }
@@ -443,12 +445,12 @@ impl<N: LinkTarget> EmitAt for SpreadElement<N> {
     fn emit_at<W: WriteJs, S: SourceMapper, C: Comments>(
         &self,
         e: &mut Emitter<'_, W, S, C>,
-        place: Place,
+        context: Context,
     ) {
         let span = spread_element_place(self);
         e.opened(span);
         e.punct(Punctuator::Ellipsis);
-        self.expr.target().emit_at(e, Place::Plain);
+        self.expr.target().emit_at(e, Context::Plain);
         e.end_of(span);
     }
 }
@@ -456,11 +458,11 @@ impl<N: LinkTarget> EmitAt for SpreadElement<N> {
 impl<W: WriteJs, S: SourceMapper, C: Comments> Emitter<'_, W, S, C> {
     /// Writes the comments after an expression, unless they are left where they are.
     #[tactic(auto, using(crate::proofs::Asked::closed_left, crate::proofs::Asked::closed_commented))]
-    fn expr_closed<N: LinkTarget>(&mut self, node: &Expr<N>, place: Place)
-        ensures items { Performs (expr_closed (leaves_comments node.now place)
+    fn expr_closed<N: LinkTarget>(&mut self, node: &Expr<N>, context: Context)
+        ensures items { Performs (expr_closed (leaves_comments node.now context)
             (expr_span (place_of N.answers) node.now)) S.lines C.maps W.sheet self.old self.new }
     {
-        if leaves_comments(node, place) {
+        if leaves_comments(node, context) {
             return;
         }
         self.trailing_comments(expr_place(node).hi, true)
@@ -468,11 +470,12 @@ impl<W: WriteJs, S: SourceMapper, C: Comments> Emitter<'_, W, S, C> {
 
     /// Writes the comments before a binary expression and its start, unless it is an inner left operand.
     #[tactic(auto, unfolding(crate::specs::Exprs::bin_opened))]
-    fn bin_opened(&mut self, place: Place, span: Span)
-        ensures items { Performs (bin_opened place span) S.lines C.maps W.sheet self.old self.new }
+    fn bin_opened(&mut self, context: Context, span: Span)
+        ensures items { Performs (bin_opened context span)
+            S.lines C.maps W.sheet self.old self.new }
     {
-        match place {
-            Place::LeftOperand => {}
+        match context {
+            Context::LeftOperand => {}
             _ => self.opened(span),
         }
     }
@@ -495,7 +498,7 @@ impl<W: WriteJs, S: SourceMapper, C: Comments> Emitter<'_, W, S, C> {
             S.lines C.maps W.sheet self.old self.new }
     {
         self.bin_operator(node);
-        node.right.target().emit_at(self, Place::Plain);
+        node.right.target().emit_at(self, Context::Plain);
     }
 
     /// Writes the operator with what stands beside it. Unless the settings are to minify these are blanks, whatever the operands are:
@@ -612,11 +615,11 @@ impl<W: WriteJs, S: SourceMapper, C: Comments> Emitter<'_, W, S, C> {
     {
         if breaks {
             self.punct(Punctuator::LeftParenthesis);
-            node.emit_at(self, Place::Plain);
+            node.emit_at(self, Context::Plain);
             self.punct(Punctuator::RightParenthesis);
         } else {
             self.blank(!delegate && node.starts());
-            node.emit_at(self, Place::Plain);
+            node.emit_at(self, Context::Plain);
         }
     }
 }

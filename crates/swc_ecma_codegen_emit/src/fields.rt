@@ -5,7 +5,7 @@ ghost use Rattle.swc_ecma_codegen_emit.specs.Classes.{prop_value, prop_modifiers
 
 use crate::emitter::Emitter;
 use crate::functions::decorators_format;
-use crate::nodes::{EmitAt, LinkTarget, Place};
+use crate::nodes::{Context, EmitAt, LinkTarget};
 use swc_ecma_codegen_grammar::comments::Comments;
 use swc_ecma_codegen_grammar::mapper::SourceMapper;
 use swc_ecma_codegen_literals::Punctuator;
@@ -19,7 +19,7 @@ impl<N: LinkTarget> EmitAt for ClassProp<N> {
     fn emit_at<W: WriteJs, S: SourceMapper, C: Comments>(
         &self,
         e: &mut Emitter<'_, W, S, C>,
-        place: Place,
+        context: Context,
     ) {
         e.leading_comments(self.span.lo);
         e.start_of(self.span);
@@ -36,7 +36,7 @@ impl<N: LinkTarget> EmitAt for PrivateProp<N> {
     fn emit_at<W: WriteJs, S: SourceMapper, C: Comments>(
         &self,
         e: &mut Emitter<'_, W, S, C>,
-        place: Place,
+        context: Context,
     ) {
         e.leading_comments(self.span.lo);
         e.start_of(self.span);
@@ -53,7 +53,7 @@ impl<N: LinkTarget> EmitAt for AutoAccessor<N> {
     fn emit_at<W: WriteJs, S: SourceMapper, C: Comments>(
         &self,
         e: &mut Emitter<'_, W, S, C>,
-        place: Place,
+        context: Context,
     ) {
         e.accessor_decorators(self);
         e.accessor_modifiers(self);
@@ -70,11 +70,11 @@ impl<N: LinkTarget> EmitAt for Key<N> {
     fn emit_at<W: WriteJs, S: SourceMapper, C: Comments>(
         &self,
         e: &mut Emitter<'_, W, S, C>,
-        place: Place,
+        context: Context,
     ) {
         match self {
-            Key::Public(node) => node.target().emit_at(e, Place::Plain),
-            Key::Private(node) => node.emit_at(e, Place::Plain),
+            Key::Public(node) => node.target().emit_at(e, Context::Plain),
+            Key::Private(node) => node.emit_at(e, Context::Plain),
         }
     }
 }
@@ -100,7 +100,7 @@ impl<W: WriteJs, S: SourceMapper, C: Comments> Emitter<'_, W, S, C> {
         ensures items { Performs (prop_tail N.items node.now)
             S.lines C.maps W.sheet self.old self.new }
     {
-        node.key.target().emit_at(self, Place::Plain);
+        node.key.target().emit_at(self, Context::Plain);
         self.question(node.is_optional);
         self.field_annotation(node.definite, &node.type_ann);
         self.prop_value(&node.value);
@@ -134,7 +134,7 @@ impl<W: WriteJs, S: SourceMapper, C: Comments> Emitter<'_, W, S, C> {
         ensures items { Performs (private_prop_tail N.items node.now)
             S.lines C.maps W.sheet self.old self.new }
     {
-        node.key.emit_at(self, Place::Plain);
+        node.key.emit_at(self, Context::Plain);
         self.question(node.is_optional);
         self.field_annotation(node.definite, &node.type_ann);
         self.prop_value(&node.value);
@@ -168,7 +168,7 @@ impl<W: WriteJs, S: SourceMapper, C: Comments> Emitter<'_, W, S, C> {
         ensures items { Performs (accessor_tail N.items node.now)
             S.lines C.maps W.sheet self.old self.new }
     {
-        node.key.emit_at(self, Place::Plain);
+        node.key.emit_at(self, Context::Plain);
         self.field_annotation(node.definite, &node.type_ann);
         self.initializer(&node.value);
         self.semi();
@@ -185,7 +185,7 @@ impl<W: WriteJs, S: SourceMapper, C: Comments> Emitter<'_, W, S, C> {
                 self.formatting_space();
                 self.punct(Punctuator::Equal);
                 self.formatting_space();
-                value.target().emit_at(self, Place::FieldValue)
+                value.target().emit_at(self, Context::FieldValue)
             }
             None => {}
         }

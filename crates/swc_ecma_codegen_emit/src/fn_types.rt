@@ -5,7 +5,7 @@ ghost use Rattle.swc_ecma_codegen_emit.specs.TsMembers.{fn_params_list};
 ghost use Rattle.swc_ecma_codegen_emit.specs.Types.{ts_fn_param, signature_type, ts_fn_type, spaced_params, ts_constructor_type, ts_fn_or_constructor_type, ts_this_type_or_ident, is_behind, ts_type_predicate};
 
 use crate::emitter::Emitter;
-use crate::nodes::{EmitAt, LinkTarget, Place};
+use crate::nodes::{Context, EmitAt, LinkTarget};
 use crate::type_params::types_format;
 use swc_ecma_codegen_common::Span;
 use swc_ecma_codegen_grammar::comments::Comments;
@@ -24,13 +24,13 @@ impl<N: LinkTarget> EmitAt for TsFnParam<N> {
     fn emit_at<W: WriteJs, S: SourceMapper, C: Comments>(
         &self,
         e: &mut Emitter<'_, W, S, C>,
-        place: Place,
+        context: Context,
     ) {
         match self {
-            TsFnParam::Ident(node) => node.emit_at(e, Place::Plain),
-            TsFnParam::Array(node) => node.emit_at(e, Place::Plain),
-            TsFnParam::Rest(node) => node.emit_at(e, Place::Plain),
-            TsFnParam::Object(node) => node.emit_at(e, Place::Plain),
+            TsFnParam::Ident(node) => node.emit_at(e, Context::Plain),
+            TsFnParam::Array(node) => node.emit_at(e, Context::Plain),
+            TsFnParam::Rest(node) => node.emit_at(e, Context::Plain),
+            TsFnParam::Object(node) => node.emit_at(e, Context::Plain),
         }
     }
 }
@@ -42,7 +42,7 @@ impl<N: LinkTarget> EmitAt for TsFnType<N> {
     fn emit_at<W: WriteJs, S: SourceMapper, C: Comments>(
         &self,
         e: &mut Emitter<'_, W, S, C>,
-        place: Place,
+        context: Context,
     ) {
         e.leading_comments(self.span.lo);
         e.type_params(&self.type_params);
@@ -57,7 +57,7 @@ impl<N: LinkTarget> EmitAt for TsConstructorType<N> {
     fn emit_at<W: WriteJs, S: SourceMapper, C: Comments>(
         &self,
         e: &mut Emitter<'_, W, S, C>,
-        place: Place,
+        context: Context,
     ) {
         e.leading_comments(self.span.lo);
         e.word_before(self.is_abstract, "abstract");
@@ -74,11 +74,11 @@ impl<N: LinkTarget> EmitAt for TsFnOrConstructorType<N> {
     fn emit_at<W: WriteJs, S: SourceMapper, C: Comments>(
         &self,
         e: &mut Emitter<'_, W, S, C>,
-        place: Place,
+        context: Context,
     ) {
         match self {
-            TsFnOrConstructorType::TsFnType(node) => node.emit_at(e, Place::Plain),
-            TsFnOrConstructorType::TsConstructorType(node) => node.emit_at(e, Place::Plain),
+            TsFnOrConstructorType::TsFnType(node) => node.emit_at(e, Context::Plain),
+            TsFnOrConstructorType::TsConstructorType(node) => node.emit_at(e, Context::Plain),
         }
     }
 }
@@ -90,11 +90,11 @@ impl EmitAt for TsThisTypeOrIdent {
     fn emit_at<W: WriteJs, S: SourceMapper, C: Comments>(
         &self,
         e: &mut Emitter<'_, W, S, C>,
-        place: Place,
+        context: Context,
     ) {
         match self {
-            TsThisTypeOrIdent::TsThisType(node) => node.emit_at(e, Place::Plain),
-            TsThisTypeOrIdent::Ident(node) => node.emit_at(e, Place::Plain),
+            TsThisTypeOrIdent::TsThisType(node) => node.emit_at(e, Context::Plain),
+            TsThisTypeOrIdent::Ident(node) => node.emit_at(e, Context::Plain),
         }
     }
 }
@@ -106,11 +106,11 @@ impl<N: LinkTarget> EmitAt for TsTypePredicate<N> {
     fn emit_at<W: WriteJs, S: SourceMapper, C: Comments>(
         &self,
         e: &mut Emitter<'_, W, S, C>,
-        place: Place,
+        context: Context,
     ) {
         e.leading_comments(self.span.lo);
         e.word_before(self.asserts, "asserts");
-        self.param_name.emit_at(e, Place::Plain);
+        self.param_name.emit_at(e, Context::Plain);
         e.is_behind(&self.type_ann);
     }
 }
@@ -139,7 +139,7 @@ impl<W: WriteJs, S: SourceMapper, C: Comments> Emitter<'_, W, S, C> {
         self.fn_params_list(span, params);
         self.punct(Punctuator::RightParenthesis);
         self.spaced_punct(Punctuator::Arrow);
-        result_type.target().emit_at(self, Place::Plain);
+        result_type.target().emit_at(self, Context::Plain);
     }
 
     /// Writes a blank and type parameters, where there are some.
@@ -165,7 +165,7 @@ impl<W: WriteJs, S: SourceMapper, C: Comments> Emitter<'_, W, S, C> {
                 self.space();
                 self.keyword(None, "is");
                 self.space();
-                node.target().emit_at(self, Place::Plain)
+                node.target().emit_at(self, Context::Plain)
             }
             None => {}
         }

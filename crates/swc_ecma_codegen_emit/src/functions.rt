@@ -7,10 +7,11 @@ ghost use Rattle.swc_ecma_codegen_literals.specs.Punctuators.{spelling};
 ghost use Rattle.swc_ecma_codegen_emit.specs.Standing.{Performs};
 ghost use Rattle.swc_ecma_codegen_emit.specs.FunctionExprs.{comma_list_format, star, optional_name, fn_expr, is_plain, is_name, is_only, async_arrow, parenthesis, has_comment_behind, arrow_children, arrow_list, arrow_within, arrow_parameters, arrow_body, arrow_result, arrow_expr};
 ghost use Rattle.swc_ecma_codegen_emit.specs.Functions.{decorators_format, decorator, decorators, decorator_lines, param, function_body, parameters, fn_trailing, break_without_body, declaration_tail, static_gap, static_head, method_body, method_tail, async_word, function_head, star_or_space, declaration_head, method_head, function};
+ghost use Rattle.swc_ecma_codegen_emit.specs.Places.{in_context};
 
 use crate::commented::has_comment_after;
 use crate::emitter::Emitter;
-use crate::nodes::{Asked, Child, EmitAt, LinkTarget, Place};
+use crate::nodes::{Asked, Child, Context, EmitAt, EmitPiece, LinkTarget, Piece};
 use crate::patterns::PatternKind;
 use swc_ecma_codegen_common::Span;
 use swc_ecma_codegen_grammar::ListFormat;
@@ -108,7 +109,7 @@ impl<N: LinkTarget> EmitAt for ArrowExpr<N> {
     fn emit_at<W: WriteJs, S: SourceMapper, C: Comments>(
         &self,
         e: &mut Emitter<'_, W, S, C>,
-        place: Place,
+        context: Context,
     ) {
         e.leading_comments(self.span.lo);
         e.start_of(self.span);
@@ -118,7 +119,7 @@ impl<N: LinkTarget> EmitAt for ArrowExpr<N> {
         e.arrow_parameters(self);
         e.arrow_result(&self.return_type);
         e.punct(Punctuator::Arrow);
-        self.body.emit_at(e, Place::Plain);
+        self.body.emit_at(e, Context::Plain);
     }
 }
 
@@ -129,12 +130,12 @@ impl<N: LinkTarget> EmitAt for Decorator<N> {
     fn emit_at<W: WriteJs, S: SourceMapper, C: Comments>(
         &self,
         e: &mut Emitter<'_, W, S, C>,
-        place: Place,
+        context: Context,
     ) {
         e.leading_comments(self.span.lo);
         e.start_of(self.span);
         e.punct(Punctuator::At);
-        self.expr.target().emit_at(e, Place::Plain);
+        self.expr.target().emit_at(e, Context::Plain);
         e.line();
         e.end_of(self.span);
     }
@@ -149,21 +150,24 @@ impl<N: LinkTarget> Child for Decorator<N> {
 }
 
 impl<N: LinkTarget> EmitAt for FnExpr<N> {
-    ghost items = { fn_expr N.answers N.items };
+    ghost items = { λ n. in_context (fn_expr N.answers N.items n) };
 
     #[tactic(auto, unfolding(crate::specs::FunctionExprs::fn_expr))]
     fn emit_at<W: WriteJs, S: SourceMapper, C: Comments>(
         &self,
         e: &mut Emitter<'_, W, S, C>,
-        place: Place,
+        context: Context,
     ) {
         let span = self.function.target().place();
         e.leading_comments(span.lo);
         e.commit_pending_semi();
         e.start_of(span);
-        self.function.target().emit_at(e, Place::FunctionHead);
+        self.function.target().emit_piece(e, Piece::FunctionHead);
         e.optional_name(&self.ident);
-        self.function.target().emit_at(e, place);
+        match context {
+            Context::DefaultExport => self.function.target().emit_piece(e, Piece::DeclarationTail),
+            _ => self.function.target().emit_at(e, Context::Plain),
+        }
     }
 }
 
@@ -174,16 +178,27 @@ impl<N: LinkTarget> EmitAt for Function<N> {
     fn emit_at<W: WriteJs, S: SourceMapper, C: Comments>(
         &self,
         e: &mut Emitter<'_, W, S, C>,
-        place: Place,
+        context: Context,
     ) {
-        match place {
-            Place::FunctionHead => e.function_head(self),
-            Place::MethodHead => e.method_head(self),
-            Place::DeclarationHead => e.declaration_head(self),
-            Place::DeclarationTail => e.declaration_tail(self),
-            Place::StaticHead(starts) => e.static_head(starts, self),
-            Place::MethodDecorators => e.decorator_lines(&self.decorators),
-            Place::MethodTail => e.method_tail(self),
+        e.fn_trailing(self);
+    }
+}
+
+impl<N: LinkTarget> EmitPiece for Function<N> {
+    #[tactic(auto, unfolding(crate::specs::Functions::function))]
+    fn emit_piece<W: WriteJs, S: SourceMapper, C: Comments>(
+        &self,
+        e: &mut Emitter<'_, W, S, C>,
+        piece: Piece,
+    ) {
+        match piece {
+            Piece::FunctionHead => e.function_head(self),
+            Piece::MethodHead => e.method_head(self),
+            Piece::DeclarationHead => e.declaration_head(self),
+            Piece::DeclarationTail => e.declaration_tail(self),
+            Piece::StaticHead(starts) => e.static_head(starts, self),
+            Piece::MethodDecorators => e.decorator_lines(&self.decorators),
+            Piece::MethodTail => e.method_tail(self),
             _ => e.fn_trailing(self),
         }
     }
@@ -196,13 +211,13 @@ impl<N: LinkTarget> EmitAt for BlockStmtOrExpr<N> {
     fn emit_at<W: WriteJs, S: SourceMapper, C: Comments>(
         &self,
         e: &mut Emitter<'_, W, S, C>,
-        place: Place,
+        context: Context,
     ) {
         match self {
-            BlockStmtOrExpr::BlockStmt(node) => node.target().emit_at(e, Place::Body),
+            BlockStmtOrExpr::BlockStmt(node) => node.target().emit_at(e, Context::Body),
             BlockStmtOrExpr::Expr(node) => {
                 e.deeper();
-                node.target().emit_at(e, Place::Plain);
+                node.target().emit_at(e, Context::Plain);
                 e.shallower()
             }
         }
@@ -216,12 +231,12 @@ impl<N: LinkTarget> EmitAt for Param<N> {
     fn emit_at<W: WriteJs, S: SourceMapper, C: Comments>(
         &self,
         e: &mut Emitter<'_, W, S, C>,
-        place: Place,
+        context: Context,
     ) {
         e.leading_comments(self.span.lo);
         e.start_of(self.span);
         e.decorators(self);
-        self.pat.emit_at(e, Place::Plain);
+        self.pat.emit_at(e, Context::Plain);
         e.end_of(self.span);
     }
 }
@@ -352,7 +367,7 @@ impl<W: WriteJs, S: SourceMapper, C: Comments> Emitter<'_, W, S, C> {
         match body {
             Some(body) => {
                 self.formatting_space();
-                body.target().emit_at(self, Place::Plain)
+                body.target().emit_at(self, Context::Plain)
             }
             None => self.semi(),
         }
@@ -420,7 +435,7 @@ impl<W: WriteJs, S: SourceMapper, C: Comments> Emitter<'_, W, S, C> {
         match body {
             Some(body) => {
                 self.formatting_space();
-                body.target().emit_at(self, Place::Body)
+                body.target().emit_at(self, Context::Body)
             }
             None => self.bare_semi(),
         }
@@ -478,7 +493,7 @@ impl<W: WriteJs, S: SourceMapper, C: Comments> Emitter<'_, W, S, C> {
             Some(node) => {
                 self.punct(Punctuator::Colon);
                 self.formatting_space();
-                node.target().emit_at(self, Place::Plain);
+                node.target().emit_at(self, Context::Plain);
                 self.formatting_space()
             }
             None => {}

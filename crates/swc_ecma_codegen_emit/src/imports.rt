@@ -9,7 +9,7 @@ ghost use Rattle.swc_ecma_codegen_emit.specs.Modules.{named_format, imported_as,
 
 use crate::emitter::Emitter;
 use crate::modules::named_format;
-use crate::nodes::{Child, EmitAt, LinkTarget, Place};
+use crate::nodes::{Child, Context, EmitAt, LinkTarget};
 use crate::specifiers::{Specifier, has_braced, has_star};
 use swc_ecma_codegen_common::Span;
 use swc_ecma_codegen_grammar::comments::Comments;
@@ -58,12 +58,12 @@ impl EmitAt for ImportNamedSpecifier {
     fn emit_at<W: WriteJs, S: SourceMapper, C: Comments>(
         &self,
         e: &mut Emitter<'_, W, S, C>,
-        place: Place,
+        context: Context,
     ) {
         e.start_of(self.span);
         e.word_before(self.is_type_only, "type");
         e.imported_as(&self.imported);
-        self.local.emit_at(e, Place::Plain);
+        self.local.emit_at(e, Context::Plain);
         e.end_of(self.span);
     }
 }
@@ -75,10 +75,10 @@ impl EmitAt for ImportSpecifier {
     fn emit_at<W: WriteJs, S: SourceMapper, C: Comments>(
         &self,
         e: &mut Emitter<'_, W, S, C>,
-        place: Place,
+        context: Context,
     ) {
         match self {
-            ImportSpecifier::Named(node) => node.emit_at(e, Place::Plain),
+            ImportSpecifier::Named(node) => node.emit_at(e, Context::Plain),
             ImportSpecifier::Default(_) | ImportSpecifier::Namespace(_) => {}
         }
     }
@@ -120,7 +120,7 @@ impl<N: LinkTarget> EmitAt for ImportDecl<N> {
     fn emit_at<W: WriteJs, S: SourceMapper, C: Comments>(
         &self,
         e: &mut Emitter<'_, W, S, C>,
-        place: Place,
+        context: Context,
     ) {
         if is_crowded(&self.specifiers) {
             return e.bad_shape();
@@ -143,7 +143,7 @@ impl<W: WriteJs, S: SourceMapper, C: Comments> Emitter<'_, W, S, C> {
     {
         match name {
             Some(name) => {
-                name.emit_at(self, Place::Plain);
+                name.emit_at(self, Context::Plain);
                 self.as_word()
             }
             None => {}
@@ -166,11 +166,11 @@ impl<W: WriteJs, S: SourceMapper, C: Comments> Emitter<'_, W, S, C> {
     {
         match specifier {
             ImportSpecifier::Named(_) => {}
-            ImportSpecifier::Default(node) => node.local.emit_at(self, Place::Plain),
+            ImportSpecifier::Default(node) => node.local.emit_at(self, Context::Plain),
             ImportSpecifier::Namespace(node) => {
                 self.comma(first);
                 self.star_as();
-                node.local.emit_at(self, Place::Plain)
+                node.local.emit_at(self, Context::Plain)
             }
         }
     }

@@ -6,9 +6,10 @@ ghost use Rattle.swc_ecma_codegen_tokens.specs.Attributes.{attribute_string, jsx
 ghost use Rattle.swc_ecma_codegen_tokens.specs.Tags.{tag_name, child_open, close};
 ghost use Rattle.swc_ecma_codegen_emit.specs.Jsx.{jsx_element_parts, jsx_fragment_parts, tag_ident, tag_ident_name, jsx_member_expr, jsx_namespaced_name, jsx_object, jsx_element_name, jsx_attr_name, open_at, jsx_expr, jsx_expr_container, jsx_spread_child, jsx_attr_lit, jsx_attr_value, attr_initializer, jsx_attr, jsx_attr_or_spread, jsx_attributes, self_closing, jsx_opening_element, jsx_closing_element, jsx_element_child, jsx_children, optional_closing, jsx_element, opening_fragment, closing_fragment, jsx_fragment, jsx_part};
 ghost use Rattle.swc_ecma_codegen_emit.specs.Standing.{Performs};
+ghost use Rattle.swc_ecma_codegen_emit.specs.Places.{in_context};
 
 use crate::emitter::Emitter;
-use crate::nodes::{EmitAt, LinkTarget, Place};
+use crate::nodes::{Context, EmitAt, LinkTarget};
 use crate::refusals::keep;
 use swc_ecma_codegen_common::Span;
 use swc_ecma_codegen_grammar::comments::Comments;
@@ -23,32 +24,32 @@ use swc_ecma_codegen_tree::{
 };
 
 impl<N: LinkTarget> EmitAt for JSXElement<N> {
-    ghost items = { jsx_element N.answers N.items };
+    ghost items = { λ n. in_context (jsx_element N.answers N.items n) };
 
     fn emit_at<W: WriteJs, S: SourceMapper, C: Comments>(
         &self,
         e: &mut Emitter<'_, W, S, C>,
-        place: Place,
+        context: Context,
     ) {
         let max_line = e.cfg.max_line;
         e.cfg.max_line = None;
-        e.jsx_element_parts(self, place);
+        e.jsx_element_parts(self, context);
         e.cfg.max_line = max_line;
     }
 }
 
 impl<N: LinkTarget> EmitAt for JSXOpeningElement<N> {
-    ghost items = { jsx_opening_element N.answers N.items };
+    ghost items = { λ n. in_context (jsx_opening_element N.answers N.items n) };
 
     #[tactic(auto, unfolding(crate::specs::Jsx::jsx_opening_element))]
     fn emit_at<W: WriteJs, S: SourceMapper, C: Comments>(
         &self,
         e: &mut Emitter<'_, W, S, C>,
-        place: Place,
+        context: Context,
     ) {
-        e.open_at(place, Punctuator::Less);
-        self.name.emit_at(e, Place::Plain);
-        e.type_args(Place::Plain, &self.type_args);
+        e.open_at(context, Punctuator::Less);
+        self.name.emit_at(e, Context::Plain);
+        e.type_args(Context::Plain, &self.type_args);
         e.jsx_attributes(&self.attrs);
         e.self_closing(self.self_closing);
         e.close();
@@ -62,12 +63,12 @@ impl<N: LinkTarget> EmitAt for JSXElementName<N> {
     fn emit_at<W: WriteJs, S: SourceMapper, C: Comments>(
         &self,
         e: &mut Emitter<'_, W, S, C>,
-        place: Place,
+        context: Context,
     ) {
         match self {
             JSXElementName::Ident(node) => e.tag_ident(node),
-            JSXElementName::JSXMemberExpr(node) => node.emit_at(e, Place::Plain),
-            JSXElementName::JSXNamespacedName(node) => node.emit_at(e, Place::Plain),
+            JSXElementName::JSXMemberExpr(node) => node.emit_at(e, Context::Plain),
+            JSXElementName::JSXNamespacedName(node) => node.emit_at(e, Context::Plain),
         }
     }
 }
@@ -79,12 +80,12 @@ impl<N: LinkTarget> EmitAt for JSXAttr<N> {
     fn emit_at<W: WriteJs, S: SourceMapper, C: Comments>(
         &self,
         e: &mut Emitter<'_, W, S, C>,
-        place: Place,
+        context: Context,
     ) {
-        self.name.emit_at(e, Place::Plain);
+        self.name.emit_at(e, Context::Plain);
         if let Some(value) = &self.value {
             e.punct(Punctuator::Equal);
-            value.emit_at(e, Place::Plain);
+            value.emit_at(e, Context::Plain);
         }
     }
 }
@@ -96,13 +97,13 @@ impl<N: LinkTarget> EmitAt for JSXAttrValue<N> {
     fn emit_at<W: WriteJs, S: SourceMapper, C: Comments>(
         &self,
         e: &mut Emitter<'_, W, S, C>,
-        place: Place,
+        context: Context,
     ) {
         match self {
             JSXAttrValue::Lit(node) => e.jsx_attr_lit(node),
-            JSXAttrValue::JSXExprContainer(node) => node.emit_at(e, Place::Plain),
-            JSXAttrValue::JSXElement(node) => node.target().emit_at(e, Place::Plain),
-            JSXAttrValue::JSXFragment(node) => node.target().emit_at(e, Place::Plain),
+            JSXAttrValue::JSXExprContainer(node) => node.emit_at(e, Context::Plain),
+            JSXAttrValue::JSXElement(node) => node.target().emit_at(e, Context::Plain),
+            JSXAttrValue::JSXFragment(node) => node.target().emit_at(e, Context::Plain),
         }
     }
 }
@@ -114,11 +115,11 @@ impl EmitAt for JSXAttrName {
     fn emit_at<W: WriteJs, S: SourceMapper, C: Comments>(
         &self,
         e: &mut Emitter<'_, W, S, C>,
-        place: Place,
+        context: Context,
     ) {
         match self {
             JSXAttrName::Ident(node) => e.tag_ident_name(node),
-            JSXAttrName::JSXNamespacedName(node) => node.emit_at(e, Place::Plain),
+            JSXAttrName::JSXNamespacedName(node) => node.emit_at(e, Context::Plain),
         }
     }
 }
@@ -130,13 +131,13 @@ impl<N: LinkTarget> EmitAt for JSXAttrOrSpread<N> {
     fn emit_at<W: WriteJs, S: SourceMapper, C: Comments>(
         &self,
         e: &mut Emitter<'_, W, S, C>,
-        place: Place,
+        context: Context,
     ) {
         match self {
-            JSXAttrOrSpread::JSXAttr(node) => node.emit_at(e, Place::Plain),
+            JSXAttrOrSpread::JSXAttr(node) => node.emit_at(e, Context::Plain),
             JSXAttrOrSpread::SpreadElement(node) => {
                 e.bare_punct(Punctuator::LeftBrace);
-                node.emit_at(e, Place::Plain);
+                node.emit_at(e, Context::Plain);
                 e.punct(Punctuator::RightBrace);
             }
         }
@@ -150,14 +151,14 @@ impl<N: LinkTarget> EmitAt for JSXElementChild<N> {
     fn emit_at<W: WriteJs, S: SourceMapper, C: Comments>(
         &self,
         e: &mut Emitter<'_, W, S, C>,
-        place: Place,
+        context: Context,
     ) {
         match self {
-            JSXElementChild::JSXElement(node) => node.target().emit_at(e, Place::Child),
-            JSXElementChild::JSXExprContainer(node) => node.emit_at(e, Place::Child),
-            JSXElementChild::JSXFragment(node) => node.target().emit_at(e, Place::Child),
-            JSXElementChild::JSXSpreadChild(node) => node.emit_at(e, Place::Child),
-            JSXElementChild::JSXText(node) => node.emit_at(e, Place::Child),
+            JSXElementChild::JSXElement(node) => node.target().emit_at(e, Context::Child),
+            JSXElementChild::JSXExprContainer(node) => node.emit_at(e, Context::Child),
+            JSXElementChild::JSXFragment(node) => node.target().emit_at(e, Context::Child),
+            JSXElementChild::JSXSpreadChild(node) => node.emit_at(e, Context::Child),
+            JSXElementChild::JSXText(node) => node.emit_at(e, Context::Child),
         }
     }
 }
@@ -169,26 +170,26 @@ impl<N: LinkTarget> EmitAt for JSXSpreadChild<N> {
     fn emit_at<W: WriteJs, S: SourceMapper, C: Comments>(
         &self,
         e: &mut Emitter<'_, W, S, C>,
-        place: Place,
+        context: Context,
     ) {
         e.child_open(Punctuator::LeftBrace);
         e.punct(Punctuator::Ellipsis);
-        self.expr.target().emit_at(e, Place::Plain);
+        self.expr.target().emit_at(e, Context::Plain);
         e.punct(Punctuator::RightBrace);
     }
 }
 
 impl<N: LinkTarget> EmitAt for JSXExprContainer<N> {
-    ghost items = { jsx_expr_container N.items };
+    ghost items = { λ n. in_context (jsx_expr_container N.items n) };
 
     #[tactic(auto, unfolding(crate::specs::Jsx::jsx_expr_container))]
     fn emit_at<W: WriteJs, S: SourceMapper, C: Comments>(
         &self,
         e: &mut Emitter<'_, W, S, C>,
-        place: Place,
+        context: Context,
     ) {
-        e.open_at(place, Punctuator::LeftBrace);
-        self.expr.emit_at(e, Place::Plain);
+        e.open_at(context, Punctuator::LeftBrace);
+        self.expr.emit_at(e, Context::Plain);
         e.punct(Punctuator::RightBrace);
     }
 }
@@ -200,11 +201,11 @@ impl<N: LinkTarget> EmitAt for JSXExpr<N> {
     fn emit_at<W: WriteJs, S: SourceMapper, C: Comments>(
         &self,
         e: &mut Emitter<'_, W, S, C>,
-        place: Place,
+        context: Context,
     ) {
         match self {
-            JSXExpr::Expr(node) => node.target().emit_at(e, Place::Plain),
-            JSXExpr::JSXEmptyExpr(node) => node.emit_at(e, Place::Plain),
+            JSXExpr::Expr(node) => node.target().emit_at(e, Context::Plain),
+            JSXExpr::JSXEmptyExpr(node) => node.emit_at(e, Context::Plain),
         }
     }
 }
@@ -216,40 +217,40 @@ impl<N: LinkTarget> EmitAt for JSXClosingElement<N> {
     fn emit_at<W: WriteJs, S: SourceMapper, C: Comments>(
         &self,
         e: &mut Emitter<'_, W, S, C>,
-        place: Place,
+        context: Context,
     ) {
         e.child_open(Punctuator::Less);
         e.punct(Punctuator::Slash);
-        self.name.emit_at(e, Place::Plain);
+        self.name.emit_at(e, Context::Plain);
         e.close();
     }
 }
 
 impl<N: LinkTarget> EmitAt for JSXFragment<N> {
-    ghost items = { jsx_fragment N.items };
+    ghost items = { λ n. in_context (jsx_fragment N.items n) };
 
     fn emit_at<W: WriteJs, S: SourceMapper, C: Comments>(
         &self,
         e: &mut Emitter<'_, W, S, C>,
-        place: Place,
+        context: Context,
     ) {
         let max_line = e.cfg.max_line;
         e.cfg.max_line = None;
-        e.jsx_fragment_parts(self, place);
+        e.jsx_fragment_parts(self, context);
         e.cfg.max_line = max_line;
     }
 }
 
 impl EmitAt for JSXOpeningFragment {
-    ghost items = { λ _ place. opening_fragment place };
+    ghost items = { λ _. in_context opening_fragment };
 
     #[tactic(auto, unfolding(crate::specs::Jsx::opening_fragment))]
     fn emit_at<W: WriteJs, S: SourceMapper, C: Comments>(
         &self,
         e: &mut Emitter<'_, W, S, C>,
-        place: Place,
+        context: Context,
     ) {
-        e.open_at(place, Punctuator::Less);
+        e.open_at(context, Punctuator::Less);
         e.close();
     }
 }
@@ -261,7 +262,7 @@ impl EmitAt for JSXClosingFragment {
     fn emit_at<W: WriteJs, S: SourceMapper, C: Comments>(
         &self,
         e: &mut Emitter<'_, W, S, C>,
-        place: Place,
+        context: Context,
     ) {
         e.child_open(Punctuator::Less);
         e.punct(Punctuator::Slash);
@@ -276,7 +277,7 @@ impl EmitAt for JSXNamespacedName {
     fn emit_at<W: WriteJs, S: SourceMapper, C: Comments>(
         &self,
         e: &mut Emitter<'_, W, S, C>,
-        place: Place,
+        context: Context,
     ) {
         e.tag_ident_name(&self.ns);
         e.punct(Punctuator::Colon);
@@ -290,7 +291,7 @@ impl EmitAt for JSXEmptyExpr {
     fn emit_at<W: WriteJs, S: SourceMapper, C: Comments>(
         &self,
         e: &mut Emitter<'_, W, S, C>,
-        place: Place,
+        context: Context,
     ) {}
 }
 
@@ -301,7 +302,7 @@ impl EmitAt for JSXText {
     fn emit_at<W: WriteJs, S: SourceMapper, C: Comments>(
         &self,
         e: &mut Emitter<'_, W, S, C>,
-        place: Place,
+        context: Context,
     ) {
         if e.refusal.is_some() {
             return;
@@ -320,9 +321,9 @@ impl<N: LinkTarget> EmitAt for JSXMemberExpr<N> {
     fn emit_at<W: WriteJs, S: SourceMapper, C: Comments>(
         &self,
         e: &mut Emitter<'_, W, S, C>,
-        place: Place,
+        context: Context,
     ) {
-        self.obj.target().emit_at(e, Place::Plain);
+        self.obj.target().emit_at(e, Context::Plain);
         e.punct(Punctuator::Dot);
         e.tag_ident_name(&self.prop);
     }
@@ -335,11 +336,11 @@ impl<N: LinkTarget> EmitAt for JSXObject<N> {
     fn emit_at<W: WriteJs, S: SourceMapper, C: Comments>(
         &self,
         e: &mut Emitter<'_, W, S, C>,
-        place: Place,
+        context: Context,
     ) {
         match self {
             JSXObject::Ident(node) => e.tag_ident(node),
-            JSXObject::JSXMemberExpr(node) => node.emit_at(e, Place::Plain),
+            JSXObject::JSXMemberExpr(node) => node.emit_at(e, Context::Plain),
         }
     }
 }
@@ -352,12 +353,12 @@ impl<N: LinkTarget> EmitAt for JSXPart<N> {
     fn emit_at<W: WriteJs, S: SourceMapper, C: Comments>(
         &self,
         e: &mut Emitter<'_, W, S, C>,
-        place: Place,
+        context: Context,
     ) {
         match self {
-            JSXPart::JSXElement(node) => (**node).emit_at(e, place),
-            JSXPart::JSXFragment(node) => node.emit_at(e, place),
-            JSXPart::JSXObject(node) => node.emit_at(e, place),
+            JSXPart::JSXElement(node) => (**node).emit_at(e, context),
+            JSXPart::JSXFragment(node) => node.emit_at(e, context),
+            JSXPart::JSXObject(node) => node.emit_at(e, context),
         }
     }
 }
@@ -366,27 +367,27 @@ impl<W: WriteJs, S: SourceMapper, C: Comments> Emitter<'_, W, S, C> {
     /// Writes an element; its caller says that no line may be ended in it.
     #[inline(always)]
     #[tactic(auto, unfolding(crate::specs::Jsx::jsx_element_parts, crate::specs::Jsx::optional_closing))]
-    fn jsx_element_parts<N: LinkTarget>(&mut self, node: &JSXElement<N>, place: Place)
-        ensures items { Performs (jsx_element_parts N.answers N.items node.now place)
+    fn jsx_element_parts<N: LinkTarget>(&mut self, node: &JSXElement<N>, context: Context)
+        ensures items { Performs (jsx_element_parts N.answers N.items node.now context)
             S.lines C.maps W.sheet self.old self.new }
     {
-        node.opening.emit_at(self, place);
+        node.opening.emit_at(self, context);
         self.jsx_children(&node.children);
         if let Some(closing) = &node.closing {
-            closing.emit_at(self, Place::Plain);
+            closing.emit_at(self, Context::Plain);
         }
     }
 
     /// Writes a fragment; its caller says that no line may be ended in it.
     #[inline(always)]
     #[tactic(auto, unfolding(crate::specs::Jsx::jsx_fragment_parts))]
-    fn jsx_fragment_parts<N: LinkTarget>(&mut self, node: &JSXFragment<N>, place: Place)
-        ensures items { Performs (jsx_fragment_parts N.items node.now place)
+    fn jsx_fragment_parts<N: LinkTarget>(&mut self, node: &JSXFragment<N>, context: Context)
+        ensures items { Performs (jsx_fragment_parts N.items node.now context)
             S.lines C.maps W.sheet self.old self.new }
     {
-        node.opening.emit_at(self, place);
+        node.opening.emit_at(self, context);
         self.jsx_children(&node.children);
-        node.closing.emit_at(self, Place::Plain);
+        node.closing.emit_at(self, Context::Plain);
     }
 
     /// Writes a name in a tag with its comments.
@@ -439,12 +440,12 @@ impl<W: WriteJs, S: SourceMapper, C: Comments> Emitter<'_, W, S, C> {
 
     /// Writes the `<` or `{` of what may be a child.
     #[tactic(auto, unfolding(crate::specs::Jsx::open_at))]
-    fn open_at(&mut self, place: Place, mark: Punctuator)
-        ensures items { Performs (open_at place (spelling mark))
+    fn open_at(&mut self, context: Context, mark: Punctuator)
+        ensures items { Performs (open_at context (spelling mark))
             S.lines C.maps W.sheet self.old self.new }
     {
-        match place {
-            Place::Child => self.child_open(mark),
+        match context {
+            Context::Child => self.child_open(mark),
             _ => self.bare_punct(mark),
         }
     }
@@ -493,7 +494,7 @@ impl<W: WriteJs, S: SourceMapper, C: Comments> Emitter<'_, W, S, C> {
     {
         match node {
             Lit::Str(text) => self.attribute_string(text),
-            _ => node.emit_at(self, Place::Plain),
+            _ => node.emit_at(self, Context::Plain),
         }
     }
 
@@ -522,7 +523,7 @@ impl<W: WriteJs, S: SourceMapper, C: Comments> Emitter<'_, W, S, C> {
         let mut first = true;
         for node in nodes {
             self.blank(first);
-            node.emit_at(self, Place::Plain);
+            node.emit_at(self, Context::Plain);
             first = false;
         }
     }

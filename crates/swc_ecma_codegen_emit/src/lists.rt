@@ -4,11 +4,10 @@ ghost use Rattle.std.specs.Prelude.{◌≡◌, true, [], ◌∷◌, map, option_
 ghost use Rattle.swc_ecma_codegen_emit.specs.Standing.{KeepsSettings, HasLevels, standing_of, Performs, PerformsDeeper, PerformsShallower};
 ghost use Rattle.swc_ecma_codegen_tokens.specs.Lists.{list_levels, opening, separator, child_comments, trailing_comma, closing, list_end, empty_list, first_child_after, first_child, next_child_after, next_child, list_closing, list_after, list, optional_list};
 ghost use Rattle.swc_ecma_codegen_emit.specs.Lists.{comma, listed, plainly, in_order, child_of, as_asked};
-ghost use Rattle.swc_ecma_codegen_emit.specs.declared.nodes.Place.TheVariants.{Plain};
 ghost use Rattle.swc_ecma_codegen_emit.specs.Exprs.{held};
 
 use crate::emitter::Emitter;
-use crate::nodes::{Child, EmitAt, Place};
+use crate::nodes::{Child, Context, EmitAt};
 use crate::refusals::keep;
 use bitflags::Flags;
 use swc_ecma_codegen_common::{DUMMY_SP, Span};
@@ -53,7 +52,7 @@ impl<W: WriteJs, S: SourceMapper, C: Comments> Emitter<'_, W, S, C> {
         let mut first = true;
         for node in nodes {
             self.comma(first);
-            node.target().emit_at(self, Place::Plain);
+            node.target().emit_at(self, Context::Plain);
             first = false;
         }
     }
@@ -65,7 +64,7 @@ impl<W: WriteJs, S: SourceMapper, C: Comments> Emitter<'_, W, S, C> {
             S.lines C.maps W.sheet self.old self.new }
     {
         for node in nodes {
-            node.emit_at(self, Place::Plain);
+            node.emit_at(self, Context::Plain);
         }
     }
 }
@@ -203,7 +202,7 @@ impl<W: WriteJs, S: SourceMapper, C: Comments> Emitter<'_, W, S, C> {
             (standing_of S.lines C.maps W.sheet self.new) }
     {
         self.opening(format, line);
-        child.emit_at(self, Place::Plain);
+        child.emit_at(self, Context::Plain);
         self.child_comments(format, line, child);
     }
 
@@ -235,7 +234,7 @@ impl<W: WriteJs, S: SourceMapper, C: Comments> Emitter<'_, W, S, C> {
             (child_of T.stands T.items child.now)) S.lines C.maps W.sheet self.old self.new }
     {
         self.separator(format, line);
-        child.emit_at(self, Place::Plain);
+        child.emit_at(self, Context::Plain);
         self.child_comments(format, line, child);
     }
 

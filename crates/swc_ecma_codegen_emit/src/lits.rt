@@ -7,9 +7,10 @@ ghost use Rattle.std.specs.Prelude.{◌≡◌};
 ghost use Rattle.swc_ecma_codegen_emit.specs.Standing.{Performs};
 ghost use Rattle.swc_ecma_codegen_tokens.specs.Lits.{str_lit, bool_node, null_lit, number_lit, number_object, big_int_lit, regex_lit, lit};
 ghost use Rattle.swc_ecma_codegen_emit.specs.Lits.{lit_at, is_object, is_number_object};
+ghost use Rattle.swc_ecma_codegen_emit.specs.Places.{in_context};
 
 use crate::emitter::Emitter;
-use crate::nodes::{EmitAt, Place};
+use crate::nodes::{Context, EmitAt};
 use crate::refusals::keep;
 use swc_ecma_codegen_common::BytePos;
 use swc_ecma_codegen_grammar::comments::Comments;
@@ -17,40 +18,40 @@ use swc_ecma_codegen_grammar::mapper::SourceMapper;
 use swc_ecma_codegen_text_writer::WriteJs;
 use swc_ecma_codegen_tree::{BigInt, Bool, Lit, Null, Number, Regex, Str};
 
-/// Whether it is the place of a member's object.
+/// Whether a member's object stands there.
 #[tactic(auto, unfolding(crate::specs::Lits::is_object))]
-fn is_object(place: Place) -> bool
-    ensures { result ≡ is_object place }
+fn is_object(context: Context) -> bool
+    ensures { result ≡ is_object context }
 {
-    match place {
-        Place::Object | Place::DottedObject(_) => true,
+    match context {
+        Context::Object | Context::DottedObject(_) => true,
         _ => false,
     }
 }
 
 /// Whether it is a number that is an object, as `10` of `10..x`.
 #[tactic(auto, unfolding(crate::specs::Lits::is_number_object))]
-pub(crate) fn is_number_object(node: &Lit, place: Place) -> bool
-    ensures { result ≡ is_number_object node.now place }
+pub(crate) fn is_number_object(node: &Lit, context: Context) -> bool
+    ensures { result ≡ is_number_object node.now context }
 {
     match node {
-        Lit::Num(_) => is_object(place),
+        Lit::Num(_) => is_object(context),
         _ => false,
     }
 }
 
 impl EmitAt for Lit {
-    ghost items = { lit_at };
+    ghost items = { λ n. in_context (lit_at n) };
 
     #[tactic(auto, unfolding(crate::specs::Lits::lit_at))]
     fn emit_at<W: WriteJs, S: SourceMapper, C: Comments>(
         &self,
         e: &mut Emitter<'_, W, S, C>,
-        place: Place,
+        context: Context,
     ) {
-        match (self, place) {
-            (Lit::Num(node), Place::Object) => e.number_lit(node),
-            (Lit::Num(node), Place::DottedObject(prop)) => e.number_object(node, prop),
+        match (self, context) {
+            (Lit::Num(node), Context::Object) => e.number_lit(node),
+            (Lit::Num(node), Context::DottedObject(prop)) => { e.number_object(node, prop) }
             (Lit::JSXText(node), _) => e.jsx_text_lit(node),
             _ => e.lit(self),
         }
@@ -64,7 +65,7 @@ impl EmitAt for Str {
     fn emit_at<W: WriteJs, S: SourceMapper, C: Comments>(
         &self,
         e: &mut Emitter<'_, W, S, C>,
-        place: Place,
+        context: Context,
     ) {
         if e.refusal.is_some() {
             return;
@@ -83,7 +84,7 @@ impl EmitAt for Bool {
     fn emit_at<W: WriteJs, S: SourceMapper, C: Comments>(
         &self,
         e: &mut Emitter<'_, W, S, C>,
-        place: Place,
+        context: Context,
     ) {
         if e.refusal.is_some() {
             return;
@@ -102,7 +103,7 @@ impl EmitAt for Null {
     fn emit_at<W: WriteJs, S: SourceMapper, C: Comments>(
         &self,
         e: &mut Emitter<'_, W, S, C>,
-        place: Place,
+        context: Context,
     ) {
         if e.refusal.is_some() {
             return;
@@ -117,7 +118,7 @@ impl EmitAt for Number {
     fn emit_at<W: WriteJs, S: SourceMapper, C: Comments>(
         &self,
         e: &mut Emitter<'_, W, S, C>,
-        place: Place,
+        context: Context,
     ) {
         e.number_lit(self)
     }
@@ -130,7 +131,7 @@ impl EmitAt for BigInt {
     fn emit_at<W: WriteJs, S: SourceMapper, C: Comments>(
         &self,
         e: &mut Emitter<'_, W, S, C>,
-        place: Place,
+        context: Context,
     ) {
         if e.refusal.is_some() {
             return;
@@ -150,7 +151,7 @@ impl EmitAt for Regex {
     fn emit_at<W: WriteJs, S: SourceMapper, C: Comments>(
         &self,
         e: &mut Emitter<'_, W, S, C>,
-        place: Place,
+        context: Context,
     ) {
         if e.refusal.is_some() {
             return;

@@ -9,7 +9,7 @@ ghost use Rattle.swc_ecma_codegen_tokens.specs.Starts.{begins_letter};
 ghost use Rattle.swc_ecma_codegen_emit.specs.Stmts.{case_body, cases_format, lines_format, case_format, case_test, is_single, case_list, case_children, case_stmts, switch_case, cases, switch_cases, switch_stmt, while_stmt, loop_test, do_while_stmt, var_decl_or_expr, for_init, for_value, for_clause, for_control, for_stmt, for_head, for_right, for_each, for_in_stmt, for_await, for_of_stmt};
 
 use crate::emitter::Emitter;
-use crate::nodes::{Asked, Child, EmitAt, LinkTarget, Place};
+use crate::nodes::{Asked, Child, Context, EmitAt, LinkTarget};
 use bitflags::Flags;
 use swc_ecma_codegen_common::{EsVersion, Span};
 use swc_ecma_codegen_grammar::ListFormat;
@@ -123,12 +123,12 @@ impl<N: LinkTarget> EmitAt for ForHead<N> {
     fn emit_at<W: WriteJs, S: SourceMapper, C: Comments>(
         &self,
         e: &mut Emitter<'_, W, S, C>,
-        place: Place,
+        context: Context,
     ) {
         match self {
-            ForHead::Pat(node) => node.target().emit_at(e, Place::Plain),
-            ForHead::VarDecl(node) => node.target().emit_at(e, Place::Plain),
-            ForHead::UsingDecl(node) => (**node).emit_at(e, Place::Plain),
+            ForHead::Pat(node) => node.target().emit_at(e, Context::Plain),
+            ForHead::VarDecl(node) => node.target().emit_at(e, Context::Plain),
+            ForHead::UsingDecl(node) => (**node).emit_at(e, Context::Plain),
         }
     }
 }
@@ -140,7 +140,7 @@ impl<N: LinkTarget> EmitAt for SwitchStmt<N> {
     fn emit_at<W: WriteJs, S: SourceMapper, C: Comments>(
         &self,
         e: &mut Emitter<'_, W, S, C>,
-        place: Place,
+        context: Context,
     ) {
         e.stmt_word(self.span, "switch");
         e.enclosed(&self.discriminant);
@@ -155,7 +155,7 @@ impl<N: LinkTarget> EmitAt for SwitchCase<N> {
     fn emit_at<W: WriteJs, S: SourceMapper, C: Comments>(
         &self,
         e: &mut Emitter<'_, W, S, C>,
-        place: Place,
+        context: Context,
     ) {
         e.opened(self.span);
         e.case_test(&self.test);
@@ -178,11 +178,11 @@ impl<N: LinkTarget> EmitAt for WhileStmt<N> {
     fn emit_at<W: WriteJs, S: SourceMapper, C: Comments>(
         &self,
         e: &mut Emitter<'_, W, S, C>,
-        place: Place,
+        context: Context,
     ) {
         e.stmt_word(self.span, "while");
         e.enclosed(&self.test);
-        self.body.target().emit_at(e, Place::Plain);
+        self.body.target().emit_at(e, Context::Plain);
     }
 }
 
@@ -193,7 +193,7 @@ impl<N: LinkTarget> EmitAt for DoWhileStmt<N> {
     fn emit_at<W: WriteJs, S: SourceMapper, C: Comments>(
         &self,
         e: &mut Emitter<'_, W, S, C>,
-        place: Place,
+        context: Context,
     ) {
         e.stmt_word(self.span, "do");
         e.spaced(self.body.target());
@@ -210,11 +210,11 @@ impl<N: LinkTarget> EmitAt for ForStmt<N> {
     fn emit_at<W: WriteJs, S: SourceMapper, C: Comments>(
         &self,
         e: &mut Emitter<'_, W, S, C>,
-        place: Place,
+        context: Context,
     ) {
         e.stmt_word(self.span, "for");
         e.for_control(self);
-        self.body.target().emit_at(e, Place::Plain);
+        self.body.target().emit_at(e, Context::Plain);
     }
 }
 
@@ -225,11 +225,11 @@ impl<N: LinkTarget> EmitAt for ForInStmt<N> {
     fn emit_at<W: WriteJs, S: SourceMapper, C: Comments>(
         &self,
         e: &mut Emitter<'_, W, S, C>,
-        place: Place,
+        context: Context,
     ) {
         e.stmt_word(self.span, "for");
         e.for_each("in", &self.left, &self.right);
-        self.body.target().emit_at(e, Place::Plain);
+        self.body.target().emit_at(e, Context::Plain);
     }
 }
 
@@ -240,13 +240,13 @@ impl<N: LinkTarget> EmitAt for ForOfStmt<N> {
     fn emit_at<W: WriteJs, S: SourceMapper, C: Comments>(
         &self,
         e: &mut Emitter<'_, W, S, C>,
-        place: Place,
+        context: Context,
     ) {
         e.stmt_word(self.span, "for");
         e.for_await(self.is_await);
         e.formatting_space();
         e.for_each("of", &self.left, &self.right);
-        self.body.target().emit_at(e, Place::Plain);
+        self.body.target().emit_at(e, Context::Plain);
     }
 }
 
@@ -257,11 +257,11 @@ impl<N: LinkTarget> EmitAt for VarDeclOrExpr<N> {
     fn emit_at<W: WriteJs, S: SourceMapper, C: Comments>(
         &self,
         e: &mut Emitter<'_, W, S, C>,
-        place: Place,
+        context: Context,
     ) {
         match self {
-            VarDeclOrExpr::Expr(node) => node.target().emit_at(e, Place::Plain),
-            VarDeclOrExpr::VarDecl(node) => node.target().emit_at(e, Place::Plain),
+            VarDeclOrExpr::Expr(node) => node.target().emit_at(e, Context::Plain),
+            VarDeclOrExpr::VarDecl(node) => node.target().emit_at(e, Context::Plain),
         }
     }
 }
@@ -360,7 +360,7 @@ impl<W: WriteJs, S: SourceMapper, C: Comments> Emitter<'_, W, S, C> {
             S.lines C.maps W.sheet self.old self.new }
     {
         match init {
-            Some(node) => node.emit_at(self, Place::Plain),
+            Some(node) => node.emit_at(self, Context::Plain),
             None => {}
         }
     }
@@ -374,7 +374,7 @@ impl<W: WriteJs, S: SourceMapper, C: Comments> Emitter<'_, W, S, C> {
         match value {
             Some(node) => {
                 self.formatting_space();
-                node.target().emit_at(self, Place::Plain)
+                node.target().emit_at(self, Context::Plain)
             }
             None => {}
         }
@@ -423,7 +423,7 @@ impl<W: WriteJs, S: SourceMapper, C: Comments> Emitter<'_, W, S, C> {
             S.lines C.maps W.sheet self.old self.new }
     {
         self.punct(Punctuator::LeftParenthesis);
-        left.emit_at(self, Place::Plain);
+        left.emit_at(self, Context::Plain);
         self.for_right(text, head_ends(left), right);
         self.punct(Punctuator::RightParenthesis);
     }

@@ -11,7 +11,7 @@ ghost use Rattle.swc_ecma_codegen_emit.specs.Lists.{in_order};
 ghost use Rattle.swc_ecma_codegen_emit.specs.Programs.{module_parts, whole_module};
 
 use crate::emitter::Emitter;
-use crate::nodes::{Child, EmitAt, LinkTarget, Place};
+use crate::nodes::{Child, Context, EmitAt, LinkTarget};
 use crate::places::module_item_place;
 use swc_ecma_codegen_common::Span;
 use swc_ecma_codegen_grammar::ListFormat;
@@ -39,11 +39,11 @@ impl EmitAt for ModuleExportName {
     fn emit_at<W: WriteJs, S: SourceMapper, C: Comments>(
         &self,
         e: &mut Emitter<'_, W, S, C>,
-        place: Place,
+        context: Context,
     ) {
         match self {
-            ModuleExportName::Ident(node) => node.emit_at(e, Place::Plain),
-            ModuleExportName::Str(node) => node.emit_at(e, Place::Plain),
+            ModuleExportName::Ident(node) => node.emit_at(e, Context::Plain),
+            ModuleExportName::Str(node) => node.emit_at(e, Context::Plain),
         }
     }
 }
@@ -55,7 +55,7 @@ impl<N: LinkTarget> EmitAt for ModuleDecl<N> {
     fn emit_at<W: WriteJs, S: SourceMapper, C: Comments>(
         &self,
         e: &mut Emitter<'_, W, S, C>,
-        place: Place,
+        context: Context,
     ) {
         let span = self.span();
         e.leading_comments(span.lo);
@@ -72,7 +72,7 @@ impl<N: LinkTarget> EmitAt for ModuleItem<N> {
     fn emit_at<W: WriteJs, S: SourceMapper, C: Comments>(
         &self,
         e: &mut Emitter<'_, W, S, C>,
-        place: Place,
+        context: Context,
     ) {
         let span = module_item_place(self);
         e.leading_comments(span.lo);
@@ -96,10 +96,10 @@ impl<N: LinkTarget> EmitAt for Module<N> {
     fn emit_at<W: WriteJs, S: SourceMapper, C: Comments>(
         &self,
         e: &mut Emitter<'_, W, S, C>,
-        place: Place,
+        context: Context,
     ) {
-        match place {
-            Place::Lines(max) => {
+        match context {
+            Context::ByItself(max) => {
                 e.begin_lines(max);
                 e.broken_module(self, max);
                 e.end_lines();
@@ -204,7 +204,7 @@ impl<W: WriteJs, S: SourceMapper, C: Comments> Emitter<'_, W, S, C> {
                 self.formatting_space();
                 self.attributes_word();
                 self.formatting_space();
-                with.target().emit_at(self, Place::Plain)
+                with.target().emit_at(self, Context::Plain)
             }
             None => {}
         }
@@ -221,7 +221,7 @@ impl<W: WriteJs, S: SourceMapper, C: Comments> Emitter<'_, W, S, C> {
         ensures items { Performs (source_end N.items src.now with.now span)
             S.lines C.maps W.sheet self.old self.new }
     {
-        src.emit_at(self, Place::Plain);
+        src.emit_at(self, Context::Plain);
         self.attributes(with);
         self.semi();
         self.end_of(span);
@@ -234,15 +234,15 @@ impl<W: WriteJs, S: SourceMapper, C: Comments> Emitter<'_, W, S, C> {
             S.lines C.maps W.sheet self.old self.new }
     {
         match node {
-            ModuleDecl::Import(node) => node.emit_at(self, Place::Plain),
-            ModuleDecl::ExportDecl(node) => node.emit_at(self, Place::Plain),
-            ModuleDecl::ExportNamed(node) => node.emit_at(self, Place::Plain),
-            ModuleDecl::ExportDefaultDecl(node) => node.emit_at(self, Place::Plain),
-            ModuleDecl::ExportDefaultExpr(node) => node.emit_at(self, Place::Plain),
-            ModuleDecl::ExportAll(node) => node.emit_at(self, Place::Plain),
-            ModuleDecl::TsImportEquals(node) => node.emit_at(self, Place::Plain),
-            ModuleDecl::TsExportAssignment(node) => node.emit_at(self, Place::Plain),
-            ModuleDecl::TsNamespaceExport(node) => node.emit_at(self, Place::Plain),
+            ModuleDecl::Import(node) => node.emit_at(self, Context::Plain),
+            ModuleDecl::ExportDecl(node) => node.emit_at(self, Context::Plain),
+            ModuleDecl::ExportNamed(node) => node.emit_at(self, Context::Plain),
+            ModuleDecl::ExportDefaultDecl(node) => node.emit_at(self, Context::Plain),
+            ModuleDecl::ExportDefaultExpr(node) => node.emit_at(self, Context::Plain),
+            ModuleDecl::ExportAll(node) => node.emit_at(self, Context::Plain),
+            ModuleDecl::TsImportEquals(node) => node.emit_at(self, Context::Plain),
+            ModuleDecl::TsExportAssignment(node) => node.emit_at(self, Context::Plain),
+            ModuleDecl::TsNamespaceExport(node) => node.emit_at(self, Context::Plain),
         }
     }
 
@@ -253,8 +253,8 @@ impl<W: WriteJs, S: SourceMapper, C: Comments> Emitter<'_, W, S, C> {
             S.lines C.maps W.sheet self.old self.new }
     {
         match node {
-            ModuleItem::ModuleDecl(node) => node.target().emit_at(self, Place::Plain),
-            ModuleItem::Stmt(node) => node.emit_at(self, Place::Plain),
+            ModuleItem::ModuleDecl(node) => node.target().emit_at(self, Context::Plain),
+            ModuleItem::Stmt(node) => node.emit_at(self, Context::Plain),
         }
     }
 }

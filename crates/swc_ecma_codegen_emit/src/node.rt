@@ -7,7 +7,7 @@ ghost use Rattle.swc_ecma_codegen_emit.specs.Lists.{if_some_at};
 ghost use Rattle.swc_ecma_codegen_emit.specs.Places.{by_itself};
 
 use crate::emitter::Emitter;
-use crate::nodes::{EmitAt, Place};
+use crate::nodes::{Context, EmitAt};
 use swc_ecma_codegen_common::Result;
 use swc_ecma_codegen_grammar::comments::Comments;
 use swc_ecma_codegen_grammar::mapper::SourceMapper;
@@ -45,9 +45,9 @@ impl<T: EmitAt> EmitAt for &T {
     fn emit_at<W: WriteJs, S: SourceMapper, C: Comments>(
         &self,
         e: &mut Emitter<'_, W, S, C>,
-        place: Place,
+        context: Context,
     ) {
-        (**self).emit_at(e, place)
+        (**self).emit_at(e, context)
     }
 }
 
@@ -57,9 +57,9 @@ impl<T: EmitAt> EmitAt for Box<T> {
     fn emit_at<W: WriteJs, S: SourceMapper, C: Comments>(
         &self,
         e: &mut Emitter<'_, W, S, C>,
-        place: Place,
+        context: Context,
     ) {
-        (**self).emit_at(e, place)
+        (**self).emit_at(e, context)
     }
 }
 
@@ -70,10 +70,10 @@ impl<T: EmitAt> EmitAt for Option<T> {
     fn emit_at<W: WriteJs, S: SourceMapper, C: Comments>(
         &self,
         e: &mut Emitter<'_, W, S, C>,
-        place: Place,
+        context: Context,
     ) {
         match self {
-            Some(node) => node.emit_at(e, place),
+            Some(node) => node.emit_at(e, context),
             None => {}
         }
     }
@@ -85,8 +85,8 @@ impl<K, N: EmitAt> EmitAt for Link<K, N> {
     fn emit_at<W: WriteJs, S: SourceMapper, C: Comments>(
         &self,
         e: &mut Emitter<'_, W, S, C>,
-        place: Place,
+        context: Context,
     ) {
-        self.target().emit_at(e, place)
+        self.target().emit_at(e, context)
     }
 }

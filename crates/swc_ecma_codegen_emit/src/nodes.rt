@@ -3,7 +3,7 @@
 ghost use Rattle.std.specs.Prelude.{◌≡◌};
 ghost use Rattle.swc_ecma_codegen_tokens.specs.Run.{Part};
 ghost use Rattle.swc_ecma_codegen_emit.specs.Standing.{Performs};
-ghost use Rattle.swc_ecma_codegen_emit.specs.declared.nodes.Place.{Place as At};
+ghost use Rattle.swc_ecma_codegen_emit.specs.Places.{Place as At, Only, Whole};
 ghost use Rattle.swc_ecma_codegen_emit.specs.Answers.{Answers, reply_of};
 ghost use Rattle.swc_ecma_codegen_common.specs.declared.positions.Span.{Span as Stretch};
 ghost use Rattle.swc_ecma_codegen_spans.specs.Spans.{option_span};
@@ -18,10 +18,10 @@ use swc_ecma_codegen_grammar::mapper::SourceMapper;
 use swc_ecma_codegen_text_writer::WriteJs;
 use swc_ecma_codegen_tree::Link;
 
-/// Where a node stands in the one above it.
+/// The context that a whole node stands in.
 #[derive(Debug, Clone, Copy, PartialEq, Eq)]
-pub enum Place {
-    /// Anywhere else.
+pub enum Context {
+    /// Any other. A function or a class by itself is what stands behind its name, as in swc: `(a) { b; }` of `function f(a) { b; }`
     Plain,
     /// The left operand of a binary operator: `a + b` in `a + b + c`.
     LeftOperand,
@@ -31,10 +31,35 @@ pub enum Place {
     DottedObject(BytePos),
     /// What is called: `f` of `f(a)`. The object of a property in an optional chain stands there too.
     Callee,
-    /// A member or a call in an optional chain, and whether `?.` stands before its property or its arguments: `a?.b`
-    Chain(bool),
+    /// A member or a call in an optional chain that has no `?.` before its property or its arguments: `a?.b.c`
+    Chain,
+    /// And one behind `?.`: `a?.b`
+    OptionalChain,
     /// A block as the body of a function: `{ a; }` of `function f() { a; }`
     Body,
+    /// A function that is exported by default, whose end is that of a declaration: `function f() {}` of `export default function f() {}`
+    DefaultExport,
+    /// A declaration as a statement: where one of variables ends isn't recorded there.
+    Statement,
+    /// A template after its tag.
+    Tagged,
+    /// The value of a field, where a sequence stands in parentheses: `(a, b)` of `class B { c = (a, b); }`
+    FieldValue,
+    /// Between two tags: `<b/>` and `{c}` of `<a><b/>{c}</a>`
+    Child,
+    /// Type arguments behind the name of a type, and the type of a getter, which leave the comments before them: `<B>` of `A<B>`, `C` of
+    /// `{ get a(): C; }`
+    Reference,
+    /// The body of a namespace behind its name: ` {}` of `namespace a {}`, `.b {}` of `namespace a.b {}`
+    Dotted,
+    /// By itself, in no other node, and the greatest length of the lines that a module or script is written in there: with 2, `a;b` is `a;` LF
+    /// `b`.
+    ByItself(u32),
+}
+
+/// A piece of a node. What another node has, a name or the word `export`, stands between two pieces.
+#[derive(Debug, Clone, Copy, PartialEq, Eq)]
+pub enum Piece {
     /// What of a function stands before its name: `async function*`
     FunctionHead,
     /// What of a method stands before its name: `async *`
@@ -44,10 +69,6 @@ pub enum Place {
     /// What of a function that is declared, or of a private method, stands behind its name: `(a) { b; }`, and `(a);` where it has no body.
     /// Behind that semicolon a line may be ended, since neither is an expression.
     DeclarationTail,
-    /// A declaration as a statement: where one of variables ends isn't recorded there.
-    Statement,
-    /// A template after its tag.
-    Tagged,
     /// What of a class stands before the word: `@a` of `@a class B {}`
     ClassHead,
     /// The word of a class, and what stands right before it: `abstract class`
@@ -58,21 +79,10 @@ pub enum Place {
     MethodDecorators,
     /// The function of a method, whose decorators stand elsewhere: `() {}` of `@a b() {}`
     MethodTail,
-    /// The value of a field, where a sequence stands in parentheses: `(a, b)` of `class B { c = (a, b); }`
-    FieldValue,
     /// What of a declaration stands before `export`: `@a` of `@a export class B {}`
     ExportedHead,
     /// And what stands after it: `class B {}`
     ExportedTail,
-    /// Between two tags: `<b/>` and `{c}` of `<a><b/>{c}</a>`
-    Child,
-    /// Type arguments behind the name of a type, and the type of a getter, which leave the comments before them: `<B>` of `A<B>`, `C` of
-    /// `{ get a(): C; }`
-    Reference,
-    /// The body of a namespace behind its name: ` {}` of `namespace a {}`, `.b {}` of `namespace a.b {}`
-    Dotted,
-    /// By itself, with this greatest length of lines, where it is a module or script: `a;b` by itself with 2 is `a;` LF `b`
-    Lines(u32),
 }
 
 /// What a node tells those above it.
@@ -194,17 +204,30 @@ pub trait Asked: Known {
     }
 }
 
-/// What can be printed, where the one above puts it.
+/// What can be printed, in the context that the one above puts it in.
 pub trait EmitAt {
     ghost items: { Self → At → Part };
 
-    /// Prints it, unless a call was refused before. Why one is, the emitter keeps.
+    /// Prints the whole of it, in this context, unless a call was refused before. Why one is, the emitter keeps.
     fn emit_at<W: WriteJs, S: SourceMapper, C: Comments>(
         &self,
         e: &mut Emitter<'_, W, S, C>,
-        place: Place,
+        context: Context,
     )
-        ensures items { Performs (items self.now place) S.lines C.maps W.sheet e.old e.new };
+        ensures items { Performs (items self.now (Whole context))
+            S.lines C.maps W.sheet e.old e.new };
+}
+
+/// What can be printed in pieces too: a function, a class, a declaration, and what a link holds. A piece that another has is the whole here.
+pub trait EmitPiece: EmitAt {
+    /// Prints this piece of it alone, unless a call was refused before. Why one is, the emitter keeps.
+    fn emit_piece<W: WriteJs, S: SourceMapper, C: Comments>(
+        &self,
+        e: &mut Emitter<'_, W, S, C>,
+        piece: Piece,
+    )
+        ensures items { Performs (Self.items self.now (Only piece))
+            S.lines C.maps W.sheet e.old e.new };
 }
 
 /// What a list has to know of a child, besides how it is printed.
@@ -237,4 +260,4 @@ impl<K, N: LinkTarget> Child for Link<K, N> {
 }
 
 /// All that a link may hold.
-pub trait LinkTarget: EmitAt + Asked {}
+pub trait LinkTarget: EmitPiece + Asked {}

@@ -3,7 +3,7 @@
 ghost use Rattle.swc_ecma_codegen_emit.specs.Parts.{expr_part, stmt_part, ts_part};
 
 use crate::emitter::Emitter;
-use crate::nodes::{EmitAt, LinkTarget, Place};
+use crate::nodes::{Context, EmitAt, EmitPiece, LinkTarget, Piece};
 use swc_ecma_codegen_grammar::comments::Comments;
 use swc_ecma_codegen_grammar::mapper::SourceMapper;
 use swc_ecma_codegen_text_writer::WriteJs;
@@ -17,15 +17,15 @@ impl<N: LinkTarget> EmitAt for ExprPart<N> {
     fn emit_at<W: WriteJs, S: SourceMapper, C: Comments>(
         &self,
         e: &mut Emitter<'_, W, S, C>,
-        place: Place,
+        context: Context,
     ) {
         match self {
-            ExprPart::Pat(node) => node.emit_at(e, place),
-            ExprPart::ObjectLit(node) => node.emit_at(e, place),
-            ExprPart::PropName(node) => node.emit_at(e, place),
-            ExprPart::Tpl(node) => node.emit_at(e, place),
-            ExprPart::OptCall(node) => node.emit_at(e, place),
-            ExprPart::AssignTarget(node) => node.emit_at(e, place),
+            ExprPart::Pat(node) => node.emit_at(e, context),
+            ExprPart::ObjectLit(node) => node.emit_at(e, context),
+            ExprPart::PropName(node) => node.emit_at(e, context),
+            ExprPart::Tpl(node) => node.emit_at(e, context),
+            ExprPart::OptCall(node) => node.emit_at(e, context),
+            ExprPart::AssignTarget(node) => node.emit_at(e, context),
         }
     }
 }
@@ -38,16 +38,36 @@ impl<N: LinkTarget> EmitAt for StmtPart<N> {
     fn emit_at<W: WriteJs, S: SourceMapper, C: Comments>(
         &self,
         e: &mut Emitter<'_, W, S, C>,
-        place: Place,
+        context: Context,
     ) {
         match self {
-            StmtPart::Function(node) => (**node).emit_at(e, place),
-            StmtPart::Class(node) => (**node).emit_at(e, place),
-            StmtPart::ClassMember(node) => (**node).emit_at(e, place),
-            StmtPart::BlockStmt(node) => node.emit_at(e, place),
-            StmtPart::Decl(node) => node.emit_at(e, place),
-            StmtPart::ModuleDecl(node) => (**node).emit_at(e, place),
-            StmtPart::VarDecl(node) => node.emit_at(e, place),
+            StmtPart::Function(node) => (**node).emit_at(e, context),
+            StmtPart::Class(node) => (**node).emit_at(e, context),
+            StmtPart::ClassMember(node) => (**node).emit_at(e, context),
+            StmtPart::BlockStmt(node) => node.emit_at(e, context),
+            StmtPart::Decl(node) => node.emit_at(e, context),
+            StmtPart::ModuleDecl(node) => (**node).emit_at(e, context),
+            StmtPart::VarDecl(node) => node.emit_at(e, context),
+        }
+    }
+}
+
+impl<N: LinkTarget> EmitPiece for StmtPart<N> {
+    #[inline(never)]
+    #[tactic(auto, unfolding(crate::specs::Parts::stmt_part))]
+    fn emit_piece<W: WriteJs, S: SourceMapper, C: Comments>(
+        &self,
+        e: &mut Emitter<'_, W, S, C>,
+        piece: Piece,
+    ) {
+        match self {
+            StmtPart::Function(node) => (**node).emit_piece(e, piece),
+            StmtPart::Class(node) => (**node).emit_piece(e, piece),
+            StmtPart::Decl(node) => node.emit_piece(e, piece),
+            StmtPart::ClassMember(node) => (**node).emit_at(e, Context::Plain),
+            StmtPart::BlockStmt(node) => node.emit_at(e, Context::Plain),
+            StmtPart::ModuleDecl(node) => (**node).emit_at(e, Context::Plain),
+            StmtPart::VarDecl(node) => node.emit_at(e, Context::Plain),
         }
     }
 }
@@ -60,17 +80,17 @@ impl<N: LinkTarget> EmitAt for TsPart<N> {
     fn emit_at<W: WriteJs, S: SourceMapper, C: Comments>(
         &self,
         e: &mut Emitter<'_, W, S, C>,
-        place: Place,
+        context: Context,
     ) {
         match self {
-            TsPart::TsType(node) => node.emit_at(e, place),
-            TsPart::TsTypeAnn(node) => node.emit_at(e, place),
-            TsPart::TsTypeParamDecl(node) => node.emit_at(e, place),
-            TsPart::TsTypeParamInstantiation(node) => node.emit_at(e, place),
-            TsPart::TsFnParam(node) => node.emit_at(e, place),
-            TsPart::TsInterfaceBody(node) => node.emit_at(e, place),
-            TsPart::TsEntityName(node) => node.emit_at(e, place),
-            TsPart::TsNamespaceBody(node) => node.emit_at(e, place),
+            TsPart::TsType(node) => node.emit_at(e, context),
+            TsPart::TsTypeAnn(node) => node.emit_at(e, context),
+            TsPart::TsTypeParamDecl(node) => node.emit_at(e, context),
+            TsPart::TsTypeParamInstantiation(node) => node.emit_at(e, context),
+            TsPart::TsFnParam(node) => node.emit_at(e, context),
+            TsPart::TsInterfaceBody(node) => node.emit_at(e, context),
+            TsPart::TsEntityName(node) => node.emit_at(e, context),
+            TsPart::TsNamespaceBody(node) => node.emit_at(e, context),
         }
     }
 }

@@ -8,7 +8,7 @@ ghost use Rattle.swc_ecma_codegen_emit.specs.Pats.{initializer, array_pat_format
 
 use crate::calls::ends_with_hole;
 use crate::emitter::Emitter;
-use crate::nodes::{Asked, Child, EmitAt, LinkTarget, Place};
+use crate::nodes::{Asked, Child, Context, EmitAt, LinkTarget};
 use bitflags::Flags;
 use swc_ecma_codegen_common::Span;
 use swc_ecma_codegen_grammar::ListFormat;
@@ -47,16 +47,16 @@ impl<N: LinkTarget> EmitAt for Pat<N> {
     fn emit_at<W: WriteJs, S: SourceMapper, C: Comments>(
         &self,
         e: &mut Emitter<'_, W, S, C>,
-        place: Place,
+        context: Context,
     ) {
         match self {
-            Pat::Ident(node) => node.emit_at(e, Place::Plain),
-            Pat::Array(node) => node.emit_at(e, Place::Plain),
-            Pat::Rest(node) => node.emit_at(e, Place::Plain),
-            Pat::Object(node) => node.emit_at(e, Place::Plain),
-            Pat::Assign(node) => node.emit_at(e, Place::Plain),
+            Pat::Ident(node) => node.emit_at(e, Context::Plain),
+            Pat::Array(node) => node.emit_at(e, Context::Plain),
+            Pat::Rest(node) => node.emit_at(e, Context::Plain),
+            Pat::Object(node) => node.emit_at(e, Context::Plain),
+            Pat::Assign(node) => node.emit_at(e, Context::Plain),
             Pat::Invalid(_) => e.unsupported(),
-            Pat::Expr(node) => node.target().emit_at(e, Place::Plain),
+            Pat::Expr(node) => node.target().emit_at(e, Context::Plain),
         }
         e.trailing_comments(pat_place(self).hi, true);
     }
@@ -69,11 +69,11 @@ impl<N: LinkTarget> EmitAt for RestPat<N> {
     fn emit_at<W: WriteJs, S: SourceMapper, C: Comments>(
         &self,
         e: &mut Emitter<'_, W, S, C>,
-        place: Place,
+        context: Context,
     ) {
         e.leading_comments(self.span.lo);
         e.placed_punct(self.dot3_token, Punctuator::Ellipsis);
-        self.arg.target().emit_at(e, Place::Plain);
+        self.arg.target().emit_at(e, Context::Plain);
         e.annotation(&self.type_ann);
     }
 }
@@ -85,11 +85,11 @@ impl<N: LinkTarget> EmitAt for AssignTargetPat<N> {
     fn emit_at<W: WriteJs, S: SourceMapper, C: Comments>(
         &self,
         e: &mut Emitter<'_, W, S, C>,
-        place: Place,
+        context: Context,
     ) {
         match self {
-            AssignTargetPat::Array(node) => node.emit_at(e, Place::Plain),
-            AssignTargetPat::Object(node) => node.emit_at(e, Place::Plain),
+            AssignTargetPat::Array(node) => node.emit_at(e, Context::Plain),
+            AssignTargetPat::Object(node) => node.emit_at(e, Context::Plain),
             AssignTargetPat::Invalid(_) => e.unsupported(),
         }
     }
@@ -102,7 +102,7 @@ impl<N: LinkTarget> EmitAt for ArrayPat<N> {
     fn emit_at<W: WriteJs, S: SourceMapper, C: Comments>(
         &self,
         e: &mut Emitter<'_, W, S, C>,
-        place: Place,
+        context: Context,
     ) {
         e.opened(self.span);
         e.punct(Punctuator::LeftBracket);
@@ -121,12 +121,12 @@ impl<N: LinkTarget> EmitAt for AssignPat<N> {
     fn emit_at<W: WriteJs, S: SourceMapper, C: Comments>(
         &self,
         e: &mut Emitter<'_, W, S, C>,
-        place: Place,
+        context: Context,
     ) {
         e.opened(self.span);
-        self.left.target().emit_at(e, Place::Plain);
+        self.left.target().emit_at(e, Context::Plain);
         e.spaced_punct(Punctuator::Equal);
-        self.right.target().emit_at(e, Place::Plain);
+        self.right.target().emit_at(e, Context::Plain);
         e.end_of(self.span);
     }
 }
@@ -138,7 +138,7 @@ impl<N: LinkTarget> EmitAt for ObjectPat<N> {
     fn emit_at<W: WriteJs, S: SourceMapper, C: Comments>(
         &self,
         e: &mut Emitter<'_, W, S, C>,
-        place: Place,
+        context: Context,
     ) {
         e.opened(self.span);
         e.punct(Punctuator::LeftBrace);
@@ -157,12 +157,12 @@ impl<N: LinkTarget> EmitAt for ObjectPatProp<N> {
     fn emit_at<W: WriteJs, S: SourceMapper, C: Comments>(
         &self,
         e: &mut Emitter<'_, W, S, C>,
-        place: Place,
+        context: Context,
     ) {
         match self {
-            ObjectPatProp::KeyValue(node) => node.emit_at(e, Place::Plain),
-            ObjectPatProp::Assign(node) => node.emit_at(e, Place::Plain),
-            ObjectPatProp::Rest(node) => node.emit_at(e, Place::Plain),
+            ObjectPatProp::KeyValue(node) => node.emit_at(e, Context::Plain),
+            ObjectPatProp::Assign(node) => node.emit_at(e, Context::Plain),
+            ObjectPatProp::Rest(node) => node.emit_at(e, Context::Plain),
         }
     }
 }
@@ -190,13 +190,13 @@ impl<N: LinkTarget> EmitAt for KeyValuePatProp<N> {
     fn emit_at<W: WriteJs, S: SourceMapper, C: Comments>(
         &self,
         e: &mut Emitter<'_, W, S, C>,
-        place: Place,
+        context: Context,
     ) {
         e.opened(self.key.span());
-        self.key.emit_at(e, Place::Plain);
+        self.key.emit_at(e, Context::Plain);
         e.punct(Punctuator::Colon);
         e.formatting_space();
-        self.value.target().emit_at(e, Place::Plain);
+        self.value.target().emit_at(e, Context::Plain);
         e.end_of(self.value.target().place());
     }
 }
@@ -208,10 +208,10 @@ impl<N: LinkTarget> EmitAt for AssignPatProp<N> {
     fn emit_at<W: WriteJs, S: SourceMapper, C: Comments>(
         &self,
         e: &mut Emitter<'_, W, S, C>,
-        place: Place,
+        context: Context,
     ) {
         e.opened(self.span);
-        self.key.emit_at(e, Place::Plain);
+        self.key.emit_at(e, Context::Plain);
         e.initializer(&self.value);
         e.end_of(self.span);
     }
@@ -257,7 +257,7 @@ impl<W: WriteJs, S: SourceMapper, C: Comments> Emitter<'_, W, S, C> {
         ensures items { Performs (definite_ident N.items node.now)
             S.lines C.maps W.sheet self.old self.new }
     {
-        node.id.emit_at(self, Place::Plain);
+        node.id.emit_at(self, Context::Plain);
         self.punct(Punctuator::Bang);
         self.annotation(&node.type_ann);
         self.trailing_comments(node.id.span.hi, true);
@@ -271,7 +271,7 @@ impl<W: WriteJs, S: SourceMapper, C: Comments> Emitter<'_, W, S, C> {
     {
         match node {
             Pat::Ident(node) => self.definite_ident(node),
-            _ => node.emit_at(self, Place::Plain),
+            _ => node.emit_at(self, Context::Plain),
         }
     }
 
@@ -284,7 +284,7 @@ impl<W: WriteJs, S: SourceMapper, C: Comments> Emitter<'_, W, S, C> {
         if definite {
             return self.definite_pat(node);
         }
-        node.emit_at(self, Place::Plain);
+        node.emit_at(self, Context::Plain);
     }
 
     /// Writes `= b` of `a = b`.
@@ -296,7 +296,7 @@ impl<W: WriteJs, S: SourceMapper, C: Comments> Emitter<'_, W, S, C> {
         match value {
             Some(value) => {
                 self.spaced_punct(Punctuator::Equal);
-                value.target().emit_at(self, Place::Plain)
+                value.target().emit_at(self, Context::Plain)
             }
             None => {}
         }

@@ -13,7 +13,7 @@ ghost use Rattle.swc_ecma_codegen_emit.specs.Props.{key_end, value_start, key_va
 use crate::blocks::is_some_listed;
 use crate::commented::wants_lines;
 use crate::emitter::Emitter;
-use crate::nodes::{Child, EmitAt, LinkTarget, Place};
+use crate::nodes::{Child, Context, EmitAt, LinkTarget, Piece};
 use crate::places::{prop_place, spread_element_place};
 use bitflags::Flags;
 use swc_ecma_codegen_common::Span;
@@ -51,14 +51,14 @@ impl<N: LinkTarget> EmitAt for PropName<N> {
     fn emit_at<W: WriteJs, S: SourceMapper, C: Comments>(
         &self,
         e: &mut Emitter<'_, W, S, C>,
-        place: Place,
+        context: Context,
     ) {
         match self {
             PropName::Ident(name) => e.key(name.span, &name.sym),
-            PropName::Str(node) => (**node).emit_at(e, Place::Plain),
-            PropName::Num(node) => (**node).emit_at(e, Place::Plain),
-            PropName::BigInt(node) => (**node).emit_at(e, Place::Plain),
-            PropName::Computed(node) => node.emit_at(e, Place::Plain),
+            PropName::Str(node) => (**node).emit_at(e, Context::Plain),
+            PropName::Num(node) => (**node).emit_at(e, Context::Plain),
+            PropName::BigInt(node) => (**node).emit_at(e, Context::Plain),
+            PropName::Computed(node) => node.emit_at(e, Context::Plain),
         }
     }
 }
@@ -70,7 +70,7 @@ impl<N: LinkTarget> EmitAt for ObjectLit<N> {
     fn emit_at<W: WriteJs, S: SourceMapper, C: Comments>(
         &self,
         e: &mut Emitter<'_, W, S, C>,
-        place: Place,
+        context: Context,
     ) {
         e.opened(self.span);
         e.punct(Punctuator::LeftBrace);
@@ -87,15 +87,15 @@ impl<N: LinkTarget> EmitAt for Prop<N> {
     fn emit_at<W: WriteJs, S: SourceMapper, C: Comments>(
         &self,
         e: &mut Emitter<'_, W, S, C>,
-        place: Place,
+        context: Context,
     ) {
         match self {
-            Prop::Shorthand(node) => node.emit_at(e, Place::Plain),
-            Prop::KeyValue(node) => node.emit_at(e, Place::Plain),
-            Prop::Assign(node) => node.emit_at(e, Place::Plain),
-            Prop::Getter(node) => node.emit_at(e, Place::Plain),
-            Prop::Setter(node) => node.emit_at(e, Place::Plain),
-            Prop::Method(node) => node.emit_at(e, Place::Plain),
+            Prop::Shorthand(node) => node.emit_at(e, Context::Plain),
+            Prop::KeyValue(node) => node.emit_at(e, Context::Plain),
+            Prop::Assign(node) => node.emit_at(e, Context::Plain),
+            Prop::Getter(node) => node.emit_at(e, Context::Plain),
+            Prop::Setter(node) => node.emit_at(e, Context::Plain),
+            Prop::Method(node) => node.emit_at(e, Context::Plain),
         }
     }
 }
@@ -107,17 +107,17 @@ impl<N: LinkTarget> EmitAt for KeyValueProp<N> {
     fn emit_at<W: WriteJs, S: SourceMapper, C: Comments>(
         &self,
         e: &mut Emitter<'_, W, S, C>,
-        place: Place,
+        context: Context,
     ) {
         let name = self.key.span();
         let value = self.value.target().place();
         e.opened(name);
-        self.key.emit_at(e, Place::Plain);
+        self.key.emit_at(e, Context::Plain);
         e.key_end(name, value);
         e.punct(Punctuator::Colon);
         e.formatting_space();
         e.value_start(name, value);
-        self.value.target().emit_at(e, Place::Plain);
+        self.value.target().emit_at(e, Context::Plain);
     }
 }
 
@@ -128,12 +128,12 @@ impl<N: LinkTarget> EmitAt for AssignProp<N> {
     fn emit_at<W: WriteJs, S: SourceMapper, C: Comments>(
         &self,
         e: &mut Emitter<'_, W, S, C>,
-        place: Place,
+        context: Context,
     ) {
         e.opened(self.key.span);
-        self.key.emit_at(e, Place::Plain);
+        self.key.emit_at(e, Context::Plain);
         e.punct(Punctuator::Equal);
-        self.value.target().emit_at(e, Place::Plain);
+        self.value.target().emit_at(e, Context::Plain);
     }
 }
 
@@ -144,7 +144,7 @@ impl<N: LinkTarget> EmitAt for GetterProp<N> {
     fn emit_at<W: WriteJs, S: SourceMapper, C: Comments>(
         &self,
         e: &mut Emitter<'_, W, S, C>,
-        place: Place,
+        context: Context,
     ) {
         e.opened(self.span);
         e.accessor("get", &self.key);
@@ -163,13 +163,13 @@ impl<N: LinkTarget> EmitAt for SetterProp<N> {
     fn emit_at<W: WriteJs, S: SourceMapper, C: Comments>(
         &self,
         e: &mut Emitter<'_, W, S, C>,
-        place: Place,
+        context: Context,
     ) {
         e.opened(self.span);
         e.accessor("set", &self.key);
         e.punct(Punctuator::LeftParenthesis);
         e.this_param(&self.this_param);
-        self.param.target().emit_at(e, Place::Plain);
+        self.param.target().emit_at(e, Context::Plain);
         e.punct(Punctuator::RightParenthesis);
         e.optional_body(&self.body);
     }
@@ -182,13 +182,13 @@ impl<N: LinkTarget> EmitAt for MethodProp<N> {
     fn emit_at<W: WriteJs, S: SourceMapper, C: Comments>(
         &self,
         e: &mut Emitter<'_, W, S, C>,
-        place: Place,
+        context: Context,
     ) {
         e.opened(self.key.span());
-        self.function.target().emit_at(e, Place::MethodHead);
-        self.key.emit_at(e, Place::Plain);
+        self.function.target().emit_piece(e, Piece::MethodHead);
+        self.key.emit_at(e, Context::Plain);
         e.formatting_space();
-        self.function.target().emit_at(e, Place::DeclarationTail);
+        self.function.target().emit_piece(e, Piece::DeclarationTail);
     }
 }
 
@@ -199,11 +199,11 @@ impl<N: LinkTarget> EmitAt for PropOrSpread<N> {
     fn emit_at<W: WriteJs, S: SourceMapper, C: Comments>(
         &self,
         e: &mut Emitter<'_, W, S, C>,
-        place: Place,
+        context: Context,
     ) {
         match self {
-            PropOrSpread::Spread(node) => node.emit_at(e, Place::Plain),
-            PropOrSpread::Prop(node) => node.emit_at(e, Place::Plain),
+            PropOrSpread::Spread(node) => node.emit_at(e, Context::Plain),
+            PropOrSpread::Prop(node) => node.emit_at(e, Context::Plain),
         }
     }
 }
@@ -250,7 +250,7 @@ impl<W: WriteJs, S: SourceMapper, C: Comments> Emitter<'_, W, S, C> {
     {
         self.keyword(None, word);
         self.blank(name.target().starts());
-        name.target().emit_at(self, Place::Plain);
+        name.target().emit_at(self, Context::Plain);
         self.formatting_space();
     }
 
@@ -263,7 +263,7 @@ impl<W: WriteJs, S: SourceMapper, C: Comments> Emitter<'_, W, S, C> {
         match ty {
             Some(node) => {
                 self.punct(Punctuator::Colon);
-                node.target().emit_at(self, Place::Plain)
+                node.target().emit_at(self, Context::Plain)
             }
             None => {}
         }
@@ -277,7 +277,7 @@ impl<W: WriteJs, S: SourceMapper, C: Comments> Emitter<'_, W, S, C> {
     {
         match param {
             Some(node) => {
-                node.target().emit_at(self, Place::Plain);
+                node.target().emit_at(self, Context::Plain);
                 self.punct(Punctuator::Comma);
                 self.formatting_space();
             }
@@ -292,7 +292,7 @@ impl<W: WriteJs, S: SourceMapper, C: Comments> Emitter<'_, W, S, C> {
             S.lines C.maps W.sheet self.old self.new }
     {
         match body {
-            Some(body) => body.target().emit_at(self, Place::Plain),
+            Some(body) => body.target().emit_at(self, Context::Plain),
             None => {}
         }
     }

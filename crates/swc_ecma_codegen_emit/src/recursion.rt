@@ -8,7 +8,7 @@ use crate::branches::is_block;
 use crate::commented::BreaksBefore;
 use crate::emitter::Emitter;
 use crate::expr::placed_expr;
-use crate::nodes::{Asked, EmitAt, Known, LinkTarget, Place, Question, Reply};
+use crate::nodes::{Asked, Context, EmitAt, EmitPiece, Known, LinkTarget, Piece, Question, Reply};
 use crate::operands::{Operand, SpaceBefore};
 use crate::patterns::{PatternKind, kind_of_part};
 use swc_ecma_codegen_grammar::comments::Comments;
@@ -49,19 +49,40 @@ impl EmitAt for AnyNode {
     ghost items = { any_items };
 
     #[tactic(auto, using(crate::proofs::MappedNodes::any_items_of, crate::proofs::MappedNodes::any_items_expr, crate::proofs::MappedNodes::any_items_stmt, crate::proofs::MappedNodes::any_items_member_expr, crate::proofs::MappedNodes::any_items_expr_part, crate::proofs::MappedNodes::any_items_stmt_part, crate::proofs::MappedNodes::any_items_jsx_part, crate::proofs::MappedNodes::any_items_ts_part), unfolding(crate::specs::Tree::node_items))]
+    #[cycle(tree)]
     fn emit_at<W: WriteJs, S: SourceMapper, C: Comments>(
         &self,
         e: &mut Emitter<'_, W, S, C>,
-        place: Place,
+        context: Context,
     ) {
         match self {
-            AnyNode::Expr(node) => placed_expr(node, e, place),
-            AnyNode::Stmt(node) => node.emit_at(e, place),
-            AnyNode::MemberExpr(node) => node.emit_at(e, place),
-            AnyNode::ExprPart(node) => node.emit_at(e, place),
-            AnyNode::StmtPart(node) => node.emit_at(e, place),
-            AnyNode::JSXPart(node) => node.emit_at(e, place),
-            AnyNode::TsPart(node) => node.emit_at(e, place),
+            AnyNode::Expr(node) => placed_expr(node, e, context),
+            AnyNode::Stmt(node) => node.emit_at(e, context),
+            AnyNode::MemberExpr(node) => node.emit_at(e, context),
+            AnyNode::ExprPart(node) => node.emit_at(e, context),
+            AnyNode::StmtPart(node) => node.emit_at(e, context),
+            AnyNode::JSXPart(node) => node.emit_at(e, context),
+            AnyNode::TsPart(node) => node.emit_at(e, context),
+        }
+    }
+}
+
+impl EmitPiece for AnyNode {
+    #[tactic(auto, using(crate::proofs::MappedNodes::any_items_of, crate::proofs::MappedNodes::any_items_expr, crate::proofs::MappedNodes::any_items_stmt, crate::proofs::MappedNodes::any_items_member_expr, crate::proofs::MappedNodes::any_items_expr_part, crate::proofs::MappedNodes::any_items_stmt_part, crate::proofs::MappedNodes::any_items_jsx_part, crate::proofs::MappedNodes::any_items_ts_part), unfolding(crate::specs::Tree::node_items))]
+    #[cycle(tree)]
+    fn emit_piece<W: WriteJs, S: SourceMapper, C: Comments>(
+        &self,
+        e: &mut Emitter<'_, W, S, C>,
+        piece: Piece,
+    ) {
+        match self {
+            AnyNode::Expr(node) => placed_expr(node, e, Context::Plain),
+            AnyNode::Stmt(node) => node.emit_at(e, Context::Plain),
+            AnyNode::MemberExpr(node) => node.emit_at(e, Context::Plain),
+            AnyNode::ExprPart(node) => node.emit_at(e, Context::Plain),
+            AnyNode::StmtPart(node) => node.emit_piece(e, piece),
+            AnyNode::JSXPart(node) => node.emit_at(e, Context::Plain),
+            AnyNode::TsPart(node) => node.emit_at(e, Context::Plain),
         }
     }
 }

@@ -15,7 +15,7 @@ ghost use Rattle.swc_ecma_codegen_emit.specs.Programs.{start_if_empty, program_s
 
 use crate::branches::is_block;
 use crate::emitter::Emitter;
-use crate::nodes::{Child, EmitAt, LinkTarget, Place};
+use crate::nodes::{Child, Context, EmitAt, LinkTarget};
 use crate::places::stmt_place;
 use swc_ecma_codegen_common::Span;
 use swc_ecma_codegen_grammar::comments::Comments;
@@ -39,25 +39,25 @@ fn stmt_parts<N: LinkTarget, W: WriteJs, S: SourceMapper, C: Comments>(
         S.lines C.maps W.sheet e.old e.new }
 {
     match node {
-        Stmt::Expr(node) => node.emit_at(e, Place::Plain),
-        Stmt::Block(node) => node.target().emit_at(e, Place::Plain),
-        Stmt::Empty(node) => node.emit_at(e, Place::Plain),
-        Stmt::Debugger(node) => node.emit_at(e, Place::Plain),
-        Stmt::With(node) => node.emit_at(e, Place::Plain),
-        Stmt::Return(node) => node.emit_at(e, Place::Plain),
-        Stmt::Labeled(node) => node.emit_at(e, Place::Plain),
-        Stmt::Break(node) => node.emit_at(e, Place::Plain),
-        Stmt::Continue(node) => node.emit_at(e, Place::Plain),
-        Stmt::If(node) => node.emit_at(e, Place::Plain),
-        Stmt::Switch(node) => node.emit_at(e, Place::Plain),
-        Stmt::Throw(node) => node.emit_at(e, Place::Plain),
-        Stmt::Try(node) => node.emit_at(e, Place::Plain),
-        Stmt::While(node) => node.emit_at(e, Place::Plain),
-        Stmt::DoWhile(node) => node.emit_at(e, Place::Plain),
-        Stmt::For(node) => node.emit_at(e, Place::Plain),
-        Stmt::ForIn(node) => node.emit_at(e, Place::Plain),
-        Stmt::ForOf(node) => node.emit_at(e, Place::Plain),
-        Stmt::Decl(node) => node.emit_at(e, Place::Statement),
+        Stmt::Expr(node) => node.emit_at(e, Context::Plain),
+        Stmt::Block(node) => node.target().emit_at(e, Context::Plain),
+        Stmt::Empty(node) => node.emit_at(e, Context::Plain),
+        Stmt::Debugger(node) => node.emit_at(e, Context::Plain),
+        Stmt::With(node) => node.emit_at(e, Context::Plain),
+        Stmt::Return(node) => node.emit_at(e, Context::Plain),
+        Stmt::Labeled(node) => node.emit_at(e, Context::Plain),
+        Stmt::Break(node) => node.emit_at(e, Context::Plain),
+        Stmt::Continue(node) => node.emit_at(e, Context::Plain),
+        Stmt::If(node) => node.emit_at(e, Context::Plain),
+        Stmt::Switch(node) => node.emit_at(e, Context::Plain),
+        Stmt::Throw(node) => node.emit_at(e, Context::Plain),
+        Stmt::Try(node) => node.emit_at(e, Context::Plain),
+        Stmt::While(node) => node.emit_at(e, Context::Plain),
+        Stmt::DoWhile(node) => node.emit_at(e, Context::Plain),
+        Stmt::For(node) => node.emit_at(e, Context::Plain),
+        Stmt::ForIn(node) => node.emit_at(e, Context::Plain),
+        Stmt::ForOf(node) => node.emit_at(e, Context::Plain),
+        Stmt::Decl(node) => node.emit_at(e, Context::Statement),
     }
 }
 
@@ -69,7 +69,7 @@ impl<N: LinkTarget> EmitAt for Stmt<N> {
     fn emit_at<W: WriteJs, S: SourceMapper, C: Comments>(
         &self,
         e: &mut Emitter<'_, W, S, C>,
-        place: Place,
+        context: Context,
     ) {
         stmt_parts(self, e);
         e.stmt_closed(self);
@@ -91,10 +91,10 @@ impl<N: LinkTarget> EmitAt for ExprStmt<N> {
     fn emit_at<W: WriteJs, S: SourceMapper, C: Comments>(
         &self,
         e: &mut Emitter<'_, W, S, C>,
-        place: Place,
+        context: Context,
     ) {
         e.leading_comments(self.span.lo);
-        self.expr.target().emit_at(e, Place::Plain);
+        self.expr.target().emit_at(e, Context::Plain);
         e.semi();
     }
 }
@@ -106,7 +106,7 @@ impl EmitAt for EmptyStmt {
     fn emit_at<W: WriteJs, S: SourceMapper, C: Comments>(
         &self,
         e: &mut Emitter<'_, W, S, C>,
-        place: Place,
+        context: Context,
     ) {
         e.leading_comments(self.span.lo);
         e.punct(Punctuator::Semicolon);
@@ -120,7 +120,7 @@ impl EmitAt for DebuggerStmt {
     fn emit_at<W: WriteJs, S: SourceMapper, C: Comments>(
         &self,
         e: &mut Emitter<'_, W, S, C>,
-        place: Place,
+        context: Context,
     ) {
         e.commit_pending_semi();
         e.leading_comments(self.span.lo);
@@ -136,14 +136,14 @@ impl<N: LinkTarget> EmitAt for WithStmt<N> {
     fn emit_at<W: WriteJs, S: SourceMapper, C: Comments>(
         &self,
         e: &mut Emitter<'_, W, S, C>,
-        place: Place,
+        context: Context,
     ) {
         e.commit_pending_semi();
         e.start_of(self.span);
         e.keyword(None, "with");
         e.formatting_space();
         e.enclosed(&self.obj);
-        self.body.target().emit_at(e, Place::Plain);
+        self.body.target().emit_at(e, Context::Plain);
     }
 }
 
@@ -154,7 +154,7 @@ impl<N: LinkTarget> EmitAt for ReturnStmt<N> {
     fn emit_at<W: WriteJs, S: SourceMapper, C: Comments>(
         &self,
         e: &mut Emitter<'_, W, S, C>,
-        place: Place,
+        context: Context,
     ) {
         e.stmt_word(self.span, "return");
         e.return_arg(&self.arg);
@@ -169,13 +169,13 @@ impl<N: LinkTarget> EmitAt for LabeledStmt<N> {
     fn emit_at<W: WriteJs, S: SourceMapper, C: Comments>(
         &self,
         e: &mut Emitter<'_, W, S, C>,
-        place: Place,
+        context: Context,
     ) {
         e.commit_pending_semi();
-        self.label.emit_at(e, Place::Plain);
+        self.label.emit_at(e, Context::Plain);
         e.punct(Punctuator::Colon);
         e.formatting_space();
-        self.body.target().emit_at(e, Place::Plain);
+        self.body.target().emit_at(e, Context::Plain);
     }
 }
 
@@ -186,7 +186,7 @@ impl EmitAt for BreakStmt {
     fn emit_at<W: WriteJs, S: SourceMapper, C: Comments>(
         &self,
         e: &mut Emitter<'_, W, S, C>,
-        place: Place,
+        context: Context,
     ) {
         e.jump(self.span, "break", &self.label);
     }
@@ -199,7 +199,7 @@ impl EmitAt for ContinueStmt {
     fn emit_at<W: WriteJs, S: SourceMapper, C: Comments>(
         &self,
         e: &mut Emitter<'_, W, S, C>,
-        place: Place,
+        context: Context,
     ) {
         e.jump(self.span, "continue", &self.label);
     }
@@ -212,12 +212,12 @@ impl<N: LinkTarget> EmitAt for IfStmt<N> {
     fn emit_at<W: WriteJs, S: SourceMapper, C: Comments>(
         &self,
         e: &mut Emitter<'_, W, S, C>,
-        place: Place,
+        context: Context,
     ) {
         e.spaced_word(self.span, "if");
         e.enclosed(&self.test);
         e.formatting_space();
-        self.cons.target().emit_at(e, Place::Plain);
+        self.cons.target().emit_at(e, Context::Plain);
         e.else_branch(self.cons.target().block(), &self.alt);
     }
 }
@@ -229,14 +229,14 @@ impl<N: LinkTarget> EmitAt for CatchClause<N> {
     fn emit_at<W: WriteJs, S: SourceMapper, C: Comments>(
         &self,
         e: &mut Emitter<'_, W, S, C>,
-        place: Place,
+        context: Context,
     ) {
         e.opened(self.span);
         e.keyword(None, "catch");
         e.formatting_space();
         e.catch_param(&self.param);
         e.formatting_space();
-        self.body.target().emit_at(e, Place::Plain);
+        self.body.target().emit_at(e, Context::Plain);
     }
 }
 
@@ -247,7 +247,7 @@ impl<N: LinkTarget> EmitAt for ThrowStmt<N> {
     fn emit_at<W: WriteJs, S: SourceMapper, C: Comments>(
         &self,
         e: &mut Emitter<'_, W, S, C>,
-        place: Place,
+        context: Context,
     ) {
         e.opened(self.span);
         e.keyword(None, "throw");
@@ -263,10 +263,10 @@ impl<N: LinkTarget> EmitAt for TryStmt<N> {
     fn emit_at<W: WriteJs, S: SourceMapper, C: Comments>(
         &self,
         e: &mut Emitter<'_, W, S, C>,
-        place: Place,
+        context: Context,
     ) {
         e.spaced_word(self.span, "try");
-        self.block.target().emit_at(e, Place::Plain);
+        self.block.target().emit_at(e, Context::Plain);
         e.handler(&self.handler);
         e.finalizer(&self.finalizer);
     }
@@ -279,10 +279,10 @@ impl<N: LinkTarget> EmitAt for Script<N> {
     fn emit_at<W: WriteJs, S: SourceMapper, C: Comments>(
         &self,
         e: &mut Emitter<'_, W, S, C>,
-        place: Place,
+        context: Context,
     ) {
-        match place {
-            Place::Lines(max) => {
+        match context {
+            Context::ByItself(max) => {
                 e.begin_lines(max);
                 e.broken_script(self, max);
                 e.end_lines();
@@ -299,11 +299,11 @@ impl<N: LinkTarget> EmitAt for Program<N> {
     fn emit_at<W: WriteJs, S: SourceMapper, C: Comments>(
         &self,
         e: &mut Emitter<'_, W, S, C>,
-        place: Place,
+        context: Context,
     ) {
         match self {
-            Program::Module(node) => node.emit_at(e, place),
-            Program::Script(node) => node.emit_at(e, place),
+            Program::Module(node) => node.emit_at(e, context),
+            Program::Script(node) => node.emit_at(e, context),
         }
     }
 }
@@ -373,7 +373,7 @@ impl<W: WriteJs, S: SourceMapper, C: Comments> Emitter<'_, W, S, C> {
             S.lines C.maps W.sheet self.old self.new }
     {
         self.punct(Punctuator::LeftParenthesis);
-        node.target().emit_at(self, Place::Plain);
+        node.target().emit_at(self, Context::Plain);
         self.punct(Punctuator::RightParenthesis);
     }
 
@@ -384,7 +384,7 @@ impl<W: WriteJs, S: SourceMapper, C: Comments> Emitter<'_, W, S, C> {
             S.lines C.maps W.sheet self.old self.new }
     {
         self.blank(node.starts());
-        node.emit_at(self, Place::Plain);
+        node.emit_at(self, Context::Plain);
     }
 
     /// Writes an argument behind a word.
@@ -405,7 +405,7 @@ impl<W: WriteJs, S: SourceMapper, C: Comments> Emitter<'_, W, S, C> {
     {
         if breaks {
             self.punct(Punctuator::LeftParenthesis);
-            node.emit_at(self, Place::Plain);
+            node.emit_at(self, Context::Plain);
             self.punct(Punctuator::RightParenthesis);
         } else {
             self.spaced(node);
@@ -499,7 +499,7 @@ impl<W: WriteJs, S: SourceMapper, C: Comments> Emitter<'_, W, S, C> {
         match param {
             Some(node) => {
                 self.punct(Punctuator::LeftParenthesis);
-                node.target().emit_at(self, Place::Plain);
+                node.target().emit_at(self, Context::Plain);
                 self.punct(Punctuator::RightParenthesis)
             }
             None => {}
@@ -515,7 +515,7 @@ impl<W: WriteJs, S: SourceMapper, C: Comments> Emitter<'_, W, S, C> {
         match node {
             Some(node) => {
                 self.formatting_space();
-                node.emit_at(self, Place::Plain)
+                node.emit_at(self, Context::Plain)
             }
             None => {}
         }
@@ -531,7 +531,7 @@ impl<W: WriteJs, S: SourceMapper, C: Comments> Emitter<'_, W, S, C> {
             Some(node) => {
                 self.formatting_space();
                 self.keyword(None, "finally");
-                node.target().emit_at(self, Place::Plain)
+                node.target().emit_at(self, Context::Plain)
             }
             None => {}
         }

@@ -4,7 +4,7 @@ ghost use Rattle.swc_ecma_codegen_emit.specs.Names.{binding_ident};
 ghost use Rattle.swc_ecma_codegen_emit.specs.Targets.{simple_assign_target, assign_target};
 
 use crate::emitter::Emitter;
-use crate::nodes::{EmitAt, LinkTarget, Place};
+use crate::nodes::{Context, EmitAt, LinkTarget};
 use swc_ecma_codegen_grammar::comments::Comments;
 use swc_ecma_codegen_grammar::mapper::SourceMapper;
 use swc_ecma_codegen_text_writer::WriteJs;
@@ -17,9 +17,9 @@ impl<N: LinkTarget> EmitAt for BindingIdent<N> {
     fn emit_at<W: WriteJs, S: SourceMapper, C: Comments>(
         &self,
         e: &mut Emitter<'_, W, S, C>,
-        place: Place,
+        context: Context,
     ) {
-        self.id.emit_at(e, place);
+        self.id.emit_at(e, context);
         e.annotation(&self.type_ann);
     }
 }
@@ -31,11 +31,11 @@ impl<N: LinkTarget> EmitAt for AssignTarget<N> {
     fn emit_at<W: WriteJs, S: SourceMapper, C: Comments>(
         &self,
         e: &mut Emitter<'_, W, S, C>,
-        place: Place,
+        context: Context,
     ) {
         match self {
-            AssignTarget::Simple(node) => node.emit_at(e, place),
-            AssignTarget::Pat(node) => node.emit_at(e, place),
+            AssignTarget::Simple(node) => node.emit_at(e, context),
+            AssignTarget::Pat(node) => node.emit_at(e, context),
         }
     }
 }
@@ -47,19 +47,19 @@ impl<N: LinkTarget> EmitAt for SimpleAssignTarget<N> {
     fn emit_at<W: WriteJs, S: SourceMapper, C: Comments>(
         &self,
         e: &mut Emitter<'_, W, S, C>,
-        place: Place,
+        context: Context,
     ) {
         match self {
-            SimpleAssignTarget::Ident(node) => node.emit_at(e, place),
-            SimpleAssignTarget::Member(node) => node.emit_at(e, Place::Plain),
-            SimpleAssignTarget::SuperProp(node) => node.emit_at(e, place),
-            SimpleAssignTarget::Paren(node) => node.emit_at(e, place),
-            SimpleAssignTarget::OptChain(node) => node.emit_at(e, place),
-            SimpleAssignTarget::TsAs(node) => node.emit_at(e, place),
-            SimpleAssignTarget::TsSatisfies(node) => node.emit_at(e, place),
-            SimpleAssignTarget::TsNonNull(node) => node.emit_at(e, place),
-            SimpleAssignTarget::TsTypeAssertion(node) => node.emit_at(e, place),
-            SimpleAssignTarget::TsInstantiation(node) => node.emit_at(e, place),
+            SimpleAssignTarget::Ident(node) => node.emit_at(e, context),
+            SimpleAssignTarget::Member(node) => node.emit_at(e, Context::Plain),
+            SimpleAssignTarget::SuperProp(node) => node.emit_at(e, context),
+            SimpleAssignTarget::Paren(node) => node.emit_at(e, context),
+            SimpleAssignTarget::OptChain(node) => node.emit_at(e, context),
+            SimpleAssignTarget::TsAs(node) => node.emit_at(e, context),
+            SimpleAssignTarget::TsSatisfies(node) => node.emit_at(e, context),
+            SimpleAssignTarget::TsNonNull(node) => node.emit_at(e, context),
+            SimpleAssignTarget::TsTypeAssertion(node) => node.emit_at(e, context),
+            SimpleAssignTarget::TsInstantiation(node) => node.emit_at(e, context),
             SimpleAssignTarget::Invalid(_) => e.unsupported(),
         }
     }

@@ -7,9 +7,10 @@ ghost use Rattle.swc_ecma_codegen_tokens.specs.Templates.{tpl_element, quasi};
 ghost use Rattle.swc_ecma_codegen_emit.specs.Lists.{plainly};
 ghost use Rattle.swc_ecma_codegen_emit.specs.Exprs.{held};
 ghost use Rattle.swc_ecma_codegen_emit.specs.Templates.{tpl_rest, tpl_all, tpl_parts, bad_shape, tpl, is_tagged, tagged_tpl};
+ghost use Rattle.swc_ecma_codegen_emit.specs.Places.{context_of};
 
 use crate::emitter::Emitter;
-use crate::nodes::{EmitAt, LinkTarget, Place};
+use crate::nodes::{Context, EmitAt, LinkTarget};
 use crate::refusals::keep;
 use swc_ecma_codegen_grammar::comments::Comments;
 use swc_ecma_codegen_grammar::kinds::TemplatePart;
@@ -18,12 +19,12 @@ use swc_ecma_codegen_text_writer::WriteJs;
 use swc_ecma_codegen_tokens::Unprintable;
 use swc_ecma_codegen_tree::{ExprBox, TaggedTpl, Tpl, TplElement};
 
-/// Whether a template has a tag, by its place.
-fn is_tagged(place: Place) -> bool
-    ensures { result ≡ is_tagged place }
+/// Whether a template has a tag, by its context.
+fn is_tagged(context: Context) -> bool
+    ensures { result ≡ is_tagged context }
 {
-    match place {
-        Place::Tagged => true,
+    match context {
+        Context::Tagged => true,
         _ => false,
     }
 }
@@ -47,20 +48,20 @@ pub(crate) fn is_counted<T>(nodes: &[T], quasis: &[TplElement]) -> bool
 }
 
 impl<N: LinkTarget> EmitAt for Tpl<N> {
-    ghost items = { λ n place. tpl N.items (is_tagged place) n };
+    ghost items = { λ n place. tpl N.items (is_tagged (context_of place)) n };
 
     #[tactic(auto, unfolding(crate::specs::Templates::tpl, crate::specs::Templates::tpl_placed))]
     fn emit_at<W: WriteJs, S: SourceMapper, C: Comments>(
         &self,
         e: &mut Emitter<'_, W, S, C>,
-        place: Place,
+        context: Context,
     ) {
         if !is_counted(&self.exprs, &self.quasis) {
             return e.bad_shape();
         }
         e.leading_comments(self.span.lo);
         e.start_of(self.span);
-        e.tpl_exprs(is_tagged(place), &self.exprs, &self.quasis);
+        e.tpl_exprs(is_tagged(context), &self.exprs, &self.quasis);
         e.end_of(self.span);
     }
 }
@@ -73,7 +74,7 @@ impl EmitAt for TplElement {
     fn emit_at<W: WriteJs, S: SourceMapper, C: Comments>(
         &self,
         e: &mut Emitter<'_, W, S, C>,
-        place: Place,
+        context: Context,
     ) {
         if e.refusal.is_some() {
             return;
@@ -89,13 +90,13 @@ impl<N: LinkTarget> EmitAt for TaggedTpl<N> {
     fn emit_at<W: WriteJs, S: SourceMapper, C: Comments>(
         &self,
         e: &mut Emitter<'_, W, S, C>,
-        place: Place,
+        context: Context,
     ) {
         e.leading_comments(self.span.lo);
         e.start_of(self.span);
-        self.tag.target().emit_at(e, Place::Callee);
-        e.type_args(Place::Plain, &self.type_params);
-        self.tpl.target().emit_at(e, Place::Tagged);
+        self.tag.target().emit_at(e, Context::Callee);
+        e.type_args(Context::Plain, &self.type_params);
+        self.tpl.target().emit_at(e, Context::Tagged);
         e.end_of(self.span);
     }
 }
@@ -144,7 +145,7 @@ impl<W: WriteJs, S: SourceMapper, C: Comments> Emitter<'_, W, S, C> {
             let Some((quasi, others)) = left.split_first() else {
                 return;
             };
-            node.emit_at(self, Place::Plain);
+            node.emit_at(self, Context::Plain);
             self.tpl_element(false, part_before(tagged, others), quasi);
             left = others;
         }

@@ -4,9 +4,10 @@ ghost use Rattle.std.specs.Prelude.{◌≡◌};
 ghost use Rattle.swc_ecma_codegen_emit.specs.Standing.{Performs};
 ghost use Rattle.swc_ecma_codegen_emit.specs.TsDecls.{declare_word, ts_expr_with_type_args, extended_format, extended_list, some_extends, extends_clause, ts_interface_decl, ts_type_alias_decl, ts_enum_member_id, ts_enum_member, enum_format, enum_members, enum_body, ts_enum_decl, ts_module_name, module_head, module_tail, ts_module_decl, ts_external_module_ref, ts_module_ref, ts_import_equals_decl, ts_export_assignment, ts_namespace_export_decl};
 ghost use Rattle.swc_ecma_codegen_emit.specs.Namespaces.{module_block_format, block_items, ts_module_block, ts_namespace_decl, namespace_inside, braced_body, dotted_body, ts_namespace_body};
+ghost use Rattle.swc_ecma_codegen_emit.specs.Places.{in_context};
 
 use crate::emitter::Emitter;
-use crate::nodes::{Child, EmitAt, LinkTarget, Place};
+use crate::nodes::{Child, Context, EmitAt, LinkTarget};
 use swc_ecma_codegen_common::Span;
 use swc_ecma_codegen_grammar::ListFormat;
 use swc_ecma_codegen_grammar::comments::Comments;
@@ -49,11 +50,11 @@ impl<N: LinkTarget> EmitAt for TsExprWithTypeArgs<N> {
     fn emit_at<W: WriteJs, S: SourceMapper, C: Comments>(
         &self,
         e: &mut Emitter<'_, W, S, C>,
-        place: Place,
+        context: Context,
     ) {
         e.leading_comments(self.span.lo);
-        self.expr.target().emit_at(e, Place::Plain);
-        e.type_args(Place::Plain, &self.type_args);
+        self.expr.target().emit_at(e, Context::Plain);
+        e.type_args(Context::Plain, &self.type_args);
     }
 }
 
@@ -72,17 +73,17 @@ impl<N: LinkTarget> EmitAt for TsInterfaceDecl<N> {
     fn emit_at<W: WriteJs, S: SourceMapper, C: Comments>(
         &self,
         e: &mut Emitter<'_, W, S, C>,
-        place: Place,
+        context: Context,
     ) {
         e.leading_comments(self.span.lo);
         e.declare_word(self.declare);
         e.keyword(None, "interface");
         e.space();
-        self.id.emit_at(e, Place::Plain);
+        self.id.emit_at(e, Context::Plain);
         e.type_params(&self.type_params);
         e.extends_clause(self.span, &self.extends);
         e.formatting_space();
-        self.body.target().emit_at(e, Place::Plain);
+        self.body.target().emit_at(e, Context::Plain);
     }
 }
 
@@ -93,16 +94,16 @@ impl<N: LinkTarget> EmitAt for TsTypeAliasDecl<N> {
     fn emit_at<W: WriteJs, S: SourceMapper, C: Comments>(
         &self,
         e: &mut Emitter<'_, W, S, C>,
-        place: Place,
+        context: Context,
     ) {
         e.leading_comments(self.span.lo);
         e.declare_word(self.declare);
         e.keyword(None, "type");
         e.space();
-        self.id.emit_at(e, Place::Plain);
+        self.id.emit_at(e, Context::Plain);
         e.type_params(&self.type_params);
         e.spaced_punct(Punctuator::Equal);
-        self.type_ann.target().emit_at(e, Place::Plain);
+        self.type_ann.target().emit_at(e, Context::Plain);
         e.semi();
     }
 }
@@ -114,11 +115,11 @@ impl EmitAt for TsEnumMemberId {
     fn emit_at<W: WriteJs, S: SourceMapper, C: Comments>(
         &self,
         e: &mut Emitter<'_, W, S, C>,
-        place: Place,
+        context: Context,
     ) {
         match self {
-            TsEnumMemberId::Ident(node) => node.emit_at(e, Place::Plain),
-            TsEnumMemberId::Str(node) => node.emit_at(e, Place::Plain),
+            TsEnumMemberId::Ident(node) => node.emit_at(e, Context::Plain),
+            TsEnumMemberId::Str(node) => node.emit_at(e, Context::Plain),
         }
     }
 }
@@ -130,10 +131,10 @@ impl<N: LinkTarget> EmitAt for TsEnumMember<N> {
     fn emit_at<W: WriteJs, S: SourceMapper, C: Comments>(
         &self,
         e: &mut Emitter<'_, W, S, C>,
-        place: Place,
+        context: Context,
     ) {
         e.leading_comments(self.span.lo);
-        self.id.emit_at(e, Place::Plain);
+        self.id.emit_at(e, Context::Plain);
         e.initializer(&self.init);
     }
 }
@@ -153,14 +154,14 @@ impl<N: LinkTarget> EmitAt for TsEnumDecl<N> {
     fn emit_at<W: WriteJs, S: SourceMapper, C: Comments>(
         &self,
         e: &mut Emitter<'_, W, S, C>,
-        place: Place,
+        context: Context,
     ) {
         e.leading_comments(self.span.lo);
         e.declare_word(self.declare);
         e.word_before(self.is_const, "const");
         e.keyword(None, "enum");
         e.space();
-        self.id.emit_at(e, Place::Plain);
+        self.id.emit_at(e, Context::Plain);
         e.formatting_space();
         e.enum_body(self);
     }
@@ -173,18 +174,18 @@ impl EmitAt for TsModuleName {
     fn emit_at<W: WriteJs, S: SourceMapper, C: Comments>(
         &self,
         e: &mut Emitter<'_, W, S, C>,
-        place: Place,
+        context: Context,
     ) {
         match self {
             TsModuleName::Ident(node) => {
                 e.keyword(None, "namespace");
                 e.space();
-                node.emit_at(e, Place::Plain)
+                node.emit_at(e, Context::Plain)
             }
             TsModuleName::Str(node) => {
                 e.keyword(None, "module");
                 e.space();
-                node.emit_at(e, Place::Plain)
+                node.emit_at(e, Context::Plain)
             }
         }
     }
@@ -197,7 +198,7 @@ impl<N: LinkTarget> EmitAt for TsModuleDecl<N> {
     fn emit_at<W: WriteJs, S: SourceMapper, C: Comments>(
         &self,
         e: &mut Emitter<'_, W, S, C>,
-        place: Place,
+        context: Context,
     ) {
         e.leading_comments(self.span.lo);
         e.declare_word(self.declare);
@@ -213,7 +214,7 @@ impl<N: LinkTarget> EmitAt for TsModuleBlock<N> {
     fn emit_at<W: WriteJs, S: SourceMapper, C: Comments>(
         &self,
         e: &mut Emitter<'_, W, S, C>,
-        place: Place,
+        context: Context,
     ) {
         e.block_items(self);
         e.leading_comments(self.span.lo);
@@ -227,29 +228,29 @@ impl<N: LinkTarget> EmitAt for TsNamespaceDecl<N> {
     fn emit_at<W: WriteJs, S: SourceMapper, C: Comments>(
         &self,
         e: &mut Emitter<'_, W, S, C>,
-        place: Place,
+        context: Context,
     ) {
         e.leading_comments(self.span.lo);
         e.declare_word(self.declare);
         e.keyword(None, "namespace");
         e.space();
-        self.id.emit_at(e, Place::Plain);
+        self.id.emit_at(e, Context::Plain);
         e.formatting_space();
-        self.body.target().emit_at(e, Place::Plain);
+        self.body.target().emit_at(e, Context::Plain);
     }
 }
 
 impl<N: LinkTarget> EmitAt for TsNamespaceBody<N> {
-    ghost items = { ts_namespace_body N.answers N.items };
+    ghost items = { λ n. in_context (ts_namespace_body N.answers N.items n) };
 
     #[tactic(auto, unfolding(crate::specs::Namespaces::ts_namespace_body))]
     fn emit_at<W: WriteJs, S: SourceMapper, C: Comments>(
         &self,
         e: &mut Emitter<'_, W, S, C>,
-        place: Place,
+        context: Context,
     ) {
-        match place {
-            Place::Dotted => e.dotted_body(self),
+        match context {
+            Context::Dotted => e.dotted_body(self),
             _ => e.braced_body(self),
         }
     }
@@ -262,12 +263,12 @@ impl EmitAt for TsExternalModuleRef {
     fn emit_at<W: WriteJs, S: SourceMapper, C: Comments>(
         &self,
         e: &mut Emitter<'_, W, S, C>,
-        place: Place,
+        context: Context,
     ) {
         e.leading_comments(self.span.lo);
         e.keyword(None, "require");
         e.punct(Punctuator::LeftParenthesis);
-        self.expr.emit_at(e, Place::Plain);
+        self.expr.emit_at(e, Context::Plain);
         e.punct(Punctuator::RightParenthesis);
     }
 }
@@ -279,11 +280,11 @@ impl<N: LinkTarget> EmitAt for TsModuleRef<N> {
     fn emit_at<W: WriteJs, S: SourceMapper, C: Comments>(
         &self,
         e: &mut Emitter<'_, W, S, C>,
-        place: Place,
+        context: Context,
     ) {
         match self {
-            TsModuleRef::TsEntityName(node) => node.target().emit_at(e, Place::Plain),
-            TsModuleRef::TsExternalModuleRef(node) => node.emit_at(e, Place::Plain),
+            TsModuleRef::TsEntityName(node) => node.target().emit_at(e, Context::Plain),
+            TsModuleRef::TsExternalModuleRef(node) => node.emit_at(e, Context::Plain),
         }
     }
 }
@@ -295,16 +296,16 @@ impl<N: LinkTarget> EmitAt for TsImportEqualsDecl<N> {
     fn emit_at<W: WriteJs, S: SourceMapper, C: Comments>(
         &self,
         e: &mut Emitter<'_, W, S, C>,
-        place: Place,
+        context: Context,
     ) {
         e.leading_comments(self.span.lo);
         e.word_before(self.is_export, "export");
         e.keyword(None, "import");
         e.space();
         e.word_before(self.is_type_only, "type");
-        self.id.emit_at(e, Place::Plain);
+        self.id.emit_at(e, Context::Plain);
         e.spaced_punct(Punctuator::Equal);
-        self.module_ref.emit_at(e, Place::Plain);
+        self.module_ref.emit_at(e, Context::Plain);
         e.semi();
     }
 }
@@ -316,12 +317,12 @@ impl<N: LinkTarget> EmitAt for TsExportAssignment<N> {
     fn emit_at<W: WriteJs, S: SourceMapper, C: Comments>(
         &self,
         e: &mut Emitter<'_, W, S, C>,
-        place: Place,
+        context: Context,
     ) {
         e.leading_comments(self.span.lo);
         e.keyword(None, "export");
         e.spaced_punct(Punctuator::Equal);
-        self.expr.target().emit_at(e, Place::Plain);
+        self.expr.target().emit_at(e, Context::Plain);
         e.semi();
     }
 }
@@ -333,7 +334,7 @@ impl EmitAt for TsNamespaceExportDecl {
     fn emit_at<W: WriteJs, S: SourceMapper, C: Comments>(
         &self,
         e: &mut Emitter<'_, W, S, C>,
-        place: Place,
+        context: Context,
     ) {
         e.leading_comments(self.span.lo);
         e.keyword(None, "export");
@@ -342,7 +343,7 @@ impl EmitAt for TsNamespaceExportDecl {
         e.space();
         e.keyword(None, "namespace");
         e.space();
-        self.id.emit_at(e, Place::Plain);
+        self.id.emit_at(e, Context::Plain);
         e.semi();
     }
 }
@@ -416,7 +417,7 @@ impl<W: WriteJs, S: SourceMapper, C: Comments> Emitter<'_, W, S, C> {
         if global {
             return self.keyword(None, "global");
         }
-        name.emit_at(self, Place::Plain)
+        name.emit_at(self, Context::Plain)
     }
 
     /// Writes the body behind the name, or the semicolon in its place.
@@ -426,7 +427,7 @@ impl<W: WriteJs, S: SourceMapper, C: Comments> Emitter<'_, W, S, C> {
             S.lines C.maps W.sheet self.old self.new }
     {
         match body {
-            Some(node) => node.target().emit_at(self, Place::Dotted),
+            Some(node) => node.target().emit_at(self, Context::Dotted),
             None => self.semi(),
         }
     }
@@ -446,8 +447,8 @@ impl<W: WriteJs, S: SourceMapper, C: Comments> Emitter<'_, W, S, C> {
             S.lines C.maps W.sheet self.old self.new }
     {
         match node {
-            TsNamespaceBody::TsModuleBlock(node) => node.emit_at(self, Place::Plain),
-            TsNamespaceBody::TsNamespaceDecl(node) => node.emit_at(self, Place::Plain),
+            TsNamespaceBody::TsModuleBlock(node) => node.emit_at(self, Context::Plain),
+            TsNamespaceBody::TsNamespaceDecl(node) => node.emit_at(self, Context::Plain),
         }
     }
 
@@ -478,8 +479,8 @@ impl<W: WriteJs, S: SourceMapper, C: Comments> Emitter<'_, W, S, C> {
             }
             TsNamespaceBody::TsNamespaceDecl(node) => {
                 self.punct(Punctuator::Dot);
-                node.id.emit_at(self, Place::Plain);
-                node.body.target().emit_at(self, Place::Dotted)
+                node.id.emit_at(self, Context::Plain);
+                node.body.target().emit_at(self, Context::Dotted)
             }
         }
     }

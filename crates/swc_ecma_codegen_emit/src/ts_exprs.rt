@@ -3,7 +3,7 @@
 ghost use Rattle.swc_ecma_codegen_emit.specs.TsExprs.{ts_as_expr, ts_const_assertion, ts_satisfies_expr, ts_non_null_expr, ts_type_assertion, ts_instantiation};
 
 use crate::emitter::Emitter;
-use crate::nodes::{EmitAt, LinkTarget, Place};
+use crate::nodes::{Context, EmitAt, LinkTarget};
 use swc_ecma_codegen_grammar::comments::Comments;
 use swc_ecma_codegen_grammar::mapper::SourceMapper;
 use swc_ecma_codegen_literals::Punctuator;
@@ -19,14 +19,14 @@ impl<N: LinkTarget> EmitAt for TsAsExpr<N> {
     fn emit_at<W: WriteJs, S: SourceMapper, C: Comments>(
         &self,
         e: &mut Emitter<'_, W, S, C>,
-        place: Place,
+        context: Context,
     ) {
         e.leading_comments(self.span.lo);
-        self.expr.target().emit_at(e, Place::Plain);
+        self.expr.target().emit_at(e, Context::Plain);
         e.space();
         e.keyword(None, "as");
         e.space();
-        self.type_ann.target().emit_at(e, Place::Plain);
+        self.type_ann.target().emit_at(e, Context::Plain);
     }
 }
 
@@ -37,10 +37,10 @@ impl<N: LinkTarget> EmitAt for TsConstAssertion<N> {
     fn emit_at<W: WriteJs, S: SourceMapper, C: Comments>(
         &self,
         e: &mut Emitter<'_, W, S, C>,
-        place: Place,
+        context: Context,
     ) {
         e.leading_comments(self.span.lo);
-        self.expr.target().emit_at(e, Place::Plain);
+        self.expr.target().emit_at(e, Context::Plain);
         e.space();
         e.keyword(None, "as");
         e.space();
@@ -55,14 +55,14 @@ impl<N: LinkTarget> EmitAt for TsSatisfiesExpr<N> {
     fn emit_at<W: WriteJs, S: SourceMapper, C: Comments>(
         &self,
         e: &mut Emitter<'_, W, S, C>,
-        place: Place,
+        context: Context,
     ) {
         e.leading_comments(self.span.lo);
-        self.expr.target().emit_at(e, Place::Plain);
+        self.expr.target().emit_at(e, Context::Plain);
         e.space();
         e.keyword(None, "satisfies");
         e.space();
-        self.type_ann.target().emit_at(e, Place::Plain);
+        self.type_ann.target().emit_at(e, Context::Plain);
     }
 }
 
@@ -73,10 +73,10 @@ impl<N: LinkTarget> EmitAt for TsNonNullExpr<N> {
     fn emit_at<W: WriteJs, S: SourceMapper, C: Comments>(
         &self,
         e: &mut Emitter<'_, W, S, C>,
-        place: Place,
+        context: Context,
     ) {
         e.leading_comments(self.span.lo);
-        self.expr.target().emit_at(e, Place::Plain);
+        self.expr.target().emit_at(e, Context::Plain);
         e.punct(Punctuator::Bang);
     }
 }
@@ -88,13 +88,13 @@ impl<N: LinkTarget> EmitAt for TsTypeAssertion<N> {
     fn emit_at<W: WriteJs, S: SourceMapper, C: Comments>(
         &self,
         e: &mut Emitter<'_, W, S, C>,
-        place: Place,
+        context: Context,
     ) {
         e.leading_comments(self.span.lo);
         e.punct(Punctuator::Less);
-        self.type_ann.target().emit_at(e, Place::Plain);
+        self.type_ann.target().emit_at(e, Context::Plain);
         e.close();
-        self.expr.target().emit_at(e, Place::Plain);
+        self.expr.target().emit_at(e, Context::Plain);
     }
 }
 
@@ -105,10 +105,10 @@ impl<N: LinkTarget> EmitAt for TsInstantiation<N> {
     fn emit_at<W: WriteJs, S: SourceMapper, C: Comments>(
         &self,
         e: &mut Emitter<'_, W, S, C>,
-        place: Place,
+        context: Context,
     ) {
         e.leading_comments(self.span.lo);
-        self.expr.target().emit_at(e, Place::Plain);
-        self.type_args.target().emit_at(e, Place::Plain);
+        self.expr.target().emit_at(e, Context::Plain);
+        self.type_args.target().emit_at(e, Context::Plain);
     }
 }

@@ -6,7 +6,7 @@ ghost use Rattle.swc_ecma_codegen_emit.specs.Standing.{Performs};
 ghost use Rattle.swc_ecma_codegen_emit.specs.TsMembers.{signature_key, signature_params, annotation_between, ts_call_signature_decl, params_behind_new, ts_construct_signature_decl, ts_property_signature, getter_annotation, ts_getter_signature, ts_setter_signature, ts_method_signature, readonly_index, index_params, ts_index_signature, ts_signature, ts_type_element, interface_format, interface_members, ts_interface_body};
 
 use crate::emitter::Emitter;
-use crate::nodes::{Child, EmitAt, LinkTarget, Place};
+use crate::nodes::{Child, Context, EmitAt, LinkTarget};
 use swc_ecma_codegen_common::Span;
 use swc_ecma_codegen_grammar::ListFormat;
 use swc_ecma_codegen_grammar::comments::Comments;
@@ -33,7 +33,7 @@ impl<N: LinkTarget> EmitAt for TsCallSignatureDecl<N> {
     fn emit_at<W: WriteJs, S: SourceMapper, C: Comments>(
         &self,
         e: &mut Emitter<'_, W, S, C>,
-        place: Place,
+        context: Context,
     ) {
         e.leading_comments(self.span.lo);
         e.type_params(&self.type_params);
@@ -49,7 +49,7 @@ impl<N: LinkTarget> EmitAt for TsConstructSignatureDecl<N> {
     fn emit_at<W: WriteJs, S: SourceMapper, C: Comments>(
         &self,
         e: &mut Emitter<'_, W, S, C>,
-        place: Place,
+        context: Context,
     ) {
         e.leading_comments(self.span.lo);
         e.keyword(None, "new");
@@ -66,7 +66,7 @@ impl<N: LinkTarget> EmitAt for TsPropertySignature<N> {
     fn emit_at<W: WriteJs, S: SourceMapper, C: Comments>(
         &self,
         e: &mut Emitter<'_, W, S, C>,
-        place: Place,
+        context: Context,
     ) {
         e.leading_comments(self.span.lo);
         e.word_before(self.readonly, "readonly");
@@ -83,7 +83,7 @@ impl<N: LinkTarget> EmitAt for TsGetterSignature<N> {
     fn emit_at<W: WriteJs, S: SourceMapper, C: Comments>(
         &self,
         e: &mut Emitter<'_, W, S, C>,
-        place: Place,
+        context: Context,
     ) {
         e.keyword(None, "get");
         e.space();
@@ -101,13 +101,13 @@ impl<N: LinkTarget> EmitAt for TsSetterSignature<N> {
     fn emit_at<W: WriteJs, S: SourceMapper, C: Comments>(
         &self,
         e: &mut Emitter<'_, W, S, C>,
-        place: Place,
+        context: Context,
     ) {
         e.keyword(None, "set");
         e.space();
         e.signature_key(self.computed, &self.key);
         e.punct(Punctuator::LeftParenthesis);
-        self.param.target().emit_at(e, Place::Plain);
+        self.param.target().emit_at(e, Context::Plain);
         e.punct(Punctuator::RightParenthesis);
     }
 }
@@ -119,7 +119,7 @@ impl<N: LinkTarget> EmitAt for TsMethodSignature<N> {
     fn emit_at<W: WriteJs, S: SourceMapper, C: Comments>(
         &self,
         e: &mut Emitter<'_, W, S, C>,
-        place: Place,
+        context: Context,
     ) {
         e.leading_comments(self.span.lo);
         e.signature_key(self.computed, &self.key);
@@ -137,7 +137,7 @@ impl<N: LinkTarget> EmitAt for TsIndexSignature<N> {
     fn emit_at<W: WriteJs, S: SourceMapper, C: Comments>(
         &self,
         e: &mut Emitter<'_, W, S, C>,
-        place: Place,
+        context: Context,
     ) {
         e.leading_comments(self.span.lo);
         e.word_before(self.is_static, "static");
@@ -154,7 +154,7 @@ impl<N: LinkTarget> EmitAt for TsTypeElement<N> {
     fn emit_at<W: WriteJs, S: SourceMapper, C: Comments>(
         &self,
         e: &mut Emitter<'_, W, S, C>,
-        place: Place,
+        context: Context,
     ) {
         e.ts_signature(self);
         e.semi();
@@ -185,7 +185,7 @@ impl<N: LinkTarget> EmitAt for TsInterfaceBody<N> {
     fn emit_at<W: WriteJs, S: SourceMapper, C: Comments>(
         &self,
         e: &mut Emitter<'_, W, S, C>,
-        place: Place,
+        context: Context,
     ) {
         e.leading_comments(self.span.lo);
         e.punct(Punctuator::LeftBrace);
@@ -202,10 +202,10 @@ impl<W: WriteJs, S: SourceMapper, C: Comments> Emitter<'_, W, S, C> {
             S.lines C.maps W.sheet self.old self.new }
     {
         if !computed {
-            return key.target().emit_at(self, Place::Plain);
+            return key.target().emit_at(self, Context::Plain);
         }
         self.punct(Punctuator::LeftBracket);
-        key.target().emit_at(self, Place::Plain);
+        key.target().emit_at(self, Context::Plain);
         self.punct(Punctuator::RightBracket);
     }
 
@@ -229,7 +229,7 @@ impl<W: WriteJs, S: SourceMapper, C: Comments> Emitter<'_, W, S, C> {
         match ty {
             Some(node) => {
                 self.punct_between(Punctuator::Colon);
-                node.target().emit_at(self, Place::Plain)
+                node.target().emit_at(self, Context::Plain)
             }
             None => {}
         }
@@ -244,7 +244,7 @@ impl<W: WriteJs, S: SourceMapper, C: Comments> Emitter<'_, W, S, C> {
         match params {
             Some(node) => {
                 self.space();
-                node.target().emit_at(self, Place::Plain)
+                node.target().emit_at(self, Context::Plain)
             }
             None => {}
         }
@@ -260,7 +260,7 @@ impl<W: WriteJs, S: SourceMapper, C: Comments> Emitter<'_, W, S, C> {
             Some(node) => {
                 self.punct(Punctuator::Colon);
                 self.formatting_space();
-                node.target().emit_at(self, Place::Reference)
+                node.target().emit_at(self, Context::Reference)
             }
             None => {}
         }
@@ -294,13 +294,13 @@ impl<W: WriteJs, S: SourceMapper, C: Comments> Emitter<'_, W, S, C> {
             S.lines C.maps W.sheet self.old self.new }
     {
         match node {
-            TsTypeElement::TsCallSignatureDecl(node) => node.emit_at(self, Place::Plain),
-            TsTypeElement::TsConstructSignatureDecl(node) => node.emit_at(self, Place::Plain),
-            TsTypeElement::TsPropertySignature(node) => node.emit_at(self, Place::Plain),
-            TsTypeElement::TsGetterSignature(node) => node.emit_at(self, Place::Plain),
-            TsTypeElement::TsSetterSignature(node) => node.emit_at(self, Place::Plain),
-            TsTypeElement::TsMethodSignature(node) => node.emit_at(self, Place::Plain),
-            TsTypeElement::TsIndexSignature(node) => node.emit_at(self, Place::Plain),
+            TsTypeElement::TsCallSignatureDecl(node) => node.emit_at(self, Context::Plain),
+            TsTypeElement::TsConstructSignatureDecl(node) => node.emit_at(self, Context::Plain),
+            TsTypeElement::TsPropertySignature(node) => node.emit_at(self, Context::Plain),
+            TsTypeElement::TsGetterSignature(node) => node.emit_at(self, Context::Plain),
+            TsTypeElement::TsSetterSignature(node) => node.emit_at(self, Context::Plain),
+            TsTypeElement::TsMethodSignature(node) => node.emit_at(self, Context::Plain),
+            TsTypeElement::TsIndexSignature(node) => node.emit_at(self, Context::Plain),
         }
     }
 

@@ -5,9 +5,10 @@ ghost use Rattle.swc_ecma_codegen_tokens.specs.Starts.{begins_letter};
 ghost use Rattle.swc_ecma_codegen_emit.specs.Standing.{Performs};
 ghost use Rattle.swc_ecma_codegen_emit.specs.Annotations.{types_format};
 ghost use Rattle.swc_ecma_codegen_emit.specs.Types.{type_behind, default_type, ts_qualified_name, ts_entity_name, ts_type_ref, listed_types, type_arguments, ts_type_param_instantiation, ts_type_param, listed_params, ts_type_param_decl};
+ghost use Rattle.swc_ecma_codegen_emit.specs.Places.{in_context};
 
 use crate::emitter::Emitter;
-use crate::nodes::{Child, EmitAt, LinkTarget, Place};
+use crate::nodes::{Child, Context, EmitAt, LinkTarget};
 use swc_ecma_codegen_common::Span;
 use swc_ecma_codegen_grammar::ListFormat;
 use swc_ecma_codegen_grammar::comments::Comments;
@@ -33,12 +34,12 @@ impl<N: LinkTarget> EmitAt for TsQualifiedName<N> {
     fn emit_at<W: WriteJs, S: SourceMapper, C: Comments>(
         &self,
         e: &mut Emitter<'_, W, S, C>,
-        place: Place,
+        context: Context,
     ) {
         e.leading_comments(self.span.lo);
-        self.left.target().emit_at(e, Place::Plain);
+        self.left.target().emit_at(e, Context::Plain);
         e.punct(Punctuator::Dot);
-        self.right.emit_at(e, Place::Plain);
+        self.right.emit_at(e, Context::Plain);
     }
 }
 
@@ -49,11 +50,11 @@ impl<N: LinkTarget> EmitAt for TsEntityName<N> {
     fn emit_at<W: WriteJs, S: SourceMapper, C: Comments>(
         &self,
         e: &mut Emitter<'_, W, S, C>,
-        place: Place,
+        context: Context,
     ) {
         match self {
-            TsEntityName::TsQualifiedName(node) => node.emit_at(e, Place::Plain),
-            TsEntityName::Ident(node) => node.emit_at(e, Place::Plain),
+            TsEntityName::TsQualifiedName(node) => node.emit_at(e, Context::Plain),
+            TsEntityName::Ident(node) => node.emit_at(e, Context::Plain),
         }
     }
 }
@@ -65,25 +66,25 @@ impl<N: LinkTarget> EmitAt for TsTypeRef<N> {
     fn emit_at<W: WriteJs, S: SourceMapper, C: Comments>(
         &self,
         e: &mut Emitter<'_, W, S, C>,
-        place: Place,
+        context: Context,
     ) {
         e.leading_comments(self.span.lo);
-        self.type_name.target().emit_at(e, Place::Plain);
-        e.type_args(Place::Reference, &self.type_params);
+        self.type_name.target().emit_at(e, Context::Plain);
+        e.type_args(Context::Reference, &self.type_params);
     }
 }
 
 impl<N: LinkTarget> EmitAt for TsTypeParamInstantiation<N> {
-    ghost items = { ts_type_param_instantiation N.answers N.items };
+    ghost items = { λ n. in_context (ts_type_param_instantiation N.answers N.items n) };
 
     #[tactic(auto, unfolding(crate::specs::Types::ts_type_param_instantiation))]
     fn emit_at<W: WriteJs, S: SourceMapper, C: Comments>(
         &self,
         e: &mut Emitter<'_, W, S, C>,
-        place: Place,
+        context: Context,
     ) {
-        match place {
-            Place::Reference => e.type_arguments(self),
+        match context {
+            Context::Reference => e.type_arguments(self),
             _ => {
                 e.leading_comments(self.span.lo);
                 e.type_arguments(self)
@@ -99,13 +100,13 @@ impl<N: LinkTarget> EmitAt for TsTypeParam<N> {
     fn emit_at<W: WriteJs, S: SourceMapper, C: Comments>(
         &self,
         e: &mut Emitter<'_, W, S, C>,
-        place: Place,
+        context: Context,
     ) {
         e.leading_comments(self.span.lo);
         e.word_before(self.is_const, "const");
         e.word_before(self.is_in, "in");
         e.word_before(self.is_out, "out");
-        self.name.emit_at(e, Place::Plain);
+        self.name.emit_at(e, Context::Plain);
         e.type_behind("extends", &self.constraint);
         e.default_type(&self.default);
     }
@@ -126,7 +127,7 @@ impl<N: LinkTarget> EmitAt for TsTypeParamDecl<N> {
     fn emit_at<W: WriteJs, S: SourceMapper, C: Comments>(
         &self,
         e: &mut Emitter<'_, W, S, C>,
-        place: Place,
+        context: Context,
     ) {
         e.leading_comments(self.span.lo);
         e.punct(Punctuator::Less);
@@ -152,7 +153,7 @@ impl<W: WriteJs, S: SourceMapper, C: Comments> Emitter<'_, W, S, C> {
                 self.space();
                 self.keyword(None, text);
                 self.space();
-                node.target().emit_at(self, Place::Plain)
+                node.target().emit_at(self, Context::Plain)
             }
             None => {}
         }
@@ -167,7 +168,7 @@ impl<W: WriteJs, S: SourceMapper, C: Comments> Emitter<'_, W, S, C> {
         match ty {
             Some(node) => {
                 self.spaced_punct(Punctuator::Equal);
-                node.target().emit_at(self, Place::Plain)
+                node.target().emit_at(self, Context::Plain)
             }
             None => {}
         }

@@ -7,9 +7,10 @@ ghost use Rattle.swc_ecma_codegen_emit.specs.Standing.{Performs};
 ghost use Rattle.swc_ecma_codegen_emit.specs.Templates.{tpl_parts};
 ghost use Rattle.swc_ecma_codegen_emit.specs.Annotations.{word_before};
 ghost use Rattle.swc_ecma_codegen_emit.specs.Types.{type_at, ts_keyword_type, ts_this_type, ts_tpl_lit_type, ts_lit, ts_lit_type, qualifier, ts_import_type, ts_type_query_expr, ts_type_query, members_format, listed_members, ts_type_lit, ts_array_type, label, ts_tuple_element, listed_elements, ts_tuple_type, ts_optional_type, ts_rest_type, union_format, intersection_format, joined_list, union_types, intersection_types, ts_union_type, ts_intersection_type, ts_union_or_intersection_type, ts_parenthesized_type, ts_type_operator, ts_indexed_access_type, ts_conditional_type, ts_infer_type, ts_type, ts_type_ann};
+ghost use Rattle.swc_ecma_codegen_emit.specs.Places.{in_context};
 
 use crate::emitter::Emitter;
-use crate::nodes::{Child, EmitAt, LinkTarget, Place};
+use crate::nodes::{Child, Context, EmitAt, LinkTarget};
 use crate::templates::is_counted;
 use crate::type_params::types_format;
 use swc_ecma_codegen_common::Span;
@@ -90,7 +91,7 @@ impl EmitAt for TsKeywordType {
     fn emit_at<W: WriteJs, S: SourceMapper, C: Comments>(
         &self,
         e: &mut Emitter<'_, W, S, C>,
-        place: Place,
+        context: Context,
     ) {
         e.leading_comments(self.span.lo);
         e.keyword(Some(self.span), keyword_of(self.kind));
@@ -104,7 +105,7 @@ impl EmitAt for TsThisType {
     fn emit_at<W: WriteJs, S: SourceMapper, C: Comments>(
         &self,
         e: &mut Emitter<'_, W, S, C>,
-        place: Place,
+        context: Context,
     ) {
         e.leading_comments(self.span.lo);
         e.keyword(Some(self.span), "this");
@@ -118,7 +119,7 @@ impl<N: LinkTarget> EmitAt for TsTplLitType<N> {
     fn emit_at<W: WriteJs, S: SourceMapper, C: Comments>(
         &self,
         e: &mut Emitter<'_, W, S, C>,
-        place: Place,
+        context: Context,
     ) {
         if !is_counted(&self.types, &self.quasis) {
             return e.bad_shape();
@@ -135,14 +136,14 @@ impl<N: LinkTarget> EmitAt for TsLit<N> {
     fn emit_at<W: WriteJs, S: SourceMapper, C: Comments>(
         &self,
         e: &mut Emitter<'_, W, S, C>,
-        place: Place,
+        context: Context,
     ) {
         match self {
-            TsLit::Number(node) => node.emit_at(e, Place::Plain),
-            TsLit::Str(node) => node.emit_at(e, Place::Plain),
-            TsLit::Bool(node) => node.emit_at(e, Place::Plain),
-            TsLit::BigInt(node) => node.emit_at(e, Place::Plain),
-            TsLit::Tpl(node) => node.emit_at(e, Place::Plain),
+            TsLit::Number(node) => node.emit_at(e, Context::Plain),
+            TsLit::Str(node) => node.emit_at(e, Context::Plain),
+            TsLit::Bool(node) => node.emit_at(e, Context::Plain),
+            TsLit::BigInt(node) => node.emit_at(e, Context::Plain),
+            TsLit::Tpl(node) => node.emit_at(e, Context::Plain),
         }
     }
 }
@@ -154,10 +155,10 @@ impl<N: LinkTarget> EmitAt for TsLitType<N> {
     fn emit_at<W: WriteJs, S: SourceMapper, C: Comments>(
         &self,
         e: &mut Emitter<'_, W, S, C>,
-        place: Place,
+        context: Context,
     ) {
         e.leading_comments(self.span.lo);
-        self.lit.emit_at(e, Place::Plain);
+        self.lit.emit_at(e, Context::Plain);
     }
 }
 
@@ -168,15 +169,15 @@ impl<N: LinkTarget> EmitAt for TsImportType<N> {
     fn emit_at<W: WriteJs, S: SourceMapper, C: Comments>(
         &self,
         e: &mut Emitter<'_, W, S, C>,
-        place: Place,
+        context: Context,
     ) {
         e.leading_comments(self.span.lo);
         e.keyword(None, "import");
         e.punct(Punctuator::LeftParenthesis);
-        self.arg.emit_at(e, Place::Plain);
+        self.arg.emit_at(e, Context::Plain);
         e.punct(Punctuator::RightParenthesis);
         e.qualifier(&self.qualifier);
-        e.type_args(Place::Plain, &self.type_args);
+        e.type_args(Context::Plain, &self.type_args);
     }
 }
 
@@ -187,11 +188,11 @@ impl<N: LinkTarget> EmitAt for TsTypeQueryExpr<N> {
     fn emit_at<W: WriteJs, S: SourceMapper, C: Comments>(
         &self,
         e: &mut Emitter<'_, W, S, C>,
-        place: Place,
+        context: Context,
     ) {
         match self {
-            TsTypeQueryExpr::TsEntityName(node) => node.target().emit_at(e, Place::Plain),
-            TsTypeQueryExpr::Import(node) => node.emit_at(e, Place::Plain),
+            TsTypeQueryExpr::TsEntityName(node) => node.target().emit_at(e, Context::Plain),
+            TsTypeQueryExpr::Import(node) => node.emit_at(e, Context::Plain),
         }
     }
 }
@@ -203,13 +204,13 @@ impl<N: LinkTarget> EmitAt for TsTypeQuery<N> {
     fn emit_at<W: WriteJs, S: SourceMapper, C: Comments>(
         &self,
         e: &mut Emitter<'_, W, S, C>,
-        place: Place,
+        context: Context,
     ) {
         e.leading_comments(self.span.lo);
         e.keyword(None, "typeof");
         e.space();
-        self.expr_name.emit_at(e, Place::Plain);
-        e.type_args(Place::Plain, &self.type_args);
+        self.expr_name.emit_at(e, Context::Plain);
+        e.type_args(Context::Plain, &self.type_args);
     }
 }
 
@@ -220,7 +221,7 @@ impl<N: LinkTarget> EmitAt for TsTypeLit<N> {
     fn emit_at<W: WriteJs, S: SourceMapper, C: Comments>(
         &self,
         e: &mut Emitter<'_, W, S, C>,
-        place: Place,
+        context: Context,
     ) {
         e.leading_comments(self.span.lo);
         e.punct(Punctuator::LeftBrace);
@@ -236,10 +237,10 @@ impl<N: LinkTarget> EmitAt for TsArrayType<N> {
     fn emit_at<W: WriteJs, S: SourceMapper, C: Comments>(
         &self,
         e: &mut Emitter<'_, W, S, C>,
-        place: Place,
+        context: Context,
     ) {
         e.leading_comments(self.span.lo);
-        self.elem_type.target().emit_at(e, Place::Plain);
+        self.elem_type.target().emit_at(e, Context::Plain);
         e.punct(Punctuator::LeftBracket);
         e.punct(Punctuator::RightBracket);
     }
@@ -252,11 +253,11 @@ impl<N: LinkTarget> EmitAt for TsTupleElement<N> {
     fn emit_at<W: WriteJs, S: SourceMapper, C: Comments>(
         &self,
         e: &mut Emitter<'_, W, S, C>,
-        place: Place,
+        context: Context,
     ) {
         e.leading_comments(self.span.lo);
         e.label(&self.label);
-        self.ty.target().emit_at(e, Place::Plain);
+        self.ty.target().emit_at(e, Context::Plain);
     }
 }
 
@@ -275,7 +276,7 @@ impl<N: LinkTarget> EmitAt for TsTupleType<N> {
     fn emit_at<W: WriteJs, S: SourceMapper, C: Comments>(
         &self,
         e: &mut Emitter<'_, W, S, C>,
-        place: Place,
+        context: Context,
     ) {
         e.leading_comments(self.span.lo);
         e.punct(Punctuator::LeftBracket);
@@ -291,10 +292,10 @@ impl<N: LinkTarget> EmitAt for TsOptionalType<N> {
     fn emit_at<W: WriteJs, S: SourceMapper, C: Comments>(
         &self,
         e: &mut Emitter<'_, W, S, C>,
-        place: Place,
+        context: Context,
     ) {
         e.leading_comments(self.span.lo);
-        self.type_ann.target().emit_at(e, Place::Plain);
+        self.type_ann.target().emit_at(e, Context::Plain);
         e.punct(Punctuator::Question);
     }
 }
@@ -306,11 +307,11 @@ impl<N: LinkTarget> EmitAt for TsRestType<N> {
     fn emit_at<W: WriteJs, S: SourceMapper, C: Comments>(
         &self,
         e: &mut Emitter<'_, W, S, C>,
-        place: Place,
+        context: Context,
     ) {
         e.leading_comments(self.span.lo);
         e.punct(Punctuator::Ellipsis);
-        self.type_ann.target().emit_at(e, Place::Plain);
+        self.type_ann.target().emit_at(e, Context::Plain);
     }
 }
 
@@ -321,7 +322,7 @@ impl<N: LinkTarget> EmitAt for TsUnionType<N> {
     fn emit_at<W: WriteJs, S: SourceMapper, C: Comments>(
         &self,
         e: &mut Emitter<'_, W, S, C>,
-        place: Place,
+        context: Context,
     ) {
         e.leading_comments(self.span.lo);
         e.union_types(self);
@@ -335,7 +336,7 @@ impl<N: LinkTarget> EmitAt for TsIntersectionType<N> {
     fn emit_at<W: WriteJs, S: SourceMapper, C: Comments>(
         &self,
         e: &mut Emitter<'_, W, S, C>,
-        place: Place,
+        context: Context,
     ) {
         e.leading_comments(self.span.lo);
         e.intersection_types(self);
@@ -349,11 +350,11 @@ impl<N: LinkTarget> EmitAt for TsUnionOrIntersectionType<N> {
     fn emit_at<W: WriteJs, S: SourceMapper, C: Comments>(
         &self,
         e: &mut Emitter<'_, W, S, C>,
-        place: Place,
+        context: Context,
     ) {
         match self {
-            TsUnionOrIntersectionType::TsUnionType(node) => node.emit_at(e, Place::Plain),
-            TsUnionOrIntersectionType::TsIntersectionType(node) => node.emit_at(e, Place::Plain),
+            TsUnionOrIntersectionType::TsUnionType(node) => node.emit_at(e, Context::Plain),
+            TsUnionOrIntersectionType::TsIntersectionType(node) => node.emit_at(e, Context::Plain),
         }
     }
 }
@@ -365,11 +366,11 @@ impl<N: LinkTarget> EmitAt for TsParenthesizedType<N> {
     fn emit_at<W: WriteJs, S: SourceMapper, C: Comments>(
         &self,
         e: &mut Emitter<'_, W, S, C>,
-        place: Place,
+        context: Context,
     ) {
         e.leading_comments(self.span.lo);
         e.punct(Punctuator::LeftParenthesis);
-        self.type_ann.target().emit_at(e, Place::Plain);
+        self.type_ann.target().emit_at(e, Context::Plain);
         e.punct(Punctuator::RightParenthesis);
     }
 }
@@ -381,12 +382,12 @@ impl<N: LinkTarget> EmitAt for TsTypeOperator<N> {
     fn emit_at<W: WriteJs, S: SourceMapper, C: Comments>(
         &self,
         e: &mut Emitter<'_, W, S, C>,
-        place: Place,
+        context: Context,
     ) {
         e.leading_comments(self.span.lo);
         e.keyword(None, type_operator(self.op));
         e.space();
-        self.type_ann.target().emit_at(e, Place::Plain);
+        self.type_ann.target().emit_at(e, Context::Plain);
     }
 }
 
@@ -397,12 +398,12 @@ impl<N: LinkTarget> EmitAt for TsIndexedAccessType<N> {
     fn emit_at<W: WriteJs, S: SourceMapper, C: Comments>(
         &self,
         e: &mut Emitter<'_, W, S, C>,
-        place: Place,
+        context: Context,
     ) {
         e.leading_comments(self.span.lo);
-        self.obj_type.target().emit_at(e, Place::Plain);
+        self.obj_type.target().emit_at(e, Context::Plain);
         e.punct(Punctuator::LeftBracket);
-        self.index_type.target().emit_at(e, Place::Plain);
+        self.index_type.target().emit_at(e, Context::Plain);
         e.punct(Punctuator::RightBracket);
     }
 }
@@ -414,18 +415,18 @@ impl<N: LinkTarget> EmitAt for TsConditionalType<N> {
     fn emit_at<W: WriteJs, S: SourceMapper, C: Comments>(
         &self,
         e: &mut Emitter<'_, W, S, C>,
-        place: Place,
+        context: Context,
     ) {
         e.leading_comments(self.span.lo);
-        self.check_type.target().emit_at(e, Place::Plain);
+        self.check_type.target().emit_at(e, Context::Plain);
         e.space();
         e.keyword(None, "extends");
         e.space();
-        self.extends_type.target().emit_at(e, Place::Plain);
+        self.extends_type.target().emit_at(e, Context::Plain);
         e.punct_between(Punctuator::Question);
-        self.true_type.target().emit_at(e, Place::Plain);
+        self.true_type.target().emit_at(e, Context::Plain);
         e.punct_between(Punctuator::Colon);
-        self.false_type.target().emit_at(e, Place::Plain);
+        self.false_type.target().emit_at(e, Context::Plain);
     }
 }
 
@@ -436,12 +437,12 @@ impl<N: LinkTarget> EmitAt for TsInferType<N> {
     fn emit_at<W: WriteJs, S: SourceMapper, C: Comments>(
         &self,
         e: &mut Emitter<'_, W, S, C>,
-        place: Place,
+        context: Context,
     ) {
         e.leading_comments(self.span.lo);
         e.keyword(None, "infer");
         e.space();
-        self.type_param.emit_at(e, Place::Plain);
+        self.type_param.emit_at(e, Context::Plain);
     }
 }
 
@@ -452,47 +453,47 @@ impl<N: LinkTarget> EmitAt for TsType<N> {
     fn emit_at<W: WriteJs, S: SourceMapper, C: Comments>(
         &self,
         e: &mut Emitter<'_, W, S, C>,
-        place: Place,
+        context: Context,
     ) {
         match self {
-            TsType::TsKeywordType(node) => node.emit_at(e, Place::Plain),
-            TsType::TsThisType(node) => node.emit_at(e, Place::Plain),
-            TsType::TsFnOrConstructorType(node) => (**node).emit_at(e, Place::Plain),
-            TsType::TsTypeRef(node) => node.emit_at(e, Place::Plain),
-            TsType::TsTypeQuery(node) => (**node).emit_at(e, Place::Plain),
-            TsType::TsTypeLit(node) => node.emit_at(e, Place::Plain),
-            TsType::TsArrayType(node) => node.emit_at(e, Place::Plain),
-            TsType::TsTupleType(node) => node.emit_at(e, Place::Plain),
-            TsType::TsOptionalType(node) => node.emit_at(e, Place::Plain),
-            TsType::TsRestType(node) => node.emit_at(e, Place::Plain),
-            TsType::TsUnionOrIntersectionType(node) => node.emit_at(e, Place::Plain),
-            TsType::TsConditionalType(node) => node.emit_at(e, Place::Plain),
-            TsType::TsInferType(node) => (**node).emit_at(e, Place::Plain),
-            TsType::TsParenthesizedType(node) => node.emit_at(e, Place::Plain),
-            TsType::TsTypeOperator(node) => node.emit_at(e, Place::Plain),
-            TsType::TsIndexedAccessType(node) => node.emit_at(e, Place::Plain),
-            TsType::TsMappedType(node) => (**node).emit_at(e, Place::Plain),
-            TsType::TsLitType(node) => (**node).emit_at(e, Place::Plain),
-            TsType::TsTypePredicate(node) => (**node).emit_at(e, Place::Plain),
-            TsType::TsImportType(node) => (**node).emit_at(e, Place::Plain),
+            TsType::TsKeywordType(node) => node.emit_at(e, Context::Plain),
+            TsType::TsThisType(node) => node.emit_at(e, Context::Plain),
+            TsType::TsFnOrConstructorType(node) => (**node).emit_at(e, Context::Plain),
+            TsType::TsTypeRef(node) => node.emit_at(e, Context::Plain),
+            TsType::TsTypeQuery(node) => (**node).emit_at(e, Context::Plain),
+            TsType::TsTypeLit(node) => node.emit_at(e, Context::Plain),
+            TsType::TsArrayType(node) => node.emit_at(e, Context::Plain),
+            TsType::TsTupleType(node) => node.emit_at(e, Context::Plain),
+            TsType::TsOptionalType(node) => node.emit_at(e, Context::Plain),
+            TsType::TsRestType(node) => node.emit_at(e, Context::Plain),
+            TsType::TsUnionOrIntersectionType(node) => node.emit_at(e, Context::Plain),
+            TsType::TsConditionalType(node) => node.emit_at(e, Context::Plain),
+            TsType::TsInferType(node) => (**node).emit_at(e, Context::Plain),
+            TsType::TsParenthesizedType(node) => node.emit_at(e, Context::Plain),
+            TsType::TsTypeOperator(node) => node.emit_at(e, Context::Plain),
+            TsType::TsIndexedAccessType(node) => node.emit_at(e, Context::Plain),
+            TsType::TsMappedType(node) => (**node).emit_at(e, Context::Plain),
+            TsType::TsLitType(node) => (**node).emit_at(e, Context::Plain),
+            TsType::TsTypePredicate(node) => (**node).emit_at(e, Context::Plain),
+            TsType::TsImportType(node) => (**node).emit_at(e, Context::Plain),
         }
     }
 }
 
 impl<N: LinkTarget> EmitAt for TsTypeAnn<N> {
-    ghost items = { ts_type_ann N.answers N.items };
+    ghost items = { λ n. in_context (ts_type_ann N.answers N.items n) };
 
     #[tactic(auto, unfolding(crate::specs::Types::ts_type_ann))]
     fn emit_at<W: WriteJs, S: SourceMapper, C: Comments>(
         &self,
         e: &mut Emitter<'_, W, S, C>,
-        place: Place,
+        context: Context,
     ) {
-        match place {
-            Place::Reference => self.type_ann.emit_at(e, Place::Plain),
+        match context {
+            Context::Reference => self.type_ann.emit_at(e, Context::Plain),
             _ => {
                 e.leading_comments(self.span.lo);
-                self.type_ann.emit_at(e, Place::Plain)
+                self.type_ann.emit_at(e, Context::Plain)
             }
         }
     }
@@ -529,7 +530,7 @@ impl<W: WriteJs, S: SourceMapper, C: Comments> Emitter<'_, W, S, C> {
         match name {
             Some(node) => {
                 self.punct(Punctuator::Dot);
-                node.target().emit_at(self, Place::Plain)
+                node.target().emit_at(self, Context::Plain)
             }
             None => {}
         }
@@ -550,7 +551,7 @@ impl<W: WriteJs, S: SourceMapper, C: Comments> Emitter<'_, W, S, C> {
     {
         match pat {
             Some(node) => {
-                node.target().emit_at(self, Place::Plain);
+                node.target().emit_at(self, Context::Plain);
                 self.punct(Punctuator::Colon);
                 self.formatting_space()
             }

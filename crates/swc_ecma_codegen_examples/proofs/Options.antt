@@ -2,9 +2,8 @@
 use Rattle.std.proofs.Common.{◌≡◌, ◌∙◌, ap, subst, Option, Some, None, Result}
 use Rattle.swc_ecma_codegen_common.specs.declared.errors.Refusal.{Refusal}
 use Rattle.swc_ecma_codegen_tokens.specs.Run.{Part, State, Follows, nothing, with_max_line}
-use Rattle.swc_ecma_codegen_emit.specs.declared.nodes.Place.{Place}
 use Rattle.swc_ecma_codegen_emit.specs.Lists.{if_some_at}
-use Rattle.swc_ecma_codegen_emit.specs.Places.{by_itself}
+use Rattle.swc_ecma_codegen_emit.specs.Places.{Place, by_itself}
 
 pub some_written : {A : Type 0} (items : A → Place → Part) (o : Option A) (x : A) → o ≡ Some x → by_itself (if_some_at items o) ≡ by_itself (items x)
 unfolding if_some_at

@@ -40,8 +40,8 @@ use Rattle.swc_ecma_codegen_tokens.specs.Run.{Env, Part, at_maps, is_bounded}
 use Rattle.swc_ecma_codegen_tokens.specs.Words.{keyword, operator, word_operator, punct, formatting_line, commit_pending_semi, trailing_comments}
 use Rattle.swc_ecma_codegen_tokens.proofs.Reading.Printed.{writes_commit, writes_formatting_line, writes_formatting_space, writes_position, writes_position_before}
 use Rattle.swc_ecma_codegen_tokens.proofs.Commenting.CommentPrints.{writes_leading, writes_trailing}
-use Rattle.swc_ecma_codegen_emit.specs.declared.nodes.Place.{Place}
-use Rattle.swc_ecma_codegen_emit.specs.declared.nodes.Place.TheVariants.{Plain, LeftOperand}
+use Rattle.swc_ecma_codegen_emit.specs.declared.nodes.Context.{Context}
+use Rattle.swc_ecma_codegen_emit.specs.declared.nodes.Context.TheVariants.{Plain, LeftOperand}
 use Rattle.swc_ecma_codegen_emit.specs.Answers.{Answers, any_answers, place_of}
 use Rattle.swc_ecma_codegen_emit.specs.Operands.{is_word_op, operand_space}
 use Rattle.swc_ecma_codegen_emit.specs.Exprs as words
@@ -50,7 +50,7 @@ use Rattle.swc_ecma_codegen_emit.specs.Branches.{is_block}
 use Rattle.swc_ecma_codegen_emit.specs.Lists.{comma, listed, in_order}
 use Rattle.swc_ecma_codegen_emit.specs.Stmts as statements
 use Rattle.swc_ecma_codegen_emit.specs.Programs as programs
-use Rattle.swc_ecma_codegen_emit.specs.Places.{by_itself, placed}
+use Rattle.swc_ecma_codegen_emit.specs.Places.{Place, Whole, by_itself, placed, context_of, in_context}
 use Rattle.swc_ecma_codegen_emit.specs.Roots.{Root, OfExpr, OfStmt, OfItem, OfModule, OfScript, OfProgram, OfLink, root_items}
 use Rattle.swc_ecma_codegen_emit.specs.Tree.{node_items, any_items}
 use Rattle.swc_ecma_codegen_emit.proofs.Asked.{kept_same, committed_same}
@@ -95,7 +95,7 @@ quiet_unary_gap env op arg = quiet_if env (starts.is_word_op op) (words.blank ar
 
 quiet_unary : {X : Type 0} (l : Linked X) (n : UnaryExpr X) → l.basic n.arg.node.value ≡ true → Quiet l.env (words.unary l.asks l.items n)
 unfolding words.unary
-quiet_unary l n h = then (quiet_made (writes_opened l.env n.span)) (then (quiet_unary_op l.env n.op) (then (quiet_unary_gap l.env n.op (l.asks n.arg.node.value)) (l.law n.arg.node.value Plain h)))
+quiet_unary l n h = then (quiet_made (writes_opened l.env n.span)) (then (quiet_unary_op l.env n.op) (then (quiet_unary_gap l.env n.op (l.asks n.arg.node.value)) (l.law n.arg.node.value (Whole Plain) h)))
 
 update_case : (env : Env) (prefix : Bool) (op : UpdateOp) (p : Part) → Quiet env p → Quiet env (λ rest. cond prefix (operator (update_text op) (p rest)) (p (operator (update_text op) rest)))
 update_case env true op p h = then (quiet_operator env (update_text op)) h
@@ -103,34 +103,34 @@ update_case env false op p h = then h (quiet_operator env (update_text op))
 
 quiet_update : {X : Type 0} (l : Linked X) (n : UpdateExpr X) → l.basic n.arg.node.value ≡ true → Quiet l.env (words.update l.items n)
 unfolding words.update words.update_parts
-quiet_update l n h = then (quiet_made (writes_opened l.env n.span)) (update_case l.env n.prefix n.op (l.items n.arg.node.value Plain) (l.law n.arg.node.value Plain h))
+quiet_update l n h = then (quiet_made (writes_opened l.env n.span)) (update_case l.env n.prefix n.op (l.items n.arg.node.value (Whole Plain)) (l.law n.arg.node.value (Whole Plain) h))
 
 quiet_binary_op : (env : Env) (op : BinaryOp) → Quiet env (words.binary_op op)
 unfolding words.binary_op
 quiet_binary_op env op = quiet_if env (is_word_op op) (word_operator (binary_text op)) (operator (binary_text op)) (quiet_word_operator env (binary_text op)) (quiet_operator env (binary_text op))
 
-quiet_bin_opened : (env : Env) (place : Place) (span : Span) → Quiet env (words.bin_opened place span)
+quiet_bin_opened : (env : Env) (context : Context) (span : Span) → Quiet env (words.bin_opened context span)
 unfolding words.bin_opened
 quiet_bin_opened env LeftOperand span = quiet_nothing env
-quiet_bin_opened env place span = quiet_made (writes_opened env span)
+quiet_bin_opened env context span = quiet_made (writes_opened env span)
 
-quiet_bin : {X : Type 0} (l : Linked X) (n : BinExpr X) (place : Place) → (l.basic n.left.node.value && l.basic n.right.node.value) ≡ true → Quiet l.env (words.bin l.asks l.items n place)
+quiet_bin : {X : Type 0} (l : Linked X) (n : BinExpr X) (context : Context) → (l.basic n.left.node.value && l.basic n.right.node.value) ≡ true → Quiet l.env (words.bin l.asks l.items n context)
 unfolding words.bin words.bin_trailing words.bin_operator
-quiet_bin l n place h =
+quiet_bin l n context h =
     let both = and_parts (l.basic n.left.node.value) (l.basic n.right.node.value) h in
-    then (quiet_bin_opened l.env place n.span)
-    (then (l.law n.left.node.value LeftOperand both.0)
+    then (quiet_bin_opened l.env context n.span)
+    (then (l.law n.left.node.value (Whole LeftOperand) both.0)
     (then (quiet_made (writes_blank l.env (words.before_op n.op (l.asks n.left.node.value))))
     (then (quiet_binary_op l.env n.op)
     (then (quiet_allow_break l.env)
-    (then (quiet_made (writes_blank l.env (words.after_op n.op (l.asks n.right.node.value)))) (l.law n.right.node.value Plain both.1))))))
+    (then (quiet_made (writes_blank l.env (words.after_op n.op (l.asks n.right.node.value)))) (l.law n.right.node.value (Whole Plain) both.1))))))
 
 quiet_computed : {X : Type 0} (l : Linked X) (n : ComputedPropName X) → l.basic n.expr.node.value ≡ true → Quiet l.env (words.computed_prop_name l.items n)
 unfolding words.computed_prop_name
 quiet_computed l n h =
     then (quiet_made (writes_position l.env n.span.lo))
     (then (quiet_punct l.env (codes "["))
-    (then (l.law n.expr.node.value Plain h) (then (quiet_punct l.env (codes "]")) (quiet_made (writes_position l.env n.span.hi)))))
+    (then (l.law n.expr.node.value (Whole Plain) h) (then (quiet_punct l.env (codes "]")) (quiet_made (writes_position l.env n.span.hi)))))
 
 quiet_prop : {X : Type 0} (l : Linked X) (n : MemberProp X) → basic_prop l.basic n ≡ true → Quiet l.env (words.member_prop l.items n)
 unfolding words.member_prop basic_prop
@@ -143,7 +143,7 @@ unfolding words.member
 quiet_member l n h =
     let both = and_parts (l.basic n.obj.node.value) (basic_prop l.basic n.prop) h in
     then (quiet_made (writes_opened l.env n.span))
-    (then (l.law n.obj.node.value (words.object_place n.prop) both.0) (then (quiet_prop l n.prop both.1) (quiet_made (writes_position l.env n.span.hi))))
+    (then (l.law n.obj.node.value (Whole (words.object_place n.prop)) both.0) (then (quiet_prop l n.prop both.1) (quiet_made (writes_position l.env n.span.hi))))
 
 quiet_spaced : (env : Env) (t : List ℕ) → Quiet env (words.spaced_punct t)
 unfolding words.spaced_punct
@@ -155,9 +155,9 @@ quiet_choice l n h =
     let both = and_parts (l.basic n.test.node.value && l.basic n.cons.node.value) (l.basic n.alt.node.value) h in
     let first = and_parts (l.basic n.test.node.value) (l.basic n.cons.node.value) both.0 in
     then (quiet_made (writes_opened l.env n.span))
-    (then (l.law n.test.node.value Plain first.0)
+    (then (l.law n.test.node.value (Whole Plain) first.0)
     (then (quiet_spaced l.env (codes "?"))
-    (then (l.law n.cons.node.value Plain first.1) (then (quiet_spaced l.env (codes ":")) (l.law n.alt.node.value Plain both.1)))))
+    (then (l.law n.cons.node.value (Whole Plain) first.1) (then (quiet_spaced l.env (codes ":")) (l.law n.alt.node.value (Whole Plain) both.1)))))
 
 quiet_comma : (env : Env) (first : Bool) → Quiet env (comma first)
 unfolding comma
@@ -169,7 +169,7 @@ unfolding listed all_basic
 quiet_listed l first [] h = quiet_nothing l.env
 quiet_listed l first (n ∷ ns) h =
     let both = and_parts (l.basic n.node.value) (all_basic l.basic ns) h in
-    then (quiet_comma l.env first) (then (l.law n.node.value Plain both.0) (quiet_listed l false ns both.1))
+    then (quiet_comma l.env first) (then (l.law n.node.value (Whole Plain) both.0) (quiet_listed l false ns both.1))
 
 quiet_seq : {X : Type 0} (l : Linked X) (n : SeqExpr X) → all_basic l.basic n.exprs.items ≡ true → Quiet l.env (words.seq l.items n)
 unfolding words.seq
@@ -181,37 +181,37 @@ quiet_paren l n h =
     then (quiet_made (writes_commit l.env))
     (then (quiet_made (writes_opened l.env n.span))
     (then (quiet_punct l.env (codes "("))
-    (then (l.law n.expr.node.value Plain h) (then (quiet_made (writes_position_before l.env n.span.hi)) (quiet_punct l.env (codes ")"))))))
+    (then (l.law n.expr.node.value (Whole Plain) h) (then (quiet_made (writes_position_before l.env n.span.hi)) (quiet_punct l.env (codes ")"))))))
 
-quiet_expr_parts : {X : Type 0} (l : Linked X) (n : Expr X) (place : Place) → basic_expr l.basic n ≡ true → Quiet l.env (wholes.expr_parts l.asks l.items n place)
+quiet_expr_parts : {X : Type 0} (l : Linked X) (n : Expr X) (context : Context) → basic_expr l.basic n ≡ true → Quiet l.env (wholes.expr_parts l.asks l.items n context)
 unfolding wholes.expr_parts basic_expr
-quiet_expr_parts l (exprs.This n) place h = quiet_this l.env n
-quiet_expr_parts l (exprs.Unary n) place h = quiet_unary l n h
-quiet_expr_parts l (exprs.Update n) place h = quiet_update l n h
-quiet_expr_parts l (exprs.Bin n) place h = quiet_bin l n place h
-quiet_expr_parts l (exprs.Member n) place h = quiet_member l n h
-quiet_expr_parts l (exprs.Cond n) place h = quiet_choice l n h
-quiet_expr_parts l (exprs.Seq n) place h = quiet_seq l n h
-quiet_expr_parts l (exprs.Ident n) place h = quiet_ident l n h
-quiet_expr_parts l (exprs.Paren n) place h = quiet_paren l n h
-quiet_expr_parts l n place h = never h
+quiet_expr_parts l (exprs.This n) context h = quiet_this l.env n
+quiet_expr_parts l (exprs.Unary n) context h = quiet_unary l n h
+quiet_expr_parts l (exprs.Update n) context h = quiet_update l n h
+quiet_expr_parts l (exprs.Bin n) context h = quiet_bin l n context h
+quiet_expr_parts l (exprs.Member n) context h = quiet_member l n h
+quiet_expr_parts l (exprs.Cond n) context h = quiet_choice l n h
+quiet_expr_parts l (exprs.Seq n) context h = quiet_seq l n h
+quiet_expr_parts l (exprs.Ident n) context h = quiet_ident l n h
+quiet_expr_parts l (exprs.Paren n) context h = quiet_paren l n h
+quiet_expr_parts l n context h = never h
 
 -- the comments after it
 quiet_closed : (env : Env) (left : Bool) (span : Span) → Quiet env (wholes.expr_closed left span)
 unfolding wholes.expr_closed
 quiet_closed env left span = quiet_if env left (λ rest. rest) (trailing_comments true span.hi) (quiet_nothing env) (quiet_made (writes_trailing env true span.hi))
 
-quiet_expr : {X : Type 0} (l : Linked X) (n : Expr X) (place : Place) → basic_expr l.basic n ≡ true → Quiet l.env (wholes.expr l.asks l.items n place)
+quiet_expr : {X : Type 0} (l : Linked X) (n : Expr X) (context : Context) → basic_expr l.basic n ≡ true → Quiet l.env (wholes.expr l.asks l.items n context)
 unfolding wholes.expr
-quiet_expr l n place h = then (quiet_expr_parts l n place h) (quiet_closed l.env (wholes.leaves_comments n place) (expr_span (place_of l.asks) n))
+quiet_expr l n context h = then (quiet_expr_parts l n context h) (quiet_closed l.env (wholes.leaves_comments n context) (expr_span (place_of l.asks) n))
 
 quiet_wrapped : {X : Type 0} (l : Linked X) (n : Expr X) → basic_expr l.basic n ≡ true → Quiet l.env (wholes.wrapped l.asks l.items n)
 unfolding wholes.wrapped
 quiet_wrapped l n h = then (quiet_punct l.env (codes "(")) (then (quiet_expr l n Plain h) (quiet_punct l.env (codes ")")))
 
-quiet_placed : {X : Type 0} (l : Linked X) (n : Expr X) (place : Place) → basic_expr l.basic n ≡ true → Quiet l.env (wholes.placed_expr l.asks l.items n place)
+quiet_placed : {X : Type 0} (l : Linked X) (n : Expr X) (context : Context) → basic_expr l.basic n ≡ true → Quiet l.env (wholes.placed_expr l.asks l.items n context)
 unfolding wholes.placed_expr
-quiet_placed l n place h = quiet_if l.env (wholes.is_wrapped n place) (wholes.wrapped l.asks l.items n) (wholes.expr l.asks l.items n place) (quiet_wrapped l n h) (quiet_expr l n place h)
+quiet_placed l n context h = quiet_if l.env (wholes.is_wrapped n context) (wholes.wrapped l.asks l.items n) (wholes.expr l.asks l.items n context) (quiet_wrapped l n h) (quiet_expr l n context h)
 
 -- ---- statements
 
@@ -221,7 +221,7 @@ quiet_empty env n = then (quiet_made (writes_leading env n.span.lo)) (quiet_punc
 
 quiet_expr_stmt : {X : Type 0} (l : Linked X) (n : ExprStmt X) → l.basic n.expr.node.value ≡ true → Quiet l.env (statements.expr_stmt l.items n)
 unfolding statements.expr_stmt
-quiet_expr_stmt l n h = then (quiet_made (writes_leading l.env n.span.lo)) (then (l.law n.expr.node.value Plain h) (quiet_semi l.env))
+quiet_expr_stmt l n h = then (quiet_made (writes_leading l.env n.span.lo)) (then (l.law n.expr.node.value (Whole Plain) h) (quiet_semi l.env))
 
 quiet_stmt_parts : {X : Type 0} (l : Linked X) (n : Stmt X) → basic_stmt l.basic n ≡ true → Quiet l.env (statements.stmt_parts l.asks l.items n)
 unfolding statements.stmt_parts basic_stmt
@@ -283,7 +283,7 @@ basic_of {X} g n = basic_of_layer (map-AnyNode X AnyNode g n) ∙ node_mapped g 
 
 quiet_node : {X : Type 0} (l : Linked X) (n : AnyNode-F X) (place : Place) → basic_node l.basic n ≡ true → Quiet l.env (node_items l.asks l.items n place)
 unfolding node_items basic_node
-quiet_node l (nodes.Expr n) place h = quiet_placed l n place h
+quiet_node l (nodes.Expr n) place h = quiet_placed l n (context_of place) h
 quiet_node l (nodes.Stmt n) place h = quiet_stmt l n h
 quiet_node l n place h = never h
 
@@ -328,7 +328,7 @@ unfolding programs.program_start
 quiet_start env None xs span h = then (quiet_made (writes_leading env span.lo)) (quiet_start_if_empty env xs span)
 quiet_start env (Some text) xs span h = absurd (true≢false h)
 
-quiet_script : (env : Env) → env.config.ascii_only ≡ false → (n : Script AnyNode) → (not (is_some n.shebang) && basic_stmts n.body.items) ≡ true → Quiet env (programs.script any_answers any_items n Plain)
+quiet_script : (env : Env) → env.config.ascii_only ≡ false → (n : Script AnyNode) → (not (is_some n.shebang) && basic_stmts n.body.items) ≡ true → Quiet env (programs.script any_answers any_items n (Whole Plain))
 unfolding programs.script programs.script_parts
 quiet_script env e n h =
     let both = and_parts (not (is_some n.shebang)) (basic_stmts n.body.items) h in
@@ -338,14 +338,14 @@ quiet_script env e n h =
 
 quiet_root : (env : Env) → env.config.ascii_only ≡ false → is_bounded env ≡ false → (n : Root) → is_basic n ≡ true → Quiet env (root_items n)
 unfolding programs.program
-quiet_root env e k (OfExpr n) h = quiet_itself env (wholes.expr any_answers any_items n) k (quiet_expr (known (inside env) e) n Plain h)
+quiet_root env e k (OfExpr n) h = quiet_itself env (in_context (wholes.expr any_answers any_items n)) k (quiet_expr (known (inside env) e) n Plain h)
 quiet_root env e k (OfStmt n) h = quiet_itself env (λ place. statements.stmt any_answers any_items n) k (quiet_stmt (known (inside env) e) n h)
 quiet_root env e k (OfItem n) h = never h
 quiet_root env e k (OfModule n) h = never h
 quiet_root env e k (OfScript n) h = quiet_itself env (programs.script any_answers any_items n) k (quiet_script (inside env) e n h)
 quiet_root env e k (OfProgram (program_variants.Script n)) h = quiet_itself env (programs.program any_answers any_items (program_variants.Script n)) k (quiet_script (inside env) e n h)
 quiet_root env e k (OfProgram (program_variants.Module n)) h = never h
-quiet_root env e k (OfLink n role) h = quiet_itself env (λ place. any_items n (placed role place)) k (quiet_tree (inside env) e n (placed role Plain) h)
+quiet_root env e k (OfLink n role) h = quiet_itself env (λ place. any_items n (placed role place)) k (quiet_tree (inside env) e n (placed role (Whole Plain)) h)
 
 pub root_takes_none : (n : Root) → is_basic n ≡ true → TakesNoMemory (root_items n)
 root_takes_none n h = takes_none (root_items n) (λ env e k. quiet_root env e k n h)
@@ -369,16 +369,16 @@ pub update_takes_none : (n : UpdateExpr AnyNode) → is_basic (OfExpr (exprs.Upd
 unfolding basic_expr
 update_takes_none n h = itself_takes_none (λ place. words.update any_items n) (λ env e. quiet_update (known env e) n h)
 
-pub bin_takes_none : (n : BinExpr AnyNode) → is_basic (OfExpr (exprs.Bin n)) ≡ true → TakesNoMemory (by_itself (words.bin any_answers any_items n))
+pub bin_takes_none : (n : BinExpr AnyNode) → is_basic (OfExpr (exprs.Bin n)) ≡ true → TakesNoMemory (by_itself (in_context (words.bin any_answers any_items n)))
 unfolding basic_expr
-bin_takes_none n h = itself_takes_none (words.bin any_answers any_items n) (λ env e. quiet_bin (known env e) n Plain h)
+bin_takes_none n h = itself_takes_none (in_context (words.bin any_answers any_items n)) (λ env e. quiet_bin (known env e) n Plain h)
 
 pub computed_takes_none : (n : ComputedPropName AnyNode) → any_basic n.expr.node.value ≡ true → TakesNoMemory (by_itself (λ place. words.computed_prop_name any_items n))
 computed_takes_none n h = itself_takes_none (λ place. words.computed_prop_name any_items n) (λ env e. quiet_computed (known env e) n h)
 
-pub member_takes_none : (n : MemberExpr AnyNode) → is_basic (OfExpr (exprs.Member n)) ≡ true → TakesNoMemory (by_itself (words.member_at any_items n))
+pub member_takes_none : (n : MemberExpr AnyNode) → is_basic (OfExpr (exprs.Member n)) ≡ true → TakesNoMemory (by_itself (in_context (words.member_at any_items n)))
 unfolding basic_expr words.member_at
-member_takes_none n h = itself_takes_none (words.member_at any_items n) (λ env e. quiet_member (known env e) n h)
+member_takes_none n h = itself_takes_none (in_context (words.member_at any_items n)) (λ env e. quiet_member (known env e) n h)
 
 pub cond_takes_none : (n : CondExpr AnyNode) → is_basic (OfExpr (exprs.Cond n)) ≡ true → TakesNoMemory (by_itself (λ place. words.choice any_items n))
 unfolding basic_expr

@@ -7,10 +7,9 @@ use Rattle.swc_ecma_codegen_tokens.specs.declared.refusals.Unprintable.{Unprinta
 use Rattle.swc_ecma_codegen_tokens.specs.Run.{Env, Part, Plan, State, Step, Plain as Call, is_bounded, nothing, after_step, step, steps_in, steps_of, unbounded, with_max_line}
 use Rattle.swc_ecma_codegen_tokens.specs.Words.{begin_lines, end_lines, in_lines, bounded}
 use Rattle.swc_ecma_codegen_tokens.proofs.Reading.Printed.{chain, env_after}
-use Rattle.swc_ecma_codegen_emit.specs.declared.nodes.Place.{Place}
-use Rattle.swc_ecma_codegen_emit.specs.declared.nodes.Place.TheVariants.{Plain, Lines}
+use Rattle.swc_ecma_codegen_emit.specs.declared.nodes.Context.TheVariants.{ByItself, Plain}
 use Rattle.swc_ecma_codegen_emit.specs.Lined.{unfilled}
-use Rattle.swc_ecma_codegen_emit.specs.Places.{alone, by_itself, placed, with_lines}
+use Rattle.swc_ecma_codegen_emit.specs.Places.{Place, Whole, alone, by_itself, placed, with_lines, context_of}
 use Rattle.swc_ecma_codegen_emit.specs.Programs.{whole_module, script, program}
 use Rattle.swc_ecma_codegen_emit.specs.Roots.{Root, OfExpr, OfStmt, OfItem, OfModule, OfScript, OfProgram, OfLink, is_program, root_at, root_items}
 use Rattle.swc_ecma_codegen_laws.specs.Breaks.{EndsBehindMarks, no_more, other, holds_break, is_mark, is_break}
@@ -63,8 +62,8 @@ lines_end part h env max m =
     other (Call (BeginLines max)) _ refl
     (part_ends part h (λ inner. step (Call EndLines) (λ last. nothing (record last { max_line = env.max_line })) (record inner { max_line = None })) within m (λ e. other (Call EndLines) [] refl no_more))
 
-at_lines : (env : Env) (max : ℕ) → env.config.minify ≡ true → env.max_line ≡ Some max → alone env ≡ Lines max
-at_lines env max m l = ap (λ b. cond b (with_lines env.max_line) Plain) m ∙ ap with_lines l
+at_lines : (env : Env) (max : ℕ) → env.config.minify ≡ true → env.max_line ≡ Some max → alone env ≡ Whole (ByItself max)
+at_lines env max m l = ap (λ b. cond b (with_lines env.max_line) (Whole Plain)) m ∙ ap with_lines l
 
 pub emission_ends : (root : Root) (s : State) (max : ℕ) → is_program root ≡ true → s.env.config.minify ≡ true → s.env.max_line ≡ Some max → EndsBehindMarks (steps_of (steps_in (root_items root) s))
 unfolding by_itself
@@ -74,14 +73,14 @@ emission_ends root s max h m l =
 
 -- ---- all other emissions
 
-place_unbounded : (minify : Bool) (max : Option ℕ) → (is_some max && minify) ≡ false → cond minify (with_lines max) Plain ≡ Plain
+place_unbounded : (minify : Bool) (max : Option ℕ) → (is_some max && minify) ≡ false → cond minify (with_lines max) (Whole Plain) ≡ Whole Plain
 place_unbounded true None h = refl
 place_unbounded true (Some max) h = absurd (cc)
 place_unbounded false max h = refl
 
-other_breaks : (root : Root) (place : Place) → (is_program root ≡ false) ⊎ (place ≡ Plain) → Breaks false (root_at root place)
+other_breaks : (root : Root) (place : Place) → (is_program root ≡ false) ⊎ (place ≡ Whole Plain) → Breaks false (root_at root place)
 unfolding whole_module script program
-other_breaks (OfExpr n) place h = expr_holds (in_trees break_words) false n place
+other_breaks (OfExpr n) place h = expr_holds (in_trees break_words) false n (context_of place)
 other_breaks (OfStmt n) place h = stmt_holds (in_trees break_words) false n
 other_breaks (OfItem n) place h = module_item_holds (in_trees break_words) false n
 other_breaks (OfLink n role) place h = tree_holds break_words n false (placed role place)
@@ -94,7 +93,7 @@ other_breaks (OfScript n) place (inr h) = subst (λ z. Breaks false (root_at (Of
 other_breaks (OfProgram (programs.Module n)) place (inr h) = subst (λ z. Breaks false (root_at (OfProgram (programs.Module n)) z)) (sym h) (program_holds break_words false (OfProgram (programs.Module n)) refl)
 other_breaks (OfProgram (programs.Script n)) place (inr h) = subst (λ z. Breaks false (root_at (OfProgram (programs.Script n)) z)) (sym h) (program_holds break_words false (OfProgram (programs.Script n)) refl)
 
-which : (root : Root) (env : Env) → (is_program root && is_bounded env) ≡ false → (is_program root ≡ false) ⊎ (alone env ≡ Plain)
+which : (root : Root) (env : Env) → (is_program root && is_bounded env) ≡ false → (is_program root ≡ false) ⊎ (alone env ≡ Whole Plain)
 which root env h = elim (cases_Bool (is_program root)) [
   | inl e ↦ inr (place_unbounded env.config.minify env.max_line (sym (ap (λ b. b && is_bounded env) e) ∙ h))
   | inr e ↦ inl e

@@ -20,7 +20,8 @@ use Rattle.swc_ecma_codegen_grammar.specs.ElementPhrases.{last_is_hole}
 use Rattle.swc_ecma_codegen_tokens.specs.Run.{Part}
 use Rattle.swc_ecma_codegen_tokens.specs.Words.{keyword}
 use Rattle.swc_ecma_codegen_emit.specs.Annotations.{type_args}
-use Rattle.swc_ecma_codegen_emit.specs.declared.nodes.Place.TheVariants.{Plain, Callee}
+use Rattle.swc_ecma_codegen_emit.specs.declared.nodes.Context.TheVariants.{Plain, Callee}
+use Rattle.swc_ecma_codegen_emit.specs.Places.{Whole}
 use Rattle.swc_ecma_codegen_emit.specs.Answers.{place_of}
 use Rattle.swc_ecma_codegen_emit.specs.Lists.{child_of, if_some_at}
 use Rattle.swc_ecma_codegen_laws.proofs.OfWords.{OfWords, Known, asks_in, items_in, either, keeps_comma}
@@ -35,14 +36,14 @@ spread_mark_holds words bounded (Some dots) = words.punct bounded (codes "...")
 
 pub expr_or_spread_holds : {X : Type 0} {holds : Bool → Part → Type 0} (known : Known holds X) (bounded : Bool) (n : ExprOrSpread X) → holds bounded (expr_or_spread (asks_in known) (items_in known) n)
 unfolding expr_or_spread
-expr_or_spread_holds known bounded n = known.words.and_then bounded (known.words.leading_comments bounded (expr_or_spread_span (place_of (asks_in known)) n).lo) (known.words.and_then bounded (spread_mark_holds known.words bounded n.spread) (known.law bounded n.expr.node.value Plain))
+expr_or_spread_holds known bounded n = known.words.and_then bounded (known.words.leading_comments bounded (expr_or_spread_span (place_of (asks_in known)) n).lo) (known.words.and_then bounded (spread_mark_holds known.words bounded n.spread) (known.law bounded n.expr.node.value (Whole Plain)))
 
 array_keeps : (hole : Bool) → keeps_comma (array_format hole) ≡ true
 array_keeps true = refl
 array_keeps false = refl
 
 pub array_elements_holds : {X : Type 0} {holds : Bool → Part → Type 0} (known : Known holds X) (bounded : Bool) (n : ArrayLit X) → holds bounded (array_elements (asks_in known) (items_in known) n)
-array_elements_holds known bounded n = known.words.list bounded (array_format (last_is_hole n.elems.items)) (array_keeps (last_is_hole n.elems.items)) n.span (map (child_of (option_span (argument_place (asks_in known))) (if_some_at (argument_items (asks_in known) (items_in known)))) n.elems.items) (children_hold _ _ (option_span (argument_place (asks_in known))) (if_some_at (argument_items (asks_in known) (items_in known))) (λ x. (if_some_at_holds known.words bounded (argument_items (asks_in known) (items_in known)) (λ x place. (expr_or_spread_holds known bounded x)) x Plain)) n.elems.items)
+array_elements_holds known bounded n = known.words.list bounded (array_format (last_is_hole n.elems.items)) (array_keeps (last_is_hole n.elems.items)) n.span (map (child_of (option_span (argument_place (asks_in known))) (if_some_at (argument_items (asks_in known) (items_in known)))) n.elems.items) (children_hold _ _ (option_span (argument_place (asks_in known))) (if_some_at (argument_items (asks_in known) (items_in known))) (λ x. (if_some_at_holds known.words bounded (argument_items (asks_in known) (items_in known)) (λ x place. (expr_or_spread_holds known bounded x)) x (Whole Plain))) n.elems.items)
 
 pub array_lit_holds : {X : Type 0} {holds : Bool → Part → Type 0} (known : Known holds X) (bounded : Bool) (n : ArrayLit X) → holds bounded (array_lit (asks_in known) (items_in known) n)
 unfolding array_lit
@@ -70,7 +71,7 @@ pub callee_holds : {X : Type 0} {holds : Bool → Part → Type 0} (known : Know
 unfolding callee
 callee_holds known bounded (callees.Super n) = super_keyword_holds known.words bounded n
 callee_holds known bounded (callees.Import n) = import_callee_holds known.words bounded n
-callee_holds known bounded (callees.Expr n) = known.law bounded n.node.value Callee
+callee_holds known bounded (callees.Expr n) = known.law bounded n.node.value (Whole Callee)
 
 pub call_expr_holds : {X : Type 0} {holds : Bool → Part → Type 0} (known : Known holds X) (bounded : Bool) (n : CallExpr X) → holds bounded (call_expr (asks_in known) (items_in known) n)
 unfolding call_expr
@@ -81,16 +82,16 @@ unfolding new_gap
 new_gap_holds words bounded starts = either words bounded starts (words.space bounded) (words.formatting_space bounded)
 
 -- what is called
-new_callee_holds : {X : Type 0} {holds : Bool → Part → Type 0} (known : Known holds X) (bounded : Bool) (n : NewExpr X) → holds bounded (λ rest. new_gap ((asks_in known) n.callee.node.value).starts ((items_in known) n.callee.node.value Plain (type_args (items_in known) Plain n.type_args rest)))
-new_callee_holds known bounded n = known.words.and_then bounded (new_gap_holds known.words bounded ((asks_in known) n.callee.node.value).starts) (known.words.and_then bounded (known.law bounded n.callee.node.value Plain) (type_args_holds known bounded Plain n.type_args))
+new_callee_holds : {X : Type 0} {holds : Bool → Part → Type 0} (known : Known holds X) (bounded : Bool) (n : NewExpr X) → holds bounded (λ rest. new_gap ((asks_in known) n.callee.node.value).starts ((items_in known) n.callee.node.value (Whole Plain) (type_args (items_in known) Plain n.type_args rest)))
+new_callee_holds known bounded n = known.words.and_then bounded (new_gap_holds known.words bounded ((asks_in known) n.callee.node.value).starts) (known.words.and_then bounded (known.law bounded n.callee.node.value (Whole Plain)) (type_args_holds known bounded Plain n.type_args))
 
 -- and its arguments
-new_listed_holds : {X : Type 0} {holds : Bool → Part → Type 0} (known : Known holds X) (bounded : Bool) (n : NewExpr X) (keeps : Bool) (xs : List (ExprOrSpread X)) → holds bounded (λ rest. keyword None (codes "new") (new_gap ((asks_in known) n.callee.node.value).starts ((items_in known) n.callee.node.value Plain (type_args (items_in known) Plain n.type_args (listed_arguments (asks_in known) (items_in known) n.span keeps xs rest)))))
+new_listed_holds : {X : Type 0} {holds : Bool → Part → Type 0} (known : Known holds X) (bounded : Bool) (n : NewExpr X) (keeps : Bool) (xs : List (ExprOrSpread X)) → holds bounded (λ rest. keyword None (codes "new") (new_gap ((asks_in known) n.callee.node.value).starts ((items_in known) n.callee.node.value (Whole Plain) (type_args (items_in known) Plain n.type_args (listed_arguments (asks_in known) (items_in known) n.span keeps xs rest)))))
 unfolding listed_arguments
-new_listed_holds known bounded n false [] = known.words.bare_new bounded (λ rest. new_gap ((asks_in known) n.callee.node.value).starts ((items_in known) n.callee.node.value Plain (type_args (items_in known) Plain n.type_args rest))) (new_callee_holds known bounded n)
+new_listed_holds known bounded n false [] = known.words.bare_new bounded (λ rest. new_gap ((asks_in known) n.callee.node.value).starts ((items_in known) n.callee.node.value (Whole Plain) (type_args (items_in known) Plain n.type_args rest))) (new_callee_holds known bounded n)
 new_listed_holds known bounded n keeps xs = known.words.and_then bounded (known.words.keyword bounded None (codes "new")) (known.words.and_then bounded (new_callee_holds known bounded n) (arguments_holds known bounded new_format refl n.span xs))
 
-new_parts_hold : {Z : Type 0} {X : Type 0} {holds : Bool → Part → Type 0} (known : Known holds X) (bounded : Bool) (n : NewExpr X) (keeps : Bool) (args : Option (Vec (ExprOrSpread X) Z)) → holds bounded (λ rest. keyword None (codes "new") (new_gap ((asks_in known) n.callee.node.value).starts ((items_in known) n.callee.node.value Plain (type_args (items_in known) Plain n.type_args (new_arguments (asks_in known) (items_in known) n.span keeps args rest)))))
+new_parts_hold : {Z : Type 0} {X : Type 0} {holds : Bool → Part → Type 0} (known : Known holds X) (bounded : Bool) (n : NewExpr X) (keeps : Bool) (args : Option (Vec (ExprOrSpread X) Z)) → holds bounded (λ rest. keyword None (codes "new") (new_gap ((asks_in known) n.callee.node.value).starts ((items_in known) n.callee.node.value (Whole Plain) (type_args (items_in known) Plain n.type_args (new_arguments (asks_in known) (items_in known) n.span keeps args rest)))))
 unfolding new_arguments
 new_parts_hold known bounded n keeps None = known.words.and_then bounded (known.words.keyword bounded None (codes "new")) (new_callee_holds known bounded n)
 new_parts_hold known bounded n keeps (Some xs) = new_listed_holds known bounded n keeps xs.items
@@ -105,4 +106,4 @@ call_mark_holds words bounded optional = either words bounded optional (words.pu
 
 pub chain_call_holds : {X : Type 0} {holds : Bool → Part → Type 0} (known : Known holds X) (bounded : Bool) (optional : Bool) (n : OptCall X) → holds bounded (chain_call (asks_in known) (items_in known) optional n)
 unfolding chain_call
-chain_call_holds known bounded optional n = known.words.and_then bounded (known.law bounded n.callee.node.value Callee) (known.words.and_then bounded (call_mark_holds known.words bounded optional) (known.words.and_then bounded (type_args_holds known bounded Plain n.type_args) (arguments_holds known bounded call_format refl n.span n.args.items)))
+chain_call_holds known bounded optional n = known.words.and_then bounded (known.law bounded n.callee.node.value (Whole Callee)) (known.words.and_then bounded (call_mark_holds known.words bounded optional) (known.words.and_then bounded (type_args_holds known bounded Plain n.type_args) (arguments_holds known bounded call_format refl n.span n.args.items)))

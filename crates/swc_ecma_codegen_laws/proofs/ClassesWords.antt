@@ -30,8 +30,9 @@ use Rattle.swc_ecma_codegen_tree.specs.declared.ts_decls.TsExprWithTypeArgs.{TsE
 use Rattle.swc_ecma_codegen_tree.specs.declared.ts_members.TsIndexSignature.{TsIndexSignature}
 use Rattle.swc_ecma_codegen_grammar.specs.ClassPhrases.{accessibility_of}
 use Rattle.swc_ecma_codegen_tokens.specs.Run.{Part}
-use Rattle.swc_ecma_codegen_emit.specs.declared.nodes.Place.{Place}
-use Rattle.swc_ecma_codegen_emit.specs.declared.nodes.Place.TheVariants.{Plain, ClassHead, ClassWord, MethodHead, DeclarationTail, StaticHead, MethodDecorators, MethodTail, FieldValue}
+use Rattle.swc_ecma_codegen_emit.specs.declared.nodes.Context.TheVariants.{Plain, FieldValue}
+use Rattle.swc_ecma_codegen_emit.specs.declared.nodes.Piece.TheVariants.{ClassHead, ClassWord, MethodHead, DeclarationTail, StaticHead, MethodDecorators, MethodTail}
+use Rattle.swc_ecma_codegen_emit.specs.Places.{Place, Whole, Only}
 use Rattle.swc_ecma_codegen_emit.specs.FunctionExprs.{comma_list_format}
 use Rattle.swc_ecma_codegen_emit.specs.Functions.{decorator, decorators_format, decorator_place}
 use Rattle.swc_ecma_codegen_emit.specs.Lists.{child_of}
@@ -49,10 +50,10 @@ use Rattle.swc_ecma_codegen_laws.proofs.TsMembersWords.{ts_index_signature_holds
 pub heritage_holds : {X : Type 0} {holds : Bool → Part → Type 0} (known : Known holds X) (bounded : Bool) (x2 : Option (ExprBox X)) (args : Option (TsTypeParamInstantiationBox X)) → holds bounded (heritage (asks_in known) (items_in known) x2 args)
 unfolding heritage
 heritage_holds known bounded None args = known.words.none bounded
-heritage_holds known bounded (Some n) args = known.words.and_then bounded (known.words.space bounded) (known.words.and_then bounded (known.words.keyword bounded None (codes "extends")) (known.words.and_then bounded (blank_holds known.words bounded ((asks_in known) n.node.value).starts) (known.words.and_then bounded (known.law bounded n.node.value Plain) (type_args_holds known bounded Plain args))))
+heritage_holds known bounded (Some n) args = known.words.and_then bounded (known.words.space bounded) (known.words.and_then bounded (known.words.keyword bounded None (codes "extends")) (known.words.and_then bounded (blank_holds known.words bounded ((asks_in known) n.node.value).starts) (known.words.and_then bounded (known.law bounded n.node.value (Whole Plain)) (type_args_holds known bounded Plain args))))
 
 pub member_list_holds : {X : Type 0} {holds : Bool → Part → Type 0} (known : Known holds X) (bounded : Bool) (n : classes.Class X) → holds bounded (member_list (asks_in known) (items_in known) n)
-member_list_holds known bounded n = known.words.list bounded class_members_format refl n.span (map (child_of (λ m. ((asks_in known) m.node.value).place) (λ m place. (items_in known) m.node.value place)) n.body.items) (children_hold _ _ (λ m. ((asks_in known) m.node.value).place) (λ m place. (items_in known) m.node.value place) (λ m. (known.law bounded m.node.value Plain)) n.body.items)
+member_list_holds known bounded n = known.words.list bounded class_members_format refl n.span (map (child_of (λ m. ((asks_in known) m.node.value).place) (λ m place. (items_in known) m.node.value place)) n.body.items) (children_hold _ _ (λ m. ((asks_in known) m.node.value).place) (λ m place. (items_in known) m.node.value place) (λ m. (known.law bounded m.node.value (Whole Plain))) n.body.items)
 
 pub implemented_list_holds : {X : Type 0} {holds : Bool → Part → Type 0} (known : Known holds X) (bounded : Bool) (span : Span) (ns : List (TsExprWithTypeArgs X)) → holds bounded (implemented_list (items_in known) span ns)
 implemented_list_holds known bounded span ns = known.words.list bounded implemented_format refl span (map (child_of extended_place (λ n place. ts_expr_with_type_args (items_in known) n)) ns) (children_hold _ _ extended_place (λ n place. ts_expr_with_type_args (items_in known) n) (λ n. (ts_expr_with_type_args_holds known bounded n)) ns)
@@ -80,13 +81,13 @@ class_word_holds known bounded n = known.words.and_then bounded (word_before_hol
 
 pub class_holds : {X : Type 0} {holds : Bool → Part → Type 0} (known : Known holds X) (bounded : Bool) (n : classes.Class X) (place : Place) → holds bounded (class (asks_in known) (items_in known) n place)
 unfolding class
-class_holds known bounded n ClassHead = decorator_lines_holds known bounded n.decorators.items
-class_holds known bounded n ClassWord = class_word_holds known bounded n
+class_holds known bounded n (Only ClassHead) = decorator_lines_holds known bounded n.decorators.items
+class_holds known bounded n (Only ClassWord) = class_word_holds known bounded n
 class_holds known bounded n place = class_tail_holds known bounded n
 
 pub class_decl_holds : {X : Type 0} {holds : Bool → Part → Type 0} (known : Known holds X) (bounded : Bool) (n : ClassDecl X) → holds bounded (class_decl (asks_in known) (items_in known) n)
 unfolding class_decl
-class_decl_holds known bounded n = known.words.and_then bounded (known.words.leading_comments bounded ((asks_in known) n.class.node.value).place.lo) (known.words.and_then bounded (known.words.position bounded ((asks_in known) n.class.node.value).place.lo) (known.words.and_then bounded (declare_word_holds known.words bounded n.declare) (known.words.and_then bounded (known.law bounded n.class.node.value ClassHead) (known.words.and_then bounded (known.law bounded n.class.node.value ClassWord) (known.words.and_then bounded (known.words.space bounded) (known.words.and_then bounded (ident_holds known.words bounded n.ident) (known.law bounded n.class.node.value Plain)))))))
+class_decl_holds known bounded n = known.words.and_then bounded (known.words.leading_comments bounded ((asks_in known) n.class.node.value).place.lo) (known.words.and_then bounded (known.words.position bounded ((asks_in known) n.class.node.value).place.lo) (known.words.and_then bounded (declare_word_holds known.words bounded n.declare) (known.words.and_then bounded (known.law bounded n.class.node.value (Only ClassHead)) (known.words.and_then bounded (known.law bounded n.class.node.value (Only ClassWord)) (known.words.and_then bounded (known.words.space bounded) (known.words.and_then bounded (ident_holds known.words bounded n.ident) (known.law bounded n.class.node.value (Whole Plain))))))))
 
 pub accessibility_word_holds : {holds : Bool → Part → Type 0} (words : OfWords holds) (bounded : Bool) (x0 : Option Accessibility) → holds bounded (accessibility_word x0)
 unfolding accessibility_word
@@ -110,7 +111,7 @@ constructor_param_holds known bounded (params.TsParamProp n) = ts_param_prop_hol
 pub constructor_body_holds : {X : Type 0} {holds : Bool → Part → Type 0} (known : Known holds X) (bounded : Bool) (x1 : Option (BlockStmtBox X)) → holds bounded (constructor_body (items_in known) x1)
 unfolding constructor_body
 constructor_body_holds known bounded None = known.words.semi bounded
-constructor_body_holds known bounded (Some n) = known.law bounded n.node.value Plain
+constructor_body_holds known bounded (Some n) = known.law bounded n.node.value (Whole Plain)
 
 pub constructor_params_holds : {X : Type 0} {holds : Bool → Part → Type 0} (known : Known holds X) (bounded : Bool) (n : Constructor X) → holds bounded (constructor_params (asks_in known) (items_in known) n)
 constructor_params_holds known bounded n = known.words.list bounded comma_list_format refl n.span (map (child_of constructor_param_place (λ p place. constructor_param (asks_in known) (items_in known) p)) n.params.items) (children_hold _ _ constructor_param_place (λ p place. constructor_param (asks_in known) (items_in known) p) (λ p. (constructor_param_holds known bounded p)) n.params.items)
@@ -141,11 +142,11 @@ method_modifiers_holds words bounded is_abstract is_override = words.and_then bo
 
 pub static_method_holds : {X : Type 0} {holds : Bool → Part → Type 0} (known : Known holds X) (bounded : Bool) (n : ClassMethod X) → holds bounded (static_method (asks_in known) (items_in known) n)
 unfolding static_method
-static_method_holds known bounded n = either known.words bounded (n.is_abstract || n.is_override) (known.words.and_then bounded (known.words.space bounded) (known.words.and_then bounded (method_modifiers_holds known.words bounded n.is_abstract n.is_override) (known.law bounded n.function.node.value MethodHead))) (known.law bounded n.function.node.value (StaticHead ((asks_in known) n.key.node.value).starts))
+static_method_holds known bounded n = either known.words bounded (n.is_abstract || n.is_override) (known.words.and_then bounded (known.words.space bounded) (known.words.and_then bounded (method_modifiers_holds known.words bounded n.is_abstract n.is_override) (known.law bounded n.function.node.value (Only MethodHead)))) (known.law bounded n.function.node.value (Only (StaticHead ((asks_in known) n.key.node.value).starts)))
 
 pub method_word_holds : {X : Type 0} {holds : Bool → Part → Type 0} (known : Known holds X) (bounded : Bool) (n : ClassMethod X) → holds bounded (method_word (asks_in known) (items_in known) n)
 unfolding method_word
-method_word_holds known bounded n = either known.words bounded n.is_static (known.words.and_then bounded (known.words.keyword bounded None (codes "static")) (static_method_holds known bounded n)) (known.words.and_then bounded (method_modifiers_holds known.words bounded n.is_abstract n.is_override) (known.law bounded n.function.node.value MethodHead))
+method_word_holds known bounded n = either known.words bounded n.is_static (known.words.and_then bounded (known.words.keyword bounded None (codes "static")) (static_method_holds known bounded n)) (known.words.and_then bounded (method_modifiers_holds known.words bounded n.is_abstract n.is_override) (known.law bounded n.function.node.value (Only MethodHead)))
 
 pub accessor_words_holds : {X : Type 0} {holds : Bool → Part → Type 0} (known : Known holds X) (bounded : Bool) (n : ClassMethod X) → holds bounded (accessor_words n)
 unfolding accessor_words
@@ -159,15 +160,15 @@ method_kind_holds known bounded Setter n = known.words.and_then bounded (accesso
 
 pub method_rest_holds : {X : Type 0} {holds : Bool → Part → Type 0} (known : Known holds X) (bounded : Bool) (n : ClassMethod X) → holds bounded (method_rest (items_in known) n)
 unfolding method_rest
-method_rest_holds known bounded n = known.words.and_then bounded (known.law bounded n.key.node.value Plain) (known.words.and_then bounded (known.words.question bounded n.is_optional) (known.law bounded n.function.node.value MethodTail))
+method_rest_holds known bounded n = known.words.and_then bounded (known.law bounded n.key.node.value (Whole Plain)) (known.words.and_then bounded (known.words.question bounded n.is_optional) (known.law bounded n.function.node.value (Only MethodTail)))
 
 pub class_method_holds : {X : Type 0} {holds : Bool → Part → Type 0} (known : Known holds X) (bounded : Bool) (n : ClassMethod X) → holds bounded (class_method (asks_in known) (items_in known) n)
 unfolding class_method
-class_method_holds known bounded n = known.words.and_then bounded (known.words.leading_comments bounded n.span.lo) (known.words.and_then bounded (known.words.leading_comments bounded ((asks_in known) n.key.node.value).place.lo) (known.words.and_then bounded (known.words.position bounded n.span.lo) (known.words.and_then bounded (known.law bounded n.function.node.value MethodDecorators) (known.words.and_then bounded (accessibility_word_holds known.words bounded n.accessibility) (known.words.and_then bounded (method_kind_holds known bounded n.kind n) (method_rest_holds known bounded n))))))
+class_method_holds known bounded n = known.words.and_then bounded (known.words.leading_comments bounded n.span.lo) (known.words.and_then bounded (known.words.leading_comments bounded ((asks_in known) n.key.node.value).place.lo) (known.words.and_then bounded (known.words.position bounded n.span.lo) (known.words.and_then bounded (known.law bounded n.function.node.value (Only MethodDecorators)) (known.words.and_then bounded (accessibility_word_holds known.words bounded n.accessibility) (known.words.and_then bounded (method_kind_holds known bounded n.kind n) (method_rest_holds known bounded n))))))
 
 pub private_kind_holds : {X : Type 0} {holds : Bool → Part → Type 0} (known : Known holds X) (bounded : Bool) (x1 : MethodKind) (n : PrivateMethod X) → holds bounded (private_kind (items_in known) x1 n)
 unfolding private_kind
-private_kind_holds known bounded Method n = known.law bounded n.function.node.value MethodHead
+private_kind_holds known bounded Method n = known.law bounded n.function.node.value (Only MethodHead)
 private_kind_holds known bounded Getter n = accessor_word_holds known.words bounded (codes "get") true
 private_kind_holds known bounded Setter n = accessor_word_holds known.words bounded (codes "set") true
 
@@ -177,16 +178,16 @@ private_words_holds known bounded n = known.words.and_then bounded (static_word_
 
 pub private_rest_holds : {X : Type 0} {holds : Bool → Part → Type 0} (known : Known holds X) (bounded : Bool) (n : PrivateMethod X) → holds bounded (private_rest (items_in known) n)
 unfolding private_rest
-private_rest_holds known bounded n = known.words.and_then bounded (private_name_holds known.words bounded n.key) (known.words.and_then bounded (known.words.question bounded n.is_optional) (known.law bounded n.function.node.value DeclarationTail))
+private_rest_holds known bounded n = known.words.and_then bounded (private_name_holds known.words bounded n.key) (known.words.and_then bounded (known.words.question bounded n.is_optional) (known.law bounded n.function.node.value (Only DeclarationTail)))
 
 pub private_method_holds : {X : Type 0} {holds : Bool → Part → Type 0} (known : Known holds X) (bounded : Bool) (n : PrivateMethod X) → holds bounded (private_method (items_in known) n)
 unfolding private_method
-private_method_holds known bounded n = known.words.and_then bounded (known.words.leading_comments bounded n.span.lo) (known.words.and_then bounded (known.words.position bounded n.span.lo) (known.words.and_then bounded (known.law bounded n.function.node.value MethodDecorators) (known.words.and_then bounded (accessibility_word_holds known.words bounded n.accessibility) (known.words.and_then bounded (private_words_holds known bounded n) (known.words.and_then bounded (private_kind_holds known bounded n.kind n) (private_rest_holds known bounded n))))))
+private_method_holds known bounded n = known.words.and_then bounded (known.words.leading_comments bounded n.span.lo) (known.words.and_then bounded (known.words.position bounded n.span.lo) (known.words.and_then bounded (known.law bounded n.function.node.value (Only MethodDecorators)) (known.words.and_then bounded (accessibility_word_holds known.words bounded n.accessibility) (known.words.and_then bounded (private_words_holds known bounded n) (known.words.and_then bounded (private_kind_holds known bounded n.kind n) (private_rest_holds known bounded n))))))
 
 pub prop_value_holds : {X : Type 0} {holds : Bool → Part → Type 0} (known : Known holds X) (bounded : Bool) (x1 : Option (ExprBox X)) → holds bounded (prop_value (items_in known) x1)
 unfolding prop_value
 prop_value_holds known bounded None = known.words.none bounded
-prop_value_holds known bounded (Some n) = known.words.and_then bounded (known.words.formatting_space bounded) (known.words.and_then bounded (known.words.punct bounded (codes "=")) (known.words.and_then bounded (known.words.formatting_space bounded) (known.law bounded n.node.value FieldValue)))
+prop_value_holds known bounded (Some n) = known.words.and_then bounded (known.words.formatting_space bounded) (known.words.and_then bounded (known.words.punct bounded (codes "=")) (known.words.and_then bounded (known.words.formatting_space bounded) (known.law bounded n.node.value (Whole FieldValue))))
 
 pub prop_modifiers_holds : {X : Type 0} {holds : Bool → Part → Type 0} (known : Known holds X) (bounded : Bool) (n : ClassProp X) → holds bounded (prop_modifiers n)
 unfolding prop_modifiers
@@ -194,7 +195,7 @@ prop_modifiers_holds known bounded n = known.words.and_then bounded (declare_wor
 
 pub prop_tail_holds : {X : Type 0} {holds : Bool → Part → Type 0} (known : Known holds X) (bounded : Bool) (n : ClassProp X) → holds bounded (prop_tail (items_in known) n)
 unfolding prop_tail
-prop_tail_holds known bounded n = known.words.and_then bounded (known.law bounded n.key.node.value Plain) (known.words.and_then bounded (known.words.question bounded n.is_optional) (known.words.and_then bounded (field_annotation_holds known bounded n.definite n.type_ann) (known.words.and_then bounded (prop_value_holds known bounded n.value) (known.words.and_then bounded (known.words.semi bounded) (known.words.position bounded n.span.hi)))))
+prop_tail_holds known bounded n = known.words.and_then bounded (known.law bounded n.key.node.value (Whole Plain)) (known.words.and_then bounded (known.words.question bounded n.is_optional) (known.words.and_then bounded (field_annotation_holds known bounded n.definite n.type_ann) (known.words.and_then bounded (prop_value_holds known bounded n.value) (known.words.and_then bounded (known.words.semi bounded) (known.words.position bounded n.span.hi)))))
 
 pub class_prop_holds : {X : Type 0} {holds : Bool → Part → Type 0} (known : Known holds X) (bounded : Bool) (n : ClassProp X) → holds bounded (class_prop (items_in known) n)
 unfolding class_prop
@@ -217,7 +218,7 @@ private_prop_holds known bounded n = known.words.and_then bounded (known.words.l
 
 pub accessor_key_holds : {X : Type 0} {holds : Bool → Part → Type 0} (known : Known holds X) (bounded : Bool) (x1 : Key X) → holds bounded (accessor_key (items_in known) x1)
 unfolding accessor_key
-accessor_key_holds known bounded (keys.Public n) = known.law bounded n.node.value Plain
+accessor_key_holds known bounded (keys.Public n) = known.law bounded n.node.value (Whole Plain)
 accessor_key_holds known bounded (keys.Private n) = private_name_holds known.words bounded n
 
 pub accessor_decorators_holds : {X : Type 0} {holds : Bool → Part → Type 0} (known : Known holds X) (bounded : Bool) (n : AutoAccessor X) → holds bounded (accessor_decorators (items_in known) n)
@@ -237,7 +238,7 @@ auto_accessor_holds known bounded n = known.words.and_then bounded (accessor_dec
 
 pub static_block_holds : {X : Type 0} {holds : Bool → Part → Type 0} (known : Known holds X) (bounded : Bool) (n : StaticBlock X) → holds bounded (static_block (items_in known) n)
 unfolding static_block
-static_block_holds known bounded n = known.words.and_then bounded (known.words.leading_comments bounded n.span.lo) (known.words.and_then bounded (known.words.position bounded n.span.lo) (known.words.and_then bounded (known.words.keyword bounded None (codes "static")) (known.words.and_then bounded (known.law bounded n.body.node.value Plain) (known.words.position bounded n.span.hi))))
+static_block_holds known bounded n = known.words.and_then bounded (known.words.leading_comments bounded n.span.lo) (known.words.and_then bounded (known.words.position bounded n.span.lo) (known.words.and_then bounded (known.words.keyword bounded None (codes "static")) (known.words.and_then bounded (known.law bounded n.body.node.value (Whole Plain)) (known.words.position bounded n.span.hi))))
 
 pub empty_member_holds : {holds : Bool → Part → Type 0} (words : OfWords holds) (bounded : Bool) (n : EmptyStmt) → holds bounded (empty_member n)
 unfolding empty_member

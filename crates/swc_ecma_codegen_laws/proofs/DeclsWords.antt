@@ -13,13 +13,13 @@ use Rattle.swc_ecma_codegen_tree.specs.declared.decls.VarDeclKind.{VarDeclKind}
 use Rattle.swc_ecma_codegen_tree.specs.declared.decls.VarDeclKind.TheVariants.{Var, Let, Const}
 use Rattle.swc_ecma_codegen_tree.specs.declared.decls.VarDeclarator.{VarDeclarator}
 use Rattle.swc_ecma_codegen_tokens.specs.Run.{Part}
-use Rattle.swc_ecma_codegen_emit.specs.declared.nodes.Place.{Place}
-use Rattle.swc_ecma_codegen_emit.specs.declared.nodes.Place.TheVariants.{Plain, ClassHead, ClassWord, DeclarationHead, DeclarationTail, ExportedHead, ExportedTail, Statement}
-use Rattle.swc_ecma_codegen_emit.specs.Classes.{class_decl}
+use Rattle.swc_ecma_codegen_emit.specs.declared.nodes.Context.{Context}
+use Rattle.swc_ecma_codegen_emit.specs.declared.nodes.Context.TheVariants.{Plain, Statement}
+use Rattle.swc_ecma_codegen_emit.specs.declared.nodes.Piece.TheVariants.{ClassHead, ClassWord, DeclarationHead, DeclarationTail, ExportedHead, ExportedTail}
+use Rattle.swc_ecma_codegen_emit.specs.Places.{Place, Whole, Only, context_of}
 use Rattle.swc_ecma_codegen_emit.specs.Lists.{child_of}
-use Rattle.swc_ecma_codegen_emit.specs.TsDecls.{ts_interface_decl, ts_type_alias_decl, ts_enum_decl, ts_module_decl}
 use Rattle.swc_ecma_codegen_laws.proofs.OfWords.{OfWords, Known, asks_in, items_in, either}
-use Rattle.swc_ecma_codegen_emit.specs.Decls.{declarators_format, fn_decl, var_declarator, declarator_place, declarators, var_kind, first_is_unmarked, var_decl, await_word, using_decl, decl_end, by_export, exported_class, without_head, variables, resources, decl}
+use Rattle.swc_ecma_codegen_emit.specs.Decls.{declarators_format, fn_decl, var_declarator, declarator_place, declarators, var_kind, first_is_unmarked, var_decl, await_word, using_decl, decl_end, exported_class, exported_head, exported_tail, variables, resources, whole_decl, decl}
 use Rattle.swc_ecma_codegen_laws.proofs.ClassesWords.{class_decl_holds}
 use Rattle.swc_ecma_codegen_laws.proofs.ExprsWords.{blank_holds, ident_holds, opened_holds}
 use Rattle.swc_ecma_codegen_laws.proofs.PatsWords.{declared_pat_holds, initializer_holds}
@@ -27,7 +27,7 @@ use Rattle.swc_ecma_codegen_laws.proofs.TsDeclsWords.{declare_word_holds, ts_enu
 
 pub fn_decl_holds : {X : Type 0} {holds : Bool → Part → Type 0} (known : Known holds X) (bounded : Bool) (n : FnDecl X) → holds bounded (fn_decl (asks_in known) (items_in known) n)
 unfolding fn_decl
-fn_decl_holds known bounded n = known.words.and_then bounded (known.words.leading_comments bounded ((asks_in known) n.function.node.value).place.lo) (known.words.and_then bounded (known.words.commit_pending_semi bounded) (known.words.and_then bounded (known.words.position bounded ((asks_in known) n.function.node.value).place.lo) (known.words.and_then bounded (declare_word_holds known.words bounded n.declare) (known.words.and_then bounded (known.law bounded n.function.node.value DeclarationHead) (known.words.and_then bounded (ident_holds known.words bounded n.ident) (known.law bounded n.function.node.value DeclarationTail))))))
+fn_decl_holds known bounded n = known.words.and_then bounded (known.words.leading_comments bounded ((asks_in known) n.function.node.value).place.lo) (known.words.and_then bounded (known.words.commit_pending_semi bounded) (known.words.and_then bounded (known.words.position bounded ((asks_in known) n.function.node.value).place.lo) (known.words.and_then bounded (declare_word_holds known.words bounded n.declare) (known.words.and_then bounded (known.law bounded n.function.node.value (Only DeclarationHead)) (known.words.and_then bounded (ident_holds known.words bounded n.ident) (known.law bounded n.function.node.value (Only DeclarationTail)))))))
 
 pub var_declarator_holds : {X : Type 0} {holds : Bool → Part → Type 0} (known : Known holds X) (bounded : Bool) (n : VarDeclarator X) → holds bounded (var_declarator (asks_in known) (items_in known) n)
 unfolding var_declarator
@@ -54,40 +54,46 @@ pub using_decl_holds : {X : Type 0} {holds : Bool → Part → Type 0} (known : 
 unfolding using_decl
 using_decl_holds known bounded n = known.words.and_then bounded (known.words.leading_comments bounded n.span.lo) (known.words.and_then bounded (await_word_holds known.words bounded n.is_await) (known.words.and_then bounded (known.words.keyword bounded None (codes "using")) (known.words.and_then bounded (known.words.space bounded) (declarators_holds known bounded n.span n.decls.items))))
 
-pub decl_end_holds : {holds : Bool → Part → Type 0} (words : OfWords holds) (bounded : Bool) (place : Place) (span : Span) → holds bounded (decl_end place span)
+pub decl_end_holds : {holds : Bool → Part → Type 0} (words : OfWords holds) (bounded : Bool) (context : Context) (span : Span) → holds bounded (decl_end context span)
 unfolding decl_end
 decl_end_holds words bounded Statement span = words.none bounded
-decl_end_holds words bounded place span = words.position bounded span.hi
-
-pub by_export_holds : {holds : Bool → Part → Type 0} (words : OfWords holds) (bounded : Bool) (place : Place) (head : Part) → holds bounded head → (tail : Part) → holds bounded tail → (whole : Part) → holds bounded whole → holds bounded (by_export place head tail whole)
-unfolding by_export
-by_export_holds words bounded ExportedHead head h_head tail h_tail whole h_whole = h_head
-by_export_holds words bounded ExportedTail head h_head tail h_tail whole h_whole = h_tail
-by_export_holds words bounded place head h_head tail h_tail whole h_whole = h_whole
+decl_end_holds words bounded context span = words.position bounded span.hi
 
 pub exported_class_holds : {X : Type 0} {holds : Bool → Part → Type 0} (known : Known holds X) (bounded : Bool) (n : ClassDecl X) → holds bounded (exported_class (asks_in known) (items_in known) n)
 unfolding exported_class
-exported_class_holds known bounded n = known.words.and_then bounded (known.words.leading_comments bounded ((asks_in known) n.class.node.value).place.lo) (known.words.and_then bounded (known.words.position bounded ((asks_in known) n.class.node.value).place.lo) (known.words.and_then bounded (declare_word_holds known.words bounded n.declare) (known.words.and_then bounded (known.law bounded n.class.node.value ClassWord) (known.words.and_then bounded (known.words.space bounded) (known.words.and_then bounded (ident_holds known.words bounded n.ident) (known.law bounded n.class.node.value Plain))))))
+exported_class_holds known bounded n = known.words.and_then bounded (known.words.leading_comments bounded ((asks_in known) n.class.node.value).place.lo) (known.words.and_then bounded (known.words.position bounded ((asks_in known) n.class.node.value).place.lo) (known.words.and_then bounded (declare_word_holds known.words bounded n.declare) (known.words.and_then bounded (known.law bounded n.class.node.value (Only ClassWord)) (known.words.and_then bounded (known.words.space bounded) (known.words.and_then bounded (ident_holds known.words bounded n.ident) (known.law bounded n.class.node.value (Whole Plain)))))))
 
-pub without_head_holds : {holds : Bool → Part → Type 0} (words : OfWords holds) (bounded : Bool) (place : Place) (part : Part) → holds bounded part → holds bounded (without_head place part)
-unfolding without_head
-without_head_holds words bounded place part h_part = by_export_holds words bounded place (λ after. after) (words.none bounded) part h_part part h_part
-
-pub variables_holds : {X : Type 0} {holds : Bool → Part → Type 0} (known : Known holds X) (bounded : Bool) (n : VarDecl X) (place : Place) → holds bounded (variables (asks_in known) (items_in known) n place)
+pub variables_holds : {X : Type 0} {holds : Bool → Part → Type 0} (known : Known holds X) (bounded : Bool) (n : VarDecl X) (context : Context) → holds bounded (variables (asks_in known) (items_in known) n context)
 unfolding variables
-variables_holds known bounded n place = known.words.and_then bounded (var_decl_holds known bounded n) (known.words.and_then bounded (known.words.semi bounded) (decl_end_holds known.words bounded place n.span))
+variables_holds known bounded n context = known.words.and_then bounded (var_decl_holds known bounded n) (known.words.and_then bounded (known.words.semi bounded) (decl_end_holds known.words bounded context n.span))
 
 pub resources_holds : {X : Type 0} {holds : Bool → Part → Type 0} (known : Known holds X) (bounded : Bool) (n : UsingDecl X) → holds bounded (resources (asks_in known) (items_in known) n)
 unfolding resources
 resources_holds known bounded n = known.words.and_then bounded (using_decl_holds known bounded n) (known.words.semi bounded)
 
-pub decl_holds : {X : Type 0} {holds : Bool → Part → Type 0} (known : Known holds X) (bounded : Bool) (x2 : Decl X) (place : Place) → holds bounded (decl (asks_in known) (items_in known) x2 place)
+pub whole_decl_holds : {X : Type 0} {holds : Bool → Part → Type 0} (known : Known holds X) (bounded : Bool) (x2 : Decl X) (context : Context) → holds bounded (whole_decl (asks_in known) (items_in known) x2 context)
+unfolding whole_decl
+whole_decl_holds known bounded (decls.Class n) context = class_decl_holds known bounded n
+whole_decl_holds known bounded (decls.Fn n) context = fn_decl_holds known bounded n
+whole_decl_holds known bounded (decls.Var n) context = variables_holds known bounded n context
+whole_decl_holds known bounded (decls.Using n) context = resources_holds known bounded n
+whole_decl_holds known bounded (decls.TsInterface n) context = ts_interface_decl_holds known bounded n.value
+whole_decl_holds known bounded (decls.TsTypeAlias n) context = ts_type_alias_decl_holds known bounded n.value
+whole_decl_holds known bounded (decls.TsEnum n) context = ts_enum_decl_holds known bounded n.value
+whole_decl_holds known bounded (decls.TsModule n) context = ts_module_decl_holds known bounded n.value
+
+pub exported_head_holds : {X : Type 0} {holds : Bool → Part → Type 0} (known : Known holds X) (bounded : Bool) (x1 : Decl X) → holds bounded (exported_head (items_in known) x1)
+unfolding exported_head
+exported_head_holds known bounded (decls.Class n) = known.law bounded n.class.node.value (Only ClassHead)
+exported_head_holds known bounded n = known.words.none bounded
+
+pub exported_tail_holds : {X : Type 0} {holds : Bool → Part → Type 0} (known : Known holds X) (bounded : Bool) (x2 : Decl X) → holds bounded (exported_tail (asks_in known) (items_in known) x2)
+unfolding exported_tail
+exported_tail_holds known bounded (decls.Class n) = exported_class_holds known bounded n
+exported_tail_holds known bounded n = whole_decl_holds known bounded n Plain
+
+pub decl_holds : {X : Type 0} {holds : Bool → Part → Type 0} (known : Known holds X) (bounded : Bool) (n : Decl X) (place : Place) → holds bounded (decl (asks_in known) (items_in known) n place)
 unfolding decl
-decl_holds known bounded (decls.Class n) place = by_export_holds known.words bounded place ((items_in known) n.class.node.value ClassHead) (known.law bounded n.class.node.value ClassHead) (exported_class (asks_in known) (items_in known) n) (exported_class_holds known bounded n) (class_decl (asks_in known) (items_in known) n) (class_decl_holds known bounded n)
-decl_holds known bounded (decls.Fn n) place = without_head_holds known.words bounded place (fn_decl (asks_in known) (items_in known) n) (fn_decl_holds known bounded n)
-decl_holds known bounded (decls.Var n) place = without_head_holds known.words bounded place (variables (asks_in known) (items_in known) n place) (variables_holds known bounded n place)
-decl_holds known bounded (decls.Using n) place = without_head_holds known.words bounded place (resources (asks_in known) (items_in known) n) (resources_holds known bounded n)
-decl_holds known bounded (decls.TsInterface n) place = without_head_holds known.words bounded place (ts_interface_decl (items_in known) n.value) (ts_interface_decl_holds known bounded n.value)
-decl_holds known bounded (decls.TsTypeAlias n) place = without_head_holds known.words bounded place (ts_type_alias_decl (items_in known) n.value) (ts_type_alias_decl_holds known bounded n.value)
-decl_holds known bounded (decls.TsEnum n) place = without_head_holds known.words bounded place (ts_enum_decl (items_in known) n.value) (ts_enum_decl_holds known bounded n.value)
-decl_holds known bounded (decls.TsModule n) place = without_head_holds known.words bounded place (ts_module_decl (items_in known) n.value) (ts_module_decl_holds known bounded n.value)
+decl_holds known bounded n (Only ExportedHead) = exported_head_holds known bounded n
+decl_holds known bounded n (Only ExportedTail) = exported_tail_holds known bounded n
+decl_holds known bounded n place = whole_decl_holds known bounded n (context_of place)

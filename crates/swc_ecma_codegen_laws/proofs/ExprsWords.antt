@@ -35,8 +35,9 @@ use Rattle.swc_ecma_codegen_common.specs.Operators.{unary_text}
 use Rattle.swc_ecma_codegen_spans.specs.Spans.{spread_element_span}
 use Rattle.swc_ecma_codegen_util.specs.Starts as starts
 use Rattle.swc_ecma_codegen_tokens.specs.Run.{Part}
-use Rattle.swc_ecma_codegen_emit.specs.declared.nodes.Place.{Place}
-use Rattle.swc_ecma_codegen_emit.specs.declared.nodes.Place.TheVariants.{Plain, LeftOperand, Callee, Chain}
+use Rattle.swc_ecma_codegen_emit.specs.declared.nodes.Context.{Context}
+use Rattle.swc_ecma_codegen_emit.specs.declared.nodes.Context.TheVariants.{Plain, LeftOperand, Callee, Chain, OptionalChain}
+use Rattle.swc_ecma_codegen_emit.specs.Places.{Whole, chain}
 use Rattle.swc_ecma_codegen_emit.specs.Answers.{Answers, place_of}
 use Rattle.swc_ecma_codegen_emit.specs.Operands.{operand_space}
 use Rattle.swc_ecma_codegen_emit.specs.Exprs.{before_op, after_op}
@@ -87,11 +88,11 @@ unary_gap_holds words bounded op arg = either words bounded (starts.is_word_op o
 
 pub unary_holds : {X : Type 0} {holds : Bool → Part → Type 0} (known : Known holds X) (bounded : Bool) (n : UnaryExpr X) → holds bounded (unary (asks_in known) (items_in known) n)
 unfolding unary
-unary_holds known bounded n = known.words.and_then bounded (opened_holds known.words bounded n.span) (known.words.and_then bounded (unary_op_holds known.words bounded n.op) (known.words.and_then bounded (unary_gap_holds known.words bounded n.op ((asks_in known) n.arg.node.value)) (known.law bounded n.arg.node.value Plain)))
+unary_holds known bounded n = known.words.and_then bounded (opened_holds known.words bounded n.span) (known.words.and_then bounded (unary_op_holds known.words bounded n.op) (known.words.and_then bounded (unary_gap_holds known.words bounded n.op ((asks_in known) n.arg.node.value)) (known.law bounded n.arg.node.value (Whole Plain))))
 
 pub update_parts_holds : {X : Type 0} {holds : Bool → Part → Type 0} (known : Known holds X) (bounded : Bool) (n : UpdateExpr X) → holds bounded (update_parts (items_in known) n)
 unfolding update_parts
-update_parts_holds known bounded n = either known.words bounded n.prefix (known.words.and_then bounded (known.words.update_operator bounded n.op) (known.law bounded n.arg.node.value Plain)) (known.words.and_then bounded (known.law bounded n.arg.node.value Plain) (known.words.update_operator bounded n.op))
+update_parts_holds known bounded n = either known.words bounded n.prefix (known.words.and_then bounded (known.words.update_operator bounded n.op) (known.law bounded n.arg.node.value (Whole Plain))) (known.words.and_then bounded (known.law bounded n.arg.node.value (Whole Plain)) (known.words.update_operator bounded n.op))
 
 pub update_holds : {X : Type 0} {holds : Bool → Part → Type 0} (known : Known holds X) (bounded : Bool) (n : UpdateExpr X) → holds bounded (update (items_in known) n)
 unfolding update
@@ -105,16 +106,16 @@ bin_operator_holds known bounded n =
 
 pub bin_trailing_holds : {X : Type 0} {holds : Bool → Part → Type 0} (known : Known holds X) (bounded : Bool) (n : BinExpr X) → holds bounded (bin_trailing (asks_in known) (items_in known) n)
 unfolding bin_trailing
-bin_trailing_holds known bounded n = known.words.and_then bounded (bin_operator_holds known bounded n) (known.law bounded n.right.node.value Plain)
+bin_trailing_holds known bounded n = known.words.and_then bounded (bin_operator_holds known bounded n) (known.law bounded n.right.node.value (Whole Plain))
 
-pub bin_opened_holds : {holds : Bool → Part → Type 0} (words : OfWords holds) (bounded : Bool) (place : Place) (span : Span) → holds bounded (bin_opened place span)
+pub bin_opened_holds : {holds : Bool → Part → Type 0} (words : OfWords holds) (bounded : Bool) (context : Context) (span : Span) → holds bounded (bin_opened context span)
 unfolding bin_opened
 bin_opened_holds words bounded LeftOperand span = words.none bounded
-bin_opened_holds words bounded place span = opened_holds words bounded span
+bin_opened_holds words bounded context span = opened_holds words bounded span
 
-pub bin_holds : {X : Type 0} {holds : Bool → Part → Type 0} (known : Known holds X) (bounded : Bool) (n : BinExpr X) (place : Place) → holds bounded (bin (asks_in known) (items_in known) n place)
+pub bin_holds : {X : Type 0} {holds : Bool → Part → Type 0} (known : Known holds X) (bounded : Bool) (n : BinExpr X) (context : Context) → holds bounded (bin (asks_in known) (items_in known) n context)
 unfolding bin
-bin_holds known bounded n place = known.words.and_then bounded (bin_opened_holds known.words bounded place n.span) (known.words.and_then bounded (known.law bounded n.left.node.value LeftOperand) (bin_trailing_holds known bounded n))
+bin_holds known bounded n context = known.words.and_then bounded (bin_opened_holds known.words bounded context n.span) (known.words.and_then bounded (known.law bounded n.left.node.value (Whole LeftOperand)) (bin_trailing_holds known bounded n))
 
 pub comments_before_holds : {holds : Bool → Part → Type 0} (words : OfWords holds) (bounded : Bool) (pos : BytePos) → holds bounded (comments_before pos)
 unfolding comments_before
@@ -122,7 +123,7 @@ comments_before_holds words bounded pos = either words bounded (pos.0 == 0) (wor
 
 pub computed_prop_name_holds : {X : Type 0} {holds : Bool → Part → Type 0} (known : Known holds X) (bounded : Bool) (n : ComputedPropName X) → holds bounded (computed_prop_name (items_in known) n)
 unfolding computed_prop_name
-computed_prop_name_holds known bounded n = known.words.and_then bounded (known.words.position bounded n.span.lo) (known.words.and_then bounded (known.words.punct bounded (codes "[")) (known.words.and_then bounded (known.law bounded n.expr.node.value Plain) (known.words.and_then bounded (known.words.punct bounded (codes "]")) (known.words.position bounded n.span.hi))))
+computed_prop_name_holds known bounded n = known.words.and_then bounded (known.words.position bounded n.span.lo) (known.words.and_then bounded (known.words.punct bounded (codes "[")) (known.words.and_then bounded (known.law bounded n.expr.node.value (Whole Plain)) (known.words.and_then bounded (known.words.punct bounded (codes "]")) (known.words.position bounded n.span.hi))))
 
 pub member_prop_holds : {X : Type 0} {holds : Bool → Part → Type 0} (known : Known holds X) (bounded : Bool) (x1 : MemberProp X) → holds bounded (member_prop (items_in known) x1)
 unfolding member_prop
@@ -132,7 +133,7 @@ member_prop_holds known bounded (member_props.Computed n) = computed_prop_name_h
 
 pub member_holds : {X : Type 0} {holds : Bool → Part → Type 0} (known : Known holds X) (bounded : Bool) (n : MemberExpr X) → holds bounded (member (items_in known) n)
 unfolding member
-member_holds known bounded n = known.words.and_then bounded (opened_holds known.words bounded n.span) (known.words.and_then bounded (known.law bounded n.obj.node.value (object_place n.prop)) (known.words.and_then bounded (member_prop_holds known bounded n.prop) (known.words.position bounded n.span.hi)))
+member_holds known bounded n = known.words.and_then bounded (opened_holds known.words bounded n.span) (known.words.and_then bounded (known.law bounded n.obj.node.value (Whole (object_place n.prop))) (known.words.and_then bounded (member_prop_holds known bounded n.prop) (known.words.position bounded n.span.hi)))
 
 pub super_prop_holds : {X : Type 0} {holds : Bool → Part → Type 0} (known : Known holds X) (bounded : Bool) (x1 : SuperProp X) → holds bounded (super_prop (items_in known) x1)
 unfolding super_prop
@@ -157,17 +158,18 @@ chain_prop_holds known bounded (member_props.Computed n) = computed_prop_name_ho
 
 pub chain_member_holds : {X : Type 0} {holds : Bool → Part → Type 0} (known : Known holds X) (bounded : Bool) (optional : Bool) (n : MemberExpr X) → holds bounded (chain_member (items_in known) optional n)
 unfolding chain_member
-chain_member_holds known bounded optional n = known.words.and_then bounded (known.law bounded n.obj.node.value Callee) (known.words.and_then bounded (chain_mark_holds known bounded optional n.prop) (chain_prop_holds known bounded n.prop))
+chain_member_holds known bounded optional n = known.words.and_then bounded (known.law bounded n.obj.node.value (Whole Callee)) (known.words.and_then bounded (chain_mark_holds known bounded optional n.prop) (chain_prop_holds known bounded n.prop))
 
-pub member_at_holds : {X : Type 0} {holds : Bool → Part → Type 0} (known : Known holds X) (bounded : Bool) (n : MemberExpr X) (place : Place) → holds bounded (member_at (items_in known) n place)
+pub member_at_holds : {X : Type 0} {holds : Bool → Part → Type 0} (known : Known holds X) (bounded : Bool) (n : MemberExpr X) (context : Context) → holds bounded (member_at (items_in known) n context)
 unfolding member_at
-member_at_holds known bounded n (Chain optional) = chain_member_holds known bounded optional n
-member_at_holds known bounded n place = member_holds known bounded n
+member_at_holds known bounded n Chain = chain_member_holds known bounded false n
+member_at_holds known bounded n OptionalChain = chain_member_holds known bounded true n
+member_at_holds known bounded n context = member_holds known bounded n
 
 pub chain_base_holds : {X : Type 0} {holds : Bool → Part → Type 0} (known : Known holds X) (bounded : Bool) (optional : Bool) (x2 : OptChainBase X) → holds bounded (chain_base (items_in known) optional x2)
 unfolding chain_base
-chain_base_holds known bounded optional (chain_bases.Member n) = known.law bounded n.node.value (Chain optional)
-chain_base_holds known bounded optional (chain_bases.Call n) = known.law bounded n.node.value (Chain optional)
+chain_base_holds known bounded optional (chain_bases.Member n) = known.law bounded n.node.value (Whole (chain optional))
+chain_base_holds known bounded optional (chain_bases.Call n) = known.law bounded n.node.value (Whole (chain optional))
 
 pub opt_chain_holds : {X : Type 0} {holds : Bool → Part → Type 0} (known : Known holds X) (bounded : Bool) (n : OptChainExpr X) → holds bounded (opt_chain (items_in known) n)
 unfolding opt_chain
@@ -184,12 +186,12 @@ meta_prop_expr_holds words bounded n = words.and_then bounded (opened_holds word
 
 pub assign_holds : {X : Type 0} {holds : Bool → Part → Type 0} (known : Known holds X) (bounded : Bool) (n : AssignExpr X) → holds bounded (assign (items_in known) n)
 unfolding assign
-assign_holds known bounded n = known.words.and_then bounded (known.words.leading_comments bounded n.span.lo) (known.words.and_then bounded (known.law bounded n.left.node.value Plain) (known.words.and_then bounded (known.words.formatting_space bounded) (known.words.and_then bounded (known.words.assign_operator bounded n.op) (known.words.and_then bounded (known.words.formatting_space bounded) (known.law bounded n.right.node.value Plain)))))
+assign_holds known bounded n = known.words.and_then bounded (known.words.leading_comments bounded n.span.lo) (known.words.and_then bounded (known.law bounded n.left.node.value (Whole Plain)) (known.words.and_then bounded (known.words.formatting_space bounded) (known.words.and_then bounded (known.words.assign_operator bounded n.op) (known.words.and_then bounded (known.words.formatting_space bounded) (known.law bounded n.right.node.value (Whole Plain))))))
 
 pub yield_argument_in_holds : {X : Type 0} {holds : Bool → Part → Type 0} (known : Known holds X) (bounded : Bool) (delegate : Bool) (x : X) (x4 : Bool) → holds bounded (yield_argument_in (asks_in known) (items_in known) delegate x x4)
 unfolding yield_argument_in
-yield_argument_in_holds known bounded delegate x true = optional_parentheses_hold known.words bounded true ((items_in known) x Plain) (known.law bounded x Plain)
-yield_argument_in_holds known bounded delegate x false = known.words.and_then bounded (blank_holds known.words bounded (if delegate then false else ((asks_in known) x).starts)) (known.law bounded x Plain)
+yield_argument_in_holds known bounded delegate x true = optional_parentheses_hold known.words bounded true ((items_in known) x (Whole Plain)) (known.law bounded x (Whole Plain))
+yield_argument_in_holds known bounded delegate x false = known.words.and_then bounded (blank_holds known.words bounded (if delegate then false else ((asks_in known) x).starts)) (known.law bounded x (Whole Plain))
 
 pub yield_argument_holds : {X : Type 0} {holds : Bool → Part → Type 0} (known : Known holds X) (bounded : Bool) (delegate : Bool) (x : X) → holds bounded (yield_argument (asks_in known) (items_in known) delegate x)
 unfolding yield_argument
@@ -206,20 +208,20 @@ yield_expr_holds known bounded n = known.words.and_then bounded (opened_holds kn
 
 pub spread_element_holds : {X : Type 0} {holds : Bool → Part → Type 0} (known : Known holds X) (bounded : Bool) (n : SpreadElement X) → holds bounded (spread_element (asks_in known) (items_in known) n)
 unfolding spread_element
-spread_element_holds known bounded n = known.words.and_then bounded (opened_holds known.words bounded (spread_element_span (place_of (asks_in known)) n)) (known.words.and_then bounded (known.words.punct bounded (codes "...")) (known.words.and_then bounded (known.law bounded n.expr.node.value Plain) (known.words.position bounded (spread_element_span (place_of (asks_in known)) n).hi)))
+spread_element_holds known bounded n = known.words.and_then bounded (opened_holds known.words bounded (spread_element_span (place_of (asks_in known)) n)) (known.words.and_then bounded (known.words.punct bounded (codes "...")) (known.words.and_then bounded (known.law bounded n.expr.node.value (Whole Plain)) (known.words.position bounded (spread_element_span (place_of (asks_in known)) n).hi)))
 
 pub await_expr_holds : {X : Type 0} {holds : Bool → Part → Type 0} (known : Known holds X) (bounded : Bool) (n : AwaitExpr X) → holds bounded (await_expr (items_in known) n)
 unfolding await_expr
-await_expr_holds known bounded n = known.words.and_then bounded (opened_holds known.words bounded n.span) (known.words.and_then bounded (known.words.keyword bounded None (codes "await")) (known.words.and_then bounded (known.words.space bounded) (known.law bounded n.arg.node.value Plain)))
+await_expr_holds known bounded n = known.words.and_then bounded (opened_holds known.words bounded n.span) (known.words.and_then bounded (known.words.keyword bounded None (codes "await")) (known.words.and_then bounded (known.words.space bounded) (known.law bounded n.arg.node.value (Whole Plain))))
 
 pub choice_holds : {X : Type 0} {holds : Bool → Part → Type 0} (known : Known holds X) (bounded : Bool) (n : CondExpr X) → holds bounded (choice (items_in known) n)
 unfolding choice
-choice_holds known bounded n = known.words.and_then bounded (opened_holds known.words bounded n.span) (known.words.and_then bounded (known.law bounded n.test.node.value Plain) (known.words.and_then bounded (spaced_punct_holds known.words bounded (codes "?")) (known.words.and_then bounded (known.law bounded n.cons.node.value Plain) (known.words.and_then bounded (spaced_punct_holds known.words bounded (codes ":")) (known.law bounded n.alt.node.value Plain)))))
+choice_holds known bounded n = known.words.and_then bounded (opened_holds known.words bounded n.span) (known.words.and_then bounded (known.law bounded n.test.node.value (Whole Plain)) (known.words.and_then bounded (spaced_punct_holds known.words bounded (codes "?")) (known.words.and_then bounded (known.law bounded n.cons.node.value (Whole Plain)) (known.words.and_then bounded (spaced_punct_holds known.words bounded (codes ":")) (known.law bounded n.alt.node.value (Whole Plain))))))
 
 pub seq_holds : {X : Type 0} {holds : Bool → Part → Type 0} (known : Known holds X) (bounded : Bool) (n : SeqExpr X) → holds bounded (seq (items_in known) n)
 unfolding seq
-seq_holds known bounded n = known.words.and_then bounded (opened_holds known.words bounded n.span) (listed_holds known.words bounded (held (items_in known)) (λ x. (known.law bounded x.node.value Plain)) true n.exprs.items)
+seq_holds known bounded n = known.words.and_then bounded (opened_holds known.words bounded n.span) (listed_holds known.words bounded (held (items_in known)) (λ x. (known.law bounded x.node.value (Whole Plain))) true n.exprs.items)
 
 pub paren_holds : {X : Type 0} {holds : Bool → Part → Type 0} (known : Known holds X) (bounded : Bool) (n : ParenExpr X) → holds bounded (paren (items_in known) n)
 unfolding paren
-paren_holds known bounded n = known.words.and_then bounded (known.words.commit_pending_semi bounded) (known.words.and_then bounded (opened_holds known.words bounded n.span) (known.words.and_then bounded (known.words.punct bounded (codes "(")) (known.words.and_then bounded (known.law bounded n.expr.node.value Plain) (known.words.and_then bounded (known.words.last_of bounded n.span) (known.words.punct bounded (codes ")"))))))
+paren_holds known bounded n = known.words.and_then bounded (known.words.commit_pending_semi bounded) (known.words.and_then bounded (opened_holds known.words bounded n.span) (known.words.and_then bounded (known.words.punct bounded (codes "(")) (known.words.and_then bounded (known.law bounded n.expr.node.value (Whole Plain)) (known.words.and_then bounded (known.words.last_of bounded n.span) (known.words.punct bounded (codes ")"))))))

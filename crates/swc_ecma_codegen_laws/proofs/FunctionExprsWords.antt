@@ -9,8 +9,10 @@ use Rattle.swc_ecma_codegen_tree.specs.declared.exprs.BlockStmtOrExpr.{BlockStmt
 use Rattle.swc_ecma_codegen_tree.specs.declared.exprs.BlockStmtOrExpr.TheVariants as bodies
 use Rattle.swc_ecma_codegen_tree.specs.declared.idents.Ident.{Ident}
 use Rattle.swc_ecma_codegen_tokens.specs.Run.{Part}
-use Rattle.swc_ecma_codegen_emit.specs.declared.nodes.Place.{Place}
-use Rattle.swc_ecma_codegen_emit.specs.declared.nodes.Place.TheVariants.{Plain, Body, FunctionHead}
+use Rattle.swc_ecma_codegen_emit.specs.declared.nodes.Context.{Context}
+use Rattle.swc_ecma_codegen_emit.specs.declared.nodes.Context.TheVariants.{Plain, Body}
+use Rattle.swc_ecma_codegen_emit.specs.declared.nodes.Piece.TheVariants.{FunctionHead}
+use Rattle.swc_ecma_codegen_emit.specs.Places.{Place, Whole, Only, function_tail}
 use Rattle.swc_ecma_codegen_emit.specs.Answers.{Answers}
 use Rattle.swc_ecma_codegen_grammar.specs.FunctionPhrases.{is_typed_arrow}
 use Rattle.std.proofs.Common.{◌≡◌, ◌||◌, is_some, refl}
@@ -30,26 +32,26 @@ unfolding optional_name
 optional_name_holds words bounded None = words.none bounded
 optional_name_holds words bounded (Some n) = words.and_then bounded (words.space bounded) (words.name bounded n.span (string_bytes n.sym) n.optional)
 
-pub fn_expr_holds : {X : Type 0} {holds : Bool → Part → Type 0} (known : Known holds X) (bounded : Bool) (n : FnExpr X) (tail : Place) → holds bounded (fn_expr (asks_in known) (items_in known) n tail)
+pub fn_expr_holds : {X : Type 0} {holds : Bool → Part → Type 0} (known : Known holds X) (bounded : Bool) (n : FnExpr X) (context : Context) → holds bounded (fn_expr (asks_in known) (items_in known) n context)
 unfolding fn_expr
-fn_expr_holds known bounded n tail = known.words.and_then bounded (known.words.leading_comments bounded ((asks_in known) n.function.node.value).place.lo) (known.words.and_then bounded (known.words.commit_pending_semi bounded) (known.words.and_then bounded (known.words.position bounded ((asks_in known) n.function.node.value).place.lo) (known.words.and_then bounded (known.law bounded n.function.node.value FunctionHead) (known.words.and_then bounded (optional_name_holds known.words bounded n.ident) (known.law bounded n.function.node.value tail)))))
+fn_expr_holds known bounded n context = known.words.and_then bounded (known.words.leading_comments bounded ((asks_in known) n.function.node.value).place.lo) (known.words.and_then bounded (known.words.commit_pending_semi bounded) (known.words.and_then bounded (known.words.position bounded ((asks_in known) n.function.node.value).place.lo) (known.words.and_then bounded (known.law bounded n.function.node.value (Only FunctionHead)) (known.words.and_then bounded (optional_name_holds known.words bounded n.ident) (known.law bounded n.function.node.value (function_tail context))))))
 
 pub async_arrow_holds : {holds : Bool → Part → Type 0} (words : OfWords holds) (bounded : Bool) (wanted : Bool) (named : Bool) → holds bounded (async_arrow wanted named)
 unfolding async_arrow
 async_arrow_holds words bounded wanted named = either words bounded wanted (words.and_then bounded (words.keyword bounded None (codes "async")) (either words bounded named (words.space bounded) (words.formatting_space bounded))) (words.none bounded)
 
 pub arrow_children_holds : {X : Type 0} {holds : Bool → Part → Type 0} (known : Known holds X) (bounded : Bool) (n : ArrowExpr X) → ChildrenHold holds bounded (arrow_children (asks_in known) (items_in known) n)
-arrow_children_holds known bounded n = children_hold _ _ (λ p. ((asks_in known) p.node.value).place) (λ p place. (items_in known) p.node.value place) (λ p. (known.law bounded p.node.value Plain)) n.params.items
+arrow_children_holds known bounded n = children_hold _ _ (λ p. ((asks_in known) p.node.value).place) (λ p place. (items_in known) p.node.value place) (λ p. (known.law bounded p.node.value (Whole Plain))) n.params.items
 
 pub arrow_body_holds : {X : Type 0} {holds : Bool → Part → Type 0} (known : Known holds X) (bounded : Bool) (x1 : BlockStmtOrExpr X) → holds bounded (arrow_body (items_in known) x1)
 unfolding arrow_body
-arrow_body_holds known bounded (bodies.BlockStmt n) = known.law bounded n.node.value Body
-arrow_body_holds known bounded (bodies.Expr n) = known.words.and_then bounded (known.words.deeper bounded) (known.words.and_then bounded (known.law bounded n.node.value Plain) (known.words.shallower bounded))
+arrow_body_holds known bounded (bodies.BlockStmt n) = known.law bounded n.node.value (Whole Body)
+arrow_body_holds known bounded (bodies.Expr n) = known.words.and_then bounded (known.words.deeper bounded) (known.words.and_then bounded (known.law bounded n.node.value (Whole Plain)) (known.words.shallower bounded))
 
 pub arrow_result_holds : {X : Type 0} {holds : Bool → Part → Type 0} (known : Known holds X) (bounded : Bool) (x1 : Option (TsTypeAnnBox X)) → holds bounded (arrow_result (items_in known) x1)
 unfolding arrow_result
 arrow_result_holds known bounded None = known.words.none bounded
-arrow_result_holds known bounded (Some n) = known.words.and_then bounded (known.words.punct bounded (codes ":")) (known.words.and_then bounded (known.words.formatting_space bounded) (known.words.and_then bounded (known.law bounded n.node.value Plain) (known.words.formatting_space bounded)))
+arrow_result_holds known bounded (Some n) = known.words.and_then bounded (known.words.punct bounded (codes ":")) (known.words.and_then bounded (known.words.formatting_space bounded) (known.words.and_then bounded (known.law bounded n.node.value (Whole Plain)) (known.words.formatting_space bounded)))
 
 -- a name without parentheses has no type behind it
 bare_result : {X : Type 0} (items : X → Place → Part) (params more : Bool) (o : Option (TsTypeAnnBox X)) → (not (params || is_some o) && more) ≡ true → (rest : Plan) → arrow_result items o rest ≡ rest

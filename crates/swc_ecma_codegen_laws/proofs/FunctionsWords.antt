@@ -8,8 +8,9 @@ use Rattle.swc_ecma_codegen_tree.specs.declared.decls.Param.{Param}
 use Rattle.swc_ecma_codegen_tree.specs.declared.decls.Function as functions
 use Rattle.swc_ecma_codegen_tokens.specs.Run.{Part}
 use Rattle.swc_ecma_codegen_tokens.specs.Words.{punct, semi}
-use Rattle.swc_ecma_codegen_emit.specs.declared.nodes.Place.{Place}
-use Rattle.swc_ecma_codegen_emit.specs.declared.nodes.Place.TheVariants.{Plain, Body, FunctionHead, MethodHead, DeclarationHead, DeclarationTail, StaticHead, MethodDecorators, MethodTail}
+use Rattle.swc_ecma_codegen_emit.specs.declared.nodes.Context.TheVariants.{Plain, Body}
+use Rattle.swc_ecma_codegen_emit.specs.declared.nodes.Piece.TheVariants.{FunctionHead, MethodHead, DeclarationHead, DeclarationTail, StaticHead, MethodDecorators, MethodTail}
+use Rattle.swc_ecma_codegen_emit.specs.Places.{Place, Whole, Only}
 use Rattle.swc_ecma_codegen_emit.specs.Annotations.{annotation, type_params}
 use Rattle.swc_ecma_codegen_emit.specs.FunctionExprs.{comma_list_format}
 use Rattle.swc_ecma_codegen_emit.specs.Lists.{child_of}
@@ -27,7 +28,7 @@ use Rattle.swc_ecma_codegen_laws.proofs.PatsWords.{pat_holds}
 
 pub decorator_holds : {X : Type 0} {holds : Bool → Part → Type 0} (known : Known holds X) (bounded : Bool) (n : Decorator X) → holds bounded (decorator (items_in known) n)
 unfolding decorator
-decorator_holds known bounded n = known.words.and_then bounded (known.words.leading_comments bounded n.span.lo) (known.words.and_then bounded (known.words.position bounded n.span.lo) (known.words.and_then bounded (known.words.punct bounded (codes "@")) (known.words.and_then bounded (known.law bounded n.expr.node.value Plain) (known.words.and_then bounded (known.words.line_end bounded) (known.words.position bounded n.span.hi)))))
+decorator_holds known bounded n = known.words.and_then bounded (known.words.leading_comments bounded n.span.lo) (known.words.and_then bounded (known.words.position bounded n.span.lo) (known.words.and_then bounded (known.words.punct bounded (codes "@")) (known.words.and_then bounded (known.law bounded n.expr.node.value (Whole Plain)) (known.words.and_then bounded (known.words.line_end bounded) (known.words.position bounded n.span.hi)))))
 
 pub decorators_holds : {X : Type 0} {holds : Bool → Part → Type 0} (known : Known holds X) (bounded : Bool) (n : Param X) → holds bounded (decorators (items_in known) n)
 decorators_holds known bounded n = known.words.list bounded decorators_format refl n.span (map (child_of decorator_place (λ d place. decorator (items_in known) d)) n.decorators.items) (children_hold _ _ decorator_place (λ d place. decorator (items_in known) d) (λ d. (decorator_holds known bounded d)) n.decorators.items)
@@ -51,7 +52,7 @@ pub fn_trailing_holds : {X : Type 0} {holds : Bool → Part → Type 0} (known :
 unfolding fn_trailing function_body
 fn_trailing_holds {holds = holds} known bounded node place n (Some b) e f q =
     let with_body : Option (BlockStmtBox _) → Part = λ z. (λ rest. type_params (items_in known) n.type_params (punct (codes "(") (parameters (asks_in known) (items_in known) n (punct (codes ")") (annotation (items_in known) n.return_type (function_body (items_in known) z rest)))))) in
-    subst (λ z. holds bounded (with_body z)) (sym e) (known.words.and_then bounded (fn_head_holds known bounded n) (known.words.and_then bounded (known.words.formatting_space bounded) (known.law bounded b.node.value Body)))
+    subst (λ z. holds bounded (with_body z)) (sym e) (known.words.and_then bounded (fn_head_holds known bounded n) (known.words.and_then bounded (known.words.formatting_space bounded) (known.law bounded b.node.value (Whole Body))))
 fn_trailing_holds {holds = holds} known bounded node place n None e f q =
     let with_body : Option (BlockStmtBox _) → Part = λ z. (λ rest. type_params (items_in known) n.type_params (punct (codes "(") (parameters (asks_in known) (items_in known) n (punct (codes ")") (annotation (items_in known) n.return_type (function_body (items_in known) z rest)))))) in
     let head : Part = (λ rest. type_params (items_in known) n.type_params (punct (codes "(") (parameters (asks_in known) (items_in known) n (punct (codes ")") (annotation (items_in known) n.return_type rest))))) in
@@ -60,7 +61,7 @@ fn_trailing_holds {holds = holds} known bounded node place n None e f q =
 declaration_tail_by : {X : Type 0} {holds : Bool → Part → Type 0} (known : Known holds X) (bounded : Bool) (n : functions.Function X) (body : Option (BlockStmtBox X)) → holds bounded (λ rest. type_params (items_in known) n.type_params (punct (codes "(") (parameters (asks_in known) (items_in known) n (punct (codes ")") (annotation (items_in known) n.return_type (function_body (items_in known) body (break_without_body body rest)))))))
 unfolding function_body break_without_body semi
 declaration_tail_by known bounded n None = known.words.and_then bounded (fn_head_holds known bounded n) (known.words.semi bounded)
-declaration_tail_by known bounded n (Some b) = known.words.and_then bounded (fn_head_holds known bounded n) (known.words.and_then bounded (known.words.formatting_space bounded) (known.law bounded b.node.value Body))
+declaration_tail_by known bounded n (Some b) = known.words.and_then bounded (fn_head_holds known bounded n) (known.words.and_then bounded (known.words.formatting_space bounded) (known.law bounded b.node.value (Whole Body)))
 
 pub declaration_tail_holds : {X : Type 0} {holds : Bool → Part → Type 0} (known : Known holds X) (bounded : Bool) (n : functions.Function X) → holds bounded (declaration_tail (asks_in known) (items_in known) n)
 unfolding declaration_tail fn_trailing
@@ -100,7 +101,7 @@ decorator_lines_holds known bounded ns = in_order_holds known.words bounded (dec
 pub method_body_holds : {X : Type 0} {holds : Bool → Part → Type 0} (known : Known holds X) (bounded : Bool) (x1 : Option (BlockStmtBox X)) → holds bounded (method_body (items_in known) x1)
 unfolding method_body
 method_body_holds known bounded None = known.words.semi bounded
-method_body_holds known bounded (Some n) = known.words.and_then bounded (known.words.formatting_space bounded) (known.law bounded n.node.value Plain)
+method_body_holds known bounded (Some n) = known.words.and_then bounded (known.words.formatting_space bounded) (known.law bounded n.node.value (Whole Plain))
 
 pub method_tail_holds : {X : Type 0} {holds : Bool → Part → Type 0} (known : Known holds X) (bounded : Bool) (n : functions.Function X) → holds bounded (method_tail (asks_in known) (items_in known) n)
 unfolding method_tail
@@ -109,11 +110,11 @@ method_tail_holds known bounded n = known.words.and_then bounded (type_params_ho
 -- a function, or what of it stands before its name
 pub function_holds : {X : Type 0} {holds : Bool → Part → Type 0} (known : Known holds X) (bounded : Bool) (node : AnyNode) (n : functions.Function X) (place : Place) → is_function node ≡ true → any_items node place ≡ function (asks_in known) (items_in known) n place → holds bounded (function (asks_in known) (items_in known) n place)
 unfolding function
-function_holds known bounded node n FunctionHead f q = function_head_holds known bounded n
-function_holds known bounded node n MethodHead f q = method_head_holds known bounded n
-function_holds known bounded node n DeclarationHead f q = declaration_head_holds known bounded n
-function_holds known bounded node n DeclarationTail f q = declaration_tail_holds known bounded n
-function_holds known bounded node n (StaticHead starts) f q = static_head_holds known bounded starts n
-function_holds known bounded node n MethodDecorators f q = decorator_lines_holds known bounded n.decorators.items
-function_holds known bounded node n MethodTail f q = method_tail_holds known bounded n
+function_holds known bounded node n (Only FunctionHead) f q = function_head_holds known bounded n
+function_holds known bounded node n (Only MethodHead) f q = method_head_holds known bounded n
+function_holds known bounded node n (Only DeclarationHead) f q = declaration_head_holds known bounded n
+function_holds known bounded node n (Only DeclarationTail) f q = declaration_tail_holds known bounded n
+function_holds known bounded node n (Only (StaticHead starts)) f q = static_head_holds known bounded starts n
+function_holds known bounded node n (Only MethodDecorators) f q = decorator_lines_holds known bounded n.decorators.items
+function_holds known bounded node n (Only MethodTail) f q = method_tail_holds known bounded n
 function_holds known bounded node n place f q = fn_trailing_holds known bounded node place n n.body refl f q

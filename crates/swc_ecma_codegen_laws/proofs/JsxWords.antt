@@ -28,8 +28,9 @@ use Rattle.swc_ecma_codegen_tree.specs.declared.jsx.JSXObject.TheVariants as obj
 use Rattle.swc_ecma_codegen_tree.specs.declared.jsx.JSXOpeningElement.{JSXOpeningElement}
 use Rattle.swc_ecma_codegen_tree.specs.declared.jsx.JSXSpreadChild.{JSXSpreadChild}
 use Rattle.swc_ecma_codegen_tokens.specs.Run.{Part}
-use Rattle.swc_ecma_codegen_emit.specs.declared.nodes.Place.{Place}
-use Rattle.swc_ecma_codegen_emit.specs.declared.nodes.Place.TheVariants.{Plain, Child}
+use Rattle.swc_ecma_codegen_emit.specs.declared.nodes.Context.{Context}
+use Rattle.swc_ecma_codegen_emit.specs.declared.nodes.Context.TheVariants.{Plain, Child}
+use Rattle.swc_ecma_codegen_emit.specs.Places.{Whole}
 use Rattle.swc_ecma_codegen_laws.proofs.OfWords.{OfWords, Known, asks_in, items_in, either}
 use Rattle.swc_ecma_codegen_emit.specs.Jsx.{tag_ident, tag_ident_name, jsx_member_expr, jsx_namespaced_name, jsx_object, jsx_element_name, jsx_attr_name, open_at, jsx_expr, jsx_expr_container, jsx_spread_child, jsx_attr_lit, jsx_attr_value, attr_initializer, jsx_attr, jsx_attr_or_spread, jsx_attributes, self_closing, jsx_opening_element, jsx_closing_element, jsx_element_child, jsx_children, optional_closing, jsx_element_parts, opening_fragment, closing_fragment, jsx_fragment_parts}
 use Rattle.swc_ecma_codegen_laws.proofs.AnnotationsWords.{type_args_holds}
@@ -47,7 +48,7 @@ tag_ident_name_holds words bounded n = words.tag_name bounded n.span (string_byt
 
 pub jsx_member_expr_holds : {X : Type 0} {holds : Bool → Part → Type 0} (known : Known holds X) (bounded : Bool) (n : JSXMemberExpr X) → holds bounded (jsx_member_expr (items_in known) n)
 unfolding jsx_member_expr
-jsx_member_expr_holds known bounded n = known.words.and_then bounded (known.law bounded n.obj.node.value Plain) (known.words.and_then bounded (known.words.punct bounded (codes ".")) (tag_ident_name_holds known.words bounded n.prop))
+jsx_member_expr_holds known bounded n = known.words.and_then bounded (known.law bounded n.obj.node.value (Whole Plain)) (known.words.and_then bounded (known.words.punct bounded (codes ".")) (tag_ident_name_holds known.words bounded n.prop))
 
 pub jsx_namespaced_name_holds : {holds : Bool → Part → Type 0} (words : OfWords holds) (bounded : Bool) (n : JSXNamespacedName) → holds bounded (jsx_namespaced_name n)
 unfolding jsx_namespaced_name
@@ -69,23 +70,23 @@ unfolding jsx_attr_name
 jsx_attr_name_holds words bounded (attr_names.Ident n) = tag_ident_name_holds words bounded n
 jsx_attr_name_holds words bounded (attr_names.JSXNamespacedName n) = jsx_namespaced_name_holds words bounded n
 
-pub open_at_holds : {holds : Bool → Part → Type 0} (words : OfWords holds) (place : Place) (t : List ℕ) → holds false (open_at place t)
+pub open_at_holds : {holds : Bool → Part → Type 0} (words : OfWords holds) (context : Context) (t : List ℕ) → holds false (open_at context t)
 unfolding open_at
 open_at_holds words Child t = words.child_open false t
-open_at_holds words place t = words.bare_punct t
+open_at_holds words context t = words.bare_punct t
 
 pub jsx_expr_holds : {X : Type 0} {holds : Bool → Part → Type 0} (known : Known holds X) (bounded : Bool) (x1 : JSXExpr X) → holds bounded (jsx_expr (items_in known) x1)
 unfolding jsx_expr
 jsx_expr_holds known bounded (contents.JSXEmptyExpr n) = known.words.none bounded
-jsx_expr_holds known bounded (contents.Expr n) = known.law bounded n.node.value Plain
+jsx_expr_holds known bounded (contents.Expr n) = known.law bounded n.node.value (Whole Plain)
 
-pub jsx_expr_container_holds : {X : Type 0} {holds : Bool → Part → Type 0} (known : Known holds X) (n : JSXExprContainer X) (place : Place) → holds false (jsx_expr_container (items_in known) n place)
+pub jsx_expr_container_holds : {X : Type 0} {holds : Bool → Part → Type 0} (known : Known holds X) (n : JSXExprContainer X) (context : Context) → holds false (jsx_expr_container (items_in known) n context)
 unfolding jsx_expr_container
-jsx_expr_container_holds known n place = known.words.and_then false (open_at_holds known.words place (codes "{")) (known.words.and_then false (jsx_expr_holds known false n.expr) (known.words.punct false (codes "}")))
+jsx_expr_container_holds known n context = known.words.and_then false (open_at_holds known.words context (codes "{")) (known.words.and_then false (jsx_expr_holds known false n.expr) (known.words.punct false (codes "}")))
 
 pub jsx_spread_child_holds : {X : Type 0} {holds : Bool → Part → Type 0} (known : Known holds X) (n : JSXSpreadChild X) → holds false (jsx_spread_child (items_in known) n)
 unfolding jsx_spread_child
-jsx_spread_child_holds known n = known.words.and_then false (known.words.child_open false (codes "{")) (known.words.and_then false (known.words.punct false (codes "...")) (known.words.and_then false (known.law false n.expr.node.value Plain) (known.words.punct false (codes "}"))))
+jsx_spread_child_holds known n = known.words.and_then false (known.words.child_open false (codes "{")) (known.words.and_then false (known.words.punct false (codes "...")) (known.words.and_then false (known.law false n.expr.node.value (Whole Plain)) (known.words.punct false (codes "}"))))
 
 pub jsx_attr_lit_holds : {holds : Bool → Part → Type 0} (words : OfWords holds) (bounded : Bool) (n : Lit) → holds bounded (jsx_attr_lit n)
 unfolding jsx_attr_lit
@@ -96,8 +97,8 @@ pub jsx_attr_value_holds : {X : Type 0} {holds : Bool → Part → Type 0} (know
 unfolding jsx_attr_value
 jsx_attr_value_holds known (attr_values.Lit n) = jsx_attr_lit_holds known.words false n
 jsx_attr_value_holds known (attr_values.JSXExprContainer n) = jsx_expr_container_holds known n Plain
-jsx_attr_value_holds known (attr_values.JSXElement n) = known.law false n.node.value Plain
-jsx_attr_value_holds known (attr_values.JSXFragment n) = known.law false n.node.value Plain
+jsx_attr_value_holds known (attr_values.JSXElement n) = known.law false n.node.value (Whole Plain)
+jsx_attr_value_holds known (attr_values.JSXFragment n) = known.law false n.node.value (Whole Plain)
 
 pub attr_initializer_holds : {X : Type 0} {holds : Bool → Part → Type 0} (known : Known holds X) (x1 : Option (JSXAttrValue X)) → holds false (attr_initializer (items_in known) x1)
 unfolding attr_initializer
@@ -122,9 +123,9 @@ pub self_closing_holds : {holds : Bool → Part → Type 0} (words : OfWords hol
 unfolding self_closing
 self_closing_holds words bounded closes = either words bounded closes (words.punct bounded (codes "/")) (words.none bounded)
 
-pub jsx_opening_element_holds : {X : Type 0} {holds : Bool → Part → Type 0} (known : Known holds X) (n : JSXOpeningElement X) (place : Place) → holds false (jsx_opening_element (asks_in known) (items_in known) n place)
+pub jsx_opening_element_holds : {X : Type 0} {holds : Bool → Part → Type 0} (known : Known holds X) (n : JSXOpeningElement X) (context : Context) → holds false (jsx_opening_element (asks_in known) (items_in known) n context)
 unfolding jsx_opening_element
-jsx_opening_element_holds known n place = known.words.and_then false (open_at_holds known.words place (codes "<")) (known.words.and_then false (jsx_element_name_holds known false n.name) (known.words.and_then false (type_args_holds known false Plain n.type_args) (known.words.and_then false (jsx_attributes_holds known.words (jsx_attr_or_spread (asks_in known) (items_in known)) (λ x. (jsx_attr_or_spread_holds known x)) true n.attrs.items) (known.words.and_then false (self_closing_holds known.words false n.self_closing) (known.words.close false)))))
+jsx_opening_element_holds known n context = known.words.and_then false (open_at_holds known.words context (codes "<")) (known.words.and_then false (jsx_element_name_holds known false n.name) (known.words.and_then false (type_args_holds known false Plain n.type_args) (known.words.and_then false (jsx_attributes_holds known.words (jsx_attr_or_spread (asks_in known) (items_in known)) (λ x. (jsx_attr_or_spread_holds known x)) true n.attrs.items) (known.words.and_then false (self_closing_holds known.words false n.self_closing) (known.words.close false)))))
 
 pub jsx_closing_element_holds : {X : Type 0} {holds : Bool → Part → Type 0} (known : Known holds X) (n : JSXClosingElement X) → holds false (jsx_closing_element (items_in known) n)
 unfolding jsx_closing_element
@@ -135,8 +136,8 @@ unfolding jsx_element_child
 jsx_element_child_holds known (children.JSXText n) = known.words.jsx_text_node false n
 jsx_element_child_holds known (children.JSXExprContainer n) = jsx_expr_container_holds known n Child
 jsx_element_child_holds known (children.JSXSpreadChild n) = jsx_spread_child_holds known n
-jsx_element_child_holds known (children.JSXElement n) = known.law false n.node.value Child
-jsx_element_child_holds known (children.JSXFragment n) = known.law false n.node.value Child
+jsx_element_child_holds known (children.JSXElement n) = known.law false n.node.value (Whole Child)
+jsx_element_child_holds known (children.JSXFragment n) = known.law false n.node.value (Whole Child)
 
 pub jsx_children_holds : {X : Type 0} {holds : Bool → Part → Type 0} (known : Known holds X) (ns : List (JSXElementChild X)) → holds false (jsx_children (items_in known) ns)
 unfolding jsx_children
@@ -147,18 +148,18 @@ unfolding optional_closing
 optional_closing_holds known None = known.words.none false
 optional_closing_holds known (Some n) = jsx_closing_element_holds known n
 
-pub jsx_element_parts_holds : {X : Type 0} {holds : Bool → Part → Type 0} (known : Known holds X) (n : JSXElement X) (place : Place) → holds false (jsx_element_parts (asks_in known) (items_in known) n place)
+pub jsx_element_parts_holds : {X : Type 0} {holds : Bool → Part → Type 0} (known : Known holds X) (n : JSXElement X) (context : Context) → holds false (jsx_element_parts (asks_in known) (items_in known) n context)
 unfolding jsx_element_parts
-jsx_element_parts_holds known n place = known.words.and_then false (jsx_opening_element_holds known n.opening place) (known.words.and_then false (jsx_children_holds known n.children.items) (optional_closing_holds known n.closing))
+jsx_element_parts_holds known n context = known.words.and_then false (jsx_opening_element_holds known n.opening context) (known.words.and_then false (jsx_children_holds known n.children.items) (optional_closing_holds known n.closing))
 
-pub opening_fragment_holds : {holds : Bool → Part → Type 0} (words : OfWords holds) (place : Place) → holds false (opening_fragment place)
+pub opening_fragment_holds : {holds : Bool → Part → Type 0} (words : OfWords holds) (context : Context) → holds false (opening_fragment context)
 unfolding opening_fragment
-opening_fragment_holds words place = words.and_then false (open_at_holds words place (codes "<")) (words.close false)
+opening_fragment_holds words context = words.and_then false (open_at_holds words context (codes "<")) (words.close false)
 
 pub closing_fragment_holds : {holds : Bool → Part → Type 0} (words : OfWords holds) → holds false closing_fragment
 unfolding closing_fragment
 closing_fragment_holds words = words.and_then false (words.child_open false (codes "<")) (words.and_then false (words.punct false (codes "/")) (words.close false))
 
-pub jsx_fragment_parts_holds : {X : Type 0} {holds : Bool → Part → Type 0} (known : Known holds X) (n : JSXFragment X) (place : Place) → holds false (jsx_fragment_parts (items_in known) n place)
+pub jsx_fragment_parts_holds : {X : Type 0} {holds : Bool → Part → Type 0} (known : Known holds X) (n : JSXFragment X) (context : Context) → holds false (jsx_fragment_parts (items_in known) n context)
 unfolding jsx_fragment_parts
-jsx_fragment_parts_holds known n place = known.words.and_then false (opening_fragment_holds known.words place) (known.words.and_then false (jsx_children_holds known n.children.items) (closing_fragment_holds known.words))
+jsx_fragment_parts_holds known n context = known.words.and_then false (opening_fragment_holds known.words context) (known.words.and_then false (jsx_children_holds known n.children.items) (closing_fragment_holds known.words))

@@ -1,7 +1,7 @@
 -- Lists: what holds of the words that a definition is made of holds of it.
 use Rattle.std.specs.Prelude.{Bool, false, List, [], ◌∷◌, Option, Some, None, codes}
 use Rattle.swc_ecma_codegen_tokens.specs.Run.{Part}
-use Rattle.swc_ecma_codegen_emit.specs.declared.nodes.Place.{Place}
+use Rattle.swc_ecma_codegen_emit.specs.Places.{Place}
 use Rattle.swc_ecma_codegen_laws.proofs.OfWords.{OfWords, either}
 use Rattle.swc_ecma_codegen_emit.specs.Lists.{comma, listed, in_order, if_some_at}
 

@@ -33,7 +33,9 @@ use Rattle.swc_ecma_codegen_spans.specs.Spans.{import_specifier_span, export_spe
 use Rattle.swc_ecma_codegen_tokens.specs.Run.{Part}
 use Rattle.swc_ecma_codegen_tokens.specs.Words.{punct}
 use Rattle.swc_ecma_codegen_grammar.specs.Phrases.{RightBrace, closing_mark}
-use Rattle.swc_ecma_codegen_emit.specs.declared.nodes.Place.TheVariants.{Plain, DeclarationTail, ExportedHead, ExportedTail}
+use Rattle.swc_ecma_codegen_emit.specs.declared.nodes.Context.TheVariants.{Plain, DefaultExport}
+use Rattle.swc_ecma_codegen_emit.specs.declared.nodes.Piece.TheVariants.{ExportedHead, ExportedTail}
+use Rattle.swc_ecma_codegen_emit.specs.Places.{Whole, Only}
 use Rattle.swc_ecma_codegen_emit.specs.Answers.{place_of}
 use Rattle.swc_ecma_codegen_emit.specs.Lists.{child_of, unsupported}
 use Rattle.swc_ecma_codegen_emit.specs.Templates.{bad_shape}
@@ -124,7 +126,7 @@ phase_word_holds words bounded Defer = words.and_then bounded (words.space bound
 pub attributes_holds : {X : Type 0} {holds : Bool → Part → Type 0} (known : Known holds X) (bounded : Bool) (x1 : Option (ObjectLitBox X)) → holds bounded (attributes (items_in known) x1)
 unfolding attributes
 attributes_holds known bounded None = known.words.none bounded
-attributes_holds known bounded (Some n) = known.words.and_then bounded (known.words.formatting_space bounded) (known.words.and_then bounded (known.words.attributes_word bounded) (known.words.and_then bounded (known.words.formatting_space bounded) (known.law bounded n.node.value Plain)))
+attributes_holds known bounded (Some n) = known.words.and_then bounded (known.words.formatting_space bounded) (known.words.and_then bounded (known.words.attributes_word bounded) (known.words.and_then bounded (known.words.formatting_space bounded) (known.law bounded n.node.value (Whole Plain))))
 
 pub source_end_holds : {X : Type 0} {holds : Bool → Part → Type 0} (known : Known holds X) (bounded : Bool) (src : Str) (with_ : Option (ObjectLitBox X)) (span : Span) → holds bounded (source_end (items_in known) src with_ span)
 unfolding source_end
@@ -214,12 +216,12 @@ export_all_holds known bounded n = known.words.and_then bounded (known.words.lea
 
 pub export_decl_holds : {X : Type 0} {holds : Bool → Part → Type 0} (known : Known holds X) (bounded : Bool) (n : ExportDecl X) → holds bounded (export_decl (items_in known) n)
 unfolding export_decl
-export_decl_holds known bounded n = known.words.and_then bounded (known.words.position bounded n.span.lo) (known.words.and_then bounded (known.law bounded n.decl.node.value ExportedHead) (known.words.and_then bounded (known.words.keyword bounded None (codes "export")) (known.words.and_then bounded (known.words.space bounded) (known.law bounded n.decl.node.value ExportedTail))))
+export_decl_holds known bounded n = known.words.and_then bounded (known.words.position bounded n.span.lo) (known.words.and_then bounded (known.law bounded n.decl.node.value (Only ExportedHead)) (known.words.and_then bounded (known.words.keyword bounded None (codes "export")) (known.words.and_then bounded (known.words.space bounded) (known.law bounded n.decl.node.value (Only ExportedTail)))))
 
 pub default_decl_holds : {X : Type 0} {holds : Bool → Part → Type 0} (known : Known holds X) (bounded : Bool) (x2 : DefaultDecl X) → holds bounded (default_decl (asks_in known) (items_in known) x2)
 unfolding default_decl
 default_decl_holds known bounded (default_decls.Class n) = class_expr_holds known bounded n
-default_decl_holds known bounded (default_decls.Fn n) = fn_expr_holds known bounded n DeclarationTail
+default_decl_holds known bounded (default_decls.Fn n) = fn_expr_holds known bounded n DefaultExport
 default_decl_holds known bounded (default_decls.TsInterfaceDecl n) = ts_interface_decl_holds known bounded n
 
 pub export_default_holds : {holds : Bool → Part → Type 0} (words : OfWords holds) (bounded : Bool) → holds bounded export_default
@@ -232,7 +234,7 @@ export_default_decl_holds known bounded n = known.words.and_then bounded (known.
 
 pub export_default_expr_holds : {X : Type 0} {holds : Bool → Part → Type 0} (known : Known holds X) (bounded : Bool) (n : ExportDefaultExpr X) → holds bounded (export_default_expr (asks_in known) (items_in known) n)
 unfolding export_default_expr
-export_default_expr_holds known bounded n = known.words.and_then bounded (known.words.position bounded n.span.lo) (known.words.and_then bounded (export_default_holds known.words bounded) (known.words.and_then bounded (blank_holds known.words bounded ((asks_in known) n.expr.node.value).starts) (known.words.and_then bounded (known.law bounded n.expr.node.value Plain) (known.words.and_then bounded (known.words.semi bounded) (known.words.position bounded n.span.hi)))))
+export_default_expr_holds known bounded n = known.words.and_then bounded (known.words.position bounded n.span.lo) (known.words.and_then bounded (export_default_holds known.words bounded) (known.words.and_then bounded (blank_holds known.words bounded ((asks_in known) n.expr.node.value).starts) (known.words.and_then bounded (known.law bounded n.expr.node.value (Whole Plain)) (known.words.and_then bounded (known.words.semi bounded) (known.words.position bounded n.span.hi)))))
 
 pub module_decl_by_holds : {X : Type 0} {holds : Bool → Part → Type 0} (known : Known holds X) (bounded : Bool) (x2 : ModuleDecl X) → holds bounded (module_decl_by (asks_in known) (items_in known) x2)
 unfolding module_decl_by
@@ -252,7 +254,7 @@ module_decl_holds known bounded n = known.words.and_then bounded (known.words.le
 
 pub module_item_by_holds : {X : Type 0} {holds : Bool → Part → Type 0} (known : Known holds X) (bounded : Bool) (x2 : ModuleItem X) → holds bounded (module_item_by (asks_in known) (items_in known) x2)
 unfolding module_item_by
-module_item_by_holds known bounded (module_items.ModuleDecl n) = known.law bounded n.node.value Plain
+module_item_by_holds known bounded (module_items.ModuleDecl n) = known.law bounded n.node.value (Whole Plain)
 module_item_by_holds known bounded (module_items.Stmt n) = stmt_holds known bounded n
 
 pub module_item_holds : {X : Type 0} {holds : Bool → Part → Type 0} (known : Known holds X) (bounded : Bool) (n : ModuleItem X) → holds bounded (module_item (asks_in known) (items_in known) n)

@@ -8,8 +8,9 @@ use Rattle.swc_ecma_codegen_tree.specs.declared.ts_decls.TsNamespaceBody.TheVari
 use Rattle.swc_ecma_codegen_tree.specs.declared.ts_decls.TsNamespaceDecl.{TsNamespaceDecl}
 use Rattle.swc_ecma_codegen_spans.specs.Spans.{module_item_span, ts_namespace_body_span}
 use Rattle.swc_ecma_codegen_tokens.specs.Run.{Part}
-use Rattle.swc_ecma_codegen_emit.specs.declared.nodes.Place.{Place}
-use Rattle.swc_ecma_codegen_emit.specs.declared.nodes.Place.TheVariants.{Plain, Dotted}
+use Rattle.swc_ecma_codegen_emit.specs.declared.nodes.Context.{Context}
+use Rattle.swc_ecma_codegen_emit.specs.declared.nodes.Context.TheVariants.{Plain, Dotted}
+use Rattle.swc_ecma_codegen_emit.specs.Places.{Whole}
 use Rattle.swc_ecma_codegen_emit.specs.Answers.{place_of}
 use Rattle.swc_ecma_codegen_emit.specs.Lists.{child_of}
 use Rattle.swc_ecma_codegen_emit.specs.Modules.{module_item}
@@ -28,7 +29,7 @@ ts_module_block_holds known bounded n = known.words.and_then bounded (block_item
 
 pub ts_namespace_decl_holds : {X : Type 0} {holds : Bool → Part → Type 0} (known : Known holds X) (bounded : Bool) (n : TsNamespaceDecl X) → holds bounded (ts_namespace_decl (items_in known) n)
 unfolding ts_namespace_decl
-ts_namespace_decl_holds known bounded n = known.words.and_then bounded (known.words.leading_comments bounded n.span.lo) (known.words.and_then bounded (declare_word_holds known.words bounded n.declare) (known.words.and_then bounded (known.words.keyword bounded None (codes "namespace")) (known.words.and_then bounded (known.words.space bounded) (known.words.and_then bounded (ident_holds known.words bounded n.id) (known.words.and_then bounded (known.words.formatting_space bounded) (known.law bounded n.body.node.value Plain))))))
+ts_namespace_decl_holds known bounded n = known.words.and_then bounded (known.words.leading_comments bounded n.span.lo) (known.words.and_then bounded (declare_word_holds known.words bounded n.declare) (known.words.and_then bounded (known.words.keyword bounded None (codes "namespace")) (known.words.and_then bounded (known.words.space bounded) (known.words.and_then bounded (ident_holds known.words bounded n.id) (known.words.and_then bounded (known.words.formatting_space bounded) (known.law bounded n.body.node.value (Whole Plain)))))))
 
 pub namespace_inside_holds : {X : Type 0} {holds : Bool → Part → Type 0} (known : Known holds X) (bounded : Bool) (x2 : TsNamespaceBody X) → holds bounded (namespace_inside (asks_in known) (items_in known) x2)
 unfolding namespace_inside
@@ -42,9 +43,9 @@ braced_body_holds known bounded n = known.words.and_then bounded (known.words.le
 pub dotted_body_holds : {X : Type 0} {holds : Bool → Part → Type 0} (known : Known holds X) (bounded : Bool) (x2 : TsNamespaceBody X) → holds bounded (dotted_body (asks_in known) (items_in known) x2)
 unfolding dotted_body
 dotted_body_holds known bounded (bodies.TsModuleBlock n) = known.words.and_then bounded (known.words.formatting_space bounded) (braced_body_holds known bounded (bodies.TsModuleBlock n))
-dotted_body_holds known bounded (bodies.TsNamespaceDecl n) = known.words.and_then bounded (known.words.punct bounded (codes ".")) (known.words.and_then bounded (ident_holds known.words bounded n.id) (known.law bounded n.body.node.value Dotted))
+dotted_body_holds known bounded (bodies.TsNamespaceDecl n) = known.words.and_then bounded (known.words.punct bounded (codes ".")) (known.words.and_then bounded (ident_holds known.words bounded n.id) (known.law bounded n.body.node.value (Whole Dotted)))
 
-pub ts_namespace_body_holds : {X : Type 0} {holds : Bool → Part → Type 0} (known : Known holds X) (bounded : Bool) (n : TsNamespaceBody X) (place : Place) → holds bounded (ts_namespace_body (asks_in known) (items_in known) n place)
+pub ts_namespace_body_holds : {X : Type 0} {holds : Bool → Part → Type 0} (known : Known holds X) (bounded : Bool) (n : TsNamespaceBody X) (context : Context) → holds bounded (ts_namespace_body (asks_in known) (items_in known) n context)
 unfolding ts_namespace_body
 ts_namespace_body_holds known bounded n Dotted = dotted_body_holds known bounded n
-ts_namespace_body_holds known bounded n place = braced_body_holds known bounded n
+ts_namespace_body_holds known bounded n context = braced_body_holds known bounded n

@@ -15,7 +15,7 @@ use Rattle.swc_ecma_codegen_tree.specs.declared.parts.StmtPart.TheVariants as st
 use Rattle.swc_ecma_codegen_tree.specs.declared.parts.TsPart.{TsPart}
 use Rattle.swc_ecma_codegen_tree.specs.declared.parts.TsPart.TheVariants as ts_parts
 use Rattle.swc_ecma_codegen_tokens.specs.Run.{Part}
-use Rattle.swc_ecma_codegen_emit.specs.declared.nodes.Place.{Place}
+use Rattle.swc_ecma_codegen_emit.specs.Places.{Place, context_of}
 use Rattle.swc_ecma_codegen_emit.specs.Calls.{is_optional}
 use Rattle.swc_ecma_codegen_emit.specs.Jsx.{jsx_part, jsx_element, jsx_fragment, jsx_element_parts, jsx_fragment_parts}
 use Rattle.swc_ecma_codegen_emit.specs.Parts.{expr_part, stmt_part, ts_part}
@@ -49,19 +49,19 @@ expr_part_holds known bounded (expr_parts.Pat n) place = pat_holds known bounded
 expr_part_holds known bounded (expr_parts.ObjectLit n) place = object_lit_holds known bounded n
 expr_part_holds known bounded (expr_parts.PropName n) place = prop_name_holds known bounded n
 expr_part_holds known bounded (expr_parts.AssignTarget n) place = assign_target_holds known bounded n
-expr_part_holds known bounded (expr_parts.Tpl n) place = tpl_holds known bounded (is_tagged place) n
-expr_part_holds known bounded (expr_parts.OptCall n) place = chain_call_holds known bounded (is_optional place) n
+expr_part_holds known bounded (expr_parts.Tpl n) place = tpl_holds known bounded (is_tagged (context_of place)) n
+expr_part_holds known bounded (expr_parts.OptCall n) place = chain_call_holds known bounded (is_optional (context_of place)) n
 
 ts_part_holds : {X : Type 0} {holds : Bool → Part → Type 0} (known : Known holds X) (bounded : Bool) (n : TsPart X) (place : Place) → holds bounded (ts_part (asks_in known) (items_in known) n place)
 unfolding ts_part
 ts_part_holds known bounded (ts_parts.TsType n) place = ts_type_holds known bounded n
-ts_part_holds known bounded (ts_parts.TsTypeAnn n) place = ts_type_ann_holds known bounded n place
+ts_part_holds known bounded (ts_parts.TsTypeAnn n) place = ts_type_ann_holds known bounded n (context_of place)
 ts_part_holds known bounded (ts_parts.TsTypeParamDecl n) place = ts_type_param_decl_holds known bounded n
-ts_part_holds known bounded (ts_parts.TsTypeParamInstantiation n) place = ts_type_param_instantiation_holds known bounded n place
+ts_part_holds known bounded (ts_parts.TsTypeParamInstantiation n) place = ts_type_param_instantiation_holds known bounded n (context_of place)
 ts_part_holds known bounded (ts_parts.TsFnParam n) place = ts_fn_param_holds known bounded n
 ts_part_holds known bounded (ts_parts.TsInterfaceBody n) place = ts_interface_body_holds known bounded n
 ts_part_holds known bounded (ts_parts.TsEntityName n) place = ts_entity_name_holds known bounded n
-ts_part_holds known bounded (ts_parts.TsNamespaceBody n) place = ts_namespace_body_holds known bounded n place
+ts_part_holds known bounded (ts_parts.TsNamespaceBody n) place = ts_namespace_body_holds known bounded n (context_of place)
 
 -- a node as it stands in a tree
 abbrev in_tree : {X : Type 0} {holds : Bool → Part → Type 0} → Known holds X → AnyNode-F X → AnyNode
@@ -75,7 +75,7 @@ unfolding stmt_part node_items is_function function_node
 stmt_part_holds known bounded (stmt_parts.Function n) place = function_holds known bounded (in_tree known (nodes.StmtPart (stmt_parts.Function n))) n.value place (ap function_node (out-roll-AnyNode (map-AnyNode _ AnyNode known.node (nodes.StmtPart (stmt_parts.Function n))))) (written_in_tree known (nodes.StmtPart (stmt_parts.Function n)) place)
 stmt_part_holds known bounded (stmt_parts.Class n) place = class_holds known bounded n.value place
 stmt_part_holds known bounded (stmt_parts.ClassMember n) place = class_member_holds known bounded n.value
-stmt_part_holds known bounded (stmt_parts.BlockStmt n) place = block_stmt_holds known bounded n place
+stmt_part_holds known bounded (stmt_parts.BlockStmt n) place = block_stmt_holds known bounded n (context_of place)
 stmt_part_holds known bounded (stmt_parts.Decl n) place = decl_holds known bounded n place
 stmt_part_holds known bounded (stmt_parts.ModuleDecl n) place = module_decl_holds known bounded n.value
 stmt_part_holds known bounded (stmt_parts.VarDecl n) place = var_decl_holds known bounded n
@@ -84,18 +84,18 @@ jsx_part_holds : {X : Type 0} {holds : Bool → Part → Type 0} (known : Known 
 unfolding jsx_part jsx_element jsx_fragment node_items is_element element_node
 jsx_part_holds {holds = holds} known bounded (jsx_parts.JSXElement n) place =
     let q = written_in_tree known (nodes.JSXPart (jsx_parts.JSXElement n)) place in
-    subst (λ z. holds bounded z) q (known.words.element bounded (in_tree known (nodes.JSXPart (jsx_parts.JSXElement n))) place (jsx_element_parts (asks_in known) (items_in known) n.value place) (ap element_node (out-roll-AnyNode (map-AnyNode _ AnyNode known.node (nodes.JSXPart (jsx_parts.JSXElement n))))) q (jsx_element_parts_holds known n.value place))
+    subst (λ z. holds bounded z) q (known.words.element bounded (in_tree known (nodes.JSXPart (jsx_parts.JSXElement n))) place (jsx_element_parts (asks_in known) (items_in known) n.value (context_of place)) (ap element_node (out-roll-AnyNode (map-AnyNode _ AnyNode known.node (nodes.JSXPart (jsx_parts.JSXElement n))))) q (jsx_element_parts_holds known n.value (context_of place)))
 jsx_part_holds {holds = holds} known bounded (jsx_parts.JSXFragment n) place =
     let q = written_in_tree known (nodes.JSXPart (jsx_parts.JSXFragment n)) place in
-    subst (λ z. holds bounded z) q (known.words.element bounded (in_tree known (nodes.JSXPart (jsx_parts.JSXFragment n))) place (jsx_fragment_parts (items_in known) n place) (ap element_node (out-roll-AnyNode (map-AnyNode _ AnyNode known.node (nodes.JSXPart (jsx_parts.JSXFragment n))))) q (jsx_fragment_parts_holds known n place))
+    subst (λ z. holds bounded z) q (known.words.element bounded (in_tree known (nodes.JSXPart (jsx_parts.JSXFragment n))) place (jsx_fragment_parts (items_in known) n (context_of place)) (ap element_node (out-roll-AnyNode (map-AnyNode _ AnyNode known.node (nodes.JSXPart (jsx_parts.JSXFragment n))))) q (jsx_fragment_parts_holds known n (context_of place)))
 jsx_part_holds known bounded (jsx_parts.JSXObject n) place = jsx_object_holds known bounded n
 
 -- one node
 node_holds : {X : Type 0} {holds : Bool → Part → Type 0} (known : Known holds X) (bounded : Bool) (n : AnyNode-F X) (place : Place) → holds bounded (node_items (asks_in known) (items_in known) n place)
 unfolding node_items
-node_holds known bounded (nodes.Expr n) place = placed_expr_holds known bounded n place
+node_holds known bounded (nodes.Expr n) place = placed_expr_holds known bounded n (context_of place)
 node_holds known bounded (nodes.Stmt n) place = stmt_holds known bounded n
-node_holds known bounded (nodes.MemberExpr n) place = member_at_holds known bounded n place
+node_holds known bounded (nodes.MemberExpr n) place = member_at_holds known bounded n (context_of place)
 node_holds known bounded (nodes.ExprPart n) place = expr_part_holds known bounded n place
 node_holds known bounded (nodes.StmtPart n) place = stmt_part_holds known bounded n place
 node_holds known bounded (nodes.JSXPart n) place = jsx_part_holds known bounded n place

@@ -33,7 +33,7 @@ use Rattle.swc_ecma_codegen_tokens.specs.Run.{Plan, Part}
 use Rattle.swc_ecma_codegen_tokens.specs.Tags as tags
 use Rattle.swc_ecma_codegen_tokens.specs.Templates.{tpl_element}
 use Rattle.swc_ecma_codegen_tokens.specs.Words as calls
-use Rattle.swc_ecma_codegen_emit.specs.declared.nodes.Place.{Place}
+use Rattle.swc_ecma_codegen_emit.specs.Places.{Place}
 use Rattle.swc_ecma_codegen_emit.specs.Answers.{Answers, any_answers}
 use Rattle.swc_ecma_codegen_emit.specs.Blocks as blocks
 use Rattle.swc_ecma_codegen_emit.specs.Exprs as exprs

@@ -13,7 +13,8 @@ use Rattle.swc_ecma_codegen_tree.specs.declared.pats.Pat.TheVariants as pats
 use Rattle.swc_ecma_codegen_tokens.specs.Lists.{ListChild}
 use Rattle.swc_ecma_codegen_tokens.specs.Run.{Part, Plan}
 use Rattle.swc_ecma_codegen_tokens.specs.Words.{name, trailing_comments}
-use Rattle.swc_ecma_codegen_emit.specs.declared.nodes.Place.TheVariants.{Plain}
+use Rattle.swc_ecma_codegen_emit.specs.declared.nodes.Context.TheVariants.{Plain}
+use Rattle.swc_ecma_codegen_emit.specs.Places.{Whole}
 use Rattle.swc_ecma_codegen_emit.specs.declared.patterns.PatternKind.TheVariants.{Name, PlainName}
 use Rattle.swc_ecma_codegen_emit.specs.Annotations.{annotation}
 use Rattle.swc_ecma_codegen_emit.specs.Answers.{any_answers, place_of}
@@ -54,7 +55,7 @@ name_by n false None d e h = record {
       ap (λ z. name n.id.span (string_bytes n.id.sym) z (annotation any_items n.type_ann more)) d ∙ ap (λ z. name n.id.span (string_bytes n.id.sym) false (annotation any_items z more)) e;
 }
 
-node_name : (n : AnyNode-F AnyNode) → is_plain (node_pattern n) ≡ true → IsOneName (node_items any_answers any_items n Plain)
+node_name : (n : AnyNode-F AnyNode) → is_plain (node_pattern n) ≡ true → IsOneName (node_items any_answers any_items n (Whole Plain))
 unfolding is_plain node_pattern part_pattern pat_kind name_kind node_items expr_part
 node_name (nodes.ExprPart (expr_parts.Pat (pats.Ident n))) h = name_by n n.id.optional n.type_ann refl refl h
 node_name (nodes.ExprPart (expr_parts.Pat (pats.Array n))) h = absurd (true≢false (sym h))
@@ -64,15 +65,15 @@ node_name (nodes.ExprPart (expr_parts.Pat n)) h = absurd (true≢false (sym h))
 node_name (nodes.ExprPart n) h = absurd (true≢false (sym h))
 node_name n h = absurd (true≢false (sym h))
 
-pub plain_name : (n : AnyNode) → is_plain (any_pattern n) ≡ true → IsOneName (any_items n Plain)
+pub plain_name : (n : AnyNode) → is_plain (any_pattern n) ≡ true → IsOneName (any_items n (Whole Plain))
 unfolding any_pattern
-plain_name n h = subst (λ (z : Part). IsOneName z) (sym (any_items_of n Plain)) (node_name (out-AnyNode n) h)
+plain_name n h = subst (λ (z : Part). IsOneName z) (sym (any_items_of n (Whole Plain))) (node_name (out-AnyNode n) h)
 
 -- as an arrow function asks it of its parameters
 pub only_name : {X : Type 0} (node : X → AnyNode) (ps : List (PatBox X)) → is_only is_plain (λ x. any_answers (node x)) ps ≡ true → HoldsOneName (map (child_of (λ (p : PatBox X). (any_answers (node p.node.value)).place) (λ p place. any_items (node p.node.value) place)) ps)
 unfolding is_only any_answers
 only_name node [] h = absurd (true≢false (sym h))
-only_name node (p ∷ []) h = record { place = (any_answers (node p.node.value)).place; part = any_items (node p.node.value) Plain; only = refl; one = plain_name (node p.node.value) h }
+only_name node (p ∷ []) h = record { place = (any_answers (node p.node.value)).place; part = any_items (node p.node.value) (Whole Plain); only = refl; one = plain_name (node p.node.value) h }
 only_name node (p ∷ q ∷ ps) h = absurd (true≢false (sym h))
 
 -- the second of three that hold

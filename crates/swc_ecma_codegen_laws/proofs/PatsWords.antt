@@ -21,7 +21,8 @@ use Rattle.swc_ecma_codegen_grammar.specs.ElementPhrases.{last_is_hole}
 use Rattle.swc_ecma_codegen_tokens.specs.Run.{Part}
 use Rattle.swc_ecma_codegen_tokens.specs.Words.{punct}
 use Rattle.swc_ecma_codegen_grammar.specs.Phrases.{RightBrace, RightBracket, closing_mark}
-use Rattle.swc_ecma_codegen_emit.specs.declared.nodes.Place.TheVariants.{Plain}
+use Rattle.swc_ecma_codegen_emit.specs.declared.nodes.Context.TheVariants.{Plain}
+use Rattle.swc_ecma_codegen_emit.specs.Places.{Whole}
 use Rattle.swc_ecma_codegen_emit.specs.Answers.{place_of}
 use Rattle.swc_ecma_codegen_emit.specs.Lists.{child_of, if_some_at, unsupported}
 use Rattle.swc_ecma_codegen_laws.proofs.OfWords.{Known, asks_in, items_in, either, may_skip}
@@ -35,7 +36,7 @@ use Rattle.swc_ecma_codegen_laws.proofs.NamesWords.{binding_ident_holds, prop_na
 pub initializer_holds : {X : Type 0} {holds : Bool → Part → Type 0} (known : Known holds X) (bounded : Bool) (x1 : Option (ExprBox X)) → holds bounded (initializer (items_in known) x1)
 unfolding initializer
 initializer_holds known bounded None = known.words.none bounded
-initializer_holds known bounded (Some n) = known.words.and_then bounded (spaced_punct_holds known.words bounded (codes "=")) (known.law bounded n.node.value Plain)
+initializer_holds known bounded (Some n) = known.words.and_then bounded (spaced_punct_holds known.words bounded (codes "=")) (known.law bounded n.node.value (Whole Plain))
 
 array_pat_skips : (hole : Bool) → may_skip (array_pat_format hole) RightBracket ≡ true
 array_pat_skips true = refl
@@ -43,7 +44,7 @@ array_pat_skips false = refl
 
 pub array_pat_elements_holds : {X : Type 0} {holds : Bool → Part → Type 0} (known : Known holds X) (bounded : Bool) (n : ArrayPat X) → holds bounded (λ rest. array_pat_elements (asks_in known) (items_in known) n (punct (codes "]") rest))
 unfolding closing_mark
-array_pat_elements_holds known bounded n = known.words.closed_list bounded (array_pat_format (last_is_hole n.elems.items)) n.span (map (child_of (option_span (pat_place (asks_in known))) (if_some_at (pat_items (items_in known)))) n.elems.items) RightBracket (array_pat_skips (last_is_hole n.elems.items)) (children_hold _ _ (option_span (pat_place (asks_in known))) (if_some_at (pat_items (items_in known))) (λ x. (if_some_at_holds known.words bounded (pat_items (items_in known)) (λ x place. (known.law bounded x.node.value place)) x Plain)) n.elems.items)
+array_pat_elements_holds known bounded n = known.words.closed_list bounded (array_pat_format (last_is_hole n.elems.items)) n.span (map (child_of (option_span (pat_place (asks_in known))) (if_some_at (pat_items (items_in known)))) n.elems.items) RightBracket (array_pat_skips (last_is_hole n.elems.items)) (children_hold _ _ (option_span (pat_place (asks_in known))) (if_some_at (pat_items (items_in known))) (λ x. (if_some_at_holds known.words bounded (pat_items (items_in known)) (λ x place. (known.law bounded x.node.value place)) x (Whole Plain))) n.elems.items)
 
 pub array_pat_holds : {X : Type 0} {holds : Bool → Part → Type 0} (known : Known holds X) (bounded : Bool) (n : ArrayPat X) → holds bounded (array_pat (asks_in known) (items_in known) n)
 unfolding array_pat
@@ -51,15 +52,15 @@ array_pat_holds known bounded n = known.words.and_then bounded (opened_holds kno
 
 pub rest_pat_holds : {X : Type 0} {holds : Bool → Part → Type 0} (known : Known holds X) (bounded : Bool) (n : RestPat X) → holds bounded (rest_pat (items_in known) n)
 unfolding rest_pat
-rest_pat_holds known bounded n = known.words.and_then bounded (known.words.leading_comments bounded n.span.lo) (known.words.and_then bounded (known.words.ellipsis bounded n.dot3_token) (known.words.and_then bounded (known.law bounded n.arg.node.value Plain) (annotation_holds known bounded n.type_ann)))
+rest_pat_holds known bounded n = known.words.and_then bounded (known.words.leading_comments bounded n.span.lo) (known.words.and_then bounded (known.words.ellipsis bounded n.dot3_token) (known.words.and_then bounded (known.law bounded n.arg.node.value (Whole Plain)) (annotation_holds known bounded n.type_ann)))
 
 pub assign_pat_holds : {X : Type 0} {holds : Bool → Part → Type 0} (known : Known holds X) (bounded : Bool) (n : AssignPat X) → holds bounded (assign_pat (items_in known) n)
 unfolding assign_pat
-assign_pat_holds known bounded n = known.words.and_then bounded (opened_holds known.words bounded n.span) (known.words.and_then bounded (known.law bounded n.left.node.value Plain) (known.words.and_then bounded (spaced_punct_holds known.words bounded (codes "=")) (known.words.and_then bounded (known.law bounded n.right.node.value Plain) (known.words.position bounded n.span.hi))))
+assign_pat_holds known bounded n = known.words.and_then bounded (opened_holds known.words bounded n.span) (known.words.and_then bounded (known.law bounded n.left.node.value (Whole Plain)) (known.words.and_then bounded (spaced_punct_holds known.words bounded (codes "=")) (known.words.and_then bounded (known.law bounded n.right.node.value (Whole Plain)) (known.words.position bounded n.span.hi))))
 
 pub key_value_pat_prop_holds : {X : Type 0} {holds : Bool → Part → Type 0} (known : Known holds X) (bounded : Bool) (n : KeyValuePatProp X) → holds bounded (key_value_pat_prop (asks_in known) (items_in known) n)
 unfolding key_value_pat_prop
-key_value_pat_prop_holds known bounded n = known.words.and_then bounded (opened_holds known.words bounded (prop_name_span n.key)) (known.words.and_then bounded (prop_name_holds known bounded n.key) (known.words.and_then bounded (known.words.punct bounded (codes ":")) (known.words.and_then bounded (known.words.formatting_space bounded) (known.words.and_then bounded (known.law bounded n.value.node.value Plain) (known.words.position bounded ((asks_in known) n.value.node.value).place.hi)))))
+key_value_pat_prop_holds known bounded n = known.words.and_then bounded (opened_holds known.words bounded (prop_name_span n.key)) (known.words.and_then bounded (prop_name_holds known bounded n.key) (known.words.and_then bounded (known.words.punct bounded (codes ":")) (known.words.and_then bounded (known.words.formatting_space bounded) (known.words.and_then bounded (known.law bounded n.value.node.value (Whole Plain)) (known.words.position bounded ((asks_in known) n.value.node.value).place.hi)))))
 
 pub assign_pat_prop_holds : {X : Type 0} {holds : Bool → Part → Type 0} (known : Known holds X) (bounded : Bool) (n : AssignPatProp X) → holds bounded (assign_pat_prop (items_in known) n)
 unfolding assign_pat_prop
@@ -87,7 +88,7 @@ pat_parts_holds known bounded (pats.Rest n) = rest_pat_holds known bounded n
 pat_parts_holds known bounded (pats.Object n) = object_pat_holds known bounded n
 pat_parts_holds known bounded (pats.Assign n) = assign_pat_holds known bounded n
 pat_parts_holds known bounded (pats.Invalid n) = known.words.refuse bounded unprintable.UnsupportedNode
-pat_parts_holds known bounded (pats.Expr n) = known.law bounded n.node.value Plain
+pat_parts_holds known bounded (pats.Expr n) = known.law bounded n.node.value (Whole Plain)
 
 pub pat_holds : {X : Type 0} {holds : Bool → Part → Type 0} (known : Known holds X) (bounded : Bool) (n : Pat X) → holds bounded (pat (asks_in known) (items_in known) n)
 unfolding pat

@@ -19,7 +19,9 @@ use Rattle.swc_ecma_codegen_grammar.specs.FunctionPhrases.{is_some_listed}
 use Rattle.swc_ecma_codegen_tokens.specs.Lists.{ListChild}
 use Rattle.swc_ecma_codegen_tokens.specs.Run.{Part}
 use Rattle.swc_ecma_codegen_emit.specs.Commented.{has_comment_inside}
-use Rattle.swc_ecma_codegen_emit.specs.declared.nodes.Place.TheVariants.{Plain, MethodHead, DeclarationTail}
+use Rattle.swc_ecma_codegen_emit.specs.declared.nodes.Context.TheVariants.{Plain}
+use Rattle.swc_ecma_codegen_emit.specs.declared.nodes.Piece.TheVariants.{MethodHead, DeclarationTail}
+use Rattle.swc_ecma_codegen_emit.specs.Places.{Whole, Only}
 use Rattle.swc_ecma_codegen_emit.specs.Answers.{place_of}
 use Rattle.swc_ecma_codegen_laws.proofs.OfWords.{OfWords, Known, asks_in, items_in, either}
 use Rattle.swc_ecma_codegen_emit.specs.Props.{key_end, value_start, key_value_prop, assign_prop, accessor, optional_body, tight_annotation, getter_prop, this_param, setter_prop, method_prop, prop, prop_or_spread, object_children, object_list, object_by_maps, object_lit}
@@ -36,25 +38,25 @@ value_start_holds words bounded key value = either words bounded (key.lo.0 == 0)
 
 pub key_value_prop_holds : {X : Type 0} {holds : Bool → Part → Type 0} (known : Known holds X) (bounded : Bool) (n : KeyValueProp X) → holds bounded (key_value_prop (asks_in known) (items_in known) n)
 unfolding key_value_prop
-key_value_prop_holds known bounded n = known.words.and_then bounded (opened_holds known.words bounded (prop_name_span n.key)) (known.words.and_then bounded (prop_name_holds known bounded n.key) (known.words.and_then bounded (key_end_holds known.words bounded (prop_name_span n.key) (((asks_in known) n.value.node.value).place)) (known.words.and_then bounded (known.words.punct bounded (codes ":")) (known.words.and_then bounded (known.words.formatting_space bounded) (known.words.and_then bounded (value_start_holds known.words bounded (prop_name_span n.key) (((asks_in known) n.value.node.value).place)) (known.law bounded n.value.node.value Plain))))))
+key_value_prop_holds known bounded n = known.words.and_then bounded (opened_holds known.words bounded (prop_name_span n.key)) (known.words.and_then bounded (prop_name_holds known bounded n.key) (known.words.and_then bounded (key_end_holds known.words bounded (prop_name_span n.key) (((asks_in known) n.value.node.value).place)) (known.words.and_then bounded (known.words.punct bounded (codes ":")) (known.words.and_then bounded (known.words.formatting_space bounded) (known.words.and_then bounded (value_start_holds known.words bounded (prop_name_span n.key) (((asks_in known) n.value.node.value).place)) (known.law bounded n.value.node.value (Whole Plain)))))))
 
 pub assign_prop_holds : {X : Type 0} {holds : Bool → Part → Type 0} (known : Known holds X) (bounded : Bool) (n : AssignProp X) → holds bounded (assign_prop (items_in known) n)
 unfolding assign_prop
-assign_prop_holds known bounded n = known.words.and_then bounded (opened_holds known.words bounded n.key.span) (known.words.and_then bounded (ident_holds known.words bounded n.key) (known.words.and_then bounded (known.words.punct bounded (codes "=")) (known.law bounded n.value.node.value Plain)))
+assign_prop_holds known bounded n = known.words.and_then bounded (opened_holds known.words bounded n.key.span) (known.words.and_then bounded (ident_holds known.words bounded n.key) (known.words.and_then bounded (known.words.punct bounded (codes "=")) (known.law bounded n.value.node.value (Whole Plain))))
 
 pub accessor_holds : {X : Type 0} {holds : Bool → Part → Type 0} (known : Known holds X) (bounded : Bool) (word : List ℕ) (name : X) → holds bounded (accessor (asks_in known) (items_in known) word name)
 unfolding accessor
-accessor_holds known bounded word name = known.words.and_then bounded (known.words.keyword bounded None word) (known.words.and_then bounded (blank_holds known.words bounded ((asks_in known) name).starts) (known.words.and_then bounded (known.law bounded name Plain) (known.words.formatting_space bounded)))
+accessor_holds known bounded word name = known.words.and_then bounded (known.words.keyword bounded None word) (known.words.and_then bounded (blank_holds known.words bounded ((asks_in known) name).starts) (known.words.and_then bounded (known.law bounded name (Whole Plain)) (known.words.formatting_space bounded)))
 
 pub optional_body_holds : {X : Type 0} {holds : Bool → Part → Type 0} (known : Known holds X) (bounded : Bool) (x1 : Option (BlockStmtBox X)) → holds bounded (optional_body (items_in known) x1)
 unfolding optional_body
 optional_body_holds known bounded None = known.words.none bounded
-optional_body_holds known bounded (Some n) = known.law bounded n.node.value Plain
+optional_body_holds known bounded (Some n) = known.law bounded n.node.value (Whole Plain)
 
 pub tight_annotation_holds : {X : Type 0} {holds : Bool → Part → Type 0} (known : Known holds X) (bounded : Bool) (x1 : Option (TsTypeAnnBox X)) → holds bounded (tight_annotation (items_in known) x1)
 unfolding tight_annotation
 tight_annotation_holds known bounded None = known.words.none bounded
-tight_annotation_holds known bounded (Some n) = known.words.and_then bounded (known.words.punct bounded (codes ":")) (known.law bounded n.node.value Plain)
+tight_annotation_holds known bounded (Some n) = known.words.and_then bounded (known.words.punct bounded (codes ":")) (known.law bounded n.node.value (Whole Plain))
 
 pub getter_prop_holds : {X : Type 0} {holds : Bool → Part → Type 0} (known : Known holds X) (bounded : Bool) (n : GetterProp X) → holds bounded (getter_prop (asks_in known) (items_in known) n)
 unfolding getter_prop
@@ -63,15 +65,15 @@ getter_prop_holds known bounded n = known.words.and_then bounded (opened_holds k
 pub this_param_holds : {X : Type 0} {holds : Bool → Part → Type 0} (known : Known holds X) (bounded : Bool) (x1 : Option (PatBox X)) → holds bounded (this_param (items_in known) x1)
 unfolding this_param
 this_param_holds known bounded None = known.words.none bounded
-this_param_holds known bounded (Some n) = known.words.and_then bounded (known.law bounded n.node.value Plain) (known.words.and_then bounded (known.words.punct bounded (codes ",")) (known.words.formatting_space bounded))
+this_param_holds known bounded (Some n) = known.words.and_then bounded (known.law bounded n.node.value (Whole Plain)) (known.words.and_then bounded (known.words.punct bounded (codes ",")) (known.words.formatting_space bounded))
 
 pub setter_prop_holds : {X : Type 0} {holds : Bool → Part → Type 0} (known : Known holds X) (bounded : Bool) (n : SetterProp X) → holds bounded (setter_prop (asks_in known) (items_in known) n)
 unfolding setter_prop
-setter_prop_holds known bounded n = known.words.and_then bounded (opened_holds known.words bounded n.span) (known.words.and_then bounded (accessor_holds known bounded (codes "set") n.key.node.value) (known.words.and_then bounded (known.words.punct bounded (codes "(")) (known.words.and_then bounded (this_param_holds known bounded n.this_param) (known.words.and_then bounded (known.law bounded n.param.node.value Plain) (known.words.and_then bounded (known.words.punct bounded (codes ")")) (optional_body_holds known bounded n.body))))))
+setter_prop_holds known bounded n = known.words.and_then bounded (opened_holds known.words bounded n.span) (known.words.and_then bounded (accessor_holds known bounded (codes "set") n.key.node.value) (known.words.and_then bounded (known.words.punct bounded (codes "(")) (known.words.and_then bounded (this_param_holds known bounded n.this_param) (known.words.and_then bounded (known.law bounded n.param.node.value (Whole Plain)) (known.words.and_then bounded (known.words.punct bounded (codes ")")) (optional_body_holds known bounded n.body))))))
 
 pub method_prop_holds : {X : Type 0} {holds : Bool → Part → Type 0} (known : Known holds X) (bounded : Bool) (n : MethodProp X) → holds bounded (method_prop (asks_in known) (items_in known) n)
 unfolding method_prop
-method_prop_holds known bounded n = known.words.and_then bounded (opened_holds known.words bounded (prop_name_span n.key)) (known.words.and_then bounded (known.law bounded n.function.node.value MethodHead) (known.words.and_then bounded (prop_name_holds known bounded n.key) (known.words.and_then bounded (known.words.formatting_space bounded) (known.law bounded n.function.node.value DeclarationTail))))
+method_prop_holds known bounded n = known.words.and_then bounded (opened_holds known.words bounded (prop_name_span n.key)) (known.words.and_then bounded (known.law bounded n.function.node.value (Only MethodHead)) (known.words.and_then bounded (prop_name_holds known bounded n.key) (known.words.and_then bounded (known.words.formatting_space bounded) (known.law bounded n.function.node.value (Only DeclarationTail)))))
 
 pub prop_holds : {X : Type 0} {holds : Bool → Part → Type 0} (known : Known holds X) (bounded : Bool) (x2 : Prop X) → holds bounded (prop (asks_in known) (items_in known) x2)
 unfolding prop

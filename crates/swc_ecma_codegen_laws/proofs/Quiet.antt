@@ -19,9 +19,8 @@ use Rattle.swc_ecma_codegen_tokens.proofs.Emission.Levels.{levels, rise, levels_
 use Rattle.swc_ecma_codegen_tokens.proofs.Filling.Shapes.{Shape}
 use Rattle.swc_ecma_codegen_tokens.proofs.NameTokens.Spelled.{spelled_same}
 use Rattle.swc_ecma_codegen_tokens.proofs.Emission.PartSteps.{steps_of_chain}
-use Rattle.swc_ecma_codegen_emit.specs.declared.nodes.Place.{Place}
-use Rattle.swc_ecma_codegen_emit.specs.declared.nodes.Place.TheVariants.{Plain}
-use Rattle.swc_ecma_codegen_emit.specs.Places.{alone, by_itself, with_lines}
+use Rattle.swc_ecma_codegen_emit.specs.declared.nodes.Context.TheVariants.{Plain}
+use Rattle.swc_ecma_codegen_emit.specs.Places.{Place, Whole, alone, by_itself, with_lines}
 use Rattle.swc_ecma_codegen_laws.specs.Basic.{TakesNoMemory}
 use Rattle.swc_ecma_codegen_tokens.proofs.Reading.Printed.{chain, chain_append, env_after, maps_append, remakes_append, MakesWithinOn, writes_position, writes_commit}
 use Rattle.swc_ecma_codegen_tokens.proofs.Commenting.CommentPrints.{writes_leading}
@@ -199,13 +198,13 @@ quiet_unhindered p a b h s room e =
 abbrev pub inside : Env → Env
 inside env = record env { max_line = None }
 
-place_alone : (minify : Bool) (max : Option ℕ) → (is_some max && minify) ≡ false → cond minify (with_lines max) Plain ≡ Plain
+place_alone : (minify : Bool) (max : Option ℕ) → (is_some max && minify) ≡ false → cond minify (with_lines max) (Whole Plain) ≡ Whole Plain
 place_alone true None h = refl
 place_alone true (Some max) h = absurd (true≢false h)
 place_alone false max h = refl
 
 -- where lines aren't bounded, nothing is asked of it
-pub quiet_itself : (env : Env) (items : Place → Part) → is_bounded env ≡ false → Quiet (inside env) (items Plain) → Quiet env (by_itself items)
+pub quiet_itself : (env : Env) (items : Place → Part) → is_bounded env ≡ false → Quiet (inside env) (items (Whole Plain)) → Quiet env (by_itself items)
 unfolding by_itself with_max_line
 quiet_itself env items h k =
     let here : Quiet (inside env) (items (alone env)) = subst (λ z. Quiet (inside env) (items z)) (sym (place_alone env.config.minify env.max_line h)) k in
@@ -222,5 +221,5 @@ takes_none p law = record {
   made = λ a b e s room same. quiet_unhindered p a b (law a.env e s.unbounded) s room same;
 }
 
-pub itself_takes_none : (items : Place → Part) → ((env : Env) → env.config.ascii_only ≡ false → Quiet env (items Plain)) → TakesNoMemory (by_itself items)
+pub itself_takes_none : (items : Place → Part) → ((env : Env) → env.config.ascii_only ≡ false → Quiet env (items (Whole Plain))) → TakesNoMemory (by_itself items)
 itself_takes_none items law = takes_none (by_itself items) (λ env e k. quiet_itself env items k (law (inside env) e))

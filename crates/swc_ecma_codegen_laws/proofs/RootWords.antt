@@ -3,7 +3,8 @@ use Rattle.std.proofs.Common.{◌≡◌, ℕ, Bool, true, refl}
 use Rattle.swc_ecma_codegen_tree.specs.declared.programs.Program.TheVariants as programs
 use Rattle.swc_ecma_codegen_tokens.specs.Run.{Part}
 use Rattle.swc_ecma_codegen_tokens.specs.Words as calls
-use Rattle.swc_ecma_codegen_emit.specs.declared.nodes.Place.TheVariants.{Plain, Lines}
+use Rattle.swc_ecma_codegen_emit.specs.declared.nodes.Context.TheVariants.{ByItself, Plain}
+use Rattle.swc_ecma_codegen_emit.specs.Places.{Whole}
 use Rattle.swc_ecma_codegen_emit.specs.Answers.{any_answers}
 use Rattle.swc_ecma_codegen_emit.specs.Programs.{module_parts, script_parts, whole_module, script, program}
 use Rattle.swc_ecma_codegen_emit.specs.Roots.{Root, OfExpr, OfStmt, OfItem, OfModule, OfScript, OfProgram, OfLink, is_program, root_at}
@@ -30,7 +31,7 @@ program_holds words bounded (OfProgram (programs.Module n)) h = module_parts_hol
 program_holds words bounded (OfProgram (programs.Script n)) h = script_parts_holds (in_trees words) bounded n
 program_holds words bounded (OfLink n role) h = absurd (cc)
 
-pub plain_program : (root : Root) → is_program root ≡ true → root_at root Plain ≡ program_parts root
+pub plain_program : (root : Root) → is_program root ≡ true → root_at root (Whole Plain) ≡ program_parts root
 unfolding whole_module script program
 plain_program (OfExpr n) h = absurd (cc)
 plain_program (OfStmt n) h = absurd (cc)
@@ -41,7 +42,7 @@ plain_program (OfProgram (programs.Module n)) h = refl
 plain_program (OfProgram (programs.Script n)) h = refl
 plain_program (OfLink n role) h = absurd (cc)
 
-pub lined_program : (root : Root) (max : ℕ) → is_program root ≡ true → root_at root (Lines max) ≡ calls.bounded max (program_parts root)
+pub lined_program : (root : Root) (max : ℕ) → is_program root ≡ true → root_at root (Whole (ByItself max)) ≡ calls.bounded max (program_parts root)
 unfolding whole_module script program
 lined_program (OfExpr n) max h = absurd (cc)
 lined_program (OfStmt n) max h = absurd (cc)

@@ -17,7 +17,7 @@ use Rattle.swc_ecma_codegen_tokens.specs.Run.{Env, Part, Plan, Step, Guard, Toke
 use Rattle.swc_ecma_codegen_tokens.specs.Words.{allow_break, allows_break, bare_punct, bare_semi, keyword, operator, placed_punct, punct, semi, word_operator}
 use Rattle.swc_ecma_codegen_tokens.proofs.Emission.Fronts.{is_inner_step, are_inner_steps, inner_append}
 use Rattle.swc_ecma_codegen_tokens.proofs.Reading.Printed.{chain, chain_append, env_after, maps_append}
-use Rattle.swc_ecma_codegen_emit.specs.declared.nodes.Place.{Place}
+use Rattle.swc_ecma_codegen_emit.specs.Places.{Place}
 use Rattle.swc_ecma_codegen_emit.specs.Exprs.{binary_op, yield_star}
 use Rattle.swc_ecma_codegen_emit.specs.Operands.{is_word_op}
 use Rattle.swc_ecma_codegen_emit.specs.Templates.{tpl_parts, tpl_all, tpl_rest}

@@ -34,7 +34,8 @@ use Rattle.swc_ecma_codegen_tree.specs.declared.stmts.WithStmt.{WithStmt}
 use Rattle.swc_ecma_codegen_spans.specs.Spans.{stmt_span}
 use Rattle.swc_ecma_codegen_util.specs.Ends.{head_ends}
 use Rattle.swc_ecma_codegen_tokens.specs.Run.{Part}
-use Rattle.swc_ecma_codegen_emit.specs.declared.nodes.Place.TheVariants.{Plain, Statement}
+use Rattle.swc_ecma_codegen_emit.specs.declared.nodes.Context.TheVariants.{Plain, Statement}
+use Rattle.swc_ecma_codegen_emit.specs.Places.{Whole}
 use Rattle.swc_ecma_codegen_emit.specs.Answers.{place_of}
 use Rattle.swc_ecma_codegen_emit.specs.Branches.{is_block}
 use Rattle.swc_ecma_codegen_emit.specs.Lists.{child_of}
@@ -47,15 +48,15 @@ use Rattle.swc_ecma_codegen_laws.proofs.FunctionExprsWords.{optional_name_holds}
 
 pub enclosed_holds : {X : Type 0} {holds : Bool → Part → Type 0} (known : Known holds X) (bounded : Bool) (n : ExprBox X) → holds bounded (enclosed (items_in known) n)
 unfolding enclosed
-enclosed_holds known bounded n = known.words.and_then bounded (known.words.punct bounded (codes "(")) (known.words.and_then bounded (known.law bounded n.node.value Plain) (known.words.punct bounded (codes ")")))
+enclosed_holds known bounded n = known.words.and_then bounded (known.words.punct bounded (codes "(")) (known.words.and_then bounded (known.law bounded n.node.value (Whole Plain)) (known.words.punct bounded (codes ")")))
 
 pub spaced_holds : {X : Type 0} {holds : Bool → Part → Type 0} (known : Known holds X) (bounded : Bool) (x : X) → holds bounded (spaced (asks_in known) (items_in known) x)
 unfolding spaced
-spaced_holds known bounded x = known.words.and_then bounded (blank_holds known.words bounded ((asks_in known) x).starts) (known.law bounded x Plain)
+spaced_holds known bounded x = known.words.and_then bounded (blank_holds known.words bounded ((asks_in known) x).starts) (known.law bounded x (Whole Plain))
 
 pub argument_in_holds : {X : Type 0} {holds : Bool → Part → Type 0} (known : Known holds X) (bounded : Bool) (x : X) (x3 : Bool) → holds bounded (argument_in (asks_in known) (items_in known) x x3)
 unfolding argument_in
-argument_in_holds known bounded x true = optional_parentheses_hold known.words bounded true ((items_in known) x Plain) (known.law bounded x Plain)
+argument_in_holds known bounded x true = optional_parentheses_hold known.words bounded true ((items_in known) x (Whole Plain)) (known.law bounded x (Whole Plain))
 argument_in_holds known bounded x false = spaced_holds known bounded x
 
 pub argument_holds : {X : Type 0} {holds : Bool → Part → Type 0} (known : Known holds X) (bounded : Bool) (x : X) → holds bounded (argument (asks_in known) (items_in known) x)
@@ -80,7 +81,7 @@ empty_stmt_holds words bounded n = words.and_then bounded (words.leading_comment
 
 pub expr_stmt_holds : {X : Type 0} {holds : Bool → Part → Type 0} (known : Known holds X) (bounded : Bool) (n : ExprStmt X) → holds bounded (expr_stmt (items_in known) n)
 unfolding expr_stmt
-expr_stmt_holds known bounded n = known.words.and_then bounded (known.words.leading_comments bounded n.span.lo) (known.words.and_then bounded (known.law bounded n.expr.node.value Plain) (known.words.semi bounded))
+expr_stmt_holds known bounded n = known.words.and_then bounded (known.words.leading_comments bounded n.span.lo) (known.words.and_then bounded (known.law bounded n.expr.node.value (Whole Plain)) (known.words.semi bounded))
 
 pub debugger_stmt_holds : {holds : Bool → Part → Type 0} (words : OfWords holds) (bounded : Bool) (n : DebuggerStmt) → holds bounded (debugger_stmt n)
 unfolding debugger_stmt
@@ -88,7 +89,7 @@ debugger_stmt_holds words bounded n = words.and_then bounded (words.commit_pendi
 
 pub with_stmt_holds : {X : Type 0} {holds : Bool → Part → Type 0} (known : Known holds X) (bounded : Bool) (n : WithStmt X) → holds bounded (with_stmt (items_in known) n)
 unfolding with_stmt
-with_stmt_holds known bounded n = known.words.and_then bounded (known.words.commit_pending_semi bounded) (known.words.and_then bounded (known.words.position bounded n.span.lo) (known.words.and_then bounded (known.words.keyword bounded None (codes "with")) (known.words.and_then bounded (known.words.formatting_space bounded) (known.words.and_then bounded (enclosed_holds known bounded n.obj) (known.law bounded n.body.node.value Plain)))))
+with_stmt_holds known bounded n = known.words.and_then bounded (known.words.commit_pending_semi bounded) (known.words.and_then bounded (known.words.position bounded n.span.lo) (known.words.and_then bounded (known.words.keyword bounded None (codes "with")) (known.words.and_then bounded (known.words.formatting_space bounded) (known.words.and_then bounded (enclosed_holds known bounded n.obj) (known.law bounded n.body.node.value (Whole Plain))))))
 
 pub return_arg_holds : {X : Type 0} {holds : Bool → Part → Type 0} (known : Known holds X) (bounded : Bool) (x2 : Option (ExprBox X)) → holds bounded (return_arg (asks_in known) (items_in known) x2)
 unfolding return_arg
@@ -101,7 +102,7 @@ return_stmt_holds known bounded n = known.words.and_then bounded (stmt_word_hold
 
 pub labeled_stmt_holds : {X : Type 0} {holds : Bool → Part → Type 0} (known : Known holds X) (bounded : Bool) (n : LabeledStmt X) → holds bounded (labeled_stmt (items_in known) n)
 unfolding labeled_stmt
-labeled_stmt_holds known bounded n = known.words.and_then bounded (known.words.commit_pending_semi bounded) (known.words.and_then bounded (ident_holds known.words bounded n.label) (known.words.and_then bounded (known.words.punct bounded (codes ":")) (known.words.and_then bounded (known.words.formatting_space bounded) (known.law bounded n.body.node.value Plain))))
+labeled_stmt_holds known bounded n = known.words.and_then bounded (known.words.commit_pending_semi bounded) (known.words.and_then bounded (ident_holds known.words bounded n.label) (known.words.and_then bounded (known.words.punct bounded (codes ":")) (known.words.and_then bounded (known.words.formatting_space bounded) (known.law bounded n.body.node.value (Whole Plain)))))
 
 pub break_stmt_holds : {holds : Bool → Part → Type 0} (words : OfWords holds) (bounded : Bool) (n : BreakStmt) → holds bounded (break_stmt n)
 unfolding break_stmt
@@ -118,16 +119,16 @@ else_branch_holds known bounded block (Some n) = known.words.and_then bounded (b
 
 pub if_stmt_holds : {X : Type 0} {holds : Bool → Part → Type 0} (known : Known holds X) (bounded : Bool) (n : IfStmt X) → holds bounded (if_stmt (asks_in known) (items_in known) n)
 unfolding if_stmt
-if_stmt_holds known bounded n = known.words.and_then bounded (spaced_word_holds known.words bounded n.span (codes "if")) (known.words.and_then bounded (enclosed_holds known bounded n.test) (known.words.and_then bounded (known.words.formatting_space bounded) (known.words.and_then bounded (known.law bounded n.cons.node.value Plain) (else_branch_holds known bounded ((asks_in known) n.cons.node.value).block n.alt))))
+if_stmt_holds known bounded n = known.words.and_then bounded (spaced_word_holds known.words bounded n.span (codes "if")) (known.words.and_then bounded (enclosed_holds known bounded n.test) (known.words.and_then bounded (known.words.formatting_space bounded) (known.words.and_then bounded (known.law bounded n.cons.node.value (Whole Plain)) (else_branch_holds known bounded ((asks_in known) n.cons.node.value).block n.alt))))
 
 pub catch_param_holds : {X : Type 0} {holds : Bool → Part → Type 0} (known : Known holds X) (bounded : Bool) (x1 : Option (PatBox X)) → holds bounded (catch_param (items_in known) x1)
 unfolding catch_param
 catch_param_holds known bounded None = known.words.none bounded
-catch_param_holds known bounded (Some n) = known.words.and_then bounded (known.words.punct bounded (codes "(")) (known.words.and_then bounded (known.law bounded n.node.value Plain) (known.words.punct bounded (codes ")")))
+catch_param_holds known bounded (Some n) = known.words.and_then bounded (known.words.punct bounded (codes "(")) (known.words.and_then bounded (known.law bounded n.node.value (Whole Plain)) (known.words.punct bounded (codes ")")))
 
 pub catch_clause_holds : {X : Type 0} {holds : Bool → Part → Type 0} (known : Known holds X) (bounded : Bool) (n : CatchClause X) → holds bounded (catch_clause (items_in known) n)
 unfolding catch_clause
-catch_clause_holds known bounded n = known.words.and_then bounded (opened_holds known.words bounded n.span) (known.words.and_then bounded (known.words.keyword bounded None (codes "catch")) (known.words.and_then bounded (known.words.formatting_space bounded) (known.words.and_then bounded (catch_param_holds known bounded n.param) (known.words.and_then bounded (known.words.formatting_space bounded) (known.law bounded n.body.node.value Plain)))))
+catch_clause_holds known bounded n = known.words.and_then bounded (opened_holds known.words bounded n.span) (known.words.and_then bounded (known.words.keyword bounded None (codes "catch")) (known.words.and_then bounded (known.words.formatting_space bounded) (known.words.and_then bounded (catch_param_holds known bounded n.param) (known.words.and_then bounded (known.words.formatting_space bounded) (known.law bounded n.body.node.value (Whole Plain))))))
 
 pub handler_holds : {X : Type 0} {holds : Bool → Part → Type 0} (known : Known holds X) (bounded : Bool) (x1 : Option (CatchClause X)) → holds bounded (handler (items_in known) x1)
 unfolding handler
@@ -137,11 +138,11 @@ handler_holds known bounded (Some n) = known.words.and_then bounded (known.words
 pub finalizer_holds : {X : Type 0} {holds : Bool → Part → Type 0} (known : Known holds X) (bounded : Bool) (x1 : Option (BlockStmtBox X)) → holds bounded (finalizer (items_in known) x1)
 unfolding finalizer
 finalizer_holds known bounded None = known.words.none bounded
-finalizer_holds known bounded (Some n) = known.words.and_then bounded (known.words.formatting_space bounded) (known.words.and_then bounded (known.words.keyword bounded None (codes "finally")) (known.law bounded n.node.value Plain))
+finalizer_holds known bounded (Some n) = known.words.and_then bounded (known.words.formatting_space bounded) (known.words.and_then bounded (known.words.keyword bounded None (codes "finally")) (known.law bounded n.node.value (Whole Plain)))
 
 pub try_stmt_holds : {X : Type 0} {holds : Bool → Part → Type 0} (known : Known holds X) (bounded : Bool) (n : TryStmt X) → holds bounded (try_stmt (items_in known) n)
 unfolding try_stmt
-try_stmt_holds known bounded n = known.words.and_then bounded (spaced_word_holds known.words bounded n.span (codes "try")) (known.words.and_then bounded (known.law bounded n.block.node.value Plain) (known.words.and_then bounded (handler_holds known bounded n.handler) (finalizer_holds known bounded n.finalizer)))
+try_stmt_holds known bounded n = known.words.and_then bounded (spaced_word_holds known.words bounded n.span (codes "try")) (known.words.and_then bounded (known.law bounded n.block.node.value (Whole Plain)) (known.words.and_then bounded (handler_holds known bounded n.handler) (finalizer_holds known bounded n.finalizer)))
 
 pub throw_stmt_holds : {X : Type 0} {holds : Bool → Part → Type 0} (known : Known holds X) (bounded : Bool) (n : ThrowStmt X) → holds bounded (throw_stmt (asks_in known) (items_in known) n)
 unfolding throw_stmt
@@ -153,7 +154,7 @@ case_test_holds known bounded None = known.words.keyword bounded None (codes "de
 case_test_holds known bounded (Some n) = known.words.and_then bounded (known.words.keyword bounded None (codes "case")) (spaced_holds known bounded n.node.value)
 
 pub case_children_holds : {X : Type 0} {holds : Bool → Part → Type 0} (known : Known holds X) (bounded : Bool) (ns : List (StmtBox X)) → ChildrenHold holds bounded (case_children (asks_in known) (items_in known) ns)
-case_children_holds known bounded ns = children_hold _ _ (λ s. ((asks_in known) s.node.value).place) (λ s place. (items_in known) s.node.value place) (λ s. (known.law bounded s.node.value Plain)) ns
+case_children_holds known bounded ns = children_hold _ _ (λ s. ((asks_in known) s.node.value).place) (λ s place. (items_in known) s.node.value place) (λ s. (known.law bounded s.node.value (Whole Plain))) ns
 
 pub case_stmts_hold : {X : Type 0} {holds : Bool → Part → Type 0} (known : Known holds X) (bounded : Bool) (n : SwitchCase X) → holds bounded (case_stmts (asks_in known) (items_in known) n)
 case_stmts_hold known bounded n = known.words.case_list bounded (λ lines. is_single (asks_in known) lines n.span n.cons.items) n.span (case_children (asks_in known) (items_in known) n.cons.items) (case_children_holds known bounded n.cons.items)
@@ -175,7 +176,7 @@ switch_stmt_holds known bounded n = known.words.and_then bounded (stmt_word_hold
 
 pub while_stmt_holds : {X : Type 0} {holds : Bool → Part → Type 0} (known : Known holds X) (bounded : Bool) (n : WhileStmt X) → holds bounded (while_stmt (items_in known) n)
 unfolding while_stmt
-while_stmt_holds known bounded n = known.words.and_then bounded (stmt_word_holds known.words bounded n.span (codes "while")) (known.words.and_then bounded (enclosed_holds known bounded n.test) (known.law bounded n.body.node.value Plain))
+while_stmt_holds known bounded n = known.words.and_then bounded (stmt_word_holds known.words bounded n.span (codes "while")) (known.words.and_then bounded (enclosed_holds known bounded n.test) (known.law bounded n.body.node.value (Whole Plain)))
 
 pub loop_test_holds : {X : Type 0} {holds : Bool → Part → Type 0} (known : Known holds X) (bounded : Bool) (n : ExprBox X) → holds bounded (loop_test (items_in known) n)
 unfolding loop_test
@@ -187,8 +188,8 @@ do_while_stmt_holds known bounded n = known.words.and_then bounded (stmt_word_ho
 
 pub var_decl_or_expr_holds : {X : Type 0} {holds : Bool → Part → Type 0} (known : Known holds X) (bounded : Bool) (x1 : VarDeclOrExpr X) → holds bounded (var_decl_or_expr (items_in known) x1)
 unfolding var_decl_or_expr
-var_decl_or_expr_holds known bounded (inits.VarDecl n) = known.law bounded n.node.value Plain
-var_decl_or_expr_holds known bounded (inits.Expr n) = known.law bounded n.node.value Plain
+var_decl_or_expr_holds known bounded (inits.VarDecl n) = known.law bounded n.node.value (Whole Plain)
+var_decl_or_expr_holds known bounded (inits.Expr n) = known.law bounded n.node.value (Whole Plain)
 
 pub for_init_holds : {X : Type 0} {holds : Bool → Part → Type 0} (known : Known holds X) (bounded : Bool) (x1 : Option (VarDeclOrExpr X)) → holds bounded (for_init (items_in known) x1)
 unfolding for_init
@@ -198,7 +199,7 @@ for_init_holds known bounded (Some n) = var_decl_or_expr_holds known bounded n
 pub for_value_holds : {X : Type 0} {holds : Bool → Part → Type 0} (known : Known holds X) (bounded : Bool) (x1 : Option (ExprBox X)) → holds bounded (for_value (items_in known) x1)
 unfolding for_value
 for_value_holds known bounded None = known.words.none bounded
-for_value_holds known bounded (Some n) = known.words.and_then bounded (known.words.formatting_space bounded) (known.law bounded n.node.value Plain)
+for_value_holds known bounded (Some n) = known.words.and_then bounded (known.words.formatting_space bounded) (known.law bounded n.node.value (Whole Plain))
 
 pub for_clause_holds : {X : Type 0} {holds : Bool → Part → Type 0} (known : Known holds X) (bounded : Bool) (n : Option (ExprBox X)) → holds bounded (for_clause (items_in known) n)
 unfolding for_clause
@@ -210,13 +211,13 @@ for_control_holds known bounded n = known.words.and_then bounded (known.words.pu
 
 pub for_stmt_holds : {X : Type 0} {holds : Bool → Part → Type 0} (known : Known holds X) (bounded : Bool) (n : ForStmt X) → holds bounded (for_stmt (items_in known) n)
 unfolding for_stmt
-for_stmt_holds known bounded n = known.words.and_then bounded (stmt_word_holds known.words bounded n.span (codes "for")) (known.words.and_then bounded (for_control_holds known bounded n) (known.law bounded n.body.node.value Plain))
+for_stmt_holds known bounded n = known.words.and_then bounded (stmt_word_holds known.words bounded n.span (codes "for")) (known.words.and_then bounded (for_control_holds known bounded n) (known.law bounded n.body.node.value (Whole Plain)))
 
 pub for_head_holds : {X : Type 0} {holds : Bool → Part → Type 0} (known : Known holds X) (bounded : Bool) (x2 : ForHead X) → holds bounded (for_head (asks_in known) (items_in known) x2)
 unfolding for_head
-for_head_holds known bounded (heads.VarDecl n) = known.law bounded n.node.value Plain
+for_head_holds known bounded (heads.VarDecl n) = known.law bounded n.node.value (Whole Plain)
 for_head_holds known bounded (heads.UsingDecl n) = using_decl_holds known bounded n.value
-for_head_holds known bounded (heads.Pat n) = known.law bounded n.node.value Plain
+for_head_holds known bounded (heads.Pat n) = known.law bounded n.node.value (Whole Plain)
 
 pub for_right_holds : {X : Type 0} {holds : Bool → Part → Type 0} (known : Known holds X) (bounded : Bool) (t : List ℕ) (ends : Bool) (n : ExprBox X) → holds bounded (for_right (asks_in known) (items_in known) t ends n)
 unfolding for_right
@@ -228,7 +229,7 @@ for_each_holds known bounded t left right = known.words.and_then bounded (known.
 
 pub for_in_stmt_holds : {X : Type 0} {holds : Bool → Part → Type 0} (known : Known holds X) (bounded : Bool) (n : ForInStmt X) → holds bounded (for_in_stmt (asks_in known) (items_in known) n)
 unfolding for_in_stmt
-for_in_stmt_holds known bounded n = known.words.and_then bounded (stmt_word_holds known.words bounded n.span (codes "for")) (known.words.and_then bounded (for_each_holds known bounded (codes "in") n.left n.right) (known.law bounded n.body.node.value Plain))
+for_in_stmt_holds known bounded n = known.words.and_then bounded (stmt_word_holds known.words bounded n.span (codes "for")) (known.words.and_then bounded (for_each_holds known bounded (codes "in") n.left n.right) (known.law bounded n.body.node.value (Whole Plain)))
 
 pub for_await_holds : {holds : Bool → Part → Type 0} (words : OfWords holds) (bounded : Bool) (wanted : Bool) → holds bounded (for_await wanted)
 unfolding for_await
@@ -236,11 +237,11 @@ for_await_holds words bounded wanted = either words bounded wanted (words.and_th
 
 pub for_of_stmt_holds : {X : Type 0} {holds : Bool → Part → Type 0} (known : Known holds X) (bounded : Bool) (n : ForOfStmt X) → holds bounded (for_of_stmt (asks_in known) (items_in known) n)
 unfolding for_of_stmt
-for_of_stmt_holds known bounded n = known.words.and_then bounded (stmt_word_holds known.words bounded n.span (codes "for")) (known.words.and_then bounded (for_await_holds known.words bounded n.is_await) (known.words.and_then bounded (known.words.formatting_space bounded) (known.words.and_then bounded (for_each_holds known bounded (codes "of") n.left n.right) (known.law bounded n.body.node.value Plain))))
+for_of_stmt_holds known bounded n = known.words.and_then bounded (stmt_word_holds known.words bounded n.span (codes "for")) (known.words.and_then bounded (for_await_holds known.words bounded n.is_await) (known.words.and_then bounded (known.words.formatting_space bounded) (known.words.and_then bounded (for_each_holds known bounded (codes "of") n.left n.right) (known.law bounded n.body.node.value (Whole Plain)))))
 
 pub stmt_parts_holds : {X : Type 0} {holds : Bool → Part → Type 0} (known : Known holds X) (bounded : Bool) (x2 : Stmt X) → holds bounded (stmt_parts (asks_in known) (items_in known) x2)
 unfolding stmt_parts
-stmt_parts_holds known bounded (stmts.Block n) = known.law bounded n.node.value Plain
+stmt_parts_holds known bounded (stmts.Block n) = known.law bounded n.node.value (Whole Plain)
 stmt_parts_holds known bounded (stmts.Empty n) = empty_stmt_holds known.words bounded n
 stmt_parts_holds known bounded (stmts.Debugger n) = debugger_stmt_holds known.words bounded n
 stmt_parts_holds known bounded (stmts.With n) = with_stmt_holds known bounded n
@@ -257,7 +258,7 @@ stmt_parts_holds known bounded (stmts.DoWhile n) = do_while_stmt_holds known bou
 stmt_parts_holds known bounded (stmts.For n) = for_stmt_holds known bounded n
 stmt_parts_holds known bounded (stmts.ForIn n) = for_in_stmt_holds known bounded n
 stmt_parts_holds known bounded (stmts.ForOf n) = for_of_stmt_holds known bounded n
-stmt_parts_holds known bounded (stmts.Decl n) = decl_holds known bounded n Statement
+stmt_parts_holds known bounded (stmts.Decl n) = decl_holds known bounded n (Whole Statement)
 stmt_parts_holds known bounded (stmts.Expr n) = expr_stmt_holds known bounded n
 
 pub stmt_closed_holds : {holds : Bool → Part → Type 0} (words : OfWords holds) (bounded : Bool) (block : Bool) (span : Span) → holds bounded (stmt_closed block span)

@@ -5,7 +5,8 @@ use Rattle.swc_ecma_codegen_tree.specs.declared.exprs.TaggedTpl.{TaggedTpl}
 use Rattle.swc_ecma_codegen_grammar.specs.TemplatePhrases.{is_counted}
 use Rattle.swc_ecma_codegen_tokens.specs.Run.{Part}
 use Rattle.swc_ecma_codegen_tokens.specs.declared.refusals.Unprintable.TheVariants as unprintable
-use Rattle.swc_ecma_codegen_emit.specs.declared.nodes.Place.TheVariants.{Plain, Callee, Tagged}
+use Rattle.swc_ecma_codegen_emit.specs.declared.nodes.Context.TheVariants.{Plain, Callee, Tagged}
+use Rattle.swc_ecma_codegen_emit.specs.Places.{Whole}
 use Rattle.swc_ecma_codegen_emit.specs.Exprs.{held}
 use Rattle.swc_ecma_codegen_laws.proofs.OfWords.{Known, items_in, either, tpl_parts_hold}
 use Rattle.swc_ecma_codegen_emit.specs.Templates.{tpl_placed, bad_shape, tpl, tagged_tpl}
@@ -13,7 +14,7 @@ use Rattle.swc_ecma_codegen_laws.proofs.AnnotationsWords.{type_args_holds}
 
 pub tpl_placed_holds : {X : Type 0} {holds : Bool → Part → Type 0} (known : Known holds X) (bounded : Bool) (tagged : Bool) (n : Tpl X) → holds bounded (tpl_placed (items_in known) tagged n)
 unfolding tpl_placed
-tpl_placed_holds known bounded tagged n = known.words.and_then bounded (known.words.leading_comments bounded n.span.lo) (known.words.and_then bounded (known.words.position bounded n.span.lo) (known.words.and_then bounded (tpl_parts_hold known.words bounded (held (items_in known)) (λ x. (known.law false x.node.value Plain)) tagged n.exprs.items n.quasis.items) (known.words.position bounded n.span.hi)))
+tpl_placed_holds known bounded tagged n = known.words.and_then bounded (known.words.leading_comments bounded n.span.lo) (known.words.and_then bounded (known.words.position bounded n.span.lo) (known.words.and_then bounded (tpl_parts_hold known.words bounded (held (items_in known)) (λ x. (known.law false x.node.value (Whole Plain))) tagged n.exprs.items n.quasis.items) (known.words.position bounded n.span.hi)))
 
 pub tpl_holds : {X : Type 0} {holds : Bool → Part → Type 0} (known : Known holds X) (bounded : Bool) (tagged : Bool) (n : Tpl X) → holds bounded (tpl (items_in known) tagged n)
 unfolding tpl bad_shape
@@ -21,4 +22,4 @@ tpl_holds known bounded tagged n = either known.words bounded (is_counted n.expr
 
 pub tagged_tpl_holds : {X : Type 0} {holds : Bool → Part → Type 0} (known : Known holds X) (bounded : Bool) (n : TaggedTpl X) → holds bounded (tagged_tpl (items_in known) n)
 unfolding tagged_tpl
-tagged_tpl_holds known bounded n = known.words.and_then bounded (known.words.leading_comments bounded n.span.lo) (known.words.and_then bounded (known.words.position bounded n.span.lo) (known.words.and_then bounded (known.law bounded n.tag.node.value Callee) (known.words.and_then bounded (type_args_holds known bounded Plain n.type_params) (known.words.and_then bounded (known.law bounded n.tpl.node.value Tagged) (known.words.position bounded n.span.hi)))))
+tagged_tpl_holds known bounded n = known.words.and_then bounded (known.words.leading_comments bounded n.span.lo) (known.words.and_then bounded (known.words.position bounded n.span.lo) (known.words.and_then bounded (known.law bounded n.tag.node.value (Whole Callee)) (known.words.and_then bounded (type_args_holds known bounded Plain n.type_params) (known.words.and_then bounded (known.law bounded n.tpl.node.value (Whole Tagged)) (known.words.position bounded n.span.hi)))))

@@ -21,7 +21,8 @@ use Rattle.swc_ecma_codegen_tree.specs.declared.ts_decls.TsModuleRef.TheVariants
 use Rattle.swc_ecma_codegen_tree.specs.declared.ts_decls.TsNamespaceExportDecl.{TsNamespaceExportDecl}
 use Rattle.swc_ecma_codegen_tree.specs.declared.ts_decls.TsTypeAliasDecl.{TsTypeAliasDecl}
 use Rattle.swc_ecma_codegen_tokens.specs.Run.{Part}
-use Rattle.swc_ecma_codegen_emit.specs.declared.nodes.Place.TheVariants.{Plain, Dotted}
+use Rattle.swc_ecma_codegen_emit.specs.declared.nodes.Context.TheVariants.{Plain, Dotted}
+use Rattle.swc_ecma_codegen_emit.specs.Places.{Whole}
 use Rattle.swc_ecma_codegen_emit.specs.Lists.{child_of}
 use Rattle.swc_ecma_codegen_laws.proofs.OfWords.{OfWords, Known, items_in, either}
 use Rattle.swc_ecma_codegen_emit.specs.TsDecls.{declare_word, ts_expr_with_type_args, extended_place, extended_format, extended_list, some_extends, extends_clause, ts_interface_decl, ts_type_alias_decl, ts_enum_member_id, ts_enum_member, enum_member_place, enum_format, enum_members, enum_body, ts_enum_decl, ts_module_name, module_head, module_tail, ts_module_decl, ts_external_module_ref, ts_module_ref, ts_import_equals_decl, ts_export_assignment, ts_namespace_export_decl}
@@ -36,7 +37,7 @@ declare_word_holds words bounded declared = word_before_holds words bounded decl
 
 pub ts_expr_with_type_args_holds : {X : Type 0} {holds : Bool → Part → Type 0} (known : Known holds X) (bounded : Bool) (n : TsExprWithTypeArgs X) → holds bounded (ts_expr_with_type_args (items_in known) n)
 unfolding ts_expr_with_type_args
-ts_expr_with_type_args_holds known bounded n = known.words.and_then bounded (known.words.leading_comments bounded n.span.lo) (known.words.and_then bounded (known.law bounded n.expr.node.value Plain) (type_args_holds known bounded Plain n.type_args))
+ts_expr_with_type_args_holds known bounded n = known.words.and_then bounded (known.words.leading_comments bounded n.span.lo) (known.words.and_then bounded (known.law bounded n.expr.node.value (Whole Plain)) (type_args_holds known bounded Plain n.type_args))
 
 pub extended_list_holds : {X : Type 0} {holds : Bool → Part → Type 0} (known : Known holds X) (bounded : Bool) (span : Span) (ns : List (TsExprWithTypeArgs X)) → holds bounded (extended_list (items_in known) span ns)
 extended_list_holds known bounded span ns = known.words.list bounded extended_format refl span (map (child_of extended_place (λ n place. ts_expr_with_type_args (items_in known) n)) ns) (children_hold _ _ extended_place (λ n place. ts_expr_with_type_args (items_in known) n) (λ n. (ts_expr_with_type_args_holds known bounded n)) ns)
@@ -52,7 +53,7 @@ extends_clause_holds known bounded span (n ∷ ns) = some_extends_holds known bo
 
 pub ts_interface_decl_holds : {X : Type 0} {holds : Bool → Part → Type 0} (known : Known holds X) (bounded : Bool) (n : TsInterfaceDecl X) → holds bounded (ts_interface_decl (items_in known) n)
 unfolding ts_interface_decl
-ts_interface_decl_holds known bounded n = known.words.and_then bounded (known.words.leading_comments bounded n.span.lo) (known.words.and_then bounded (declare_word_holds known.words bounded n.declare) (known.words.and_then bounded (known.words.keyword bounded None (codes "interface")) (known.words.and_then bounded (known.words.space bounded) (known.words.and_then bounded (ident_holds known.words bounded n.id) (known.words.and_then bounded (type_params_holds known bounded n.type_params) (known.words.and_then bounded (extends_clause_holds known bounded n.span n.extends.items) (known.words.and_then bounded (known.words.formatting_space bounded) (known.law bounded n.body.node.value Plain))))))))
+ts_interface_decl_holds known bounded n = known.words.and_then bounded (known.words.leading_comments bounded n.span.lo) (known.words.and_then bounded (declare_word_holds known.words bounded n.declare) (known.words.and_then bounded (known.words.keyword bounded None (codes "interface")) (known.words.and_then bounded (known.words.space bounded) (known.words.and_then bounded (ident_holds known.words bounded n.id) (known.words.and_then bounded (type_params_holds known bounded n.type_params) (known.words.and_then bounded (extends_clause_holds known bounded n.span n.extends.items) (known.words.and_then bounded (known.words.formatting_space bounded) (known.law bounded n.body.node.value (Whole Plain)))))))))
 
 pub ts_type_alias_decl_holds : {X : Type 0} {holds : Bool → Part → Type 0} (known : Known holds X) (bounded : Bool) (n : TsTypeAliasDecl X) → holds bounded (ts_type_alias_decl (items_in known) n)
 unfolding ts_type_alias_decl
@@ -90,7 +91,7 @@ module_head_holds words bounded global n = either words bounded global (words.ke
 pub module_tail_holds : {X : Type 0} {holds : Bool → Part → Type 0} (known : Known holds X) (bounded : Bool) (x1 : Option (TsNamespaceBodyBox X)) → holds bounded (module_tail (items_in known) x1)
 unfolding module_tail
 module_tail_holds known bounded None = known.words.semi bounded
-module_tail_holds known bounded (Some n) = known.law bounded n.node.value Dotted
+module_tail_holds known bounded (Some n) = known.law bounded n.node.value (Whole Dotted)
 
 pub ts_module_decl_holds : {X : Type 0} {holds : Bool → Part → Type 0} (known : Known holds X) (bounded : Bool) (n : TsModuleDecl X) → holds bounded (ts_module_decl (items_in known) n)
 unfolding ts_module_decl
@@ -102,7 +103,7 @@ ts_external_module_ref_holds words bounded n = words.and_then bounded (words.lea
 
 pub ts_module_ref_holds : {X : Type 0} {holds : Bool → Part → Type 0} (known : Known holds X) (bounded : Bool) (x1 : TsModuleRef X) → holds bounded (ts_module_ref (items_in known) x1)
 unfolding ts_module_ref
-ts_module_ref_holds known bounded (module_refs.TsEntityName n) = known.law bounded n.node.value Plain
+ts_module_ref_holds known bounded (module_refs.TsEntityName n) = known.law bounded n.node.value (Whole Plain)
 ts_module_ref_holds known bounded (module_refs.TsExternalModuleRef n) = ts_external_module_ref_holds known.words bounded n
 
 pub ts_import_equals_decl_holds : {X : Type 0} {holds : Bool → Part → Type 0} (known : Known holds X) (bounded : Bool) (n : TsImportEqualsDecl X) → holds bounded (ts_import_equals_decl (items_in known) n)
@@ -111,7 +112,7 @@ ts_import_equals_decl_holds known bounded n = known.words.and_then bounded (know
 
 pub ts_export_assignment_holds : {X : Type 0} {holds : Bool → Part → Type 0} (known : Known holds X) (bounded : Bool) (n : TsExportAssignment X) → holds bounded (ts_export_assignment (items_in known) n)
 unfolding ts_export_assignment
-ts_export_assignment_holds known bounded n = known.words.and_then bounded (known.words.leading_comments bounded n.span.lo) (known.words.and_then bounded (known.words.keyword bounded None (codes "export")) (known.words.and_then bounded (spaced_punct_holds known.words bounded (codes "=")) (known.words.and_then bounded (known.law bounded n.expr.node.value Plain) (known.words.semi bounded))))
+ts_export_assignment_holds known bounded n = known.words.and_then bounded (known.words.leading_comments bounded n.span.lo) (known.words.and_then bounded (known.words.keyword bounded None (codes "export")) (known.words.and_then bounded (spaced_punct_holds known.words bounded (codes "=")) (known.words.and_then bounded (known.law bounded n.expr.node.value (Whole Plain)) (known.words.semi bounded))))
 
 pub ts_namespace_export_decl_holds : {holds : Bool → Part → Type 0} (words : OfWords holds) (bounded : Bool) (n : TsNamespaceExportDecl) → holds bounded (ts_namespace_export_decl n)
 unfolding ts_namespace_export_decl

@@ -16,7 +16,8 @@ use Rattle.swc_ecma_codegen_tree.specs.declared.ts_members.TsTypeElement.{TsType
 use Rattle.swc_ecma_codegen_tree.specs.declared.ts_members.TsTypeElement.TheVariants as elements
 use Rattle.swc_ecma_codegen_tokens.specs.Run.{Part}
 use Rattle.swc_ecma_codegen_spans.specs.Spans.{ts_type_element_span}
-use Rattle.swc_ecma_codegen_emit.specs.declared.nodes.Place.TheVariants.{Plain, Reference}
+use Rattle.swc_ecma_codegen_emit.specs.declared.nodes.Context.TheVariants.{Plain, Reference}
+use Rattle.swc_ecma_codegen_emit.specs.Places.{Whole}
 use Rattle.swc_ecma_codegen_emit.specs.Annotations.{types_format}
 use Rattle.swc_ecma_codegen_emit.specs.Lists.{child_of}
 use Rattle.swc_ecma_codegen_laws.proofs.OfWords.{OfWords, Known, asks_in, items_in, either}
@@ -25,10 +26,10 @@ use Rattle.swc_ecma_codegen_laws.proofs.AnnotationsWords.{annotation_holds, spac
 
 pub signature_key_holds : {X : Type 0} {holds : Bool → Part → Type 0} (known : Known holds X) (bounded : Bool) (computed : Bool) (n : ExprBox X) → holds bounded (signature_key (items_in known) computed n)
 unfolding signature_key
-signature_key_holds known bounded computed n = either known.words bounded computed (known.words.and_then bounded (known.words.punct bounded (codes "[")) (known.words.and_then bounded (known.law bounded n.node.value Plain) (known.words.punct bounded (codes "]")))) (known.law bounded n.node.value Plain)
+signature_key_holds known bounded computed n = either known.words bounded computed (known.words.and_then bounded (known.words.punct bounded (codes "[")) (known.words.and_then bounded (known.law bounded n.node.value (Whole Plain)) (known.words.punct bounded (codes "]")))) (known.law bounded n.node.value (Whole Plain))
 
 pub fn_params_list_holds : {X : Type 0} {holds : Bool → Part → Type 0} (known : Known holds X) (bounded : Bool) (span : Span) (ns : List (TsFnParamBox X)) → holds bounded (fn_params_list (asks_in known) (items_in known) span ns)
-fn_params_list_holds known bounded span ns = known.words.list bounded types_format refl span (map (child_of (fn_param_place (asks_in known)) (fn_param_items (items_in known))) ns) (children_hold _ _ (fn_param_place (asks_in known)) (fn_param_items (items_in known)) (λ x. (known.law bounded x.node.value Plain)) ns)
+fn_params_list_holds known bounded span ns = known.words.list bounded types_format refl span (map (child_of (fn_param_place (asks_in known)) (fn_param_items (items_in known))) ns) (children_hold _ _ (fn_param_place (asks_in known)) (fn_param_items (items_in known)) (λ x. (known.law bounded x.node.value (Whole Plain))) ns)
 
 pub signature_params_holds : {X : Type 0} {holds : Bool → Part → Type 0} (known : Known holds X) (bounded : Bool) (span : Span) (ns : List (TsFnParamBox X)) → holds bounded (signature_params (asks_in known) (items_in known) span ns)
 unfolding signature_params
@@ -37,7 +38,7 @@ signature_params_holds known bounded span ns = known.words.and_then bounded (kno
 pub annotation_between_holds : {X : Type 0} {holds : Bool → Part → Type 0} (known : Known holds X) (bounded : Bool) (x1 : Option (TsTypeAnnBox X)) → holds bounded (annotation_between (items_in known) x1)
 unfolding annotation_between
 annotation_between_holds known bounded None = known.words.none bounded
-annotation_between_holds known bounded (Some n) = known.words.and_then bounded (known.words.punct_between bounded (codes ":")) (known.law bounded n.node.value Plain)
+annotation_between_holds known bounded (Some n) = known.words.and_then bounded (known.words.punct_between bounded (codes ":")) (known.law bounded n.node.value (Whole Plain))
 
 pub ts_call_signature_decl_holds : {X : Type 0} {holds : Bool → Part → Type 0} (known : Known holds X) (bounded : Bool) (n : TsCallSignatureDecl X) → holds bounded (ts_call_signature_decl (asks_in known) (items_in known) n)
 unfolding ts_call_signature_decl
@@ -46,7 +47,7 @@ ts_call_signature_decl_holds known bounded n = known.words.and_then bounded (kno
 pub params_behind_new_holds : {X : Type 0} {holds : Bool → Part → Type 0} (known : Known holds X) (bounded : Bool) (x1 : Option (TsTypeParamDeclBox X)) → holds bounded (params_behind_new (items_in known) x1)
 unfolding params_behind_new
 params_behind_new_holds known bounded None = known.words.none bounded
-params_behind_new_holds known bounded (Some n) = known.words.and_then bounded (known.words.space bounded) (known.law bounded n.node.value Plain)
+params_behind_new_holds known bounded (Some n) = known.words.and_then bounded (known.words.space bounded) (known.law bounded n.node.value (Whole Plain))
 
 pub ts_construct_signature_decl_holds : {X : Type 0} {holds : Bool → Part → Type 0} (known : Known holds X) (bounded : Bool) (n : TsConstructSignatureDecl X) → holds bounded (ts_construct_signature_decl (asks_in known) (items_in known) n)
 unfolding ts_construct_signature_decl
@@ -59,7 +60,7 @@ ts_property_signature_holds known bounded n = known.words.and_then bounded (know
 pub getter_annotation_holds : {X : Type 0} {holds : Bool → Part → Type 0} (known : Known holds X) (bounded : Bool) (x1 : Option (TsTypeAnnBox X)) → holds bounded (getter_annotation (items_in known) x1)
 unfolding getter_annotation
 getter_annotation_holds known bounded None = known.words.none bounded
-getter_annotation_holds known bounded (Some n) = known.words.and_then bounded (known.words.punct bounded (codes ":")) (known.words.and_then bounded (known.words.formatting_space bounded) (known.law bounded n.node.value Reference))
+getter_annotation_holds known bounded (Some n) = known.words.and_then bounded (known.words.punct bounded (codes ":")) (known.words.and_then bounded (known.words.formatting_space bounded) (known.law bounded n.node.value (Whole Reference)))
 
 pub ts_getter_signature_holds : {X : Type 0} {holds : Bool → Part → Type 0} (known : Known holds X) (bounded : Bool) (n : TsGetterSignature X) → holds bounded (ts_getter_signature (items_in known) n)
 unfolding ts_getter_signature
@@ -67,7 +68,7 @@ ts_getter_signature_holds known bounded n = known.words.and_then bounded (known.
 
 pub ts_setter_signature_holds : {X : Type 0} {holds : Bool → Part → Type 0} (known : Known holds X) (bounded : Bool) (n : TsSetterSignature X) → holds bounded (ts_setter_signature (items_in known) n)
 unfolding ts_setter_signature
-ts_setter_signature_holds known bounded n = known.words.and_then bounded (known.words.keyword bounded None (codes "set")) (known.words.and_then bounded (known.words.space bounded) (known.words.and_then bounded (signature_key_holds known bounded n.computed n.key) (known.words.and_then bounded (known.words.punct bounded (codes "(")) (known.words.and_then bounded (known.law bounded n.param.node.value Plain) (known.words.punct bounded (codes ")"))))))
+ts_setter_signature_holds known bounded n = known.words.and_then bounded (known.words.keyword bounded None (codes "set")) (known.words.and_then bounded (known.words.space bounded) (known.words.and_then bounded (signature_key_holds known bounded n.computed n.key) (known.words.and_then bounded (known.words.punct bounded (codes "(")) (known.words.and_then bounded (known.law bounded n.param.node.value (Whole Plain)) (known.words.punct bounded (codes ")"))))))
 
 pub ts_method_signature_holds : {X : Type 0} {holds : Bool → Part → Type 0} (known : Known holds X) (bounded : Bool) (n : TsMethodSignature X) → holds bounded (ts_method_signature (asks_in known) (items_in known) n)
 unfolding ts_method_signature

@@ -55,8 +55,9 @@ use Rattle.swc_ecma_codegen_grammar.specs.TemplatePhrases.{is_counted}
 use Rattle.swc_ecma_codegen_grammar.specs.TypePhrases.{keyword_of, type_operator}
 use Rattle.swc_ecma_codegen_tokens.specs.Run.{Part}
 use Rattle.swc_ecma_codegen_spans.specs.Spans.{ts_type_element_span}
-use Rattle.swc_ecma_codegen_emit.specs.declared.nodes.Place.{Place}
-use Rattle.swc_ecma_codegen_emit.specs.declared.nodes.Place.TheVariants.{Plain, Reference}
+use Rattle.swc_ecma_codegen_emit.specs.declared.nodes.Context.{Context}
+use Rattle.swc_ecma_codegen_emit.specs.declared.nodes.Context.TheVariants.{Plain, Reference}
+use Rattle.swc_ecma_codegen_emit.specs.Places.{Whole}
 use Rattle.swc_ecma_codegen_emit.specs.Annotations.{types_format}
 use Rattle.swc_ecma_codegen_emit.specs.Lists.{child_of}
 use Rattle.swc_ecma_codegen_emit.specs.Templates.{bad_shape}
@@ -71,7 +72,7 @@ use Rattle.swc_ecma_codegen_laws.proofs.PatsWords.{array_pat_holds, object_pat_h
 use Rattle.swc_ecma_codegen_laws.proofs.TsMembersWords.{fn_params_list_holds, ts_type_element_holds}
 
 pub type_at_holds : {X : Type 0} {holds : Bool → Part → Type 0} (known : Known holds X) (bounded : Bool) (n : TsTypeBox X) → holds bounded (type_at (items_in known) n)
-type_at_holds known bounded n = known.law bounded n.node.value Plain
+type_at_holds known bounded n = known.law bounded n.node.value (Whole Plain)
 
 pub type_behind_holds : {X : Type 0} {holds : Bool → Part → Type 0} (known : Known holds X) (bounded : Bool) (t : List ℕ) (x2 : Option (TsTypeBox X)) → holds bounded (type_behind (items_in known) t x2)
 unfolding type_behind
@@ -85,7 +86,7 @@ default_type_holds known bounded (Some n) = known.words.and_then bounded (spaced
 
 pub ts_qualified_name_holds : {X : Type 0} {holds : Bool → Part → Type 0} (known : Known holds X) (bounded : Bool) (n : TsQualifiedName X) → holds bounded (ts_qualified_name (items_in known) n)
 unfolding ts_qualified_name
-ts_qualified_name_holds known bounded n = known.words.and_then bounded (known.words.leading_comments bounded n.span.lo) (known.words.and_then bounded (known.law bounded n.left.node.value Plain) (known.words.and_then bounded (known.words.punct bounded (codes ".")) (ident_name_holds known.words bounded n.right)))
+ts_qualified_name_holds known bounded n = known.words.and_then bounded (known.words.leading_comments bounded n.span.lo) (known.words.and_then bounded (known.law bounded n.left.node.value (Whole Plain)) (known.words.and_then bounded (known.words.punct bounded (codes ".")) (ident_name_holds known.words bounded n.right)))
 
 pub ts_entity_name_holds : {X : Type 0} {holds : Bool → Part → Type 0} (known : Known holds X) (bounded : Bool) (x1 : TsEntityName X) → holds bounded (ts_entity_name (items_in known) x1)
 unfolding ts_entity_name
@@ -94,19 +95,19 @@ ts_entity_name_holds known bounded (entity_names.Ident n) = ident_holds known.wo
 
 pub ts_type_ref_holds : {X : Type 0} {holds : Bool → Part → Type 0} (known : Known holds X) (bounded : Bool) (n : TsTypeRef X) → holds bounded (ts_type_ref (items_in known) n)
 unfolding ts_type_ref
-ts_type_ref_holds known bounded n = known.words.and_then bounded (known.words.leading_comments bounded n.span.lo) (known.words.and_then bounded (known.law bounded n.type_name.node.value Plain) (type_args_holds known bounded Reference n.type_params))
+ts_type_ref_holds known bounded n = known.words.and_then bounded (known.words.leading_comments bounded n.span.lo) (known.words.and_then bounded (known.law bounded n.type_name.node.value (Whole Plain)) (type_args_holds known bounded Reference n.type_params))
 
 pub listed_types_holds : {X : Type 0} {holds : Bool → Part → Type 0} (known : Known holds X) (bounded : Bool) (n : TsTypeParamInstantiation X) → holds bounded (listed_types (asks_in known) (items_in known) n)
-listed_types_holds known bounded n = known.words.list bounded types_format refl n.span (map (child_of (type_place (asks_in known)) (type_items (items_in known))) n.params.items) (children_hold _ _ (type_place (asks_in known)) (type_items (items_in known)) (λ x. (known.law bounded x.node.value Plain)) n.params.items)
+listed_types_holds known bounded n = known.words.list bounded types_format refl n.span (map (child_of (type_place (asks_in known)) (type_items (items_in known))) n.params.items) (children_hold _ _ (type_place (asks_in known)) (type_items (items_in known)) (λ x. (known.law bounded x.node.value (Whole Plain))) n.params.items)
 
 pub type_arguments_holds : {X : Type 0} {holds : Bool → Part → Type 0} (known : Known holds X) (bounded : Bool) (n : TsTypeParamInstantiation X) → holds bounded (type_arguments (asks_in known) (items_in known) n)
 unfolding type_arguments
 type_arguments_holds known bounded n = known.words.and_then bounded (known.words.punct bounded (codes "<")) (known.words.and_then bounded (listed_types_holds known bounded n) (known.words.close bounded))
 
-pub ts_type_param_instantiation_holds : {X : Type 0} {holds : Bool → Part → Type 0} (known : Known holds X) (bounded : Bool) (n : TsTypeParamInstantiation X) (place : Place) → holds bounded (ts_type_param_instantiation (asks_in known) (items_in known) n place)
+pub ts_type_param_instantiation_holds : {X : Type 0} {holds : Bool → Part → Type 0} (known : Known holds X) (bounded : Bool) (n : TsTypeParamInstantiation X) (context : Context) → holds bounded (ts_type_param_instantiation (asks_in known) (items_in known) n context)
 unfolding ts_type_param_instantiation
 ts_type_param_instantiation_holds known bounded n Reference = type_arguments_holds known bounded n
-ts_type_param_instantiation_holds known bounded n place = known.words.and_then bounded (known.words.leading_comments bounded n.span.lo) (type_arguments_holds known bounded n)
+ts_type_param_instantiation_holds known bounded n context = known.words.and_then bounded (known.words.leading_comments bounded n.span.lo) (type_arguments_holds known bounded n)
 
 pub ts_type_param_holds : {X : Type 0} {holds : Bool → Part → Type 0} (known : Known holds X) (bounded : Bool) (n : TsTypeParam X) → holds bounded (ts_type_param (items_in known) n)
 unfolding ts_type_param
@@ -136,7 +137,7 @@ ts_fn_param_holds known bounded (fn_params.Object n) = object_pat_holds known bo
 
 pub signature_type_holds : {X : Type 0} {holds : Bool → Part → Type 0} (known : Known holds X) (bounded : Bool) (span : Span) (ns : List (TsFnParamBox X)) (result : TsTypeAnnBox X) → holds bounded (signature_type (asks_in known) (items_in known) span ns result)
 unfolding signature_type
-signature_type_holds known bounded span ns result = known.words.and_then bounded (known.words.punct bounded (codes "(")) (known.words.and_then bounded (fn_params_list_holds known bounded span ns) (known.words.and_then bounded (known.words.punct bounded (codes ")")) (known.words.and_then bounded (spaced_punct_holds known.words bounded (codes "=>")) (known.law bounded result.node.value Plain))))
+signature_type_holds known bounded span ns result = known.words.and_then bounded (known.words.punct bounded (codes "(")) (known.words.and_then bounded (fn_params_list_holds known bounded span ns) (known.words.and_then bounded (known.words.punct bounded (codes ")")) (known.words.and_then bounded (spaced_punct_holds known.words bounded (codes "=>")) (known.law bounded result.node.value (Whole Plain)))))
 
 pub ts_fn_type_holds : {X : Type 0} {holds : Bool → Part → Type 0} (known : Known holds X) (bounded : Bool) (n : TsFnType X) → holds bounded (ts_fn_type (asks_in known) (items_in known) n)
 unfolding ts_fn_type
@@ -157,7 +158,7 @@ ts_fn_or_constructor_type_holds known bounded (function_types.TsConstructorType 
 
 pub ts_tpl_parts_holds : {X : Type 0} {holds : Bool → Part → Type 0} (known : Known holds X) (bounded : Bool) (n : TsTplLitType X) → holds bounded (ts_tpl_parts (items_in known) n)
 unfolding ts_tpl_parts
-ts_tpl_parts_holds known bounded n = known.words.and_then bounded (known.words.leading_comments bounded n.span.lo) (tpl_parts_hold known.words bounded (type_at (items_in known)) (λ x. (known.law false x.node.value Plain)) false n.types.items n.quasis.items)
+ts_tpl_parts_holds known bounded n = known.words.and_then bounded (known.words.leading_comments bounded n.span.lo) (tpl_parts_hold known.words bounded (type_at (items_in known)) (λ x. (known.law false x.node.value (Whole Plain))) false n.types.items n.quasis.items)
 
 pub ts_tpl_lit_type_holds : {X : Type 0} {holds : Bool → Part → Type 0} (known : Known holds X) (bounded : Bool) (n : TsTplLitType X) → holds bounded (ts_tpl_lit_type (items_in known) n)
 unfolding ts_tpl_lit_type bad_shape
@@ -178,7 +179,7 @@ ts_lit_type_holds known bounded n = known.words.and_then bounded (known.words.le
 pub qualifier_holds : {X : Type 0} {holds : Bool → Part → Type 0} (known : Known holds X) (bounded : Bool) (x1 : Option (TsEntityNameBox X)) → holds bounded (qualifier (items_in known) x1)
 unfolding qualifier
 qualifier_holds known bounded None = known.words.none bounded
-qualifier_holds known bounded (Some n) = known.words.and_then bounded (known.words.punct bounded (codes ".")) (known.law bounded n.node.value Plain)
+qualifier_holds known bounded (Some n) = known.words.and_then bounded (known.words.punct bounded (codes ".")) (known.law bounded n.node.value (Whole Plain))
 
 pub ts_import_type_holds : {X : Type 0} {holds : Bool → Part → Type 0} (known : Known holds X) (bounded : Bool) (n : TsImportType X) → holds bounded (ts_import_type (items_in known) n)
 unfolding ts_import_type
@@ -186,7 +187,7 @@ ts_import_type_holds known bounded n = known.words.and_then bounded (known.words
 
 pub ts_type_query_expr_holds : {X : Type 0} {holds : Bool → Part → Type 0} (known : Known holds X) (bounded : Bool) (x1 : TsTypeQueryExpr X) → holds bounded (ts_type_query_expr (items_in known) x1)
 unfolding ts_type_query_expr
-ts_type_query_expr_holds known bounded (query_exprs.TsEntityName n) = known.law bounded n.node.value Plain
+ts_type_query_expr_holds known bounded (query_exprs.TsEntityName n) = known.law bounded n.node.value (Whole Plain)
 ts_type_query_expr_holds known bounded (query_exprs.Import n) = ts_import_type_holds known bounded n
 
 pub ts_type_query_holds : {X : Type 0} {holds : Bool → Part → Type 0} (known : Known holds X) (bounded : Bool) (n : TsTypeQuery X) → holds bounded (ts_type_query (items_in known) n)
@@ -207,7 +208,7 @@ ts_array_type_holds known bounded n = known.words.and_then bounded (known.words.
 pub label_holds : {X : Type 0} {holds : Bool → Part → Type 0} (known : Known holds X) (bounded : Bool) (x1 : Option (PatBox X)) → holds bounded (label (items_in known) x1)
 unfolding label
 label_holds known bounded None = known.words.none bounded
-label_holds known bounded (Some n) = known.words.and_then bounded (known.law bounded n.node.value Plain) (known.words.and_then bounded (known.words.punct bounded (codes ":")) (known.words.formatting_space bounded))
+label_holds known bounded (Some n) = known.words.and_then bounded (known.law bounded n.node.value (Whole Plain)) (known.words.and_then bounded (known.words.punct bounded (codes ":")) (known.words.formatting_space bounded))
 
 pub ts_tuple_element_holds : {X : Type 0} {holds : Bool → Part → Type 0} (known : Known holds X) (bounded : Bool) (n : TsTupleElement X) → holds bounded (ts_tuple_element (items_in known) n)
 unfolding ts_tuple_element
@@ -262,7 +263,7 @@ unfolding ts_mapped_type
 ts_mapped_type_holds known bounded n = known.words.and_then bounded (known.words.leading_comments bounded n.span.lo) (known.words.and_then bounded (known.words.punct bounded (codes "{")) (known.words.and_then bounded (known.words.line_end bounded) (known.words.and_then bounded (known.words.deeper bounded) (known.words.and_then bounded (mapped_parts_holds known bounded n) (known.words.and_then bounded (known.words.line_end bounded) (known.words.and_then bounded (known.words.shallower bounded) (known.words.punct bounded (codes "}"))))))))
 
 pub joined_list_holds : {X : Type 0} {holds : Bool → Part → Type 0} (known : Known holds X) (bounded : Bool) (format : ℕ) → keeps_comma format ≡ true → (span : Span) (ns : List (TsTypeBox X)) → holds bounded (joined_list (asks_in known) (items_in known) format span ns)
-joined_list_holds known bounded format keeps span ns = known.words.list bounded format keeps span (map (child_of (type_place (asks_in known)) (type_items (items_in known))) ns) (children_hold _ _ (type_place (asks_in known)) (type_items (items_in known)) (λ x. (known.law bounded x.node.value Plain)) ns)
+joined_list_holds known bounded format keeps span ns = known.words.list bounded format keeps span (map (child_of (type_place (asks_in known)) (type_items (items_in known))) ns) (children_hold _ _ (type_place (asks_in known)) (type_items (items_in known)) (λ x. (known.law bounded x.node.value (Whole Plain))) ns)
 
 pub union_types_holds : {X : Type 0} {holds : Bool → Part → Type 0} (known : Known holds X) (bounded : Bool) (n : TsUnionType X) → holds bounded (union_types (asks_in known) (items_in known) n)
 union_types_holds known bounded n = joined_list_holds known bounded union_format refl n.span n.types.items
@@ -311,7 +312,7 @@ ts_this_type_or_ident_holds words bounded (predicate_names.Ident n) = ident_hold
 pub is_behind_holds : {X : Type 0} {holds : Bool → Part → Type 0} (known : Known holds X) (bounded : Bool) (x1 : Option (TsTypeAnnBox X)) → holds bounded (is_behind (items_in known) x1)
 unfolding is_behind
 is_behind_holds known bounded None = known.words.none bounded
-is_behind_holds known bounded (Some n) = known.words.and_then bounded (known.words.space bounded) (known.words.and_then bounded (known.words.keyword bounded None (codes "is")) (known.words.and_then bounded (known.words.space bounded) (known.law bounded n.node.value Plain)))
+is_behind_holds known bounded (Some n) = known.words.and_then bounded (known.words.space bounded) (known.words.and_then bounded (known.words.keyword bounded None (codes "is")) (known.words.and_then bounded (known.words.space bounded) (known.law bounded n.node.value (Whole Plain))))
 
 pub ts_type_predicate_holds : {X : Type 0} {holds : Bool → Part → Type 0} (known : Known holds X) (bounded : Bool) (n : TsTypePredicate X) → holds bounded (ts_type_predicate (items_in known) n)
 unfolding ts_type_predicate
@@ -340,7 +341,7 @@ ts_type_holds known bounded (types.TsLitType n) = ts_lit_type_holds known bounde
 ts_type_holds known bounded (types.TsTypePredicate n) = ts_type_predicate_holds known bounded n.value
 ts_type_holds known bounded (types.TsImportType n) = ts_import_type_holds known bounded n.value
 
-pub ts_type_ann_holds : {X : Type 0} {holds : Bool → Part → Type 0} (known : Known holds X) (bounded : Bool) (n : TsTypeAnn X) (place : Place) → holds bounded (ts_type_ann (asks_in known) (items_in known) n place)
+pub ts_type_ann_holds : {X : Type 0} {holds : Bool → Part → Type 0} (known : Known holds X) (bounded : Bool) (n : TsTypeAnn X) (context : Context) → holds bounded (ts_type_ann (asks_in known) (items_in known) n context)
 unfolding ts_type_ann
 ts_type_ann_holds known bounded n Reference = ts_type_holds known bounded n.type_ann
-ts_type_ann_holds known bounded n place = known.words.and_then bounded (known.words.leading_comments bounded n.span.lo) (ts_type_holds known bounded n.type_ann)
+ts_type_ann_holds known bounded n context = known.words.and_then bounded (known.words.leading_comments bounded n.span.lo) (ts_type_holds known bounded n.type_ann)

@@ -6,9 +6,9 @@ use Rattle.swc_ecma_codegen_tokens.specs.Calls.{calls_of}
 use Rattle.swc_ecma_codegen_tokens.specs.Run.{Env, Plan, State, Step, done, nothing, printed, run, steps_in, steps_of, unbounded, with_max_line}
 use Rattle.swc_ecma_codegen_tokens.proofs.Filling.Filled.{run_calls, calls_inner}
 use Rattle.swc_ecma_codegen_tokens.proofs.Reading.Printed.{chain, env_after}
-use Rattle.swc_ecma_codegen_emit.specs.declared.nodes.Place.TheVariants.{Plain}
+use Rattle.swc_ecma_codegen_emit.specs.declared.nodes.Context.TheVariants.{Plain}
 use Rattle.swc_ecma_codegen_emit.specs.Lined.{unfilled}
-use Rattle.swc_ecma_codegen_emit.specs.Places.{by_itself, with_lines}
+use Rattle.swc_ecma_codegen_emit.specs.Places.{Whole, by_itself, with_lines}
 use Rattle.swc_ecma_codegen_emit.specs.Roots.{Root, is_program, root_at, root_items}
 use Rattle.swc_ecma_codegen_laws.specs.Lengths.{unlined}
 use Rattle.swc_ecma_codegen_laws.proofs.BreakSteps.{on, steps_on}
@@ -29,7 +29,7 @@ first_steps root s max h x =
     ∙ ap steps_of (x.first (λ inner. nothing (record inner { max_line = s.env.max_line })))
     ∙ ended_steps x.xs x.stop (λ inner. nothing (record inner { max_line = s.env.max_line })) (env_after x.xs (at (Some max) s.env)) (λ e. refl)
 
-alone_unlined : (minify : Bool) → cond minify (with_lines None) Plain ≡ Plain
+alone_unlined : (minify : Bool) → cond minify (with_lines None) (Whole Plain) ≡ Whole Plain
 alone_unlined true = refl
 alone_unlined false = refl
 

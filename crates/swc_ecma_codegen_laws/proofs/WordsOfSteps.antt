@@ -16,7 +16,7 @@ use Rattle.swc_ecma_codegen_tokens.specs.Run as run
 use Rattle.swc_ecma_codegen_tokens.specs.Words as calls
 use Rattle.swc_ecma_codegen_tokens.specs.Words.{by_maps, commit_pending_semi, placed_punct, punct}
 use Rattle.swc_ecma_codegen_emit.specs.Blocks.{block_format, flat_block_format, block_list}
-use Rattle.swc_ecma_codegen_emit.specs.declared.nodes.Place.{Place}
+use Rattle.swc_ecma_codegen_emit.specs.Places.{Place}
 use Rattle.swc_ecma_codegen_emit.specs.Exprs.{binary_op, space_if, yield_star}
 use Rattle.swc_ecma_codegen_emit.specs.Templates.{tpl_parts}
 use Rattle.swc_ecma_codegen_emit.specs.Tree.{any_items}

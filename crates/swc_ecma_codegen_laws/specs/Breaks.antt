@@ -6,7 +6,7 @@ use Rattle.swc_ecma_codegen_tree.specs.declared.exprs.TplElement.{TplElement}
 use Rattle.swc_ecma_codegen_tree.specs.declared.links.AnyNode.{AnyNode}
 use Rattle.swc_ecma_codegen_text_writer.specs.Sheet.{AllowBreak, Keyword, Operator, Punct, Semi}
 use Rattle.swc_ecma_codegen_tokens.specs.Run.{Env, Part, Plan, Step, Guard, Token, Plain, at_maps, maps_after, steps_of}
-use Rattle.swc_ecma_codegen_emit.specs.declared.nodes.Place.{Place}
+use Rattle.swc_ecma_codegen_emit.specs.Places.{Place}
 use Rattle.swc_ecma_codegen_emit.specs.Templates.{tpl_parts}
 use Rattle.swc_ecma_codegen_emit.specs.Tree.{any_items}
 use Rattle.swc_ecma_codegen_laws.specs.Enclosing.{is_element, is_function}

@@ -20,7 +20,7 @@ ghost use Rattle.swc_ecma_codegen_tree.specs.declared.stmts.ExprStmt.{ExprStmt};
 ghost use Rattle.swc_ecma_codegen_tree.specs.declared.stmts.Stmt.TheVariants as stmts;
 ghost use Rattle.swc_ecma_codegen_emit.specs.Answers.{any_answers};
 ghost use Rattle.swc_ecma_codegen_emit.specs.Exprs.{this, ident, ident_name, unary, update, bin, computed_prop_name, member_at, choice, seq, paren};
-ghost use Rattle.swc_ecma_codegen_emit.specs.Places.{by_itself};
+ghost use Rattle.swc_ecma_codegen_emit.specs.Places.{by_itself, in_context};
 ghost use Rattle.swc_ecma_codegen_emit.specs.Roots.{Root, OfExpr, OfStmt, root_items};
 ghost use Rattle.swc_ecma_codegen_emit.specs.Stmts.{empty_stmt, expr_stmt};
 ghost use Rattle.swc_ecma_codegen_emit.specs.Tree.{any_items};
@@ -49,11 +49,11 @@ pub fn basic_nodes_take_no_memory()
     ensures update { (n : UpdateExpr AnyNode) → is_basic (OfExpr (exprs.Update n)) ≡ true →
         TakesNoMemory (by_itself (λ _. update any_items n)) }
     ensures bin { (n : BinExpr AnyNode) → is_basic (OfExpr (exprs.Bin n)) ≡ true →
-        TakesNoMemory (by_itself (bin any_answers any_items n)) }
+        TakesNoMemory (by_itself (in_context (bin any_answers any_items n))) }
     ensures computed { (n : ComputedPropName AnyNode) → any_basic n.expr.node.value ≡ true →
         TakesNoMemory (by_itself (λ _. computed_prop_name any_items n)) }
     ensures member { (n : MemberExpr AnyNode) → is_basic (OfExpr (exprs.Member n)) ≡ true →
-        TakesNoMemory (by_itself (member_at any_items n)) }
+        TakesNoMemory (by_itself (in_context (member_at any_items n))) }
     ensures cond { (n : CondExpr AnyNode) → is_basic (OfExpr (exprs.Cond n)) ≡ true →
         TakesNoMemory (by_itself (λ _. choice any_items n)) }
     ensures seq { (n : SeqExpr AnyNode) → is_basic (OfExpr (exprs.Seq n)) ≡ true →

@@ -14,7 +14,8 @@ ghost use Rattle.swc_ecma_codegen_emit.specs.Exprs.{blank, yield_argument};
 ghost use Rattle.swc_ecma_codegen_emit.specs.Roots.{Root};
 ghost use Rattle.swc_ecma_codegen_emit.specs.Stmts.{argument, spaced};
 ghost use Rattle.swc_ecma_codegen_emit.specs.Tree.{any_items};
-ghost use Rattle.swc_ecma_codegen_emit.specs.declared.nodes.Place.TheVariants.{Plain};
+ghost use Rattle.swc_ecma_codegen_emit.specs.declared.nodes.Context.TheVariants.{Plain};
+ghost use Rattle.swc_ecma_codegen_emit.specs.Places.{Whole};
 ghost use Rattle.swc_ecma_codegen_laws.specs.Layouts.{DifferByLayout, DifferInCommas, IsWhole, Tokens, begins_arrow, is_new, laid_out, mark, opens, over, stop_of, tokens_of, without_commas};
 
 /// Minified or not, an emission without comments writes the same tokens, but for the spelling of literals, and for what is left out
@@ -55,8 +56,8 @@ pub fn arguments_stand_bare()
     ensures yielded { (node : AnyNode) (delegate : Bool) (rest : Plan) (env : Env) →
         env.maps ≡ no_maps →
         yield_argument any_answers any_items delegate node rest env
-        ≡ blank (if delegate then false else (any_answers node).starts) (any_items node Plain rest)
-        env }
+        ≡ blank (if delegate then false else (any_answers node).starts)
+        (any_items node (Whole Plain) rest) env }
     ensures comments { (node : AnyNode) (maps other : Maps) → maps.leading ≡ other.leading →
         (any_answers node).breaks maps ≡ (any_answers node).breaks other }
 {}

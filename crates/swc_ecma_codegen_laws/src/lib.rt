@@ -41,7 +41,7 @@ ghost use Rattle.swc_ecma_codegen_tokens.specs.Written.{IsLineEnd, IsNew, ReadsA
 ghost use Rattle.swc_ecma_codegen_tokens.specs.Ready.{IsReady};
 ghost use Rattle.swc_ecma_codegen_util.specs.Starts.{expr_starts, any_starts};
 ghost use Rattle.swc_ecma_codegen_emit.specs.Emission.{Outcome, AddsOnlyAscii, AddsSafeStrings, FillsItsLines, LeavesNone, PlacesEachName, ReadsAsRoot, RecordsEachName, TakesComments, WritesTaken};
-ghost use Rattle.swc_ecma_codegen_emit.specs.Places.{by_itself};
+ghost use Rattle.swc_ecma_codegen_emit.specs.Places.{by_itself, in_context};
 ghost use Rattle.swc_ecma_codegen_emit.specs.Answers.{any_answers};
 ghost use Rattle.swc_ecma_codegen_emit.specs.AnyExpr.{expr as expr_items};
 ghost use Rattle.swc_ecma_codegen_emit.specs.Modules.{is_crowded, import_decl};
@@ -76,7 +76,8 @@ pub use swc_ecma_codegen_grammar::reading_laws::{
 #[tactic(auto, using(swc_ecma_codegen_emit::proofs::TreeReads::may_begin))]
 pub fn expressions_and_statements_are_roots()
     ensures expr { (expr : Expr AnyNode) →
-        by_itself (expr_items any_answers any_items expr) ≡ root_items (OfExpr expr) }
+        by_itself (in_context (expr_items any_answers any_items expr))
+        ≡ root_items (OfExpr expr) }
     ensures stmt { (stmt : Stmt AnyNode) →
         by_itself (λ _. stmt_items any_answers any_items stmt) ≡ root_items (OfStmt stmt) }
     ensures begin { (root : Root) (s : State) → root_hashbang root ≡ false → IsNew s →

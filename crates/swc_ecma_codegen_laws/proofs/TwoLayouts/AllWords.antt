@@ -18,7 +18,7 @@ use Rattle.swc_ecma_codegen_emit.specs.Props.{flat_object_format, lined_object_l
 use Rattle.swc_ecma_codegen_emit.specs.Stmts.{case_body, case_format, case_list}
 use Rattle.swc_ecma_codegen_emit.specs.Templates.{tpl_all, tpl_parts, tpl_rest}
 use Rattle.swc_ecma_codegen_emit.specs.Tree.{any_items}
-use Rattle.swc_ecma_codegen_emit.specs.declared.nodes.Place.{Place}
+use Rattle.swc_ecma_codegen_emit.specs.Places.{Place}
 use Rattle.swc_ecma_codegen_laws.specs.Enclosing.{is_element, is_function}
 use Rattle.swc_ecma_codegen_laws.proofs.Children.{ChildrenHold, PartsHold}
 use Rattle.swc_ecma_codegen_laws.proofs.TwoLayouts.Arrows.{alike_arrow, alike_new}

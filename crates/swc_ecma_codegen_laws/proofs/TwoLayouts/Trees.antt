@@ -13,11 +13,11 @@ use Rattle.swc_ecma_codegen_tokens.proofs.Reading.Printed.{chain}
 use Rattle.swc_ecma_codegen_emit.specs.Answers.{any_answers}
 use Rattle.swc_ecma_codegen_emit.specs.Commented.{any_breaks}
 use Rattle.swc_ecma_codegen_emit.specs.Exprs.{blank, yield_argument, yield_argument_in}
-use Rattle.swc_ecma_codegen_emit.specs.Places.{by_itself, placed, with_lines}
+use Rattle.swc_ecma_codegen_emit.specs.Places.{Whole, by_itself, placed, with_lines}
 use Rattle.swc_ecma_codegen_emit.specs.Roots.{Root, OfExpr, OfStmt, OfItem, OfModule, OfScript, OfProgram, OfLink, is_program, root_at, root_items}
 use Rattle.swc_ecma_codegen_emit.specs.Stmts.{argument, argument_in, spaced}
 use Rattle.swc_ecma_codegen_emit.specs.Tree.{any_items}
-use Rattle.swc_ecma_codegen_emit.specs.declared.nodes.Place.TheVariants.{Plain}
+use Rattle.swc_ecma_codegen_emit.specs.declared.nodes.Context.TheVariants.{Plain}
 use Rattle.swc_ecma_codegen_emit.proofs.Unbroken.{unbroken}
 use Rattle.swc_ecma_codegen_laws.specs.Layouts.{DifferByLayout, DifferInCommas, IsWhole, Tokens, laid_out, over, stop_of, tokens_in, tokens_of}
 use Rattle.swc_ecma_codegen_laws.proofs.AnyExprWords.{expr_holds}
@@ -35,7 +35,7 @@ use Rattle.swc_ecma_codegen_laws.proofs.TwoLayouts.Emissions.{TwoLayouts, Both, 
 -- ---- roots
 
 -- one that isn't a module or script stands the same at any greatest length of lines
-other_lined : (root : Root) (max : Option ℕ) → is_program root ≡ false → root_at root (with_lines max) ≡ root_at root Plain
+other_lined : (root : Root) (max : Option ℕ) → is_program root ≡ false → root_at root (with_lines max) ≡ root_at root (Whole Plain)
 other_lined root None h = refl
 other_lined (OfExpr n) (Some max) h = λ i. λ rest. expr_lined any_answers any_items n max rest i
 other_lined (OfStmt n) (Some max) h = refl
@@ -45,11 +45,11 @@ other_lined (OfModule n) (Some max) h = absurd (true≢false h)
 other_lined (OfScript n) (Some max) h = absurd (true≢false h)
 other_lined (OfProgram n) (Some max) h = absurd (true≢false h)
 
-other_alike : (two : TwoLayouts) (root : Root) → is_program root ≡ false → IsAlike two false (root_at root Plain)
+other_alike : (two : TwoLayouts) (root : Root) → is_program root ≡ false → IsAlike two false (root_at root (Whole Plain))
 other_alike two (OfExpr n) h = expr_holds (in_trees (layout_words two)) false n Plain
 other_alike two (OfStmt n) h = stmt_holds (in_trees (layout_words two)) false n
 other_alike two (OfItem n) h = module_item_holds (in_trees (layout_words two)) false n
-other_alike two (OfLink n role) h = tree_holds (layout_words two) n false (placed role Plain)
+other_alike two (OfLink n role) h = tree_holds (layout_words two) n false (placed role (Whole Plain))
 other_alike two (OfModule n) h = absurd (true≢false h)
 other_alike two (OfScript n) h = absurd (true≢false h)
 other_alike two (OfProgram n) h = absurd (true≢false h)
@@ -69,7 +69,7 @@ root_both two root x y = elim (cases_Bool (is_program root)) [
   | inl e ↦
       (let h : Both two x y (program_parts root) (program_parts root) = (program_holds (layout_words two) false root e).at x y in
       record { us = h.us; vs = h.vs; stop = h.stop; first = in_place root (first_env two None) x e h.us h.stop h.first; second = in_place root (second_env two None) y e h.vs h.stop h.second; fit = h.fit })
-  | inr e ↦ subst (λ (z : Part). Both two None None z (root_at root (with_lines y))) (sym (other_lined root x e)) (subst (λ (z : Part). Both two None None (root_at root Plain) z) (sym (other_lined root y e)) ((other_alike two root e).at None None))
+  | inr e ↦ subst (λ (z : Part). Both two None None z (root_at root (with_lines y))) (sym (other_lined root x e)) (subst (λ (z : Part). Both two None None (root_at root (Whole Plain)) z) (sym (other_lined root y e)) ((other_alike two root e).at None None))
 ]
 
 -- ---- the end
@@ -93,7 +93,7 @@ ends_with xs (Some r) env = last_of xs (refused r)
 abbrev told : Env → Option ℕ
 told env = if env.config.minify then env.max_line else None
 
-told_place : (minify : Bool) (max : Option ℕ) → (if minify then with_lines max else Plain) ≡ with_lines (if minify then max else None)
+told_place : (minify : Bool) (max : Option ℕ) → (if minify then with_lines max else Whole Plain) ≡ with_lines (if minify then max else None)
 told_place true max = refl
 told_place false max = refl
 
@@ -192,6 +192,6 @@ pub returned_bare : (node : AnyNode) (rest : Plan) (env : Env) → env.maps ≡ 
 unfolding argument argument_in by_maps any_answers
 returned_bare node rest env e = ap (λ b. argument_in any_answers any_items node b rest env) (never_breaks node env.maps e)
 
-pub yielded_bare : (node : AnyNode) (delegate : Bool) (rest : Plan) (env : Env) → env.maps ≡ no_maps → yield_argument any_answers any_items delegate node rest env ≡ blank (if delegate then false else (any_answers node).starts) (any_items node Plain rest) env
+pub yielded_bare : (node : AnyNode) (delegate : Bool) (rest : Plan) (env : Env) → env.maps ≡ no_maps → yield_argument any_answers any_items delegate node rest env ≡ blank (if delegate then false else (any_answers node).starts) (any_items node (Whole Plain) rest) env
 unfolding yield_argument yield_argument_in by_maps any_answers
 yielded_bare node delegate rest env e = ap (λ b. yield_argument_in any_answers any_items delegate node b rest env) (never_breaks node env.maps e)
