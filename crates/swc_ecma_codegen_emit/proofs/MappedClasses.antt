@@ -35,7 +35,6 @@ use Rattle.swc_ecma_codegen_emit.specs.Places.{Place, Whole, Only}
 use Rattle.swc_ecma_codegen_emit.specs.Annotations.{annotation, field_annotation, type_args, type_params, types_format, word_before}
 use Rattle.swc_ecma_codegen_emit.specs.Answers.{Answers}
 use Rattle.swc_ecma_codegen_emit.specs.Classes.{class_members_format, heritage, implemented_format, some_implements, implements_clause, class_body, class_tail, class_word, class, accessibility_word, ts_param_prop_param, ts_param_prop, constructor_param, constructor_param_place, constructor_body, constructor_tail, constructor_word, class_constructor, static_method, method_word, accessor_words, method_kind, method_rest, class_method, private_kind, private_words, private_rest, private_method, prop_value, prop_modifiers, prop_tail, class_prop, private_modifiers, private_prop_tail, private_prop, accessor_key, accessor_modifiers, accessor_tail, auto_accessor, static_block, index_member, class_member}
-use Rattle.swc_ecma_codegen_emit.specs.Exprs.{blank}
 use Rattle.swc_ecma_codegen_emit.specs.FunctionExprs.{comma_list_format}
 use Rattle.swc_ecma_codegen_emit.specs.Functions.{decorator, decorator_lines, decorators_format, decorator_place, param}
 use Rattle.swc_ecma_codegen_emit.specs.Lists.{child_at, child_of}
@@ -74,16 +73,35 @@ class_same e g asks items known put implemented same n head ns ms rest =
     ap head (implements_mapped e items put implemented n.span ns (braced n (map (member_child asks items) (map g ms)) rest))
     ∙ ap (λ cs. head (implements_clause put n.span ns (braced n cs rest))) (list_mapped g (member_child asks items) (member_child known put) same ms)
 
-class_by : {X Y : Type 0} (g : X → Y) (asks : Y → Answers) (items : Y → Place → Part) (b : Box (classes.Class X) Global) (n : classes.Class X) (super_class : Option (ExprBox X)) (type_params : Option (TsTypeParamDeclBox X)) (super_type_params : Option (TsTypeParamInstantiationBox X)) (rest : Plan) → node_items asks items (map-AnyNode X Y g (nodes.StmtPart (stmt_parts.Class (record b { value = with_class_parts n super_class type_params super_type_params })))) (Whole Plain) rest ≡ class_tail (λ x. asks (g x)) (λ x. items (g x)) (with_class_parts n super_class type_params super_type_params) rest
-unfolding node_items stmt_part class class_tail class_body heritage ts_expr_with_type_args type_args type_params
-class_by {X} {Y} g asks items b n None None None rest = class_same {X = X} {Y = Y} _ _ asks items (λ x. asks (g x)) (λ x. items (g x)) (by_args {X = X} _ (λ e. refl) (λ e a. refl)) (λ m. refl) n (λ z. z) n.implements.items n.body.items rest
-class_by {X} {Y} g asks items b n None None (Some t) rest = class_same {X = X} {Y = Y} _ _ asks items (λ x. asks (g x)) (λ x. items (g x)) (by_args {X = X} _ (λ e. refl) (λ e a. refl)) (λ m. refl) n (λ z. z) n.implements.items n.body.items rest
-class_by {X} {Y} g asks items b n None (Some q) None rest = class_same {X = X} {Y = Y} _ _ asks items (λ x. asks (g x)) (λ x. items (g x)) (by_args {X = X} _ (λ e. refl) (λ e a. refl)) (λ m. refl) n (λ z. items (g q.node.value) (Whole Plain) (z)) n.implements.items n.body.items rest
-class_by {X} {Y} g asks items b n None (Some q) (Some t) rest = class_same {X = X} {Y = Y} _ _ asks items (λ x. asks (g x)) (λ x. items (g x)) (by_args {X = X} _ (λ e. refl) (λ e a. refl)) (λ m. refl) n (λ z. items (g q.node.value) (Whole Plain) (z)) n.implements.items n.body.items rest
-class_by {X} {Y} g asks items b n (Some s) None None rest = class_same {X = X} {Y = Y} _ _ asks items (λ x. asks (g x)) (λ x. items (g x)) (by_args {X = X} _ (λ e. refl) (λ e a. refl)) (λ m. refl) n (λ z. space (keyword None (codes "extends") (blank (asks (g s.node.value)).starts (items (g s.node.value) (Whole Plain) (z))))) n.implements.items n.body.items rest
-class_by {X} {Y} g asks items b n (Some s) None (Some t) rest = class_same {X = X} {Y = Y} _ _ asks items (λ x. asks (g x)) (λ x. items (g x)) (by_args {X = X} _ (λ e. refl) (λ e a. refl)) (λ m. refl) n (λ z. space (keyword None (codes "extends") (blank (asks (g s.node.value)).starts (items (g s.node.value) (Whole Plain) (items (g t.node.value) (Whole Plain) z))))) n.implements.items n.body.items rest
-class_by {X} {Y} g asks items b n (Some s) (Some q) None rest = class_same {X = X} {Y = Y} _ _ asks items (λ x. asks (g x)) (λ x. items (g x)) (by_args {X = X} _ (λ e. refl) (λ e a. refl)) (λ m. refl) n (λ z. items (g q.node.value) (Whole Plain) (space (keyword None (codes "extends") (blank (asks (g s.node.value)).starts (items (g s.node.value) (Whole Plain) (z)))))) n.implements.items n.body.items rest
-class_by {X} {Y} g asks items b n (Some s) (Some q) (Some t) rest = class_same {X = X} {Y = Y} _ _ asks items (λ x. asks (g x)) (λ x. items (g x)) (by_args {X = X} _ (λ e. refl) (λ e a. refl)) (λ m. refl) n (λ z. items (g q.node.value) (Whole Plain) (space (keyword None (codes "extends") (blank (asks (g s.node.value)).starts (items (g s.node.value) (Whole Plain) (items (g t.node.value) (Whole Plain) z)))))) n.implements.items n.body.items rest
+-- a class, as what a link holds, and what is written of its parts there
+abbrev as_class : {X : Type 0} → Box (classes.Class X) Global → classes.Class X → AnyNode-F X
+as_class b n = nodes.StmtPart (stmt_parts.Class (record b { value = n }))
+
+abbrev types_in : {X : Type 0} → (X → Place → Part) → AnyNode-F X → Part
+types_in items (nodes.StmtPart (stmt_parts.Class b)) rest = type_params items b.value.type_params rest
+types_in items n rest = rest
+
+abbrev heritage_in : {X : Type 0} → (X → Answers) → (X → Place → Part) → AnyNode-F X → Part
+heritage_in asks items (nodes.StmtPart (stmt_parts.Class b)) rest = heritage asks items b.value.super_class b.value.super_type_params rest
+heritage_in asks items n rest = rest
+
+types_mapped : {X Y : Type 0} (g : X → Y) (items : Y → Place → Part) (b : Box (classes.Class X) Global) (n : classes.Class X) (super_class : Option (ExprBox X)) (types : Option (TsTypeParamDeclBox X)) (args : Option (TsTypeParamInstantiationBox X)) (rest : Plan) → types_in items (map-AnyNode X Y g (as_class b (with_class_parts n super_class types args))) rest ≡ type_params (λ x. items (g x)) types rest
+unfolding type_params
+types_mapped g items b n super_class None args rest = refl
+types_mapped g items b n super_class (Some t) args rest = refl
+
+heritage_mapped : {X Y : Type 0} (g : X → Y) (asks : Y → Answers) (items : Y → Place → Part) (b : Box (classes.Class X) Global) (n : classes.Class X) (super_class : Option (ExprBox X)) (types : Option (TsTypeParamDeclBox X)) (args : Option (TsTypeParamInstantiationBox X)) (rest : Plan) → heritage_in asks items (map-AnyNode X Y g (as_class b (with_class_parts n super_class types args))) rest ≡ heritage (λ x. asks (g x)) (λ x. items (g x)) super_class args rest
+unfolding heritage type_args
+heritage_mapped g asks items b n None types args rest = refl
+heritage_mapped g asks items b n (Some s) types None rest = refl
+heritage_mapped g asks items b n (Some s) types (Some t) rest = refl
+
+class_by : {X Y : Type 0} (g : X → Y) (asks : Y → Answers) (items : Y → Place → Part) (b : Box (classes.Class X) Global) (n : classes.Class X) (super_class : Option (ExprBox X)) (types : Option (TsTypeParamDeclBox X)) (args : Option (TsTypeParamInstantiationBox X)) (rest : Plan) → node_items asks items (map-AnyNode X Y g (as_class b (with_class_parts n super_class types args))) (Whole Plain) rest ≡ class_tail (λ x. asks (g x)) (λ x. items (g x)) (with_class_parts n super_class types args) rest
+unfolding node_items stmt_part class class_tail class_body ts_expr_with_type_args type_args
+class_by {X} {Y} g asks items b n super_class types args rest =
+    types_mapped g items b n super_class types args _
+    ∙ ap (type_params (λ x. items (g x)) types) (heritage_mapped g asks items b n super_class types args _)
+    ∙ class_same {X = X} {Y = Y} _ _ asks items (λ x. asks (g x)) (λ x. items (g x)) (by_args {X = X} _ (λ e. refl) (λ e a. refl)) (λ m. refl) n (λ z. type_params (λ x. items (g x)) types (heritage (λ x. asks (g x)) (λ x. items (g x)) super_class args z)) n.implements.items n.body.items rest
 
 head_mapped : {X Y : Type 0} (g : X → Y) (asks : Y → Answers) (items : Y → Place → Part) (b : Box (classes.Class X) Global) (rest : Plan) → node_items asks items (map-AnyNode X Y g (nodes.StmtPart (stmt_parts.Class b))) (Only ClassHead) rest ≡ decorator_lines (λ x. items (g x)) b.value.decorators.items rest
 unfolding node_items stmt_part class decorator

@@ -1,7 +1,7 @@
 -- What is written of functions and blocks sees what links hold through `asks` and `items` alone.
 use Rattle.std.proofs.Common.{◌≡◌, not, ◌&&◌, refl, ◌∙◌, ap, List, [], ◌∷◌, map, codes, Bool, false, Option, Some, None, Box, Global}
 use Rattle.swc_ecma_codegen_common.specs.declared.positions.Span.{Span}
-use Rattle.swc_ecma_codegen_tree.specs.declared.links.AnyNode.{map-AnyNode}
+use Rattle.swc_ecma_codegen_tree.specs.declared.links.AnyNode.{AnyNode-F, map-AnyNode}
 use Rattle.swc_ecma_codegen_tree.specs.declared.links.AnyNode.TheOpen as nodes
 use Rattle.swc_ecma_codegen_tree.specs.Links.{BlockStmtBox, PatBox, TsTypeAnnBox, TsTypeParamDeclBox}
 use Rattle.swc_ecma_codegen_tree.specs.declared.parts.StmtPart.TheVariants as stmt_parts
@@ -33,7 +33,7 @@ use Rattle.swc_ecma_codegen_emit.specs.AnyExpr.{expr, expr_parts, expr_closed, l
 use Rattle.swc_ecma_codegen_emit.specs.Commented.{has_comment_after}
 use Rattle.swc_ecma_codegen_grammar.specs.CommentMaps.{Maps}
 use Rattle.swc_ecma_codegen_emit.specs.FunctionExprs.{comma_list_format, is_plain, is_name, is_only, async_arrow, star, has_comment_behind, arrow_within, arrow_parameters, arrow_body, arrow_result, arrow_expr}
-use Rattle.swc_ecma_codegen_emit.specs.Functions.{decorators_format, decorator, decorator_place, param, function_body, fn_trailing, break_without_body, declaration_tail, function_head, declaration_head, method_head, static_head, decorator_lines, method_body, method_tail, function}
+use Rattle.swc_ecma_codegen_emit.specs.Functions.{decorators_format, decorator, decorator_place, param, parameters, function_body, fn_trailing, break_without_body, declaration_tail, function_head, declaration_head, method_head, static_head, decorator_lines, method_body, method_tail, function}
 use Rattle.swc_ecma_codegen_emit.specs.Lists.{child_of, in_order}
 use Rattle.swc_ecma_codegen_emit.specs.Parts.{expr_part, stmt_part}
 use Rattle.swc_ecma_codegen_emit.specs.Stmts.{stmt}
@@ -53,16 +53,61 @@ param_same span cs ds p q e h = ap (λ z. param_child span z p) e ∙ ap (param_
 abbrev with_parts : {X : Type 0} → functions.Function X → Option (BlockStmtBox X) → Option (TsTypeParamDeclBox X) → Option (TsTypeAnnBox X) → functions.Function X
 with_parts n body type_params return_type = record n { body = body; type_params = type_params; return_type = return_type }
 
-trailing_mapped : {X Y : Type 0} (g : X → Y) (asks : Y → Answers) (items : Y → Place → Part) (b : Box (functions.Function X) Global) (n : functions.Function X) (body : Option (BlockStmtBox X)) (type_params : Option (TsTypeParamDeclBox X)) (return_type : Option (TsTypeAnnBox X)) (rest : Plan) → node_items asks items (map-AnyNode X Y g (nodes.StmtPart (stmt_parts.Function (record b { value = with_parts n body type_params return_type })))) (Whole Plain) rest ≡ fn_trailing (λ x. asks (g x)) (λ x. items (g x)) (with_parts n body type_params return_type) rest
-unfolding node_items expr_part stmt_part function fn_trailing function_body param decorator annotation type_params
-trailing_mapped {X} {Y} g asks items b n None None None rest = ap (λ z. punct (codes "(") z) (children_mapped {A = Param X} _ _ _ (λ p. param_same p.span _ _ _ _ (list_mapped {A = Decorator X} _ _ (child_of decorator_place (λ d place. decorator (λ x. items (g x)) d)) (λ d. refl) p.decorators.items) (pat_mapped g asks items p.pat (Whole Plain))) comma_list_format n.span n.params.items _)
-trailing_mapped {X} {Y} g asks items b n None None (Some t) rest = ap (λ z. punct (codes "(") z) (children_mapped {A = Param X} _ _ _ (λ p. param_same p.span _ _ _ _ (list_mapped {A = Decorator X} _ _ (child_of decorator_place (λ d place. decorator (λ x. items (g x)) d)) (λ d. refl) p.decorators.items) (pat_mapped g asks items p.pat (Whole Plain))) comma_list_format n.span n.params.items _)
-trailing_mapped {X} {Y} g asks items b n None (Some q) None rest = ap (λ z. items (g q.node.value) (Whole Plain) (punct (codes "(") z)) (children_mapped {A = Param X} _ _ _ (λ p. param_same p.span _ _ _ _ (list_mapped {A = Decorator X} _ _ (child_of decorator_place (λ d place. decorator (λ x. items (g x)) d)) (λ d. refl) p.decorators.items) (pat_mapped g asks items p.pat (Whole Plain))) comma_list_format n.span n.params.items _)
-trailing_mapped {X} {Y} g asks items b n None (Some q) (Some t) rest = ap (λ z. items (g q.node.value) (Whole Plain) (punct (codes "(") z)) (children_mapped {A = Param X} _ _ _ (λ p. param_same p.span _ _ _ _ (list_mapped {A = Decorator X} _ _ (child_of decorator_place (λ d place. decorator (λ x. items (g x)) d)) (λ d. refl) p.decorators.items) (pat_mapped g asks items p.pat (Whole Plain))) comma_list_format n.span n.params.items _)
-trailing_mapped {X} {Y} g asks items b n (Some body) None None rest = ap (λ z. punct (codes "(") z) (children_mapped {A = Param X} _ _ _ (λ p. param_same p.span _ _ _ _ (list_mapped {A = Decorator X} _ _ (child_of decorator_place (λ d place. decorator (λ x. items (g x)) d)) (λ d. refl) p.decorators.items) (pat_mapped g asks items p.pat (Whole Plain))) comma_list_format n.span n.params.items _)
-trailing_mapped {X} {Y} g asks items b n (Some body) None (Some t) rest = ap (λ z. punct (codes "(") z) (children_mapped {A = Param X} _ _ _ (λ p. param_same p.span _ _ _ _ (list_mapped {A = Decorator X} _ _ (child_of decorator_place (λ d place. decorator (λ x. items (g x)) d)) (λ d. refl) p.decorators.items) (pat_mapped g asks items p.pat (Whole Plain))) comma_list_format n.span n.params.items _)
-trailing_mapped {X} {Y} g asks items b n (Some body) (Some q) None rest = ap (λ z. items (g q.node.value) (Whole Plain) (punct (codes "(") z)) (children_mapped {A = Param X} _ _ _ (λ p. param_same p.span _ _ _ _ (list_mapped {A = Decorator X} _ _ (child_of decorator_place (λ d place. decorator (λ x. items (g x)) d)) (λ d. refl) p.decorators.items) (pat_mapped g asks items p.pat (Whole Plain))) comma_list_format n.span n.params.items _)
-trailing_mapped {X} {Y} g asks items b n (Some body) (Some q) (Some t) rest = ap (λ z. items (g q.node.value) (Whole Plain) (punct (codes "(") z)) (children_mapped {A = Param X} _ _ _ (λ p. param_same p.span _ _ _ _ (list_mapped {A = Decorator X} _ _ (child_of decorator_place (λ d place. decorator (λ x. items (g x)) d)) (λ d. refl) p.decorators.items) (pat_mapped g asks items p.pat (Whole Plain))) comma_list_format n.span n.params.items _)
+-- a function, as what a link holds, and what is written of its parts there
+abbrev as_function : {X : Type 0} → Box (functions.Function X) Global → functions.Function X → AnyNode-F X
+as_function b n = nodes.StmtPart (stmt_parts.Function (record b { value = n }))
+
+abbrev types_in : {X : Type 0} → (X → Place → Part) → AnyNode-F X → Part
+types_in items (nodes.StmtPart (stmt_parts.Function b)) rest = type_params items b.value.type_params rest
+types_in items n rest = rest
+
+abbrev params_in : {X : Type 0} → (X → Answers) → (X → Place → Part) → AnyNode-F X → Part
+params_in asks items (nodes.StmtPart (stmt_parts.Function b)) rest = parameters asks items b.value rest
+params_in asks items n rest = rest
+
+abbrev result_in : {X : Type 0} → (X → Place → Part) → AnyNode-F X → Part
+result_in items (nodes.StmtPart (stmt_parts.Function b)) rest = annotation items b.value.return_type rest
+result_in items n rest = rest
+
+abbrev body_in : {X : Type 0} → (Option (BlockStmtBox X) → Part) → AnyNode-F X → Part
+body_in write (nodes.StmtPart (stmt_parts.Function b)) rest = write b.value.body rest
+body_in write n rest = rest
+
+types_mapped : {X Y : Type 0} (g : X → Y) (items : Y → Place → Part) (b : Box (functions.Function X) Global) (n : functions.Function X) (body : Option (BlockStmtBox X)) (types : Option (TsTypeParamDeclBox X)) (result : Option (TsTypeAnnBox X)) (rest : Plan) → types_in items (map-AnyNode X Y g (as_function b (with_parts n body types result))) rest ≡ type_params (λ x. items (g x)) types rest
+unfolding type_params
+types_mapped g items b n body None result rest = refl
+types_mapped g items b n body (Some t) result rest = refl
+
+result_mapped : {X Y : Type 0} (g : X → Y) (items : Y → Place → Part) (b : Box (functions.Function X) Global) (n : functions.Function X) (body : Option (BlockStmtBox X)) (types : Option (TsTypeParamDeclBox X)) (result : Option (TsTypeAnnBox X)) (rest : Plan) → result_in items (map-AnyNode X Y g (as_function b (with_parts n body types result))) rest ≡ annotation (λ x. items (g x)) result rest
+unfolding annotation
+result_mapped g items b n body types None rest = refl
+result_mapped g items b n body types (Some t) rest = refl
+
+body_mapped : {X Y : Type 0} (g : X → Y) (items : Y → Place → Part) (b : Box (functions.Function X) Global) (n : functions.Function X) (body : Option (BlockStmtBox X)) (types : Option (TsTypeParamDeclBox X)) (result : Option (TsTypeAnnBox X)) (rest : Plan) → body_in (function_body items) (map-AnyNode X Y g (as_function b (with_parts n body types result))) rest ≡ function_body (λ x. items (g x)) body rest
+unfolding function_body
+body_mapped g items b n None types result rest = refl
+body_mapped g items b n (Some t) types result rest = refl
+
+method_body_mapped : {X Y : Type 0} (g : X → Y) (items : Y → Place → Part) (b : Box (functions.Function X) Global) (n : functions.Function X) (body : Option (BlockStmtBox X)) (types : Option (TsTypeParamDeclBox X)) (result : Option (TsTypeAnnBox X)) (rest : Plan) → body_in (method_body items) (map-AnyNode X Y g (as_function b (with_parts n body types result))) rest ≡ method_body (λ x. items (g x)) body rest
+unfolding method_body
+method_body_mapped g items b n None types result rest = refl
+method_body_mapped g items b n (Some t) types result rest = refl
+
+-- `<A>(a): B`
+abbrev signature : {X : Type 0} → (X → Answers) → (X → Place → Part) → functions.Function X → Option (TsTypeParamDeclBox X) → Option (TsTypeAnnBox X) → Plan → Plan
+signature asks items n types result after = type_params items types (punct (codes "(") (parameters asks items n (punct (codes ")") (annotation items result after))))
+
+signature_mapped : {X Y : Type 0} (g : X → Y) (asks : Y → Answers) (items : Y → Place → Part) (b : Box (functions.Function X) Global) (n : functions.Function X) (body : Option (BlockStmtBox X)) (types : Option (TsTypeParamDeclBox X)) (result : Option (TsTypeAnnBox X)) (after : Plan) → types_in items (map-AnyNode X Y g (as_function b (with_parts n body types result))) (punct (codes "(") (params_in asks items (map-AnyNode X Y g (as_function b (with_parts n body types result))) (punct (codes ")") (result_in items (map-AnyNode X Y g (as_function b (with_parts n body types result))) after)))) ≡ signature (λ x. asks (g x)) (λ x. items (g x)) n types result after
+unfolding node_items expr_part param decorator
+signature_mapped {X} g asks items b n body types result after =
+    types_mapped g items b n body types result _
+    ∙ ap (λ z. type_params (λ x. items (g x)) types (punct (codes "(") z)) (children_mapped {A = Param X} _ _ _ (λ p. param_same p.span _ _ _ _ (list_mapped {A = Decorator X} _ _ (child_of decorator_place (λ d place. decorator (λ x. items (g x)) d)) (λ d. refl) p.decorators.items) (pat_mapped g asks items p.pat (Whole Plain))) comma_list_format n.span n.params.items _)
+    ∙ ap (λ z. type_params (λ x. items (g x)) types (punct (codes "(") (parameters (λ x. asks (g x)) (λ x. items (g x)) n (punct (codes ")") z)))) (result_mapped g items b n body types result after)
+
+trailing_mapped : {X Y : Type 0} (g : X → Y) (asks : Y → Answers) (items : Y → Place → Part) (b : Box (functions.Function X) Global) (n : functions.Function X) (body : Option (BlockStmtBox X)) (types : Option (TsTypeParamDeclBox X)) (result : Option (TsTypeAnnBox X)) (rest : Plan) → node_items asks items (map-AnyNode X Y g (as_function b (with_parts n body types result))) (Whole Plain) rest ≡ fn_trailing (λ x. asks (g x)) (λ x. items (g x)) (with_parts n body types result) rest
+unfolding node_items stmt_part function fn_trailing
+trailing_mapped g asks items b n body types result rest =
+    signature_mapped g asks items b n body types result _ ∙ ap (signature (λ x. asks (g x)) (λ x. items (g x)) n types result) (body_mapped g items b n body types result rest)
 
 declared_mapped : {X Y : Type 0} (g : X → Y) (asks : Y → Answers) (items : Y → Place → Part) (b : Box (functions.Function X) Global) (n : functions.Function X) (body : Option (BlockStmtBox X)) (type_params : Option (TsTypeParamDeclBox X)) (return_type : Option (TsTypeAnnBox X)) (rest : Plan) → node_items asks items (map-AnyNode X Y g (nodes.StmtPart (stmt_parts.Function (record b { value = with_parts n body type_params return_type })))) (Only DeclarationTail) rest ≡ declaration_tail (λ x. asks (g x)) (λ x. items (g x)) (with_parts n body type_params return_type) rest
 unfolding node_items stmt_part function declaration_tail break_without_body
@@ -77,16 +122,10 @@ in_order_mapped g e d same (x ∷ xs) rest = ap (λ part. part (in_order e (map 
 pub decorators_mapped : {X Y : Type 0} (g : Decorator X → Decorator Y) (items : Y → Place → Part) (put : X → Place → Part) → ((n : Decorator X) → decorator items (g n) ≡ decorator put n) → (ns : List (Decorator X)) (rest : Plan) → decorator_lines items (map g ns) rest ≡ decorator_lines put ns rest
 decorators_mapped g items put same ns rest = in_order_mapped g (decorator items) (decorator put) same ns rest
 
-tail_mapped : {X Y : Type 0} (g : X → Y) (asks : Y → Answers) (items : Y → Place → Part) (b : Box (functions.Function X) Global) (n : functions.Function X) (body : Option (BlockStmtBox X)) (type_params : Option (TsTypeParamDeclBox X)) (return_type : Option (TsTypeAnnBox X)) (rest : Plan) → node_items asks items (map-AnyNode X Y g (nodes.StmtPart (stmt_parts.Function (record b { value = with_parts n body type_params return_type })))) (Only MethodTail) rest ≡ method_tail (λ x. asks (g x)) (λ x. items (g x)) (with_parts n body type_params return_type) rest
-unfolding node_items expr_part stmt_part function method_tail method_body param decorator annotation type_params
-tail_mapped {X} {Y} g asks items b n None None None rest = ap (λ z. punct (codes "(") z) (children_mapped {A = Param X} _ _ _ (λ p. param_same p.span _ _ _ _ (list_mapped {A = Decorator X} _ _ (child_of decorator_place (λ d place. decorator (λ x. items (g x)) d)) (λ d. refl) p.decorators.items) (pat_mapped g asks items p.pat (Whole Plain))) comma_list_format n.span n.params.items _)
-tail_mapped {X} {Y} g asks items b n None None (Some t) rest = ap (λ z. punct (codes "(") z) (children_mapped {A = Param X} _ _ _ (λ p. param_same p.span _ _ _ _ (list_mapped {A = Decorator X} _ _ (child_of decorator_place (λ d place. decorator (λ x. items (g x)) d)) (λ d. refl) p.decorators.items) (pat_mapped g asks items p.pat (Whole Plain))) comma_list_format n.span n.params.items _)
-tail_mapped {X} {Y} g asks items b n None (Some q) None rest = ap (λ z. items (g q.node.value) (Whole Plain) (punct (codes "(") z)) (children_mapped {A = Param X} _ _ _ (λ p. param_same p.span _ _ _ _ (list_mapped {A = Decorator X} _ _ (child_of decorator_place (λ d place. decorator (λ x. items (g x)) d)) (λ d. refl) p.decorators.items) (pat_mapped g asks items p.pat (Whole Plain))) comma_list_format n.span n.params.items _)
-tail_mapped {X} {Y} g asks items b n None (Some q) (Some t) rest = ap (λ z. items (g q.node.value) (Whole Plain) (punct (codes "(") z)) (children_mapped {A = Param X} _ _ _ (λ p. param_same p.span _ _ _ _ (list_mapped {A = Decorator X} _ _ (child_of decorator_place (λ d place. decorator (λ x. items (g x)) d)) (λ d. refl) p.decorators.items) (pat_mapped g asks items p.pat (Whole Plain))) comma_list_format n.span n.params.items _)
-tail_mapped {X} {Y} g asks items b n (Some body) None None rest = ap (λ z. punct (codes "(") z) (children_mapped {A = Param X} _ _ _ (λ p. param_same p.span _ _ _ _ (list_mapped {A = Decorator X} _ _ (child_of decorator_place (λ d place. decorator (λ x. items (g x)) d)) (λ d. refl) p.decorators.items) (pat_mapped g asks items p.pat (Whole Plain))) comma_list_format n.span n.params.items _)
-tail_mapped {X} {Y} g asks items b n (Some body) None (Some t) rest = ap (λ z. punct (codes "(") z) (children_mapped {A = Param X} _ _ _ (λ p. param_same p.span _ _ _ _ (list_mapped {A = Decorator X} _ _ (child_of decorator_place (λ d place. decorator (λ x. items (g x)) d)) (λ d. refl) p.decorators.items) (pat_mapped g asks items p.pat (Whole Plain))) comma_list_format n.span n.params.items _)
-tail_mapped {X} {Y} g asks items b n (Some body) (Some q) None rest = ap (λ z. items (g q.node.value) (Whole Plain) (punct (codes "(") z)) (children_mapped {A = Param X} _ _ _ (λ p. param_same p.span _ _ _ _ (list_mapped {A = Decorator X} _ _ (child_of decorator_place (λ d place. decorator (λ x. items (g x)) d)) (λ d. refl) p.decorators.items) (pat_mapped g asks items p.pat (Whole Plain))) comma_list_format n.span n.params.items _)
-tail_mapped {X} {Y} g asks items b n (Some body) (Some q) (Some t) rest = ap (λ z. items (g q.node.value) (Whole Plain) (punct (codes "(") z)) (children_mapped {A = Param X} _ _ _ (λ p. param_same p.span _ _ _ _ (list_mapped {A = Decorator X} _ _ (child_of decorator_place (λ d place. decorator (λ x. items (g x)) d)) (λ d. refl) p.decorators.items) (pat_mapped g asks items p.pat (Whole Plain))) comma_list_format n.span n.params.items _)
+tail_mapped : {X Y : Type 0} (g : X → Y) (asks : Y → Answers) (items : Y → Place → Part) (b : Box (functions.Function X) Global) (n : functions.Function X) (body : Option (BlockStmtBox X)) (types : Option (TsTypeParamDeclBox X)) (result : Option (TsTypeAnnBox X)) (rest : Plan) → node_items asks items (map-AnyNode X Y g (as_function b (with_parts n body types result))) (Only MethodTail) rest ≡ method_tail (λ x. asks (g x)) (λ x. items (g x)) (with_parts n body types result) rest
+unfolding node_items stmt_part function method_tail
+tail_mapped g asks items b n body types result rest =
+    signature_mapped g asks items b n body types result _ ∙ ap (signature (λ x. asks (g x)) (λ x. items (g x)) n types result) (method_body_mapped g items b n body types result rest)
 
 method_decorators_mapped : {X Y : Type 0} (g : X → Y) (asks : Y → Answers) (items : Y → Place → Part) (b : Box (functions.Function X) Global) (rest : Plan) → node_items asks items (map-AnyNode X Y g (nodes.StmtPart (stmt_parts.Function b))) (Only MethodDecorators) rest ≡ decorator_lines (λ x. items (g x)) b.value.decorators.items rest
 unfolding node_items stmt_part function decorator
