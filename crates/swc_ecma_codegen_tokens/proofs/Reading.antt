@@ -1,4 +1,5 @@
 -- What a text reads as: the tokens of each part, one part after the other.
+pub mod Answered
 pub mod Appended
 pub mod Choices
 pub mod Laid

@@ -1,5 +1,5 @@
 -- What an emission does: its steps, where each leads, and how it stops.
-use Rattle.std.specs.Prelude.{◌≡◌, ◌⊎◌, ℕ, ◌<◌, ◌-◌, ◌^◌, Bool, true, false, ◌||◌, ◌&&◌, is_some, if◌then◌else◌, List, [], ◌∷◌, ◌++◌, codes, Option, Some, None, Result, Ok, Err}
+use Rattle.std.specs.Prelude.{◌≡◌, ◌⊎◌, ℕ, ◌<◌, ◌-◌, ◌^◌, Bool, true, false, ◌||◌, ◌&&◌, is_some, if◌then◌else◌, List, [], ◌∷◌, ◌++◌, codes, Option, Some, None, Result, Ok, Err, OnOk}
 use Rattle.std.specs.Str.{chars}
 use Rattle.swc_ecma_codegen_common.specs.declared.errors.Refusal.{Refusal}
 use Rattle.swc_ecma_codegen_common.specs.declared.errors.Refusal.TheVariants.{Writer, OutOfMemory, UnsupportedNode, BadShape, NameOutOfTarget, PositionTooLarge, Failed}
@@ -250,6 +250,10 @@ Does part a b (Err e) = (lines : Lines) (maps : Maps) → Emits part (with_sourc
 abbrev pub DoesTaking : Part → Maps → Maps → State → State → Result (Unit {0}) Refusal → Type 0
 DoesTaking part before left a b (Ok u) = (lines : Lines) → Emits part (with_source lines before a) (with_source lines left b) (Ok u)
 DoesTaking part before left a b (Err e) = (lines : Lines) → Emits part (with_source lines before a) (with_source lines left b) (Err e)
+
+-- The level of indentation stays, unless the call is refused.
+abbrev pub Stays : Sheet → Sheet → Result (Unit {0}) Refusal → Type 0
+Stays before after result = OnOk result (after.indentation ≡ before.indentation)
 
 -- one step; what comes after it has the comments that are left
 unfoldable pub step : Step → Part

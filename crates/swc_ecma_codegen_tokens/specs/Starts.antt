@@ -1,6 +1,6 @@
 -- How texts begin, as far as what comes before may fuse with them.
 use Rattle.std.specs.Prelude.{ℕ, Bool, false, List, [], ◌∷◌, codes, ◌==◌, ◌&&◌, ◌||◌, nat_le, if◌then◌else◌}
-use Rattle.swc_ecma_codegen_grammar.specs.Chars.{is_part, is_digit, begins_digit}
+use Rattle.swc_ecma_codegen_grammar.specs.Chars.{is_letter, is_part, is_digit, begins_digit}
 use Rattle.swc_ecma_codegen_grammar.specs.Texts.{begins}
 use Rattle.swc_ecma_codegen_tokens.specs.declared.starts.StartClass.{StartClass}
 use Rattle.swc_ecma_codegen_tokens.specs.declared.starts.StartClass.TheVariants as start
@@ -62,6 +62,11 @@ start_class (c ∷ n) =
 abbrev pub begins_letter : List ℕ → Bool
 begins_letter [] = false
 begins_letter (c ∷ cs) = nat_le 97 c && nat_le c 122
+
+-- a text begins with a letter of ASCII, `$` or `_`
+abbrev pub begins_name : List ℕ → Bool
+begins_name [] = false
+begins_name (c ∷ cs) = (is_letter c || (c == 36)) || (c == 95)
 
 -- a text begins with a quotation mark
 abbrev pub begins_quote : List ℕ → Bool

@@ -1,6 +1,6 @@
 //! Strings of attributes, which have no escapes, and which text of JSX is printed.
 
-ghost use Rattle.std.specs.Prelude.{◌≡◌, true, false, OnOk, IfOk, IfErr, is_none, [], ◌∷◌, string_bytes};
+ghost use Rattle.std.specs.Prelude.{◌≡◌, true, false, IfOk, IfErr, is_none, [], ◌∷◌, string_bytes};
 ghost use Rattle.std.specs.Cow.{cow_str_bytes};
 ghost use Rattle.std.specs.Str.{chars};
 ghost use Rattle.swc_ecma_codegen_common.specs.declared.errors.Error.TheVariants.{OutOfMemory};
@@ -10,7 +10,7 @@ ghost use Rattle.swc_ecma_codegen_grammar.specs.Jsx as lexical;
 ghost use Rattle.swc_ecma_codegen_grammar.specs.JsxPhrases.{holds, jsx_quoted, jsx_spelling, jsx_string, text_spelling};
 ghost use Rattle.swc_ecma_codegen_grammar.specs.declared.kinds.Kind.TheVariants as kind;
 ghost use Rattle.swc_ecma_codegen_text_writer.specs.Sheet.{StrLit};
-ghost use Rattle.swc_ecma_codegen_tokens.specs.Run.{DoesTaking, Does, step, Token};
+ghost use Rattle.swc_ecma_codegen_tokens.specs.Run.{DoesTaking, Does, step, Token, Stays};
 ghost use Rattle.swc_ecma_codegen_tokens.specs.Adds.{AddsOn, AddsTaking};
 ghost use Rattle.swc_ecma_codegen_tokens.specs.Attributes.{has_no_text, attribute_token, attribute_by, spelled_string, attribute_string, jsx_text_node, jsx_text_lit};
 ghost use Rattle.swc_ecma_codegen_tokens.specs.Tags.{text_token};
@@ -99,7 +99,7 @@ impl LowerEmitter {
         ensures items { Does (step (Token kind.JsxString (StrLit dummy_span text.now)))
             (state_of cfg.now (W.sheet wr.old) self.old)
             (state_of cfg.now (W.sheet wr.new) self.new) result }
-        ensures level { OnOk result ((W.sheet wr.new).indentation ≡ (W.sheet wr.old).indentation) }
+        ensures level { Stays (W.sheet wr.old) (W.sheet wr.new) result }
     {
         let _ = cfg;
         let answer = wr.write_str_lit(DUMMY_SP, text);
@@ -111,7 +111,7 @@ impl LowerEmitter {
     fn attribute_token<W: WriteJs>(&mut self, cfg: &Config, wr: &mut W, text: &str) -> Answer
         ensures items { Does (attribute_token text.now) (state_of cfg.now (W.sheet wr.old) self.old)
             (state_of cfg.now (W.sheet wr.new) self.new) result }
-        ensures level { OnOk result ((W.sheet wr.new).indentation ≡ (W.sheet wr.old).indentation) }
+        ensures level { Stays (W.sheet wr.old) (W.sheet wr.new) result }
     {
         self.guard(cfg, wr, text, StartClass::of_literal(text))?;
         self.put_attribute(cfg, wr, text)?;
@@ -131,7 +131,7 @@ impl LowerEmitter {
         ensures items { DoesTaking (attribute_by span text.now) (maps_in C.maps comments.old)
             (maps_in C.maps comments.new) (state_of cfg.now (W.sheet wr.old) self.old)
             (state_of cfg.now (W.sheet wr.new) self.new) result }
-        ensures level { OnOk result ((W.sheet wr.new).indentation ≡ (W.sheet wr.old).indentation) }
+        ensures level { Stays (W.sheet wr.old) (W.sheet wr.new) result }
     {
         self.begun(cfg, comments, wr, span, text)?;
         self.settled_begun(cfg, comments, wr, span, text)?;
@@ -150,7 +150,7 @@ impl LowerEmitter {
         ensures items { DoesTaking (spelled_string n.now) (maps_in C.maps comments.old)
             (maps_in C.maps comments.new) (state_of cfg.now (W.sheet wr.old) self.old)
             (state_of cfg.now (W.sheet wr.new) self.new) result }
-        ensures level { OnOk result ((W.sheet wr.new).indentation ≡ (W.sheet wr.old).indentation) }
+        ensures level { Stays (W.sheet wr.old) (W.sheet wr.new) result }
     {
         if self.failed {
             return Err(Refusal::Failed);
@@ -176,7 +176,7 @@ impl LowerEmitter {
         ensures items { DoesTaking (attribute_string n.now) (maps_in C.maps comments.old)
             (maps_in C.maps comments.new) (state_of cfg.now (W.sheet wr.old) self.old)
             (state_of cfg.now (W.sheet wr.new) self.new) result }
-        ensures level { OnOk result ((W.sheet wr.new).indentation ≡ (W.sheet wr.old).indentation) }
+        ensures level { Stays (W.sheet wr.old) (W.sheet wr.new) result }
     {
         if has_no_text(n) {
             return self.refuse(cfg, wr, Unprintable::BadShape);
@@ -198,7 +198,7 @@ impl LowerEmitter {
         ensures reads { AddsTaking (jsx_string n.now) (attribute_string n.now)
             (maps_in C.maps comments.old)
             cfg.now (W.sheet wr.old) self.old (W.sheet wr.new) self.new result }
-        ensures level { OnOk result ((W.sheet wr.new).indentation ≡ (W.sheet wr.old).indentation) }
+        ensures level { Stays (W.sheet wr.old) (W.sheet wr.new) result }
     {
         self.attribute_at(cfg, comments, wr, n)
     }
@@ -211,7 +211,7 @@ impl LowerEmitter {
         ensures reads { lexical.is_jsx_text (chars (text_spelling n.now)) ≡ true →
             AddsOn Between InText (text_token (text_spelling n.now) ∷ [])
             cfg.now (W.sheet wr.old) self.old (W.sheet wr.new) self.new result }
-        ensures level { OnOk result ((W.sheet wr.new).indentation ≡ (W.sheet wr.old).indentation) }
+        ensures level { Stays (W.sheet wr.old) (W.sheet wr.new) result }
     {
         self.jsx_text(cfg, wr, n.span, printed_text(n))
     }
@@ -228,7 +228,7 @@ impl LowerEmitter {
         ensures items { DoesTaking (jsx_text_lit n.now) (maps_in C.maps comments.old)
             (maps_in C.maps comments.new) (state_of cfg.now (W.sheet wr.old) self.old)
             (state_of cfg.now (W.sheet wr.new) self.new) result }
-        ensures level { OnOk result ((W.sheet wr.new).indentation ≡ (W.sheet wr.old).indentation) }
+        ensures level { Stays (W.sheet wr.old) (W.sheet wr.new) result }
     {
         self.begun(cfg, comments, wr, n.span, printed_text(n))?;
         self.jsx_text_node(cfg, wr, n)?;

@@ -1,13 +1,13 @@
 //! The calls of the writer that write a token. Where no semicolon is held back, a text that stays in its line goes by a call whose answer is
 //! short; else it goes by the call of its kind, in a function of its own, which has the room for the error of a writer.
 
-ghost use Rattle.std.specs.Prelude.{◌≡◌, Some, None, OnOk, false, true};
+ghost use Rattle.std.specs.Prelude.{◌≡◌, Some, None, false, true};
 ghost use Rattle.swc_ecma_codegen_literals.specs.Punctuators.{spelling};
 ghost use Rattle.swc_ecma_codegen_spans.specs.Spans.{dummy_span};
 ghost use Rattle.swc_ecma_codegen_text_writer.specs.Reach.{is_in_line};
 ghost use Rattle.swc_ecma_codegen_text_writer.specs.Sheet.{Semi, Keyword, Operator, Symbol, Punct, answered, holds_semicolons, is_settled};
 ghost use Rattle.swc_ecma_codegen_grammar.specs.declared.kinds.Kind.TheVariants as kind;
-ghost use Rattle.swc_ecma_codegen_tokens.specs.Run.{Does, step, Token};
+ghost use Rattle.swc_ecma_codegen_tokens.specs.Run.{Does, step, Token, Stays};
 ghost use Rattle.swc_ecma_codegen_tokens.specs.Words.{space};
 ghost use Rattle.swc_ecma_codegen_tokens.specs.View.{state_of};
 
@@ -31,30 +31,12 @@ impl LowerEmitter {
         ensures items { Does (step (Token kind.Punctuator (Operator None (spelling mark))))
             (state_of cfg.now (W.sheet wr.old) self.old)
             (state_of cfg.now (W.sheet wr.new) self.new) (answered result self.new.reason) }
-        ensures level { OnOk (answered result self.new.reason) ((W.sheet wr.new).indentation ≡ (W.sheet wr.old).indentation) }
+        ensures level { Stays (W.sheet wr.old) (W.sheet wr.new) (answered result self.new.reason) }
     {
         if !wr.is_settled() {
             return self.call_operator(cfg, wr, mark);
         }
         self.sends_operator(cfg, wr, mark)
-    }
-
-    /// The same, with the reason.
-    #[inline(always)]
-    pub(crate) fn put_operator<W: WriteJs>(
-        &mut self,
-        cfg: &Config,
-        wr: &mut W,
-        mark: Punctuator,
-    ) -> Answer
-        requires { self.old.failed ≡ false }
-        ensures items { Does (step (Token kind.Punctuator (Operator None (spelling mark))))
-            (state_of cfg.now (W.sheet wr.old) self.old)
-            (state_of cfg.now (W.sheet wr.new) self.new) result }
-        ensures level { OnOk result ((W.sheet wr.new).indentation ≡ (W.sheet wr.old).indentation) }
-    {
-        let done = self.puts_operator(cfg, wr, mark);
-        self.answer(done)
     }
 
     /// The same in a function of its own, which has the room for an error.
@@ -64,7 +46,7 @@ impl LowerEmitter {
         ensures items { Does (step (Token kind.Punctuator (Operator None (spelling mark))))
             (state_of cfg.now (W.sheet wr.old) self.old)
             (state_of cfg.now (W.sheet wr.new) self.new) (answered result self.new.reason) }
-        ensures level { OnOk (answered result self.new.reason) ((W.sheet wr.new).indentation ≡ (W.sheet wr.old).indentation) }
+        ensures level { Stays (W.sheet wr.old) (W.sheet wr.new) (answered result self.new.reason) }
     {
         let _ = cfg;
         let last = PreviousToken::after(self.last, mark);
@@ -81,7 +63,7 @@ impl LowerEmitter {
         ensures items { Does (step (Token kind.Punctuator (Operator None (spelling mark))))
             (state_of cfg.now (W.sheet wr.old) self.old)
             (state_of cfg.now (W.sheet wr.new) self.new) (answered result self.new.reason) }
-        ensures level { OnOk (answered result self.new.reason) ((W.sheet wr.new).indentation ≡ (W.sheet wr.old).indentation) }
+        ensures level { Stays (W.sheet wr.old) (W.sheet wr.new) (answered result self.new.reason) }
     {
         let _ = cfg;
         let last = PreviousToken::after(self.last, mark);
@@ -100,7 +82,7 @@ impl LowerEmitter {
         ensures items { Does (step (Token kind.Word (Operator None text.now)))
             (state_of cfg.now (W.sheet wr.old) self.old)
             (state_of cfg.now (W.sheet wr.new) self.new) (answered result self.new.reason) }
-        ensures level { OnOk (answered result self.new.reason) ((W.sheet wr.new).indentation ≡ (W.sheet wr.old).indentation) }
+        ensures level { Stays (W.sheet wr.old) (W.sheet wr.new) (answered result self.new.reason) }
     {
         if !wr.is_settled() || !is_in_line(text.as_bytes()) {
             return self.call_word_operator(cfg, wr, text);
@@ -120,7 +102,7 @@ impl LowerEmitter {
         ensures items { Does (step (Token kind.Word (Operator None text.now)))
             (state_of cfg.now (W.sheet wr.old) self.old)
             (state_of cfg.now (W.sheet wr.new) self.new) result }
-        ensures level { OnOk result ((W.sheet wr.new).indentation ≡ (W.sheet wr.old).indentation) }
+        ensures level { Stays (W.sheet wr.old) (W.sheet wr.new) result }
     {
         let done = self.puts_word_operator(cfg, wr, text);
         self.answer(done)
@@ -138,7 +120,7 @@ impl LowerEmitter {
         ensures items { Does (step (Token kind.Word (Operator None text.now)))
             (state_of cfg.now (W.sheet wr.old) self.old)
             (state_of cfg.now (W.sheet wr.new) self.new) (answered result self.new.reason) }
-        ensures level { OnOk (answered result self.new.reason) ((W.sheet wr.new).indentation ≡ (W.sheet wr.old).indentation) }
+        ensures level { Stays (W.sheet wr.old) (W.sheet wr.new) (answered result self.new.reason) }
     {
         let _ = cfg;
         let last = PreviousToken::WordEnd;
@@ -161,7 +143,7 @@ impl LowerEmitter {
         ensures items { Does (step (Token kind.Word (Operator None text.now)))
             (state_of cfg.now (W.sheet wr.old) self.old)
             (state_of cfg.now (W.sheet wr.new) self.new) (answered result self.new.reason) }
-        ensures level { OnOk (answered result self.new.reason) ((W.sheet wr.new).indentation ≡ (W.sheet wr.old).indentation) }
+        ensures level { Stays (W.sheet wr.old) (W.sheet wr.new) (answered result self.new.reason) }
     {
         let _ = cfg;
         let last = PreviousToken::WordEnd;
@@ -175,25 +157,12 @@ impl LowerEmitter {
         ensures items { Does (step (Token kind.Ending (Semi None)))
             (state_of cfg.now (W.sheet wr.old) self.old)
             (state_of cfg.now (W.sheet wr.new) self.new) (answered result self.new.reason) }
-        ensures level { OnOk (answered result self.new.reason) ((W.sheet wr.new).indentation ≡ (W.sheet wr.old).indentation) }
+        ensures level { Stays (W.sheet wr.old) (W.sheet wr.new) (answered result self.new.reason) }
     {
         if wr.holds_semi() || !wr.is_settled() {
             return self.call_semi(cfg, wr);
         }
         self.sends_semi(cfg, wr)
-    }
-
-    /// The same, with the reason.
-    #[inline(always)]
-    pub(crate) fn put_semi<W: WriteJs>(&mut self, cfg: &Config, wr: &mut W) -> Answer
-        requires { self.old.failed ≡ false }
-        ensures items { Does (step (Token kind.Ending (Semi None)))
-            (state_of cfg.now (W.sheet wr.old) self.old)
-            (state_of cfg.now (W.sheet wr.new) self.new) result }
-        ensures level { OnOk result ((W.sheet wr.new).indentation ≡ (W.sheet wr.old).indentation) }
-    {
-        let done = self.puts_semi(cfg, wr);
-        self.answer(done)
     }
 
     /// The same in a function of its own, which has the room for an error.
@@ -203,7 +172,7 @@ impl LowerEmitter {
         ensures items { Does (step (Token kind.Ending (Semi None)))
             (state_of cfg.now (W.sheet wr.old) self.old)
             (state_of cfg.now (W.sheet wr.new) self.new) (answered result self.new.reason) }
-        ensures level { OnOk (answered result self.new.reason) ((W.sheet wr.new).indentation ≡ (W.sheet wr.old).indentation) }
+        ensures level { Stays (W.sheet wr.old) (W.sheet wr.new) (answered result self.new.reason) }
     {
         let _ = cfg;
         let last = PreviousToken::after(self.last, Punctuator::Semicolon);
@@ -221,29 +190,14 @@ impl LowerEmitter {
         ensures items { Does (step (Token kind.Ending (Semi None)))
             (state_of cfg.now (W.sheet wr.old) self.old)
             (state_of cfg.now (W.sheet wr.new) self.new) (answered result self.new.reason) }
-        ensures level { OnOk (answered result self.new.reason) ((W.sheet wr.new).indentation ≡ (W.sheet wr.old).indentation) }
+        ensures level { Stays (W.sheet wr.old) (W.sheet wr.new) (answered result self.new.reason) }
     {
         let _ = cfg;
         let last = PreviousToken::after(self.last, Punctuator::Semicolon);
         self.sends(wr, ";", last)
     }
 
-    /// The call of a name. Whether it was written: else `reason` says why not.
-    #[inline(always)]
-    pub(crate) fn puts_symbol<W: WriteJs>(&mut self, cfg: &Config, wr: &mut W, text: &str) -> bool
-        requires { self.old.failed ≡ false }
-        ensures items { Does (step (Token kind.Name (Symbol dummy_span text.now)))
-            (state_of cfg.now (W.sheet wr.old) self.old)
-            (state_of cfg.now (W.sheet wr.new) self.new) (answered result self.new.reason) }
-        ensures level { OnOk (answered result self.new.reason) ((W.sheet wr.new).indentation ≡ (W.sheet wr.old).indentation) }
-    {
-        if !wr.is_settled() || !is_in_line(text.as_bytes()) {
-            return self.call_symbol(cfg, wr, text);
-        }
-        self.sends_symbol(cfg, wr, text)
-    }
-
-    /// The same of a name that stays in its line.
+    /// The call of a name that stays in its line. Whether it was written: else `reason` says why not.
     #[inline(always)]
     pub(crate) fn puts_known_symbol<W: WriteJs>(
         &mut self,
@@ -256,8 +210,7 @@ impl LowerEmitter {
         ensures items { Does (step (Token kind.Name (Symbol dummy_span text.now)))
             (state_of cfg.now (W.sheet wr.old) self.old)
             (state_of cfg.now (W.sheet wr.new) self.new) (answered result self.new.reason) }
-        ensures level { OnOk (answered result self.new.reason)
-            ((W.sheet wr.new).indentation ≡ (W.sheet wr.old).indentation) }
+        ensures level { Stays (W.sheet wr.old) (W.sheet wr.new) (answered result self.new.reason) }
     {
         if !wr.is_settled() {
             return self.call_symbol(cfg, wr, text);
@@ -265,16 +218,16 @@ impl LowerEmitter {
         self.sends_symbol(cfg, wr, text)
     }
 
-    /// The same, with the reason.
+    /// The call of any name, with the reason.
     #[inline(always)]
     pub(crate) fn put_symbol<W: WriteJs>(&mut self, cfg: &Config, wr: &mut W, text: &str) -> Answer
         requires { self.old.failed ≡ false }
         ensures items { Does (step (Token kind.Name (Symbol dummy_span text.now)))
             (state_of cfg.now (W.sheet wr.old) self.old)
             (state_of cfg.now (W.sheet wr.new) self.new) result }
-        ensures level { OnOk result ((W.sheet wr.new).indentation ≡ (W.sheet wr.old).indentation) }
+        ensures level { Stays (W.sheet wr.old) (W.sheet wr.new) result }
     {
-        let done = self.puts_symbol(cfg, wr, text);
+        let done = self.call_symbol(cfg, wr, text);
         self.answer(done)
     }
 
@@ -285,7 +238,7 @@ impl LowerEmitter {
         ensures items { Does (step (Token kind.Name (Symbol dummy_span text.now)))
             (state_of cfg.now (W.sheet wr.old) self.old)
             (state_of cfg.now (W.sheet wr.new) self.new) (answered result self.new.reason) }
-        ensures level { OnOk (answered result self.new.reason) ((W.sheet wr.new).indentation ≡ (W.sheet wr.old).indentation) }
+        ensures level { Stays (W.sheet wr.old) (W.sheet wr.new) (answered result self.new.reason) }
     {
         let _ = cfg;
         let last = PreviousToken::WordEnd;
@@ -303,7 +256,7 @@ impl LowerEmitter {
         ensures items { Does (step (Token kind.Name (Symbol dummy_span text.now)))
             (state_of cfg.now (W.sheet wr.old) self.old)
             (state_of cfg.now (W.sheet wr.new) self.new) (answered result self.new.reason) }
-        ensures level { OnOk (answered result self.new.reason) ((W.sheet wr.new).indentation ≡ (W.sheet wr.old).indentation) }
+        ensures level { Stays (W.sheet wr.old) (W.sheet wr.new) (answered result self.new.reason) }
     {
         let _ = cfg;
         let last = PreviousToken::WordEnd;
@@ -322,30 +275,12 @@ impl LowerEmitter {
         ensures items { Does (step (Token kind.Punctuator (Punct None (spelling mark))))
             (state_of cfg.now (W.sheet wr.old) self.old)
             (state_of cfg.now (W.sheet wr.new) self.new) (answered result self.new.reason) }
-        ensures level { OnOk (answered result self.new.reason) ((W.sheet wr.new).indentation ≡ (W.sheet wr.old).indentation) }
+        ensures level { Stays (W.sheet wr.old) (W.sheet wr.new) (answered result self.new.reason) }
     {
         if !wr.is_settled() {
             return self.call_punct(cfg, wr, None, mark);
         }
         self.sends_punct(cfg, wr, mark)
-    }
-
-    /// The same, with the reason.
-    #[inline(always)]
-    pub(crate) fn put_punct<W: WriteJs>(
-        &mut self,
-        cfg: &Config,
-        wr: &mut W,
-        mark: Punctuator,
-    ) -> Answer
-        requires { self.old.failed ≡ false }
-        ensures items { Does (step (Token kind.Punctuator (Punct None (spelling mark))))
-            (state_of cfg.now (W.sheet wr.old) self.old)
-            (state_of cfg.now (W.sheet wr.new) self.new) result }
-        ensures level { OnOk result ((W.sheet wr.new).indentation ≡ (W.sheet wr.old).indentation) }
-    {
-        let done = self.puts_punct(cfg, wr, mark);
-        self.answer(done)
     }
 
     /// The same with a span, in a function of its own, which has the room for an error.
@@ -361,7 +296,7 @@ impl LowerEmitter {
         ensures items { Does (step (Token kind.Punctuator (Punct span (spelling mark))))
             (state_of cfg.now (W.sheet wr.old) self.old)
             (state_of cfg.now (W.sheet wr.new) self.new) (answered result self.new.reason) }
-        ensures level { OnOk (answered result self.new.reason) ((W.sheet wr.new).indentation ≡ (W.sheet wr.old).indentation) }
+        ensures level { Stays (W.sheet wr.old) (W.sheet wr.new) (answered result self.new.reason) }
     {
         let _ = cfg;
         let last = PreviousToken::after(self.last, mark);
@@ -383,7 +318,7 @@ impl LowerEmitter {
         ensures items { Does (step (Token kind.Punctuator (Punct (Some span) (spelling mark))))
             (state_of cfg.now (W.sheet wr.old) self.old)
             (state_of cfg.now (W.sheet wr.new) self.new) result }
-        ensures level { OnOk result ((W.sheet wr.new).indentation ≡ (W.sheet wr.old).indentation) }
+        ensures level { Stays (W.sheet wr.old) (W.sheet wr.new) result }
     {
         let done = self.call_punct(cfg, wr, Some(span), mark);
         self.answer(done)
@@ -397,7 +332,7 @@ impl LowerEmitter {
         ensures items { Does (step (Token kind.Punctuator (Punct None (spelling mark))))
             (state_of cfg.now (W.sheet wr.old) self.old)
             (state_of cfg.now (W.sheet wr.new) self.new) (answered result self.new.reason) }
-        ensures level { OnOk (answered result self.new.reason) ((W.sheet wr.new).indentation ≡ (W.sheet wr.old).indentation) }
+        ensures level { Stays (W.sheet wr.old) (W.sheet wr.new) (answered result self.new.reason) }
     {
         let _ = cfg;
         let last = PreviousToken::after(self.last, mark);
@@ -416,7 +351,7 @@ impl LowerEmitter {
         ensures items { Does (step (Token kind.Word (Keyword None text.now)))
             (state_of cfg.now (W.sheet wr.old) self.old)
             (state_of cfg.now (W.sheet wr.new) self.new) (answered result self.new.reason) }
-        ensures level { OnOk (answered result self.new.reason) ((W.sheet wr.new).indentation ≡ (W.sheet wr.old).indentation) }
+        ensures level { Stays (W.sheet wr.old) (W.sheet wr.new) (answered result self.new.reason) }
     {
         if !wr.is_settled() || !is_in_line(text.as_bytes()) {
             return self.call_keyword(cfg, wr, None, text);
@@ -424,27 +359,9 @@ impl LowerEmitter {
         self.sends_keyword(cfg, wr, text)
     }
 
-    /// The same, with the reason.
-    #[inline(always)]
-    pub(crate) fn put_keyword<W: WriteJs>(
-        &mut self,
-        cfg: &Config,
-        wr: &mut W,
-        text: &'static str,
-    ) -> Answer
-        requires { self.old.failed ≡ false }
-        ensures items { Does (step (Token kind.Word (Keyword None text.now)))
-            (state_of cfg.now (W.sheet wr.old) self.old)
-            (state_of cfg.now (W.sheet wr.new) self.new) result }
-        ensures level { OnOk result ((W.sheet wr.new).indentation ≡ (W.sheet wr.old).indentation) }
-    {
-        let done = self.puts_keyword(cfg, wr, text);
-        self.answer(done)
-    }
-
     /// The same with a span, in a function of its own, which has the room for an error.
     #[inline(never)]
-    fn call_keyword<W: WriteJs>(
+    pub(crate) fn call_keyword<W: WriteJs>(
         &mut self,
         cfg: &Config,
         wr: &mut W,
@@ -455,32 +372,13 @@ impl LowerEmitter {
         ensures items { Does (step (Token kind.Word (Keyword span text.now)))
             (state_of cfg.now (W.sheet wr.old) self.old)
             (state_of cfg.now (W.sheet wr.new) self.new) (answered result self.new.reason) }
-        ensures level { OnOk (answered result self.new.reason) ((W.sheet wr.new).indentation ≡ (W.sheet wr.old).indentation) }
+        ensures level { Stays (W.sheet wr.old) (W.sheet wr.new) (answered result self.new.reason) }
     {
         let _ = cfg;
         let last = PreviousToken::WordEnd;
         let before = self.note(last);
         let answer = wr.write_keyword(span, text);
         self.settles_noted(answer, before)
-    }
-
-    /// The same, with the reason.
-    #[inline(always)]
-    pub(crate) fn put_placed_keyword<W: WriteJs>(
-        &mut self,
-        cfg: &Config,
-        wr: &mut W,
-        span: Option<Span>,
-        text: &'static str,
-    ) -> Answer
-        requires { self.old.failed ≡ false }
-        ensures items { Does (step (Token kind.Word (Keyword span text.now)))
-            (state_of cfg.now (W.sheet wr.old) self.old)
-            (state_of cfg.now (W.sheet wr.new) self.new) result }
-        ensures level { OnOk result ((W.sheet wr.new).indentation ≡ (W.sheet wr.old).indentation) }
-    {
-        let done = self.call_keyword(cfg, wr, span, text);
-        self.answer(done)
     }
 
     /// The same without a span, of a text that stays in its line, where no semicolon is held back.
@@ -492,7 +390,7 @@ impl LowerEmitter {
         ensures items { Does (step (Token kind.Word (Keyword None text.now)))
             (state_of cfg.now (W.sheet wr.old) self.old)
             (state_of cfg.now (W.sheet wr.new) self.new) (answered result self.new.reason) }
-        ensures level { OnOk (answered result self.new.reason) ((W.sheet wr.new).indentation ≡ (W.sheet wr.old).indentation) }
+        ensures level { Stays (W.sheet wr.old) (W.sheet wr.new) (answered result self.new.reason) }
     {
         let _ = cfg;
         let last = PreviousToken::WordEnd;
@@ -504,7 +402,7 @@ impl LowerEmitter {
     pub(crate) fn puts_space<W: WriteJs>(&mut self, cfg: &Config, wr: &mut W) -> bool
         ensures items { Does (space) (state_of cfg.now (W.sheet wr.old) self.old)
             (state_of cfg.now (W.sheet wr.new) self.new) (answered result self.new.reason) }
-        ensures level { OnOk (answered result self.new.reason) ((W.sheet wr.new).indentation ≡ (W.sheet wr.old).indentation) }
+        ensures level { Stays (W.sheet wr.old) (W.sheet wr.new) (answered result self.new.reason) }
     {
         if self.failed {
             self.reason = Refusal::Failed;
@@ -516,24 +414,13 @@ impl LowerEmitter {
         self.sends_space(cfg, wr)
     }
 
-    /// The same, with the reason.
-    #[inline(always)]
-    pub(crate) fn space_here<W: WriteJs>(&mut self, cfg: &Config, wr: &mut W) -> Answer
-        ensures items { Does (space) (state_of cfg.now (W.sheet wr.old) self.old)
-            (state_of cfg.now (W.sheet wr.new) self.new) result }
-        ensures level { OnOk result ((W.sheet wr.new).indentation ≡ (W.sheet wr.old).indentation) }
-    {
-        let done = self.puts_space(cfg, wr);
-        self.answer(done)
-    }
-
     /// The same in a function of its own, which has the room for an error.
     #[inline(never)]
     fn call_space<W: WriteJs>(&mut self, cfg: &Config, wr: &mut W) -> bool
         requires { self.old.failed ≡ false }
         ensures items { Does (space) (state_of cfg.now (W.sheet wr.old) self.old)
             (state_of cfg.now (W.sheet wr.new) self.new) (answered result self.new.reason) }
-        ensures level { OnOk (answered result self.new.reason) ((W.sheet wr.new).indentation ≡ (W.sheet wr.old).indentation) }
+        ensures level { Stays (W.sheet wr.old) (W.sheet wr.new) (answered result self.new.reason) }
     {
         let _ = cfg;
         let before = self.note(PreviousToken::Separated);
@@ -548,7 +435,7 @@ impl LowerEmitter {
         requires settled { is_settled (W.sheet wr.old).semicolons ≡ true }
         ensures items { Does (space) (state_of cfg.now (W.sheet wr.old) self.old)
             (state_of cfg.now (W.sheet wr.new) self.new) (answered result self.new.reason) }
-        ensures level { OnOk (answered result self.new.reason) ((W.sheet wr.new).indentation ≡ (W.sheet wr.old).indentation) }
+        ensures level { Stays (W.sheet wr.old) (W.sheet wr.new) (answered result self.new.reason) }
     {
         let _ = cfg;
         self.sends(wr, " ", PreviousToken::Separated)

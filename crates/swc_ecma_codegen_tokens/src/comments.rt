@@ -1,10 +1,10 @@
 //! Comments that are taken out of the maps and written.
 
-ghost use Rattle.std.specs.Prelude.{◌≡◌, OnOk, codes, string_bytes};
+ghost use Rattle.std.specs.Prelude.{codes, string_bytes};
 ghost use Rattle.swc_ecma_codegen_grammar.specs.declared.comments.CommentKind.TheVariants.{Line as OfLine, Block as OfBlock};
 ghost use Rattle.swc_ecma_codegen_text_writer.specs.Sheet.{Comment as Piece};
 ghost use Rattle.swc_ecma_codegen_grammar.specs.Comments.{maps_in};
-ghost use Rattle.swc_ecma_codegen_tokens.specs.Run.{Does, DoesTaking, step, Guard, Plain, CommentText};
+ghost use Rattle.swc_ecma_codegen_tokens.specs.Run.{Does, DoesTaking, step, Guard, Plain, CommentText, Stays};
 ghost use Rattle.swc_ecma_codegen_tokens.specs.Words.{comment_blank, before_closing, comment_by, comment, comments, leading_comments, trailing_comments, comments_before_end};
 ghost use Rattle.swc_ecma_codegen_tokens.specs.View.{state_of};
 
@@ -24,7 +24,7 @@ impl LowerEmitter {
         ensures items { Does (step (Plain (Piece text.now)))
             (state_of cfg.now (W.sheet wr.old) self.old)
             (state_of cfg.now (W.sheet wr.new) self.new) result }
-        ensures level { OnOk result ((W.sheet wr.new).indentation ≡ (W.sheet wr.old).indentation) }
+        ensures level { Stays (W.sheet wr.old) (W.sheet wr.new) result }
     {
         let _ = cfg;
         if self.failed {
@@ -41,7 +41,7 @@ impl LowerEmitter {
         ensures items { Does (step (CommentText text.now))
             (state_of cfg.now (W.sheet wr.old) self.old)
             (state_of cfg.now (W.sheet wr.new) self.new) result }
-        ensures level { OnOk result ((W.sheet wr.new).indentation ≡ (W.sheet wr.old).indentation) }
+        ensures level { Stays (W.sheet wr.old) (W.sheet wr.new) result }
     {
         let _ = cfg;
         if self.failed {
@@ -58,7 +58,7 @@ impl LowerEmitter {
         ensures items { Does (step (Guard (codes "//")))
             (state_of cfg.now (W.sheet wr.old) self.old)
             (state_of cfg.now (W.sheet wr.new) self.new) result }
-        ensures level { OnOk result ((W.sheet wr.new).indentation ≡ (W.sheet wr.old).indentation) }
+        ensures level { Stays (W.sheet wr.old) (W.sheet wr.new) result }
     {
         self.guard(cfg, wr, "//", StartClass::of_mark(Punctuator::Slash))
     }
@@ -69,7 +69,7 @@ impl LowerEmitter {
         ensures items { Does (step (Guard (codes "/*")))
             (state_of cfg.now (W.sheet wr.old) self.old)
             (state_of cfg.now (W.sheet wr.new) self.new) result }
-        ensures level { OnOk result ((W.sheet wr.new).indentation ≡ (W.sheet wr.old).indentation) }
+        ensures level { Stays (W.sheet wr.old) (W.sheet wr.new) result }
     {
         self.guard(cfg, wr, "/*", StartClass::of_mark(Punctuator::Slash))
     }
@@ -79,7 +79,7 @@ impl LowerEmitter {
     fn before_closing<W: WriteJs>(&mut self, cfg: &Config, wr: &mut W, pos: BytePos) -> Answer
         ensures items { Does (before_closing pos) (state_of cfg.now (W.sheet wr.old) self.old)
             (state_of cfg.now (W.sheet wr.new) self.new) result }
-        ensures level { OnOk result ((W.sheet wr.new).indentation ≡ (W.sheet wr.old).indentation) }
+        ensures level { Stays (W.sheet wr.old) (W.sheet wr.new) result }
     {
         if 2 < pos.0 {
             return self.record(cfg, wr, BytePos(pos.0 - 2));
@@ -93,7 +93,7 @@ impl LowerEmitter {
         ensures items { Does (comment_by OfLine node.now.span (string_bytes node.now.text))
             (state_of cfg.now (W.sheet wr.old) self.old)
             (state_of cfg.now (W.sheet wr.new) self.new) result }
-        ensures level { OnOk result ((W.sheet wr.new).indentation ≡ (W.sheet wr.old).indentation) }
+        ensures level { Stays (W.sheet wr.old) (W.sheet wr.new) result }
     {
         self.position(cfg, wr, node.span.lo)?;
         self.guard_line_comment(cfg, wr)?;
@@ -109,7 +109,7 @@ impl LowerEmitter {
         ensures items { Does (comment_by OfBlock node.now.span (string_bytes node.now.text))
             (state_of cfg.now (W.sheet wr.old) self.old)
             (state_of cfg.now (W.sheet wr.new) self.new) result }
-        ensures level { OnOk result ((W.sheet wr.new).indentation ≡ (W.sheet wr.old).indentation) }
+        ensures level { Stays (W.sheet wr.old) (W.sheet wr.new) result }
     {
         self.position(cfg, wr, node.span.lo)?;
         self.guard_block_comment(cfg, wr)?;
@@ -125,7 +125,7 @@ impl LowerEmitter {
     fn comment_blank<W: WriteJs>(&mut self, cfg: &Config, wr: &mut W, wanted: bool) -> Answer
         ensures items { Does (comment_blank wanted) (state_of cfg.now (W.sheet wr.old) self.old)
             (state_of cfg.now (W.sheet wr.new) self.new) result }
-        ensures level { OnOk result ((W.sheet wr.new).indentation ≡ (W.sheet wr.old).indentation) }
+        ensures level { Stays (W.sheet wr.old) (W.sheet wr.new) result }
     {
         if !wanted {
             return Ok(());
@@ -148,7 +148,7 @@ impl LowerEmitter {
         ensures items { Does (comment prefix_space node.now)
             (state_of cfg.now (W.sheet wr.old) self.old)
             (state_of cfg.now (W.sheet wr.new) self.new) result }
-        ensures level { OnOk result ((W.sheet wr.new).indentation ≡ (W.sheet wr.old).indentation) }
+        ensures level { Stays (W.sheet wr.old) (W.sheet wr.new) result }
     {
         self.comment_blank(cfg, wr, prefix_space)?;
         match node.kind {
@@ -168,7 +168,7 @@ impl LowerEmitter {
         ensures items { Does (comments prefix_space nodes.now)
             (state_of cfg.now (W.sheet wr.old) self.old)
             (state_of cfg.now (W.sheet wr.new) self.new) result }
-        ensures level { OnOk result ((W.sheet wr.new).indentation ≡ (W.sheet wr.old).indentation) }
+        ensures level { Stays (W.sheet wr.old) (W.sheet wr.new) result }
     {
         for node in nodes {
             match self.comment(cfg, wr, node, prefix_space) {
@@ -192,7 +192,7 @@ impl LowerEmitter {
         ensures items { DoesTaking (leading_comments pos) (maps_in C.maps comments.old)
             (maps_in C.maps comments.new) (state_of cfg.now (W.sheet wr.old) self.old)
             (state_of cfg.now (W.sheet wr.new) self.new) result }
-        ensures level { OnOk result ((W.sheet wr.new).indentation ≡ (W.sheet wr.old).indentation) }
+        ensures level { Stays (W.sheet wr.old) (W.sheet wr.new) result }
     {
         if comments.is_none() {
             return Ok(());
@@ -212,7 +212,7 @@ impl LowerEmitter {
         ensures items { DoesTaking (leading_comments pos) (maps_in C.maps comments.old)
             (maps_in C.maps comments.new) (state_of cfg.now (W.sheet wr.old) self.old)
             (state_of cfg.now (W.sheet wr.new) self.new) result }
-        ensures level { OnOk result ((W.sheet wr.new).indentation ≡ (W.sheet wr.old).indentation) }
+        ensures level { Stays (W.sheet wr.old) (W.sheet wr.new) result }
     {
         if self.failed {
             return Err(Refusal::Failed);
@@ -240,7 +240,7 @@ impl LowerEmitter {
         ensures items { DoesTaking (comments_before_end pos) (maps_in C.maps comments.old)
             (maps_in C.maps comments.new) (state_of cfg.now (W.sheet wr.old) self.old)
             (state_of cfg.now (W.sheet wr.new) self.new) result }
-        ensures level { OnOk result ((W.sheet wr.new).indentation ≡ (W.sheet wr.old).indentation) }
+        ensures level { Stays (W.sheet wr.old) (W.sheet wr.new) result }
     {
         if self.failed {
             return Err(Refusal::Failed);
@@ -270,7 +270,7 @@ impl LowerEmitter {
             (maps_in C.maps comments.old) (maps_in C.maps comments.new)
             (state_of cfg.now (W.sheet wr.old) self.old)
             (state_of cfg.now (W.sheet wr.new) self.new) result }
-        ensures level { OnOk result ((W.sheet wr.new).indentation ≡ (W.sheet wr.old).indentation) }
+        ensures level { Stays (W.sheet wr.old) (W.sheet wr.new) result }
     {
         if self.failed {
             return Err(Refusal::Failed);

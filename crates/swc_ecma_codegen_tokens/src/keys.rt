@@ -1,12 +1,12 @@
 //! Names as keys of properties.
 
-ghost use Rattle.std.specs.Prelude.{◌≡◌, OnOk, false, true};
+ghost use Rattle.std.specs.Prelude.{◌≡◌, false, true};
 ghost use Rattle.swc_ecma_codegen_spans.specs.Spans.{dummy_span};
 ghost use Rattle.swc_ecma_codegen_grammar.specs.declared.kinds.Kind.TheVariants as kinds;
 ghost use Rattle.swc_ecma_codegen_text_writer.specs.Sheet.{Symbol};
 ghost use Rattle.swc_ecma_codegen_tokens.specs.Keys.{quoted_key, ascii_key, bare_key, plain_key, spelled_key, valid_key, key_text, key};
 ghost use Rattle.swc_ecma_codegen_grammar.specs.Comments.{maps_in};
-ghost use Rattle.swc_ecma_codegen_tokens.specs.Run.{DoesTaking, Does, step, Token};
+ghost use Rattle.swc_ecma_codegen_tokens.specs.Run.{DoesTaking, Does, step, Token, Stays};
 ghost use Rattle.swc_ecma_codegen_tokens.specs.Targets.{wants_escapes};
 ghost use Rattle.swc_ecma_codegen_grammar.specs.Phrases.{KeyOf};
 ghost use Rattle.swc_ecma_codegen_tokens.specs.Adds.{AddsTaking};
@@ -30,7 +30,7 @@ impl LowerEmitter {
         ensures items { Does (step (Token kinds.Str (Symbol dummy_span text.now)))
             (state_of cfg.now (W.sheet wr.old) self.old)
             (state_of cfg.now (W.sheet wr.new) self.new) result }
-        ensures level { OnOk result ((W.sheet wr.new).indentation ≡ (W.sheet wr.old).indentation) }
+        ensures level { Stays (W.sheet wr.old) (W.sheet wr.new) result }
     {
         let _ = cfg;
         let answer = wr.write_symbol(DUMMY_SP, text);
@@ -42,7 +42,7 @@ impl LowerEmitter {
     fn quoted_key<W: WriteJs>(&mut self, cfg: &Config, wr: &mut W, span: Span, text: &str) -> Answer
         ensures items { Does (quoted_key span text.now) (state_of cfg.now (W.sheet wr.old) self.old)
             (state_of cfg.now (W.sheet wr.new) self.new) result }
-        ensures level { OnOk result ((W.sheet wr.new).indentation ≡ (W.sheet wr.old).indentation) }
+        ensures level { Stays (W.sheet wr.old) (W.sheet wr.new) result }
     {
         self.guard(cfg, wr, text, StartClass::of_text(text))?;
         self.position(cfg, wr, span.lo)?;
@@ -63,7 +63,7 @@ impl LowerEmitter {
         ensures items { Does (ascii_key quoted span text.now)
             (state_of cfg.now (W.sheet wr.old) self.old)
             (state_of cfg.now (W.sheet wr.new) self.new) result }
-        ensures level { OnOk result ((W.sheet wr.new).indentation ≡ (W.sheet wr.old).indentation) }
+        ensures level { Stays (W.sheet wr.old) (W.sheet wr.new) result }
     {
         if quoted {
             self.quoted_key(cfg, wr, span, text)?;
@@ -85,7 +85,7 @@ impl LowerEmitter {
         ensures items { Does (spelled_key span text.now)
             (state_of cfg.now (W.sheet wr.old) self.old)
             (state_of cfg.now (W.sheet wr.new) self.new) result }
-        ensures level { OnOk result ((W.sheet wr.new).indentation ≡ (W.sheet wr.old).indentation) }
+        ensures level { Stays (W.sheet wr.old) (W.sheet wr.new) result }
     {
         if self.failed {
             return Err(Refusal::Failed);
@@ -113,7 +113,7 @@ impl LowerEmitter {
         ensures items { DoesTaking (bare_key span text.now) (maps_in C.maps comments.old)
             (maps_in C.maps comments.new) (state_of cfg.now (W.sheet wr.old) self.old)
             (state_of cfg.now (W.sheet wr.new) self.new) result }
-        ensures level { OnOk result ((W.sheet wr.new).indentation ≡ (W.sheet wr.old).indentation) }
+        ensures level { Stays (W.sheet wr.old) (W.sheet wr.new) result }
     {
         self.guard(cfg, wr, text, StartClass::of_text(text))?;
         self.position(cfg, wr, span.lo)?;
@@ -135,7 +135,7 @@ impl LowerEmitter {
         ensures items { DoesTaking (plain_key span text.now) (maps_in C.maps comments.old)
             (maps_in C.maps comments.new) (state_of cfg.now (W.sheet wr.old) self.old)
             (state_of cfg.now (W.sheet wr.new) self.new) result }
-        ensures level { OnOk result ((W.sheet wr.new).indentation ≡ (W.sheet wr.old).indentation) }
+        ensures level { Stays (W.sheet wr.old) (W.sheet wr.new) result }
     {
         if cfg.ascii_only {
             return self.symbol(cfg, wr, span, text);
@@ -155,7 +155,7 @@ impl LowerEmitter {
         ensures items { DoesTaking (spelled_key span text.now) (maps_in C.maps comments.old)
             (maps_in C.maps comments.new) (state_of cfg.now (W.sheet wr.old) self.old)
             (state_of cfg.now (W.sheet wr.new) self.new) result }
-        ensures level { OnOk result ((W.sheet wr.new).indentation ≡ (W.sheet wr.old).indentation) }
+        ensures level { Stays (W.sheet wr.old) (W.sheet wr.new) result }
     {
         if wants_escapes(cfg, text) {
             return self.escaped_key(cfg, wr, span, text);
@@ -176,7 +176,7 @@ impl LowerEmitter {
         ensures items { DoesTaking (valid_key span name.now) (maps_in C.maps comments.old)
             (maps_in C.maps comments.new) (state_of cfg.now (W.sheet wr.old) self.old)
             (state_of cfg.now (W.sheet wr.new) self.new) result }
-        ensures level { OnOk result ((W.sheet wr.new).indentation ≡ (W.sheet wr.old).indentation) }
+        ensures level { Stays (W.sheet wr.old) (W.sheet wr.new) result }
     {
         if self.failed {
             return Err(Refusal::Failed);
@@ -206,7 +206,7 @@ impl LowerEmitter {
         ensures items { DoesTaking (key_text span sym.now) (maps_in C.maps comments.old)
             (maps_in C.maps comments.new) (state_of cfg.now (W.sheet wr.old) self.old)
             (state_of cfg.now (W.sheet wr.new) self.new) result }
-        ensures level { OnOk result ((W.sheet wr.new).indentation ≡ (W.sheet wr.old).indentation) }
+        ensures level { Stays (W.sheet wr.old) (W.sheet wr.new) result }
     {
         if wr.can_ignore_invalid_unicodes() {
             return self.spelled_key(cfg, comments, wr, span, sym);
@@ -230,7 +230,7 @@ impl LowerEmitter {
         ensures reads { (W.sheet wr.old).keeps_invalid ≡ false →
             AddsTaking (KeyOf span.lo sym.now) (key span sym.now) (maps_in C.maps comments.old)
             cfg.now (W.sheet wr.old) self.old (W.sheet wr.new) self.new result }
-        ensures level { OnOk result ((W.sheet wr.new).indentation ≡ (W.sheet wr.old).indentation) }
+        ensures level { Stays (W.sheet wr.old) (W.sheet wr.new) result }
     {
         self.leading_comments(cfg, comments, wr, span.lo)?;
         self.commit_pending_semi(cfg, wr)?;

@@ -1,9 +1,9 @@
 //! Line ends, lines of a greatest length, and where those may be ended.
 
-ghost use Rattle.std.specs.Prelude.{◌≡◌, ◌&&◌, is_some, OnOk};
+ghost use Rattle.std.specs.Prelude.{◌≡◌, ◌&&◌, is_some};
 ghost use Rattle.swc_ecma_codegen_literals.specs.Punctuators.{spelling};
 ghost use Rattle.swc_ecma_codegen_text_writer.specs.Sheet.{AllowBreak, answered};
-ghost use Rattle.swc_ecma_codegen_tokens.specs.Run.{Does, step, Plain};
+ghost use Rattle.swc_ecma_codegen_tokens.specs.Run.{Does, step, Plain, Stays};
 ghost use Rattle.swc_ecma_codegen_tokens.specs.Words.{formatting_line, line_end, begin_lines, end_lines, allow_break, allows_break, break_behind};
 ghost use Rattle.swc_ecma_codegen_tokens.specs.View.{state_of};
 
@@ -44,8 +44,7 @@ impl LowerEmitter {
     pub fn writes_line<W: WriteJs>(&mut self, cfg: &Config, wr: &mut W) -> bool
         ensures items { Does (line_end) (state_of cfg.now (W.sheet wr.old) self.old)
             (state_of cfg.now (W.sheet wr.new) self.new) (answered result self.new.reason) }
-        ensures level { OnOk (answered result self.new.reason)
-            ((W.sheet wr.new).indentation ≡ (W.sheet wr.old).indentation) }
+        ensures level { Stays (W.sheet wr.old) (W.sheet wr.new) (answered result self.new.reason) }
     {
         let _ = cfg;
         if self.failed {
@@ -62,7 +61,7 @@ impl LowerEmitter {
     pub fn line<W: WriteJs>(&mut self, cfg: &Config, wr: &mut W) -> Answer
         ensures items { Does (line_end) (state_of cfg.now (W.sheet wr.old) self.old)
             (state_of cfg.now (W.sheet wr.new) self.new) result }
-        ensures level { OnOk result ((W.sheet wr.new).indentation ≡ (W.sheet wr.old).indentation) }
+        ensures level { Stays (W.sheet wr.old) (W.sheet wr.new) result }
     {
         let done = self.writes_line(cfg, wr);
         self.answer(done)
@@ -73,7 +72,7 @@ impl LowerEmitter {
     pub fn begin_lines<W: WriteJs>(&mut self, cfg: &Config, wr: &mut W, max: u32) -> Answer
         ensures items { Does (begin_lines max) (state_of cfg.now (W.sheet wr.old) self.old)
             (state_of cfg.now (W.sheet wr.new) self.new) result }
-        ensures level { OnOk result ((W.sheet wr.new).indentation ≡ (W.sheet wr.old).indentation) }
+        ensures level { Stays (W.sheet wr.old) (W.sheet wr.new) result }
     {
         let _ = cfg;
         if self.failed {
@@ -88,7 +87,7 @@ impl LowerEmitter {
     pub fn end_lines<W: WriteJs>(&mut self, cfg: &Config, wr: &mut W) -> Answer
         ensures items { Does (end_lines) (state_of cfg.now (W.sheet wr.old) self.old)
             (state_of cfg.now (W.sheet wr.new) self.new) result }
-        ensures level { OnOk result ((W.sheet wr.new).indentation ≡ (W.sheet wr.old).indentation) }
+        ensures level { Stays (W.sheet wr.old) (W.sheet wr.new) result }
     {
         let _ = cfg;
         if self.failed {
@@ -104,7 +103,7 @@ impl LowerEmitter {
     pub fn allow_break<W: WriteJs>(&mut self, cfg: &Config, wr: &mut W) -> Answer
         ensures items { Does allow_break (state_of cfg.now (W.sheet wr.old) self.old)
             (state_of cfg.now (W.sheet wr.new) self.new) result }
-        ensures level { OnOk result ((W.sheet wr.new).indentation ≡ (W.sheet wr.old).indentation) }
+        ensures level { Stays (W.sheet wr.old) (W.sheet wr.new) result }
     {
         if !is_bounded(cfg) {
             return Ok(());
@@ -124,7 +123,7 @@ impl LowerEmitter {
         ensures items { Does (break_behind (spelling mark))
             (state_of cfg.now (W.sheet wr.old) self.old)
             (state_of cfg.now (W.sheet wr.new) self.new) result }
-        ensures level { OnOk result ((W.sheet wr.new).indentation ≡ (W.sheet wr.old).indentation) }
+        ensures level { Stays (W.sheet wr.old) (W.sheet wr.new) result }
     {
         // Asked first, since mostly lines aren't bounded.
         if !is_bounded(cfg) {
@@ -141,7 +140,7 @@ impl LowerEmitter {
     fn put_break<W: WriteJs>(&mut self, cfg: &Config, wr: &mut W) -> Answer
         ensures items { Does (step (Plain AllowBreak)) (state_of cfg.now (W.sheet wr.old) self.old)
             (state_of cfg.now (W.sheet wr.new) self.new) result }
-        ensures level { OnOk result ((W.sheet wr.new).indentation ≡ (W.sheet wr.old).indentation) }
+        ensures level { Stays (W.sheet wr.old) (W.sheet wr.new) result }
     {
         let _ = cfg;
         if self.failed {
@@ -151,16 +150,27 @@ impl LowerEmitter {
         self.keep(answer)
     }
 
-    /// Ends the line, unless the settings are to minify.
+    /// Ends the line, unless the settings are to minify. Whether that was done: else `reason` says why not.
+    #[inline(always)]
     #[tactic(auto, unfolding(crate::specs::Words::formatting_line), using(crate::proofs::Emission::Calls::skipped, crate::proofs::Emission::Calls::not_skipped))]
+    pub fn writes_formatting_line<W: WriteJs>(&mut self, cfg: &Config, wr: &mut W) -> bool
+        ensures items { Does formatting_line (state_of cfg.now (W.sheet wr.old) self.old)
+            (state_of cfg.now (W.sheet wr.new) self.new) (answered result self.new.reason) }
+        ensures level { Stays (W.sheet wr.old) (W.sheet wr.new) (answered result self.new.reason) }
+    {
+        if cfg.minify {
+            return true;
+        }
+        self.writes_line(cfg, wr)
+    }
+
+    /// The same, with the reason.
     pub fn formatting_line<W: WriteJs>(&mut self, cfg: &Config, wr: &mut W) -> Answer
         ensures items { Does formatting_line (state_of cfg.now (W.sheet wr.old) self.old)
             (state_of cfg.now (W.sheet wr.new) self.new) result }
-        ensures level { OnOk result ((W.sheet wr.new).indentation ≡ (W.sheet wr.old).indentation) }
+        ensures level { Stays (W.sheet wr.old) (W.sheet wr.new) result }
     {
-        if cfg.minify {
-            return Ok(());
-        }
-        self.line(cfg, wr)
+        let done = self.writes_formatting_line(cfg, wr);
+        self.answer(done)
     }
 }

@@ -1,12 +1,12 @@
 //! The trailing comma of a list.
 
-ghost use Rattle.std.specs.Prelude.{◌≡◌, ◌==◌, if◌then◌else◌, false, true, OnOk, IfOk, IfErr};
+ghost use Rattle.std.specs.Prelude.{◌≡◌, ◌==◌, if◌then◌else◌, false, true, IfOk, IfErr};
 ghost use Rattle.std.specs.Char.{is_whitespace};
 ghost use Rattle.std.specs.Str.{chars};
 ghost use Rattle.swc_ecma_codegen_common.specs.declared.errors.Error.TheVariants.{OutOfMemory};
 ghost use Rattle.swc_ecma_codegen_grammar.specs.CommentMaps.{Maps};
 ghost use Rattle.swc_ecma_codegen_tokens.specs.Adds.{Adds, comma_tokens, stands_with_comma, wants_comma, ends_with_comma};
-ghost use Rattle.swc_ecma_codegen_tokens.specs.Run.{Does, Emits, at_source};
+ghost use Rattle.swc_ecma_codegen_tokens.specs.Run.{Does, Emits, at_source, Stays};
 ghost use Rattle.swc_ecma_codegen_tokens.specs.Lists.{comma_before_end, has_trailing_comma, source_has_comma, comma_if, source_comma, wanted_comma, may_have_comma, trailing_comma};
 ghost use Rattle.swc_ecma_codegen_tokens.specs.View.{state_of};
 
@@ -82,7 +82,7 @@ impl LowerEmitter {
             (state_of cfg.now (W.sheet wr.new) self.new) result }
         ensures reads { Adds (comma_tokens wanted)
             cfg.now (W.sheet wr.old) self.old (W.sheet wr.new) self.new result }
-        ensures level { OnOk result ((W.sheet wr.new).indentation ≡ (W.sheet wr.old).indentation) }
+        ensures level { Stays (W.sheet wr.old) (W.sheet wr.new) result }
     {
         if wanted {
             self.punct(cfg, wr, Punctuator::Comma)?;
@@ -106,7 +106,7 @@ impl LowerEmitter {
             (at_source (S.lines cm.now) maps (state_of cfg.now (W.sheet wr.new) self.new)) result }
         ensures reads { Adds (comma_tokens (stands_with_comma (S.lines cm.now) parent))
             cfg.now (W.sheet wr.old) self.old (W.sheet wr.new) self.new result }
-        ensures level { OnOk result ((W.sheet wr.new).indentation ≡ (W.sheet wr.old).indentation) }
+        ensures level { Stays (W.sheet wr.old) (W.sheet wr.new) result }
     {
         if parent.lo.0 == 0 {
             return Ok(());
@@ -139,7 +139,7 @@ impl LowerEmitter {
             (at_source (S.lines cm.now) maps (state_of cfg.now (W.sheet wr.new) self.new)) result }
         ensures reads { Adds (comma_tokens (wants_comma (S.lines cm.now) format.0 parent))
             cfg.now (W.sheet wr.old) self.old (W.sheet wr.new) self.new result }
-        ensures level { OnOk result ((W.sheet wr.new).indentation ≡ (W.sheet wr.old).indentation) }
+        ensures level { Stays (W.sheet wr.old) (W.sheet wr.new) result }
     {
         if format.contains(ListFormat::ForceTrailingComma) {
             return self.comma_if(cfg, wr, true);
@@ -167,7 +167,7 @@ impl LowerEmitter {
         ensures reads { Adds (comma_tokens
             (ends_with_comma (S.lines cm.now) cfg.now format.0 parent))
             cfg.now (W.sheet wr.old) self.old (W.sheet wr.new) self.new result }
-        ensures level { OnOk result ((W.sheet wr.new).indentation ≡ (W.sheet wr.old).indentation) }
+        ensures level { Stays (W.sheet wr.old) (W.sheet wr.new) result }
     {
         if !may_have_comma(cfg, format) {
             return Ok(());

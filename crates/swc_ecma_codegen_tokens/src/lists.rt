@@ -3,7 +3,7 @@
 ghost use Rattle.std.specs.Prelude.{◌≡◌, true, ◌+◌, ◌<◌, ◌≤◌, OnOk};
 ghost use Rattle.swc_ecma_codegen_grammar.specs.Comments.{maps_in};
 ghost use Rattle.swc_ecma_codegen_tokens.specs.Adds.{Adds, tokens_between};
-ghost use Rattle.swc_ecma_codegen_tokens.specs.Run.{DoesTaking, Does};
+ghost use Rattle.swc_ecma_codegen_tokens.specs.Run.{DoesTaking, Does, Stays};
 ghost use Rattle.swc_ecma_codegen_tokens.specs.Lists.{blank_if, line_or_blank, deeper, formatting_deeper, deeper_if, shallower, formatting_shallower, shallower_if, opening, delimiter, separator, child_comments, closing, empty_list, level_if, list_levels};
 ghost use Rattle.swc_ecma_codegen_tokens.specs.View.{state_of};
 
@@ -22,7 +22,7 @@ impl LowerEmitter {
     fn blank_if<W: WriteJs>(&mut self, cfg: &Config, wr: &mut W, wanted: bool) -> Answer
         ensures items { Does (blank_if wanted) (state_of cfg.now (W.sheet wr.old) self.old)
             (state_of cfg.now (W.sheet wr.new) self.new) result }
-        ensures level { OnOk result ((W.sheet wr.new).indentation ≡ (W.sheet wr.old).indentation) }
+        ensures level { Stays (W.sheet wr.old) (W.sheet wr.new) result }
     {
         if wanted {
             self.formatting_space(cfg, wr)?;
@@ -42,7 +42,7 @@ impl LowerEmitter {
         ensures items { Does (line_or_blank line wanted)
             (state_of cfg.now (W.sheet wr.old) self.old)
             (state_of cfg.now (W.sheet wr.new) self.new) result }
-        ensures level { OnOk result ((W.sheet wr.new).indentation ≡ (W.sheet wr.old).indentation) }
+        ensures level { Stays (W.sheet wr.old) (W.sheet wr.new) result }
     {
         if line {
             self.formatting_line(cfg, wr)
@@ -173,7 +173,7 @@ impl LowerEmitter {
             (state_of cfg.now (W.sheet wr.new) self.new) result }
         ensures reads { Adds (tokens_between format.0)
             cfg.now (W.sheet wr.old) self.old (W.sheet wr.new) self.new result }
-        ensures level { OnOk result ((W.sheet wr.new).indentation ≡ (W.sheet wr.old).indentation) }
+        ensures level { Stays (W.sheet wr.old) (W.sheet wr.new) result }
     {
         if format.contains(ListFormat::CommaDelimited) {
             self.punct(cfg, wr, Punctuator::Comma)?;
@@ -200,7 +200,7 @@ impl LowerEmitter {
             (state_of cfg.now (W.sheet wr.new) self.new) result }
         ensures reads { Adds (tokens_between format.0)
             cfg.now (W.sheet wr.old) self.old (W.sheet wr.new) self.new result }
-        ensures level { OnOk result ((W.sheet wr.new).indentation ≡ (W.sheet wr.old).indentation) }
+        ensures level { Stays (W.sheet wr.old) (W.sheet wr.new) result }
     {
         self.delimiter(cfg, wr, format)?;
         self.line_or_blank(
@@ -227,7 +227,7 @@ impl LowerEmitter {
             (maps_in C.maps comments.old) (maps_in C.maps comments.new)
             (state_of cfg.now (W.sheet wr.old) self.old)
             (state_of cfg.now (W.sheet wr.new) self.new) result }
-        ensures level { OnOk result ((W.sheet wr.new).indentation ≡ (W.sheet wr.old).indentation) }
+        ensures level { Stays (W.sheet wr.old) (W.sheet wr.new) result }
     {
         if format.contains(ListFormat::NoInterveningComments) {
             return Ok(());
@@ -268,7 +268,7 @@ impl LowerEmitter {
     pub fn empty_list<W: WriteJs>(&mut self, cfg: &Config, wr: &mut W, format: ListFormat) -> Answer
         ensures items { Does (empty_list format.0) (state_of cfg.now (W.sheet wr.old) self.old)
             (state_of cfg.now (W.sheet wr.new) self.new) result }
-        ensures level { OnOk result ((W.sheet wr.new).indentation ≡ (W.sheet wr.old).indentation) }
+        ensures level { Stays (W.sheet wr.old) (W.sheet wr.new) result }
     {
         if format.contains(ListFormat::MultiLine) {
             return self.formatting_line(cfg, wr);

@@ -15,7 +15,7 @@ ghost use Rattle.swc_ecma_codegen_grammar.specs.Tokens.{token_of};
 ghost use Rattle.swc_ecma_codegen_text_writer.specs.Sheet as calls;
 ghost use Rattle.swc_ecma_codegen_text_writer.specs.Sheet.{Lit, StrLit, Punct};
 ghost use Rattle.swc_ecma_codegen_tokens.specs.PreviousToken.{last_at};
-ghost use Rattle.swc_ecma_codegen_tokens.specs.Run.{Does, step, Token, Plain, Ends};
+ghost use Rattle.swc_ecma_codegen_tokens.specs.Run.{Does, step, Token, Plain, Ends, Stays};
 ghost use Rattle.swc_ecma_codegen_tokens.specs.Literals.{size_of, signed, string, number, dotted_number, sign, number_name, big_digits, big_integer, regex_text, regex, hashbang};
 ghost use Rattle.swc_ecma_codegen_tokens.specs.Written.{IsNew, IsAtMargin, ReadsSoFar};
 ghost use Rattle.swc_ecma_codegen_tokens.specs.Adds.{Adds, sign_tokens, tokens_of_digits, tokens_of_number};
@@ -67,7 +67,7 @@ impl LowerEmitter {
         ensures items { Does (step (Token kind.Str (StrLit dummy_span text.now)))
             (state_of cfg.now (W.sheet wr.old) self.old)
             (state_of cfg.now (W.sheet wr.new) self.new) result }
-        ensures level { OnOk result ((W.sheet wr.new).indentation ≡ (W.sheet wr.old).indentation) }
+        ensures level { Stays (W.sheet wr.old) (W.sheet wr.new) result }
     {
         let _ = cfg;
         let answer = wr.write_str_lit(DUMMY_SP, text);
@@ -81,7 +81,7 @@ impl LowerEmitter {
         ensures items { Does (step (Ends (signed kind.Number text.now)
             (StrLit dummy_span text.now))) (state_of cfg.now (W.sheet wr.old) self.old)
             (state_of cfg.now (W.sheet wr.new) self.new) result }
-        ensures level { OnOk result ((W.sheet wr.new).indentation ≡ (W.sheet wr.old).indentation) }
+        ensures level { Stays (W.sheet wr.old) (W.sheet wr.new) result }
     {
         let _ = cfg;
         let last = number_end(size_of(text));
@@ -96,7 +96,7 @@ impl LowerEmitter {
         ensures items { Does (step (Plain (StrLit dummy_span text.now)))
             (state_of cfg.now (W.sheet wr.old) self.old)
             (state_of cfg.now (W.sheet wr.new) self.new) result }
-        ensures level { OnOk result ((W.sheet wr.new).indentation ≡ (W.sheet wr.old).indentation) }
+        ensures level { Stays (W.sheet wr.old) (W.sheet wr.new) result }
         ensures fresh { OnOk result (self.new.failed ≡ false) }
     {
         let _ = cfg;
@@ -112,7 +112,7 @@ impl LowerEmitter {
         ensures items { Does (step (Ends (signed kind.Number (text.now ++ codes "."))
             (Punct None (codes ".")))) (state_of cfg.now (W.sheet wr.old) self.old)
             (state_of cfg.now (W.sheet wr.new) self.new) result }
-        ensures level { OnOk result ((W.sheet wr.new).indentation ≡ (W.sheet wr.old).indentation) }
+        ensures level { Stays (W.sheet wr.old) (W.sheet wr.new) result }
     {
         let _ = cfg;
         let _ = text;
@@ -127,7 +127,7 @@ impl LowerEmitter {
         ensures items { Does (step (Token kind.Punctuator (StrLit span (codes "-"))))
             (state_of cfg.now (W.sheet wr.old) self.old)
             (state_of cfg.now (W.sheet wr.new) self.new) result }
-        ensures level { OnOk result ((W.sheet wr.new).indentation ≡ (W.sheet wr.old).indentation) }
+        ensures level { Stays (W.sheet wr.old) (W.sheet wr.new) result }
     {
         let _ = cfg;
         let last = PreviousToken::after(self.last, Punctuator::Minus);
@@ -148,7 +148,7 @@ impl LowerEmitter {
         ensures items { Does (step (Token kind.Name (StrLit span text.now)))
             (state_of cfg.now (W.sheet wr.old) self.old)
             (state_of cfg.now (W.sheet wr.new) self.new) result }
-        ensures level { OnOk result ((W.sheet wr.new).indentation ≡ (W.sheet wr.old).indentation) }
+        ensures level { Stays (W.sheet wr.old) (W.sheet wr.new) result }
     {
         let _ = cfg;
         let answer = wr.write_str_lit(span, text);
@@ -162,7 +162,7 @@ impl LowerEmitter {
         ensures items { Does (step (Plain (Lit span text.now)))
             (state_of cfg.now (W.sheet wr.old) self.old)
             (state_of cfg.now (W.sheet wr.new) self.new) result }
-        ensures level { OnOk result ((W.sheet wr.new).indentation ≡ (W.sheet wr.old).indentation) }
+        ensures level { Stays (W.sheet wr.old) (W.sheet wr.new) result }
         ensures fresh { OnOk result (self.new.failed ≡ false) }
     {
         let _ = cfg;
@@ -177,7 +177,7 @@ impl LowerEmitter {
         ensures items { Does (step (Ends (signed kind.BigInt (text.now ++ codes "n"))
             (Lit span (codes "n")))) (state_of cfg.now (W.sheet wr.old) self.old)
             (state_of cfg.now (W.sheet wr.new) self.new) result }
-        ensures level { OnOk result ((W.sheet wr.new).indentation ≡ (W.sheet wr.old).indentation) }
+        ensures level { Stays (W.sheet wr.old) (W.sheet wr.new) result }
     {
         let _ = cfg;
         let _ = text;
@@ -198,7 +198,7 @@ impl LowerEmitter {
         ensures items { Does (step (Token kind.BigInt (StrLit span text.now)))
             (state_of cfg.now (W.sheet wr.old) self.old)
             (state_of cfg.now (W.sheet wr.new) self.new) result }
-        ensures level { OnOk result ((W.sheet wr.new).indentation ≡ (W.sheet wr.old).indentation) }
+        ensures level { Stays (W.sheet wr.old) (W.sheet wr.new) result }
     {
         let _ = cfg;
         let last = number_end(text);
@@ -213,7 +213,7 @@ impl LowerEmitter {
         ensures items { Does (step (Plain (Punct None (codes "/"))))
             (state_of cfg.now (W.sheet wr.old) self.old)
             (state_of cfg.now (W.sheet wr.new) self.new) result }
-        ensures level { OnOk result ((W.sheet wr.new).indentation ≡ (W.sheet wr.old).indentation) }
+        ensures level { Stays (W.sheet wr.old) (W.sheet wr.new) result }
         ensures fresh { OnOk result (self.new.failed ≡ false) }
     {
         let _ = cfg;
@@ -228,7 +228,7 @@ impl LowerEmitter {
         ensures items { Does (step (Plain (calls.Str text.now)))
             (state_of cfg.now (W.sheet wr.old) self.old)
             (state_of cfg.now (W.sheet wr.new) self.new) result }
-        ensures level { OnOk result ((W.sheet wr.new).indentation ≡ (W.sheet wr.old).indentation) }
+        ensures level { Stays (W.sheet wr.old) (W.sheet wr.new) result }
         ensures fresh { OnOk result (self.new.failed ≡ false) }
     {
         let _ = cfg;
@@ -243,7 +243,7 @@ impl LowerEmitter {
         ensures items { Does (step (Ends ((kind.Regex, regex_text exp.now flags.now) ∷ [])
             (calls.Str flags.now))) (state_of cfg.now (W.sheet wr.old) self.old)
             (state_of cfg.now (W.sheet wr.new) self.new) result }
-        ensures level { OnOk result ((W.sheet wr.new).indentation ≡ (W.sheet wr.old).indentation) }
+        ensures level { Stays (W.sheet wr.old) (W.sheet wr.new) result }
     {
         let _ = cfg;
         let _ = exp;
@@ -257,7 +257,7 @@ impl LowerEmitter {
         ensures items { Does (step (Plain (Punct None (codes "#!"))))
             (state_of cfg.now (W.sheet wr.old) self.old)
             (state_of cfg.now (W.sheet wr.new) self.new) result }
-        ensures level { OnOk result ((W.sheet wr.new).indentation ≡ (W.sheet wr.old).indentation) }
+        ensures level { Stays (W.sheet wr.old) (W.sheet wr.new) result }
         ensures fresh { OnOk result (self.new.failed ≡ false) }
     {
         let _ = cfg;
@@ -275,7 +275,7 @@ impl LowerEmitter {
         ensures items { Does (step (Ends ((kind.Hashbang, codes "#!" ++ text.now) ∷ [])
             (StrLit dummy_span text.now))) (state_of cfg.now (W.sheet wr.old) self.old)
             (state_of cfg.now (W.sheet wr.new) self.new) result }
-        ensures level { OnOk result ((W.sheet wr.new).indentation ≡ (W.sheet wr.old).indentation) }
+        ensures level { Stays (W.sheet wr.old) (W.sheet wr.new) result }
     {
         let _ = cfg;
         let answer = wr.write_str_lit(DUMMY_SP, text);
@@ -291,7 +291,7 @@ impl LowerEmitter {
         ensures reads { is_utf8 text.now ≡ true → is_string (chars text.now) ≡ true →
             Adds (token_of kind.Str (chars text.now) ∷ [])
             cfg.now (W.sheet wr.old) self.old (W.sheet wr.new) self.new result }
-        ensures level { OnOk result ((W.sheet wr.new).indentation ≡ (W.sheet wr.old).indentation) }
+        ensures level { Stays (W.sheet wr.old) (W.sheet wr.new) result }
     {
         self.guard(cfg, wr, text, StartClass::of_literal(text))?;
         self.put_string(cfg, wr, text)?;
@@ -307,7 +307,7 @@ impl LowerEmitter {
             is_number (chars (size_of text.now)) ≡ true →
             Adds (tokens_of_number text.now)
             cfg.now (W.sheet wr.old) self.old (W.sheet wr.new) self.new result }
-        ensures level { OnOk result ((W.sheet wr.new).indentation ≡ (W.sheet wr.old).indentation) }
+        ensures level { Stays (W.sheet wr.old) (W.sheet wr.new) result }
     {
         self.guard(cfg, wr, text, StartClass::of_literal(text))?;
         self.put_number(cfg, wr, text)?;
@@ -325,7 +325,7 @@ impl LowerEmitter {
             is_number (chars (size_of text.now)) ≡ true →
             Adds (tokens_of_number text.now)
             cfg.now (W.sheet wr.old) self.old (W.sheet wr.new) self.new result }
-        ensures level { OnOk result ((W.sheet wr.new).indentation ≡ (W.sheet wr.old).indentation) }
+        ensures level { Stays (W.sheet wr.old) (W.sheet wr.new) result }
     {
         self.guard(cfg, wr, text, StartClass::of_literal(text))?;
         self.put_before_dot(cfg, wr, text)?;
@@ -346,7 +346,7 @@ impl LowerEmitter {
             (state_of cfg.now (W.sheet wr.new) self.new) result }
         ensures reads { Adds (sign_tokens negative)
             cfg.now (W.sheet wr.old) self.old (W.sheet wr.new) self.new result }
-        ensures level { OnOk result ((W.sheet wr.new).indentation ≡ (W.sheet wr.old).indentation) }
+        ensures level { Stays (W.sheet wr.old) (W.sheet wr.new) result }
     {
         if negative {
             self.guard_mark(cfg, wr, Punctuator::Minus)?;
@@ -370,7 +370,7 @@ impl LowerEmitter {
         ensures reads { is_utf8 text.now ≡ true → is_name (chars text.now) ≡ true →
             Adds (token_of kind.Name (chars text.now) ∷ [])
             cfg.now (W.sheet wr.old) self.old (W.sheet wr.new) self.new result }
-        ensures level { OnOk result ((W.sheet wr.new).indentation ≡ (W.sheet wr.old).indentation) }
+        ensures level { Stays (W.sheet wr.old) (W.sheet wr.new) result }
     {
         self.guard(cfg, wr, text, StartClass::of_literal(text))?;
         self.put_number_name(cfg, wr, span, text)?;
@@ -393,7 +393,7 @@ impl LowerEmitter {
             is_big_integer (chars (size_of text.now) ++ codes "n") ≡ true →
             Adds (tokens_of_digits text.now)
             cfg.now (W.sheet wr.old) self.old (W.sheet wr.new) self.new result }
-        ensures level { OnOk result ((W.sheet wr.new).indentation ≡ (W.sheet wr.old).indentation) }
+        ensures level { Stays (W.sheet wr.old) (W.sheet wr.new) result }
     {
         self.guard(cfg, wr, text, StartClass::of_literal(text))?;
         self.put_digits(cfg, wr, span, text)?;
@@ -416,7 +416,7 @@ impl LowerEmitter {
         ensures reads { is_utf8 text.now ≡ true → is_big_integer (chars text.now) ≡ true →
             Adds (token_of kind.BigInt (chars text.now) ∷ [])
             cfg.now (W.sheet wr.old) self.old (W.sheet wr.new) self.new result }
-        ensures level { OnOk result ((W.sheet wr.new).indentation ≡ (W.sheet wr.old).indentation) }
+        ensures level { Stays (W.sheet wr.old) (W.sheet wr.new) result }
     {
         self.guard(cfg, wr, text, StartClass::of_literal(text))?;
         self.put_big_integer(cfg, wr, span, text)?;
@@ -433,7 +433,7 @@ impl LowerEmitter {
             is_regex (regex_characters (chars exp.now) (chars flags.now)) ≡ true →
             Adds (token_of kind.Regex (regex_characters (chars exp.now) (chars flags.now)) ∷ [])
             cfg.now (W.sheet wr.old) self.old (W.sheet wr.new) self.new result }
-        ensures level { OnOk result ((W.sheet wr.new).indentation ≡ (W.sheet wr.old).indentation) }
+        ensures level { Stays (W.sheet wr.old) (W.sheet wr.new) result }
     {
         self.guard_mark(cfg, wr, Punctuator::Slash)?;
         self.put_slash(cfg, wr)?;
@@ -455,7 +455,7 @@ impl LowerEmitter {
             OnOk result (ReadsSoFar (W.sheet wr.old).text
             (token_of kind.Hashbang (codes "#!" ++ chars text.now) ∷ []) []
             (state_of cfg.now (W.sheet wr.new) self.new)) }
-        ensures level { OnOk result ((W.sheet wr.new).indentation ≡ (W.sheet wr.old).indentation) }
+        ensures level { Stays (W.sheet wr.old) (W.sheet wr.new) result }
     {
         self.put_hashbang_mark(cfg, wr)?;
         self.put_hashbang_text(cfg, wr, text)?;

@@ -1,10 +1,10 @@
 //! Strings, regular expressions, the words `true`, `false` and `null`, and a literal as such.
 
-ghost use Rattle.std.specs.Prelude.{◌≡◌, OnOk, IfOk, IfErr, None, true, false, string_bytes};
+ghost use Rattle.std.specs.Prelude.{◌≡◌, IfOk, IfErr, None, true, false, string_bytes};
 ghost use Rattle.std.specs.Cow.{cow_str_bytes};
 ghost use Rattle.swc_ecma_codegen_common.specs.declared.errors.Error.TheVariants.{OutOfMemory};
 ghost use Rattle.swc_ecma_codegen_grammar.specs.Comments.{maps_in};
-ghost use Rattle.swc_ecma_codegen_tokens.specs.Run.{DoesTaking, Does};
+ghost use Rattle.swc_ecma_codegen_tokens.specs.Run.{DoesTaking, Does, Stays};
 ghost use Rattle.swc_ecma_codegen_tokens.specs.Starts.{begins_letter};
 ghost use Rattle.swc_ecma_codegen_tokens.specs.Literals.{begun, settled_begun};
 ghost use Rattle.swc_ecma_codegen_tokens.specs.Lits.{begun_in, is_directive, takes_raw, prints_raw, value_text, string_text, directive_end, string_by, string_at, str_lit, bool_node, bool_text, bool_lit, null_lit, regex_lit, lit};
@@ -103,7 +103,7 @@ impl LowerEmitter {
         ensures items { DoesTaking (begun span text.now) (maps_in C.maps comments.old)
             (maps_in C.maps comments.new) (state_of cfg.now (W.sheet wr.old) self.old)
             (state_of cfg.now (W.sheet wr.new) self.new) result }
-        ensures level { OnOk result ((W.sheet wr.new).indentation ≡ (W.sheet wr.old).indentation) }
+        ensures level { Stays (W.sheet wr.old) (W.sheet wr.new) result }
     {
         self.leading_comments(cfg, comments, wr, span.lo)?;
         self.guard(cfg, wr, text, StartClass::of_literal(text))?;
@@ -124,7 +124,7 @@ impl LowerEmitter {
         ensures items { DoesTaking (settled_begun span text.now) (maps_in C.maps comments.old)
             (maps_in C.maps comments.new) (state_of cfg.now (W.sheet wr.old) self.old)
             (state_of cfg.now (W.sheet wr.new) self.new) result }
-        ensures level { OnOk result ((W.sheet wr.new).indentation ≡ (W.sheet wr.old).indentation) }
+        ensures level { Stays (W.sheet wr.old) (W.sheet wr.new) result }
     {
         self.commit_pending_semi(cfg, wr)?;
         self.begun(cfg, comments, wr, span, text)?;
@@ -145,7 +145,7 @@ impl LowerEmitter {
         ensures items { DoesTaking (begun_in in_lit span text.now) (maps_in C.maps comments.old)
             (maps_in C.maps comments.new) (state_of cfg.now (W.sheet wr.old) self.old)
             (state_of cfg.now (W.sheet wr.new) self.new) result }
-        ensures level { OnOk result ((W.sheet wr.new).indentation ≡ (W.sheet wr.old).indentation) }
+        ensures level { Stays (W.sheet wr.old) (W.sheet wr.new) result }
     {
         if in_lit {
             self.begun(cfg, comments, wr, span, text)?;
@@ -158,7 +158,7 @@ impl LowerEmitter {
     fn directive_end<W: WriteJs>(&mut self, cfg: &Config, wr: &mut W, n: &Str) -> Answer
         ensures items { Does (directive_end n.now) (state_of cfg.now (W.sheet wr.old) self.old)
             (state_of cfg.now (W.sheet wr.new) self.new) result }
-        ensures level { OnOk result ((W.sheet wr.new).indentation ≡ (W.sheet wr.old).indentation) }
+        ensures level { Stays (W.sheet wr.old) (W.sheet wr.new) result }
     {
         if is_directive(n) {
             self.position(cfg, wr, n.span.hi)?;
@@ -180,7 +180,7 @@ impl LowerEmitter {
         ensures items { DoesTaking (string_by in_lit n.now text.now) (maps_in C.maps comments.old)
             (maps_in C.maps comments.new) (state_of cfg.now (W.sheet wr.old) self.old)
             (state_of cfg.now (W.sheet wr.new) self.new) result }
-        ensures level { OnOk result ((W.sheet wr.new).indentation ≡ (W.sheet wr.old).indentation) }
+        ensures level { Stays (W.sheet wr.old) (W.sheet wr.new) result }
     {
         self.begun_in(cfg, comments, wr, n.span, text, in_lit)?;
         self.settled_begun(cfg, comments, wr, n.span, text)?;
@@ -201,7 +201,7 @@ impl LowerEmitter {
         ensures items { DoesTaking (string_at in_lit n.now) (maps_in C.maps comments.old)
             (maps_in C.maps comments.new) (state_of cfg.now (W.sheet wr.old) self.old)
             (state_of cfg.now (W.sheet wr.new) self.new) result }
-        ensures level { OnOk result ((W.sheet wr.new).indentation ≡ (W.sheet wr.old).indentation) }
+        ensures level { Stays (W.sheet wr.old) (W.sheet wr.new) result }
     {
         if self.failed {
             return Err(Refusal::Failed);
@@ -229,7 +229,7 @@ impl LowerEmitter {
         ensures reads { AddsTaking (phrases.str_lit n.now) (str_lit n.now)
             (maps_in C.maps comments.old)
             cfg.now (W.sheet wr.old) self.old (W.sheet wr.new) self.new result }
-        ensures level { OnOk result ((W.sheet wr.new).indentation ≡ (W.sheet wr.old).indentation) }
+        ensures level { Stays (W.sheet wr.old) (W.sheet wr.new) result }
     {
         self.string_at(cfg, comments, wr, n, false)
     }
@@ -241,7 +241,7 @@ impl LowerEmitter {
             (state_of cfg.now (W.sheet wr.new) self.new) result }
         ensures reads { AddsList (phrases.bool_lit n.now)
             cfg.now (W.sheet wr.old) self.old (W.sheet wr.new) self.new result }
-        ensures level { OnOk result ((W.sheet wr.new).indentation ≡ (W.sheet wr.old).indentation) }
+        ensures level { Stays (W.sheet wr.old) (W.sheet wr.new) result }
     {
         self.keyword(cfg, wr, None, bool_text(n.value))?;
         Ok(())
@@ -262,7 +262,7 @@ impl LowerEmitter {
         ensures reads { AddsTaking (phrases.bool_lit n.now) (bool_node n.now)
             (maps_in C.maps comments.old)
             cfg.now (W.sheet wr.old) self.old (W.sheet wr.new) self.new result }
-        ensures level { OnOk result ((W.sheet wr.new).indentation ≡ (W.sheet wr.old).indentation) }
+        ensures level { Stays (W.sheet wr.old) (W.sheet wr.new) result }
     {
         self.leading_comments(cfg, comments, wr, n.span.lo)?;
         self.keyword(cfg, wr, Some(n.span), bool_text(n.value))?;
@@ -276,7 +276,7 @@ impl LowerEmitter {
             (state_of cfg.now (W.sheet wr.new) self.new) result }
         ensures reads { AddsList (phrases.null_lit n.now)
             cfg.now (W.sheet wr.old) self.old (W.sheet wr.new) self.new result }
-        ensures level { OnOk result ((W.sheet wr.new).indentation ≡ (W.sheet wr.old).indentation) }
+        ensures level { Stays (W.sheet wr.old) (W.sheet wr.new) result }
     {
         let _ = n;
         self.keyword(cfg, wr, None, "null")?;
@@ -290,7 +290,7 @@ impl LowerEmitter {
             (state_of cfg.now (W.sheet wr.new) self.new) result }
         ensures reads { AddsList (phrases.regex n.now)
             cfg.now (W.sheet wr.old) self.old (W.sheet wr.new) self.new result }
-        ensures level { OnOk result ((W.sheet wr.new).indentation ≡ (W.sheet wr.old).indentation) }
+        ensures level { Stays (W.sheet wr.old) (W.sheet wr.new) result }
     {
         self.regex(cfg, wr, n.exp.as_str(), n.flags.as_str())?;
         Ok(())
@@ -308,7 +308,7 @@ impl LowerEmitter {
         ensures items { DoesTaking (lit n.now) (maps_in C.maps comments.old)
             (maps_in C.maps comments.new) (state_of cfg.now (W.sheet wr.old) self.old)
             (state_of cfg.now (W.sheet wr.new) self.new) result }
-        ensures level { OnOk result ((W.sheet wr.new).indentation ≡ (W.sheet wr.old).indentation) }
+        ensures level { Stays (W.sheet wr.old) (W.sheet wr.new) result }
     {
         match n {
             Lit::Str(n) => self.string_at(cfg, comments, wr, n, true),
@@ -344,7 +344,7 @@ impl LowerEmitter {
             (state_of cfg.now (W.sheet wr.new) self.new) result }
         ensures reads { AddsTaking (phrases.lit n.now) (lit n.now) (maps_in C.maps comments.old)
             cfg.now (W.sheet wr.old) self.old (W.sheet wr.new) self.new result }
-        ensures level { OnOk result ((W.sheet wr.new).indentation ≡ (W.sheet wr.old).indentation) }
+        ensures level { Stays (W.sheet wr.old) (W.sheet wr.new) result }
     {
         self.lit_at(cfg, comments, wr, n)
     }

@@ -5,7 +5,7 @@ ghost use Rattle.std.specs.Str.{chars};
 ghost use Rattle.swc_ecma_codegen_tokens.specs.Starts.{start_class};
 ghost use Rattle.swc_ecma_codegen_grammar.specs.Comments.{maps_in, AreClosed};
 ghost use Rattle.swc_ecma_codegen_grammar.specs.SourceLines.{no_lines};
-ghost use Rattle.swc_ecma_codegen_tokens.specs.Run.{DoesTaking, Does};
+ghost use Rattle.swc_ecma_codegen_tokens.specs.Run.{DoesTaking, Does, Stays};
 ghost use Rattle.swc_ecma_codegen_tokens.specs.Targets.{wants_escapes};
 ghost use Rattle.swc_ecma_codegen_tokens.specs.Words.{name, name_text, symbol, spelled_symbol, valid_symbol, question};
 ghost use Rattle.swc_ecma_codegen_grammar.specs.Tokens.{Token};
@@ -45,7 +45,7 @@ impl LowerEmitter {
     ) -> Answer
         ensures items { Does (symbol span text.now) (state_of cfg.now (W.sheet wr.old) self.old)
             (state_of cfg.now (W.sheet wr.new) self.new) result }
-        ensures level { OnOk result ((W.sheet wr.new).indentation ≡ (W.sheet wr.old).indentation) }
+        ensures level { Stays (W.sheet wr.old) (W.sheet wr.new) result }
     {
         let next = StartClass::of_text(text);
         if self.failed || blank_due_after(self.row, next) {
@@ -67,7 +67,7 @@ impl LowerEmitter {
         requires { start_class (chars text.now) ≡ next }
         ensures items { Does (symbol span text.now) (state_of cfg.now (W.sheet wr.old) self.old)
             (state_of cfg.now (W.sheet wr.new) self.new) result }
-        ensures level { OnOk result ((W.sheet wr.new).indentation ≡ (W.sheet wr.old).indentation) }
+        ensures level { Stays (W.sheet wr.old) (W.sheet wr.new) result }
     {
         self.symbol_here(cfg, wr, span, text, next)
     }
@@ -86,7 +86,7 @@ impl LowerEmitter {
         requires { start_class (chars text.now) ≡ next }
         ensures items { Does (symbol span text.now) (state_of cfg.now (W.sheet wr.old) self.old)
             (state_of cfg.now (W.sheet wr.new) self.new) result }
-        ensures level { OnOk result ((W.sheet wr.new).indentation ≡ (W.sheet wr.old).indentation) }
+        ensures level { Stays (W.sheet wr.old) (W.sheet wr.new) result }
     {
         self.guard(cfg, wr, text, next)?;
         self.position(cfg, wr, span.lo)?;
@@ -107,7 +107,7 @@ impl LowerEmitter {
         ensures items { Does (spelled_symbol span text.now)
             (state_of cfg.now (W.sheet wr.old) self.old)
             (state_of cfg.now (W.sheet wr.new) self.new) result }
-        ensures level { OnOk result ((W.sheet wr.new).indentation ≡ (W.sheet wr.old).indentation) }
+        ensures level { Stays (W.sheet wr.old) (W.sheet wr.new) result }
     {
         if self.failed {
             return Err(Refusal::Failed);
@@ -133,7 +133,7 @@ impl LowerEmitter {
         ensures items { Does (spelled_symbol span text.now)
             (state_of cfg.now (W.sheet wr.old) self.old)
             (state_of cfg.now (W.sheet wr.new) self.new) result }
-        ensures level { OnOk result ((W.sheet wr.new).indentation ≡ (W.sheet wr.old).indentation) }
+        ensures level { Stays (W.sheet wr.old) (W.sheet wr.new) result }
     {
         if wants_escapes(cfg, text) {
             return self.ascii_symbol(cfg, wr, span, text);
@@ -154,7 +154,7 @@ impl LowerEmitter {
         ensures items { Does (valid_symbol span name.now)
             (state_of cfg.now (W.sheet wr.old) self.old)
             (state_of cfg.now (W.sheet wr.new) self.new) result }
-        ensures level { OnOk result ((W.sheet wr.new).indentation ≡ (W.sheet wr.old).indentation) }
+        ensures level { Stays (W.sheet wr.old) (W.sheet wr.new) result }
     {
         if !has_backslash(name) {
             return self.spelled_symbol(cfg, wr, span, name);
@@ -175,7 +175,7 @@ impl LowerEmitter {
         ensures items { Does (valid_symbol span name.now)
             (state_of cfg.now (W.sheet wr.old) self.old)
             (state_of cfg.now (W.sheet wr.new) self.new) result }
-        ensures level { OnOk result ((W.sheet wr.new).indentation ≡ (W.sheet wr.old).indentation) }
+        ensures level { Stays (W.sheet wr.old) (W.sheet wr.new) result }
     {
         if self.failed {
             return Err(Refusal::Failed);
@@ -201,7 +201,7 @@ impl LowerEmitter {
     ) -> Answer
         ensures items { Does (name_text span sym.now) (state_of cfg.now (W.sheet wr.old) self.old)
             (state_of cfg.now (W.sheet wr.new) self.new) result }
-        ensures level { OnOk result ((W.sheet wr.new).indentation ≡ (W.sheet wr.old).indentation) }
+        ensures level { Stays (W.sheet wr.old) (W.sheet wr.new) result }
     {
         if wr.can_ignore_invalid_unicodes() {
             return self.spelled_symbol(cfg, wr, span, sym);
@@ -219,17 +219,17 @@ impl LowerEmitter {
     ) -> Answer
         ensures items { Does (question optional) (state_of cfg.now (W.sheet wr.old) self.old)
             (state_of cfg.now (W.sheet wr.new) self.new) result }
-        ensures level { OnOk result ((W.sheet wr.new).indentation ≡ (W.sheet wr.old).indentation) }
+        ensures level { Stays (W.sheet wr.old) (W.sheet wr.new) result }
     {
         if optional {
-            self.punct_apart(cfg, wr, Punctuator::Question)?;
+            let done = self.writes_punct_apart(cfg, wr, Punctuator::Question);
+            return self.answer(done);
         }
         Ok(())
     }
 
     /// Writes a name with its comments, and `?` after an optional one. swc's `emit_ident_like`.
     #[inline(always)]
-    #[tactic(auto, unfolding(crate::specs::Words::name))]
     pub fn name<W: WriteJs, C: Comments>(
         &mut self,
         cfg: &Config,
@@ -251,12 +251,9 @@ impl LowerEmitter {
             (remarks ++ taken_remarks (name span sym.now optional)
             (env_of no_lines (maps_in C.maps comments.old) cfg.now (W.sheet wr.old)))
             (state_of cfg.now (W.sheet wr.new) self.new)) }
-        ensures level { OnOk result ((W.sheet wr.new).indentation ≡ (W.sheet wr.old).indentation) }
+        ensures level { Stays (W.sheet wr.old) (W.sheet wr.new) result }
     {
-        self.leading_comments(cfg, comments, wr, span.lo)?;
-        self.put_pending_semi(cfg, wr)?;
-        self.name_text(cfg, wr, span, sym)?;
-        self.question(cfg, wr, optional)?;
-        Ok(())
+        let done = self.writes_name(cfg, comments, wr, span, sym, optional);
+        self.answer(done)
     }
 }

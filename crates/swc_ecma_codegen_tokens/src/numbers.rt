@@ -1,11 +1,11 @@
 //! Numbers and big integers.
 
-ghost use Rattle.std.specs.Prelude.{◌≡◌, OnOk, IfOk, IfErr, true, string_bytes};
+ghost use Rattle.std.specs.Prelude.{◌≡◌, IfOk, IfErr, true, string_bytes};
 ghost use Rattle.std.specs.Cow.{cow_str_bytes};
 ghost use Rattle.swc_ecma_codegen_common.specs.declared.errors.Error.TheVariants.{OutOfMemory};
 ghost use Rattle.swc_ecma_codegen_grammar.specs.Comments.{maps_in};
 ghost use Rattle.swc_ecma_codegen_grammar.specs.DecimalValues.{decimal_digits};
-ghost use Rattle.swc_ecma_codegen_tokens.specs.Run.{DoesTaking, Does};
+ghost use Rattle.swc_ecma_codegen_tokens.specs.Run.{DoesTaking, Does, Stays};
 ghost use Rattle.swc_ecma_codegen_tokens.specs.Lits.{prints_number_raw, is_finite, by_value, decimal_text, number_text, makes_number, is_named, infinity_text, infinity, not_a_number, named_number, number_by, spelled_number, number_at, number_lit, between_dots, before_property, object_by, spelled_object, number_object, prints_big_raw, big_int_text, makes_big_int, big_int_parts, big_int_by, big_int_at, big_int_lit};
 ghost use Rattle.swc_ecma_codegen_grammar.specs.LitPhrases as phrases;
 ghost use Rattle.swc_ecma_codegen_tokens.specs.Adds.{AddsTaking};
@@ -180,7 +180,7 @@ impl LowerEmitter {
         ensures items { DoesTaking (infinity in_lit negative span) (maps_in C.maps comments.old)
             (maps_in C.maps comments.new) (state_of cfg.now (W.sheet wr.old) self.old)
             (state_of cfg.now (W.sheet wr.new) self.new) result }
-        ensures level { OnOk result ((W.sheet wr.new).indentation ≡ (W.sheet wr.old).indentation) }
+        ensures level { Stays (W.sheet wr.old) (W.sheet wr.new) result }
     {
         self.begun_in(cfg, comments, wr, span, infinity_text(negative), in_lit)?;
         self.commit_pending_semi(cfg, wr)?;
@@ -203,7 +203,7 @@ impl LowerEmitter {
         ensures items { DoesTaking (not_a_number in_lit span) (maps_in C.maps comments.old)
             (maps_in C.maps comments.new) (state_of cfg.now (W.sheet wr.old) self.old)
             (state_of cfg.now (W.sheet wr.new) self.new) result }
-        ensures level { OnOk result ((W.sheet wr.new).indentation ≡ (W.sheet wr.old).indentation) }
+        ensures level { Stays (W.sheet wr.old) (W.sheet wr.new) result }
     {
         self.begun_in(cfg, comments, wr, span, "NaN", in_lit)?;
         self.settled_begun(cfg, comments, wr, span, "NaN")?;
@@ -226,7 +226,7 @@ impl LowerEmitter {
             (maps_in C.maps comments.old) (maps_in C.maps comments.new)
             (state_of cfg.now (W.sheet wr.old) self.old)
             (state_of cfg.now (W.sheet wr.new) self.new) result }
-        ensures level { OnOk result ((W.sheet wr.new).indentation ≡ (W.sheet wr.old).indentation) }
+        ensures level { Stays (W.sheet wr.old) (W.sheet wr.new) result }
     {
         match value {
             NumberValue::Infinity => self.infinity(cfg, comments, wr, span, false, in_lit),
@@ -249,7 +249,7 @@ impl LowerEmitter {
         ensures items { DoesTaking (number_by in_lit span text.now) (maps_in C.maps comments.old)
             (maps_in C.maps comments.new) (state_of cfg.now (W.sheet wr.old) self.old)
             (state_of cfg.now (W.sheet wr.new) self.new) result }
-        ensures level { OnOk result ((W.sheet wr.new).indentation ≡ (W.sheet wr.old).indentation) }
+        ensures level { Stays (W.sheet wr.old) (W.sheet wr.new) result }
     {
         self.begun_in(cfg, comments, wr, span, text, in_lit)?;
         self.settled_begun(cfg, comments, wr, span, text)?;
@@ -269,7 +269,7 @@ impl LowerEmitter {
         ensures items { DoesTaking (spelled_number in_lit n.now) (maps_in C.maps comments.old)
             (maps_in C.maps comments.new) (state_of cfg.now (W.sheet wr.old) self.old)
             (state_of cfg.now (W.sheet wr.new) self.new) result }
-        ensures level { OnOk result ((W.sheet wr.new).indentation ≡ (W.sheet wr.old).indentation) }
+        ensures level { Stays (W.sheet wr.old) (W.sheet wr.new) result }
     {
         if self.failed {
             return Err(Refusal::Failed);
@@ -296,7 +296,7 @@ impl LowerEmitter {
         ensures items { DoesTaking (number_at in_lit n.now) (maps_in C.maps comments.old)
             (maps_in C.maps comments.new) (state_of cfg.now (W.sheet wr.old) self.old)
             (state_of cfg.now (W.sheet wr.new) self.new) result }
-        ensures level { OnOk result ((W.sheet wr.new).indentation ≡ (W.sheet wr.old).indentation) }
+        ensures level { Stays (W.sheet wr.old) (W.sheet wr.new) result }
     {
         if is_named(n) {
             self.named_number(cfg, comments, wr, n.span, &n.value, in_lit)
@@ -319,7 +319,7 @@ impl LowerEmitter {
         ensures reads { AddsTaking (phrases.number n.now) (number_lit n.now)
             (maps_in C.maps comments.old)
             cfg.now (W.sheet wr.old) self.old (W.sheet wr.new) self.new result }
-        ensures level { OnOk result ((W.sheet wr.new).indentation ≡ (W.sheet wr.old).indentation) }
+        ensures level { Stays (W.sheet wr.old) (W.sheet wr.new) result }
     {
         self.number_at(cfg, comments, wr, n, false)
     }
@@ -336,7 +336,7 @@ impl LowerEmitter {
         ensures items { DoesTaking (between_dots pos) (maps_in C.maps comments.old)
             (maps_in C.maps comments.new) (state_of cfg.now (W.sheet wr.old) self.old)
             (state_of cfg.now (W.sheet wr.new) self.new) result }
-        ensures level { OnOk result ((W.sheet wr.new).indentation ≡ (W.sheet wr.old).indentation) }
+        ensures level { Stays (W.sheet wr.old) (W.sheet wr.new) result }
     {
         if pos.0 < 2 {
             return Ok(());
@@ -357,7 +357,7 @@ impl LowerEmitter {
         ensures items { DoesTaking (before_property text.now pos) (maps_in C.maps comments.old)
             (maps_in C.maps comments.new) (state_of cfg.now (W.sheet wr.old) self.old)
             (state_of cfg.now (W.sheet wr.new) self.new) result }
-        ensures level { OnOk result ((W.sheet wr.new).indentation ≡ (W.sheet wr.old).indentation) }
+        ensures level { Stays (W.sheet wr.old) (W.sheet wr.new) result }
     {
         if takes_dot(size_of(text)) {
             self.dotted_number(cfg, wr, text)?;
@@ -381,7 +381,7 @@ impl LowerEmitter {
         ensures items { DoesTaking (object_by span pos text.now) (maps_in C.maps comments.old)
             (maps_in C.maps comments.new) (state_of cfg.now (W.sheet wr.old) self.old)
             (state_of cfg.now (W.sheet wr.new) self.new) result }
-        ensures level { OnOk result ((W.sheet wr.new).indentation ≡ (W.sheet wr.old).indentation) }
+        ensures level { Stays (W.sheet wr.old) (W.sheet wr.new) result }
     {
         self.settled_begun(cfg, comments, wr, span, text)?;
         self.before_property(cfg, comments, wr, text, pos)?;
@@ -400,7 +400,7 @@ impl LowerEmitter {
         ensures items { DoesTaking (spelled_object n.now pos) (maps_in C.maps comments.old)
             (maps_in C.maps comments.new) (state_of cfg.now (W.sheet wr.old) self.old)
             (state_of cfg.now (W.sheet wr.new) self.new) result }
-        ensures level { OnOk result ((W.sheet wr.new).indentation ≡ (W.sheet wr.old).indentation) }
+        ensures level { Stays (W.sheet wr.old) (W.sheet wr.new) result }
     {
         if self.failed {
             return Err(Refusal::Failed);
@@ -431,7 +431,7 @@ impl LowerEmitter {
         ensures reads { AddsTaking (phrases.number n.now) (number_object n.now pos)
             (maps_in C.maps comments.old)
             cfg.now (W.sheet wr.old) self.old (W.sheet wr.new) self.new result }
-        ensures level { OnOk result ((W.sheet wr.new).indentation ≡ (W.sheet wr.old).indentation) }
+        ensures level { Stays (W.sheet wr.old) (W.sheet wr.new) result }
     {
         if is_named(n) {
             self.named_number(cfg, comments, wr, n.span, &n.value, false)
@@ -453,7 +453,7 @@ impl LowerEmitter {
         ensures items { Does (big_int_parts whole span text.now)
             (state_of cfg.now (W.sheet wr.old) self.old)
             (state_of cfg.now (W.sheet wr.new) self.new) result }
-        ensures level { OnOk result ((W.sheet wr.new).indentation ≡ (W.sheet wr.old).indentation) }
+        ensures level { Stays (W.sheet wr.old) (W.sheet wr.new) result }
     {
         if whole {
             self.big_integer(cfg, wr, span, text)
@@ -478,7 +478,7 @@ impl LowerEmitter {
             (maps_in C.maps comments.old) (maps_in C.maps comments.new)
             (state_of cfg.now (W.sheet wr.old) self.old)
             (state_of cfg.now (W.sheet wr.new) self.new) result }
-        ensures level { OnOk result ((W.sheet wr.new).indentation ≡ (W.sheet wr.old).indentation) }
+        ensures level { Stays (W.sheet wr.old) (W.sheet wr.new) result }
     {
         self.begun_in(cfg, comments, wr, span, text, in_lit)?;
         self.leading_comments(cfg, comments, wr, span.lo)?;
@@ -498,7 +498,7 @@ impl LowerEmitter {
         ensures items { DoesTaking (big_int_at in_lit n.now) (maps_in C.maps comments.old)
             (maps_in C.maps comments.new) (state_of cfg.now (W.sheet wr.old) self.old)
             (state_of cfg.now (W.sheet wr.new) self.new) result }
-        ensures level { OnOk result ((W.sheet wr.new).indentation ≡ (W.sheet wr.old).indentation) }
+        ensures level { Stays (W.sheet wr.old) (W.sheet wr.new) result }
     {
         if self.failed {
             return Err(Refusal::Failed);
@@ -529,7 +529,7 @@ impl LowerEmitter {
         ensures reads { AddsTaking (phrases.big_int n.now) (big_int_lit n.now)
             (maps_in C.maps comments.old)
             cfg.now (W.sheet wr.old) self.old (W.sheet wr.new) self.new result }
-        ensures level { OnOk result ((W.sheet wr.new).indentation ≡ (W.sheet wr.old).indentation) }
+        ensures level { Stays (W.sheet wr.old) (W.sheet wr.new) result }
     {
         self.big_int_at(cfg, comments, wr, n, false)
     }

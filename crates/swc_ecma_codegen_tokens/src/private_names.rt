@@ -4,7 +4,7 @@ ghost use Rattle.std.specs.Prelude.{◌≡◌, OnOk, codes, None, false, true};
 ghost use Rattle.swc_ecma_codegen_text_writer.specs.Sheet.{Punct};
 ghost use Rattle.swc_ecma_codegen_tokens.specs.PrivateNames.{hashed, private_token, private_symbol, spelled_private, valid_private, private_text, private_name};
 ghost use Rattle.swc_ecma_codegen_grammar.specs.Comments.{maps_in};
-ghost use Rattle.swc_ecma_codegen_tokens.specs.Run.{DoesTaking, Does, step, Plain};
+ghost use Rattle.swc_ecma_codegen_tokens.specs.Run.{DoesTaking, Does, step, Plain, Stays};
 ghost use Rattle.swc_ecma_codegen_tokens.specs.Targets.{wants_escapes};
 ghost use Rattle.swc_ecma_codegen_grammar.specs.Phrases.{PrivateOf};
 ghost use Rattle.swc_ecma_codegen_tokens.specs.Adds.{AddsTaking};
@@ -27,7 +27,7 @@ impl LowerEmitter {
         ensures items { Does (step (Plain (Punct None (codes "#"))))
             (state_of cfg.now (W.sheet wr.old) self.old)
             (state_of cfg.now (W.sheet wr.new) self.new) result }
-        ensures level { OnOk result ((W.sheet wr.new).indentation ≡ (W.sheet wr.old).indentation) }
+        ensures level { Stays (W.sheet wr.old) (W.sheet wr.new) result }
         ensures fresh { OnOk result (self.new.failed ≡ false) }
     {
         let _ = cfg;
@@ -40,7 +40,7 @@ impl LowerEmitter {
         requires { self.old.failed ≡ false }
         ensures items { Does (hashed text.now) (state_of cfg.now (W.sheet wr.old) self.old)
             (state_of cfg.now (W.sheet wr.new) self.new) result }
-        ensures level { OnOk result ((W.sheet wr.new).indentation ≡ (W.sheet wr.old).indentation) }
+        ensures level { Stays (W.sheet wr.old) (W.sheet wr.new) result }
     {
         let _ = cfg;
         let answer = wr.write_symbol(DUMMY_SP, text);
@@ -60,7 +60,7 @@ impl LowerEmitter {
         ensures items { Does (private_token span text.now)
             (state_of cfg.now (W.sheet wr.old) self.old)
             (state_of cfg.now (W.sheet wr.new) self.new) result }
-        ensures level { OnOk result ((W.sheet wr.new).indentation ≡ (W.sheet wr.old).indentation) }
+        ensures level { Stays (W.sheet wr.old) (W.sheet wr.new) result }
     {
         self.guard(cfg, wr, "#", StartClass::of_text("#"))?;
         self.put_hash(cfg, wr)?;
@@ -82,7 +82,7 @@ impl LowerEmitter {
         ensures items { Does (private_symbol span text.now)
             (state_of cfg.now (W.sheet wr.old) self.old)
             (state_of cfg.now (W.sheet wr.new) self.new) result }
-        ensures level { OnOk result ((W.sheet wr.new).indentation ≡ (W.sheet wr.old).indentation) }
+        ensures level { Stays (W.sheet wr.old) (W.sheet wr.new) result }
     {
         self.guard(cfg, wr, "#", StartClass::of_text("#"))?;
         self.position(cfg, wr, span.lo)?;
@@ -103,7 +103,7 @@ impl LowerEmitter {
         ensures items { Does (spelled_private span text.now)
             (state_of cfg.now (W.sheet wr.old) self.old)
             (state_of cfg.now (W.sheet wr.new) self.new) result }
-        ensures level { OnOk result ((W.sheet wr.new).indentation ≡ (W.sheet wr.old).indentation) }
+        ensures level { Stays (W.sheet wr.old) (W.sheet wr.new) result }
     {
         if self.failed {
             return Err(Refusal::Failed);
@@ -128,7 +128,7 @@ impl LowerEmitter {
         ensures items { Does (spelled_private span text.now)
             (state_of cfg.now (W.sheet wr.old) self.old)
             (state_of cfg.now (W.sheet wr.new) self.new) result }
-        ensures level { OnOk result ((W.sheet wr.new).indentation ≡ (W.sheet wr.old).indentation) }
+        ensures level { Stays (W.sheet wr.old) (W.sheet wr.new) result }
     {
         if wants_escapes(cfg, text) {
             return self.ascii_private(cfg, wr, span, text);
@@ -147,7 +147,7 @@ impl LowerEmitter {
         ensures items { Does (valid_private span name.now)
             (state_of cfg.now (W.sheet wr.old) self.old)
             (state_of cfg.now (W.sheet wr.new) self.new) result }
-        ensures level { OnOk result ((W.sheet wr.new).indentation ≡ (W.sheet wr.old).indentation) }
+        ensures level { Stays (W.sheet wr.old) (W.sheet wr.new) result }
     {
         if self.failed {
             return Err(Refusal::Failed);
@@ -171,7 +171,7 @@ impl LowerEmitter {
         ensures items { Does (valid_private span name.now)
             (state_of cfg.now (W.sheet wr.old) self.old)
             (state_of cfg.now (W.sheet wr.new) self.new) result }
-        ensures level { OnOk result ((W.sheet wr.new).indentation ≡ (W.sheet wr.old).indentation) }
+        ensures level { Stays (W.sheet wr.old) (W.sheet wr.new) result }
     {
         if self.failed {
             return Err(Refusal::Failed);
@@ -197,7 +197,7 @@ impl LowerEmitter {
         ensures items { Does (private_text span name.now)
             (state_of cfg.now (W.sheet wr.old) self.old)
             (state_of cfg.now (W.sheet wr.new) self.new) result }
-        ensures level { OnOk result ((W.sheet wr.new).indentation ≡ (W.sheet wr.old).indentation) }
+        ensures level { Stays (W.sheet wr.old) (W.sheet wr.new) result }
     {
         if wr.can_ignore_invalid_unicodes() {
             return self.spelled_private(cfg, wr, span, name);
@@ -222,7 +222,7 @@ impl LowerEmitter {
             AddsTaking (PrivateOf name.now) (private_name span name.now)
             (maps_in C.maps comments.old)
             cfg.now (W.sheet wr.old) self.old (W.sheet wr.new) self.new result }
-        ensures level { OnOk result ((W.sheet wr.new).indentation ≡ (W.sheet wr.old).indentation) }
+        ensures level { Stays (W.sheet wr.old) (W.sheet wr.new) result }
     {
         self.leading_comments(cfg, comments, wr, span.lo)?;
         self.private_text(cfg, wr, span, name)?;

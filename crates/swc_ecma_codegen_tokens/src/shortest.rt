@@ -1,7 +1,7 @@
 //! The tokens that trees have most of, by the shortest way. Each call only says whether its token was written, so that its answer is one
 //! bit: else `reason` says why not.
 
-ghost use Rattle.std.specs.Prelude.{◌≡◌, None, OnOk, [], ◌∷◌, true, false};
+ghost use Rattle.std.specs.Prelude.{◌≡◌, None, [], ◌∷◌, true, false};
 ghost use Rattle.std.specs.Str.{chars};
 ghost use Rattle.swc_ecma_codegen_grammar.specs.Comments.{maps_in};
 ghost use Rattle.swc_ecma_codegen_grammar.specs.GapRules.{fuses};
@@ -10,7 +10,7 @@ ghost use Rattle.swc_ecma_codegen_literals.specs.ValidNames.{has_byte};
 ghost use Rattle.swc_ecma_codegen_text_writer.specs.Reach.{is_in_line};
 ghost use Rattle.swc_ecma_codegen_text_writer.specs.Sheet.{answered, is_settled};
 ghost use Rattle.swc_ecma_codegen_tokens.specs.PreviousToken.{last_at};
-ghost use Rattle.swc_ecma_codegen_tokens.specs.Run.{Does, DoesTaking};
+ghost use Rattle.swc_ecma_codegen_tokens.specs.Run.{Does, DoesTaking, Stays};
 ghost use Rattle.swc_ecma_codegen_tokens.specs.Starts.{begins_letter};
 ghost use Rattle.swc_ecma_codegen_tokens.specs.Targets.{wants_escapes};
 ghost use Rattle.swc_ecma_codegen_tokens.specs.Words.{bare_punct, bare_semi, break_behind, allow_break, keyword, name, name_text, operator, operator_between, punct, punct_between, semi, space, spelled_symbol, symbol, valid_symbol};
@@ -18,9 +18,8 @@ ghost use Rattle.swc_ecma_codegen_tokens.specs.View.{state_of};
 
 use crate::LowerEmitter;
 use crate::guard::blank_due_after;
-use crate::lines::is_bounded;
 use crate::short_names::is_short_without_backslash;
-use crate::starts::StartClass;
+use crate::starts::{StartClass, begins_name};
 use swc_ecma_codegen_common::Span;
 use swc_ecma_codegen_grammar::comments::Comments;
 use swc_ecma_codegen_literals::Punctuator;
@@ -33,8 +32,7 @@ impl LowerEmitter {
     pub fn writes_punct<W: WriteJs>(&mut self, cfg: &Config, wr: &mut W, mark: Punctuator) -> bool
         ensures items { Does (punct (spelling mark)) (state_of cfg.now (W.sheet wr.old) self.old)
             (state_of cfg.now (W.sheet wr.new) self.new) (answered result self.new.reason) }
-        ensures level { OnOk (answered result self.new.reason)
-            ((W.sheet wr.new).indentation ≡ (W.sheet wr.old).indentation) }
+        ensures level { Stays (W.sheet wr.old) (W.sheet wr.new) (answered result self.new.reason) }
     {
         if self.is_apart(mark) {
             return self.writes_punct_apart(cfg, wr, mark);
@@ -44,11 +42,15 @@ impl LowerEmitter {
 
     /// The same in a function of its own: a token that goes the shortest way takes fewer registers.
     #[inline(never)]
-    fn writes_punct_apart<W: WriteJs>(&mut self, cfg: &Config, wr: &mut W, mark: Punctuator) -> bool
+    pub(crate) fn writes_punct_apart<W: WriteJs>(
+        &mut self,
+        cfg: &Config,
+        wr: &mut W,
+        mark: Punctuator,
+    ) -> bool
         ensures items { Does (punct (spelling mark)) (state_of cfg.now (W.sheet wr.old) self.old)
             (state_of cfg.now (W.sheet wr.new) self.new) (answered result self.new.reason) }
-        ensures level { OnOk (answered result self.new.reason)
-            ((W.sheet wr.new).indentation ≡ (W.sheet wr.old).indentation) }
+        ensures level { Stays (W.sheet wr.old) (W.sheet wr.new) (answered result self.new.reason) }
     {
         self.writes_punct_here(cfg, wr, mark)
     }
@@ -59,8 +61,7 @@ impl LowerEmitter {
     fn writes_punct_here<W: WriteJs>(&mut self, cfg: &Config, wr: &mut W, mark: Punctuator) -> bool
         ensures items { Does (punct (spelling mark)) (state_of cfg.now (W.sheet wr.old) self.old)
             (state_of cfg.now (W.sheet wr.new) self.new) (answered result self.new.reason) }
-        ensures level { OnOk (answered result self.new.reason)
-            ((W.sheet wr.new).indentation ≡ (W.sheet wr.old).indentation) }
+        ensures level { Stays (W.sheet wr.old) (W.sheet wr.new) (answered result self.new.reason) }
     {
         if !self.writes_bare_punct(cfg, wr, mark) {
             return false;
@@ -71,11 +72,16 @@ impl LowerEmitter {
     /// The same, but for the break behind it.
     #[inline(always)]
     #[tactic(auto, unfolding(crate::specs::Words::bare_punct))]
-    fn writes_bare_punct<W: WriteJs>(&mut self, cfg: &Config, wr: &mut W, mark: Punctuator) -> bool
-        ensures items { Does (bare_punct (spelling mark)) (state_of cfg.now (W.sheet wr.old) self.old)
+    pub(crate) fn writes_bare_punct<W: WriteJs>(
+        &mut self,
+        cfg: &Config,
+        wr: &mut W,
+        mark: Punctuator,
+    ) -> bool
+        ensures items { Does (bare_punct (spelling mark))
+            (state_of cfg.now (W.sheet wr.old) self.old)
             (state_of cfg.now (W.sheet wr.new) self.new) (answered result self.new.reason) }
-        ensures level { OnOk (answered result self.new.reason)
-            ((W.sheet wr.new).indentation ≡ (W.sheet wr.old).indentation) }
+        ensures level { Stays (W.sheet wr.old) (W.sheet wr.new) (answered result self.new.reason) }
     {
         match self.guard_mark(cfg, wr, mark) {
             Ok(()) => (),
@@ -90,10 +96,10 @@ impl LowerEmitter {
     /// The break that is allowed behind a punctuator.
     #[inline(always)]
     fn breaks_behind<W: WriteJs>(&mut self, cfg: &Config, wr: &mut W, mark: Punctuator) -> bool
-        ensures items { Does (break_behind (spelling mark)) (state_of cfg.now (W.sheet wr.old) self.old)
+        ensures items { Does (break_behind (spelling mark))
+            (state_of cfg.now (W.sheet wr.old) self.old)
             (state_of cfg.now (W.sheet wr.new) self.new) (answered result self.new.reason) }
-        ensures level { OnOk (answered result self.new.reason)
-            ((W.sheet wr.new).indentation ≡ (W.sheet wr.old).indentation) }
+        ensures level { Stays (W.sheet wr.old) (W.sheet wr.new) (answered result self.new.reason) }
     {
         match self.break_behind(cfg, wr, mark) {
             Ok(()) => true,
@@ -109,8 +115,7 @@ impl LowerEmitter {
     pub fn writes_semi<W: WriteJs>(&mut self, cfg: &Config, wr: &mut W) -> bool
         ensures items { Does (semi) (state_of cfg.now (W.sheet wr.old) self.old)
             (state_of cfg.now (W.sheet wr.new) self.new) (answered result self.new.reason) }
-        ensures level { OnOk (answered result self.new.reason)
-            ((W.sheet wr.new).indentation ≡ (W.sheet wr.old).indentation) }
+        ensures level { Stays (W.sheet wr.old) (W.sheet wr.new) (answered result self.new.reason) }
     {
         if self.is_apart(Punctuator::Semicolon) {
             return self.writes_semi_apart(cfg, wr);
@@ -123,29 +128,20 @@ impl LowerEmitter {
     fn writes_semi_apart<W: WriteJs>(&mut self, cfg: &Config, wr: &mut W) -> bool
         ensures items { Does (semi) (state_of cfg.now (W.sheet wr.old) self.old)
             (state_of cfg.now (W.sheet wr.new) self.new) (answered result self.new.reason) }
-        ensures level { OnOk (answered result self.new.reason)
-            ((W.sheet wr.new).indentation ≡ (W.sheet wr.old).indentation) }
+        ensures level { Stays (W.sheet wr.old) (W.sheet wr.new) (answered result self.new.reason) }
     {
         self.writes_semi_here(cfg, wr)
     }
 
     /// The same, where it is called.
     #[inline(always)]
-    #[tactic(auto, unfolding(crate::specs::Words::semi, crate::specs::Words::bare_semi))]
+    #[tactic(auto, unfolding(crate::specs::Words::semi))]
     fn writes_semi_here<W: WriteJs>(&mut self, cfg: &Config, wr: &mut W) -> bool
         ensures items { Does (semi) (state_of cfg.now (W.sheet wr.old) self.old)
             (state_of cfg.now (W.sheet wr.new) self.new) (answered result self.new.reason) }
-        ensures level { OnOk (answered result self.new.reason)
-            ((W.sheet wr.new).indentation ≡ (W.sheet wr.old).indentation) }
+        ensures level { Stays (W.sheet wr.old) (W.sheet wr.new) (answered result self.new.reason) }
     {
-        match self.guard_mark(cfg, wr, Punctuator::Semicolon) {
-            Ok(()) => (),
-            Err(refusal) => {
-                self.reason = refusal;
-                return false;
-            }
-        }
-        if !self.puts_semi(cfg, wr) {
+        if !self.writes_bare_semi(cfg, wr) {
             return false;
         }
         match self.allow_break(cfg, wr) {
@@ -155,6 +151,24 @@ impl LowerEmitter {
                 false
             }
         }
+    }
+
+    /// The same, but for the break behind it.
+    #[inline(always)]
+    #[tactic(auto, unfolding(crate::specs::Words::bare_semi))]
+    pub(crate) fn writes_bare_semi<W: WriteJs>(&mut self, cfg: &Config, wr: &mut W) -> bool
+        ensures items { Does (bare_semi) (state_of cfg.now (W.sheet wr.old) self.old)
+            (state_of cfg.now (W.sheet wr.new) self.new) (answered result self.new.reason) }
+        ensures level { Stays (W.sheet wr.old) (W.sheet wr.new) (answered result self.new.reason) }
+    {
+        match self.guard_mark(cfg, wr, Punctuator::Semicolon) {
+            Ok(()) => (),
+            Err(refusal) => {
+                self.reason = refusal;
+                return false;
+            }
+        }
+        self.puts_semi(cfg, wr)
     }
 
     /// Writes a keyword.
@@ -169,8 +183,7 @@ impl LowerEmitter {
         requires { begins_letter word.now ≡ true }
         ensures items { Does (keyword span word.now) (state_of cfg.now (W.sheet wr.old) self.old)
             (state_of cfg.now (W.sheet wr.new) self.new) (answered result self.new.reason) }
-        ensures level { OnOk (answered result self.new.reason)
-            ((W.sheet wr.new).indentation ≡ (W.sheet wr.old).indentation) }
+        ensures level { Stays (W.sheet wr.old) (W.sheet wr.new) (answered result self.new.reason) }
     {
         match span {
             None => self.writes_plain_keyword(cfg, wr, word),
@@ -189,8 +202,7 @@ impl LowerEmitter {
         requires { begins_letter word.now ≡ true }
         ensures items { Does (keyword None word.now) (state_of cfg.now (W.sheet wr.old) self.old)
             (state_of cfg.now (W.sheet wr.new) self.new) (answered result self.new.reason) }
-        ensures level { OnOk (answered result self.new.reason)
-            ((W.sheet wr.new).indentation ≡ (W.sheet wr.old).indentation) }
+        ensures level { Stays (W.sheet wr.old) (W.sheet wr.new) (answered result self.new.reason) }
     {
         if self.failed || blank_due_after(self.row, StartClass::NameCharacter) {
             return self.writes_keyword_apart(cfg, wr, None, word);
@@ -200,6 +212,7 @@ impl LowerEmitter {
 
     /// The same in a function of its own: a token that goes the shortest way takes fewer registers.
     #[inline(never)]
+    #[tactic(auto, unfolding(crate::specs::Words::keyword))]
     fn writes_keyword_apart<W: WriteJs>(
         &mut self,
         cfg: &Config,
@@ -210,16 +223,16 @@ impl LowerEmitter {
         requires { begins_letter word.now ≡ true }
         ensures items { Does (keyword span word.now) (state_of cfg.now (W.sheet wr.old) self.old)
             (state_of cfg.now (W.sheet wr.new) self.new) (answered result self.new.reason) }
-        ensures level { OnOk (answered result self.new.reason)
-            ((W.sheet wr.new).indentation ≡ (W.sheet wr.old).indentation) }
+        ensures level { Stays (W.sheet wr.old) (W.sheet wr.new) (answered result self.new.reason) }
     {
-        match self.keyword_here(cfg, wr, span, word) {
-            Ok(()) => true,
+        match self.guard_word(cfg, wr, word) {
+            Ok(()) => (),
             Err(refusal) => {
                 self.reason = refusal;
-                false
+                return false;
             }
         }
+        self.call_keyword(cfg, wr, span, word)
     }
 
     /// The same, where it is called.
@@ -234,8 +247,7 @@ impl LowerEmitter {
         requires { begins_letter word.now ≡ true }
         ensures items { Does (keyword None word.now) (state_of cfg.now (W.sheet wr.old) self.old)
             (state_of cfg.now (W.sheet wr.new) self.new) (answered result self.new.reason) }
-        ensures level { OnOk (answered result self.new.reason)
-            ((W.sheet wr.new).indentation ≡ (W.sheet wr.old).indentation) }
+        ensures level { Stays (W.sheet wr.old) (W.sheet wr.new) (answered result self.new.reason) }
     {
         match self.guard_word(cfg, wr, word) {
             Ok(()) => (),
@@ -252,8 +264,7 @@ impl LowerEmitter {
     pub fn writes_space<W: WriteJs>(&mut self, cfg: &Config, wr: &mut W) -> bool
         ensures items { Does (space) (state_of cfg.now (W.sheet wr.old) self.old)
             (state_of cfg.now (W.sheet wr.new) self.new) (answered result self.new.reason) }
-        ensures level { OnOk (answered result self.new.reason)
-            ((W.sheet wr.new).indentation ≡ (W.sheet wr.old).indentation) }
+        ensures level { Stays (W.sheet wr.old) (W.sheet wr.new) (answered result self.new.reason) }
     {
         self.puts_space(cfg, wr)
     }
@@ -267,10 +278,10 @@ impl LowerEmitter {
         wr: &mut W,
         mark: Punctuator,
     ) -> bool
-        ensures items { Does (operator_between (spelling mark)) (state_of cfg.now (W.sheet wr.old) self.old)
+        ensures items { Does (operator_between (spelling mark))
+            (state_of cfg.now (W.sheet wr.old) self.old)
             (state_of cfg.now (W.sheet wr.new) self.new) (answered result self.new.reason) }
-        ensures level { OnOk (answered result self.new.reason)
-            ((W.sheet wr.new).indentation ≡ (W.sheet wr.old).indentation) }
+        ensures level { Stays (W.sheet wr.old) (W.sheet wr.new) (answered result self.new.reason) }
     {
         if !self.puts_space(cfg, wr) {
             return false;
@@ -291,8 +302,7 @@ impl LowerEmitter {
     ) -> bool
         ensures items { Does (operator (spelling mark)) (state_of cfg.now (W.sheet wr.old) self.old)
             (state_of cfg.now (W.sheet wr.new) self.new) (answered result self.new.reason) }
-        ensures level { OnOk (answered result self.new.reason)
-            ((W.sheet wr.new).indentation ≡ (W.sheet wr.old).indentation) }
+        ensures level { Stays (W.sheet wr.old) (W.sheet wr.new) (answered result self.new.reason) }
     {
         if self.is_apart(mark) {
             return self.writes_operator_apart(cfg, wr, mark);
@@ -310,8 +320,7 @@ impl LowerEmitter {
     ) -> bool
         ensures items { Does (operator (spelling mark)) (state_of cfg.now (W.sheet wr.old) self.old)
             (state_of cfg.now (W.sheet wr.new) self.new) (answered result self.new.reason) }
-        ensures level { OnOk (answered result self.new.reason)
-            ((W.sheet wr.new).indentation ≡ (W.sheet wr.old).indentation) }
+        ensures level { Stays (W.sheet wr.old) (W.sheet wr.new) (answered result self.new.reason) }
     {
         self.writes_operator_here(cfg, wr, mark)
     }
@@ -327,8 +336,7 @@ impl LowerEmitter {
     ) -> bool
         ensures items { Does (operator (spelling mark)) (state_of cfg.now (W.sheet wr.old) self.old)
             (state_of cfg.now (W.sheet wr.new) self.new) (answered result self.new.reason) }
-        ensures level { OnOk (answered result self.new.reason)
-            ((W.sheet wr.new).indentation ≡ (W.sheet wr.old).indentation) }
+        ensures level { Stays (W.sheet wr.old) (W.sheet wr.new) (answered result self.new.reason) }
     {
         match self.guard_mark(cfg, wr, mark) {
             Ok(()) => (),
@@ -349,10 +357,10 @@ impl LowerEmitter {
         wr: &mut W,
         mark: Punctuator,
     ) -> bool
-        ensures items { Does (punct_between (spelling mark)) (state_of cfg.now (W.sheet wr.old) self.old)
+        ensures items { Does (punct_between (spelling mark))
+            (state_of cfg.now (W.sheet wr.old) self.old)
             (state_of cfg.now (W.sheet wr.new) self.new) (answered result self.new.reason) }
-        ensures level { OnOk (answered result self.new.reason)
-            ((W.sheet wr.new).indentation ≡ (W.sheet wr.old).indentation) }
+        ensures level { Stays (W.sheet wr.old) (W.sheet wr.new) (answered result self.new.reason) }
     {
         if !self.puts_space(cfg, wr) {
             return false;
@@ -386,7 +394,10 @@ impl LowerEmitter {
         if wr.can_ignore_invalid_unicodes() {
             return false;
         }
-        if blank_due_after(self.row, StartClass::of_text(sym)) {
+        if !begins_name(sym) {
+            return false;
+        }
+        if blank_due_after(self.row, StartClass::NameCharacter) {
             return false;
         }
         if !is_short_without_backslash(sym.as_bytes()) {
@@ -410,8 +421,7 @@ impl LowerEmitter {
         ensures items { DoesTaking (name span sym.now optional) (maps_in C.maps comments.old)
             (maps_in C.maps comments.new) (state_of cfg.now (W.sheet wr.old) self.old)
             (state_of cfg.now (W.sheet wr.new) self.new) (answered result self.new.reason) }
-        ensures level { OnOk (answered result self.new.reason)
-            ((W.sheet wr.new).indentation ≡ (W.sheet wr.old).indentation) }
+        ensures level { Stays (W.sheet wr.old) (W.sheet wr.new) (answered result self.new.reason) }
     {
         match self.leading_comments(cfg, comments, wr, span.lo) {
             Ok(()) => (),
@@ -450,8 +460,7 @@ impl LowerEmitter {
     ) -> bool
         ensures items { Does (name_text span sym.now) (state_of cfg.now (W.sheet wr.old) self.old)
             (state_of cfg.now (W.sheet wr.new) self.new) (answered result self.new.reason) }
-        ensures level { OnOk (answered result self.new.reason)
-            ((W.sheet wr.new).indentation ≡ (W.sheet wr.old).indentation) }
+        ensures level { Stays (W.sheet wr.old) (W.sheet wr.new) (answered result self.new.reason) }
     {
         if !self.is_plain(cfg, wr, sym) {
             return self.writes_name_text_apart(cfg, wr, span, sym);
@@ -470,8 +479,7 @@ impl LowerEmitter {
     ) -> bool
         ensures items { Does (name_text span sym.now) (state_of cfg.now (W.sheet wr.old) self.old)
             (state_of cfg.now (W.sheet wr.new) self.new) (answered result self.new.reason) }
-        ensures level { OnOk (answered result self.new.reason)
-            ((W.sheet wr.new).indentation ≡ (W.sheet wr.old).indentation) }
+        ensures level { Stays (W.sheet wr.old) (W.sheet wr.new) (answered result self.new.reason) }
     {
         match self.name_text(cfg, wr, span, sym) {
             Ok(()) => true,
@@ -499,8 +507,7 @@ impl LowerEmitter {
         requires valid { (W.sheet wr.old).keeps_invalid ≡ false }
         ensures items { Does (name_text span sym.now) (state_of cfg.now (W.sheet wr.old) self.old)
             (state_of cfg.now (W.sheet wr.new) self.new) (answered result self.new.reason) }
-        ensures level { OnOk (answered result self.new.reason)
-            ((W.sheet wr.new).indentation ≡ (W.sheet wr.old).indentation) }
+        ensures level { Stays (W.sheet wr.old) (W.sheet wr.new) (answered result self.new.reason) }
     {
         self.writes_plain_symbol(cfg, wr, span, sym)
     }
@@ -520,8 +527,7 @@ impl LowerEmitter {
         requires in_line { is_in_line sym.now ≡ true }
         ensures items { Does (symbol span sym.now) (state_of cfg.now (W.sheet wr.old) self.old)
             (state_of cfg.now (W.sheet wr.new) self.new) (answered result self.new.reason) }
-        ensures level { OnOk (answered result self.new.reason)
-            ((W.sheet wr.new).indentation ≡ (W.sheet wr.old).indentation) }
+        ensures level { Stays (W.sheet wr.old) (W.sheet wr.new) (answered result self.new.reason) }
     {
         match self.position(cfg, wr, span.lo) {
             Ok(()) => (),

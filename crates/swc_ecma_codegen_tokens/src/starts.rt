@@ -5,7 +5,7 @@ ghost use Rattle.std.specs.Str.{chars};
 ghost use Rattle.swc_ecma_codegen_grammar.specs.Chars.{is_part, begins_digit};
 ghost use Rattle.swc_ecma_codegen_grammar.specs.Texts.{begins};
 ghost use Rattle.swc_ecma_codegen_literals.specs.Punctuators.{spelling};
-ghost use Rattle.swc_ecma_codegen_tokens.specs.Starts.{mark_start, order, start_class, char_start, begins_letter, begins_quote};
+ghost use Rattle.swc_ecma_codegen_tokens.specs.Starts.{mark_start, order, start_class, char_start, begins_letter, begins_name, begins_quote};
 
 use swc_ecma_codegen_literals::Punctuator;
 use unicode_ident::is_xid_continue;
@@ -299,6 +299,18 @@ fn begins_letter(text: &str) -> bool
 {
     match text.as_bytes().first() {
         Some(first) => first.is_ascii_lowercase(),
+        None => false,
+    }
+}
+
+/// Whether a text begins with a letter of ASCII, `$` or `_`, as most names do.
+#[inline(always)]
+#[tactic(auto, unfolding(swc_ecma_codegen_grammar::specs::Chars::is_letter))]
+pub(crate) fn begins_name(text: &str) -> bool
+    ensures { result ≡ begins_name text.now }
+{
+    match text.as_bytes().first() {
+        Some(first) => first.is_ascii_alphabetic() || matches!(*first, b'$' | b'_'),
         None => false,
     }
 }

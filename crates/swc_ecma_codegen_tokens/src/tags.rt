@@ -1,6 +1,6 @@
 //! Tokens of JSX: a name in a tag, the text between tags, what begins a child, and the `>` that closes a tag.
 
-ghost use Rattle.std.specs.Prelude.{◌≡◌, None, OnOk, [], ◌∷◌, codes, true, false};
+ghost use Rattle.std.specs.Prelude.{◌≡◌, None, [], ◌∷◌, codes, true, false};
 ghost use Rattle.std.specs.Str.{chars, is_utf8};
 ghost use Rattle.swc_ecma_codegen_spans.specs.Spans.{dummy_span};
 ghost use Rattle.swc_ecma_codegen_grammar.specs.Comments.{maps_in};
@@ -9,7 +9,7 @@ ghost use Rattle.swc_ecma_codegen_grammar.specs.Phrases.{TagNameOf};
 ghost use Rattle.swc_ecma_codegen_grammar.specs.declared.kinds.Kind.TheVariants as kind;
 ghost use Rattle.swc_ecma_codegen_literals.specs.Punctuators.{spelling};
 ghost use Rattle.swc_ecma_codegen_text_writer.specs.Sheet.{StrLit, Symbol, Punct};
-ghost use Rattle.swc_ecma_codegen_tokens.specs.Run.{Does, DoesTaking, step, Token};
+ghost use Rattle.swc_ecma_codegen_tokens.specs.Run.{Does, DoesTaking, step, Token, Stays};
 ghost use Rattle.swc_ecma_codegen_tokens.specs.Tags.{closing, close, tag_symbol, tag_name, text_token, jsx_text, open_token, child_open};
 ghost use Rattle.swc_ecma_codegen_tokens.specs.Written.{Anything, Between, InText, InName};
 ghost use Rattle.swc_ecma_codegen_tokens.specs.Adds.{Adds, AddsOn, AddsTakingOn};
@@ -31,7 +31,7 @@ impl LowerEmitter {
         ensures items { Does (step (Token kind.JsxName (Symbol dummy_span text.now)))
             (state_of cfg.now (W.sheet wr.old) self.old)
             (state_of cfg.now (W.sheet wr.new) self.new) result }
-        ensures level { OnOk result ((W.sheet wr.new).indentation ≡ (W.sheet wr.old).indentation) }
+        ensures level { Stays (W.sheet wr.old) (W.sheet wr.new) result }
     {
         let _ = cfg;
         let answer = wr.write_symbol(DUMMY_SP, text);
@@ -43,7 +43,7 @@ impl LowerEmitter {
     fn tag_symbol<W: WriteJs>(&mut self, cfg: &Config, wr: &mut W, span: Span, text: &str) -> Answer
         ensures items { Does (tag_symbol span text.now) (state_of cfg.now (W.sheet wr.old) self.old)
             (state_of cfg.now (W.sheet wr.new) self.new) result }
-        ensures level { OnOk result ((W.sheet wr.new).indentation ≡ (W.sheet wr.old).indentation) }
+        ensures level { Stays (W.sheet wr.old) (W.sheet wr.new) result }
     {
         self.guard(cfg, wr, text, StartClass::of_text(text))?;
         self.position(cfg, wr, span.lo)?;
@@ -73,7 +73,7 @@ impl LowerEmitter {
         ensures in_tag { AddsTakingOn InName InName
             (TagNameOf span.lo text.now) (tag_name span text.now) (maps_in C.maps comments.old)
             cfg.now (W.sheet wr.old) self.old (W.sheet wr.new) self.new result }
-        ensures level { OnOk result ((W.sheet wr.new).indentation ≡ (W.sheet wr.old).indentation) }
+        ensures level { Stays (W.sheet wr.old) (W.sheet wr.new) result }
     {
         self.leading_comments(cfg, comments, wr, span.lo)?;
         self.put_pending_semi(cfg, wr)?;
@@ -87,7 +87,7 @@ impl LowerEmitter {
         ensures items { Does (step (Token kind.JsxOpen (Punct None (spelling mark))))
             (state_of cfg.now (W.sheet wr.old) self.old)
             (state_of cfg.now (W.sheet wr.new) self.new) result }
-        ensures level { OnOk result ((W.sheet wr.new).indentation ≡ (W.sheet wr.old).indentation) }
+        ensures level { Stays (W.sheet wr.old) (W.sheet wr.new) result }
     {
         let _ = cfg;
         let last = PreviousToken::after(self.last, mark);
@@ -107,7 +107,7 @@ impl LowerEmitter {
         ensures reads { is_jsx_open (spelling mark) ≡ true →
             AddsOn InText Anything (open_token (spelling mark) ∷ [])
             cfg.now (W.sheet wr.old) self.old (W.sheet wr.new) self.new result }
-        ensures level { OnOk result ((W.sheet wr.new).indentation ≡ (W.sheet wr.old).indentation) }
+        ensures level { Stays (W.sheet wr.old) (W.sheet wr.new) result }
     {
         if self.failed {
             return Err(Refusal::Failed);
@@ -128,7 +128,7 @@ impl LowerEmitter {
         ensures items { Does (step (Token kind.JsxText (StrLit span text.now)))
             (state_of cfg.now (W.sheet wr.old) self.old)
             (state_of cfg.now (W.sheet wr.new) self.new) result }
-        ensures level { OnOk result ((W.sheet wr.new).indentation ≡ (W.sheet wr.old).indentation) }
+        ensures level { Stays (W.sheet wr.old) (W.sheet wr.new) result }
     {
         let _ = cfg;
         let answer = wr.write_str_lit(span, text);
@@ -151,7 +151,7 @@ impl LowerEmitter {
         ensures reads { is_utf8 text.now ≡ true → is_jsx_text (chars text.now) ≡ true →
             AddsOn Between InText (text_token text.now ∷ [])
             cfg.now (W.sheet wr.old) self.old (W.sheet wr.new) self.new result }
-        ensures level { OnOk result ((W.sheet wr.new).indentation ≡ (W.sheet wr.old).indentation) }
+        ensures level { Stays (W.sheet wr.old) (W.sheet wr.new) result }
     {
         if self.failed {
             return Err(Refusal::Failed);
@@ -167,7 +167,7 @@ impl LowerEmitter {
         ensures items { Does (step (Token kind.Close (Punct None (codes ">"))))
             (state_of cfg.now (W.sheet wr.old) self.old)
             (state_of cfg.now (W.sheet wr.new) self.new) result }
-        ensures level { OnOk result ((W.sheet wr.new).indentation ≡ (W.sheet wr.old).indentation) }
+        ensures level { Stays (W.sheet wr.old) (W.sheet wr.new) result }
     {
         let _ = cfg;
         let before = self.note(PreviousToken::Closing);
@@ -187,7 +187,7 @@ impl LowerEmitter {
         // Behind a name in a tag too; a child may follow.
         ensures in_tag { AddsOn InName Between (closing ∷ [])
             cfg.now (W.sheet wr.old) self.old (W.sheet wr.new) self.new result }
-        ensures level { OnOk result ((W.sheet wr.new).indentation ≡ (W.sheet wr.old).indentation) }
+        ensures level { Stays (W.sheet wr.old) (W.sheet wr.new) result }
     {
         self.guard_mark(cfg, wr, Punctuator::Greater)?;
         self.put_close(cfg, wr)?;

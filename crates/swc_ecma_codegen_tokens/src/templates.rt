@@ -12,7 +12,7 @@ ghost use Rattle.swc_ecma_codegen_grammar.specs.Texts.{begins};
 ghost use Rattle.swc_ecma_codegen_text_writer.specs.Sheet.{StrLit, Punct};
 ghost use Rattle.swc_ecma_codegen_literals.specs.ValidNames.{has_byte};
 ghost use Rattle.swc_ecma_codegen_tokens.specs.Adds.{AddsList};
-ghost use Rattle.swc_ecma_codegen_tokens.specs.Run.{Does, step, Plain, Ends};
+ghost use Rattle.swc_ecma_codegen_tokens.specs.Run.{Does, step, Plain, Ends, Stays};
 ghost use Rattle.swc_ecma_codegen_tokens.specs.Templates.{with_line_feeds, is_respelled, cooked_text, makes_cooked, inside, placed_inside, closed, part_by, cooked_part, tpl_element, quasi};
 ghost use Rattle.swc_ecma_codegen_tokens.specs.View.{state_of};
 
@@ -115,7 +115,7 @@ impl LowerEmitter {
         ensures items { Does (step (Plain (Punct None (begin_of_part first))))
             (state_of cfg.now (W.sheet wr.old) self.old)
             (state_of cfg.now (W.sheet wr.new) self.new) result }
-        ensures level { OnOk result ((W.sheet wr.new).indentation ≡ (W.sheet wr.old).indentation) }
+        ensures level { Stays (W.sheet wr.old) (W.sheet wr.new) result }
         ensures fresh { OnOk result (self.new.failed ≡ false) }
     {
         let _ = cfg;
@@ -133,7 +133,7 @@ impl LowerEmitter {
         ensures items { Does (step (Plain (StrLit dummy_span text.now)))
             (state_of cfg.now (W.sheet wr.old) self.old)
             (state_of cfg.now (W.sheet wr.new) self.new) result }
-        ensures level { OnOk result ((W.sheet wr.new).indentation ≡ (W.sheet wr.old).indentation) }
+        ensures level { Stays (W.sheet wr.old) (W.sheet wr.new) result }
         ensures fresh { OnOk result (self.new.failed ≡ false) }
     {
         let _ = cfg;
@@ -148,7 +148,7 @@ impl LowerEmitter {
         ensures items { Does (step (Ends [] (StrLit dummy_span text.now)))
             (state_of cfg.now (W.sheet wr.old) self.old)
             (state_of cfg.now (W.sheet wr.new) self.new) result }
-        ensures level { OnOk result ((W.sheet wr.new).indentation ≡ (W.sheet wr.old).indentation) }
+        ensures level { Stays (W.sheet wr.old) (W.sheet wr.new) result }
         ensures fresh { OnOk result (self.new.failed ≡ false) }
     {
         let _ = cfg;
@@ -170,7 +170,7 @@ impl LowerEmitter {
         ensures items { Does (closed first part text.now)
             (state_of cfg.now (W.sheet wr.old) self.old)
             (state_of cfg.now (W.sheet wr.new) self.new) result }
-        ensures level { OnOk result ((W.sheet wr.new).indentation ≡ (W.sheet wr.old).indentation) }
+        ensures level { Stays (W.sheet wr.old) (W.sheet wr.new) result }
     {
         let _ = cfg;
         let _ = first;
@@ -191,7 +191,7 @@ impl LowerEmitter {
         requires { self.old.failed ≡ false }
         ensures items { Does (inside tagged text.now) (state_of cfg.now (W.sheet wr.old) self.old)
             (state_of cfg.now (W.sheet wr.new) self.new) result }
-        ensures level { OnOk result ((W.sheet wr.new).indentation ≡ (W.sheet wr.old).indentation) }
+        ensures level { Stays (W.sheet wr.old) (W.sheet wr.new) result }
         ensures fresh { OnOk result (self.new.failed ≡ false) }
     {
         if tagged {
@@ -215,7 +215,7 @@ impl LowerEmitter {
         ensures items { Does (placed_inside tagged span text.now)
             (state_of cfg.now (W.sheet wr.old) self.old)
             (state_of cfg.now (W.sheet wr.new) self.new) result }
-        ensures level { OnOk result ((W.sheet wr.new).indentation ≡ (W.sheet wr.old).indentation) }
+        ensures level { Stays (W.sheet wr.old) (W.sheet wr.new) result }
         ensures fresh { OnOk result (self.new.failed ≡ false) }
     {
         self.position(cfg, wr, span.lo)?;
@@ -238,7 +238,7 @@ impl LowerEmitter {
         ensures items { Does (part_by first part span text.now)
             (state_of cfg.now (W.sheet wr.old) self.old)
             (state_of cfg.now (W.sheet wr.new) self.new) result }
-        ensures level { OnOk result ((W.sheet wr.new).indentation ≡ (W.sheet wr.old).indentation) }
+        ensures level { Stays (W.sheet wr.old) (W.sheet wr.new) result }
     {
         let begin = part_begin(first);
         self.guard(cfg, wr, begin, StartClass::of_text(begin))?;
@@ -260,7 +260,7 @@ impl LowerEmitter {
         ensures items { Does (cooked_part first part n.now)
             (state_of cfg.now (W.sheet wr.old) self.old)
             (state_of cfg.now (W.sheet wr.new) self.new) result }
-        ensures level { OnOk result ((W.sheet wr.new).indentation ≡ (W.sheet wr.old).indentation) }
+        ensures level { Stays (W.sheet wr.old) (W.sheet wr.new) result }
     {
         if self.failed {
             return Err(Refusal::Failed);
@@ -279,7 +279,7 @@ impl LowerEmitter {
     pub fn quasi<W: WriteJs>(&mut self, cfg: &Config, wr: &mut W, n: &TplElement) -> Answer
         ensures items { Does (quasi n.now) (state_of cfg.now (W.sheet wr.old) self.old)
             (state_of cfg.now (W.sheet wr.new) self.new) result }
-        ensures level { OnOk result ((W.sheet wr.new).indentation ≡ (W.sheet wr.old).indentation) }
+        ensures level { Stays (W.sheet wr.old) (W.sheet wr.new) result }
     {
         if self.failed {
             return Err(Refusal::Failed);
@@ -310,7 +310,7 @@ impl LowerEmitter {
         // The whole part reads as one token: `a${` of `` `a${b}` ``, whatever stands inside.
         ensures reads { AddsList (phrases.tpl_element first part n.now)
             cfg.now (W.sheet wr.old) self.old (W.sheet wr.new) self.new result }
-        ensures level { OnOk result ((W.sheet wr.new).indentation ≡ (W.sheet wr.old).indentation) }
+        ensures level { Stays (W.sheet wr.old) (W.sheet wr.new) result }
     {
         if part.tagged {
             self.part_by(cfg, wr, first, part, n.span, &n.raw)

@@ -8,11 +8,11 @@ ghost use Rattle.std.specs.Prelude.{◌≡◌, None, OnOk, Option, [], ◌∷◌
 ghost use Rattle.std.specs.Str.{chars};
 ghost use Rattle.swc_ecma_codegen_literals.specs.Punctuators.{spelling};
 ghost use Rattle.swc_ecma_codegen_tokens.specs.Starts.{begins_letter, start_class};
-ghost use Rattle.swc_ecma_codegen_text_writer.specs.Sheet.{Position};
+ghost use Rattle.swc_ecma_codegen_text_writer.specs.Sheet.{Position, answered};
 ghost use Rattle.swc_ecma_codegen_grammar.specs.GapRules.{fuses};
 ghost use Rattle.swc_ecma_codegen_grammar.specs.Tokens as lexical;
 ghost use Rattle.swc_ecma_codegen_tokens.specs.PreviousToken.{last_at};
-ghost use Rattle.swc_ecma_codegen_tokens.specs.Run.{Does, step, Guard, Plain};
+ghost use Rattle.swc_ecma_codegen_tokens.specs.Run.{Does, step, Guard, Plain, Stays};
 ghost use Rattle.swc_ecma_codegen_tokens.specs.Words.{bare_punct, bare_semi, keyword, operator, operator_between, punct_between, word_operator, punct, placed_punct, semi, space, formatting_space, commit_pending_semi, position, position_before};
 ghost use Rattle.swc_ecma_codegen_tokens.specs.Written.{IsWord};
 ghost use Rattle.swc_ecma_codegen_tokens.specs.Adds.{Adds};
@@ -20,7 +20,6 @@ ghost use Rattle.swc_ecma_codegen_tokens.specs.View.{state_of};
 
 use crate::LowerEmitter;
 use crate::guard::blank_due_after;
-use crate::lines::is_bounded;
 use crate::previous::PreviousToken;
 use crate::starts::StartClass;
 use swc_ecma_codegen_common::{Answer, BytePos, Refusal, Span};
@@ -55,7 +54,7 @@ impl LowerEmitter {
         requires { start_class (chars text.now) ≡ next }
         ensures items { Does (step (Guard text.now)) (state_of cfg.now (W.sheet wr.old) self.old)
             (state_of cfg.now (W.sheet wr.new) self.new) result }
-        ensures level { OnOk result ((W.sheet wr.new).indentation ≡ (W.sheet wr.old).indentation) }
+        ensures level { Stays (W.sheet wr.old) (W.sheet wr.new) result }
         ensures fresh { OnOk result (self.new.failed ≡ false) }
     {
         if self.failed {
@@ -74,7 +73,7 @@ impl LowerEmitter {
         requires due { fuses (last_at self.old.token.value) (chars text.now) ≡ true }
         ensures items { Does (step (Guard text.now)) (state_of cfg.now (W.sheet wr.old) self.old)
             (state_of cfg.now (W.sheet wr.new) self.new) result }
-        ensures level { OnOk result ((W.sheet wr.new).indentation ≡ (W.sheet wr.old).indentation) }
+        ensures level { Stays (W.sheet wr.old) (W.sheet wr.new) result }
         ensures fresh { OnOk result (self.new.failed ≡ false) }
     {
         let _ = cfg;
@@ -93,7 +92,7 @@ impl LowerEmitter {
         ensures items { Does (step (Guard (spelling mark)))
             (state_of cfg.now (W.sheet wr.old) self.old)
             (state_of cfg.now (W.sheet wr.new) self.new) result }
-        ensures level { OnOk result ((W.sheet wr.new).indentation ≡ (W.sheet wr.old).indentation) }
+        ensures level { Stays (W.sheet wr.old) (W.sheet wr.new) result }
         ensures fresh { OnOk result (self.new.failed ≡ false) }
     {
         self.guard(cfg, wr, mark.as_str(), StartClass::of_mark(mark))
@@ -110,7 +109,7 @@ impl LowerEmitter {
         requires { begins_letter word.now ≡ true }
         ensures items { Does (step (Guard word.now)) (state_of cfg.now (W.sheet wr.old) self.old)
             (state_of cfg.now (W.sheet wr.new) self.new) result }
-        ensures level { OnOk result ((W.sheet wr.new).indentation ≡ (W.sheet wr.old).indentation) }
+        ensures level { Stays (W.sheet wr.old) (W.sheet wr.new) result }
         ensures fresh { OnOk result (self.new.failed ≡ false) }
     {
         self.guard(cfg, wr, word, StartClass::NameCharacter)
@@ -131,90 +130,10 @@ impl LowerEmitter {
         // The text reads as the tokens so far and this one, whatever follows that doesn't fuse.
         ensures reads { IsWord word.now → Adds (lexical.word word.now ∷ [])
             cfg.now (W.sheet wr.old) self.old (W.sheet wr.new) self.new result }
-        ensures level { OnOk result ((W.sheet wr.new).indentation ≡ (W.sheet wr.old).indentation) }
+        ensures level { Stays (W.sheet wr.old) (W.sheet wr.new) result }
     {
-        match span {
-            None => self.plain_keyword(cfg, wr, word),
-            Some(_) => self.keyword_apart(cfg, wr, span, word),
-        }
-    }
-
-    /// The same without a span.
-    #[inline(always)]
-    fn plain_keyword<W: WriteJs>(&mut self, cfg: &Config, wr: &mut W, word: &'static str) -> Answer
-        requires { begins_letter word.now ≡ true }
-        ensures items { Does (keyword None word.now) (state_of cfg.now (W.sheet wr.old) self.old)
-            (state_of cfg.now (W.sheet wr.new) self.new) result }
-        ensures reads { IsWord word.now → Adds (lexical.word word.now ∷ [])
-            cfg.now (W.sheet wr.old) self.old (W.sheet wr.new) self.new result }
-        ensures level { OnOk result ((W.sheet wr.new).indentation ≡ (W.sheet wr.old).indentation) }
-    {
-        if self.failed || blank_due_after(self.row, StartClass::NameCharacter) {
-            return self.keyword_apart(cfg, wr, None, word);
-        }
-        self.plain_keyword_here(cfg, wr, word)
-    }
-
-    /// The same, where it is called.
-    #[inline(always)]
-    #[tactic(auto, unfolding(crate::specs::Words::keyword))]
-    fn plain_keyword_here<W: WriteJs>(
-        &mut self,
-        cfg: &Config,
-        wr: &mut W,
-        word: &'static str,
-    ) -> Answer
-        requires { begins_letter word.now ≡ true }
-        ensures items { Does (keyword None word.now) (state_of cfg.now (W.sheet wr.old) self.old)
-            (state_of cfg.now (W.sheet wr.new) self.new) result }
-        ensures reads { IsWord word.now → Adds (lexical.word word.now ∷ [])
-            cfg.now (W.sheet wr.old) self.old (W.sheet wr.new) self.new result }
-        ensures level { OnOk result ((W.sheet wr.new).indentation ≡ (W.sheet wr.old).indentation) }
-    {
-        self.guard_word(cfg, wr, word)?;
-        self.put_keyword(cfg, wr, word)?;
-        Ok(())
-    }
-
-    /// The same in a function of its own: a token that goes the shortest way takes fewer registers.
-    #[inline(never)]
-    fn keyword_apart<W: WriteJs>(
-        &mut self,
-        cfg: &Config,
-        wr: &mut W,
-        span: Option<Span>,
-        word: &'static str,
-    ) -> Answer
-        requires { begins_letter word.now ≡ true }
-        ensures items { Does (keyword span word.now) (state_of cfg.now (W.sheet wr.old) self.old)
-            (state_of cfg.now (W.sheet wr.new) self.new) result }
-        ensures reads { IsWord word.now → Adds (lexical.word word.now ∷ [])
-            cfg.now (W.sheet wr.old) self.old (W.sheet wr.new) self.new result }
-        ensures level { OnOk result ((W.sheet wr.new).indentation ≡ (W.sheet wr.old).indentation) }
-    {
-        self.keyword_here(cfg, wr, span, word)
-    }
-
-    /// The same, where it is called.
-    #[inline(always)]
-    #[tactic(auto, unfolding(crate::specs::Words::keyword))]
-    pub(crate) fn keyword_here<W: WriteJs>(
-        &mut self,
-        cfg: &Config,
-        wr: &mut W,
-        span: Option<Span>,
-        word: &'static str,
-    ) -> Answer
-        requires { begins_letter word.now ≡ true }
-        ensures items { Does (keyword span word.now) (state_of cfg.now (W.sheet wr.old) self.old)
-            (state_of cfg.now (W.sheet wr.new) self.new) result }
-        ensures reads { IsWord word.now → Adds (lexical.word word.now ∷ [])
-            cfg.now (W.sheet wr.old) self.old (W.sheet wr.new) self.new result }
-        ensures level { OnOk result ((W.sheet wr.new).indentation ≡ (W.sheet wr.old).indentation) }
-    {
-        self.guard_word(cfg, wr, word)?;
-        self.put_placed_keyword(cfg, wr, span, word)?;
-        Ok(())
+        let done = self.writes_keyword(cfg, wr, span, word);
+        self.answer(done)
     }
 
     /// Writes an operator that is a punctuator.
@@ -225,39 +144,10 @@ impl LowerEmitter {
         // The text reads as the tokens so far and this one, whatever follows that doesn't fuse.
         ensures reads { Adds (lexical.punctuator (spelling mark) ∷ [])
             cfg.now (W.sheet wr.old) self.old (W.sheet wr.new) self.new result }
-        ensures level { OnOk result ((W.sheet wr.new).indentation ≡ (W.sheet wr.old).indentation) }
+        ensures level { Stays (W.sheet wr.old) (W.sheet wr.new) result }
     {
-        if self.is_apart(mark) {
-            return self.operator_apart(cfg, wr, mark);
-        }
-        self.operator_here(cfg, wr, mark)
-    }
-
-    /// The same in a function of its own: a token that goes the shortest way takes fewer registers.
-    #[inline(never)]
-    fn operator_apart<W: WriteJs>(&mut self, cfg: &Config, wr: &mut W, mark: Punctuator) -> Answer
-        ensures items { Does (operator (spelling mark)) (state_of cfg.now (W.sheet wr.old) self.old)
-            (state_of cfg.now (W.sheet wr.new) self.new) result }
-        ensures reads { Adds (lexical.punctuator (spelling mark) ∷ [])
-            cfg.now (W.sheet wr.old) self.old (W.sheet wr.new) self.new result }
-        ensures level { OnOk result ((W.sheet wr.new).indentation ≡ (W.sheet wr.old).indentation) }
-    {
-        self.operator_here(cfg, wr, mark)
-    }
-
-    /// The same, where it is called.
-    #[inline(always)]
-    #[tactic(auto, unfolding(crate::specs::Words::operator))]
-    fn operator_here<W: WriteJs>(&mut self, cfg: &Config, wr: &mut W, mark: Punctuator) -> Answer
-        ensures items { Does (operator (spelling mark)) (state_of cfg.now (W.sheet wr.old) self.old)
-            (state_of cfg.now (W.sheet wr.new) self.new) result }
-        ensures reads { Adds (lexical.punctuator (spelling mark) ∷ [])
-            cfg.now (W.sheet wr.old) self.old (W.sheet wr.new) self.new result }
-        ensures level { OnOk result ((W.sheet wr.new).indentation ≡ (W.sheet wr.old).indentation) }
-    {
-        self.guard_mark(cfg, wr, mark)?;
-        self.put_operator(cfg, wr, mark)?;
-        Ok(())
+        let done = self.writes_operator(cfg, wr, mark);
+        self.answer(done)
     }
 
     /// Writes an operator that is a word, as `in`.
@@ -275,7 +165,7 @@ impl LowerEmitter {
         // The text reads as the tokens so far and this one, whatever follows that doesn't fuse.
         ensures reads { IsWord text.now → Adds (lexical.word text.now ∷ [])
             cfg.now (W.sheet wr.old) self.old (W.sheet wr.new) self.new result }
-        ensures level { OnOk result ((W.sheet wr.new).indentation ≡ (W.sheet wr.old).indentation) }
+        ensures level { Stays (W.sheet wr.old) (W.sheet wr.new) result }
     {
         self.guard_word(cfg, wr, text)?;
         self.put_word_operator(cfg, wr, text)?;
@@ -290,61 +180,24 @@ impl LowerEmitter {
         // The text reads as the tokens so far and this one, whatever follows that doesn't fuse.
         ensures reads { Adds (lexical.punctuator (spelling mark) ∷ [])
             cfg.now (W.sheet wr.old) self.old (W.sheet wr.new) self.new result }
-        ensures level { OnOk result ((W.sheet wr.new).indentation ≡ (W.sheet wr.old).indentation) }
+        ensures level { Stays (W.sheet wr.old) (W.sheet wr.new) result }
     {
-        if self.is_apart(mark) {
-            return self.punct_apart(cfg, wr, mark);
-        }
-        self.punct_here(cfg, wr, mark)
-    }
-
-    /// The same in a function of its own: a token that goes the shortest way takes fewer registers.
-    #[inline(never)]
-    pub(crate) fn punct_apart<W: WriteJs>(
-        &mut self,
-        cfg: &Config,
-        wr: &mut W,
-        mark: Punctuator,
-    ) -> Answer
-        ensures items { Does (punct (spelling mark)) (state_of cfg.now (W.sheet wr.old) self.old)
-            (state_of cfg.now (W.sheet wr.new) self.new) result }
-        ensures reads { Adds (lexical.punctuator (spelling mark) ∷ [])
-            cfg.now (W.sheet wr.old) self.old (W.sheet wr.new) self.new result }
-        ensures level { OnOk result ((W.sheet wr.new).indentation ≡ (W.sheet wr.old).indentation) }
-    {
-        self.punct_here(cfg, wr, mark)
+        let done = self.writes_punct(cfg, wr, mark);
+        self.answer(done)
     }
 
     /// Writes a punctuator behind which no line may be ended, whichever it is: the `{` of `<a b={c}/>`.
     #[inline(always)]
-    #[tactic(auto, unfolding(crate::specs::Words::bare_punct))]
     pub fn bare_punct<W: WriteJs>(&mut self, cfg: &Config, wr: &mut W, mark: Punctuator) -> Answer
         ensures items { Does (bare_punct (spelling mark))
             (state_of cfg.now (W.sheet wr.old) self.old)
             (state_of cfg.now (W.sheet wr.new) self.new) result }
         ensures reads { Adds (lexical.punctuator (spelling mark) ∷ [])
             cfg.now (W.sheet wr.old) self.old (W.sheet wr.new) self.new result }
-        ensures level { OnOk result ((W.sheet wr.new).indentation ≡ (W.sheet wr.old).indentation) }
+        ensures level { Stays (W.sheet wr.old) (W.sheet wr.new) result }
     {
-        self.guard_mark(cfg, wr, mark)?;
-        self.put_punct(cfg, wr, mark)?;
-        Ok(())
-    }
-
-    /// The same, where it is called.
-    #[inline(always)]
-    #[tactic(auto, unfolding(crate::specs::Words::punct, crate::specs::Words::bare_punct))]
-    fn punct_here<W: WriteJs>(&mut self, cfg: &Config, wr: &mut W, mark: Punctuator) -> Answer
-        ensures items { Does (punct (spelling mark)) (state_of cfg.now (W.sheet wr.old) self.old)
-            (state_of cfg.now (W.sheet wr.new) self.new) result }
-        ensures reads { Adds (lexical.punctuator (spelling mark) ∷ [])
-            cfg.now (W.sheet wr.old) self.old (W.sheet wr.new) self.new result }
-        ensures level { OnOk result ((W.sheet wr.new).indentation ≡ (W.sheet wr.old).indentation) }
-    {
-        self.guard_mark(cfg, wr, mark)?;
-        self.put_punct(cfg, wr, mark)?;
-        self.break_behind(cfg, wr, mark)?;
-        Ok(())
+        let done = self.writes_bare_punct(cfg, wr, mark);
+        self.answer(done)
     }
 
     /// Writes a punctuator, and records where it begins and ends.
@@ -362,7 +215,7 @@ impl LowerEmitter {
             (state_of cfg.now (W.sheet wr.new) self.new) result }
         ensures reads { Adds (lexical.punctuator (spelling mark) ∷ [])
             cfg.now (W.sheet wr.old) self.old (W.sheet wr.new) self.new result }
-        ensures level { OnOk result ((W.sheet wr.new).indentation ≡ (W.sheet wr.old).indentation) }
+        ensures level { Stays (W.sheet wr.old) (W.sheet wr.new) result }
     {
         self.guard_mark(cfg, wr, mark)?;
         self.put_placed_punct(cfg, wr, span, mark)?;
@@ -377,24 +230,10 @@ impl LowerEmitter {
         // The text reads as the tokens so far and this one, whatever follows that doesn't fuse.
         ensures reads { Adds (lexical.ending ∷ [])
             cfg.now (W.sheet wr.old) self.old (W.sheet wr.new) self.new result }
-        ensures level { OnOk result ((W.sheet wr.new).indentation ≡ (W.sheet wr.old).indentation) }
+        ensures level { Stays (W.sheet wr.old) (W.sheet wr.new) result }
     {
-        if self.is_apart(Punctuator::Semicolon) {
-            return self.semi_apart(cfg, wr);
-        }
-        self.semi_here(cfg, wr)
-    }
-
-    /// The same in a function of its own: a token that goes the shortest way takes fewer registers.
-    #[inline(never)]
-    fn semi_apart<W: WriteJs>(&mut self, cfg: &Config, wr: &mut W) -> Answer
-        ensures items { Does (semi) (state_of cfg.now (W.sheet wr.old) self.old)
-            (state_of cfg.now (W.sheet wr.new) self.new) result }
-        ensures reads { Adds (lexical.ending ∷ [])
-            cfg.now (W.sheet wr.old) self.old (W.sheet wr.new) self.new result }
-        ensures level { OnOk result ((W.sheet wr.new).indentation ≡ (W.sheet wr.old).indentation) }
-    {
-        self.semi_here(cfg, wr)
+        let done = self.writes_semi(cfg, wr);
+        self.answer(done)
     }
 
     /// Writes a semicolon behind which no line may be ended: that of a function without a body.
@@ -404,40 +243,10 @@ impl LowerEmitter {
             (state_of cfg.now (W.sheet wr.new) self.new) result }
         ensures reads { Adds (lexical.ending ∷ [])
             cfg.now (W.sheet wr.old) self.old (W.sheet wr.new) self.new result }
-        ensures level { OnOk result ((W.sheet wr.new).indentation ≡ (W.sheet wr.old).indentation) }
+        ensures level { Stays (W.sheet wr.old) (W.sheet wr.new) result }
     {
-        self.bare_semi_here(cfg, wr)
-    }
-
-    /// The same, where it is called.
-    #[inline(always)]
-    #[tactic(auto, unfolding(crate::specs::Words::bare_semi))]
-    fn bare_semi_here<W: WriteJs>(&mut self, cfg: &Config, wr: &mut W) -> Answer
-        ensures items { Does (bare_semi) (state_of cfg.now (W.sheet wr.old) self.old)
-            (state_of cfg.now (W.sheet wr.new) self.new) result }
-        ensures reads { Adds (lexical.ending ∷ [])
-            cfg.now (W.sheet wr.old) self.old (W.sheet wr.new) self.new result }
-        ensures level { OnOk result ((W.sheet wr.new).indentation ≡ (W.sheet wr.old).indentation) }
-    {
-        self.guard_mark(cfg, wr, Punctuator::Semicolon)?;
-        self.put_semi(cfg, wr)?;
-        Ok(())
-    }
-
-    /// The same, where it is called.
-    #[inline(always)]
-    #[tactic(auto, unfolding(crate::specs::Words::semi, crate::specs::Words::bare_semi))]
-    fn semi_here<W: WriteJs>(&mut self, cfg: &Config, wr: &mut W) -> Answer
-        ensures items { Does (semi) (state_of cfg.now (W.sheet wr.old) self.old)
-            (state_of cfg.now (W.sheet wr.new) self.new) result }
-        ensures reads { Adds (lexical.ending ∷ [])
-            cfg.now (W.sheet wr.old) self.old (W.sheet wr.new) self.new result }
-        ensures level { OnOk result ((W.sheet wr.new).indentation ≡ (W.sheet wr.old).indentation) }
-    {
-        self.guard_mark(cfg, wr, Punctuator::Semicolon)?;
-        self.put_semi(cfg, wr)?;
-        self.allow_break(cfg, wr)?;
-        Ok(())
+        let done = self.writes_bare_semi(cfg, wr);
+        self.answer(done)
     }
 
     /// Writes a blank.
@@ -445,9 +254,10 @@ impl LowerEmitter {
     pub fn space<W: WriteJs>(&mut self, cfg: &Config, wr: &mut W) -> Answer
         ensures items { Does (space) (state_of cfg.now (W.sheet wr.old) self.old)
             (state_of cfg.now (W.sheet wr.new) self.new) result }
-        ensures level { OnOk result ((W.sheet wr.new).indentation ≡ (W.sheet wr.old).indentation) }
+        ensures level { Stays (W.sheet wr.old) (W.sheet wr.new) result }
     {
-        self.space_here(cfg, wr)
+        let done = self.puts_space(cfg, wr);
+        self.answer(done)
     }
 
     /// Writes an operator that is a punctuator, between two blanks: ` + `.
@@ -464,11 +274,11 @@ impl LowerEmitter {
             (state_of cfg.now (W.sheet wr.new) self.new) result }
         ensures reads { Adds (lexical.punctuator (spelling mark) ∷ [])
             cfg.now (W.sheet wr.old) self.old (W.sheet wr.new) self.new result }
-        ensures level { OnOk result ((W.sheet wr.new).indentation ≡ (W.sheet wr.old).indentation) }
+        ensures level { Stays (W.sheet wr.old) (W.sheet wr.new) result }
     {
-        self.space_here(cfg, wr)?;
+        self.space(cfg, wr)?;
         self.operator(cfg, wr, mark)?;
-        self.space_here(cfg, wr)?;
+        self.space(cfg, wr)?;
         Ok(())
     }
 
@@ -486,20 +296,20 @@ impl LowerEmitter {
             (state_of cfg.now (W.sheet wr.new) self.new) result }
         ensures reads { Adds (lexical.punctuator (spelling mark) ∷ [])
             cfg.now (W.sheet wr.old) self.old (W.sheet wr.new) self.new result }
-        ensures level { OnOk result ((W.sheet wr.new).indentation ≡ (W.sheet wr.old).indentation) }
+        ensures level { Stays (W.sheet wr.old) (W.sheet wr.new) result }
     {
-        self.space_here(cfg, wr)?;
+        self.space(cfg, wr)?;
         self.punct(cfg, wr, mark)?;
-        self.space_here(cfg, wr)?;
+        self.space(cfg, wr)?;
         Ok(())
     }
 
-    /// Writes a semicolon that is held back.
-    #[inline(never)]
+    /// Writes a semicolon that is held back. Where none is, that takes no call.
+    #[inline(always)]
     pub fn commit_pending_semi<W: WriteJs>(&mut self, cfg: &Config, wr: &mut W) -> Answer
         ensures items { Does (commit_pending_semi) (state_of cfg.now (W.sheet wr.old) self.old)
             (state_of cfg.now (W.sheet wr.new) self.new) result }
-        ensures level { OnOk result ((W.sheet wr.new).indentation ≡ (W.sheet wr.old).indentation) }
+        ensures level { Stays (W.sheet wr.old) (W.sheet wr.new) result }
     {
         self.put_pending_semi(cfg, wr)
     }
@@ -509,7 +319,7 @@ impl LowerEmitter {
     pub(crate) fn put_pending_semi<W: WriteJs>(&mut self, cfg: &Config, wr: &mut W) -> Answer
         ensures items { Does (commit_pending_semi) (state_of cfg.now (W.sheet wr.old) self.old)
             (state_of cfg.now (W.sheet wr.new) self.new) result }
-        ensures level { OnOk result ((W.sheet wr.new).indentation ≡ (W.sheet wr.old).indentation) }
+        ensures level { Stays (W.sheet wr.old) (W.sheet wr.new) result }
     {
         if self.failed {
             return Err(Refusal::Failed);
@@ -526,7 +336,7 @@ impl LowerEmitter {
         requires { self.old.failed ≡ false }
         ensures items { Does (commit_pending_semi) (state_of cfg.now (W.sheet wr.old) self.old)
             (state_of cfg.now (W.sheet wr.new) self.new) result }
-        ensures level { OnOk result ((W.sheet wr.new).indentation ≡ (W.sheet wr.old).indentation) }
+        ensures level { Stays (W.sheet wr.old) (W.sheet wr.new) result }
     {
         let _ = cfg;
         let answer = wr.commit_pending_semi();
@@ -538,7 +348,7 @@ impl LowerEmitter {
         ensures items { Does (step (Plain (Position pos)))
             (state_of cfg.now (W.sheet wr.old) self.old)
             (state_of cfg.now (W.sheet wr.new) self.new) result }
-        ensures level { OnOk result ((W.sheet wr.new).indentation ≡ (W.sheet wr.old).indentation) }
+        ensures level { Stays (W.sheet wr.old) (W.sheet wr.new) result }
         ensures fresh { OnOk result (self.new.failed ≡ false) }
     {
         if self.failed {
@@ -557,7 +367,7 @@ impl LowerEmitter {
         ensures items { Does (step (Plain (Position pos)))
             (state_of cfg.now (W.sheet wr.old) self.old)
             (state_of cfg.now (W.sheet wr.new) self.new) result }
-        ensures level { OnOk result ((W.sheet wr.new).indentation ≡ (W.sheet wr.old).indentation) }
+        ensures level { Stays (W.sheet wr.old) (W.sheet wr.new) result }
         ensures fresh { OnOk result (self.new.failed ≡ false) }
     {
         let _ = cfg;
@@ -565,17 +375,28 @@ impl LowerEmitter {
         self.keep(answer)
     }
 
-    /// Writes a blank, unless the settings are to minify.
+    /// Writes a blank, unless the settings are to minify. Whether that was done: else `reason` says why not.
+    #[inline(always)]
     #[tactic(auto, unfolding(crate::specs::Words::formatting_space), using(crate::proofs::Emission::Calls::skipped, crate::proofs::Emission::Calls::not_skipped))]
+    pub fn writes_formatting_space<W: WriteJs>(&mut self, cfg: &Config, wr: &mut W) -> bool
+        ensures items { Does formatting_space (state_of cfg.now (W.sheet wr.old) self.old)
+            (state_of cfg.now (W.sheet wr.new) self.new) (answered result self.new.reason) }
+        ensures level { Stays (W.sheet wr.old) (W.sheet wr.new) (answered result self.new.reason) }
+    {
+        if cfg.minify {
+            return true;
+        }
+        self.writes_space(cfg, wr)
+    }
+
+    /// The same, with the reason.
     pub fn formatting_space<W: WriteJs>(&mut self, cfg: &Config, wr: &mut W) -> Answer
         ensures items { Does formatting_space (state_of cfg.now (W.sheet wr.old) self.old)
             (state_of cfg.now (W.sheet wr.new) self.new) result }
-        ensures level { OnOk result ((W.sheet wr.new).indentation ≡ (W.sheet wr.old).indentation) }
+        ensures level { Stays (W.sheet wr.old) (W.sheet wr.new) result }
     {
-        if cfg.minify {
-            return Ok(());
-        }
-        self.space(cfg, wr)
+        let done = self.writes_formatting_space(cfg, wr);
+        self.answer(done)
     }
 
     /// Records a position, unless it is none.
@@ -583,7 +404,7 @@ impl LowerEmitter {
     pub fn position<W: WriteJs>(&mut self, cfg: &Config, wr: &mut W, pos: BytePos) -> Answer
         ensures items { Does (position pos) (state_of cfg.now (W.sheet wr.old) self.old)
             (state_of cfg.now (W.sheet wr.new) self.new) result }
-        ensures level { OnOk result ((W.sheet wr.new).indentation ≡ (W.sheet wr.old).indentation) }
+        ensures level { Stays (W.sheet wr.old) (W.sheet wr.new) result }
         ensures fresh { self.old.failed ≡ false → OnOk result (self.new.failed ≡ false) }
     {
         if pos.0 == 0 {
@@ -597,7 +418,7 @@ impl LowerEmitter {
     pub fn position_before<W: WriteJs>(&mut self, cfg: &Config, wr: &mut W, pos: BytePos) -> Answer
         ensures items { Does (position_before pos) (state_of cfg.now (W.sheet wr.old) self.old)
             (state_of cfg.now (W.sheet wr.new) self.new) result }
-        ensures level { OnOk result ((W.sheet wr.new).indentation ≡ (W.sheet wr.old).indentation) }
+        ensures level { Stays (W.sheet wr.old) (W.sheet wr.new) result }
     {
         if pos.0 == 0 {
             return Ok(());

@@ -1,5 +1,5 @@
 -- What a text begins with is all that the gap rules look at.
-use Rattle.std.proofs.Common.{◌≡◌, ◌⊎◌, inl, inr, ℕ, Bool, true, false, not, ◌&&◌, ◌||◌, ◌==◌, cond, List, [], ◌∷◌, codes, refl, sym, ◌∙◌, ap, get_or, nat_lt, nat_le, ◌≤◌, ◌-◌, arith}
+use Rattle.std.proofs.Common.{◌≡◌, ◌⊎◌, inl, inr, ℕ, Bool, true, false, not, ◌&&◌, ◌||◌, ◌==◌, cond, List, [], ◌∷◌, codes, refl, sym, ◌∙◌, ap, subst, get_or, nat_lt, nat_le, ◌≤◌, ◌-◌, arith}
 use Rattle.std.specs.Str.{chars, chars_after}
 use Rattle.std.proofs.lemmas.Bool.{and_parts, eqb-true, leb-true, lt-ltb, ne_eqb, or_cases, or_left, or_right, false_from_ne_true, true≢false}
 use Rattle.swc_ecma_codegen_grammar.proofs.CharLaws.{digit_part, part_below}
@@ -7,7 +7,7 @@ use Rattle.swc_ecma_codegen_grammar.specs.Chars.{begins_digit, is_digit, is_part
 use Rattle.swc_ecma_codegen_grammar.specs.Texts.{is_same, begins}
 use Rattle.swc_ecma_codegen_grammar.specs.GapRules.{PreviousToken, fuses}
 use Rattle.swc_ecma_codegen_tokens.specs.Starts as starts
-use Rattle.swc_ecma_codegen_tokens.specs.Starts.{order, class_in, mark_start, char_start, start_class, begins_letter, begins_quote}
+use Rattle.swc_ecma_codegen_tokens.specs.Starts.{order, class_in, mark_start, char_start, start_class, begins_letter, begins_name, begins_quote}
 use Rattle.swc_ecma_codegen_tokens.specs.declared.starts.StartClass.{StartClass}
 use Rattle.swc_ecma_codegen_tokens.specs.declared.starts.StartClass.TheVariants as start
 use Rattle.swc_ecma_codegen_tokens.proofs.Gaps.NoPunctuator.{is_in, all_pass, passes, marks, and_false, stranger_same, stranger_apart, dot_same, dash_same, other_same}
@@ -121,25 +121,61 @@ unfolding chars
 first_letter c [] h = ap (λ b. chars_after (cond b 0 (cond (nat_lt c 224) 1 (cond (nat_lt c 240) 2 3))) (cond b c (cond (nat_lt c 224) (c - 192) (cond (nat_lt c 240) (c - 224) (c - 240)))) []) h
 first_letter c (d ∷ ds) h = ap (λ b. chars_after (cond b 0 (cond (nat_lt c 224) 1 (cond (nat_lt c 240) 2 3))) (cond b c (cond (nat_lt c 224) (c - 192) (cond (nat_lt c 240) (c - 224) (c - 240)))) (d ∷ ds)) h
 
-letter_class : (c : ℕ) (n : List ℕ) → 97 ≤ c → c ≤ 122 → (nat_le 97 c && nat_le c 122) ≡ true → start_class (c ∷ n) ≡ start.NameCharacter
-unfolding start_class char_start is_digit is_letter
+letter_class : (c : ℕ) (n : List ℕ) → 65 ≤ c → c ≤ 122 → is_letter c ≡ true → start_class (c ∷ n) ≡ start.NameCharacter
+unfolding start_class char_start is_digit
 letter_class c n low high h =
     let no_dot : (c == 46) ≡ false = ne_eqb c 46 (λ e. absurd (omega (arith, e))) in
     let no_dash : (c == 45) ≡ false = ne_eqb c 45 (λ e. absurd (omega (arith, e))) in
     let no_digit : nat_le c 57 ≡ false = false_from_ne_true (nat_le c 57) (λ e. let f = leb-true c 57 e in absurd (omega arith)) in
     let digits : (nat_le 48 c && nat_le c 57) ≡ false = ap (λ b. nat_le 48 c && b) no_digit ∙ and_false (nat_le 48 c) in
-    let part : is_part c ≡ true = part_below c (omega arith) (or_left _ _ (or_left _ _ (or_left _ _ (or_right _ _ h)))) in
+    let part : is_part c ≡ true = part_below c (omega arith) (or_left _ _ (or_left _ _ (or_left _ _ h))) in
     λ i. chosen (no_dot i && begins_digit n) (no_dash i && begins (codes "-") n) (digits i) (part i || (c == 92)) (mark_start c)
+
+-- so does a text that begins with a letter
+letter_first : (c : ℕ) (cs : List ℕ) → 65 ≤ c → c ≤ 122 → is_letter c ≡ true → start_class (chars (c ∷ cs)) ≡ start.NameCharacter
+letter_first c cs low high h =
+    let ascii : nat_lt c 128 ≡ true = lt-ltb c 128 (omega arith) in
+    ap start_class (first_letter c cs ascii) ∙ letter_class c (chars cs) low high h
 
 -- a text that begins with a small letter begins as a name does
 pub letter_start : (t : List ℕ) → begins_letter t ≡ true → start_class (chars t) ≡ start.NameCharacter
+unfolding is_letter
 letter_start [] h = absurd (true≢false (sym h))
 letter_start (c ∷ cs) h =
     let p = and_parts (nat_le 97 c) (nat_le c 122) h in
     let low : 97 ≤ c = leb-true 97 c p.0 in
     let high : c ≤ 122 = leb-true c 122 p.1 in
-    let ascii : nat_lt c 128 ≡ true = lt-ltb c 128 (omega arith) in
-    ap start_class (first_letter c cs ascii) ∙ letter_class c (chars cs) low high h
+    letter_first c cs (omega arith) high (or_right _ _ h)
+
+-- and one that begins with any letter of ASCII, `$` or `_`
+any_letter : (c : ℕ) (cs : List ℕ) → is_letter c ≡ true → start_class (chars (c ∷ cs)) ≡ start.NameCharacter
+unfolding is_letter
+any_letter c cs h = elim (or_cases (nat_le 65 c && nat_le c 90) (nat_le 97 c && nat_le c 122) h) [
+  | inl capital ↦
+      let p = and_parts (nat_le 65 c) (nat_le c 90) capital in
+      let low : 65 ≤ c = leb-true 65 c p.0 in
+      let high : c ≤ 90 = leb-true c 90 p.1 in
+      letter_first c cs low (omega arith) h
+  | inr small ↦ letter_start (c ∷ cs) small
+]
+
+dollar_first : (cs : List ℕ) → start_class (chars (36 ∷ cs)) ≡ start.NameCharacter
+unfolding start_class char_start is_digit is_part is_letter
+dollar_first cs = ap start_class (first_letter 36 cs refl)
+
+underscore_first : (cs : List ℕ) → start_class (chars (95 ∷ cs)) ≡ start.NameCharacter
+unfolding start_class char_start is_digit is_part is_letter
+underscore_first cs = ap start_class (first_letter 95 cs refl)
+
+pub name_start : (t : List ℕ) → begins_name t ≡ true → start_class (chars t) ≡ start.NameCharacter
+name_start [] h = absurd (true≢false (sym h))
+name_start (c ∷ cs) h = elim (or_cases (is_letter c || (c == 36)) (c == 95) h) [
+  | inl other ↦ elim (or_cases (is_letter c) (c == 36) other) [
+    | inl letter ↦ any_letter c cs letter
+    | inr dollar ↦ subst (λ z. start_class (chars (z ∷ cs)) ≡ start.NameCharacter) (sym (eqb-true c 36 dollar)) (dollar_first cs)
+  ]
+  | inr underscore ↦ subst (λ z. start_class (chars (z ∷ cs)) ≡ start.NameCharacter) (sym (eqb-true c 95 underscore)) (underscore_first cs)
+]
 
 -- ---- the class of a text, by its first character
 

@@ -1,11 +1,9 @@
-use Rattle.std.proofs.Common.{Option, sym, subst}
-use Rattle.swc_ecma_codegen_common.specs.declared.positions.Span.{Span}
-use Rattle.swc_ecma_codegen_tokens.specs.Run.{Does}
-use Rattle.swc_ecma_codegen_tokens.specs.View.{state_of}
+use Rattle.std.specs.Prelude.{[], ◌∷◌}
+use Rattle.swc_ecma_codegen_grammar.specs.Tokens as lexical
 use Rattle.swc_ecma_codegen_tokens.specs.Words.{keyword}
+use Rattle.swc_ecma_codegen_tokens.proofs.Reading.Answered.{adds_answered}
+use Rattle.swc_ecma_codegen_tokens.proofs.Reading.SoFar.{keyword_so_far}
 use Rattle.swc_ecma_codegen_tokens.proofs.LowerEmitter.keyword.Goals as goal
 
-pub returns-in-None-clause-items : goal.returns-in-None-clause-items
-returns-in-None-clause-items g c =
-    let P : Option Span → Type 0 = λ span. Does (keyword span c.args.word.now) (state_of c.args.cfg.now (g.W.WriteJs.sheet c.args.wr.now) c.args.self.now) (state_of c.args.cfg.now (g.W.WriteJs.sheet c.plain_keyword.new.wr) c.plain_keyword.new.self) c.plain_keyword.result in
-    subst P (sym c.in-None.is) c.plain_keyword.ensures.items
+pub returns-clause-reads : goal.returns-clause-reads
+returns-clause-reads g c = λ w. adds_answered (keyword c.args.span c.args.word.now) (lexical.word c.args.word.now ∷ []) c.args.cfg.now (g.W.WriteJs.sheet c.args.wr.now) c.args.self.now (g.W.WriteJs.sheet c.writes_keyword-done.new.wr) c.writes_keyword-done.new.self _ _ c.answer.ensures (λ old tokens rs. keyword_so_far c.args.span c.args.word.now old tokens rs _ _ w) c.writes_keyword-done.ensures.items

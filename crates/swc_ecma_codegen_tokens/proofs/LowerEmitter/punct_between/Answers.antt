@@ -6,4 +6,4 @@ use Rattle.swc_ecma_codegen_tokens.proofs.LowerEmitter.punct_between.Goals as go
 
 pub returns-clause-reads : goal.returns-clause-reads
 unfolding with_source
-returns-clause-reads g c = λ old tokens rs h. space_so_far old _ rs _ _ (c.in_ok-space_here-2.ensures.items no_lines no_maps) (c.in_ok-punct.ensures.reads old tokens rs (space_so_far old tokens rs _ _ (c.in_ok-space_here.ensures.items no_lines no_maps) h))
+returns-clause-reads g c = λ old tokens rs h. space_so_far old _ rs _ _ (c.in_ok-space-2.ensures.items no_lines no_maps) (c.in_ok-punct.ensures.reads old tokens rs (space_so_far old tokens rs _ _ (c.in_ok-space.ensures.items no_lines no_maps) h))
