@@ -293,10 +293,8 @@ impl<W: WriteJs, S: SourceMapper, C: Comments> Emitter<'_, W, S, C> {
         if self.refusal.is_some() {
             return;
         }
-        keep(
-            &mut self.refusal,
-            self.lower.formatting_space(&self.cfg, &mut self.wr),
-        );
+        let done = self.lower.writes_formatting_space(&self.cfg, &mut self.wr);
+        keep_reason(&mut self.refusal, done, &self.lower);
     }
 
     /// Ends the line, unless the settings are to minify.
@@ -307,10 +305,8 @@ impl<W: WriteJs, S: SourceMapper, C: Comments> Emitter<'_, W, S, C> {
         if self.refusal.is_some() {
             return;
         }
-        keep(
-            &mut self.refusal,
-            self.lower.formatting_line(&self.cfg, &mut self.wr),
-        );
+        let done = self.lower.writes_formatting_line(&self.cfg, &mut self.wr);
+        keep_reason(&mut self.refusal, done, &self.lower);
     }
 
     /// Writes a semicolon that is held back.

@@ -4,4 +4,4 @@ use Rattle.swc_ecma_codegen_emit.proofs.Standings.{makes_here}
 use Rattle.swc_ecma_codegen_emit.proofs.emitter.Emitter.formatting_line.Goals as goal
 
 pub returns : goal.returns
-returns g c = record { items = makes_here (g.S.SourceMapper.lines c.args.self.now.cm.now) (maps_in g.C.Comments.maps c.args.self.now.comments) _ _ _ _ _ _ c.formatting_line.ensures.items c.formatting_line.ensures.level (search rules) c.keep.ensures }
+returns g c = record { items = makes_here (g.S.SourceMapper.lines c.args.self.now.cm.now) (maps_in g.C.Comments.maps c.args.self.now.comments) _ _ _ _ _ _ c.writes_formatting_line-done.ensures.items c.writes_formatting_line-done.ensures.level (search rules) c.keep_reason.ensures }
