@@ -9,6 +9,8 @@ use Rattle.swc_ecma_codegen_tree.specs.declared.exprs.ArrowExpr.{ArrowExpr}
 use Rattle.swc_ecma_codegen_tree.specs.declared.exprs.BlockStmtOrExpr.{BlockStmtOrExpr}
 use Rattle.swc_ecma_codegen_tree.specs.declared.exprs.BlockStmtOrExpr.TheVariants as bodies
 use Rattle.swc_ecma_codegen_tree.specs.declared.parts.ExprPart.TheVariants as expr_parts
+use Rattle.swc_ecma_codegen_tree.specs.declared.parts.JSXPart.TheVariants as jsx_parts
+use Rattle.swc_ecma_codegen_tree.specs.declared.parts.StmtPart.TheVariants as stmt_parts
 use Rattle.swc_ecma_codegen_tree.specs.declared.pats.Pat.TheVariants as pats
 use Rattle.swc_ecma_codegen_grammar.specs.FunctionPhrases.{is_never, word_if, is_typed_arrow}
 use Rattle.swc_ecma_codegen_grammar.specs.PartPhrases.{expr_part}
@@ -28,9 +30,9 @@ use Rattle.swc_ecma_codegen_syntax.specs.Forms.{Fixed, Provided, ByRule, ◌⇢�
 use Rattle.swc_ecma_codegen_syntax.specs.FunctionForms.{type_params_form, arrow_params_form, arrow_body_form, async_form, arrow_form}
 use Rattle.swc_ecma_codegen_syntax.specs.MemberForms.{annotation_form}
 use Rattle.swc_ecma_codegen_syntax.specs.PatForms.{pat_form, pat_part, pat_nonterminal}
-use Rattle.swc_ecma_codegen_syntax.specs.NodeForms.{node_form, node_nonterminal, part_form, part_nonterminal}
+use Rattle.swc_ecma_codegen_syntax.specs.NodeForms.{node_form, node_nonterminal, part_form, part_nonterminal, stmt_part_form, jsx_part_form}
 use Rattle.swc_ecma_codegen_syntax.specs.Derives.{Derives, fixed, part, restricted, lone, lone_in_parentheses, both, provided}
-use Rattle.swc_ecma_codegen_uniqueness.specs.ParseTrees.{Variant, ParseTree, End, Read, Optional, Node, Ident, Seq, Arrow, Paren, is_known, part_variant, pat_variant, node_variant, tokens_of}
+use Rattle.swc_ecma_codegen_uniqueness.specs.ParseTrees.{Variant, ParseTree, End, Read, Optional, Node, Ident, Seq, Arrow, Paren, part_variant, pat_variant, node_variant, tokens_of}
 use Rattle.swc_ecma_codegen_uniqueness.specs.Parses.{placed, is_inlined, is_inlined_pattern, is_inlined_pat}
 use Rattle.swc_ecma_codegen_uniqueness.proofs.Classes.{class}
 use Rattle.swc_ecma_codegen_uniqueness.proofs.Controls.{Listed, ArrowBody, InList}
@@ -43,7 +45,7 @@ use Rattle.swc_ecma_codegen_uniqueness.proofs.StatementShapes.{operand_heads, ar
 use Rattle.swc_ecma_codegen_uniqueness.proofs.Heading.{may_be_value, not_excluded}
 use Rattle.swc_ecma_codegen_uniqueness.proofs.Shapes.{Operand, shift_left, takes_self, assignment_taken, widened, left_taken, left_assigned, listed_first, listed_next, listed_last, listed_rest, no_parameters, several_parameters, one_parameter, rest_parameter, one_turned, arrow_mark, arrow, async_arrow, ended}
 use Rattle.swc_ecma_codegen_uniqueness.proofs.Reading.{read_phrase, derived_parse}
-use Rattle.swc_ecma_codegen_uniqueness.proofs.Fits.{Fit, in_place, at_place, PlacedGood, AllGood}
+use Rattle.swc_ecma_codegen_uniqueness.proofs.Fits.{Fit, in_place, at_place, PlacedGood, AllGood, no_form}
 use Rattle.swc_ecma_codegen_uniqueness.proofs.Atoms.{no_annotation, binding_read}
 use Rattle.swc_ecma_codegen_uniqueness.proofs.Patterns.{covered_at, LastPart, an_element, a_rest, last_at, no_rest}
 
@@ -102,11 +104,13 @@ name_heads text p e = λ us. (tokens.name text, us, ap (λ z. tokens_of z us) e,
 lone_in : {s : Settings} (called : Bool) (c : Parameters) (y : AnyNode-F AnyNode) {ts : List Token} (d : Derives true s (node_form called c y Pattern) ts) → is_never (node_phrase phrase y PlainParameter) ≡ false →
     PlacedGood (is_inlined Pattern y) (s.minify ≡ c.minify → Fit c (node_variant y Pattern) (cover (node_nonterminal called c y Pattern)) (derived_parse d End)) (AllGood d) → s.minify ≡ c.minify →
     Turned (placed (is_inlined Pattern y) (node_variant y Pattern) (derived_parse d))
-unfolding node_phrase expr_part plain_parameter is_never node_form part_form pat_form node_nonterminal part_nonterminal pat_nonterminal node_variant part_variant pat_variant is_known PlacedGood placed is_inlined is_inlined_pattern is_inlined_pat same_line
+unfolding node_phrase expr_part plain_parameter is_never node_form part_form pat_form node_nonterminal part_nonterminal pat_nonterminal node_variant part_variant pat_variant PlacedGood placed is_inlined is_inlined_pattern is_inlined_pat same_line stmt_part_form jsx_part_form
 lone_in called c (nodes.ExprPart (expr_parts.Pat (pats.Ident n))) d h o m =
     record { variant = Ident; inside = derived_parse d End; operand = in_place (takes_self nt.LeftHandSideExpression) (o m); is = λ rest. refl; heads = name_heads _ _ (binding_read c n d End) }
 lone_in called c (nodes.ExprPart (expr_parts.Pat n)) d h o m = absurd (true≢false h)
-lone_in called c y d h o m = absurd (true≢false (sym (o m).known))
+lone_in called c (nodes.StmtPart (stmt_parts.Function n)) d h o m = absurd (no_form d)
+lone_in called c (nodes.JSXPart (jsx_parts.JSXElement n)) d h o m = absurd (no_form d)
+lone_in called c y d h o m = absurd (no_form d)
 
 one_read : {f : ParseTree → ParseTree} → LastPart f → Turned (λ rest. Optional (punctuator (codes "(")) (f (Optional (punctuator (codes ")")) rest)))
 unfolding same_line

@@ -47,11 +47,12 @@ use Rattle.swc_ecma_codegen_uniqueness.proofs.Classes.{Class, NameToken, Literal
 use Rattle.swc_ecma_codegen_uniqueness.proofs.Controls.{Control, InList, Parameter, AfterParameters, AtMember, InMemberKey, MemberKey, FieldPlace}
 use Rattle.swc_ecma_codegen_uniqueness.proofs.Tables.{field_of, shifted_to}
 use Rattle.swc_ecma_codegen_uniqueness.proofs.PlaceLaws.{is_close_brace, element_begins}
+use Rattle.swc_ecma_codegen_uniqueness.proofs.TableLaws.{assignment_single}
 use Rattle.swc_ecma_codegen_uniqueness.proofs.Machine.{Whole, Rest, Good, headed_block, shifted}
 use Rattle.swc_ecma_codegen_uniqueness.proofs.Shapes.{Operand, takes_self, assignment_taken, part_then, ended, is_key, Keyed}
 use Rattle.swc_ecma_codegen_uniqueness.proofs.StatementShapes.{Within}
 use Rattle.swc_ecma_codegen_uniqueness.proofs.Reading.{read_phrase, derived_parse}
-use Rattle.swc_ecma_codegen_uniqueness.proofs.Fits.{at_place, PlacedGood, AllGood, no_form}
+use Rattle.swc_ecma_codegen_uniqueness.proofs.Fits.{at_place, taken_at, PlacedGood, AllGood, no_form}
 use Rattle.swc_ecma_codegen_uniqueness.proofs.Atoms.{no_annotation}
 use Rattle.swc_ecma_codegen_uniqueness.proofs.Keys.{own_key_good}
 use Rattle.swc_ecma_codegen_uniqueness.proofs.Functions.{Behind, EachRead, each_param, params_good, plain_params_good, body_good, no_decorators, no_type_params, Tail, rest_good}
@@ -284,7 +285,7 @@ value_good : {s : Settings} (k : Variant) (c : Parameters) (o : Option (ExprBox 
 unfolding field_value_form AllGood PlacedGood derived_parse read_phrase placed is_inlined punctuator ending
 value_good k c None (fixed g) o m = shifted refl (ended (field_of k) nt.ClassElement)
 value_good k c (Some n) (both (fixed g) (part a sa d)) (x, o) m =
-    shifted refl (part_then (FieldPlace (field_of k)) (Read ending End) (takes_self nt.AssignmentExpression) (at_place _ _ sa (o m)) (assignment_taken, λ z. refl, ended (field_of k) nt.ClassElement))
+    shifted refl (part_then (FieldPlace (field_of k)) (Read ending End) (takes_self nt.AssignmentExpression) (at_place _ _ sa (o m (assignment_single _ (taken_at _ _ sa)))) (assignment_taken, λ z. refl, ended (field_of k) nt.ClassElement))
 
 field_good : {s : Settings} (c : Parameters) (n : fields.ClassProp AnyNode) {ts : List Token} (d : Derives true s (field_form c n) ts) → AllGood d → s.minify ≡ c.minify → Good (Whole ClassProp nt.ClassElement) (derived_parse d End)
 unfolding field_form plain_modifiers prop_modifiers is_met AllGood derived_parse read_phrase

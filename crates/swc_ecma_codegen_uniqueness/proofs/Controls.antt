@@ -4,7 +4,7 @@ use Rattle.swc_ecma_codegen_grammar.specs.Tokens.{Token}
 use Rattle.swc_ecma_codegen_syntax.specs.declared.nonterminals.Nonterminal.{Nonterminal}
 use Rattle.swc_ecma_codegen_syntax.specs.declared.nonterminals.Nonterminal.TheVariants as nt
 use Rattle.swc_ecma_codegen_syntax.specs.Nonterminals.{takes, is_private}
-use Rattle.swc_ecma_codegen_uniqueness.specs.ParseTrees.{Variant, Unary, Update, Bin, Assign, Cond, New, Seq, Arrow, Yield, Await, LabeledStmt, IfStmt, Other, TryStmt, DoWhileStmt}
+use Rattle.swc_ecma_codegen_uniqueness.specs.ParseTrees.{Variant, Unary, Update, Bin, Assign, Cond, New, Seq, Arrow, Yield, Await, LabeledStmt, IfStmt, Foreign, TryStmt, DoWhileStmt}
 use Rattle.swc_ecma_codegen_uniqueness.proofs.Classes.{Level, Class, class, Power, Times, Plus, Shifting, Less, Comparing, Within, Equating, BitAnds, BitXors, BitOrs, Ands, Ors, Coalescing, Infix, Assigns, Ask, Colon, Comma, Dot, ChainDot, OpenParen, CloseParen, OpenBracket, CloseBracket, OpenBrace, CloseBrace, Line, Twice, Bang, Semi, Semicolon, First, Later, TagName, TagClose, NameToken, PrivateToken, LiteralToken, ThisWord, NewWord, SuperWord, ImportWord, YieldWord, AwaitWord, AsyncWord, FunctionWord, ClassWord, OfWord, ElseWord, CatchWord, FinallyWord, UnaryWord}
 
 -- ---- levels: the nonterminal of each operator, and of its operands
@@ -308,4 +308,4 @@ variant_of (Statement OfLabel) = LabeledStmt
 variant_of AfterDo = DoWhileStmt
 variant_of BehindCatch = TryStmt
 variant_of (Statement (OfLoop variant)) = variant
-variant_of c = Other
+variant_of c = Foreign

@@ -7,7 +7,7 @@ use Rattle.swc_ecma_codegen_grammar.specs.Settings.{Settings}
 use Rattle.swc_ecma_codegen_grammar.specs.Tokens.{Token, punctuator}
 use Rattle.swc_ecma_codegen_grammar.specs.Tokens as tokens
 use Rattle.swc_ecma_codegen_grammar.specs.declared.roles.Role.{Role}
-use Rattle.swc_ecma_codegen_grammar.specs.declared.roles.Role.TheVariants.{Statement, Block, Member, Child, Element, TagObject}
+use Rattle.swc_ecma_codegen_grammar.specs.declared.roles.Role.TheVariants.{Expression, Callee, AssignmentTarget, Pattern, FieldValue, Statement, Block, Member, Child, Element, TagObject}
 use Rattle.swc_ecma_codegen_syntax.specs.declared.nonterminals.Nonterminal.{Nonterminal}
 use Rattle.swc_ecma_codegen_syntax.specs.declared.nonterminals.Nonterminal.TheVariants as nt
 use Rattle.swc_ecma_codegen_syntax.specs.declared.parameters.Parameters.{Parameters}
@@ -15,7 +15,7 @@ use Rattle.swc_ecma_codegen_syntax.specs.Nonterminals.{takes, is_optional}
 use Rattle.swc_ecma_codegen_syntax.specs.Forms.{Form, stands as stands_there, is_met}
 use Rattle.swc_ecma_codegen_syntax.specs.NodeForms.{missing_form, node_nonterminal}
 use Rattle.swc_ecma_codegen_syntax.specs.Derives.{Derives, fixed, part, simple, restricted, lone, lone_in_parentheses, both, provided, closed, comma_closed, followed, bare}
-use Rattle.swc_ecma_codegen_uniqueness.specs.ParseTrees.{Variant, ParseTree, End, Read, JSXElement, is_known, node_variant}
+use Rattle.swc_ecma_codegen_uniqueness.specs.ParseTrees.{Variant, ParseTree, End, Read, JSXElement, node_variant}
 use Rattle.swc_ecma_codegen_uniqueness.specs.Parses.{is_inlined}
 use Rattle.swc_ecma_codegen_uniqueness.proofs.Controls.{Control, OpenTag, InTag, ChildTag, ClosingTag, ClosingName, Statement as AtStatement, Where}
 use Rattle.swc_ecma_codegen_uniqueness.proofs.Tables.{closing}
@@ -28,7 +28,6 @@ use Rattle.swc_ecma_codegen_uniqueness.proofs.StatementShapes.{item_of}
 
 -- a node is read as it is, in the place of the nonterminal that covers it; under [~In] no `in` takes what it begins with
 pub record Fit (c : Parameters) (variant : Variant) (n : Nonterminal) (inside : ParseTree) : Type 0 where
-  pub known : is_known variant ≡ true
   pub own : is_place n ≡ false
   pub chain : is_chain variant ≡ is_optional n
   pub several : is_several variant ≡ is_sequence n
@@ -55,19 +54,23 @@ PlacedGood false fit inside = fit
 
 -- the same of a statement, which stands before `else` or not
 pub record FitItem (b : Bool) (variant : Variant) (inside : ParseTree) : Type 0 where
-  pub known : is_known variant ≡ true
   pub good : Good (Whole variant (item_of b)) inside
 
 -- and of a member of a class, or an element between tags
 pub record FitMember (n : Nonterminal) (variant : Variant) (inside : ParseTree) : Type 0 where
-  pub known : is_known variant ≡ true
   pub good : Good (Whole variant n) inside
 
+-- The value of a field is no sequence: `a = b, c;` is no field, and `a = (b, c);` has a Paren.
 abbrev pub NodeFit : Role → Parameters → Variant → Nonterminal → ParseTree → Type 0
+NodeFit Expression c variant n inside = Fit c variant (cover n) inside
+NodeFit Callee c variant n inside = Fit c variant (cover n) inside
+NodeFit AssignmentTarget c variant n inside = Fit c variant (cover n) inside
+NodeFit Pattern c variant n inside = Fit c variant (cover n) inside
+NodeFit FieldValue c variant n inside = is_sequence n ≡ false → Fit c variant (cover n) inside
 NodeFit Statement c variant n inside = FitItem c.before_else variant inside
 NodeFit Member c variant n inside = FitMember nt.ClassElement variant inside
 NodeFit Child c variant n inside = FitMember nt.JSXElement variant inside
-NodeFit role c variant n inside = Fit c variant (cover n) inside
+NodeFit role c variant n inside = Unit {0}
 
 -- a block, which has no node of its own
 pub record BlockFit (f : ParseTree → ParseTree) : Type 0 where

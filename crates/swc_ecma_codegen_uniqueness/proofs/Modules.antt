@@ -51,7 +51,7 @@ use Rattle.swc_ecma_codegen_syntax.specs.NameForms.{has_no_escape}
 use Rattle.swc_ecma_codegen_syntax.specs.Nonterminals.{takes}
 use Rattle.swc_ecma_codegen_syntax.specs.NodeForms.{node_form, part_form, stmt_part_form, jsx_part_form}
 use Rattle.swc_ecma_codegen_syntax.specs.Derives.{Derives, fixed, part, restricted, both, provided}
-use Rattle.swc_ecma_codegen_uniqueness.specs.ParseTrees.{Variant, ParseTree, End, Read, Node, Class as AClass, Fn, VarDecl, Other, tokens_of}
+use Rattle.swc_ecma_codegen_uniqueness.specs.ParseTrees.{Variant, ParseTree, End, Read, Node, Class as AClass, Fn, VarDecl, Foreign, tokens_of}
 use Rattle.swc_ecma_codegen_uniqueness.specs.Parses.{placed, is_inlined}
 use Rattle.swc_ecma_codegen_uniqueness.proofs.Classes.{Class, Infix, Times, OpenBrace, NameToken, LiteralToken, FunctionWord, ClassWord, AsyncWord, Semi, Strange, class}
 use Rattle.swc_ecma_codegen_uniqueness.proofs.Controls.{Control, ImportItem, Clause, ClauseComma, AfterExport, AfterExportDefault, AsyncDefault, AsyncDefaultLine, DefaultValue, AfterFunction, entered}
@@ -73,7 +73,7 @@ use Rattle.swc_ecma_codegen_uniqueness.proofs.Variables.{vars_read}
 -- ---- the names of an import or an export hold no node
 
 abbrev InClause : Control → ParseTree → Type 0
-InClause c m = Good (Rest c Other nt.Statement) m
+InClause c m = Good (Rest c Foreign nt.Statement) m
 
 data ClausePlace : Control → Type 0 where
   among : ClausePlace Clause
@@ -134,7 +134,7 @@ comma_then a = shifted refl (stands_in at_comma a)
 
 clause_ends : InClause Clause (Read ending End)
 unfolding ending
-clause_ends = shifted refl (ended Other nt.Statement)
+clause_ends = shifted refl (ended Foreign nt.Statement)
 
 -- ---- names and strings
 
@@ -397,11 +397,11 @@ default_entered f q ts (behind_async {u = u} {v = v} {w = w} {ts = vs} e h k) =
     third_enters f u v w vs AsyncDefault AsyncDefaultLine Enter (ap (λ c. without c (class u)) q ∙ ap (without AfterExportDefault) e) (ap (λ c. begun_at c (class u)) q) y.2 y.3 z.1
     (ap (λ c. without (entered c) (class u)) q) (ap started e) y.4 y.5 z.2 refl
 
-default_value : {v : Variant} {p : ParseTree} → Operand nt.AssignmentExpression v p → ((us : List Token) → MayEnter is_default_word (tokens_of p (ending ∷ us))) → Good (Rest AfterExportDefault Other nt.Statement) (Node v p (Read ending End))
+default_value : {v : Variant} {p : ParseTree} → Operand nt.AssignmentExpression v p → ((us : List Token) → MayEnter is_default_word (tokens_of p (ending ∷ us))) → Good (Rest AfterExportDefault Foreign nt.Statement) (Node v p (Read ending End))
 unfolding tokens_of ending
 default_value {v = v} {p = p} o h =
     entering (λ b q t us. default_entered (record { control = AfterExportDefault; so_far = b; other = q }) refl (tokens_of p (ending ∷ t ∷ us)) (h (t ∷ us)))
-    (part_then DefaultValue (Read ending End) (takes_self nt.AssignmentExpression) o (assignment_taken, λ z. refl, ended Other nt.Statement))
+    (part_then DefaultValue (Read ending End) (takes_self nt.AssignmentExpression) o (assignment_taken, λ z. refl, ended Foreign nt.Statement))
 
 default_then : {v : Variant} {m : ParseTree} → Good (Rest AfterExportDefault v nt.Statement) m → Good (Whole v nt.Statement) (Read (word (codes "export")) (Read (word (codes "default")) m))
 unfolding word

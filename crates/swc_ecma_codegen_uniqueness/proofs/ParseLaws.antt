@@ -49,7 +49,7 @@ use Rattle.swc_ecma_codegen_syntax.specs.TargetForms.{target_pat_form, target_fo
 use Rattle.swc_ecma_codegen_syntax.specs.NodeForms.{node_form, part_form}
 use Rattle.swc_ecma_codegen_syntax.specs.Derives.{Derives, fixed, part, simple, restricted, lone, lone_in_parentheses, both, provided, closed, comma_closed, followed, bare}
 use Rattle.swc_ecma_codegen_syntax.proofs.TreeFacts.{node_mapped}
-use Rattle.swc_ecma_codegen_uniqueness.specs.ParseTrees.{Variant, ParseTree, End, Read, Optional, Node, settled, expr_variant, simple_target_variant, target_pat_variant, target_variant, pat_variant, decl_variant, stmt_variant, part_variant, field_variant, member_variant, element_variant, child_variant, node_variant}
+use Rattle.swc_ecma_codegen_uniqueness.specs.ParseTrees.{Variant, ParseTree, End, Read, Optional, Node, settled, expr_variant, simple_target_variant, target_pat_variant, target_variant, pat_variant, decl_variant, stmt_variant, part_variant, member_variant, element_variant, child_variant, node_variant}
 use Rattle.swc_ecma_codegen_uniqueness.specs.Parses.{phrase_tokens, read_all, is_inlined_pat, is_inlined_pattern, is_inlined, placed, is_empty_variant, is_empty_parse, form_parse, node_parse, parse, expr_before}
 use Rattle.swc_ecma_codegen_uniqueness.proofs.Reading.{read_phrase, derived_parse}
 
@@ -92,11 +92,6 @@ stmt_variant_mapped g (stmts.Decl n) = refl
 stmt_variant_mapped g (stmts.Empty n) = refl
 stmt_variant_mapped g n = refl
 
-field_variant_mapped : {X Y : Type 0} (g : X → Y) (n : Expr X) → node_variant (map-AnyNode X Y g (nodes.Expr n)) FieldValue ≡ field_variant n
-unfolding node_variant field_variant expr_variant
-field_variant_mapped g (exprs.Seq n) = refl
-field_variant_mapped g n = refl
-
 member_variant_by : {X Y : Type 0} (g : X → Y) (b : Box (class_members.ClassMember X) Global) (n : class_members.ClassMember X) → node_variant (map-AnyNode X Y g (nodes.StmtPart (stmt_parts.ClassMember (record b { value = n })))) MemberOfClass ≡ member_variant n
 unfolding node_variant element_variant member_variant
 member_variant_by g b (members.Empty n) = refl
@@ -116,7 +111,7 @@ variant_mapped : {X Y : Type 0} (g : X → Y) (y : AnyNode-F X) (role : Role) �
 unfolding node_variant part_variant
 variant_mapped g (nodes.Expr n) Expression = expr_variant_mapped g n
 variant_mapped g (nodes.Expr n) Callee = expr_variant_mapped g n
-variant_mapped g (nodes.Expr n) FieldValue = field_variant_mapped g n
+variant_mapped g (nodes.Expr n) FieldValue = expr_variant_mapped g n
 variant_mapped g (nodes.Stmt n) Statement = stmt_variant_mapped g n
 variant_mapped g (nodes.StmtPart n) MemberOfClass = element_variant_mapped g n
 variant_mapped g (nodes.JSXPart n) Child = child_variant_mapped g n

@@ -19,7 +19,7 @@ use Rattle.swc_ecma_codegen_syntax.specs.ModuleForms.{item_form, begins_empty_it
 use Rattle.swc_ecma_codegen_syntax.specs.Derives.{Derives, DerivesProgram, bare_phrase, program_verdict, fixed, part, both}
 use Rattle.swc_ecma_codegen_syntax.specs.Verdicts.{holds}
 use Rattle.swc_ecma_codegen_syntax.proofs.RootLaws.{program_complete}
-use Rattle.swc_ecma_codegen_uniqueness.specs.ParseTrees.{ParseTree, End, Read, Optional, Node, BlockStmt, AreCommasAndParentheses, AreKnown, settled, tokens_of}
+use Rattle.swc_ecma_codegen_uniqueness.specs.ParseTrees.{ParseTree, End, Read, Optional, Node, BlockStmt, AreCommasAndParentheses, settled, tokens_of}
 use Rattle.swc_ecma_codegen_uniqueness.specs.Parses.{placed, is_inlined, program_parse}
 use Rattle.swc_ecma_codegen_uniqueness.proofs.Controls.{InList, Statement}
 use Rattle.swc_ecma_codegen_uniqueness.proofs.Machine.{Rest, Good, joined, shifted, one_rest}
@@ -33,7 +33,6 @@ use Rattle.swc_ecma_codegen_uniqueness.proofs.Modules.{module_item}
 use Rattle.swc_ecma_codegen_uniqueness.proofs.Statements.{InItems, item_taken, item_good, list_good, list_end}
 use Rattle.swc_ecma_codegen_uniqueness.proofs.Layers.{all_good}
 use Rattle.swc_ecma_codegen_uniqueness.proofs.ParseLaws.{derived_settled}
-use Rattle.swc_ecma_codegen_uniqueness.proofs.Unique.{known_before}
 
 -- ---- a program is read as a list of statements
 
@@ -89,22 +88,19 @@ program_settled : {s : Settings} (n : Program AnyNode) {ts : List Token} (d : De
 unfolding settled
 program_settled n d = derived_settled d End
 
-all_known : {s : Settings} (n : Program AnyNode) {ts : List Token} (d : DerivesProgram true s n ts) → AreKnown (program_parse s n) → AllGood d
-all_known n d k = (all_good d End (known_before (derived_parse d End) (subst AreKnown (sym (program_settled n d)) k))).0
-
 whole : {s : Settings} (n : Program AnyNode) {ts : List Token} (d : DerivesProgram true s n ts) → without_last (derived_parse d (Read brace End)) ≡ derived_parse d End
 whole n d = ap without_last (sym (derived_joined d End (Read brace End))) ∙ last_gone (derived_parse d End) brace
 
-pub one_program : (s t : Settings) (a b : Program AnyNode) (ts : List Token) → DerivesProgram true s a ts → DerivesProgram true t b ts → AreKnown (program_parse s a) → AreKnown (program_parse t b) → program_parse s a ≡ program_parse t b
+pub one_program : (s t : Settings) (a b : Program AnyNode) (ts : List Token) → DerivesProgram true s a ts → DerivesProgram true t b ts → program_parse s a ≡ program_parse t b
 unfolding punctuator tokens_of
-one_program s t a b ts d e h k =
+one_program s t a b ts d e =
     let same = one_rest (Statement (InList BlockStmt)) (punctuator (codes ")")) BlockStmt nt.Statement (derived_parse d (Read brace End)) (derived_parse e (Read brace End)) refl refl
-    (program_good s.minify a d (all_known a d h) refl) (program_good t.minify b e (all_known b e k) refl)
+    (program_good s.minify a d (all_good d) refl) (program_good t.minify b e (all_good e) refl)
     (tokens_before d (Read brace End) (punctuator (codes ")") ∷ []) ∙ sym (tokens_before e (Read brace End) (punctuator (codes ")") ∷ []))) in
     sym (program_settled a d) ∙ ap settled (sym (whole a d) ∙ ap (λ z. without_last (inside_of z)) same ∙ whole b e) ∙ program_settled b e
 
 pub kept_program : (s t : Settings) (a b : Program AnyNode) (ts : List Token) → holds true (program_verdict a) ≡ true → holds true (program_verdict b) ≡ true → Generates s (bare_phrase (program_phrase a)) ts →
-    Generates t (bare_phrase (program_phrase b)) ts → AreKnown (program_parse s a) → AreKnown (program_parse t b) → program_parse s a ≡ program_parse t b
+    Generates t (bare_phrase (program_phrase b)) ts → program_parse s a ≡ program_parse t b
 kept_program s t a b ts h k x y = one_program s t a b ts (program_complete true a _ refl h s ts x) (program_complete true b _ refl k t ts y)
 
 pub program_tokens : (s : Settings) (a : Program AnyNode) (ts : List Token) → DerivesProgram true s a ts →

@@ -9,7 +9,7 @@ use Rattle.swc_ecma_codegen_syntax.specs.Nonterminals.{takes, is_private, is_unc
 use Rattle.swc_ecma_codegen_syntax.specs.UnitProductions.{step, pattern_element_is_pattern_target}
 use Rattle.swc_ecma_codegen_syntax.proofs.Chains.{takes_chain}
 use Rattle.swc_ecma_codegen_syntax.proofs.Taken.{chain_takes}
-use Rattle.swc_ecma_codegen_uniqueness.specs.ParseTrees.{Variant, ParseTree, End, Read, Node, Fn, Arrow, BlockStmt, EmptyStmt, ExprStmt, IfStmt, LabeledStmt, VarDecl, tokens_of, DoWhileStmt, TryStmt, SwitchStmt, Class as AClass, Other}
+use Rattle.swc_ecma_codegen_uniqueness.specs.ParseTrees.{Variant, ParseTree, End, Read, Node, Fn, Arrow, BlockStmt, EmptyStmt, ExprStmt, IfStmt, LabeledStmt, VarDecl, tokens_of, DoWhileStmt, TryStmt, SwitchStmt, Class as AClass, Foreign}
 use Rattle.swc_ecma_codegen_uniqueness.proofs.Classes.{Class, Infix, Plus, OpenBrace, ElseWord, Semi, Colon, ImportWord, AsyncWord, class, CatchWord, FinallyWord}
 use Rattle.swc_ecma_codegen_uniqueness.proofs.Controls.{outside, starts, is_item, is_behind, left, Where, InList, OfIf, OfElse, OfLabel, OfLoop, Control, Closed, ArrowBody, OfArrow, Statement, Entered, AfterFunction, AfterClass, AfterExport, AfterFor, ForHead, Parameter, RestParameter, AfterParameters, AfterWord, Valued, Jump, Headed, Test, Declarators, stands, entered, ImportItem, AsyncItem, AsyncItemLine, InTry, InCatch, InClause, OfDo, closed_by, AfterDo, AfterTry, BehindTry, AfterCatch, CatchParameter, BehindCatch, Case, InMethod}
 use Rattle.swc_ecma_codegen_uniqueness.proofs.Tables.{Reduce, Action, Shift, Begin, Enter, Leave, Splice, Wrap, without, with_operand, decide, shift, passed_to, start, started, begin, begun_at, Enter, closing, shifted_to}
@@ -375,7 +375,7 @@ pub async_item : (b : Bool) {m : ParseTree} → Good (Rest AfterFunction Fn (ite
 unfolding word same_line
 async_item b g = headed_block (λ c st. let x = async_begins c (item_place_of b c st) in (x.0, x.1)) (shifted refl (shifted refl g))
 
-pub import_item : {m : ParseTree} → Good (Rest ImportItem Other nt.Statement) m → Good (Whole Other nt.Statement) (Read (word (codes "import")) m)
+pub import_item : {m : ParseTree} → Good (Rest ImportItem Foreign nt.Statement) m → Good (Whole Foreign nt.Statement) (Read (word (codes "import")) m)
 unfolding word
 import_item g = headed_block (λ c st. let x = import_begins c (item_place_of false c st) in (x.0, x.1)) g
 

@@ -5,7 +5,7 @@ use Rattle.swc_ecma_codegen_grammar.specs.Tokens.{Token}
 use Rattle.swc_ecma_codegen_syntax.specs.declared.nonterminals.Nonterminal.{Nonterminal}
 use Rattle.swc_ecma_codegen_syntax.specs.declared.nonterminals.Nonterminal.TheVariants as nt
 use Rattle.swc_ecma_codegen_syntax.specs.Nonterminals.{takes}
-use Rattle.swc_ecma_codegen_uniqueness.specs.ParseTrees.{Variant, This, Array, Object, Update, Member, SuperProp, Call, New, Ident, Lit, Tpl, TaggedTpl, Arrow, MetaProp, Paren, PrivateName, OptChain, Fn, BlockStmt, EmptyStmt, DebuggerStmt, WithStmt, ReturnStmt, BreakStmt, ContinueStmt, IfStmt, ThrowStmt, WhileStmt, VarDecl, ExprStmt, Other, SwitchStmt, TryStmt, DoWhileStmt, ForStmt, ForInStmt, ForOfStmt, JSXElement, Class as AClass, Constructor, ClassMethod, PrivateMethod, ClassProp, PrivateProp, StaticBlock}
+use Rattle.swc_ecma_codegen_uniqueness.specs.ParseTrees.{Variant, This, Array, Object, Update, Member, SuperProp, Call, New, Ident, Lit, Tpl, TaggedTpl, Arrow, MetaProp, Paren, PrivateName, OptChain, Fn, BlockStmt, EmptyStmt, DebuggerStmt, WithStmt, ReturnStmt, BreakStmt, ContinueStmt, IfStmt, ThrowStmt, WhileStmt, VarDecl, ExprStmt, Foreign, SwitchStmt, TryStmt, DoWhileStmt, ForStmt, ForInStmt, ForOfStmt, JSXElement, Class as AClass, Constructor, ClassMethod, PrivateMethod, ClassProp, PrivateProp, StaticBlock}
 use Rattle.swc_ecma_codegen_uniqueness.proofs.Classes.{Class, class, Times, Less, Within, Infix, Assigns, Ask, Colon, Comma, Dot, ChainDot, OpenParen, CloseParen, OpenBracket, CloseBracket, OpenBrace, CloseBrace, Dots, Line, Twice, Bang, FatArrow, Semi, Semicolon, FirstLine, First, Later, TagName, TagClose, ChildTagMark, ChildBraceMark, NameToken, PrivateToken, LiteralToken, ThisWord, NewWord, SuperWord, ImportWord, YieldWord, AwaitWord, AsyncWord, FunctionWord, ClassWord, ExtendsWord, ConstructorWord, ExportWord, ForWord, OfWord, ReturnWord, ThrowWord, BreakWord, ContinueWord, DebuggerWord, IfWord, ElseWord, WhileWord, WithWord, DoWord, TryWord, CatchWord, FinallyWord, SwitchWord, CaseWord, DefaultWord, GetWord, SetWord, VarWord, UnaryWord, TargetWord, MetaWord}
 use Rattle.swc_ecma_codegen_uniqueness.proofs.Controls.{AfterAsync, AfterCatch, AfterClass, AfterDefault, AfterDo, AfterExport, AfterExportDefault, AfterFinally, AfterFor, AfterFunction, AfterImport, AfterImportDot, AfterKey, AfterName, AfterNew, AfterNewDot, AfterParameters, AfterSetter, AfterSuper, AfterSwitch, AfterTry, AfterWord, AfterYield, Arguments, ArrowBody, AsyncDefault, AsyncDefaultLine, AsyncItem, AsyncItemLine, AsyncKey, AsyncLine, AsyncOperand, AsyncParameters, AtKey, AtMember, AtSetter, AttributeBraces, AttributeElement, AttributeValue, BehindCatch, BehindParameter, BehindTry, Case, CatchParameter, Chained, ChildBraces, ChildTag, Children, Clause, ClauseComma, Closed, ClosingName, ClosingTag, Control, Declarators, DefaultValue, Dotted, Elements, Entered, FieldPlace, ForHead, ForIn, ForOf, ForPlain, ForTest, ForUpdate, ForValue, ForVars, Headed, Heritage, ImportItem, InCatch, InClause, InKey, InList, InMemberKey, InMethod, InParen, InSetterKey, InTag, InTry, InValue, Index, Initializer, Jump, Listed, MemberKey, Members, Middle, NextElement, NextProperty, OfAssign, OfAwait, OfCond, OfDo, OfElse, OfIf, OfInfix, OfLabel, OfLoop, OfUnary, OfUpdate, OfYield, Open, OpenTag, Parameter, Postfix, Properties, RestParameter, SelfClosing, SetterParameter, Statement, Substitution, Test, Valued, Where, YieldLine, left, starts, whole}
 
@@ -428,7 +428,7 @@ shifted_to (MemberKey variant) Assigns = FieldPlace (field_of variant)
 shifted_to (MemberKey variant) c = Closed (field_of variant)
 shifted_to ImportItem c = Clause
 shifted_to Clause Comma = ClauseComma
-shifted_to Clause Semi = Closed Other
+shifted_to Clause Semi = Closed Foreign
 shifted_to ClauseComma c = Clause
 shifted_to AfterExport VarWord = Declarators
 shifted_to AfterExport ClassWord = AfterClass
@@ -501,7 +501,7 @@ passed_to Initializer c = Closed VarDecl
 passed_to Heritage c = Members
 passed_to InMemberKey c = MemberKey ClassMethod
 passed_to (FieldPlace variant) c = Closed variant
-passed_to DefaultValue c = Closed Other
+passed_to DefaultValue c = Closed Foreign
 passed_to AttributeElement c = shifted_to InTag c
 passed_to AttributeBraces c = InTag
 passed_to ChildBraces c = Children
@@ -570,7 +570,7 @@ started TryWord = AfterTry
 started SwitchWord = Headed SwitchStmt
 started VarWord = Declarators
 started Semicolon = Closed EmptyStmt
-started c = Closed Other
+started c = Closed Foreign
 
 abbrev pub start : Token → Control
 start t = started (class t)
@@ -605,7 +605,7 @@ wrapped_to operand (First opens) = template TaggedTpl opens
 wrapped_to operand Line = Postfix
 wrapped_to operand Semi = Closed ExprStmt
 wrapped_to operand Colon = Statement OfLabel
-wrapped_to operand c = Closed Other
+wrapped_to operand c = Closed Foreign
 
 abbrev pub wrap : Variant → Token → Control
 wrap operand t = wrapped_to operand (class t)

@@ -1,5 +1,5 @@
 -- Of a list of tokens there is one tree.
-use Rattle.std.proofs.Common.{◌≡◌, true, List, [], ◌∷◌, ◌++◌, refl, sym, ap, ◌∙◌, subst}
+use Rattle.std.proofs.Common.{◌≡◌, true, List, [], ◌∷◌, ◌++◌, refl, sym, ap, ◌∙◌}
 use Rattle.std.specs.Prelude.{codes}
 use Rattle.swc_ecma_codegen_tree.specs.declared.links.AnyNode.{AnyNode}
 use Rattle.swc_ecma_codegen_tree.specs.declared.exprs.Expr.{Expr}
@@ -16,7 +16,7 @@ use Rattle.swc_ecma_codegen_syntax.specs.declared.parameters.Parameters.{Paramet
 use Rattle.swc_ecma_codegen_syntax.specs.Nonterminals.{takes}
 use Rattle.swc_ecma_codegen_syntax.specs.Forms.{Part}
 use Rattle.swc_ecma_codegen_syntax.specs.Derives.{Derives, DerivesExpr, part, bare_phrase, expr_verdict}
-use Rattle.swc_ecma_codegen_uniqueness.specs.ParseTrees.{Variant, ParseTree, End, Read, Optional, Node, tokens_of, settled, AreCommasAndParentheses, AreKnown}
+use Rattle.swc_ecma_codegen_uniqueness.specs.ParseTrees.{Variant, ParseTree, End, Node, tokens_of, settled, AreCommasAndParentheses}
 use Rattle.swc_ecma_codegen_uniqueness.specs.Parses.{placed, is_inlined, form_parse, expr_parse}
 use Rattle.swc_ecma_codegen_uniqueness.proofs.Classes.{CloseParen}
 use Rattle.swc_ecma_codegen_uniqueness.proofs.Controls.{InParen}
@@ -37,10 +37,10 @@ record Readable (m : ParseTree) : Type 0 where
   taken : takes nt.Expression of ≡ true
   good : Good (Whole variant of) inside
 
-readable : {s : Settings} {c : Parameters} {n : AnyNode} {ts : List Token} (d : Derives true s (Part nt.Expression c Expression n) ts) → s.minify ≡ c.minify → AreKnown (derived_parse d End) → Readable (derived_parse d End)
+readable : {s : Settings} {c : Parameters} {n : AnyNode} {ts : List Token} (d : Derives true s (Part nt.Expression c Expression n) ts) → s.minify ≡ c.minify → Readable (derived_parse d End)
 unfolding derived_parse placed is_inlined AllGood PlacedGood
-readable {c = c} {n = n} (part called st d) m k =
-    let f = (all_good (part {place = nt.Expression} {c = c} {role = Expression} {n = n} called st d) End k).0 m in
+readable {c = c} {n = n} (part called st d) m =
+    let f = all_good (part {place = nt.Expression} {c = c} {role = Expression} {n = n} called st d) m in
     record { variant = _; of = _; inside = derived_parse d End; is = refl; taken = cover_taken nt.Expression _ (taken_at _ _ st); good = f.good }
 
 same_readable : (p q : ParseTree) → Readable p → Readable q → tokens_of p (punctuator (codes ")") ∷ []) ≡ tokens_of q (punctuator (codes ")") ∷ []) → p ≡ q
@@ -55,33 +55,21 @@ expr_derived : {s : Settings} {c : Parameters} (a : Expr AnyNode) {ts : List Tok
 unfolding form_parse settled
 expr_derived a x = derived_settled x.1 End
 
--- what syntax leaves open is no node
-pub known_before : (p : ParseTree) → AreKnown (settled p) → AreKnown p
-unfolding AreKnown settled
-known_before End k = k
-known_before (Read t p) k = known_before p k
-known_before (Optional t p) k = known_before p k
-known_before (Node s p q) (e, h, k) = (e, known_before p h, known_before q k)
-
-expr_known : {s : Settings} {c : Parameters} (a : Expr AnyNode) {ts : List Token} (x : DerivesExpr true s nt.Expression c a ts) → AreKnown (expr_parse s c a) → AreKnown (derived_parse x.1 End)
-expr_known a x k = known_before (derived_parse x.1 End) (subst AreKnown (sym (expr_derived a x)) k)
-
 pub parse_tokens : (s : Settings) (c : Parameters) (a : Expr AnyNode) (ts : List Token) → DerivesExpr true s nt.Expression c a ts →
     (p : ParseTree) × (settled p ≡ expr_parse s c a) × AreCommasAndParentheses p × ((us : List Token) → tokens_of p us ≡ ts ++ us)
 unfolding tokens_of AreCommasAndParentheses
 parse_tokens s c a ts x = (derived_parse x.1 End, expr_derived a x, derived_allowed x.1 End tt, λ us. tokens_before x.1 End us)
 
-pub one_parse : (s t : Settings) (c e : Parameters) (a b : Expr AnyNode) (ts : List Token) → DerivesExpr true s nt.Expression c a ts → DerivesExpr true t nt.Expression e b ts →
-    AreKnown (expr_parse s c a) → AreKnown (expr_parse t e b) → expr_parse s c a ≡ expr_parse t e b
+pub one_parse : (s t : Settings) (c e : Parameters) (a b : Expr AnyNode) (ts : List Token) → DerivesExpr true s nt.Expression c a ts → DerivesExpr true t nt.Expression e b ts → expr_parse s c a ≡ expr_parse t e b
 unfolding tokens_of
-one_parse s t c e a b ts x y h k =
+one_parse s t c e a b ts x y =
     let u = punctuator (codes ")") ∷ [] in
     sym (expr_derived a x)
-    ∙ ap settled (same_readable _ _ (readable x.1 x.0 (expr_known a x h)) (readable y.1 y.0 (expr_known b y k)) (tokens_before x.1 End u ∙ sym (tokens_before y.1 End u)))
+    ∙ ap settled (same_readable _ _ (readable x.1 x.0) (readable y.1 y.0) (tokens_before x.1 End u ∙ sym (tokens_before y.1 End u)))
     ∙ expr_derived b y
 
 pub kept_told : (s t : Settings) (c e : Parameters) (a b : Expr AnyNode) (ts : List Token) → holds true (expr_verdict nt.Expression c a) ≡ true → s.minify ≡ c.minify →
     holds true (expr_verdict nt.Expression e b) ≡ true → t.minify ≡ e.minify → Generates s (bare_phrase (expr_phrase a)) ts → Generates t (bare_phrase (expr_phrase b)) ts →
-    AreKnown (expr_parse s c a) → AreKnown (expr_parse t e b) → expr_parse s c a ≡ expr_parse t e b
+    expr_parse s c a ≡ expr_parse t e b
 kept_told s t c e a b ts h m k n x y =
     one_parse s t c e a b ts (complete true nt.Expression c a _ refl h s ts m x) (complete true nt.Expression e b _ refl k t ts n y)

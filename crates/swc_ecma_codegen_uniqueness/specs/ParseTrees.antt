@@ -1,5 +1,5 @@
 -- Parse trees: tokens, and round the tokens of each node what node it is.
-use Rattle.std.specs.Prelude.{◌≡◌, ◌⊎◌, Bool, true, false, List, ◌∷◌}
+use Rattle.std.specs.Prelude.{◌≡◌, ◌⊎◌, List, ◌∷◌}
 use Rattle.swc_ecma_codegen_tree.specs.declared.links.AnyNode.TheOpen as nodes
 use Rattle.swc_ecma_codegen_tree.specs.declared.classes.ClassMember as class_members
 use Rattle.swc_ecma_codegen_tree.specs.declared.classes.ClassMember.TheVariants as members
@@ -30,14 +30,13 @@ use Rattle.swc_ecma_codegen_grammar.specs.Phrases.{comma, open_parenthesis, clos
 use Rattle.swc_ecma_codegen_grammar.specs.Tokens.{Token}
 
 -- What node it is, by the name of its variant in `Expr` or `Stmt`, or of its type where a class has it. A node that no production derives is foreign, as those of
--- TypeScript. A fragment is an element without a name. Of other nodes the laws don't speak.
+-- TypeScript. A fragment is an element without a name.
 pub data Variant : Type 0 where
   This Array Object Fn Unary Update Bin Assign Member SuperProp Cond Call New Seq Ident Lit Tpl TaggedTpl Arrow Yield MetaProp Await Paren PrivateName OptChain : Variant
   JSXElement : Variant
   Class Constructor ClassMethod PrivateMethod ClassProp PrivateProp StaticBlock : Variant
   BlockStmt EmptyStmt DebuggerStmt WithStmt ReturnStmt LabeledStmt BreakStmt ContinueStmt IfStmt SwitchStmt ThrowStmt TryStmt WhileStmt DoWhileStmt ForStmt ForInStmt ForOfStmt VarDecl ExprStmt : Variant
   Foreign : Variant
-  Other : Variant
 
 -- Tokens and nodes, in order, as of `-a`: the node Unary of the token `-` and the node Ident of the token `a`. Some tokens syntax leaves open: the
 -- comma of `[a,] = b`, and the parentheses of `(a) => b`.
@@ -67,17 +66,6 @@ AreCommasAndParentheses End = Unit {0}
 AreCommasAndParentheses (Read t rest) = AreCommasAndParentheses rest
 AreCommasAndParentheses (Optional t rest) = ((t ≡ comma) ⊎ ((t ≡ open_parenthesis) ⊎ (t ≡ close_parenthesis))) × AreCommasAndParentheses rest
 AreCommasAndParentheses (Node variant inside rest) = AreCommasAndParentheses inside × AreCommasAndParentheses rest
-
--- no node is another
-unfoldable pub is_known : Variant → Bool
-is_known Other = false
-is_known variant = true
-
-unfoldable pub AreKnown : ParseTree → Type 0
-AreKnown End = Unit {0}
-AreKnown (Read t rest) = AreKnown rest
-AreKnown (Optional t rest) = AreKnown rest
-AreKnown (Node variant inside rest) = (is_known variant ≡ true) × AreKnown inside × AreKnown rest
 
 unfoldable pub expr_variant : {X : Type 0} → Expr X → Variant
 expr_variant (exprs.This n) = This
@@ -174,33 +162,28 @@ member_variant (members.Empty n) = EmptyStmt
 member_variant (members.StaticBlock n) = StaticBlock
 member_variant n = Foreign
 
--- The value of a field. Of a sequence the laws don't speak: the parentheses of `a = (b, c)` may be its own, or those of a Paren.
-unfoldable pub field_variant : {X : Type 0} → Expr X → Variant
-field_variant (exprs.Seq n) = Other
-field_variant n = expr_variant n
-
 -- what node it is in a role
 unfoldable pub part_variant : {X : Type 0} → ExprPart X → Role → Variant
 part_variant (expr_parts.AssignTarget n) AssignmentTarget = target_variant n
 part_variant (expr_parts.Pat n) Pattern = pat_variant n
-part_variant n role = Other
+part_variant n role = Foreign
 
 unfoldable pub element_variant : {X : Type 0} → StmtPart X → Variant
 element_variant (stmt_parts.ClassMember n) = member_variant n.value
-element_variant n = Other
+element_variant n = Foreign
 
 -- an element between tags
 unfoldable pub child_variant : {X : Type 0} → JSXPart X → Variant
 child_variant (jsx_parts.JSXElement n) = JSXElement
 child_variant (jsx_parts.JSXFragment n) = JSXElement
-child_variant n = Other
+child_variant n = Foreign
 
 unfoldable pub node_variant : {X : Type 0} → AnyNode-F X → Role → Variant
 node_variant (nodes.Expr n) Expression = expr_variant n
 node_variant (nodes.Expr n) Callee = expr_variant n
-node_variant (nodes.Expr n) FieldValue = field_variant n
+node_variant (nodes.Expr n) FieldValue = expr_variant n
 node_variant (nodes.ExprPart n) role = part_variant n role
 node_variant (nodes.Stmt n) Statement = stmt_variant n
 node_variant (nodes.StmtPart n) MemberOfClass = element_variant n
 node_variant (nodes.JSXPart n) Child = child_variant n
-node_variant n role = Other
+node_variant n role = Foreign

@@ -14,7 +14,7 @@ ghost use Rattle.swc_ecma_codegen_syntax.specs.declared.parameters.Parameters.{P
 ghost use Rattle.swc_ecma_codegen_syntax.specs.Derives.{DerivesExpr, DerivesProgram, bare_phrase, expr_verdict, program_verdict};
 ghost use Rattle.swc_ecma_codegen_syntax.specs.ExprForms.{expr_form};
 ghost use Rattle.swc_ecma_codegen_syntax.specs.Verdicts.{holds};
-ghost use Rattle.swc_ecma_codegen_uniqueness.specs.ParseTrees.{AreCommasAndParentheses, AreKnown, Node, ParseTree, End, expr_variant, settled, tokens_of};
+ghost use Rattle.swc_ecma_codegen_uniqueness.specs.ParseTrees.{AreCommasAndParentheses, Node, ParseTree, End, expr_variant, settled, tokens_of};
 ghost use Rattle.swc_ecma_codegen_uniqueness.specs.Parses.{expr_before, expr_parse, form_parse, parse, program_parse};
 
 /// The parse tree of an expression is a node round what its production says, wherever the expression stands.
@@ -40,15 +40,12 @@ pub fn parse_trees_have_their_tokens()
 ///
 /// `a + b * c` isn't read as the product of `a + b` and `c`, `new a().b` not as `new (a().b)`, `a?.b.c` not as a member of
 /// `(a?.b)`, `(a, b) => c` not as a sequence, and `else` goes with the `if` next before it. A pattern has the parse tree of the
-/// expression that covers it. Of a field whose value is a sequence (`a = (b, c);` of a class) nothing is said:
-/// `AreKnown` leaves out trees that hold one. Words of the grammar and names are different tokens here: the word `yield` isn't the
-/// name `yield`.
+/// expression that covers it. Words of the grammar and names are different tokens here: the word `yield` isn't the name `yield`.
 /// ECMA-262, sections 13 to 15.
 #[tactic(auto, using(crate::proofs::Unique::one_parse))]
 pub fn tokens_tell_the_tree()
     ensures { (s t : Settings) (c e : Given) (a b : Expr AnyNode) (ts : List Token)
         → DerivesExpr true s Expression c a ts → DerivesExpr true t Expression e b ts
-        → AreKnown (expr_parse s c a) → AreKnown (expr_parse t e b)
         → expr_parse s c a ≡ expr_parse t e b }
 {}
 
@@ -61,21 +58,20 @@ pub fn kept_trees_are_told()
         → holds true (expr_verdict Expression e b) ≡ true → t.minify ≡ e.minify
         → Generates s (bare_phrase (expr_phrase a)) ts
         → Generates t (bare_phrase (expr_phrase b)) ts
-        → AreKnown (expr_parse s c a) → AreKnown (expr_parse t e b)
         → expr_parse s c a ≡ expr_parse t e b }
 {}
 
 /// If one list of tokens is derived with two programs, they have one parse tree.
 ///
 /// `if (a) if (b) c; else d;` isn't read with `else` of the first `if`, nor `a` and `++b;` as `a++` and `b;`: `[no LineTerminator
-/// here]` is a token. So whoever reads the tokens by the grammar gets the program that they were printed of, if it holds nothing
-/// that `AreKnown` leaves out: a field whose value is a sequence. An item of a module has no node of its own in it, nor has a declaration
-/// that is exported or stands in the head of a `for`, or an element of JSX that isn't between tags. ECMA-262, section 16.
+/// here]` is a token. So whoever reads the tokens by the grammar gets the program that they were printed of. An item of a module
+/// has no node of its own in its parse tree, nor has a declaration that is exported or stands in the head of a `for`, or an
+/// element of JSX that isn't between tags. `class A { a = (b, c); }` is derived with a Paren round the sequence, and with no
+/// field whose value is the sequence. ECMA-262, section 16.
 #[tactic(auto, using(crate::proofs::Programs::one_program))]
 pub fn tokens_tell_the_program()
     ensures { (s t : Settings) (a b : Program AnyNode) (ts : List Token)
         → DerivesProgram true s a ts → DerivesProgram true t b ts
-        → AreKnown (program_parse s a) → AreKnown (program_parse t b)
         → program_parse s a ≡ program_parse t b }
 {}
 
@@ -87,8 +83,6 @@ pub fn kept_programs_are_told()
         → holds true (program_verdict a) ≡ true → holds true (program_verdict b) ≡ true
         → Generates s (bare_phrase (program_phrase a)) ts
         → Generates t (bare_phrase (program_phrase b)) ts
-        → AreKnown (program_parse s a)
-        → AreKnown (program_parse t b)
         → program_parse s a ≡ program_parse t b }
 {}
 

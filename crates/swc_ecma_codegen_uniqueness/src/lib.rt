@@ -6,7 +6,7 @@
 //! as it is, if at a part and the token behind it one thing alone is to be done. `proofs/TableLaws` says that of the tables,
 //! by evaluation. The other files say which shapes the productions of `swc_ecma_codegen_syntax` have.
 //!
-//! The laws speak of programs of ECMAScript with JSX, but for those with a field whose value is a sequence.
+//! The laws speak of programs of ECMAScript with JSX.
 #![tactic(auto)]
 
 pub mod laws;
