@@ -62,28 +62,38 @@ use Rattle.swc_ecma_codegen_uniqueness.proofs.Functions.{Behind, EachRead, each_
 abbrev InMember : Variant → Control → ParseTree → Type 0
 InMember v c m = Good (Rest c v nt.ClassElement) m
 
--- what begins a member, and stands behind `static`, `get`, `async` and `*` too
+begun_member : {v : Variant} (t : Token) {m : ParseTree} → is_close_brace (class t) ≡ false → InMember v (shifted_to AtMember (class t)) m → Good (Whole v nt.ClassElement) (Read t m)
+begun_member t h g = headed_block (element_begins t h) g
+
+-- a token that begins a member stands behind `async` and `*` too, and tells that a name before it was a word: `static`, `get`, `set`
+abbrev IsBehind : Class → Type 0
+IsBehind l = (is_close_brace l ≡ false) × (shifted_to (MemberKey ClassMethod) l ≡ shifted_to AtMember l)
+
+-- what begins with such a token
 record Began (v : Variant) (m : ParseTree) : Type 0 where
   token : Token
   rest : ParseTree
   is : m ≡ Read token rest
-  opens : is_close_brace (class token) ≡ false
+  behind : IsBehind (class token)
   good : InMember v (shifted_to AtMember (class token)) rest
 
-began : {v : Variant} (t : Token) (m : ParseTree) → is_close_brace (class t) ≡ false → InMember v (shifted_to AtMember (class t)) m → Began v (Read t m)
-began t m h g = record { token = t; rest = m; is = refl; opens = h; good = g }
+began : {v : Variant} (t : Token) (m : ParseTree) → IsBehind (class t) → InMember v (shifted_to AtMember (class t)) m → Began v (Read t m)
+began t m h g = record { token = t; rest = m; is = refl; behind = h; good = g }
 
 goes_there : {v : Variant} {m : ParseTree} → Began v m → InMember v AtMember m
 goes_there {v = v} b = subst (λ z. InMember v AtMember z) (sym b.is) (shifted refl b.good)
 
+goes_behind : {v : Variant} {m : ParseTree} → Began v m → InMember v (MemberKey ClassMethod) m
+goes_behind {v = v} b = subst (λ z. InMember v (MemberKey ClassMethod) z) (sym b.is) (shifted refl (subst (λ c. InMember v c b.rest) (sym b.behind.1) b.good))
+
 whole_member : {v : Variant} {m : ParseTree} → Began v m → Good (Whole v nt.ClassElement) m
-whole_member {v = v} b = subst (λ z. Good (Whole v nt.ClassElement) z) (sym b.is) (headed_block (element_begins b.token b.opens) b.good)
+whole_member {v = v} b = subst (λ z. Good (Whole v nt.ClassElement) z) (sym b.is) (begun_member b.token b.behind.0 b.good)
 
 -- ---- keys
 
-key_begins : (l : Class) → is_key l ≡ true → (is_close_brace l ≡ false) × (shifted_to AtMember l ≡ MemberKey ClassMethod)
-key_begins NameToken h = (refl, refl)
-key_begins LiteralToken h = (refl, refl)
+key_begins : (l : Class) → is_key l ≡ true → IsBehind l × (shifted_to AtMember l ≡ MemberKey ClassMethod)
+key_begins NameToken h = ((refl, refl), refl)
+key_begins LiteralToken h = ((refl, refl), refl)
 key_begins l h = absurd (true≢false (sym h))
 
 key_token_good : (v : Variant) (t : Token) (m : ParseTree) → is_key (class t) ≡ true → InMember v (MemberKey ClassMethod) m → Began v (Read t m)
@@ -91,14 +101,14 @@ key_token_good v t m i g = let e = key_begins (class t) i in began t m e.0 (subs
 
 computed_good : (v s : Variant) (p m : ParseTree) → Operand nt.AssignmentExpression s p → InMember v (MemberKey ClassMethod) m → Began v (Read (punctuator (codes "[")) (Node s p (Read (punctuator (codes "]")) m)))
 unfolding punctuator
-computed_good v s p m o g = began (punctuator (codes "[")) _ refl (part_then InMemberKey (Read (punctuator (codes "]")) m) (takes_self nt.AssignmentExpression) o (assignment_taken, λ z. refl, g))
+computed_good v s p m o g = began (punctuator (codes "[")) _ (refl, refl) (part_then InMemberKey (Read (punctuator (codes "]")) m) (takes_self nt.AssignmentExpression) o (assignment_taken, λ z. refl, g))
 
 member_key : (v : Variant) → Keyed (Began v) (InMember v (MemberKey ClassMethod))
 member_key v = record { token = λ t m i g. key_token_good v t m i g; computed = λ s p m o g. computed_good v s p m o g }
 
 private_key : (v : Variant) (text : List ℕ) (m : ParseTree) → InMember v (MemberKey PrivateMethod) m → Began v (Read (tokens.private_name text) m)
 unfolding tokens.private_name
-private_key v text m g = began (tokens.private_name text) m refl g
+private_key v text m g = began (tokens.private_name text) m (refl, refl) g
 
 -- ---- what stands before a key
 
@@ -115,15 +125,15 @@ no_word false text (provided h (fixed g)) rest = refl
 
 static_then : (s : Settings) (v : Variant) (b : Bool) (ts : List Token) (g : Generates s (word_if b (phrases.word (codes "static"))) ts) (m : ParseTree) → Began v m → Began v (read_phrase s (word_if b (phrases.word (codes "static"))) ts g m)
 unfolding word_if read_phrase word
-static_then s v true ts g m b = began (word (codes "static")) m refl (goes_there b)
+static_then s v true ts g m b = began (word (codes "static")) m (refl, refl) (goes_behind b)
 static_then s v false ts g m b = b
 
 method_words : (s : Settings) (v : Variant) (a k : Bool) (ts : List Token) (g : Generates s (after_async a (word_if k (mark (codes "*")))) ts) (m : ParseTree) → Began v m → Began v (read_phrase s (after_async a (word_if k (mark (codes "*")))) ts g m)
 unfolding after_async word_if read_phrase word punctuator tokens.same_line
 method_words s v false false ts g m b = b
-method_words s v false true ts g m b = began (punctuator (codes "*")) m refl (goes_there b)
-method_words s v true false ts g m b = began (word (codes "async")) _ refl (shifted refl (goes_there b))
-method_words s v true true ts g m b = began (word (codes "async")) _ refl (shifted refl (shifted refl (goes_there b)))
+method_words s v false true ts g m b = began (punctuator (codes "*")) m (refl, refl) (goes_there b)
+method_words s v true false ts g m b = began (word (codes "async")) _ (refl, refl) (shifted refl (goes_there b))
+method_words s v true true ts g m b = began (word (codes "async")) _ (refl, refl) (shifted refl (shifted refl (goes_there b)))
 
 head_in : {s : Settings} (v : Variant) (k : Bool) (c : Parameters) (y : AnyNode-F AnyNode) {ts : List Token} (d : Derives true s (node_form k c y MethodHead) ts) (m : ParseTree) → Began v m → Began v (derived_parse d m)
 unfolding node_form part_form stmt_part_form jsx_part_form method_head derived_parse
@@ -135,8 +145,8 @@ head_in v k c y d m b = absurd (no_form d)
 kind_good : {s : Settings} (v : Variant) (c : Parameters) (kind : MethodKind) (n : FunctionBox AnyNode) {ts : List Token} (d : Derives true s (kind_form c kind n) ts) (m : ParseTree) → Began v m → Began v (derived_parse d m)
 unfolding kind_form derived_parse read_phrase placed is_inlined word
 kind_good v c Method n (part k sk d) m b = head_in v k c (out-AnyNode n.node.value) d m b
-kind_good v c Getter n (fixed g) m b = began (word (codes "get")) m refl (goes_there b)
-kind_good v c Setter n (fixed g) m b = began (word (codes "set")) m refl (goes_there b)
+kind_good v c Getter n (fixed g) m b = began (word (codes "get")) m (refl, refl) (goes_behind b)
+kind_good v c Setter n (fixed g) m b = began (word (codes "set")) m (refl, refl) (goes_behind b)
 
 words_good : {s : Settings} (v : Variant) (c : Parameters) (is_static is_abstract is_override : Bool) (kind : MethodKind) (n : FunctionBox AnyNode) {ts : List Token} (d : Derives true s (method_kind_form c is_static is_abstract is_override kind n) ts)
     (m : ParseTree) → Began v m → Began v (derived_parse d m)
@@ -246,8 +256,8 @@ constructor_good : {s : Settings} (c : Parameters) (n : constructors.Constructor
 unfolding constructor_form AllGood derived_parse read_phrase word punctuator
 constructor_good c n (both a (both (fixed g) (both (fixed h) (both d (both (fixed i) e))))) (y, (z, (u, (o, (v, r))))) m =
     subst (λ p. Good (Whole Constructor nt.ClassElement) p) (sym (no_accessibility n.accessibility a _))
-    (whole_member (began (word (codes "constructor")) _ refl (shifted refl (params_good (member_within Constructor) (param_read (member_within Constructor) (of_function false false c) refl m) n.params.items d o _
-    (body_good (member_within Constructor) (of_function false false c) n.body refl e r m End (ended Constructor nt.ClassElement))))))
+    (begun_member (word (codes "constructor")) refl (shifted refl (params_good (member_within Constructor) (param_read (member_within Constructor) (of_function false false c) refl m) n.params.items d o _
+    (body_good (member_within Constructor) (of_function false false c) n.body refl e r m End (ended Constructor nt.ClassElement)))))
 
 -- ---- fields
 
@@ -261,7 +271,7 @@ prop_words s v (Some a) false is_static is_abstract is_override readonly ts g h 
 prop_words s v None false is_static true is_override readonly ts g h m b = absurd (true≢false (sym h))
 prop_words s v None false is_static false true readonly ts g h m b = absurd (true≢false (sym h))
 prop_words s v None false is_static false false true ts g h m b = absurd (true≢false (sym h))
-prop_words s v None false true false false false ts g h m b = began (word (codes "static")) m refl (goes_there b)
+prop_words s v None false true false false false ts g h m b = began (word (codes "static")) m (refl, refl) (goes_behind b)
 prop_words s v None false false false false false ts g h m b = b
 
 private_words : (s : Settings) (v : Variant) (o : Option Accessibility) (is_static is_override readonly : Bool) (ts : List Token)
@@ -272,7 +282,7 @@ unfolding accessibility word_if read_phrase word
 private_words s v (Some a) is_static is_override readonly ts g h m b = absurd (true≢false (sym h))
 private_words s v None is_static true readonly ts g h m b = absurd (true≢false (sym h))
 private_words s v None is_static false true ts g h m b = absurd (true≢false (sym h))
-private_words s v None true false false ts g h m b = began (word (codes "static")) m refl (goes_there b)
+private_words s v None true false false ts g h m b = began (word (codes "static")) m (refl, refl) (goes_behind b)
 private_words s v None false false false ts g h m b = b
 
 no_field_type : {s : Settings} (c : Parameters) (definite : Bool) (o : Option (TsTypeAnnBox AnyNode)) {ts : List Token} (d : Derives true s (field_type_form c definite o) ts) (rest : ParseTree) → derived_parse d rest ≡ rest
@@ -310,11 +320,11 @@ unfolding static_block_form AllGood PlacedGood derived_parse read_phrase placed 
 static_block_good c n (both (fixed g) (part a sa d)) (x, o) m =
     let v = o m in
     subst (λ z. Good (Whole StaticBlock nt.ClassElement) (Read (word (codes "static")) z)) (sym (v.is End))
-    (whole_member (began (word (codes "static")) _ refl (shifted refl (v.good (InList StaticBlock) refl StaticBlock nt.ClassElement End (ended StaticBlock nt.ClassElement)))))
+    (begun_member (word (codes "static")) refl (shifted refl (v.good (InList StaticBlock) refl StaticBlock nt.ClassElement End (ended StaticBlock nt.ClassElement))))
 
 empty_good : Good (Whole EmptyStmt nt.ClassElement) (Read (punctuator (codes ";")) End)
 unfolding punctuator
-empty_good = whole_member (began (punctuator (codes ";")) End refl (ended EmptyStmt nt.ClassElement))
+empty_good = begun_member (punctuator (codes ";")) refl (ended EmptyStmt nt.ClassElement)
 
 pub element_good : {s : Settings} (c : Parameters) (n : class_members.ClassMember AnyNode) {ts : List Token} (d : Derives true s (member_of_class_form c n) ts) → AllGood d → s.minify ≡ c.minify → Good (Whole (member_variant n) nt.ClassElement) (derived_parse d End)
 unfolding member_of_class_form member_variant is_met derived_parse read_phrase

@@ -15,25 +15,29 @@ pub data Class : Type 0 where
   Assigns Ask Colon Comma Dot ChainDot OpenParen CloseParen OpenBracket CloseBracket OpenBrace CloseBrace Dots Line Twice Bang FatArrow Semi Semicolon FirstLine : Class
   First Later : (opens : Bool) → Class
   TagName TagString TagText TagClose ChildTagMark ChildBraceMark : Class
-  NameToken PrivateToken LiteralToken ThisWord NewWord SuperWord ImportWord YieldWord AwaitWord AsyncWord FunctionWord ClassWord ExtendsWord StaticWord ConstructorWord ExportWord ForWord OfWord ReturnWord ThrowWord BreakWord ContinueWord DebuggerWord IfWord ElseWord WhileWord WithWord DoWord TryWord CatchWord FinallyWord SwitchWord CaseWord DefaultWord GetWord SetWord VarWord UnaryWord TargetWord MetaWord Strange : Class
+  NameToken PrivateToken LiteralToken ThisWord NewWord SuperWord ImportWord YieldWord AwaitWord AsyncWord FunctionWord ClassWord ExtendsWord ConstructorWord ExportWord ForWord ReturnWord ThrowWord BreakWord ContinueWord DebuggerWord IfWord ElseWord WhileWord WithWord DoWord TryWord CatchWord FinallyWord SwitchWord CaseWord DefaultWord VarWord UnaryWord Strange : Class
 
 abbrev pub look : List (List ℕ × Class) → List ℕ → Class
 look [] text = Strange
 look (e ∷ es) text = cond (bytes_eq text e.0) e.1 (look es text)
 
+-- words that are read as names are
+abbrev names : List (List ℕ × Class)
+names =
+    (codes "as", NameToken) ∷ (codes "from", NameToken) ∷ (codes "get", NameToken) ∷ (codes "meta", NameToken) ∷ (codes "of", NameToken) ∷ (codes "set", NameToken)
+    ∷ (codes "static", NameToken) ∷ (codes "target", NameToken) ∷ []
+
 abbrev pub words : List (List ℕ × Class)
 words =
     (codes "this", ThisWord) ∷ (codes "new", NewWord) ∷ (codes "super", SuperWord) ∷ (codes "import", ImportWord) ∷ (codes "yield", YieldWord)
     ∷ (codes "await", AwaitWord) ∷ (codes "async", AsyncWord) ∷ (codes "function", FunctionWord)
-    ∷ (codes "class", ClassWord) ∷ (codes "extends", ExtendsWord) ∷ (codes "static", StaticWord) ∷ (codes "constructor", ConstructorWord)
-    ∷ (codes "export", ExportWord) ∷ (codes "for", ForWord) ∷ (codes "of", OfWord)
+    ∷ (codes "class", ClassWord) ∷ (codes "extends", ExtendsWord) ∷ (codes "constructor", ConstructorWord) ∷ (codes "export", ExportWord) ∷ (codes "for", ForWord)
     ∷ (codes "return", ReturnWord) ∷ (codes "throw", ThrowWord) ∷ (codes "break", BreakWord) ∷ (codes "continue", ContinueWord) ∷ (codes "debugger", DebuggerWord)
     ∷ (codes "if", IfWord) ∷ (codes "else", ElseWord) ∷ (codes "while", WhileWord) ∷ (codes "do", DoWord) ∷ (codes "try", TryWord) ∷ (codes "catch", CatchWord) ∷ (codes "finally", FinallyWord)
     ∷ (codes "switch", SwitchWord) ∷ (codes "case", CaseWord) ∷ (codes "default", DefaultWord)
-    ∷ (codes "get", GetWord) ∷ (codes "set", SetWord) ∷ (codes "with", WithWord) ∷ (codes "var", VarWord) ∷ (codes "let", VarWord)
-    ∷ (codes "const", VarWord) ∷ (codes "typeof", UnaryWord) ∷ (codes "void", UnaryWord) ∷ (codes "delete", UnaryWord) ∷ (codes "target", TargetWord)
-    ∷ (codes "meta", MetaWord) ∷ (codes "true", LiteralToken) ∷ (codes "false", LiteralToken) ∷ (codes "null", LiteralToken)
-    ∷ (codes "in", Infix Within) ∷ (codes "instanceof", Infix Comparing) ∷ []
+    ∷ (codes "with", WithWord) ∷ (codes "var", VarWord) ∷ (codes "let", VarWord)
+    ∷ (codes "const", VarWord) ∷ (codes "typeof", UnaryWord) ∷ (codes "void", UnaryWord) ∷ (codes "delete", UnaryWord) ∷ (codes "true", LiteralToken) ∷ (codes "false", LiteralToken) ∷ (codes "null", LiteralToken)
+    ∷ (codes "in", Infix Within) ∷ (codes "instanceof", Infix Comparing) ∷ names
 
 abbrev operators : List (List ℕ × Class) → List (List ℕ × Class)
 operators more =

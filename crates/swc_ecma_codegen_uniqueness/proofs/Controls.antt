@@ -5,7 +5,7 @@ use Rattle.swc_ecma_codegen_syntax.specs.declared.nonterminals.Nonterminal.{Nont
 use Rattle.swc_ecma_codegen_syntax.specs.declared.nonterminals.Nonterminal.TheVariants as nt
 use Rattle.swc_ecma_codegen_syntax.specs.Nonterminals.{takes, is_private}
 use Rattle.swc_ecma_codegen_uniqueness.specs.ParseTrees.{Variant, Unary, Update, Bin, Assign, Cond, New, Seq, Arrow, Yield, Await, LabeledStmt, IfStmt, Foreign, TryStmt, DoWhileStmt}
-use Rattle.swc_ecma_codegen_uniqueness.proofs.Classes.{Level, Class, class, Power, Times, Plus, Shifting, Less, Comparing, Within, Equating, BitAnds, BitXors, BitOrs, Ands, Ors, Coalescing, Infix, Assigns, Ask, Colon, Comma, Dot, ChainDot, OpenParen, CloseParen, OpenBracket, CloseBracket, OpenBrace, CloseBrace, Line, Twice, Bang, Semi, Semicolon, First, Later, TagName, TagClose, NameToken, PrivateToken, LiteralToken, ThisWord, NewWord, SuperWord, ImportWord, YieldWord, AwaitWord, AsyncWord, FunctionWord, ClassWord, OfWord, ElseWord, CatchWord, FinallyWord, UnaryWord}
+use Rattle.swc_ecma_codegen_uniqueness.proofs.Classes.{Level, Class, class, Power, Times, Plus, Shifting, Less, Comparing, Within, Equating, BitAnds, BitXors, BitOrs, Ands, Ors, Coalescing, Infix, Assigns, Ask, Colon, Comma, Dot, ChainDot, OpenParen, CloseParen, OpenBracket, CloseBracket, OpenBrace, CloseBrace, Line, Twice, Bang, Semi, Semicolon, First, Later, TagName, TagClose, NameToken, PrivateToken, LiteralToken, ThisWord, NewWord, SuperWord, ImportWord, YieldWord, AwaitWord, AsyncWord, FunctionWord, ClassWord, ElseWord, CatchWord, FinallyWord, UnaryWord}
 
 -- ---- levels: the nonterminal of each operator, and of its operands
 
@@ -67,7 +67,7 @@ left OpenBrace = nt.LeftHandSideExpression
 left Line = nt.LeftHandSideExpression
 left Semi = nt.Expression
 left Semicolon = nt.Expression
-left OfWord = nt.LeftHandSideExpression
+left NameToken = nt.LeftHandSideExpression
 left TagName = nt.PrimaryExpression
 left TagClose = nt.PrimaryExpression
 left c = nt.Uncovered
@@ -209,7 +209,7 @@ pub data Control : Type 0 where
   Statement Entered : (place : Where) → Control
   AfterFunction AfterName : Control
   Parameter RestParameter AfterParameters : (place : Where) → Control
-  AtKey AsyncKey AtSetter InSetterKey AfterSetter SetterParameter : Control
+  AtKey AsyncKey InAccessorKey AfterAccessor AccessorParameter : Control
   AfterWord Valued Jump Headed Test : (variant : Variant) → Control
   Declarators Initializer : Control
   AfterDo AfterTry BehindTry AfterCatch CatchParameter BehindParameter BehindCatch AfterFinally AfterSwitch Case AfterDefault : Control
@@ -239,8 +239,8 @@ waits AsyncOperand = nt.LeftHandSideExpression
 waits (Entered place) = nt.Expression
 waits (Parameter place) = nt.AssignmentExpression
 waits (RestParameter place) = nt.LeftHandSideExpression
-waits InSetterKey = nt.AssignmentExpression
-waits SetterParameter = nt.AssignmentExpression
+waits InAccessorKey = nt.AssignmentExpression
+waits AccessorParameter = nt.AssignmentExpression
 waits (Valued variant) = nt.Expression
 waits (Test variant) = nt.Expression
 waits Declarators = nt.LeftHandSideExpression

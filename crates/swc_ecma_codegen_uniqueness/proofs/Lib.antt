@@ -32,3 +32,4 @@ pub mod TableLaws
 pub mod Tables
 pub mod Unique
 pub mod Variables
+pub mod Words

@@ -117,7 +117,7 @@ pub data State : Type 0 where
   At : (stack : List Frame) → (hand : Hand) → State
   Fail : State
 
-abbrev wrap_at : Hand → Token → Control
+abbrev pub wrap_at : Hand → Token → Control
 wrap_at Empty t = start t
 wrap_at (Full s p) t = wrap s t
 
@@ -554,22 +554,22 @@ never_kept c t u v ts {s = s} {p = p} g st cl l e a k =
 
 -- ---- so its tokens tell it
 
-abbrev first_of : ParseTree → ParseTree
+abbrev pub first_of : ParseTree → ParseTree
 first_of End = End
 first_of (Read t rest) = End
 first_of (Optional t rest) = End
 first_of (Node s p rest) = Node s p End
 
-abbrev found : State → ParseTree
+abbrev pub found : State → ParseTree
 found (At [] h) = End
 found (At (f ∷ s) h) = first_of (f.so_far End)
 found Fail = End
 
 -- read before a token that the bottommost frame takes
-abbrev Ends : Control → Token → Variant → Nonterminal → Type 0
+abbrev pub Ends : Control → Token → Variant → Nonterminal → Type 0
 Ends c t s n = (stands c n ≡ true) × (closes t n ≡ true) × (decide c (Some s) t ≡ Shift)
 
-whole_found : (c : Control) (t : Token) (s : Variant) (n : Nonterminal) (p : ParseTree) → Ends c t s n → Good (Whole s n) p →
+pub whole_found : (c : Control) (t : Token) (s : Variant) (n : Nonterminal) (p : ParseTree) → Ends c t s n → Good (Whole s n) p →
     found (run (tokens_of p (t ∷ [])) (At (record { control = c; so_far = λ rest. rest; other = λ rest. rest } ∷ []) Empty)) ≡ Node s p End
 whole_found c t s n p e g =
     let f : Frame = record { control = c; so_far = λ rest. rest; other = λ rest. rest } in
@@ -582,7 +582,7 @@ one_tree c t s z n k p q e d g h same =
 
 -- ---- the same of what is left of a frame, read before a token that the one below takes
 
-rest_found : (at : Control) (t : Token) (s : Variant) (n : Nonterminal) (m : ParseTree) → closes t n ≡ true → decide InParen (Some s) t ≡ Shift → Good (Rest at s n) m →
+pub rest_found : (at : Control) (t : Token) (s : Variant) (n : Nonterminal) (m : ParseTree) → closes t n ≡ true → decide InParen (Some s) t ≡ Shift → Good (Rest at s n) m →
     found (run (tokens_of m (t ∷ [])) (At (record { control = at; so_far = λ rest. rest; other = λ rest. rest } ∷ record { control = InParen; so_far = λ rest. rest; other = λ rest. rest } ∷ []) Empty)) ≡ Node s m End
 rest_found at t s n m e d g =
     let f : Frame = record { control = InParen; so_far = λ rest. rest; other = λ rest. rest } in

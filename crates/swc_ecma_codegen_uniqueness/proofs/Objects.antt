@@ -21,9 +21,9 @@ use Rattle.swc_ecma_codegen_syntax.specs.ObjectForms.{key_value_form, assign_pro
 use Rattle.swc_ecma_codegen_syntax.specs.Derives.{Derives, fixed, part, both, provided}
 use Rattle.swc_ecma_codegen_uniqueness.specs.ParseTrees.{ParseTree, End, Read, Object}
 use Rattle.swc_ecma_codegen_uniqueness.specs.Parses.{placed, is_inlined}
-use Rattle.swc_ecma_codegen_uniqueness.proofs.Controls.{InMethod, AtKey, AfterKey, AtSetter, AfterSetter, SetterParameter, AfterParameters}
+use Rattle.swc_ecma_codegen_uniqueness.proofs.Controls.{InMethod, AtKey, AfterKey, AfterAccessor, AccessorParameter, AfterParameters}
 use Rattle.swc_ecma_codegen_uniqueness.proofs.Machine.{Whole, Rest, Good, shifted}
-use Rattle.swc_ecma_codegen_uniqueness.proofs.Shapes.{InObject, InProperties, OnProperty, object_key, property_place, a_member, a_setter, takes_self, assignment_taken, part_then, Operand, properties_closed, property_next, no_properties, object, value_then, spread_property}
+use Rattle.swc_ecma_codegen_uniqueness.proofs.Shapes.{InObject, InProperties, OnProperty, object_key, property_place, a_member, an_accessor, takes_self, assignment_taken, part_then, Operand, properties_closed, property_next, no_properties, object, value_then, spread_property}
 use Rattle.swc_ecma_codegen_uniqueness.proofs.Reading.{read_phrase, derived_parse}
 use Rattle.swc_ecma_codegen_uniqueness.proofs.Fits.{at_place, PlacedGood, AllGood, no_form}
 use Rattle.swc_ecma_codegen_uniqueness.proofs.Atoms.{name_read, no_annotation}
@@ -37,7 +37,7 @@ use Rattle.swc_ecma_codegen_grammar.specs.FunctionPhrases.{after_async, word_if,
 use Rattle.swc_ecma_codegen_grammar.specs.Phrases.{Generates, mark}
 use Rattle.swc_ecma_codegen_syntax.specs.NodeForms.{node_form, part_form, stmt_part_form, jsx_part_form}
 use Rattle.swc_ecma_codegen_uniqueness.specs.ParseTrees.{Variant, Node}
-use Rattle.swc_ecma_codegen_uniqueness.proofs.StatementShapes.{Within, no_parameters_then, parameters_end}
+use Rattle.swc_ecma_codegen_uniqueness.proofs.StatementShapes.{Within, parameters_end}
 use Rattle.swc_ecma_codegen_uniqueness.proofs.Keys.{key_good, named_then, own_key_good}
 use Rattle.swc_ecma_codegen_uniqueness.proofs.Patterns.{covered_at, no_rest}
 use Rattle.swc_ecma_codegen_uniqueness.proofs.Functions.{tail_good}
@@ -56,13 +56,13 @@ body_good c (Some x) (part a sa d) o m rest g =
     let v = o m in
     subst (λ z. Good (Rest (AfterParameters InMethod) Object nt.PrimaryExpression) z) (sym (v.is rest)) (parameters_end in_object (v.good InMethod refl Object nt.PrimaryExpression rest g))
 
--- behind `get` and `set`, and behind `async` and `*`
-getter_then : (b : Bool) {m : ParseTree} → InObject AtKey m → InProperties b (Read (word (codes "get")) m)
+-- behind `get` and `set`, which may be keys too, and behind `async` and `*`
+getter_then : (b : Bool) {m : ParseTree} → InObject AfterKey m → InProperties b (Read (word (codes "get")) m)
 unfolding word
 getter_then true g = shifted refl g
 getter_then false g = shifted refl g
 
-setter_then : (b : Bool) {m : ParseTree} → InObject AtSetter m → InProperties b (Read (word (codes "set")) m)
+setter_then : (b : Bool) {m : ParseTree} → InObject AfterKey m → InProperties b (Read (word (codes "set")) m)
 unfolding word
 setter_then true g = shifted refl g
 setter_then false g = shifted refl g
@@ -92,19 +92,19 @@ no_own c (Some n) (provided h d) rest = absurd (true≢false (sym h))
 getter_good : {s : Settings} (b : Bool) (c : Parameters) (n : GetterProp AnyNode) {ts : List Token} (d : Derives true s (getter_form c n) ts) → AllGood d → s.minify ≡ c.minify → (rest : ParseTree) → OnProperty rest → InProperties b (derived_parse d rest)
 unfolding getter_form AllGood derived_parse read_phrase punctuator
 getter_good b c n (both (fixed g) (both k (both (fixed h) (both (fixed i) (both a e))))) (x, (o, (y, (z, (w, q))))) m rest on =
-    getter_then b (own_key_good (object_key a_member) nt.AnyPropertyName c n.key k o m _
-    (shifted refl (no_parameters_then in_object (subst (λ w. Good (Rest (AfterParameters InMethod) Object nt.PrimaryExpression) w) (sym (no_annotation c n.type_ann a (derived_parse e rest))) (body_good c n.body e q m rest on.0)))))
+    getter_then b (own_key_good (object_key an_accessor) nt.AnyPropertyName c n.key k o m _
+    (shifted refl (shifted refl (subst (λ w. Good (Rest (AfterParameters InMethod) Object nt.PrimaryExpression) w) (sym (no_annotation c n.type_ann a (derived_parse e rest))) (body_good c n.body e q m rest on.0)))))
 
-setter_parameter : {s : Variant} {p m : ParseTree} → Operand nt.AssignmentExpression s p → Good (Rest (AfterParameters InMethod) Object nt.PrimaryExpression) m → InObject AfterSetter (Read (punctuator (codes "(")) (Node s p (Read (punctuator (codes ")")) m)))
+setter_parameter : {s : Variant} {p m : ParseTree} → Operand nt.AssignmentExpression s p → Good (Rest (AfterParameters InMethod) Object nt.PrimaryExpression) m → InObject AfterAccessor (Read (punctuator (codes "(")) (Node s p (Read (punctuator (codes ")")) m)))
 unfolding punctuator
-setter_parameter {m = m} o g = shifted refl (part_then SetterParameter (Read (punctuator (codes ")")) m) (takes_self nt.AssignmentExpression) o (assignment_taken, λ z. refl, g))
+setter_parameter {m = m} o g = shifted refl (part_then AccessorParameter (Read (punctuator (codes ")")) m) (takes_self nt.AssignmentExpression) o (assignment_taken, λ z. refl, g))
 
 setter_good : {s : Settings} (b : Bool) (c : Parameters) (n : SetterProp AnyNode) {ts : List Token} (d : Derives true s (setter_form c n) ts) → AllGood d → s.minify ≡ c.minify → (rest : ParseTree) → OnProperty rest → InProperties b (derived_parse d rest)
 unfolding setter_form AllGood derived_parse read_phrase
 setter_good b c n (both (fixed g) (both k (both (fixed h) (both w (both p (both (fixed i) e)))))) (x, (o, (y, (z, (q, (u, r)))))) m rest on =
     let v = covered_at nt.PatternElement no_rest _ n.param.node.value p q m in
-    setter_then b (own_key_good (object_key a_setter) nt.AnyPropertyName c n.key k o m _
-    (subst (λ t. InObject AfterSetter (Read (punctuator (codes "(")) t)) (sym (no_own c n.this_param w _ ∙ v.is (Read (punctuator (codes ")")) (derived_parse e rest))))
+    setter_then b (own_key_good (object_key an_accessor) nt.AnyPropertyName c n.key k o m _
+    (subst (λ t. InObject AfterAccessor (Read (punctuator (codes "(")) t)) (sym (no_own c n.this_param w _ ∙ v.is (Read (punctuator (codes ")")) (derived_parse e rest))))
     (setter_parameter v.operand (body_good c n.body e r m rest on.0))))
 
 method_good : {s : Settings} (b : Bool) (c : Parameters) (n : MethodProp AnyNode) {ts : List Token} (d : Derives true s (method_prop_form c n) ts) → AllGood d → s.minify ≡ c.minify → (rest : ParseTree) → OnProperty rest → InProperties b (derived_parse d rest)

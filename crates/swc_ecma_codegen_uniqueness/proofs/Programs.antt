@@ -21,6 +21,7 @@ use Rattle.swc_ecma_codegen_syntax.specs.Verdicts.{holds}
 use Rattle.swc_ecma_codegen_syntax.proofs.RootLaws.{program_complete}
 use Rattle.swc_ecma_codegen_uniqueness.specs.ParseTrees.{ParseTree, End, Read, Optional, Node, BlockStmt, AreCommasAndParentheses, settled, tokens_of}
 use Rattle.swc_ecma_codegen_uniqueness.specs.Parses.{placed, is_inlined, program_parse}
+use Rattle.swc_ecma_codegen_uniqueness.specs.Words.{as_name, as_names, with_names}
 use Rattle.swc_ecma_codegen_uniqueness.proofs.Controls.{InList, Statement}
 use Rattle.swc_ecma_codegen_uniqueness.proofs.Machine.{Rest, Good, joined, shifted, one_rest}
 use Rattle.swc_ecma_codegen_uniqueness.proofs.Shapes.{ended}
@@ -33,6 +34,7 @@ use Rattle.swc_ecma_codegen_uniqueness.proofs.Modules.{module_item}
 use Rattle.swc_ecma_codegen_uniqueness.proofs.Statements.{InItems, item_taken, item_good, list_good, list_end}
 use Rattle.swc_ecma_codegen_uniqueness.proofs.Layers.{all_good}
 use Rattle.swc_ecma_codegen_uniqueness.proofs.ParseLaws.{derived_settled}
+use Rattle.swc_ecma_codegen_uniqueness.proofs.Words.{rest_named, settled_named, same_names}
 
 -- ---- a program is read as a list of statements
 
@@ -98,6 +100,32 @@ one_program s t a b ts d e =
     (program_good s.minify a d (all_good d) refl) (program_good t.minify b e (all_good e) refl)
     (tokens_before d (Read brace End) (punctuator (codes ")") ∷ []) ∙ sym (tokens_before e (Read brace End) (punctuator (codes ")") ∷ []))) in
     sym (program_settled a d) ∙ ap settled (sym (whole a d) ∙ ap (λ z. without_last (inside_of z)) same ∙ whole b e) ∙ program_settled b e
+
+-- ---- so do names in place of words
+
+last_named : (p : ParseTree) → with_names (without_last p) ≡ without_last (with_names p)
+unfolding with_names
+last_named End = refl
+last_named (Read t End) = refl
+last_named (Read t (Read u p)) = ap (Read (as_name t)) (last_named (Read u p))
+last_named (Read t (Optional u p)) = ap (Read (as_name t)) (last_named (Optional u p))
+last_named (Read t (Node s p q)) = ap (Read (as_name t)) (last_named (Node s p q))
+last_named (Optional t p) = ap (Optional (as_name t)) (last_named p)
+last_named (Node s p q) = ap (Node s (with_names p)) (last_named q)
+
+pub one_program_named : (s t : Settings) (a b : Program AnyNode) (ts us : List Token) → DerivesProgram true s a ts → DerivesProgram true t b us → as_names ts ≡ as_names us → with_names (program_parse s a) ≡ with_names (program_parse t b)
+unfolding punctuator tokens_of
+one_program_named s t a b ts us d e h =
+    let same = rest_named (Statement (InList BlockStmt)) (punctuator (codes ")")) BlockStmt nt.Statement (derived_parse d (Read brace End)) (derived_parse e (Read brace End)) refl refl
+    (program_good s.minify a d (all_good d) refl) (program_good t.minify b e (all_good e) refl)
+    (same_names ts us _ _ (brace ∷ punctuator (codes ")") ∷ []) (tokens_before d (Read brace End) (punctuator (codes ")") ∷ [])) (tokens_before e (Read brace End) (punctuator (codes ")") ∷ [])) h) in
+    let ended : with_names (derived_parse d End) ≡ with_names (derived_parse e End) =
+    ap with_names (sym (whole a d)) ∙ last_named (derived_parse d (Read brace End)) ∙ ap without_last same ∙ sym (last_named (derived_parse e (Read brace End))) ∙ ap with_names (whole b e) in
+    ap with_names (sym (program_settled a d)) ∙ settled_named (derived_parse d End) ∙ ap settled ended ∙ sym (settled_named (derived_parse e End)) ∙ ap with_names (program_settled b e)
+
+pub kept_program_named : (s t : Settings) (a b : Program AnyNode) (ts us : List Token) → holds true (program_verdict a) ≡ true → holds true (program_verdict b) ≡ true → Generates s (bare_phrase (program_phrase a)) ts →
+    Generates t (bare_phrase (program_phrase b)) us → as_names ts ≡ as_names us → with_names (program_parse s a) ≡ with_names (program_parse t b)
+kept_program_named s t a b ts us h k x y e = one_program_named s t a b ts us (program_complete true a _ refl h s ts x) (program_complete true b _ refl k t us y) e
 
 pub kept_program : (s t : Settings) (a b : Program AnyNode) (ts : List Token) → holds true (program_verdict a) ≡ true → holds true (program_verdict b) ≡ true → Generates s (bare_phrase (program_phrase a)) ts →
     Generates t (bare_phrase (program_phrase b)) ts → program_parse s a ≡ program_parse t b

@@ -10,7 +10,7 @@ use Rattle.swc_ecma_codegen_syntax.specs.UnitProductions.{here, step, expression
 use Rattle.swc_ecma_codegen_syntax.proofs.Taken.{chain_takes}
 use Rattle.swc_ecma_codegen_uniqueness.specs.ParseTrees.{Variant, ParseTree, End, Read, Optional, Node, tokens_of, Array, Object, Update, Bin, Assign, Member, SuperProp, Cond, Call, New, Seq, Tpl, TaggedTpl, Arrow, Yield, MetaProp, Paren, OptChain}
 use Rattle.swc_ecma_codegen_uniqueness.proofs.Classes.{OpenParen, Level, Class, Infix, Assigns, Ask, Comma, Dot, ChainDot, OpenBracket, Line, Twice, First, Later, class, NameToken, LiteralToken}
-use Rattle.swc_ecma_codegen_uniqueness.proofs.Controls.{starts, is_item, is_listed, ArrowBody, left, left_of, right_of, made, Tail, OfInfix, OfCond, OfAssign, OfYield, whole, last as last_of, tail_variant, Control, Closed, Open, InParen, Index, Arguments, Elements, NextElement, Properties, NextProperty, AfterKey, InKey, InValue, Middle, Substitution, Dotted, Chained, AfterNew, AfterImport, AfterSuper, AfterYield, Postfix, Listed, AfterAsync, AsyncLine, waits, AtKey, AtSetter, AfterSetter, InSetterKey}
+use Rattle.swc_ecma_codegen_uniqueness.proofs.Controls.{starts, is_item, is_listed, ArrowBody, left, left_of, right_of, made, Tail, OfInfix, OfCond, OfAssign, OfYield, whole, last as last_of, tail_variant, Control, Closed, Open, InParen, Index, Arguments, Elements, NextElement, Properties, NextProperty, AfterKey, InKey, InValue, Middle, Substitution, Dotted, Chained, AfterNew, AfterImport, AfterSuper, AfterYield, Postfix, Listed, AfterAsync, AsyncLine, waits, AtKey, AfterAccessor, InAccessorKey}
 use Rattle.swc_ecma_codegen_uniqueness.proofs.Tables.{Enter, decide, Shift, Turn, shift, shifted_to, passed_to, start, started, template, wrapped_to, chained, without, with_operand}
 use Rattle.swc_ecma_codegen_uniqueness.proofs.PlaceLaws.{is_function, async_enters}
 use Rattle.swc_ecma_codegen_uniqueness.proofs.TableLaws.{ended_by, ending, takes_on, is_sequence, assignment_single, taken_there, arrow_wraps, is_place, pushes, or_left, is_infix, made_by, Wraps, infix_wraps, Linked, linked_closes, links, link_wraps, Calling, calling_linked, call_wraps, tail_ends, new_ends, yield_ends, yield_alone, listed_ends, member_plain, call_plain, callee_plain}
@@ -338,7 +338,7 @@ pub data KeyPlace : Control → Control → Type 0 where
   a_property : KeyPlace Properties AfterKey
   next_property : KeyPlace NextProperty AfterKey
   a_member : KeyPlace AtKey AfterKey
-  a_setter : KeyPlace AtSetter AfterSetter
+  an_accessor : KeyPlace AfterKey AfterAccessor
 
 pub property_place : (b : Bool) → KeyPlace (at_property b) AfterKey
 property_place true = next_property
@@ -362,8 +362,8 @@ key_shifts next_property NameToken h = (refl, refl)
 key_shifts next_property LiteralToken h = (refl, refl)
 key_shifts a_member NameToken h = (refl, refl)
 key_shifts a_member LiteralToken h = (refl, refl)
-key_shifts a_setter NameToken h = (refl, refl)
-key_shifts a_setter LiteralToken h = (refl, refl)
+key_shifts an_accessor NameToken h = (refl, refl)
+key_shifts an_accessor LiteralToken h = (refl, refl)
 key_shifts k l h = absurd (true≢false (sym h))
 
 key_then : {at after : Control} (k : KeyPlace at after) (t : Token) {m : ParseTree} → is_key (class t) ≡ true → InObject after m → InObject at (Read t m)
@@ -374,7 +374,7 @@ unfolding punctuator
 computed_then a_property {m = m} o g = shifted refl (part_then InKey (Read close_bracket m) (takes_self nt.AssignmentExpression) o (assignment_taken, λ z. refl, g))
 computed_then next_property {m = m} o g = shifted refl (part_then InKey (Read close_bracket m) (takes_self nt.AssignmentExpression) o (assignment_taken, λ z. refl, g))
 computed_then a_member {m = m} o g = shifted refl (part_then InKey (Read close_bracket m) (takes_self nt.AssignmentExpression) o (assignment_taken, λ z. refl, g))
-computed_then a_setter {m = m} o g = shifted refl (part_then InSetterKey (Read close_bracket m) (takes_self nt.AssignmentExpression) o (assignment_taken, λ z. refl, g))
+computed_then an_accessor {m = m} o g = shifted refl (part_then InAccessorKey (Read close_bracket m) (takes_self nt.AssignmentExpression) o (assignment_taken, λ z. refl, g))
 
 pub object_key : {at after : Control} → KeyPlace at after → Keyed (InObject at) (InObject after)
 object_key k = record { token = λ t m i g. key_then k t i g; computed = λ s p m o g. computed_then k o g }

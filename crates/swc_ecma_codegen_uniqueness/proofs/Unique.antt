@@ -18,6 +18,7 @@ use Rattle.swc_ecma_codegen_syntax.specs.Forms.{Part}
 use Rattle.swc_ecma_codegen_syntax.specs.Derives.{Derives, DerivesExpr, part, bare_phrase, expr_verdict}
 use Rattle.swc_ecma_codegen_uniqueness.specs.ParseTrees.{Variant, ParseTree, End, Node, tokens_of, settled, AreCommasAndParentheses}
 use Rattle.swc_ecma_codegen_uniqueness.specs.Parses.{placed, is_inlined, form_parse, expr_parse}
+use Rattle.swc_ecma_codegen_uniqueness.specs.Words.{as_names, with_names}
 use Rattle.swc_ecma_codegen_uniqueness.proofs.Classes.{CloseParen}
 use Rattle.swc_ecma_codegen_uniqueness.proofs.Controls.{InParen}
 use Rattle.swc_ecma_codegen_uniqueness.proofs.Machine.{Whole, Good, one_tree}
@@ -27,6 +28,7 @@ use Rattle.swc_ecma_codegen_uniqueness.proofs.Parsed.{tokens_before, derived_all
 use Rattle.swc_ecma_codegen_uniqueness.proofs.Fits.{PlacedGood, AllGood, taken_at}
 use Rattle.swc_ecma_codegen_uniqueness.proofs.Layers.{all_good}
 use Rattle.swc_ecma_codegen_uniqueness.proofs.ParseLaws.{derived_settled}
+use Rattle.swc_ecma_codegen_uniqueness.proofs.Words.{one_named, settled_named, same_names}
 
 -- an expression that is read as it is
 record Readable (m : ParseTree) : Type 0 where
@@ -51,6 +53,14 @@ same_readable p q x y e =
     (sym (ap (λ z. tokens_of z (punctuator (codes ")") ∷ [])) x.is) ∙ e ∙ ap (λ z. tokens_of z (punctuator (codes ")") ∷ [])) y.is)
     ∙ sym y.is
 
+same_named : (p q : ParseTree) → Readable p → Readable q → as_names (tokens_of p (punctuator (codes ")") ∷ [])) ≡ as_names (tokens_of q (punctuator (codes ")") ∷ [])) → with_names p ≡ with_names q
+unfolding tokens_of punctuator
+same_named p q x y e =
+    ap with_names x.is
+    ∙ one_named InParen (punctuator (codes ")")) x.variant y.variant x.of y.of x.inside y.inside (or_left _ _ x.taken, ended_by CloseParen x.of x.taken, refl) (or_left _ _ y.taken, ended_by CloseParen y.of y.taken, refl) x.good y.good
+    (ap (λ z. as_names (tokens_of z (punctuator (codes ")") ∷ []))) (sym x.is) ∙ e ∙ ap (λ z. as_names (tokens_of z (punctuator (codes ")") ∷ []))) y.is)
+    ∙ ap with_names (sym y.is)
+
 expr_derived : {s : Settings} {c : Parameters} (a : Expr AnyNode) {ts : List Token} (x : DerivesExpr true s nt.Expression c a ts) → settled (derived_parse x.1 End) ≡ expr_parse s c a
 unfolding form_parse settled
 expr_derived a x = derived_settled x.1 End
@@ -67,6 +77,15 @@ one_parse s t c e a b ts x y =
     sym (expr_derived a x)
     ∙ ap settled (same_readable _ _ (readable x.1 x.0) (readable y.1 y.0) (tokens_before x.1 End u ∙ sym (tokens_before y.1 End u)))
     ∙ expr_derived b y
+
+pub one_parse_named : (s t : Settings) (c e : Parameters) (a b : Expr AnyNode) (ts us : List Token) → DerivesExpr true s nt.Expression c a ts → DerivesExpr true t nt.Expression e b us → as_names ts ≡ as_names us →
+    with_names (expr_parse s c a) ≡ with_names (expr_parse t e b)
+unfolding tokens_of
+one_parse_named s t c e a b ts us x y h =
+    let u = punctuator (codes ")") ∷ [] in
+    ap with_names (sym (expr_derived a x)) ∙ settled_named (derived_parse x.1 End)
+    ∙ ap settled (same_named _ _ (readable x.1 x.0) (readable y.1 y.0) (same_names ts us _ _ u (tokens_before x.1 End u) (tokens_before y.1 End u) h))
+    ∙ sym (settled_named (derived_parse y.1 End)) ∙ ap with_names (expr_derived b y)
 
 pub kept_told : (s t : Settings) (c e : Parameters) (a b : Expr AnyNode) (ts : List Token) → holds true (expr_verdict nt.Expression c a) ≡ true → s.minify ≡ c.minify →
     holds true (expr_verdict nt.Expression e b) ≡ true → t.minify ≡ e.minify → Generates s (bare_phrase (expr_phrase a)) ts → Generates t (bare_phrase (expr_phrase b)) ts →

@@ -1,2 +1,3 @@
 pub mod ParseTrees
 pub mod Parses
+pub mod Words

@@ -16,6 +16,7 @@ ghost use Rattle.swc_ecma_codegen_syntax.specs.ExprForms.{expr_form};
 ghost use Rattle.swc_ecma_codegen_syntax.specs.Verdicts.{holds};
 ghost use Rattle.swc_ecma_codegen_uniqueness.specs.ParseTrees.{AreCommasAndParentheses, Node, ParseTree, End, expr_variant, settled, tokens_of};
 ghost use Rattle.swc_ecma_codegen_uniqueness.specs.Parses.{expr_before, expr_parse, form_parse, parse, program_parse};
+ghost use Rattle.swc_ecma_codegen_uniqueness.specs.Words.{as_names, with_names};
 
 /// The parse tree of an expression is a node round what its production says, wherever the expression stands.
 #[tactic(auto, using(crate::proofs::ParseLaws::expr_parse_at))]
@@ -94,4 +95,41 @@ pub fn program_trees_have_their_tokens()
         → DerivesProgram true s a ts
         → (p : ParseTree) × (settled p ≡ program_parse s a) × AreCommasAndParentheses p
         × ((us : List Token) → tokens_of p us ≡ ts ++ us) }
+{}
+
+/// Words that are names too needn't be told from names: `as`, `from`, `get`, `meta`, `of`, `set`, `static` and `target`. If two
+/// lists of tokens are the same once each such word is taken for the name, the two expressions that they are derived with have
+/// parse trees that are the same once it is.
+///
+/// `{ get a() {} }` isn't read as a method `get`, nor `{ get() {} }` as a getter. Other words are told from names still: `async`,
+/// `let`, `yield`, `await`, `constructor`, and those that are reserved. ECMA-262, section 12.7.
+#[tactic(auto, using(crate::proofs::Unique::one_parse_named))]
+pub fn names_tell_the_tree()
+    ensures { (s t : Settings) (c e : Given) (a b : Expr AnyNode) (ts us : List Token)
+        → DerivesExpr true s Expression c a ts → DerivesExpr true t Expression e b us
+        → as_names ts ≡ as_names us
+        → with_names (expr_parse s c a) ≡ with_names (expr_parse t e b) }
+{}
+
+/// The same of two programs. `for (a of b) c` isn't read as a declaration of `of`, `class A { static a = b; }` not as one field
+/// `static` and another, and `import a from "b";` has no second name.
+#[tactic(auto, using(crate::proofs::Programs::one_program_named))]
+pub fn names_tell_the_program()
+    ensures { (s t : Settings) (a b : Program AnyNode) (ts us : List Token)
+        → DerivesProgram true s a ts → DerivesProgram true t b us
+        → as_names ts ≡ as_names us
+        → with_names (program_parse s a) ≡ with_names (program_parse t b) }
+{}
+
+/// The same of two programs for which `keeps_structure` answers true. The tokens are those of the trees, without what syntax
+/// leaves open.
+#[tactic(auto, using(crate::proofs::Programs::kept_program_named))]
+pub fn kept_programs_are_told_by_names()
+    ensures { (s t : Settings) (a b : Program AnyNode) (ts us : List Token)
+        → holds true (program_verdict a) ≡ true
+        → holds true (program_verdict b) ≡ true
+        → Generates s (bare_phrase (program_phrase a)) ts
+        → Generates t (bare_phrase (program_phrase b)) us
+        → as_names ts ≡ as_names us
+        → with_names (program_parse s a) ≡ with_names (program_parse t b) }
 {}
