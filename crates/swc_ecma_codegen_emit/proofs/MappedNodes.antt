@@ -27,7 +27,9 @@ use Rattle.swc_ecma_codegen_tree.specs.declared.parts.ExprPart.TheVariants as ex
 use Rattle.swc_ecma_codegen_tree.specs.declared.parts.StmtPart.{StmtPart}
 use Rattle.swc_ecma_codegen_tree.specs.declared.parts.StmtPart.TheVariants as stmt_parts
 use Rattle.swc_ecma_codegen_tree.specs.declared.parts.JSXPart.{JSXPart}
+use Rattle.swc_ecma_codegen_tree.specs.declared.parts.JSXPart.TheVariants as jsx_parts
 use Rattle.swc_ecma_codegen_tree.specs.declared.parts.TsPart.{TsPart}
+use Rattle.swc_ecma_codegen_tree.specs.declared.parts.TsPart.TheVariants as ts_parts
 use Rattle.swc_ecma_codegen_tree.specs.declared.pats.AssignTarget.{AssignTarget}
 use Rattle.swc_ecma_codegen_tree.specs.declared.pats.AssignTarget.TheVariants as targets
 use Rattle.swc_ecma_codegen_tree.specs.declared.pats.SimpleAssignTarget.{SimpleAssignTarget}
@@ -37,7 +39,8 @@ use Rattle.swc_ecma_codegen_grammar.specs.TreePhrases.{is_sequence}
 use Rattle.swc_ecma_codegen_tokens.specs.Run.{Plan, Part, refuse}
 use Rattle.swc_ecma_codegen_tokens.specs.Words.{punct, trailing_comments}
 use Rattle.swc_ecma_codegen_emit.specs.declared.nodes.Context.TheVariants.{Plain, Chain, OptionalChain, FieldValue}
-use Rattle.swc_ecma_codegen_emit.specs.Places.{Place, Whole, context_of}
+use Rattle.swc_ecma_codegen_emit.specs.Places.{Place, Whole, Only, context_of}
+use Rattle.swc_ecma_codegen_emit.specs.declared.nodes.Piece.{Piece}
 use Rattle.swc_ecma_codegen_emit.specs.Answers.{Answers, any_answers}
 use Rattle.swc_ecma_codegen_emit.specs.Lists.{comma, listed, unsupported}
 use Rattle.swc_ecma_codegen_emit.specs.Exprs.{this, unary, update, update_parts, bin, bin_operator, bin_trailing, member, member_at, member_prop, object_place, computed_prop_name, super_prop, super_prop_expr, chain_mark, chain_prop, chain_member, chain_base, opt_chain, meta_prop_expr, assign, yield_argument_in, yield_argument, yield_arg, yield_expr, await_expr, choice, seq, held, paren, ident, opened}
@@ -232,3 +235,41 @@ any_items_jsx_part n place = λ i. λ rest. (at_rest (ap any_items (sym (whole.r
 pub any_items_ts_part : (n : TsPart AnyNode) (place : Place) → any_items (whole.TsPart n) place ≡ ts_part any_answers any_items n place
 unfolding node_items
 any_items_ts_part n place = λ i. λ rest. (at_rest (ap any_items (sym (whole.rolls-TsPart n))) place rest ∙ items_of_layer (nodes.TsPart n) place rest) i
+
+-- no piece of it is printed by itself, so as a piece it is the whole
+expr_part_alone : (n : ExprPart AnyNode) (piece : Piece) (rest : Plan) → expr_part any_answers any_items n (Only piece) rest ≡ expr_part any_answers any_items n (Whole Plain) rest
+unfolding expr_part
+expr_part_alone (expr_parts.Pat n) piece rest = refl
+expr_part_alone (expr_parts.ObjectLit n) piece rest = refl
+expr_part_alone (expr_parts.PropName n) piece rest = refl
+expr_part_alone (expr_parts.AssignTarget n) piece rest = refl
+expr_part_alone (expr_parts.Tpl n) piece rest = refl
+expr_part_alone (expr_parts.OptCall n) piece rest = refl
+
+pub any_items_expr_part_alone : (n : ExprPart AnyNode) (piece : Piece) → any_items (whole.ExprPart n) (Only piece) ≡ expr_part any_answers any_items n (Whole Plain)
+any_items_expr_part_alone n piece = any_items_expr_part n (Only piece) ∙ (λ i. λ rest. expr_part_alone n piece rest i)
+
+-- no piece of it is printed by itself, so as a piece it is the whole
+jsx_part_alone : (n : JSXPart AnyNode) (piece : Piece) (rest : Plan) → jsx_part any_answers any_items n (Only piece) rest ≡ jsx_part any_answers any_items n (Whole Plain) rest
+unfolding jsx_part
+jsx_part_alone (jsx_parts.JSXElement n) piece rest = refl
+jsx_part_alone (jsx_parts.JSXFragment n) piece rest = refl
+jsx_part_alone (jsx_parts.JSXObject n) piece rest = refl
+
+pub any_items_jsx_part_alone : (n : JSXPart AnyNode) (piece : Piece) → any_items (whole.JSXPart n) (Only piece) ≡ jsx_part any_answers any_items n (Whole Plain)
+any_items_jsx_part_alone n piece = any_items_jsx_part n (Only piece) ∙ (λ i. λ rest. jsx_part_alone n piece rest i)
+
+-- no piece of it is printed by itself, so as a piece it is the whole
+ts_part_alone : (n : TsPart AnyNode) (piece : Piece) (rest : Plan) → ts_part any_answers any_items n (Only piece) rest ≡ ts_part any_answers any_items n (Whole Plain) rest
+unfolding ts_part
+ts_part_alone (ts_parts.TsType n) piece rest = refl
+ts_part_alone (ts_parts.TsTypeAnn n) piece rest = refl
+ts_part_alone (ts_parts.TsTypeParamDecl n) piece rest = refl
+ts_part_alone (ts_parts.TsTypeParamInstantiation n) piece rest = refl
+ts_part_alone (ts_parts.TsFnParam n) piece rest = refl
+ts_part_alone (ts_parts.TsInterfaceBody n) piece rest = refl
+ts_part_alone (ts_parts.TsEntityName n) piece rest = refl
+ts_part_alone (ts_parts.TsNamespaceBody n) piece rest = refl
+
+pub any_items_ts_part_alone : (n : TsPart AnyNode) (piece : Piece) → any_items (whole.TsPart n) (Only piece) ≡ ts_part any_answers any_items n (Whole Plain)
+any_items_ts_part_alone n piece = any_items_ts_part n (Only piece) ∙ (λ i. λ rest. ts_part_alone n piece rest i)

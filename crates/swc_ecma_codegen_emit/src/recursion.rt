@@ -68,7 +68,7 @@ impl EmitAt for AnyNode {
 }
 
 impl EmitPiece for AnyNode {
-    #[tactic(auto, using(crate::proofs::MappedNodes::any_items_of, crate::proofs::MappedNodes::any_items_expr, crate::proofs::MappedNodes::any_items_stmt, crate::proofs::MappedNodes::any_items_member_expr, crate::proofs::MappedNodes::any_items_expr_part, crate::proofs::MappedNodes::any_items_stmt_part, crate::proofs::MappedNodes::any_items_jsx_part, crate::proofs::MappedNodes::any_items_ts_part), unfolding(crate::specs::Tree::node_items))]
+    #[tactic(auto, using(crate::proofs::MappedNodes::any_items_of, crate::proofs::MappedNodes::any_items_expr, crate::proofs::MappedNodes::any_items_stmt, crate::proofs::MappedNodes::any_items_member_expr, crate::proofs::MappedNodes::any_items_expr_part_alone, crate::proofs::MappedNodes::any_items_stmt_part, crate::proofs::MappedNodes::any_items_jsx_part_alone, crate::proofs::MappedNodes::any_items_ts_part_alone), unfolding(crate::specs::Tree::node_items))]
     #[cycle(tree)]
     fn emit_piece<W: WriteJs, S: SourceMapper, C: Comments>(
         &self,
