@@ -36,7 +36,7 @@ use Rattle.swc_ecma_codegen_uniqueness.specs.ParseTrees.{Variant, ParseTree, End
 use Rattle.swc_ecma_codegen_uniqueness.specs.Parses.{placed, is_inlined, is_inlined_pattern, is_inlined_pat}
 use Rattle.swc_ecma_codegen_uniqueness.proofs.Classes.{class}
 use Rattle.swc_ecma_codegen_uniqueness.proofs.Controls.{Listed, ArrowBody, InList}
-use Rattle.swc_ecma_codegen_uniqueness.proofs.PlaceLaws.{is_function}
+use Rattle.swc_ecma_codegen_uniqueness.proofs.PlaceLaws.{begins_none}
 use Rattle.swc_ecma_codegen_uniqueness.proofs.TableLaws.{cover, or_left, takes_on}
 use Rattle.swc_ecma_codegen_uniqueness.proofs.Machine.{Whole, Rest, Good, Heads, turned, spine_free, turned_low}
 use Rattle.swc_ecma_codegen_uniqueness.proofs.Joined.{derived_joined}
@@ -89,14 +89,14 @@ record Turned (f : ParseTree → ParseTree) : Type 0 where
   inside : ParseTree
   operand : Operand nt.LeftHandSideExpression variant inside
   is : (rest : ParseTree) → f (Read same_line rest) ≡ turned variant inside same_line rest
-  heads : Heads (λ u. is_function (class u) ≡ false) inside
+  heads : Heads (λ u. begins_none (class u) ≡ false) inside
 
 -- what begins with `(`
-parenthesis_heads : (p : ParseTree) → Heads (λ u. is_function (class u) ≡ false) (Read (punctuator (codes "(")) p)
+parenthesis_heads : (p : ParseTree) → Heads (λ u. begins_none (class u) ≡ false) (Read (punctuator (codes "(")) p)
 unfolding tokens_of punctuator
 parenthesis_heads p = λ us. (_, tokens_of p us, refl, refl)
 
-name_heads : (text : List ℕ) (p : ParseTree) → p ≡ Read (tokens.name text) End → Heads (λ u. is_function (class u) ≡ false) p
+name_heads : (text : List ℕ) (p : ParseTree) → p ≡ Read (tokens.name text) End → Heads (λ u. begins_none (class u) ≡ false) p
 unfolding tokens_of tokens.name
 name_heads text p e = λ us. (tokens.name text, us, ap (λ z. tokens_of z us) e, refl)
 
@@ -183,7 +183,7 @@ record Shaped (m : ParseTree) : Type 0 where
   variant : Variant
   inside : ParseTree
   operand : Operand nt.LeftHandSideExpression variant inside
-  heads : Heads (λ u. is_function (class u) ≡ false) inside
+  heads : Heads (λ u. begins_none (class u) ≡ false) inside
   body : ParseTree
   good : Good (Rest ArrowBody Arrow nt.AssignmentExpression) body
   is : m ≡ turned variant inside same_line (Read arrow_mark body)

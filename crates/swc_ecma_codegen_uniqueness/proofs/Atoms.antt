@@ -41,7 +41,7 @@ use Rattle.swc_ecma_codegen_syntax.specs.TargetForms.{paren_target_form, simple_
 use Rattle.swc_ecma_codegen_syntax.specs.Derives.{Derives, fixed, part, simple, both, provided}
 use Rattle.swc_ecma_codegen_uniqueness.specs.ParseTrees.{ParseTree, End, Read, Ident as a_name, Lit as a_literal, MetaProp, Paren, simple_target_variant}
 use Rattle.swc_ecma_codegen_uniqueness.specs.Parses.{placed, is_inlined}
-use Rattle.swc_ecma_codegen_uniqueness.proofs.Classes.{LiteralToken, class}
+use Rattle.swc_ecma_codegen_uniqueness.proofs.Classes.{LiteralToken, RegexToken, class}
 use Rattle.swc_ecma_codegen_uniqueness.proofs.Controls.{starts}
 use Rattle.swc_ecma_codegen_uniqueness.proofs.Tables.{started}
 use Rattle.swc_ecma_codegen_uniqueness.proofs.TableLaws.{is_place}
@@ -124,22 +124,26 @@ pub big_literal : (s : Settings) (n : BigInt) (ts : List Token) → not n.negati
 unfolding big_int big_int_token
 big_literal s n ts h g = signed_literal s n.negative _ _ ts h refl g
 
-lit_by : (s : Settings) (n : Lit) (ts : List Token) → is_literal n ≡ true → (g : Generates s (lit n) ts) → IsLiteral (read_phrase s (lit n) ts g)
-unfolding lit bool_lit null_lit number regex is_literal token_of word read_phrase Generates
-lit_by s (lits.Str n) ts h g = str_literal s n ts g
-lit_by s (lits.Bool n) ts h g = bool_literal s n.value ts g
-lit_by s (lits.Null n) ts h g = one_literal _ refl
-lit_by s (lits.Num n) ts h g = number_literal s n.value.value n.value.raw ts h g
-lit_by s (lits.BigInt n) ts h g = big_literal s n.value ts h g
-lit_by s (lits.Regex n) ts h g = where_literal s _ _ ts g refl
-lit_by s (lits.JSXText n) ts h g = absurd g
-
 literal_good : {f : ParseTree → ParseTree} → IsLiteral f → Good (Whole a_literal nt.PrimaryExpression) (f End)
 literal_good l = subst (λ z. Good (Whole a_literal nt.PrimaryExpression) z) (sym (l.is End)) (atom l.token a_literal nt.PrimaryExpression (ap starts l.literal) refl (ap started l.literal))
 
+-- a regular expression is no key, and stands where `/` doesn't
+regex_good : (s : Settings) (b : Bool) (t : Token) (ts : List Token) (g : Generates s (where_ b (One t)) ts) → class t ≡ RegexToken → Good (Whole a_literal nt.PrimaryExpression) (read_phrase s (where_ b (One t)) ts g End)
+regex_good s b t ts g e = subst (λ z. Good (Whole a_literal nt.PrimaryExpression) z) (sym (where_read s b t ts g End)) (atom t a_literal nt.PrimaryExpression (ap starts e) refl (ap started e))
+
+lit_by : (s : Settings) (n : Lit) (ts : List Token) → is_literal n ≡ true → (g : Generates s (lit n) ts) → Good (Whole a_literal nt.PrimaryExpression) (read_phrase s (lit n) ts g End)
+unfolding lit bool_lit null_lit number regex is_literal token_of word read_phrase Generates
+lit_by s (lits.Str n) ts h g = literal_good (str_literal s n ts g)
+lit_by s (lits.Bool n) ts h g = literal_good (bool_literal s n.value ts g)
+lit_by s (lits.Null n) ts h g = literal_good (one_literal _ refl)
+lit_by s (lits.Num n) ts h g = literal_good (number_literal s n.value.value n.value.raw ts h g)
+lit_by s (lits.BigInt n) ts h g = literal_good (big_literal s n.value ts h g)
+lit_by s (lits.Regex n) ts h g = regex_good s _ _ ts g refl
+lit_by s (lits.JSXText n) ts h g = absurd g
+
 pub lit_good : {s : Settings} (n : Lit) {ts : List Token} (d : Derives true s (lit_form n) ts) → Good (Whole a_literal nt.PrimaryExpression) (derived_parse d End)
 unfolding lit_form is_met derived_parse
-lit_good {s = s} n {ts = ts} (provided h (fixed g)) = literal_good (lit_by s n ts h g)
+lit_good {s = s} n {ts = ts} (provided h (fixed g)) = lit_by s n ts h g
 
 -- ---- `new.target`, `import.meta`
 

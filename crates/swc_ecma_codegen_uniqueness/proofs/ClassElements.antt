@@ -46,7 +46,7 @@ use Rattle.swc_ecma_codegen_uniqueness.specs.Parses.{placed, is_inlined}
 use Rattle.swc_ecma_codegen_uniqueness.proofs.Classes.{Class, NameToken, LiteralToken, class}
 use Rattle.swc_ecma_codegen_uniqueness.proofs.Controls.{Control, InList, Parameter, AfterParameters, AtMember, InMemberKey, MemberKey, FieldPlace}
 use Rattle.swc_ecma_codegen_uniqueness.proofs.Tables.{field_of, shifted_to}
-use Rattle.swc_ecma_codegen_uniqueness.proofs.PlaceLaws.{is_close_brace, element_begins}
+use Rattle.swc_ecma_codegen_uniqueness.proofs.PlaceLaws.{is_no_member, member_shifts, element_begins}
 use Rattle.swc_ecma_codegen_uniqueness.proofs.TableLaws.{assignment_single}
 use Rattle.swc_ecma_codegen_uniqueness.proofs.Machine.{Whole, Rest, Good, headed_block, shifted}
 use Rattle.swc_ecma_codegen_uniqueness.proofs.Shapes.{Operand, takes_self, assignment_taken, part_then, ended, is_key, Keyed}
@@ -62,12 +62,12 @@ use Rattle.swc_ecma_codegen_uniqueness.proofs.Functions.{Behind, EachRead, each_
 abbrev InMember : Variant → Control → ParseTree → Type 0
 InMember v c m = Good (Rest c v nt.ClassElement) m
 
-begun_member : {v : Variant} (t : Token) {m : ParseTree} → is_close_brace (class t) ≡ false → InMember v (shifted_to AtMember (class t)) m → Good (Whole v nt.ClassElement) (Read t m)
+begun_member : {v : Variant} (t : Token) {m : ParseTree} → is_no_member (class t) ≡ false → InMember v (shifted_to AtMember (class t)) m → Good (Whole v nt.ClassElement) (Read t m)
 begun_member t h g = headed_block (element_begins t h) g
 
 -- a token that begins a member stands behind `async` and `*` too, and tells that a name before it was a word: `static`, `get`, `set`
 abbrev IsBehind : Class → Type 0
-IsBehind l = (is_close_brace l ≡ false) × (shifted_to (MemberKey ClassMethod) l ≡ shifted_to AtMember l)
+IsBehind l = (is_no_member l ≡ false) × (shifted_to (MemberKey ClassMethod) l ≡ shifted_to AtMember l)
 
 -- what begins with such a token
 record Began (v : Variant) (m : ParseTree) : Type 0 where
@@ -81,10 +81,10 @@ began : {v : Variant} (t : Token) (m : ParseTree) → IsBehind (class t) → InM
 began t m h g = record { token = t; rest = m; is = refl; behind = h; good = g }
 
 goes_there : {v : Variant} {m : ParseTree} → Began v m → InMember v AtMember m
-goes_there {v = v} b = subst (λ z. InMember v AtMember z) (sym b.is) (shifted refl b.good)
+goes_there {v = v} b = subst (λ z. InMember v AtMember z) (sym b.is) (shifted (member_shifts (class b.token) b.behind.0).0 b.good)
 
 goes_behind : {v : Variant} {m : ParseTree} → Began v m → InMember v (MemberKey ClassMethod) m
-goes_behind {v = v} b = subst (λ z. InMember v (MemberKey ClassMethod) z) (sym b.is) (shifted refl (subst (λ c. InMember v c b.rest) (sym b.behind.1) b.good))
+goes_behind {v = v} b = subst (λ z. InMember v (MemberKey ClassMethod) z) (sym b.is) (shifted (member_shifts (class b.token) b.behind.0).1 (subst (λ c. InMember v c b.rest) (sym b.behind.1) b.good))
 
 whole_member : {v : Variant} {m : ParseTree} → Began v m → Good (Whole v nt.ClassElement) m
 whole_member {v = v} b = subst (λ z. Good (Whole v nt.ClassElement) z) (sym b.is) (begun_member b.token b.behind.0 b.good)

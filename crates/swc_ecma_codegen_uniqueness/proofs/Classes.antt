@@ -1,21 +1,22 @@
 -- What a token is to the machine, whatever its value.
-use Rattle.std.proofs.Common.{ℕ, Bool, List, [], ◌∷◌, cond}
+use Rattle.std.proofs.Common.{ℕ, Bool, true, false, List, [], ◌∷◌, cond}
 use Rattle.std.specs.Prelude.{codes, bytes_eq}
 use Rattle.swc_ecma_codegen_grammar.specs.declared.kinds.Kind.{Kind}
 use Rattle.swc_ecma_codegen_grammar.specs.declared.kinds.Kind.TheVariants as kinds
 use Rattle.swc_ecma_codegen_grammar.specs.Tokens.{Token, Value, Characters}
 
--- the binary operators of one nonterminal; `in` has a left operand of its own, and `<` begins an element of JSX too
+-- the binary operators of one nonterminal; `in` has a left operand of its own, `<` begins an element of JSX too, and `/` stands in its tags
 pub data Level : Type 0 where
-  Power Times Plus Shifting Less Comparing Within Equating BitAnds BitXors BitOrs Ands Ors Coalescing : Level
+  Power Times Over Plus Shifting Less Comparing Within Equating BitAnds BitXors BitOrs Ands Ors Coalescing : Level
 
 -- what a token is
 pub data Class : Type 0 where
   Infix : (level : Level) → Class
-  Assigns Ask Colon Comma Dot ChainDot OpenParen CloseParen OpenBracket CloseBracket OpenBrace CloseBrace Dots Line Twice Bang FatArrow Semi Semicolon FirstLine : Class
+  Ask Colon Comma Dot ChainDot OpenParen CloseParen OpenBracket CloseBracket OpenBrace CloseBrace Dots Line Twice Bang FatArrow Semi Semicolon FirstLine : Class
   First Later : (opens : Bool) → Class
+  Assigns : (slash : Bool) → Class
   TagName TagString TagText TagClose ChildTagMark ChildBraceMark : Class
-  NameToken PrivateToken LiteralToken ThisWord NewWord SuperWord ImportWord YieldWord AwaitWord AsyncWord FunctionWord ClassWord ExtendsWord ConstructorWord ExportWord ForWord ReturnWord ThrowWord BreakWord ContinueWord DebuggerWord IfWord ElseWord WhileWord WithWord DoWord TryWord CatchWord FinallyWord SwitchWord CaseWord DefaultWord VarWord UnaryWord Strange : Class
+  NameToken PrivateToken LiteralToken RegexToken ThisWord NewWord SuperWord ImportWord YieldWord AwaitWord AsyncWord FunctionWord ClassWord ExtendsWord ConstructorWord ExportWord ForWord ReturnWord ThrowWord BreakWord ContinueWord DebuggerWord IfWord ElseWord WhileWord WithWord DoWord TryWord CatchWord FinallyWord SwitchWord CaseWord DefaultWord VarWord UnaryWord Strange : Class
 
 abbrev pub look : List (List ℕ × Class) → List ℕ → Class
 look [] text = Strange
@@ -41,7 +42,7 @@ words =
 
 abbrev operators : List (List ℕ × Class) → List (List ℕ × Class)
 operators more =
-    (codes "**", Infix Power) ∷ (codes "*", Infix Times) ∷ (codes "/", Infix Times) ∷ (codes "%", Infix Times) ∷ (codes "+", Infix Plus) ∷ (codes "-", Infix Plus)
+    (codes "**", Infix Power) ∷ (codes "*", Infix Times) ∷ (codes "/", Infix Over) ∷ (codes "%", Infix Times) ∷ (codes "+", Infix Plus) ∷ (codes "-", Infix Plus)
     ∷ (codes "<<", Infix Shifting) ∷ (codes ">>", Infix Shifting) ∷ (codes ">>>", Infix Shifting)
     ∷ (codes "<", Infix Less) ∷ (codes ">", Infix Comparing) ∷ (codes "<=", Infix Comparing) ∷ (codes ">=", Infix Comparing)
     ∷ (codes "==", Infix Equating) ∷ (codes "!=", Infix Equating) ∷ (codes "===", Infix Equating) ∷ (codes "!==", Infix Equating)
@@ -50,9 +51,9 @@ operators more =
 
 abbrev assignments : List (List ℕ × Class) → List (List ℕ × Class)
 assignments more =
-    (codes "=", Assigns) ∷ (codes "+=", Assigns) ∷ (codes "-=", Assigns) ∷ (codes "*=", Assigns) ∷ (codes "/=", Assigns) ∷ (codes "%=", Assigns) ∷ (codes "<<=", Assigns)
-    ∷ (codes ">>=", Assigns) ∷ (codes ">>>=", Assigns) ∷ (codes "|=", Assigns) ∷ (codes "^=", Assigns) ∷ (codes "&=", Assigns) ∷ (codes "**=", Assigns)
-    ∷ (codes "&&=", Assigns) ∷ (codes "||=", Assigns) ∷ (codes "??=", Assigns) ∷ more
+    (codes "=", Assigns false) ∷ (codes "+=", Assigns false) ∷ (codes "-=", Assigns false) ∷ (codes "*=", Assigns false) ∷ (codes "/=", Assigns true) ∷ (codes "%=", Assigns false) ∷ (codes "<<=", Assigns false)
+    ∷ (codes ">>=", Assigns false) ∷ (codes ">>>=", Assigns false) ∷ (codes "|=", Assigns false) ∷ (codes "^=", Assigns false) ∷ (codes "&=", Assigns false) ∷ (codes "**=", Assigns false)
+    ∷ (codes "&&=", Assigns false) ∷ (codes "||=", Assigns false) ∷ (codes "??=", Assigns false) ∷ more
 
 abbrev pub marks : List (List ℕ × Class)
 marks =
@@ -73,7 +74,7 @@ class_of kinds.PrivateName v = PrivateToken
 class_of kinds.Number v = LiteralToken
 class_of kinds.BigInt v = LiteralToken
 class_of kinds.Str v = LiteralToken
-class_of kinds.Regex v = LiteralToken
+class_of kinds.Regex v = RegexToken
 class_of (kinds.Template part) v = First part.opens
 class_of (kinds.TemplateRest part) v = Later part.opens
 class_of kinds.SameLine v = Line

@@ -5,13 +5,14 @@ use Rattle.swc_ecma_codegen_syntax.specs.declared.nonterminals.Nonterminal.{Nont
 use Rattle.swc_ecma_codegen_syntax.specs.declared.nonterminals.Nonterminal.TheVariants as nt
 use Rattle.swc_ecma_codegen_syntax.specs.Nonterminals.{takes, is_private}
 use Rattle.swc_ecma_codegen_uniqueness.specs.ParseTrees.{Variant, Unary, Update, Bin, Assign, Cond, New, Seq, Arrow, Yield, Await, LabeledStmt, IfStmt, Foreign, TryStmt, DoWhileStmt}
-use Rattle.swc_ecma_codegen_uniqueness.proofs.Classes.{Level, Class, class, Power, Times, Plus, Shifting, Less, Comparing, Within, Equating, BitAnds, BitXors, BitOrs, Ands, Ors, Coalescing, Infix, Assigns, Ask, Colon, Comma, Dot, ChainDot, OpenParen, CloseParen, OpenBracket, CloseBracket, OpenBrace, CloseBrace, Line, Twice, Bang, Semi, Semicolon, First, Later, TagName, TagClose, NameToken, PrivateToken, LiteralToken, ThisWord, NewWord, SuperWord, ImportWord, YieldWord, AwaitWord, AsyncWord, FunctionWord, ClassWord, ElseWord, CatchWord, FinallyWord, UnaryWord}
+use Rattle.swc_ecma_codegen_uniqueness.proofs.Classes.{Level, Class, class, Power, Times, Over, Plus, Shifting, Less, Comparing, Within, Equating, BitAnds, BitXors, BitOrs, Ands, Ors, Coalescing, Infix, Assigns, Ask, Colon, Comma, Dot, ChainDot, OpenParen, CloseParen, OpenBracket, CloseBracket, OpenBrace, CloseBrace, Line, Twice, Bang, Semi, Semicolon, First, Later, TagName, TagClose, NameToken, PrivateToken, LiteralToken, RegexToken, ThisWord, NewWord, SuperWord, ImportWord, YieldWord, AwaitWord, AsyncWord, FunctionWord, ClassWord, ElseWord, CatchWord, FinallyWord, UnaryWord}
 
 -- ---- levels: the nonterminal of each operator, and of its operands
 
 abbrev pub made : Level → Nonterminal
 made Power = nt.ExponentiationExpression
 made Times = nt.MultiplicativeExpression
+made Over = nt.MultiplicativeExpression
 made Plus = nt.AdditiveExpression
 made Shifting = nt.ShiftExpression
 made Less = nt.RelationalExpression
@@ -34,6 +35,7 @@ left_of level = made level
 abbrev pub right_of : Level → Nonterminal
 right_of Power = nt.ExponentiationExpression
 right_of Times = nt.ExponentiationExpression
+right_of Over = nt.ExponentiationExpression
 right_of Plus = nt.MultiplicativeExpression
 right_of Shifting = nt.AdditiveExpression
 right_of Less = nt.ShiftExpression
@@ -50,7 +52,7 @@ right_of Coalescing = nt.BitwiseOrExpression
 -- the widest nonterminal that stands before a token
 abbrev pub left : Class → Nonterminal
 left (Infix level) = left_of level
-left Assigns = nt.LeftHandSideExpression
+left (Assigns slash) = nt.LeftHandSideExpression
 left Ask = nt.ShortCircuitExpression
 left Colon = nt.Expression
 left Comma = nt.AssignmentExpression
@@ -117,6 +119,7 @@ abbrev pub starts : Class → Bool
 starts NameToken = true
 starts PrivateToken = true
 starts LiteralToken = true
+starts RegexToken = true
 starts ThisWord = true
 starts OpenParen = true
 starts OpenBracket = true

@@ -46,10 +46,10 @@ use Rattle.swc_ecma_codegen_syntax.specs.Parameters.{with_in}
 use Rattle.swc_ecma_codegen_syntax.specs.Derives.{Derives, fixed, part, both, provided}
 use Rattle.swc_ecma_codegen_uniqueness.specs.ParseTrees.{Variant, ParseTree, End, Read, Node, JSXElement, tokens_of}
 use Rattle.swc_ecma_codegen_uniqueness.specs.Parses.{placed, is_inlined}
-use Rattle.swc_ecma_codegen_uniqueness.proofs.Classes.{Class, ChildTagMark, class}
+use Rattle.swc_ecma_codegen_uniqueness.proofs.Classes.{Class, class}
 use Rattle.swc_ecma_codegen_uniqueness.proofs.Controls.{Control, OpenTag, InTag, AttributeValue, AttributeBraces, SelfClosing, Children, ChildBraces, ClosingTag, ClosingName, stands as stands_at}
 use Rattle.swc_ecma_codegen_uniqueness.proofs.Tables.{Wrap, without, with_operand, shifted_to}
-use Rattle.swc_ecma_codegen_uniqueness.proofs.PlaceLaws.{child_begins, follows_attribute, attribute_ends}
+use Rattle.swc_ecma_codegen_uniqueness.proofs.PlaceLaws.{child_begins, follows_attribute, attribute_ends, attribute_taken}
 use Rattle.swc_ecma_codegen_uniqueness.proofs.TableLaws.{is_wrap, or_left, ended_by}
 use Rattle.swc_ecma_codegen_uniqueness.proofs.Machine.{Whole, Rest, Good, Heads, goes_on, headed_block, shifted, entering, entering_there, splicing, keeping, merged_two}
 use Rattle.swc_ecma_codegen_uniqueness.proofs.Shapes.{Operand, takes_self, assignment_taken, widened, part_then, begun, ended}
@@ -185,7 +185,7 @@ record BehindAttribute (n : Nonterminal) (m : ParseTree) : Type 0 where
   good : InElement (shifted_to InTag (class token)) n rest
 
 goes_on_in : {n : Nonterminal} {m : ParseTree} → BehindAttribute n m → InElement InTag n m
-goes_on_in {n = n} b = subst (λ z. InElement InTag n z) (sym b.is) (shifted refl b.good)
+goes_on_in {n = n} b = subst (λ z. InElement InTag n z) (sym b.is) (shifted (attribute_taken (class b.token) b.follows) b.good)
 
 -- an element that is the value of an attribute has no node
 value_element : (n : Nonterminal) {s : Settings} (k : Bool) (c : Parameters) (y : AnyNode-F AnyNode) {ts : List Token} (d : Derives true s (node_form k c y Element) ts) → ElementFit false (derived_parse d) → (m : ParseTree) → BehindAttribute n m →
@@ -237,13 +237,17 @@ attribute_ended s n false ts g {m = m} x y = record { token = tokens.tag_close; 
 abbrev InChildren : Nonterminal → ParseTree → Type 0
 InChildren n m = InElement Children n m × Heads (λ u. goes_on (without Children (class u)) ≡ true) m
 
-children_go : (l : Class) → goes_on (without Children l) ≡ true
-children_go ChildTagMark = refl
-children_go l = refl
+begins_text : (text : List ℕ) (m : ParseTree) → Heads (λ u. goes_on (without Children (class u)) ≡ true) (Read (tokens.jsx_text text) m)
+unfolding tokens_of tokens.jsx_text
+begins_text text m = λ us. (_, tokens_of m us, refl, refl)
 
-begins_with : (t : Token) (m : ParseTree) → Heads (λ u. goes_on (without Children (class u)) ≡ true) (Read t m)
-unfolding tokens_of
-begins_with t m = λ us. (t, tokens_of m us, refl, children_go (class t))
+begins_brace : (m : ParseTree) → Heads (λ u. goes_on (without Children (class u)) ≡ true) (Read (tokens.child_open (codes "{")) m)
+unfolding tokens_of tokens.child_open
+begins_brace m = λ us. (_, tokens_of m us, refl, refl)
+
+begins_tag : (m : ParseTree) → Heads (λ u. goes_on (without Children (class u)) ≡ true) (Read (tokens.child_open (codes "<")) m)
+unfolding tokens_of tokens.child_open
+begins_tag m = λ us. (_, tokens_of m us, refl, refl)
 
 text_then : (n : Nonterminal) (text : List ℕ) {m : ParseTree} → InElement Children n m → InElement Children n (Read (tokens.jsx_text text) m)
 unfolding tokens.jsx_text
@@ -270,9 +274,9 @@ child_then n {p = p} {rest = rest} g r = (
 child_good_at : {s : Settings} (n : Nonterminal) (c : Parameters) (x : JSXElementChild AnyNode) {ts : List Token} (d : Derives true s (child_form c x) ts) → AllGood d → s.minify ≡ c.minify → (rest : ParseTree) → InChildren n rest → InChildren n (derived_parse d rest)
 unfolding child_form container_form spread_child_form open_mark jsx_text AllGood PlacedGood derived_parse read_phrase placed is_inlined
 child_good_at {s = s} n c (children.JSXText x) (fixed {ts = ts} g) o m rest r =
-    let e = where_read s _ _ ts g rest in (subst (λ z. InElement Children n z) (sym e) (text_then n _ r.0), subst (λ z. Heads (λ u. goes_on (without Children (class u)) ≡ true) z) (sym e) (begins_with _ rest))
-child_good_at n c (children.JSXExprContainer x) (both (fixed g) (both d (fixed h))) (y, (o, z)) m rest r = (brace_then n (contained_good child_braces n c x.expr d o m r.0), begins_with _ _)
-child_good_at n c (children.JSXSpreadChild x) (both (fixed g) (both (fixed h) (both (part a sa d) (fixed i)))) (y, (z, (o, w))) m rest r = (brace_then n (braces_dots child_braces n (braces_then child_braces n (at_place _ _ sa (o m)) r.0)), begins_with _ _)
+    let e = where_read s _ _ ts g rest in (subst (λ z. InElement Children n z) (sym e) (text_then n _ r.0), subst (λ z. Heads (λ u. goes_on (without Children (class u)) ≡ true) z) (sym e) (begins_text _ rest))
+child_good_at n c (children.JSXExprContainer x) (both (fixed g) (both d (fixed h))) (y, (o, z)) m rest r = (brace_then n (contained_good child_braces n c x.expr d o m r.0), begins_brace _)
+child_good_at n c (children.JSXSpreadChild x) (both (fixed g) (both (fixed h) (both (part a sa d) (fixed i)))) (y, (z, (o, w))) m rest r = (brace_then n (braces_dots child_braces n (braces_then child_braces n (at_place _ _ sa (o m)) r.0)), begins_brace _)
 child_good_at n c (children.JSXElement x) (part a sa d) o m rest r = child_then n (o m).good r
 child_good_at n c (children.JSXFragment x) (part a sa d) o m rest r = child_then n (o m).good r
 
@@ -304,7 +308,7 @@ closed_tag n = (shifted refl (ended JSXElement n), shifted refl (ended JSXElemen
 
 closing_good : {s : Settings} (n : Nonterminal) (c : Parameters) (x : JSXClosingElement AnyNode) {ts : List Token} (d : Derives true s (closing_form c x) ts) → AllGood d → InChildren n (derived_parse d End)
 unfolding closing_form open_mark AllGood derived_parse read_phrase
-closing_good n c x (both (fixed g) (both (fixed h) (both k (fixed i)))) (y, (z, (o, w))) = (closing_then n (element_name_good of_closing n c x.name k o (closed_tag n).1), begins_with _ _)
+closing_good n c x (both (fixed g) (both (fixed h) (both k (fixed i)))) (y, (z, (o, w))) = (closing_then n (element_name_good of_closing n c x.name k o (closed_tag n).1), begins_tag _)
 
 -- what stands behind the first tag, or behind `/` of it
 self_closed : (n : Nonterminal) → InElement SelfClosing n (Read tokens.tag_close End)
@@ -381,7 +385,7 @@ fragment_open s b ts g rest = open_read s b g.0 g.2 _
 
 fragment_closed : (s : Settings) (n : Nonterminal) (ts : List Token) (g : Generates s jsx_closing_fragment ts) → InChildren n (read_phrase s jsx_closing_fragment ts g End)
 unfolding jsx_closing_fragment open_mark read_phrase
-fragment_closed s n ts g = (closing_then n (closed_tag n).0, begins_with _ _)
+fragment_closed s n ts g = (closing_then n (closed_tag n).0, begins_tag _)
 
 pub fragment_read : {s : Settings} (c : Parameters) (b : Bool) (x : JSXFragment AnyNode) {ts : List Token} (d : Derives true s (fragment_form c b x) ts) → AllGood d → s.minify ≡ c.minify → ElementFit b (derived_parse d)
 unfolding fragment_form AllGood derived_parse

@@ -16,9 +16,9 @@ use Rattle.swc_ecma_codegen_syntax.specs.Lookahead.{Sign, OpenBrace as BraceSign
 use Rattle.swc_ecma_codegen_uniqueness.specs.ParseTrees.{Variant, ParseTree, tokens_of}
 use Rattle.swc_ecma_codegen_uniqueness.proofs.Classes.{Class, Strange, FunctionWord, ClassWord, ImportWord, AsyncWord, words, marks, child_marks, look, class_of, class}
 use Rattle.swc_ecma_codegen_uniqueness.proofs.Controls.{OfElse, Entered, starts, stands as stands_at, closes as closes_at}
-use Rattle.swc_ecma_codegen_uniqueness.proofs.Tables.{Leave, started, decide, without}
-use Rattle.swc_ecma_codegen_uniqueness.proofs.PlaceLaws.{is_barred, is_import_call, import_kept, is_line, is_function, async_kept, leaves_alone, delayed_by}
-use Rattle.swc_ecma_codegen_uniqueness.proofs.Machine.{Whole, Good, Heads, never_kept}
+use Rattle.swc_ecma_codegen_uniqueness.proofs.Tables.{Leave, started, shifted_to, decide, without}
+use Rattle.swc_ecma_codegen_uniqueness.proofs.PlaceLaws.{is_barred, is_import_call, import_kept, is_line, is_function, is_slash, none_begins, async_line, async_rejects, async_kept, leaves_alone, delayed_by}
+use Rattle.swc_ecma_codegen_uniqueness.proofs.Machine.{Whole, Good, Heads, never_kept, never_rejected}
 use Rattle.swc_ecma_codegen_uniqueness.proofs.StatementShapes.{operand_heads, MayEnter, at_once, behind_import, behind_async, MayStand, is_open_brace}
 
 -- ---- what is barred is `{`, `function` and `class`
@@ -246,6 +246,14 @@ line_by s u v ts true e i k = refl
 line_by {t = t} s u v ts false e i k =
     absurd (never_kept (Entered OfElse) t u v ts s.good s.stands s.closes s.leaves e (ap (without (Entered OfElse)) i) (ap (λ l. without (started l) (class v)) i ∙ async_kept (class v) k))
 
+-- and no `/` behind that
+slash_by : {t : Token} {p : ParseTree} (s : Stated t p) (u v w : Token) (ts : List Token) (b : Bool) → tokens_of p (t ∷ []) ≡ u ∷ v ∷ w ∷ ts → class u ≡ AsyncWord → is_line (class v) ≡ true → is_slash (class w) ≡ b → b ≡ false
+slash_by s u v w ts false e i j k = refl
+slash_by {t = t} s u v w ts true e i j k =
+    let y = async_line (class v) j in
+    absurd (never_rejected (Entered OfElse) t u v w ts s.good s.stands s.closes s.leaves e (ap (without (Entered OfElse)) i) (ap (λ l. without (started l) (class v)) i ∙ y.4)
+    (ap (λ l. without (shifted_to (started l) (class v)) (class w)) i ∙ ap (λ c. without c (class w)) y.5 ∙ async_rejects (class w) k))
+
 -- What an expression begins with, where its first token may not be barred, nor its first three `async function`.
 may_begin : (bars : Class → Bool) (l : Lookahead) → ((u : Token) (ts : List Token) → excludes l (beginning (u ∷ ts)) ≡ false → bars (class u) ≡ false) → excludes l begins.AsyncFunction ≡ true → {t : Token} {p : ParseTree} → Stated t p → (ts : List Token) →
     ((us : List Token) → tokens_of p us ≡ ts ++ us) → excludes l (beginning ts) ≡ false → (us : List Token) → MayEnter bars (tokens_of p (t ∷ us))
@@ -279,7 +287,7 @@ may_begin bars l f k {t = t} {p = p} s (u ∷ v ∷ w ∷ ts) e x us =
         | inl i ↦ behind_import i (called_by s u v (w ∷ (ts ++ (t ∷ []))) (is_import_call (class v)) (e (t ∷ [])) i refl)
         | inr i ↦
             let j = line_by s u v (w ∷ (ts ++ (t ∷ []))) (is_line (class v)) (e (t ∷ [])) i refl in
-            behind_async i j (async_first l k u v w ts x i j)
+            behind_async i j (none_begins (class w) (async_first l k u v w ts x i j) (slash_by s u v w (ts ++ (t ∷ [])) (is_slash (class w)) (e (t ∷ [])) i j refl))
       ]
     ])
 
@@ -298,9 +306,9 @@ unfolding excludes is_default_start
 may_be_default t p ts e g s c l x us = may_begin is_default_word DefaultStart default_first refl (stated_good t g s c l) ts e x us
 
 -- the value of an arrow function
-pub may_be_value : (p : ParseTree) (ts : List Token) → ((us : List Token) → tokens_of p us ≡ ts ++ us) → Heads (λ u. starts (class u) ≡ true) p → excludes BodyStart (beginning ts) ≡ false → Heads (λ u. is_open_brace (class u) ≡ false) p
+pub may_be_value : (p : ParseTree) (ts : List Token) → ((us : List Token) → tokens_of p us ≡ ts ++ us) → Heads (λ u. starts (class u) ≡ true) p → excludes BodyStart (beginning ts) ≡ false → Heads (λ u. (is_open_brace (class u) ≡ false) × (starts (class u) ≡ true)) p
 may_be_value p [] e h x = λ us. absurd (no_tokens (h []).0 (h []).1 (tokens_of p []) (e []) (h []).2)
-may_be_value p (t ∷ ts) e h x = λ us. (t, ts ++ us, e us, open_first t ts x)
+may_be_value p (t ∷ ts) e h x = λ us. (t, ts ++ us, e us, (open_first t ts x, subst (λ z. starts (class z) ≡ true) (ap (first t) (sym (h us).2 ∙ e us)) (h us).3))
 
 pub not_excluded : (b : Bool) → (not true || not b) ≡ true → b ≡ false
 not_excluded true h = absurd (true≢false (sym h))

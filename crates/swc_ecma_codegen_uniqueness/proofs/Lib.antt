@@ -1,3 +1,4 @@
+pub mod Apart
 pub mod Arrows
 pub mod Atoms
 pub mod ClassDefinitions
@@ -26,6 +27,7 @@ pub mod Reading
 pub mod Shapes
 pub mod Spines
 pub mod Functions
+pub mod Goals
 pub mod StatementShapes
 pub mod Statements
 pub mod TableLaws

@@ -6,7 +6,7 @@ use Rattle.swc_ecma_codegen_syntax.specs.declared.nonterminals.Nonterminal.{Nont
 use Rattle.swc_ecma_codegen_uniqueness.specs.ParseTrees.{Variant, Seq, Paren, ParseTree, End, Read, Optional, Node, tokens_of}
 use Rattle.swc_ecma_codegen_uniqueness.proofs.Classes.{Class, Line, Colon, Comparing, class}
 use Rattle.swc_ecma_codegen_uniqueness.proofs.Controls.{InParen, Open, OfInfix, ForHead, ForPlain, is_within, Control, entered, outside, as_expression, stands, closes, variant_of}
-use Rattle.swc_ecma_codegen_uniqueness.proofs.Tables.{Action, Shift, Push, Wrap, Reduce, Turn, Begin, Enter, Leave, Splice, Take, Keep, EnterBelow, Merge, begin, decide, shift, start, wrap}
+use Rattle.swc_ecma_codegen_uniqueness.proofs.Tables.{Action, Shift, Push, Wrap, Reduce, Turn, Begin, Enter, Leave, Splice, Take, Keep, EnterBelow, Merge, Reject, begin, decide, shift, start, wrap}
 use Rattle.swc_ecma_codegen_uniqueness.proofs.TableLaws.{head_pushes, head_wraps, plain_begins, plain_leaves, turn_outside, low_wraps, low_leaves}
 
 -- what is at hand: nothing, or a node
@@ -141,6 +141,7 @@ acted_once Take t f s h reduced = Fail
 acted_once Keep t f s h reduced = Fail
 acted_once EnterBelow t f s h reduced = Fail
 acted_once Merge t f s h reduced = Fail
+acted_once Reject t f s h reduced = Fail
 
 -- an item is taken, and then its list goes on with the token; what was begun is of an expression, in the place below, or it is no node
 abbrev pub acted : Action → Token → Frame → List Frame → Hand → State → State
@@ -531,11 +532,11 @@ turned_low {s = s} {p = p} t rest g st h = turned_are_free (class t) s p t rest 
 
 -- ---- what fails goes on to fail
 
-abbrev is_fail : State → Bool
+abbrev pub is_fail : State → Bool
 is_fail (At s h) = false
 is_fail Fail = true
 
-run_fails : (ts : List Token) → run ts Fail ≡ Fail
+pub run_fails : (ts : List Token) → run ts Fail ≡ Fail
 run_fails [] = refl
 run_fails (t ∷ ts) = run_fails ts
 
@@ -549,6 +550,19 @@ never_kept c t u v ts {s = s} {p = p} g st cl l e a k =
     sym (ap is_fail (run_fails ts))
     ∙ ap (λ q. is_fail (run ts q))
     (sym (ap (next v) (went Push u f [] Empty a) ∙ went Keep v top (f ∷ []) Empty k ∙ ap (λ z. acted_once z v (record { control = start u; so_far = λ rest. Read u rest; other = λ rest. Read u rest }) (f ∷ []) Empty Fail) k))
+    ∙ ap (λ us. is_fail (run us (At (f ∷ []) Empty))) (sym e) ∙ ap is_fail (reads g f [] t [] (inl st) cl ∙ went Leave t f [] (Full s p) l)
+    )
+
+-- nor is the third one refused: behind `async` and what stays on its line no `/` stands
+pub never_rejected : (c : Control) (t u v w : Token) (ts : List Token) {s : Variant} {n : Nonterminal} {p : ParseTree} → Good (Whole s n) p → stands c n ≡ true → closes t n ≡ true → decide c (Some s) t ≡ Leave → tokens_of p (t ∷ []) ≡ u ∷ v ∷ w ∷ ts →
+    decide c None u ≡ Push → decide (start u) None v ≡ Shift → decide (shift (start u) None v) None w ≡ Reject → ⊥
+never_rejected c t u v w ts {s = s} {p = p} g st cl l e a k j =
+    let f : Frame = record { control = c; so_far = λ rest. rest; other = λ rest. rest } in
+    let top : Frame = record { control = start u; so_far = λ rest. Read u rest; other = λ rest. Read u rest } in
+    let on : Frame = record { control = shift (start u) None v; so_far = λ rest. Read u (Read v rest); other = λ rest. Read u (Optional v rest) } in
+    true≢false (
+    sym (ap is_fail (run_fails ts))
+    ∙ ap (λ q. is_fail (run ts q)) (sym (ap (λ q. next w (next v q)) (went Push u f [] Empty a) ∙ ap (next w) (went Shift v top (f ∷ []) Empty k) ∙ went Reject w on (f ∷ []) Empty j))
     ∙ ap (λ us. is_fail (run us (At (f ∷ []) Empty))) (sym e) ∙ ap is_fail (reads g f [] t [] (inl st) cl ∙ went Leave t f [] (Full s p) l)
     )
 

@@ -53,9 +53,9 @@ use Rattle.swc_ecma_codegen_syntax.specs.NodeForms.{node_form, part_form, stmt_p
 use Rattle.swc_ecma_codegen_syntax.specs.Derives.{Derives, fixed, part, restricted, both, provided}
 use Rattle.swc_ecma_codegen_uniqueness.specs.ParseTrees.{Variant, ParseTree, End, Read, Node, Class as AClass, Fn, VarDecl, Foreign, tokens_of}
 use Rattle.swc_ecma_codegen_uniqueness.specs.Parses.{placed, is_inlined}
-use Rattle.swc_ecma_codegen_uniqueness.proofs.Classes.{Class, Infix, Times, OpenBrace, NameToken, LiteralToken, FunctionWord, ClassWord, AsyncWord, Semi, Strange, class}
-use Rattle.swc_ecma_codegen_uniqueness.proofs.Controls.{Control, ImportItem, Clause, ClauseComma, AfterExport, AfterExportDefault, AsyncDefault, AsyncDefaultLine, DefaultValue, AfterFunction, entered}
-use Rattle.swc_ecma_codegen_uniqueness.proofs.Tables.{Shift, Enter, without, shifted_to, begun_at, started}
+use Rattle.swc_ecma_codegen_uniqueness.proofs.Classes.{Class, Infix, Times, OpenBrace, NameToken, LiteralToken, FunctionWord, ClassWord, AsyncWord, Semi, Strange, class, Over, Assigns}
+use Rattle.swc_ecma_codegen_uniqueness.proofs.Controls.{Control, ImportItem, Clause, ClauseComma, AfterExport, AfterExportDefault, AsyncDefault, AsyncDefaultLine, DefaultValue, AfterFunction, entered, starts}
+use Rattle.swc_ecma_codegen_uniqueness.proofs.Tables.{Shift, Enter, without, shifted_to, begun_at, started, Push}
 use Rattle.swc_ecma_codegen_uniqueness.proofs.PlaceLaws.{is_delayed, async_line, async_enters}
 use Rattle.swc_ecma_codegen_uniqueness.proofs.TableLaws.{ended_by, or_left, takes_on}
 use Rattle.swc_ecma_codegen_uniqueness.proofs.Machine.{Whole, Rest, Good, Frame, Entering, entering_there, third_enters, shifted, shifted_turned, entering, merged}
@@ -351,7 +351,7 @@ tail_by c (decls.Class n) d o m = let k = class_rest_read nt.Statement c n d o m
 tail_by c (decls.Fn n) d o m = let k = fn_decl_read nt.Statement (head_at c.position) c n d o m in record { variant = Fn; good = subst (λ z. Good (Rest AfterExport Fn nt.Statement) z) (sym k.is) (function_exported k.is_async k.good) }
 tail_by c (decls.Var n) (both d e) (o, x) m =
     let k = vars_read nt.Statement (of_declarations c) n d e o m in
-    record { variant = VarDecl; good = subst (λ z. Good (Rest AfterExport VarDecl nt.Statement) z) (sym k.is) (shifted refl (subst (λ l. Good (Rest (shifted_to AfterExport l) VarDecl nt.Statement) k.rest) (sym k.var) k.good)) }
+    record { variant = VarDecl; good = subst (λ z. Good (Rest AfterExport VarDecl nt.Statement) z) (sym k.is) (shifted (ap (without AfterExport) k.var) (subst (λ l. Good (Rest (shifted_to AfterExport l) VarDecl nt.Statement) k.rest) (sym k.var) k.good)) }
 tail_by c n d o m = absurd (no_form d)
 
 tail_in : {s : Settings} (k : Bool) (c : Parameters) (y : AnyNode-F AnyNode) {ts : List Token} (d : Derives true s (node_form k c y ExportedTail) ts) → AllGood d → s.minify ≡ c.minify → Exported (derived_parse d End)
@@ -380,22 +380,25 @@ export_decl_good c n (both (part a sa d) (both (fixed g) (part b sb e))) (x, (y,
 
 -- ---- what a module exports by default
 
-default_enters : (l : Class) → is_default_word l ≡ false → is_delayed l ≡ false → without AfterExportDefault l ≡ Enter
-default_enters FunctionWord h k = absurd (true≢false h)
-default_enters ClassWord h k = absurd (true≢false h)
-default_enters AsyncWord h k = absurd (true≢false k)
-default_enters l h k = refl
+default_enters : (l : Class) → starts l ≡ true → is_default_word l ≡ false → is_delayed l ≡ false → (without AfterExportDefault l ≡ Enter) × (without DefaultValue l ≡ Push)
+default_enters FunctionWord s h k = absurd (true≢false h)
+default_enters ClassWord s h k = absurd (true≢false h)
+default_enters AsyncWord s h k = absurd (true≢false k)
+default_enters (Infix Over) s h k = absurd (true≢false (sym s))
+default_enters (Assigns true) s h k = absurd (true≢false (sym s))
+default_enters l s h k = (refl, refl)
 
 -- the tokens of a value enter its place
 default_entered : (f : Frame) → f.control ≡ AfterExportDefault → (ts : List Token) → MayEnter is_default_word ts → Entering f ts
-default_entered f q ts (at_once {u = u} {ts = vs} h b k) = λ s. entering_there f s (u ∷ vs) u vs refl (ap (λ c. without c (class u)) q ∙ default_enters (class u) b k, ap (λ c. without (entered c) (class u)) q)
+default_entered f q ts (at_once {u = u} {ts = vs} h b k) = λ s.
+    let x = default_enters (class u) h b k in entering_there f s (u ∷ vs) u vs refl (ap (λ c. without c (class u)) q ∙ x.0, ap (λ c. without (entered c) (class u)) q ∙ x.1)
 default_entered f q ts (behind_import {u = u} {v = v} {ts = vs} e k) = λ s.
-    entering_there f s (u ∷ v ∷ vs) u (v ∷ vs) refl (ap (λ c. without c (class u)) q ∙ ap (without AfterExportDefault) e, ap (λ c. without (entered c) (class u)) q)
+    entering_there f s (u ∷ v ∷ vs) u (v ∷ vs) refl (ap (λ c. without c (class u)) q ∙ ap (without AfterExportDefault) e, ap (λ c. without (entered c) (class u)) q ∙ ap (without DefaultValue) e)
 default_entered f q ts (behind_async {u = u} {v = v} {w = w} {ts = vs} e h k) =
     let y = async_line (class v) h in
     let z = async_enters (class w) k in
     third_enters f u v w vs AsyncDefault AsyncDefaultLine Enter (ap (λ c. without c (class u)) q ∙ ap (without AfterExportDefault) e) (ap (λ c. begun_at c (class u)) q) y.2 y.3 z.1
-    (ap (λ c. without (entered c) (class u)) q) (ap started e) y.4 y.5 z.2 refl
+    (ap (λ c. without (entered c) (class u)) q ∙ ap (without DefaultValue) e) (ap started e) y.4 y.5 z.2 refl
 
 default_value : {v : Variant} {p : ParseTree} → Operand nt.AssignmentExpression v p → ((us : List Token) → MayEnter is_default_word (tokens_of p (ending ∷ us))) → Good (Rest AfterExportDefault Foreign nt.Statement) (Node v p (Read ending End))
 unfolding tokens_of ending

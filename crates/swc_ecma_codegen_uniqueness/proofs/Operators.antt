@@ -44,7 +44,7 @@ use Rattle.swc_ecma_codegen_syntax.specs.Derives.{Derives, fixed, part, simple, 
 use Rattle.swc_ecma_codegen_syntax.proofs.TreeFacts.{simple_of}
 use Rattle.swc_ecma_codegen_uniqueness.specs.ParseTrees.{Variant, ParseTree, End, Read, Unary, Update, Bin, Assign, Cond, Seq, Yield, Await, Paren}
 use Rattle.swc_ecma_codegen_uniqueness.specs.Parses.{placed, is_inlined}
-use Rattle.swc_ecma_codegen_uniqueness.proofs.Classes.{Level, Power, Times, Plus, Shifting, Less, Comparing, Within, Equating, BitAnds, BitXors, BitOrs, Ands, Ors, Coalescing, Infix, Assigns, Twice, class}
+use Rattle.swc_ecma_codegen_uniqueness.proofs.Classes.{Level, Power, Times, Over, Plus, Shifting, Less, Comparing, Within, Equating, BitAnds, BitXors, BitOrs, Ands, Ors, Coalescing, Infix, Assigns, Twice, class}
 use Rattle.swc_ecma_codegen_uniqueness.proofs.Controls.{starts, left_of, right_of, made, OfUnary, OfUpdate, OfAwait, Open, Listed}
 use Rattle.swc_ecma_codegen_uniqueness.proofs.Tables.{start, started}
 use Rattle.swc_ecma_codegen_uniqueness.proofs.TableLaws.{cover, cover_taken}
@@ -70,7 +70,11 @@ unfolding update_op update_text punctuator
 update_twice updates.PlusPlus = refl
 update_twice op = refl
 
-pub assign_class : (op : AssignOp) → class (assign_op op) ≡ Assigns
+abbrev is_over : AssignOp → Bool
+is_over assigns.DivAssign = true
+is_over op = false
+
+pub assign_class : (op : AssignOp) → class (assign_op op) ≡ Assigns (is_over op)
 unfolding assign_op assign_text punctuator
 assign_class assigns.Assign = refl
 assign_class op = refl
@@ -78,7 +82,7 @@ assign_class op = refl
 abbrev pub level : BinaryOp → Level
 level binaries.Exp = Power
 level binaries.Mul = Times
-level binaries.Div = Times
+level binaries.Div = Over
 level binaries.Mod = Times
 level binaries.Add = Plus
 level binaries.Sub = Plus
@@ -183,7 +187,7 @@ target_covered op = refl
 pub assign_good : {s : Settings} (c : Parameters) (n : AssignExpr AnyNode) {ts : List Token} (d : Derives true s (assign_form c n) ts) → AllGood d → s.minify ≡ c.minify → Good (Whole Assign nt.AssignmentExpression) (derived_parse d End)
 unfolding assign_form AllGood PlacedGood derived_parse read_phrase placed is_inlined
 assign_good c n (both (part a sa d) (both (fixed g) (part b sb e))) (o, (x, p)) m =
-    assigned (assign_op n.op) (assign_class n.op) (moved (target_covered n.op) (at_place _ _ sa (o m))) (at_place _ _ sb (p m))
+    assigned (assign_op n.op) (is_over n.op) (assign_class n.op) (moved (target_covered n.op) (at_place _ _ sa (o m))) (at_place _ _ sb (p m))
 
 -- ---- `yield`, `await`
 

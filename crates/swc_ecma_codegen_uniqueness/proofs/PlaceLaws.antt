@@ -5,9 +5,10 @@ use Rattle.swc_ecma_codegen_grammar.specs.Tokens.{Token}
 use Rattle.swc_ecma_codegen_syntax.specs.declared.nonterminals.Nonterminal.{Nonterminal}
 use Rattle.swc_ecma_codegen_syntax.specs.declared.nonterminals.Nonterminal.TheVariants as nt
 use Rattle.swc_ecma_codegen_syntax.specs.Nonterminals.{is_member, is_new, is_call, is_callee, is_chained, is_left_hand_side, is_update, is_unary, is_exponentiation, is_multiplicative, is_additive, is_shift, is_relational, is_in_left, is_equality, is_bitwise_and, is_bitwise_xor, is_bitwise_or, is_logical_and, is_logical_or, is_coalesce_head, is_short_circuit, is_conditional, is_assignment, is_expression, is_assignment_target, is_pattern_target, is_pattern_element, is_last_element, is_coalesce, is_private, is_optional, is_primary, is_template, is_property_name, is_chain_link, is_assignment_pattern, is_pattern_name, is_rest, is_statement, is_hoistable_declaration, is_block, is_variable_declarations, is_declaration, is_statement_list_item, is_labelled_item, is_module_declaration, is_exported_head, is_function_head, is_generator_head, is_async_function_head, is_async_generator_head, is_function_tail, is_getter_tail, is_setter_tail, is_method_head, is_decorator_list, is_class_head, is_class_tail, is_class_element, is_constructor_name, is_any_function_head, is_head_without_yield, is_head_without_await, is_any_property_name, is_jsx_element, is_jsx_object, is_uncovered, takes}
-use Rattle.swc_ecma_codegen_uniqueness.proofs.Classes.{Power, Plus, Class, Infix, Dot, OpenParen, OpenBrace, Line, class, FunctionWord, ReturnWord, ThrowWord, BreakWord, ContinueWord, DebuggerWord, IfWord, WhileWord, WithWord, VarWord, Semicolon, DoWord, TryWord, SwitchWord, ElseWord, CloseBrace, ClassWord, ExportWord, ImportWord, AsyncWord, ForWord, Times, TagName, TagClose, ChildTagMark}
-use Rattle.swc_ecma_codegen_uniqueness.proofs.Controls.{left, OfInfix, Control, Open, waits, stands, starts, is_item, Members, AtMember, AttributeElement, Children, ChildTag, ImportItem, AfterImport, AsyncItem, AsyncItemLine, AsyncDefault, AsyncDefaultLine, AfterAsync, AsyncLine, at_item, Where, InList, OfElse, Statement, Entered, entered, InTry, InCatch, InMethod, OfIf, OfDo}
-use Rattle.swc_ecma_codegen_uniqueness.proofs.Tables.{decide, Action, Push, Wrap, Reduce, Shift, Turn, Begin, Enter, Leave, Splice, Take, begin, begun_at, shifted_to, EnterBelow, Merge, without, with_operand, Keep}
+use Rattle.swc_ecma_codegen_uniqueness.proofs.Classes.{Power, Plus, Class, Infix, Dot, OpenParen, OpenBrace, Line, class, FunctionWord, ReturnWord, ThrowWord, BreakWord, ContinueWord, DebuggerWord, IfWord, WhileWord, WithWord, VarWord, Semicolon, DoWord, TryWord, SwitchWord, ElseWord, CloseBrace, ClassWord, ExportWord, ImportWord, AsyncWord, ForWord, Over, Assigns, RegexToken, Semi, Colon, TagName, TagClose, ChildTagMark}
+use Rattle.swc_ecma_codegen_uniqueness.proofs.Controls.{left, OfInfix, Control, Open, waits, stands, starts, is_item, Members, AtMember, AttributeElement, Children, ChildTag, ImportItem, AfterImport, AsyncItem, AsyncItemLine, AsyncDefault, AsyncDefaultLine, AfterAsync, AsyncLine, at_item, Where, InList, OfElse, MemberKey, Statement, Entered, entered, InTry, InCatch, InMethod, OfIf, OfDo, InTag}
+use Rattle.swc_ecma_codegen_uniqueness.specs.ParseTrees.{ClassMethod}
+use Rattle.swc_ecma_codegen_uniqueness.proofs.Tables.{decide, Action, Push, Wrap, Reduce, Shift, Turn, Begin, Enter, Leave, Splice, Take, begin, begun_at, shifted_to, EnterBelow, Merge, Reject, without, with_operand, Keep}
 use Rattle.swc_ecma_codegen_uniqueness.proofs.TableLaws.{if_so, is_push, is_wrap, push_is, told}
 
 -- ---- statements: where one stands, its first token begins it, and no operand does
@@ -56,6 +57,10 @@ keyword_test c l = refl
 pub keyword_pushes : (t : Token) (n : Nonterminal) → is_keyword (class t) ≡ true → is_item n ≡ true → (c : Control) → stands c n ≡ true → decide c None t ≡ Push
 keyword_pushes t n k i c s = push_is _ (told _ _ (keyword_test c (class t)) (and_from _ _ (item_there n i c s) k))
 
+abbrev is_reject : Action → Bool
+is_reject Reject = true
+is_reject a = false
+
 abbrev is_enter : Action → Bool
 is_enter Enter = true
 is_enter a = false
@@ -74,6 +79,7 @@ enter_is Take h = absurd (true≢false (sym h))
 enter_is Keep h = absurd (true≢false (sym h))
 enter_is EnterBelow h = absurd (true≢false (sym h))
 enter_is Merge h = absurd (true≢false (sym h))
+enter_is Reject h = absurd (true≢false (sym h))
 
 -- what begins no expression in the place of a statement
 abbrev pub is_barred : Class → Bool
@@ -151,15 +157,41 @@ pub async_kept : (l : Class) → is_line l ≡ false → without AfterAsync l �
 async_kept Line h = absurd (true≢false h)
 async_kept l h = refl
 
-pub async_enters : (l : Class) → is_function l ≡ false → (without AsyncItemLine l ≡ EnterBelow) × (without AsyncDefaultLine l ≡ EnterBelow) × (without AsyncLine l ≡ Enter)
+-- what stands behind that is `function`, or begins an operand
+abbrev pub is_slash : Class → Bool
+is_slash (Infix Over) = true
+is_slash (Assigns slash) = slash
+is_slash l = false
+
+abbrev pub begins_none : Class → Bool
+begins_none FunctionWord = true
+begins_none l = is_slash l
+
+pub none_begins : (l : Class) → is_function l ≡ false → is_slash l ≡ false → begins_none l ≡ false
+none_begins FunctionWord h k = absurd (true≢false h)
+none_begins l h k = k
+
+pub async_rejects : (l : Class) → is_slash l ≡ true → without AsyncLine l ≡ Reject
+async_rejects (Infix Over) h = refl
+async_rejects (Assigns true) h = refl
+async_rejects l h = absurd (true≢false (sym h))
+
+pub async_enters : (l : Class) → begins_none l ≡ false → (without AsyncItemLine l ≡ EnterBelow) × (without AsyncDefaultLine l ≡ EnterBelow) × (without AsyncLine l ≡ Enter)
 async_enters FunctionWord h = absurd (true≢false h)
+async_enters (Infix Over) h = absurd (true≢false h)
+async_enters (Assigns true) h = absurd (true≢false h)
 async_enters l h = (refl, refl, refl)
 
 -- what ends an expression statement, or stands behind a label, is neither
-pub leaves_alone : (l : Class) → with_operand (Entered OfElse) l ≡ Leave → (is_line l ≡ false) × (is_function l ≡ false)
+pub leaves_alone : (l : Class) → with_operand (Entered OfElse) l ≡ Leave → (is_line l ≡ false) × (begins_none l ≡ false)
 leaves_alone Line h = absurd (true≢false (ap is_wrap h))
+leaves_alone Semi h = (refl, refl)
+leaves_alone Colon h = (refl, refl)
 leaves_alone FunctionWord h = absurd (true≢false (ap is_wrap h))
-leaves_alone l h = (refl, refl)
+leaves_alone RegexToken h = absurd (true≢false (ap is_reject h))
+leaves_alone (Infix Over) h = absurd (true≢false (ap is_wrap h))
+leaves_alone (Assigns true) h = absurd (true≢false (ap is_wrap h))
+leaves_alone l h = absurd (true≢false (ap is_wrap h))
 
 pub delayed_by : (l : Class) → (is_delayed l ≡ false) ⊎ ((l ≡ ImportWord) ⊎ (l ≡ AsyncWord))
 delayed_by ImportWord = inr (inl refl)
@@ -169,6 +201,7 @@ delayed_by l = inl refl
 -- with which token an operand begins, by what the machine does at it in the place of a statement
 begins_test : (l : Class) → if_so (is_push (without (Entered OfElse) l)) (starts l) ≡ true
 begins_test (Infix Plus) = refl
+begins_test (Assigns true) = refl
 begins_test l = refl
 
 pub begins_operand : (t : Token) → decide (Entered OfElse) None t ≡ Push → starts (class t) ≡ true
@@ -186,15 +219,23 @@ element_there Members s = element_place
 element_there (Open (OfInfix Power)) s = absurd (true≢false (sym s))
 element_there c s = absurd (true≢false (sym s))
 
-abbrev pub is_close_brace : Class → Bool
-is_close_brace CloseBrace = true
-is_close_brace l = false
+-- what begins no member: `}`, and what is no token there
+abbrev pub is_no_member : Class → Bool
+is_no_member CloseBrace = true
+is_no_member RegexToken = true
+is_no_member l = false
 
-begun_in : (c : Control) (l : Class) → ElementPlace c → is_close_brace l ≡ false → (without c l ≡ Begin) × (begun_at c l ≡ shifted_to AtMember l)
+begun_in : (c : Control) (l : Class) → ElementPlace c → is_no_member l ≡ false → (without c l ≡ Begin) × (begun_at c l ≡ shifted_to AtMember l)
 begun_in c CloseBrace element_place h = absurd (true≢false h)
+begun_in c RegexToken element_place h = absurd (true≢false h)
 begun_in c l element_place h = (refl, refl)
 
-pub element_begins : (t : Token) → is_close_brace (class t) ≡ false → (c : Control) → stands c nt.ClassElement ≡ true → (decide c None t ≡ Begin) × (begin c t ≡ shifted_to AtMember (class t))
+pub member_shifts : (l : Class) → is_no_member l ≡ false → (without AtMember l ≡ Shift) × (without (MemberKey ClassMethod) l ≡ Shift)
+member_shifts CloseBrace h = absurd (true≢false h)
+member_shifts RegexToken h = absurd (true≢false h)
+member_shifts l h = (refl, refl)
+
+pub element_begins : (t : Token) → is_no_member (class t) ≡ false → (c : Control) → stands c nt.ClassElement ≡ true → (decide c None t ≡ Begin) × (begin c t ≡ shifted_to AtMember (class t))
 element_begins t h c s = begun_in c (class t) (element_there c s) h
 
 -- ---- elements between tags
@@ -218,15 +259,22 @@ child_begins t e c s = let x = begun_child c (child_there c s) in (ap (without c
 abbrev pub follows_attribute : Class → Bool
 follows_attribute TagName = true
 follows_attribute OpenBrace = true
-follows_attribute (Infix Times) = true
+follows_attribute (Infix Over) = true
 follows_attribute TagClose = true
 follows_attribute l = false
+
+pub attribute_taken : (l : Class) → follows_attribute l ≡ true → without InTag l ≡ Shift
+attribute_taken TagName h = refl
+attribute_taken OpenBrace h = refl
+attribute_taken (Infix Over) h = refl
+attribute_taken TagClose h = refl
+attribute_taken l h = absurd (true≢false (sym h))
 
 pub attribute_ends : (l : Class) → follows_attribute l ≡ true → (with_operand AttributeElement l ≡ Splice) × (takes (left l) nt.PrimaryExpression ≡ true)
 unfolding is_member is_new is_call is_callee is_chained is_left_hand_side is_update is_unary is_exponentiation is_multiplicative is_additive is_shift is_relational is_in_left is_equality is_bitwise_and is_bitwise_xor is_bitwise_or is_logical_and is_logical_or is_coalesce_head is_short_circuit is_conditional is_assignment is_expression is_assignment_target is_pattern_target is_pattern_element is_last_element is_coalesce is_private is_optional is_primary is_template is_property_name is_chain_link is_assignment_pattern is_pattern_name is_rest is_statement is_hoistable_declaration is_block is_variable_declarations is_declaration is_statement_list_item is_labelled_item is_module_declaration is_exported_head is_function_head is_generator_head is_async_function_head is_async_generator_head is_function_tail is_getter_tail is_setter_tail is_method_head is_decorator_list is_class_head is_class_tail is_class_element is_constructor_name is_any_function_head is_head_without_yield is_head_without_await is_any_property_name is_jsx_element is_jsx_object is_uncovered takes
 attribute_ends TagName h = (refl, refl)
 attribute_ends OpenBrace h = (refl, refl)
-attribute_ends (Infix Times) h = (refl, refl)
+attribute_ends (Infix Over) h = (refl, refl)
 attribute_ends TagClose h = (refl, refl)
 attribute_ends l h = absurd (true≢false (sym h))
 
@@ -258,6 +306,7 @@ take_is Splice h = absurd (true≢false (sym h))
 take_is Keep h = absurd (true≢false (sym h))
 take_is EnterBelow h = absurd (true≢false (sym h))
 take_is Merge h = absurd (true≢false (sym h))
+take_is Reject h = absurd (true≢false (sym h))
 
 take_test : (place : Where) (l : Class) → if_so (is_list place) (is_take (with_operand (Statement place) l)) ≡ true
 take_test (InList ends) l = refl

@@ -54,10 +54,10 @@ unfolding shebang read_phrase token_of
 first_line s None ts g h = h
 first_line s (Some text) ts g {m = m} h = subst (λ z. Good (Rest (Statement (InList BlockStmt)) BlockStmt nt.Statement) z) (sym (where_read s _ _ ts g m)) (shifted refl h)
 
-abbrev brace : Token
+abbrev pub brace : Token
 brace = punctuator (codes "}")
 
-program_good : {s : Settings} (b : Bool) (n : Program AnyNode) {ts : List Token} (d : Derives true s (program_form b n) ts) → AllGood d → s.minify ≡ b → Good (Rest (Statement (InList BlockStmt)) BlockStmt nt.Statement) (derived_parse d (Read brace End))
+pub program_good : {s : Settings} (b : Bool) (n : Program AnyNode) {ts : List Token} (d : Derives true s (program_form b n) ts) → AllGood d → s.minify ≡ b → Good (Rest (Statement (InList BlockStmt)) BlockStmt nt.Statement) (derived_parse d (Read brace End))
 unfolding program_form script_form module_form AllGood derived_parse
 program_good {s = s} b (programs.Script n) (both (fixed {ts = ts} g) d) (x, o) m =
     first_line s n.shebang ts g (list_good (InList BlockStmt) BlockStmt nt.Statement (record of_script { minify = b }) n.body.items refl d o m (Read brace End) (list_end (InList BlockStmt) BlockStmt nt.Statement refl End (ended BlockStmt nt.Statement))).0

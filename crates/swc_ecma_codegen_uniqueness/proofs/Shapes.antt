@@ -9,10 +9,10 @@ use Rattle.swc_ecma_codegen_syntax.specs.Nonterminals.{takes, is_optional, is_pr
 use Rattle.swc_ecma_codegen_syntax.specs.UnitProductions.{here, step, expression_is_assignment_expression, new_expression_is_member_expression, chain_base_is_member_expression}
 use Rattle.swc_ecma_codegen_syntax.proofs.Taken.{chain_takes}
 use Rattle.swc_ecma_codegen_uniqueness.specs.ParseTrees.{Variant, ParseTree, End, Read, Optional, Node, tokens_of, Array, Object, Update, Bin, Assign, Member, SuperProp, Cond, Call, New, Seq, Tpl, TaggedTpl, Arrow, Yield, MetaProp, Paren, OptChain}
-use Rattle.swc_ecma_codegen_uniqueness.proofs.Classes.{OpenParen, Level, Class, Infix, Assigns, Ask, Comma, Dot, ChainDot, OpenBracket, Line, Twice, First, Later, class, NameToken, LiteralToken}
-use Rattle.swc_ecma_codegen_uniqueness.proofs.Controls.{starts, is_item, is_listed, ArrowBody, left, left_of, right_of, made, Tail, OfInfix, OfCond, OfAssign, OfYield, whole, last as last_of, tail_variant, Control, Closed, Open, InParen, Index, Arguments, Elements, NextElement, Properties, NextProperty, AfterKey, InKey, InValue, Middle, Substitution, Dotted, Chained, AfterNew, AfterImport, AfterSuper, AfterYield, Postfix, Listed, AfterAsync, AsyncLine, waits, AtKey, AfterAccessor, InAccessorKey}
-use Rattle.swc_ecma_codegen_uniqueness.proofs.Tables.{Enter, decide, Shift, Turn, shift, shifted_to, passed_to, start, started, template, wrapped_to, chained, without, with_operand}
-use Rattle.swc_ecma_codegen_uniqueness.proofs.PlaceLaws.{is_function, async_enters}
+use Rattle.swc_ecma_codegen_uniqueness.proofs.Classes.{OpenParen, Level, Class, Infix, Assigns, Ask, Comma, Dot, ChainDot, OpenBracket, Line, Twice, First, Later, class, NameToken, LiteralToken, Over, FunctionWord}
+use Rattle.swc_ecma_codegen_uniqueness.proofs.Controls.{starts, is_item, is_listed, ArrowBody, left, left_of, right_of, made, Tail, OfInfix, OfCond, OfAssign, OfYield, whole, last as last_of, tail_variant, Control, Closed, Open, InParen, Index, Arguments, Elements, NextElement, Properties, NextProperty, AfterKey, InKey, InValue, Middle, Substitution, Dotted, Chained, AfterNew, AfterImport, AfterSuper, AfterYield, Postfix, Listed, AfterAsync, AsyncLine, waits, AtKey, AfterAccessor, InAccessorKey, AsyncOperand}
+use Rattle.swc_ecma_codegen_uniqueness.proofs.Tables.{Enter, decide, Shift, Turn, shift, shifted_to, passed_to, start, started, template, wrapped_to, chained, without, with_operand, Push}
+use Rattle.swc_ecma_codegen_uniqueness.proofs.PlaceLaws.{begins_none}
 use Rattle.swc_ecma_codegen_uniqueness.proofs.TableLaws.{ended_by, ending, takes_on, is_sequence, assignment_single, taken_there, arrow_wraps, is_place, pushes, or_left, is_infix, made_by, Wraps, infix_wraps, Linked, linked_closes, links, link_wraps, Calling, calling_linked, call_wraps, tail_ends, new_ends, yield_ends, yield_alone, listed_ends, member_plain, call_plain, callee_plain}
 use Rattle.swc_ecma_codegen_uniqueness.proofs.Machine.{Whole, Rest, Good, headed, wrapped, shifted, inner, closed, last, wrapped_turned, inner_turned, shifted_turned, entering, entering_there, turned_tokens, Heads, raised, turned, opened, spine_free, low_free}
 
@@ -108,9 +108,9 @@ pub binary : (t : Token) (level : Level) {s z : Variant} {p q : ParseTree} → c
     Good (Whole Bin (made level)) (Node s p (Read t (Node z q End)))
 binary t level {z = z} {q = q} e o r = behind t (Infix level) Bin (Open (OfInfix level)) (Node z q End) e refl refl o (tail_rest (OfInfix level) r)
 
-pub assigned : (t : Token) {s z : Variant} {p q : ParseTree} → class t ≡ Assigns → Operand nt.LeftHandSideExpression s p → Operand nt.AssignmentExpression z q →
+pub assigned : (t : Token) (slash : Bool) {s z : Variant} {p q : ParseTree} → class t ≡ Assigns slash → Operand nt.LeftHandSideExpression s p → Operand nt.AssignmentExpression z q →
     Good (Whole Assign nt.AssignmentExpression) (Node s p (Read t (Node z q End)))
-assigned t {z = z} {q = q} e o r = behind t Assigns Assign (Open OfAssign) (Node z q End) e refl refl o (tail_rest OfAssign r)
+assigned t slash {z = z} {q = q} e o r = behind t (Assigns slash) Assign (Open OfAssign) (Node z q End) e refl refl o (tail_rest OfAssign r)
 
 pub conditional : {s z w : Variant} {p q r : ParseTree} → Operand nt.ShortCircuitExpression s p → Operand nt.AssignmentExpression z q → Operand nt.AssignmentExpression w r →
     Good (Whole Cond nt.ConditionalExpression) (Node s p (Read (punctuator (codes "?")) (Node z q (Read (punctuator (codes ":")) (Node w r End)))))
@@ -557,10 +557,13 @@ pub arrow : {s : Variant} {p m q : ParseTree} → Operand nt.LeftHandSideExpress
 unfolding same_line punctuator
 arrow {s = s} o g e = wrapped_turned same_line arrow_mark o.good (ended_by Line o.of o.taken) (arrow_wraps same_line o.of s refl o.taken o.own) refl g e
 
-async_value : (l : Class) → is_function l ≡ false → without AsyncLine l ≡ Enter
-async_value l h = (async_enters l h).2
+async_value : (l : Class) → begins_none l ≡ false → (without AsyncLine l ≡ Enter) × (without AsyncOperand l ≡ Push)
+async_value FunctionWord h = absurd (true≢false h)
+async_value (Infix Over) h = absurd (true≢false h)
+async_value (Assigns true) h = absurd (true≢false h)
+async_value l h = (refl, refl)
 
-pub async_arrow : {s : Variant} {p m q : ParseTree} → Operand nt.LeftHandSideExpression s p → Heads (λ u. is_function (class u) ≡ false) p → Good (Rest ArrowBody Arrow nt.AssignmentExpression) m → q ≡ turned s p same_line (Read arrow_mark m) →
+pub async_arrow : {s : Variant} {p m q : ParseTree} → Operand nt.LeftHandSideExpression s p → Heads (λ u. begins_none (class u) ≡ false) p → Good (Rest ArrowBody Arrow nt.AssignmentExpression) m → q ≡ turned s p same_line (Read arrow_mark m) →
     Good (Whole Arrow nt.AssignmentExpression) (Read (word (codes "async")) (Read same_line q))
 unfolding same_line punctuator word tokens_of
 async_arrow {s = s} {p = p} {m = m} {q = q} o h g e =
@@ -568,7 +571,7 @@ async_arrow {s = s} {p = p} {m = m} {q = q} o h g e =
     (shifted refl (entering
     (λ b i t us w.
     let k = h (same_line ∷ arrow_mark ∷ tokens_of m (t ∷ us)) in
-    entering_there (record { control = AsyncLine; so_far = b; other = i }) w (tokens_of q (t ∷ us)) k.0 k.1 (turned_tokens s p same_line arrow_mark m q (t ∷ us) e ∙ k.2) (async_value (class k.0) k.3, refl))
+    entering_there (record { control = AsyncLine; so_far = b; other = i }) w (tokens_of q (t ∷ us)) k.0 k.1 (turned_tokens s p same_line arrow_mark m q (t ∷ us) e ∙ k.2) (async_value (class k.0) k.3))
     (inner_turned same_line arrow_mark (or_left _ _ o.taken) o.good (ended_by Line o.of o.taken) refl refl g e)))
 
 -- ---- templates

@@ -10,10 +10,10 @@ use Rattle.swc_ecma_codegen_syntax.specs.UnitProductions.{step, pattern_element_
 use Rattle.swc_ecma_codegen_syntax.proofs.Chains.{takes_chain}
 use Rattle.swc_ecma_codegen_syntax.proofs.Taken.{chain_takes}
 use Rattle.swc_ecma_codegen_uniqueness.specs.ParseTrees.{Variant, ParseTree, End, Read, Node, Fn, Arrow, BlockStmt, EmptyStmt, ExprStmt, IfStmt, LabeledStmt, VarDecl, tokens_of, DoWhileStmt, TryStmt, SwitchStmt, Class as AClass, Foreign}
-use Rattle.swc_ecma_codegen_uniqueness.proofs.Classes.{Class, Infix, Plus, OpenBrace, ElseWord, Semi, Colon, ImportWord, AsyncWord, class, CatchWord, FinallyWord}
-use Rattle.swc_ecma_codegen_uniqueness.proofs.Controls.{outside, starts, is_item, is_behind, left, Where, InList, OfIf, OfElse, OfLabel, OfLoop, Control, Closed, ArrowBody, OfArrow, Statement, Entered, AfterFunction, AfterClass, AfterExport, AfterFor, ForHead, Parameter, RestParameter, AfterParameters, AfterWord, Valued, Jump, Headed, Test, Declarators, stands, entered, ImportItem, AsyncItem, AsyncItemLine, InTry, InCatch, InClause, OfDo, closed_by, AfterDo, AfterTry, BehindTry, AfterCatch, CatchParameter, BehindCatch, Case, InMethod}
-use Rattle.swc_ecma_codegen_uniqueness.proofs.Tables.{Reduce, Action, Shift, Begin, Enter, Leave, Splice, Wrap, without, with_operand, decide, shift, passed_to, start, started, begin, begun_at, Enter, closing, shifted_to}
-use Rattle.swc_ecma_codegen_uniqueness.proofs.PlaceLaws.{is_keyword, keyword_pushes, is_barred, item_there, place_of, ItemPlace, item_place, enters, is_delayed, is_import_call, import_begins, import_called, is_line, is_function, async_begins, async_line, async_enters, begins_operand, is_list, list_takes, no_item_wraps}
+use Rattle.swc_ecma_codegen_uniqueness.proofs.Classes.{Class, Infix, Plus, OpenBrace, ElseWord, Semi, Colon, ImportWord, AsyncWord, class, CatchWord, FinallyWord, Over, Assigns}
+use Rattle.swc_ecma_codegen_uniqueness.proofs.Controls.{outside, starts, is_item, is_behind, left, Where, InList, OfIf, OfElse, OfLabel, OfLoop, Control, Closed, ArrowBody, OfArrow, Statement, Entered, AfterFunction, AfterClass, AfterExport, AfterFor, ForHead, Parameter, RestParameter, AfterParameters, AfterWord, Valued, Jump, Headed, Test, Declarators, stands, entered, ImportItem, AsyncItem, AsyncItemLine, InTry, InCatch, InClause, OfDo, closed_by, AfterDo, AfterTry, BehindTry, AfterCatch, CatchParameter, BehindCatch, Case, InMethod, Open}
+use Rattle.swc_ecma_codegen_uniqueness.proofs.Tables.{Reduce, Action, Shift, Begin, Enter, Leave, Splice, Wrap, without, with_operand, decide, shift, passed_to, start, started, begin, begun_at, Enter, closing, shifted_to, Push}
+use Rattle.swc_ecma_codegen_uniqueness.proofs.PlaceLaws.{is_keyword, keyword_pushes, is_barred, item_there, place_of, ItemPlace, item_place, enters, is_delayed, is_import_call, import_begins, import_called, is_line, begins_none, async_begins, async_line, async_enters, begins_operand, is_list, list_takes, no_item_wraps}
 use Rattle.swc_ecma_codegen_uniqueness.proofs.TableLaws.{takes_on, ended_by, or_left}
 use Rattle.swc_ecma_codegen_uniqueness.proofs.Machine.{Whole, Rest, Good, Frame, Heads, HeadsBefore, Entering, entering_there, second_enters, third_enters, goes_on, headed, headed_block, wrapped, wrapped_turned, stated, entering, shifted, inner, last, splicing, taking, raised, joined, turned_tokens, left_tokens, keeping, closed}
 use Rattle.swc_ecma_codegen_uniqueness.proofs.Shapes.{Operand, takes_self, assignment_taken, left_taken, left_assigned, part_then, ended, tail_rest}
@@ -30,6 +30,7 @@ is_begin a = false
 
 begin_test : (l : Class) → is_begin (without (Entered OfElse) l) ≡ false
 begin_test (Infix Plus) = refl
+begin_test (Assigns true) = refl
 begin_test l = refl
 
 no_begin : (l : Class) → without (Entered OfElse) l ≡ Begin → ⊥
@@ -157,7 +158,7 @@ empty_good b = keyword_begun (punctuator (codes ";")) EmptyStmt b (Closed EmptyS
 pub data MayEnter (bars : Class → Bool) : List Token → Type 0 where
   at_once : {u : Token} {ts : List Token} → starts (class u) ≡ true → bars (class u) ≡ false → is_delayed (class u) ≡ false → MayEnter bars (u ∷ ts)
   behind_import : {u v : Token} {ts : List Token} → class u ≡ ImportWord → is_import_call (class v) ≡ true → MayEnter bars (u ∷ v ∷ ts)
-  behind_async : {u v w : Token} {ts : List Token} → class u ≡ AsyncWord → is_line (class v) ≡ true → is_function (class w) ≡ false → MayEnter bars (u ∷ v ∷ w ∷ ts)
+  behind_async : {u v w : Token} {ts : List Token} → class u ≡ AsyncWord → is_line (class v) ≡ true → begins_none (class w) ≡ false → MayEnter bars (u ∷ v ∷ w ∷ ts)
 
 -- before a token
 abbrev pub MayStand : Token → ParseTree → Type 0
@@ -393,15 +394,17 @@ function_item b {m = m} g = keyword_begun (word (codes "function")) Fn b AfterFu
 
 -- ---- arrow functions
 
-value_enters : (l : Class) → is_open_brace l ≡ false → without ArrowBody l ≡ Enter
-value_enters OpenBrace h = absurd (true≢false h)
-value_enters l h = refl
+value_enters : (l : Class) → is_open_brace l ≡ false → starts l ≡ true → (without ArrowBody l ≡ Enter) × (without (Open OfArrow) l ≡ Push)
+value_enters OpenBrace h k = absurd (true≢false h)
+value_enters (Infix Over) h k = absurd (true≢false (sym k))
+value_enters (Assigns true) h k = absurd (true≢false (sym k))
+value_enters l h k = (refl, refl)
 
 -- a value, and a block
-pub arrow_value : {s : Variant} {p : ParseTree} → Operand nt.AssignmentExpression s p → Heads (λ u. is_open_brace (class u) ≡ false) p → Good (Rest ArrowBody Arrow nt.AssignmentExpression) (Node s p End)
+pub arrow_value : {s : Variant} {p : ParseTree} → Operand nt.AssignmentExpression s p → Heads (λ u. (is_open_brace (class u) ≡ false) × (starts (class u) ≡ true)) p → Good (Rest ArrowBody Arrow nt.AssignmentExpression) (Node s p End)
 unfolding tokens_of
 arrow_value {s = s} {p = p} o h =
-    entering (λ b q t us w. let k = h (t ∷ us) in entering_there (record { control = ArrowBody; so_far = b; other = q }) w (tokens_of p (t ∷ us)) k.0 k.1 k.2 (value_enters (class k.0) k.3, refl)) (tail_rest OfArrow o)
+    entering (λ b q t us w. let k = h (t ∷ us) in entering_there (record { control = ArrowBody; so_far = b; other = q }) w (tokens_of p (t ∷ us)) k.0 k.1 k.2 (value_enters (class k.0) k.3.0 k.3.1)) (tail_rest OfArrow o)
 
 pub arrow_block : {m : ParseTree} → Good (Rest (Statement (InList Arrow)) Arrow nt.AssignmentExpression) m → Good (Rest ArrowBody Arrow nt.AssignmentExpression) (Read (punctuator (codes "{")) m)
 unfolding punctuator

@@ -9,9 +9,9 @@ use Rattle.swc_ecma_codegen_syntax.specs.UnitProductions.{UnitProduction, Chain,
 use Rattle.swc_ecma_codegen_syntax.proofs.Chains.{takes_chain}
 use Rattle.swc_ecma_codegen_syntax.proofs.Taken.{chain_takes}
 use Rattle.swc_ecma_codegen_uniqueness.specs.ParseTrees.{Variant}
-use Rattle.swc_ecma_codegen_uniqueness.proofs.Classes.{Power, Plus, Within, Coalescing, Class, Infix, Assigns, Ask, Comma, Dot, ChainDot, OpenParen, OpenBracket, Line, First, class, Comparing}
+use Rattle.swc_ecma_codegen_uniqueness.proofs.Classes.{Power, Over, Plus, Within, Coalescing, Class, Infix, Assigns, Ask, Comma, Dot, ChainDot, OpenParen, OpenBracket, Line, First, class, Comparing}
 use Rattle.swc_ecma_codegen_uniqueness.proofs.Controls.{made, left_of, left, closes, Tail, OfInfix, whole, last, Control, Open, Arguments, Elements, NextElement, AfterNew, AfterYield, YieldLine, Listed, InParen, Index, Middle, InKey, InValue, Substitution, waits, stands, starts, is_item, is_listed, Heritage, Members, InMemberKey, FieldPlace, DefaultValue, AttributeElement, AttributeBraces, Children, ChildBraces, ForHead, ForPlain, ForVars, ForValue, ForTest, ForUpdate, ForIn, ForOf, is_within, AsyncOperand, closed_by, at_item, Statement, Entered, Parameter, RestParameter, Valued, Test, Declarators, Initializer, CatchParameter, Case, InAccessorKey, AccessorParameter}
-use Rattle.swc_ecma_codegen_uniqueness.proofs.Tables.{decide, Action, Push, Wrap, Reduce, Shift, Turn, Begin, Enter, Leave, Splice, Take, wrapped_to, EnterBelow, Merge, without, with_operand, Keep}
+use Rattle.swc_ecma_codegen_uniqueness.proofs.Tables.{decide, Action, Push, Wrap, Reduce, Shift, Turn, Begin, Enter, Leave, Splice, Take, wrapped_to, EnterBelow, Merge, Reject, begun_by, taken_by, without, with_operand, Keep}
 
 -- ---- chains of unit productions
 
@@ -49,6 +49,7 @@ wrap_is Take h = absurd (true≢false (sym h))
 wrap_is Keep h = absurd (true≢false (sym h))
 wrap_is EnterBelow h = absurd (true≢false (sym h))
 wrap_is Merge h = absurd (true≢false (sym h))
+wrap_is Reject h = absurd (true≢false (sym h))
 
 abbrev pub is_push : Action → Bool
 is_push Push = true
@@ -68,6 +69,7 @@ push_is Take h = absurd (true≢false (sym h))
 push_is Keep h = absurd (true≢false (sym h))
 push_is EnterBelow h = absurd (true≢false (sym h))
 push_is Merge h = absurd (true≢false (sym h))
+push_is Reject h = absurd (true≢false (sym h))
 
 -- names of places, of which no node is; and patterns, of which none is here
 abbrev pub is_place : Nonterminal → Bool
@@ -253,7 +255,7 @@ taken_there w n b k p i s = elim (or_cases (takes w n) ((is_private n && b) || (
 
 abbrev pub is_infix : Class → Bool
 is_infix (Infix level) = true
-is_infix Assigns = true
+is_infix (Assigns slash) = true
 is_infix Ask = true
 is_infix Comma = true
 is_infix Line = true
@@ -262,7 +264,7 @@ is_infix c = false
 -- the nonterminal of the node
 abbrev pub made_by : Class → Nonterminal
 made_by (Infix level) = made level
-made_by Assigns = nt.AssignmentExpression
+made_by (Assigns slash) = nt.AssignmentExpression
 made_by Ask = nt.ConditionalExpression
 made_by Comma = nt.Expression
 made_by Line = nt.UpdateExpression
@@ -310,7 +312,7 @@ operand_stands c (Infix Coalescing) k i h e p =
       | inr q ↦ takes_on (waits c) nt.BitwiseOrExpression k (told _ _ (head_test c) h) q
     ])
 operand_stands c (Infix level) k i h e p = or_left (takes (waits c) k) _ (takes_on (waits c) (made level) k h (takes_on (made level) (left_of level) k refl e))
-operand_stands c Assigns k i h e p = or_left (takes (waits c) k) _ (takes_on (waits c) nt.AssignmentExpression k h (takes_on nt.AssignmentExpression nt.LeftHandSideExpression k refl e))
+operand_stands c (Assigns slash) k i h e p = or_left (takes (waits c) k) _ (takes_on (waits c) nt.AssignmentExpression k h (takes_on nt.AssignmentExpression nt.LeftHandSideExpression k refl e))
 operand_stands c Ask k i h e p = or_left (takes (waits c) k) _ (takes_on (waits c) nt.ConditionalExpression k h (takes_on nt.ConditionalExpression nt.ShortCircuitExpression k refl e))
 operand_stands c Comma k i h e p = or_left (takes (waits c) k) _ (takes_on (waits c) nt.Expression k h (takes_on nt.Expression nt.AssignmentExpression k refl e))
 operand_stands c Line k i h e p = or_left (takes (waits c) k) _ (takes_on (waits c) nt.UpdateExpression k h (takes_on nt.UpdateExpression nt.LeftHandSideExpression k refl e))
@@ -483,8 +485,8 @@ call_wraps t k variant a q e p c s =
 
 -- ---- where a node ends with a part: the ends of the machine's frames
 
-ends_reduce : (n : Nonterminal) (l : Class) → takes (left l) n ≡ true → cond (takes (left l) n) Reduce Wrap ≡ Reduce
-ends_reduce n l h = ap (λ b. cond b Reduce Wrap) h
+ends_reduce : (n : Nonterminal) (l : Class) → takes (left l) n ≡ true → cond (takes (left l) n) Reduce (taken_by Wrap l) ≡ Reduce
+ends_reduce n l h = ap (λ b. cond b Reduce (taken_by Wrap l)) h
 
 -- what is asked of a node that ends with a part
 abbrev pub Ended : Control → Nonterminal → Nonterminal → Variant → Type 0
@@ -553,6 +555,7 @@ assignment_single k h = refl
 
 head_push_test : (l : Class) → if_so (is_push (without ForPlain l)) (is_push (without ForHead l)) ≡ true
 head_push_test (Infix Plus) = refl
+head_push_test (Assigns true) = refl
 head_push_test l = refl
 
 pub head_pushes : (l : Class) → without ForPlain l ≡ Push → without ForHead l ≡ Push
@@ -572,6 +575,7 @@ is_other a = false
 
 plain_test : (l : Class) → (is_other (without ForPlain l) || is_other (with_operand ForPlain l)) ≡ false
 plain_test (Infix Plus) = refl
+plain_test (Assigns true) = refl
 plain_test l = refl
 
 pub plain_begins : (l : Class) → without ForPlain l ≡ Begin → ⊥
@@ -580,9 +584,18 @@ plain_begins l h = true≢false (sym (ap is_other h) ∙ (or_none _ _ (plain_tes
 pub plain_leaves : (l : Class) → with_operand ForPlain l ≡ Leave → ⊥
 plain_leaves l h = true≢false (sym (ap is_other h) ∙ (or_none _ _ (plain_test l)).1)
 
+abbrev is_turn : Action → Bool
+is_turn Turn = true
+is_turn a = false
+
+never_turns : (m : Class) → is_turn (begun_by Push m) ≡ false
+never_turns (Infix Over) = refl
+never_turns (Assigns true) = refl
+never_turns m = refl
+
 -- the token behind an operand that the next one turns
 pub turn_outside : (operand : Variant) (l m : Class) → without (wrapped_to operand l) m ≡ Turn → is_within l ≡ false
-turn_outside operand (Infix Within) m h = absurd (true≢false (ap is_push h))
+turn_outside operand (Infix Within) m h = absurd (true≢false (sym (ap is_turn h) ∙ never_turns m))
 turn_outside operand l m h = refl
 
 -- where no `in` takes an operand, though an operand stands: behind `<`

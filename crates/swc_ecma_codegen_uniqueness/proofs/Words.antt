@@ -12,7 +12,7 @@ use Rattle.swc_ecma_codegen_uniqueness.specs.ParseTrees.{Variant, Seq, Paren, Pa
 use Rattle.swc_ecma_codegen_uniqueness.specs.Words.{contextual_words, named_by, as_name, as_names, with_names}
 use Rattle.swc_ecma_codegen_uniqueness.proofs.Classes.{Class, NameToken, Line, Colon, class, class_of, look, words}
 use Rattle.swc_ecma_codegen_uniqueness.proofs.Controls.{Control, InParen, entered, outside, as_expression, variant_of, closes}
-use Rattle.swc_ecma_codegen_uniqueness.proofs.Tables.{Action, Shift, Push, Wrap, Reduce, Turn, Begin, Enter, Leave, Splice, Take, Keep, EnterBelow, Merge, without, with_operand, decide, shifted_to, passed_to, shift, started, start, begun_at, begin, wrapped_to}
+use Rattle.swc_ecma_codegen_uniqueness.proofs.Tables.{Action, Shift, Push, Wrap, Reduce, Turn, Begin, Enter, Leave, Splice, Take, Keep, EnterBelow, Merge, Reject, without, with_operand, decide, shifted_to, passed_to, shift, started, start, begun_at, begin, wrapped_to}
 use Rattle.swc_ecma_codegen_uniqueness.proofs.Machine.{Hand, Empty, Full, held, sign, joined, opened, parameters, turned_by, turned, turned_hand, spliced, left_by, left_hand, Frame, State, At, Fail, within, wrap_at, acted_once, acted, step, next, run, first_of, found, Ends, whole_found, rest_found, Whole, Rest, Good}
 
 -- ---- to the machine such a word is what the name is
@@ -187,6 +187,7 @@ once_alike Take t x m h y = failed
 once_alike Keep t x m h y = failed
 once_alike EnterBelow t x m h y = failed
 once_alike Merge t x m h y = failed
+once_alike Reject t x m h y = failed
 
 decided_alike : (t : Token) {f g : Frame} {s r : List Frame} → Alike f g → AllAlike s r → (h : Hand) →
     Reached (acted_once (decide f.control (sign h) t) t f s h Fail) (acted_once (decide g.control (sign (named_hand h)) (as_name t)) (as_name t) g r (named_hand h) Fail)

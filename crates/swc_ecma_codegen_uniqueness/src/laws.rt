@@ -1,14 +1,15 @@
 //! Laws for callers. Each is the contract of a function without parameters that does nothing: a proof cites the function,
 //! and a program has no need to call it.
 
-ghost use Rattle.std.specs.Prelude.{◌≡◌, true, false, List, ◌++◌};
+ghost use Rattle.std.specs.Prelude.{◌≡◌, ◌⊎◌, true, false, List, ◌∷◌, ◌++◌, codes};
 ghost use Rattle.swc_ecma_codegen_tree.specs.declared.exprs.Expr.{Expr};
 ghost use Rattle.swc_ecma_codegen_tree.specs.declared.links.AnyNode.{AnyNode};
 ghost use Rattle.swc_ecma_codegen_tree.specs.declared.programs.Program.{Program};
 ghost use Rattle.swc_ecma_codegen_grammar.specs.Phrases.{Generates};
 ghost use Rattle.swc_ecma_codegen_grammar.specs.Settings.{Settings};
 ghost use Rattle.swc_ecma_codegen_grammar.specs.TreePhrases.{expr_phrase, program_phrase};
-ghost use Rattle.swc_ecma_codegen_grammar.specs.Tokens.{Token};
+ghost use Rattle.swc_ecma_codegen_grammar.specs.Tokens.{Token, punctuator};
+ghost use Rattle.swc_ecma_codegen_grammar.specs.declared.kinds.Kind.TheVariants.{Regex};
 ghost use Rattle.swc_ecma_codegen_syntax.specs.declared.nonterminals.Nonterminal.TheVariants.{Expression};
 ghost use Rattle.swc_ecma_codegen_syntax.specs.declared.parameters.Parameters.{Parameters as Given};
 ghost use Rattle.swc_ecma_codegen_syntax.specs.Derives.{DerivesExpr, DerivesProgram, bare_phrase, expr_verdict, program_verdict};
@@ -132,4 +133,14 @@ pub fn kept_programs_are_told_by_names()
         → Generates t (bare_phrase (program_phrase b)) us
         → as_names ts ≡ as_names us
         → with_names (program_parse s a) ≡ with_names (program_parse t b) }
+{}
+
+/// The tokens before a `/` tell whether it divides or begins a regular expression: no two programs are derived with lists that
+/// are the same up to a token, which is a regular expression in one, and `/` or `/=` in the other. So a parser that has read
+/// `a = b` takes `/c/g` for two divisions, and behind `a =` for a regular expression. ECMA-262, section 12.
+#[tactic(auto, using(crate::proofs::Goals::one_goal))]
+pub fn tokens_tell_a_division()
+    ensures { (s t : Settings) (a b : Program AnyNode) (xs ys zs : List Token) (x y : Token)
+        → x.kind ≡ Regex → (y ≡ punctuator (codes "/")) ⊎ (y ≡ punctuator (codes "/="))
+        → DerivesProgram true s a (xs ++ (x ∷ ys)) → DerivesProgram true t b (xs ++ (y ∷ zs)) → ⊥ }
 {}
