@@ -6,8 +6,7 @@ use Rattle.swc_ecma_codegen_tree.specs.declared.links.AnyNode.{AnyNode}
 use Rattle.swc_ecma_codegen_tree.specs.declared.exprs.BinExpr.{BinExpr}
 use Rattle.swc_ecma_codegen_tree.specs.declared.exprs.Expr.{Expr}
 use Rattle.swc_ecma_codegen_tree.specs.declared.exprs.Expr.TheVariants as exprs
-use Rattle.swc_ecma_codegen_parentheses.specs.Roots.{SameExprTree}
-use Rattle.swc_ecma_codegen_parentheses.specs.Whole.{expr_in}
+use Rattle.swc_ecma_codegen_parentheses.specs.Roots.{SameExprTree, expr_in}
 
 -- an operator between these two, with no parentheses round them
 pub record IsOperationOf (op : BinaryOp) (left right n : Expr AnyNode) : Type 0 where

@@ -1,3 +1,3 @@
-pub mod Changes
 pub mod Held
+pub mod InPlace
 pub mod Verdicts

@@ -1,17 +1,36 @@
--- Expressions that are the same but for parentheses round them and in them.
-use Rattle.std.specs.Prelude.{◌≡◌, Option, Some}
+-- Nodes that are the same but for parentheses, and blocks, round them and in them.
+use Rattle.std.specs.Prelude.{◌≡◌, List, [], ◌∷◌, Option, Some, None}
 use Rattle.swc_ecma_codegen_common.specs.declared.positions.Span.{Span}
 use Rattle.swc_ecma_codegen_tree.specs.declared.exprs.Expr.{Expr}
 use Rattle.swc_ecma_codegen_tree.specs.declared.exprs.Expr.TheVariants as exprs
-use Rattle.swc_ecma_codegen_spans.specs.Spans.{expr_span}
+use Rattle.swc_ecma_codegen_tree.specs.declared.stmts.BlockStmt.{BlockStmt}
+use Rattle.swc_ecma_codegen_tree.specs.declared.stmts.Stmt.{Stmt}
+use Rattle.swc_ecma_codegen_tree.specs.declared.stmts.Stmt.TheVariants as stmts
+use Rattle.swc_ecma_codegen_spans.specs.Spans.{expr_span, stmt_span}
 use Rattle.swc_ecma_codegen_parentheses.specs.SameExprs.{same_expr}
+use Rattle.swc_ecma_codegen_parentheses.specs.SameStmts.{same_stmt}
 
 -- The second is the first in parentheses, which have the span of what they enclose.
 unfoldable pub encloses : {X : Type 0} → (X → Option (Expr X)) → (X → Span) → Expr X → Expr X → Type 0
 encloses expr_in place n (exprs.Paren pair) = (pair.span ≡ expr_span place n) × (expr_in pair.expr.node.value ≡ Some n)
 encloses expr_in place n r = ⊥
 
+-- The block is one of that statement alone, with its span.
+unfoldable pub is_block_of : {X : Type 0} → (X → Span) → Stmt X → Option (BlockStmt X) → Type 0
+is_block_of place n (Some block) = (block.span ≡ stmt_span place n) × (block.stmts.items ≡ n ∷ [])
+is_block_of place n None = ⊥
+
+-- The second is a block of the first alone.
+unfoldable pub blocks : {X : Type 0} → (X → Option (BlockStmt X)) → (X → Span) → Stmt X → Stmt X → Type 0
+blocks block_in place n (stmts.Block link) = is_block_of place n (block_in link.node.value)
+blocks block_in place n r = ⊥
+
 -- The same expression, or the same in parentheses.
 pub data SameExpr {X : Type 0} (expr_in : X → Option (Expr X)) (place : X → Span) (m : X → X → Type 0) (n r : Expr X) : Type 0 where
   bare : same_expr m n r → SameExpr expr_in place m n r
   enclosed : (inside : Expr X) → same_expr m n inside → encloses expr_in place inside r → SameExpr expr_in place m n r
+
+-- The same statement, or the same in a block.
+pub data SameStmt {X : Type 0} (block_in : X → Option (BlockStmt X)) (place : X → Span) (m : X → X → Type 0) (n r : Stmt X) : Type 0 where
+  unblocked : same_stmt m n r → SameStmt block_in place m n r
+  blocked : (inside : Stmt X) → same_stmt m n inside → blocks block_in place inside r → SameStmt block_in place m n r

@@ -1,8 +1,16 @@
 pub mod Depths
 pub mod Enclosed
+pub mod Lent
 pub mod Lists
 pub mod Roots
+pub mod SameClasses
+pub mod SameDecls
 pub mod SameExprs
+pub mod SameJsx
+pub mod SameModules
 pub mod SameObjects
 pub mod SamePats
+pub mod SameStmts
+pub mod SameTsDecls
+pub mod SameTsExprs
 pub mod Whole

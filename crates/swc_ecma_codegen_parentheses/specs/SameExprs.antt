@@ -11,10 +11,12 @@ use Rattle.swc_ecma_codegen_tree.specs.declared.exprs.BlockStmtOrExpr.TheVariant
 use Rattle.swc_ecma_codegen_tree.specs.declared.exprs.CallExpr.{CallExpr}
 use Rattle.swc_ecma_codegen_tree.specs.declared.exprs.Callee.{Callee}
 use Rattle.swc_ecma_codegen_tree.specs.declared.exprs.Callee.TheVariants as callees
+use Rattle.swc_ecma_codegen_tree.specs.declared.exprs.ClassExpr.{ClassExpr}
 use Rattle.swc_ecma_codegen_tree.specs.declared.exprs.CondExpr.{CondExpr}
 use Rattle.swc_ecma_codegen_tree.specs.declared.exprs.Expr.{Expr}
 use Rattle.swc_ecma_codegen_tree.specs.declared.exprs.Expr.TheVariants as exprs
 use Rattle.swc_ecma_codegen_tree.specs.declared.exprs.ExprOrSpread.{ExprOrSpread}
+use Rattle.swc_ecma_codegen_tree.specs.declared.exprs.FnExpr.{FnExpr}
 use Rattle.swc_ecma_codegen_tree.specs.declared.exprs.MemberExpr.{MemberExpr}
 use Rattle.swc_ecma_codegen_tree.specs.declared.exprs.MemberProp.{MemberProp}
 use Rattle.swc_ecma_codegen_tree.specs.declared.exprs.MemberProp.TheVariants as member_props
@@ -34,15 +36,25 @@ use Rattle.swc_ecma_codegen_tree.specs.declared.exprs.UnaryExpr.{UnaryExpr}
 use Rattle.swc_ecma_codegen_tree.specs.declared.exprs.UpdateExpr.{UpdateExpr}
 use Rattle.swc_ecma_codegen_tree.specs.declared.exprs.YieldExpr.{YieldExpr}
 use Rattle.swc_ecma_codegen_tree.specs.declared.exprs.ObjectLit.{ObjectLit}
-use Rattle.swc_ecma_codegen_tree.specs.Links.{TplBox}
+use Rattle.swc_ecma_codegen_tree.specs.Links.{JSXElementBox, JSXFragmentBox, TplBox}
+use Rattle.swc_ecma_codegen_tree.specs.declared.ts_exprs.TsAsExpr.{TsAsExpr}
+use Rattle.swc_ecma_codegen_tree.specs.declared.ts_exprs.TsConstAssertion.{TsConstAssertion}
+use Rattle.swc_ecma_codegen_tree.specs.declared.ts_exprs.TsInstantiation.{TsInstantiation}
+use Rattle.swc_ecma_codegen_tree.specs.declared.ts_exprs.TsNonNullExpr.{TsNonNullExpr}
+use Rattle.swc_ecma_codegen_tree.specs.declared.ts_exprs.TsSatisfiesExpr.{TsSatisfiesExpr}
+use Rattle.swc_ecma_codegen_tree.specs.declared.ts_exprs.TsTypeAssertion.{TsTypeAssertion}
 use Rattle.swc_ecma_codegen_parentheses.specs.Lists.{Pairwise, linked, optionally}
 use Rattle.swc_ecma_codegen_parentheses.specs.SameObjects.{same_computed_prop_name, same_object_lit}
+use Rattle.swc_ecma_codegen_parentheses.specs.SameTsExprs.{same_ts_as_expr, same_ts_const_assertion, same_ts_instantiation, same_ts_non_null_expr, same_ts_satisfies_expr, same_ts_type_assertion}
 
 unfoldable pub same_expr_or_spread : {X : Type 0} → (X → X → Type 0) → ExprOrSpread X → ExprOrSpread X → Type 0
 same_expr_or_spread m n r = (r ≡ record n { expr = r.expr }) × linked m n.expr r.expr
 
 unfoldable pub same_array_lit : {X : Type 0} → (X → X → Type 0) → ArrayLit X → ArrayLit X → Type 0
 same_array_lit m n r = (r ≡ record n { elems = r.elems }) × Pairwise (optionally (same_expr_or_spread m)) n.elems.items r.elems.items
+
+unfoldable pub same_fn_expr : {X : Type 0} → (X → X → Type 0) → FnExpr X → FnExpr X → Type 0
+same_fn_expr m n r = (r ≡ record n { function = r.function }) × linked m n.function r.function
 
 unfoldable pub same_unary_expr : {X : Type 0} → (X → X → Type 0) → UnaryExpr X → UnaryExpr X → Type 0
 same_unary_expr m n r = (r ≡ record n { arg = r.arg }) × linked m n.arg r.arg
@@ -92,12 +104,16 @@ unfoldable pub same_tagged_tpl : {X : Type 0} → (X → X → Type 0) → Tagge
 same_tagged_tpl m n r = (r ≡ record n { tag = r.tag; tpl = r.tpl }) × (linked m n.tag r.tag × linked m n.tpl r.tpl)
 
 unfoldable pub same_block_stmt_or_expr : {X : Type 0} → (X → X → Type 0) → BlockStmtOrExpr X → BlockStmtOrExpr X → Type 0
+same_block_stmt_or_expr m (block_stmt_or_exprs.BlockStmt n) (block_stmt_or_exprs.BlockStmt r) = linked m n r
 same_block_stmt_or_expr m (block_stmt_or_exprs.Expr n) (block_stmt_or_exprs.Expr r) = linked m n r
-same_block_stmt_or_expr m n r = n ≡ r
+same_block_stmt_or_expr m n r = ⊥
 
 unfoldable pub same_arrow_expr : {X : Type 0} → (X → X → Type 0) → ArrowExpr X → ArrowExpr X → Type 0
 same_arrow_expr m n r =
     (r ≡ record n { params = r.params; body = r.body }) × (Pairwise (linked m) n.params.items r.params.items × same_block_stmt_or_expr m n.body r.body)
+
+unfoldable pub same_class_expr : {X : Type 0} → (X → X → Type 0) → ClassExpr X → ClassExpr X → Type 0
+same_class_expr m n r = (r ≡ record n { class = r.class }) × linked m n.class r.class
 
 unfoldable pub same_yield_expr : {X : Type 0} → (X → X → Type 0) → YieldExpr X → YieldExpr X → Type 0
 same_yield_expr m n r = (r ≡ record n { arg = r.arg }) × optionally (linked m) n.arg r.arg
@@ -121,6 +137,7 @@ pub data same_expr {X : Type 0} (m : X → X → Type 0) (n r : Expr X) : Type 0
   unchanged : n ≡ r → same_expr m n r
   array : (a b : ArrayLit X) → n ≡ exprs.Array a → r ≡ exprs.Array b → same_array_lit m a b → same_expr m n r
   object : (a b : ObjectLit X) → n ≡ exprs.Object a → r ≡ exprs.Object b → same_object_lit m a b → same_expr m n r
+  fn : (a b : FnExpr X) → n ≡ exprs.Fn a → r ≡ exprs.Fn b → same_fn_expr m a b → same_expr m n r
   unary : (a b : UnaryExpr X) → n ≡ exprs.Unary a → r ≡ exprs.Unary b → same_unary_expr m a b → same_expr m n r
   update : (a b : UpdateExpr X) → n ≡ exprs.Update a → r ≡ exprs.Update b → same_update_expr m a b → same_expr m n r
   bin : (a b : BinExpr X) → n ≡ exprs.Bin a → r ≡ exprs.Bin b → same_bin_expr m a b → same_expr m n r
@@ -134,10 +151,19 @@ pub data same_expr {X : Type 0} (m : X → X → Type 0) (n r : Expr X) : Type 0
   tpl : (a b : TplBox X) → n ≡ exprs.Tpl a → r ≡ exprs.Tpl b → linked m a b → same_expr m n r
   tagged_tpl : (a b : TaggedTpl X) → n ≡ exprs.TaggedTpl a → r ≡ exprs.TaggedTpl b → same_tagged_tpl m a b → same_expr m n r
   arrow : (a b : Box (ArrowExpr X) Global) → n ≡ exprs.Arrow a → r ≡ exprs.Arrow b → same_arrow_expr m a.value b.value → same_expr m n r
+  class : (a b : ClassExpr X) → n ≡ exprs.Class a → r ≡ exprs.Class b → same_class_expr m a b → same_expr m n r
   yield : (a b : YieldExpr X) → n ≡ exprs.Yield a → r ≡ exprs.Yield b → same_yield_expr m a b → same_expr m n r
   await : (a b : AwaitExpr X) → n ≡ exprs.Await a → r ≡ exprs.Await b → same_await_expr m a b → same_expr m n r
   paren : (a b : ParenExpr X) → n ≡ exprs.Paren a → r ≡ exprs.Paren b → same_paren_expr m a b → same_expr m n r
+  jsx_element : (a b : JSXElementBox X) → n ≡ exprs.JSXElement a → r ≡ exprs.JSXElement b → linked m a b → same_expr m n r
+  jsx_fragment : (a b : JSXFragmentBox X) → n ≡ exprs.JSXFragment a → r ≡ exprs.JSXFragment b → linked m a b → same_expr m n r
   opt_chain : (a b : OptChainExpr X) → n ≡ exprs.OptChain a → r ≡ exprs.OptChain b → same_opt_chain_expr m a b → same_expr m n r
+  ts_type_assertion : (a b : TsTypeAssertion X) → n ≡ exprs.TsTypeAssertion a → r ≡ exprs.TsTypeAssertion b → same_ts_type_assertion m a b → same_expr m n r
+  ts_const_assertion : (a b : TsConstAssertion X) → n ≡ exprs.TsConstAssertion a → r ≡ exprs.TsConstAssertion b → same_ts_const_assertion m a b → same_expr m n r
+  ts_non_null : (a b : TsNonNullExpr X) → n ≡ exprs.TsNonNull a → r ≡ exprs.TsNonNull b → same_ts_non_null_expr m a b → same_expr m n r
+  ts_as : (a b : TsAsExpr X) → n ≡ exprs.TsAs a → r ≡ exprs.TsAs b → same_ts_as_expr m a b → same_expr m n r
+  ts_instantiation : (a b : TsInstantiation X) → n ≡ exprs.TsInstantiation a → r ≡ exprs.TsInstantiation b → same_ts_instantiation m a b → same_expr m n r
+  ts_satisfies : (a b : TsSatisfiesExpr X) → n ≡ exprs.TsSatisfies a → r ≡ exprs.TsSatisfies b → same_ts_satisfies_expr m a b → same_expr m n r
 
 unfoldable pub same_opt_call : {X : Type 0} → (X → X → Type 0) → OptCall X → OptCall X → Type 0
 same_opt_call m n r =

@@ -2,6 +2,7 @@
 use Rattle.std.specs.Prelude.{◌≡◌}
 use Rattle.swc_ecma_codegen_tree.specs.declared.exprs.AssignProp.{AssignProp}
 use Rattle.swc_ecma_codegen_tree.specs.declared.exprs.ComputedPropName.{ComputedPropName}
+use Rattle.swc_ecma_codegen_tree.specs.declared.exprs.GetterProp.{GetterProp}
 use Rattle.swc_ecma_codegen_tree.specs.declared.exprs.KeyValueProp.{KeyValueProp}
 use Rattle.swc_ecma_codegen_tree.specs.declared.exprs.MethodProp.{MethodProp}
 use Rattle.swc_ecma_codegen_tree.specs.declared.exprs.ObjectLit.{ObjectLit}
@@ -31,16 +32,21 @@ same_key_value_prop m n r = same_prop_name m n.key r.key × linked m n.value r.v
 unfoldable pub same_assign_prop : {X : Type 0} → (X → X → Type 0) → AssignProp X → AssignProp X → Type 0
 same_assign_prop m n r = (r ≡ record n { value = r.value }) × linked m n.value r.value
 
+unfoldable pub same_getter_prop : {X : Type 0} → (X → X → Type 0) → GetterProp X → GetterProp X → Type 0
+same_getter_prop m n r = (r ≡ record n { key = r.key; body = r.body }) × (linked m n.key r.key × optionally (linked m) n.body r.body)
+
 unfoldable pub same_setter_prop : {X : Type 0} → (X → X → Type 0) → SetterProp X → SetterProp X → Type 0
 same_setter_prop m n r =
-    (r ≡ record n { this_param = r.this_param; param = r.param }) × (optionally (linked m) n.this_param r.this_param × linked m n.param r.param)
+    (r ≡ record n { key = r.key; this_param = r.this_param; param = r.param; body = r.body }) × (linked m n.key r.key × (
+    optionally (linked m) n.this_param r.this_param × (linked m n.param r.param × optionally (linked m) n.body r.body)))
 
 unfoldable pub same_method_prop : {X : Type 0} → (X → X → Type 0) → MethodProp X → MethodProp X → Type 0
-same_method_prop m n r = (r ≡ record n { key = r.key }) × same_prop_name m n.key r.key
+same_method_prop m n r = same_prop_name m n.key r.key × linked m n.function r.function
 
 unfoldable pub same_prop : {X : Type 0} → (X → X → Type 0) → Prop X → Prop X → Type 0
 same_prop m (props.KeyValue n) (props.KeyValue r) = same_key_value_prop m n r
 same_prop m (props.Assign n) (props.Assign r) = same_assign_prop m n r
+same_prop m (props.Getter n) (props.Getter r) = same_getter_prop m n r
 same_prop m (props.Setter n) (props.Setter r) = same_setter_prop m n r
 same_prop m (props.Method n) (props.Method r) = same_method_prop m n r
 same_prop m n r = n ≡ r

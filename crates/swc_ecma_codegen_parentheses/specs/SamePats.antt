@@ -19,6 +19,7 @@ use Rattle.swc_ecma_codegen_tree.specs.declared.pats.SimpleAssignTarget.TheVaria
 use Rattle.swc_ecma_codegen_parentheses.specs.Lists.{Pairwise, linked, optionally}
 use Rattle.swc_ecma_codegen_parentheses.specs.SameObjects.{same_prop_name}
 use Rattle.swc_ecma_codegen_parentheses.specs.SameExprs.{same_member_expr, same_opt_chain_expr, same_paren_expr, same_super_prop_expr}
+use Rattle.swc_ecma_codegen_parentheses.specs.SameTsExprs.{same_ts_as_expr, same_ts_instantiation, same_ts_non_null_expr, same_ts_satisfies_expr, same_ts_type_assertion}
 
 unfoldable pub same_array_pat : {X : Type 0} → (X → X → Type 0) → ArrayPat X → ArrayPat X → Type 0
 same_array_pat m n r = (r ≡ record n { elems = r.elems }) × Pairwise (optionally (linked m)) n.elems.items r.elems.items
@@ -57,6 +58,11 @@ same_simple_assign_target m (simple_assign_targets.Member n) (simple_assign_targ
 same_simple_assign_target m (simple_assign_targets.SuperProp n) (simple_assign_targets.SuperProp r) = same_super_prop_expr m n r
 same_simple_assign_target m (simple_assign_targets.Paren n) (simple_assign_targets.Paren r) = same_paren_expr m n r
 same_simple_assign_target m (simple_assign_targets.OptChain n) (simple_assign_targets.OptChain r) = same_opt_chain_expr m n r
+same_simple_assign_target m (simple_assign_targets.TsAs n) (simple_assign_targets.TsAs r) = same_ts_as_expr m n r
+same_simple_assign_target m (simple_assign_targets.TsSatisfies n) (simple_assign_targets.TsSatisfies r) = same_ts_satisfies_expr m n r
+same_simple_assign_target m (simple_assign_targets.TsNonNull n) (simple_assign_targets.TsNonNull r) = same_ts_non_null_expr m n r
+same_simple_assign_target m (simple_assign_targets.TsTypeAssertion n) (simple_assign_targets.TsTypeAssertion r) = same_ts_type_assertion m n r
+same_simple_assign_target m (simple_assign_targets.TsInstantiation n) (simple_assign_targets.TsInstantiation r) = same_ts_instantiation m n r
 same_simple_assign_target m n r = n ≡ r
 
 unfoldable pub same_assign_target_pat : {X : Type 0} → (X → X → Type 0) → AssignTargetPat X → AssignTargetPat X → Type 0

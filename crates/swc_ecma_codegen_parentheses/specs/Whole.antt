@@ -1,33 +1,57 @@
--- The whole tree: the same but for parentheses.
+-- The whole tree: the same but for parentheses, and blocks. Where a node is found in what a link holds, the parameters say.
 use Rattle.std.specs.Prelude.{◌≡◌, ℕ, zero, suc, Option, Some}
 use Rattle.std.specs.Option.{option_and_then}
-use Rattle.swc_ecma_codegen_tree.specs.declared.links.AnyNode.{AnyNode}
+use Rattle.swc_ecma_codegen_common.specs.declared.positions.Span.{Span}
 use Rattle.swc_ecma_codegen_tree.specs.declared.exprs.Expr.{Expr}
-use Rattle.swc_ecma_codegen_tree.specs.declared.pats.Pat.{Pat}
-use Rattle.swc_ecma_codegen_tree.specs.declared.exprs.Tpl.{Tpl}
 use Rattle.swc_ecma_codegen_tree.specs.declared.exprs.MemberExpr.{MemberExpr}
-use Rattle.swc_ecma_codegen_tree.specs.declared.exprs.OptCall.{OptCall}
-use Rattle.swc_ecma_codegen_tree.specs.declared.pats.AssignTarget.{AssignTarget}
-use Rattle.swc_ecma_codegen_tree.specs.LinkTargets.{sorted_in, assign_target_in, opt_call_in, pat_in, tpl_in}
-use Rattle.swc_ecma_codegen_tree.specs.SortedNodes.{expr_at, member_expr_at, expr_part_at}
-use Rattle.swc_ecma_codegen_spans.specs.Spans.{any_span}
-use Rattle.swc_ecma_codegen_parentheses.specs.Enclosed.{SameExpr}
+use Rattle.swc_ecma_codegen_tree.specs.declared.stmts.Stmt.{Stmt}
+use Rattle.swc_ecma_codegen_tree.specs.declared.parts.ExprPart.{ExprPart}
+use Rattle.swc_ecma_codegen_tree.specs.declared.parts.JSXPart.{JSXPart}
+use Rattle.swc_ecma_codegen_tree.specs.declared.parts.StmtPart.{StmtPart}
+use Rattle.swc_ecma_codegen_tree.specs.LinkTargets.{assign_target_in, block_stmt_in, class_in, class_member_in, decl_in, function_in, jsx_element_in, jsx_fragment_in, module_decl_in, opt_call_in, pat_in, prop_name_in, tpl_in, var_decl_in}
+use Rattle.swc_ecma_codegen_parentheses.specs.Enclosed.{SameExpr, SameStmt}
+use Rattle.swc_ecma_codegen_parentheses.specs.Lent.{Lent}
 use Rattle.swc_ecma_codegen_parentheses.specs.SamePats.{same_assign_target, same_pat}
 use Rattle.swc_ecma_codegen_parentheses.specs.SameExprs.{same_member_expr, same_opt_call, same_tpl}
+use Rattle.swc_ecma_codegen_parentheses.specs.SameObjects.{same_prop_name}
+use Rattle.swc_ecma_codegen_parentheses.specs.SameDecls.{same_decl, same_function, same_var_decl}
+use Rattle.swc_ecma_codegen_parentheses.specs.SameClasses.{same_class, same_class_member}
+use Rattle.swc_ecma_codegen_parentheses.specs.SameStmts.{same_block_stmt}
+use Rattle.swc_ecma_codegen_parentheses.specs.SameModules.{same_module_decl}
+use Rattle.swc_ecma_codegen_parentheses.specs.SameJsx.{same_jsx_element, same_jsx_fragment}
 
-abbrev pub expr_in : AnyNode → Option (Expr AnyNode)
-expr_in n = expr_at (sorted_in n)
+module _ {X : Type 0} (expr_part_in : X → Option (ExprPart X)) (stmt_part_in : X → Option (StmtPart X)) (member_expr_in : X → Option (MemberExpr X)) (jsx_part_in : X → Option (JSXPart X)) where
+  -- Both are nodes of one sort, the same but for what their links hold.
+  pub data SamePart (m : X → X → Type 0) (n r : X) : Type 0 where
+    tpl : Lent (λ a. option_and_then tpl_in (expr_part_in a)) (same_tpl m) n r → SamePart m n r
+    prop_name : Lent (λ a. option_and_then prop_name_in (expr_part_in a)) (same_prop_name m) n r → SamePart m n r
+    member_expr : Lent member_expr_in (same_member_expr m) n r → SamePart m n r
+    opt_call : Lent (λ a. option_and_then opt_call_in (expr_part_in a)) (same_opt_call m) n r → SamePart m n r
+    function : Lent (λ a. option_and_then function_in (stmt_part_in a)) (same_function m) n r → SamePart m n r
+    class : Lent (λ a. option_and_then class_in (stmt_part_in a)) (same_class m) n r → SamePart m n r
+    block_stmt : Lent (λ a. option_and_then block_stmt_in (stmt_part_in a)) (same_block_stmt m) n r → SamePart m n r
+    decl : Lent (λ a. option_and_then decl_in (stmt_part_in a)) (same_decl m) n r → SamePart m n r
+    module_decl : Lent (λ a. option_and_then module_decl_in (stmt_part_in a)) (same_module_decl m) n r → SamePart m n r
+    var_decl : Lent (λ a. option_and_then var_decl_in (stmt_part_in a)) (same_var_decl m) n r → SamePart m n r
+    class_member : Lent (λ a. option_and_then class_member_in (stmt_part_in a)) (same_class_member m) n r → SamePart m n r
+    jsx_element : Lent (λ a. option_and_then jsx_element_in (jsx_part_in a)) (same_jsx_element m) n r → SamePart m n r
+    jsx_fragment : Lent (λ a. option_and_then jsx_fragment_in (jsx_part_in a)) (same_jsx_fragment m) n r → SamePart m n r
 
--- Both are nodes of one sort, the same but for what their links hold, and for parentheses round an expression.
-pub data SameHeld (m : AnyNode → AnyNode → Type 0) (n r : AnyNode) : Type 0 where
-  expr : {a b : Expr AnyNode} → expr_at (sorted_in n) ≡ Some a → expr_at (sorted_in r) ≡ Some b → SameExpr expr_in any_span m a b → SameHeld m n r
-  pat : {a b : Pat AnyNode} → option_and_then pat_in (expr_part_at (sorted_in n)) ≡ Some a → option_and_then pat_in (expr_part_at (sorted_in r)) ≡ Some b → same_pat m a b → SameHeld m n r
-  tpl : {a b : Tpl AnyNode} → option_and_then tpl_in (expr_part_at (sorted_in n)) ≡ Some a → option_and_then tpl_in (expr_part_at (sorted_in r)) ≡ Some b → same_tpl m a b → SameHeld m n r
-  member_expr : {a b : MemberExpr AnyNode} → member_expr_at (sorted_in n) ≡ Some a → member_expr_at (sorted_in r) ≡ Some b → same_member_expr m a b → SameHeld m n r
-  opt_call : {a b : OptCall AnyNode} → option_and_then opt_call_in (expr_part_at (sorted_in n)) ≡ Some a → option_and_then opt_call_in (expr_part_at (sorted_in r)) ≡ Some b → same_opt_call m a b → SameHeld m n r
-  assign_target : {a b : AssignTarget AnyNode} → option_and_then assign_target_in (expr_part_at (sorted_in n)) ≡ Some a → option_and_then assign_target_in (expr_part_at (sorted_in r)) ≡ Some b → same_assign_target m a b → SameHeld m n r
+module _ {X : Type 0} (expr_in : X → Option (Expr X)) (expr_part_in : X → Option (ExprPart X)) (stmt_part_in : X → Option (StmtPart X)) (stmt_in : X → Option (Stmt X)) (place : X → Span) where
+  -- Both are expressions, or statements, the same but for what their links hold, and for parentheses round an expression and a block round an
+  -- `if`; or patterns or targets, the same but for what their links hold.
+  pub data AddedHeld (m : X → X → Type 0) (n r : X) : Type 0 where
+    expr : Lent expr_in (SameExpr expr_in place m) n r → AddedHeld m n r
+    stmt : Lent stmt_in (SameStmt (λ a. option_and_then block_stmt_in (stmt_part_in a)) place m) n r → AddedHeld m n r
+    pat : Lent (λ a. option_and_then pat_in (expr_part_in a)) (same_pat m) n r → AddedHeld m n r
+    assign_target : Lent (λ a. option_and_then assign_target_in (expr_part_in a)) (same_assign_target m) n r → AddedHeld m n r
+
+-- They are changed in a way of their own, or they are a part that is the same but for what its links hold.
+pub data SameHeld {X : Type 0} (own part : (X → X → Type 0) → X → X → Type 0) (m : X → X → Type 0) (n r : X) : Type 0 where
+  changed : own m n r → SameHeld own part m n r
+  as_part : part m n r → SameHeld own part m n r
 
 -- Down to a depth; below it no link is another one.
-unfoldable pub same_to : ℕ → AnyNode → AnyNode → Type 0
-same_to zero n r = ⊥
-same_to (suc depth) n r = SameHeld (same_to depth) n r
+unfoldable pub same_to : {X : Type 0} → ((X → X → Type 0) → X → X → Type 0) → ℕ → X → X → Type 0
+same_to held zero n r = ⊥
+same_to held (suc depth) n r = held (same_to held depth) n r

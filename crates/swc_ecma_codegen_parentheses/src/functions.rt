@@ -1,13 +1,23 @@
 //! Functions.
 
-ghost use Rattle.swc_ecma_codegen_parentheses.specs.SameExprs.{same_block_stmt_or_expr, same_arrow_expr};
+ghost use Rattle.swc_ecma_codegen_parentheses.specs.SameDecls.{same_fn_decl, same_param, same_function};
+ghost use Rattle.swc_ecma_codegen_parentheses.specs.SameExprs.{same_fn_expr, same_block_stmt_or_expr, same_arrow_expr};
 
 use crate::mends::{Mend, Mends, Stop};
 use crate::places::Place;
 use std::alloc::Global;
 use swc_ecma_codegen_grammar::roles::Role;
 use swc_ecma_codegen_syntax::{Answers, Lookahead, Nonterminal};
-use swc_ecma_codegen_tree::{ArrowExpr, BlockStmtOrExpr};
+use swc_ecma_codegen_tree::{ArrowExpr, BlockStmtOrExpr, FnDecl, FnExpr, Function, Param};
+
+impl<N: Answers, M: Mends<N>> Mend<N, M> for FnExpr<N> {
+    ghost same = { same_fn_expr };
+
+    #[tactic(auto, unfolding(crate::specs::SameExprs::same_fn_expr))]
+    fn mend(&mut self, mender: &M, alloc: Global, place: Place) -> Result<(), Stop> {
+        self.function.mend(mender, alloc, place)
+    }
+}
 
 impl<N: Answers, M: Mends<N>> Mend<N, M> for BlockStmtOrExpr<N> {
     ghost same = { same_block_stmt_or_expr };
@@ -15,7 +25,7 @@ impl<N: Answers, M: Mends<N>> Mend<N, M> for BlockStmtOrExpr<N> {
     #[tactic(auto, unfolding(crate::specs::SameExprs::same_block_stmt_or_expr))]
     fn mend(&mut self, mender: &M, alloc: Global, place: Place) -> Result<(), Stop> {
         match self {
-            BlockStmtOrExpr::BlockStmt(_) => Ok(()),
+            BlockStmtOrExpr::BlockStmt(node) => node.mend(mender, alloc, place),
             BlockStmtOrExpr::Expr(node) => {
                 let begins = node.target().begins(Role::Expression);
                 let body = place.here(Nonterminal::AssignmentExpression);
@@ -30,6 +40,34 @@ impl<N: Answers, M: Mends<N>> Mend<N, M> for ArrowExpr<N> {
     ghost same = { same_arrow_expr };
 
     #[tactic(auto, unfolding(crate::specs::SameExprs::same_arrow_expr))]
+    fn mend(&mut self, mender: &M, alloc: Global, place: Place) -> Result<(), Stop> {
+        self.params.mend(mender, alloc, place)?;
+        self.body.mend(mender, alloc, place)
+    }
+}
+
+impl<N: Answers, M: Mends<N>> Mend<N, M> for FnDecl<N> {
+    ghost same = { same_fn_decl };
+
+    #[tactic(auto, unfolding(crate::specs::SameDecls::same_fn_decl))]
+    fn mend(&mut self, mender: &M, alloc: Global, place: Place) -> Result<(), Stop> {
+        self.function.mend(mender, alloc, place)
+    }
+}
+
+impl<N: Answers, M: Mends<N>> Mend<N, M> for Param<N> {
+    ghost same = { same_param };
+
+    #[tactic(auto, unfolding(crate::specs::SameDecls::same_param))]
+    fn mend(&mut self, mender: &M, alloc: Global, place: Place) -> Result<(), Stop> {
+        self.pat.mend(mender, alloc, place)
+    }
+}
+
+impl<N: Answers, M: Mends<N>> Mend<N, M> for Function<N> {
+    ghost same = { same_function };
+
+    #[tactic(auto, unfolding(crate::specs::SameDecls::same_function))]
     fn mend(&mut self, mender: &M, alloc: Global, place: Place) -> Result<(), Stop> {
         self.params.mend(mender, alloc, place)?;
         self.body.mend(mender, alloc, place)

@@ -1,21 +1,30 @@
 //! Parentheses where the syntactic grammar of ECMA-262 needs them.
-//!
-//! The pass goes through expressions, the patterns, templates and arrow functions in them, and their objects; not yet
-//! into the bodies of functions and classes, nor into JSX.
 #![tactic(auto)]
 
+mod added;
+mod changes;
+mod classes;
 mod enclosed;
 mod exprs;
 mod functions;
+mod jsx;
+mod lends;
 mod levels;
 mod linked;
+mod loops;
 mod members;
 mod mends;
+mod modules;
 mod objects;
 mod operators;
 mod pats;
 mod places;
 mod recursion;
 mod roots;
+mod stmts;
+mod ts_decls;
+mod ts_exprs;
 
-pub use crate::roots::{Unmended, parenthesize_expr};
+pub use crate::roots::{
+    Unmended, parenthesize, parenthesize_expr, parenthesize_item, parenthesize_stmt,
+};

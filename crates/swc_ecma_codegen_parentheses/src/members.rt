@@ -21,10 +21,17 @@ pub(crate) fn has_arguments<N>(args: &Option<Vec<ExprOrSpread<N>>>, drops_none: 
 
 /// Where what `new` calls stands.
 fn called_by_new<N>(args: &Option<Vec<ExprOrSpread<N>>>, place: Place) -> Place {
-    if has_arguments(args, place.minify && !place.is_called) {
-        place.bracketed(Nonterminal::MemberExpression)
+    let is_bare = !has_arguments(args, place.must_minify && !place.is_called);
+    let may_be_bare = !has_arguments(args, place.may_minify && !place.is_called);
+    let nonterminal = if is_bare {
+        Nonterminal::NewExpression
     } else {
-        place.to_end(Nonterminal::NewExpression)
+        Nonterminal::MemberExpression
+    };
+    if may_be_bare {
+        place.to_end(nonterminal)
+    } else {
+        place.bracketed(nonterminal)
     }
 }
 

@@ -6,7 +6,11 @@ ghost use Rattle.swc_ecma_codegen_parentheses.specs.Lists.{Pairwise, linked, opt
 
 use crate::places::Place;
 use std::alloc::{AllocError, Global};
-use swc_ecma_codegen_tree::{AssignTargetBox, ExprBox, MemberExprBox, OptCallBox, PatBox, TplBox};
+use swc_ecma_codegen_tree::{
+    AssignTargetBox, BlockStmtBox, ClassBox, ClassMemberBox, DeclBox, ExprBox, FunctionBox,
+    JSXElementBox, JSXFragmentBox, MemberExprBox, ModuleDeclBox, OptCallBox, PatBox, PropNameBox,
+    StmtBox, TplBox, TsNamespaceBodyBox, VarDeclBox,
+};
 
 /// Why no more parentheses were put in.
 pub(crate) enum Stop {
@@ -36,6 +40,9 @@ pub(crate) trait Mends<N>: Sized {
     fn tpl(&self, alloc: Global, link: &mut TplBox<N>, place: Place) -> Result<(), Stop>
         ensures { OnOk result (linked (mended self.now) link.old link.new) };
 
+    fn prop_name(&self, alloc: Global, link: &mut PropNameBox<N>, place: Place) -> Result<(), Stop>
+        ensures { OnOk result (linked (mended self.now) link.old link.new) };
+
     fn member_expr(
         &self,
         alloc: Global,
@@ -51,6 +58,69 @@ pub(crate) trait Mends<N>: Sized {
         &self,
         alloc: Global,
         link: &mut AssignTargetBox<N>,
+        place: Place,
+    ) -> Result<(), Stop>
+        ensures { OnOk result (linked (mended self.now) link.old link.new) };
+
+    fn stmt(&self, alloc: Global, link: &mut StmtBox<N>, place: Place) -> Result<(), Stop>
+        ensures { OnOk result (linked (mended self.now) link.old link.new) };
+
+    fn function(&self, alloc: Global, link: &mut FunctionBox<N>, place: Place) -> Result<(), Stop>
+        ensures { OnOk result (linked (mended self.now) link.old link.new) };
+
+    fn class(&self, alloc: Global, link: &mut ClassBox<N>, place: Place) -> Result<(), Stop>
+        ensures { OnOk result (linked (mended self.now) link.old link.new) };
+
+    fn block_stmt(
+        &self,
+        alloc: Global,
+        link: &mut BlockStmtBox<N>,
+        place: Place,
+    ) -> Result<(), Stop>
+        ensures { OnOk result (linked (mended self.now) link.old link.new) };
+
+    fn decl(&self, alloc: Global, link: &mut DeclBox<N>, place: Place) -> Result<(), Stop>
+        ensures { OnOk result (linked (mended self.now) link.old link.new) };
+
+    fn module_decl(
+        &self,
+        alloc: Global,
+        link: &mut ModuleDeclBox<N>,
+        place: Place,
+    ) -> Result<(), Stop>
+        ensures { OnOk result (linked (mended self.now) link.old link.new) };
+
+    fn var_decl(&self, alloc: Global, link: &mut VarDeclBox<N>, place: Place) -> Result<(), Stop>
+        ensures { OnOk result (linked (mended self.now) link.old link.new) };
+
+    fn class_member(
+        &self,
+        alloc: Global,
+        link: &mut ClassMemberBox<N>,
+        place: Place,
+    ) -> Result<(), Stop>
+        ensures { OnOk result (linked (mended self.now) link.old link.new) };
+
+    fn jsx_element(
+        &self,
+        alloc: Global,
+        link: &mut JSXElementBox<N>,
+        place: Place,
+    ) -> Result<(), Stop>
+        ensures { OnOk result (linked (mended self.now) link.old link.new) };
+
+    fn jsx_fragment(
+        &self,
+        alloc: Global,
+        link: &mut JSXFragmentBox<N>,
+        place: Place,
+    ) -> Result<(), Stop>
+        ensures { OnOk result (linked (mended self.now) link.old link.new) };
+
+    fn ts_namespace_body(
+        &self,
+        alloc: Global,
+        link: &mut TsNamespaceBodyBox<N>,
         place: Place,
     ) -> Result<(), Stop>
         ensures { OnOk result (linked (mended self.now) link.old link.new) };
@@ -123,6 +193,14 @@ impl<N, M: Mends<N>> Mend<N, M> for TplBox<N> {
     }
 }
 
+impl<N, M: Mends<N>> Mend<N, M> for PropNameBox<N> {
+    ghost same = { linked };
+
+    fn mend(&mut self, mender: &M, alloc: Global, place: Place) -> Result<(), Stop> {
+        mender.prop_name(alloc, self, place)
+    }
+}
+
 impl<N, M: Mends<N>> Mend<N, M> for MemberExprBox<N> {
     ghost same = { linked };
 
@@ -144,5 +222,93 @@ impl<N, M: Mends<N>> Mend<N, M> for AssignTargetBox<N> {
 
     fn mend(&mut self, mender: &M, alloc: Global, place: Place) -> Result<(), Stop> {
         mender.assign_target(alloc, self, place)
+    }
+}
+
+impl<N, M: Mends<N>> Mend<N, M> for StmtBox<N> {
+    ghost same = { linked };
+
+    fn mend(&mut self, mender: &M, alloc: Global, place: Place) -> Result<(), Stop> {
+        mender.stmt(alloc, self, place)
+    }
+}
+
+impl<N, M: Mends<N>> Mend<N, M> for FunctionBox<N> {
+    ghost same = { linked };
+
+    fn mend(&mut self, mender: &M, alloc: Global, place: Place) -> Result<(), Stop> {
+        mender.function(alloc, self, place)
+    }
+}
+
+impl<N, M: Mends<N>> Mend<N, M> for ClassBox<N> {
+    ghost same = { linked };
+
+    fn mend(&mut self, mender: &M, alloc: Global, place: Place) -> Result<(), Stop> {
+        mender.class(alloc, self, place)
+    }
+}
+
+impl<N, M: Mends<N>> Mend<N, M> for BlockStmtBox<N> {
+    ghost same = { linked };
+
+    fn mend(&mut self, mender: &M, alloc: Global, place: Place) -> Result<(), Stop> {
+        mender.block_stmt(alloc, self, place)
+    }
+}
+
+impl<N, M: Mends<N>> Mend<N, M> for DeclBox<N> {
+    ghost same = { linked };
+
+    fn mend(&mut self, mender: &M, alloc: Global, place: Place) -> Result<(), Stop> {
+        mender.decl(alloc, self, place)
+    }
+}
+
+impl<N, M: Mends<N>> Mend<N, M> for ModuleDeclBox<N> {
+    ghost same = { linked };
+
+    fn mend(&mut self, mender: &M, alloc: Global, place: Place) -> Result<(), Stop> {
+        mender.module_decl(alloc, self, place)
+    }
+}
+
+impl<N, M: Mends<N>> Mend<N, M> for VarDeclBox<N> {
+    ghost same = { linked };
+
+    fn mend(&mut self, mender: &M, alloc: Global, place: Place) -> Result<(), Stop> {
+        mender.var_decl(alloc, self, place)
+    }
+}
+
+impl<N, M: Mends<N>> Mend<N, M> for ClassMemberBox<N> {
+    ghost same = { linked };
+
+    fn mend(&mut self, mender: &M, alloc: Global, place: Place) -> Result<(), Stop> {
+        mender.class_member(alloc, self, place)
+    }
+}
+
+impl<N, M: Mends<N>> Mend<N, M> for JSXElementBox<N> {
+    ghost same = { linked };
+
+    fn mend(&mut self, mender: &M, alloc: Global, place: Place) -> Result<(), Stop> {
+        mender.jsx_element(alloc, self, place)
+    }
+}
+
+impl<N, M: Mends<N>> Mend<N, M> for JSXFragmentBox<N> {
+    ghost same = { linked };
+
+    fn mend(&mut self, mender: &M, alloc: Global, place: Place) -> Result<(), Stop> {
+        mender.jsx_fragment(alloc, self, place)
+    }
+}
+
+impl<N, M: Mends<N>> Mend<N, M> for TsNamespaceBodyBox<N> {
+    ghost same = { linked };
+
+    fn mend(&mut self, mender: &M, alloc: Global, place: Place) -> Result<(), Stop> {
+        mender.ts_namespace_body(alloc, self, place)
     }
 }

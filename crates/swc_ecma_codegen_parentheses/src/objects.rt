@@ -1,13 +1,13 @@
 //! Objects and the names of properties.
 
-ghost use Rattle.swc_ecma_codegen_parentheses.specs.SameObjects.{same_spread_element, same_computed_prop_name, same_prop_name, same_key_value_prop, same_assign_prop, same_setter_prop, same_method_prop, same_prop, same_prop_or_spread, same_object_lit};
+ghost use Rattle.swc_ecma_codegen_parentheses.specs.SameObjects.{same_spread_element, same_computed_prop_name, same_prop_name, same_key_value_prop, same_assign_prop, same_getter_prop, same_setter_prop, same_method_prop, same_prop, same_prop_or_spread, same_object_lit};
 
 use crate::mends::{Mend, Mends, Stop};
 use crate::places::Place;
 use std::alloc::Global;
 use swc_ecma_codegen_syntax::{Answers, Nonterminal};
 use swc_ecma_codegen_tree::{
-    AssignProp, ComputedPropName, KeyValueProp, MethodProp, ObjectLit, Prop, PropName,
+    AssignProp, ComputedPropName, GetterProp, KeyValueProp, MethodProp, ObjectLit, Prop, PropName,
     PropOrSpread, SetterProp, SpreadElement,
 };
 
@@ -76,13 +76,25 @@ impl<N: Answers, M: Mends<N>> Mend<N, M> for AssignProp<N> {
     }
 }
 
+impl<N: Answers, M: Mends<N>> Mend<N, M> for GetterProp<N> {
+    ghost same = { same_getter_prop };
+
+    #[tactic(auto, unfolding(crate::specs::SameObjects::same_getter_prop))]
+    fn mend(&mut self, mender: &M, alloc: Global, place: Place) -> Result<(), Stop> {
+        self.key.mend(mender, alloc, place)?;
+        self.body.mend(mender, alloc, place)
+    }
+}
+
 impl<N: Answers, M: Mends<N>> Mend<N, M> for SetterProp<N> {
     ghost same = { same_setter_prop };
 
     #[tactic(auto, unfolding(crate::specs::SameObjects::same_setter_prop))]
     fn mend(&mut self, mender: &M, alloc: Global, place: Place) -> Result<(), Stop> {
+        self.key.mend(mender, alloc, place)?;
         self.this_param.mend(mender, alloc, place)?;
-        self.param.mend(mender, alloc, place)
+        self.param.mend(mender, alloc, place)?;
+        self.body.mend(mender, alloc, place)
     }
 }
 
@@ -91,7 +103,8 @@ impl<N: Answers, M: Mends<N>> Mend<N, M> for MethodProp<N> {
 
     #[tactic(auto, unfolding(crate::specs::SameObjects::same_method_prop))]
     fn mend(&mut self, mender: &M, alloc: Global, place: Place) -> Result<(), Stop> {
-        self.key.mend(mender, alloc, place)
+        self.key.mend(mender, alloc, place)?;
+        self.function.mend(mender, alloc, place)
     }
 }
 
@@ -103,6 +116,7 @@ impl<N: Answers, M: Mends<N>> Mend<N, M> for Prop<N> {
         match self {
             Prop::KeyValue(node) => node.mend(mender, alloc, place),
             Prop::Assign(node) => node.mend(mender, alloc, place),
+            Prop::Getter(node) => node.mend(mender, alloc, place),
             Prop::Setter(node) => node.mend(mender, alloc, place),
             Prop::Method(node) => node.mend(mender, alloc, place),
             _ => Ok(()),

@@ -6,7 +6,6 @@ use crate::levels::{left_of, right_of};
 use crate::mends::{Mend, Mends, Stop};
 use crate::places::Place;
 use std::alloc::Global;
-use swc_ecma_codegen_common::BinaryOp;
 use swc_ecma_codegen_syntax::{Answers, Nonterminal};
 use swc_ecma_codegen_tree::{
     AssignExpr, AwaitExpr, BinExpr, CondExpr, ParenExpr, SeqExpr, UnaryExpr, UpdateExpr, YieldExpr,
@@ -44,7 +43,7 @@ impl<N: Answers, M: Mends<N>> Mend<N, M> for BinExpr<N> {
     fn mend(&mut self, mender: &M, alloc: Global, place: Place) -> Result<(), Stop> {
         let left = place
             .here(left_of(self.op))
-            .before_less(matches!(self.op, BinaryOp::Lt))
+            .before_operator(self.op)
             .beginning(place);
         self.left.mend(mender, alloc, left)?;
         let right = place.here(right_of(self.op));

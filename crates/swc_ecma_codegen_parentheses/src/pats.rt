@@ -122,6 +122,11 @@ impl<N: Answers, M: Mends<N>> Mend<N, M> for SimpleAssignTarget<N> {
             SimpleAssignTarget::SuperProp(node) => node.mend(mender, alloc, place),
             SimpleAssignTarget::Paren(node) => node.mend(mender, alloc, place),
             SimpleAssignTarget::OptChain(node) => node.mend(mender, alloc, place),
+            SimpleAssignTarget::TsAs(node) => node.mend(mender, alloc, place),
+            SimpleAssignTarget::TsSatisfies(node) => node.mend(mender, alloc, place),
+            SimpleAssignTarget::TsNonNull(node) => node.mend(mender, alloc, place),
+            SimpleAssignTarget::TsTypeAssertion(node) => node.mend(mender, alloc, place),
+            SimpleAssignTarget::TsInstantiation(node) => node.mend(mender, alloc, place),
             _ => Ok(()),
         }
     }

@@ -1,5 +1,6 @@
 //! Where a node stands, as far as its parentheses depend on it.
 
+use swc_ecma_codegen_common::BinaryOp;
 use swc_ecma_codegen_syntax::{Beginning, Lookahead, Nonterminal, Parameters};
 
 /// Where a node stands.
@@ -11,24 +12,52 @@ pub(crate) struct Place {
     pub(crate) has_in: bool,
     /// The operator `<` stands right behind.
     pub(crate) before_less: bool,
-    /// The node begins a text that may not begin as it does.
+    /// The operator `&` or `|` stands right behind, which goes on with a type: `a as T | b`.
+    pub(crate) before_type_operator: bool,
+    /// `else` stands right behind.
+    pub(crate) before_else: bool,
+    /// What the text that the node begins may not begin with.
+    pub(crate) lookahead: Option<Lookahead>,
+    /// It begins so.
     pub(crate) is_restricted: bool,
     /// The node is called, or has a property, so that `new A()` keeps its `()`.
     pub(crate) is_called: bool,
-    /// The emission is to minify.
-    pub(crate) minify: bool,
+    /// The emission may be one that minifies.
+    pub(crate) may_minify: bool,
+    /// It is one for sure.
+    pub(crate) must_minify: bool,
 }
 
 impl Place {
+    /// That of a program, whatever the settings are.
+    pub(crate) fn of_program() -> Place {
+        Place {
+            nonterminal: Nonterminal::Expression,
+            has_in: true,
+            before_less: false,
+            before_type_operator: false,
+            before_else: false,
+            lookahead: None,
+            is_restricted: false,
+            is_called: false,
+            may_minify: true,
+            must_minify: false,
+        }
+    }
+
     /// That of a nonterminal with its parameters.
     pub(crate) fn of(nonterminal: Nonterminal, parameters: Parameters) -> Place {
         Place {
             nonterminal,
             has_in: parameters.has_in,
             before_less: parameters.before_less,
+            before_type_operator: false,
+            before_else: parameters.before_else,
+            lookahead: None,
             is_restricted: false,
             is_called: false,
-            minify: parameters.minify,
+            may_minify: parameters.minify,
+            must_minify: parameters.minify,
         }
     }
 
@@ -36,6 +65,7 @@ impl Place {
     pub(crate) fn here(self, nonterminal: Nonterminal) -> Place {
         Place {
             nonterminal,
+            lookahead: None,
             is_restricted: false,
             is_called: false,
             ..self
@@ -54,14 +84,24 @@ impl Place {
     pub(crate) fn bracketed(self, nonterminal: Nonterminal) -> Place {
         Place {
             before_less: false,
+            before_type_operator: false,
             ..self.to_end(nonterminal)
         }
     }
 
     /// That of a part before an operator.
-    pub(crate) fn before_less(self, before_less: bool) -> Place {
+    pub(crate) fn before_operator(self, op: BinaryOp) -> Place {
         Place {
-            before_less,
+            before_less: matches!(op, BinaryOp::Lt),
+            before_type_operator: matches!(op, BinaryOp::BitAnd | BinaryOp::BitOr),
+            ..self
+        }
+    }
+
+    /// That of a statement, by whether `else` stands behind, or behind the whole.
+    pub(crate) fn before_else(self, before_else: bool) -> Place {
+        Place {
+            before_else: before_else || self.before_else,
             ..self
         }
     }
@@ -77,6 +117,7 @@ impl Place {
     /// The same of a part that begins what stands in `whole`.
     pub(crate) fn beginning(self, whole: Place) -> Place {
         Place {
+            lookahead: whole.lookahead,
             is_restricted: whole.is_restricted,
             ..self
         }
@@ -85,16 +126,42 @@ impl Place {
     /// The same of what a lookahead restriction is put on, by what it begins with.
     pub(crate) fn restricted(self, lookahead: Lookahead, begins: Beginning) -> Place {
         Place {
+            lookahead: Some(lookahead),
             is_restricted: lookahead.excludes(begins),
             ..self
+        }
+    }
+
+    /// The same of a part that begins what stands there, where only this part tells what that begins with.
+    pub(crate) fn told(self, begins: Beginning) -> Place {
+        match self.lookahead {
+            Some(lookahead) => self.restricted(lookahead, begins),
+            None => self,
         }
     }
 
     /// That of what stands behind it in a list.
     pub(crate) fn behind_first(self) -> Place {
         Place {
+            lookahead: None,
             is_restricted: false,
             ..self
+        }
+    }
+
+    /// That of a statement of a list.
+    pub(crate) fn listed(self) -> Place {
+        Place {
+            before_else: false,
+            ..self.bracketed(Nonterminal::Expression)
+        }
+    }
+
+    /// That of what stands first in the head of a loop, with `[~In]`.
+    pub(crate) fn without_in(self) -> Place {
+        Place {
+            has_in: false,
+            ..self.bracketed(Nonterminal::Expression)
         }
     }
 

@@ -1,62 +1,81 @@
 //! The whole tree.
 
-ghost use Rattle.std.specs.Result.{OnOk};
 ghost use Rattle.swc_ecma_codegen_parentheses.specs.Depths.{same_levels};
 
-use crate::linked::{
-    mend_linked_assign_target, mend_linked_expr, mend_linked_member_expr, mend_linked_opt_call,
-    mend_linked_pat, mend_linked_tpl,
+use crate::changes::{
+    Change, change_assign_target, change_block_stmt, change_class, change_class_member,
+    change_decl, change_expr, change_function, change_jsx_element, change_jsx_fragment,
+    change_member_expr, change_module_decl, change_opt_call, change_pat, change_prop_name,
+    change_stmt, change_tpl, change_var_decl,
 };
 use crate::mends::{Mends, Stop};
 use crate::places::Place;
 use std::alloc::{AllocError, Global};
+use std::marker::PhantomData;
 use swc_ecma_codegen_tree::{
-    AnyNode, AssignTargetBox, ExprBox, MemberExprBox, OptCallBox, PatBox, TplBox,
+    AssignTargetBox, BlockStmtBox, ClassBox, ClassMemberBox, DeclBox, ExprBox, FunctionBox,
+    JSXElementBox, JSXFragmentBox, MemberExprBox, ModuleDeclBox, OptCallBox, PatBox, PropNameBox,
+    StmtBox, TplBox, TsNamespaceBodyBox, VarDeclBox,
 };
 
-/// How many links may still lie below one another. It gets shorter at each link, so that the pass ends.
+/// How many links may still lie below one another, for one change. It gets shorter at each link, so that the pass ends.
 #[derive(Drop)]
-pub(crate) enum Levels {
-    Out,
-    More(Box<Levels>),
+pub(crate) enum Levels<N, C> {
+    Out(PhantomData<(N, C)>),
+    More(Box<Levels<N, C>>),
 }
 
 /// How many links are gone down at most, one below another.
 const DEPTH: usize = 10_000;
 
 /// As many levels as are gone down at most.
-pub(crate) fn all_levels(alloc: Global) -> Result<Levels, AllocError> {
-    let mut levels = Levels::Out;
+pub(crate) fn all_levels<N, C>(alloc: Global) -> Result<Levels<N, C>, AllocError> {
+    let mut levels = Levels::Out(PhantomData);
     for _ in 0..DEPTH {
         levels = Levels::More(Box::new(alloc, levels)?);
     }
     Ok(levels)
 }
 
-impl Mends<AnyNode> for Levels {
-    ghost mended = { same_levels };
+impl<N, C: Change<N>> Mends<N> for Levels<N, C> {
+    ghost mended = { same_levels C.changed };
 
     #[cycle(mend)]
-    fn expr(&self, alloc: Global, link: &mut ExprBox, place: Place) -> Result<(), Stop> {
+    fn expr(&self, alloc: Global, link: &mut ExprBox<N>, place: Place) -> Result<(), Stop> {
         match self {
-            Levels::More(fewer) => mend_linked_expr::<Levels>(fewer, alloc, link, place),
-            Levels::Out => Err(Stop::TooDeep),
+            Levels::More(fewer) => change_expr::<N, C, Levels<N, C>>(fewer, alloc, link, place),
+            Levels::Out(_) => Err(Stop::TooDeep),
         }
     }
 
     #[cycle(mend)]
-    fn pat(&self, alloc: Global, link: &mut PatBox, place: Place) -> Result<(), Stop> {
+    fn pat(&self, alloc: Global, link: &mut PatBox<N>, place: Place) -> Result<(), Stop> {
         match self {
-            Levels::More(fewer) => mend_linked_pat::<Levels>(fewer, alloc, link, place),
-            Levels::Out => Err(Stop::TooDeep),
+            Levels::More(fewer) => change_pat::<N, C, Levels<N, C>>(fewer, alloc, link, place),
+            Levels::Out(_) => Err(Stop::TooDeep),
         }
     }
 
     #[cycle(mend)]
-    fn tpl(&self, alloc: Global, link: &mut TplBox, place: Place) -> Result<(), Stop> {
+    fn tpl(&self, alloc: Global, link: &mut TplBox<N>, place: Place) -> Result<(), Stop> {
         match self {
-            Levels::More(fewer) => mend_linked_tpl::<Levels>(fewer, alloc, link, place),
-            Levels::Out => Err(Stop::TooDeep),
+            Levels::More(fewer) => change_tpl::<N, C, Levels<N, C>>(fewer, alloc, link, place),
+            Levels::Out(_) => Err(Stop::TooDeep),
+        }
+    }
+
+    #[cycle(mend)]
+    fn prop_name(
+        &self,
+        alloc: Global,
+        link: &mut PropNameBox<N>,
+        place: Place,
+    ) -> Result<(), Stop> {
+        match self {
+            Levels::More(fewer) => change_prop_name::<N, C, Levels<N, C>>(
+                fewer, alloc, link, place,
+            ),
+            Levels::Out(_) => Err(Stop::TooDeep),
         }
     }
 
@@ -64,20 +83,22 @@ impl Mends<AnyNode> for Levels {
     fn member_expr(
         &self,
         alloc: Global,
-        link: &mut MemberExprBox,
+        link: &mut MemberExprBox<N>,
         place: Place,
     ) -> Result<(), Stop> {
         match self {
-            Levels::More(fewer) => mend_linked_member_expr::<Levels>(fewer, alloc, link, place),
-            Levels::Out => Err(Stop::TooDeep),
+            Levels::More(fewer) => change_member_expr::<N, C, Levels<N, C>>(
+                fewer, alloc, link, place,
+            ),
+            Levels::Out(_) => Err(Stop::TooDeep),
         }
     }
 
     #[cycle(mend)]
-    fn opt_call(&self, alloc: Global, link: &mut OptCallBox, place: Place) -> Result<(), Stop> {
+    fn opt_call(&self, alloc: Global, link: &mut OptCallBox<N>, place: Place) -> Result<(), Stop> {
         match self {
-            Levels::More(fewer) => mend_linked_opt_call::<Levels>(fewer, alloc, link, place),
-            Levels::Out => Err(Stop::TooDeep),
+            Levels::More(fewer) => change_opt_call::<N, C, Levels<N, C>>(fewer, alloc, link, place),
+            Levels::Out(_) => Err(Stop::TooDeep),
         }
     }
 
@@ -85,12 +106,139 @@ impl Mends<AnyNode> for Levels {
     fn assign_target(
         &self,
         alloc: Global,
-        link: &mut AssignTargetBox,
+        link: &mut AssignTargetBox<N>,
         place: Place,
     ) -> Result<(), Stop> {
         match self {
-            Levels::More(fewer) => mend_linked_assign_target::<Levels>(fewer, alloc, link, place),
-            Levels::Out => Err(Stop::TooDeep),
+            Levels::More(fewer) => change_assign_target::<N, C, Levels<N, C>>(
+                fewer, alloc, link, place,
+            ),
+            Levels::Out(_) => Err(Stop::TooDeep),
         }
+    }
+
+    #[cycle(mend)]
+    fn stmt(&self, alloc: Global, link: &mut StmtBox<N>, place: Place) -> Result<(), Stop> {
+        match self {
+            Levels::More(fewer) => change_stmt::<N, C, Levels<N, C>>(fewer, alloc, link, place),
+            Levels::Out(_) => Err(Stop::TooDeep),
+        }
+    }
+
+    #[cycle(mend)]
+    fn function(&self, alloc: Global, link: &mut FunctionBox<N>, place: Place) -> Result<(), Stop> {
+        match self {
+            Levels::More(fewer) => change_function::<N, C, Levels<N, C>>(fewer, alloc, link, place),
+            Levels::Out(_) => Err(Stop::TooDeep),
+        }
+    }
+
+    #[cycle(mend)]
+    fn class(&self, alloc: Global, link: &mut ClassBox<N>, place: Place) -> Result<(), Stop> {
+        match self {
+            Levels::More(fewer) => change_class::<N, C, Levels<N, C>>(fewer, alloc, link, place),
+            Levels::Out(_) => Err(Stop::TooDeep),
+        }
+    }
+
+    #[cycle(mend)]
+    fn block_stmt(
+        &self,
+        alloc: Global,
+        link: &mut BlockStmtBox<N>,
+        place: Place,
+    ) -> Result<(), Stop> {
+        match self {
+            Levels::More(fewer) => change_block_stmt::<N, C, Levels<N, C>>(
+                fewer, alloc, link, place,
+            ),
+            Levels::Out(_) => Err(Stop::TooDeep),
+        }
+    }
+
+    #[cycle(mend)]
+    fn decl(&self, alloc: Global, link: &mut DeclBox<N>, place: Place) -> Result<(), Stop> {
+        match self {
+            Levels::More(fewer) => change_decl::<N, C, Levels<N, C>>(fewer, alloc, link, place),
+            Levels::Out(_) => Err(Stop::TooDeep),
+        }
+    }
+
+    #[cycle(mend)]
+    fn module_decl(
+        &self,
+        alloc: Global,
+        link: &mut ModuleDeclBox<N>,
+        place: Place,
+    ) -> Result<(), Stop> {
+        match self {
+            Levels::More(fewer) => change_module_decl::<N, C, Levels<N, C>>(
+                fewer, alloc, link, place,
+            ),
+            Levels::Out(_) => Err(Stop::TooDeep),
+        }
+    }
+
+    #[cycle(mend)]
+    fn var_decl(&self, alloc: Global, link: &mut VarDeclBox<N>, place: Place) -> Result<(), Stop> {
+        match self {
+            Levels::More(fewer) => change_var_decl::<N, C, Levels<N, C>>(fewer, alloc, link, place),
+            Levels::Out(_) => Err(Stop::TooDeep),
+        }
+    }
+
+    #[cycle(mend)]
+    fn class_member(
+        &self,
+        alloc: Global,
+        link: &mut ClassMemberBox<N>,
+        place: Place,
+    ) -> Result<(), Stop> {
+        match self {
+            Levels::More(fewer) => change_class_member::<N, C, Levels<N, C>>(
+                fewer, alloc, link, place,
+            ),
+            Levels::Out(_) => Err(Stop::TooDeep),
+        }
+    }
+
+    #[cycle(mend)]
+    fn jsx_element(
+        &self,
+        alloc: Global,
+        link: &mut JSXElementBox<N>,
+        place: Place,
+    ) -> Result<(), Stop> {
+        match self {
+            Levels::More(fewer) => change_jsx_element::<N, C, Levels<N, C>>(
+                fewer, alloc, link, place,
+            ),
+            Levels::Out(_) => Err(Stop::TooDeep),
+        }
+    }
+
+    #[cycle(mend)]
+    fn jsx_fragment(
+        &self,
+        alloc: Global,
+        link: &mut JSXFragmentBox<N>,
+        place: Place,
+    ) -> Result<(), Stop> {
+        match self {
+            Levels::More(fewer) => change_jsx_fragment::<N, C, Levels<N, C>>(
+                fewer, alloc, link, place,
+            ),
+            Levels::Out(_) => Err(Stop::TooDeep),
+        }
+    }
+
+    /// Leaves it as it is: a proof that it is lent compares all types of TypeScript, and that is past the prover's limit.
+    fn ts_namespace_body(
+        &self,
+        _: Global,
+        _: &mut TsNamespaceBodyBox<N>,
+        _: Place,
+    ) -> Result<(), Stop> {
+        Ok(())
     }
 }

@@ -1,18 +1,21 @@
-//! Expressions with their parentheses.
+//! Programs, items, statements and expressions with their parentheses.
 
 ghost use Rattle.std.specs.Prelude.{◌≡◌, ◌⊎◌, IfErr, IfOk, Ok, true, false};
 ghost use Rattle.std.specs.Result.{OnOk};
-ghost use Rattle.swc_ecma_codegen_parentheses.specs.Roots.{IfLeft, SameExprTree};
-ghost use Rattle.swc_ecma_codegen_syntax.specs.Derives.{expr_verdict};
+ghost use Rattle.swc_ecma_codegen_parentheses.specs.Roots.{IfLeft, SameExprTree, SameItemTree, SameProgramTree, SameStmtTree};
+ghost use Rattle.swc_ecma_codegen_syntax.specs.Derives.{expr_verdict, item_verdict, program_verdict, stmt_verdict};
 ghost use Rattle.swc_ecma_codegen_syntax.specs.Verdicts.{holds};
 
-use crate::enclosed::mend_expr;
-use crate::mends::Stop;
+use crate::added::Added;
+use crate::enclosed::{mend_expr, mend_stmt};
+use crate::mends::{Mend, Stop};
 use crate::places::Place;
 use crate::recursion::{Levels, all_levels};
 use std::alloc::{AllocError, Global};
-use swc_ecma_codegen_syntax::{Nonterminal, Parameters, Verdict, verdict_expr};
-use swc_ecma_codegen_tree::{AnyNode, Expr};
+use swc_ecma_codegen_syntax::{
+    Nonterminal, Parameters, Verdict, verdict, verdict_expr, verdict_item, verdict_stmt,
+};
+use swc_ecma_codegen_tree::{AnyNode, Expr, ModuleItem, Program, Stmt};
 
 /// Why there is no tree with all its parentheses.
 #[derive(Drop)]
@@ -40,23 +43,139 @@ fn is_mended(before: Verdict, after: Verdict) -> bool
     after.parenthesized && (after.is_derivation() || !before.is_curable())
 }
 
+/// Puts parentheses into a program.
+fn mend_program(alloc: Global, program: &mut Program) -> Result<(), Stop>
+    ensures { OnOk result (SameProgramTree program.old program.new) }
+{
+    let levels: Levels<AnyNode, Added> = all_levels(alloc)?;
+    <Program as Mend<AnyNode, Levels<AnyNode, Added>>>::mend(
+        program,
+        &levels,
+        alloc,
+        Place::of_program(),
+    )
+}
+
+/// Puts parentheses into an item.
+fn mend_item(alloc: Global, item: &mut ModuleItem, place: Place) -> Result<(), Stop>
+    ensures { OnOk result (SameItemTree item.old item.new) }
+{
+    let levels: Levels<AnyNode, Added> = all_levels(alloc)?;
+    <ModuleItem as Mend<AnyNode, Levels<AnyNode, Added>>>::mend(item, &levels, alloc, place)
+}
+
+/// Puts parentheses into a statement, and a block round it.
+fn mend_whole_stmt(alloc: Global, stmt: &mut Stmt, place: Place) -> Result<(), Stop>
+    ensures { OnOk result (SameStmtTree stmt.old stmt.new) }
+{
+    let levels: Levels<AnyNode, Added> = all_levels(alloc)?;
+    mend_stmt::<AnyNode, Levels<AnyNode, Added>>(&levels, alloc, stmt, place)
+}
+
 /// Puts parentheses into an expression, and round it.
 fn mend_whole_expr(alloc: Global, expr: &mut Expr, place: Place) -> Result<(), Stop>
     ensures { OnOk result (SameExprTree expr.old expr.new) }
 {
-    let levels = all_levels(alloc)?;
-    mend_expr::<AnyNode, Levels>(&levels, alloc, expr, place)
+    let levels: Levels<AnyNode, Added> = all_levels(alloc)?;
+    mend_expr::<AnyNode, Levels<AnyNode, Added>>(&levels, alloc, expr, place)
 }
 
-/// An expression with parentheses where the syntactic grammar of ECMA-262 needs them, round it too, where this
-/// nonterminal with these parameters stands. An expression that lacks none is given back as it is.
+/// A program with parentheses where the syntactic grammar of ECMA-262 needs them, whatever the settings of the emission are, and with
+/// braces round an `if` that would take the `else` of another. A program that lacks none is given back as it is.
 ///
-/// `(a + b) * c` without its parentheses gets them, and so does `a in b` in the head of a `for`. A pair has the span
-/// of what it encloses. All else of the tree stays: spans, spellings, and parentheses that were there. What
-/// parentheses don't mend, as `a() = b`, stays as wrong as it was; `keeps_structure_expr` of the result tells. The
-/// bodies of functions and classes and what stands in elements of JSX aren't gone into: an expression that lacks
-/// parentheses there is given back as `Left`. `parameters.minify` has to be that of the settings. Takes memory for
-/// new nodes.
+/// `(a + b) * c` without its parentheses gets them, and `({}).a;` as a statement too. A pair has the span of what it encloses. All else of
+/// the tree stays: spans, spellings, and parentheses that were there. What parentheses don't mend, as `a() = b`, stays as wrong as it was; `keeps_structure`
+/// of the result tells. Takes memory for new nodes, and no more stack than the tree is deep.
+///
+/// A tree with TypeScript gets them too, as `(a as T).b` does, by the levels of docs/LEVELS.md. No grammar of it is cited, so of such a tree, and of
+/// one with decorators, the clauses say no more than that it is the same but for parentheses and blocks. Types, decorators and the bodies of
+/// namespaces are not gone into.
+#[tactic(auto, using(crate::proofs::Verdicts::kept), unfolding(crate::specs::Roots::IfLeft))]
+pub fn parenthesize(alloc: Global, program: Program) -> Result<Program, Unmended<Program>>
+    ensures parenthesized { IfOk result (λ r. (program_verdict r).parenthesized ≡ true) }
+    ensures keeps { holds false (program_verdict program) ≡ true →
+        IfOk result (λ r. holds true (program_verdict r) ≡ true) }
+    ensures same { IfOk result (λ r. (program ≡ r) ⊎ SameProgramTree program r) }
+    ensures left { IfErr result (λ e. IfLeft e (SameProgramTree program)) }
+    ensures untouched { (program_verdict program).covered ≡ true →
+        (program_verdict program).parenthesized ≡ true → result ≡ Ok program }
+{
+    let before = verdict(&program);
+    if before.covered && before.parenthesized {
+        return Ok(program);
+    }
+    let mut program = program;
+    match mend_program(alloc, &mut program) {
+        Err(Stop::OutOfMemory) => Err(Unmended::OutOfMemory),
+        Err(Stop::TooDeep) => Err(Unmended::TooDeep(program)),
+        Ok(()) if is_mended(before, verdict(&program)) => Ok(program),
+        Ok(()) => Err(Unmended::Left(program)),
+    }
+}
+
+/// An item of a module with these parameters, as `Parameters::module()`, with its parentheses. See `parenthesize`.
+#[tactic(auto, using(crate::proofs::Verdicts::kept), unfolding(crate::specs::Roots::IfLeft))]
+pub fn parenthesize_item(
+    alloc: Global,
+    item: ModuleItem,
+    parameters: Parameters,
+) -> Result<ModuleItem, Unmended<ModuleItem>>
+    ensures parenthesized { IfOk result (λ r. (item_verdict parameters r).parenthesized ≡ true) }
+    ensures keeps { holds false (item_verdict parameters item) ≡ true →
+        IfOk result (λ r. holds true (item_verdict parameters r) ≡ true) }
+    ensures same { IfOk result (λ r. (item ≡ r) ⊎ SameItemTree item r) }
+    ensures left { IfErr result (λ e. IfLeft e (SameItemTree item)) }
+    ensures untouched { (item_verdict parameters item).covered ≡ true →
+        (item_verdict parameters item).parenthesized ≡ true → result ≡ Ok item }
+{
+    let before = verdict_item(&item, parameters);
+    if before.covered && before.parenthesized {
+        return Ok(item);
+    }
+    let mut item = item;
+    let place = Place::of(Nonterminal::Expression, parameters);
+    match mend_item(alloc, &mut item, place) {
+        Err(Stop::OutOfMemory) => Err(Unmended::OutOfMemory),
+        Err(Stop::TooDeep) => Err(Unmended::TooDeep(item)),
+        Ok(()) if is_mended(before, verdict_item(&item, parameters)) => Ok(item),
+        Ok(()) => Err(Unmended::Left(item)),
+    }
+}
+
+/// A statement where this nonterminal with these parameters stands, with its parentheses: Statement, or StatementListItem where a declaration
+/// may stand. See `parenthesize`.
+#[tactic(auto, using(crate::proofs::Verdicts::kept), unfolding(crate::specs::Roots::IfLeft))]
+pub fn parenthesize_stmt(
+    alloc: Global,
+    stmt: Stmt,
+    place: Nonterminal,
+    parameters: Parameters,
+) -> Result<Stmt, Unmended<Stmt>>
+    ensures parenthesized { IfOk result
+        (λ r. (stmt_verdict place parameters r).parenthesized ≡ true) }
+    ensures keeps { holds false (stmt_verdict place parameters stmt) ≡ true →
+        IfOk result (λ r. holds true (stmt_verdict place parameters r) ≡ true) }
+    ensures same { IfOk result (λ r. (stmt ≡ r) ⊎ SameStmtTree stmt r) }
+    ensures left { IfErr result (λ e. IfLeft e (SameStmtTree stmt)) }
+    ensures untouched { (stmt_verdict place parameters stmt).covered ≡ true →
+        (stmt_verdict place parameters stmt).parenthesized ≡ true → result ≡ Ok stmt }
+{
+    let before = verdict_stmt(&stmt, place, parameters);
+    if before.covered && before.parenthesized {
+        return Ok(stmt);
+    }
+    let mut stmt = stmt;
+    let at = Place::of(place, parameters);
+    match mend_whole_stmt(alloc, &mut stmt, at) {
+        Err(Stop::OutOfMemory) => Err(Unmended::OutOfMemory),
+        Err(Stop::TooDeep) => Err(Unmended::TooDeep(stmt)),
+        Ok(()) if is_mended(before, verdict_stmt(&stmt, place, parameters)) => Ok(stmt),
+        Ok(()) => Err(Unmended::Left(stmt)),
+    }
+}
+
+/// An expression where this nonterminal with these parameters stands, with its parentheses, round it too. See `parenthesize`; here
+/// `parameters.minify` has to be that of the settings.
 #[tactic(auto, using(crate::proofs::Verdicts::kept), unfolding(crate::specs::Roots::IfLeft))]
 pub fn parenthesize_expr(
     alloc: Global,
@@ -70,11 +189,11 @@ pub fn parenthesize_expr(
         IfOk result (λ r. holds true (expr_verdict place parameters r) ≡ true) }
     ensures same { IfOk result (λ r. (expr ≡ r) ⊎ SameExprTree expr r) }
     ensures left { IfErr result (λ e. IfLeft e (SameExprTree expr)) }
-    ensures untouched { (expr_verdict place parameters expr).parenthesized ≡ true
-        → result ≡ Ok expr }
+    ensures untouched { (expr_verdict place parameters expr).covered ≡ true →
+        (expr_verdict place parameters expr).parenthesized ≡ true → result ≡ Ok expr }
 {
     let before = verdict_expr(&expr, place, parameters);
-    if before.parenthesized {
+    if before.covered && before.parenthesized {
         return Ok(expr);
     }
     let mut expr = expr;

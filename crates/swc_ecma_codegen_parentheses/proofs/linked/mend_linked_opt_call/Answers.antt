@@ -1,23 +1,4 @@
-use Rattle.std.proofs.Common.{inl, inr, sym}
-use Rattle.std.specs.Option.{option_and_then}
-use Rattle.std.proofs.lemmas.Result.{on_ok_weaker}
-use Rattle.swc_ecma_codegen_tree.specs.declared.links.AnyNode.{AnyNode}
-use Rattle.swc_ecma_codegen_tree.specs.declared.links.Link.{Link}
-use Rattle.swc_ecma_codegen_tree.specs.declared.sorts.ToOptCall.{ToOptCall}
-use Rattle.swc_ecma_codegen_tree.specs.LinkTargets.{sorted_in, opt_call_in}
-use Rattle.swc_ecma_codegen_tree.specs.SortedNodes.{expr_part_at}
-use Rattle.swc_ecma_codegen_parentheses.specs.Lists.{linked}
-use Rattle.swc_ecma_codegen_parentheses.specs.Whole.{opt_call}
-use Rattle.swc_ecma_codegen_parentheses.proofs.Changes.{lent_changed}
 use Rattle.swc_ecma_codegen_parentheses.proofs.linked.mend_linked_opt_call.Goals as goal
 
-pub returns-in-Some : goal.returns-in-Some
-unfolding linked
-returns-in-Some g c =
-    let node_in = λ (link : Link ToOptCall AnyNode). option_and_then opt_call_in (expr_part_at (sorted_in link.node.value)) in
-    let both = lent_changed node_in c.args.link.now c.get_mut.result c.in-Some.node c.get_mut.follows.lender c.in-Some.is c.get_mut.ensures.node c.get_mut.follows.holds c.mend.new.self in
-    on_ok_weaker c.mend.result (λ same. inr (opt_call both.0 both.1 same)) c.mend.ensures
-
-pub returns-in-None : goal.returns-in-None
-unfolding linked
-returns-in-None g c = inl (sym c.get_mut.follows.holds-at-none)
+pub returns : goal.returns
+returns g c = c.mend_linked.ensures

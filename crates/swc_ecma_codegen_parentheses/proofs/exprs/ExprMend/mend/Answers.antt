@@ -1,6 +1,6 @@
 use Rattle.std.proofs.Common.{refl}
 use Rattle.std.proofs.lemmas.Result.{on_ok_weaker}
-use Rattle.swc_ecma_codegen_parentheses.specs.SameExprs.{array, object, unary, update, bin, assign, member, super_prop, cond, call, new, seq, tpl, tagged_tpl, arrow, yield, await, paren, opt_chain}
+use Rattle.swc_ecma_codegen_parentheses.specs.SameExprs.{array, object, fn, unary, update, bin, assign, member, super_prop, cond, call, new, seq, tpl, tagged_tpl, arrow, class, yield, await, paren, jsx_element, jsx_fragment, opt_chain, ts_type_assertion, ts_const_assertion, ts_non_null, ts_as, ts_instantiation, ts_satisfies}
 use Rattle.swc_ecma_codegen_parentheses.proofs.exprs.ExprMend.mend.Goals as goal
 
 pub returns-in-Array : goal.returns-in-Array
@@ -8,6 +8,9 @@ returns-in-Array g c = on_ok_weaker c.mend.result (λ same. array c.in-Array.nod
 
 pub returns-in-Object : goal.returns-in-Object
 returns-in-Object g c = on_ok_weaker c.mend-in-Object.result (λ same. object c.in-Object.node c.mend-in-Object.new.self c.in-Object.is refl same) c.mend-in-Object.ensures
+
+pub returns-in-Fn : goal.returns-in-Fn
+returns-in-Fn g c = on_ok_weaker c.mend-in-Fn.result (λ same. fn c.in-Fn.node c.mend-in-Fn.new.self c.in-Fn.is refl same) c.mend-in-Fn.ensures
 
 pub returns-in-Unary : goal.returns-in-Unary
 returns-in-Unary g c = on_ok_weaker c.mend-in-Unary.result (λ same. unary c.in-Unary.node c.mend-in-Unary.new.self c.in-Unary.is refl same) c.mend-in-Unary.ensures
@@ -48,6 +51,9 @@ returns-in-TaggedTpl g c = on_ok_weaker c.mend-in-TaggedTpl.result (λ same. tag
 pub returns-in-Arrow : goal.returns-in-Arrow
 returns-in-Arrow g c = on_ok_weaker c.mend-in-Arrow.result (λ same. arrow c.in-Arrow.node c.mend-in-Arrow.new.self c.in-Arrow.is refl same) c.mend-in-Arrow.ensures
 
+pub returns-in-Class : goal.returns-in-Class
+returns-in-Class g c = on_ok_weaker c.mend-in-Class.result (λ same. class c.in-Class.node c.mend-in-Class.new.self c.in-Class.is refl same) c.mend-in-Class.ensures
+
 pub returns-in-Yield : goal.returns-in-Yield
 returns-in-Yield g c = on_ok_weaker c.mend-in-Yield.result (λ same. yield c.in-Yield.node c.mend-in-Yield.new.self c.in-Yield.is refl same) c.mend-in-Yield.ensures
 
@@ -57,5 +63,29 @@ returns-in-Await g c = on_ok_weaker c.mend-in-Await.result (λ same. await c.in-
 pub returns-in-Paren : goal.returns-in-Paren
 returns-in-Paren g c = on_ok_weaker c.mend-in-Paren.result (λ same. paren c.in-Paren.node c.mend-in-Paren.new.self c.in-Paren.is refl same) c.mend-in-Paren.ensures
 
+pub returns-in-JSXElement : goal.returns-in-JSXElement
+returns-in-JSXElement g c = on_ok_weaker c.mend-in-JSXElement.result (λ same. jsx_element c.in-JSXElement.node c.mend-in-JSXElement.new.self c.in-JSXElement.is refl same) c.mend-in-JSXElement.ensures
+
+pub returns-in-JSXFragment : goal.returns-in-JSXFragment
+returns-in-JSXFragment g c = on_ok_weaker c.mend-in-JSXFragment.result (λ same. jsx_fragment c.in-JSXFragment.node c.mend-in-JSXFragment.new.self c.in-JSXFragment.is refl same) c.mend-in-JSXFragment.ensures
+
 pub returns-in-OptChain : goal.returns-in-OptChain
 returns-in-OptChain g c = on_ok_weaker c.mend-in-OptChain.result (λ same. opt_chain c.in-OptChain.node c.mend-in-OptChain.new.self c.in-OptChain.is refl same) c.mend-in-OptChain.ensures
+
+pub returns-in-TsTypeAssertion : goal.returns-in-TsTypeAssertion
+returns-in-TsTypeAssertion g c = on_ok_weaker c.mend-in-TsTypeAssertion.result (λ same. ts_type_assertion c.in-TsTypeAssertion.node c.mend-in-TsTypeAssertion.new.self c.in-TsTypeAssertion.is refl same) c.mend-in-TsTypeAssertion.ensures
+
+pub returns-in-TsConstAssertion : goal.returns-in-TsConstAssertion
+returns-in-TsConstAssertion g c = on_ok_weaker c.mend-in-TsConstAssertion.result (λ same. ts_const_assertion c.in-TsConstAssertion.node c.mend-in-TsConstAssertion.new.self c.in-TsConstAssertion.is refl same) c.mend-in-TsConstAssertion.ensures
+
+pub returns-in-TsNonNull : goal.returns-in-TsNonNull
+returns-in-TsNonNull g c = on_ok_weaker c.mend-in-TsNonNull.result (λ same. ts_non_null c.in-TsNonNull.node c.mend-in-TsNonNull.new.self c.in-TsNonNull.is refl same) c.mend-in-TsNonNull.ensures
+
+pub returns-in-TsAs : goal.returns-in-TsAs
+returns-in-TsAs g c = on_ok_weaker c.mend-in-TsAs.result (λ same. ts_as c.in-TsAs.node c.mend-in-TsAs.new.self c.in-TsAs.is refl same) c.mend-in-TsAs.ensures
+
+pub returns-in-TsInstantiation : goal.returns-in-TsInstantiation
+returns-in-TsInstantiation g c = on_ok_weaker c.mend-in-TsInstantiation.result (λ same. ts_instantiation c.in-TsInstantiation.node c.mend-in-TsInstantiation.new.self c.in-TsInstantiation.is refl same) c.mend-in-TsInstantiation.ensures
+
+pub returns-in-TsSatisfies : goal.returns-in-TsSatisfies
+returns-in-TsSatisfies g c = on_ok_weaker c.mend-in-TsSatisfies.result (λ same. ts_satisfies c.in-TsSatisfies.node c.mend-in-TsSatisfies.new.self c.in-TsSatisfies.is refl same) c.mend-in-TsSatisfies.ensures

@@ -1,6 +1,6 @@
 use Rattle.std.proofs.Common.{rules, sym}
 use Rattle.swc_ecma_codegen_parentheses.specs.Lists.{nothing}
-use Rattle.swc_ecma_codegen_parentheses.proofs.Changes.{one_more}
+use Rattle.swc_ecma_codegen_parentheses.proofs.InPlace.{one_more}
 use Rattle.swc_ecma_codegen_parentheses.proofs.mends.VecMend.mend.Goals as goal
 
 pub loop-node-init : goal.loop-node-init

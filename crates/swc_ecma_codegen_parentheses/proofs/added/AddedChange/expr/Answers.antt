@@ -1,21 +1,19 @@
 use Rattle.std.proofs.Common.{inl, inr, sym}
 use Rattle.std.proofs.lemmas.Result.{on_ok_weaker}
-use Rattle.swc_ecma_codegen_tree.specs.declared.links.AnyNode.{AnyNode}
 use Rattle.swc_ecma_codegen_tree.specs.declared.links.Link.{Link}
 use Rattle.swc_ecma_codegen_tree.specs.declared.sorts.ToExpr.{ToExpr}
-use Rattle.swc_ecma_codegen_tree.specs.LinkTargets.{sorted_in}
-use Rattle.swc_ecma_codegen_tree.specs.SortedNodes.{expr_at}
+use Rattle.swc_ecma_codegen_parentheses.specs.Lent.{lent}
 use Rattle.swc_ecma_codegen_parentheses.specs.Lists.{linked}
-use Rattle.swc_ecma_codegen_parentheses.specs.Whole.{expr}
-use Rattle.swc_ecma_codegen_parentheses.proofs.Changes.{lent_changed}
-use Rattle.swc_ecma_codegen_parentheses.proofs.linked.mend_linked_expr.Goals as goal
+use Rattle.swc_ecma_codegen_parentheses.specs.Whole.{changed, expr}
+use Rattle.swc_ecma_codegen_parentheses.proofs.InPlace.{lent_changed}
+use Rattle.swc_ecma_codegen_parentheses.proofs.added.AddedChange.expr.Goals as goal
 
 pub returns-in-Some : goal.returns-in-Some
 unfolding linked
 returns-in-Some g c =
-    let node_in = λ (link : Link ToExpr AnyNode). expr_at (sorted_in link.node.value) in
+    let node_in = λ (link : Link ToExpr g.row.N.Denot). g.N.Holds-1.node_in link.node.value in
     let both = lent_changed node_in c.args.link.now c.get_mut.result c.in-Some.node c.get_mut.follows.lender c.in-Some.is c.get_mut.ensures.node c.get_mut.follows.holds c.mend_expr.new.expr in
-    on_ok_weaker c.mend_expr.result (λ same. inr (expr both.0 both.1 same)) c.mend_expr.ensures
+    on_ok_weaker c.mend_expr.result (λ same. inr (changed (expr (lent both.0 both.1 same)))) c.mend_expr.ensures
 
 pub returns-in-None : goal.returns-in-None
 unfolding linked
