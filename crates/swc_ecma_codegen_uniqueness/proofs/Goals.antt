@@ -1,19 +1,19 @@
--- The tokens that are read tell whether `/` divides or begins a regular expression.
-use Rattle.std.proofs.Common.{◌≡◌, true, false, ◌⊎◌, inl, inr, List, [], ◌∷◌, ◌++◌, refl, sym, ap, ◌∙◌, append_assoc}
+-- The tokens that are read tell whether `/` divides or begins a regular expression, and whether `}` begins the rest of a template.
+use Rattle.std.proofs.Common.{◌≡◌, true, false, ◌⊎◌, inl, inr, List, [], ◌∷◌, ◌++◌, refl, sym, ap, ◌∙◌, append_assoc, subst}
 use Rattle.std.specs.Prelude.{codes}
 use Rattle.std.proofs.lemmas.Bool.{true≢false}
 use Rattle.swc_ecma_codegen_tree.specs.declared.links.AnyNode.{AnyNode}
 use Rattle.swc_ecma_codegen_tree.specs.declared.programs.Program.{Program}
 use Rattle.swc_ecma_codegen_grammar.specs.declared.kinds.Kind.TheVariants as kinds
+use Rattle.swc_ecma_codegen_grammar.specs.declared.kinds.TemplatePart.{TemplatePart}
 use Rattle.swc_ecma_codegen_grammar.specs.Settings.{Settings}
 use Rattle.swc_ecma_codegen_grammar.specs.Tokens.{Token, punctuator}
 use Rattle.swc_ecma_codegen_syntax.specs.Derives.{DerivesProgram}
 use Rattle.swc_ecma_codegen_uniqueness.specs.ParseTrees.{End, Read, BlockStmt, tokens_of}
-use Rattle.swc_ecma_codegen_uniqueness.proofs.Classes.{class, class_of}
+use Rattle.swc_ecma_codegen_uniqueness.proofs.Classes.{Class, RegexToken, class, class_of}
 use Rattle.swc_ecma_codegen_uniqueness.proofs.Controls.{Control, InParen, InList, Statement}
-use Rattle.swc_ecma_codegen_uniqueness.proofs.PlaceLaws.{is_slash}
 use Rattle.swc_ecma_codegen_uniqueness.proofs.Machine.{Empty, Frame, State, At, Fail, next, run, is_fail, run_fails, reads}
-use Rattle.swc_ecma_codegen_uniqueness.proofs.Apart.{next_fails}
+use Rattle.swc_ecma_codegen_uniqueness.proofs.Apart.{Rivals, divides, divides_in_place, closes, next_fails}
 use Rattle.swc_ecma_codegen_uniqueness.proofs.Parsed.{tokens_before}
 use Rattle.swc_ecma_codegen_uniqueness.proofs.Layers.{all_good}
 use Rattle.swc_ecma_codegen_uniqueness.proofs.Programs.{brace, program_good}
@@ -44,14 +44,26 @@ fails_there : (xs ys us : List Token) (t : Token) → next t (run xs begin) ≡ 
 fails_there xs ys us t e =
     ap (λ z. is_fail (run z begin)) (append_assoc xs (t ∷ ys) us) ∙ ap is_fail (run_on xs (t ∷ (ys ++ us)) begin) ∙ ap (λ q. is_fail (run (ys ++ us) q)) e ∙ ap is_fail (run_fails (ys ++ us))
 
-slash_class : (y : Token) → (y ≡ punctuator (codes "/")) ⊎ (y ≡ punctuator (codes "/=")) → is_slash (class y) ≡ true
-unfolding punctuator
-slash_class y (inl e) = ap (λ z. is_slash (class z)) e
-slash_class y (inr e) = ap (λ z. is_slash (class z)) e
+abbrev Next : Settings → Program AnyNode → List Token → Token → List Token → Type 0
+Next s a xs x ys = DerivesProgram true s a (xs ++ (x ∷ ys))
 
-pub one_goal : (s t : Settings) (a b : Program AnyNode) (xs ys zs : List Token) (x y : Token) → x.kind ≡ kinds.Regex → (y ≡ punctuator (codes "/")) ⊎ (y ≡ punctuator (codes "/=")) → DerivesProgram true s a (xs ++ (x ∷ ys)) →
-    DerivesProgram true t b (xs ++ (y ∷ zs)) → ⊥
-one_goal s t a b xs ys zs x y k i d e = elim (next_fails (run xs begin) y x (slash_class y i) (ap (λ z. class_of z x.value) k)) [
+one_next : (s t : Settings) (a b : Program AnyNode) (xs ys zs : List Token) (x y : Token) → Rivals (class y) (class x) → Next s a xs x ys → Next t b xs y zs → ⊥
+one_next s t a b xs ys zs x y r d e = elim (next_fails (run xs begin) y x r) [
   | inl f ↦ true≢false (sym (fails_there xs zs behind y f) ∙ program_runs b e)
   | inr f ↦ true≢false (sym (fails_there xs ys behind x f) ∙ program_runs a d)
 ]
+
+rivals : (x y : Token) {l r : Class} → class y ≡ l → class x ≡ r → Rivals l r → Rivals (class y) (class x)
+rivals x y {l = l} e d i = subst (λ z. Rivals z (class x)) (sym e) (subst (λ z. Rivals l z) (sym d) i)
+
+regex_class : (x : Token) → x.kind ≡ kinds.Regex → class x ≡ RegexToken
+regex_class x k = ap (λ z. class_of z x.value) k
+
+pub one_goal : (s t : Settings) (a b : Program AnyNode) (xs ys zs : List Token) (x y : Token) → x.kind ≡ kinds.Regex → (y ≡ punctuator (codes "/")) ⊎ (y ≡ punctuator (codes "/=")) → Next s a xs x ys → Next t b xs y zs → ⊥
+unfolding punctuator
+one_goal s t a b xs ys zs x y k (inl e) d f = one_next s t a b xs ys zs x y (rivals x y (ap class e) (regex_class x k) divides) d f
+one_goal s t a b xs ys zs x y k (inr e) d f = one_next s t a b xs ys zs x y (rivals x y (ap class e) (regex_class x k) divides_in_place) d f
+
+pub one_template : (s t : Settings) (a b : Program AnyNode) (xs ys zs : List Token) (x y : Token) (part : TemplatePart) → x.kind ≡ kinds.TemplateRest part → y ≡ punctuator (codes "}") → Next s a xs x ys → Next t b xs y zs → ⊥
+unfolding punctuator
+one_template s t a b xs ys zs x y part k e d f = one_next s t a b xs ys zs x y (rivals x y (ap class e) (ap (λ z. class_of z x.value) k) closes) d f

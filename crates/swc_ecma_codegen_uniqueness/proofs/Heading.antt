@@ -17,7 +17,7 @@ use Rattle.swc_ecma_codegen_uniqueness.specs.ParseTrees.{Variant, ParseTree, tok
 use Rattle.swc_ecma_codegen_uniqueness.proofs.Classes.{Class, Strange, FunctionWord, ClassWord, ImportWord, AsyncWord, words, marks, child_marks, look, class_of, class}
 use Rattle.swc_ecma_codegen_uniqueness.proofs.Controls.{OfElse, Entered, starts, stands as stands_at, closes as closes_at}
 use Rattle.swc_ecma_codegen_uniqueness.proofs.Tables.{Leave, started, shifted_to, decide, without}
-use Rattle.swc_ecma_codegen_uniqueness.proofs.PlaceLaws.{is_barred, is_import_call, import_kept, is_line, is_function, is_slash, none_begins, async_line, async_rejects, async_kept, leaves_alone, delayed_by}
+use Rattle.swc_ecma_codegen_uniqueness.proofs.PlaceLaws.{is_barred, is_import_call, import_kept, is_line, is_function, is_no_start, none_begins, async_line, async_rejects, async_kept, leaves_alone, delayed_by}
 use Rattle.swc_ecma_codegen_uniqueness.proofs.Machine.{Whole, Good, Heads, never_kept, never_rejected}
 use Rattle.swc_ecma_codegen_uniqueness.proofs.StatementShapes.{operand_heads, MayEnter, at_once, behind_import, behind_async, MayStand, is_open_brace}
 
@@ -246,8 +246,8 @@ line_by s u v ts true e i k = refl
 line_by {t = t} s u v ts false e i k =
     absurd (never_kept (Entered OfElse) t u v ts s.good s.stands s.closes s.leaves e (ap (without (Entered OfElse)) i) (ap (λ l. without (started l) (class v)) i ∙ async_kept (class v) k))
 
--- and no `/` behind that
-slash_by : {t : Token} {p : ParseTree} (s : Stated t p) (u v w : Token) (ts : List Token) (b : Bool) → tokens_of p (t ∷ []) ≡ u ∷ v ∷ w ∷ ts → class u ≡ AsyncWord → is_line (class v) ≡ true → is_slash (class w) ≡ b → b ≡ false
+-- and behind that neither `/` nor the rest of a template
+slash_by : {t : Token} {p : ParseTree} (s : Stated t p) (u v w : Token) (ts : List Token) (b : Bool) → tokens_of p (t ∷ []) ≡ u ∷ v ∷ w ∷ ts → class u ≡ AsyncWord → is_line (class v) ≡ true → is_no_start (class w) ≡ b → b ≡ false
 slash_by s u v w ts false e i j k = refl
 slash_by {t = t} s u v w ts true e i j k =
     let y = async_line (class v) j in
@@ -287,7 +287,7 @@ may_begin bars l f k {t = t} {p = p} s (u ∷ v ∷ w ∷ ts) e x us =
         | inl i ↦ behind_import i (called_by s u v (w ∷ (ts ++ (t ∷ []))) (is_import_call (class v)) (e (t ∷ [])) i refl)
         | inr i ↦
             let j = line_by s u v (w ∷ (ts ++ (t ∷ []))) (is_line (class v)) (e (t ∷ [])) i refl in
-            behind_async i j (none_begins (class w) (async_first l k u v w ts x i j) (slash_by s u v w (ts ++ (t ∷ [])) (is_slash (class w)) (e (t ∷ [])) i j refl))
+            behind_async i j (none_begins (class w) (async_first l k u v w ts x i j) (slash_by s u v w (ts ++ (t ∷ [])) (is_no_start (class w)) (e (t ∷ [])) i j refl))
       ]
     ])
 

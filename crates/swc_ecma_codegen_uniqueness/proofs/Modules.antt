@@ -53,7 +53,7 @@ use Rattle.swc_ecma_codegen_syntax.specs.NodeForms.{node_form, part_form, stmt_p
 use Rattle.swc_ecma_codegen_syntax.specs.Derives.{Derives, fixed, part, restricted, both, provided}
 use Rattle.swc_ecma_codegen_uniqueness.specs.ParseTrees.{Variant, ParseTree, End, Read, Node, Class as AClass, Fn, VarDecl, Foreign, tokens_of}
 use Rattle.swc_ecma_codegen_uniqueness.specs.Parses.{placed, is_inlined}
-use Rattle.swc_ecma_codegen_uniqueness.proofs.Classes.{Class, Infix, Times, OpenBrace, NameToken, LiteralToken, FunctionWord, ClassWord, AsyncWord, Semi, Strange, class, Over, Assigns}
+use Rattle.swc_ecma_codegen_uniqueness.proofs.Classes.{Class, Infix, Times, OpenBrace, NameToken, LiteralToken, FunctionWord, ClassWord, AsyncWord, Semi, Strange, class, Over, Assigns, Later}
 use Rattle.swc_ecma_codegen_uniqueness.proofs.Controls.{Control, ImportItem, Clause, ClauseComma, AfterExport, AfterExportDefault, AsyncDefault, AsyncDefaultLine, DefaultValue, AfterFunction, entered, starts}
 use Rattle.swc_ecma_codegen_uniqueness.proofs.Tables.{Shift, Enter, without, shifted_to, begun_at, started, Push}
 use Rattle.swc_ecma_codegen_uniqueness.proofs.PlaceLaws.{is_delayed, async_line, async_enters}
@@ -386,6 +386,7 @@ default_enters ClassWord s h k = absurd (true≢false h)
 default_enters AsyncWord s h k = absurd (true≢false k)
 default_enters (Infix Over) s h k = absurd (true≢false (sym s))
 default_enters (Assigns true) s h k = absurd (true≢false (sym s))
+default_enters (Later opens) s h k = absurd (true≢false (sym s))
 default_enters l s h k = (refl, refl)
 
 -- the tokens of a value enter its place

@@ -5,7 +5,7 @@ use Rattle.swc_ecma_codegen_grammar.specs.Tokens.{Token}
 use Rattle.swc_ecma_codegen_syntax.specs.declared.nonterminals.Nonterminal.{Nonterminal}
 use Rattle.swc_ecma_codegen_syntax.specs.declared.nonterminals.Nonterminal.TheVariants as nt
 use Rattle.swc_ecma_codegen_syntax.specs.Nonterminals.{is_member, is_new, is_call, is_callee, is_chained, is_left_hand_side, is_update, is_unary, is_exponentiation, is_multiplicative, is_additive, is_shift, is_relational, is_in_left, is_equality, is_bitwise_and, is_bitwise_xor, is_bitwise_or, is_logical_and, is_logical_or, is_coalesce_head, is_short_circuit, is_conditional, is_assignment, is_expression, is_assignment_target, is_pattern_target, is_pattern_element, is_last_element, is_coalesce, is_private, is_optional, is_primary, is_template, is_property_name, is_chain_link, is_assignment_pattern, is_pattern_name, is_rest, is_statement, is_hoistable_declaration, is_block, is_variable_declarations, is_declaration, is_statement_list_item, is_labelled_item, is_module_declaration, is_exported_head, is_function_head, is_generator_head, is_async_function_head, is_async_generator_head, is_function_tail, is_getter_tail, is_setter_tail, is_method_head, is_decorator_list, is_class_head, is_class_tail, is_class_element, is_constructor_name, is_any_function_head, is_head_without_yield, is_head_without_await, is_any_property_name, is_jsx_element, is_jsx_object, is_uncovered, takes}
-use Rattle.swc_ecma_codegen_uniqueness.proofs.Classes.{Power, Plus, Class, Infix, Dot, OpenParen, OpenBrace, Line, class, FunctionWord, ReturnWord, ThrowWord, BreakWord, ContinueWord, DebuggerWord, IfWord, WhileWord, WithWord, VarWord, Semicolon, DoWord, TryWord, SwitchWord, ElseWord, CloseBrace, ClassWord, ExportWord, ImportWord, AsyncWord, ForWord, Over, Assigns, RegexToken, Semi, Colon, TagName, TagClose, ChildTagMark}
+use Rattle.swc_ecma_codegen_uniqueness.proofs.Classes.{Power, Plus, Class, Infix, Dot, OpenParen, OpenBrace, Line, class, FunctionWord, ReturnWord, ThrowWord, BreakWord, ContinueWord, DebuggerWord, IfWord, WhileWord, WithWord, VarWord, Semicolon, DoWord, TryWord, SwitchWord, ElseWord, CloseBrace, ClassWord, ExportWord, ImportWord, AsyncWord, ForWord, Over, Assigns, RegexToken, Semi, Colon, TagName, TagClose, ChildTagMark, Later}
 use Rattle.swc_ecma_codegen_uniqueness.proofs.Controls.{left, OfInfix, Control, Open, waits, stands, starts, is_item, Members, AtMember, AttributeElement, Children, ChildTag, ImportItem, AfterImport, AsyncItem, AsyncItemLine, AsyncDefault, AsyncDefaultLine, AfterAsync, AsyncLine, at_item, Where, InList, OfElse, MemberKey, Statement, Entered, entered, InTry, InCatch, InMethod, OfIf, OfDo, InTag}
 use Rattle.swc_ecma_codegen_uniqueness.specs.ParseTrees.{ClassMethod}
 use Rattle.swc_ecma_codegen_uniqueness.proofs.Tables.{decide, Action, Push, Wrap, Reduce, Shift, Turn, Begin, Enter, Leave, Splice, Take, begin, begun_at, shifted_to, EnterBelow, Merge, Reject, without, with_operand, Keep}
@@ -163,15 +163,21 @@ is_slash (Infix Over) = true
 is_slash (Assigns slash) = slash
 is_slash l = false
 
+-- nor does the rest of a template begin one
+abbrev pub is_no_start : Class → Bool
+is_no_start (Later opens) = true
+is_no_start l = is_slash l
+
 abbrev pub begins_none : Class → Bool
 begins_none FunctionWord = true
-begins_none l = is_slash l
+begins_none l = is_no_start l
 
-pub none_begins : (l : Class) → is_function l ≡ false → is_slash l ≡ false → begins_none l ≡ false
+pub none_begins : (l : Class) → is_function l ≡ false → is_no_start l ≡ false → begins_none l ≡ false
 none_begins FunctionWord h k = absurd (true≢false h)
 none_begins l h k = k
 
-pub async_rejects : (l : Class) → is_slash l ≡ true → without AsyncLine l ≡ Reject
+pub async_rejects : (l : Class) → is_no_start l ≡ true → without AsyncLine l ≡ Reject
+async_rejects (Later opens) h = refl
 async_rejects (Infix Over) h = refl
 async_rejects (Assigns true) h = refl
 async_rejects l h = absurd (true≢false (sym h))
@@ -180,6 +186,7 @@ pub async_enters : (l : Class) → begins_none l ≡ false → (without AsyncIte
 async_enters FunctionWord h = absurd (true≢false h)
 async_enters (Infix Over) h = absurd (true≢false h)
 async_enters (Assigns true) h = absurd (true≢false h)
+async_enters (Later opens) h = absurd (true≢false h)
 async_enters l h = (refl, refl, refl)
 
 -- what ends an expression statement, or stands behind a label, is neither
@@ -191,6 +198,7 @@ leaves_alone FunctionWord h = absurd (true≢false (ap is_wrap h))
 leaves_alone RegexToken h = absurd (true≢false (ap is_reject h))
 leaves_alone (Infix Over) h = absurd (true≢false (ap is_wrap h))
 leaves_alone (Assigns true) h = absurd (true≢false (ap is_wrap h))
+leaves_alone (Later opens) h = absurd (true≢false (ap is_reject h))
 leaves_alone l h = absurd (true≢false (ap is_wrap h))
 
 pub delayed_by : (l : Class) → (is_delayed l ≡ false) ⊎ ((l ≡ ImportWord) ⊎ (l ≡ AsyncWord))
@@ -223,16 +231,19 @@ element_there c s = absurd (true≢false (sym s))
 abbrev pub is_no_member : Class → Bool
 is_no_member CloseBrace = true
 is_no_member RegexToken = true
+is_no_member (Later opens) = true
 is_no_member l = false
 
 begun_in : (c : Control) (l : Class) → ElementPlace c → is_no_member l ≡ false → (without c l ≡ Begin) × (begun_at c l ≡ shifted_to AtMember l)
 begun_in c CloseBrace element_place h = absurd (true≢false h)
 begun_in c RegexToken element_place h = absurd (true≢false h)
+begun_in c (Later opens) element_place h = absurd (true≢false h)
 begun_in c l element_place h = (refl, refl)
 
 pub member_shifts : (l : Class) → is_no_member l ≡ false → (without AtMember l ≡ Shift) × (without (MemberKey ClassMethod) l ≡ Shift)
 member_shifts CloseBrace h = absurd (true≢false h)
 member_shifts RegexToken h = absurd (true≢false h)
+member_shifts (Later opens) h = absurd (true≢false h)
 member_shifts l h = (refl, refl)
 
 pub element_begins : (t : Token) → is_no_member (class t) ≡ false → (c : Control) → stands c nt.ClassElement ≡ true → (decide c None t ≡ Begin) × (begin c t ≡ shifted_to AtMember (class t))

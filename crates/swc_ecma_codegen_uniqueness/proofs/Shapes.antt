@@ -561,6 +561,7 @@ async_value : (l : Class) → begins_none l ≡ false → (without AsyncLine l �
 async_value FunctionWord h = absurd (true≢false h)
 async_value (Infix Over) h = absurd (true≢false h)
 async_value (Assigns true) h = absurd (true≢false h)
+async_value (Later opens) h = absurd (true≢false h)
 async_value l h = (refl, refl)
 
 pub async_arrow : {s : Variant} {p m q : ParseTree} → Operand nt.LeftHandSideExpression s p → Heads (λ u. begins_none (class u) ≡ false) p → Good (Rest ArrowBody Arrow nt.AssignmentExpression) m → q ≡ turned s p same_line (Read arrow_mark m) →

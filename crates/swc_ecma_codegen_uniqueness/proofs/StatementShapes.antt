@@ -10,7 +10,7 @@ use Rattle.swc_ecma_codegen_syntax.specs.UnitProductions.{step, pattern_element_
 use Rattle.swc_ecma_codegen_syntax.proofs.Chains.{takes_chain}
 use Rattle.swc_ecma_codegen_syntax.proofs.Taken.{chain_takes}
 use Rattle.swc_ecma_codegen_uniqueness.specs.ParseTrees.{Variant, ParseTree, End, Read, Node, Fn, Arrow, BlockStmt, EmptyStmt, ExprStmt, IfStmt, LabeledStmt, VarDecl, tokens_of, DoWhileStmt, TryStmt, SwitchStmt, Class as AClass, Foreign}
-use Rattle.swc_ecma_codegen_uniqueness.proofs.Classes.{Class, Infix, Plus, OpenBrace, ElseWord, Semi, Colon, ImportWord, AsyncWord, class, CatchWord, FinallyWord, Over, Assigns}
+use Rattle.swc_ecma_codegen_uniqueness.proofs.Classes.{Class, Infix, Plus, OpenBrace, ElseWord, Semi, Colon, ImportWord, AsyncWord, class, CatchWord, FinallyWord, Over, Assigns, Later}
 use Rattle.swc_ecma_codegen_uniqueness.proofs.Controls.{outside, starts, is_item, is_behind, left, Where, InList, OfIf, OfElse, OfLabel, OfLoop, Control, Closed, ArrowBody, OfArrow, Statement, Entered, AfterFunction, AfterClass, AfterExport, AfterFor, ForHead, Parameter, RestParameter, AfterParameters, AfterWord, Valued, Jump, Headed, Test, Declarators, stands, entered, ImportItem, AsyncItem, AsyncItemLine, InTry, InCatch, InClause, OfDo, closed_by, AfterDo, AfterTry, BehindTry, AfterCatch, CatchParameter, BehindCatch, Case, InMethod, Open}
 use Rattle.swc_ecma_codegen_uniqueness.proofs.Tables.{Reduce, Action, Shift, Begin, Enter, Leave, Splice, Wrap, without, with_operand, decide, shift, passed_to, start, started, begin, begun_at, Enter, closing, shifted_to, Push}
 use Rattle.swc_ecma_codegen_uniqueness.proofs.PlaceLaws.{is_keyword, keyword_pushes, is_barred, item_there, place_of, ItemPlace, item_place, enters, is_delayed, is_import_call, import_begins, import_called, is_line, begins_none, async_begins, async_line, async_enters, begins_operand, is_list, list_takes, no_item_wraps}
@@ -398,6 +398,7 @@ value_enters : (l : Class) → is_open_brace l ≡ false → starts l ≡ true �
 value_enters OpenBrace h k = absurd (true≢false h)
 value_enters (Infix Over) h k = absurd (true≢false (sym k))
 value_enters (Assigns true) h k = absurd (true≢false (sym k))
+value_enters (Later opens) h k = absurd (true≢false (sym k))
 value_enters l h k = (refl, refl)
 
 -- a value, and a block

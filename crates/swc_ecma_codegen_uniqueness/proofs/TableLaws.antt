@@ -9,7 +9,7 @@ use Rattle.swc_ecma_codegen_syntax.specs.UnitProductions.{UnitProduction, Chain,
 use Rattle.swc_ecma_codegen_syntax.proofs.Chains.{takes_chain}
 use Rattle.swc_ecma_codegen_syntax.proofs.Taken.{chain_takes}
 use Rattle.swc_ecma_codegen_uniqueness.specs.ParseTrees.{Variant}
-use Rattle.swc_ecma_codegen_uniqueness.proofs.Classes.{Power, Over, Plus, Within, Coalescing, Class, Infix, Assigns, Ask, Comma, Dot, ChainDot, OpenParen, OpenBracket, Line, First, class, Comparing}
+use Rattle.swc_ecma_codegen_uniqueness.proofs.Classes.{Power, Over, Plus, Within, Coalescing, Class, Infix, Assigns, Ask, Comma, Dot, ChainDot, OpenParen, OpenBracket, Line, First, class, Comparing, Later}
 use Rattle.swc_ecma_codegen_uniqueness.proofs.Controls.{made, left_of, left, closes, Tail, OfInfix, whole, last, Control, Open, Arguments, Elements, NextElement, AfterNew, AfterYield, YieldLine, Listed, InParen, Index, Middle, InKey, InValue, Substitution, waits, stands, starts, is_item, is_listed, Heritage, Members, InMemberKey, FieldPlace, DefaultValue, AttributeElement, AttributeBraces, Children, ChildBraces, ForHead, ForPlain, ForVars, ForValue, ForTest, ForUpdate, ForIn, ForOf, is_within, AsyncOperand, closed_by, at_item, Statement, Entered, Parameter, RestParameter, Valued, Test, Declarators, Initializer, CatchParameter, Case, InAccessorKey, AccessorParameter}
 use Rattle.swc_ecma_codegen_uniqueness.proofs.Tables.{decide, Action, Push, Wrap, Reduce, Shift, Turn, Begin, Enter, Leave, Splice, Take, wrapped_to, EnterBelow, Merge, Reject, begun_by, taken_by, without, with_operand, Keep}
 
@@ -591,6 +591,7 @@ is_turn a = false
 never_turns : (m : Class) → is_turn (begun_by Push m) ≡ false
 never_turns (Infix Over) = refl
 never_turns (Assigns true) = refl
+never_turns (Later opens) = refl
 never_turns m = refl
 
 -- the token behind an operand that the next one turns

@@ -19,14 +19,16 @@ use Rattle.swc_ecma_codegen_uniqueness.proofs.Controls.{AfterAsync, AfterCatch, 
 pub data Action : Type 0 where
   Shift Push Wrap Reduce Turn Begin Enter Leave Splice Take Keep EnterBelow Merge Reject : Action
 
--- `/` begins no operand, and where one stands no regular expression does
+-- Neither `/` nor the rest of a template begins an operand, and where one stands no regular expression does.
 abbrev pub begun_by : Action → Class → Action
 begun_by a (Infix Over) = Reject
 begun_by a (Assigns true) = Reject
+begun_by a (Later opens) = Reject
 begun_by a c = a
 
 abbrev pub taken_by : Action → Class → Action
 taken_by a RegexToken = Reject
+taken_by a (Later opens) = Reject
 taken_by a c = a
 
 -- with no operand at hand
@@ -92,6 +94,7 @@ without AfterSuper OpenParen = Shift
 without AfterSuper Dot = Shift
 without AfterSuper OpenBracket = Shift
 without AfterYield Line = Shift
+without AfterYield c = Reduce
 without YieldLine (Infix Times) = Shift
 without YieldLine c = begun_by Push c
 without Postfix Twice = Shift
@@ -169,6 +172,7 @@ without (Test variant) c = begun_by Push c
 without Declarators c = begun_by Push c
 without Initializer c = begun_by Push c
 without AfterDo Semi = Shift
+without AfterDo c = Reduce
 without AfterTry OpenBrace = Shift
 without BehindTry CatchWord = Shift
 without BehindTry FinallyWord = Shift
@@ -177,6 +181,7 @@ without AfterCatch OpenParen = Shift
 without CatchParameter c = begun_by Push c
 without BehindParameter OpenBrace = Shift
 without BehindCatch FinallyWord = Shift
+without BehindCatch c = Reduce
 without AfterFinally OpenBrace = Shift
 without AfterSwitch OpenBrace = Shift
 without Case c = begun_by Push c
@@ -234,6 +239,8 @@ without AtMember c = taken_by Shift c
 without InMemberKey c = begun_by Push c
 without (MemberKey variant) c = taken_by Shift c
 without (FieldPlace variant) c = begun_by Push c
+without (Closed variant) c = Reduce
+without control (Later opens) = Reject
 without control c = Reduce
 
 abbrev ends : Nonterminal → Class → Action
@@ -254,6 +261,7 @@ with_operand InKey CloseBracket = Shift
 with_operand InValue Comma = Shift
 with_operand InValue CloseBrace = Shift
 with_operand (Substitution variant) (Later opens) = Shift
+with_operand (Substitution variant) CloseBrace = Reject
 with_operand AfterNew OpenParen = Shift
 with_operand AfterNew c = ends nt.NewExpression c
 with_operand YieldLine c = ends nt.AssignmentExpression c

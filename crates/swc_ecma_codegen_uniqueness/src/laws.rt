@@ -9,7 +9,8 @@ ghost use Rattle.swc_ecma_codegen_grammar.specs.Phrases.{Generates};
 ghost use Rattle.swc_ecma_codegen_grammar.specs.Settings.{Settings};
 ghost use Rattle.swc_ecma_codegen_grammar.specs.TreePhrases.{expr_phrase, program_phrase};
 ghost use Rattle.swc_ecma_codegen_grammar.specs.Tokens.{Token, punctuator};
-ghost use Rattle.swc_ecma_codegen_grammar.specs.declared.kinds.Kind.TheVariants.{Regex};
+ghost use Rattle.swc_ecma_codegen_grammar.specs.declared.kinds.Kind.TheVariants.{Regex, TemplateRest};
+ghost use Rattle.swc_ecma_codegen_grammar.specs.declared.kinds.TemplatePart.{TemplatePart};
 ghost use Rattle.swc_ecma_codegen_syntax.specs.declared.nonterminals.Nonterminal.TheVariants.{Expression};
 ghost use Rattle.swc_ecma_codegen_syntax.specs.declared.parameters.Parameters.{Parameters as Given};
 ghost use Rattle.swc_ecma_codegen_syntax.specs.Derives.{DerivesExpr, DerivesProgram, bare_phrase, expr_verdict, program_verdict};
@@ -142,5 +143,15 @@ pub fn kept_programs_are_told_by_names()
 pub fn tokens_tell_a_division()
     ensures { (s t : Settings) (a b : Program AnyNode) (xs ys zs : List Token) (x y : Token)
         → x.kind ≡ Regex → (y ≡ punctuator (codes "/")) ⊎ (y ≡ punctuator (codes "/="))
+        → DerivesProgram true s a (xs ++ (x ∷ ys)) → DerivesProgram true t b (xs ++ (y ∷ zs)) → ⊥ }
+{}
+
+/// The tokens before a `}` tell whether it closes what `{` opened or goes on with a template: no two programs are derived with
+/// lists that are the same up to a token, which is the middle or the end of a template in one, and `}` in the other.
+/// ECMA-262, section 12.
+#[tactic(auto, using(crate::proofs::Goals::one_template))]
+pub fn tokens_tell_the_rest_of_a_template()
+    ensures { (s t : Settings) (a b : Program AnyNode) (xs ys zs : List Token) (x y : Token)
+        (part : TemplatePart) → x.kind ≡ TemplateRest part → y ≡ punctuator (codes "}")
         → DerivesProgram true s a (xs ++ (x ∷ ys)) → DerivesProgram true t b (xs ++ (y ∷ zs)) → ⊥ }
 {}
