@@ -5,6 +5,7 @@ pub mod Breaks
 pub mod Unbroken
 pub mod PatternLaws
 pub mod BranchLaws
+pub mod MappedOptions
 pub mod MappedPats
 pub mod MappedDecls
 pub mod MappedStmts

@@ -28,7 +28,7 @@ use Rattle.swc_ecma_codegen_grammar.proofs.MappedClasses.{each_param, by_param_p
 use Rattle.swc_ecma_codegen_grammar.proofs.MappedTsDecls.{by_args}
 use Rattle.swc_ecma_codegen_tokens.specs.Lists.{ListChild, list}
 use Rattle.swc_ecma_codegen_tokens.specs.Run.{Plan, Part}
-use Rattle.swc_ecma_codegen_tokens.specs.Words.{keyword, punct, space, formatting_space, start_of, last_of, leading_comments}
+use Rattle.swc_ecma_codegen_tokens.specs.Words.{keyword, punct, space, formatting_space, start_of, last_of, leading_comments, semi}
 use Rattle.swc_ecma_codegen_emit.specs.declared.nodes.Context.TheVariants.{Plain}
 use Rattle.swc_ecma_codegen_emit.specs.declared.nodes.Piece.TheVariants.{ClassHead, ClassWord}
 use Rattle.swc_ecma_codegen_emit.specs.Places.{Place, Whole, Only}
@@ -46,6 +46,7 @@ use Rattle.swc_ecma_codegen_emit.specs.TsDecls.{extended_place, ts_expr_with_typ
 use Rattle.swc_ecma_codegen_emit.specs.TsMembers.{readonly_index, ts_index_signature, fn_param_place, fn_param_items}
 use Rattle.swc_ecma_codegen_emit.proofs.MappedFunctions.{decorators_mapped, param_same}
 use Rattle.swc_ecma_codegen_emit.proofs.MappedPats.{children_mapped, pat_mapped}
+use Rattle.swc_ecma_codegen_emit.proofs.MappedOptions.{by_four}
 
 -- ---- classes
 
@@ -166,19 +167,14 @@ private_prop_by {X} g asks items b n None (Some v) place rest = private_prop_sam
 private_prop_by {X} g asks items b n (Some t) None place rest = private_prop_same n _ _ _ (list_mapped {A = Decorator X} _ _ (child_of decorator_place (λ d place. decorator (λ x. items (g x)) d)) (λ d. refl) n.decorators.items)
 private_prop_by {X} g asks items b n (Some t) (Some v) place rest = private_prop_same n _ _ _ (list_mapped {A = Decorator X} _ _ (child_of decorator_place (λ d place. decorator (λ x. items (g x)) d)) (λ d. refl) n.decorators.items)
 
-accessor_same : {X : Type 0} (n : AutoAccessor X) (cs ds : List ListChild) (after : Plan) → cs ≡ ds → list decorators_format n.span cs after ≡ list decorators_format n.span ds after
-accessor_same n cs ds after e = ap (λ z. list decorators_format n.span z after) e
-
-accessor_by : {X Y : Type 0} (g : X → Y) (asks : Y → Answers) (items : Y → Place → Part) (b : Box (class_members.ClassMember X) Global) (n : AutoAccessor X) (key : Key X) (type_ann : Option (TsTypeAnnBox X)) (value : Option (ExprBox X)) (place : Place) (rest : Plan) → node_items asks items (map-AnyNode X Y g (as_member b (members.AutoAccessor (record n { key = key; type_ann = type_ann; value = value })))) place rest ≡ auto_accessor (λ x. items (g x)) (record n { key = key; type_ann = type_ann; value = value }) rest
+accessor_by : {X Y : Type 0} (g : X → Y) (asks : Y → Answers) (items : Y → Place → Part) (b : Box (class_members.ClassMember X) Global) (n : AutoAccessor X) (place : Place) (key : Key X) (type_ann : Option (TsTypeAnnBox X)) (value : Option (ExprBox X)) (rest : Plan) → node_items asks items (map-AnyNode X Y g (as_member b (members.AutoAccessor (record n { key = key; type_ann = type_ann; value = value })))) place rest ≡ auto_accessor (λ x. items (g x)) (record n { key = key; type_ann = type_ann; value = value }) rest
 unfolding node_items stmt_part class_member auto_accessor accessor_modifiers accessor_tail accessor_key field_annotation initializer decorator
-accessor_by {X} g asks items b n (keys.Public k) None None place rest = accessor_same n _ _ _ (list_mapped {A = Decorator X} _ _ (child_of decorator_place (λ d place. decorator (λ x. items (g x)) d)) (λ d. refl) n.decorators.items)
-accessor_by {X} g asks items b n (keys.Public k) None (Some v) place rest = accessor_same n _ _ _ (list_mapped {A = Decorator X} _ _ (child_of decorator_place (λ d place. decorator (λ x. items (g x)) d)) (λ d. refl) n.decorators.items)
-accessor_by {X} g asks items b n (keys.Public k) (Some t) None place rest = accessor_same n _ _ _ (list_mapped {A = Decorator X} _ _ (child_of decorator_place (λ d place. decorator (λ x. items (g x)) d)) (λ d. refl) n.decorators.items)
-accessor_by {X} g asks items b n (keys.Public k) (Some t) (Some v) place rest = accessor_same n _ _ _ (list_mapped {A = Decorator X} _ _ (child_of decorator_place (λ d place. decorator (λ x. items (g x)) d)) (λ d. refl) n.decorators.items)
-accessor_by {X} g asks items b n (keys.Private k) None None place rest = accessor_same n _ _ _ (list_mapped {A = Decorator X} _ _ (child_of decorator_place (λ d place. decorator (λ x. items (g x)) d)) (λ d. refl) n.decorators.items)
-accessor_by {X} g asks items b n (keys.Private k) None (Some v) place rest = accessor_same n _ _ _ (list_mapped {A = Decorator X} _ _ (child_of decorator_place (λ d place. decorator (λ x. items (g x)) d)) (λ d. refl) n.decorators.items)
-accessor_by {X} g asks items b n (keys.Private k) (Some t) None place rest = accessor_same n _ _ _ (list_mapped {A = Decorator X} _ _ (child_of decorator_place (λ d place. decorator (λ x. items (g x)) d)) (λ d. refl) n.decorators.items)
-accessor_by {X} g asks items b n (keys.Private k) (Some t) (Some v) place rest = accessor_same n _ _ _ (list_mapped {A = Decorator X} _ _ (child_of decorator_place (λ d place. decorator (λ x. items (g x)) d)) (λ d. refl) n.decorators.items)
+accessor_by {X} g asks items b n place =
+    by_four (map _) (λ ds. list decorators_format n.span (map (child_of decorator_place (λ d place. decorator items d)) ds)) (λ ds. list decorators_format n.span (map (child_of decorator_place (λ d place. decorator (λ x. items (g x)) d)) ds))
+    _ (accessor_key items) (accessor_key (λ x. items (g x))) _ (field_annotation items n.definite) (field_annotation (λ x. items (g x)) n.definite) _ (initializer items) (initializer (λ x. items (g x)))
+    (λ ds k t v rest. ds (accessor_modifiers n (keyword None (codes "accessor") (space (k (t (v (semi rest))))))))
+    (λ ds z. ap (λ cs. list decorators_format n.span cs z) (list_mapped {A = Decorator X} _ _ (child_of decorator_place (λ d place. decorator (λ x. items (g x)) d)) (λ d. refl) ds))
+    (elim [ keys.Public k ↦ λ z. refl | keys.Private k ↦ λ z. refl ]) (elim [ None ↦ λ z. refl | Some t ↦ λ z. refl ]) (elim [ None ↦ λ z. refl | Some t ↦ λ z. refl ]) n.decorators.items
 
 index_by : {X Y : Type 0} (g : X → Y) (asks : Y → Answers) (items : Y → Place → Part) (b : Box (class_members.ClassMember X) Global) (n : TsIndexSignature X) (type_ann : Option (TsTypeAnnBox X)) (place : Place) (rest : Plan) → node_items asks items (map-AnyNode X Y g (as_member b (members.TsIndexSignature (record n { type_ann = type_ann })))) place rest ≡ index_member (λ x. asks (g x)) (λ x. items (g x)) (record n { type_ann = type_ann }) rest
 unfolding node_items stmt_part class_member index_member ts_index_signature annotation
@@ -192,7 +188,7 @@ member_by g asks items b (members.Method n) place rest = method_by g asks items 
 member_by g asks items b (members.PrivateMethod n) place rest = private_method_by g asks items b n n.kind place rest
 member_by g asks items b (members.ClassProp n) place rest = prop_by g asks items b n n.type_ann n.value place rest
 member_by g asks items b (members.PrivateProp n) place rest = private_prop_by g asks items b n n.type_ann n.value place rest
-member_by g asks items b (members.AutoAccessor n) place rest = accessor_by g asks items b n n.key n.type_ann n.value place rest
+member_by g asks items b (members.AutoAccessor n) place rest = accessor_by g asks items b n place n.key n.type_ann n.value rest
 member_by g asks items b (members.TsIndexSignature n) place rest = index_by g asks items b n n.type_ann place rest
 member_by g asks items b n place rest = refl
 

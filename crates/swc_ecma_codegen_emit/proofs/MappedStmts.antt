@@ -42,9 +42,10 @@ use Rattle.swc_ecma_codegen_emit.specs.Exprs.{opened}
 use Rattle.swc_ecma_codegen_emit.specs.Lists.{child_at}
 use Rattle.swc_ecma_codegen_emit.specs.Parts.{expr_part, stmt_part}
 use Rattle.swc_ecma_codegen_emit.specs.Pats.{initializer, declared_pat}
-use Rattle.swc_ecma_codegen_emit.specs.Stmts.{enclosed, argument, argument_in, spaced, stmt_word, empty_stmt, expr_stmt, debugger_stmt, with_stmt, return_arg, return_stmt, labeled_stmt, break_stmt, continue_stmt, else_branch, if_stmt, catch_param, catch_clause, handler, finalizer, try_stmt, throw_stmt, lines_format, cases_format, case_test, is_single, case_list, switch_case, switch_cases, switch_stmt, while_stmt, loop_test, do_while_stmt, var_decl_or_expr, for_init, for_value, for_clause, for_control, for_stmt, for_head, for_right, for_each, for_in_stmt, for_await, for_of_stmt, stmt_parts, stmt_closed, stmt}
+use Rattle.swc_ecma_codegen_emit.specs.Stmts.{enclosed, argument, argument_in, spaced, stmt_word, empty_stmt, expr_stmt, debugger_stmt, with_stmt, return_arg, return_stmt, labeled_stmt, break_stmt, continue_stmt, else_branch, if_stmt, catch_param, catch_clause, handler, finalizer, try_stmt, throw_stmt, lines_format, cases_format, case_test, is_single, case_list, switch_case, switch_cases, switch_stmt, while_stmt, loop_test, do_while_stmt, var_decl_or_expr, for_init, for_value, for_clause, for_control, for_stmt, for_head, for_right, for_each, for_in_stmt, for_await, for_of_stmt, stmt_parts, stmt_closed, stmt, spaced_word}
 use Rattle.swc_ecma_codegen_emit.specs.Tree.{node_items}
 use Rattle.swc_ecma_codegen_emit.proofs.MappedDecls.{declarator_child, declarator_same, declared_pat_mapped, decl_mapped, decl_placed}
+use Rattle.swc_ecma_codegen_emit.proofs.MappedOptions.{by_two, by_three}
 use Rattle.swc_ecma_codegen_emit.proofs.MappedPats.{child_same, children_mapped}
 
 -- the end of a statement that is no block
@@ -63,18 +64,16 @@ unfolding node_items stmt stmt_parts stmt_closed is_block stmt_span if_stmt encl
 if_by g asks items n None place rest = refl
 if_by g asks items n (Some x) place rest = refl
 
-caught_by : {X Y : Type 0} (g : X → Y) (asks : Y → Answers) (items : Y → Place → Part) (n : TryStmt X) (c : CatchClause X) (param : Option (PatBox X)) (last : Option (BlockStmtBox X)) (place : Place) (rest : Plan) → node_items asks items (map-AnyNode X Y g (nodes.Stmt (stmts.Try (record n { handler = Some (record c { param = param }); finalizer = last })))) place rest ≡ stmt (λ x. asks (g x)) (λ x. items (g x)) (stmts.Try (record n { handler = Some (record c { param = param }); finalizer = last })) rest
+caught_by : {X Y : Type 0} (g : X → Y) (asks : Y → Answers) (items : Y → Place → Part) (n : TryStmt X) (c : CatchClause X) (place : Place) (param : Option (PatBox X)) (last : Option (BlockStmtBox X)) (rest : Plan) → node_items asks items (map-AnyNode X Y g (nodes.Stmt (stmts.Try (record n { handler = Some (record c { param = param }); finalizer = last })))) place rest ≡ stmt (λ x. asks (g x)) (λ x. items (g x)) (stmts.Try (record n { handler = Some (record c { param = param }); finalizer = last })) rest
 unfolding node_items stmt stmt_parts stmt_closed is_block stmt_span try_stmt handler catch_clause catch_param finalizer
-caught_by g asks items n c None None place rest = refl
-caught_by g asks items n c None (Some b) place rest = refl
-caught_by g asks items n c (Some p) None place rest = refl
-caught_by g asks items n c (Some p) (Some b) place rest = refl
+caught_by g asks items n c place = by_two _ (catch_param items) (catch_param (λ x. items (g x))) _ (finalizer items) (finalizer (λ x. items (g x)))
+    (λ p f rest. spaced_word n.span (codes "try") (items (g n.block.node.value) (Whole Plain) (formatting_space (opened c.span (keyword None (codes "catch") (formatting_space (p (formatting_space (items (g c.body.node.value) (Whole Plain) (f (ended n.span rest))))))))))) (elim [ None ↦ λ z. refl | Some t ↦ λ z. refl ]) (elim [ None ↦ λ z. refl | Some t ↦ λ z. refl ])
 
 try_by : {X Y : Type 0} (g : X → Y) (asks : Y → Answers) (items : Y → Place → Part) (n : TryStmt X) (caught : Option (CatchClause X)) (last : Option (BlockStmtBox X)) (place : Place) (rest : Plan) → node_items asks items (map-AnyNode X Y g (nodes.Stmt (stmts.Try (record n { handler = caught; finalizer = last })))) place rest ≡ stmt (λ x. asks (g x)) (λ x. items (g x)) (stmts.Try (record n { handler = caught; finalizer = last })) rest
 unfolding node_items stmt stmt_parts stmt_closed is_block stmt_span try_stmt handler finalizer
 try_by g asks items n None None place rest = refl
 try_by g asks items n None (Some b) place rest = refl
-try_by g asks items n (Some c) last place rest = caught_by g asks items n c c.param last place rest
+try_by g asks items n (Some c) last place rest = caught_by g asks items n c place c.param last rest
 
 -- ---- `switch`
 
@@ -103,20 +102,11 @@ switch_mapped {X} {Y} g asks items n place rest = ap (λ z. stmt_word n.span (co
 
 -- ---- loops
 
-for_by : {X Y : Type 0} (g : X → Y) (asks : Y → Answers) (items : Y → Place → Part) (n : ForStmt X) (init : Option (VarDeclOrExpr X)) (test update : Option (ExprBox X)) (place : Place) (rest : Plan) → node_items asks items (map-AnyNode X Y g (nodes.Stmt (stmts.For (record n { init = init; test = test; update = update })))) place rest ≡ stmt (λ x. asks (g x)) (λ x. items (g x)) (stmts.For (record n { init = init; test = test; update = update })) rest
+for_by : {X Y : Type 0} (g : X → Y) (asks : Y → Answers) (items : Y → Place → Part) (n : ForStmt X) (place : Place) (init : Option (VarDeclOrExpr X)) (test update : Option (ExprBox X)) (rest : Plan) → node_items asks items (map-AnyNode X Y g (nodes.Stmt (stmts.For (record n { init = init; test = test; update = update })))) place rest ≡ stmt (λ x. asks (g x)) (λ x. items (g x)) (stmts.For (record n { init = init; test = test; update = update })) rest
 unfolding node_items stmt stmt_parts stmt_closed is_block stmt_span for_stmt for_control for_init var_decl_or_expr for_clause for_value
-for_by g asks items n None None None place rest = refl
-for_by g asks items n None None (Some u) place rest = refl
-for_by g asks items n None (Some t) None place rest = refl
-for_by g asks items n None (Some t) (Some u) place rest = refl
-for_by g asks items n (Some (inits.VarDecl i)) None None place rest = refl
-for_by g asks items n (Some (inits.VarDecl i)) None (Some u) place rest = refl
-for_by g asks items n (Some (inits.VarDecl i)) (Some t) None place rest = refl
-for_by g asks items n (Some (inits.VarDecl i)) (Some t) (Some u) place rest = refl
-for_by g asks items n (Some (inits.Expr i)) None None place rest = refl
-for_by g asks items n (Some (inits.Expr i)) None (Some u) place rest = refl
-for_by g asks items n (Some (inits.Expr i)) (Some t) None place rest = refl
-for_by g asks items n (Some (inits.Expr i)) (Some t) (Some u) place rest = refl
+for_by g asks items n place = by_three _ (for_init items) (for_init (λ x. items (g x))) _ (for_value items) (for_value (λ x. items (g x))) _ (for_value items) (for_value (λ x. items (g x)))
+    (λ i t u rest. stmt_word n.span (codes "for") (punct (codes "(") (i (punct (codes ";") (t (punct (codes ";") (u (punct (codes ")") (items (g n.body.node.value) (Whole Plain) (ended n.span rest))))))))))
+    (elim [ None ↦ λ z. refl | Some (inits.VarDecl i) ↦ λ z. refl | Some (inits.Expr i) ↦ λ z. refl ]) (elim [ None ↦ λ z. refl | Some t ↦ λ z. refl ]) (elim [ None ↦ λ z. refl | Some t ↦ λ z. refl ])
 
 -- `using a = b of`, by its parts
 abbrev using_head : {X : Type 0} → UsingDecl X → List ListChild → Plan → Plan
@@ -156,7 +146,7 @@ stmt_mapped g asks items (stmts.Return n) place rest = return_by g asks items n 
 stmt_mapped g asks items (stmts.If n) place rest = if_by g asks items n n.alt place rest
 stmt_mapped g asks items (stmts.Switch n) place rest = switch_mapped g asks items n place rest
 stmt_mapped g asks items (stmts.Try n) place rest = try_by g asks items n n.handler n.finalizer place rest
-stmt_mapped g asks items (stmts.For n) place rest = for_by g asks items n n.init n.test n.update place rest
+stmt_mapped g asks items (stmts.For n) place rest = for_by g asks items n place n.init n.test n.update rest
 stmt_mapped g asks items (stmts.ForIn n) place rest = for_in_by g asks items n n.left place rest
 stmt_mapped g asks items (stmts.ForOf n) place rest = for_of_by g asks items n n.left place rest
 stmt_mapped g asks items (stmts.Decl n) place rest = decl_by g asks items n place rest

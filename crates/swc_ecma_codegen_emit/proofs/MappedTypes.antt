@@ -49,21 +49,24 @@ use Rattle.swc_ecma_codegen_grammar.proofs.MappedPats.{by_cases}
 use Rattle.swc_ecma_codegen_grammar.proofs.MappedTemplates.{length_mapped}
 use Rattle.swc_ecma_codegen_grammar.proofs.MappedTypes.{by_param, by_element}
 use Rattle.swc_ecma_codegen_tokens.specs.Run.{Plan, Part}
+use Rattle.swc_ecma_codegen_tokens.specs.Lists.{deeper, shallower}
+use Rattle.swc_ecma_codegen_tokens.specs.Lits.{str_lit}
 use Rattle.swc_ecma_codegen_tokens.specs.Tags.{close}
-use Rattle.swc_ecma_codegen_tokens.specs.Words.{keyword, punct, space, leading_comments}
+use Rattle.swc_ecma_codegen_tokens.specs.Words.{keyword, leading_comments, line_end, punct, semi, space}
 use Rattle.swc_ecma_codegen_emit.specs.declared.nodes.Context.TheVariants.{Plain, Reference}
 use Rattle.swc_ecma_codegen_emit.specs.Places.{Place, Whole, context_of}
 use Rattle.swc_ecma_codegen_emit.specs.Annotations.{annotation, spaced_annotation, type_args, type_params, types_format, word_before}
 use Rattle.swc_ecma_codegen_emit.specs.Answers.{Answers}
-use Rattle.swc_ecma_codegen_emit.specs.Exprs.{opened, spaced_punct}
+use Rattle.swc_ecma_codegen_emit.specs.Exprs.{ident, opened, spaced_punct}
 use Rattle.swc_ecma_codegen_emit.specs.Lists.{child_of}
 use Rattle.swc_ecma_codegen_emit.specs.Names.{binding_ident}
 use Rattle.swc_ecma_codegen_emit.specs.Pats.{pat_place, pat_items, initializer, array_pat, rest_pat, key_value_pat_prop, assign_pat_prop, object_pat_prop, object_pat_format, object_pat}
 use Rattle.swc_ecma_codegen_emit.specs.Templates.{bad_shape, tpl_parts}
 use Rattle.swc_ecma_codegen_emit.specs.Tree.{node_items}
 use Rattle.swc_ecma_codegen_emit.specs.TsMembers.{fn_param_place, fn_param_items, member_items}
-use Rattle.swc_ecma_codegen_emit.specs.Types.{type_place, type_items, type_at, type_behind, default_type, ts_qualified_name, ts_entity_name, ts_type_ref, type_arguments, ts_type_param_instantiation, ts_type_param, param_place, ts_type_param_decl, ts_keyword_type, ts_this_type, ts_fn_param, signature_type, ts_fn_type, spaced_params, ts_constructor_type, ts_fn_or_constructor_type, ts_tpl_parts, ts_tpl_lit_type, ts_lit, ts_lit_type, qualifier, ts_import_type, ts_type_query_expr, ts_type_query, members_format, ts_type_lit, ts_array_type, label, ts_tuple_element, element_place, ts_tuple_type, ts_optional_type, ts_rest_type, mapped_param, mapped_type_ann, mapped_parts, ts_mapped_type, union_format, intersection_format, ts_union_type, ts_intersection_type, ts_union_or_intersection_type, ts_parenthesized_type, ts_type_operator, ts_indexed_access_type, ts_conditional_type, ts_infer_type, is_behind, ts_type_predicate, ts_type, ts_type_ann}
+use Rattle.swc_ecma_codegen_emit.specs.Types.{type_place, type_items, type_at, type_behind, default_type, ts_qualified_name, ts_entity_name, ts_type_ref, type_arguments, ts_type_param_instantiation, ts_type_param, param_place, ts_type_param_decl, ts_keyword_type, ts_this_type, ts_fn_param, signature_type, ts_fn_type, spaced_params, ts_constructor_type, ts_fn_or_constructor_type, ts_tpl_parts, ts_tpl_lit_type, ts_lit, ts_lit_type, qualifier, ts_import_type, ts_type_query_expr, ts_type_query, members_format, ts_type_lit, ts_array_type, label, ts_tuple_element, element_place, ts_tuple_type, ts_optional_type, ts_rest_type, mapped_param, mapped_type_ann, signed_readonly, signed_question, mapped_parts, ts_mapped_type, union_format, intersection_format, ts_union_type, ts_intersection_type, ts_union_or_intersection_type, ts_parenthesized_type, ts_type_operator, ts_indexed_access_type, ts_conditional_type, ts_infer_type, is_behind, ts_type_predicate, ts_type, ts_type_ann}
 use Rattle.swc_ecma_codegen_emit.specs.Parts.{expr_part, ts_part}
+use Rattle.swc_ecma_codegen_emit.proofs.MappedOptions.{by_two, by_three, by_four}
 use Rattle.swc_ecma_codegen_emit.proofs.MappedNamespaces.{namespace_body_mapped}
 use Rattle.swc_ecma_codegen_emit.proofs.MappedTsMembers.{type_element_same, interface_body_mapped}
 use Rattle.swc_ecma_codegen_emit.proofs.MappedPats.{children_mapped, elements_mapped, key_value_same, prop_name_mapped, prop_name_placed}
@@ -144,33 +147,30 @@ unfolding node_items ts_part ts_type ts_fn_or_constructor_type
 function_mapped g asks items b (function_types.TsFnType n) place rest = fn_mapped g asks items b n n.type_params place rest
 function_mapped g asks items b (function_types.TsConstructorType n) place rest = constructor_mapped g asks items b n n.type_params place rest
 
-import_mapped : {X Y : Type 0} (g : X → Y) (asks : Y → Answers) (items : Y → Place → Part) (b : Box (TsImportType X) Global) (n : TsImportType X) (qualified : Option (TsEntityNameBox X)) (type_args : Option (TsTypeParamInstantiationBox X)) (place : Place) (rest : Plan) → node_items asks items (map-AnyNode X Y g (as_type (types.TsImportType (with_value b (record n { qualifier = qualified; type_args = type_args }))))) place rest ≡ ts_import_type (λ x. items (g x)) (record n { qualifier = qualified; type_args = type_args }) rest
+-- `import("a").B`, and what stands behind it
+abbrev import_of : {X : Type 0} → TsImportType X → Part → Part
+import_of n q after = leading_comments n.span.lo (keyword None (codes "import") (punct (codes "(") (str_lit n.arg (punct (codes ")") (q after)))))
+
+import_mapped : {X Y : Type 0} (g : X → Y) (asks : Y → Answers) (items : Y → Place → Part) (b : Box (TsImportType X) Global) (n : TsImportType X) (place : Place) (qualified : Option (TsEntityNameBox X)) (type_args : Option (TsTypeParamInstantiationBox X)) (rest : Plan) → node_items asks items (map-AnyNode X Y g (as_type (types.TsImportType (with_value b (record n { qualifier = qualified; type_args = type_args }))))) place rest ≡ ts_import_type (λ x. items (g x)) (record n { qualifier = qualified; type_args = type_args }) rest
 unfolding node_items ts_part ts_type ts_import_type qualifier type_args
-import_mapped g asks items b n None None place rest = refl
-import_mapped g asks items b n None (Some t) place rest = refl
-import_mapped g asks items b n (Some q) None place rest = refl
-import_mapped g asks items b n (Some q) (Some t) place rest = refl
+import_mapped g asks items b n place = by_two _ (qualifier items) (qualifier (λ x. items (g x))) _ (type_args items Plain) (type_args (λ x. items (g x)) Plain)
+    (λ q t rest. import_of n q (t rest)) (elim [ None ↦ λ z. refl | Some t ↦ λ z. refl ]) (elim [ None ↦ λ z. refl | Some t ↦ λ z. refl ])
 
 name_query_mapped : {X Y : Type 0} (g : X → Y) (asks : Y → Answers) (items : Y → Place → Part) (b : Box (TsTypeQuery X) Global) (n : TsTypeQuery X) (name : TsEntityNameBox X) (type_args : Option (TsTypeParamInstantiationBox X)) (place : Place) (rest : Plan) → node_items asks items (map-AnyNode X Y g (as_type (types.TsTypeQuery (with_value b (record n { expr_name = query_exprs.TsEntityName name; type_args = type_args }))))) place rest ≡ ts_type_query (λ x. items (g x)) (record n { expr_name = query_exprs.TsEntityName name; type_args = type_args }) rest
 unfolding node_items ts_part ts_type ts_type_query ts_type_query_expr type_args
 name_query_mapped g asks items b n name None place rest = refl
 name_query_mapped g asks items b n name (Some t) place rest = refl
 
-import_query_mapped : {X Y : Type 0} (g : X → Y) (asks : Y → Answers) (items : Y → Place → Part) (b : Box (TsTypeQuery X) Global) (n : TsTypeQuery X) (m : TsImportType X) (qualified : Option (TsEntityNameBox X)) (inner type_args : Option (TsTypeParamInstantiationBox X)) (place : Place) (rest : Plan) → node_items asks items (map-AnyNode X Y g (as_type (types.TsTypeQuery (with_value b (record n { expr_name = query_exprs.Import (record m { qualifier = qualified; type_args = inner }); type_args = type_args }))))) place rest ≡ ts_type_query (λ x. items (g x)) (record n { expr_name = query_exprs.Import (record m { qualifier = qualified; type_args = inner }); type_args = type_args }) rest
+import_query_mapped : {X Y : Type 0} (g : X → Y) (asks : Y → Answers) (items : Y → Place → Part) (b : Box (TsTypeQuery X) Global) (n : TsTypeQuery X) (m : TsImportType X) (place : Place) (qualified : Option (TsEntityNameBox X)) (inner type_args : Option (TsTypeParamInstantiationBox X)) (rest : Plan) → node_items asks items (map-AnyNode X Y g (as_type (types.TsTypeQuery (with_value b (record n { expr_name = query_exprs.Import (record m { qualifier = qualified; type_args = inner }); type_args = type_args }))))) place rest ≡ ts_type_query (λ x. items (g x)) (record n { expr_name = query_exprs.Import (record m { qualifier = qualified; type_args = inner }); type_args = type_args }) rest
 unfolding node_items ts_part ts_type ts_type_query ts_type_query_expr ts_import_type qualifier type_args
-import_query_mapped g asks items b n m None None None place rest = refl
-import_query_mapped g asks items b n m None None (Some t) place rest = refl
-import_query_mapped g asks items b n m None (Some i) None place rest = refl
-import_query_mapped g asks items b n m None (Some i) (Some t) place rest = refl
-import_query_mapped g asks items b n m (Some q) None None place rest = refl
-import_query_mapped g asks items b n m (Some q) None (Some t) place rest = refl
-import_query_mapped g asks items b n m (Some q) (Some i) None place rest = refl
-import_query_mapped g asks items b n m (Some q) (Some i) (Some t) place rest = refl
+import_query_mapped g asks items b n m place =
+    by_three _ (qualifier items) (qualifier (λ x. items (g x))) _ (type_args items Plain) (type_args (λ x. items (g x)) Plain) _ (type_args items Plain) (type_args (λ x. items (g x)) Plain)
+    (λ q i t rest. leading_comments n.span.lo (keyword None (codes "typeof") (space (import_of m q (i (t rest)))))) (elim [ None ↦ λ z. refl | Some t ↦ λ z. refl ]) (elim [ None ↦ λ z. refl | Some t ↦ λ z. refl ]) (elim [ None ↦ λ z. refl | Some t ↦ λ z. refl ])
 
 query_mapped : {X Y : Type 0} (g : X → Y) (asks : Y → Answers) (items : Y → Place → Part) (b : Box (TsTypeQuery X) Global) (n : TsTypeQuery X) (expr_name : TsTypeQueryExpr X) (place : Place) (rest : Plan) → node_items asks items (map-AnyNode X Y g (as_type (types.TsTypeQuery (with_value b (record n { expr_name = expr_name }))))) place rest ≡ ts_type_query (λ x. items (g x)) (record n { expr_name = expr_name }) rest
 unfolding node_items ts_part ts_type ts_type_query
 query_mapped g asks items b n (query_exprs.TsEntityName m) place rest = name_query_mapped g asks items b n m n.type_args place rest
-query_mapped g asks items b n (query_exprs.Import m) place rest = import_query_mapped g asks items b n m m.qualifier m.type_args n.type_args place rest
+query_mapped g asks items b n (query_exprs.Import m) place rest = import_query_mapped g asks items b n m place m.qualifier m.type_args n.type_args rest
 
 -- a template that has one part more than types
 counted_mapped : {A B : Type 0} (g : A → B) (items : B → Part) (put : A → Part) → ((n : A) → items (g n) ≡ put n) → (span : Span) (es : List A) (qs : List TplElement) (rest : Plan) → cond (is_counted (map g es) qs) (leading_comments span.lo (tpl_parts items false (map g es) qs rest)) (bad_shape rest) ≡ cond (is_counted es qs) (leading_comments span.lo (tpl_parts put false es qs rest)) (bad_shape rest)
@@ -199,31 +199,26 @@ unfolding node_items ts_part ts_type ts_union_or_intersection_type ts_union_type
 joined_mapped {X} g asks items (joined_types.TsUnionType n) place rest = ap (leading_comments n.span.lo) (children_mapped {A = TsTypeBox X} _ (child_of (type_place asks) (type_items items)) (child_of (type_place (λ x. asks (g x))) (type_items (λ x. items (g x)))) (λ x. refl) union_format n.span n.types.items rest)
 joined_mapped {X} g asks items (joined_types.TsIntersectionType n) place rest = ap (leading_comments n.span.lo) (children_mapped {A = TsTypeBox X} _ (child_of (type_place asks) (type_items items)) (child_of (type_place (λ x. asks (g x))) (type_items (λ x. items (g x)))) (λ x. refl) intersection_format n.span n.types.items rest)
 
-infer_mapped : {X Y : Type 0} (g : X → Y) (asks : Y → Answers) (items : Y → Place → Part) (b : Box (TsInferType X) Global) (n : TsInferType X) (constraint default_ : Option (TsTypeBox X)) (place : Place) (rest : Plan) → node_items asks items (map-AnyNode X Y g (as_type (types.TsInferType (with_value b (record n { type_param = record n.type_param { constraint = constraint; default = default_ } }))))) place rest ≡ ts_infer_type (λ x. items (g x)) (record n { type_param = record n.type_param { constraint = constraint; default = default_ } }) rest
-unfolding node_items ts_part ts_type ts_infer_type ts_type_param type_behind default_type
-infer_mapped g asks items b n None None place rest = refl
-infer_mapped g asks items b n None (Some d) place rest = refl
-infer_mapped g asks items b n (Some c) None place rest = refl
-infer_mapped g asks items b n (Some c) (Some d) place rest = refl
+-- `const in out A extends B = C`
+abbrev param_of : {X : Type 0} → TsTypeParam X → Part → Part
+param_of n behind rest = leading_comments n.span.lo (word_before n.is_const (codes "const") (word_before n.is_in (codes "in") (word_before n.is_out (codes "out") (ident n.name (behind rest)))))
 
-mapped_mapped : {X Y : Type 0} (g : X → Y) (asks : Y → Answers) (items : Y → Place → Part) (b : Box (TsMappedType X) Global) (n : TsMappedType X) (constraint default_ name_type type_ann : Option (TsTypeBox X)) (place : Place) (rest : Plan) → node_items asks items (map-AnyNode X Y g (as_type (types.TsMappedType (with_value b (record n { type_param = record n.type_param { constraint = constraint; default = default_ }; name_type = name_type; type_ann = type_ann }))))) place rest ≡ ts_mapped_type (λ x. items (g x)) (record n { type_param = record n.type_param { constraint = constraint; default = default_ }; name_type = name_type; type_ann = type_ann }) rest
+infer_mapped : {X Y : Type 0} (g : X → Y) (asks : Y → Answers) (items : Y → Place → Part) (b : Box (TsInferType X) Global) (n : TsInferType X) (place : Place) (constraint default_ : Option (TsTypeBox X)) (rest : Plan) → node_items asks items (map-AnyNode X Y g (as_type (types.TsInferType (with_value b (record n { type_param = record n.type_param { constraint = constraint; default = default_ } }))))) place rest ≡ ts_infer_type (λ x. items (g x)) (record n { type_param = record n.type_param { constraint = constraint; default = default_ } }) rest
+unfolding node_items ts_part ts_type ts_infer_type ts_type_param type_behind default_type
+infer_mapped g asks items b n place = by_two _ (type_behind items (codes "extends")) (type_behind (λ x. items (g x)) (codes "extends")) _ (default_type items) (default_type (λ x. items (g x)))
+    (λ c d rest. leading_comments n.span.lo (keyword None (codes "infer") (space (param_of n.type_param (λ z. c (d z)) rest)))) (elim [ None ↦ λ z. refl | Some t ↦ λ z. refl ]) (elim [ None ↦ λ z. refl | Some t ↦ λ z. refl ])
+
+-- `{ readonly [A in B as C]?: D; }`
+abbrev mapped_of : {X : Type 0} → TsMappedType X → Part → Part → Part
+mapped_of n behind type_ann rest =
+    leading_comments n.span.lo (punct (codes "{") (line_end (deeper (signed_readonly n.readonly (punct (codes "[") (ident n.type_param.name (behind (punct (codes "]") (signed_question n.optional (type_ann (semi (line_end (shallower (punct (codes "}") rest))))))))))))))
+
+mapped_mapped : {X Y : Type 0} (g : X → Y) (asks : Y → Answers) (items : Y → Place → Part) (b : Box (TsMappedType X) Global) (n : TsMappedType X) (place : Place) (constraint default_ name_type type_ann : Option (TsTypeBox X)) (rest : Plan) → node_items asks items (map-AnyNode X Y g (as_type (types.TsMappedType (with_value b (record n { type_param = record n.type_param { constraint = constraint; default = default_ }; name_type = name_type; type_ann = type_ann }))))) place rest ≡ ts_mapped_type (λ x. items (g x)) (record n { type_param = record n.type_param { constraint = constraint; default = default_ }; name_type = name_type; type_ann = type_ann }) rest
 unfolding node_items ts_part ts_type ts_mapped_type mapped_parts mapped_param mapped_type_ann type_behind default_type
-mapped_mapped g asks items b n None None None None place rest = refl
-mapped_mapped g asks items b n None None None (Some t) place rest = refl
-mapped_mapped g asks items b n None None (Some a) None place rest = refl
-mapped_mapped g asks items b n None None (Some a) (Some t) place rest = refl
-mapped_mapped g asks items b n None (Some d) None None place rest = refl
-mapped_mapped g asks items b n None (Some d) None (Some t) place rest = refl
-mapped_mapped g asks items b n None (Some d) (Some a) None place rest = refl
-mapped_mapped g asks items b n None (Some d) (Some a) (Some t) place rest = refl
-mapped_mapped g asks items b n (Some c) None None None place rest = refl
-mapped_mapped g asks items b n (Some c) None None (Some t) place rest = refl
-mapped_mapped g asks items b n (Some c) None (Some a) None place rest = refl
-mapped_mapped g asks items b n (Some c) None (Some a) (Some t) place rest = refl
-mapped_mapped g asks items b n (Some c) (Some d) None None place rest = refl
-mapped_mapped g asks items b n (Some c) (Some d) None (Some t) place rest = refl
-mapped_mapped g asks items b n (Some c) (Some d) (Some a) None place rest = refl
-mapped_mapped g asks items b n (Some c) (Some d) (Some a) (Some t) place rest = refl
+mapped_mapped g asks items b n place =
+    by_four _ (type_behind items (codes "in")) (type_behind (λ x. items (g x)) (codes "in")) _ (default_type items) (default_type (λ x. items (g x)))
+    _ (type_behind items (codes "as")) (type_behind (λ x. items (g x)) (codes "as")) _ (mapped_type_ann items) (mapped_type_ann (λ x. items (g x)))
+    (λ c d a t. mapped_of n (λ z. c (d (a z))) t) (elim [ None ↦ λ z. refl | Some t ↦ λ z. refl ]) (elim [ None ↦ λ z. refl | Some t ↦ λ z. refl ]) (elim [ None ↦ λ z. refl | Some t ↦ λ z. refl ]) (elim [ None ↦ λ z. refl | Some t ↦ λ z. refl ])
 
 predicate_mapped : {X Y : Type 0} (g : X → Y) (asks : Y → Answers) (items : Y → Place → Part) (b : Box (TsTypePredicate X) Global) (n : TsTypePredicate X) (type_ann : Option (TsTypeAnnBox X)) (place : Place) (rest : Plan) → node_items asks items (map-AnyNode X Y g (as_type (types.TsTypePredicate (with_value b (record n { type_ann = type_ann }))))) place rest ≡ ts_type_predicate (λ x. items (g x)) (record n { type_ann = type_ann }) rest
 unfolding node_items ts_part ts_type ts_type_predicate is_behind
@@ -238,11 +233,11 @@ type_mapped g asks items (types.TsTypeQuery n) place rest = query_mapped g asks 
 type_mapped g asks items (types.TsTypeLit n) place rest = object_mapped g asks items n place rest
 type_mapped g asks items (types.TsTupleType n) place rest = tuple_mapped g asks items n place rest
 type_mapped g asks items (types.TsUnionOrIntersectionType n) place rest = joined_mapped g asks items n place rest
-type_mapped g asks items (types.TsInferType n) place rest = infer_mapped g asks items n n.value n.value.type_param.constraint n.value.type_param.default place rest
-type_mapped g asks items (types.TsMappedType n) place rest = mapped_mapped g asks items n n.value n.value.type_param.constraint n.value.type_param.default n.value.name_type n.value.type_ann place rest
+type_mapped g asks items (types.TsInferType n) place rest = infer_mapped g asks items n n.value place n.value.type_param.constraint n.value.type_param.default rest
+type_mapped g asks items (types.TsMappedType n) place rest = mapped_mapped g asks items n n.value place n.value.type_param.constraint n.value.type_param.default n.value.name_type n.value.type_ann rest
 type_mapped g asks items (types.TsLitType n) place rest = lit_mapped g asks items n n.value n.value.lit place rest
 type_mapped g asks items (types.TsTypePredicate n) place rest = predicate_mapped g asks items n n.value n.value.type_ann place rest
-type_mapped g asks items (types.TsImportType n) place rest = import_mapped g asks items n n.value n.value.qualifier n.value.type_args place rest
+type_mapped g asks items (types.TsImportType n) place rest = import_mapped g asks items n n.value place n.value.qualifier n.value.type_args rest
 type_mapped g asks items n place rest = refl
 
 pub ts_part_mapped : {X Y : Type 0} (g : X → Y) (asks : Y → Answers) (items : Y → Place → Part) (n : TsPart X) (place : Place) (rest : Plan) → node_items asks items (map-AnyNode X Y g (nodes.TsPart n)) place rest ≡ ts_part (λ x. asks (g x)) (λ x. items (g x)) n place rest
