@@ -146,7 +146,7 @@ chain_call asks items optional n rest =
     items n.callee.node.value (Whole Callee)
     (call_mark optional (type_args items Plain n.type_args (arguments asks items call_format n.span n.args.items rest)))
 
--- its place says whether `?.` stands before its arguments
+-- its context says whether `?.` stands before its arguments
 abbrev pub is_optional : Context → Bool
 is_optional OptionalChain = true
 is_optional context = false

@@ -154,7 +154,7 @@ member_prop items (member_props.Ident n) rest = comments_before n.span.lo (punct
 member_prop items (member_props.PrivateName n) rest = comments_before n.span.lo (punct (codes ".") (private_name n rest))
 member_prop items (member_props.Computed n) rest = computed_prop_name items n rest
 
--- the place of the object before it
+-- the context of the object before it
 unfoldable pub object_place : {X : Type 0} → MemberProp X → Context
 object_place (member_props.Ident n) = DottedObject n.span.lo
 object_place (member_props.PrivateName n) = DottedObject n.span.lo

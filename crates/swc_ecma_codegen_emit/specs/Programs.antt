@@ -30,7 +30,7 @@ unfoldable pub program_start : {A Z : Type 0} → Option (String Z) → List A �
 program_start None body span rest = leading_comments span.lo (start_if_empty body span rest)
 program_start (Some text) body span rest = start_if_empty body span (hashbang (string_bytes text) (leading_comments span.lo rest))
 
--- a part with lines of the greatest length that its place tells
+-- a part with lines of the greatest length that its context tells
 abbrev pub lined : Place → Part → Part
 lined (Whole (ByItself max)) part = bounded max part
 lined place part = part

@@ -38,7 +38,7 @@ bad_shape rest = refuse unprintable.BadShape rest
 unfoldable pub tpl : {X : Type 0} → (X → Place → Part) → Bool → Tpl X → Part
 tpl items tagged n rest = if is_counted n.exprs.items n.quasis.items then tpl_placed items tagged n rest else bad_shape rest
 
--- its place says whether it has a tag
+-- its context says whether it has a tag
 abbrev pub is_tagged : Context → Bool
 is_tagged Tagged = true
 is_tagged context = false

@@ -15,7 +15,7 @@ use swc_ecma_codegen_tree::{
     MemberExpr, MemberProp, OptChainBase, OptChainExpr, SuperProp, SuperPropExpr,
 };
 
-/// The place of the object before a property.
+/// The context of the object before a property.
 #[tactic(auto, unfolding(crate::specs::Exprs::object_place))]
 fn object_place<N>(prop: &MemberProp<N>) -> Context
     ensures { result ≡ object_place prop.now }

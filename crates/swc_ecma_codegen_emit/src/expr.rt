@@ -52,7 +52,7 @@ fn leaves_comments<N>(node: &Expr<N>, context: Context) -> bool
     }
 }
 
-/// Writes a template, an element or a fragment. The place that it is told would be part of the frame that is there at each level of a tree.
+/// Writes a template, an element or a fragment. The context that it is told would be part of the frame that is there at each level of a tree.
 #[inline(never)]
 fn plainly<N: LinkTarget, W: WriteJs, S: SourceMapper, C: Comments>(
     node: &N,
