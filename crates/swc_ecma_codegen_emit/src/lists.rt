@@ -69,9 +69,11 @@ impl<W: WriteJs, S: SourceMapper, C: Comments> Emitter<'_, W, S, C> {
     }
 }
 
-/// Lists by their format. swc's `emit_list`.
+/// Lists by their format. swc's `emit_list`. Each function is inlined into the one that names the format, as `arguments` does, so a format is
+/// asked for nothing while a list is printed.
 impl<W: WriteJs, S: SourceMapper, C: Comments> Emitter<'_, W, S, C> {
     /// Writes what stands before the first child.
+    #[inline(always)]
     #[tactic(auto, using(crate::proofs::Standings::refused_deeper))]
     fn opening(&mut self, format: ListFormat, line: bool)
         ensures items { PerformsDeeper (list_levels format.0 self.old.cfg) (opening format.0 line)
@@ -90,6 +92,7 @@ impl<W: WriteJs, S: SourceMapper, C: Comments> Emitter<'_, W, S, C> {
     }
 
     /// Writes what stands between two children.
+    #[inline(always)]
     #[tactic(auto, using(crate::proofs::Standings::refused_makes))]
     fn separator(&mut self, format: ListFormat, line: bool)
         ensures items { Performs (separator format.0 line)
@@ -143,6 +146,7 @@ impl<W: WriteJs, S: SourceMapper, C: Comments> Emitter<'_, W, S, C> {
     }
 
     /// Writes the trailing comma of a list, where it has one.
+    #[inline(always)]
     #[tactic(auto, using(crate::proofs::Standings::refused_makes))]
     fn trailing_comma(&mut self, format: ListFormat, parent: Span)
         ensures items { Performs (trailing_comma format.0 parent)
@@ -160,6 +164,7 @@ impl<W: WriteJs, S: SourceMapper, C: Comments> Emitter<'_, W, S, C> {
     }
 
     /// Writes what stands after the last child, behind a trailing comma.
+    #[inline(always)]
     #[tactic(auto, using(crate::proofs::Standings::refused_shallower))]
     fn closing(&mut self, format: ListFormat, parent: Span, last: Span)
         requires { HasLevels (list_levels format.0 self.old.cfg)
@@ -179,6 +184,7 @@ impl<W: WriteJs, S: SourceMapper, C: Comments> Emitter<'_, W, S, C> {
     }
 
     /// Writes what stands for a list without children.
+    #[inline(always)]
     #[tactic(auto, using(crate::proofs::Standings::refused_makes))]
     fn empty_list(&mut self, format: ListFormat)
         ensures items { Performs (empty_list format.0) S.lines C.maps W.sheet self.old self.new }
@@ -193,6 +199,7 @@ impl<W: WriteJs, S: SourceMapper, C: Comments> Emitter<'_, W, S, C> {
     }
 
     /// Writes the first child, where a line ends before it or doesn't.
+    #[inline(always)]
     #[tactic(auto, unfolding(swc_ecma_codegen_tokens::specs::Lists::first_child_after))]
     fn first_child_after<T: Child>(&mut self, format: ListFormat, line: bool, child: &T)
         ensures items { PerformsDeeper (list_levels format.0 self.old.cfg)
@@ -207,6 +214,7 @@ impl<W: WriteJs, S: SourceMapper, C: Comments> Emitter<'_, W, S, C> {
     }
 
     /// Writes the first child, which stands at `place` as far as the lines of the list ask for that, and what stands before it.
+    #[inline(always)]
     pub(crate) fn first_child<T: Child>(
         &mut self,
         format: ListFormat,
@@ -228,6 +236,7 @@ impl<W: WriteJs, S: SourceMapper, C: Comments> Emitter<'_, W, S, C> {
     }
 
     /// Writes a child after another, where a line ends between them or doesn't.
+    #[inline(always)]
     #[tactic(auto, unfolding(swc_ecma_codegen_tokens::specs::Lists::next_child_after))]
     fn next_child_after<T: Child>(&mut self, format: ListFormat, line: bool, child: &T)
         ensures items { Performs (next_child_after format.0 line
@@ -240,6 +249,7 @@ impl<W: WriteJs, S: SourceMapper, C: Comments> Emitter<'_, W, S, C> {
 
     /// Writes a child, which stands at `place` as far as the lines of the list ask for that, after one that stands at
     /// `previous`, and what stands between them.
+    #[inline(always)]
     pub(crate) fn next_child<T: Child>(
         &mut self,
         format: ListFormat,
@@ -258,6 +268,7 @@ impl<W: WriteJs, S: SourceMapper, C: Comments> Emitter<'_, W, S, C> {
     }
 
     /// Writes what stands after the last child.
+    #[inline(always)]
     #[tactic(auto, unfolding(swc_ecma_codegen_tokens::specs::Lists::list_closing))]
     pub(crate) fn list_closing(&mut self, format: ListFormat, parent: Span, last: Span)
         requires { HasLevels (list_levels format.0 self.old.cfg)
@@ -301,6 +312,7 @@ impl<W: WriteJs, S: SourceMapper, C: Comments> Emitter<'_, W, S, C> {
     }
 
     /// Writes the children after one that stands at `previous`, and what stands after the last.
+    #[inline(always)]
     #[tactic(auto, using(crate::proofs::Steps::list_next), unfolding(swc_ecma_codegen_tokens::specs::Lists::more_children, swc_ecma_codegen_tokens::specs::Lists::last_place))]
     fn list_after<T: Child>(
         &mut self,
@@ -324,6 +336,7 @@ impl<W: WriteJs, S: SourceMapper, C: Comments> Emitter<'_, W, S, C> {
     }
 
     /// Writes a list that has a first child.
+    #[inline(always)]
     #[tactic(auto, unfolding(swc_ecma_codegen_tokens::specs::Lists::list))]
     fn some_list<T: Child>(&mut self, format: ListFormat, parent: Span, first: &T, others: &[T])
         ensures items { Performs (list format.0 parent
@@ -335,6 +348,7 @@ impl<W: WriteJs, S: SourceMapper, C: Comments> Emitter<'_, W, S, C> {
     }
 
     /// Writes a list without children.
+    #[inline(always)]
     #[tactic(auto, unfolding(swc_ecma_codegen_tokens::specs::Lists::list))]
     pub(crate) fn no_list(&mut self, format: ListFormat, parent: Span)
         ensures items { Performs (list format.0 parent [])
@@ -348,6 +362,7 @@ impl<W: WriteJs, S: SourceMapper, C: Comments> Emitter<'_, W, S, C> {
     }
 
     /// Writes the children of a list that stands at `parent`. Its brackets aren't its own.
+    #[inline(always)]
     pub(crate) fn list<T: Child>(&mut self, format: ListFormat, parent: Span, children: &[T])
         ensures items { Performs (list format.0 parent
             (map (child_of T.stands T.items) children.now))

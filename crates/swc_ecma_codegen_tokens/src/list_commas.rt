@@ -67,6 +67,7 @@ fn source_has_comma<S: SourceMapper>(
 }
 
 /// Whether a list may have a trailing comma.
+#[inline(always)]
 fn may_have_comma(cfg: &Config, format: ListFormat) -> bool
     ensures { result ≡ may_have_comma format.0 cfg.now }
 {
@@ -76,6 +77,7 @@ fn may_have_comma(cfg: &Config, format: ListFormat) -> bool
 
 impl LowerEmitter {
     /// Writes a comma and a blank, where they are wanted.
+    #[inline(always)]
     #[tactic(auto, unfolding(crate::specs::Lists::comma_if))]
     fn comma_if<W: WriteJs>(&mut self, cfg: &Config, wr: &mut W, wanted: bool) -> Answer
         ensures items { Does (comma_if wanted) (state_of cfg.now (W.sheet wr.old) self.old)
@@ -92,6 +94,7 @@ impl LowerEmitter {
     }
 
     /// Writes a trailing comma where the source text has one.
+    #[inline(never)]
     #[tactic(auto, unfolding(crate::specs::Lists::source_comma))]
     fn source_comma<W: WriteJs, S: SourceMapper>(
         &mut self,
@@ -124,6 +127,7 @@ impl LowerEmitter {
     }
 
     /// Writes a trailing comma where the format forces one, or allows it and the source text has one.
+    #[inline(always)]
     #[tactic(auto, unfolding(crate::specs::Lists::wanted_comma))]
     fn wanted_comma<W: WriteJs, S: SourceMapper>(
         &mut self,
@@ -151,6 +155,7 @@ impl LowerEmitter {
     }
 
     /// Writes the trailing comma of a list, where it has one.
+    #[inline(always)]
     #[tactic(auto, using(crate::proofs::Listing::ListCommas::comma_written, crate::proofs::Listing::ListCommas::comma_left_out))]
     pub fn trailing_comma<W: WriteJs, S: SourceMapper>(
         &mut self,

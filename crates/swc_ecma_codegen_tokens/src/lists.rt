@@ -1,4 +1,4 @@
-//! What stands before, between and after the children of a list, by its format.
+//! What stands before, between and after the children of a list, by its format. Most of it is inlined where the format is named.
 
 ghost use Rattle.std.specs.Prelude.{◌≡◌, true, ◌+◌, ◌<◌, ◌≤◌, OnOk};
 ghost use Rattle.swc_ecma_codegen_grammar.specs.Comments.{maps_in};
@@ -18,6 +18,7 @@ use swc_ecma_codegen_util::config::Config;
 
 impl LowerEmitter {
     /// Writes a blank where one is wanted, unless the settings are to minify.
+    #[inline(always)]
     #[tactic(auto, unfolding(crate::specs::Lists::blank_if))]
     fn blank_if<W: WriteJs>(&mut self, cfg: &Config, wr: &mut W, wanted: bool) -> Answer
         ensures items { Does (blank_if wanted) (state_of cfg.now (W.sheet wr.old) self.old)
@@ -31,6 +32,7 @@ impl LowerEmitter {
     }
 
     /// Ends the line, or else writes a blank where one is wanted; neither where the settings are to minify.
+    #[inline(always)]
     #[tactic(auto, unfolding(crate::specs::Lists::line_or_blank))]
     fn line_or_blank<W: WriteJs>(
         &mut self,
@@ -85,6 +87,7 @@ impl LowerEmitter {
     }
 
     /// One level of indentation more, unless the settings are to minify.
+    #[inline(always)]
     #[tactic(auto, unfolding(crate::specs::Lists::formatting_deeper), using(crate::proofs::Emission::Calls::skipped, crate::proofs::Emission::Calls::not_skipped))]
     fn formatting_deeper<W: WriteJs>(&mut self, cfg: &Config, wr: &mut W) -> Answer
         ensures items { Does formatting_deeper (state_of cfg.now (W.sheet wr.old) self.old)
@@ -99,6 +102,7 @@ impl LowerEmitter {
     }
 
     /// One level of indentation less, unless the settings are to minify.
+    #[inline(always)]
     #[tactic(auto, unfolding(crate::specs::Lists::formatting_shallower), using(crate::proofs::Emission::Calls::skipped, crate::proofs::Emission::Calls::not_skipped))]
     fn formatting_shallower<W: WriteJs>(&mut self, cfg: &Config, wr: &mut W) -> Answer
         requires { level_if true cfg.now ≤ (W.sheet wr.old).indentation }
@@ -114,6 +118,7 @@ impl LowerEmitter {
     }
 
     /// One level of indentation more where it is wanted, unless the settings are to minify.
+    #[inline(always)]
     #[tactic(auto, unfolding(crate::specs::Lists::deeper_if))]
     fn deeper_if<W: WriteJs>(&mut self, cfg: &Config, wr: &mut W, wanted: bool) -> Answer
         ensures items { Does (deeper_if wanted) (state_of cfg.now (W.sheet wr.old) self.old)
@@ -128,6 +133,7 @@ impl LowerEmitter {
     }
 
     /// One level of indentation less where it is wanted, unless the settings are to minify.
+    #[inline(always)]
     #[tactic(auto, unfolding(crate::specs::Lists::shallower_if))]
     fn shallower_if<W: WriteJs>(&mut self, cfg: &Config, wr: &mut W, wanted: bool) -> Answer
         requires { level_if wanted cfg.now ≤ (W.sheet wr.old).indentation }
@@ -143,6 +149,7 @@ impl LowerEmitter {
     }
 
     /// Writes what stands before the first child.
+    #[inline(always)]
     #[tactic(auto, unfolding(crate::specs::Lists::opening))]
     pub fn list_opening<W: WriteJs>(
         &mut self,
@@ -167,6 +174,7 @@ impl LowerEmitter {
     }
 
     /// Writes the delimiter of a list.
+    #[inline(always)]
     #[tactic(auto, unfolding(crate::specs::Lists::delimiter))]
     fn delimiter<W: WriteJs>(&mut self, cfg: &Config, wr: &mut W, format: ListFormat) -> Answer
         ensures items { Does (delimiter format.0) (state_of cfg.now (W.sheet wr.old) self.old)
@@ -188,6 +196,7 @@ impl LowerEmitter {
     }
 
     /// Writes what stands between two children.
+    #[inline(always)]
     #[tactic(auto, unfolding(crate::specs::Lists::separator))]
     pub fn list_separator<W: WriteJs>(
         &mut self,
@@ -239,6 +248,7 @@ impl LowerEmitter {
     }
 
     /// Writes what stands after the last child, behind a trailing comma.
+    #[inline(always)]
     #[tactic(auto, unfolding(crate::specs::Lists::closing))]
     pub fn list_closing<W: WriteJs>(
         &mut self,
@@ -264,6 +274,7 @@ impl LowerEmitter {
     }
 
     /// Writes what stands for a list without children.
+    #[inline(always)]
     #[tactic(auto, unfolding(crate::specs::Lists::empty_list))]
     pub fn empty_list<W: WriteJs>(&mut self, cfg: &Config, wr: &mut W, format: ListFormat) -> Answer
         ensures items { Does (empty_list format.0) (state_of cfg.now (W.sheet wr.old) self.old)

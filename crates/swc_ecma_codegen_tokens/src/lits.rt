@@ -25,6 +25,7 @@ use swc_ecma_codegen_tree::{Bool, Lit, Null, Regex, Str};
 use swc_ecma_codegen_util::config::Config;
 
 /// Whether it is a directive with a backslash, which is printed as it was spelled: `'use\x20strict'`.
+#[inline(always)]
 #[tactic(auto, unfolding(crate::specs::Lits::is_directive))]
 fn is_directive(n: &Str) -> bool
     ensures { result ≡ is_directive n.now }
@@ -33,6 +34,7 @@ fn is_directive(n: &Str) -> bool
 }
 
 /// Whether the settings take its raw as it is.
+#[inline(always)]
 #[tactic(auto, unfolding(crate::specs::Lits::takes_raw, crate::specs::Lits::raw_is))]
 fn takes_raw(cfg: &Config, n: &Str) -> bool
     ensures { result ≡ takes_raw cfg.now n.now }
@@ -43,6 +45,7 @@ fn takes_raw(cfg: &Config, n: &Str) -> bool
     }
 }
 
+#[inline(always)]
 #[tactic(auto, unfolding(crate::specs::Lits::prints_raw))]
 fn prints_raw(cfg: &Config, n: &Str) -> bool
     ensures { result ≡ prints_raw cfg.now n.now }
@@ -91,6 +94,7 @@ fn bool_text(value: bool) -> &'static str
 
 impl LowerEmitter {
     /// A literal begins with its comments, the blank that is due before its text, and its position.
+    #[inline(always)]
     #[tactic(auto, unfolding(crate::specs::Literals::begun))]
     pub(crate) fn begun<W: WriteJs, C: Comments>(
         &mut self,
@@ -112,6 +116,7 @@ impl LowerEmitter {
     }
 
     /// The same after a semicolon that is held back.
+    #[inline(always)]
     #[tactic(auto, unfolding(crate::specs::Literals::settled_begun))]
     pub(crate) fn settled_begun<W: WriteJs, C: Comments>(
         &mut self,
@@ -132,6 +137,7 @@ impl LowerEmitter {
     }
 
     /// A literal that is one of its own sort begins as a `Lit` first, where it is in one.
+    #[inline(always)]
     #[tactic(auto, unfolding(crate::specs::Lits::begun_in))]
     pub(crate) fn begun_in<W: WriteJs, C: Comments>(
         &mut self,
@@ -154,6 +160,7 @@ impl LowerEmitter {
     }
 
     /// The end of a directive is recorded.
+    #[inline(always)]
     #[tactic(auto, unfolding(crate::specs::Lits::directive_end))]
     fn directive_end<W: WriteJs>(&mut self, cfg: &Config, wr: &mut W, n: &Str) -> Answer
         ensures items { Does (directive_end n.now) (state_of cfg.now (W.sheet wr.old) self.old)
@@ -167,6 +174,7 @@ impl LowerEmitter {
     }
 
     /// Writes a string by its text.
+    #[inline(always)]
     #[tactic(auto, unfolding(crate::specs::Lits::string_by))]
     fn string_by<W: WriteJs, C: Comments>(
         &mut self,
@@ -190,6 +198,7 @@ impl LowerEmitter {
     }
 
     /// Writes a string, in a `Lit` or not.
+    #[inline(always)]
     fn string_at<W: WriteJs, C: Comments>(
         &mut self,
         cfg: &Config,

@@ -236,6 +236,7 @@ impl LowerEmitter {
     }
 
     /// Writes a number by its text.
+    #[inline(always)]
     #[tactic(auto, unfolding(crate::specs::Lits::number_by))]
     fn number_by<W: WriteJs, C: Comments>(
         &mut self,
@@ -258,6 +259,7 @@ impl LowerEmitter {
     }
 
     /// Writes a number that a literal spells.
+    #[inline(always)]
     fn spelled_number<W: WriteJs, C: Comments>(
         &mut self,
         cfg: &Config,
@@ -284,6 +286,7 @@ impl LowerEmitter {
     }
 
     /// Writes a number, in a `Lit` or not.
+    #[inline(always)]
     #[tactic(auto, unfolding(crate::specs::Lits::number_at))]
     pub(crate) fn number_at<W: WriteJs, C: Comments>(
         &mut self,
