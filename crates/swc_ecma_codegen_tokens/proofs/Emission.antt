@@ -5,6 +5,7 @@ pub mod Emitting
 pub mod Fronts
 pub mod Levels
 pub mod Made
+pub mod NoPositions
 pub mod PartSteps
 pub mod PendingSemi
 pub mod Positions

@@ -1,7 +1,7 @@
 //! The gap guard: where the last token and the next text would be read as another token, or as a comment, a blank is
 //! due between them. It goes by a table of their classes.
 
-ghost use Rattle.std.specs.Prelude.{◌≡◌, ◌<◌, ℕ, List};
+ghost use Rattle.std.specs.Prelude.{◌≡◌, ◌<◌, ℕ, List, true, false};
 ghost use Rattle.swc_ecma_codegen_grammar.specs.GapRules.{fuses};
 ghost use Rattle.swc_ecma_codegen_tokens.specs.Starts.{start_class};
 ghost use Rattle.swc_ecma_codegen_tokens.specs.Classes.{IsRowOf, place_of};
@@ -27,6 +27,15 @@ pub(crate) fn blank_due_after(row: u32, next: StartClass) -> bool
         class_of token ≡ class → start_class text ≡ next → result ≡ fuses (last_at token) text }
 {
     (row >> next.place() as u32) & 1 == 1
+}
+
+/// Whether no blank is due behind a token, whatever text follows, by the row of its class: behind a blank and most punctuators.
+#[inline(always)]
+pub(crate) fn never_due_after(row: u32) -> bool
+    ensures { (class : TokenClass) (token : PreviousToken) (text : List ℕ) → result ≡ true →
+        IsRowOf class row → class_of token ≡ class → fuses (last_at token) text ≡ false }
+{
+    row == NONE
 }
 
 /// The row of a class.

@@ -2,7 +2,8 @@
 
 ghost use Rattle.std.specs.Prelude.{◌≡◌, ℕ, OnOk, List, ◌++◌, false, true};
 ghost use Rattle.std.specs.Str.{chars};
-ghost use Rattle.swc_ecma_codegen_tokens.specs.Starts.{start_class};
+ghost use Rattle.swc_ecma_codegen_grammar.specs.GapRules.{fuses};
+ghost use Rattle.swc_ecma_codegen_tokens.specs.PreviousToken.{last_at};
 ghost use Rattle.swc_ecma_codegen_grammar.specs.Comments.{maps_in, AreClosed};
 ghost use Rattle.swc_ecma_codegen_grammar.specs.SourceLines.{no_lines};
 ghost use Rattle.swc_ecma_codegen_tokens.specs.Run.{DoesTaking, Does, Stays};
@@ -15,7 +16,7 @@ ghost use Rattle.swc_ecma_codegen_tokens.specs.Written.{ReadsSoFar, name_tokens,
 ghost use Rattle.swc_ecma_codegen_tokens.specs.View.{state_of, env_of};
 
 use crate::LowerEmitter;
-use crate::guard::blank_due_after;
+use crate::guard::{blank_due_after, never_due_after};
 use crate::raws::is_ascii;
 use crate::short_names::has_backslash;
 use crate::starts::StartClass;
@@ -47,51 +48,68 @@ impl LowerEmitter {
             (state_of cfg.now (W.sheet wr.new) self.new) result }
         ensures level { Stays (W.sheet wr.old) (W.sheet wr.new) result }
     {
-        let next = StartClass::of_text(text);
-        if self.failed || blank_due_after(self.row, next) {
-            return self.symbol_apart(cfg, wr, span, text, next);
+        if !self.may_follow(text) {
+            return self.symbol_apart(cfg, wr, span, text);
         }
-        self.symbol_here(cfg, wr, span, text, next)
+        self.symbol_here(cfg, wr, span, text)
     }
 
-    /// The same of a text that begins so, in a function of its own: a name before which nothing is due takes fewer registers.
+    /// Whether a text may follow without a blank. Behind a blank and most punctuators every text may, so it isn't looked at.
+    #[inline(always)]
+    fn may_follow(&self, text: &str) -> bool
+        ensures unfailed { result ≡ true → self.now.failed ≡ false }
+        ensures passes { result ≡ true →
+            fuses (last_at self.now.token.value) (chars text.now) ≡ false }
+    {
+        if self.failed {
+            return false;
+        }
+        if never_due_after(self.row) {
+            return true;
+        }
+        !blank_due_after(self.row, StartClass::of_text(text))
+    }
+
+    /// The same whatever is due before it, in a function of its own: a name before which nothing is due takes fewer registers.
     #[inline(never)]
+    #[tactic(auto, unfolding(crate::specs::Words::symbol))]
     fn symbol_apart<W: WriteJs>(
         &mut self,
         cfg: &Config,
         wr: &mut W,
         span: Span,
         text: &str,
-        next: StartClass,
     ) -> Answer
-        requires { start_class (chars text.now) ≡ next }
         ensures items { Does (symbol span text.now) (state_of cfg.now (W.sheet wr.old) self.old)
             (state_of cfg.now (W.sheet wr.new) self.new) result }
         ensures level { Stays (W.sheet wr.old) (W.sheet wr.new) result }
     {
-        self.symbol_here(cfg, wr, span, text, next)
+        self.guard(cfg, wr, text, StartClass::of_text(text))?;
+        self.position(cfg, wr, span.lo)?;
+        self.put_symbol(cfg, wr, text)?;
+        Ok(())
     }
 
-    /// The same, where it is called.
+    /// The same where nothing is due.
     #[inline(always)]
-    #[tactic(auto, unfolding(crate::specs::Words::symbol))]
     fn symbol_here<W: WriteJs>(
         &mut self,
         cfg: &Config,
         wr: &mut W,
         span: Span,
         text: &str,
-        next: StartClass,
     ) -> Answer
-        requires { start_class (chars text.now) ≡ next }
+        requires unfailed { self.old.failed ≡ false }
+        requires passes { fuses (last_at self.old.token.value) (chars text.now) ≡ false }
         ensures items { Does (symbol span text.now) (state_of cfg.now (W.sheet wr.old) self.old)
             (state_of cfg.now (W.sheet wr.new) self.new) result }
         ensures level { Stays (W.sheet wr.old) (W.sheet wr.new) result }
     {
-        self.guard(cfg, wr, text, next)?;
-        self.position(cfg, wr, span.lo)?;
-        self.put_symbol(cfg, wr, text)?;
-        Ok(())
+        match self.position(cfg, wr, span.lo) {
+            Ok(()) => (),
+            Err(refusal) => return Err(refusal),
+        }
+        self.put_symbol(cfg, wr, text)
     }
 
     /// Writes a name by a text that isn't ASCII, in ASCII.

@@ -1,7 +1,7 @@
 //! The tokens that trees have most of, by the shortest way. Each call only says whether its token was written, so that its answer is one
 //! bit: else `reason` says why not.
 
-ghost use Rattle.std.specs.Prelude.{◌≡◌, None, [], ◌∷◌, true, false};
+ghost use Rattle.std.specs.Prelude.{◌≡◌, ◌&&◌, is_some, None, [], ◌∷◌, true, false};
 ghost use Rattle.std.specs.Str.{chars};
 ghost use Rattle.swc_ecma_codegen_grammar.specs.Comments.{maps_in};
 ghost use Rattle.swc_ecma_codegen_grammar.specs.GapRules.{fuses};
@@ -18,6 +18,7 @@ ghost use Rattle.swc_ecma_codegen_tokens.specs.View.{state_of};
 
 use crate::LowerEmitter;
 use crate::guard::blank_due_after;
+use crate::lines::is_bounded;
 use crate::short_names::is_short_without_backslash;
 use crate::starts::{StartClass, begins_name};
 use swc_ecma_codegen_common::Span;
@@ -63,10 +64,11 @@ impl LowerEmitter {
             (state_of cfg.now (W.sheet wr.new) self.new) (answered result self.new.reason) }
         ensures level { Stays (W.sheet wr.old) (W.sheet wr.new) (answered result self.new.reason) }
     {
+        let bounded = is_bounded(cfg);
         if !self.writes_bare_punct(cfg, wr, mark) {
             return false;
         }
-        self.breaks_behind(cfg, wr, mark)
+        self.breaks_behind(cfg, wr, mark, bounded)
     }
 
     /// The same, but for the break behind it.
@@ -93,14 +95,26 @@ impl LowerEmitter {
         self.puts_punct(cfg, wr, mark)
     }
 
-    /// The break that is allowed behind a punctuator.
+    /// The break that is allowed behind a punctuator, where lines are bounded. That is asked before it is written, so a caller who knows
+    /// that they aren't keeps nothing for it.
     #[inline(always)]
-    fn breaks_behind<W: WriteJs>(&mut self, cfg: &Config, wr: &mut W, mark: Punctuator) -> bool
+    #[tactic(auto, using(crate::proofs::Emission::Calls::unbounded_behind))]
+    fn breaks_behind<W: WriteJs>(
+        &mut self,
+        cfg: &Config,
+        wr: &mut W,
+        mark: Punctuator,
+        bounded: bool,
+    ) -> bool
+        requires { bounded ≡ (is_some cfg.now.max_line && cfg.now.minify) }
         ensures items { Does (break_behind (spelling mark))
             (state_of cfg.now (W.sheet wr.old) self.old)
             (state_of cfg.now (W.sheet wr.new) self.new) (answered result self.new.reason) }
         ensures level { Stays (W.sheet wr.old) (W.sheet wr.new) (answered result self.new.reason) }
     {
+        if !bounded {
+            return true;
+        }
         match self.break_behind(cfg, wr, mark) {
             Ok(()) => true,
             Err(refusal) => {
@@ -141,8 +155,24 @@ impl LowerEmitter {
             (state_of cfg.now (W.sheet wr.new) self.new) (answered result self.new.reason) }
         ensures level { Stays (W.sheet wr.old) (W.sheet wr.new) (answered result self.new.reason) }
     {
+        let bounded = is_bounded(cfg);
         if !self.writes_bare_semi(cfg, wr) {
             return false;
+        }
+        self.breaks(cfg, wr, bounded)
+    }
+
+    /// The break that is allowed behind a semicolon, where lines are bounded.
+    #[inline(always)]
+    #[tactic(auto, using(crate::proofs::Emission::Calls::passes_break))]
+    fn breaks<W: WriteJs>(&mut self, cfg: &Config, wr: &mut W, bounded: bool) -> bool
+        requires { bounded ≡ (is_some cfg.now.max_line && cfg.now.minify) }
+        ensures items { Does allow_break (state_of cfg.now (W.sheet wr.old) self.old)
+            (state_of cfg.now (W.sheet wr.new) self.new) (answered result self.new.reason) }
+        ensures level { Stays (W.sheet wr.old) (W.sheet wr.new) (answered result self.new.reason) }
+    {
+        if !bounded {
+            return true;
         }
         match self.allow_break(cfg, wr) {
             Ok(()) => true,

@@ -27,7 +27,7 @@ halted x ys f (earlier h k eq) = earlier h k eq
 halted x ys f (stopped h) = absurd (true≢false (sym f ∙ h.fresh))
 halted x ys f (reached r h k eq m) = absurd (true≢false (sym f ∙ h))
 
-idle : (failed : Bool) (x : Step) (rest : Plan) (a c : State) (r : Result (Unit {0}) Refusal) → a.failed ≡ failed → put x a ≡ a → Follows rest a c r → Follows (step x rest) a c r
+pub idle : (failed : Bool) (x : Step) (rest : Plan) (a c : State) (r : Result (Unit {0}) Refusal) → a.failed ≡ failed → put x a ≡ a → Follows rest a c r → Follows (step x rest) a c r
 unfolding Follows step run steps_of unprintable_in
 idle false x rest a c r f same h = follows_step x rest a c r f (let P : State → Type 0 = λ s. Follows rest s c r in subst P (sym same) h)
 idle true x rest a c (Ok u) f same h =
