@@ -17,6 +17,8 @@ use Rattle.swc_ecma_codegen_uniqueness.proofs.Apart.{Rivals, divides, divides_in
 use Rattle.swc_ecma_codegen_uniqueness.proofs.Parsed.{tokens_before}
 use Rattle.swc_ecma_codegen_uniqueness.proofs.Layers.{all_good}
 use Rattle.swc_ecma_codegen_uniqueness.proofs.Programs.{brace, program_good}
+use Rattle.swc_ecma_codegen_uniqueness.specs.Words.{named_by, as_names}
+use Rattle.swc_ecma_codegen_uniqueness.proofs.Words.{names_on, named_run}
 
 -- ---- what is derived leads to a state
 
@@ -67,3 +69,27 @@ one_goal s t a b xs ys zs x y k (inr e) d f = one_next s t a b xs ys zs x y (riv
 pub one_template : (s t : Settings) (a b : Program AnyNode) (xs ys zs : List Token) (x y : Token) (part : TemplatePart) → x.kind ≡ kinds.TemplateRest part → y ≡ punctuator (codes "}") → Next s a xs x ys → Next t b xs y zs → ⊥
 unfolding punctuator
 one_template s t a b xs ys zs x y part k e d f = one_next s t a b xs ys zs x y (rivals x y (ap class e) (ap (λ z. class_of z x.value) k) closes) d f
+
+-- ---- the same of lists as names
+
+behind_named : as_names behind ≡ behind
+unfolding as_names named_by punctuator
+behind_named = refl
+
+names_run : {s : Settings} (n : Program AnyNode) {ts : List Token} (d : DerivesProgram true s n ts) → is_fail (run (as_names ts ++ behind) begin) ≡ false
+names_run n {ts = ts} d =
+    ap (λ us. is_fail (run (as_names ts ++ us) begin)) (sym behind_named)
+    ∙ ap (λ us. is_fail (run us begin)) (sym (names_on ts behind))
+    ∙ named_run (Statement (InList BlockStmt)) InParen (ts ++ behind)
+    ∙ program_runs n d
+
+fails_in : (ts xs us : List Token) (x : Token) → ts ≡ xs ++ (x ∷ us) → next x (run xs begin) ≡ Fail → is_fail (run (ts ++ behind) begin) ≡ true
+fails_in ts xs us x e f = ap (λ z. is_fail (run (z ++ behind) begin)) e ∙ fails_there xs us behind x f
+
+-- no two programs have lists that part at tokens of which the machine refuses one
+pub none_part : (s t : Settings) (a b : Program AnyNode) (xs ys zs us vs : List Token) (x y : Token) → DerivesProgram true s a xs → DerivesProgram true t b ys → as_names xs ≡ zs ++ (x ∷ us) → as_names ys ≡ zs ++ (y ∷ vs) →
+    Rivals (class x) (class y) → ⊥
+none_part s t a b xs ys zs us vs x y d e f g r = elim (next_fails (run zs begin) x y r) [
+  | inl i ↦ true≢false (sym (fails_in (as_names xs) zs us x f i) ∙ names_run a d)
+  | inr i ↦ true≢false (sym (fails_in (as_names ys) zs vs y g i) ∙ names_run b e)
+]

@@ -35,3 +35,6 @@ pub mod Tables
 pub mod Unique
 pub mod Variables
 pub mod Words
+pub mod Homographs
+pub mod Parting
+pub mod Texts

@@ -13,7 +13,7 @@ use Rattle.swc_ecma_codegen_uniqueness.specs.Words.{contextual_words, named_by, 
 use Rattle.swc_ecma_codegen_uniqueness.proofs.Classes.{Class, NameToken, Line, Colon, class, class_of, look, words}
 use Rattle.swc_ecma_codegen_uniqueness.proofs.Controls.{Control, InParen, entered, outside, as_expression, variant_of, closes}
 use Rattle.swc_ecma_codegen_uniqueness.proofs.Tables.{Action, Shift, Push, Wrap, Reduce, Turn, Begin, Enter, Leave, Splice, Take, Keep, EnterBelow, Merge, Reject, without, with_operand, decide, shifted_to, passed_to, shift, started, start, begun_at, begin, wrapped_to}
-use Rattle.swc_ecma_codegen_uniqueness.proofs.Machine.{Hand, Empty, Full, held, sign, joined, opened, parameters, turned_by, turned, turned_hand, spliced, left_by, left_hand, Frame, State, At, Fail, within, wrap_at, acted_once, acted, step, next, run, first_of, found, Ends, whole_found, rest_found, Whole, Rest, Good}
+use Rattle.swc_ecma_codegen_uniqueness.proofs.Machine.{Hand, Empty, Full, held, sign, joined, opened, parameters, turned_by, turned, turned_hand, spliced, left_by, left_hand, Frame, State, At, Fail, within, wrap_at, acted_once, acted, step, next, run, is_fail, first_of, found, Ends, whole_found, rest_found, Whole, Rest, Good}
 
 -- ---- to the machine such a word is what the name is
 
@@ -49,7 +49,7 @@ unfolding named_by
 class_of_named kinds.Word (Characters text) = class_by (is_one_of contextual_words text) text refl
 class_of_named k v = refl
 
-class_named : (t : Token) → class (as_name t) ≡ class t
+pub class_named : (t : Token) → class (as_name t) ≡ class t
 class_named t = class_of_named t.kind t.value
 
 -- ---- what is told otherwise is so of names
@@ -260,6 +260,13 @@ begun_at_all c = record { control = c; so_far = λ rest. rest; other = λ rest. 
 same_frame : (c : Control) → Alike (begun_at_all c) (begun_at_all c)
 same_frame c = record { control = refl; so_far = λ rest. refl; other = λ rest. refl }
 
+fails_alike : {p q : State} → Reached p q → is_fail q ≡ is_fail p
+fails_alike (at h m) = refl
+fails_alike failed = refl
+
+pub named_run : (c d : Control) (ts : List Token) → is_fail (run (as_names ts) (At (begun_at_all c ∷ begun_at_all d ∷ []) Empty)) ≡ is_fail (run ts (At (begun_at_all c ∷ begun_at_all d ∷ []) Empty))
+named_run c d ts = fails_alike (run_alike ts (at Empty (more (same_frame c) (more (same_frame d) none))))
+
 abbrev inside_of : ParseTree → ParseTree
 inside_of (Node s p q) = p
 inside_of p = End
@@ -292,7 +299,7 @@ settled_named (Read t p) = ap (Read (as_name t)) (settled_named p)
 settled_named (Optional t p) = settled_named p
 settled_named (Node s p q) = ap₂ (Node s) (settled_named p) (settled_named q)
 
-names_on : (ts us : List Token) → as_names (ts ++ us) ≡ as_names ts ++ as_names us
+pub names_on : (ts us : List Token) → as_names (ts ++ us) ≡ as_names ts ++ as_names us
 unfolding as_names
 names_on [] us = refl
 names_on (t ∷ ts) us = ap (λ z. as_name t ∷ z) (names_on ts us)

@@ -1,3 +1,4 @@
 pub mod ParseTrees
 pub mod Parses
+pub mod Parting
 pub mod Words

@@ -1,14 +1,16 @@
 //! Laws for callers. Each is the contract of a function without parameters that does nothing: a proof cites the function,
 //! and a program has no need to call it.
 
-ghost use Rattle.std.specs.Prelude.{◌≡◌, ◌⊎◌, true, false, List, ◌∷◌, ◌++◌, codes};
+ghost use Rattle.std.specs.Prelude.{◌≡◌, ◌⊎◌, ℕ, true, false, List, ◌∷◌, ◌++◌, codes};
 ghost use Rattle.swc_ecma_codegen_tree.specs.declared.exprs.Expr.{Expr};
 ghost use Rattle.swc_ecma_codegen_tree.specs.declared.links.AnyNode.{AnyNode};
 ghost use Rattle.swc_ecma_codegen_tree.specs.declared.programs.Program.{Program};
 ghost use Rattle.swc_ecma_codegen_grammar.specs.Phrases.{Generates};
 ghost use Rattle.swc_ecma_codegen_grammar.specs.Settings.{Settings};
 ghost use Rattle.swc_ecma_codegen_grammar.specs.TreePhrases.{expr_phrase, program_phrase};
+ghost use Rattle.swc_ecma_codegen_grammar.specs.Reads.{Reads};
 ghost use Rattle.swc_ecma_codegen_grammar.specs.Tokens.{Token, punctuator};
+ghost use Rattle.swc_ecma_codegen_grammar.specs.Trivia.{Remark};
 ghost use Rattle.swc_ecma_codegen_grammar.specs.declared.kinds.Kind.TheVariants.{Regex, TemplateRest};
 ghost use Rattle.swc_ecma_codegen_grammar.specs.declared.kinds.TemplatePart.{TemplatePart};
 ghost use Rattle.swc_ecma_codegen_syntax.specs.declared.nonterminals.Nonterminal.TheVariants.{Expression};
@@ -18,6 +20,7 @@ ghost use Rattle.swc_ecma_codegen_syntax.specs.ExprForms.{expr_form};
 ghost use Rattle.swc_ecma_codegen_syntax.specs.Verdicts.{holds};
 ghost use Rattle.swc_ecma_codegen_uniqueness.specs.ParseTrees.{AreCommasAndParentheses, Node, ParseTree, End, expr_variant, settled, tokens_of};
 ghost use Rattle.swc_ecma_codegen_uniqueness.specs.Parses.{expr_before, expr_parse, form_parse, parse, program_parse};
+ghost use Rattle.swc_ecma_codegen_uniqueness.specs.Parting.{Parting};
 ghost use Rattle.swc_ecma_codegen_uniqueness.specs.Words.{as_names, with_names};
 
 /// The parse tree of an expression is a node round what its production says, wherever the expression stands.
@@ -154,4 +157,19 @@ pub fn tokens_tell_the_rest_of_a_template()
     ensures { (s t : Settings) (a b : Program AnyNode) (xs ys zs : List Token) (x y : Token)
         (part : TemplatePart) → x.kind ≡ TemplateRest part → y ≡ punctuator (codes "}")
         → DerivesProgram true s a (xs ++ (x ∷ ys)) → DerivesProgram true t b (xs ++ (y ∷ zs)) → ⊥ }
+{}
+
+/// Two programs that one text is printed of have one parse tree, words taken for names, or their lists of tokens part at a place
+/// where the tokens before don't tell what comes: a word or the name of its letters, as `yield`; a semicolon that ends a statement
+/// or an empty statement; a template with a tag or without; a token of JSX, or `[no LineTerminator here]`, or not.
+///
+/// So no goal symbol of the lexical grammar is wanted, nor a choice of one: `a / b / c` reads as two divisions, whatever a
+/// lexer takes `/ b /` for, since no program has the tokens `a`, `/ b /` and `c`. ECMA-262, section 12.
+#[tactic(auto, using(crate::proofs::Texts::one_text))]
+pub fn texts_tell_the_program()
+    ensures { (s t : Settings) (a b : Program AnyNode) (xs ys : List Token) (text : List ℕ)
+        (cs ds : List Remark) → DerivesProgram true s a xs → DerivesProgram true t b ys
+        → Reads text xs cs → Reads text ys ds
+        → ((as_names xs ≡ as_names ys) × (with_names (program_parse s a) ≡ with_names (program_parse t b)))
+        ⊎ Parting (as_names xs) (as_names ys) }
 {}
