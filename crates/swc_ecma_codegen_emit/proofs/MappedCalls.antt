@@ -31,6 +31,7 @@ use Rattle.swc_ecma_codegen_emit.specs.Annotations.{type_args}
 use Rattle.swc_ecma_codegen_emit.specs.Lists.{child_of, if_some_at}
 use Rattle.swc_ecma_codegen_emit.specs.Parts.{expr_part}
 use Rattle.swc_ecma_codegen_emit.specs.Tree.{node_items}
+use Rattle.swc_ecma_codegen_emit.proofs.MappedOptions.{by_two}
 
 -- ---- elements and arguments
 
@@ -79,19 +80,15 @@ listed_arguments_mapped g asks items asked put same parent false [] rest = refl
 listed_arguments_mapped g asks items asked put same parent false (x ∷ xs) rest = arguments_mapped g asks items asked put same new_format parent (x ∷ xs) rest
 listed_arguments_mapped g asks items asked put same parent true xs rest = arguments_mapped g asks items asked put same new_format parent xs rest
 
-new_by : {X Y : Type 0} (g : X → Y) (asks : Y → Answers) (items : Y → Place → Part) (n : NewExpr X) (args : Option (Vec (ExprOrSpread X) Global)) (type_args : Option (TsTypeParamInstantiationBox X)) (place : Place) (rest : Plan) → node_items asks items (map-AnyNode X Y g (nodes.Expr (exprs.New (record n { args = args; type_args = type_args })))) place rest ≡ expr (λ x. asks (g x)) (λ x. items (g x)) (exprs.New (record n { args = args; type_args = type_args })) (context_of place) rest
+new_by : {X Y : Type 0} (g : X → Y) (asks : Y → Answers) (items : Y → Place → Part) (n : NewExpr X) (place : Place) (type_args : Option (TsTypeParamInstantiationBox X)) (args : Option (Vec (ExprOrSpread X) Global)) (rest : Plan) → node_items asks items (map-AnyNode X Y g (nodes.Expr (exprs.New (record n { args = args; type_args = type_args })))) place rest ≡ expr (λ x. asks (g x)) (λ x. items (g x)) (exprs.New (record n { args = args; type_args = type_args })) (context_of place) rest
 unfolding node_items expr words.expr_parts words.expr_closed expr_span words.leaves_comments words.placed_expr words.is_wrapped is_sequence new_expr new_arguments expr_or_spread expr_or_spread_span type_args
-new_by g asks items n None None place rest = refl
-new_by g asks items n (Some args) None place rest =
-    ap (λ z. commit_pending_semi (leading_comments n.span.lo (start_of n.span (keyword None (codes "new") (new_gap (asks (g n.callee.node.value)).starts (items (g n.callee.node.value) (Whole contexts.Plain) (z)))))))
-    (listed_arguments_mapped _ asks items (λ x. asks (g x)) (λ x. items (g x)) (λ x. refl) n.span (keeps_arguments (context_of place)) args.items (trailing_comments true n.span.hi rest))
-new_by g asks items n None (Some t) place rest = refl
-new_by g asks items n (Some args) (Some t) place rest =
-    ap (λ z. commit_pending_semi (leading_comments n.span.lo (start_of n.span (keyword None (codes "new") (new_gap (asks (g n.callee.node.value)).starts (items (g n.callee.node.value) (Whole contexts.Plain) (items (g t.node.value) (Whole contexts.Plain) (z))))))))
-    (listed_arguments_mapped _ asks items (λ x. asks (g x)) (λ x. items (g x)) (λ x. refl) n.span (keeps_arguments (context_of place)) args.items (trailing_comments true n.span.hi rest))
+new_by g asks items n place = by_two _ (type_args items contexts.Plain) (type_args (λ x. items (g x)) contexts.Plain)
+    _ (new_arguments asks items n.span (keeps_arguments (context_of place))) (new_arguments (λ x. asks (g x)) (λ x. items (g x)) n.span (keeps_arguments (context_of place)))
+    (λ t a rest. commit_pending_semi (leading_comments n.span.lo (start_of n.span (keyword None (codes "new") (new_gap (asks (g n.callee.node.value)).starts (items (g n.callee.node.value) (Whole contexts.Plain) (t (a (trailing_comments true n.span.hi rest)))))))))
+    (elim [ None ↦ λ z. refl | Some t ↦ λ z. refl ]) (elim [ None ↦ λ z. refl | Some args ↦ listed_arguments_mapped _ asks items (λ x. asks (g x)) (λ x. items (g x)) (λ x. refl) n.span (keeps_arguments (context_of place)) args.items ])
 
 pub new_mapped : {X Y : Type 0} (g : X → Y) (asks : Y → Answers) (items : Y → Place → Part) (n : NewExpr X) (place : Place) (rest : Plan) → node_items asks items (map-AnyNode X Y g (nodes.Expr (exprs.New n))) place rest ≡ expr (λ x. asks (g x)) (λ x. items (g x)) (exprs.New n) (context_of place) rest
-new_mapped g asks items n place rest = new_by g asks items n n.args n.type_args place rest
+new_mapped g asks items n place rest = new_by g asks items n place n.type_args n.args rest
 
 chain_call_by : {X Y : Type 0} (g : X → Y) (asks : Y → Answers) (items : Y → Place → Part) (n : OptCall X) (type_args : Option (TsTypeParamInstantiationBox X)) (place : Place) (rest : Plan) → node_items asks items (map-AnyNode X Y g (nodes.ExprPart (expr_parts.OptCall (record n { type_args = type_args })))) place rest ≡ chain_call (λ x. asks (g x)) (λ x. items (g x)) (is_optional (context_of place)) (record n { type_args = type_args }) rest
 unfolding node_items expr_part chain_call expr_or_spread expr_or_spread_span type_args

@@ -28,7 +28,7 @@ use Rattle.swc_ecma_codegen_grammar.proofs.MappedClasses.{each_param, by_param_p
 use Rattle.swc_ecma_codegen_grammar.proofs.MappedTsDecls.{by_args}
 use Rattle.swc_ecma_codegen_tokens.specs.Lists.{ListChild, list}
 use Rattle.swc_ecma_codegen_tokens.specs.Run.{Plan, Part}
-use Rattle.swc_ecma_codegen_tokens.specs.Words.{keyword, punct, space, formatting_space, start_of, last_of, leading_comments, semi}
+use Rattle.swc_ecma_codegen_tokens.specs.Words.{keyword, punct, space, formatting_space, start_of, last_of, leading_comments, semi, question, end_of}
 use Rattle.swc_ecma_codegen_emit.specs.declared.nodes.Context.TheVariants.{Plain}
 use Rattle.swc_ecma_codegen_emit.specs.declared.nodes.Piece.TheVariants.{ClassHead, ClassWord}
 use Rattle.swc_ecma_codegen_emit.specs.Places.{Place, Whole, Only}
@@ -46,7 +46,8 @@ use Rattle.swc_ecma_codegen_emit.specs.TsDecls.{extended_place, ts_expr_with_typ
 use Rattle.swc_ecma_codegen_emit.specs.TsMembers.{readonly_index, ts_index_signature, fn_param_place, fn_param_items}
 use Rattle.swc_ecma_codegen_emit.proofs.MappedFunctions.{decorators_mapped, param_same}
 use Rattle.swc_ecma_codegen_emit.proofs.MappedPats.{children_mapped, pat_mapped}
-use Rattle.swc_ecma_codegen_emit.proofs.MappedOptions.{by_four}
+use Rattle.swc_ecma_codegen_emit.proofs.MappedOptions.{by_four, by_three}
+use Rattle.swc_ecma_codegen_emit.specs.Exprs.{private_name}
 
 -- ---- classes
 
@@ -147,30 +148,28 @@ private_method_by g asks items b n Method place rest = refl
 private_method_by g asks items b n Getter place rest = refl
 private_method_by g asks items b n Setter place rest = refl
 
-prop_same : {X Y : Type 0} (g : Decorator X → Decorator Y) (items : Y → Place → Part) (put : X → Place → Part) → ((d : Decorator X) → decorator items (g d) ≡ decorator put d) → (n : ClassProp X) (after : Plan) → leading_comments n.span.lo (start_of n.span (decorator_lines items (map g n.decorators.items) after)) ≡ leading_comments n.span.lo (start_of n.span (decorator_lines put n.decorators.items after))
-prop_same g items put same n after = ap (λ z. leading_comments n.span.lo (start_of n.span z)) (decorators_mapped g items put same n.decorators.items after)
-
-prop_by : {X Y : Type 0} (g : X → Y) (asks : Y → Answers) (items : Y → Place → Part) (b : Box (class_members.ClassMember X) Global) (n : ClassProp X) (type_ann : Option (TsTypeAnnBox X)) (value : Option (ExprBox X)) (place : Place) (rest : Plan) → node_items asks items (map-AnyNode X Y g (as_member b (members.ClassProp (record n { type_ann = type_ann; value = value })))) place rest ≡ class_prop (λ x. items (g x)) (record n { type_ann = type_ann; value = value }) rest
+prop_by : {X Y : Type 0} (g : X → Y) (asks : Y → Answers) (items : Y → Place → Part) (b : Box (class_members.ClassMember X) Global) (n : ClassProp X) (place : Place) (type_ann : Option (TsTypeAnnBox X)) (value : Option (ExprBox X)) (rest : Plan) → node_items asks items (map-AnyNode X Y g (as_member b (members.ClassProp (record n { type_ann = type_ann; value = value })))) place rest ≡ class_prop (λ x. items (g x)) (record n { type_ann = type_ann; value = value }) rest
 unfolding node_items stmt_part class_member class_prop prop_modifiers prop_tail field_annotation prop_value decorator
-prop_by g asks items b n None None place rest = prop_same _ items (λ x. items (g x)) (λ d. refl) n _
-prop_by g asks items b n None (Some v) place rest = prop_same _ items (λ x. items (g x)) (λ d. refl) n _
-prop_by g asks items b n (Some t) None place rest = prop_same _ items (λ x. items (g x)) (λ d. refl) n _
-prop_by g asks items b n (Some t) (Some v) place rest = prop_same _ items (λ x. items (g x)) (λ d. refl) n _
+prop_by g asks items b n place =
+    by_three (map _) (decorator_lines items) (decorator_lines (λ x. items (g x))) _ (field_annotation items n.definite) (field_annotation (λ x. items (g x)) n.definite) _ (prop_value items) (prop_value (λ x. items (g x)))
+    (λ ds t v rest. leading_comments n.span.lo (start_of n.span (ds (prop_modifiers n (items (g n.key.node.value) (Whole Plain) (question n.is_optional (t (v (semi (end_of n.span rest))))))))))
+    (decorators_mapped _ items (λ x. items (g x)) (λ d. refl)) (elim [ None ↦ λ z. refl | Some t ↦ λ z. refl ]) (elim [ None ↦ λ z. refl | Some t ↦ λ z. refl ]) n.decorators.items
 
-private_prop_same : {X : Type 0} (n : PrivateProp X) (cs ds : List ListChild) (after : Plan) → cs ≡ ds → leading_comments n.span.lo (start_of n.span (list decorators_format n.span cs after)) ≡ leading_comments n.span.lo (start_of n.span (list decorators_format n.span ds after))
-private_prop_same n cs ds after e = ap (λ z. leading_comments n.span.lo (start_of n.span (list decorators_format n.span z after))) e
+-- decorators as a list
+abbrev decorator_list : {X : Type 0} → (X → Place → Part) → Span → List (Decorator X) → Part
+decorator_list items span ds = list decorators_format span (map (child_of decorator_place (λ d place. decorator items d)) ds)
 
-private_prop_by : {X Y : Type 0} (g : X → Y) (asks : Y → Answers) (items : Y → Place → Part) (b : Box (class_members.ClassMember X) Global) (n : PrivateProp X) (type_ann : Option (TsTypeAnnBox X)) (value : Option (ExprBox X)) (place : Place) (rest : Plan) → node_items asks items (map-AnyNode X Y g (as_member b (members.PrivateProp (record n { type_ann = type_ann; value = value })))) place rest ≡ private_prop (λ x. items (g x)) (record n { type_ann = type_ann; value = value }) rest
+private_prop_by : {X Y : Type 0} (g : X → Y) (asks : Y → Answers) (items : Y → Place → Part) (b : Box (class_members.ClassMember X) Global) (n : PrivateProp X) (place : Place) (type_ann : Option (TsTypeAnnBox X)) (value : Option (ExprBox X)) (rest : Plan) → node_items asks items (map-AnyNode X Y g (as_member b (members.PrivateProp (record n { type_ann = type_ann; value = value })))) place rest ≡ private_prop (λ x. items (g x)) (record n { type_ann = type_ann; value = value }) rest
 unfolding node_items stmt_part class_member private_prop private_modifiers private_prop_tail field_annotation prop_value decorator
-private_prop_by {X} g asks items b n None None place rest = private_prop_same n _ _ _ (list_mapped {A = Decorator X} _ _ (child_of decorator_place (λ d place. decorator (λ x. items (g x)) d)) (λ d. refl) n.decorators.items)
-private_prop_by {X} g asks items b n None (Some v) place rest = private_prop_same n _ _ _ (list_mapped {A = Decorator X} _ _ (child_of decorator_place (λ d place. decorator (λ x. items (g x)) d)) (λ d. refl) n.decorators.items)
-private_prop_by {X} g asks items b n (Some t) None place rest = private_prop_same n _ _ _ (list_mapped {A = Decorator X} _ _ (child_of decorator_place (λ d place. decorator (λ x. items (g x)) d)) (λ d. refl) n.decorators.items)
-private_prop_by {X} g asks items b n (Some t) (Some v) place rest = private_prop_same n _ _ _ (list_mapped {A = Decorator X} _ _ (child_of decorator_place (λ d place. decorator (λ x. items (g x)) d)) (λ d. refl) n.decorators.items)
+private_prop_by {X} g asks items b n place =
+    by_three (map _) (decorator_list items n.span) (decorator_list (λ x. items (g x)) n.span) _ (field_annotation items n.definite) (field_annotation (λ x. items (g x)) n.definite) _ (prop_value items) (prop_value (λ x. items (g x)))
+    (λ ds t v rest. leading_comments n.span.lo (start_of n.span (ds (private_modifiers n (private_name n.key (question n.is_optional (t (v (semi (end_of n.span rest))))))))))
+    (λ ds z. ap (λ cs. list decorators_format n.span cs z) (list_mapped {A = Decorator X} _ _ (child_of decorator_place (λ d place. decorator (λ x. items (g x)) d)) (λ d. refl) ds)) (elim [ None ↦ λ z. refl | Some t ↦ λ z. refl ]) (elim [ None ↦ λ z. refl | Some t ↦ λ z. refl ]) n.decorators.items
 
 accessor_by : {X Y : Type 0} (g : X → Y) (asks : Y → Answers) (items : Y → Place → Part) (b : Box (class_members.ClassMember X) Global) (n : AutoAccessor X) (place : Place) (key : Key X) (type_ann : Option (TsTypeAnnBox X)) (value : Option (ExprBox X)) (rest : Plan) → node_items asks items (map-AnyNode X Y g (as_member b (members.AutoAccessor (record n { key = key; type_ann = type_ann; value = value })))) place rest ≡ auto_accessor (λ x. items (g x)) (record n { key = key; type_ann = type_ann; value = value }) rest
 unfolding node_items stmt_part class_member auto_accessor accessor_modifiers accessor_tail accessor_key field_annotation initializer decorator
 accessor_by {X} g asks items b n place =
-    by_four (map _) (λ ds. list decorators_format n.span (map (child_of decorator_place (λ d place. decorator items d)) ds)) (λ ds. list decorators_format n.span (map (child_of decorator_place (λ d place. decorator (λ x. items (g x)) d)) ds))
+    by_four (map _) (decorator_list items n.span) (decorator_list (λ x. items (g x)) n.span)
     _ (accessor_key items) (accessor_key (λ x. items (g x))) _ (field_annotation items n.definite) (field_annotation (λ x. items (g x)) n.definite) _ (initializer items) (initializer (λ x. items (g x)))
     (λ ds k t v rest. ds (accessor_modifiers n (keyword None (codes "accessor") (space (k (t (v (semi rest))))))))
     (λ ds z. ap (λ cs. list decorators_format n.span cs z) (list_mapped {A = Decorator X} _ _ (child_of decorator_place (λ d place. decorator (λ x. items (g x)) d)) (λ d. refl) ds))
@@ -186,8 +185,8 @@ unfolding node_items stmt_part class_member static_block
 member_by g asks items b (members.Constructor n) place rest = constructor_by g asks items b n n.body place rest
 member_by g asks items b (members.Method n) place rest = method_by g asks items b n n.kind place rest
 member_by g asks items b (members.PrivateMethod n) place rest = private_method_by g asks items b n n.kind place rest
-member_by g asks items b (members.ClassProp n) place rest = prop_by g asks items b n n.type_ann n.value place rest
-member_by g asks items b (members.PrivateProp n) place rest = private_prop_by g asks items b n n.type_ann n.value place rest
+member_by g asks items b (members.ClassProp n) place rest = prop_by g asks items b n place n.type_ann n.value rest
+member_by g asks items b (members.PrivateProp n) place rest = private_prop_by g asks items b n place n.type_ann n.value rest
 member_by g asks items b (members.AutoAccessor n) place rest = accessor_by g asks items b n place n.key n.type_ann n.value rest
 member_by g asks items b (members.TsIndexSignature n) place rest = index_by g asks items b n n.type_ann place rest
 member_by g asks items b n place rest = refl

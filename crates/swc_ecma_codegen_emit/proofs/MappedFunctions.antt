@@ -1,5 +1,5 @@
 -- What is written of functions and blocks sees what links hold through `asks` and `items` alone.
-use Rattle.std.proofs.Common.{◌≡◌, not, ◌&&◌, refl, ◌∙◌, ap, List, [], ◌∷◌, map, codes, Bool, false, Option, Some, None, Box, Global}
+use Rattle.std.proofs.Common.{◌≡◌, not, ◌&&◌, refl, ◌∙◌, ap, List, [], ◌∷◌, map, codes, Bool, true, false, Option, Some, None, Box, Global}
 use Rattle.swc_ecma_codegen_common.specs.declared.positions.Span.{Span}
 use Rattle.swc_ecma_codegen_tree.specs.declared.links.AnyNode.{AnyNode-F, map-AnyNode}
 use Rattle.swc_ecma_codegen_tree.specs.declared.links.AnyNode.TheOpen as nodes
@@ -20,7 +20,7 @@ use Rattle.swc_ecma_codegen_grammar.proofs.MappedFunctions.{some_mapped}
 use Rattle.swc_ecma_codegen_grammar.specs.TreePhrases.{is_sequence}
 use Rattle.swc_ecma_codegen_tokens.specs.Run.{Plan, Part}
 use Rattle.swc_ecma_codegen_tokens.specs.Lists.{ListChild, list}
-use Rattle.swc_ecma_codegen_tokens.specs.Words.{allow_break, by_maps, punct, leading_comments, start_of, end_of}
+use Rattle.swc_ecma_codegen_tokens.specs.Words.{allow_break, by_maps, punct, leading_comments, start_of, end_of, trailing_comments, formatting_space}
 use Rattle.swc_ecma_codegen_emit.specs.declared.nodes.Context.{Context}
 use Rattle.swc_ecma_codegen_emit.specs.declared.nodes.Context.TheVariants.{Plain}
 use Rattle.swc_ecma_codegen_emit.specs.declared.nodes.Piece.TheVariants.{FunctionHead, MethodHead, DeclarationHead, DeclarationTail, StaticHead, MethodDecorators, MethodTail}
@@ -40,6 +40,7 @@ use Rattle.swc_ecma_codegen_emit.specs.Stmts.{stmt}
 use Rattle.swc_ecma_codegen_emit.specs.Tree.{node_items}
 use Rattle.swc_ecma_codegen_emit.proofs.MappedPats.{children_mapped, pat_mapped}
 use Rattle.swc_ecma_codegen_emit.proofs.MappedStmts.{stmt_child_mapped}
+use Rattle.swc_ecma_codegen_emit.proofs.MappedOptions.{by_two, by_three}
 
 -- ---- functions
 
@@ -183,16 +184,32 @@ typed_head n before named cs after = head_of n named (before (by_maps (λ maps. 
 typed_same : {X : Type 0} (n : ArrowExpr X) (before : Plan → Plan) (named other : Bool) (cs ds : List ListChild) (after : Plan) → named ≡ other → cs ≡ ds → typed_head n before named cs after ≡ typed_head n before other ds after
 typed_same n before named other cs ds after e h = ap (λ z. typed_head n before z cs after) e ∙ ap (λ z. typed_head n before other z after) h
 
-arrow_mapped : {X Y : Type 0} (g : X → Y) (asks : Y → Answers) (items : Y → Place → Part) (b : Box (ArrowExpr X) Global) (n : ArrowExpr X) (body : BlockStmtOrExpr X) (type_params : Option (TsTypeParamDeclBox X)) (return_type : Option (TsTypeAnnBox X)) (place : Place) (rest : Plan) → node_items asks items (map-AnyNode X Y g (nodes.Expr (exprs.Arrow (record b { value = record n { body = body; type_params = type_params; return_type = return_type } })))) place rest ≡ expr (λ x. asks (g x)) (λ x. items (g x)) (exprs.Arrow (record b { value = record n { body = body; type_params = type_params; return_type = return_type } })) (context_of place) rest
+-- `async (a, b)` and `async a`, by the parameters
+abbrev bare_head : {X Z : Type 0} → (X → Answers) → (X → Place → Part) → ArrowExpr Z → List (PatBox X) → Part
+bare_head asks items n ps = λ rest. head_of n (is_only is_name asks ps) (params_of n (is_only is_plain asks ps) (has_comment_behind asks ps) (map (child_of (λ p. (asks p.node.value).place) (λ p place. items p.node.value place)) ps) rest)
+
+-- `async <A>(a, b)`, with types behind the parameters or before them
+abbrev head_between : {X Z : Type 0} → (X → Answers) → (X → Place → Part) → ArrowExpr Z → (Plan → Plan) → List (PatBox X) → Part
+head_between asks items n before ps = λ rest. typed_head n before (is_only is_name asks ps) (map (child_of (λ p. (asks p.node.value).place) (λ p place. items p.node.value place)) ps) rest
+
+-- ` => ` and what stands behind it
+abbrev arrow_behind : {X : Type 0} → ArrowExpr X → Part → Part
+arrow_behind n body rest = punct (codes "=>") (body (trailing_comments true n.span.hi rest))
+
+-- with type parameters
+arrow_between_mapped : {X Y : Type 0} (g : X → Y) (asks : Y → Answers) (items : Y → Place → Part) (b : Box (ArrowExpr X) Global) (n : ArrowExpr X) (place : Place) (q : TsTypeParamDeclBox X) (return_type : Option (TsTypeAnnBox X)) (body : BlockStmtOrExpr X) (rest : Plan) → node_items asks items (map-AnyNode X Y g (nodes.Expr (exprs.Arrow (record b { value = record n { body = body; type_params = Some q; return_type = return_type } })))) place rest ≡ expr (λ x. asks (g x)) (λ x. items (g x)) (exprs.Arrow (record b { value = record n { body = body; type_params = Some q; return_type = return_type } })) (context_of place) rest
 unfolding node_items expr expr_parts expr_closed expr_span leaves_comments placed_expr is_wrapped is_sequence arrow_expr arrow_parameters arrow_body arrow_result type_params
-arrow_mapped {X} g asks items b n (bodies.BlockStmt m) None None place rest = arrow_same n _ _ _ _ _ _ _ _ _ (only_mapped _ is_name asks (λ x. asks (g x)) (λ p. refl) n.params.items) (only_mapped _ is_plain asks (λ x. asks (g x)) (λ p. refl) n.params.items) (behind_mapped _ asks (λ x. asks (g x)) (λ p. refl) n.params.items) (list_mapped {A = PatBox X} _ _ (child_of (λ p. (asks (g p.node.value)).place) (λ p place. items (g p.node.value) place)) (λ p. refl) n.params.items)
-arrow_mapped {X} g asks items b n (bodies.BlockStmt m) None (Some t) place rest = typed_same n (λ z. z) _ _ _ _ _ (only_mapped _ is_name asks (λ x. asks (g x)) (λ p. refl) n.params.items) (list_mapped {A = PatBox X} _ _ (child_of (λ p. (asks (g p.node.value)).place) (λ p place. items (g p.node.value) place)) (λ p. refl) n.params.items)
-arrow_mapped {X} g asks items b n (bodies.BlockStmt m) (Some q) None place rest = typed_same n (λ z. items (g q.node.value) (Whole Plain) z) _ _ _ _ _ (only_mapped _ is_name asks (λ x. asks (g x)) (λ p. refl) n.params.items) (list_mapped {A = PatBox X} _ _ (child_of (λ p. (asks (g p.node.value)).place) (λ p place. items (g p.node.value) place)) (λ p. refl) n.params.items)
-arrow_mapped {X} g asks items b n (bodies.BlockStmt m) (Some q) (Some t) place rest = typed_same n (λ z. items (g q.node.value) (Whole Plain) z) _ _ _ _ _ (only_mapped _ is_name asks (λ x. asks (g x)) (λ p. refl) n.params.items) (list_mapped {A = PatBox X} _ _ (child_of (λ p. (asks (g p.node.value)).place) (λ p place. items (g p.node.value) place)) (λ p. refl) n.params.items)
-arrow_mapped {X} g asks items b n (bodies.Expr m) None None place rest = arrow_same n _ _ _ _ _ _ _ _ _ (only_mapped _ is_name asks (λ x. asks (g x)) (λ p. refl) n.params.items) (only_mapped _ is_plain asks (λ x. asks (g x)) (λ p. refl) n.params.items) (behind_mapped _ asks (λ x. asks (g x)) (λ p. refl) n.params.items) (list_mapped {A = PatBox X} _ _ (child_of (λ p. (asks (g p.node.value)).place) (λ p place. items (g p.node.value) place)) (λ p. refl) n.params.items)
-arrow_mapped {X} g asks items b n (bodies.Expr m) None (Some t) place rest = typed_same n (λ z. z) _ _ _ _ _ (only_mapped _ is_name asks (λ x. asks (g x)) (λ p. refl) n.params.items) (list_mapped {A = PatBox X} _ _ (child_of (λ p. (asks (g p.node.value)).place) (λ p place. items (g p.node.value) place)) (λ p. refl) n.params.items)
-arrow_mapped {X} g asks items b n (bodies.Expr m) (Some q) None place rest = typed_same n (λ z. items (g q.node.value) (Whole Plain) z) _ _ _ _ _ (only_mapped _ is_name asks (λ x. asks (g x)) (λ p. refl) n.params.items) (list_mapped {A = PatBox X} _ _ (child_of (λ p. (asks (g p.node.value)).place) (λ p place. items (g p.node.value) place)) (λ p. refl) n.params.items)
-arrow_mapped {X} g asks items b n (bodies.Expr m) (Some q) (Some t) place rest = typed_same n (λ z. items (g q.node.value) (Whole Plain) z) _ _ _ _ _ (only_mapped _ is_name asks (λ x. asks (g x)) (λ p. refl) n.params.items) (list_mapped {A = PatBox X} _ _ (child_of (λ p. (asks (g p.node.value)).place) (λ p place. items (g p.node.value) place)) (λ p. refl) n.params.items)
+arrow_between_mapped {X} g asks items b n place q =
+    by_three (map _) (head_between asks items n (items (g q.node.value) (Whole Plain))) (head_between (λ x. asks (g x)) (λ x. items (g x)) n (items (g q.node.value) (Whole Plain))) _ (arrow_result items) (arrow_result (λ x. items (g x))) _ (arrow_body items) (arrow_body (λ x. items (g x)))
+    (λ ps r m rest. ps (r (arrow_behind n m rest))) (λ ps z. typed_same n (items (g q.node.value) (Whole Plain)) _ _ _ _ z (only_mapped _ is_name asks (λ x. asks (g x)) (λ p. refl) ps) (list_mapped {A = PatBox X} _ _ (child_of (λ p. (asks (g p.node.value)).place) (λ p place. items (g p.node.value) place)) (λ p. refl) ps)) (elim [ None ↦ λ z. refl | Some t ↦ λ z. refl ]) (elim [ bodies.BlockStmt m ↦ λ z. refl | bodies.Expr m ↦ λ z. refl ]) n.params.items
+
+arrow_mapped : {X Y : Type 0} (g : X → Y) (asks : Y → Answers) (items : Y → Place → Part) (b : Box (ArrowExpr X) Global) (n : ArrowExpr X) (place : Place) (type_params : Option (TsTypeParamDeclBox X)) (return_type : Option (TsTypeAnnBox X)) (body : BlockStmtOrExpr X) (rest : Plan) → node_items asks items (map-AnyNode X Y g (nodes.Expr (exprs.Arrow (record b { value = record n { body = body; type_params = type_params; return_type = return_type } })))) place rest ≡ expr (λ x. asks (g x)) (λ x. items (g x)) (exprs.Arrow (record b { value = record n { body = body; type_params = type_params; return_type = return_type } })) (context_of place) rest
+unfolding node_items expr expr_parts expr_closed expr_span leaves_comments placed_expr is_wrapped is_sequence arrow_expr arrow_parameters arrow_body arrow_result type_params
+arrow_mapped {X} g asks items b n place None None = by_two (map _) (bare_head asks items n) (bare_head (λ x. asks (g x)) (λ x. items (g x)) n) _ (arrow_body items) (arrow_body (λ x. items (g x)))
+    (λ ps m rest. ps (arrow_behind n m rest)) (λ ps z. arrow_same n _ _ _ _ _ _ _ _ z (only_mapped _ is_name asks (λ x. asks (g x)) (λ p. refl) ps) (only_mapped _ is_plain asks (λ x. asks (g x)) (λ p. refl) ps) (behind_mapped _ asks (λ x. asks (g x)) (λ p. refl) ps) (list_mapped {A = PatBox X} _ _ (child_of (λ p. (asks (g p.node.value)).place) (λ p place. items (g p.node.value) place)) (λ p. refl) ps)) (elim [ bodies.BlockStmt m ↦ λ z. refl | bodies.Expr m ↦ λ z. refl ]) n.params.items
+arrow_mapped {X} g asks items b n place None (Some t) = by_two (map _) (head_between asks items n (λ z. z)) (head_between (λ x. asks (g x)) (λ x. items (g x)) n (λ z. z)) _ (arrow_body items) (arrow_body (λ x. items (g x)))
+    (λ ps m rest. ps (punct (codes ":") (formatting_space (items (g t.node.value) (Whole Plain) (formatting_space (arrow_behind n m rest)))))) (λ ps z. typed_same n (λ z. z) _ _ _ _ z (only_mapped _ is_name asks (λ x. asks (g x)) (λ p. refl) ps) (list_mapped {A = PatBox X} _ _ (child_of (λ p. (asks (g p.node.value)).place) (λ p place. items (g p.node.value) place)) (λ p. refl) ps)) (elim [ bodies.BlockStmt m ↦ λ z. refl | bodies.Expr m ↦ λ z. refl ]) n.params.items
+arrow_mapped g asks items b n place (Some q) result = arrow_between_mapped g asks items b n place q result
 
 pub arrow_expr_mapped : {X Y : Type 0} (g : X → Y) (asks : Y → Answers) (items : Y → Place → Part) (b : Box (ArrowExpr X) Global) (place : Place) (rest : Plan) → node_items asks items (map-AnyNode X Y g (nodes.Expr (exprs.Arrow b))) place rest ≡ expr (λ x. asks (g x)) (λ x. items (g x)) (exprs.Arrow b) (context_of place) rest
-arrow_expr_mapped g asks items b place rest = arrow_mapped g asks items b b.value b.value.body b.value.type_params b.value.return_type place rest
+arrow_expr_mapped g asks items b place rest = arrow_mapped g asks items b b.value place b.value.type_params b.value.return_type b.value.body rest

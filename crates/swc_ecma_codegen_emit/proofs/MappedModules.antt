@@ -20,19 +20,21 @@ use Rattle.swc_ecma_codegen_tree.specs.declared.programs.ModuleDecl.TheVariants 
 use Rattle.swc_ecma_codegen_spans.specs.Spans.{module_decl_span}
 use Rattle.swc_ecma_codegen_tokens.specs.Run.{Plan, Part}
 use Rattle.swc_ecma_codegen_grammar.proofs.MappedTsDecls.{by_args}
-use Rattle.swc_ecma_codegen_tokens.specs.Words.{keyword, space, formatting_line, start_of, leading_comments, trailing_comments, formatting_space}
+use Rattle.swc_ecma_codegen_tokens.specs.Words.{keyword, space, formatting_line, start_of, leading_comments, trailing_comments, formatting_space, semi, end_of}
 use Rattle.swc_ecma_codegen_emit.specs.declared.nodes.Context.TheVariants.{Plain}
 use Rattle.swc_ecma_codegen_emit.specs.Places.{Place, Whole}
 use Rattle.swc_ecma_codegen_emit.specs.Annotations.{type_args, type_params}
 use Rattle.swc_ecma_codegen_emit.specs.Answers.{Answers}
 use Rattle.swc_ecma_codegen_emit.specs.ClassExprs.{class_expr}
 use Rattle.swc_ecma_codegen_emit.specs.FunctionExprs.{fn_expr, optional_name}
-use Rattle.swc_ecma_codegen_emit.specs.Modules.{attributes, source_end, from_clause, import_tail, import_parts, import_decl, export_tail, export_named, all_tail, export_all, export_decl, export_default, default_decl, export_default_decl, export_default_expr, module_decl_by, module_decl}
+use Rattle.swc_ecma_codegen_emit.specs.Modules.{attributes, source_end, from_clause, import_tail, import_parts, import_decl, export_tail, export_named, all_tail, export_all, export_decl, export_default, default_decl, export_default_decl, export_default_expr, module_decl_by, module_decl, export_clause, ends_with_name, from_word, type_word}
 use Rattle.swc_ecma_codegen_emit.specs.Parts.{stmt_part}
-use Rattle.swc_ecma_codegen_emit.specs.Exprs.{ident}
+use Rattle.swc_ecma_codegen_emit.specs.Exprs.{ident, blank}
 use Rattle.swc_ecma_codegen_emit.specs.Tree.{node_items}
 use Rattle.swc_ecma_codegen_emit.specs.TsDecls.{declare_word, ts_expr_with_type_args, ts_interface_decl, ts_module_ref, ts_import_equals_decl, ts_export_assignment}
 use Rattle.swc_ecma_codegen_emit.proofs.MappedTsDecls.{extends_mapped}
+use Rattle.swc_ecma_codegen_tokens.specs.Lits.{str_lit}
+use Rattle.swc_ecma_codegen_emit.proofs.MappedOptions.{by_one}
 
 abbrev as_decl : {X : Type 0} → Box (ModuleDecl X) Global → ModuleDecl X → AnyNode-F X
 as_decl b n = nodes.StmtPart (stmt_parts.ModuleDecl (record b { value = n }))
@@ -42,12 +44,12 @@ unfolding node_items stmt_part module_decl module_decl_by module_decl_span impor
 import_by g asks items b n None place rest = refl
 import_by g asks items b n (Some w) place rest = refl
 
-named_by : {X Y : Type 0} (g : X → Y) (asks : Y → Answers) (items : Y → Place → Part) (b : Box (ModuleDecl X) Global) (n : NamedExport X) (src : Option Str) (with_ : Option (ObjectLitBox X)) (place : Place) (rest : Plan) → node_items asks items (map-AnyNode X Y g (as_decl b (module_decls.ExportNamed (record n { src = src; with = with_ })))) place rest ≡ module_decl (λ x. asks (g x)) (λ x. items (g x)) (module_decls.ExportNamed (record n { src = src; with = with_ })) rest
+named_by : {X Y : Type 0} (g : X → Y) (asks : Y → Answers) (items : Y → Place → Part) (b : Box (ModuleDecl X) Global) (n : NamedExport X) (src : Option Str) (place : Place) (with_ : Option (ObjectLitBox X)) (rest : Plan) → node_items asks items (map-AnyNode X Y g (as_decl b (module_decls.ExportNamed (record n { src = src; with = with_ })))) place rest ≡ module_decl (λ x. asks (g x)) (λ x. items (g x)) (module_decls.ExportNamed (record n { src = src; with = with_ })) rest
 unfolding node_items stmt_part module_decl module_decl_by module_decl_span export_named export_tail from_clause attributes
-named_by g asks items b n None None place rest = refl
-named_by g asks items b n None (Some w) place rest = refl
-named_by g asks items b n (Some s) None place rest = refl
-named_by g asks items b n (Some s) (Some w) place rest = refl
+named_by g asks items b n None place = λ w rest. refl
+named_by g asks items b n (Some s) place = by_one _ (attributes items) (attributes (λ x. items (g x)))
+    (λ w rest. leading_comments n.span.lo (leading_comments n.span.lo (start_of n.span (keyword None (codes "export") (type_word n.type_only (formatting_space (export_clause n.span n.specifiers.items
+    (blank (ends_with_name n.specifiers.items) (from_word (str_lit s (w (semi (end_of n.span (trailing_comments true n.span.hi (formatting_line rest))))))))))))))) (elim [ None ↦ λ z. refl | Some t ↦ λ z. refl ])
 
 all_by : {X Y : Type 0} (g : X → Y) (asks : Y → Answers) (items : Y → Place → Part) (b : Box (ModuleDecl X) Global) (n : ExportAll X) (with_ : Option (ObjectLitBox X)) (place : Place) (rest : Plan) → node_items asks items (map-AnyNode X Y g (as_decl b (module_decls.ExportAll (record n { with = with_ })))) place rest ≡ module_decl (λ x. asks (g x)) (λ x. items (g x)) (module_decls.ExportAll (record n { with = with_ })) rest
 unfolding node_items stmt_part module_decl module_decl_by module_decl_span export_all all_tail source_end attributes
@@ -73,7 +75,7 @@ equals_by g asks items b n (module_refs.TsExternalModuleRef name) place rest = r
 decl_by : {X Y : Type 0} (g : X → Y) (asks : Y → Answers) (items : Y → Place → Part) (b : Box (ModuleDecl X) Global) (n : ModuleDecl X) (place : Place) (rest : Plan) → node_items asks items (map-AnyNode X Y g (as_decl b n)) place rest ≡ module_decl (λ x. asks (g x)) (λ x. items (g x)) n rest
 unfolding node_items stmt_part module_decl module_decl_by module_decl_span export_decl export_default_expr ts_export_assignment
 decl_by g asks items b (module_decls.Import n) place rest = import_by g asks items b n n.with place rest
-decl_by g asks items b (module_decls.ExportNamed n) place rest = named_by g asks items b n n.src n.with place rest
+decl_by g asks items b (module_decls.ExportNamed n) place rest = named_by g asks items b n n.src place n.with rest
 decl_by g asks items b (module_decls.ExportAll n) place rest = all_by g asks items b n n.with place rest
 decl_by g asks items b (module_decls.ExportDefaultDecl n) place rest = default_by g asks items b n n.decl place rest
 decl_by g asks items b (module_decls.TsImportEquals n) place rest = equals_by g asks items b n n.module_ref place rest

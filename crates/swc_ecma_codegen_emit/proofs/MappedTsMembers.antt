@@ -1,5 +1,5 @@
 -- What is written of members of object types sees what links hold through `asks` and `items` alone.
-use Rattle.std.proofs.Common.{◌≡◌, refl, ap, List, [], ◌∷◌, codes, Option, Some, None}
+use Rattle.std.proofs.Common.{◌≡◌, refl, ap, List, [], ◌∷◌, map, codes, Option, Some, None}
 use Rattle.swc_ecma_codegen_common.specs.declared.positions.Span.{Span}
 use Rattle.swc_ecma_codegen_tree.specs.declared.links.AnyNode.{AnyNode-F, map-AnyNode}
 use Rattle.swc_ecma_codegen_tree.specs.declared.links.AnyNode.TheOpen as nodes
@@ -19,7 +19,7 @@ use Rattle.swc_ecma_codegen_tree.specs.declared.ts_types.TsTypeLit.{TsTypeLit}
 use Rattle.swc_ecma_codegen_spans.specs.Spans.{dummy_span, ts_type_element_span}
 use Rattle.swc_ecma_codegen_grammar.proofs.MappedTsMembers.{as_member}
 use Rattle.swc_ecma_codegen_tokens.specs.Run.{Plan, Part}
-use Rattle.swc_ecma_codegen_tokens.specs.Words.{keyword, punct, punct_between, question, semi, space, formatting_space, leading_comments}
+use Rattle.swc_ecma_codegen_tokens.specs.Words.{keyword, punct, question, semi, formatting_space, leading_comments}
 use Rattle.swc_ecma_codegen_emit.specs.declared.nodes.Context.TheVariants.{Plain}
 use Rattle.swc_ecma_codegen_emit.specs.Places.{Place, Whole}
 use Rattle.swc_ecma_codegen_emit.specs.Annotations.{annotation, spaced_annotation, type_params, types_format, word_before}
@@ -29,6 +29,8 @@ use Rattle.swc_ecma_codegen_emit.specs.Parts.{ts_part}
 use Rattle.swc_ecma_codegen_emit.specs.Tree.{node_items}
 use Rattle.swc_ecma_codegen_emit.specs.TsMembers.{interface_format, ts_interface_body, signature_key, signature_params, annotation_between, ts_call_signature_decl, params_behind_new, ts_construct_signature_decl, ts_property_signature, getter_annotation, ts_getter_signature, ts_setter_signature, ts_method_signature, readonly_index, ts_index_signature, ts_signature, ts_type_element, fn_param_place, fn_param_items, member_items}
 use Rattle.swc_ecma_codegen_emit.proofs.MappedPats.{child_same, children_mapped}
+use Rattle.swc_ecma_codegen_tokens.specs.Lists.{list}
+use Rattle.swc_ecma_codegen_emit.proofs.MappedOptions.{by_three}
 
 -- what is written of the first member of an object type
 abbrev pub first_items : {X : Type 0} → (X → Answers) → (X → Place → Part) → List (TsTypeElement X) → Part
@@ -50,24 +52,21 @@ place_of_member n = dummy_span
 
 call_mapped : {X Y : Type 0} (g : X → Y) (asks : Y → Answers) (items : Y → Place → Part) (b : TsTypeLit X) (n : TsCallSignatureDecl X) (type_params : Option (TsTypeParamDeclBox X)) (type_ann : Option (TsTypeAnnBox X)) (rest : Plan) → member_of asks items (map-AnyNode X Y g (as_member b (elements.TsCallSignatureDecl (record n { type_params = type_params; type_ann = type_ann })))) rest ≡ ts_type_element (λ x. asks (g x)) (λ x. items (g x)) (elements.TsCallSignatureDecl (record n { type_params = type_params; type_ann = type_ann })) rest
 unfolding ts_type_element ts_signature ts_call_signature_decl type_params signature_params annotation_between
-call_mapped {X} g asks items b n None None rest = ap (λ z. leading_comments n.span.lo (punct (codes "(") z)) (children_mapped {A = TsFnParamBox X} _ (child_of (fn_param_place asks) (fn_param_items items)) (child_of (fn_param_place (λ x. asks (g x))) (fn_param_items (λ x. items (g x)))) (λ x. refl) types_format n.span n.params.items (punct (codes ")") (semi rest)))
-call_mapped {X} g asks items b n None (Some a) rest = ap (λ z. leading_comments n.span.lo (punct (codes "(") z)) (children_mapped {A = TsFnParamBox X} _ (child_of (fn_param_place asks) (fn_param_items items)) (child_of (fn_param_place (λ x. asks (g x))) (fn_param_items (λ x. items (g x)))) (λ x. refl) types_format n.span n.params.items (punct (codes ")") (punct_between (codes ":") (items (g a.node.value) (Whole Plain) (semi rest)))))
-call_mapped {X} g asks items b n (Some t) None rest = ap (λ z. leading_comments n.span.lo (items (g t.node.value) (Whole Plain) (punct (codes "(") z))) (children_mapped {A = TsFnParamBox X} _ (child_of (fn_param_place asks) (fn_param_items items)) (child_of (fn_param_place (λ x. asks (g x))) (fn_param_items (λ x. items (g x)))) (λ x. refl) types_format n.span n.params.items (punct (codes ")") (semi rest)))
-call_mapped {X} g asks items b n (Some t) (Some a) rest = ap (λ z. leading_comments n.span.lo (items (g t.node.value) (Whole Plain) (punct (codes "(") z))) (children_mapped {A = TsFnParamBox X} _ (child_of (fn_param_place asks) (fn_param_items items)) (child_of (fn_param_place (λ x. asks (g x))) (fn_param_items (λ x. items (g x)))) (λ x. refl) types_format n.span n.params.items (punct (codes ")") (punct_between (codes ":") (items (g a.node.value) (Whole Plain) (semi rest)))))
+call_mapped {X} g asks items b n = by_three (map _) (λ ps. list types_format n.span (map (child_of (fn_param_place asks) (fn_param_items items)) ps)) (λ ps. list types_format n.span (map (child_of (fn_param_place (λ x. asks (g x))) (fn_param_items (λ x. items (g x)))) ps)) _ (type_params items) (type_params (λ x. items (g x))) _ (annotation_between items) (annotation_between (λ x. items (g x)))
+    (λ ps t a rest. leading_comments n.span.lo (t (punct (codes "(") (ps (punct (codes ")") (a (semi rest)))))))
+    (λ ps z. children_mapped {A = TsFnParamBox X} _ (child_of (fn_param_place asks) (fn_param_items items)) (child_of (fn_param_place (λ x. asks (g x))) (fn_param_items (λ x. items (g x)))) (λ x. refl) types_format n.span ps z) (elim [ None ↦ λ z. refl | Some t ↦ λ z. refl ]) (elim [ None ↦ λ z. refl | Some t ↦ λ z. refl ]) n.params.items
 
 construct_mapped : {X Y : Type 0} (g : X → Y) (asks : Y → Answers) (items : Y → Place → Part) (b : TsTypeLit X) (n : TsConstructSignatureDecl X) (type_params : Option (TsTypeParamDeclBox X)) (type_ann : Option (TsTypeAnnBox X)) (rest : Plan) → member_of asks items (map-AnyNode X Y g (as_member b (elements.TsConstructSignatureDecl (record n { type_params = type_params; type_ann = type_ann })))) rest ≡ ts_type_element (λ x. asks (g x)) (λ x. items (g x)) (elements.TsConstructSignatureDecl (record n { type_params = type_params; type_ann = type_ann })) rest
 unfolding ts_type_element ts_signature ts_construct_signature_decl params_behind_new signature_params spaced_annotation
-construct_mapped {X} g asks items b n None None rest = ap (λ z. leading_comments n.span.lo (keyword None (codes "new") (punct (codes "(") z))) (children_mapped {A = TsFnParamBox X} _ (child_of (fn_param_place asks) (fn_param_items items)) (child_of (fn_param_place (λ x. asks (g x))) (fn_param_items (λ x. items (g x)))) (λ x. refl) types_format n.span n.params.items (punct (codes ")") (semi rest)))
-construct_mapped {X} g asks items b n None (Some a) rest = ap (λ z. leading_comments n.span.lo (keyword None (codes "new") (punct (codes "(") z))) (children_mapped {A = TsFnParamBox X} _ (child_of (fn_param_place asks) (fn_param_items items)) (child_of (fn_param_place (λ x. asks (g x))) (fn_param_items (λ x. items (g x)))) (λ x. refl) types_format n.span n.params.items (punct (codes ")") (punct (codes ":") (space (items (g a.node.value) (Whole Plain) (semi rest))))))
-construct_mapped {X} g asks items b n (Some t) None rest = ap (λ z. leading_comments n.span.lo (keyword None (codes "new") (space (items (g t.node.value) (Whole Plain) (punct (codes "(") z))))) (children_mapped {A = TsFnParamBox X} _ (child_of (fn_param_place asks) (fn_param_items items)) (child_of (fn_param_place (λ x. asks (g x))) (fn_param_items (λ x. items (g x)))) (λ x. refl) types_format n.span n.params.items (punct (codes ")") (semi rest)))
-construct_mapped {X} g asks items b n (Some t) (Some a) rest = ap (λ z. leading_comments n.span.lo (keyword None (codes "new") (space (items (g t.node.value) (Whole Plain) (punct (codes "(") z))))) (children_mapped {A = TsFnParamBox X} _ (child_of (fn_param_place asks) (fn_param_items items)) (child_of (fn_param_place (λ x. asks (g x))) (fn_param_items (λ x. items (g x)))) (λ x. refl) types_format n.span n.params.items (punct (codes ")") (punct (codes ":") (space (items (g a.node.value) (Whole Plain) (semi rest))))))
+construct_mapped {X} g asks items b n = by_three (map _) (λ ps. list types_format n.span (map (child_of (fn_param_place asks) (fn_param_items items)) ps)) (λ ps. list types_format n.span (map (child_of (fn_param_place (λ x. asks (g x))) (fn_param_items (λ x. items (g x)))) ps)) _ (params_behind_new items) (params_behind_new (λ x. items (g x))) _ (spaced_annotation items) (spaced_annotation (λ x. items (g x)))
+    (λ ps t a rest. leading_comments n.span.lo (keyword None (codes "new") (t (punct (codes "(") (ps (punct (codes ")") (a (semi rest))))))))
+    (λ ps z. children_mapped {A = TsFnParamBox X} _ (child_of (fn_param_place asks) (fn_param_items items)) (child_of (fn_param_place (λ x. asks (g x))) (fn_param_items (λ x. items (g x)))) (λ x. refl) types_format n.span ps z) (elim [ None ↦ λ z. refl | Some t ↦ λ z. refl ]) (elim [ None ↦ λ z. refl | Some t ↦ λ z. refl ]) n.params.items
 
 method_mapped : {X Y : Type 0} (g : X → Y) (asks : Y → Answers) (items : Y → Place → Part) (b : TsTypeLit X) (n : TsMethodSignature X) (type_params : Option (TsTypeParamDeclBox X)) (type_ann : Option (TsTypeAnnBox X)) (rest : Plan) → member_of asks items (map-AnyNode X Y g (as_member b (elements.TsMethodSignature (record n { type_params = type_params; type_ann = type_ann })))) rest ≡ ts_type_element (λ x. asks (g x)) (λ x. items (g x)) (elements.TsMethodSignature (record n { type_params = type_params; type_ann = type_ann })) rest
 unfolding ts_type_element ts_signature ts_method_signature signature_key type_params signature_params annotation
-method_mapped {X} g asks items b n None None rest = ap (λ z. leading_comments n.span.lo (signature_key (λ x. items (g x)) n.computed n.key (question n.optional (punct (codes "(") z)))) (children_mapped {A = TsFnParamBox X} _ (child_of (fn_param_place asks) (fn_param_items items)) (child_of (fn_param_place (λ x. asks (g x))) (fn_param_items (λ x. items (g x)))) (λ x. refl) types_format n.span n.params.items (punct (codes ")") (semi rest)))
-method_mapped {X} g asks items b n None (Some a) rest = ap (λ z. leading_comments n.span.lo (signature_key (λ x. items (g x)) n.computed n.key (question n.optional (punct (codes "(") z)))) (children_mapped {A = TsFnParamBox X} _ (child_of (fn_param_place asks) (fn_param_items items)) (child_of (fn_param_place (λ x. asks (g x))) (fn_param_items (λ x. items (g x)))) (λ x. refl) types_format n.span n.params.items (punct (codes ")") (punct (codes ":") (formatting_space (items (g a.node.value) (Whole Plain) (semi rest))))))
-method_mapped {X} g asks items b n (Some t) None rest = ap (λ z. leading_comments n.span.lo (signature_key (λ x. items (g x)) n.computed n.key (question n.optional (items (g t.node.value) (Whole Plain) (punct (codes "(") z))))) (children_mapped {A = TsFnParamBox X} _ (child_of (fn_param_place asks) (fn_param_items items)) (child_of (fn_param_place (λ x. asks (g x))) (fn_param_items (λ x. items (g x)))) (λ x. refl) types_format n.span n.params.items (punct (codes ")") (semi rest)))
-method_mapped {X} g asks items b n (Some t) (Some a) rest = ap (λ z. leading_comments n.span.lo (signature_key (λ x. items (g x)) n.computed n.key (question n.optional (items (g t.node.value) (Whole Plain) (punct (codes "(") z))))) (children_mapped {A = TsFnParamBox X} _ (child_of (fn_param_place asks) (fn_param_items items)) (child_of (fn_param_place (λ x. asks (g x))) (fn_param_items (λ x. items (g x)))) (λ x. refl) types_format n.span n.params.items (punct (codes ")") (punct (codes ":") (formatting_space (items (g a.node.value) (Whole Plain) (semi rest))))))
+method_mapped {X} g asks items b n = by_three (map _) (λ ps. list types_format n.span (map (child_of (fn_param_place asks) (fn_param_items items)) ps)) (λ ps. list types_format n.span (map (child_of (fn_param_place (λ x. asks (g x))) (fn_param_items (λ x. items (g x)))) ps)) _ (type_params items) (type_params (λ x. items (g x))) _ (annotation items) (annotation (λ x. items (g x)))
+    (λ ps t a rest. leading_comments n.span.lo (signature_key (λ x. items (g x)) n.computed n.key (question n.optional (t (punct (codes "(") (ps (punct (codes ")") (a (semi rest)))))))))
+    (λ ps z. children_mapped {A = TsFnParamBox X} _ (child_of (fn_param_place asks) (fn_param_items items)) (child_of (fn_param_place (λ x. asks (g x))) (fn_param_items (λ x. items (g x)))) (λ x. refl) types_format n.span ps z) (elim [ None ↦ λ z. refl | Some t ↦ λ z. refl ]) (elim [ None ↦ λ z. refl | Some t ↦ λ z. refl ]) n.params.items
 
 property_mapped : {X Y : Type 0} (g : X → Y) (asks : Y → Answers) (items : Y → Place → Part) (b : TsTypeLit X) (n : TsPropertySignature X) (type_ann : Option (TsTypeAnnBox X)) (rest : Plan) → member_of asks items (map-AnyNode X Y g (as_member b (elements.TsPropertySignature (record n { type_ann = type_ann })))) rest ≡ ts_type_element (λ x. asks (g x)) (λ x. items (g x)) (elements.TsPropertySignature (record n { type_ann = type_ann })) rest
 unfolding ts_type_element ts_signature ts_property_signature signature_key annotation
