@@ -84,10 +84,29 @@ impl<W: WriteJs, S: SourceMapper, C: Comments> Emitter<'_, W, S, C> {
         );
     }
 
-    /// Writes a punctuator.
+    /// Writes a punctuator. Where lines may have a greatest length, a break may be due behind it.
     #[inline(never)]
-    #[tactic(auto, using(crate::proofs::Standings::refused_makes))]
     pub(crate) fn punct(&mut self, mark: Punctuator)
+        ensures items { Performs (punct (spelling mark)) S.lines C.maps W.sheet self.old self.new }
+    {
+        if self.cfg.max_line.is_some() {
+            return self.punct_in_bounds(mark);
+        }
+        self.punct_here(mark)
+    }
+
+    /// The same in a function of its own: where there is no greatest length it takes fewer registers.
+    #[inline(never)]
+    fn punct_in_bounds(&mut self, mark: Punctuator)
+        ensures items { Performs (punct (spelling mark)) S.lines C.maps W.sheet self.old self.new }
+    {
+        self.punct_here(mark)
+    }
+
+    /// The same, where it is called.
+    #[inline(always)]
+    #[tactic(auto, using(crate::proofs::Standings::refused_makes))]
+    fn punct_here(&mut self, mark: Punctuator)
         ensures items { Performs (punct (spelling mark)) S.lines C.maps W.sheet self.old self.new }
     {
         if self.refusal.is_some() {
@@ -260,10 +279,29 @@ impl<W: WriteJs, S: SourceMapper, C: Comments> Emitter<'_, W, S, C> {
         );
     }
 
-    /// Writes a semicolon that may be left out where it isn't needed.
+    /// Writes a semicolon that may be left out where it isn't needed. Where lines may have a greatest length, a break may be due behind it.
     #[inline(never)]
-    #[tactic(auto, using(crate::proofs::Standings::refused_makes))]
     pub(crate) fn semi(&mut self)
+        ensures items { Performs (semi) S.lines C.maps W.sheet self.old self.new }
+    {
+        if self.cfg.max_line.is_some() {
+            return self.semi_in_bounds();
+        }
+        self.semi_here()
+    }
+
+    /// The same in a function of its own: where there is no greatest length it takes fewer registers.
+    #[inline(never)]
+    fn semi_in_bounds(&mut self)
+        ensures items { Performs (semi) S.lines C.maps W.sheet self.old self.new }
+    {
+        self.semi_here()
+    }
+
+    /// The same, where it is called.
+    #[inline(always)]
+    #[tactic(auto, using(crate::proofs::Standings::refused_makes))]
+    fn semi_here(&mut self)
         ensures items { Performs (semi) S.lines C.maps W.sheet self.old self.new }
     {
         if self.refusal.is_some() {
