@@ -3,6 +3,7 @@ pub mod SpaceLaws
 pub mod BreakLaws
 pub mod Breaks
 pub mod Unbroken
+pub mod Unkept
 pub mod PatternLaws
 pub mod BranchLaws
 pub mod MappedOptions

@@ -361,9 +361,21 @@ impl<W: WriteJs, S: SourceMapper, C: Comments> Emitter<'_, W, S, C> {
         );
     }
 
-    /// Records a position, unless it is none.
-    #[tactic(auto, using(crate::proofs::Standings::refused_makes))]
+    /// Records a position, unless it is none. Where the writer keeps none, nothing else is asked.
+    #[inline(always)]
+    #[tactic(auto, using(crate::proofs::Unkept::no_position))]
     pub(crate) fn position(&mut self, pos: BytePos)
+        ensures items { Performs (position pos) S.lines C.maps W.sheet self.old self.new }
+    {
+        if !self.wr.care_about_srcmap() {
+            return;
+        }
+        self.kept_position(pos)
+    }
+
+    /// The same where it keeps them.
+    #[tactic(auto, using(crate::proofs::Standings::refused_makes))]
+    fn kept_position(&mut self, pos: BytePos)
         ensures items { Performs (position pos) S.lines C.maps W.sheet self.old self.new }
     {
         if self.refusal.is_some() {
@@ -375,9 +387,21 @@ impl<W: WriteJs, S: SourceMapper, C: Comments> Emitter<'_, W, S, C> {
         );
     }
 
-    /// Records the position before one, unless that one is none.
-    #[tactic(auto, using(crate::proofs::Standings::refused_makes))]
+    /// Records the position before one, unless that one is none. Where the writer keeps none, nothing else is asked.
+    #[inline(always)]
+    #[tactic(auto, using(crate::proofs::Unkept::no_position_before))]
     pub(crate) fn position_before(&mut self, pos: BytePos)
+        ensures items { Performs (position_before pos) S.lines C.maps W.sheet self.old self.new }
+    {
+        if !self.wr.care_about_srcmap() {
+            return;
+        }
+        self.kept_position_before(pos)
+    }
+
+    /// The same where it keeps them.
+    #[tactic(auto, using(crate::proofs::Standings::refused_makes))]
+    fn kept_position_before(&mut self, pos: BytePos)
         ensures items { Performs (position_before pos) S.lines C.maps W.sheet self.old self.new }
     {
         if self.refusal.is_some() {

@@ -1,7 +1,7 @@
 use Rattle.swc_ecma_codegen_grammar.specs.Comments.{maps_in}
 use Rattle.std.proofs.Common.{rules}
 use Rattle.swc_ecma_codegen_emit.proofs.Standings.{makes_here}
-use Rattle.swc_ecma_codegen_emit.proofs.emitter.Emitter.position.Goals as goal
+use Rattle.swc_ecma_codegen_emit.proofs.emitter.Emitter.kept_position.Goals as goal
 
 pub returns : goal.returns
 returns g c = record { items = makes_here (g.S.SourceMapper.lines c.args.self.now.cm.now) (maps_in g.C.Comments.maps c.args.self.now.comments) _ _ _ _ _ _ c.position.ensures.items c.position.ensures.level (search rules) c.keep.ensures }
