@@ -159,12 +159,12 @@ pub fn tokens_tell_the_rest_of_a_template()
         → DerivesProgram true s a (xs ++ (x ∷ ys)) → DerivesProgram true t b (xs ++ (y ∷ zs)) → ⊥ }
 {}
 
-/// Two programs that one text is printed of have one parse tree, words taken for names, or their lists of tokens part at a place
+/// Two programs whose lists of tokens one text reads as have one parse tree, words taken for names; or the lists part at a place
 /// where the tokens before don't tell what comes: a word or the name of its letters, as `yield`; a semicolon that ends a statement
-/// or an empty statement; a template with a tag or without; a token of JSX, or `[no LineTerminator here]`, or not.
+/// or an empty statement; a template with a tag or without; a token of JSX, or `[no LineTerminator here]`, in one of them.
 ///
-/// So no goal symbol of the lexical grammar is wanted, nor a choice of one: `a / b / c` reads as two divisions, whatever a
-/// lexer takes `/ b /` for, since no program has the tokens `a`, `/ b /` and `c`. ECMA-262, section 12.
+/// So whoever reads a text needs no goal symbol of the lexical grammar: `a / b / c` is two divisions, whatever a lexer takes
+/// `/ b /` for, since no program has the tokens `a`, `/ b /` and `c`. ECMA-262, section 12.
 #[tactic(auto, using(crate::proofs::Texts::one_text))]
 pub fn texts_tell_the_program()
     ensures { (s t : Settings) (a b : Program AnyNode) (xs ys : List Token) (text : List ℕ)
