@@ -101,10 +101,10 @@ brace_kind k t n g h e =
 hashbang_begins : (t : List ℕ) → is_hashbang t ≡ true → (n : List ℕ) × (t ≡ 35 ∷ 33 ∷ n)
 unfolding is_hashbang begins
 hashbang_begins [] h = absurd (some_hashbang h)
-hashbang_begins (c ∷ []) h = absurd (true≢false (sym (and_parts _ _ (and_parts (c == 35) _ h).1).0))
+hashbang_begins (c ∷ []) h = absurd (true≢false (sym (and_parts (c == 35) false h).1))
 hashbang_begins (c ∷ d ∷ n) h =
     let p = and_parts (c == 35) _ h in
-    let q = and_parts (33 == d) true (and_parts _ _ p.1).0 in
+    let q = and_parts (33 == d) true (and_parts ((33 == d) && true) _ p.1).0 in
     (n, ap₂ (λ x y. x ∷ y ∷ n) (at_eq (λ z. z ≡ 35) c 35 p.0 refl) (sym (at_eq (λ z. z ≡ d) 33 d q.0 refl)))
 
 after_hash : (n u m : List ℕ) → n ++ u ≡ 33 ∷ m → is_private_name (35 ∷ n) ≡ true → ⊥
