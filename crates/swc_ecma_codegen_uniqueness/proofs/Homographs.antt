@@ -9,12 +9,10 @@ use Rattle.swc_ecma_codegen_grammar.specs.Names.{all_part, is_private_name, is_w
 use Rattle.swc_ecma_codegen_grammar.specs.Numbers.{has_suffix, is_big_integer, is_number, is_numeric}
 use Rattle.swc_ecma_codegen_grammar.specs.Punctuators.{punctuators}
 use Rattle.swc_ecma_codegen_grammar.specs.Reads.{is_same_line}
-use Rattle.swc_ecma_codegen_grammar.specs.RegularExpressions.{is_regex}
-use Rattle.swc_ecma_codegen_grammar.specs.Templates.{is_template_rest}
 use Rattle.swc_ecma_codegen_grammar.specs.Texts.{begins, is_among, is_same}
-use Rattle.swc_ecma_codegen_grammar.specs.Tokens.{Token, Goal, Ordinary, Child, Spells, goal, has_shape}
+use Rattle.swc_ecma_codegen_grammar.specs.Tokens.{Token, Ordinary, Child, goal, has_shape}
 use Rattle.swc_ecma_codegen_grammar.specs.declared.kinds.Kind.{Kind}
-use Rattle.swc_ecma_codegen_grammar.specs.declared.kinds.Kind.TheVariants.{Word, Name, PrivateName, Punctuator, Ending, Number, BigInt, Str, Regex, Template, TemplateRest, Close, JsxName, JsxString, JsxText, JsxOpen, Hashbang, SameLine}
+use Rattle.swc_ecma_codegen_grammar.specs.declared.kinds.Kind.TheVariants.{Word, Name, PrivateName, Punctuator, Ending, Number, BigInt, Str, Regex, Template, TemplateRest, JsxText, JsxOpen, Hashbang}
 use Rattle.swc_ecma_codegen_grammar.specs.declared.kinds.TemplatePart.{TemplatePart}
 use Rattle.swc_ecma_codegen_grammar.specs.declared.names.Place.TheVariants.{Between, Escaped}
 use Rattle.swc_ecma_codegen_grammar.proofs.Conditions.{at_eq}
@@ -23,7 +21,7 @@ use Rattle.swc_ecma_codegen_grammar.proofs.HashbangShapes.{some_hashbang}
 use Rattle.swc_ecma_codegen_grammar.proofs.Marks.{punctuator_among}
 use Rattle.swc_ecma_codegen_grammar.proofs.NameShapes.{name_head, some_name, starts_name}
 use Rattle.swc_ecma_codegen_grammar.proofs.RegexShapes.{regex_head}
-use Rattle.swc_ecma_codegen_grammar.proofs.Sorts.{Sort, Hashed, Marked, of_hashes, shape_sort, sort, sort_of}
+use Rattle.swc_ecma_codegen_grammar.proofs.Sorts.{Marked, of_hashes, shape_sort, sort, sort_of}
 use Rattle.swc_ecma_codegen_grammar.proofs.Tables.{each, each_at, eq_of_same}
 use Rattle.swc_ecma_codegen_grammar.proofs.TemplateShapes.{some_template_rest, template_rest_head}
 use Rattle.swc_ecma_codegen_grammar.proofs.Unique.{fronts}

@@ -1,10 +1,10 @@
 -- Two lists of tokens that one text reads as are the same, or part at a place.
 use Rattle.std.proofs.Common.{◌≡◌, ℕ, Bool, true, false, ◌||◌, ◌⊎◌, inl, inr, List, [], ◌∷◌, ◌++◌, codes, refl, sym, ap, ap₂, ◌∙◌, subst, append-nil}
 use Rattle.std.specs.Prelude.{if◌then◌else◌}
-use Rattle.std.proofs.lemmas.Bool.{true≢false, cond-true, cond-false, or_left, or_right}
+use Rattle.std.proofs.lemmas.Bool.{true≢false, or_left, or_right}
 use Rattle.swc_ecma_codegen_grammar.specs.LongestMatch.{IsLongest}
-use Rattle.swc_ecma_codegen_grammar.specs.Names.{is_word, name_value}
-use Rattle.swc_ecma_codegen_grammar.specs.Reads.{Reads, ReadsOn, is_same_line}
+use Rattle.swc_ecma_codegen_grammar.specs.Names.{name_value}
+use Rattle.swc_ecma_codegen_grammar.specs.Reads.{ReadsOn, is_same_line}
 use Rattle.swc_ecma_codegen_grammar.specs.Tokens.{Token, Value, Characters, Spells, has_shape, name, same_line, value_of, word}
 use Rattle.swc_ecma_codegen_grammar.specs.Trivia.{Remark, Trivia}
 use Rattle.swc_ecma_codegen_grammar.specs.declared.kinds.Kind.{Kind}
@@ -15,7 +15,7 @@ use Rattle.swc_ecma_codegen_grammar.proofs.Unique.{nothing_solid, same_longest, 
 use Rattle.swc_ecma_codegen_syntax.specs.NameForms.{is_one_of}
 use Rattle.swc_ecma_codegen_uniqueness.specs.Parting.{is_of_jsx, is_of_syntax, are_homographs, may_part}
 use Rattle.swc_ecma_codegen_uniqueness.specs.Words.{contextual_words, named_by, as_name, as_names}
-use Rattle.swc_ecma_codegen_uniqueness.proofs.Classes.{Class, Over, Infix, Assigns, RegexToken, CloseBrace, Later, class, class_of, look, marks}
+use Rattle.swc_ecma_codegen_uniqueness.proofs.Classes.{Class, RegexToken, Later, class, class_of, look, marks}
 use Rattle.swc_ecma_codegen_uniqueness.proofs.Apart as apart
 use Rattle.swc_ecma_codegen_uniqueness.proofs.Words.{class_named}
 use Rattle.swc_ecma_codegen_uniqueness.proofs.Homographs.{Met, alike, letters, letters_too, homographs, divides, divides_too, closes, closes_too, is_word_kind, meet, no_child, word_value}
