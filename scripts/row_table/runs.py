@@ -1,6 +1,7 @@
-"""The runs of the program that the rows of tests/swc_ecma_codegen_cases ask for."""
+"""The runs of `ecmagen` and of `ecmafix` that the rows of tests/swc_ecma_codegen_cases ask for."""
 
 import collections
+import re
 
 import rows
 import table
@@ -16,9 +17,15 @@ LITERAL = '{"Lit":•}'
 MEMBER = '{"Member":{"span":~,"obj":{"Lit":•},"prop":{"Ident":{"span":~,"sym":"x"}}}}'
 BAD_TREE = (1, "", "bad tree\n")
 NOT_WELL_FORMED = (1, "", "not well-formed\n")
+NOT_A_DERIVATION = (1, "", "not a derivation\n")
 UNPRINTED = (1, "", "refused: unsupported node\n")
+SOME_TEXT = (0, None, "")
+# an expression that begins as a statement may not, and a head of a `for` whose name no parentheses are put round
+UNMENDED = re.compile(r"class_extends•{•}$|pat:(let|async)! head:pat")
+# what frames what steps leave, by the word of a row
+FRAMES = {"script": STATEMENTS, "program": PROGRAM, "": EXPRESSION}
 # by the letters of rows `replaced`
-ANSWERS = {"b": BAD_TREE, "n": NOT_WELL_FORMED, "p": (0, None, "")}
+ANSWERS = {"b": BAD_TREE, "n": NOT_WELL_FORMED, "p": SOME_TEXT}
 
 
 def framed(frame, short):
@@ -56,9 +63,13 @@ def of_steps(rows_of, word, rest):
     if plain not in ("tree", "malformed", "node", "prints"):
         return []
     words, made_of, text = (rest[0].split(), rest[1], rest[2]) if plain == "prints" else ([], rest[0], rest[1])
+    return prints(of_sort(rows_of, sort, made_of), words, text, plain != "malformed")
+
+
+def of_sort(rows_of, sort, made_of):
+    """What steps leave, as a program: the statements of a script, a program, or an expression."""
     parts = rows_of.made(made_of, 0)
-    frames = {"script": (STATEMENTS, ",".join(parts)), "program": (PROGRAM, parts[-1]), "": (EXPRESSION, parts[-1])}
-    return prints(framed(*frames[sort]), words, text, plain != "malformed")
+    return framed(FRAMES[sort], ",".join(parts) if sort == "script" else parts[-1])
 
 
 def of_json(word, rest):
@@ -97,9 +108,37 @@ def of_row(rows_of, word, rest):
     return of_steps(rows_of, word, rest)
 
 
-def runs():
+def mends(json, answers):
+    """The runs of `ecmafix` by what is said of a tree: whether each node is covered, whether it is curable, and whether it lacks no parentheses."""
+    if answers[:2] == "10":
+        return [([], json, NOT_A_DERIVATION), (["--any"], json, SOME_TEXT)]
+    return [([], json, SOME_TEXT)]
+
+
+def by_ecmafix(words, json, answer):
+    """A run of `ecmafix` by one of `ecmagen`, of a tree that lacks no parentheses but in the value of an accessor."""
+    status, text, lines = answer
+    # (which swc prints, and no grammar derives)
+    if text.startswith("export*as a,{"):
+        return words, json, NOT_A_DERIVATION
+    text = re.sub(r"(?<=accessor a)( ?= ?)(b, ?c)", r"\1(\2)", text)
+    return words, json, (status, text, lines.replace("ecmagen", "ecmafix"))
+
+
+def of_row_mended(rows_of, word, rest):
+    """The runs of `ecmafix` that a row asks for."""
+    if word in ("run", "cuts", "no_text"):
+        return [by_ecmafix(*run) for run in of_row(rows_of, word, rest)]
+    sort, _, plain = word.rpartition("_")
+    if plain not in ("mended", "structure") or rest[0] != ("program" if sort else "script") or UNMENDED.search(rest[1]):
+        return []
+    json = of_sort(rows_of, sort, rest[1])
+    return [([], json, (0, rest[2] + "\n", ""))] if plain == "mended" else mends(json, rest[2])
+
+
+def runs(of=of_row):
     """Each run that the table asks for."""
     rows_of = table.Table()
     for row, (word, *rest) in rows_of.rows:
-        for words, json, answer in of_row(rows_of, word, rest):
+        for words, json, answer in of(rows_of, word, rest):
             yield Run(row, words, json, *answer)

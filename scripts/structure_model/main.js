@@ -2,13 +2,14 @@
 // See scripts/try-structure.
 const { Fault } = require('../tree_of/files.js');
 
-const FLAGS = { '--modules': 'modules', '--jsx': 'jsx', '--minify': 'minified', '--rules': 'rules', '--printers': 'printers' };
+const FLAGS = { '--modules': 'modules', '--jsx': 'jsx', '--minify': 'minified', '--rules': 'rules', '--printers': 'printers', '--types': 'types' };
 const NUMBERS = { '--trees': 'trees', '--from': 'from', '--depth': 'depth', '--files': 'files' };
-const MANNERS = { '--pass': 'mended', '--cut': 'cut' };
+const MANNERS = { '--pass': 'mended', '--cut': 'cut', '--fix': 'bare' };
 
 // What the words ask for; nothing where one is wrong.
 function asked(words) {
-  const options = { trees: 2_000, from: 0, depth: 4, files: 0, manner: 'raw', modules: false, jsx: false, minified: false, rules: false, printers: false };
+  const options = { trees: 2_000, from: 0, depth: 4, files: 0, manner: 'raw' };
+  Object.values(FLAGS).forEach((name) => { options[name] = false; });
   const paths = [];
   for (let at = 0; at < words.length; at++) {
     const word = words[at];
@@ -30,6 +31,7 @@ async function main() {
   }
   let agrees;
   if (options.paths.length) agrees = require('./try_files.js').tryFiles(options.paths, options);
+  else if (options.types) agrees = require('./try_types.js').tryTypes(options);
   else if (options.rules) agrees = require('./try_rules.js').tryRules(options);
   else if (options.printers) agrees = await require('./try_printers.js').tryPrinters(options);
   else agrees = require('./try_random.js').tryRandom(options);
