@@ -1,4 +1,4 @@
-"""scripts/try-requests over out/ecmaprint, and the client of examples/: its texts, and where its source maps lead."""
+"""scripts/try-requests over out/ecmaprint, and the clients of examples/: their texts, and where source maps lead."""
 
 import os
 import subprocess
@@ -38,6 +38,14 @@ class Client(unittest.TestCase):
             path, _ = self.printed(folder)
             told = node("mapped_names.js", f"{path}.out", f"{path}.out.map", path, "--places")
             self.assertEqual((told.stdout, told.stderr), ("6 names\n", ""))
+
+    def test_a_name_becomes_an_expression(self):
+        with tempfile.TemporaryDirectory() as folder:
+            path = write(folder, "a.js", "// first\nf(x, x * c, { x: 1 }.x, x.y, [{ x }]);\nlet x;\n")
+            words = ["node", f"{TOP}/examples/replace-name.js", PROGRAM, "x", "a + b", path]
+            ran = subprocess.run(words, capture_output=True, text=True, check=False, env=PACKAGES)
+            text = "// first\nf(a + b, (a + b) * c, {\n    x: 1\n}.x, (a + b).y, [\n    {\n        x: a + b\n    }\n]);\nlet x;\n"
+            self.assertEqual((ran.returncode, ran.stdout, ran.stderr), (0, text, ""))
 
 
 if __name__ == "__main__":

@@ -8,6 +8,9 @@ use Rattle.swc_ecma_codegen_common.specs.declared.errors.Error.TheVariants.{OutO
 use Rattle.swc_ecma_codegen_tree.specs.declared.links.AnyNode.{AnyNode}
 use Rattle.swc_ecma_codegen_tree.specs.declared.programs.Program.{Program}
 use Rattle.swc_ecma_codegen_grammar.specs.TreePhrases.{is_well_formed}
+use Rattle.swc_ecma_codegen_syntax.specs.Derives.{program_verdict}
+use Rattle.swc_ecma_codegen_syntax.specs.Verdicts.{holds}
+use Rattle.swc_ecma_codegen_fix.specs.Mended.{IsMended}
 use Rattle.swc_ecma_codegen_json.specs.declared.flat.FlatTree.{FlatTree}
 use Rattle.swc_ecma_codegen_json.specs.declared.trees.Tree.{Tree}
 use Rattle.swc_ecma_codegen_tokens.specs.Run.{Part, printed}
@@ -21,9 +24,10 @@ use Rattle.swc_ecma_codegen_requests.specs.Members.{fault_members, text_members,
 use Rattle.swc_ecma_codegen_requests.specs.Prints.{if_asked, maps_left, start_by}
 use Rattle.swc_ecma_codegen_requests.specs.Remarks.{left_by, places_in}
 use Rattle.swc_ecma_codegen_requests.specs.Settings.{config_of}
+use Rattle.swc_ecma_codegen_requests.specs.declared.answers.Preparation.{Preparation}
 use Rattle.swc_ecma_codegen_requests.specs.declared.emissions.Manner.{Manner}
 use Rattle.swc_ecma_codegen_requests.specs.declared.faults.Fault.{Fault}
-use Rattle.swc_ecma_codegen_requests.specs.declared.faults.Fault.TheVariants.{BadJson, BadRequest, BadTree, NotOneProgram, Memory, NotWellFormed, Refused}
+use Rattle.swc_ecma_codegen_requests.specs.declared.faults.Fault.TheVariants.{BadJson, BadRequest, BadTree, NotOneProgram, Memory, NotWellFormed, NotADerivation, Refused}
 use Rattle.swc_ecma_codegen_requests.specs.declared.requests.Request.{Request}
 
 -- what is written of a program
@@ -33,6 +37,15 @@ program_part p = by_itself (program any_answers any_items p)
 -- a program may be printed: it is well-formed, unless any is to be
 abbrev pub MayPrint : Bool → Program AnyNode → Type 0
 MayPrint any p = any ≡ false → is_well_formed p ≡ true
+
+-- what is printed of a program: it gets its parentheses where they are asked for
+unfoldable pub Becomes : Bool → Bool → Program AnyNode → Program AnyNode → Type 0
+Becomes true any p r = IsMended any p r
+Becomes false any p r = p ≡ r
+
+-- the same, of a program that may be printed
+abbrev pub IsPrepared : Preparation → Program AnyNode → Program AnyNode → Type 0
+IsPrepared preparation p r = MayPrint preparation.any p × Becomes preparation.parenthesize preparation.any p r
 
 -- An answer has the text of a part, the positions where they are asked for, and of the request's comments, where it has some, those that are left.
 pub record IsTextLine (id : Option Data) (manner : Manner) (part : Part) (answer : List ℕ) : Type 0 where
@@ -54,15 +67,23 @@ IsBroken p (NotWellFormed fault) = is_well_formed p ≡ false
 IsBroken p Memory = Unit {0}
 IsBroken p fault = ⊥
 
--- Why a program has no text: its emission was refused for this cause, or there was no memory for it; or it isn't well-formed, and should be.
-abbrev pub IsWhy : Bool → Manner → Program AnyNode → Fault → Type 0
-IsWhy any manner p (Refused error) = MayPrint any p × ((error ≡ OutOfMemory) ⊎ GivesCause (program_part p) (start_by manner) error)
-IsWhy any manner p fault = (any ≡ false) × IsBroken p fault
+-- Why a program isn't printed: it isn't well-formed, and should be; its text is read as another tree, and should not; or there was no
+-- memory to ask that.
+abbrev pub IsUnprepared : Preparation → Program AnyNode → Fault → Type 0
+IsUnprepared preparation p NotADerivation = (preparation.parenthesize ≡ true) × (holds true (program_verdict p) ≡ false)
+IsUnprepared preparation p Memory = (preparation.any ≡ false) ⊎ (preparation.parenthesize ≡ true)
+IsUnprepared preparation p fault = (preparation.any ≡ false) × IsBroken p fault
+
+-- Why a program has no text: it isn't printed; or its emission was refused for this cause, or there was no memory for it.
+abbrev pub IsWhy : Preparation → Manner → Program AnyNode → Fault → Type 0
+IsWhy preparation manner p (Refused error) =
+    (r : Program AnyNode) × IsPrepared preparation p r × ((error ≡ OutOfMemory) ⊎ GivesCause (program_part r) (start_by manner) error)
+IsWhy preparation manner p fault = IsUnprepared preparation p fault
 
 -- the answer to a request for the text of a program
-pub data AnswersProgram (id : Option Data) (any : Bool) (manner : Manner) (p : Program AnyNode) (answer : List ℕ) : Type 0 where
-  a_text : MayPrint any p → IsTextLine id manner (program_part p) answer → AnswersProgram id any manner p answer
-  a_fault : (fault : Fault) → IsWhy any manner p fault → IsFaultLine id fault answer → AnswersProgram id any manner p answer
+pub data AnswersProgram (id : Option Data) (preparation : Preparation) (manner : Manner) (p : Program AnyNode) (answer : List ℕ) : Type 0 where
+  a_text : (r : Program AnyNode) → IsPrepared preparation p r → IsTextLine id manner (program_part r) answer → AnswersProgram id preparation manner p answer
+  a_fault : (fault : Fault) → IsWhy preparation manner p fault → IsFaultLine id fault answer → AnswersProgram id preparation manner p answer
 
 -- a request, whose program is a tree or has its flat form
 abbrev pub Asked : Type 0
@@ -71,6 +92,10 @@ Asked = Request (Tree AnyNode) (FlatTree 8000 AnyNode)
 -- how it is to be printed: the source text begins at 1 unless it is said where
 abbrev pub manner_of : Asked → Manner
 manner_of request = record { config = config_of request.config; source = request.source; first = unwrap_or request.first 1; comments = request.comments; positions = request.positions }
+
+-- what is done with its program before
+abbrev pub preparation_of : Asked → Preparation
+preparation_of request = record { any = request.any; parenthesize = request.parenthesize }
 
 -- its program, where it has one
 abbrev pub program_in : Option (Tree AnyNode) → Option (FlatTree 8000 AnyNode) → Option (Program AnyNode)
@@ -84,7 +109,7 @@ AnswersRequest request answer =
     let id = option_map view request.id in
     MatchOption (program_in request.tree request.flat)
     (IsFaultLine id NotOneProgram answer)
-    (λ p. AnswersProgram id request.any (manner_of request) p answer)
+    (λ p. AnswersProgram id (preparation_of request) (manner_of request) p answer)
 
 -- no request was read
 abbrev pub IsUnread : Fault → Type 0

@@ -9,7 +9,7 @@ use Rattle.swc_ecma_codegen_validate.specs.declared.faults.Fault.{Fault as TreeF
 use Rattle.swc_ecma_codegen_validate.specs.declared.faults.Step.{Step}
 use Rattle.swc_ecma_codegen_validate.specs.declared.faults.Step.TheVariants.{Field, Element}
 use Rattle.swc_ecma_codegen_requests.specs.declared.faults.Fault.{Fault}
-use Rattle.swc_ecma_codegen_requests.specs.declared.faults.Fault.TheVariants.{BadJson, BadRequest, BadTree, NotOneProgram, Memory, NotWellFormed, Refused}
+use Rattle.swc_ecma_codegen_requests.specs.declared.faults.Fault.TheVariants.{BadJson, BadRequest, BadTree, NotOneProgram, Memory, NotWellFormed, NotADerivation, Refused}
 
 -- a text is made in memory, so a fault of its writer is want of memory
 abbrev pub cause_of : Refusal → List ℕ
@@ -55,4 +55,5 @@ Tells (BadTree error) told = TellsUnread (codes "bad tree") told
 Tells NotOneProgram told = told ≡ object (member (codes "kind") (string (codes "bad request")) (member (codes "message") (string (codes "one of `tree` and `flat` is wanted")) no_members))
 Tells Memory told = told ≡ refused_data (codes "memory")
 Tells (NotWellFormed fault) told = told ≡ tree_fault_data fault
+Tells NotADerivation told = told ≡ object (member (codes "kind") (string (codes "not a derivation")) no_members)
 Tells (Refused error) told = told ≡ refused_data (cause_of (reason_of error))

@@ -25,6 +25,8 @@ pub(crate) enum Fault {
     Memory,
     /// The program isn't well-formed, and should be.
     NotWellFormed(TreeFault),
+    /// The program's text would be read as another tree, or as none, and should not: no parentheses mend it.
+    NotADerivation,
     /// The emission was refused.
     Refused(Error),
 }
@@ -43,6 +45,7 @@ impl Fault {
             }
             Fault::Memory => json!(in alloc; {"kind": "refused", "cause": "memory"}),
             Fault::NotWellFormed(fault) => tree_fault(alloc, fault),
+            Fault::NotADerivation => json!(in alloc; {"kind": "not a derivation"}),
             Fault::Refused(error) => {
                 let cause = cause_of(error);
                 json!(in alloc; {"kind": "refused", "cause": cause})

@@ -39,8 +39,9 @@ const MOST_BYTES: usize = 2147483648;
 /// the settings of [`Config`](swc_ecma_codegen_util::config::Config) by their names, `target` as `"es2015"`; one that is left out is as in
 /// `Config::default()`. `comments` are by the positions that they stand before and after, each as
 /// `{"kind":"Line","text":" a","span":{"lo":1,"hi":5}}`, or a `Block`. With `positions` the answer tells where what stands in the source
-/// was written. With `any` a program that isn't well-formed is printed too. Lines end with LF in the text, and with `minify` semicolons
-/// that aren't needed are left out. The answer has the `id` of its request, any JSON.
+/// was written. With `parenthesize` the program gets the parentheses that it lacks, as `ecmafix` puts them in. With `any` a program that
+/// isn't well-formed is printed too, and one that no parentheses mend. Lines end with LF in the text, and with `minify` semicolons that
+/// aren't needed are left out. The answer has the `id` of its request, any JSON.
 ///
 /// An answer is
 ///
@@ -57,6 +58,7 @@ const MOST_BYTES: usize = 2147483648;
 /// | `{"kind":"bad request","message":"unknown field", ..}` | it is no request |
 /// | `{"kind":"bad tree","message":"missing field `span`", ..}` | `tree` or `flat` is no program |
 /// | `{"kind":"not well-formed","path":["body",3,"expr"],"rule":".."}` | the program isn't, and `any` isn't asked for: the way to the first node whose own rule is broken, and the rule |
+/// | `{"kind":"not a derivation"}` | `parenthesize` is asked for, and no parentheses make the text read as this tree, or some are missing where it puts none |
 /// | `{"kind":"refused","cause":"name out of target"}` | the emission was refused; or there was no memory for the request: `"memory"` |
 ///
 /// The error is that of `input` or of `out`, which then took a beginning of an answer; `OutOfMemory` where there is none for a line or its

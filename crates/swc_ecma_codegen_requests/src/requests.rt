@@ -32,6 +32,8 @@ pub(crate) struct Request<T, F> {
     pub(crate) positions: bool,
     #[serde(default)]
     pub(crate) any: bool,
+    #[serde(default)]
+    pub(crate) parenthesize: bool,
 }
 
 /// What an answer is known by, of a line whose rest may be no request.
