@@ -1,3 +1,4 @@
 pub mod Causes
+pub mod MendedTexts
 pub mod Negation
 pub mod Products

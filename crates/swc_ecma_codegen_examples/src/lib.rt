@@ -33,7 +33,7 @@ mod structure;
 pub use crate::links::{
     emitted_box_reads, emitted_link_reads, emitted_option_reads, emitted_ref_reads,
 };
-pub use crate::parentheses::product;
+pub use crate::parentheses::{mended_text, product};
 pub use crate::structure::{NoMeaning, text_that_keeps_structure};
 use std::alloc::{AllocError, Global};
 use std::io::Write;
