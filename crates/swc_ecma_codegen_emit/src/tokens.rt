@@ -1,8 +1,8 @@
 //! Calls of the lower emitter.
 
-ghost use Rattle.std.specs.Prelude.{◌≡◌, ◌<◌, Option, true};
+ghost use Rattle.std.specs.Prelude.{◌≡◌, ◌<◌, Option, is_some, true, false};
 ghost use Rattle.swc_ecma_codegen_literals.specs.Punctuators.{spelling};
-ghost use Rattle.swc_ecma_codegen_tokens.specs.Starts.{begins_letter};
+ghost use Rattle.swc_ecma_codegen_tokens.specs.Starts.{begins_letter, begins_name};
 ghost use Rattle.swc_ecma_codegen_tokens.specs.PrivateNames.{private_name};
 ghost use Rattle.swc_ecma_codegen_emit.specs.Standing.{HasLevels, standing_of, Performs, PerformsDeeper, PerformsShallower};
 ghost use Rattle.swc_ecma_codegen_tokens.specs.Words.{allow_break, bare_punct, bare_semi, begin_lines, end_lines, keyword, operator, operator_between, punct_between, word_operator, punct, placed_punct, semi, space, formatting_space, formatting_line, line_end, commit_pending_semi, position, position_before, start_of, end_of, last_of, leading_comments, trailing_comments, comments_before_end, name};
@@ -20,7 +20,7 @@ use swc_ecma_codegen_grammar::comments::Comments;
 use swc_ecma_codegen_grammar::mapper::SourceMapper;
 use swc_ecma_codegen_literals::Punctuator;
 use swc_ecma_codegen_text_writer::WriteJs;
-use swc_ecma_codegen_tokens::Unprintable;
+use swc_ecma_codegen_tokens::{Unprintable, begins_name};
 
 impl<W: WriteJs, S: SourceMapper, C: Comments> Emitter<'_, W, S, C> {
     /// Refuses a node that has no text, as `Invalid`.
@@ -497,10 +497,53 @@ impl<W: WriteJs, S: SourceMapper, C: Comments> Emitter<'_, W, S, C> {
         );
     }
 
-    /// Writes a name with its comments. Never inlined, since what it calls is: so a name takes one call.
+    /// Writes a name with its comments. Never inlined, since what it calls is: so a name takes one call. Mostly it is a text alone.
+    #[inline(never)]
+    pub(crate) fn name(&mut self, span: Span, sym: &str, optional: bool)
+        ensures items { Performs (name span sym.now optional)
+            S.lines C.maps W.sheet self.old self.new }
+    {
+        if self.wr.care_about_srcmap() || self.comments.is_some() || optional {
+            return self.name_anyhow(span, sym, optional);
+        }
+        if !begins_name(sym) {
+            return self.name_anyhow(span, sym, optional);
+        }
+        self.name_alone(span, sym, optional)
+    }
+
+    /// The same where no positions are kept, no comments are there, and no `?` is written.
     #[inline(never)]
     #[tactic(auto, using(crate::proofs::Standings::refused_makes))]
-    pub(crate) fn name(&mut self, span: Span, sym: &str, optional: bool)
+    fn name_alone(&mut self, span: Span, sym: &str, optional: bool)
+        requires unplaced { (W.sheet self.old.wr).keeps_positions ≡ false }
+        requires uncommented { is_some self.old.comments ≡ false }
+        requires single { optional ≡ false }
+        requires begins { begins_name sym.now ≡ true }
+        ensures items { Performs (name span sym.now optional)
+            S.lines C.maps W.sheet self.old self.new }
+    {
+        if self.refusal.is_some() {
+            return;
+        }
+        if !self.lower.stands_alone(&self.cfg, &mut self.wr, sym) {
+            return self.name_anyhow(span, sym, optional);
+        }
+        let done = self.lower.writes_alone(
+            &self.cfg,
+            &mut self.comments,
+            &mut self.wr,
+            span,
+            sym,
+            optional,
+        );
+        keep_reason(&mut self.refusal, done, &self.lower);
+    }
+
+    /// The same, whatever stands round the name.
+    #[inline(never)]
+    #[tactic(auto, using(crate::proofs::Standings::refused_makes))]
+    fn name_anyhow(&mut self, span: Span, sym: &str, optional: bool)
         ensures items { Performs (name span sym.now optional)
             S.lines C.maps W.sheet self.old self.new }
     {

@@ -1,4 +1,5 @@
 -- Names, keys and private names: what is written of each, and what it reads as.
+pub mod Alone
 pub mod KeyPrints
 pub mod KeySteps
 pub mod KeyTexts

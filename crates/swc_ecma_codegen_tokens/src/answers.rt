@@ -6,7 +6,7 @@ ghost use Rattle.swc_ecma_codegen_text_writer.specs.Reach.{is_in_line};
 ghost use Rattle.swc_ecma_codegen_text_writer.specs.Sheet.{Str, Writes, answered, is_settled};
 
 use crate::LowerEmitter;
-use crate::guard::row;
+use crate::guard::{REFUSED, row};
 use crate::previous::PreviousToken;
 use std::mem::replace;
 use std::snapshot::Snapshot;
@@ -37,12 +37,14 @@ impl LowerEmitter {
     {
         let refusal = error.refusal();
         self.failed = true;
+        self.row = REFUSED;
         self.fault = error.into_fault();
         refusal
     }
 
     /// What a call of the writer answered is noted, with the last token, and passed on in short.
     pub(crate) fn settle(&mut self, answer: Result, last: PreviousToken) -> Answer
+        requires unfailed { self.old.failed ≡ false }
         ensures same { result ≡ in_short answer }
         ensures ok { OnOk result ((self.new.token.value ≡ last)
             × (self.new.failed ≡ self.old.failed)) }
@@ -60,6 +62,7 @@ impl LowerEmitter {
     /// `reason` says why not.
     #[inline(always)]
     pub(crate) fn sends<W: WriteJs>(&mut self, wr: &mut W, text: &str, last: PreviousToken) -> bool
+        requires unfailed { self.old.failed ≡ false }
         requires settled { (W.sheet wr.old).refused ≡ false →
             is_settled (W.sheet wr.old).semicolons ≡ true }
         requires in_line { is_in_line text.now ≡ true }
@@ -102,6 +105,7 @@ impl LowerEmitter {
     /// Notes the last token ahead of the call that writes it, so that nothing of it is kept over that call, and answers which one
     /// it was before.
     pub(crate) fn note(&mut self, last: PreviousToken) -> Snapshot<PreviousToken>
+        requires unfailed { self.old.failed ≡ false }
         ensures before { result.value ≡ self.old.token.value }
         ensures token { self.new.token.value ≡ last }
         ensures failed { self.new.failed ≡ self.old.failed }

@@ -18,6 +18,7 @@ ghost use Rattle.swc_ecma_codegen_tokens.specs.View.{state_of};
 ghost use Rattle.swc_ecma_codegen_tokens.specs.Written.{Between, InText};
 
 use crate::LowerEmitter;
+use crate::guard::REFUSED;
 use crate::previous::PreviousToken;
 use crate::raws::raw_text;
 use crate::refusals::Unprintable;
@@ -159,6 +160,7 @@ impl LowerEmitter {
             Ok(text) => self.attribute_by(cfg, comments, wr, n.span, &text),
             Err(error) => {
                 self.failed = true;
+                self.row = REFUSED;
                 Err(error.refusal())
             }
         }

@@ -249,7 +249,7 @@ impl LowerEmitter {
 
     /// The same of a text that stays in its line, where no semicolon is held back.
     #[inline(always)]
-    fn sends_symbol<W: WriteJs>(&mut self, cfg: &Config, wr: &mut W, text: &str) -> bool
+    pub(crate) fn sends_symbol<W: WriteJs>(&mut self, cfg: &Config, wr: &mut W, text: &str) -> bool
         requires unfailed { self.old.failed ≡ false }
         requires settled { is_settled (W.sheet wr.old).semicolons ≡ true }
         requires in_line { is_in_line text.now ≡ true }

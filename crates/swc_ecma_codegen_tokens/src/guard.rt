@@ -8,6 +8,7 @@ ghost use Rattle.swc_ecma_codegen_tokens.specs.Classes.{IsRowOf, place_of};
 ghost use Rattle.swc_ecma_codegen_tokens.specs.PreviousToken.{class_of, last_at};
 ghost use Rattle.swc_ecma_codegen_tokens.specs.declared.previous.PreviousToken.{PreviousToken};
 
+use crate::LowerEmitter;
 use crate::starts::StartClass;
 use swc_ecma_codegen_literals::{Punctuator, TokenClass};
 
@@ -22,8 +23,9 @@ pub fn blank_due(last: TokenClass, next: StartClass) -> bool
 
 /// The same, by the row of the token's class.
 #[inline(always)]
-pub(crate) fn blank_due_after(row: u32, next: StartClass) -> bool
-    ensures { (class : TokenClass) (token : PreviousToken) (text : List ℕ) → IsRowOf class row →
+fn blank_due_after(row: u32, next: StartClass) -> bool
+    ensures refused { row ≡ 4294967295 → result ≡ true }
+    ensures class { (class : TokenClass) (token : PreviousToken) (text : List ℕ) → IsRowOf class row →
         class_of token ≡ class → start_class text ≡ next → result ≡ fuses (last_at token) text }
 {
     (row >> next.place() as u32) & 1 == 1
@@ -31,11 +33,36 @@ pub(crate) fn blank_due_after(row: u32, next: StartClass) -> bool
 
 /// Whether no blank is due behind a token, whatever text follows, by the row of its class: behind a blank and most punctuators.
 #[inline(always)]
-pub(crate) fn never_due_after(row: u32) -> bool
-    ensures { (class : TokenClass) (token : PreviousToken) (text : List ℕ) → result ≡ true →
+fn never_due_after(row: u32) -> bool
+    ensures refused { row ≡ 4294967295 → result ≡ false }
+    ensures class { (class : TokenClass) (token : PreviousToken) (text : List ℕ) → result ≡ true →
         IsRowOf class row → class_of token ≡ class → fuses (last_at token) text ≡ false }
 {
     row == NONE
+}
+
+impl LowerEmitter {
+    /// Whether a text that begins so may follow at once: nothing was refused, and no blank is due.
+    #[inline(always)]
+    pub(crate) fn may_go_on(&self, next: StartClass) -> bool
+        ensures unfailed { result ≡ true → self.now.failed ≡ false }
+        ensures passes { (text : List ℕ) → result ≡ true → start_class text ≡ next →
+            fuses (last_at self.now.token.value) text ≡ false }
+        ensures due { (text : List ℕ) → result ≡ false → self.now.failed ≡ false →
+            start_class text ≡ next → fuses (last_at self.now.token.value) text ≡ true }
+    {
+        !blank_due_after(self.row, next)
+    }
+
+    /// Whether each text may follow at once: behind a blank and most punctuators.
+    #[inline(always)]
+    pub(crate) fn may_go_on_anyhow(&self) -> bool
+        ensures unfailed { result ≡ true → self.now.failed ≡ false }
+        ensures passes { (text : List ℕ) → result ≡ true →
+            fuses (last_at self.now.token.value) text ≡ false }
+    {
+        never_due_after(self.row)
+    }
 }
 
 /// The row of a class.
@@ -101,6 +128,9 @@ const SLASH: u32 = 1 << StartClass::Slash as u32;
 
 /// The row of a class that nothing fuses with.
 const NONE: u32 = 0;
+
+/// The row after a refusal: nothing may follow.
+pub(crate) const REFUSED: u32 = u32::MAX;
 
 /// The classes of texts before which a blank is due, as a set of bits for each class of tokens, in their order.
 const BLANKS: [u32; 63] = [

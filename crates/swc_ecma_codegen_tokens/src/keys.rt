@@ -13,6 +13,7 @@ ghost use Rattle.swc_ecma_codegen_tokens.specs.Adds.{AddsTaking};
 ghost use Rattle.swc_ecma_codegen_tokens.specs.View.{state_of};
 
 use crate::LowerEmitter;
+use crate::guard::REFUSED;
 use crate::names::wants_escapes;
 use crate::previous::PreviousToken;
 use crate::starts::StartClass;
@@ -95,6 +96,7 @@ impl LowerEmitter {
             Ok(key) => self.ascii_key(cfg, wr, quoted, span, &key),
             Err(error) => {
                 self.failed = true;
+                self.row = REFUSED;
                 Err(error.refusal())
             }
         }
@@ -188,6 +190,7 @@ impl LowerEmitter {
             Ok(text) => self.spelled_key(cfg, comments, wr, span, &text),
             Err(error) => {
                 self.failed = true;
+                self.row = REFUSED;
                 Err(error.refusal())
             }
         }

@@ -1,7 +1,7 @@
 //! The lower emitter: it writes tokens, and what stands between them, and never calls a node's function.
 #![tactic(auto)]
 
-ghost use Rattle.std.specs.Prelude.{◌≡◌, false};
+ghost use Rattle.std.specs.Prelude.{◌≡◌, true, false};
 ghost use Rattle.swc_ecma_codegen_common.specs.Refusals.{reason_of};
 ghost use Rattle.swc_ecma_codegen_tokens.specs.Classes.{IsRowOf};
 ghost use Rattle.swc_ecma_codegen_tokens.specs.PreviousToken.{class_of};
@@ -35,7 +35,7 @@ pub use crate::guard::blank_due;
 use crate::guard::row;
 pub use crate::previous::PreviousToken;
 pub use crate::refusals::Unprintable;
-pub use crate::starts::StartClass;
+pub use crate::starts::{StartClass, begins_name};
 use std::alloc::Global;
 use std::io;
 use std::snapshot::Snapshot;
@@ -44,7 +44,8 @@ use swc_ecma_codegen_literals::TokenClass;
 
 /// What an emission keeps from one call to the next: the allocator, the class of the last token with its row in the table of
 /// blanks, which the next token asks for, whether a call was refused, and the error that the writer gave. Proofs see the last
-/// token itself. Once a call was refused no class is asked for, and it may be that of the token that wasn't written.
+/// token itself. Once a call was refused the row is all ones, so one test tells that a token may follow at once. No class is asked
+/// for then, and it may be that of the token that wasn't written.
 #[derive(Drop)]
 pub struct LowerEmitter {
     alloc: Global,
@@ -56,7 +57,8 @@ pub struct LowerEmitter {
     // Why the last call was refused that only says whether it was.
     reason: Refusal,
     ghost class: { failed ≡ false → class_of token.value ≡ last },
-    ghost of_class: { IsRowOf last row },
+    ghost of_class: { failed ≡ false → IsRowOf last row },
+    ghost refused: { failed ≡ true → row ≡ 4294967295 },
 }
 
 impl LowerEmitter {

@@ -11,6 +11,7 @@ ghost use Rattle.swc_ecma_codegen_tokens.specs.Lists.{comma_before_end, has_trai
 ghost use Rattle.swc_ecma_codegen_tokens.specs.View.{state_of};
 
 use crate::LowerEmitter;
+use crate::guard::REFUSED;
 use bitflags::Flags;
 use std::alloc::Global;
 use swc_ecma_codegen_common::{Answer, Error, Refusal, Span};
@@ -121,6 +122,7 @@ impl LowerEmitter {
             Ok(wanted) => self.comma_if(cfg, wr, wanted),
             Err(error) => {
                 self.failed = true;
+                self.row = REFUSED;
                 Err(error.refusal())
             }
         }

@@ -13,6 +13,7 @@ ghost use Rattle.swc_ecma_codegen_tokens.specs.Adds.{AddsList, AddsTaking};
 ghost use Rattle.swc_ecma_codegen_tokens.specs.View.{state_of};
 
 use crate::LowerEmitter;
+use crate::guard::REFUSED;
 use crate::raws::{is_ascii, is_escaped, raw_text};
 use crate::starts::StartClass;
 use std::alloc::Global;
@@ -219,6 +220,7 @@ impl LowerEmitter {
             Ok(text) => self.string_by(cfg, comments, wr, n, &text, in_lit),
             Err(error) => {
                 self.failed = true;
+                self.row = REFUSED;
                 Err(error.refusal())
             }
         }

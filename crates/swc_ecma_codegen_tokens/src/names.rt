@@ -16,7 +16,7 @@ ghost use Rattle.swc_ecma_codegen_tokens.specs.Written.{ReadsSoFar, name_tokens,
 ghost use Rattle.swc_ecma_codegen_tokens.specs.View.{state_of, env_of};
 
 use crate::LowerEmitter;
-use crate::guard::{blank_due_after, never_due_after};
+use crate::guard::REFUSED;
 use crate::raws::is_ascii;
 use crate::short_names::has_backslash;
 use crate::starts::StartClass;
@@ -61,13 +61,10 @@ impl LowerEmitter {
         ensures passes { result ≡ true →
             fuses (last_at self.now.token.value) (chars text.now) ≡ false }
     {
-        if self.failed {
-            return false;
-        }
-        if never_due_after(self.row) {
+        if self.may_go_on_anyhow() {
             return true;
         }
-        !blank_due_after(self.row, StartClass::of_text(text))
+        self.may_go_on(StartClass::of_text(text))
     }
 
     /// The same whatever is due before it, in a function of its own: a name before which nothing is due takes fewer registers.
@@ -134,6 +131,7 @@ impl LowerEmitter {
             Ok(name) => self.symbol(cfg, wr, span, &name),
             Err(error) => {
                 self.failed = true;
+                self.row = REFUSED;
                 Err(error.refusal())
             }
         }
@@ -202,6 +200,7 @@ impl LowerEmitter {
             Ok(text) => self.spelled_symbol(cfg, wr, span, &text),
             Err(error) => {
                 self.failed = true;
+                self.row = REFUSED;
                 Err(error.refusal())
             }
         }

@@ -12,6 +12,7 @@ ghost use Rattle.swc_ecma_codegen_tokens.specs.Adds.{AddsTaking};
 ghost use Rattle.swc_ecma_codegen_tokens.specs.View.{state_of};
 
 use crate::LowerEmitter;
+use crate::guard::REFUSED;
 use crate::literals::{size_of, takes_dot};
 use crate::raws::{joined, raw_text, suits};
 use std::alloc::Global;
@@ -280,6 +281,7 @@ impl LowerEmitter {
             Ok(text) => self.number_by(cfg, comments, wr, n.span, &text, in_lit),
             Err(error) => {
                 self.failed = true;
+                self.row = REFUSED;
                 Err(error.refusal())
             }
         }
@@ -412,6 +414,7 @@ impl LowerEmitter {
             Ok(text) => self.object_by(cfg, comments, wr, n.span, pos, &text),
             Err(error) => {
                 self.failed = true;
+                self.row = REFUSED;
                 Err(error.refusal())
             }
         }
@@ -513,6 +516,7 @@ impl LowerEmitter {
             }
             Err(error) => {
                 self.failed = true;
+                self.row = REFUSED;
                 Err(error.refusal())
             }
         }

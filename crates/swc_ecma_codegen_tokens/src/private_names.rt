@@ -11,6 +11,7 @@ ghost use Rattle.swc_ecma_codegen_tokens.specs.Adds.{AddsTaking};
 ghost use Rattle.swc_ecma_codegen_tokens.specs.View.{state_of};
 
 use crate::LowerEmitter;
+use crate::guard::REFUSED;
 use crate::names::wants_escapes;
 use crate::previous::PreviousToken;
 use crate::starts::StartClass;
@@ -112,6 +113,7 @@ impl LowerEmitter {
             Ok(name) => self.private_symbol(cfg, wr, span, &name),
             Err(error) => {
                 self.failed = true;
+                self.row = REFUSED;
                 Err(error.refusal())
             }
         }
@@ -180,6 +182,7 @@ impl LowerEmitter {
             Ok(text) => self.spelled_private(cfg, wr, span, &text),
             Err(error) => {
                 self.failed = true;
+                self.row = REFUSED;
                 Err(error.refusal())
             }
         }

@@ -5,6 +5,7 @@ ghost use Rattle.swc_ecma_codegen_tokens.specs.Run.{Does, refuse, refusal_of};
 ghost use Rattle.swc_ecma_codegen_tokens.specs.View.{state_of};
 
 use crate::LowerEmitter;
+use crate::guard::REFUSED;
 use swc_ecma_codegen_common::{Answer, Refusal};
 use swc_ecma_codegen_text_writer::WriteJs;
 use swc_ecma_codegen_util::config::Config;
@@ -46,6 +47,7 @@ impl LowerEmitter {
             return Err(Refusal::Failed);
         }
         self.failed = true;
+        self.row = REFUSED;
         Err(why.refusal())
     }
 }

@@ -11,13 +11,12 @@ ghost use Rattle.swc_ecma_codegen_text_writer.specs.Reach.{is_in_line};
 ghost use Rattle.swc_ecma_codegen_text_writer.specs.Sheet.{answered, is_settled};
 ghost use Rattle.swc_ecma_codegen_tokens.specs.PreviousToken.{last_at};
 ghost use Rattle.swc_ecma_codegen_tokens.specs.Run.{Does, DoesTaking, Stays};
-ghost use Rattle.swc_ecma_codegen_tokens.specs.Starts.{begins_letter};
+ghost use Rattle.swc_ecma_codegen_tokens.specs.Starts.{begins_letter, begins_name};
 ghost use Rattle.swc_ecma_codegen_tokens.specs.Targets.{wants_escapes};
 ghost use Rattle.swc_ecma_codegen_tokens.specs.Words.{bare_punct, bare_semi, break_behind, allow_break, keyword, name, name_text, operator, operator_between, punct, punct_between, semi, space, spelled_symbol, symbol, valid_symbol};
 ghost use Rattle.swc_ecma_codegen_tokens.specs.View.{state_of};
 
 use crate::LowerEmitter;
-use crate::guard::blank_due_after;
 use crate::lines::is_bounded;
 use crate::short_names::is_short_without_backslash;
 use crate::starts::{StartClass, begins_name};
@@ -234,7 +233,7 @@ impl LowerEmitter {
             (state_of cfg.now (W.sheet wr.new) self.new) (answered result self.new.reason) }
         ensures level { Stays (W.sheet wr.old) (W.sheet wr.new) (answered result self.new.reason) }
     {
-        if self.failed || blank_due_after(self.row, StartClass::NameCharacter) {
+        if !self.may_go_on(StartClass::NameCharacter) {
             return self.writes_keyword_apart(cfg, wr, None, word);
         }
         self.writes_keyword_here(cfg, wr, word)
@@ -404,7 +403,6 @@ impl LowerEmitter {
     /// Whether a name goes the shortest way: it stays in its line and has no backslash, no blank is due before it, and nothing is to be
     /// escaped.
     #[inline(always)]
-    #[tactic(auto, unfolding(crate::specs::Targets::wants_escapes))]
     fn is_plain<W: WriteJs>(&self, cfg: &Config, wr: &mut W, sym: &str) -> bool
         ensures unfailed { result ≡ true → self.now.failed ≡ false }
         ensures passes { result ≡ true →
@@ -415,25 +413,95 @@ impl LowerEmitter {
         ensures valid { result ≡ true → (W.sheet wr.old).keeps_invalid ≡ false }
         ensures same { W.sheet wr.new ≡ W.sheet wr.old }
     {
-        if self.failed {
+        if !begins_name(sym) {
             return false;
         }
+        self.is_plain_begun(cfg, wr, sym)
+    }
+
+    /// The same of a name that begins with a letter of ASCII, `$` or `_`.
+    #[inline(always)]
+    #[tactic(auto, unfolding(crate::specs::Targets::wants_escapes))]
+    fn is_plain_begun<W: WriteJs>(&self, cfg: &Config, wr: &mut W, sym: &str) -> bool
+        requires { begins_name sym.now ≡ true }
+        ensures unfailed { result ≡ true → self.now.failed ≡ false }
+        ensures passes { result ≡ true →
+            fuses (last_at self.now.token.value) (chars sym.now) ≡ false }
+        ensures in_line { result ≡ true → is_in_line sym.now ≡ true }
+        ensures unescaped { result ≡ true → has_byte 92 sym.now ≡ false }
+        ensures as_it_is { result ≡ true → wants_escapes cfg.now sym.now ≡ false }
+        ensures valid { result ≡ true → (W.sheet wr.old).keeps_invalid ≡ false }
+        ensures same { W.sheet wr.new ≡ W.sheet wr.old }
+    {
         if cfg.ascii_only {
             return false;
         }
         if wr.can_ignore_invalid_unicodes() {
             return false;
         }
-        if !begins_name(sym) {
-            return false;
-        }
-        if blank_due_after(self.row, StartClass::NameCharacter) {
+        if !self.may_go_on(StartClass::NameCharacter) {
             return false;
         }
         if !is_short_without_backslash(sym.as_bytes()) {
             return false;
         }
         is_in_line(sym.as_bytes())
+    }
+
+    /// Whether a name that begins with a letter of ASCII, `$` or `_` goes the shortest way, is no longer than sixteen bytes, and needs no
+    /// semicolon before it.
+    #[inline(always)]
+    pub fn stands_alone<W: WriteJs>(&self, cfg: &Config, wr: &mut W, sym: &str) -> bool
+        requires { begins_name sym.now ≡ true }
+        ensures settled { result ≡ true → is_settled (W.sheet wr.old).semicolons ≡ true }
+        ensures unfailed { result ≡ true → self.now.failed ≡ false }
+        ensures passes { result ≡ true →
+            fuses (last_at self.now.token.value) (chars sym.now) ≡ false }
+        ensures in_line { result ≡ true → is_in_line sym.now ≡ true }
+        ensures unescaped { result ≡ true → has_byte 92 sym.now ≡ false }
+        ensures as_it_is { result ≡ true → wants_escapes cfg.now sym.now ≡ false }
+        ensures valid { result ≡ true → (W.sheet wr.old).keeps_invalid ≡ false }
+        ensures same { W.sheet wr.new ≡ W.sheet wr.old }
+    {
+        if !wr.is_settled() {
+            return false;
+        }
+        if 16 < sym.len() {
+            return false;
+        }
+        self.is_plain_begun(cfg, wr, sym)
+    }
+
+    /// Writes such a name where no positions are kept, no comments are there, and no `?` is written: it is a text alone.
+    #[inline(always)]
+    pub fn writes_alone<W: WriteJs, C: Comments>(
+        &mut self,
+        cfg: &Config,
+        comments: &mut Option<C>,
+        wr: &mut W,
+        span: Span,
+        sym: &str,
+        optional: bool,
+    ) -> bool
+        requires single { optional ≡ false }
+        requires uncommented { is_some comments.old ≡ false }
+        requires unplaced { (W.sheet wr.old).keeps_positions ≡ false }
+        requires settled { is_settled (W.sheet wr.old).semicolons ≡ true }
+        requires unfailed { self.old.failed ≡ false }
+        requires passes { fuses (last_at self.old.token.value) (chars sym.now) ≡ false }
+        requires in_line { is_in_line sym.now ≡ true }
+        requires unescaped { has_byte 92 sym.now ≡ false }
+        requires as_it_is { wants_escapes cfg.now sym.now ≡ false }
+        requires valid { (W.sheet wr.old).keeps_invalid ≡ false }
+        ensures items { DoesTaking (name span sym.now optional) (maps_in C.maps comments.old)
+            (maps_in C.maps comments.new) (state_of cfg.now (W.sheet wr.old) self.old)
+            (state_of cfg.now (W.sheet wr.new) self.new) (answered result self.new.reason) }
+        ensures level { Stays (W.sheet wr.old) (W.sheet wr.new) (answered result self.new.reason) }
+    {
+        let _ = comments;
+        let _ = span;
+        let _ = optional;
+        self.sends_symbol(cfg, wr, sym)
     }
 
     /// Writes a name with its comments, and `?` after an optional one.

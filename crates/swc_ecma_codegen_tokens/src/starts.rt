@@ -306,7 +306,7 @@ fn begins_letter(text: &str) -> bool
 /// Whether a text begins with a letter of ASCII, `$` or `_`, as most names do.
 #[inline(always)]
 #[tactic(auto, unfolding(swc_ecma_codegen_grammar::specs::Chars::is_letter))]
-pub(crate) fn begins_name(text: &str) -> bool
+pub fn begins_name(text: &str) -> bool
     ensures { result ≡ begins_name text.now }
 {
     match text.as_bytes().first() {

@@ -17,6 +17,7 @@ ghost use Rattle.swc_ecma_codegen_tokens.specs.Templates.{with_line_feeds, is_re
 ghost use Rattle.swc_ecma_codegen_tokens.specs.View.{state_of};
 
 use crate::LowerEmitter;
+use crate::guard::REFUSED;
 use crate::previous::PreviousToken;
 use crate::raws::is_ascii;
 use crate::starts::{StartClass, split_first_char};
@@ -269,6 +270,7 @@ impl LowerEmitter {
             Ok(text) => self.part_by(cfg, wr, first, part, n.span, &text),
             Err(error) => {
                 self.failed = true;
+                self.row = REFUSED;
                 Err(error.refusal())
             }
         }
@@ -288,6 +290,7 @@ impl LowerEmitter {
             Ok(text) => self.placed_inside(cfg, wr, false, n.span, &text),
             Err(error) => {
                 self.failed = true;
+                self.row = REFUSED;
                 Err(error.refusal())
             }
         }

@@ -19,7 +19,6 @@ ghost use Rattle.swc_ecma_codegen_tokens.specs.Adds.{Adds};
 ghost use Rattle.swc_ecma_codegen_tokens.specs.View.{state_of};
 
 use crate::LowerEmitter;
-use crate::guard::blank_due_after;
 use crate::previous::PreviousToken;
 use crate::starts::StartClass;
 use swc_ecma_codegen_common::{Answer, BytePos, Refusal, Span};
@@ -32,12 +31,9 @@ impl LowerEmitter {
     /// an earlier call was refused.
     #[inline(always)]
     pub(crate) fn is_apart(&self, mark: Punctuator) -> bool {
-        if self.failed {
-            return true;
-        }
         match mark {
             Punctuator::Bang => true,
-            _ => blank_due_after(self.row, StartClass::of_mark(mark)),
+            _ => !self.may_go_on(StartClass::of_mark(mark)),
         }
     }
 
@@ -57,11 +53,11 @@ impl LowerEmitter {
         ensures level { Stays (W.sheet wr.old) (W.sheet wr.new) result }
         ensures fresh { OnOk result (self.new.failed ≡ false) }
     {
+        if self.may_go_on(next) {
+            return Ok(());
+        }
         if self.failed {
             return Err(Refusal::Failed);
-        }
-        if !blank_due_after(self.row, next) {
-            return Ok(());
         }
         self.put_blank(cfg, wr, text)
     }
@@ -321,11 +317,11 @@ impl LowerEmitter {
             (state_of cfg.now (W.sheet wr.new) self.new) result }
         ensures level { Stays (W.sheet wr.old) (W.sheet wr.new) result }
     {
-        if self.failed {
-            return Err(Refusal::Failed);
-        }
         if wr.is_settled() {
             return Ok(());
+        }
+        if self.failed {
+            return Err(Refusal::Failed);
         }
         self.call_pending_semi(cfg, wr)
     }

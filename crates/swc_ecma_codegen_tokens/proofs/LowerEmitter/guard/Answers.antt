@@ -1,7 +1,9 @@
-use Rattle.std.proofs.Common.{sym, ◌∙◌}
 use Rattle.std.specs.Str.{chars}
 use Rattle.swc_ecma_codegen_tokens.proofs.Emission.Calls.{passed}
 use Rattle.swc_ecma_codegen_tokens.proofs.LowerEmitter.guard.Goals as goal
 
-pub returns-then-not-blank_due_after-clause-items : goal.returns-then-not-blank_due_after-clause-items
-returns-then-not-blank_due_after-clause-items g c = passed c.args.text.now _ c.if-self.false (sym (c.blank_due_after.ensures c.args.self.now.last c.args.self.now.token.value (chars c.args.text.now) c.args.self.now.of_class (c.args.self.now.class c.if-self.false) c.requires) ∙ c.if-not-blank_due_after.true)
+pub returns-then-may_go_on-clause-items : goal.returns-then-may_go_on-clause-items
+returns-then-may_go_on-clause-items g c = passed c.args.text.now _ (c.may_go_on.ensures.unfailed c.if-may_go_on.true) (c.may_go_on.ensures.passes (chars c.args.text.now) c.if-may_go_on.true c.requires)
+
+pub put_blank-requires-clause-due : goal.put_blank-requires-clause-due
+put_blank-requires-clause-due g c = c.may_go_on.ensures.due (chars c.args.text.now) c.if-may_go_on.false c.if-self.false c.requires

@@ -1,19 +1,13 @@
-use Rattle.std.proofs.Common.{Result, Ok, Err}
-use Rattle.swc_ecma_codegen_common.specs.declared.errors.Refusal.{Refusal}
 use Rattle.swc_ecma_codegen_grammar.specs.declared.kinds.Kind.TheVariants.{Name}
 use Rattle.swc_ecma_codegen_spans.specs.Spans.{dummy_span}
 use Rattle.swc_ecma_codegen_text_writer.specs.Sheet.{Symbol}
-use Rattle.swc_ecma_codegen_tokens.specs.Run.{Part, State, Does, Guard, Token, step}
+use Rattle.swc_ecma_codegen_tokens.specs.Run.{Guard, Token, step}
 use Rattle.swc_ecma_codegen_tokens.specs.Words as words
 use Rattle.swc_ecma_codegen_tokens.specs.Words.{start_of}
 use Rattle.swc_ecma_codegen_tokens.specs.View.{state_of}
 use Rattle.swc_ecma_codegen_tokens.proofs.Emission.Calls.{passed}
+use Rattle.swc_ecma_codegen_tokens.proofs.NameTokens.Alone.{both}
 use Rattle.swc_ecma_codegen_tokens.proofs.LowerEmitter.writes_plain_symbol.Goals as goal
-
--- two parts in order
-both : (p q : Part) (a m b : State) (r : Result (Unit {0}) Refusal) → Does p a m (Ok tt) → Does q m b r → Does (λ rest. p (q rest)) a b r
-both p q a m b (Ok u) h k = λ lines maps rest c r f. h lines maps (q rest) c r (k lines maps rest c r f)
-both p q a m b (Err e) h k = λ lines maps rest. h lines maps (q rest) _ (Err e) (k lines maps rest)
 
 pub returns-in-Err-clause-items : goal.returns-in-Err-clause-items
 unfolding words.symbol
