@@ -34,7 +34,7 @@ use Rattle.swc_ecma_codegen_syntax.specs.NodeForms.{node_form, node_nonterminal,
 use Rattle.swc_ecma_codegen_syntax.specs.Derives.{Derives, fixed, part, restricted, lone, lone_in_parentheses, both, provided}
 use Rattle.swc_ecma_codegen_uniqueness.specs.ParseTrees.{Variant, ParseTree, End, Read, Optional, Node, Ident, Seq, Arrow, Paren, part_variant, pat_variant, node_variant, tokens_of}
 use Rattle.swc_ecma_codegen_uniqueness.specs.Parses.{placed, is_inlined, is_inlined_pattern, is_inlined_pat}
-use Rattle.swc_ecma_codegen_uniqueness.proofs.Classes.{class}
+use Rattle.swc_ecma_codegen_uniqueness.proofs.Classes.{class, NameToken}
 use Rattle.swc_ecma_codegen_uniqueness.proofs.Controls.{Listed, ArrowBody, InList}
 use Rattle.swc_ecma_codegen_uniqueness.proofs.PlaceLaws.{begins_none}
 use Rattle.swc_ecma_codegen_uniqueness.proofs.TableLaws.{cover, or_left, takes_on}
@@ -46,7 +46,7 @@ use Rattle.swc_ecma_codegen_uniqueness.proofs.Heading.{may_be_value, not_exclude
 use Rattle.swc_ecma_codegen_uniqueness.proofs.Shapes.{Operand, shift_left, takes_self, assignment_taken, widened, left_taken, left_assigned, listed_first, listed_next, listed_last, listed_rest, no_parameters, several_parameters, one_parameter, rest_parameter, one_turned, arrow_mark, arrow, async_arrow, ended}
 use Rattle.swc_ecma_codegen_uniqueness.proofs.Reading.{read_phrase, derived_parse}
 use Rattle.swc_ecma_codegen_uniqueness.proofs.Fits.{Fit, in_place, at_place, PlacedGood, AllGood, no_form}
-use Rattle.swc_ecma_codegen_uniqueness.proofs.Atoms.{no_annotation, binding_read}
+use Rattle.swc_ecma_codegen_uniqueness.proofs.Atoms.{no_annotation, binding_read, binding_free}
 use Rattle.swc_ecma_codegen_uniqueness.proofs.Patterns.{covered_at, LastPart, an_element, a_rest, last_at, no_rest}
 
 -- ---- several parameters are covered by a sequence
@@ -96,9 +96,9 @@ parenthesis_heads : (p : ParseTree) → Heads (λ u. begins_none (class u) ≡ f
 unfolding tokens_of punctuator
 parenthesis_heads p = λ us. (_, tokens_of p us, refl, refl)
 
-name_heads : (text : List ℕ) (p : ParseTree) → p ≡ Read (tokens.name text) End → Heads (λ u. begins_none (class u) ≡ false) p
-unfolding tokens_of tokens.name
-name_heads text p e = λ us. (tokens.name text, us, ap (λ z. tokens_of z us) e, refl)
+name_heads : (text : List ℕ) (p : ParseTree) → class (tokens.name text) ≡ NameToken → p ≡ Read (tokens.name text) End → Heads (λ u. begins_none (class u) ≡ false) p
+unfolding tokens_of
+name_heads text p k e = λ us. (tokens.name text, us, ap (λ z. tokens_of z us) e, ap begins_none k)
 
 -- a name alone needs no parentheses
 lone_in : {s : Settings} (called : Bool) (c : Parameters) (y : AnyNode-F AnyNode) {ts : List Token} (d : Derives true s (node_form called c y Pattern) ts) → is_never (node_phrase phrase y PlainParameter) ≡ false →
@@ -106,7 +106,7 @@ lone_in : {s : Settings} (called : Bool) (c : Parameters) (y : AnyNode-F AnyNode
     Turned (placed (is_inlined Pattern y) (node_variant y Pattern) (derived_parse d))
 unfolding node_phrase expr_part plain_parameter is_never node_form part_form pat_form node_nonterminal part_nonterminal pat_nonterminal node_variant part_variant pat_variant PlacedGood placed is_inlined is_inlined_pattern is_inlined_pat same_line stmt_part_form jsx_part_form
 lone_in called c (nodes.ExprPart (expr_parts.Pat (pats.Ident n))) d h o m =
-    record { variant = Ident; inside = derived_parse d End; operand = in_place (takes_self nt.LeftHandSideExpression) (o m); is = λ rest. refl; heads = name_heads _ _ (binding_read c n d End) }
+    record { variant = Ident; inside = derived_parse d End; operand = in_place (takes_self nt.LeftHandSideExpression) (o m); is = λ rest. refl; heads = name_heads _ _ (binding_free c n d) (binding_read c n d End) }
 lone_in called c (nodes.ExprPart (expr_parts.Pat n)) d h o m = absurd (true≢false h)
 lone_in called c (nodes.StmtPart (stmt_parts.Function n)) d h o m = absurd (no_form d)
 lone_in called c (nodes.JSXPart (jsx_parts.JSXElement n)) d h o m = absurd (no_form d)

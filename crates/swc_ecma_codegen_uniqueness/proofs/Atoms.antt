@@ -41,7 +41,7 @@ use Rattle.swc_ecma_codegen_syntax.specs.TargetForms.{paren_target_form, simple_
 use Rattle.swc_ecma_codegen_syntax.specs.Derives.{Derives, fixed, part, simple, both, provided}
 use Rattle.swc_ecma_codegen_uniqueness.specs.ParseTrees.{ParseTree, End, Read, Ident as a_name, Lit as a_literal, MetaProp, Paren, simple_target_variant}
 use Rattle.swc_ecma_codegen_uniqueness.specs.Parses.{placed, is_inlined}
-use Rattle.swc_ecma_codegen_uniqueness.proofs.Classes.{LiteralToken, RegexToken, class}
+use Rattle.swc_ecma_codegen_uniqueness.proofs.Classes.{LiteralToken, RegexToken, class, NameToken, ConstantWord}
 use Rattle.swc_ecma_codegen_uniqueness.proofs.Controls.{starts}
 use Rattle.swc_ecma_codegen_uniqueness.proofs.Tables.{started}
 use Rattle.swc_ecma_codegen_uniqueness.proofs.TableLaws.{is_place}
@@ -50,6 +50,9 @@ use Rattle.swc_ecma_codegen_uniqueness.proofs.Shapes.{atom, parenthesized, new_t
 use Rattle.swc_ecma_codegen_uniqueness.proofs.Reading.{read_phrase, derived_parse}
 use Rattle.swc_ecma_codegen_uniqueness.proofs.Fits.{at_place, PlacedGood, AllGood, no_form}
 use Rattle.swc_ecma_codegen_uniqueness.proofs.Linking.{where_read, target_member_good, super_good}
+use Rattle.swc_ecma_codegen_uniqueness.proofs.Looks.{name_class}
+use Rattle.swc_ecma_codegen_uniqueness.proofs.FreeNames.{free_name}
+use Rattle.std.proofs.lemmas.Str.{IsUtf8-string_bytes}
 
 -- ---- names
 
@@ -63,12 +66,17 @@ pub name_read : {s : Settings} (c : Parameters) (n : Ident) {ts : List Token} (d
 unfolding name_form ident is_met derived_parse
 name_read c n (provided h (provided k (fixed g))) rest = named_read _ n.optional n.span.lo (string_bytes n.sym) _ g (and_parts (has_no_escape (string_bytes n.sym)) (not n.optional) k).1 rest
 
-pub name_atom : (n : Nonterminal) → is_place n ≡ false → (text : List ℕ) → Good (Whole a_name n) (Read (tokens.name text) End)
-unfolding tokens.name
-name_atom n h text = atom (tokens.name text) a_name n refl h refl
+-- it is no reserved word
+pub name_free : {s : Settings} (c : Parameters) (n : Ident) {ts : List Token} (d : Derives true s (name_form c n) ts) → class (tokens.name (name_value (spelled_name (string_bytes n.sym)))) ≡ NameToken
+unfolding name_form is_met
+name_free c n (provided h (provided k d)) =
+    name_class (name_value (spelled_name (string_bytes n.sym))) (free_name c (string_bytes n.sym) (IsUtf8-string_bytes n.sym) h (and_parts (has_no_escape (string_bytes n.sym)) (not n.optional) k).0)
+
+pub name_atom : (n : Nonterminal) → is_place n ≡ false → (text : List ℕ) → class (tokens.name text) ≡ NameToken → Good (Whole a_name n) (Read (tokens.name text) End)
+name_atom n h text e = atom (tokens.name text) a_name n (ap starts e) h (ap started e)
 
 pub name_good : {s : Settings} (c : Parameters) (n : Ident) {ts : List Token} (d : Derives true s (name_form c n) ts) → Good (Whole a_name nt.PrimaryExpression) (derived_parse d End)
-name_good c n d = subst (λ z. Good (Whole a_name nt.PrimaryExpression) z) (sym (name_read c n d End)) (name_atom nt.PrimaryExpression refl _)
+name_good c n d = subst (λ z. Good (Whole a_name nt.PrimaryExpression) z) (sym (name_read c n d End)) (name_atom nt.PrimaryExpression refl _ (name_free c n d))
 
 -- ---- literals
 
@@ -83,11 +91,6 @@ one_literal t e = record { token = t; is = λ rest. refl; literal = e }
 
 where_literal : (s : Settings) (b : Bool) (t : Token) (ts : List Token) (g : Generates s (where_ b (One t)) ts) → class t ≡ LiteralToken → IsLiteral (read_phrase s (where_ b (One t)) ts g)
 where_literal s b t ts g e = record { token = t; is = where_read s b t ts g; literal = e }
-
-bool_literal : (s : Settings) (b : Bool) (ts : List Token) (g : Generates s (phrases.word (if b then codes "true" else codes "false")) ts) → IsLiteral (read_phrase s (phrases.word (if b then codes "true" else codes "false")) ts g)
-unfolding read_phrase word
-bool_literal s true ts g = one_literal _ refl
-bool_literal s false ts g = one_literal _ refl
 
 signed_literal : (s : Settings) (negative b : Bool) (t : Token) (ts : List Token) → not negative ≡ true → class t ≡ LiteralToken → (g : Generates s (where_ b (after_sign negative (One t))) ts) →
     IsLiteral (read_phrase s (where_ b (after_sign negative (One t))) ts g)
@@ -127,6 +130,15 @@ big_literal s n ts h g = signed_literal s n.negative _ _ ts h refl g
 literal_good : {f : ParseTree → ParseTree} → IsLiteral f → Good (Whole a_literal nt.PrimaryExpression) (f End)
 literal_good l = subst (λ z. Good (Whole a_literal nt.PrimaryExpression) z) (sym (l.is End)) (atom l.token a_literal nt.PrimaryExpression (ap starts l.literal) refl (ap started l.literal))
 
+-- `true`, `false`, `null`
+constant_good : (t : Token) → class t ≡ ConstantWord → Good (Whole a_literal nt.PrimaryExpression) (Read t End)
+constant_good t e = atom t a_literal nt.PrimaryExpression (ap starts e) refl (ap started e)
+
+bool_good : (s : Settings) (b : Bool) (ts : List Token) (g : Generates s (phrases.word (if b then codes "true" else codes "false")) ts) → Good (Whole a_literal nt.PrimaryExpression) (read_phrase s (phrases.word (if b then codes "true" else codes "false")) ts g End)
+unfolding read_phrase word
+bool_good s true ts g = constant_good _ refl
+bool_good s false ts g = constant_good _ refl
+
 -- a regular expression is no key, and stands where `/` doesn't
 regex_good : (s : Settings) (b : Bool) (t : Token) (ts : List Token) (g : Generates s (where_ b (One t)) ts) → class t ≡ RegexToken → Good (Whole a_literal nt.PrimaryExpression) (read_phrase s (where_ b (One t)) ts g End)
 regex_good s b t ts g e = subst (λ z. Good (Whole a_literal nt.PrimaryExpression) z) (sym (where_read s b t ts g End)) (atom t a_literal nt.PrimaryExpression (ap starts e) refl (ap started e))
@@ -134,8 +146,8 @@ regex_good s b t ts g e = subst (λ z. Good (Whole a_literal nt.PrimaryExpressio
 lit_by : (s : Settings) (n : Lit) (ts : List Token) → is_literal n ≡ true → (g : Generates s (lit n) ts) → Good (Whole a_literal nt.PrimaryExpression) (read_phrase s (lit n) ts g End)
 unfolding lit bool_lit null_lit number regex is_literal token_of word read_phrase Generates
 lit_by s (lits.Str n) ts h g = literal_good (str_literal s n ts g)
-lit_by s (lits.Bool n) ts h g = literal_good (bool_literal s n.value ts g)
-lit_by s (lits.Null n) ts h g = literal_good (one_literal _ refl)
+lit_by s (lits.Bool n) ts h g = bool_good s n.value ts g
+lit_by s (lits.Null n) ts h g = constant_good _ refl
 lit_by s (lits.Num n) ts h g = literal_good (number_literal s n.value.value n.value.raw ts h g)
 lit_by s (lits.BigInt n) ts h g = literal_good (big_literal s n.value ts h g)
 lit_by s (lits.Regex n) ts h g = regex_good s _ _ ts g refl
@@ -164,8 +176,12 @@ pub binding_read : {s : Settings} (c : Parameters) (n : BindingIdent AnyNode) {t
 unfolding binding_form derived_parse
 binding_read c n (provided h (both d e)) rest = name_read c n.id d (derived_parse e rest) ∙ ap (Read (tokens.name (name_value (spelled_name (string_bytes n.id.sym))))) (no_annotation c n.type_ann e rest)
 
+pub binding_free : {s : Settings} (c : Parameters) (n : BindingIdent AnyNode) {ts : List Token} (d : Derives true s (binding_form c n) ts) → class (tokens.name (name_value (spelled_name (string_bytes n.id.sym)))) ≡ NameToken
+unfolding binding_form
+binding_free c n (provided h (both d e)) = name_free c n.id d
+
 pub binding_good : {s : Settings} (c : Parameters) (n : BindingIdent AnyNode) {ts : List Token} (d : Derives true s (binding_form c n) ts) → Good (Whole a_name nt.LeftHandSideExpression) (derived_parse d End)
-binding_good c n d = subst (λ z. Good (Whole a_name nt.LeftHandSideExpression) z) (sym (binding_read c n d End)) (name_atom nt.LeftHandSideExpression refl _)
+binding_good c n d = subst (λ z. Good (Whole a_name nt.LeftHandSideExpression) z) (sym (binding_read c n d End)) (name_atom nt.LeftHandSideExpression refl _ (binding_free c n d))
 
 paren_target_good : {s : Settings} (c : Parameters) (n : ParenExpr AnyNode) {ts : List Token} (d : Derives true s (paren_target_form c n) ts) → AllGood d → s.minify ≡ c.minify → Good (Whole Paren nt.LeftHandSideExpression) (derived_parse d End)
 unfolding paren_target_form AllGood PlacedGood derived_parse read_phrase placed is_inlined

@@ -35,16 +35,16 @@ use Rattle.swc_ecma_codegen_uniqueness.specs.ParseTrees.{Variant, ParseTree, End
 use Rattle.swc_ecma_codegen_uniqueness.specs.Parses.{placed, is_inlined}
 use Rattle.swc_ecma_codegen_uniqueness.proofs.Classes.{Class, class}
 use Rattle.swc_ecma_codegen_uniqueness.proofs.Controls.{AfterClass, Heritage, Members, stands}
-use Rattle.swc_ecma_codegen_uniqueness.proofs.Tables.{Wrap, without, with_operand}
+use Rattle.swc_ecma_codegen_uniqueness.proofs.Tables.{Wrap, without, with_operand, shifted_to}
 use Rattle.swc_ecma_codegen_uniqueness.proofs.TableLaws.{is_wrap}
 use Rattle.swc_ecma_codegen_uniqueness.proofs.Machine.{Whole, Rest, Good, Heads, goes_on, shifted, keeping}
 use Rattle.swc_ecma_codegen_uniqueness.proofs.Shapes.{takes_self, part_then, begun, ended}
-use Rattle.swc_ecma_codegen_uniqueness.proofs.StatementShapes.{item_of, listed_heads, class_item}
+use Rattle.swc_ecma_codegen_uniqueness.proofs.StatementShapes.{Follower, item_of, listed_heads, class_item}
 use Rattle.swc_ecma_codegen_uniqueness.proofs.Reading.{read_phrase, derived_parse}
 use Rattle.swc_ecma_codegen_uniqueness.proofs.Fits.{at_place, PlacedGood, AllGood, no_form}
 use Rattle.swc_ecma_codegen_uniqueness.proofs.Lists.{no_types}
 use Rattle.swc_ecma_codegen_uniqueness.proofs.Linking.{part_rest}
-use Rattle.swc_ecma_codegen_uniqueness.proofs.Functions.{no_decorators, no_type_params, no_declare, bound_read}
+use Rattle.swc_ecma_codegen_uniqueness.proofs.Functions.{no_decorators, no_type_params, no_declare, bound_read, bound_free}
 
 -- ---- members
 
@@ -141,8 +141,9 @@ class_word_read c x (part k sk d) rest = word_in k c (out-AnyNode x) d rest
 -- ---- classes
 
 pub bound_class : {s : Settings} (n : Nonterminal) (c : Parameters) (x : Ident) {ts : List Token} (d : Derives true s (bound_name_form c x) ts) (m : ParseTree) → Good (Rest AfterClass AClass n) m → Good (Rest AfterClass AClass n) (derived_parse d m)
-unfolding tokens.name
-bound_class n c x d m g = subst (λ z. Good (Rest AfterClass AClass n) z) (sym (bound_read c x d m)) (shifted refl g)
+bound_class n c x d m g =
+    let e = bound_free c x d in
+    subst (λ z. Good (Rest AfterClass AClass n) z) (sym (bound_read c x d m)) (shifted (ap (without AfterClass) e) (subst (λ l. Good (Rest (shifted_to AfterClass l) AClass n) m) (sym e) g))
 
 optional_class : {s : Settings} (n : Nonterminal) (c : Parameters) (o : Option Ident) {ts : List Token} (d : Derives true s (optional_name_form c o) ts) (m : ParseTree) → Good (Rest AfterClass AClass n) m → Good (Rest AfterClass AClass n) (derived_parse d m)
 unfolding optional_name_form derived_parse read_phrase
@@ -182,7 +183,7 @@ class_rest_read at c n (both k (both w (both i t))) (x, (y, (z, o))) m = record 
   good = bound_class at (of_class c) n.ident i _ (class_tail_good at c n.class.node.value t o m);
 }
 
-pub class_decl_good : {s : Settings} (b : Bool) (c : Parameters) (n : ClassDecl AnyNode) {ts : List Token} (d : Derives true s (class_decl_form c n) ts) → AllGood d → s.minify ≡ c.minify → Good (Whole AClass (item_of b)) (derived_parse d End)
+pub class_decl_good : {s : Settings} (b : Follower) (c : Parameters) (n : ClassDecl AnyNode) {ts : List Token} (d : Derives true s (class_decl_form c n) ts) → AllGood d → s.minify ≡ c.minify → Good (Whole AClass (item_of b)) (derived_parse d End)
 unfolding class_decl_form AllGood derived_parse
 class_decl_good b c n (both k (both h (both w (both i t)))) (x, (y, (z, (u, o)))) m =
     subst (λ p. Good (Whole AClass (item_of b)) p) (sym (no_declare n.declare k _ ∙ no_class_decorators c n.class.node.value h _ ∙ class_word_read c n.class.node.value w _))

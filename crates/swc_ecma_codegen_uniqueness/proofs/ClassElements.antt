@@ -43,10 +43,10 @@ use Rattle.swc_ecma_codegen_syntax.specs.NodeForms.{node_form, part_form, stmt_p
 use Rattle.swc_ecma_codegen_syntax.specs.Derives.{Derives, fixed, part, both, provided}
 use Rattle.swc_ecma_codegen_uniqueness.specs.ParseTrees.{Variant, ParseTree, End, Read, Node, Constructor, ClassMethod, PrivateMethod, ClassProp, PrivateProp, StaticBlock, EmptyStmt, member_variant}
 use Rattle.swc_ecma_codegen_uniqueness.specs.Parses.{placed, is_inlined}
-use Rattle.swc_ecma_codegen_uniqueness.proofs.Classes.{Class, NameToken, LiteralToken, class}
+use Rattle.swc_ecma_codegen_uniqueness.proofs.Classes.{Class, NameToken, LiteralToken, class, KeyToken}
 use Rattle.swc_ecma_codegen_uniqueness.proofs.Controls.{Control, InList, Parameter, AfterParameters, AtMember, InMemberKey, MemberKey, FieldPlace}
 use Rattle.swc_ecma_codegen_uniqueness.proofs.Tables.{field_of, shifted_to}
-use Rattle.swc_ecma_codegen_uniqueness.proofs.PlaceLaws.{is_no_member, member_shifts, element_begins}
+use Rattle.swc_ecma_codegen_uniqueness.proofs.PlaceLaws.{is_no_member, is_no_key, key_member, member_shifts, element_begins}
 use Rattle.swc_ecma_codegen_uniqueness.proofs.TableLaws.{assignment_single}
 use Rattle.swc_ecma_codegen_uniqueness.proofs.Machine.{Whole, Rest, Good, headed_block, shifted}
 use Rattle.swc_ecma_codegen_uniqueness.proofs.Shapes.{Operand, takes_self, assignment_taken, part_then, ended, is_key, Keyed}
@@ -67,7 +67,7 @@ begun_member t h g = headed_block (element_begins t h) g
 
 -- a token that begins a member stands behind `async` and `*` too, and tells that a name before it was a word: `static`, `get`, `set`
 abbrev IsBehind : Class → Type 0
-IsBehind l = (is_no_member l ≡ false) × (shifted_to (MemberKey ClassMethod) l ≡ shifted_to AtMember l)
+IsBehind l = (is_no_key l ≡ false) × (shifted_to (MemberKey ClassMethod) l ≡ shifted_to AtMember l)
 
 -- what begins with such a token
 record Began (v : Variant) (m : ParseTree) : Type 0 where
@@ -87,12 +87,13 @@ goes_behind : {v : Variant} {m : ParseTree} → Began v m → InMember v (Member
 goes_behind {v = v} b = subst (λ z. InMember v (MemberKey ClassMethod) z) (sym b.is) (shifted (member_shifts (class b.token) b.behind.0).1 (subst (λ c. InMember v c b.rest) (sym b.behind.1) b.good))
 
 whole_member : {v : Variant} {m : ParseTree} → Began v m → Good (Whole v nt.ClassElement) m
-whole_member {v = v} b = subst (λ z. Good (Whole v nt.ClassElement) z) (sym b.is) (begun_member b.token b.behind.0 b.good)
+whole_member {v = v} b = subst (λ z. Good (Whole v nt.ClassElement) z) (sym b.is) (begun_member b.token (key_member (class b.token) b.behind.0) b.good)
 
 -- ---- keys
 
 key_begins : (l : Class) → is_key l ≡ true → IsBehind l × (shifted_to AtMember l ≡ MemberKey ClassMethod)
 key_begins NameToken h = ((refl, refl), refl)
+key_begins KeyToken h = ((refl, refl), refl)
 key_begins LiteralToken h = ((refl, refl), refl)
 key_begins l h = absurd (true≢false (sym h))
 

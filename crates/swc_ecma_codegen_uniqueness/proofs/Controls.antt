@@ -5,7 +5,7 @@ use Rattle.swc_ecma_codegen_syntax.specs.declared.nonterminals.Nonterminal.{Nont
 use Rattle.swc_ecma_codegen_syntax.specs.declared.nonterminals.Nonterminal.TheVariants as nt
 use Rattle.swc_ecma_codegen_syntax.specs.Nonterminals.{takes, is_private}
 use Rattle.swc_ecma_codegen_uniqueness.specs.ParseTrees.{Variant, Unary, Update, Bin, Assign, Cond, New, Seq, Arrow, Yield, Await, LabeledStmt, IfStmt, Foreign, TryStmt, DoWhileStmt}
-use Rattle.swc_ecma_codegen_uniqueness.proofs.Classes.{Level, Class, class, Power, Times, Over, Plus, Shifting, Less, Comparing, Within, Equating, BitAnds, BitXors, BitOrs, Ands, Ors, Coalescing, Infix, Assigns, Ask, Colon, Comma, Dot, ChainDot, OpenParen, CloseParen, OpenBracket, CloseBracket, OpenBrace, CloseBrace, Line, Twice, Bang, Semi, Semicolon, First, Later, TagName, TagClose, NameToken, PrivateToken, LiteralToken, RegexToken, ThisWord, NewWord, SuperWord, ImportWord, YieldWord, AwaitWord, AsyncWord, FunctionWord, ClassWord, ElseWord, CatchWord, FinallyWord, UnaryWord}
+use Rattle.swc_ecma_codegen_uniqueness.proofs.Classes.{Level, Class, class, Power, Times, Over, Plus, Shifting, Less, Comparing, Within, Equating, BitAnds, BitXors, BitOrs, Ands, Ors, Coalescing, Infix, Assigns, Ask, Colon, Comma, Dot, ChainDot, OpenParen, CloseParen, OpenBracket, CloseBracket, OpenBrace, CloseBrace, Line, Twice, Bang, Semi, Semicolon, First, Later, NameToken, PrivateToken, LiteralToken, RegexToken, ThisWord, NewWord, SuperWord, ImportWord, YieldWord, AwaitWord, AsyncWord, FunctionWord, ClassWord, ElseWord, CatchWord, FinallyWord, UnaryWord, Jsx, ConstantWord, Strange, KeyToken}
 
 -- ---- levels: the nonterminal of each operator, and of its operands
 
@@ -52,7 +52,7 @@ right_of Coalescing = nt.BitwiseOrExpression
 -- the widest nonterminal that stands before a token
 abbrev pub left : Class → Nonterminal
 left (Infix level) = left_of level
-left (Assigns slash) = nt.LeftHandSideExpression
+left (Assigns sign) = nt.LeftHandSideExpression
 left Ask = nt.ShortCircuitExpression
 left Colon = nt.Expression
 left Comma = nt.AssignmentExpression
@@ -60,23 +60,23 @@ left Dot = nt.ChainBase
 left ChainDot = nt.ChainBase
 left OpenParen = nt.ChainBase
 left OpenBracket = nt.ChainBase
-left (First opens) = nt.ChainBase
+left (First tagged opens) = nt.ChainBase
 left CloseParen = nt.Expression
 left CloseBracket = nt.Expression
 left CloseBrace = nt.Expression
-left (Later opens) = nt.Expression
+left (Later tagged opens) = nt.Expression
 left OpenBrace = nt.LeftHandSideExpression
 left Line = nt.LeftHandSideExpression
 left Semi = nt.Expression
 left Semicolon = nt.Expression
 left NameToken = nt.LeftHandSideExpression
-left TagName = nt.PrimaryExpression
-left TagClose = nt.PrimaryExpression
+left (Jsx part) = nt.PrimaryExpression
 left c = nt.Uncovered
 
--- an item of a list of statements, or a statement in another: not before `else`, and before `else` too
+-- an item of a list of statements, or a statement in another: before `else`, before an empty statement, or before neither
 abbrev pub is_item : Nonterminal → Bool
 is_item nt.Statement = true
+is_item nt.StatementListItem = true
 is_item nt.Block = true
 is_item n = false
 
@@ -86,20 +86,34 @@ is_listed nt.ClassElement = true
 is_listed nt.JSXElement = true
 is_listed n = is_item n
 
--- what stands behind an item begins no part of it
+-- What stands behind an item begins no part of it. The `;` of an empty statement would be that of a `do` before it: `do a; while (b)`.
 abbrev pub is_behind : Class → Bool
 is_behind ElseWord = false
 is_behind CatchWord = false
 is_behind FinallyWord = false
 is_behind Semi = false
+is_behind Semicolon = false
+is_behind KeyToken = false
+is_behind Strange = false
+is_behind Line = false
+is_behind (Jsx part) = false
 is_behind c = true
 
 abbrev pub is_behind_or_else : Class → Bool
 is_behind_or_else ElseWord = true
 is_behind_or_else c = is_behind c
 
+abbrev pub is_behind_or_empty : Class → Bool
+is_behind_or_empty Semicolon = true
+is_behind_or_empty c = is_behind c
+
+abbrev pub is_behind_any : Class → Bool
+is_behind_any Semicolon = true
+is_behind_any c = is_behind_or_else c
+
 abbrev pub closed_by : Class → Nonterminal → Bool
 closed_by c nt.Statement = is_behind c
+closed_by c nt.StatementListItem = is_behind_or_empty c
 closed_by c nt.Block = is_behind_or_else c
 closed_by c nt.ClassElement = true
 closed_by c nt.JSXElement = true
@@ -119,12 +133,13 @@ abbrev pub starts : Class → Bool
 starts NameToken = true
 starts PrivateToken = true
 starts LiteralToken = true
+starts ConstantWord = true
 starts RegexToken = true
 starts ThisWord = true
 starts OpenParen = true
 starts OpenBracket = true
 starts OpenBrace = true
-starts (First opens) = true
+starts (First false opens) = true
 starts (Infix Plus) = true
 starts (Infix Less) = true
 starts Bang = true
@@ -192,7 +207,7 @@ pub data Where : Type 0 where
 -- place; behind `function`, behind the name, among parameters, behind `...` of them, and behind them; behind `return`, before a value, and before a label;
 -- behind `if`, and behind `if (`; behind `let`, and before a value of it; behind `do a; while (b)`; behind `try`, and its block; behind `catch`, `catch (`,
 -- `catch (a)`, and its block; behind `finally`; behind `switch (a)`, `case`, and `default`. Behind `class`, with its name or not; behind `extends`; before a member
--- of a class; behind `static`, `get`, `async` and `*` of one; behind `[` of its key, behind its key, and before its value.
+-- of a class; behind `static`, `get`, `*` and what stays on the line of `async`, and behind `async` of one; behind `[` of its key, behind its key, and before its value.
 -- Behind `import` in the place of an item; among the names of an import or an export, and behind `a,` of them; behind `export` and `export default`, and before the
 -- value of that. Behind `async` in the place of an item, and behind what stays on its line behind that; the same behind `export default`; before the parameters of an
 -- async arrow function. Behind `for`; in its head, and the same where `in` is an operator; among declarations there, and before a value of one; before the test and
@@ -216,7 +231,7 @@ pub data Control : Type 0 where
   AfterWord Valued Jump Headed Test : (variant : Variant) → Control
   Declarators Initializer : Control
   AfterDo AfterTry BehindTry AfterCatch CatchParameter BehindParameter BehindCatch AfterFinally AfterSwitch Case AfterDefault : Control
-  AfterClass Heritage Members AtMember InMemberKey : Control
+  AfterClass Heritage Members AtMember AsyncMember InMemberKey : Control
   ImportItem Clause ClauseComma AfterExport AfterExportDefault DefaultValue : Control
   AsyncItem AsyncItemLine AsyncDefault AsyncDefaultLine AsyncOperand : Control
   AfterFor ForHead ForPlain ForVars ForValue ForTest ForUpdate ForIn ForOf : Control

@@ -24,7 +24,7 @@ use Rattle.swc_ecma_codegen_uniqueness.proofs.TableLaws.{is_place, is_sequence, 
 use Rattle.swc_ecma_codegen_uniqueness.proofs.Machine.{Whole, Rest, Good, spine_free}
 use Rattle.swc_ecma_codegen_uniqueness.proofs.Shapes.{is_chain, is_several, Operand}
 use Rattle.swc_ecma_codegen_uniqueness.proofs.Reading.{derived_parse}
-use Rattle.swc_ecma_codegen_uniqueness.proofs.StatementShapes.{item_of}
+use Rattle.swc_ecma_codegen_uniqueness.proofs.StatementShapes.{Follower, follower, item_of}
 
 -- a node is read as it is, in the place of the nonterminal that covers it; under [~In] no `in` takes what it begins with
 pub record Fit (c : Parameters) (variant : Variant) (n : Nonterminal) (inside : ParseTree) : Type 0 where
@@ -52,8 +52,8 @@ unfoldable pub PlacedGood : Bool → Type 0 → Type 0 → Type 0
 PlacedGood true fit inside = inside
 PlacedGood false fit inside = fit
 
--- the same of a statement, which stands before `else` or not
-pub record FitItem (b : Bool) (variant : Variant) (inside : ParseTree) : Type 0 where
+-- the same of a statement, by what may stand right behind it
+pub record FitItem (b : Follower) (variant : Variant) (inside : ParseTree) : Type 0 where
   pub good : Good (Whole variant (item_of b)) inside
 
 -- and of a member of a class, or an element between tags
@@ -67,7 +67,7 @@ NodeFit Callee c variant n inside = Fit c variant (cover n) inside
 NodeFit AssignmentTarget c variant n inside = Fit c variant (cover n) inside
 NodeFit Pattern c variant n inside = Fit c variant (cover n) inside
 NodeFit FieldValue c variant n inside = is_sequence n ≡ false → Fit c variant (cover n) inside
-NodeFit Statement c variant n inside = FitItem c.before_else variant inside
+NodeFit Statement c variant n inside = FitItem (follower c) variant inside
 NodeFit Member c variant n inside = FitMember nt.ClassElement variant inside
 NodeFit Child c variant n inside = FitMember nt.JSXElement variant inside
 NodeFit role c variant n inside = Unit {0}

@@ -38,18 +38,18 @@ use Rattle.swc_ecma_codegen_syntax.specs.NodeForms.{node_form, part_form, stmt_p
 use Rattle.swc_ecma_codegen_syntax.specs.Derives.{Derives, fixed, part, both, provided}
 use Rattle.swc_ecma_codegen_uniqueness.specs.ParseTrees.{Variant, ParseTree, End, Read, Fn}
 use Rattle.swc_ecma_codegen_uniqueness.specs.Parses.{placed, is_inlined, is_inlined_pat}
-use Rattle.swc_ecma_codegen_uniqueness.proofs.Classes.{class}
+use Rattle.swc_ecma_codegen_uniqueness.proofs.Classes.{class, NameToken}
 use Rattle.swc_ecma_codegen_uniqueness.proofs.Controls.{AfterAsync, AfterFunction, AfterName, Parameter, AfterParameters, left, InList}
-use Rattle.swc_ecma_codegen_uniqueness.proofs.Tables.{Splice, decide, passed_to, closing}
+use Rattle.swc_ecma_codegen_uniqueness.proofs.Tables.{Splice, decide, passed_to, closing, without, shifted_to}
 use Rattle.swc_ecma_codegen_uniqueness.proofs.PlaceLaws.{is_list}
 use Rattle.swc_ecma_codegen_uniqueness.proofs.TableLaws.{cover, cover_taken}
 use Rattle.swc_ecma_codegen_uniqueness.proofs.Machine.{Whole, Rest, Good, shifted}
 use Rattle.swc_ecma_codegen_uniqueness.proofs.Shapes.{takes_self, assignment_taken, begun, ended}
-use Rattle.swc_ecma_codegen_uniqueness.proofs.StatementShapes.{Within, item_of, parameter_then, rest_then, no_parameters_then, parameters_end, function_item, async_item}
+use Rattle.swc_ecma_codegen_uniqueness.proofs.StatementShapes.{Within, Follower, item_of, parameter_then, rest_then, no_parameters_then, parameters_end, function_item, async_item}
 use Rattle.swc_ecma_codegen_uniqueness.proofs.Reading.{read_phrase, derived_parse}
 use Rattle.swc_ecma_codegen_uniqueness.proofs.Joined.{derived_joined}
 use Rattle.swc_ecma_codegen_uniqueness.proofs.Fits.{PlacedGood, AllGood, no_form}
-use Rattle.swc_ecma_codegen_uniqueness.proofs.Atoms.{no_annotation, name_read}
+use Rattle.swc_ecma_codegen_uniqueness.proofs.Atoms.{no_annotation, name_read, name_free}
 use Rattle.swc_ecma_codegen_uniqueness.proofs.Patterns.{rest_covered, pat_good, no_rest_target}
 
 -- ---- a pattern that no link holds
@@ -250,9 +250,11 @@ star_then false n g = g
 abbrev alone : Nonterminal → Within
 alone n = record { place = InList Fn; variant = Fn; of = n }
 
-named_tail : (n : Nonterminal) (text : List ℕ) {f : ParseTree → ParseTree} → Tail f → Good (Rest AfterFunction Fn n) (Read (tokens.name text) (f End))
-unfolding tokens.name punctuator
-named_tail n text t = shifted refl (subst (λ z. Good (Rest AfterName Fn n) z) (sym (t.is End)) (shifted refl (t.good (alone n) refl End (ended Fn n))))
+named_tail : (n : Nonterminal) (text : List ℕ) → class (tokens.name text) ≡ NameToken → {f : ParseTree → ParseTree} → Tail f → Good (Rest AfterFunction Fn n) (Read (tokens.name text) (f End))
+unfolding punctuator
+named_tail n text e {f = f} t =
+    shifted (ap (without AfterFunction) e)
+    (subst (λ l. Good (Rest (shifted_to AfterFunction l) Fn n) (f End)) (sym e) (subst (λ z. Good (Rest AfterName Fn n) z) (sym (t.is End)) (shifted refl (t.good (alone n) refl End (ended Fn n)))))
 
 plain_tail : (n : Nonterminal) {f : ParseTree → ParseTree} → Tail f → Good (Rest AfterFunction Fn n) (f End)
 unfolding punctuator
@@ -262,10 +264,14 @@ pub bound_read : {s : Settings} (c : Parameters) (n : Ident) {ts : List Token} (
 unfolding bound_name_form derived_parse
 bound_read c n (provided h d) rest = name_read c n d rest
 
+pub bound_free : {s : Settings} (c : Parameters) (n : Ident) {ts : List Token} (d : Derives true s (bound_name_form c n) ts) → class (tokens.name (name_value (spelled_name (string_bytes n.sym)))) ≡ NameToken
+unfolding bound_name_form
+bound_free c n (provided h d) = name_free c n d
+
 optional_tail : {s : Settings} (n : Nonterminal) (c : Parameters) (o : Option Ident) {ts : List Token} (d : Derives true s (optional_name_form c o) ts) {f : ParseTree → ParseTree} → Tail f → Good (Rest AfterFunction Fn n) (derived_parse d (f End))
 unfolding optional_name_form derived_parse read_phrase
 optional_tail n c None (fixed g) t = plain_tail n t
-optional_tail n c (Some x) d {f = f} t = subst (λ z. Good (Rest AfterFunction Fn n) z) (sym (bound_read c x d (f End))) (named_tail n _ t)
+optional_tail n c (Some x) d {f = f} t = subst (λ z. Good (Rest AfterFunction Fn n) z) (sym (bound_read c x d (f End))) (named_tail n _ (bound_free c x d) t)
 
 -- what is read behind `function`
 pub record FunctionRead (n : Nonterminal) (m : ParseTree) : Type 0 where
@@ -312,12 +318,12 @@ fn_decl_read at head c n (both k (both h (both i t))) (x, (o, (p, q))) m =
       is_async = r.is_async;
       rest = _;
       is = no_declare n.declare k _ ∙ r.is (derived_parse i (derived_parse t End));
-      good = star_then r.starred at (subst (λ z. Good (Rest AfterFunction Fn at) z) (sym (bound_read c n.ident i (derived_parse t End))) (named_tail at _ (tail_good c n.function.node.value t q m)));
+      good = star_then r.starred at (subst (λ z. Good (Rest AfterFunction Fn at) z) (sym (bound_read c n.ident i (derived_parse t End))) (named_tail at _ (bound_free c n.ident i) (tail_good c n.function.node.value t q m)));
     }
 
-item_by : (b k : Bool) {m : ParseTree} → Good (Rest AfterFunction Fn (item_of b)) m → Good (Whole Fn (item_of b)) (behind_async k (Read (word (codes "function")) m))
+item_by : (b : Follower) (k : Bool) {m : ParseTree} → Good (Rest AfterFunction Fn (item_of b)) m → Good (Whole Fn (item_of b)) (behind_async k (Read (word (codes "function")) m))
 item_by b true g = async_item b g
 item_by b false g = function_item b g
 
-pub fn_decl_good : {s : Settings} (b : Bool) (head : Nonterminal) (c : Parameters) (n : FnDecl AnyNode) {ts : List Token} (d : Derives true s (fn_decl_form head c n) ts) → AllGood d → s.minify ≡ c.minify → Good (Whole Fn (item_of b)) (derived_parse d End)
+pub fn_decl_good : {s : Settings} (b : Follower) (head : Nonterminal) (c : Parameters) (n : FnDecl AnyNode) {ts : List Token} (d : Derives true s (fn_decl_form head c n) ts) → AllGood d → s.minify ≡ c.minify → Good (Whole Fn (item_of b)) (derived_parse d End)
 fn_decl_good b head c n d o m = let r = fn_decl_read (item_of b) head c n d o m in subst (λ z. Good (Whole Fn (item_of b)) z) (sym r.is) (item_by b r.is_async r.good)

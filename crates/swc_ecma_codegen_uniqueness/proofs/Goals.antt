@@ -1,95 +1,118 @@
--- The tokens that are read tell whether `/` divides or begins a regular expression, and whether `}` begins the rest of a template.
-use Rattle.std.proofs.Common.{◌≡◌, true, false, ◌⊎◌, inl, inr, List, [], ◌∷◌, ◌++◌, refl, sym, ap, ◌∙◌, append_assoc, subst}
-use Rattle.std.specs.Prelude.{codes}
+-- What lists that lead to a state tell of one another: no token that such a list goes on with is refused.
+use Rattle.std.proofs.Common.{◌≡◌, ℕ, true, false, not, ◌⊎◌, inl, inr, List, [], ◌∷◌, ◌++◌, refl, sym, ap, ◌∙◌, append_assoc, append-nil, subst}
 use Rattle.std.proofs.lemmas.Bool.{true≢false}
-use Rattle.swc_ecma_codegen_tree.specs.declared.links.AnyNode.{AnyNode}
-use Rattle.swc_ecma_codegen_tree.specs.declared.programs.Program.{Program}
-use Rattle.swc_ecma_codegen_grammar.specs.declared.kinds.Kind.TheVariants as kinds
-use Rattle.swc_ecma_codegen_grammar.specs.declared.kinds.TemplatePart.{TemplatePart}
-use Rattle.swc_ecma_codegen_grammar.specs.Settings.{Settings}
-use Rattle.swc_ecma_codegen_grammar.specs.Tokens.{Token, punctuator}
-use Rattle.swc_ecma_codegen_syntax.specs.Derives.{DerivesProgram}
-use Rattle.swc_ecma_codegen_uniqueness.specs.ParseTrees.{End, Read, BlockStmt, tokens_of}
-use Rattle.swc_ecma_codegen_uniqueness.proofs.Classes.{Class, RegexToken, class, class_of}
-use Rattle.swc_ecma_codegen_uniqueness.proofs.Controls.{Control, InParen, InList, Statement}
-use Rattle.swc_ecma_codegen_uniqueness.proofs.Machine.{Empty, Frame, State, At, Fail, next, run, is_fail, run_fails, reads}
-use Rattle.swc_ecma_codegen_uniqueness.proofs.Apart.{Rivals, divides, divides_in_place, closes, next_fails}
-use Rattle.swc_ecma_codegen_uniqueness.proofs.Parsed.{tokens_before}
-use Rattle.swc_ecma_codegen_uniqueness.proofs.Layers.{all_good}
-use Rattle.swc_ecma_codegen_uniqueness.proofs.Programs.{brace, program_good}
-use Rattle.swc_ecma_codegen_uniqueness.specs.Words.{named_by, as_names}
-use Rattle.swc_ecma_codegen_uniqueness.proofs.Words.{names_on, named_run}
+use Rattle.swc_ecma_codegen_grammar.specs.Reads.{Reads}
+use Rattle.swc_ecma_codegen_grammar.specs.Tokens.{Token}
+use Rattle.swc_ecma_codegen_grammar.specs.Trivia.{Remark}
+use Rattle.swc_ecma_codegen_uniqueness.specs.Parting.{Parting, begin_alike, behind_line}
+use Rattle.swc_ecma_codegen_uniqueness.specs.Words.{as_names}
+use Rattle.swc_ecma_codegen_uniqueness.proofs.Classes.{Line, Jsx, TagText, class}
+use Rattle.swc_ecma_codegen_uniqueness.proofs.Controls.{Control}
+use Rattle.swc_ecma_codegen_uniqueness.proofs.PlaceLaws.{is_line}
+use Rattle.swc_ecma_codegen_uniqueness.proofs.JsxParts.{is_child}
+use Rattle.swc_ecma_codegen_uniqueness.proofs.Machine.{Empty, State, At, Fail, next, run, is_fail, run_fails}
+use Rattle.swc_ecma_codegen_uniqueness.proofs.Words.{begun_all, names_on, named_run}
+use Rattle.swc_ecma_codegen_uniqueness.proofs.Apart.{Rivals, by_jsx, next_fails}
+use Rattle.swc_ecma_codegen_uniqueness.proofs.Lines.{Kin, same_kin, line_fails, never_lined}
+use Rattle.swc_ecma_codegen_uniqueness.proofs.Parting.{Fork, parts, told, told_too, line_told, line_told_too, lined, lined_too, last, last_too, ended, ended_too, split}
 
--- ---- what is derived leads to a state
+-- ---- what leads to a state, where it is read
 
 run_on : (ts us : List Token) (q : State) → run (ts ++ us) q ≡ run us (run ts q)
 run_on [] us q = refl
 run_on (t ∷ ts) us q = run_on ts us (next t q)
 
-abbrev behind_none : Control → Frame
-behind_none c = record { control = c; so_far = λ rest. rest; other = λ rest. rest }
+-- A list before what is read behind it leads to a state, from frames that hold nothing; and so does it as names.
+abbrev pub from : List Control → State
+from cs = At (begun_all cs) Empty
 
--- where a program is read, and what is read behind it
-abbrev begin : State
-begin = At (behind_none (Statement (InList BlockStmt)) ∷ behind_none InParen ∷ []) Empty
+abbrev pub Leads : List Control → List Token → List Token → Type 0
+Leads cs behind ts = is_fail (run (ts ++ behind) (from cs)) ≡ false
 
-abbrev behind : List Token
-behind = brace ∷ punctuator (codes ")") ∷ []
+names_lead : (cs : List Control) (behind ts : List Token) → as_names behind ≡ behind → Leads cs behind ts → Leads cs behind (as_names ts)
+names_lead cs behind ts e h =
+    ap (λ us. is_fail (run (as_names ts ++ us) (from cs))) (sym e)
+    ∙ ap (λ us. is_fail (run us (from cs))) (sym (names_on ts behind))
+    ∙ named_run cs (ts ++ behind)
+    ∙ h
 
-program_runs : {s : Settings} (n : Program AnyNode) {ts : List Token} (d : DerivesProgram true s n ts) → is_fail (run (ts ++ behind) begin) ≡ false
-unfolding punctuator tokens_of
-program_runs {s = s} n d =
-    ap (λ us. is_fail (run us begin)) (sym (tokens_before d (Read brace End) (punctuator (codes ")") ∷ [])))
-    ∙ ap is_fail (reads (program_good s.minify n d (all_good d) refl) (λ rest. rest) (λ rest. rest) (behind_none InParen) [] (punctuator (codes ")")) [] refl)
+fails_there : (cs : List Control) (xs ys us : List Token) (t : Token) → next t (run xs (from cs)) ≡ Fail → is_fail (run ((xs ++ (t ∷ ys)) ++ us) (from cs)) ≡ true
+fails_there cs xs ys us t e =
+    ap (λ z. is_fail (run z (from cs))) (append_assoc xs (t ∷ ys) us) ∙ ap is_fail (run_on xs (t ∷ (ys ++ us)) (from cs)) ∙ ap (λ q. is_fail (run (ys ++ us) q)) e ∙ ap is_fail (run_fails (ys ++ us))
 
-fails_there : (xs ys us : List Token) (t : Token) → next t (run xs begin) ≡ Fail → is_fail (run ((xs ++ (t ∷ ys)) ++ us) begin) ≡ true
-fails_there xs ys us t e =
-    ap (λ z. is_fail (run z begin)) (append_assoc xs (t ∷ ys) us) ∙ ap is_fail (run_on xs (t ∷ (ys ++ us)) begin) ∙ ap (λ q. is_fail (run (ys ++ us) q)) e ∙ ap is_fail (run_fails (ys ++ us))
+-- a list that leads to one has no token that is refused
+never_there : (cs : List Control) (behind ts xs us : List Token) (t : Token) → Leads cs behind ts → ts ≡ xs ++ (t ∷ us) → next t (run xs (from cs)) ≡ Fail → ⊥
+never_there cs behind ts xs us t h e f = true≢false (sym (ap (λ z. is_fail (run (z ++ behind) (from cs))) e ∙ fails_there cs xs us behind t f) ∙ h)
 
-abbrev Next : Settings → Program AnyNode → List Token → Token → List Token → Type 0
-Next s a xs x ys = DerivesProgram true s a (xs ++ (x ∷ ys))
+never_two : (cs : List Control) (behind ts xs us : List Token) (t u : Token) → Leads cs behind ts → ts ≡ xs ++ (t ∷ u ∷ us) → next u (next t (run xs (from cs))) ≡ Fail → ⊥
+never_two cs behind ts xs us t u h e f =
+    true≢false (
+    sym (
+    ap (λ z. is_fail (run (z ++ behind) (from cs))) e ∙ ap (λ z. is_fail (run z (from cs))) (append_assoc xs (t ∷ u ∷ us) behind) ∙ ap is_fail (run_on xs (t ∷ u ∷ (us ++ behind)) (from cs))
+    ∙ ap (λ q. is_fail (run (us ++ behind) q)) f ∙ ap is_fail (run_fails (us ++ behind))
+    )
+    ∙ h)
 
-one_next : (s t : Settings) (a b : Program AnyNode) (xs ys zs : List Token) (x y : Token) → Rivals (class y) (class x) → Next s a xs x ys → Next t b xs y zs → ⊥
-one_next s t a b xs ys zs x y r d e = elim (next_fails (run xs begin) y x r) [
-  | inl f ↦ true≢false (sym (fails_there xs zs behind y f) ∙ program_runs b e)
-  | inr f ↦ true≢false (sym (fails_there xs ys behind x f) ∙ program_runs a d)
+-- nor is what is read behind it
+never_last : (cs : List Control) (t : Token) (behind ts xs : List Token) (line : Token) → Leads cs (t ∷ behind) ts → ts ≡ xs ++ (line ∷ []) → next t (next line (run xs (from cs))) ≡ Fail → ⊥
+never_last cs t behind ts xs line h e f =
+    true≢false (
+    sym (
+    ap (λ z. is_fail (run (z ++ (t ∷ behind)) (from cs))) e ∙ ap (λ z. is_fail (run z (from cs))) (append_assoc xs (line ∷ []) (t ∷ behind)) ∙ ap is_fail (run_on xs (line ∷ t ∷ behind) (from cs))
+    ∙ ap (λ q. is_fail (run behind q)) f ∙ ap is_fail (run_fails behind)
+    )
+    ∙ h)
+
+never_ended : (cs : List Control) (t : Token) (behind ts xs : List Token) → Leads cs (t ∷ behind) ts → ts ≡ xs ++ [] → next t (run xs (from cs)) ≡ Fail → ⊥
+never_ended cs t behind ts xs h e f =
+    true≢false (sym (ap (λ z. is_fail (run (z ++ (t ∷ behind)) (from cs))) (e ∙ append-nil xs) ∙ ap is_fail (run_on xs (t ∷ behind) (from cs)) ∙ ap (λ q. is_fail (run behind q)) f ∙ ap is_fail (run_fails behind)) ∙ h)
+
+-- ---- so no two lists part where a token tells
+
+pub none_part : (cs : List Control) (behind xs ys zs us vs : List Token) (x y : Token) → Leads cs behind xs → Leads cs behind ys → xs ≡ zs ++ (x ∷ us) → ys ≡ zs ++ (y ∷ vs) → Rivals (class x) (class y) → ⊥
+none_part cs behind xs ys zs us vs x y d e f g r = elim (next_fails (run zs (from cs)) x y r) [ inl i ↦ never_there cs behind xs zs us x d f i | inr i ↦ never_there cs behind ys zs vs y e g i ]
+
+none_lined : (cs : List Control) (behind xs ys zs us vs : List Token) (line x y : Token) → Leads cs behind xs → Leads cs behind ys → xs ≡ zs ++ (line ∷ x ∷ us) → ys ≡ zs ++ (y ∷ vs) → class line ≡ Line → is_line (class y) ≡ false →
+    Kin (class x) (class y) → ⊥
+none_lined cs behind xs ys zs us vs line x y d e f g l i k = elim (line_fails (run zs (from cs)) line x y l i k) [ inl j ↦ never_two cs behind xs zs us line x d f j | inr j ↦ never_there cs behind ys zs vs y e g j ]
+
+none_last : (cs : List Control) (t : Token) (behind xs ys zs : List Token) (line : Token) → is_line (class t) ≡ false → Leads cs (t ∷ behind) xs → Leads cs (t ∷ behind) ys → xs ≡ zs ++ (line ∷ []) → ys ≡ zs ++ [] → class line ≡ Line → ⊥
+none_last cs t behind xs ys zs line i d e f g l = elim (line_fails (run zs (from cs)) line t t l i (same_kin refl)) [ inl j ↦ never_last cs t behind xs zs line d f j | inr j ↦ never_ended cs t behind ys zs e g j ]
+
+-- text between tags, where the other list ends
+none_ended : (cs : List Control) (t : Token) (behind xs ys zs vs : List Token) (y : Token) → not (is_child (class t)) ≡ true → Leads cs (t ∷ behind) xs → Leads cs (t ∷ behind) ys → xs ≡ zs ++ [] → ys ≡ zs ++ (y ∷ vs) → class y ≡ Jsx TagText → ⊥
+none_ended cs t behind xs ys zs vs y i d e f g r = elim (next_fails (run zs (from cs)) y t (subst (λ z. Rivals z (class t)) (sym r) (by_jsx i))) [
+  | inl j ↦ never_there cs (t ∷ behind) ys zs vs y e g j
+  | inr j ↦ never_ended cs t behind xs zs d f j
 ]
 
-rivals : (x y : Token) {l r : Class} → class y ≡ l → class x ≡ r → Rivals l r → Rivals (class y) (class x)
-rivals x y {l = l} e d i = subst (λ z. Rivals z (class x)) (sym e) (subst (λ z. Rivals l z) (sym d) i)
+-- where two lists part, the tokens before don't tell
+forks_part : (cs : List Control) (t : Token) (behind xs ys zs : List Token) → is_line (class t) ≡ false → not (is_child (class t)) ≡ true → Leads cs (t ∷ behind) xs → Leads cs (t ∷ behind) ys → {us vs : List Token} → Fork us vs → xs ≡ zs ++ us →
+    ys ≡ zs ++ vs → begin_alike (behind_line us) (behind_line vs) ≡ true
+forks_part cs t behind xs ys zs i j d e (parts h) f g = h
+forks_part cs t behind xs ys zs i j d e (told {x = x} {y = y} {us = us} {vs = vs} r) f g = absurd (none_part cs (t ∷ behind) xs ys zs us vs x y d e f g r)
+forks_part cs t behind xs ys zs i j d e (told_too {x = x} {y = y} {us = us} {vs = vs} r) f g = absurd (none_part cs (t ∷ behind) ys xs zs vs us y x e d g f r)
+forks_part cs t behind xs ys zs i j d e (line_told {line = line} {x = x} {y = y} {us = us} {vs = vs} l m k) f g = absurd (none_lined cs (t ∷ behind) xs ys zs us vs line x y d e f g l m k)
+forks_part cs t behind xs ys zs i j d e (line_told_too {line = line} {x = x} {y = y} {us = us} {vs = vs} l m k) f g = absurd (none_lined cs (t ∷ behind) ys xs zs us vs line x y e d g f l m k)
+forks_part cs t behind xs ys zs i j d e (lined {line = line} {x = x} {us = us} l m) f g = absurd (never_two cs (t ∷ behind) xs zs us line x d f (never_lined (run zs (from cs)) line x l m))
+forks_part cs t behind xs ys zs i j d e (lined_too {line = line} {x = x} {us = us} l m) f g = absurd (never_two cs (t ∷ behind) ys zs us line x e g (never_lined (run zs (from cs)) line x l m))
+forks_part cs t behind xs ys zs i j d e (last {line = line} l) f g = absurd (none_last cs t behind xs ys zs line i d e f g l)
+forks_part cs t behind xs ys zs i j d e (last_too {line = line} l) f g = absurd (none_last cs t behind ys xs zs line i e d g f l)
+forks_part cs t behind xs ys zs i j d e (ended {y = y} {vs = vs} r) f g = absurd (none_ended cs t behind xs ys zs vs y j d e f g r)
+forks_part cs t behind xs ys zs i j d e (ended_too {y = y} {vs = vs} r) f g = absurd (none_ended cs t behind ys xs zs vs y j e d g f r)
 
-regex_class : (x : Token) → x.kind ≡ kinds.Regex → class x ≡ RegexToken
-regex_class x k = ap (λ z. class_of z x.value) k
-
-pub one_goal : (s t : Settings) (a b : Program AnyNode) (xs ys zs : List Token) (x y : Token) → x.kind ≡ kinds.Regex → (y ≡ punctuator (codes "/")) ⊎ (y ≡ punctuator (codes "/=")) → Next s a xs x ys → Next t b xs y zs → ⊥
-unfolding punctuator
-one_goal s t a b xs ys zs x y k (inl e) d f = one_next s t a b xs ys zs x y (rivals x y (ap class e) (regex_class x k) divides) d f
-one_goal s t a b xs ys zs x y k (inr e) d f = one_next s t a b xs ys zs x y (rivals x y (ap class e) (regex_class x k) divides_in_place) d f
-
-pub one_template : (s t : Settings) (a b : Program AnyNode) (xs ys zs : List Token) (x y : Token) (part : TemplatePart) → x.kind ≡ kinds.TemplateRest part → y ≡ punctuator (codes "}") → Next s a xs x ys → Next t b xs y zs → ⊥
-unfolding punctuator
-one_template s t a b xs ys zs x y part k e d f = one_next s t a b xs ys zs x y (rivals x y (ap class e) (ap (λ z. class_of z x.value) k) closes) d f
-
--- ---- the same of lists as names
-
-behind_named : as_names behind ≡ behind
-unfolding as_names named_by punctuator
-behind_named = refl
-
-names_run : {s : Settings} (n : Program AnyNode) {ts : List Token} (d : DerivesProgram true s n ts) → is_fail (run (as_names ts ++ behind) begin) ≡ false
-names_run n {ts = ts} d =
-    ap (λ us. is_fail (run (as_names ts ++ us) begin)) (sym behind_named)
-    ∙ ap (λ us. is_fail (run us begin)) (sym (names_on ts behind))
-    ∙ named_run (Statement (InList BlockStmt)) InParen (ts ++ behind)
-    ∙ program_runs n d
-
-fails_in : (ts xs us : List Token) (x : Token) → ts ≡ xs ++ (x ∷ us) → next x (run xs begin) ≡ Fail → is_fail (run (ts ++ behind) begin) ≡ true
-fails_in ts xs us x e f = ap (λ z. is_fail (run (z ++ behind) begin)) e ∙ fails_there xs us behind x f
-
--- no two programs have lists that part at tokens of which the machine refuses one
-pub none_part : (s t : Settings) (a b : Program AnyNode) (xs ys zs us vs : List Token) (x y : Token) → DerivesProgram true s a xs → DerivesProgram true t b ys → as_names xs ≡ zs ++ (x ∷ us) → as_names ys ≡ zs ++ (y ∷ vs) →
-    Rivals (class x) (class y) → ⊥
-none_part s t a b xs ys zs us vs x y d e f g r = elim (next_fails (run zs begin) x y r) [
-  | inl i ↦ true≢false (sym (fails_in (as_names xs) zs us x f i) ∙ names_run a d)
-  | inr i ↦ true≢false (sym (fails_in (as_names ys) zs vs y g i) ∙ names_run b e)
+-- two lists of one text are one, as names, or they part
+pub one_list : (cs : List Control) (t : Token) (behind xs ys : List Token) (text : List ℕ) (ks ds : List Remark) → is_line (class t) ≡ false → not (is_child (class t)) ≡ true → as_names (t ∷ behind) ≡ t ∷ behind → Leads cs (t ∷ behind) xs →
+    Leads cs (t ∷ behind) ys → Reads text xs ks → Reads text ys ds → (as_names xs ≡ as_names ys) ⊎ Parting (as_names xs) (as_names ys)
+unfolding Reads
+one_list cs t behind xs ys text ks ds i j n d e h k = elim (split xs ys true false false text ks ds h k) [
+  | inl f ↦ inl f
+  | inr z ↦ inr (record {
+    before = z.before;
+    first = z.first;
+    second = z.second;
+    is_first = z.is_first;
+    is_second = z.is_second;
+    parts = forks_part cs t behind (as_names xs) (as_names ys) z.before i j (names_lead cs (t ∷ behind) xs n d) (names_lead cs (t ∷ behind) ys n e) z.fork z.is_first z.is_second;
+  })
 ]

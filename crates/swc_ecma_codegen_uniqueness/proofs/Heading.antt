@@ -11,15 +11,16 @@ use Rattle.swc_ecma_codegen_syntax.specs.declared.nonterminals.Nonterminal.{Nont
 use Rattle.swc_ecma_codegen_syntax.specs.declared.lookahead.Beginning.TheVariants as begins
 use Rattle.swc_ecma_codegen_syntax.specs.declared.lookahead.Lookahead.{Lookahead}
 use Rattle.swc_ecma_codegen_syntax.specs.declared.lookahead.Lookahead.TheVariants.{StatementStart, BodyStart, DefaultStart}
-use Rattle.swc_ecma_codegen_syntax.specs.NameForms.{is_one_of}
+use Rattle.swc_ecma_codegen_syntax.specs.NameForms.{is_one_of, is_reserved}
 use Rattle.swc_ecma_codegen_syntax.specs.Lookahead.{Sign, OpenBrace as BraceSign, FunctionWord as FunctionSign, ClassWord as ClassSign, AsyncWord as AsyncSign, NoLineEnd, word_sign, mark_sign, sign_of, sign, begun, beginning, is_statement_start, is_default_start, is_brace, excludes}
 use Rattle.swc_ecma_codegen_uniqueness.specs.ParseTrees.{Variant, ParseTree, tokens_of}
-use Rattle.swc_ecma_codegen_uniqueness.proofs.Classes.{Class, Strange, FunctionWord, ClassWord, ImportWord, AsyncWord, words, marks, child_marks, look, class_of, class}
+use Rattle.swc_ecma_codegen_uniqueness.proofs.Classes.{Class, Strange, FunctionWord, ClassWord, ImportWord, AsyncWord, words, marks, child_marks, look, class_of, class, KeyToken, NameToken}
 use Rattle.swc_ecma_codegen_uniqueness.proofs.Controls.{OfElse, Entered, starts, stands as stands_at, closes as closes_at}
 use Rattle.swc_ecma_codegen_uniqueness.proofs.Tables.{Leave, started, shifted_to, decide, without}
-use Rattle.swc_ecma_codegen_uniqueness.proofs.PlaceLaws.{is_barred, is_import_call, import_kept, is_line, is_function, is_no_start, none_begins, async_line, async_rejects, async_kept, leaves_alone, delayed_by}
-use Rattle.swc_ecma_codegen_uniqueness.proofs.Machine.{Whole, Good, Heads, never_kept, never_rejected}
+use Rattle.swc_ecma_codegen_uniqueness.proofs.PlaceLaws.{is_barred, is_import_call, import_rejects, is_line, is_function, is_no_start, none_begins, async_line, async_rejects, async_ends, leaves_alone, delayed_by}
+use Rattle.swc_ecma_codegen_uniqueness.proofs.Machine.{Whole, Good, Heads, never_next, never_rejected}
 use Rattle.swc_ecma_codegen_uniqueness.proofs.StatementShapes.{operand_heads, MayEnter, at_once, behind_import, behind_async, MayStand, is_open_brace}
+use Rattle.swc_ecma_codegen_uniqueness.proofs.Looks.{of_neither}
 
 -- ---- what is barred is `{`, `function` and `class`
 
@@ -71,6 +72,7 @@ unfolding sign_of is_one_of
 signs_by kinds.Word (Characters text) = word_by (bytes_eq text (codes "function")) (bytes_eq text (codes "class")) text refl refl
 signs_by kinds.Punctuator (Characters text) = mark_by (bytes_eq text (codes "{")) text refl
 signs_by kinds.JsxOpen (Characters text) = inl (look_free is_barred [] child_marks text refl refl refl)
+signs_by kinds.Name (Characters text) = inl (of_neither is_barred (is_reserved text) KeyToken NameToken refl refl)
 signs_by (kinds.Template part) v = inl refl
 signs_by (kinds.TemplateRest part) v = inl refl
 signs_by k v = inl refl
@@ -102,6 +104,7 @@ unfolding sign_of is_one_of
 open_signs_by kinds.Word (Characters text) = inl (look_free is_open_brace [] words text refl refl refl)
 open_signs_by kinds.Punctuator (Characters text) = open_mark_by (bytes_eq text (codes "{")) text refl
 open_signs_by kinds.JsxOpen (Characters text) = inl (look_free is_open_brace [] child_marks text refl refl refl)
+open_signs_by kinds.Name (Characters text) = inl (of_neither is_open_brace (is_reserved text) KeyToken NameToken refl refl)
 open_signs_by (kinds.Template part) v = inl refl
 open_signs_by (kinds.TemplateRest part) v = inl refl
 open_signs_by k v = inl refl
@@ -138,6 +141,7 @@ unfolding sign_of is_one_of
 default_signs_by kinds.Word (Characters text) = default_word_by (bytes_eq text (codes "function")) (bytes_eq text (codes "class")) text refl refl
 default_signs_by kinds.Punctuator (Characters text) = inl (look_free is_default_word [] marks text refl refl refl)
 default_signs_by kinds.JsxOpen (Characters text) = inl (look_free is_default_word [] child_marks text refl refl refl)
+default_signs_by kinds.Name (Characters text) = inl (of_neither is_default_word (is_reserved text) KeyToken NameToken refl refl)
 default_signs_by (kinds.Template part) v = inl refl
 default_signs_by (kinds.TemplateRest part) v = inl refl
 default_signs_by k v = inl refl
@@ -171,6 +175,7 @@ unfolding sign_of is_one_of
 async_signs_by kinds.Word (Characters text) = async_word_by (bytes_eq text (codes "async")) text refl
 async_signs_by kinds.Punctuator (Characters text) = inl (look_free is_async [] marks text refl refl refl)
 async_signs_by kinds.JsxOpen (Characters text) = inl (look_free is_async [] child_marks text refl refl refl)
+async_signs_by kinds.Name (Characters text) = inl (of_neither is_async (is_reserved text) KeyToken NameToken refl refl)
 async_signs_by (kinds.Template part) v = inl refl
 async_signs_by (kinds.TemplateRest part) v = inl refl
 async_signs_by k v = inl refl
@@ -185,6 +190,7 @@ unfolding sign_of is_one_of
 function_signs_by kinds.Word (Characters text) = function_word_by (bytes_eq text (codes "function")) text refl
 function_signs_by kinds.Punctuator (Characters text) = inl (look_free is_function [] marks text refl refl refl)
 function_signs_by kinds.JsxOpen (Characters text) = inl (look_free is_function [] child_marks text refl refl refl)
+function_signs_by kinds.Name (Characters text) = inl (of_neither is_function (is_reserved text) KeyToken NameToken refl refl)
 function_signs_by (kinds.Template part) v = inl refl
 function_signs_by (kinds.TemplateRest part) v = inl refl
 function_signs_by k v = inl refl
@@ -195,6 +201,7 @@ line_signs_by kinds.Word (Characters text) = inl (look_free is_line [] words tex
 line_signs_by kinds.Punctuator (Characters text) = inl (look_free is_line [] marks text refl refl refl)
 line_signs_by kinds.SameLine v = inr refl
 line_signs_by kinds.JsxOpen (Characters text) = inl (look_free is_line [] child_marks text refl refl refl)
+line_signs_by kinds.Name (Characters text) = inl (of_neither is_line (is_reserved text) KeyToken NameToken refl refl)
 line_signs_by (kinds.Template part) v = inl refl
 line_signs_by (kinds.TemplateRest part) v = inl refl
 line_signs_by k v = inl refl
@@ -239,14 +246,14 @@ pub record Stated (t : Token) (p : ParseTree) : Type 0 where
 called_by : {t : Token} {p : ParseTree} (s : Stated t p) (u v : Token) (ts : List Token) (b : Bool) → tokens_of p (t ∷ []) ≡ u ∷ v ∷ ts → class u ≡ ImportWord → is_import_call (class v) ≡ b → b ≡ true
 called_by s u v ts true e i k = refl
 called_by {t = t} s u v ts false e i k =
-    absurd (never_kept (Entered OfElse) t u v ts s.good s.stands s.closes s.leaves e (ap (without (Entered OfElse)) i) (ap (λ l. without (started l) (class v)) i ∙ import_kept (class v) k))
+    absurd (never_next (Entered OfElse) t u v ts s.good s.stands s.closes s.leaves e (ap (without (Entered OfElse)) i) (ap (λ l. without (started l) (class v)) i ∙ import_rejects (class v) k))
 
 line_by : {t : Token} {p : ParseTree} (s : Stated t p) (u v : Token) (ts : List Token) (b : Bool) → tokens_of p (t ∷ []) ≡ u ∷ v ∷ ts → class u ≡ AsyncWord → is_line (class v) ≡ b → b ≡ true
 line_by s u v ts true e i k = refl
 line_by {t = t} s u v ts false e i k =
-    absurd (never_kept (Entered OfElse) t u v ts s.good s.stands s.closes s.leaves e (ap (without (Entered OfElse)) i) (ap (λ l. without (started l) (class v)) i ∙ async_kept (class v) k))
+    absurd (never_next (Entered OfElse) t u v ts s.good s.stands s.closes s.leaves e (ap (without (Entered OfElse)) i) (ap (λ l. without (started l) (class v)) i ∙ async_ends (class v) k))
 
--- and behind that neither `/` nor the rest of a template
+-- and behind that neither `/` nor the rest of a template nor `;`
 slash_by : {t : Token} {p : ParseTree} (s : Stated t p) (u v w : Token) (ts : List Token) (b : Bool) → tokens_of p (t ∷ []) ≡ u ∷ v ∷ w ∷ ts → class u ≡ AsyncWord → is_line (class v) ≡ true → is_no_start (class w) ≡ b → b ≡ false
 slash_by s u v w ts false e i j k = refl
 slash_by {t = t} s u v w ts true e i j k =
@@ -275,7 +282,9 @@ may_begin bars l f k {t = t} {p = p} s (u ∷ v ∷ []) e x us =
       | inl d ↦ at_once y (f u (v ∷ []) x) d
       | inr i ↦ elim i [
         | inl i ↦ behind_import i (called_by s u v (t ∷ []) (is_import_call (class v)) (e (t ∷ [])) i refl)
-        | inr i ↦ behind_async i (line_by s u v (t ∷ []) (is_line (class v)) (e (t ∷ [])) i refl) (leaves_alone (class t) s.leaves).1
+        | inr i ↦
+            let j = line_by s u v (t ∷ []) (is_line (class v)) (e (t ∷ [])) i refl in
+            behind_async i j (none_begins (class t) (leaves_alone (class t) s.leaves).1 (slash_by s u v t [] (is_no_start (class t)) (e (t ∷ [])) i j refl))
       ]
     ])
 may_begin bars l f k {t = t} {p = p} s (u ∷ v ∷ w ∷ ts) e x us =

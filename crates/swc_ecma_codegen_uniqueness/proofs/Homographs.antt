@@ -9,13 +9,14 @@ use Rattle.swc_ecma_codegen_grammar.specs.Names.{all_part, is_private_name, is_w
 use Rattle.swc_ecma_codegen_grammar.specs.Numbers.{has_suffix, is_big_integer, is_number, is_numeric}
 use Rattle.swc_ecma_codegen_grammar.specs.Punctuators.{punctuators}
 use Rattle.swc_ecma_codegen_grammar.specs.Reads.{is_same_line}
+use Rattle.swc_ecma_codegen_grammar.specs.Templates.{ends_template, goes_on_as, is_template, is_template_rest}
 use Rattle.swc_ecma_codegen_grammar.specs.Texts.{begins, is_among, is_same}
 use Rattle.swc_ecma_codegen_grammar.specs.Tokens.{Token, Ordinary, Child, goal, has_shape}
 use Rattle.swc_ecma_codegen_grammar.specs.declared.kinds.Kind.{Kind}
-use Rattle.swc_ecma_codegen_grammar.specs.declared.kinds.Kind.TheVariants.{Word, Name, PrivateName, Punctuator, Ending, Number, BigInt, Str, Regex, Template, TemplateRest, JsxText, JsxOpen, Hashbang}
+use Rattle.swc_ecma_codegen_grammar.specs.declared.kinds.Kind.TheVariants.{Word, Name, PrivateName, Punctuator, Ending, Number, BigInt, Str, Regex, Template, TemplateRest, Close, JsxName, JsxString, JsxText, JsxOpen, Hashbang}
 use Rattle.swc_ecma_codegen_grammar.specs.declared.kinds.TemplatePart.{TemplatePart}
 use Rattle.swc_ecma_codegen_grammar.specs.declared.names.Place.TheVariants.{Between, Escaped}
-use Rattle.swc_ecma_codegen_grammar.proofs.Conditions.{at_eq}
+use Rattle.swc_ecma_codegen_grammar.proofs.Conditions.{at_eq, if_both}
 use Rattle.swc_ecma_codegen_grammar.proofs.Heads.{some_text}
 use Rattle.swc_ecma_codegen_grammar.proofs.HashbangShapes.{some_hashbang}
 use Rattle.swc_ecma_codegen_grammar.proofs.Marks.{punctuator_among}
@@ -25,7 +26,19 @@ use Rattle.swc_ecma_codegen_grammar.proofs.Sorts.{Marked, of_hashes, shape_sort,
 use Rattle.swc_ecma_codegen_grammar.proofs.Tables.{each, each_at, eq_of_same}
 use Rattle.swc_ecma_codegen_grammar.proofs.TemplateShapes.{some_template_rest, template_rest_head}
 use Rattle.swc_ecma_codegen_grammar.proofs.Unique.{fronts}
-use Rattle.swc_ecma_codegen_uniqueness.specs.Parting.{is_of_jsx, is_of_syntax, are_homographs}
+
+-- a token of JSX
+abbrev pub is_of_jsx : Kind → Bool
+is_of_jsx Close = true
+is_of_jsx JsxName = true
+is_of_jsx JsxString = true
+is_of_jsx JsxText = true
+is_of_jsx JsxOpen = true
+is_of_jsx k = false
+
+-- a token of JSX, or no text
+abbrev pub is_of_syntax : Kind → Bool
+is_of_syntax kind = is_of_jsx kind || is_same_line kind
 
 -- ---- a word has no escapes: as a name it has the same characters
 
@@ -75,7 +88,7 @@ brace_mark t h b = elim (or_cases _ _ (each_at (λ p. not (begins (codes "}") p)
 ]
 
 -- an ordinary token that begins with `/` or `}` is a punctuator
-lone_mark : (k : Kind) (t : List ℕ) → goal k ≡ Ordinary → sort k ≡ Marked → has_shape k t ≡ true → is_same t (codes ";") ≡ false → is_jsx_open t ≡ false → (k ≡ Punctuator) × (is_among t punctuators ≡ true)
+pub lone_mark : (k : Kind) (t : List ℕ) → goal k ≡ Ordinary → sort k ≡ Marked → has_shape k t ≡ true → is_same t (codes ";") ≡ false → is_jsx_open t ≡ false → (k ≡ Punctuator) × (is_among t punctuators ≡ true)
 unfolding goal sort has_shape
 lone_mark Punctuator t g s h n m = (refl, punctuator_among t h)
 lone_mark Ending t g s h n m = absurd (true≢false (sym h ∙ n))
@@ -122,69 +135,100 @@ no_hash k t n u m g h e f =
 -- ---- of two tokens of one text
 
 -- a text that begins with a character does, however it is parted
-begins_too : (c : ℕ) (n b u v : List ℕ) → (c ∷ n) ++ u ≡ b ++ v → (b ≡ [] → ⊥) → (m : List ℕ) × (b ≡ c ∷ m)
+pub begins_too : (c : ℕ) (n b u v : List ℕ) → (c ∷ n) ++ u ≡ b ++ v → (b ≡ [] → ⊥) → (m : List ℕ) × (b ≡ c ∷ m)
 begins_too c n [] u v e s = absurd (s refl)
 begins_too c n (d ∷ m) u v e s = let same : d ≡ c = cc e in (m, ap (λ z. z ∷ m) same)
 
-spelled : (k : Kind) (t : List ℕ) → has_shape k t ≡ true → t ≡ [] → ⊥
+pub spelled : (k : Kind) (t : List ℕ) → has_shape k t ≡ true → t ≡ [] → ⊥
 spelled k t h e = some_text k (subst (λ z. has_shape k z ≡ true) e h)
 
 number_apart : (t : List ℕ) → is_number t ≡ true → is_big_integer t ≡ true → ⊥
 unfolding is_number is_big_integer
 number_apart t h k = true≢false (sym (and_parts (is_numeric t) (has_suffix t) k).1 ∙ not-true _ (and_parts (is_numeric t) (not (has_suffix t)) h).1)
 
-same_bool : (b c : Bool) → (b ≡ c) ⊎ Unit {0}
-same_bool true true = inl refl
-same_bool false false = inl refl
-same_bool b c = inr tt
+two_bools : (b c : Bool) → (b ≡ c) ⊎ (((b ≡ true) × (c ≡ false)) ⊎ ((b ≡ false) × (c ≡ true)))
+two_bools true true = inl refl
+two_bools false false = inl refl
+two_bools true false = inr (inl (refl, refl))
+two_bools false true = inr (inr (refl, refl))
 
-same_part : (p q : TemplatePart) → (p ≡ q) ⊎ Unit {0}
-same_part p q = elim (same_bool p.tagged q.tagged) [
-  | inl e ↦ elim (same_bool p.opens q.opens) [ inl f ↦ inl (ap₂ (λ x y. let made : TemplatePart = record { tagged = x; opens = y } in made) e f) | inr u ↦ inr tt ]
-  | inr u ↦ inr tt
-]
-
-abbrev pub is_word_kind : Kind → Bool
-is_word_kind Word = true
-is_word_kind k = false
-
--- what two tokens of one text are: of one kind, a word and the name of its letters, other homographs, or two that goals of the lexical grammar tell
+-- what two tokens of one text are: of one kind, a word and the name of its letters, or two that the tokens before tell
 pub data Met (k l : Kind) (a b : List ℕ) : Type 0 where
   alike : k ≡ l → Met k l a b
   letters : a ≡ b → k ≡ Word → l ≡ Name → Met k l a b
   letters_too : a ≡ b → k ≡ Name → l ≡ Word → Met k l a b
-  homographs : is_word_kind k ≡ false → is_word_kind l ≡ false → (are_homographs k l || are_homographs l k) ≡ true → Met k l a b
+  finishes : k ≡ Ending → l ≡ Punctuator → b ≡ codes ";" → Met k l a b
+  finishes_too : k ≡ Punctuator → l ≡ Ending → a ≡ codes ";" → Met k l a b
   divides : k ≡ Regex → l ≡ Punctuator → (b ≡ codes "/") ⊎ (b ≡ codes "/=") → Met k l a b
   divides_too : k ≡ Punctuator → l ≡ Regex → (a ≡ codes "/") ⊎ (a ≡ codes "/=") → Met k l a b
   closes : (part : TemplatePart) → k ≡ TemplateRest part → l ≡ Punctuator → b ≡ codes "}" → Met k l a b
   closes_too : (part : TemplatePart) → k ≡ Punctuator → l ≡ TemplateRest part → a ≡ codes "}" → Met k l a b
+  tags : (p q : TemplatePart) → k ≡ Template p → l ≡ Template q → p.tagged ≡ true → q.tagged ≡ false → Met k l a b
+  tags_too : (p q : TemplatePart) → k ≡ Template p → l ≡ Template q → p.tagged ≡ false → q.tagged ≡ true → Met k l a b
+  later_tags : (p q : TemplatePart) → k ≡ TemplateRest p → l ≡ TemplateRest q → p.tagged ≡ true → q.tagged ≡ false → Met k l a b
+  later_tags_too : (p q : TemplatePart) → k ≡ TemplateRest p → l ≡ TemplateRest q → p.tagged ≡ false → q.tagged ≡ true → Met k l a b
 
-part_met : (p q : TemplatePart) (a : List ℕ) → Met (Template p) (Template q) a a
-unfolding are_homographs
-part_met p q a = elim (same_part p q) [ inl e ↦ alike (ap Template e) | inr u ↦ homographs refl refl refl ]
+-- a part of a template ends in one way
+ends_once : (a b escaped : Bool) (t : List ℕ) → ends_template a escaped t ≡ true → ends_template b escaped t ≡ true → a ≡ b
+unfolding ends_template
+ends_once a b escaped [] h k = absurd (true≢false (sym h))
+ends_once a b true (c ∷ cs) h k = ends_once a b false cs h k
+ends_once a b false (c ∷ cs) h k = elim (if_both (c == 96) _ _ _ _ h k) [
+  | inl r ↦ not-true a (and_parts (not a) _ r.0).0 ∙ sym (not-true b (and_parts (not b) _ r.1).0)
+  | inr r ↦ elim (if_both ((c == 36) && begins (123 ∷ []) cs) _ _ _ _ r.0 r.1) [
+    | inl q ↦ (and_parts a _ q.0).0 ∙ sym (and_parts b _ q.1).0
+    | inr q ↦ ends_once a b (c == 92) cs q.0 q.1
+  ]
+]
 
-rest_met : (p q : TemplatePart) (a b : List ℕ) → Met (TemplateRest p) (TemplateRest q) a b
-unfolding are_homographs
-rest_met p q a b = elim (same_part p q) [ inl e ↦ alike (ap TemplateRest e) | inr u ↦ homographs refl refl refl ]
+opens_once : (p q : TemplatePart) (t : List ℕ) → goes_on_as p t ≡ true → goes_on_as q t ≡ true → p.opens ≡ q.opens
+unfolding goes_on_as
+opens_once p q t h k = ends_once p.opens q.opens false t (and_parts (ends_template p.opens false t) _ h).0 (and_parts (ends_template q.opens false t) _ k).0
+
+part_opens : (p q : TemplatePart) (t : List ℕ) → is_template p t ≡ true → is_template q t ≡ true → p.opens ≡ q.opens
+unfolding is_template
+part_opens p q [] h k = absurd (true≢false (sym h))
+part_opens p q (c ∷ cs) h k = opens_once p q cs (and_parts (c == 96) _ h).1 (and_parts (c == 96) _ k).1
+
+rest_opens : (p q : TemplatePart) (t : List ℕ) → is_template_rest p t ≡ true → is_template_rest q t ≡ true → p.opens ≡ q.opens
+unfolding is_template_rest
+rest_opens p q [] h k = absurd (true≢false (sym h))
+rest_opens p q (c ∷ cs) h k = opens_once p q cs (and_parts (c == 125) _ h).1 (and_parts (c == 125) _ k).1
+
+-- of two parts that end alike
+same_parts : (p q : TemplatePart) → p.opens ≡ q.opens → (p ≡ q) ⊎ (((p.tagged ≡ true) × (q.tagged ≡ false)) ⊎ ((p.tagged ≡ false) × (q.tagged ≡ true)))
+same_parts p q o = elim (two_bools p.tagged q.tagged) [ inl e ↦ inl (ap₂ (λ x y. let made : TemplatePart = record { tagged = x; opens = y } in made) e o) | inr d ↦ inr d ]
+
+part_met : (p q : TemplatePart) (a : List ℕ) → p.opens ≡ q.opens → Met (Template p) (Template q) a a
+part_met p q a o = elim (same_parts p q o) [
+  | inl e ↦ alike (ap Template e)
+  | inr d ↦ elim d [ inl x ↦ tags p q refl refl x.0 x.1 | inr x ↦ tags_too p q refl refl x.0 x.1 ]
+]
+
+rest_met : (p q : TemplatePart) (a b : List ℕ) → p.opens ≡ q.opens → Met (TemplateRest p) (TemplateRest q) a b
+rest_met p q a b o = elim (same_parts p q o) [
+  | inl e ↦ alike (ap TemplateRest e)
+  | inr d ↦ elim d [ inl x ↦ later_tags p q refl refl x.0 x.1 | inr x ↦ later_tags_too p q refl refl x.0 x.1 ]
+]
 
 -- of ordinary tokens
 by_sort : (k l : Kind) (a : List ℕ) → goal k ≡ Ordinary → goal l ≡ Ordinary → sort k ≡ sort l → is_of_syntax k ≡ false → is_of_syntax l ≡ false → has_shape k a ≡ true → has_shape l a ≡ true → Met k l a a
-unfolding goal sort has_shape is_of_syntax is_of_jsx is_same_line are_homographs
+unfolding goal sort has_shape is_same_line
 by_sort Word Word a g h s i j x y = alike refl
 by_sort Word Name a g h s i j x y = letters refl refl refl
 by_sort Name Word a g h s i j x y = letters_too refl refl refl
 by_sort Name Name a g h s i j x y = alike refl
 by_sort PrivateName PrivateName a g h s i j x y = alike refl
 by_sort Punctuator Punctuator a g h s i j x y = alike refl
-by_sort Punctuator Ending a g h s i j x y = homographs refl refl refl
-by_sort Ending Punctuator a g h s i j x y = homographs refl refl refl
+by_sort Punctuator Ending a g h s i j x y = finishes_too refl refl (eq_of_same a (codes ";") y)
+by_sort Ending Punctuator a g h s i j x y = finishes refl refl (eq_of_same a (codes ";") x)
 by_sort Ending Ending a g h s i j x y = alike refl
 by_sort Number Number a g h s i j x y = alike refl
 by_sort Number BigInt a g h s i j x y = absurd (number_apart a x y)
 by_sort BigInt Number a g h s i j x y = absurd (number_apart a y x)
 by_sort BigInt BigInt a g h s i j x y = alike refl
 by_sort Str Str a g h s i j x y = alike refl
-by_sort (Template p) (Template q) a g h s i j x y = part_met p q a
+by_sort (Template p) (Template q) a g h s i j x y = part_met p q a (part_opens p q a x y)
 by_sort k l a g h s i j x y = absurd (cc)
 
 -- the goals of tokens that are no part of JSX
@@ -195,7 +239,7 @@ pub data Going : Kind → Type 0 where
   hashbang : Going Hashbang
 
 pub going : (k : Kind) → is_of_syntax k ≡ false → Going k
-unfolding goal is_of_syntax is_of_jsx is_same_line
+unfolding goal is_same_line
 going Word i = ordinary refl
 going Name i = ordinary refl
 going PrivateName i = ordinary refl
@@ -244,7 +288,12 @@ ordinary_met k l a b g h i j e x y =
     let z = subst (λ c. has_shape l c ≡ true) (sym e) y in
     subst (Met k l a) e (by_sort k l a g h (sym (shape_sort k a g x) ∙ shape_sort l a h z) i j x z)
 
+rest_ends : (p q : TemplatePart) (a b : List ℕ) → a ≡ b → has_shape (TemplateRest p) a ≡ true → has_shape (TemplateRest q) b ≡ true → Met (TemplateRest p) (TemplateRest q) a b
+unfolding has_shape
+rest_ends p q a b e x y = rest_met p q a b (rest_opens p q a x (subst (λ z. is_template_rest q z ≡ true) (sym e) y))
+
 met : (k l : Kind) (a b u v : List ℕ) → Going k → Going l → is_of_syntax k ≡ false → is_of_syntax l ≡ false → (goal k ≡ goal l → a ≡ b) → has_shape k a ≡ true → has_shape l b ≡ true → a ++ u ≡ b ++ v → Met k l a b
+unfolding goal
 met k l a b u v (ordinary g) (ordinary h) i j s x y e = ordinary_met k l a b g h i j (s (g ∙ sym h)) x y
 met k l a b u v (ordinary g) regex i j s x y e =
     let r = regex_begins b y in
@@ -286,7 +335,7 @@ met k l a b u v (rest p) regex i j s x y e =
     let o = other_begins (TemplateRest p) 47 b a r.0 v u x r.1 (sym e) in
     let q = rest_begins p a x in
     absurd (slash_is_no_brace (two_heads 47 125 a o.0 q.0 o.1 q.1))
-met k l a b u v (rest p) (rest q) i j s x y e = rest_met p q a b
+met k l a b u v (rest p) (rest q) i j s x y e = rest_ends p q a b (s refl) x y
 met k l a b u v (rest p) hashbang i j s x y e =
     let r = rest_begins p a x in
     let o = other_begins Hashbang 125 a b r.0 u v y r.1 e in
@@ -309,7 +358,7 @@ met k l a b u v hashbang (rest p) i j s x y e =
 met k l a b u v hashbang hashbang i j s x y e = alike refl
 
 -- two longest tokens of one goal have one text
-same_text : (x y : Token) (a b u v : List ℕ) → IsLongest x a u → IsLongest y b v → a ++ u ≡ b ++ v → goal x.kind ≡ goal y.kind → a ≡ b
+pub same_text : (x y : Token) (a b u v : List ℕ) → IsLongest x a u → IsLongest y b v → a ++ u ≡ b ++ v → goal x.kind ≡ goal y.kind → a ≡ b
 same_text x y a b u v h k e g = elim (fronts a b u v e) [
   | inl r ↦
       let m : r.0 ≡ [] = h.longest y r.0 v (sym g) r.2 (subst (λ z. Stands y z v) r.1 k.stands) in
@@ -325,6 +374,6 @@ meet x y a b u v i j h k e =
 
 -- what is no part of JSX isn't text between tags
 pub no_child : (k : Kind) → is_of_syntax k ≡ false → goal k ≡ Child → ⊥
-unfolding goal is_of_syntax is_of_jsx is_same_line
+unfolding goal is_same_line
 no_child JsxText i e = true≢false i
 no_child k i e = cc

@@ -32,13 +32,13 @@ use Rattle.swc_ecma_codegen_uniqueness.proofs.Shapes.{InObject, InProperties, pr
 use Rattle.swc_ecma_codegen_uniqueness.proofs.Reading.{read_phrase, derived_parse}
 use Rattle.swc_ecma_codegen_uniqueness.proofs.Fits.{at_place, PlacedGood, AllGood, no_form}
 use Rattle.swc_ecma_codegen_uniqueness.proofs.Atoms.{IsLiteral, number_literal, str_literal, big_literal}
+use Rattle.swc_ecma_codegen_uniqueness.proofs.Looks.{of_name}
 
 -- ---- keys
 
 either_key : (b : Bool) (v : Value) (text : List ℕ) → is_key (class (if b then record { kind = kinds.Str; value = v } else tokens.name text)) ≡ true
-unfolding tokens.name
 either_key true v text = refl
-either_key false v text = refl
+either_key false v text = of_name is_key text refl refl
 
 word_key : (s : Settings) (bytes : List ℕ) → is_key (class (key_token s bytes)) ≡ true
 unfolding key_token
@@ -58,8 +58,7 @@ key_good k c (prop_names.Computed n) (both (fixed g) (both (part a sa d) (fixed 
 
 -- a name that is a key and a value
 pub named_then : (b : Bool) (text : List ℕ) {m : ParseTree} → InObject AfterKey m → InProperties b (Read (tokens.name text) m)
-unfolding tokens.name
-named_then b text {m = m} g = (object_key (property_place b)).token (tokens.name text) m refl g
+named_then b text {m = m} g = (object_key (property_place b)).token (tokens.name text) m (of_name is_key text refl refl) g
 
 key_in : {s : Settings} {Before Behind : ParseTree → Type 0} (k : Keyed Before Behind) (called : Bool) (c : Parameters) (y : AnyNode-F AnyNode) {ts : List Token} (d : Derives true s (node_form called c y PropertyName) ts) → AllGood d → s.minify ≡ c.minify → (m : ParseTree) → Behind m →
     Before (derived_parse d m)

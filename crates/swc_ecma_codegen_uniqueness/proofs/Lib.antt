@@ -7,10 +7,13 @@ pub mod Classes
 pub mod Controls
 pub mod Elements
 pub mod Fits
+pub mod FreeNames
 pub mod Heading
 pub mod Joined
+pub mod JsxParts
 pub mod Keys
 pub mod Layers
+pub mod Lines
 pub mod Linking
 pub mod Lists
 pub mod Loops
@@ -38,3 +41,5 @@ pub mod Words
 pub mod Homographs
 pub mod Parting
 pub mod Texts
+pub mod JsxTexts
+pub mod Looks

@@ -45,7 +45,7 @@ use Rattle.swc_ecma_codegen_syntax.specs.Derives.{Derives, fixed, part, both, pr
 use Rattle.swc_ecma_codegen_uniqueness.specs.ParseTrees.{Variant, ParseTree, End, Read, Node, Member, Call, SuperProp as a_super, Tpl as a_template, TaggedTpl as a_tag, OptChain}
 use Rattle.swc_ecma_codegen_uniqueness.specs.Parses.{placed, is_inlined}
 use Rattle.swc_ecma_codegen_uniqueness.proofs.Classes.{First, class}
-use Rattle.swc_ecma_codegen_uniqueness.proofs.Tables.{template}
+use Rattle.swc_ecma_codegen_uniqueness.proofs.Tables.{template, is_tag}
 use Rattle.swc_ecma_codegen_uniqueness.proofs.TableLaws.{is_place, Linked, a_member, of_call, a_target, a_chain, of_chain, calls_on}
 use Rattle.swc_ecma_codegen_uniqueness.proofs.Machine.{Mode, Whole, Rest, Good}
 use Rattle.swc_ecma_codegen_uniqueness.proofs.Shapes.{Operand, ended, member_named, member_indexed, chain_named, chain_indexed, chain_called, chained_not, chained_so, plain_member, plain_call, plain_callee, of_a_chain, super_named, super_indexed, template_next, untagged, tagged}
@@ -88,15 +88,15 @@ where_read s false t ts g rest = absurd g
 pub part_rest : {mode : Mode} {place : Nonterminal} {z : Variant} {p r m : ParseTree} → Operand place z p → r ≡ m → Good mode (Node z p m) → Good mode (Node z p r)
 part_rest {mode = mode} {z = z} {p = p} o e g = subst (λ w. Good mode (Node z p w)) (sym e) g
 
-rest_good : {s : Settings} (variant : Variant) (n : Nonterminal) (c : Parameters) (with_tag : Bool) (es : List (ExprBox AnyNode)) (qs : List TplElement) {ts : List Token} →
+rest_good : {s : Settings} (variant : Variant) (n : Nonterminal) (c : Parameters) (with_tag : Bool) (es : List (ExprBox AnyNode)) (qs : List TplElement) {ts : List Token} → is_tag variant ≡ with_tag →
     length qs ≡ length es → (d : Derives true s (tpl_rest_form (expr_part nt.Expression (with_in c)) with_tag es qs) ts) → AllGood d → s.minify ≡ c.minify →
     Good (Rest (template variant (is_some_listed qs)) variant n) (derived_parse d End)
 unfolding tpl_rest_form tpl_element part_phrase part_kind is_some_listed token_of AllGood PlacedGood derived_parse read_phrase placed is_inlined
-rest_good variant n c with_tag [] [] h (fixed g) o m = ended variant n
-rest_good variant n c with_tag [] (q ∷ qs) h d o m = absurd (omega (arith, h))
-rest_good variant n c with_tag (e ∷ es) [] h d o m = absurd (omega (arith, h))
-rest_good variant n c with_tag (e ∷ es) (q ∷ qs) h (both (part a sa d) (both (fixed g) f)) (o, (x, r)) m =
-    part_rest (at_place _ _ sa (o m)) (where_read _ _ _ _ g (derived_parse f End)) (template_next variant n _ (is_some_listed qs) refl (at_place _ _ sa (o m)) (rest_good variant n c with_tag es qs (omega (arith, h)) f r m))
+rest_good variant n c with_tag [] [] y h (fixed g) o m = ended variant n
+rest_good variant n c with_tag [] (q ∷ qs) y h d o m = absurd (omega (arith, h))
+rest_good variant n c with_tag (e ∷ es) [] y h d o m = absurd (omega (arith, h))
+rest_good variant n c with_tag (e ∷ es) (q ∷ qs) y h (both (part a sa d) (both (fixed g) f)) (o, (x, r)) m =
+    part_rest (at_place _ _ sa (o m)) (where_read _ _ _ _ g (derived_parse f End)) (template_next variant n _ with_tag (is_some_listed qs) y refl (at_place _ _ sa (o m)) (rest_good variant n c with_tag es qs y (omega (arith, h)) f r m))
 
 -- what begins with the first part of a template
 pub record Templated (variant : Variant) (n : Nonterminal) (m : ParseTree) : Type 0 where
@@ -104,48 +104,48 @@ pub record Templated (variant : Variant) (n : Nonterminal) (m : ParseTree) : Typ
   pub opens : Bool
   pub rest : ParseTree
   pub is : m ≡ Read first rest
-  pub begins : class first ≡ First opens
+  pub begins : class first ≡ First (is_tag variant) opens
   pub good : Good (Rest (template variant opens) variant n) rest
 
-parts_good : {s : Settings} (variant : Variant) (n : Nonterminal) (c : Parameters) (with_tag : Bool) (es : List (ExprBox AnyNode)) (qs : List TplElement) {ts : List Token} →
+parts_good : {s : Settings} (variant : Variant) (n : Nonterminal) (c : Parameters) (with_tag : Bool) (es : List (ExprBox AnyNode)) (qs : List TplElement) {ts : List Token} → is_tag variant ≡ with_tag →
     length qs ≡ length es + 1 → (d : Derives true s (tpl_parts_form (expr_part nt.Expression (with_in c)) with_tag es qs) ts) → AllGood d → s.minify ≡ c.minify → Templated variant n (derived_parse d End)
 unfolding tpl_parts_form tpl_element part_phrase part_kind token_of Generates AllGood derived_parse read_phrase
-parts_good variant n c with_tag es [] h (fixed g) o m = absurd g
-parts_good variant n c with_tag es (q ∷ qs) h (both (fixed g) f) (x, r) m =
-    record { first = _; opens = is_some_listed qs; rest = derived_parse f End; is = where_read _ _ _ _ g (derived_parse f End); begins = refl; good = rest_good variant n c with_tag es qs (omega (arith, h)) f r m }
+parts_good variant n c with_tag es [] y h (fixed g) o m = absurd g
+parts_good variant n c with_tag es (q ∷ qs) y h (both (fixed g) f) (x, r) m =
+    record { first = _; opens = is_some_listed qs; rest = derived_parse f End; is = where_read _ _ _ _ g (derived_parse f End); begins = ap (λ b. First b (is_some_listed qs)) (sym y); good = rest_good variant n c with_tag es qs y (omega (arith, h)) f r m }
 
-counted_good : {s : Settings} (variant : Variant) (n : Nonterminal) (c : Parameters) (with_tag b : Bool) (es : List (ExprBox AnyNode)) (qs : List TplElement) {ts : List Token} → is_counted es qs ≡ b →
+counted_good : {s : Settings} (variant : Variant) (n : Nonterminal) (c : Parameters) (with_tag b : Bool) (es : List (ExprBox AnyNode)) (qs : List TplElement) {ts : List Token} → is_tag variant ≡ with_tag → is_counted es qs ≡ b →
     (d : Derives true s (if b then tpl_parts_form (expr_part nt.Expression (with_in c)) with_tag es qs else Provided ByRule false (Fixed phrases.Never)) ts) → AllGood d → s.minify ≡ c.minify → Templated variant n (derived_parse d End)
 unfolding is_met
-counted_good variant n c with_tag true es qs e d o m = parts_good variant n c with_tag es qs (eqb-true (length qs) (length es + 1) e) d o m
-counted_good variant n c with_tag false es qs e (provided h d) o m = absurd (true≢false (sym h))
+counted_good variant n c with_tag true es qs y e d o m = parts_good variant n c with_tag es qs y (eqb-true (length qs) (length es + 1) e) d o m
+counted_good variant n c with_tag false es qs y e (provided h d) o m = absurd (true≢false (sym h))
 
-tpl_good : {s : Settings} (variant : Variant) (n : Nonterminal) (c : Parameters) (with_tag : Bool) (x : Tpl AnyNode) {ts : List Token} (d : Derives true s (tpl_form c with_tag x) ts) → AllGood d → s.minify ≡ c.minify →
+tpl_good : {s : Settings} (variant : Variant) (n : Nonterminal) (c : Parameters) (with_tag : Bool) (x : Tpl AnyNode) {ts : List Token} → is_tag variant ≡ with_tag → (d : Derives true s (tpl_form c with_tag x) ts) → AllGood d → s.minify ≡ c.minify →
     Templated variant n (derived_parse d End)
 unfolding tpl_form
-tpl_good variant n c with_tag x d o m = counted_good variant n c with_tag (is_counted x.exprs.items x.quasis.items) x.exprs.items x.quasis.items refl d o m
+tpl_good variant n c with_tag x y d o m = counted_good variant n c with_tag (is_counted x.exprs.items x.quasis.items) x.exprs.items x.quasis.items y refl d o m
 
 -- in the place of a template stands one
-tagged_in : {s : Settings} (variant : Variant) (n : Nonterminal) (k : Bool) (c : Parameters) (y : AnyNode-F AnyNode) {ts : List Token} (d : Derives true s (node_form k c y TaggedTemplate) ts) → AllGood d → s.minify ≡ c.minify →
-    Templated variant n (derived_parse d End)
+tagged_in : {s : Settings} (n : Nonterminal) (k : Bool) (c : Parameters) (y : AnyNode-F AnyNode) {ts : List Token} (d : Derives true s (node_form k c y TaggedTemplate) ts) → AllGood d → s.minify ≡ c.minify →
+    Templated a_tag n (derived_parse d End)
 unfolding node_form part_form stmt_part_form jsx_part_form is_met
-tagged_in variant n k c (nodes.ExprPart (expr_parts.Tpl x)) d o m = tpl_good variant n c true x d o m
-tagged_in variant n k c (nodes.StmtPart (stmt_parts.BlockStmt x)) d o m = absurd (no_form d)
-tagged_in variant n k c (nodes.JSXPart (jsx_parts.JSXElement x)) d o m = absurd (no_form d)
-tagged_in variant n k c y d o m = absurd (no_form d)
+tagged_in n k c (nodes.ExprPart (expr_parts.Tpl x)) d o m = tpl_good a_tag n c true x refl d o m
+tagged_in n k c (nodes.StmtPart (stmt_parts.BlockStmt x)) d o m = absurd (no_form d)
+tagged_in n k c (nodes.JSXPart (jsx_parts.JSXElement x)) d o m = absurd (no_form d)
+tagged_in n k c y d o m = absurd (no_form d)
 
-template_in : {s : Settings} (variant : Variant) (n : Nonterminal) (k : Bool) (c : Parameters) (y : AnyNode-F AnyNode) {ts : List Token} (d : Derives true s (node_form k c y Template) ts) → AllGood d → s.minify ≡ c.minify →
-    Templated variant n (derived_parse d End)
+template_in : {s : Settings} (n : Nonterminal) (k : Bool) (c : Parameters) (y : AnyNode-F AnyNode) {ts : List Token} (d : Derives true s (node_form k c y Template) ts) → AllGood d → s.minify ≡ c.minify →
+    Templated a_template n (derived_parse d End)
 unfolding node_form part_form stmt_part_form jsx_part_form is_met
-template_in variant n k c (nodes.ExprPart (expr_parts.Tpl x)) d o m = tpl_good variant n c false x d o m
-template_in variant n k c (nodes.StmtPart (stmt_parts.BlockStmt x)) d o m = absurd (no_form d)
-template_in variant n k c (nodes.JSXPart (jsx_parts.JSXElement x)) d o m = absurd (no_form d)
-template_in variant n k c y d o m = absurd (no_form d)
+template_in n k c (nodes.ExprPart (expr_parts.Tpl x)) d o m = tpl_good a_template n c false x refl d o m
+template_in n k c (nodes.StmtPart (stmt_parts.BlockStmt x)) d o m = absurd (no_form d)
+template_in n k c (nodes.JSXPart (jsx_parts.JSXElement x)) d o m = absurd (no_form d)
+template_in n k c y d o m = absurd (no_form d)
 
 pub template_good : {s : Settings} (k : Bool) (c : Parameters) (x : AnyNode) {ts : List Token} (d : Derives true s (node_form k c (out-AnyNode x) Template) ts) → AllGood d → s.minify ≡ c.minify →
     Good (Whole a_template nt.PrimaryExpression) (derived_parse d End)
 template_good k c x d o m =
-    let t = template_in a_template nt.PrimaryExpression k c (out-AnyNode x) d o m in
+    let t = template_in nt.PrimaryExpression k c (out-AnyNode x) d o m in
     subst (λ z. Good (Whole a_template nt.PrimaryExpression) z) (sym t.is) (untagged t.first t.opens t.begins t.good)
 
 tag_of : {n place : Nonterminal} {z : Variant} {p m : ParseTree} → Linked n place → Operand place z p → Templated a_tag n m → Good (Whole a_tag n) (Node z p m)
@@ -156,10 +156,10 @@ pub tag_good : {s : Settings} (called : Bool) (c : Parameters) (n : TaggedTpl An
 unfolding tagged_form AllGood PlacedGood derived_parse placed is_inlined
 tag_good true c n (both (part a sa d) (both t (part b sb e))) (o, (x, q)) m =
     part_rest (at_place _ _ sa (o m)) (no_types c n.type_params t (derived_parse e End))
-    (tag_of of_call (at_place _ _ sa (o m)) (tagged_in a_tag nt.CallExpression b (with_in c) (out-AnyNode n.tpl.node.value) e q m))
+    (tag_of of_call (at_place _ _ sa (o m)) (tagged_in nt.CallExpression b (with_in c) (out-AnyNode n.tpl.node.value) e q m))
 tag_good false c n (both (part a sa d) (both t (part b sb e))) (o, (x, q)) m =
     part_rest (at_place _ _ sa (o m)) (no_types c n.type_params t (derived_parse e End))
-    (tag_of a_member (at_place _ _ sa (o m)) (tagged_in a_tag nt.MemberExpression b (with_in c) (out-AnyNode n.tpl.node.value) e q m))
+    (tag_of a_member (at_place _ _ sa (o m)) (tagged_in nt.MemberExpression b (with_in c) (out-AnyNode n.tpl.node.value) e q m))
 
 -- ---- optional chains
 

@@ -38,9 +38,11 @@ use Rattle.swc_ecma_codegen_uniqueness.proofs.Controls.{Control, Arguments}
 use Rattle.swc_ecma_codegen_uniqueness.proofs.Tables.{Shift, decide, shift, chained}
 use Rattle.swc_ecma_codegen_uniqueness.proofs.TableLaws.{Linked, Calling, calls, cover}
 use Rattle.swc_ecma_codegen_uniqueness.proofs.Machine.{Whole, Rest, Good}
-use Rattle.swc_ecma_codegen_uniqueness.proofs.Shapes.{Operand, After, part_then, takes_self, IsName, dots_then, arguments_closed, argument_next, no_arguments, InElements, BehindElement, BehindHole, element_then, spread_element, elements_closed, element_next, hole_then, no_elements, array, member_named, member_indexed, called, chained_not, plain_callee, import_called, super_called, new_alone, new_with}
+use Rattle.swc_ecma_codegen_uniqueness.proofs.Shapes.{Operand, After, part_then, takes_self, IsName, dots_then, arguments_closed, argument_next, no_arguments, InElements, BehindElement, BehindHole, element_then, spread_element, elements_closed, element_next, hole_then, no_elements, array, member_named, member_indexed, called, chained_not, plain_callee, import_called, super_called, new_alone, new_with, name_by, is_any_name}
 use Rattle.swc_ecma_codegen_uniqueness.proofs.Reading.{read_phrase, derived_parse}
 use Rattle.swc_ecma_codegen_uniqueness.proofs.Fits.{at_place, PlacedGood, AllGood, moved}
+use Rattle.swc_ecma_codegen_uniqueness.proofs.Looks.{of_name}
+use Rattle.swc_ecma_codegen_uniqueness.proofs.Classes.{class}
 
 -- ---- types have no production
 
@@ -157,8 +159,7 @@ array_good c n (both (fixed g) (both d (fixed h))) (x, (o, y)) m = array (elemen
 -- ---- members
 
 pub name_is_name : (at : List ℕ) → IsName (tokens.name at)
-unfolding tokens.name
-name_is_name at = (λ s. refl, refl, refl)
+name_is_name at = name_by (tokens.name at) (class (tokens.name at)) refl (of_name is_any_name at refl refl)
 
 pub private_is_name : (at : List ℕ) → IsName (tokens.private_name at)
 unfolding tokens.private_name

@@ -39,7 +39,7 @@ use Rattle.swc_ecma_codegen_uniqueness.proofs.Tables.{Shift, Splice, decide, pas
 use Rattle.swc_ecma_codegen_uniqueness.proofs.TableLaws.{ended_by, or_left, takes_on}
 use Rattle.swc_ecma_codegen_uniqueness.proofs.Machine.{Whole, Rest, Good, heading, shifted}
 use Rattle.swc_ecma_codegen_uniqueness.proofs.Shapes.{Operand, takes_self, assignment_taken, left_assigned, operand_free, part_then}
-use Rattle.swc_ecma_codegen_uniqueness.proofs.StatementShapes.{item_of, for_begun, for_await_begun, loop_body}
+use Rattle.swc_ecma_codegen_uniqueness.proofs.StatementShapes.{Follower, follower, item_of, for_begun, for_await_begun, loop_body}
 use Rattle.swc_ecma_codegen_uniqueness.proofs.Reading.{read_phrase, derived_parse}
 use Rattle.swc_ecma_codegen_uniqueness.proofs.Fits.{at_place, PlacedGood, AllGood, no_form}
 use Rattle.swc_ecma_codegen_uniqueness.proofs.Patterns.{covered_at, no_rest_target}
@@ -77,11 +77,11 @@ init_good n c (Some (inits.Expr x)) (restricted h (part a sa d)) o m rest r =
     let w = at_place _ _ sa f in
     heading (or_left _ _ w.taken) (f.free refl) w.good (ended_by Semicolon w.of w.taken) refl r
 
-pub for_good : {s : Settings} (c : Parameters) (n : for_stmts.ForStmt AnyNode) {ts : List Token} (d : Derives true s (for_form c n) ts) → AllGood d → s.minify ≡ c.minify → Good (Whole ForStmt (item_of c.before_else)) (derived_parse d End)
+pub for_good : {s : Settings} (c : Parameters) (n : for_stmts.ForStmt AnyNode) {ts : List Token} (d : Derives true s (for_form c n) ts) → AllGood d → s.minify ≡ c.minify → Good (Whole ForStmt (item_of (follower c))) (derived_parse d End)
 unfolding for_form AllGood PlacedGood derived_parse read_phrase placed is_inlined
 for_good c n (both (fixed g) (both (fixed h) (both i (both (fixed j) (both t (both (fixed k) (both u (both (fixed l) (part a sa d))))))))) (x, (y, (o, (z, (p, (w, (q, (v, r)))))))) m =
-    for_begun c.before_else ForStmt
-    (init_good (item_of c.before_else) c n.init i o m _ (test_good (item_of c.before_else) c n.test t p m _ (update_good (item_of c.before_else) c n.update u q m _ (loop_body c.before_else ForStmt (r m).good))))
+    for_begun (follower c) ForStmt
+    (init_good (item_of (follower c)) c n.init i o m _ (test_good (item_of (follower c)) c n.test t p m _ (update_good (item_of (follower c)) c n.update u q m _ (loop_body (follower c) ForStmt (r m).good))))
 
 -- ---- `for (a in b) {}` and `for (a of b) {}`
 
@@ -133,20 +133,20 @@ of_value : (n : Nonterminal) {v : Variant} {p m : ParseTree} → Operand nt.Assi
 unfolding punctuator
 of_value n {m = m} o g = part_then ForOf (Read (punctuator (codes ")")) m) (takes_self nt.AssignmentExpression) o (assignment_taken, λ z. refl, g)
 
-pub for_in_good : {s : Settings} (c : Parameters) (n : for_in_stmts.ForInStmt AnyNode) {ts : List Token} (d : Derives true s (for_in_form c n) ts) → AllGood d → s.minify ≡ c.minify → Good (Whole ForInStmt (item_of c.before_else)) (derived_parse d End)
+pub for_in_good : {s : Settings} (c : Parameters) (n : for_in_stmts.ForInStmt AnyNode) {ts : List Token} (d : Derives true s (for_in_form c n) ts) → AllGood d → s.minify ≡ c.minify → Good (Whole ForInStmt (item_of (follower c))) (derived_parse d End)
 unfolding for_in_form AllGood PlacedGood derived_parse read_phrase placed is_inlined
 for_in_good c n (both (fixed g) (both (fixed h) (both k (both (fixed i) (both (part a sa d) (both (fixed j) (part b sb e))))))) (x, (y, (o, (z, (p, (w, q)))))) m =
-    for_begun c.before_else ForInStmt
-    (head_good ForInStmt (item_of c.before_else) ForStart c n.left k o m (word (codes "in")) _ (behind_in (item_of c.before_else) (in_value (item_of c.before_else) (at_place _ _ sa (p m)) (loop_body c.before_else ForInStmt (q m).good))))
+    for_begun (follower c) ForInStmt
+    (head_good ForInStmt (item_of (follower c)) ForStart c n.left k o m (word (codes "in")) _ (behind_in (item_of (follower c)) (in_value (item_of (follower c)) (at_place _ _ sa (p m)) (loop_body (follower c) ForInStmt (q m).good))))
 
-await_begun : (s : Settings) (b k : Bool) (ts : List Token) (g : Generates s (word_if k (phrases.word (codes "await"))) ts) {m : ParseTree} → Good (Rest ForHead ForOfStmt (item_of b)) m →
+await_begun : (s : Settings) (b : Follower) (k : Bool) (ts : List Token) (g : Generates s (word_if k (phrases.word (codes "await"))) ts) {m : ParseTree} → Good (Rest ForHead ForOfStmt (item_of b)) m →
     Good (Whole ForOfStmt (item_of b)) (Read (word (codes "for")) (read_phrase s (word_if k (phrases.word (codes "await"))) ts g (Read (punctuator (codes "(")) m)))
 unfolding word_if read_phrase
 await_begun s b true ts g r = for_await_begun b ForOfStmt r
 await_begun s b false ts g r = for_begun b ForOfStmt r
 
-pub for_of_good : {s : Settings} (c : Parameters) (n : for_of_stmts.ForOfStmt AnyNode) {ts : List Token} (d : Derives true s (for_of_form c n) ts) → AllGood d → s.minify ≡ c.minify → Good (Whole ForOfStmt (item_of c.before_else)) (derived_parse d End)
+pub for_of_good : {s : Settings} (c : Parameters) (n : for_of_stmts.ForOfStmt AnyNode) {ts : List Token} (d : Derives true s (for_of_form c n) ts) → AllGood d → s.minify ≡ c.minify → Good (Whole ForOfStmt (item_of (follower c))) (derived_parse d End)
 unfolding for_of_form is_met AllGood PlacedGood derived_parse read_phrase placed is_inlined
 for_of_good {s = s} c n (provided l (both (fixed g) (both (fixed {ts = ts} h) (both (fixed i) (both k (both (fixed j) (both (part a sa d) (both (fixed f) (part b sb e))))))))) (x, (u, (y, (o, (z, (p, (w, q))))))) m =
-    await_begun s c.before_else n.is_await ts h
-    (head_good ForOfStmt (item_of c.before_else) (of_start n.is_await) c n.left k o m (word (codes "of")) _ (behind_of (item_of c.before_else) (of_value (item_of c.before_else) (at_place _ _ sa (p m)) (loop_body c.before_else ForOfStmt (q m).good))))
+    await_begun s (follower c) n.is_await ts h
+    (head_good ForOfStmt (item_of (follower c)) (of_start n.is_await) c n.left k o m (word (codes "of")) _ (behind_of (item_of (follower c)) (of_value (item_of (follower c)) (at_place _ _ sa (p m)) (loop_body (follower c) ForOfStmt (q m).good))))

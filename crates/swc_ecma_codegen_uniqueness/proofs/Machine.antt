@@ -312,10 +312,10 @@ Claim (Whole variant n) p = (f : Frame) (s : List Frame) (t : Token) (ts : List 
 Claim (Rest at variant n) m = (b o : ParseTree → ParseTree) (f : Frame) (s : List Frame) (t : Token) (ts : List Token) → closes t n ≡ true →
     run (tokens_of m (t ∷ ts)) (At (record { control = at; so_far = b; other = o } ∷ f ∷ s) Empty) ≡ run (t ∷ ts) (At (f ∷ s) (Full variant (b m)))
 
-abbrev Went : Action → Token → Frame → List Frame → Hand → Type 0
+abbrev pub Went : Action → Token → Frame → List Frame → Hand → Type 0
 Went a t f s h = step t (f ∷ s) h ≡ acted a t f s h (step t s (Full (variant_of f.control) (f.so_far (held h End))))
 
-went : (a : Action) (t : Token) (f : Frame) (s : List Frame) (h : Hand) → decide f.control (sign h) t ≡ a → Went a t f s h
+pub went : (a : Action) (t : Token) (f : Frame) (s : List Frame) (h : Hand) → decide f.control (sign h) t ≡ a → Went a t f s h
 went a t f s h e = ap (λ b. acted b t f s h (step t s (Full (variant_of f.control) (f.so_far (held h End))))) e
 
 named : (a b : Variant) (p : ParseTree) (t : Token) (ts : List Token) (f : Frame) (s : List Frame) → a ≡ b → run (t ∷ ts) (At (f ∷ s) (Full a p)) ≡ run (t ∷ ts) (At (f ∷ s) (Full b p))
@@ -540,16 +540,15 @@ pub run_fails : (ts : List Token) → run ts Fail ≡ Fail
 run_fails [] = refl
 run_fails (t ∷ ts) = run_fails ts
 
--- Where one that is read as it is begins with a token, the next one isn't kept: behind `import` of an expression stands `(` or `.`.
-pub never_kept : (c : Control) (t u v : Token) (ts : List Token) {s : Variant} {n : Nonterminal} {p : ParseTree} → Good (Whole s n) p → stands c n ≡ true → closes t n ≡ true → decide c (Some s) t ≡ Leave → tokens_of p (t ∷ []) ≡ u ∷ v ∷ ts →
-    decide c None u ≡ Push → decide (start u) None v ≡ Keep → ⊥
-never_kept c t u v ts {s = s} {p = p} g st cl l e a k =
+-- Where one that is read as it is begins with a token, the next one isn't refused: behind `import` of an expression stands `(` or `.`.
+pub never_next : (c : Control) (t u v : Token) (ts : List Token) {s : Variant} {n : Nonterminal} {p : ParseTree} → Good (Whole s n) p → stands c n ≡ true → closes t n ≡ true → decide c (Some s) t ≡ Leave → tokens_of p (t ∷ []) ≡ u ∷ v ∷ ts →
+    decide c None u ≡ Push → decide (start u) None v ≡ Reject → ⊥
+never_next c t u v ts {s = s} {p = p} g st cl l e a k =
     let f : Frame = record { control = c; so_far = λ rest. rest; other = λ rest. rest } in
     let top : Frame = record { control = start u; so_far = λ rest. Read u rest; other = λ rest. Read u rest } in
     true≢false (
     sym (ap is_fail (run_fails ts))
-    ∙ ap (λ q. is_fail (run ts q))
-    (sym (ap (next v) (went Push u f [] Empty a) ∙ went Keep v top (f ∷ []) Empty k ∙ ap (λ z. acted_once z v (record { control = start u; so_far = λ rest. Read u rest; other = λ rest. Read u rest }) (f ∷ []) Empty Fail) k))
+    ∙ ap (λ q. is_fail (run ts q)) (sym (ap (next v) (went Push u f [] Empty a) ∙ went Reject v top (f ∷ []) Empty k))
     ∙ ap (λ us. is_fail (run us (At (f ∷ []) Empty))) (sym e) ∙ ap is_fail (reads g f [] t [] (inl st) cl ∙ went Leave t f [] (Full s p) l)
     )
 

@@ -1,5 +1,5 @@
 -- Imports and exports are read as they are.
-use Rattle.std.proofs.Common.{◌≡◌, Bool, true, false, ◌&&◌, not, List, [], ◌∷◌, Option, Some, None, map, refl, sym, ap, ◌∙◌, inl, inr, subst}
+use Rattle.std.proofs.Common.{◌≡◌, Bool, true, false, ◌&&◌, not, List, [], ◌∷◌, Option, Some, None, map, refl, sym, ap, ◌∙◌, ◌⊎◌, inl, inr, subst}
 use Rattle.std.specs.Prelude.{codes, string_bytes}
 use Rattle.std.proofs.lemmas.Bool.{true≢false, and_parts}
 use Rattle.swc_ecma_codegen_tree.specs.Links.{ObjectLitBox}
@@ -52,15 +52,15 @@ use Rattle.swc_ecma_codegen_syntax.specs.Nonterminals.{takes}
 use Rattle.swc_ecma_codegen_syntax.specs.NodeForms.{node_form, part_form, stmt_part_form, jsx_part_form}
 use Rattle.swc_ecma_codegen_syntax.specs.Derives.{Derives, fixed, part, restricted, both, provided}
 use Rattle.swc_ecma_codegen_uniqueness.specs.ParseTrees.{Variant, ParseTree, End, Read, Node, Class as AClass, Fn, VarDecl, Foreign, tokens_of}
-use Rattle.swc_ecma_codegen_uniqueness.specs.Parses.{placed, is_inlined}
-use Rattle.swc_ecma_codegen_uniqueness.proofs.Classes.{Class, Infix, Times, OpenBrace, NameToken, LiteralToken, FunctionWord, ClassWord, AsyncWord, Semi, Strange, class, Over, Assigns, Later}
+use Rattle.swc_ecma_codegen_uniqueness.specs.Parses.{placed, is_inlined, is_empty_variant}
+use Rattle.swc_ecma_codegen_uniqueness.proofs.Classes.{Class, Infix, Times, OpenBrace, NameToken, LiteralToken, FunctionWord, ClassWord, AsyncWord, Semi, Semicolon, class, Over, Assigns, Later, First, Line, Slashed, Jsx, KeyToken, Strange}
 use Rattle.swc_ecma_codegen_uniqueness.proofs.Controls.{Control, ImportItem, Clause, ClauseComma, AfterExport, AfterExportDefault, AsyncDefault, AsyncDefaultLine, DefaultValue, AfterFunction, entered, starts}
 use Rattle.swc_ecma_codegen_uniqueness.proofs.Tables.{Shift, Enter, without, shifted_to, begun_at, started, Push}
 use Rattle.swc_ecma_codegen_uniqueness.proofs.PlaceLaws.{is_delayed, async_line, async_enters}
 use Rattle.swc_ecma_codegen_uniqueness.proofs.TableLaws.{ended_by, or_left, takes_on}
 use Rattle.swc_ecma_codegen_uniqueness.proofs.Machine.{Whole, Rest, Good, Frame, Entering, entering_there, third_enters, shifted, shifted_turned, entering, merged}
 use Rattle.swc_ecma_codegen_uniqueness.proofs.Shapes.{Operand, takes_self, assignment_taken, part_then, ended}
-use Rattle.swc_ecma_codegen_uniqueness.proofs.StatementShapes.{MayEnter, at_once, behind_import, behind_async, import_item, export_item}
+use Rattle.swc_ecma_codegen_uniqueness.proofs.StatementShapes.{MayEnter, at_once, behind_import, behind_async, AnEmpty, item_of, import_item, export_item}
 use Rattle.swc_ecma_codegen_uniqueness.proofs.Heading.{is_default_word, may_be_default, not_excluded}
 use Rattle.swc_ecma_codegen_uniqueness.proofs.Reading.{read_phrase, derived_parse}
 use Rattle.swc_ecma_codegen_uniqueness.proofs.Parsed.{tokens_before}
@@ -69,47 +69,42 @@ use Rattle.swc_ecma_codegen_uniqueness.proofs.Atoms.{named_read, str_literal}
 use Rattle.swc_ecma_codegen_uniqueness.proofs.Functions.{behind_async as async_before, fn_decl_read, fn_default_read}
 use Rattle.swc_ecma_codegen_uniqueness.proofs.ClassDefinitions.{no_class_decorators, class_expr_read, class_rest_read}
 use Rattle.swc_ecma_codegen_uniqueness.proofs.Variables.{vars_read}
+use Rattle.swc_ecma_codegen_uniqueness.proofs.Looks.{of_name}
 
 -- ---- the names of an import or an export hold no node
 
 abbrev InClause : Control → ParseTree → Type 0
-InClause c m = Good (Rest c Foreign nt.Statement) m
+InClause c m = Good (Rest c Foreign (item_of AnEmpty)) m
 
 data ClausePlace : Control → Type 0 where
   among : ClausePlace Clause
   at_comma : ClausePlace ClauseComma
   at_import : ClausePlace ImportItem
-  at_export : ClausePlace AfterExport
 
 abbrev is_clause_token : Class → Bool
 is_clause_token NameToken = true
+is_clause_token KeyToken = true
 is_clause_token LiteralToken = true
 is_clause_token OpenBrace = true
 is_clause_token (Infix Times) = true
-is_clause_token Strange = true
 is_clause_token l = false
 
 clause_shifts : {c : Control} → ClausePlace c → (l : Class) → is_clause_token l ≡ true → (without c l ≡ Shift) × (shifted_to c l ≡ Clause)
 clause_shifts among NameToken h = (refl, refl)
+clause_shifts among KeyToken h = (refl, refl)
 clause_shifts among LiteralToken h = (refl, refl)
 clause_shifts among OpenBrace h = (refl, refl)
 clause_shifts among (Infix Times) h = (refl, refl)
-clause_shifts among Strange h = (refl, refl)
 clause_shifts at_comma NameToken h = (refl, refl)
+clause_shifts at_comma KeyToken h = (refl, refl)
 clause_shifts at_comma LiteralToken h = (refl, refl)
 clause_shifts at_comma OpenBrace h = (refl, refl)
 clause_shifts at_comma (Infix Times) h = (refl, refl)
-clause_shifts at_comma Strange h = (refl, refl)
 clause_shifts at_import NameToken h = (refl, refl)
+clause_shifts at_import KeyToken h = (refl, refl)
 clause_shifts at_import LiteralToken h = (refl, refl)
 clause_shifts at_import OpenBrace h = (refl, refl)
 clause_shifts at_import (Infix Times) h = (refl, refl)
-clause_shifts at_import Strange h = (refl, refl)
-clause_shifts at_export NameToken h = (refl, refl)
-clause_shifts at_export LiteralToken h = (refl, refl)
-clause_shifts at_export OpenBrace h = (refl, refl)
-clause_shifts at_export (Infix Times) h = (refl, refl)
-clause_shifts at_export Strange h = (refl, refl)
 clause_shifts p l h = absurd (true≢false (sym h))
 
 -- what begins with such a token stands at each of these places
@@ -128,19 +123,46 @@ stands_in {c = c} p a =
     let e = clause_shifts p (class a.token) a.plain in
     subst (λ z. InClause c z) (sym a.is) (shifted e.0 (subst (λ z. InClause z a.rest) (sym e.1) a.good))
 
+-- what begins with `{` or `*` stands behind `export` too
+record Marked (m : ParseTree) : Type 0 where
+  token : Token
+  rest : ParseTree
+  is : m ≡ Read token rest
+  begins : (class token ≡ OpenBrace) ⊎ (class token ≡ Infix Times)
+  good : InClause Clause rest
+
+marked : (t : Token) (m : ParseTree) → (class t ≡ OpenBrace) ⊎ (class t ≡ Infix Times) → InClause Clause m → Marked (Read t m)
+marked t m h g = record { token = t; rest = m; is = refl; begins = h; good = g }
+
+mark_plain : (l : Class) → (l ≡ OpenBrace) ⊎ (l ≡ Infix Times) → is_clause_token l ≡ true
+mark_plain l (inl e) = ap is_clause_token e
+mark_plain l (inr e) = ap is_clause_token e
+
+unmarked : {m : ParseTree} → Marked m → Anywhere m
+unmarked a = record { token = a.token; rest = a.rest; is = a.is; plain = mark_plain (class a.token) a.begins; good = a.good }
+
+mark_shifts : (l : Class) → (l ≡ OpenBrace) ⊎ (l ≡ Infix Times) → (without AfterExport l ≡ Shift) × (shifted_to AfterExport l ≡ Clause)
+mark_shifts l (inl e) = (ap (without AfterExport) e, ap (shifted_to AfterExport) e)
+mark_shifts l (inr e) = (ap (without AfterExport) e, ap (shifted_to AfterExport) e)
+
+behind_export : {m : ParseTree} → Marked m → InClause AfterExport m
+behind_export a =
+    let e = mark_shifts (class a.token) a.begins in
+    subst (λ z. InClause AfterExport z) (sym a.is) (shifted e.0 (subst (λ z. InClause z a.rest) (sym e.1) a.good))
+
 comma_then : {m : ParseTree} → Anywhere m → InClause Clause (Read (punctuator (codes ",")) m)
 unfolding punctuator
 comma_then a = shifted refl (stands_in at_comma a)
 
 clause_ends : InClause Clause (Read ending End)
 unfolding ending
-clause_ends = shifted refl (ended Foreign nt.Statement)
+clause_ends = shifted refl (ended Foreign (item_of AnEmpty))
 
 -- ---- names and strings
 
 ident_good : (s : Settings) (n : Ident) (ts : List Token) (g : Generates s (ident n) ts) → not n.optional ≡ true → (m : ParseTree) → InClause Clause m → Anywhere (read_phrase s (ident n) ts g m)
-unfolding ident tokens.name
-ident_good s n ts g h m r = subst (λ z. Anywhere z) (sym (named_read s n.optional n.span.lo (string_bytes n.sym) ts g h m)) (anywhere (tokens.name _) m refl r)
+unfolding ident
+ident_good s n ts g h m r = subst (λ z. Anywhere z) (sym (named_read s n.optional n.span.lo (string_bytes n.sym) ts g h m)) (anywhere (tokens.name _) m (of_name is_clause_token _ refl refl) r)
 
 plain_good : (s : Settings) (n : Ident) (ts : List Token) (g : Generates s (ident n) ts) → is_plain n ≡ true → (m : ParseTree) → InClause Clause m → Anywhere (read_phrase s (ident n) ts g m)
 unfolding is_plain
@@ -203,9 +225,9 @@ brace_good s (x ∷ xs) ts (inl e) m r = shifted refl r
 brace_good s (x ∷ xs) ts (inr e) m r = shifted_turned refl refl r
 
 braces_good : {A : Type 0} (f : A → Phrase) (is : A → Bool) → EachGood f is → (s : Settings) (xs : List A) (ts : List Token) (g : Generates s (mark (codes "{") > listed (codes ",") (map f xs) > closing_of RightBrace xs) ts) → each_is is xs ≡ true →
-    (m : ParseTree) → InClause Clause m → Anywhere (read_phrase s (mark (codes "{") > listed (codes ",") (map f xs) > closing_of RightBrace xs) ts g m)
+    (m : ParseTree) → InClause Clause m → Marked (read_phrase s (mark (codes "{") > listed (codes ",") (map f xs) > closing_of RightBrace xs) ts g m)
 unfolding read_phrase Generates punctuator
-braces_good f is k s xs ts (us, vs, g, (ws, zs, i, j, e), q) h m r = anywhere (punctuator (codes "{")) _ refl (listed_good f is k s xs ws i h _ (brace_good s xs zs j m r))
+braces_good f is k s xs ts (us, vs, g, (ws, zs, i, j, e), q) h m r = marked (punctuator (codes "{")) _ (inl refl) (listed_good f is k s xs ws i h _ (brace_good s xs zs j m r))
 
 -- ---- imports
 
@@ -229,12 +251,12 @@ plain_imports (x ∷ xs) h = let p = and_parts (is_plain_import x) (are_plain_im
 
 bindings_good : (s : Settings) (xs : List ImportSpecifier) (ts : List Token) (g : Generates s (import_bindings xs) ts) → are_plain_imports xs ≡ true → (m : ParseTree) → InClause Clause m → Anywhere (read_phrase s (import_bindings xs) ts g m)
 unfolding import_bindings are_plain_imports is_plain_import read_phrase Generates punctuator
-bindings_good s [] ts g h m r = braces_good import_specifier is_plain_import specifier_good s [] ts g refl m r
+bindings_good s [] ts g h m r = unmarked (braces_good import_specifier is_plain_import specifier_good s [] ts g refl m r)
 bindings_good s (imported.Namespace n ∷ []) ts (us, vs, g, (ws, zs, i, j, e), q) h m r =
     anywhere (punctuator (codes "*")) _ refl (stands_in among (as_then (plain_good s n.local zs j (and_parts (is_plain n.local) true h).0 m r)))
-bindings_good s (imported.Namespace n ∷ x ∷ xs) ts g h m r = braces_good import_specifier is_plain_import specifier_good s (imported.Namespace n ∷ x ∷ xs) ts g (plain_imports (imported.Namespace n ∷ x ∷ xs) h) m r
-bindings_good s (imported.Named n ∷ xs) ts g h m r = braces_good import_specifier is_plain_import specifier_good s (imported.Named n ∷ xs) ts g (plain_imports (imported.Named n ∷ xs) h) m r
-bindings_good s (imported.Default n ∷ xs) ts g h m r = braces_good import_specifier is_plain_import specifier_good s (imported.Default n ∷ xs) ts g (plain_imports (imported.Default n ∷ xs) h) m r
+bindings_good s (imported.Namespace n ∷ x ∷ xs) ts g h m r = unmarked (braces_good import_specifier is_plain_import specifier_good s (imported.Namespace n ∷ x ∷ xs) ts g (plain_imports (imported.Namespace n ∷ x ∷ xs) h) m r)
+bindings_good s (imported.Named n ∷ xs) ts g h m r = unmarked (braces_good import_specifier is_plain_import specifier_good s (imported.Named n ∷ xs) ts g (plain_imports (imported.Named n ∷ xs) h) m r)
+bindings_good s (imported.Default n ∷ xs) ts g h m r = unmarked (braces_good import_specifier is_plain_import specifier_good s (imported.Default n ∷ xs) ts g (plain_imports (imported.Default n ∷ xs) h) m r)
 
 default_good : (s : Settings) (xs : List ImportSpecifier) (ts : List Token) (g : Generates s (after_default xs) ts) → are_plain_imports xs ≡ true → (m : ParseTree) → InClause Clause m → InClause Clause (read_phrase s (after_default xs) ts g m)
 unfolding after_default read_phrase Generates
@@ -260,20 +282,38 @@ unfolding attributes_form is_met derived_parse read_phrase
 no_attributes c None (fixed g) rest = refl
 no_attributes c (Some n) (provided h d) rest = absurd (true≢false (sym h))
 
+-- what is no empty statement
+foreign_solid : is_empty_variant Foreign ≡ false
+unfolding is_empty_variant
+foreign_solid = refl
+
+class_solid : is_empty_variant AClass ≡ false
+unfolding is_empty_variant
+class_solid = refl
+
+function_solid : is_empty_variant Fn ≡ false
+unfolding is_empty_variant
+function_solid = refl
+
+variables_solid : is_empty_variant VarDecl ≡ false
+unfolding is_empty_variant
+variables_solid = refl
+
 -- an item of a module, without a node of its own
 pub record Item (m : ParseTree) : Type 0 where
   pub variant : Variant
-  pub good : Good (Whole variant nt.Statement) m
+  pub solid : is_empty_variant variant ≡ false
+  pub good : Good (Whole variant (item_of AnEmpty)) m
 
-as_item : {v : Variant} {p m : ParseTree} → p ≡ m → Good (Whole v nt.Statement) m → Item p
-as_item {v = v} e g = record { variant = v; good = subst (λ z. Good (Whole v nt.Statement) z) (sym e) g }
+as_item : {v : Variant} {p m : ParseTree} → is_empty_variant v ≡ false → p ≡ m → Good (Whole v (item_of AnEmpty)) m → Item p
+as_item {v = v} i e g = record { variant = v; solid = i; good = subst (λ z. Good (Whole v (item_of AnEmpty)) z) (sym e) g }
 
 import_good : {s : Settings} (c : Parameters) (n : ImportDecl AnyNode) {ts : List Token} (d : Derives true s (import_form c n) ts) → Item (derived_parse d End)
 unfolding import_form is_met derived_parse read_phrase
 import_good {s = s} c n (provided h (provided k (both (fixed g) (both (fixed {ts = ts} i) (both (fixed {ts = us} j) (both (fixed {ts = vs} l) (both (fixed {ts = ws} q) (both a (fixed e))))))))) =
     let x = and_parts (not n.type_only) _ h in
     let y = and_parts (is_evaluation n.phase) (are_plain_imports n.specifiers.items) x.1 in
-    as_item (ap (Read (word (codes "import"))) (no_type s n.type_only ts i x.0 _ ∙ no_phase s n.phase us j y.0 _))
+    as_item foreign_solid (ap (Read (word (codes "import"))) (no_type s n.type_only ts i x.0 _ ∙ no_phase s n.phase us j y.0 _))
     (import_item (stands_in at_import (import_clause_good s n.specifiers.items vs l y.1 _
     (string_good s n.src ws q _ (subst (λ z. InClause Clause z) (sym (no_attributes c n.with a (Read ending End))) clause_ends)))))
 
@@ -297,18 +337,18 @@ unfolding are_plain_exports
 plain_exports [] h = refl
 plain_exports (x ∷ xs) h = let p = and_parts (is_plain_export x) (are_plain_exports xs) h in ap (λ b. b && each_is is_plain_export xs) p.0 ∙ plain_exports xs p.1
 
-export_braces_good : (s : Settings) (xs : List ExportSpecifier) (ts : List Token) (g : Generates s (export_braces xs) ts) → are_plain_exports xs ≡ true → (m : ParseTree) → InClause Clause m → Anywhere (read_phrase s (export_braces xs) ts g m)
+export_braces_good : (s : Settings) (xs : List ExportSpecifier) (ts : List Token) (g : Generates s (export_braces xs) ts) → are_plain_exports xs ≡ true → (m : ParseTree) → InClause Clause m → Marked (read_phrase s (export_braces xs) ts g m)
 unfolding export_braces
 export_braces_good s xs ts g h m r = braces_good export_specifier is_plain_export export_specifier_good s xs ts g (plain_exports xs h) m r
 
-export_clause_good : (s : Settings) (xs : List ExportSpecifier) (ts : List Token) (g : Generates s (export_clause xs) ts) → are_plain_exports xs ≡ true → (m : ParseTree) → InClause Clause m → Anywhere (read_phrase s (export_clause xs) ts g m)
+export_clause_good : (s : Settings) (xs : List ExportSpecifier) (ts : List Token) (g : Generates s (export_clause xs) ts) → are_plain_exports xs ≡ true → (m : ParseTree) → InClause Clause m → Marked (read_phrase s (export_clause xs) ts g m)
 unfolding export_clause export_namespace are_plain_exports is_plain_export read_phrase Generates punctuator
 export_clause_good s [] ts g h m r = export_braces_good s [] ts g refl m r
 export_clause_good s (exported.Namespace n ∷ []) ts (us, vs, g, (ws, zs, i, j, e), q) h m r =
-    anywhere (punctuator (codes "*")) _ refl (stands_in among (as_then (export_name_good s n.name zs j (and_parts (is_export_name n.name) true h).0 m r)))
+    marked (punctuator (codes "*")) _ (inr refl) (stands_in among (as_then (export_name_good s n.name zs j (and_parts (is_export_name n.name) true h).0 m r)))
 export_clause_good s (exported.Namespace n ∷ x ∷ xs) ts (us, vs, (ws, zs, g, (at, bs, i, j, e), q), (cs, ds, k, l, o), u) h m r =
     let p = and_parts (is_export_name n.name) (are_plain_exports (x ∷ xs)) h in
-    anywhere (punctuator (codes "*")) _ refl (stands_in among (as_then (export_name_good s n.name bs j p.0 _ (comma_then (export_braces_good s (x ∷ xs) ds l p.1 m r)))))
+    marked (punctuator (codes "*")) _ (inr refl) (stands_in among (as_then (export_name_good s n.name bs j p.0 _ (comma_then (unmarked (export_braces_good s (x ∷ xs) ds l p.1 m r))))))
 export_clause_good s (exported.Named n ∷ xs) ts g h m r = export_braces_good s (exported.Named n ∷ xs) ts g h m r
 export_clause_good s (exported.Default n ∷ xs) ts g h m r = export_braces_good s (exported.Default n ∷ xs) ts g h m r
 
@@ -323,14 +363,14 @@ export_named_good : {s : Settings} (c : Parameters) (n : NamedExport AnyNode) {t
 unfolding export_named_form is_met derived_parse read_phrase
 export_named_good {s = s} c n (provided h (provided k (both (fixed g) (both (fixed {ts = ts} i) (both (fixed {ts = us} j) (both f (fixed e))))))) =
     let x = and_parts (not n.type_only) (are_plain_exports n.specifiers.items) h in
-    as_item (ap (Read (word (codes "export"))) (no_type s n.type_only ts i x.0 _))
-    (export_item (stands_in at_export (export_clause_good s n.specifiers.items us j x.1 _ (from_good c n.with n.src f (Read ending End) clause_ends))))
+    as_item foreign_solid (ap (Read (word (codes "export"))) (no_type s n.type_only ts i x.0 _))
+    (export_item (behind_export (export_clause_good s n.specifiers.items us j x.1 _ (from_good c n.with n.src f (Read ending End) clause_ends))))
 
 export_all_good : {s : Settings} (c : Parameters) (n : ExportAll AnyNode) {ts : List Token} (d : Derives true s (export_all_form c n) ts) → Item (derived_parse d End)
 unfolding export_all_form is_met derived_parse read_phrase punctuator
 export_all_good {s = s} c n (provided h (both (fixed g) (both (fixed {ts = ts} i) (both (fixed j) (both (fixed l) (both (fixed {ts = us} q) (both a (fixed e)))))))) =
-    as_item (ap (Read (word (codes "export"))) (no_type s n.type_only ts i h _))
-    (export_item (stands_in at_export (anywhere (punctuator (codes "*")) _ refl (stands_in among (from_then
+    as_item foreign_solid (ap (Read (word (codes "export"))) (no_type s n.type_only ts i h _))
+    (export_item (behind_export (marked (punctuator (codes "*")) _ (inr refl) (stands_in among (from_then
     (string_good s n.src us q _ (subst (λ z. InClause Clause z) (sym (no_attributes c n.with a (Read ending End))) clause_ends)))))))
 
 -- ---- exports of declarations
@@ -338,20 +378,21 @@ export_all_good {s = s} c n (provided h (both (fixed g) (both (fixed {ts = ts} i
 -- behind `export`
 record Exported (m : ParseTree) : Type 0 where
   variant : Variant
-  good : Good (Rest AfterExport variant nt.Statement) m
+  solid : is_empty_variant variant ≡ false
+  good : Good (Rest AfterExport variant (item_of AnEmpty)) m
 
-function_exported : (b : Bool) {m : ParseTree} → Good (Rest AfterFunction Fn nt.Statement) m → Good (Rest AfterExport Fn nt.Statement) (async_before b (Read (word (codes "function")) m))
+function_exported : (b : Bool) {m : ParseTree} → Good (Rest AfterFunction Fn (item_of AnEmpty)) m → Good (Rest AfterExport Fn (item_of AnEmpty)) (async_before b (Read (word (codes "function")) m))
 unfolding word tokens.same_line
 function_exported true g = shifted refl (shifted refl (shifted refl g))
 function_exported false g = shifted refl g
 
 tail_by : {s : Settings} (c : Parameters) (n : Decl AnyNode) {ts : List Token} (d : Derives true s (exported_tail_form c n) ts) → AllGood d → s.minify ≡ c.minify → Exported (derived_parse d End)
 unfolding exported_tail_form decl_form AllGood derived_parse word
-tail_by c (decls.Class n) d o m = let k = class_rest_read nt.Statement c n d o m in record { variant = AClass; good = subst (λ z. Good (Rest AfterExport AClass nt.Statement) z) (sym k.is) (shifted refl k.good) }
-tail_by c (decls.Fn n) d o m = let k = fn_decl_read nt.Statement (head_at c.position) c n d o m in record { variant = Fn; good = subst (λ z. Good (Rest AfterExport Fn nt.Statement) z) (sym k.is) (function_exported k.is_async k.good) }
+tail_by c (decls.Class n) d o m = let k = class_rest_read (item_of AnEmpty) c n d o m in record { variant = AClass; solid = class_solid; good = subst (λ z. Good (Rest AfterExport AClass (item_of AnEmpty)) z) (sym k.is) (shifted refl k.good) }
+tail_by c (decls.Fn n) d o m = let k = fn_decl_read (item_of AnEmpty) (head_at c.position) c n d o m in record { variant = Fn; solid = function_solid; good = subst (λ z. Good (Rest AfterExport Fn (item_of AnEmpty)) z) (sym k.is) (function_exported k.is_async k.good) }
 tail_by c (decls.Var n) (both d e) (o, x) m =
-    let k = vars_read nt.Statement (of_declarations c) n d e o m in
-    record { variant = VarDecl; good = subst (λ z. Good (Rest AfterExport VarDecl nt.Statement) z) (sym k.is) (shifted (ap (without AfterExport) k.var) (subst (λ l. Good (Rest (shifted_to AfterExport l) VarDecl nt.Statement) k.rest) (sym k.var) k.good)) }
+    let k = vars_read (item_of AnEmpty) (of_declarations c) n d e o m in
+    record { variant = VarDecl; solid = variables_solid; good = subst (λ z. Good (Rest AfterExport VarDecl (item_of AnEmpty)) z) (sym k.is) (shifted (ap (without AfterExport) k.var) (subst (λ l. Good (Rest (shifted_to AfterExport l) VarDecl (item_of AnEmpty)) k.rest) (sym k.var) k.good)) }
 tail_by c n d o m = absurd (no_form d)
 
 tail_in : {s : Settings} (k : Bool) (c : Parameters) (y : AnyNode-F AnyNode) {ts : List Token} (d : Derives true s (node_form k c y ExportedTail) ts) → AllGood d → s.minify ≡ c.minify → Exported (derived_parse d End)
@@ -376,7 +417,7 @@ head_in k c y d rest = absurd (no_form d)
 export_decl_good : {s : Settings} (c : Parameters) (n : ExportDecl AnyNode) {ts : List Token} (d : Derives true s (export_decl_form c n) ts) → AllGood d → s.minify ≡ c.minify → Item (derived_parse d End)
 unfolding export_decl_form AllGood PlacedGood derived_parse read_phrase placed is_inlined
 export_decl_good c n (both (part a sa d) (both (fixed g) (part b sb e))) (x, (y, o)) m =
-    as_item (head_in a c (out-AnyNode n.decl.node.value) d _) (export_item (tail_in b c (out-AnyNode n.decl.node.value) e o m).good)
+    let t = tail_in b c (out-AnyNode n.decl.node.value) e o m in as_item t.solid (head_in a c (out-AnyNode n.decl.node.value) d _) (export_item t.good)
 
 -- ---- what a module exports by default
 
@@ -385,8 +426,15 @@ default_enters FunctionWord s h k = absurd (true≢false h)
 default_enters ClassWord s h k = absurd (true≢false h)
 default_enters AsyncWord s h k = absurd (true≢false k)
 default_enters (Infix Over) s h k = absurd (true≢false (sym s))
-default_enters (Assigns true) s h k = absurd (true≢false (sym s))
-default_enters (Later opens) s h k = absurd (true≢false (sym s))
+default_enters (Assigns Slashed) s h k = absurd (true≢false (sym s))
+default_enters (First true opens) s h k = absurd (true≢false (sym s))
+default_enters (Later tagged opens) s h k = absurd (true≢false (sym s))
+default_enters Line s h k = absurd (true≢false (sym s))
+default_enters Semi s h k = absurd (true≢false (sym s))
+default_enters Semicolon s h k = absurd (true≢false (sym s))
+default_enters KeyToken s h k = absurd (true≢false (sym s))
+default_enters Strange s h k = absurd (true≢false (sym s))
+default_enters (Jsx sort) s h k = absurd (true≢false (sym s))
 default_enters l s h k = (refl, refl)
 
 -- the tokens of a value enter its place
@@ -401,20 +449,20 @@ default_entered f q ts (behind_async {u = u} {v = v} {w = w} {ts = vs} e h k) =
     third_enters f u v w vs AsyncDefault AsyncDefaultLine Enter (ap (λ c. without c (class u)) q ∙ ap (without AfterExportDefault) e) (ap (λ c. begun_at c (class u)) q) y.2 y.3 z.1
     (ap (λ c. without (entered c) (class u)) q ∙ ap (without DefaultValue) e) (ap started e) y.4 y.5 z.2 refl
 
-default_value : {v : Variant} {p : ParseTree} → Operand nt.AssignmentExpression v p → ((us : List Token) → MayEnter is_default_word (tokens_of p (ending ∷ us))) → Good (Rest AfterExportDefault Foreign nt.Statement) (Node v p (Read ending End))
+default_value : {v : Variant} {p : ParseTree} → Operand nt.AssignmentExpression v p → ((us : List Token) → MayEnter is_default_word (tokens_of p (ending ∷ us))) → Good (Rest AfterExportDefault Foreign (item_of AnEmpty)) (Node v p (Read ending End))
 unfolding tokens_of ending
 default_value {v = v} {p = p} o h =
     entering (λ b q t us. default_entered (record { control = AfterExportDefault; so_far = b; other = q }) refl (tokens_of p (ending ∷ t ∷ us)) (h (t ∷ us)))
-    (part_then DefaultValue (Read ending End) (takes_self nt.AssignmentExpression) o (assignment_taken, λ z. refl, ended Foreign nt.Statement))
+    (part_then DefaultValue (Read ending End) (takes_self nt.AssignmentExpression) o (assignment_taken, λ z. refl, ended Foreign (item_of AnEmpty)))
 
-default_then : {v : Variant} {m : ParseTree} → Good (Rest AfterExportDefault v nt.Statement) m → Good (Whole v nt.Statement) (Read (word (codes "export")) (Read (word (codes "default")) m))
+default_then : {v : Variant} {m : ParseTree} → Good (Rest AfterExportDefault v (item_of AnEmpty)) m → Good (Whole v (item_of AnEmpty)) (Read (word (codes "export")) (Read (word (codes "default")) m))
 unfolding word
 default_then g = export_item (shifted refl g)
 
 expression_taken : {v : Variant} {p : ParseTree} (o : Operand nt.AssignmentExpression v p) → takes nt.Expression o.of ≡ true
 expression_taken o = takes_on nt.Expression nt.AssignmentExpression o.of assignment_taken o.taken
 
-function_default : (b : Bool) {m : ParseTree} → Good (Rest AfterFunction Fn nt.Statement) m → Good (Rest AfterExportDefault Fn nt.Statement) (async_before b (Read (word (codes "function")) m))
+function_default : (b : Bool) {m : ParseTree} → Good (Rest AfterFunction Fn (item_of AnEmpty)) m → Good (Rest AfterExportDefault Fn (item_of AnEmpty)) (async_before b (Read (word (codes "function")) m))
 unfolding word tokens.same_line
 function_default true g = merged _ _ _ refl refl refl refl refl g
 function_default false g = shifted refl g
@@ -423,7 +471,7 @@ export_value_good : {s : Settings} (c : Parameters) (n : ExportDefaultExpr AnyNo
 unfolding export_default_form is_met AllGood PlacedGood derived_parse read_phrase placed is_inlined tokens_of ending
 export_value_good c n (both (fixed g) (both (fixed i) (both (restricted {ts = ts} h (part a sa d)) (fixed j)))) (x, (y, (o, z))) m =
     let v = at_place _ _ sa (o m) in
-    as_item refl
+    as_item foreign_solid refl
     (default_then (default_value v
     (may_be_default ending (derived_parse d End) ts (λ us. tokens_before d End us) v.good (or_left _ _ (expression_taken v)) (ended_by Semi v.of (expression_taken v)) refl (not_excluded _ h))))
 
@@ -431,9 +479,9 @@ default_decl_good : {s : Settings} (c : Parameters) (n : DefaultDecl AnyNode) (u
     s.minify ≡ c.minify → Item (read_phrase s (phrases.word (codes "export")) us g (read_phrase s (phrases.word (codes "default")) vs i (derived_parse d End)))
 unfolding default_form read_phrase is_met word
 default_decl_good c (default_decls.Class n) us vs g i d o m =
-    let k = class_expr_read nt.Statement c n d o m in as_item (ap (λ z. Read (word (codes "export")) (Read (word (codes "default")) z)) k.is) (default_then (shifted refl k.good))
+    let k = class_expr_read (item_of AnEmpty) c n d o m in as_item class_solid (ap (λ z. Read (word (codes "export")) (Read (word (codes "default")) z)) k.is) (default_then (shifted refl k.good))
 default_decl_good c (default_decls.Fn n) us vs g i d o m =
-    let k = fn_default_read nt.Statement c n d o m in as_item (ap (λ z. Read (word (codes "export")) (Read (word (codes "default")) z)) k.is) (default_then (function_default k.is_async k.good))
+    let k = fn_default_read (item_of AnEmpty) c n d o m in as_item function_solid (ap (λ z. Read (word (codes "export")) (Read (word (codes "default")) z)) k.is) (default_then (function_default k.is_async k.good))
 default_decl_good c (default_decls.TsInterfaceDecl n) us vs g i d o m = absurd (no_form d)
 
 -- ---- all of them

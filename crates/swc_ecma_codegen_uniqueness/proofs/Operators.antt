@@ -44,7 +44,7 @@ use Rattle.swc_ecma_codegen_syntax.specs.Derives.{Derives, fixed, part, simple, 
 use Rattle.swc_ecma_codegen_syntax.proofs.TreeFacts.{simple_of}
 use Rattle.swc_ecma_codegen_uniqueness.specs.ParseTrees.{Variant, ParseTree, End, Read, Unary, Update, Bin, Assign, Cond, Seq, Yield, Await, Paren}
 use Rattle.swc_ecma_codegen_uniqueness.specs.Parses.{placed, is_inlined}
-use Rattle.swc_ecma_codegen_uniqueness.proofs.Classes.{Level, Power, Times, Over, Plus, Shifting, Less, Comparing, Within, Equating, BitAnds, BitXors, BitOrs, Ands, Ors, Coalescing, Infix, Assigns, Twice, class}
+use Rattle.swc_ecma_codegen_uniqueness.proofs.Classes.{Level, Power, Times, Over, Plus, Shifting, Less, Comparing, Within, Equating, BitAnds, BitXors, BitOrs, Ands, Ors, Coalescing, Infix, Assigns, Twice, class, Slashed, Angled, Plain, Assigning}
 use Rattle.swc_ecma_codegen_uniqueness.proofs.Controls.{starts, left_of, right_of, made, OfUnary, OfUpdate, OfAwait, Open, Listed}
 use Rattle.swc_ecma_codegen_uniqueness.proofs.Tables.{start, started}
 use Rattle.swc_ecma_codegen_uniqueness.proofs.TableLaws.{cover, cover_taken}
@@ -70,11 +70,13 @@ unfolding update_op update_text punctuator
 update_twice updates.PlusPlus = refl
 update_twice op = refl
 
-abbrev is_over : AssignOp → Bool
-is_over assigns.DivAssign = true
-is_over op = false
+abbrev sign_of : AssignOp → Assigning
+sign_of assigns.DivAssign = Slashed
+sign_of assigns.RShiftAssign = Angled
+sign_of assigns.ZeroFillRShiftAssign = Angled
+sign_of op = Plain
 
-pub assign_class : (op : AssignOp) → class (assign_op op) ≡ Assigns (is_over op)
+pub assign_class : (op : AssignOp) → class (assign_op op) ≡ Assigns (sign_of op)
 unfolding assign_op assign_text punctuator
 assign_class assigns.Assign = refl
 assign_class op = refl
@@ -187,7 +189,7 @@ target_covered op = refl
 pub assign_good : {s : Settings} (c : Parameters) (n : AssignExpr AnyNode) {ts : List Token} (d : Derives true s (assign_form c n) ts) → AllGood d → s.minify ≡ c.minify → Good (Whole Assign nt.AssignmentExpression) (derived_parse d End)
 unfolding assign_form AllGood PlacedGood derived_parse read_phrase placed is_inlined
 assign_good c n (both (part a sa d) (both (fixed g) (part b sb e))) (o, (x, p)) m =
-    assigned (assign_op n.op) (is_over n.op) (assign_class n.op) (moved (target_covered n.op) (at_place _ _ sa (o m))) (at_place _ _ sb (p m))
+    assigned (assign_op n.op) (sign_of n.op) (assign_class n.op) (moved (target_covered n.op) (at_place _ _ sa (o m))) (at_place _ _ sb (p m))
 
 -- ---- `yield`, `await`
 

@@ -43,6 +43,7 @@ use Rattle.swc_ecma_codegen_uniqueness.proofs.Fits.{Fit, in_place, taken_at, at_
 use Rattle.swc_ecma_codegen_uniqueness.proofs.Atoms.{no_annotation, binding_read, binding_good, simple_target_good}
 use Rattle.swc_ecma_codegen_uniqueness.proofs.Lists.{BehindLast, BehindAll, behind_comma, hole_closed, element_closed}
 use Rattle.swc_ecma_codegen_uniqueness.proofs.Keys.{key_good, named_then}
+use Rattle.swc_ecma_codegen_uniqueness.proofs.Classes.{Plain}
 
 -- ---- the expression that covers a pattern
 
@@ -241,7 +242,7 @@ pat_good comma c (pats.Array n) d o m i = array_pat_good comma c n d o m
 pat_good comma c (pats.Object n) d o m i = object_pat_good comma c n d o m
 pat_good comma c (pats.Assign n) (both d (both (fixed g) (part a sa e))) (o, (x, q)) m i =
     let v = covered_at nt.PatternTarget no_rest_target c n.left.node.value d o m in
-    subst (λ z. Good (Whole Assign nt.AssignmentExpression) z) (sym (v.is _)) (assigned (punctuator (codes "=")) false refl v.operand (at_place _ _ sa (q m)))
+    subst (λ z. Good (Whole Assign nt.AssignmentExpression) z) (sym (v.is _)) (assigned (punctuator (codes "=")) Plain refl v.operand (at_place _ _ sa (q m)))
 pat_good comma c (pats.Invalid n) (provided h d) o m i = absurd (true≢false (sym h))
 pat_good comma c (pats.Rest n) d o m i = absurd (true≢false i)
 pat_good comma c (pats.Expr n) d o m i = absurd (true≢false i)

@@ -1,5 +1,5 @@
 -- Of a list of tokens there is one program.
-use Rattle.std.proofs.Common.{◌≡◌, Bool, true, List, [], ◌∷◌, ◌++◌, Option, Some, None, refl, sym, ap, ◌∙◌, subst}
+use Rattle.std.proofs.Common.{◌≡◌, Bool, true, false, List, [], ◌∷◌, ◌++◌, Option, Some, None, refl, sym, ap, ◌∙◌, subst}
 use Rattle.std.specs.Prelude.{codes}
 use Rattle.std.specs.declared.string.String.{String}
 use Rattle.swc_ecma_codegen_tree.specs.declared.links.AnyNode.{AnyNode, out-AnyNode}
@@ -15,12 +15,12 @@ use Rattle.swc_ecma_codegen_grammar.specs.TreePhrases.{program_phrase}
 use Rattle.swc_ecma_codegen_syntax.specs.declared.nonterminals.Nonterminal.TheVariants as nt
 use Rattle.swc_ecma_codegen_syntax.specs.declared.parameters.Parameters.{Parameters}
 use Rattle.swc_ecma_codegen_syntax.specs.Parameters.{in_list, of_module, of_script}
-use Rattle.swc_ecma_codegen_syntax.specs.ModuleForms.{item_form, begins_empty_item, items_form, module_form, script_form, program_form}
+use Rattle.swc_ecma_codegen_syntax.specs.ModuleForms.{item_form, is_empty_item, begins_empty_item, items_form, module_form, script_form, program_form}
 use Rattle.swc_ecma_codegen_syntax.specs.Derives.{Derives, DerivesProgram, bare_phrase, program_verdict, fixed, part, both}
 use Rattle.swc_ecma_codegen_syntax.specs.Verdicts.{holds}
 use Rattle.swc_ecma_codegen_syntax.proofs.RootLaws.{program_complete}
 use Rattle.swc_ecma_codegen_uniqueness.specs.ParseTrees.{ParseTree, End, Read, Optional, Node, BlockStmt, AreCommasAndParentheses, settled, tokens_of}
-use Rattle.swc_ecma_codegen_uniqueness.specs.Parses.{placed, is_inlined, program_parse}
+use Rattle.swc_ecma_codegen_uniqueness.specs.Parses.{placed, is_inlined, is_empty_variant, program_parse}
 use Rattle.swc_ecma_codegen_uniqueness.specs.Words.{as_name, as_names, with_names}
 use Rattle.swc_ecma_codegen_uniqueness.proofs.Controls.{InList, Statement}
 use Rattle.swc_ecma_codegen_uniqueness.proofs.Machine.{Rest, Good, joined, shifted, one_rest}
@@ -31,6 +31,7 @@ use Rattle.swc_ecma_codegen_uniqueness.proofs.Parsed.{tokens_before, derived_all
 use Rattle.swc_ecma_codegen_uniqueness.proofs.Fits.{PlacedGood, AllGood}
 use Rattle.swc_ecma_codegen_uniqueness.proofs.Linking.{where_read}
 use Rattle.swc_ecma_codegen_uniqueness.proofs.Modules.{module_item}
+use Rattle.swc_ecma_codegen_uniqueness.proofs.StatementShapes.{before_any}
 use Rattle.swc_ecma_codegen_uniqueness.proofs.Statements.{InItems, item_taken, item_good, list_good, list_end}
 use Rattle.swc_ecma_codegen_uniqueness.proofs.Layers.{all_good}
 use Rattle.swc_ecma_codegen_uniqueness.proofs.ParseLaws.{derived_settled}
@@ -38,15 +39,19 @@ use Rattle.swc_ecma_codegen_uniqueness.proofs.Words.{rest_named, settled_named, 
 
 -- ---- a program is read as a list of statements
 
-abbrev InProgram : ParseTree → Type 0
-InProgram m = InItems (InList BlockStmt) BlockStmt nt.Statement m
+abbrev InProgram : Bool → ParseTree → Type 0
+InProgram empty m = InItems (InList BlockStmt) BlockStmt nt.Statement empty m
 
-items_good : {s : Settings} (c : Parameters) (xs : List (ModuleItem AnyNode)) {ts : List Token} (d : Derives true s (items_form c xs) ts) → AllGood d → s.minify ≡ c.minify → (rest : ParseTree) → InProgram rest → InProgram (derived_parse d rest)
-unfolding items_form item_form AllGood PlacedGood derived_parse read_phrase placed is_inlined
+solid : (b : Bool) → b ≡ false → b ≡ true → false ≡ true
+solid b h k = sym h ∙ k
+
+items_good : {s : Settings} (c : Parameters) (xs : List (ModuleItem AnyNode)) {ts : List Token} (d : Derives true s (items_form c xs) ts) → AllGood d → s.minify ≡ c.minify → (rest : ParseTree) → InProgram false rest → InProgram (begins_empty_item xs) (derived_parse d rest)
+unfolding items_form item_form begins_empty_item is_empty_item AllGood PlacedGood derived_parse read_phrase placed is_inlined
 items_good c [] (fixed g) o m rest r = r
 items_good c (module_items.Stmt x ∷ xs) (both d e) (o, q) m rest r = item_good (InList BlockStmt) BlockStmt nt.Statement (begins_empty_item xs) c x refl d o m (derived_parse e rest) (items_good c xs e q m rest r)
 items_good c (module_items.ModuleDecl x ∷ xs) (both (part a sa d) e) (o, q) m rest r =
-    item_taken (InList BlockStmt) BlockStmt nt.Statement refl d (module_item a (in_list (begins_empty_item xs) c) (out-AnyNode x.node.value) d o m).good (derived_parse e rest) (items_good c xs e q m rest r)
+    let t = module_item a (in_list (begins_empty_item xs) c) (out-AnyNode x.node.value) d o m in
+    item_taken (InList BlockStmt) BlockStmt nt.Statement (begins_empty_item xs) false refl d (before_any (begins_empty_item xs) t.good) (solid (is_empty_variant t.variant) t.solid) (derived_parse e rest) (items_good c xs e q m rest r)
 
 first_line : (s : Settings) {Z : Type 0} (o : Option (String Z)) (ts : List Token) (g : Generates s (shebang o) ts) {m : ParseTree} → Good (Rest (Statement (InList BlockStmt)) BlockStmt nt.Statement) m →
     Good (Rest (Statement (InList BlockStmt)) BlockStmt nt.Statement) (read_phrase s (shebang o) ts g m)

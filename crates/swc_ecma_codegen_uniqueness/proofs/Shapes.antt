@@ -9,9 +9,9 @@ use Rattle.swc_ecma_codegen_syntax.specs.Nonterminals.{takes, is_optional, is_pr
 use Rattle.swc_ecma_codegen_syntax.specs.UnitProductions.{here, step, expression_is_assignment_expression, new_expression_is_member_expression, chain_base_is_member_expression}
 use Rattle.swc_ecma_codegen_syntax.proofs.Taken.{chain_takes}
 use Rattle.swc_ecma_codegen_uniqueness.specs.ParseTrees.{Variant, ParseTree, End, Read, Optional, Node, tokens_of, Array, Object, Update, Bin, Assign, Member, SuperProp, Cond, Call, New, Seq, Tpl, TaggedTpl, Arrow, Yield, MetaProp, Paren, OptChain}
-use Rattle.swc_ecma_codegen_uniqueness.proofs.Classes.{OpenParen, Level, Class, Infix, Assigns, Ask, Comma, Dot, ChainDot, OpenBracket, Line, Twice, First, Later, class, NameToken, LiteralToken, Over, FunctionWord}
+use Rattle.swc_ecma_codegen_uniqueness.proofs.Classes.{OpenParen, Level, Class, Infix, Assigns, Ask, Comma, Dot, ChainDot, OpenBracket, Line, Twice, First, Later, class, NameToken, LiteralToken, Over, FunctionWord, Slashed, Assigning, Jsx, Semi, Semicolon, KeyToken, Strange}
 use Rattle.swc_ecma_codegen_uniqueness.proofs.Controls.{starts, is_item, is_listed, ArrowBody, left, left_of, right_of, made, Tail, OfInfix, OfCond, OfAssign, OfYield, whole, last as last_of, tail_variant, Control, Closed, Open, InParen, Index, Arguments, Elements, NextElement, Properties, NextProperty, AfterKey, InKey, InValue, Middle, Substitution, Dotted, Chained, AfterNew, AfterImport, AfterSuper, AfterYield, Postfix, Listed, AfterAsync, AsyncLine, waits, AtKey, AfterAccessor, InAccessorKey, AsyncOperand}
-use Rattle.swc_ecma_codegen_uniqueness.proofs.Tables.{Enter, decide, Shift, Turn, shift, shifted_to, passed_to, start, started, template, wrapped_to, chained, without, with_operand, Push}
+use Rattle.swc_ecma_codegen_uniqueness.proofs.Tables.{Enter, decide, Shift, Turn, shift, shifted_to, passed_to, start, started, template, wrapped_to, chained, without, with_operand, Push, is_tag, later_by}
 use Rattle.swc_ecma_codegen_uniqueness.proofs.PlaceLaws.{begins_none}
 use Rattle.swc_ecma_codegen_uniqueness.proofs.TableLaws.{ended_by, ending, takes_on, is_sequence, assignment_single, taken_there, arrow_wraps, is_place, pushes, or_left, is_infix, made_by, Wraps, infix_wraps, Linked, linked_closes, links, link_wraps, Calling, calling_linked, call_wraps, tail_ends, new_ends, yield_ends, yield_alone, listed_ends, member_plain, call_plain, callee_plain}
 use Rattle.swc_ecma_codegen_uniqueness.proofs.Machine.{Whole, Rest, Good, headed, wrapped, shifted, inner, closed, last, wrapped_turned, inner_turned, shifted_turned, entering, entering_there, turned_tokens, Heads, raised, turned, opened, spine_free, low_free}
@@ -108,9 +108,9 @@ pub binary : (t : Token) (level : Level) {s z : Variant} {p q : ParseTree} → c
     Good (Whole Bin (made level)) (Node s p (Read t (Node z q End)))
 binary t level {z = z} {q = q} e o r = behind t (Infix level) Bin (Open (OfInfix level)) (Node z q End) e refl refl o (tail_rest (OfInfix level) r)
 
-pub assigned : (t : Token) (slash : Bool) {s z : Variant} {p q : ParseTree} → class t ≡ Assigns slash → Operand nt.LeftHandSideExpression s p → Operand nt.AssignmentExpression z q →
+pub assigned : (t : Token) (sign : Assigning) {s z : Variant} {p q : ParseTree} → class t ≡ Assigns sign → Operand nt.LeftHandSideExpression s p → Operand nt.AssignmentExpression z q →
     Good (Whole Assign nt.AssignmentExpression) (Node s p (Read t (Node z q End)))
-assigned t slash {z = z} {q = q} e o r = behind t (Assigns slash) Assign (Open OfAssign) (Node z q End) e refl refl o (tail_rest OfAssign r)
+assigned t sign {z = z} {q = q} e o r = behind t (Assigns sign) Assign (Open OfAssign) (Node z q End) e refl refl o (tail_rest OfAssign r)
 
 pub conditional : {s z w : Variant} {p q r : ParseTree} → Operand nt.ShortCircuitExpression s p → Operand nt.AssignmentExpression z q → Operand nt.AssignmentExpression w r →
     Good (Whole Cond nt.ConditionalExpression) (Node s p (Read (punctuator (codes "?")) (Node z q (Read (punctuator (codes ":")) (Node w r End)))))
@@ -172,6 +172,17 @@ comma = punctuator (codes ",")
 
 abbrev pub IsName : Token → Type 0
 IsName t = ((s : Variant) → decide (Dotted s) None t ≡ Shift) × (decide Chained None t ≡ Shift) × (shift Chained None t ≡ Closed OptChain)
+
+-- a name behind `.`, reserved or not
+abbrev pub is_any_name : Class → Bool
+is_any_name NameToken = true
+is_any_name KeyToken = true
+is_any_name l = false
+
+pub name_by : (t : Token) (l : Class) → class t ≡ l → is_any_name l ≡ true → IsName t
+name_by t NameToken e h = (λ s. ap (without (Dotted s)) e, ap (without Chained) e, ap (shifted_to Chained) e)
+name_by t KeyToken e h = (λ s. ap (without (Dotted s)) e, ap (without Chained) e, ap (shifted_to Chained) e)
+name_by t l e h = absurd (true≢false (sym h))
 
 pub linked : (t : Token) (l : Class) (variant : Variant) (c : Control) {n place : Nonterminal} {s : Variant} {p : ParseTree} (m : ParseTree) → Linked n place → class t ≡ l → links l ≡ true → left l ≡ nt.ChainBase →
     wrapped_to s l ≡ c → Operand place s p → Good (Rest c variant n) m → Good (Whole variant n) (Node s p (Read t m))
@@ -347,6 +358,7 @@ property_place false = a_property
 -- a key that is one token
 abbrev pub is_key : Class → Bool
 is_key NameToken = true
+is_key KeyToken = true
 is_key LiteralToken = true
 is_key l = false
 
@@ -357,12 +369,16 @@ pub record Keyed (Before Behind : ParseTree → Type 0) : Type 0 where
 
 key_shifts : {at after : Control} → KeyPlace at after → (l : Class) → is_key l ≡ true → (without at l ≡ Shift) × (shifted_to at l ≡ after)
 key_shifts a_property NameToken h = (refl, refl)
+key_shifts a_property KeyToken h = (refl, refl)
 key_shifts a_property LiteralToken h = (refl, refl)
 key_shifts next_property NameToken h = (refl, refl)
+key_shifts next_property KeyToken h = (refl, refl)
 key_shifts next_property LiteralToken h = (refl, refl)
 key_shifts a_member NameToken h = (refl, refl)
+key_shifts a_member KeyToken h = (refl, refl)
 key_shifts a_member LiteralToken h = (refl, refl)
 key_shifts an_accessor NameToken h = (refl, refl)
+key_shifts an_accessor KeyToken h = (refl, refl)
 key_shifts an_accessor LiteralToken h = (refl, refl)
 key_shifts k l h = absurd (true≢false (sym h))
 
@@ -560,8 +576,15 @@ arrow {s = s} o g e = wrapped_turned same_line arrow_mark o.good (ended_by Line 
 async_value : (l : Class) → begins_none l ≡ false → (without AsyncLine l ≡ Enter) × (without AsyncOperand l ≡ Push)
 async_value FunctionWord h = absurd (true≢false h)
 async_value (Infix Over) h = absurd (true≢false h)
-async_value (Assigns true) h = absurd (true≢false h)
-async_value (Later opens) h = absurd (true≢false h)
+async_value (Assigns Slashed) h = absurd (true≢false h)
+async_value (First true opens) h = absurd (true≢false h)
+async_value (Later tagged opens) h = absurd (true≢false h)
+async_value Line h = absurd (true≢false h)
+async_value Semi h = absurd (true≢false h)
+async_value Semicolon h = absurd (true≢false h)
+async_value KeyToken h = absurd (true≢false h)
+async_value Strange h = absurd (true≢false h)
+async_value (Jsx part) h = absurd (true≢false h)
 async_value l h = (refl, refl)
 
 pub async_arrow : {s : Variant} {p m q : ParseTree} → Operand nt.LeftHandSideExpression s p → Heads (λ u. begins_none (class u) ≡ false) p → Good (Rest ArrowBody Arrow nt.AssignmentExpression) m → q ≡ turned s p same_line (Read arrow_mark m) →
@@ -580,19 +603,25 @@ async_arrow {s = s} {p = p} {m = m} {q = q} o h g e =
 abbrev After_class : Control → Class → Nonterminal → Variant → Nonterminal → ParseTree → Type 0
 After_class c l place variant n m = (takes (left l) place ≡ true) × ((s : Variant) → with_operand c l ≡ Shift) × Good (Rest (passed_to c l) variant n) m
 
-later : (opens : Bool) {variant : Variant} {n : Nonterminal} {m : ParseTree} → Good (Rest (template variant opens) variant n) m → After_class (Substitution variant) (Later opens) nt.Expression variant n m
-later true g = (takes_self nt.Expression, λ s. refl, g)
-later false g = (takes_self nt.Expression, λ s. refl, g)
+goes_by : (b tagged : Bool) → b ≡ tagged → later_by b tagged ≡ Shift
+goes_by true true e = refl
+goes_by false false e = refl
+goes_by true false e = absurd (true≢false e)
+goes_by false true e = absurd (true≢false (sym e))
 
-pub template_next : (variant : Variant) (n : Nonterminal) (t : Token) (opens : Bool) {s : Variant} {p m : ParseTree} → class t ≡ Later opens → Operand nt.Expression s p → Good (Rest (template variant opens) variant n) m →
+later : (tagged opens : Bool) {variant : Variant} {n : Nonterminal} {m : ParseTree} → is_tag variant ≡ tagged → Good (Rest (template variant opens) variant n) m → After_class (Substitution variant) (Later tagged opens) nt.Expression variant n m
+later tagged true {variant = variant} e g = (takes_self nt.Expression, λ s. goes_by (is_tag variant) tagged e, g)
+later tagged false {variant = variant} e g = (takes_self nt.Expression, λ s. goes_by (is_tag variant) tagged e, g)
+
+pub template_next : (variant : Variant) (n : Nonterminal) (t : Token) (tagged opens : Bool) {s : Variant} {p m : ParseTree} → is_tag variant ≡ tagged → class t ≡ Later tagged opens → Operand nt.Expression s p → Good (Rest (template variant opens) variant n) m →
     Good (Rest (Substitution variant) variant n) (Node s p (Read t m))
-template_next variant n t opens {m = m} e o g =
+template_next variant n t tagged opens {m = m} y e o g =
     part_then (Substitution variant) (Read t m) (takes_self nt.Expression) o
-    (subst (λ l. After_class (Substitution variant) l nt.Expression variant n m) (sym e) (later opens g))
+    (subst (λ l. After_class (Substitution variant) l nt.Expression variant n m) (sym e) (later tagged opens y g))
 
-pub untagged : (t : Token) (opens : Bool) {m : ParseTree} → class t ≡ First opens → Good (Rest (template Tpl opens) Tpl nt.PrimaryExpression) m → Good (Whole Tpl nt.PrimaryExpression) (Read t m)
+pub untagged : (t : Token) (opens : Bool) {m : ParseTree} → class t ≡ First false opens → Good (Rest (template Tpl opens) Tpl nt.PrimaryExpression) m → Good (Whole Tpl nt.PrimaryExpression) (Read t m)
 untagged t opens {m = m} e g = begun t Tpl nt.PrimaryExpression (template Tpl opens) m (ap starts e) refl (ap started e) g
 
-pub tagged : (t : Token) (opens : Bool) {n place : Nonterminal} {s : Variant} {p m : ParseTree} → Linked n place → class t ≡ First opens → Operand place s p →
+pub tagged : (t : Token) (opens : Bool) {n place : Nonterminal} {s : Variant} {p m : ParseTree} → Linked n place → class t ≡ First true opens → Operand place s p →
     Good (Rest (template TaggedTpl opens) TaggedTpl n) m → Good (Whole TaggedTpl n) (Node s p (Read t m))
-tagged t opens {m = m} a e o g = linked t (First opens) TaggedTpl (template TaggedTpl opens) m a e refl refl refl o g
+tagged t opens {m = m} a e o g = linked t (First true opens) TaggedTpl (template TaggedTpl opens) m a e refl refl refl o g

@@ -9,9 +9,9 @@ use Rattle.swc_ecma_codegen_syntax.specs.UnitProductions.{UnitProduction, Chain,
 use Rattle.swc_ecma_codegen_syntax.proofs.Chains.{takes_chain}
 use Rattle.swc_ecma_codegen_syntax.proofs.Taken.{chain_takes}
 use Rattle.swc_ecma_codegen_uniqueness.specs.ParseTrees.{Variant}
-use Rattle.swc_ecma_codegen_uniqueness.proofs.Classes.{Power, Over, Plus, Within, Coalescing, Class, Infix, Assigns, Ask, Comma, Dot, ChainDot, OpenParen, OpenBracket, Line, First, class, Comparing, Later}
+use Rattle.swc_ecma_codegen_uniqueness.proofs.Classes.{Power, Over, Plus, Within, Coalescing, Class, Infix, Assigns, Ask, Comma, Dot, ChainDot, OpenParen, OpenBracket, Line, First, class, Comparing, Later, Slashed, Jsx}
 use Rattle.swc_ecma_codegen_uniqueness.proofs.Controls.{made, left_of, left, closes, Tail, OfInfix, whole, last, Control, Open, Arguments, Elements, NextElement, AfterNew, AfterYield, YieldLine, Listed, InParen, Index, Middle, InKey, InValue, Substitution, waits, stands, starts, is_item, is_listed, Heritage, Members, InMemberKey, FieldPlace, DefaultValue, AttributeElement, AttributeBraces, Children, ChildBraces, ForHead, ForPlain, ForVars, ForValue, ForTest, ForUpdate, ForIn, ForOf, is_within, AsyncOperand, closed_by, at_item, Statement, Entered, Parameter, RestParameter, Valued, Test, Declarators, Initializer, CatchParameter, Case, InAccessorKey, AccessorParameter}
-use Rattle.swc_ecma_codegen_uniqueness.proofs.Tables.{decide, Action, Push, Wrap, Reduce, Shift, Turn, Begin, Enter, Leave, Splice, Take, wrapped_to, EnterBelow, Merge, Reject, begun_by, taken_by, without, with_operand, Keep}
+use Rattle.swc_ecma_codegen_uniqueness.proofs.Tables.{decide, Action, Push, Wrap, Reduce, Shift, Turn, Begin, Enter, Leave, Splice, Take, wrapped_to, EnterBelow, Merge, Reject, begun_by, without, with_operand, Keep, wrapped_by}
 
 -- ---- chains of unit productions
 
@@ -80,6 +80,7 @@ is_place nt.CoalesceExpressionHead = true
 is_place nt.AssignmentTarget = true
 is_place nt.AssignmentPattern = true
 is_place nt.Statement = true
+is_place nt.StatementListItem = true
 is_place nt.Block = true
 is_place nt.ClassElement = true
 is_place nt.JSXElement = true
@@ -112,7 +113,7 @@ cover_taken place n h = cover_chain (takes_chain place n h)
 
 -- ---- what ends an operand
 
-ends_none : (l : Class) → (takes (left l) nt.Statement || takes (left l) nt.Block) ≡ false
+ends_none : (l : Class) → (takes (left l) nt.Statement || (takes (left l) nt.Block || takes (left l) nt.StatementListItem)) ≡ false
 unfolding is_member is_new is_call is_callee is_chained is_left_hand_side is_update is_unary is_exponentiation is_multiplicative is_additive is_shift is_relational is_in_left is_equality is_bitwise_and is_bitwise_xor is_bitwise_or is_logical_and is_logical_or is_coalesce_head is_short_circuit is_conditional is_assignment is_expression is_assignment_target is_pattern_target is_pattern_element is_last_element is_coalesce is_private is_optional is_primary is_template is_property_name is_chain_link is_assignment_pattern is_pattern_name is_rest is_statement is_hoistable_declaration is_block is_variable_declarations is_declaration is_statement_list_item is_labelled_item is_module_declaration is_exported_head is_function_head is_generator_head is_async_function_head is_async_generator_head is_function_tail is_getter_tail is_setter_tail is_method_head is_decorator_list is_class_head is_class_tail is_class_element is_constructor_name is_any_function_head is_head_without_yield is_head_without_await is_any_property_name is_jsx_element is_jsx_object is_uncovered takes
 ends_none (Infix Power) = refl
 ends_none l = refl
@@ -124,7 +125,8 @@ or_none false true h = absurd (true≢false h)
 
 pub ended_by : (l : Class) (n : Nonterminal) → takes (left l) n ≡ true → closed_by l n ≡ true
 ended_by l nt.Statement h = absurd (true≢false (sym h ∙ (or_none _ _ (ends_none l)).0))
-ended_by l nt.Block h = absurd (true≢false (sym h ∙ (or_none _ _ (ends_none l)).1))
+ended_by l nt.Block h = absurd (true≢false (sym h ∙ (or_none _ _ (or_none _ _ (ends_none l)).1).0))
+ended_by l nt.StatementListItem h = absurd (true≢false (sym h ∙ (or_none _ _ (or_none _ _ (ends_none l)).1).1))
 ended_by l nt.ClassElement h = refl
 ended_by l nt.JSXElement h = refl
 ended_by l n h = h
@@ -132,6 +134,7 @@ ended_by l n h = h
 pub ending : (l : Class) (n : Nonterminal) → is_listed n ≡ false → closed_by l n ≡ true → takes (left l) n ≡ true
 ending l nt.Statement i h = absurd (true≢false i)
 ending l nt.Block i h = absurd (true≢false i)
+ending l nt.StatementListItem i h = absurd (true≢false i)
 ending l nt.ClassElement i h = absurd (true≢false i)
 ending l nt.JSXElement i h = absurd (true≢false i)
 ending l n i h = h
@@ -163,6 +166,8 @@ start_test : (c : Control) (l : Class) → if_so (starts l && is_waiting c) (is_
 unfolding is_member is_new is_call is_callee is_chained is_left_hand_side is_update is_unary is_exponentiation is_multiplicative is_additive is_shift is_relational is_in_left is_equality is_bitwise_and is_bitwise_xor is_bitwise_or is_logical_and is_logical_or is_coalesce_head is_short_circuit is_conditional is_assignment is_expression is_assignment_target is_pattern_target is_pattern_element is_last_element is_coalesce is_private is_optional is_primary is_template is_property_name is_chain_link is_assignment_pattern is_pattern_name is_rest is_statement is_hoistable_declaration is_block is_variable_declarations is_declaration is_statement_list_item is_labelled_item is_module_declaration is_exported_head is_function_head is_generator_head is_async_function_head is_async_generator_head is_function_tail is_getter_tail is_setter_tail is_method_head is_decorator_list is_class_head is_class_tail is_class_element is_constructor_name is_any_function_head is_head_without_yield is_head_without_await is_any_property_name is_jsx_element is_jsx_object is_uncovered takes
 start_test (Open t) (Infix Plus) = refl
 start_test c (Infix Plus) = refl
+start_test (Open t) (First true opens) = refl
+start_test c (First true opens) = refl
 start_test c l = refl
 
 nothing_stands : (n : Nonterminal) (b : Bool) → (takes nt.Uncovered n || ((is_private n && takes nt.Uncovered nt.RelationalExpression) || (is_item n && b))) ≡ true → is_place n ≡ true
@@ -170,6 +175,7 @@ unfolding is_member is_new is_call is_callee is_chained is_left_hand_side is_upd
 nothing_stands nt.Uncovered b s = refl
 nothing_stands nt.Statement b s = refl
 nothing_stands nt.Block b s = refl
+nothing_stands nt.StatementListItem b s = refl
 nothing_stands n b s = absurd (true≢false (sym s))
 
 -- a member of a class
@@ -178,6 +184,7 @@ unfolding is_member is_new is_call is_callee is_chained is_left_hand_side is_upd
 element_stands nt.ClassElement s = refl
 element_stands nt.Statement s = refl
 element_stands nt.Block s = refl
+element_stands nt.StatementListItem s = refl
 element_stands n s = absurd (true≢false (sym s))
 
 -- an element between tags
@@ -186,6 +193,7 @@ unfolding is_member is_new is_call is_callee is_chained is_left_hand_side is_upd
 child_stands nt.JSXElement s = refl
 child_stands nt.Statement s = refl
 child_stands nt.Block s = refl
+child_stands nt.StatementListItem s = refl
 child_stands n s = absurd (true≢false (sym s))
 
 stands_waiting : (c : Control) (n : Nonterminal) → is_place n ≡ false → stands c n ≡ true → is_waiting c ≡ true
@@ -255,7 +263,7 @@ taken_there w n b k p i s = elim (or_cases (takes w n) ((is_private n && b) || (
 
 abbrev pub is_infix : Class → Bool
 is_infix (Infix level) = true
-is_infix (Assigns slash) = true
+is_infix (Assigns sign) = true
 is_infix Ask = true
 is_infix Comma = true
 is_infix Line = true
@@ -264,7 +272,7 @@ is_infix c = false
 -- the nonterminal of the node
 abbrev pub made_by : Class → Nonterminal
 made_by (Infix level) = made level
-made_by (Assigns slash) = nt.AssignmentExpression
+made_by (Assigns sign) = nt.AssignmentExpression
 made_by Ask = nt.ConditionalExpression
 made_by Comma = nt.Expression
 made_by Line = nt.UpdateExpression
@@ -312,7 +320,7 @@ operand_stands c (Infix Coalescing) k i h e p =
       | inr q ↦ takes_on (waits c) nt.BitwiseOrExpression k (told _ _ (head_test c) h) q
     ])
 operand_stands c (Infix level) k i h e p = or_left (takes (waits c) k) _ (takes_on (waits c) (made level) k h (takes_on (made level) (left_of level) k refl e))
-operand_stands c (Assigns slash) k i h e p = or_left (takes (waits c) k) _ (takes_on (waits c) nt.AssignmentExpression k h (takes_on nt.AssignmentExpression nt.LeftHandSideExpression k refl e))
+operand_stands c (Assigns sign) k i h e p = or_left (takes (waits c) k) _ (takes_on (waits c) nt.AssignmentExpression k h (takes_on nt.AssignmentExpression nt.LeftHandSideExpression k refl e))
 operand_stands c Ask k i h e p = or_left (takes (waits c) k) _ (takes_on (waits c) nt.ConditionalExpression k h (takes_on nt.ConditionalExpression nt.ShortCircuitExpression k refl e))
 operand_stands c Comma k i h e p = or_left (takes (waits c) k) _ (takes_on (waits c) nt.Expression k h (takes_on nt.Expression nt.AssignmentExpression k refl e))
 operand_stands c Line k i h e p = or_left (takes (waits c) k) _ (takes_on (waits c) nt.UpdateExpression k h (takes_on nt.UpdateExpression nt.LeftHandSideExpression k refl e))
@@ -342,7 +350,7 @@ unfolding is_member is_new is_call is_callee is_chained is_left_hand_side is_upd
 link_test (Open (OfInfix Power)) = refl
 link_test c = refl
 
-tag_test : (c : Control) (opens : Bool) → if_so (is_waiting c) (is_wrap (with_operand c (First opens))) ≡ true
+tag_test : (c : Control) (opens : Bool) → if_so (is_waiting c) (is_wrap (with_operand c (First true opens))) ≡ true
 unfolding is_member is_new is_call is_callee is_chained is_left_hand_side is_update is_unary is_exponentiation is_multiplicative is_additive is_shift is_relational is_in_left is_equality is_bitwise_and is_bitwise_xor is_bitwise_or is_logical_and is_logical_or is_coalesce_head is_short_circuit is_conditional is_assignment is_expression is_assignment_target is_pattern_target is_pattern_element is_last_element is_coalesce is_private is_optional is_primary is_template is_property_name is_chain_link is_assignment_pattern is_pattern_name is_rest is_statement is_hoistable_declaration is_block is_variable_declarations is_declaration is_statement_list_item is_labelled_item is_module_declaration is_exported_head is_function_head is_generator_head is_async_function_head is_async_generator_head is_function_tail is_getter_tail is_setter_tail is_method_head is_decorator_list is_class_head is_class_tail is_class_element is_constructor_name is_any_function_head is_head_without_yield is_head_without_await is_any_property_name is_jsx_element is_jsx_object is_uncovered takes
 tag_test (Open (OfInfix Power)) opens = refl
 tag_test c opens = refl
@@ -445,14 +453,14 @@ abbrev pub links : Class → Bool
 links Dot = true
 links ChainDot = true
 links OpenBracket = true
-links (First opens) = true
+links (First true opens) = true
 links c = false
 
 link_wrapped : (c : Control) (l : Class) → is_waiting c ≡ true → links l ≡ true → with_operand c l ≡ Wrap
 link_wrapped c Dot w h = wrap_is _ (and_parts _ _ (told _ _ (link_test c) w)).0
 link_wrapped c ChainDot w h = wrap_is _ (and_parts _ _ (and_parts _ _ (told _ _ (link_test c) w)).1).0
 link_wrapped c OpenBracket w h = wrap_is _ (and_parts _ _ (and_parts _ _ (told _ _ (link_test c) w)).1).1
-link_wrapped c (First opens) w h = wrap_is _ (told _ _ (tag_test c opens) w)
+link_wrapped c (First true opens) w h = wrap_is _ (told _ _ (tag_test c opens) w)
 link_wrapped c l w h = absurd (true≢false (sym h))
 
 pub link_wraps : (t : Token) {n place : Nonterminal} (k : Nonterminal) (variant : Variant) → Linked n place → links (class t) ≡ true → takes place k ≡ true → is_place k ≡ false → Wraps t n k variant
@@ -485,8 +493,8 @@ call_wraps t k variant a q e p c s =
 
 -- ---- where a node ends with a part: the ends of the machine's frames
 
-ends_reduce : (n : Nonterminal) (l : Class) → takes (left l) n ≡ true → cond (takes (left l) n) Reduce (taken_by Wrap l) ≡ Reduce
-ends_reduce n l h = ap (λ b. cond b Reduce (taken_by Wrap l)) h
+ends_reduce : (n : Nonterminal) (l : Class) → takes (left l) n ≡ true → cond (takes (left l) n) Reduce (wrapped_by l) ≡ Reduce
+ends_reduce n l h = ap (λ b. cond b Reduce (wrapped_by l)) h
 
 -- what is asked of a node that ends with a part
 abbrev pub Ended : Control → Nonterminal → Nonterminal → Variant → Type 0
@@ -522,7 +530,7 @@ listed_ends k variant h u e = (ended_by (class u) k (takes_on (left (class u)) n
 alone_reduced : (l : Class) → takes (left l) nt.AssignmentExpression ≡ true → without AfterYield l ≡ Reduce
 unfolding is_member is_new is_call is_callee is_chained is_left_hand_side is_update is_unary is_exponentiation is_multiplicative is_additive is_shift is_relational is_in_left is_equality is_bitwise_and is_bitwise_xor is_bitwise_or is_logical_and is_logical_or is_coalesce_head is_short_circuit is_conditional is_assignment is_expression is_assignment_target is_pattern_target is_pattern_element is_last_element is_coalesce is_private is_optional is_primary is_template is_property_name is_chain_link is_assignment_pattern is_pattern_name is_rest is_statement is_hoistable_declaration is_block is_variable_declarations is_declaration is_statement_list_item is_labelled_item is_module_declaration is_exported_head is_function_head is_generator_head is_async_function_head is_async_generator_head is_function_tail is_getter_tail is_setter_tail is_method_head is_decorator_list is_class_head is_class_tail is_class_element is_constructor_name is_any_function_head is_head_without_yield is_head_without_await is_any_property_name is_jsx_element is_jsx_object is_uncovered takes
 alone_reduced Line h = absurd (true≢false (sym h))
-alone_reduced l h = refl
+alone_reduced l h = ap (λ b. cond b Reduce Reject) h
 
 pub yield_alone : (t : Token) → closes t nt.AssignmentExpression ≡ true → decide AfterYield None t ≡ Reduce
 yield_alone t h = alone_reduced (class t) h
@@ -555,7 +563,8 @@ assignment_single k h = refl
 
 head_push_test : (l : Class) → if_so (is_push (without ForPlain l)) (is_push (without ForHead l)) ≡ true
 head_push_test (Infix Plus) = refl
-head_push_test (Assigns true) = refl
+head_push_test (Assigns Slashed) = refl
+head_push_test (First true opens) = refl
 head_push_test l = refl
 
 pub head_pushes : (l : Class) → without ForPlain l ≡ Push → without ForHead l ≡ Push
@@ -563,6 +572,7 @@ head_pushes l h = push_is _ (told _ _ (head_push_test l) (ap is_push h))
 
 head_wrap_test : (l : Class) → if_so (is_wrap (with_operand ForPlain l) && not (is_within l)) (is_wrap (with_operand ForHead l)) ≡ true
 head_wrap_test (Infix Within) = refl
+head_wrap_test (First true opens) = refl
 head_wrap_test l = refl
 
 pub head_wraps : (l : Class) → with_operand ForPlain l ≡ Wrap → is_within l ≡ false → with_operand ForHead l ≡ Wrap
@@ -575,7 +585,8 @@ is_other a = false
 
 plain_test : (l : Class) → (is_other (without ForPlain l) || is_other (with_operand ForPlain l)) ≡ false
 plain_test (Infix Plus) = refl
-plain_test (Assigns true) = refl
+plain_test (Assigns Slashed) = refl
+plain_test (First true opens) = refl
 plain_test l = refl
 
 pub plain_begins : (l : Class) → without ForPlain l ≡ Begin → ⊥
@@ -590,8 +601,11 @@ is_turn a = false
 
 never_turns : (m : Class) → is_turn (begun_by Push m) ≡ false
 never_turns (Infix Over) = refl
-never_turns (Assigns true) = refl
-never_turns (Later opens) = refl
+never_turns (Assigns Slashed) = refl
+never_turns (First true opens) = refl
+never_turns (Later tagged opens) = refl
+never_turns Line = refl
+never_turns (Jsx part) = refl
 never_turns m = refl
 
 -- the token behind an operand that the next one turns
@@ -608,6 +622,7 @@ low_wraps l h = refl
 low_test : (l : Class) → is_other (with_operand (Open (OfInfix Comparing)) l) ≡ false
 unfolding is_member is_new is_call is_callee is_chained is_left_hand_side is_update is_unary is_exponentiation is_multiplicative is_additive is_shift is_relational is_in_left is_equality is_bitwise_and is_bitwise_xor is_bitwise_or is_logical_and is_logical_or is_coalesce_head is_short_circuit is_conditional is_assignment is_expression is_assignment_target is_pattern_target is_pattern_element is_last_element is_coalesce is_private is_optional is_primary is_template is_property_name is_chain_link is_assignment_pattern is_pattern_name is_rest is_statement is_hoistable_declaration is_block is_variable_declarations is_declaration is_statement_list_item is_labelled_item is_module_declaration is_exported_head is_function_head is_generator_head is_async_function_head is_async_generator_head is_function_tail is_getter_tail is_setter_tail is_method_head is_decorator_list is_class_head is_class_tail is_class_element is_constructor_name is_any_function_head is_head_without_yield is_head_without_await is_any_property_name is_jsx_element is_jsx_object is_uncovered takes
 low_test (Infix Power) = refl
+low_test (First true opens) = refl
 low_test l = refl
 
 pub low_leaves : (l : Class) → with_operand (Open (OfInfix Comparing)) l ≡ Leave → ⊥

@@ -1,5 +1,5 @@
 -- Of a list of tokens there is one tree.
-use Rattle.std.proofs.Common.{◌≡◌, true, List, [], ◌∷◌, ◌++◌, refl, sym, ap, ◌∙◌}
+use Rattle.std.proofs.Common.{◌≡◌, true, false, inl, List, [], ◌∷◌, ◌++◌, refl, sym, ap, ◌∙◌}
 use Rattle.std.specs.Prelude.{codes}
 use Rattle.swc_ecma_codegen_tree.specs.declared.links.AnyNode.{AnyNode}
 use Rattle.swc_ecma_codegen_tree.specs.declared.exprs.Expr.{Expr}
@@ -21,7 +21,8 @@ use Rattle.swc_ecma_codegen_uniqueness.specs.Parses.{placed, is_inlined, form_pa
 use Rattle.swc_ecma_codegen_uniqueness.specs.Words.{as_names, with_names}
 use Rattle.swc_ecma_codegen_uniqueness.proofs.Classes.{CloseParen}
 use Rattle.swc_ecma_codegen_uniqueness.proofs.Controls.{InParen}
-use Rattle.swc_ecma_codegen_uniqueness.proofs.Machine.{Whole, Good, one_tree}
+use Rattle.swc_ecma_codegen_uniqueness.proofs.Machine.{Whole, Good, Empty, Full, Frame, At, is_fail, one_tree, reads, run, went}
+use Rattle.swc_ecma_codegen_uniqueness.proofs.Tables.{Shift}
 use Rattle.swc_ecma_codegen_uniqueness.proofs.TableLaws.{ended_by, or_left, cover_taken}
 use Rattle.swc_ecma_codegen_uniqueness.proofs.Reading.{derived_parse}
 use Rattle.swc_ecma_codegen_uniqueness.proofs.Parsed.{tokens_before, derived_allowed}
@@ -60,6 +61,17 @@ same_named p q x y e =
     ∙ one_named InParen (punctuator (codes ")")) x.variant y.variant x.of y.of x.inside y.inside (or_left _ _ x.taken, ended_by CloseParen x.of x.taken, refl) (or_left _ _ y.taken, ended_by CloseParen y.of y.taken, refl) x.good y.good
     (ap (λ z. as_names (tokens_of z (punctuator (codes ")") ∷ []))) (sym x.is) ∙ e ∙ ap (λ z. as_names (tokens_of z (punctuator (codes ")") ∷ []))) y.is)
     ∙ ap with_names (sym y.is)
+
+-- it leads to a state, before `)`
+pub expr_runs : {s : Settings} {c : Parameters} (a : Expr AnyNode) {ts : List Token} → DerivesExpr true s nt.Expression c a ts →
+    is_fail (run (ts ++ (punctuator (codes ")") ∷ [])) (At (record { control = InParen; so_far = λ rest. rest; other = λ rest. rest } ∷ []) Empty)) ≡ false
+unfolding tokens_of punctuator
+expr_runs a x =
+    let u = punctuator (codes ")") in
+    let f : Frame = record { control = InParen; so_far = λ rest. rest; other = λ rest. rest } in
+    let r = readable x.1 x.0 in
+    ap (λ us. is_fail (run us (At (f ∷ []) Empty))) (sym (tokens_before x.1 End (u ∷ [])) ∙ ap (λ z. tokens_of z (u ∷ [])) r.is)
+    ∙ ap is_fail (reads r.good f [] u [] (inl (or_left _ _ r.taken)) (ended_by CloseParen r.of r.taken) ∙ went Shift u f [] (Full r.variant r.inside) refl)
 
 expr_derived : {s : Settings} {c : Parameters} (a : Expr AnyNode) {ts : List Token} (x : DerivesExpr true s nt.Expression c a ts) → settled (derived_parse x.1 End) ≡ expr_parse s c a
 unfolding form_parse settled

@@ -1,5 +1,5 @@
 -- The machine reads a word as the name of the same letters, where the tokens round it tell which of the two it is.
-use Rattle.std.proofs.Common.{◌≡◌, ℕ, Bool, true, false, ◌&&◌, inl, inr, List, [], ◌∷◌, ◌++◌, Option, Some, None, refl, sym, ap, ap₂, ◌∙◌, subst}
+use Rattle.std.proofs.Common.{◌≡◌, ℕ, Bool, true, false, ◌&&◌, not, cond, inl, inr, List, [], ◌∷◌, ◌++◌, Option, Some, None, refl, sym, ap, ap₂, ◌∙◌, subst}
 use Rattle.std.specs.Prelude.{bytes_eq, if◌then◌else◌}
 use Rattle.std.proofs.lemmas.Bool.{true≢false, and_parts, or_cases}
 use Rattle.std.proofs.lemmas.Slice.Eq.{bytes_eq-Decides}
@@ -7,10 +7,10 @@ use Rattle.swc_ecma_codegen_grammar.specs.declared.kinds.Kind.{Kind}
 use Rattle.swc_ecma_codegen_grammar.specs.declared.kinds.Kind.TheVariants as kinds
 use Rattle.swc_ecma_codegen_grammar.specs.Tokens.{Token, Value, Characters, name, word}
 use Rattle.swc_ecma_codegen_syntax.specs.declared.nonterminals.Nonterminal.{Nonterminal}
-use Rattle.swc_ecma_codegen_syntax.specs.NameForms.{is_one_of}
+use Rattle.swc_ecma_codegen_syntax.specs.NameForms.{is_one_of, is_reserved}
 use Rattle.swc_ecma_codegen_uniqueness.specs.ParseTrees.{Variant, Seq, Paren, ParseTree, End, Read, Optional, Node, tokens_of, settled}
 use Rattle.swc_ecma_codegen_uniqueness.specs.Words.{contextual_words, named_by, as_name, as_names, with_names}
-use Rattle.swc_ecma_codegen_uniqueness.proofs.Classes.{Class, NameToken, Line, Colon, class, class_of, look, words}
+use Rattle.swc_ecma_codegen_uniqueness.proofs.Classes.{Class, NameToken, Line, Colon, class, class_of, look, words, KeyToken}
 use Rattle.swc_ecma_codegen_uniqueness.proofs.Controls.{Control, InParen, entered, outside, as_expression, variant_of, closes}
 use Rattle.swc_ecma_codegen_uniqueness.proofs.Tables.{Action, Shift, Push, Wrap, Reduce, Turn, Begin, Enter, Leave, Splice, Take, Keep, EnterBelow, Merge, Reject, without, with_operand, decide, shifted_to, passed_to, shift, started, start, begun_at, begin, wrapped_to}
 use Rattle.swc_ecma_codegen_uniqueness.proofs.Machine.{Hand, Empty, Full, held, sign, joined, opened, parameters, turned_by, turned, turned_hand, spliced, left_by, left_hand, Frame, State, At, Fail, within, wrap_at, acted_once, acted, step, next, run, is_fail, first_of, found, Ends, whole_found, rest_found, Whole, Rest, Good}
@@ -39,9 +39,35 @@ named_among (key ∷ keys) text a h =
       | inr i ↦ named_among keys text p.1 i
     ]
 
+-- none of them is reserved
+abbrev all_free : List (List ℕ) → Bool
+all_free [] = true
+all_free (key ∷ keys) = not (is_reserved key) && all_free keys
+
+not_true : (b : Bool) → not b ≡ true → b ≡ false
+not_true true h = absurd (true≢false (sym h))
+not_true false h = refl
+
+free_among : (keys : List (List ℕ)) (text : List ℕ) → all_free keys ≡ true → is_one_of keys text ≡ true → is_reserved text ≡ false
+unfolding is_one_of
+free_among [] text a h = absurd (true≢false (sym h))
+free_among (key ∷ keys) text a h =
+    let p = and_parts (not (is_reserved key)) (all_free keys) a in
+    elim (or_cases (bytes_eq text key) (is_one_of keys text) h) [
+      | inl e ↦ ap (λ t. is_reserved t) ((bytes_eq-Decides text key).0 e) ∙ not_true (is_reserved key) p.0
+      | inr i ↦ free_among keys text p.1 i
+    ]
+
+contextual_are_free : all_free contextual_words ≡ true
+unfolding is_reserved is_one_of
+contextual_are_free = refl
+
+contextual_free : (text : List ℕ) → is_one_of contextual_words text ≡ true → is_reserved text ≡ false
+contextual_free text e = free_among contextual_words text contextual_are_free e
+
 class_by : (b : Bool) (text : List ℕ) → is_one_of contextual_words text ≡ b → class (if b then name text else word text) ≡ look words text
 unfolding name word
-class_by true text e = sym (named_among contextual_words text refl e)
+class_by true text e = ap (λ b. cond b KeyToken NameToken) (contextual_free text e) ∙ sym (named_among contextual_words text refl e)
 class_by false text e = refl
 
 class_of_named : (k : Kind) (v : Value) → class (named_by k v) ≡ class_of k v
@@ -264,8 +290,17 @@ fails_alike : {p q : State} → Reached p q → is_fail q ≡ is_fail p
 fails_alike (at h m) = refl
 fails_alike failed = refl
 
-pub named_run : (c d : Control) (ts : List Token) → is_fail (run (as_names ts) (At (begun_at_all c ∷ begun_at_all d ∷ []) Empty)) ≡ is_fail (run ts (At (begun_at_all c ∷ begun_at_all d ∷ []) Empty))
-named_run c d ts = fails_alike (run_alike ts (at Empty (more (same_frame c) (more (same_frame d) none))))
+-- frames that hold nothing
+abbrev pub begun_all : List Control → List Frame
+begun_all [] = []
+begun_all (c ∷ cs) = begun_at_all c ∷ begun_all cs
+
+same_frames : (cs : List Control) → AllAlike (begun_all cs) (begun_all cs)
+same_frames [] = none
+same_frames (c ∷ cs) = more (same_frame c) (same_frames cs)
+
+pub named_run : (cs : List Control) (ts : List Token) → is_fail (run (as_names ts) (At (begun_all cs) Empty)) ≡ is_fail (run ts (At (begun_all cs) Empty))
+named_run cs ts = fails_alike (run_alike ts (at Empty (same_frames cs)))
 
 abbrev inside_of : ParseTree → ParseTree
 inside_of (Node s p q) = p

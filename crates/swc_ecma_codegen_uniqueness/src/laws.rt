@@ -9,7 +9,7 @@ ghost use Rattle.swc_ecma_codegen_grammar.specs.Phrases.{Generates};
 ghost use Rattle.swc_ecma_codegen_grammar.specs.Settings.{Settings};
 ghost use Rattle.swc_ecma_codegen_grammar.specs.TreePhrases.{expr_phrase, program_phrase};
 ghost use Rattle.swc_ecma_codegen_grammar.specs.Reads.{Reads};
-ghost use Rattle.swc_ecma_codegen_grammar.specs.Tokens.{Token, punctuator};
+ghost use Rattle.swc_ecma_codegen_grammar.specs.Tokens.{Token, ending, punctuator};
 ghost use Rattle.swc_ecma_codegen_grammar.specs.Trivia.{Remark};
 ghost use Rattle.swc_ecma_codegen_grammar.specs.declared.kinds.Kind.TheVariants.{Regex, TemplateRest};
 ghost use Rattle.swc_ecma_codegen_grammar.specs.declared.kinds.TemplatePart.{TemplatePart};
@@ -142,7 +142,7 @@ pub fn kept_programs_are_told_by_names()
 /// The tokens before a `/` tell whether it divides or begins a regular expression: no two programs are derived with lists that
 /// are the same up to a token, which is a regular expression in one, and `/` or `/=` in the other. So a parser that has read
 /// `a = b` takes `/c/g` for two divisions, and behind `a =` for a regular expression. ECMA-262, section 12.
-#[tactic(auto, using(crate::proofs::Goals::one_goal))]
+#[tactic(auto, using(crate::proofs::Texts::one_goal))]
 pub fn tokens_tell_a_division()
     ensures { (s t : Settings) (a b : Program AnyNode) (xs ys zs : List Token) (x y : Token)
         → x.kind ≡ Regex → (y ≡ punctuator (codes "/")) ⊎ (y ≡ punctuator (codes "/="))
@@ -152,16 +152,26 @@ pub fn tokens_tell_a_division()
 /// The tokens before a `}` tell whether it closes what `{` opened or goes on with a template: no two programs are derived with
 /// lists that are the same up to a token, which is the middle or the end of a template in one, and `}` in the other.
 /// ECMA-262, section 12.
-#[tactic(auto, using(crate::proofs::Goals::one_template))]
+#[tactic(auto, using(crate::proofs::Texts::one_template))]
 pub fn tokens_tell_the_rest_of_a_template()
     ensures { (s t : Settings) (a b : Program AnyNode) (xs ys zs : List Token) (x y : Token)
         (part : TemplatePart) → x.kind ≡ TemplateRest part → y ≡ punctuator (codes "}")
         → DerivesProgram true s a (xs ++ (x ∷ ys)) → DerivesProgram true t b (xs ++ (y ∷ zs)) → ⊥ }
 {}
 
+/// The tokens before a `;` tell whether it ends a statement, or is an empty statement or stands in the head of a `for`: no two
+/// programs are derived with lists that are the same up to a token, which is the one in one list, and the other in the other. So
+/// `do a; while (b);` has no empty statement at its end, and `for (a; b; c);` has one. ECMA-262, section 12.10.
+#[tactic(auto, using(crate::proofs::Texts::one_semicolon))]
+pub fn tokens_tell_an_empty_statement()
+    ensures { (s t : Settings) (a b : Program AnyNode) (xs ys zs : List Token) (x y : Token)
+        → x ≡ punctuator (codes ";") → y ≡ ending
+        → DerivesProgram true s a (xs ++ (x ∷ ys)) → DerivesProgram true t b (xs ++ (y ∷ zs)) → ⊥ }
+{}
+
 /// Two programs whose lists of tokens one text reads as have one parse tree, words taken for names; or the lists part at a place
-/// where the tokens before don't tell what comes: a word or the name of its letters, as `yield`; a semicolon that ends a statement
-/// or an empty statement; a template with a tag or without; a token of JSX, or `[no LineTerminator here]`, in one of them.
+/// where the tokens before don't tell what comes: one of the words `async`, `await`, `constructor`, `let` and `yield`, or the name
+/// of its letters. `[no LineTerminator here]`, which is no text, they have at the same places up to there.
 ///
 /// So whoever reads a text needs no goal symbol of the lexical grammar: `a / b / c` is two divisions, whatever a lexer takes
 /// `/ b /` for, since no program has the tokens `a`, `/ b /` and `c`. ECMA-262, section 12.
@@ -171,5 +181,16 @@ pub fn texts_tell_the_program()
         (cs ds : List Remark) → DerivesProgram true s a xs → DerivesProgram true t b ys
         → Reads text xs cs → Reads text ys ds
         → ((as_names xs ≡ as_names ys) × (with_names (program_parse s a) ≡ with_names (program_parse t b)))
+        ⊎ Parting (as_names xs) (as_names ys) }
+{}
+
+/// The same of two expressions.
+#[tactic(auto, using(crate::proofs::Texts::one_text_of_exprs))]
+pub fn texts_tell_the_tree()
+    ensures { (s t : Settings) (c e : Given) (a b : Expr AnyNode) (xs ys : List Token)
+        (text : List ℕ) (cs ds : List Remark)
+        → DerivesExpr true s Expression c a xs → DerivesExpr true t Expression e b ys
+        → Reads text xs cs → Reads text ys ds
+        → ((as_names xs ≡ as_names ys) × (with_names (expr_parse s c a) ≡ with_names (expr_parse t e b)))
         ⊎ Parting (as_names xs) (as_names ys) }
 {}
