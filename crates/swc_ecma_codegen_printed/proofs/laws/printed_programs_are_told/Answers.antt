@@ -1,0 +1,8 @@
+use Rattle.swc_ecma_codegen_printed.proofs.Printed.{derived_told, kept_told}
+use Rattle.swc_ecma_codegen_printed.proofs.laws.printed_programs_are_told.Goals as goal
+
+pub returns-clause-derived : goal.returns-clause-derived
+returns-clause-derived c = derived_told
+
+pub returns-clause-kept : goal.returns-clause-kept
+returns-clause-kept c = kept_told
