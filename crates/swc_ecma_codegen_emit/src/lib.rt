@@ -24,6 +24,7 @@ mod loops;
 mod mapped_types;
 mod marks;
 mod modules;
+mod names;
 mod node;
 pub mod nodes;
 pub mod operands;
