@@ -1,6 +1,6 @@
 -- No state of the machine takes two tokens that begin alike, as `/` and a regular expression.
 use Rattle.std.proofs.Common.{◌≡◌, Bool, true, false, ◌||◌, ◌&&◌, not, ◌⊎◌, inl, inr, List, [], ◌∷◌, None, Some, refl, sym, ap, ◌∙◌}
-use Rattle.std.proofs.lemmas.Bool.{true≢false, or_cases, and_parts, or_right}
+use Rattle.std.proofs.lemmas.Bool.{true≢false, or_cases, and_parts, or_right, not-true, and_from}
 use Rattle.swc_ecma_codegen_grammar.specs.Tokens.{Token}
 use Rattle.swc_ecma_codegen_syntax.specs.Nonterminals.{is_member, is_new, is_call, is_callee, is_chained, is_left_hand_side, is_update, is_unary, is_exponentiation, is_multiplicative, is_additive, is_shift, is_relational, is_in_left, is_equality, is_bitwise_and, is_bitwise_xor, is_bitwise_or, is_logical_and, is_logical_or, is_coalesce_head, is_short_circuit, is_conditional, is_assignment, is_expression, is_assignment_target, is_pattern_target, is_pattern_element, is_last_element, is_coalesce, is_private, is_optional, is_primary, is_template, is_property_name, is_chain_link, is_assignment_pattern, is_pattern_name, is_rest, is_statement, is_hoistable_declaration, is_block, is_variable_declarations, is_declaration, is_statement_list_item, is_labelled_item, is_module_declaration, is_exported_head, is_function_head, is_generator_head, is_async_function_head, is_async_generator_head, is_function_tail, is_getter_tail, is_setter_tail, is_method_head, is_decorator_list, is_class_head, is_class_tail, is_class_element, is_constructor_name, is_any_function_head, is_head_without_yield, is_head_without_await, is_any_property_name, is_jsx_element, is_jsx_object, is_uncovered, takes}
 use Rattle.swc_ecma_codegen_uniqueness.specs.ParseTrees.{End, Node, TaggedTpl}
@@ -230,10 +230,6 @@ held_unknown (Statement (InList ends)) = refl
 held_unknown c = refl
 
 -- behind an attribute's element, and behind a child
-first_two : (a b : Bool) → a ≡ true → b ≡ true → (a && b) ≡ true
-first_two true true h k = refl
-first_two true false h k = absurd (true≢false (sym k))
-first_two false b h k = absurd (true≢false (sym h))
 
 either_refused : (a : Action) {b : Action} → b ≡ Reject → either a b ≡ true
 either_refused a e = ap (either a) e ∙ or_right (is_refused a) true refl
@@ -273,14 +269,14 @@ listed_rejects part = refl
 
 held_jsx : (c : Control) (part : JsxPart) (l : Class) → begins_like part l ≡ true → held_apart c (Jsx part) l ≡ true
 unfolding is_member is_new is_call is_callee is_chained is_left_hand_side is_update is_unary is_exponentiation is_multiplicative is_additive is_shift is_relational is_in_left is_equality is_bitwise_and is_bitwise_xor is_bitwise_or is_logical_and is_logical_or is_coalesce_head is_short_circuit is_conditional is_assignment is_expression is_assignment_target is_pattern_target is_pattern_element is_last_element is_coalesce is_private is_optional is_primary is_template is_property_name is_chain_link is_assignment_pattern is_pattern_name is_rest is_statement is_hoistable_declaration is_block is_variable_declarations is_declaration is_statement_list_item is_labelled_item is_module_declaration is_exported_head is_function_head is_generator_head is_async_function_head is_async_generator_head is_function_tail is_getter_tail is_setter_tail is_method_head is_decorator_list is_class_head is_class_tail is_class_element is_constructor_name is_any_function_head is_head_without_yield is_head_without_await is_any_property_name is_jsx_element is_jsx_object is_uncovered takes
-held_jsx AttributeElement TagName l h = first_two _ _ (right_refused Splice (attribute_named l h)) refl
-held_jsx AttributeElement TagClose l h = first_two _ _ (right_refused Splice (attribute_angled l h)) refl
+held_jsx AttributeElement TagName l h = and_from _ _ (right_refused Splice (attribute_named l h)) refl
+held_jsx AttributeElement TagClose l h = and_from _ _ (right_refused Splice (attribute_angled l h)) refl
 held_jsx Children TagName l h = refl
 held_jsx Children TagString l h = refl
 held_jsx Children TagClose l h = refl
-held_jsx Children TagText l h = first_two _ _ (either_refused Shift (children_refuse l h)) refl
-held_jsx Children ChildTagMark l h = first_two _ _ (either_refused Begin (children_less l h)) refl
-held_jsx Children ChildBraceMark l h = first_two _ _ (either_refused Shift (children_brace l h)) refl
+held_jsx Children TagText l h = and_from _ _ (either_refused Shift (children_refuse l h)) refl
+held_jsx Children ChildTagMark l h = and_from _ _ (either_refused Begin (children_less l h)) refl
+held_jsx Children ChildBraceMark l h = and_from _ _ (either_refused Shift (children_brace l h)) refl
 held_jsx (Open tail) part l h = rejects_held (Open tail) part l (tail_rejects part tail)
 held_jsx AfterNew part l h = rejects_held AfterNew part l (new_rejects part)
 held_jsx YieldLine part l h = rejects_held YieldLine part l (line_rejects part)
@@ -438,10 +434,6 @@ acted_fails EnterBelow EnterBelow t u f (g ∷ s) h p q x y k l =
 acted_fails a Reject t u f s h p q x y k l = inr refl
 acted_fails a b t u f s h p q x y k l = absurd (true≢false (sym x))
 
-not_true : (b : Bool) → not b ≡ true → b ≡ false
-not_true false h = refl
-not_true true h = absurd (true≢false (sym h))
-
 state_fails : (s : List Frame) (h : Hand) (t u : Token) → Rivals (class t) (class u) → (step t s h ≡ Fail) ⊎ (step u s h ≡ Fail)
 state_fails [] h t u i = inl refl
 state_fails (f ∷ s) Empty t u i =
@@ -451,7 +443,7 @@ state_fails (f ∷ s) (Full v p) t u i =
     let x = and_parts _ _ (held_test f.control i) in
     let y = and_parts _ _ x.1 in
     acted_fails (decide f.control (Some v) t) (decide f.control (Some v) u) t u f s (Full v p) _ _ x.0 (state_fails s (Full (variant_of f.control) (f.so_far (Node v p End))) t u i) (told _ _ y.0)
-    (λ k. absurd (true≢false (sym k ∙ not_true (lowers (with_operand f.control (class t))) y.1)))
+    (λ k. absurd (true≢false (sym k ∙ not-true (lowers (with_operand f.control (class t))) y.1)))
 
 pub next_fails : (q : State) (t u : Token) → Rivals (class t) (class u) → (next t q ≡ Fail) ⊎ (next u q ≡ Fail)
 next_fails Fail t u i = inl refl

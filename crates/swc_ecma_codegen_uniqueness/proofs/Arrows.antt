@@ -1,7 +1,7 @@
 -- Arrow functions are read as they are: what stands before `=>` are parameters.
 use Rattle.std.proofs.Common.{◌≡◌, ℕ, Bool, true, false, ◌||◌, not, List, [], ◌∷◌, Option, Some, None, refl, sym, ap, ◌∙◌, subst}
 use Rattle.std.specs.Prelude.{codes, is_some}
-use Rattle.std.proofs.lemmas.Bool.{true≢false}
+use Rattle.std.proofs.lemmas.Bool.{true≢false, or_left}
 use Rattle.swc_ecma_codegen_tree.specs.Links.{PatBox, TsTypeAnnBox, TsTypeParamDeclBox}
 use Rattle.swc_ecma_codegen_tree.specs.declared.links.AnyNode.{AnyNode, AnyNode-F, out-AnyNode}
 use Rattle.swc_ecma_codegen_tree.specs.declared.links.AnyNode.TheOpen as nodes
@@ -15,7 +15,7 @@ use Rattle.swc_ecma_codegen_tree.specs.declared.pats.Pat.TheVariants as pats
 use Rattle.swc_ecma_codegen_grammar.specs.FunctionPhrases.{is_never, word_if, is_typed_arrow}
 use Rattle.swc_ecma_codegen_grammar.specs.PartPhrases.{expr_part}
 use Rattle.swc_ecma_codegen_grammar.specs.PatPhrases.{plain_parameter}
-use Rattle.swc_ecma_codegen_grammar.specs.Phrases.{Phrase, Never, Nothing, One, NameOf, KeyOf, PrivateOf, TagNameOf, Then, CommaBefore, OptionalParentheses, Chosen, Generates, chosen, open_parenthesis, close_parenthesis, mark}
+use Rattle.swc_ecma_codegen_grammar.specs.Phrases.{mark}
 use Rattle.swc_ecma_codegen_grammar.specs.Phrases as phrases
 use Rattle.swc_ecma_codegen_grammar.specs.Settings.{Settings}
 use Rattle.swc_ecma_codegen_grammar.specs.Tokens.{Token, punctuator, same_line}
@@ -37,7 +37,7 @@ use Rattle.swc_ecma_codegen_uniqueness.specs.Parses.{placed, is_inlined, is_inli
 use Rattle.swc_ecma_codegen_uniqueness.proofs.Classes.{class, NameToken}
 use Rattle.swc_ecma_codegen_uniqueness.proofs.Controls.{Listed, ArrowBody, InList}
 use Rattle.swc_ecma_codegen_uniqueness.proofs.PlaceLaws.{begins_none}
-use Rattle.swc_ecma_codegen_uniqueness.proofs.TableLaws.{cover, or_left, takes_on}
+use Rattle.swc_ecma_codegen_uniqueness.proofs.TableLaws.{cover, takes_on}
 use Rattle.swc_ecma_codegen_uniqueness.proofs.Machine.{Whole, Rest, Good, Heads, turned, spine_free, turned_low}
 use Rattle.swc_ecma_codegen_uniqueness.proofs.Joined.{derived_joined}
 use Rattle.swc_ecma_codegen_uniqueness.proofs.Parsed.{tokens_before}

@@ -20,7 +20,7 @@ use Rattle.swc_ecma_codegen_tree.specs.declared.exprs.MetaPropKind.TheVariants a
 use Rattle.swc_ecma_codegen_tree.specs.declared.exprs.ParenExpr.{ParenExpr}
 use Rattle.swc_ecma_codegen_tree.specs.declared.pats.SimpleAssignTarget.{SimpleAssignTarget}
 use Rattle.swc_ecma_codegen_tree.specs.declared.pats.SimpleAssignTarget.TheVariants as simple_targets
-use Rattle.swc_ecma_codegen_grammar.specs.Phrases.{Phrase, Generates, Nothing, One, NameOf, Then, where_, mark}
+use Rattle.swc_ecma_codegen_grammar.specs.Phrases.{Generates, Nothing, One, NameOf, Then, where_, mark}
 use Rattle.swc_ecma_codegen_grammar.specs.Phrases as phrases
 use Rattle.swc_ecma_codegen_grammar.specs.ExprPhrases.{meta_prop}
 use Rattle.swc_ecma_codegen_grammar.specs.LitPhrases.{lit, str_lit, bool_lit, null_lit, number, number_of, finite, infinity, big_int, regex, after_sign, string_token, number_token, big_int_token}
@@ -28,7 +28,7 @@ use Rattle.swc_ecma_codegen_grammar.specs.NamePhrases.{ident}
 use Rattle.swc_ecma_codegen_grammar.specs.Names.{name_value}
 use Rattle.swc_ecma_codegen_grammar.specs.Settings.{Settings}
 use Rattle.swc_ecma_codegen_grammar.specs.SpelledNames.{spelled_name}
-use Rattle.swc_ecma_codegen_grammar.specs.Tokens.{Token, token_of, word, punctuator}
+use Rattle.swc_ecma_codegen_grammar.specs.Tokens.{Token, token_of, word}
 use Rattle.swc_ecma_codegen_grammar.specs.Tokens as tokens
 use Rattle.swc_ecma_codegen_syntax.specs.declared.nonterminals.Nonterminal.{Nonterminal}
 use Rattle.swc_ecma_codegen_syntax.specs.declared.nonterminals.Nonterminal.TheVariants as nt
@@ -43,7 +43,7 @@ use Rattle.swc_ecma_codegen_uniqueness.specs.ParseTrees.{ParseTree, End, Read, I
 use Rattle.swc_ecma_codegen_uniqueness.specs.Parses.{placed, is_inlined}
 use Rattle.swc_ecma_codegen_uniqueness.proofs.Classes.{LiteralToken, RegexToken, class, NameToken, ConstantWord}
 use Rattle.swc_ecma_codegen_uniqueness.proofs.Controls.{starts}
-use Rattle.swc_ecma_codegen_uniqueness.proofs.Tables.{started}
+use Rattle.swc_ecma_codegen_uniqueness.proofs.Moves.{started}
 use Rattle.swc_ecma_codegen_uniqueness.proofs.TableLaws.{is_place}
 use Rattle.swc_ecma_codegen_uniqueness.proofs.Machine.{Whole, Good}
 use Rattle.swc_ecma_codegen_uniqueness.proofs.Shapes.{atom, parenthesized, new_target, import_meta}

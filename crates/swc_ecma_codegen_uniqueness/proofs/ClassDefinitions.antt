@@ -15,7 +15,7 @@ use Rattle.swc_ecma_codegen_tree.specs.declared.parts.StmtPart.TheVariants as st
 use Rattle.swc_ecma_codegen_tree.specs.declared.ts_decls.TsExprWithTypeArgs.{TsExprWithTypeArgs}
 use Rattle.swc_ecma_codegen_grammar.specs.ClassPhrases.{class_word}
 use Rattle.swc_ecma_codegen_grammar.specs.FunctionPhrases.{word_if, is_some_listed}
-use Rattle.swc_ecma_codegen_grammar.specs.Phrases.{Generates, Then, where_}
+use Rattle.swc_ecma_codegen_grammar.specs.Phrases.{Then, where_}
 use Rattle.swc_ecma_codegen_grammar.specs.Phrases as phrases
 use Rattle.swc_ecma_codegen_grammar.specs.Settings.{Settings}
 use Rattle.swc_ecma_codegen_grammar.specs.Tokens.{Token, punctuator, word}
@@ -35,7 +35,8 @@ use Rattle.swc_ecma_codegen_uniqueness.specs.ParseTrees.{Variant, ParseTree, End
 use Rattle.swc_ecma_codegen_uniqueness.specs.Parses.{placed, is_inlined}
 use Rattle.swc_ecma_codegen_uniqueness.proofs.Classes.{Class, class}
 use Rattle.swc_ecma_codegen_uniqueness.proofs.Controls.{AfterClass, Heritage, Members, stands}
-use Rattle.swc_ecma_codegen_uniqueness.proofs.Tables.{Wrap, without, with_operand, shifted_to}
+use Rattle.swc_ecma_codegen_uniqueness.proofs.Moves.{shifted_to}
+use Rattle.swc_ecma_codegen_uniqueness.proofs.Tables.{Wrap, without, with_operand}
 use Rattle.swc_ecma_codegen_uniqueness.proofs.TableLaws.{is_wrap}
 use Rattle.swc_ecma_codegen_uniqueness.proofs.Machine.{Whole, Rest, Good, Heads, goes_on, shifted, keeping}
 use Rattle.swc_ecma_codegen_uniqueness.proofs.Shapes.{takes_self, part_then, begun, ended}

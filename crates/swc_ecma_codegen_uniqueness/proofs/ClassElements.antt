@@ -26,7 +26,7 @@ use Rattle.swc_ecma_codegen_grammar.specs.AnnotationPhrases.{question}
 use Rattle.swc_ecma_codegen_grammar.specs.ClassPhrases.{accessibility, tail_role, prop_modifiers, private_modifiers}
 use Rattle.swc_ecma_codegen_grammar.specs.FunctionPhrases.{after_async, word_if, method_head}
 use Rattle.swc_ecma_codegen_grammar.specs.NamePhrases.{private_name}
-use Rattle.swc_ecma_codegen_grammar.specs.Phrases.{Phrase, Generates, Nothing, ◌>◌, where_, mark}
+use Rattle.swc_ecma_codegen_grammar.specs.Phrases.{Generates, ◌>◌, where_, mark}
 use Rattle.swc_ecma_codegen_grammar.specs.Phrases as phrases
 use Rattle.swc_ecma_codegen_grammar.specs.Settings.{Settings}
 use Rattle.swc_ecma_codegen_grammar.specs.Tokens.{Token, punctuator, word, ending}
@@ -45,7 +45,7 @@ use Rattle.swc_ecma_codegen_uniqueness.specs.ParseTrees.{Variant, ParseTree, End
 use Rattle.swc_ecma_codegen_uniqueness.specs.Parses.{placed, is_inlined}
 use Rattle.swc_ecma_codegen_uniqueness.proofs.Classes.{Class, NameToken, LiteralToken, class, KeyToken}
 use Rattle.swc_ecma_codegen_uniqueness.proofs.Controls.{Control, InList, Parameter, AfterParameters, AtMember, InMemberKey, MemberKey, FieldPlace}
-use Rattle.swc_ecma_codegen_uniqueness.proofs.Tables.{field_of, shifted_to}
+use Rattle.swc_ecma_codegen_uniqueness.proofs.Moves.{field_of, shifted_to}
 use Rattle.swc_ecma_codegen_uniqueness.proofs.PlaceLaws.{is_no_member, is_no_key, key_member, member_shifts, element_begins}
 use Rattle.swc_ecma_codegen_uniqueness.proofs.TableLaws.{assignment_single}
 use Rattle.swc_ecma_codegen_uniqueness.proofs.Machine.{Whole, Rest, Good, headed_block, shifted}

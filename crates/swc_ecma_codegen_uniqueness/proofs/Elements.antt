@@ -1,7 +1,7 @@
 -- Elements of JSX are read as they are.
 use Rattle.std.proofs.Common.{◌≡◌, ℕ, Bool, true, false, not, List, [], ◌∷◌, Option, Some, None, length, arith, refl, sym, ap, ◌∙◌, subst}
 use Rattle.std.specs.Prelude.{codes, string_bytes, if◌then◌else◌}
-use Rattle.std.proofs.lemmas.Bool.{true≢false, eqb-true}
+use Rattle.std.proofs.lemmas.Bool.{true≢false, eqb-true, or_left}
 use Rattle.swc_ecma_codegen_tree.specs.declared.links.AnyNode.{AnyNode, AnyNode-F, out-AnyNode}
 use Rattle.swc_ecma_codegen_tree.specs.declared.links.AnyNode.TheOpen as nodes
 use Rattle.swc_ecma_codegen_tree.specs.declared.idents.Ident.{Ident}
@@ -48,9 +48,10 @@ use Rattle.swc_ecma_codegen_uniqueness.specs.ParseTrees.{Variant, ParseTree, End
 use Rattle.swc_ecma_codegen_uniqueness.specs.Parses.{placed, is_inlined}
 use Rattle.swc_ecma_codegen_uniqueness.proofs.Classes.{Class, class}
 use Rattle.swc_ecma_codegen_uniqueness.proofs.Controls.{Control, OpenTag, InTag, AttributeValue, AttributeBraces, SelfClosing, Children, ChildBraces, ClosingTag, ClosingName, stands as stands_at}
-use Rattle.swc_ecma_codegen_uniqueness.proofs.Tables.{Wrap, without, with_operand, shifted_to}
+use Rattle.swc_ecma_codegen_uniqueness.proofs.Moves.{shifted_to}
+use Rattle.swc_ecma_codegen_uniqueness.proofs.Tables.{Wrap, without, with_operand}
 use Rattle.swc_ecma_codegen_uniqueness.proofs.PlaceLaws.{child_begins, follows_attribute, attribute_ends, attribute_taken}
-use Rattle.swc_ecma_codegen_uniqueness.proofs.TableLaws.{is_wrap, or_left, ended_by}
+use Rattle.swc_ecma_codegen_uniqueness.proofs.TableLaws.{is_wrap, ended_by}
 use Rattle.swc_ecma_codegen_uniqueness.proofs.Machine.{Whole, Rest, Good, Heads, goes_on, headed_block, shifted, entering, entering_there, splicing, keeping, merged_two}
 use Rattle.swc_ecma_codegen_uniqueness.proofs.Shapes.{Operand, takes_self, assignment_taken, widened, part_then, begun, ended}
 use Rattle.swc_ecma_codegen_uniqueness.proofs.StatementShapes.{listed_heads}

@@ -18,7 +18,7 @@ use Rattle.swc_ecma_codegen_syntax.specs.Derives.{Derives, fixed, part, simple, 
 use Rattle.swc_ecma_codegen_uniqueness.specs.ParseTrees.{Variant, ParseTree, End, Read, JSXElement, node_variant}
 use Rattle.swc_ecma_codegen_uniqueness.specs.Parses.{is_inlined}
 use Rattle.swc_ecma_codegen_uniqueness.proofs.Controls.{Control, OpenTag, InTag, ChildTag, ClosingTag, ClosingName, Statement as AtStatement, Where}
-use Rattle.swc_ecma_codegen_uniqueness.proofs.Tables.{closing}
+use Rattle.swc_ecma_codegen_uniqueness.proofs.Moves.{closing}
 use Rattle.swc_ecma_codegen_uniqueness.proofs.PlaceLaws.{is_list}
 use Rattle.swc_ecma_codegen_uniqueness.proofs.TableLaws.{is_place, is_sequence, cover, cover_taken}
 use Rattle.swc_ecma_codegen_uniqueness.proofs.Machine.{Whole, Rest, Good, spine_free}

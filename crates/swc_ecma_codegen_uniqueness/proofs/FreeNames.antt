@@ -3,7 +3,7 @@ use Rattle.std.proofs.Common.{◌≡◌, ℕ, Bool, true, false, ◌&&◌, ◌||
 use Rattle.std.specs.Prelude.{bytes_eq}
 use Rattle.std.specs.Str.{chars, IsUtf8}
 use Rattle.std.proofs.Math.Utf8.{encode, encodes}
-use Rattle.std.proofs.lemmas.Bool.{true≢false, and_parts}
+use Rattle.std.proofs.lemmas.Bool.{and_parts, not-true}
 use Rattle.std.proofs.lemmas.Bool.Decides.{same_from_decides}
 use Rattle.std.proofs.lemmas.Slice.Eq.{bytes_eq-Decides}
 use Rattle.std.proofs.lemmas.Str.{encodes-chars}
@@ -17,23 +17,19 @@ use Rattle.swc_ecma_codegen_syntax.proofs.NameSigns.{characters_have_none}
 
 -- ---- the characters of a name without escapes
 
-not_true : (b : Bool) → not b ≡ true → b ≡ false
-not_true true h = absurd (true≢false (sym h))
-not_true false h = refl
-
 value_of_none : (cs : List ℕ) → has_no_escape cs ≡ true → name_characters Between cs ≡ cs
 unfolding has_no_escape name_characters
 value_of_none [] h = refl
 value_of_none (c ∷ cs) h =
     let p = and_parts (not (c == 92)) (has_no_escape cs) h in
-    ap (λ b. cond b (name_characters Escaped cs) (c ∷ name_characters Between cs)) (not_true (c == 92) p.0) ∙ ap (λ ds. c ∷ ds) (value_of_none cs p.1)
+    ap (λ b. cond b (name_characters Escaped cs) (c ∷ name_characters Between cs)) (not-true (c == 92) p.0) ∙ ap (λ ds. c ∷ ds) (value_of_none cs p.1)
 
 turned_of_none : (bytes : List ℕ) → has_no_escape bytes ≡ true → turned_after false bytes ≡ bytes
 unfolding has_no_escape turned_after
 turned_of_none [] h = refl
 turned_of_none (c ∷ cs) h =
     let p = and_parts (not (c == 92)) (has_no_escape cs) h in
-    ap (λ b. c ∷ turned_after b cs) (not_true (c == 92) p.0) ∙ ap (λ ds. c ∷ ds) (turned_of_none cs p.1)
+    ap (λ b. c ∷ turned_after b cs) (not-true (c == 92) p.0) ∙ ap (λ ds. c ∷ ds) (turned_of_none cs p.1)
 
 name_characters_are : (bytes : List ℕ) → IsUtf8 bytes → has_no_escape bytes ≡ true → name_value (spelled_name bytes) ≡ chars bytes
 unfolding name_value spelled_name
@@ -84,4 +80,4 @@ same_reserved bytes u h =
 
 pub free_name : (c : Parameters) (bytes : List ℕ) → IsUtf8 bytes → is_free c bytes ≡ true → has_no_escape bytes ≡ true → is_reserved (name_value (spelled_name bytes)) ≡ false
 unfolding is_free
-free_name c bytes u f h = same_reserved bytes u h ∙ not_true (is_reserved bytes) (and_parts (not (is_reserved bytes)) _ f).0
+free_name c bytes u f h = same_reserved bytes u h ∙ not-true (is_reserved bytes) (and_parts (not (is_reserved bytes)) _ f).0

@@ -40,7 +40,8 @@ use Rattle.swc_ecma_codegen_uniqueness.specs.ParseTrees.{Variant, ParseTree, End
 use Rattle.swc_ecma_codegen_uniqueness.specs.Parses.{placed, is_inlined, is_inlined_pat}
 use Rattle.swc_ecma_codegen_uniqueness.proofs.Classes.{class, NameToken}
 use Rattle.swc_ecma_codegen_uniqueness.proofs.Controls.{AfterAsync, AfterFunction, AfterName, Parameter, AfterParameters, left, InList}
-use Rattle.swc_ecma_codegen_uniqueness.proofs.Tables.{Splice, decide, passed_to, closing, without, shifted_to}
+use Rattle.swc_ecma_codegen_uniqueness.proofs.Moves.{passed_to, closing, shifted_to}
+use Rattle.swc_ecma_codegen_uniqueness.proofs.Tables.{Splice, decide, without}
 use Rattle.swc_ecma_codegen_uniqueness.proofs.PlaceLaws.{is_list}
 use Rattle.swc_ecma_codegen_uniqueness.proofs.TableLaws.{cover, cover_taken}
 use Rattle.swc_ecma_codegen_uniqueness.proofs.Machine.{Whole, Rest, Good, shifted}

@@ -16,7 +16,8 @@ use Rattle.swc_ecma_codegen_syntax.specs.Lookahead.{Sign, OpenBrace as BraceSign
 use Rattle.swc_ecma_codegen_uniqueness.specs.ParseTrees.{Variant, ParseTree, tokens_of}
 use Rattle.swc_ecma_codegen_uniqueness.proofs.Classes.{Class, Strange, FunctionWord, ClassWord, ImportWord, AsyncWord, words, marks, child_marks, look, class_of, class, KeyToken, NameToken}
 use Rattle.swc_ecma_codegen_uniqueness.proofs.Controls.{OfElse, Entered, starts, stands as stands_at, closes as closes_at}
-use Rattle.swc_ecma_codegen_uniqueness.proofs.Tables.{Leave, started, shifted_to, decide, without}
+use Rattle.swc_ecma_codegen_uniqueness.proofs.Moves.{started, shifted_to}
+use Rattle.swc_ecma_codegen_uniqueness.proofs.Tables.{Leave, decide, without}
 use Rattle.swc_ecma_codegen_uniqueness.proofs.PlaceLaws.{is_barred, is_import_call, import_rejects, is_line, is_function, is_no_start, none_begins, async_line, async_rejects, async_ends, leaves_alone, delayed_by}
 use Rattle.swc_ecma_codegen_uniqueness.proofs.Machine.{Whole, Good, Heads, never_next, never_rejected}
 use Rattle.swc_ecma_codegen_uniqueness.proofs.StatementShapes.{operand_heads, MayEnter, at_once, behind_import, behind_async, MayStand, is_open_brace}
@@ -32,10 +33,6 @@ keyed f keys (e ∷ es) = (not (f e.1) || is_one_of keys e.0) && keyed f keys es
 not_or : (a b : Bool) → (not a || b) ≡ true → b ≡ false → a ≡ false
 not_or false b h k = refl
 not_or true b h k = absurd (true≢false (sym h ∙ k))
-
-pub not_true : (b : Bool) → not b ≡ true → b ≡ false
-not_true false h = refl
-not_true true h = absurd (true≢false (sym h))
 
 look_by : (f : Class → Bool) (keys : List (List ℕ)) (b : Bool) (e : List ℕ × Class) (es : List (List ℕ × Class)) (text : List ℕ) → bytes_eq text e.0 ≡ b → (not (f e.1) || is_one_of keys e.0) ≡ true → is_one_of keys text ≡ false →
     f (look es text) ≡ false → f (cond b e.1 (look es text)) ≡ false

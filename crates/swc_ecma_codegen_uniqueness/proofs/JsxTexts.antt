@@ -1,5 +1,5 @@
 -- What begins in a text as a token of JSX does.
-use Rattle.std.proofs.Common.{◌≡◌, ℕ, true, false, ◌&&◌, ◌||◌, ◌==◌, not, ◌⊎◌, inl, inr, List, [], ◌∷◌, ◌++◌, codes, refl, sym, ap, ap₂, ◌∙◌, subst}
+use Rattle.std.proofs.Common.{◌≡◌, ℕ, true, false, ◌||◌, ◌==◌, not, ◌⊎◌, inl, inr, List, [], ◌∷◌, ◌++◌, codes, refl, sym, ap, ap₂, ◌∙◌, subst}
 use Rattle.std.proofs.lemmas.Bool.{true≢false, and_parts, cond-true, not-true, or_cases, or_left}
 use Rattle.swc_ecma_codegen_grammar.specs.Chars.{is_digit, is_letter, is_quote, is_start}
 use Rattle.swc_ecma_codegen_grammar.specs.Jsx.{all_bare, is_bare, is_jsx_name, is_jsx_open, is_jsx_string, is_jsx_text}

@@ -13,7 +13,7 @@ use Rattle.swc_ecma_codegen_grammar.specs.Keys.{key_token, is_quoted}
 use Rattle.swc_ecma_codegen_grammar.specs.LitPhrases.{number}
 use Rattle.swc_ecma_codegen_grammar.specs.Settings.{Settings}
 use Rattle.swc_ecma_codegen_grammar.specs.SpelledNames.{spelled_name}
-use Rattle.swc_ecma_codegen_grammar.specs.Tokens.{Token, Value, punctuator}
+use Rattle.swc_ecma_codegen_grammar.specs.Tokens.{Token, Value}
 use Rattle.swc_ecma_codegen_grammar.specs.Tokens as tokens
 use Rattle.swc_ecma_codegen_grammar.specs.declared.kinds.Kind.TheVariants as kinds
 use Rattle.swc_ecma_codegen_grammar.specs.declared.roles.Role.TheVariants.{PropertyName}

@@ -19,6 +19,7 @@ pub mod Lists
 pub mod Loops
 pub mod Machine
 pub mod Modules
+pub mod Moves
 pub mod Objects
 pub mod Operators
 pub mod Parsed

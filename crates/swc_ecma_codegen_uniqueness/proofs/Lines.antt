@@ -1,13 +1,14 @@
 -- Where `[no LineTerminator here]` stands before a token, no state takes the token without it.
 use Rattle.std.proofs.Common.{◌≡◌, Bool, true, false, ◌||◌, ◌&&◌, ◌⊎◌, inl, inr, List, [], ◌∷◌, None, Some, cond, refl, sym, ap, ◌∙◌, subst}
-use Rattle.std.proofs.lemmas.Bool.{true≢false}
+use Rattle.std.proofs.lemmas.Bool.{true≢false, or_parts}
 use Rattle.swc_ecma_codegen_grammar.specs.Tokens.{Token}
 use Rattle.swc_ecma_codegen_syntax.specs.declared.nonterminals.Nonterminal.TheVariants as nt
 use Rattle.swc_ecma_codegen_syntax.specs.Nonterminals.{is_member, is_new, is_call, is_callee, is_chained, is_left_hand_side, is_update, is_unary, is_exponentiation, is_multiplicative, is_additive, is_shift, is_relational, is_in_left, is_equality, is_bitwise_and, is_bitwise_xor, is_bitwise_or, is_logical_and, is_logical_or, is_coalesce_head, is_short_circuit, is_conditional, is_assignment, is_expression, is_assignment_target, is_pattern_target, is_pattern_element, is_last_element, is_coalesce, is_private, is_optional, is_primary, is_template, is_property_name, is_chain_link, is_assignment_pattern, is_pattern_name, is_rest, is_statement, is_hoistable_declaration, is_block, is_variable_declarations, is_declaration, is_statement_list_item, is_labelled_item, is_module_declaration, is_exported_head, is_function_head, is_generator_head, is_async_function_head, is_async_generator_head, is_function_tail, is_getter_tail, is_setter_tail, is_method_head, is_decorator_list, is_class_head, is_class_tail, is_class_element, is_constructor_name, is_any_function_head, is_head_without_yield, is_head_without_await, is_any_property_name, is_jsx_element, is_jsx_object, is_uncovered, takes}
 use Rattle.swc_ecma_codegen_uniqueness.specs.ParseTrees.{Variant, ParseTree, End, Node, Read, ReturnStmt, ThrowStmt}
 use Rattle.swc_ecma_codegen_uniqueness.proofs.Classes.{Power, Times, Class, Infix, First, Line, Twice, FatArrow, Semi, NameToken, Jsx, class, is_reserved_word}
 use Rattle.swc_ecma_codegen_uniqueness.proofs.Controls.{OfInfix, Control, Open, InList, Statement, Postfix, AsyncParameters, AsyncOperand, AfterYield, AfterAsync, AsyncItem, AsyncDefault, AsyncKey, AsyncMember, AfterWord, Valued, Jump, left, starts, variant_of}
-use Rattle.swc_ecma_codegen_uniqueness.proofs.Tables.{Action, Shift, Push, Wrap, Reduce, Take, Keep, Reject, without, with_operand, decide, shift, shifted_to, passed_to, wrapped_to}
+use Rattle.swc_ecma_codegen_uniqueness.proofs.Moves.{shift, shifted_to, passed_to, wrapped_to}
+use Rattle.swc_ecma_codegen_uniqueness.proofs.Tables.{Action, Shift, Push, Wrap, Reduce, Take, Keep, Reject, without, with_operand, decide}
 use Rattle.swc_ecma_codegen_uniqueness.proofs.PlaceLaws.{is_line}
 use Rattle.swc_ecma_codegen_uniqueness.proofs.Machine.{Empty, Full, Frame, State, At, Fail, acted_once, acted, step, next, held, turned_hand, spliced, went}
 use Rattle.swc_ecma_codegen_uniqueness.proofs.Apart.{Rivals, divides, divides_in_place, closes, tags, goes_on_with_tag, stays, stays_too, finishes, spells, unknown, by_jsx, next_fails}
@@ -192,13 +193,9 @@ word_ends AsyncMember l w h k = only_line AsyncMember l refl h
 word_ends (AfterWord v) l w h k = jump_ends v l h k
 word_ends c l w h k = absurd (true≢false (sym w))
 
-none_of : (a b : Bool) → (a || b) ≡ false → b ≡ false
-none_of false b h = h
-none_of true b h = absurd (true≢false h)
-
 yield_begins : (l : Class) → starts_line l ≡ false → without (shifted_to AfterYield Line) l ≡ Reject
 yield_begins (Infix Times) h = absurd (true≢false h)
-yield_begins l h = ap (λ b. cond b Push Reject) (none_of (is_times l) (starts l) h)
+yield_begins l h = ap (λ b. cond b Push Reject) ((or_parts (is_times l) (starts l) h).1)
 
 jump_begins : (v : Variant) (l : Class) → starts_line l ≡ false → without (Jump v) l ≡ Reject
 jump_begins v NameToken h = absurd (true≢false h)
@@ -211,7 +208,7 @@ behind_word v = inr refl
 
 word_begins : (v : Variant) (l : Class) → starts_line l ≡ false → without (shifted_to (AfterWord v) Line) l ≡ Reject
 word_begins v l h = elim (behind_word v) [
-  | inl e ↦ ap (λ c. without c l) e ∙ ap (λ b. cond b Push Reject) (none_of (is_times l) (starts l) h)
+  | inl e ↦ ap (λ c. without c l) e ∙ ap (λ b. cond b Push Reject) ((or_parts (is_times l) (starts l) h).1)
   | inr e ↦ ap (λ c. without c l) e ∙ jump_begins v l h
 ]
 

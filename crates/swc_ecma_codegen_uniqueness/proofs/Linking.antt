@@ -21,7 +21,7 @@ use Rattle.swc_ecma_codegen_tree.specs.declared.exprs.OptChainBase.TheVariants a
 use Rattle.swc_ecma_codegen_tree.specs.declared.exprs.TaggedTpl.{TaggedTpl}
 use Rattle.swc_ecma_codegen_tree.specs.declared.exprs.Tpl.{Tpl}
 use Rattle.swc_ecma_codegen_tree.specs.declared.exprs.TplElement.{TplElement}
-use Rattle.swc_ecma_codegen_grammar.specs.Phrases.{Phrase, Generates, One, where_}
+use Rattle.swc_ecma_codegen_grammar.specs.Phrases.{Generates, One, where_}
 use Rattle.swc_ecma_codegen_grammar.specs.Phrases as phrases
 use Rattle.swc_ecma_codegen_grammar.specs.ExprPhrases.{chain_mark}
 use Rattle.swc_ecma_codegen_grammar.specs.CallPhrases.{call_mark}
@@ -45,7 +45,8 @@ use Rattle.swc_ecma_codegen_syntax.specs.Derives.{Derives, fixed, part, both, pr
 use Rattle.swc_ecma_codegen_uniqueness.specs.ParseTrees.{Variant, ParseTree, End, Read, Node, Member, Call, SuperProp as a_super, Tpl as a_template, TaggedTpl as a_tag, OptChain}
 use Rattle.swc_ecma_codegen_uniqueness.specs.Parses.{placed, is_inlined}
 use Rattle.swc_ecma_codegen_uniqueness.proofs.Classes.{First, class}
-use Rattle.swc_ecma_codegen_uniqueness.proofs.Tables.{template, is_tag}
+use Rattle.swc_ecma_codegen_uniqueness.proofs.Moves.{template}
+use Rattle.swc_ecma_codegen_uniqueness.proofs.Tables.{is_tag}
 use Rattle.swc_ecma_codegen_uniqueness.proofs.TableLaws.{is_place, Linked, a_member, of_call, a_target, a_chain, of_chain, calls_on}
 use Rattle.swc_ecma_codegen_uniqueness.proofs.Machine.{Mode, Whole, Rest, Good}
 use Rattle.swc_ecma_codegen_uniqueness.proofs.Shapes.{Operand, ended, member_named, member_indexed, chain_named, chain_indexed, chain_called, chained_not, chained_so, plain_member, plain_call, plain_callee, of_a_chain, super_named, super_indexed, template_next, untagged, tagged}

@@ -16,7 +16,7 @@ use Rattle.swc_ecma_codegen_tree.specs.declared.exprs.MemberProp.{MemberProp}
 use Rattle.swc_ecma_codegen_tree.specs.declared.exprs.MemberProp.TheVariants as member_props
 use Rattle.swc_ecma_codegen_tree.specs.declared.modules.ImportPhase.{ImportPhase}
 use Rattle.swc_ecma_codegen_tree.specs.declared.modules.ImportPhase.TheVariants as phases
-use Rattle.swc_ecma_codegen_grammar.specs.Phrases.{Generates, Nothing, Chosen, EmptyArguments, chosen}
+use Rattle.swc_ecma_codegen_grammar.specs.Phrases.{Generates, chosen}
 use Rattle.swc_ecma_codegen_grammar.specs.Phrases as phrases
 use Rattle.swc_ecma_codegen_grammar.specs.CallPhrases.{spread_mark, import_callee, import_phase}
 use Rattle.swc_ecma_codegen_grammar.specs.ElementPhrases.{last_is_hole}
@@ -35,7 +35,8 @@ use Rattle.swc_ecma_codegen_syntax.specs.Derives.{Derives, fixed, part, both, pr
 use Rattle.swc_ecma_codegen_uniqueness.specs.ParseTrees.{Variant, ParseTree, End, Read, Node, Array, Member, Call, New}
 use Rattle.swc_ecma_codegen_uniqueness.specs.Parses.{placed, is_inlined, read_all}
 use Rattle.swc_ecma_codegen_uniqueness.proofs.Controls.{Control, Arguments}
-use Rattle.swc_ecma_codegen_uniqueness.proofs.Tables.{Shift, decide, shift, chained}
+use Rattle.swc_ecma_codegen_uniqueness.proofs.Moves.{shift, chained}
+use Rattle.swc_ecma_codegen_uniqueness.proofs.Tables.{Shift, decide}
 use Rattle.swc_ecma_codegen_uniqueness.proofs.TableLaws.{Linked, Calling, calls, cover}
 use Rattle.swc_ecma_codegen_uniqueness.proofs.Machine.{Whole, Rest, Good}
 use Rattle.swc_ecma_codegen_uniqueness.proofs.Shapes.{Operand, After, part_then, takes_self, IsName, dots_then, arguments_closed, argument_next, no_arguments, InElements, BehindElement, BehindHole, element_then, spread_element, elements_closed, element_next, hole_then, no_elements, array, member_named, member_indexed, called, chained_not, plain_callee, import_called, super_called, new_alone, new_with, name_by, is_any_name}

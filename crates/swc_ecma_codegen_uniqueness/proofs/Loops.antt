@@ -1,6 +1,7 @@
 -- `for` is read as it is, in its three forms.
 use Rattle.std.proofs.Common.{◌≡◌, Bool, true, false, List, Option, Some, None, refl, sym, subst}
 use Rattle.std.specs.Prelude.{codes}
+use Rattle.std.proofs.lemmas.Bool.{or_left}
 use Rattle.swc_ecma_codegen_tree.specs.Links.{ExprBox}
 use Rattle.swc_ecma_codegen_tree.specs.declared.links.AnyNode.{AnyNode, AnyNode-F, out-AnyNode}
 use Rattle.swc_ecma_codegen_tree.specs.declared.links.AnyNode.TheOpen as nodes
@@ -35,8 +36,9 @@ use Rattle.swc_ecma_codegen_uniqueness.specs.ParseTrees.{Variant, ParseTree, End
 use Rattle.swc_ecma_codegen_uniqueness.specs.Parses.{placed, is_inlined}
 use Rattle.swc_ecma_codegen_uniqueness.proofs.Classes.{Semicolon, class}
 use Rattle.swc_ecma_codegen_uniqueness.proofs.Controls.{Statement, OfLoop, ForHead, ForVars, ForTest, ForUpdate, ForIn, ForOf, left}
-use Rattle.swc_ecma_codegen_uniqueness.proofs.Tables.{Shift, Splice, decide, passed_to}
-use Rattle.swc_ecma_codegen_uniqueness.proofs.TableLaws.{ended_by, or_left, takes_on}
+use Rattle.swc_ecma_codegen_uniqueness.proofs.Moves.{passed_to}
+use Rattle.swc_ecma_codegen_uniqueness.proofs.Tables.{Shift, Splice, decide}
+use Rattle.swc_ecma_codegen_uniqueness.proofs.TableLaws.{ended_by, takes_on}
 use Rattle.swc_ecma_codegen_uniqueness.proofs.Machine.{Whole, Rest, Good, heading, shifted}
 use Rattle.swc_ecma_codegen_uniqueness.proofs.Shapes.{Operand, takes_self, assignment_taken, left_assigned, operand_free, part_then}
 use Rattle.swc_ecma_codegen_uniqueness.proofs.StatementShapes.{Follower, follower, item_of, for_begun, for_await_begun, loop_body}

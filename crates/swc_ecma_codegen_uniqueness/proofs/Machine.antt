@@ -6,7 +6,8 @@ use Rattle.swc_ecma_codegen_syntax.specs.declared.nonterminals.Nonterminal.{Nont
 use Rattle.swc_ecma_codegen_uniqueness.specs.ParseTrees.{Variant, Seq, Paren, ParseTree, End, Read, Optional, Node, tokens_of}
 use Rattle.swc_ecma_codegen_uniqueness.proofs.Classes.{Class, Line, Colon, Comparing, class}
 use Rattle.swc_ecma_codegen_uniqueness.proofs.Controls.{InParen, Open, OfInfix, ForHead, ForPlain, is_within, Control, entered, outside, as_expression, stands, closes, variant_of}
-use Rattle.swc_ecma_codegen_uniqueness.proofs.Tables.{Action, Shift, Push, Wrap, Reduce, Turn, Begin, Enter, Leave, Splice, Take, Keep, EnterBelow, Merge, Reject, begin, decide, shift, start, wrap}
+use Rattle.swc_ecma_codegen_uniqueness.proofs.Moves.{begin, shift, start, wrap}
+use Rattle.swc_ecma_codegen_uniqueness.proofs.Tables.{Action, Shift, Push, Wrap, Reduce, Turn, Begin, Enter, Leave, Splice, Take, Keep, EnterBelow, Merge, Reject, decide}
 use Rattle.swc_ecma_codegen_uniqueness.proofs.TableLaws.{head_pushes, head_wraps, plain_begins, plain_leaves, turn_outside, low_wraps, low_leaves}
 
 -- what is at hand: nothing, or a node

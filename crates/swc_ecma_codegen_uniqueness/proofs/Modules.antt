@@ -1,7 +1,7 @@
 -- Imports and exports are read as they are.
 use Rattle.std.proofs.Common.{◌≡◌, Bool, true, false, ◌&&◌, not, List, [], ◌∷◌, Option, Some, None, map, refl, sym, ap, ◌∙◌, ◌⊎◌, inl, inr, subst}
 use Rattle.std.specs.Prelude.{codes, string_bytes}
-use Rattle.std.proofs.lemmas.Bool.{true≢false, and_parts}
+use Rattle.std.proofs.lemmas.Bool.{true≢false, and_parts, or_left}
 use Rattle.swc_ecma_codegen_tree.specs.Links.{ObjectLitBox}
 use Rattle.swc_ecma_codegen_tree.specs.declared.links.AnyNode.{AnyNode, AnyNode-F, out-AnyNode}
 use Rattle.swc_ecma_codegen_tree.specs.declared.links.AnyNode.TheOpen as nodes
@@ -55,9 +55,10 @@ use Rattle.swc_ecma_codegen_uniqueness.specs.ParseTrees.{Variant, ParseTree, End
 use Rattle.swc_ecma_codegen_uniqueness.specs.Parses.{placed, is_inlined, is_empty_variant}
 use Rattle.swc_ecma_codegen_uniqueness.proofs.Classes.{Class, Infix, Times, OpenBrace, NameToken, LiteralToken, FunctionWord, ClassWord, AsyncWord, Semi, Semicolon, class, Over, Assigns, Later, First, Line, Slashed, Jsx, KeyToken, Strange}
 use Rattle.swc_ecma_codegen_uniqueness.proofs.Controls.{Control, ImportItem, Clause, ClauseComma, AfterExport, AfterExportDefault, AsyncDefault, AsyncDefaultLine, DefaultValue, AfterFunction, entered, starts}
-use Rattle.swc_ecma_codegen_uniqueness.proofs.Tables.{Shift, Enter, without, shifted_to, begun_at, started, Push}
+use Rattle.swc_ecma_codegen_uniqueness.proofs.Moves.{shifted_to, begun_at, started}
+use Rattle.swc_ecma_codegen_uniqueness.proofs.Tables.{Shift, Enter, without, Push}
 use Rattle.swc_ecma_codegen_uniqueness.proofs.PlaceLaws.{is_delayed, async_line, async_enters}
-use Rattle.swc_ecma_codegen_uniqueness.proofs.TableLaws.{ended_by, or_left, takes_on}
+use Rattle.swc_ecma_codegen_uniqueness.proofs.TableLaws.{ended_by, takes_on}
 use Rattle.swc_ecma_codegen_uniqueness.proofs.Machine.{Whole, Rest, Good, Frame, Entering, entering_there, third_enters, shifted, shifted_turned, entering, merged}
 use Rattle.swc_ecma_codegen_uniqueness.proofs.Shapes.{Operand, takes_self, assignment_taken, part_then, ended}
 use Rattle.swc_ecma_codegen_uniqueness.proofs.StatementShapes.{MayEnter, at_once, behind_import, behind_async, AnEmpty, item_of, import_item, export_item}

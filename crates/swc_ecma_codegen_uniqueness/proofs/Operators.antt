@@ -25,7 +25,7 @@ use Rattle.swc_ecma_codegen_tree.specs.declared.exprs.AwaitExpr.{AwaitExpr}
 use Rattle.swc_ecma_codegen_tree.specs.declared.exprs.CondExpr.{CondExpr}
 use Rattle.swc_ecma_codegen_tree.specs.declared.exprs.SeqExpr.{SeqExpr}
 use Rattle.swc_ecma_codegen_tree.specs.declared.exprs.ParenExpr.{ParenExpr}
-use Rattle.swc_ecma_codegen_grammar.specs.Phrases.{Generates, One}
+use Rattle.swc_ecma_codegen_grammar.specs.Phrases.{One}
 use Rattle.swc_ecma_codegen_grammar.specs.Phrases as phrases
 use Rattle.swc_ecma_codegen_grammar.specs.ExprPhrases.{unary_op, update_op, binary_op, assign_op}
 use Rattle.swc_ecma_codegen_grammar.specs.Settings.{Settings}
@@ -46,7 +46,7 @@ use Rattle.swc_ecma_codegen_uniqueness.specs.ParseTrees.{Variant, ParseTree, End
 use Rattle.swc_ecma_codegen_uniqueness.specs.Parses.{placed, is_inlined}
 use Rattle.swc_ecma_codegen_uniqueness.proofs.Classes.{Level, Power, Times, Over, Plus, Shifting, Less, Comparing, Within, Equating, BitAnds, BitXors, BitOrs, Ands, Ors, Coalescing, Infix, Assigns, Twice, class, Slashed, Angled, Plain, Assigning}
 use Rattle.swc_ecma_codegen_uniqueness.proofs.Controls.{starts, left_of, right_of, made, OfUnary, OfUpdate, OfAwait, Open, Listed}
-use Rattle.swc_ecma_codegen_uniqueness.proofs.Tables.{start, started}
+use Rattle.swc_ecma_codegen_uniqueness.proofs.Moves.{start, started}
 use Rattle.swc_ecma_codegen_uniqueness.proofs.TableLaws.{cover, cover_taken}
 use Rattle.swc_ecma_codegen_uniqueness.proofs.Machine.{Whole, Rest, Good}
 use Rattle.swc_ecma_codegen_uniqueness.proofs.Shapes.{prefixed, parenthesized, binary, assigned, conditional, stepped, yield_bare, yield_part, yield_star, listed_first, listed_next, listed_last}

@@ -1,7 +1,7 @@
 -- Two lists of tokens that one text reads as are the same, or part at a place.
 use Rattle.std.proofs.Common.{◌≡◌, ℕ, Bool, true, false, ◌||◌, ◌&&◌, not, ◌⊎◌, inl, inr, List, [], ◌∷◌, ◌++◌, codes, refl, sym, ap, ap₂, ◌∙◌, subst, append-nil, cond}
 use Rattle.std.specs.Prelude.{if◌then◌else◌, bytes_eq}
-use Rattle.std.proofs.lemmas.Bool.{true≢false, cond-false, not-true, or_from, and_parts, or_cases}
+use Rattle.std.proofs.lemmas.Bool.{true≢false, cond-false, not-true, or_from, or_left, and_from, and_parts, or_cases}
 use Rattle.swc_ecma_codegen_grammar.specs.Chars.{is_one_line}
 use Rattle.swc_ecma_codegen_grammar.specs.LongestMatch.{IsLongest}
 use Rattle.swc_ecma_codegen_grammar.specs.Names.{name_value}
@@ -17,7 +17,7 @@ use Rattle.swc_ecma_codegen_grammar.proofs.Conditions.{same_line_unspelled}
 use Rattle.swc_ecma_codegen_grammar.proofs.Heads.{some_text}
 use Rattle.swc_ecma_codegen_grammar.proofs.Unique.{nothing_solid, same_longest, same_trivia, solid, token_at}
 use Rattle.swc_ecma_codegen_syntax.specs.NameForms.{is_one_of, is_reserved, statement_words, declaration_words, expression_words}
-use Rattle.swc_ecma_codegen_uniqueness.specs.Parting.{are_homographs, begin_alike, behind_line, open_words, is_open_word, is_name}
+use Rattle.swc_ecma_codegen_uniqueness.specs.Parting.{are_homographs, are_one_text, begin_alike, behind_line, open_words, is_open_word, is_name}
 use Rattle.swc_ecma_codegen_uniqueness.specs.Words.{contextual_words, named_by, as_name, as_names}
 use Rattle.swc_ecma_codegen_uniqueness.proofs.Classes.{Class, RegexToken, First, Later, Line, Semi, Jsx, JsxPart, TagName, TagString, TagClose, TagText, ChildTagMark, ChildBraceMark, class, class_of, look, marks, words, child_marks, KeyToken, NameToken, is_reserved_word, Strange}
 use Rattle.swc_ecma_codegen_uniqueness.proofs.Apart as apart
@@ -212,17 +212,12 @@ unfolding word
 unknown_rivals x y a c r o e f =
     rivals_of x y (ap class e ∙ look_strange words a words_known (ap₂ (λ p q. p || q) c (ap₂ (λ p q. p || q) r o))) (ap class f ∙ name_class a r) apart.unknown
 
-open_too : (b : Bool) → b ≡ true → (b && true) ≡ true
-open_too true h = refl
-open_too false h = absurd (true≢false (sym h))
-
-open_first : (b : Bool) → b ≡ true → ((b && true) || false) ≡ true
-open_first true h = refl
-open_first false h = absurd (true≢false (sym h))
-
 open_part : (us vs : List Token) (a : List ℕ) → is_one_of open_words a ≡ true → (begin_alike (word a ∷ us) (name a ∷ vs) ≡ true) × (begin_alike (name a ∷ vs) (word a ∷ us) ≡ true)
-unfolding begin_alike are_homographs is_open_word is_name word name
-open_part us vs a h = (open_first (is_one_of open_words a) h, open_too (is_one_of open_words a) h)
+unfolding begin_alike are_homographs is_open_word is_name are_one_text word name
+open_part us vs a h =
+    let b = is_one_of open_words a in
+    let both = and_from b (bytes_eq a a) h ((bytes_eq-Decides a a).1 refl) in
+    (or_left (b && bytes_eq a a) false both, both)
 
 -- a word and the name of its letters: they are one as names, or the tokens before tell, or nothing does
 abbrev LettersTold : Token → Token → List Token → List Token → Type 0

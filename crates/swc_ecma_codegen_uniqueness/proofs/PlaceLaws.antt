@@ -9,7 +9,8 @@ use Rattle.swc_ecma_codegen_syntax.specs.Nonterminals.{is_member, is_new, is_cal
 use Rattle.swc_ecma_codegen_uniqueness.proofs.Classes.{Power, Plus, Class, Infix, Dot, OpenParen, OpenBrace, Line, class, FunctionWord, ReturnWord, ThrowWord, BreakWord, ContinueWord, DebuggerWord, IfWord, WhileWord, WithWord, VarWord, Semicolon, DoWord, TryWord, SwitchWord, ElseWord, CloseBrace, ClassWord, ExportWord, ImportWord, AsyncWord, ForWord, Over, Assigns, RegexToken, Semi, Colon, TagName, TagClose, ChildTagMark, Later, First, Jsx, Slashed, KeyToken, is_reserved_word, Strange}
 use Rattle.swc_ecma_codegen_uniqueness.proofs.Controls.{left, OfInfix, Control, Open, waits, stands, starts, is_item, Members, AtMember, AttributeElement, Children, ChildTag, ImportItem, AfterImport, AsyncItem, AsyncItemLine, AsyncDefault, AsyncDefaultLine, AfterAsync, AsyncLine, at_item, Where, InList, OfElse, MemberKey, Statement, Entered, entered, InTry, InCatch, InMethod, OfIf, OfDo, InTag, is_behind_any, OfLabel, OfLoop}
 use Rattle.swc_ecma_codegen_uniqueness.specs.ParseTrees.{ClassMethod}
-use Rattle.swc_ecma_codegen_uniqueness.proofs.Tables.{decide, Action, Push, Wrap, Reduce, Shift, Turn, Begin, Enter, Leave, Splice, Take, begin, begun_at, shifted_to, EnterBelow, Merge, Reject, without, with_operand, Keep}
+use Rattle.swc_ecma_codegen_uniqueness.proofs.Moves.{begin, begun_at, shifted_to}
+use Rattle.swc_ecma_codegen_uniqueness.proofs.Tables.{decide, Action, Push, Wrap, Reduce, Shift, Turn, Begin, Enter, Leave, Splice, Take, EnterBelow, Merge, Reject, without, with_operand, Keep}
 use Rattle.swc_ecma_codegen_uniqueness.proofs.TableLaws.{if_so, is_push, is_wrap, push_is, told}
 
 -- ---- statements: where one stands, its first token begins it, and no operand does

@@ -1,7 +1,7 @@
 -- The shapes of nodes, each read by the machine as it is.
 use Rattle.std.proofs.Common.{◌≡◌, Bool, true, false, ◌∷◌, Some, None, refl, sym, ap, ◌∙◌, subst}
 use Rattle.std.specs.Prelude.{codes}
-use Rattle.std.proofs.lemmas.Bool.{true≢false}
+use Rattle.std.proofs.lemmas.Bool.{true≢false, or_left}
 use Rattle.swc_ecma_codegen_grammar.specs.Tokens.{Token, word, punctuator, same_line}
 use Rattle.swc_ecma_codegen_syntax.specs.declared.nonterminals.Nonterminal.{Nonterminal}
 use Rattle.swc_ecma_codegen_syntax.specs.declared.nonterminals.Nonterminal.TheVariants as nt
@@ -11,9 +11,10 @@ use Rattle.swc_ecma_codegen_syntax.proofs.Taken.{chain_takes}
 use Rattle.swc_ecma_codegen_uniqueness.specs.ParseTrees.{Variant, ParseTree, End, Read, Optional, Node, tokens_of, Array, Object, Update, Bin, Assign, Member, SuperProp, Cond, Call, New, Seq, Tpl, TaggedTpl, Arrow, Yield, MetaProp, Paren, OptChain}
 use Rattle.swc_ecma_codegen_uniqueness.proofs.Classes.{OpenParen, Level, Class, Infix, Assigns, Ask, Comma, Dot, ChainDot, OpenBracket, Line, Twice, First, Later, class, NameToken, LiteralToken, Over, FunctionWord, Slashed, Assigning, Jsx, Semi, Semicolon, KeyToken, Strange}
 use Rattle.swc_ecma_codegen_uniqueness.proofs.Controls.{starts, is_item, is_listed, ArrowBody, left, left_of, right_of, made, Tail, OfInfix, OfCond, OfAssign, OfYield, whole, last as last_of, tail_variant, Control, Closed, Open, InParen, Index, Arguments, Elements, NextElement, Properties, NextProperty, AfterKey, InKey, InValue, Middle, Substitution, Dotted, Chained, AfterNew, AfterImport, AfterSuper, AfterYield, Postfix, Listed, AfterAsync, AsyncLine, waits, AtKey, AfterAccessor, InAccessorKey, AsyncOperand}
-use Rattle.swc_ecma_codegen_uniqueness.proofs.Tables.{Enter, decide, Shift, Turn, shift, shifted_to, passed_to, start, started, template, wrapped_to, chained, without, with_operand, Push, is_tag, later_by}
+use Rattle.swc_ecma_codegen_uniqueness.proofs.Moves.{shift, shifted_to, passed_to, start, started, template, wrapped_to, chained}
+use Rattle.swc_ecma_codegen_uniqueness.proofs.Tables.{Enter, decide, Shift, Turn, without, with_operand, Push, is_tag, later_by}
 use Rattle.swc_ecma_codegen_uniqueness.proofs.PlaceLaws.{begins_none}
-use Rattle.swc_ecma_codegen_uniqueness.proofs.TableLaws.{ended_by, ending, takes_on, is_sequence, assignment_single, taken_there, arrow_wraps, is_place, pushes, or_left, is_infix, made_by, Wraps, infix_wraps, Linked, linked_closes, links, link_wraps, Calling, calling_linked, call_wraps, tail_ends, new_ends, yield_ends, yield_alone, listed_ends, member_plain, call_plain, callee_plain}
+use Rattle.swc_ecma_codegen_uniqueness.proofs.TableLaws.{ended_by, ending, takes_on, is_sequence, assignment_single, taken_there, arrow_wraps, is_place, pushes, is_infix, made_by, Wraps, infix_wraps, Linked, linked_closes, links, link_wraps, Calling, calling_linked, call_wraps, tail_ends, new_ends, yield_ends, yield_alone, listed_ends, member_plain, call_plain, callee_plain}
 use Rattle.swc_ecma_codegen_uniqueness.proofs.Machine.{Whole, Rest, Good, headed, wrapped, shifted, inner, closed, last, wrapped_turned, inner_turned, shifted_turned, entering, entering_there, turned_tokens, Heads, raised, turned, opened, spine_free, low_free}
 
 -- ---- parts

@@ -1,7 +1,7 @@
 -- The shapes of statements and functions, each read by the machine as it is.
 use Rattle.std.proofs.Common.{◌≡◌, Bool, true, false, not, List, [], ◌∷◌, Some, None, cond, refl, sym, ap, ◌∙◌, subst}
 use Rattle.std.specs.Prelude.{codes}
-use Rattle.std.proofs.lemmas.Bool.{true≢false}
+use Rattle.std.proofs.lemmas.Bool.{true≢false, or_left}
 use Rattle.swc_ecma_codegen_grammar.specs.Tokens.{Token, word, punctuator, same_line, ending}
 use Rattle.swc_ecma_codegen_syntax.specs.declared.nonterminals.Nonterminal.{Nonterminal}
 use Rattle.swc_ecma_codegen_syntax.specs.declared.nonterminals.Nonterminal.TheVariants as nt
@@ -14,9 +14,10 @@ use Rattle.swc_ecma_codegen_uniqueness.specs.ParseTrees.{Variant, ParseTree, End
 use Rattle.swc_ecma_codegen_uniqueness.specs.Parses.{is_empty_variant}
 use Rattle.swc_ecma_codegen_uniqueness.proofs.Classes.{Class, Infix, Plus, OpenBrace, ElseWord, Semi, Colon, ImportWord, AsyncWord, Semicolon, class, CatchWord, FinallyWord, Over, Assigns, Later, First, Line, Slashed, Jsx, KeyToken, Strange}
 use Rattle.swc_ecma_codegen_uniqueness.proofs.Controls.{outside, starts, is_item, is_behind, left, Where, InList, OfIf, OfElse, OfLabel, OfLoop, Control, Closed, ArrowBody, OfArrow, Statement, Entered, AfterFunction, AfterClass, AfterExport, AfterFor, ForHead, Parameter, RestParameter, AfterParameters, AfterWord, Valued, Jump, Headed, Test, Declarators, stands, entered, ImportItem, AsyncItem, AsyncItemLine, InTry, InCatch, InClause, OfDo, closed_by, AfterDo, AfterTry, BehindTry, AfterCatch, CatchParameter, BehindCatch, Case, InMethod, Open, is_behind_any, is_behind_or_empty, variant_of}
-use Rattle.swc_ecma_codegen_uniqueness.proofs.Tables.{Reduce, Action, Shift, Begin, Enter, Leave, Splice, Wrap, without, with_operand, decide, shift, passed_to, start, started, begin, begun_at, Enter, closing, shifted_to, Push, Reject, Take, Keep, wrapped_by}
+use Rattle.swc_ecma_codegen_uniqueness.proofs.Moves.{shift, passed_to, start, started, begin, begun_at, closing, shifted_to}
+use Rattle.swc_ecma_codegen_uniqueness.proofs.Tables.{Reduce, Action, Shift, Begin, Enter, Leave, Splice, Wrap, without, with_operand, decide, Enter, Push, Reject, Take, Keep, wrapped_by}
 use Rattle.swc_ecma_codegen_uniqueness.proofs.PlaceLaws.{is_keyword, keyword_pushes, is_barred, item_there, place_of, ItemPlace, item_place, enters, is_delayed, is_import_call, import_begins, import_called, is_line, begins_none, async_begins, async_line, async_enters, begins_operand, is_list, list_takes, no_item_wraps}
-use Rattle.swc_ecma_codegen_uniqueness.proofs.TableLaws.{takes_on, ended_by, or_left}
+use Rattle.swc_ecma_codegen_uniqueness.proofs.TableLaws.{takes_on, ended_by}
 use Rattle.swc_ecma_codegen_uniqueness.proofs.Machine.{Whole, Rest, Good, Frame, Heads, HeadsBefore, Entering, entering_there, second_enters, third_enters, goes_on, headed, headed_block, wrapped, wrapped_turned, stated, entering, shifted, inner, last, splicing, taking, raised, joined, turned_tokens, left_tokens, keeping, closed, inner_turned, shifted_turned, merged, merged_two, heading}
 use Rattle.swc_ecma_codegen_uniqueness.proofs.Shapes.{Operand, takes_self, assignment_taken, left_taken, left_assigned, part_then, ended, tail_rest}
 

@@ -1,7 +1,7 @@
 -- Statements are read as they are.
 use Rattle.std.proofs.Common.{◌≡◌, Bool, true, false, ◌||◌, not, List, [], ◌∷◌, Option, Some, None, refl, sym, ap, ◌∙◌, subst}
 use Rattle.std.specs.Prelude.{codes, is_some, if◌then◌else◌}
-use Rattle.std.proofs.lemmas.Bool.{true≢false}
+use Rattle.std.proofs.lemmas.Bool.{true≢false, or_left}
 use Rattle.swc_ecma_codegen_tree.specs.Links.{ExprBox, StmtBox, BlockStmtBox, PatBox}
 use Rattle.swc_ecma_codegen_tree.specs.declared.links.AnyNode.{AnyNode, AnyNode-F, out-AnyNode}
 use Rattle.swc_ecma_codegen_tree.specs.declared.links.AnyNode.TheOpen as nodes
@@ -19,7 +19,7 @@ use Rattle.swc_ecma_codegen_tree.specs.declared.stmts.CatchClause.{CatchClause}
 use Rattle.swc_ecma_codegen_tree.specs.declared.stmts.SwitchCase.{SwitchCase}
 use Rattle.swc_ecma_codegen_tree.specs.declared.stmts.ExprStmt as expr_stmts
 use Rattle.swc_ecma_codegen_tree.specs.declared.stmts.LabeledStmt as labeled
-use Rattle.swc_ecma_codegen_grammar.specs.Phrases.{Generates, chosen}
+use Rattle.swc_ecma_codegen_grammar.specs.Phrases.{chosen}
 use Rattle.swc_ecma_codegen_grammar.specs.Phrases as phrases
 use Rattle.swc_ecma_codegen_grammar.specs.Settings.{Settings, is_up_to_es5}
 use Rattle.swc_ecma_codegen_grammar.specs.StmtPhrases.{empty_stmt, debugger_stmt}
@@ -39,9 +39,10 @@ use Rattle.swc_ecma_codegen_uniqueness.specs.ParseTrees.{Variant, ParseTree, End
 use Rattle.swc_ecma_codegen_uniqueness.specs.Parses.{placed, is_inlined, is_empty_variant, read_all}
 use Rattle.swc_ecma_codegen_uniqueness.proofs.Classes.{Semi, class}
 use Rattle.swc_ecma_codegen_uniqueness.proofs.Controls.{InList, Statement, AfterWord, Jump, Where, InTry, InCatch, InClause, AfterDo, BehindTry, BehindCatch, AfterCatch, starts}
-use Rattle.swc_ecma_codegen_uniqueness.proofs.Tables.{shift, start, started, closing, without}
+use Rattle.swc_ecma_codegen_uniqueness.proofs.Moves.{shift, start, started, closing}
+use Rattle.swc_ecma_codegen_uniqueness.proofs.Tables.{without}
 use Rattle.swc_ecma_codegen_uniqueness.proofs.PlaceLaws.{is_keyword, is_list, is_barred, is_delayed}
-use Rattle.swc_ecma_codegen_uniqueness.proofs.TableLaws.{ended_by, or_left}
+use Rattle.swc_ecma_codegen_uniqueness.proofs.TableLaws.{ended_by}
 use Rattle.swc_ecma_codegen_uniqueness.proofs.Machine.{Whole, Rest, Good, Heads, joined_tokens}
 use Rattle.swc_ecma_codegen_uniqueness.proofs.Shapes.{Operand, ended}
 use Rattle.swc_ecma_codegen_uniqueness.proofs.StatementShapes.{at_once, Follower, follower, follower_by, is_an_empty, no_else, no_empty, Follows, item_heads, item_of, item_stands, if_alone, if_else, looped, word_alone, word_valued, word_labelled, empty_good, expression_stated, labelled, no_items, end_heads, item_then, block_good, declarators_begun, primary_expression, do_good, do_ends, do_ended, try_begun, try_ends, finally_then, catch_then, catch_block, catch_parameter, switch_begun, switch_ends, case_then, default_then, clause_item}

@@ -1,6 +1,6 @@
 -- What is asked of the tables, by evaluation: at an operand and a token one thing alone is to be done.
 use Rattle.std.proofs.Common.{◌≡◌, Bool, true, false, ◌&&◌, ◌||◌, not, ◌⊎◌, inl, inr, Some, None, cond, refl, sym, ap, ◌∙◌, subst}
-use Rattle.std.proofs.lemmas.Bool.{true≢false, and_parts, and_from, or_cases}
+use Rattle.std.proofs.lemmas.Bool.{true≢false, and_parts, and_from, or_cases, or_parts, or_left, or_right}
 use Rattle.swc_ecma_codegen_grammar.specs.Tokens.{Token}
 use Rattle.swc_ecma_codegen_syntax.specs.declared.nonterminals.Nonterminal.{Nonterminal}
 use Rattle.swc_ecma_codegen_syntax.specs.declared.nonterminals.Nonterminal.TheVariants as nt
@@ -11,7 +11,8 @@ use Rattle.swc_ecma_codegen_syntax.proofs.Taken.{chain_takes}
 use Rattle.swc_ecma_codegen_uniqueness.specs.ParseTrees.{Variant}
 use Rattle.swc_ecma_codegen_uniqueness.proofs.Classes.{Power, Over, Plus, Within, Coalescing, Class, Infix, Assigns, Ask, Comma, Dot, ChainDot, OpenParen, OpenBracket, Line, First, class, Comparing, Later, Slashed, Jsx}
 use Rattle.swc_ecma_codegen_uniqueness.proofs.Controls.{made, left_of, left, closes, Tail, OfInfix, whole, last, Control, Open, Arguments, Elements, NextElement, AfterNew, AfterYield, YieldLine, Listed, InParen, Index, Middle, InKey, InValue, Substitution, waits, stands, starts, is_item, is_listed, Heritage, Members, InMemberKey, FieldPlace, DefaultValue, AttributeElement, AttributeBraces, Children, ChildBraces, ForHead, ForPlain, ForVars, ForValue, ForTest, ForUpdate, ForIn, ForOf, is_within, AsyncOperand, closed_by, at_item, Statement, Entered, Parameter, RestParameter, Valued, Test, Declarators, Initializer, CatchParameter, Case, InAccessorKey, AccessorParameter}
-use Rattle.swc_ecma_codegen_uniqueness.proofs.Tables.{decide, Action, Push, Wrap, Reduce, Shift, Turn, Begin, Enter, Leave, Splice, Take, wrapped_to, EnterBelow, Merge, Reject, begun_by, without, with_operand, Keep, wrapped_by}
+use Rattle.swc_ecma_codegen_uniqueness.proofs.Moves.{wrapped_to}
+use Rattle.swc_ecma_codegen_uniqueness.proofs.Tables.{decide, Action, Push, Wrap, Reduce, Shift, Turn, Begin, Enter, Leave, Splice, Take, EnterBelow, Merge, Reject, begun_by, without, with_operand, Keep, wrapped_by}
 
 -- ---- chains of unit productions
 
@@ -118,15 +119,10 @@ unfolding is_member is_new is_call is_callee is_chained is_left_hand_side is_upd
 ends_none (Infix Power) = refl
 ends_none l = refl
 
-or_none : (a b : Bool) → (a || b) ≡ false → (a ≡ false) × (b ≡ false)
-or_none false false h = (refl, refl)
-or_none true b h = absurd (true≢false h)
-or_none false true h = absurd (true≢false h)
-
 pub ended_by : (l : Class) (n : Nonterminal) → takes (left l) n ≡ true → closed_by l n ≡ true
-ended_by l nt.Statement h = absurd (true≢false (sym h ∙ (or_none _ _ (ends_none l)).0))
-ended_by l nt.Block h = absurd (true≢false (sym h ∙ (or_none _ _ (or_none _ _ (ends_none l)).1).0))
-ended_by l nt.StatementListItem h = absurd (true≢false (sym h ∙ (or_none _ _ (or_none _ _ (ends_none l)).1).1))
+ended_by l nt.Statement h = absurd (true≢false (sym h ∙ (or_parts _ _ (ends_none l)).0))
+ended_by l nt.Block h = absurd (true≢false (sym h ∙ (or_parts _ _ (or_parts _ _ (ends_none l)).1).0))
+ended_by l nt.StatementListItem h = absurd (true≢false (sym h ∙ (or_parts _ _ (or_parts _ _ (ends_none l)).1).1))
 ended_by l nt.ClassElement h = refl
 ended_by l nt.JSXElement h = refl
 ended_by l n h = h
@@ -246,14 +242,6 @@ pub pushes : (t : Token) (n : Nonterminal) → starts (class t) ≡ true → is_
 pushes t n h p c s = push_is _ (told _ _ (start_test c (class t)) (and_from _ _ h (stands_waiting c n p s)))
 
 -- ---- where a node stands that begins with an operand, the operand stands too, and the token behind it takes it
-
-pub or_left : (a b : Bool) → a ≡ true → (a || b) ≡ true
-or_left true b h = refl
-or_left false b h = absurd (true≢false (sym h))
-
-or_right : (a b : Bool) → b ≡ true → (a || b) ≡ true
-or_right true b h = refl
-or_right false b h = h
 
 pub taken_there : (w n : Nonterminal) (b k : Bool) → is_private n ≡ false → is_item n ≡ false → (takes w n || ((is_private n && b) || (is_item n && k))) ≡ true → takes w n ≡ true
 taken_there w n b k p i s = elim (or_cases (takes w n) ((is_private n && b) || (is_item n && k)) s) [
@@ -590,10 +578,10 @@ plain_test (First true opens) = refl
 plain_test l = refl
 
 pub plain_begins : (l : Class) → without ForPlain l ≡ Begin → ⊥
-plain_begins l h = true≢false (sym (ap is_other h) ∙ (or_none _ _ (plain_test l)).0)
+plain_begins l h = true≢false (sym (ap is_other h) ∙ (or_parts _ _ (plain_test l)).0)
 
 pub plain_leaves : (l : Class) → with_operand ForPlain l ≡ Leave → ⊥
-plain_leaves l h = true≢false (sym (ap is_other h) ∙ (or_none _ _ (plain_test l)).1)
+plain_leaves l h = true≢false (sym (ap is_other h) ∙ (or_parts _ _ (plain_test l)).1)
 
 abbrev is_turn : Action → Bool
 is_turn Turn = true

@@ -1,6 +1,7 @@
 -- Of a list of tokens there is one tree.
 use Rattle.std.proofs.Common.{◌≡◌, true, false, inl, List, [], ◌∷◌, ◌++◌, refl, sym, ap, ◌∙◌}
 use Rattle.std.specs.Prelude.{codes}
+use Rattle.std.proofs.lemmas.Bool.{or_left}
 use Rattle.swc_ecma_codegen_tree.specs.declared.links.AnyNode.{AnyNode}
 use Rattle.swc_ecma_codegen_tree.specs.declared.exprs.Expr.{Expr}
 use Rattle.swc_ecma_codegen_grammar.specs.Phrases.{Generates}
@@ -23,7 +24,7 @@ use Rattle.swc_ecma_codegen_uniqueness.proofs.Classes.{CloseParen}
 use Rattle.swc_ecma_codegen_uniqueness.proofs.Controls.{InParen}
 use Rattle.swc_ecma_codegen_uniqueness.proofs.Machine.{Whole, Good, Empty, Full, Frame, At, is_fail, one_tree, reads, run, went}
 use Rattle.swc_ecma_codegen_uniqueness.proofs.Tables.{Shift}
-use Rattle.swc_ecma_codegen_uniqueness.proofs.TableLaws.{ended_by, or_left, cover_taken}
+use Rattle.swc_ecma_codegen_uniqueness.proofs.TableLaws.{ended_by, cover_taken}
 use Rattle.swc_ecma_codegen_uniqueness.proofs.Reading.{derived_parse}
 use Rattle.swc_ecma_codegen_uniqueness.proofs.Parsed.{tokens_before, derived_allowed}
 use Rattle.swc_ecma_codegen_uniqueness.proofs.Fits.{PlacedGood, AllGood, taken_at}

@@ -1,7 +1,7 @@
 -- Declarations of variables are read as they are, in a statement and in the head of a `for`.
 use Rattle.std.proofs.Common.{◌≡◌, Bool, true, false, not, List, [], ◌∷◌, Option, Some, None, length, arith, refl, sym, ap, ◌∙◌, subst}
 use Rattle.std.specs.Prelude.{codes, is_some}
-use Rattle.std.proofs.lemmas.Bool.{true≢false, and_parts, eqb-true}
+use Rattle.std.proofs.lemmas.Bool.{true≢false, and_parts, eqb-true, or_left}
 use Rattle.swc_ecma_codegen_tree.specs.Links.{ExprBox}
 use Rattle.swc_ecma_codegen_tree.specs.declared.links.AnyNode.{AnyNode}
 use Rattle.swc_ecma_codegen_tree.specs.declared.decls.VarDecl as var_decls
@@ -28,8 +28,9 @@ use Rattle.swc_ecma_codegen_uniqueness.specs.ParseTrees.{Variant, ParseTree, End
 use Rattle.swc_ecma_codegen_uniqueness.specs.Parses.{placed, is_inlined}
 use Rattle.swc_ecma_codegen_uniqueness.proofs.Classes.{VarWord, class}
 use Rattle.swc_ecma_codegen_uniqueness.proofs.Controls.{Control, Declarators, Initializer, ForHead, ForVars, ForValue, ForTest, stands, waits, left}
-use Rattle.swc_ecma_codegen_uniqueness.proofs.Tables.{Splice, Shift, without, decide, shifted_to, passed_to}
-use Rattle.swc_ecma_codegen_uniqueness.proofs.TableLaws.{cover, cover_taken, ended_by, or_left, takes_on}
+use Rattle.swc_ecma_codegen_uniqueness.proofs.Moves.{shifted_to, passed_to}
+use Rattle.swc_ecma_codegen_uniqueness.proofs.Tables.{Splice, Shift, without, decide}
+use Rattle.swc_ecma_codegen_uniqueness.proofs.TableLaws.{cover, cover_taken, ended_by, takes_on}
 use Rattle.swc_ecma_codegen_uniqueness.proofs.Machine.{Whole, Rest, Good, joined, shifted, splicing}
 use Rattle.swc_ecma_codegen_uniqueness.proofs.Shapes.{After, takes_self, assignment_taken, left_assigned, part_then, ended}
 use Rattle.swc_ecma_codegen_uniqueness.proofs.StatementShapes.{target_element}

@@ -1,7 +1,7 @@
 -- The machine reads a word as the name of the same letters, where the tokens round it tell which of the two it is.
 use Rattle.std.proofs.Common.{◌≡◌, ℕ, Bool, true, false, ◌&&◌, not, cond, inl, inr, List, [], ◌∷◌, ◌++◌, Option, Some, None, refl, sym, ap, ap₂, ◌∙◌, subst}
 use Rattle.std.specs.Prelude.{bytes_eq, if◌then◌else◌}
-use Rattle.std.proofs.lemmas.Bool.{true≢false, and_parts, or_cases}
+use Rattle.std.proofs.lemmas.Bool.{true≢false, and_parts, or_cases, not-true}
 use Rattle.std.proofs.lemmas.Slice.Eq.{bytes_eq-Decides}
 use Rattle.swc_ecma_codegen_grammar.specs.declared.kinds.Kind.{Kind}
 use Rattle.swc_ecma_codegen_grammar.specs.declared.kinds.Kind.TheVariants as kinds
@@ -12,7 +12,8 @@ use Rattle.swc_ecma_codegen_uniqueness.specs.ParseTrees.{Variant, Seq, Paren, Pa
 use Rattle.swc_ecma_codegen_uniqueness.specs.Words.{contextual_words, named_by, as_name, as_names, with_names}
 use Rattle.swc_ecma_codegen_uniqueness.proofs.Classes.{Class, NameToken, Line, Colon, class, class_of, look, words, KeyToken}
 use Rattle.swc_ecma_codegen_uniqueness.proofs.Controls.{Control, InParen, entered, outside, as_expression, variant_of, closes}
-use Rattle.swc_ecma_codegen_uniqueness.proofs.Tables.{Action, Shift, Push, Wrap, Reduce, Turn, Begin, Enter, Leave, Splice, Take, Keep, EnterBelow, Merge, Reject, without, with_operand, decide, shifted_to, passed_to, shift, started, start, begun_at, begin, wrapped_to}
+use Rattle.swc_ecma_codegen_uniqueness.proofs.Moves.{shifted_to, passed_to, shift, started, start, begun_at, begin, wrapped_to}
+use Rattle.swc_ecma_codegen_uniqueness.proofs.Tables.{Action, Shift, Push, Wrap, Reduce, Turn, Begin, Enter, Leave, Splice, Take, Keep, EnterBelow, Merge, Reject, without, with_operand, decide}
 use Rattle.swc_ecma_codegen_uniqueness.proofs.Machine.{Hand, Empty, Full, held, sign, joined, opened, parameters, turned_by, turned, turned_hand, spliced, left_by, left_hand, Frame, State, At, Fail, within, wrap_at, acted_once, acted, step, next, run, is_fail, first_of, found, Ends, whole_found, rest_found, Whole, Rest, Good}
 
 -- ---- to the machine such a word is what the name is
@@ -44,17 +45,13 @@ abbrev all_free : List (List ℕ) → Bool
 all_free [] = true
 all_free (key ∷ keys) = not (is_reserved key) && all_free keys
 
-not_true : (b : Bool) → not b ≡ true → b ≡ false
-not_true true h = absurd (true≢false (sym h))
-not_true false h = refl
-
 free_among : (keys : List (List ℕ)) (text : List ℕ) → all_free keys ≡ true → is_one_of keys text ≡ true → is_reserved text ≡ false
 unfolding is_one_of
 free_among [] text a h = absurd (true≢false (sym h))
 free_among (key ∷ keys) text a h =
     let p = and_parts (not (is_reserved key)) (all_free keys) a in
     elim (or_cases (bytes_eq text key) (is_one_of keys text) h) [
-      | inl e ↦ ap (λ t. is_reserved t) ((bytes_eq-Decides text key).0 e) ∙ not_true (is_reserved key) p.0
+      | inl e ↦ ap (λ t. is_reserved t) ((bytes_eq-Decides text key).0 e) ∙ not-true (is_reserved key) p.0
       | inr i ↦ free_among keys text p.1 i
     ]
 

@@ -1,5 +1,5 @@
 -- Where two lists of tokens that one text reads as may part: the tokens before don't tell which of two comes.
-use Rattle.std.specs.Prelude.{◌≡◌, Bool, true, false, ◌||◌, ◌&&◌, ℕ, List, [], ◌∷◌, ◌++◌, codes, if◌then◌else◌}
+use Rattle.std.specs.Prelude.{◌≡◌, Bool, true, false, ◌||◌, ◌&&◌, ℕ, List, [], ◌∷◌, ◌++◌, codes, bytes_eq, if◌then◌else◌}
 use Rattle.swc_ecma_codegen_grammar.specs.Reads.{is_same_line}
 use Rattle.swc_ecma_codegen_grammar.specs.Tokens.{Token, Value, Characters}
 use Rattle.swc_ecma_codegen_grammar.specs.declared.kinds.Kind.{Kind}
@@ -18,9 +18,13 @@ unfoldable pub is_name : Kind → Bool
 is_name Name = true
 is_name kind = false
 
--- One text may be both: `yield` is a word or a name.
+unfoldable pub are_one_text : Value → Value → Bool
+are_one_text (Characters a) (Characters b) = bytes_eq a b
+are_one_text v w = false
+
+-- One text may be both: `yield` is a word, or the name of these letters.
 unfoldable pub are_homographs : Token → Token → Bool
-are_homographs x y = is_open_word x.kind x.value && is_name y.kind
+are_homographs x y = is_open_word x.kind x.value && (is_name y.kind && are_one_text x.value y.value)
 
 -- two lists begin with such, in one order or the other
 unfoldable pub begin_alike : List Token → List Token → Bool

@@ -170,8 +170,8 @@ pub fn tokens_tell_an_empty_statement()
 {}
 
 /// Two programs whose lists of tokens one text reads as have one parse tree, words taken for names; or the lists part at a place
-/// where the tokens before don't tell what comes: one of the words `async`, `await`, `constructor`, `let` and `yield`, or the name
-/// of its letters. `[no LineTerminator here]`, which is no text, they have at the same places up to there.
+/// where the tokens before don't tell what comes: one of the words `async`, `await`, `constructor`, `let` and `yield` in one list,
+/// and the name of its letters in the other. `[no LineTerminator here]`, which is no text, they have at the same places up to there.
 ///
 /// So whoever reads a text needs no goal symbol of the lexical grammar: `a / b / c` is two divisions, whatever a lexer takes
 /// `/ b /` for, since no program has the tokens `a`, `/ b /` and `c`. ECMA-262, section 12.
