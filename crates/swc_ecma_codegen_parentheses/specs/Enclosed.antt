@@ -7,6 +7,7 @@ use Rattle.swc_ecma_codegen_tree.specs.declared.stmts.BlockStmt.{BlockStmt}
 use Rattle.swc_ecma_codegen_tree.specs.declared.stmts.Stmt.{Stmt}
 use Rattle.swc_ecma_codegen_tree.specs.declared.stmts.Stmt.TheVariants as stmts
 use Rattle.swc_ecma_codegen_spans.specs.Spans.{expr_span, stmt_span}
+use Rattle.swc_ecma_codegen_parentheses.specs.declared.mends.Usage.{Usage}
 use Rattle.swc_ecma_codegen_parentheses.specs.SameExprs.{same_expr}
 use Rattle.swc_ecma_codegen_parentheses.specs.SameStmts.{same_stmt}
 
@@ -26,11 +27,11 @@ blocks block_in place n (stmts.Block link) = is_block_of place n (block_in link.
 blocks block_in place n r = ⊥
 
 -- The same expression, or the same in parentheses.
-pub data SameExpr {X : Type 0} (expr_in : X → Option (Expr X)) (place : X → Span) (m : X → X → Type 0) (n r : Expr X) : Type 0 where
+pub data SameExpr {X : Type 0} (expr_in : X → Option (Expr X)) (place : X → Span) (m : Usage → X → X → Type 0) (n r : Expr X) : Type 0 where
   bare : same_expr m n r → SameExpr expr_in place m n r
   enclosed : (inside : Expr X) → same_expr m n inside → encloses expr_in place inside r → SameExpr expr_in place m n r
 
 -- The same statement, or the same in a block.
-pub data SameStmt {X : Type 0} (block_in : X → Option (BlockStmt X)) (place : X → Span) (m : X → X → Type 0) (n r : Stmt X) : Type 0 where
+pub data SameStmt {X : Type 0} (block_in : X → Option (BlockStmt X)) (place : X → Span) (m : Usage → X → X → Type 0) (n r : Stmt X) : Type 0 where
   unblocked : same_stmt m n r → SameStmt block_in place m n r
   blocked : (inside : Stmt X) → same_stmt m n inside → blocks block_in place inside r → SameStmt block_in place m n r

@@ -1,3 +1,4 @@
+pub mod Bare
 pub mod Depths
 pub mod Enclosed
 pub mod Lent

@@ -8,33 +8,33 @@ use Rattle.swc_ecma_codegen_tree.specs.declared.decls.Function.{Function}
 use Rattle.swc_ecma_codegen_tree.specs.declared.decls.Param.{Param}
 use Rattle.swc_ecma_codegen_tree.specs.declared.decls.VarDecl.{VarDecl}
 use Rattle.swc_ecma_codegen_tree.specs.declared.decls.VarDeclarator.{VarDeclarator}
+use Rattle.swc_ecma_codegen_parentheses.specs.declared.mends.Usage.{Usage}
 use Rattle.swc_ecma_codegen_parentheses.specs.Lists.{Pairwise, linked, optionally}
 use Rattle.swc_ecma_codegen_parentheses.specs.SamePats.{same_pat}
-use Rattle.swc_ecma_codegen_parentheses.specs.SameTsDecls.{same_ts_enum_decl, same_ts_module_decl}
+use Rattle.swc_ecma_codegen_parentheses.specs.SameTsDecls.{same_ts_enum_decl}
 
-unfoldable pub same_class_decl : {X : Type 0} → (X → X → Type 0) → ClassDecl X → ClassDecl X → Type 0
+unfoldable pub same_class_decl : {X : Type 0} → (Usage → X → X → Type 0) → ClassDecl X → ClassDecl X → Type 0
 same_class_decl m n r = (r ≡ record n { class = r.class }) × linked m n.class r.class
 
-unfoldable pub same_fn_decl : {X : Type 0} → (X → X → Type 0) → FnDecl X → FnDecl X → Type 0
+unfoldable pub same_fn_decl : {X : Type 0} → (Usage → X → X → Type 0) → FnDecl X → FnDecl X → Type 0
 same_fn_decl m n r = (r ≡ record n { function = r.function }) × linked m n.function r.function
 
-unfoldable pub same_var_declarator : {X : Type 0} → (X → X → Type 0) → VarDeclarator X → VarDeclarator X → Type 0
+unfoldable pub same_var_declarator : {X : Type 0} → (Usage → X → X → Type 0) → VarDeclarator X → VarDeclarator X → Type 0
 same_var_declarator m n r = (r ≡ record n { name = r.name; init = r.init }) × (same_pat m n.name r.name × optionally (linked m) n.init r.init)
 
-unfoldable pub same_var_decl : {X : Type 0} → (X → X → Type 0) → VarDecl X → VarDecl X → Type 0
+unfoldable pub same_var_decl : {X : Type 0} → (Usage → X → X → Type 0) → VarDecl X → VarDecl X → Type 0
 same_var_decl m n r = (r ≡ record n { decls = r.decls }) × Pairwise (same_var_declarator m) n.decls.items r.decls.items
 
-unfoldable pub same_decl : {X : Type 0} → (X → X → Type 0) → Decl X → Decl X → Type 0
+unfoldable pub same_decl : {X : Type 0} → (Usage → X → X → Type 0) → Decl X → Decl X → Type 0
 same_decl m (decls.Class n) (decls.Class r) = same_class_decl m n r
 same_decl m (decls.Fn n) (decls.Fn r) = same_fn_decl m n r
 same_decl m (decls.Var n) (decls.Var r) = same_var_decl m n r
 same_decl m (decls.TsEnum n) (decls.TsEnum r) = same_ts_enum_decl m n.value r.value
-same_decl m (decls.TsModule n) (decls.TsModule r) = same_ts_module_decl m n.value r.value
 same_decl m n r = n ≡ r
 
-unfoldable pub same_param : {X : Type 0} → (X → X → Type 0) → Param X → Param X → Type 0
+unfoldable pub same_param : {X : Type 0} → (Usage → X → X → Type 0) → Param X → Param X → Type 0
 same_param m n r = (r ≡ record n { pat = r.pat }) × same_pat m n.pat r.pat
 
-unfoldable pub same_function : {X : Type 0} → (X → X → Type 0) → Function X → Function X → Type 0
+unfoldable pub same_function : {X : Type 0} → (Usage → X → X → Type 0) → Function X → Function X → Type 0
 same_function m n r =
     (r ≡ record n { params = r.params; body = r.body }) × (Pairwise (same_param m) n.params.items r.params.items × optionally (linked m) n.body r.body)

@@ -1,5 +1,5 @@
 -- Expressions that are the same but for what their links hold: that stands in the relation `m`.
-use Rattle.std.specs.Prelude.{◌≡◌, Box}
+use Rattle.std.specs.Prelude.{◌≡◌, Bool, true, false, Box}
 use Rattle.std.specs.declared.alloc.Global.{Global}
 use Rattle.swc_ecma_codegen_tree.specs.declared.exprs.ArrayLit.{ArrayLit}
 use Rattle.swc_ecma_codegen_tree.specs.declared.exprs.ArrowExpr.{ArrowExpr}
@@ -43,98 +43,112 @@ use Rattle.swc_ecma_codegen_tree.specs.declared.ts_exprs.TsInstantiation.{TsInst
 use Rattle.swc_ecma_codegen_tree.specs.declared.ts_exprs.TsNonNullExpr.{TsNonNullExpr}
 use Rattle.swc_ecma_codegen_tree.specs.declared.ts_exprs.TsSatisfiesExpr.{TsSatisfiesExpr}
 use Rattle.swc_ecma_codegen_tree.specs.declared.ts_exprs.TsTypeAssertion.{TsTypeAssertion}
+use Rattle.swc_ecma_codegen_parentheses.specs.declared.mends.Usage.{Usage}
 use Rattle.swc_ecma_codegen_parentheses.specs.Lists.{Pairwise, linked, optionally}
 use Rattle.swc_ecma_codegen_parentheses.specs.SameObjects.{same_computed_prop_name, same_object_lit}
 use Rattle.swc_ecma_codegen_parentheses.specs.SameTsExprs.{same_ts_as_expr, same_ts_const_assertion, same_ts_instantiation, same_ts_non_null_expr, same_ts_satisfies_expr, same_ts_type_assertion}
 
-unfoldable pub same_expr_or_spread : {X : Type 0} → (X → X → Type 0) → ExprOrSpread X → ExprOrSpread X → Type 0
+unfoldable pub same_expr_or_spread : {X : Type 0} → (Usage → X → X → Type 0) → ExprOrSpread X → ExprOrSpread X → Type 0
 same_expr_or_spread m n r = (r ≡ record n { expr = r.expr }) × linked m n.expr r.expr
 
-unfoldable pub same_array_lit : {X : Type 0} → (X → X → Type 0) → ArrayLit X → ArrayLit X → Type 0
+unfoldable pub same_array_lit : {X : Type 0} → (Usage → X → X → Type 0) → ArrayLit X → ArrayLit X → Type 0
 same_array_lit m n r = (r ≡ record n { elems = r.elems }) × Pairwise (optionally (same_expr_or_spread m)) n.elems.items r.elems.items
 
-unfoldable pub same_fn_expr : {X : Type 0} → (X → X → Type 0) → FnExpr X → FnExpr X → Type 0
+unfoldable pub same_fn_expr : {X : Type 0} → (Usage → X → X → Type 0) → FnExpr X → FnExpr X → Type 0
 same_fn_expr m n r = (r ≡ record n { function = r.function }) × linked m n.function r.function
 
-unfoldable pub same_unary_expr : {X : Type 0} → (X → X → Type 0) → UnaryExpr X → UnaryExpr X → Type 0
+unfoldable pub same_unary_expr : {X : Type 0} → (Usage → X → X → Type 0) → UnaryExpr X → UnaryExpr X → Type 0
 same_unary_expr m n r = (r ≡ record n { arg = r.arg }) × linked m n.arg r.arg
 
-unfoldable pub same_update_expr : {X : Type 0} → (X → X → Type 0) → UpdateExpr X → UpdateExpr X → Type 0
+unfoldable pub same_update_expr : {X : Type 0} → (Usage → X → X → Type 0) → UpdateExpr X → UpdateExpr X → Type 0
 same_update_expr m n r = (r ≡ record n { arg = r.arg }) × linked m n.arg r.arg
 
-unfoldable pub same_bin_expr : {X : Type 0} → (X → X → Type 0) → BinExpr X → BinExpr X → Type 0
+unfoldable pub same_bin_expr : {X : Type 0} → (Usage → X → X → Type 0) → BinExpr X → BinExpr X → Type 0
 same_bin_expr m n r = (r ≡ record n { left = r.left; right = r.right }) × (linked m n.left r.left × linked m n.right r.right)
 
-unfoldable pub same_assign_expr : {X : Type 0} → (X → X → Type 0) → AssignExpr X → AssignExpr X → Type 0
+unfoldable pub same_assign_expr : {X : Type 0} → (Usage → X → X → Type 0) → AssignExpr X → AssignExpr X → Type 0
 same_assign_expr m n r = (r ≡ record n { left = r.left; right = r.right }) × (linked m n.left r.left × linked m n.right r.right)
 
-unfoldable pub same_member_prop : {X : Type 0} → (X → X → Type 0) → MemberProp X → MemberProp X → Type 0
+unfoldable pub same_member_prop : {X : Type 0} → (Usage → X → X → Type 0) → MemberProp X → MemberProp X → Type 0
 same_member_prop m (member_props.Computed n) (member_props.Computed r) = same_computed_prop_name m n r
 same_member_prop m n r = n ≡ r
 
-unfoldable pub same_member_expr : {X : Type 0} → (X → X → Type 0) → MemberExpr X → MemberExpr X → Type 0
+unfoldable pub same_member_expr : {X : Type 0} → (Usage → X → X → Type 0) → MemberExpr X → MemberExpr X → Type 0
 same_member_expr m n r = (r ≡ record n { obj = r.obj; prop = r.prop }) × (linked m n.obj r.obj × same_member_prop m n.prop r.prop)
 
-unfoldable pub same_super_prop : {X : Type 0} → (X → X → Type 0) → SuperProp X → SuperProp X → Type 0
+unfoldable pub same_super_prop : {X : Type 0} → (Usage → X → X → Type 0) → SuperProp X → SuperProp X → Type 0
 same_super_prop m (super_props.Computed n) (super_props.Computed r) = same_computed_prop_name m n r
 same_super_prop m n r = n ≡ r
 
-unfoldable pub same_super_prop_expr : {X : Type 0} → (X → X → Type 0) → SuperPropExpr X → SuperPropExpr X → Type 0
+unfoldable pub same_super_prop_expr : {X : Type 0} → (Usage → X → X → Type 0) → SuperPropExpr X → SuperPropExpr X → Type 0
 same_super_prop_expr m n r = (r ≡ record n { prop = r.prop }) × same_super_prop m n.prop r.prop
 
-unfoldable pub same_cond_expr : {X : Type 0} → (X → X → Type 0) → CondExpr X → CondExpr X → Type 0
+unfoldable pub same_cond_expr : {X : Type 0} → (Usage → X → X → Type 0) → CondExpr X → CondExpr X → Type 0
 same_cond_expr m n r = (r ≡ record n { test = r.test; cons = r.cons; alt = r.alt }) × (linked m n.test r.test × (linked m n.cons r.cons × linked m n.alt r.alt))
 
-unfoldable pub same_callee : {X : Type 0} → (X → X → Type 0) → Callee X → Callee X → Type 0
+unfoldable pub same_callee : {X : Type 0} → (Usage → X → X → Type 0) → Callee X → Callee X → Type 0
 same_callee m (callees.Expr n) (callees.Expr r) = linked m n r
 same_callee m n r = n ≡ r
 
-unfoldable pub same_call_expr : {X : Type 0} → (X → X → Type 0) → CallExpr X → CallExpr X → Type 0
+unfoldable pub same_call_expr : {X : Type 0} → (Usage → X → X → Type 0) → CallExpr X → CallExpr X → Type 0
 same_call_expr m n r =
     (r ≡ record n { callee = r.callee; args = r.args }) × (same_callee m n.callee r.callee × Pairwise (same_expr_or_spread m) n.args.items r.args.items)
 
-unfoldable pub same_new_expr : {X : Type 0} → (X → X → Type 0) → NewExpr X → NewExpr X → Type 0
+unfoldable pub same_new_expr : {X : Type 0} → (Usage → X → X → Type 0) → NewExpr X → NewExpr X → Type 0
 same_new_expr m n r =
     (r ≡ record n { callee = r.callee; args = r.args }) × (linked m n.callee r.callee × optionally (λ a b. Pairwise (same_expr_or_spread m) a.items b.items) n.args r.args)
 
-unfoldable pub same_seq_expr : {X : Type 0} → (X → X → Type 0) → SeqExpr X → SeqExpr X → Type 0
+unfoldable pub same_seq_expr : {X : Type 0} → (Usage → X → X → Type 0) → SeqExpr X → SeqExpr X → Type 0
 same_seq_expr m n r = (r ≡ record n { exprs = r.exprs }) × Pairwise (linked m) n.exprs.items r.exprs.items
 
-unfoldable pub same_tagged_tpl : {X : Type 0} → (X → X → Type 0) → TaggedTpl X → TaggedTpl X → Type 0
+unfoldable pub same_tagged_tpl : {X : Type 0} → (Usage → X → X → Type 0) → TaggedTpl X → TaggedTpl X → Type 0
 same_tagged_tpl m n r = (r ≡ record n { tag = r.tag; tpl = r.tpl }) × (linked m n.tag r.tag × linked m n.tpl r.tpl)
 
-unfoldable pub same_block_stmt_or_expr : {X : Type 0} → (X → X → Type 0) → BlockStmtOrExpr X → BlockStmtOrExpr X → Type 0
+unfoldable pub same_block_stmt_or_expr : {X : Type 0} → (Usage → X → X → Type 0) → BlockStmtOrExpr X → BlockStmtOrExpr X → Type 0
 same_block_stmt_or_expr m (block_stmt_or_exprs.BlockStmt n) (block_stmt_or_exprs.BlockStmt r) = linked m n r
 same_block_stmt_or_expr m (block_stmt_or_exprs.Expr n) (block_stmt_or_exprs.Expr r) = linked m n r
 same_block_stmt_or_expr m n r = ⊥
 
-unfoldable pub same_arrow_expr : {X : Type 0} → (X → X → Type 0) → ArrowExpr X → ArrowExpr X → Type 0
+unfoldable pub same_arrow_expr : {X : Type 0} → (Usage → X → X → Type 0) → ArrowExpr X → ArrowExpr X → Type 0
 same_arrow_expr m n r =
     (r ≡ record n { params = r.params; body = r.body }) × (Pairwise (linked m) n.params.items r.params.items × same_block_stmt_or_expr m n.body r.body)
 
-unfoldable pub same_class_expr : {X : Type 0} → (X → X → Type 0) → ClassExpr X → ClassExpr X → Type 0
+unfoldable pub same_class_expr : {X : Type 0} → (Usage → X → X → Type 0) → ClassExpr X → ClassExpr X → Type 0
 same_class_expr m n r = (r ≡ record n { class = r.class }) × linked m n.class r.class
 
-unfoldable pub same_yield_expr : {X : Type 0} → (X → X → Type 0) → YieldExpr X → YieldExpr X → Type 0
+unfoldable pub same_yield_expr : {X : Type 0} → (Usage → X → X → Type 0) → YieldExpr X → YieldExpr X → Type 0
 same_yield_expr m n r = (r ≡ record n { arg = r.arg }) × optionally (linked m) n.arg r.arg
 
-unfoldable pub same_await_expr : {X : Type 0} → (X → X → Type 0) → AwaitExpr X → AwaitExpr X → Type 0
+unfoldable pub same_await_expr : {X : Type 0} → (Usage → X → X → Type 0) → AwaitExpr X → AwaitExpr X → Type 0
 same_await_expr m n r = (r ≡ record n { arg = r.arg }) × linked m n.arg r.arg
 
-unfoldable pub same_paren_expr : {X : Type 0} → (X → X → Type 0) → ParenExpr X → ParenExpr X → Type 0
+unfoldable pub same_paren_expr : {X : Type 0} → (Usage → X → X → Type 0) → ParenExpr X → ParenExpr X → Type 0
 same_paren_expr m n r = (r ≡ record n { expr = r.expr }) × linked m n.expr r.expr
 
-unfoldable pub same_opt_chain_base : {X : Type 0} → (X → X → Type 0) → OptChainBase X → OptChainBase X → Type 0
+unfoldable pub same_opt_chain_base : {X : Type 0} → (Usage → X → X → Type 0) → OptChainBase X → OptChainBase X → Type 0
 same_opt_chain_base m (opt_chain_bases.Member n) (opt_chain_bases.Member r) = linked m n r
 same_opt_chain_base m (opt_chain_bases.Call n) (opt_chain_bases.Call r) = linked m n r
 same_opt_chain_base m n r = ⊥
 
-unfoldable pub same_opt_chain_expr : {X : Type 0} → (X → X → Type 0) → OptChainExpr X → OptChainExpr X → Type 0
+unfoldable pub same_opt_chain_expr : {X : Type 0} → (Usage → X → X → Type 0) → OptChainExpr X → OptChainExpr X → Type 0
 same_opt_chain_expr m n r = (r ≡ record n { base = r.base }) × same_opt_chain_base m n.base r.base
 
--- of one variant, or the same
-pub data same_expr {X : Type 0} (m : X → X → Type 0) (n r : Expr X) : Type 0 where
-  unchanged : n ≡ r → same_expr m n r
+-- an expression in which no other stands
+abbrev pub is_leaf_expr : {X : Type 0} → Expr X → Bool
+is_leaf_expr (exprs.This n) = true
+is_leaf_expr (exprs.Ident n) = true
+is_leaf_expr (exprs.Lit n) = true
+is_leaf_expr (exprs.MetaProp n) = true
+is_leaf_expr (exprs.JSXMember n) = true
+is_leaf_expr (exprs.JSXNamespacedName n) = true
+is_leaf_expr (exprs.JSXEmpty n) = true
+is_leaf_expr (exprs.PrivateName n) = true
+is_leaf_expr (exprs.Invalid n) = true
+is_leaf_expr n = false
+
+-- of one variant; what no other expression stands in is the same
+pub data same_expr {X : Type 0} (m : Usage → X → X → Type 0) (n r : Expr X) : Type 0 where
+  unchanged : is_leaf_expr n ≡ true → n ≡ r → same_expr m n r
   array : (a b : ArrayLit X) → n ≡ exprs.Array a → r ≡ exprs.Array b → same_array_lit m a b → same_expr m n r
   object : (a b : ObjectLit X) → n ≡ exprs.Object a → r ≡ exprs.Object b → same_object_lit m a b → same_expr m n r
   fn : (a b : FnExpr X) → n ≡ exprs.Fn a → r ≡ exprs.Fn b → same_fn_expr m a b → same_expr m n r
@@ -165,9 +179,9 @@ pub data same_expr {X : Type 0} (m : X → X → Type 0) (n r : Expr X) : Type 0
   ts_instantiation : (a b : TsInstantiation X) → n ≡ exprs.TsInstantiation a → r ≡ exprs.TsInstantiation b → same_ts_instantiation m a b → same_expr m n r
   ts_satisfies : (a b : TsSatisfiesExpr X) → n ≡ exprs.TsSatisfies a → r ≡ exprs.TsSatisfies b → same_ts_satisfies_expr m a b → same_expr m n r
 
-unfoldable pub same_opt_call : {X : Type 0} → (X → X → Type 0) → OptCall X → OptCall X → Type 0
+unfoldable pub same_opt_call : {X : Type 0} → (Usage → X → X → Type 0) → OptCall X → OptCall X → Type 0
 same_opt_call m n r =
     (r ≡ record n { callee = r.callee; args = r.args }) × (linked m n.callee r.callee × Pairwise (same_expr_or_spread m) n.args.items r.args.items)
 
-unfoldable pub same_tpl : {X : Type 0} → (X → X → Type 0) → Tpl X → Tpl X → Type 0
+unfoldable pub same_tpl : {X : Type 0} → (Usage → X → X → Type 0) → Tpl X → Tpl X → Type 0
 same_tpl m n r = (r ≡ record n { exprs = r.exprs }) × Pairwise (linked m) n.exprs.items r.exprs.items

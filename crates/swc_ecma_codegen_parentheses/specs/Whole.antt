@@ -9,6 +9,7 @@ use Rattle.swc_ecma_codegen_tree.specs.declared.parts.ExprPart.{ExprPart}
 use Rattle.swc_ecma_codegen_tree.specs.declared.parts.JSXPart.{JSXPart}
 use Rattle.swc_ecma_codegen_tree.specs.declared.parts.StmtPart.{StmtPart}
 use Rattle.swc_ecma_codegen_tree.specs.LinkTargets.{assign_target_in, block_stmt_in, class_in, class_member_in, decl_in, function_in, jsx_element_in, jsx_fragment_in, module_decl_in, opt_call_in, pat_in, prop_name_in, tpl_in, var_decl_in}
+use Rattle.swc_ecma_codegen_parentheses.specs.declared.mends.Usage.{Usage}
 use Rattle.swc_ecma_codegen_parentheses.specs.Enclosed.{SameExpr, SameStmt}
 use Rattle.swc_ecma_codegen_parentheses.specs.Lent.{Lent}
 use Rattle.swc_ecma_codegen_parentheses.specs.SamePats.{same_assign_target, same_pat}
@@ -22,7 +23,8 @@ use Rattle.swc_ecma_codegen_parentheses.specs.SameJsx.{same_jsx_element, same_js
 
 module _ {X : Type 0} (expr_part_in : X → Option (ExprPart X)) (stmt_part_in : X → Option (StmtPart X)) (member_expr_in : X → Option (MemberExpr X)) (jsx_part_in : X → Option (JSXPart X)) where
   -- Both are nodes of one sort, the same but for what their links hold.
-  pub data SamePart (m : X → X → Type 0) (n r : X) : Type 0 where
+  pub data SamePart (m : Usage → X → X → Type 0) (n r : X) : Type 0 where
+    pat : Lent (λ a. option_and_then pat_in (expr_part_in a)) (same_pat m) n r → SamePart m n r
     tpl : Lent (λ a. option_and_then tpl_in (expr_part_in a)) (same_tpl m) n r → SamePart m n r
     prop_name : Lent (λ a. option_and_then prop_name_in (expr_part_in a)) (same_prop_name m) n r → SamePart m n r
     member_expr : Lent member_expr_in (same_member_expr m) n r → SamePart m n r
@@ -38,20 +40,20 @@ module _ {X : Type 0} (expr_part_in : X → Option (ExprPart X)) (stmt_part_in :
     jsx_fragment : Lent (λ a. option_and_then jsx_fragment_in (jsx_part_in a)) (same_jsx_fragment m) n r → SamePart m n r
 
 module _ {X : Type 0} (expr_in : X → Option (Expr X)) (expr_part_in : X → Option (ExprPart X)) (stmt_part_in : X → Option (StmtPart X)) (stmt_in : X → Option (Stmt X)) (place : X → Span) where
-  -- Both are expressions, or statements, the same but for what their links hold, and for parentheses round an expression and a block round an
-  -- `if`; or patterns or targets, the same but for what their links hold.
-  pub data AddedHeld (m : X → X → Type 0) (n r : X) : Type 0 where
-    expr : Lent expr_in (SameExpr expr_in place m) n r → AddedHeld m n r
-    stmt : Lent stmt_in (SameStmt (λ a. option_and_then block_stmt_in (stmt_part_in a)) place m) n r → AddedHeld m n r
-    pat : Lent (λ a. option_and_then pat_in (expr_part_in a)) (same_pat m) n r → AddedHeld m n r
-    assign_target : Lent (λ a. option_and_then assign_target_in (expr_part_in a)) (same_assign_target m) n r → AddedHeld m n r
+  -- Both are expressions, statements, or targets, the same but for what their links hold, and for parentheses round an expression and a block round an
+  -- `if`; or what is held stays.
+  pub data AddedHeld (m : Usage → X → X → Type 0) (usage : Usage) (n r : X) : Type 0 where
+    expr : Lent expr_in (SameExpr expr_in place m) n r → AddedHeld m usage n r
+    stmt : Lent stmt_in (SameStmt (λ a. option_and_then block_stmt_in (stmt_part_in a)) place m) n r → AddedHeld m usage n r
+    assign_target : Lent (λ a. option_and_then assign_target_in (expr_part_in a)) (same_assign_target m) n r → AddedHeld m usage n r
+    kept : n ≡ r → AddedHeld m usage n r
 
 -- They are changed in a way of their own, or they are a part that is the same but for what its links hold.
-pub data SameHeld {X : Type 0} (own part : (X → X → Type 0) → X → X → Type 0) (m : X → X → Type 0) (n r : X) : Type 0 where
-  changed : own m n r → SameHeld own part m n r
-  as_part : part m n r → SameHeld own part m n r
+pub data SameHeld {X : Type 0} (own : (Usage → X → X → Type 0) → Usage → X → X → Type 0) (part : (Usage → X → X → Type 0) → X → X → Type 0) (m : Usage → X → X → Type 0) (usage : Usage) (n r : X) : Type 0 where
+  changed : own m usage n r → SameHeld own part m usage n r
+  as_part : part m n r → SameHeld own part m usage n r
 
 -- Down to a depth; below it no link is another one.
-unfoldable pub same_to : {X : Type 0} → ((X → X → Type 0) → X → X → Type 0) → ℕ → X → X → Type 0
-same_to held zero n r = ⊥
-same_to held (suc depth) n r = held (same_to held depth) n r
+unfoldable pub same_to : {X : Type 0} → ((Usage → X → X → Type 0) → Usage → X → X → Type 0) → ℕ → Usage → X → X → Type 0
+same_to held zero usage n r = ⊥
+same_to held (suc depth) usage n r = held (same_to held depth) usage n r

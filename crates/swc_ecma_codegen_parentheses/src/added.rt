@@ -6,19 +6,18 @@ use crate::changes::Change;
 use crate::enclosed::{mend_expr, mend_stmt};
 use crate::lends::Lends;
 use crate::linked::{
-    mend_linked, mend_linked_block_stmt, mend_linked_class, mend_linked_class_member,
+    mend_linked_assign_target, mend_linked_block_stmt, mend_linked_class, mend_linked_class_member,
     mend_linked_decl, mend_linked_function, mend_linked_jsx_element, mend_linked_jsx_fragment,
-    mend_linked_member_expr, mend_linked_module_decl, mend_linked_opt_call, mend_linked_prop_name,
-    mend_linked_tpl, mend_linked_var_decl,
+    mend_linked_member_expr, mend_linked_module_decl, mend_linked_opt_call, mend_linked_pat,
+    mend_linked_prop_name, mend_linked_tpl, mend_linked_var_decl,
 };
-use crate::mends::{Mends, Stop};
+use crate::mends::{Mends, Stop, Usage};
 use crate::places::Place;
 use std::alloc::Global;
 use swc_ecma_codegen_tree::{
     AssignTargetBox, BlockStmtBox, ClassBox, ClassMemberBox, DeclBox, Expr, ExprBox, ExprPart,
     FunctionBox, Holds, JSXElementBox, JSXFragmentBox, JSXPart, MemberExpr, MemberExprBox,
-    ModuleDeclBox, OptCallBox, PatBox, PropNameBox, Stmt, StmtBox, StmtPart, ToAssignTarget, ToPat,
-    TplBox, VarDeclBox,
+    ModuleDeclBox, OptCallBox, PatBox, PropNameBox, Stmt, StmtBox, StmtPart, TplBox, VarDeclBox,
 };
 
 /// Parentheses are put round an expression where they are missing, and a block round an `if`.
@@ -36,6 +35,7 @@ impl<N: Lends> Change<N> for Added {
         alloc: Global,
         link: &mut ExprBox<N>,
         place: Place,
+        _: Usage,
     ) -> Result<(), Stop> {
         match link.get_mut() {
             Some(node) => mend_expr::<N, M>(mender, alloc, node, place),
@@ -49,7 +49,8 @@ impl<N: Lends> Change<N> for Added {
         link: &mut PatBox<N>,
         place: Place,
     ) -> Result<(), Stop> {
-        mend_linked::<ToPat, N, M>(mender, alloc, link, place)
+        mend_linked_pat::<N, M>(mender, alloc, link, place)?;
+        Ok(())
     }
 
     fn tpl<M: Mends<N>>(
@@ -58,7 +59,8 @@ impl<N: Lends> Change<N> for Added {
         link: &mut TplBox<N>,
         place: Place,
     ) -> Result<(), Stop> {
-        mend_linked_tpl::<N, M>(mender, alloc, link, place)
+        mend_linked_tpl::<N, M>(mender, alloc, link, place)?;
+        Ok(())
     }
 
     fn prop_name<M: Mends<N>>(
@@ -67,7 +69,8 @@ impl<N: Lends> Change<N> for Added {
         link: &mut PropNameBox<N>,
         place: Place,
     ) -> Result<(), Stop> {
-        mend_linked_prop_name::<N, M>(mender, alloc, link, place)
+        mend_linked_prop_name::<N, M>(mender, alloc, link, place)?;
+        Ok(())
     }
 
     fn member_expr<M: Mends<N>>(
@@ -76,7 +79,8 @@ impl<N: Lends> Change<N> for Added {
         link: &mut MemberExprBox<N>,
         place: Place,
     ) -> Result<(), Stop> {
-        mend_linked_member_expr::<N, M>(mender, alloc, link, place)
+        mend_linked_member_expr::<N, M>(mender, alloc, link, place)?;
+        Ok(())
     }
 
     fn opt_call<M: Mends<N>>(
@@ -85,7 +89,8 @@ impl<N: Lends> Change<N> for Added {
         link: &mut OptCallBox<N>,
         place: Place,
     ) -> Result<(), Stop> {
-        mend_linked_opt_call::<N, M>(mender, alloc, link, place)
+        mend_linked_opt_call::<N, M>(mender, alloc, link, place)?;
+        Ok(())
     }
 
     fn assign_target<M: Mends<N>>(
@@ -94,7 +99,8 @@ impl<N: Lends> Change<N> for Added {
         link: &mut AssignTargetBox<N>,
         place: Place,
     ) -> Result<(), Stop> {
-        mend_linked::<ToAssignTarget, N, M>(mender, alloc, link, place)
+        mend_linked_assign_target::<N, M>(mender, alloc, link, place)?;
+        Ok(())
     }
 
     fn stmt<M: Mends<N>>(
@@ -115,7 +121,8 @@ impl<N: Lends> Change<N> for Added {
         link: &mut FunctionBox<N>,
         place: Place,
     ) -> Result<(), Stop> {
-        mend_linked_function::<N, M>(mender, alloc, link, place)
+        mend_linked_function::<N, M>(mender, alloc, link, place)?;
+        Ok(())
     }
 
     fn class<M: Mends<N>>(
@@ -124,7 +131,8 @@ impl<N: Lends> Change<N> for Added {
         link: &mut ClassBox<N>,
         place: Place,
     ) -> Result<(), Stop> {
-        mend_linked_class::<N, M>(mender, alloc, link, place)
+        mend_linked_class::<N, M>(mender, alloc, link, place)?;
+        Ok(())
     }
 
     fn block_stmt<M: Mends<N>>(
@@ -133,7 +141,8 @@ impl<N: Lends> Change<N> for Added {
         link: &mut BlockStmtBox<N>,
         place: Place,
     ) -> Result<(), Stop> {
-        mend_linked_block_stmt::<N, M>(mender, alloc, link, place)
+        mend_linked_block_stmt::<N, M>(mender, alloc, link, place)?;
+        Ok(())
     }
 
     fn decl<M: Mends<N>>(
@@ -142,7 +151,8 @@ impl<N: Lends> Change<N> for Added {
         link: &mut DeclBox<N>,
         place: Place,
     ) -> Result<(), Stop> {
-        mend_linked_decl::<N, M>(mender, alloc, link, place)
+        mend_linked_decl::<N, M>(mender, alloc, link, place)?;
+        Ok(())
     }
 
     fn module_decl<M: Mends<N>>(
@@ -151,7 +161,8 @@ impl<N: Lends> Change<N> for Added {
         link: &mut ModuleDeclBox<N>,
         place: Place,
     ) -> Result<(), Stop> {
-        mend_linked_module_decl::<N, M>(mender, alloc, link, place)
+        mend_linked_module_decl::<N, M>(mender, alloc, link, place)?;
+        Ok(())
     }
 
     fn var_decl<M: Mends<N>>(
@@ -160,7 +171,8 @@ impl<N: Lends> Change<N> for Added {
         link: &mut VarDeclBox<N>,
         place: Place,
     ) -> Result<(), Stop> {
-        mend_linked_var_decl::<N, M>(mender, alloc, link, place)
+        mend_linked_var_decl::<N, M>(mender, alloc, link, place)?;
+        Ok(())
     }
 
     fn class_member<M: Mends<N>>(
@@ -169,7 +181,8 @@ impl<N: Lends> Change<N> for Added {
         link: &mut ClassMemberBox<N>,
         place: Place,
     ) -> Result<(), Stop> {
-        mend_linked_class_member::<N, M>(mender, alloc, link, place)
+        mend_linked_class_member::<N, M>(mender, alloc, link, place)?;
+        Ok(())
     }
 
     fn jsx_element<M: Mends<N>>(
@@ -178,7 +191,8 @@ impl<N: Lends> Change<N> for Added {
         link: &mut JSXElementBox<N>,
         place: Place,
     ) -> Result<(), Stop> {
-        mend_linked_jsx_element::<N, M>(mender, alloc, link, place)
+        mend_linked_jsx_element::<N, M>(mender, alloc, link, place)?;
+        Ok(())
     }
 
     fn jsx_fragment<M: Mends<N>>(
@@ -187,6 +201,7 @@ impl<N: Lends> Change<N> for Added {
         link: &mut JSXFragmentBox<N>,
         place: Place,
     ) -> Result<(), Stop> {
-        mend_linked_jsx_fragment::<N, M>(mender, alloc, link, place)
+        mend_linked_jsx_fragment::<N, M>(mender, alloc, link, place)?;
+        Ok(())
     }
 }

@@ -1,9 +1,10 @@
 //! What is changed where a link holds it: parentheses are put in there, or taken away.
 
 ghost use Rattle.std.specs.Result.{OnOk};
-ghost use Rattle.swc_ecma_codegen_parentheses.specs.Lists.{linked};
+ghost use Rattle.swc_ecma_codegen_parentheses.specs.declared.mends.Usage.{Usage};
+ghost use Rattle.swc_ecma_codegen_parentheses.specs.Lists.{linked, linked_as};
 
-use crate::mends::{Mends, Stop};
+use crate::mends::{Mends, Stop, Usage};
 use crate::places::Place;
 use std::alloc::Global;
 use swc_ecma_codegen_tree::{
@@ -15,15 +16,16 @@ use swc_ecma_codegen_tree::{
 /// What is changed where a link holds it.
 pub(crate) trait Change<N>: Sized {
     /// What such a link held, and what it holds, by what the links in it held and hold.
-    ghost changed: { (N → N → Type 0) → N → N → Type 0 };
+    ghost changed: { (Usage → N → N → Type 0) → Usage → N → N → Type 0 };
 
     fn expr<M: Mends<N>>(
         mender: &M,
         alloc: Global,
         link: &mut ExprBox<N>,
         place: Place,
+        usage: Usage,
     ) -> Result<(), Stop>
-        ensures { OnOk result (linked (changed (M.mended mender.now)) link.old link.new) };
+        ensures { OnOk result (linked_as usage (changed (M.mended mender.now)) link.old link.new) };
 
     fn pat<M: Mends<N>>(
         mender: &M,
@@ -160,10 +162,11 @@ pub(crate) fn change_expr<N, C: Change<N>, M: Mends<N>>(
     alloc: Global,
     link: &mut ExprBox<N>,
     place: Place,
+    usage: Usage,
 ) -> Result<(), Stop>
-    ensures { OnOk result (linked (C.changed (M.mended mender.now)) link.old link.new) }
+    ensures { OnOk result (linked_as usage (C.changed (M.mended mender.now)) link.old link.new) }
 {
-    C::expr::<M>(mender, alloc, link, place)
+    C::expr::<M>(mender, alloc, link, place, usage)
 }
 
 /// The change of the pattern that a link holds.

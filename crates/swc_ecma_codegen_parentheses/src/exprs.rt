@@ -148,7 +148,9 @@ impl<N: Answers, M: Mends<N>> Mend<N, M> for Expr<N> {
             Expr::TsAs(node) => node.mend(mender, alloc, place),
             Expr::TsInstantiation(node) => node.mend(mender, alloc, place),
             Expr::TsSatisfies(node) => node.mend(mender, alloc, place),
-            _ => Ok(()),
+            Expr::This(_) | Expr::Ident(_) | Expr::Lit(_) | Expr::MetaProp(_) => Ok(()),
+            Expr::JSXMember(_) | Expr::JSXNamespacedName(_) | Expr::JSXEmpty(_) => Ok(()),
+            Expr::PrivateName(_) | Expr::Invalid(_) => Ok(()),
         }
     }
 }

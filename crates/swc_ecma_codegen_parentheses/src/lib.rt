@@ -2,6 +2,8 @@
 #![tactic(auto)]
 
 mod added;
+mod bare;
+mod bare_roots;
 mod changes;
 mod classes;
 mod enclosed;
@@ -22,9 +24,14 @@ mod places;
 mod recursion;
 mod roots;
 mod stmts;
+mod taken;
 mod ts_decls;
 mod ts_exprs;
 
+pub use crate::bare_roots::{
+    NotBare, without_parentheses, without_parentheses_expr, without_parentheses_item,
+    without_parentheses_stmt,
+};
 pub use crate::roots::{
     Unmended, parenthesize, parenthesize_expr, parenthesize_item, parenthesize_stmt,
 };

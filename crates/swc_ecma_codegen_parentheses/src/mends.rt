@@ -2,22 +2,36 @@
 
 ghost use Rattle.std.specs.Prelude.{◌≡◌};
 ghost use Rattle.std.specs.Result.{OnOk};
-ghost use Rattle.swc_ecma_codegen_parentheses.specs.Lists.{Pairwise, linked, optionally};
+ghost use Rattle.swc_ecma_codegen_parentheses.specs.declared.mends.Usage.{Usage};
+ghost use Rattle.swc_ecma_codegen_parentheses.specs.Lists.{Pairwise, linked, linked_as, optionally};
 
 use crate::places::Place;
 use std::alloc::{AllocError, Global};
 use swc_ecma_codegen_tree::{
     AssignTargetBox, BlockStmtBox, ClassBox, ClassMemberBox, DeclBox, ExprBox, FunctionBox,
     JSXElementBox, JSXFragmentBox, MemberExprBox, ModuleDeclBox, OptCallBox, PatBox, PropNameBox,
-    StmtBox, TplBox, TsNamespaceBodyBox, VarDeclBox,
+    StmtBox, TplBox, VarDeclBox,
 };
 
-/// Why no more parentheses were put in.
+/// Why the pass went no further.
 pub(crate) enum Stop {
     /// Memory was refused.
     OutOfMemory,
     /// More links lie below one another than are gone down.
     TooDeep,
+    /// A link holds no node of its sort.
+    Stray,
+}
+
+/// How the expression is used that a link holds.
+#[derive(Clone, Copy)]
+pub(crate) enum Usage {
+    /// Its value is.
+    Value,
+    /// It is a statement, as `"use strict"`, which is a directive, and `("use strict")`, which is none.
+    Statement,
+    /// It is assigned to, as `a` in `[a] = b`.
+    Target,
 }
 
 impl From<AllocError> for Stop {
@@ -26,13 +40,19 @@ impl From<AllocError> for Stop {
     }
 }
 
-/// What goes on to what links hold, and puts parentheses in there.
+/// What goes on to what links hold, and changes that.
 pub(crate) trait Mends<N>: Sized {
     /// What a link held, and what it holds.
-    ghost mended: { Self → N → N → Type 0 };
+    ghost mended: { Self → Usage → N → N → Type 0 };
 
-    fn expr(&self, alloc: Global, link: &mut ExprBox<N>, place: Place) -> Result<(), Stop>
-        ensures { OnOk result (linked (mended self.now) link.old link.new) };
+    fn expr(
+        &self,
+        alloc: Global,
+        link: &mut ExprBox<N>,
+        place: Place,
+        usage: Usage,
+    ) -> Result<(), Stop>
+        ensures { OnOk result (linked_as usage (mended self.now) link.old link.new) };
 
     fn pat(&self, alloc: Global, link: &mut PatBox<N>, place: Place) -> Result<(), Stop>
         ensures { OnOk result (linked (mended self.now) link.old link.new) };
@@ -116,20 +136,12 @@ pub(crate) trait Mends<N>: Sized {
         place: Place,
     ) -> Result<(), Stop>
         ensures { OnOk result (linked (mended self.now) link.old link.new) };
-
-    fn ts_namespace_body(
-        &self,
-        alloc: Global,
-        link: &mut TsNamespaceBodyBox<N>,
-        place: Place,
-    ) -> Result<(), Stop>
-        ensures { OnOk result (linked (mended self.now) link.old link.new) };
 }
 
-/// A node that parentheses are put into.
+/// A node whose links are gone down.
 pub(crate) trait Mend<N, M: Mends<N>>: Sized {
     /// What it was, and what it is, by what links held and hold.
-    ghost same: { (N → N → Type 0) → Self → Self → Type 0 };
+    ghost same: { (Usage → N → N → Type 0) → Self → Self → Type 0 };
 
     fn mend(&mut self, mender: &M, alloc: Global, place: Place) -> Result<(), Stop>
         ensures { OnOk result (same (M.mended mender.now) self.old self.new) };
@@ -173,7 +185,7 @@ impl<N, M: Mends<N>> Mend<N, M> for ExprBox<N> {
     ghost same = { linked };
 
     fn mend(&mut self, mender: &M, alloc: Global, place: Place) -> Result<(), Stop> {
-        mender.expr(alloc, self, place)
+        mender.expr(alloc, self, place, Usage::Value)
     }
 }
 
@@ -302,13 +314,5 @@ impl<N, M: Mends<N>> Mend<N, M> for JSXFragmentBox<N> {
 
     fn mend(&mut self, mender: &M, alloc: Global, place: Place) -> Result<(), Stop> {
         mender.jsx_fragment(alloc, self, place)
-    }
-}
-
-impl<N, M: Mends<N>> Mend<N, M> for TsNamespaceBodyBox<N> {
-    ghost same = { linked };
-
-    fn mend(&mut self, mender: &M, alloc: Global, place: Place) -> Result<(), Stop> {
-        mender.ts_namespace_body(alloc, self, place)
     }
 }

@@ -2,7 +2,7 @@
 
 ghost use Rattle.swc_ecma_codegen_parentheses.specs.SamePats.{same_array_pat, same_rest_pat, same_key_value_pat_prop, same_assign_pat_prop, same_object_pat_prop, same_object_pat, same_assign_pat, same_pat, same_simple_assign_target, same_assign_target_pat, same_assign_target};
 
-use crate::mends::{Mend, Mends, Stop};
+use crate::mends::{Mend, Mends, Stop, Usage};
 use crate::places::Place;
 use std::alloc::Global;
 use swc_ecma_codegen_syntax::{Answers, Nonterminal};
@@ -102,7 +102,7 @@ impl<N: Answers, M: Mends<N>> Mend<N, M> for Pat<N> {
                 let within = place
                     .bracketed(Nonterminal::LeftHandSideExpression)
                     .beginning(place);
-                node.mend(mender, alloc, within)
+                mender.expr(alloc, node, within, Usage::Target)
             }
             _ => Ok(()),
         }

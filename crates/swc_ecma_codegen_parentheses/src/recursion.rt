@@ -8,14 +8,14 @@ use crate::changes::{
     change_member_expr, change_module_decl, change_opt_call, change_pat, change_prop_name,
     change_stmt, change_tpl, change_var_decl,
 };
-use crate::mends::{Mends, Stop};
+use crate::mends::{Mends, Stop, Usage};
 use crate::places::Place;
 use std::alloc::{AllocError, Global};
 use std::marker::PhantomData;
 use swc_ecma_codegen_tree::{
     AssignTargetBox, BlockStmtBox, ClassBox, ClassMemberBox, DeclBox, ExprBox, FunctionBox,
     JSXElementBox, JSXFragmentBox, MemberExprBox, ModuleDeclBox, OptCallBox, PatBox, PropNameBox,
-    StmtBox, TplBox, TsNamespaceBodyBox, VarDeclBox,
+    StmtBox, TplBox, VarDeclBox,
 };
 
 /// How many links may still lie below one another, for one change. It gets shorter at each link, so that the pass ends.
@@ -41,9 +41,17 @@ impl<N, C: Change<N>> Mends<N> for Levels<N, C> {
     ghost mended = { same_levels C.changed };
 
     #[cycle(mend)]
-    fn expr(&self, alloc: Global, link: &mut ExprBox<N>, place: Place) -> Result<(), Stop> {
+    fn expr(
+        &self,
+        alloc: Global,
+        link: &mut ExprBox<N>,
+        place: Place,
+        usage: Usage,
+    ) -> Result<(), Stop> {
         match self {
-            Levels::More(fewer) => change_expr::<N, C, Levels<N, C>>(fewer, alloc, link, place),
+            Levels::More(fewer) => change_expr::<N, C, Levels<N, C>>(
+                fewer, alloc, link, place, usage,
+            ),
             Levels::Out(_) => Err(Stop::TooDeep),
         }
     }
@@ -230,15 +238,5 @@ impl<N, C: Change<N>> Mends<N> for Levels<N, C> {
             ),
             Levels::Out(_) => Err(Stop::TooDeep),
         }
-    }
-
-    /// Leaves it as it is: a proof that it is lent compares all types of TypeScript, and that is past the prover's limit.
-    fn ts_namespace_body(
-        &self,
-        _: Global,
-        _: &mut TsNamespaceBodyBox<N>,
-        _: Place,
-    ) -> Result<(), Stop> {
-        Ok(())
     }
 }

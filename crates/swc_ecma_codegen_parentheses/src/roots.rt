@@ -107,7 +107,7 @@ pub fn parenthesize(alloc: Global, program: Program) -> Result<Program, Unmended
     let mut program = program;
     match mend_program(alloc, &mut program) {
         Err(Stop::OutOfMemory) => Err(Unmended::OutOfMemory),
-        Err(Stop::TooDeep) => Err(Unmended::TooDeep(program)),
+        Err(Stop::TooDeep | Stop::Stray) => Err(Unmended::TooDeep(program)),
         Ok(()) if is_mended(before, verdict(&program)) => Ok(program),
         Ok(()) => Err(Unmended::Left(program)),
     }
@@ -136,7 +136,7 @@ pub fn parenthesize_item(
     let place = Place::of(Nonterminal::Expression, parameters);
     match mend_item(alloc, &mut item, place) {
         Err(Stop::OutOfMemory) => Err(Unmended::OutOfMemory),
-        Err(Stop::TooDeep) => Err(Unmended::TooDeep(item)),
+        Err(Stop::TooDeep | Stop::Stray) => Err(Unmended::TooDeep(item)),
         Ok(()) if is_mended(before, verdict_item(&item, parameters)) => Ok(item),
         Ok(()) => Err(Unmended::Left(item)),
     }
@@ -168,7 +168,7 @@ pub fn parenthesize_stmt(
     let at = Place::of(place, parameters);
     match mend_whole_stmt(alloc, &mut stmt, at) {
         Err(Stop::OutOfMemory) => Err(Unmended::OutOfMemory),
-        Err(Stop::TooDeep) => Err(Unmended::TooDeep(stmt)),
+        Err(Stop::TooDeep | Stop::Stray) => Err(Unmended::TooDeep(stmt)),
         Ok(()) if is_mended(before, verdict_stmt(&stmt, place, parameters)) => Ok(stmt),
         Ok(()) => Err(Unmended::Left(stmt)),
     }
@@ -200,7 +200,7 @@ pub fn parenthesize_expr(
     let at = Place::of(place, parameters);
     match mend_whole_expr(alloc, &mut expr, at) {
         Err(Stop::OutOfMemory) => Err(Unmended::OutOfMemory),
-        Err(Stop::TooDeep) => Err(Unmended::TooDeep(expr)),
+        Err(Stop::TooDeep | Stop::Stray) => Err(Unmended::TooDeep(expr)),
         Ok(()) if is_mended(before, verdict_expr(&expr, place, parameters)) => Ok(expr),
         Ok(()) => Err(Unmended::Left(expr)),
     }

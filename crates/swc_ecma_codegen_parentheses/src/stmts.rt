@@ -3,7 +3,7 @@
 ghost use Rattle.swc_ecma_codegen_parentheses.specs.SameDecls.{same_var_declarator, same_var_decl, same_decl};
 ghost use Rattle.swc_ecma_codegen_parentheses.specs.SameStmts.{same_with_stmt, same_return_stmt, same_labeled_stmt, same_if_stmt, same_switch_case, same_switch_stmt, same_throw_stmt, same_catch_clause, same_try_stmt, same_expr_stmt, same_stmt, same_block_stmt};
 
-use crate::mends::{Mend, Mends, Stop};
+use crate::mends::{Mend, Mends, Stop, Usage};
 use crate::places::Place;
 use std::alloc::Global;
 use swc_ecma_codegen_grammar::roles::Role;
@@ -45,7 +45,6 @@ impl<N: Answers, M: Mends<N>> Mend<N, M> for Decl<N> {
                 node.mend(mender, alloc, within)
             }
             Decl::TsEnum(node) => node.mend(mender, alloc, place),
-            Decl::TsModule(node) => node.mend(mender, alloc, place),
             _ => Ok(()),
         }
     }
@@ -155,7 +154,7 @@ impl<N: Answers, M: Mends<N>> Mend<N, M> for ExprStmt<N> {
         let begins = self.expr.target().begins(Role::Expression);
         let whole = place.bracketed(Nonterminal::Expression);
         let whole = whole.restricted(Lookahead::StatementStart, begins);
-        self.expr.mend(mender, alloc, whole)
+        mender.expr(alloc, &mut self.expr, whole, Usage::Statement)
     }
 }
 
@@ -180,7 +179,7 @@ impl<N: Answers, M: Mends<N>> Mend<N, M> for Stmt<N> {
             Stmt::ForOf(node) => node.mend(mender, alloc, place),
             Stmt::Decl(node) => node.mend(mender, alloc, place),
             Stmt::Expr(node) => node.mend(mender, alloc, place),
-            _ => Ok(()),
+            Stmt::Empty(_) | Stmt::Debugger(_) | Stmt::Break(_) | Stmt::Continue(_) => Ok(()),
         }
     }
 }

@@ -1,12 +1,12 @@
 //! Declarations of TypeScript.
 
-ghost use Rattle.swc_ecma_codegen_parentheses.specs.SameTsDecls.{same_ts_enum_member, same_ts_enum_decl, same_ts_module_decl, same_ts_export_assignment};
+ghost use Rattle.swc_ecma_codegen_parentheses.specs.SameTsDecls.{same_ts_enum_member, same_ts_enum_decl, same_ts_export_assignment};
 
 use crate::mends::{Mend, Mends, Stop};
 use crate::places::Place;
 use std::alloc::Global;
 use swc_ecma_codegen_syntax::{Answers, Nonterminal};
-use swc_ecma_codegen_tree::{TsEnumDecl, TsEnumMember, TsExportAssignment, TsModuleDecl};
+use swc_ecma_codegen_tree::{TsEnumDecl, TsEnumMember, TsExportAssignment};
 
 impl<N: Answers, M: Mends<N>> Mend<N, M> for TsEnumMember<N> {
     ghost same = { same_ts_enum_member };
@@ -27,15 +27,6 @@ impl<N: Answers, M: Mends<N>> Mend<N, M> for TsEnumDecl<N> {
     #[tactic(auto, unfolding(crate::specs::SameTsDecls::same_ts_enum_decl))]
     fn mend(&mut self, mender: &M, alloc: Global, place: Place) -> Result<(), Stop> {
         self.members.mend(mender, alloc, place)
-    }
-}
-
-impl<N: Answers, M: Mends<N>> Mend<N, M> for TsModuleDecl<N> {
-    ghost same = { same_ts_module_decl };
-
-    #[tactic(auto, unfolding(crate::specs::SameTsDecls::same_ts_module_decl))]
-    fn mend(&mut self, mender: &M, alloc: Global, place: Place) -> Result<(), Stop> {
-        self.body.mend(mender, alloc, place)
     }
 }
 

@@ -1,7 +1,7 @@
-use Rattle.std.proofs.lemmas.Result.{on_ok_weaker}
-use Rattle.swc_ecma_codegen_parentheses.specs.Whole.{as_part, block_stmt}
-use Rattle.swc_ecma_codegen_parentheses.proofs.Held.{linked_weaker}
+use Rattle.swc_ecma_codegen_parentheses.specs.declared.mends.Usage.TheVariants as usages
+use Rattle.swc_ecma_codegen_parentheses.specs.Whole.{as_part, changed, kept, block_stmt}
+use Rattle.swc_ecma_codegen_parentheses.proofs.Held.{found_or_kept}
 use Rattle.swc_ecma_codegen_parentheses.proofs.added.AddedChange.block_stmt.Goals as goal
 
 pub returns : goal.returns
-returns g c = on_ok_weaker c.mend_linked_block_stmt.result (linked_weaker (λ a b said. as_part (block_stmt said)) c.args.link.now c.mend_linked_block_stmt.new.link) c.mend_linked_block_stmt.ensures
+returns g c = found_or_kept _ usages.Value (λ a b said. as_part (block_stmt said)) (λ a b same. changed (kept same)) c.in_ok-mend_linked_block_stmt.field-0 c.args.link.now c.mend_linked_block_stmt.new.link c.in_ok-mend_linked_block_stmt.ensures

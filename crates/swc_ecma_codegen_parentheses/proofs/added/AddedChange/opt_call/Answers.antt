@@ -1,7 +1,7 @@
-use Rattle.std.proofs.lemmas.Result.{on_ok_weaker}
-use Rattle.swc_ecma_codegen_parentheses.specs.Whole.{as_part, opt_call}
-use Rattle.swc_ecma_codegen_parentheses.proofs.Held.{linked_weaker}
+use Rattle.swc_ecma_codegen_parentheses.specs.declared.mends.Usage.TheVariants as usages
+use Rattle.swc_ecma_codegen_parentheses.specs.Whole.{as_part, changed, kept, opt_call}
+use Rattle.swc_ecma_codegen_parentheses.proofs.Held.{found_or_kept}
 use Rattle.swc_ecma_codegen_parentheses.proofs.added.AddedChange.opt_call.Goals as goal
 
 pub returns : goal.returns
-returns g c = on_ok_weaker c.mend_linked_opt_call.result (linked_weaker (λ a b said. as_part (opt_call said)) c.args.link.now c.mend_linked_opt_call.new.link) c.mend_linked_opt_call.ensures
+returns g c = found_or_kept _ usages.Value (λ a b said. as_part (opt_call said)) (λ a b same. changed (kept same)) c.in_ok-mend_linked_opt_call.field-0 c.args.link.now c.mend_linked_opt_call.new.link c.in_ok-mend_linked_opt_call.ensures

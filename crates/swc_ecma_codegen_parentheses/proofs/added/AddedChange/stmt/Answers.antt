@@ -1,20 +1,20 @@
-use Rattle.std.proofs.Common.{inl, inr, sym}
+use Rattle.std.proofs.Common.{ap, sym}
 use Rattle.std.proofs.lemmas.Result.{on_ok_weaker}
 use Rattle.swc_ecma_codegen_tree.specs.declared.links.Link.{Link}
 use Rattle.swc_ecma_codegen_tree.specs.declared.sorts.ToStmt.{ToStmt}
 use Rattle.swc_ecma_codegen_parentheses.specs.Lent.{lent}
-use Rattle.swc_ecma_codegen_parentheses.specs.Lists.{linked}
-use Rattle.swc_ecma_codegen_parentheses.specs.Whole.{changed, stmt}
+use Rattle.swc_ecma_codegen_parentheses.specs.Lists.{linked_as}
+use Rattle.swc_ecma_codegen_parentheses.specs.Whole.{changed, kept, stmt}
 use Rattle.swc_ecma_codegen_parentheses.proofs.InPlace.{lent_changed}
 use Rattle.swc_ecma_codegen_parentheses.proofs.added.AddedChange.stmt.Goals as goal
 
 pub returns-in-Some : goal.returns-in-Some
-unfolding linked
+unfolding linked_as
 returns-in-Some g c =
     let node_in = λ (link : Link ToStmt g.row.N.Denot). g.N.Holds-4.node_in link.node.value in
     let both = lent_changed node_in c.args.link.now c.get_mut.result c.in-Some.node c.get_mut.follows.lender c.in-Some.is c.get_mut.ensures.node c.get_mut.follows.holds c.mend_stmt.new.stmt in
-    on_ok_weaker c.mend_stmt.result (λ same. inr (changed (stmt (lent both.0 both.1 same)))) c.mend_stmt.ensures
+    on_ok_weaker c.mend_stmt.result (λ same. changed (stmt (lent both.0 both.1 same))) c.mend_stmt.ensures
 
 pub returns-in-None : goal.returns-in-None
-unfolding linked
-returns-in-None g c = inl (sym c.get_mut.follows.holds-at-none)
+unfolding linked_as
+returns-in-None g c = changed (kept (ap (λ (l : Link ToStmt g.row.N.Denot). l.node.value) (sym c.get_mut.follows.holds-at-none)))

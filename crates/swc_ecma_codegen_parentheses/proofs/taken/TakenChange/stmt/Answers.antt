@@ -1,0 +1,16 @@
+use Rattle.std.proofs.lemmas.Result.{on_ok_weaker}
+use Rattle.swc_ecma_codegen_tree.specs.declared.links.Link.{Link}
+use Rattle.swc_ecma_codegen_tree.specs.declared.sorts.ToStmt.{ToStmt}
+use Rattle.swc_ecma_codegen_parentheses.specs.Lent.{lent}
+use Rattle.swc_ecma_codegen_parentheses.specs.Lists.{linked_as}
+use Rattle.swc_ecma_codegen_parentheses.specs.Bare.{stmt}
+use Rattle.swc_ecma_codegen_parentheses.specs.Whole.{changed}
+use Rattle.swc_ecma_codegen_parentheses.proofs.InPlace.{lent_changed}
+use Rattle.swc_ecma_codegen_parentheses.proofs.taken.TakenChange.stmt.Goals as goal
+
+pub returns-in-Some : goal.returns-in-Some
+unfolding linked_as
+returns-in-Some g c =
+    let node_in = λ (link : Link ToStmt g.row.N.Denot). g.N.Holds-4.node_in link.node.value in
+    let both = lent_changed node_in c.args.link.now c.get_mut.result c.in-Some.node c.get_mut.follows.lender c.in-Some.is c.get_mut.ensures.node c.get_mut.follows.holds c.mend.new.self in
+    on_ok_weaker c.mend.result (λ same. changed (stmt (lent both.0 both.1 same))) c.mend.ensures
