@@ -130,6 +130,8 @@ def of_row_mended(rows_of, word, rest):
     if word in ("run", "cuts", "no_text"):
         return [by_ecmafix(*run) for run in of_row(rows_of, word, rest)]
     sort, _, plain = word.rpartition("_")
+    if (word, rest[0]) == ("mended", "fewest"):
+        return [(["--fewest"], of_sort(rows_of, sort, rest[1]), (0, rest[2] + "\n", ""))]
     if plain not in ("mended", "structure") or rest[0] != ("program" if sort else "script") or UNMENDED.search(rest[1]):
         return []
     json = of_sort(rows_of, sort, rest[1])

@@ -17,6 +17,12 @@ class Fix(unittest.TestCase):
             ran = subprocess.run([PROGRAM, *words], input=tree, capture_output=True, text=True, check=False)
             self.assertEqual((ran.returncode, ran.stdout, ran.stderr), (0, text, ""))
 
+    def test_the_fewest(self):
+        tree = run("tree-of", "-", given="((a) + (b)) * c;\n").stdout
+        for words, pairs in (([], 3), (["--fewest"], 1)):
+            ran = subprocess.run([PROGRAM, *words], input=tree, capture_output=True, text=True, check=False)
+            self.assertEqual((ran.returncode, ran.stdout.count("("), ran.stderr), (0, pairs, ""))
+
     def test_runs_of_the_rows(self):
         ran = run("try-runs", PROGRAM)
         self.assertRegex(ran.stdout, r"\n1\d{3} passed, 0 failed\n$")

@@ -2,13 +2,13 @@
 #![tactic(auto)]
 
 ghost use Rattle.std.specs.Prelude.{◌≡◌, Err, IfOk, Ok, false, true};
-ghost use Rattle.swc_ecma_codegen_fix.specs.Mended.{IsMended};
+ghost use Rattle.swc_ecma_codegen_fix.specs.Mended.{HasFewest, IsFixed, IsMended};
 ghost use Rattle.swc_ecma_codegen_syntax.specs.Derives.{program_verdict};
 ghost use Rattle.swc_ecma_codegen_syntax.specs.Verdicts.{holds};
 
 use std::alloc::Global;
 use swc_ecma_codegen_json::Tree;
-use swc_ecma_codegen_parentheses::{Unmended, parenthesize};
+use swc_ecma_codegen_parentheses::{NotBare, Unmended, parenthesize, without_parentheses};
 use swc_ecma_codegen_syntax::{Verdict, verdict};
 use thiserror::Error as ThisError;
 
@@ -57,6 +57,39 @@ pub fn mended(alloc: Global, any: bool, tree: Tree) -> Result<Tree, Unmendable>
         Err(Unmended::TooDeep(program)) => left(false, before, Tree(program)),
         Err(Unmended::OutOfMemory) => Err(Unmendable::OutOfMemory),
     }
+}
+
+/// The same of a program whose own parentheses are taken away before, but for those that `without_parentheses` lets stand. Of
+/// `((a) + (b)) * c` it makes `(a + b) * c`. A program of more than 10,000 links below one another is refused.
+pub fn fewest(alloc: Global, any: bool, tree: Tree) -> Result<Tree, Unmendable>
+    ensures { IfOk result (λ r. HasFewest any tree.0 r.0) }
+{
+    match without_parentheses(alloc, tree.into_program()) {
+        Ok(program) => mended(alloc, any, Tree(program)),
+        Err(NotBare::OutOfMemory(program)) => refused(Unmendable::OutOfMemory, Tree(program)),
+        Err(NotBare::TooDeep(program) | NotBare::Stray(program)) => {
+            refused(Unmendable::NotADerivation, Tree(program))
+        }
+    }
+}
+
+/// A program as `ecmafix` prints it: mended, after its own parentheses are taken away if the fewest are asked for.
+#[tactic(auto, unfolding(crate::specs::Mended::IsFixed))]
+pub fn fixed(alloc: Global, fewest_asked: bool, any: bool, tree: Tree) -> Result<Tree, Unmendable>
+    ensures { IfOk result (λ r. IsFixed fewest_asked any tree.0 r.0) }
+{
+    if fewest_asked {
+        fewest(alloc, any, tree)
+    } else {
+        mended(alloc, any, tree)
+    }
+}
+
+/// No program, for this reason. A `Tree` is let go by a `drop` that is proved once.
+fn refused(why: Unmendable, _tree: Tree) -> Result<Tree, Unmendable>
+    ensures { result ≡ Err why }
+{
+    Err(why)
 }
 
 /// A program that lacks parentheses even now, if any is asked for and something else was wrong with it before.
