@@ -526,10 +526,38 @@ impl<W: WriteJs, S: SourceMapper, C: Comments> Emitter<'_, W, S, C> {
         }
     }
 
-    /// Writes a punctuator between two blanks.
+    /// Writes a punctuator between two blanks. Where no positions are kept it is one text.
+    #[inline(never)]
+    pub(crate) fn punct_between(&mut self, mark: Punctuator)
+        ensures items { Performs (punct_between (spelling mark))
+            S.lines C.maps W.sheet self.old self.new }
+    {
+        if self.wr.care_about_srcmap() {
+            return self.punct_and_blanks(mark);
+        }
+        self.punct_in_blanks(mark)
+    }
+
+    /// The same, text by text.
     #[inline(never)]
     #[tactic(auto, using(crate::proofs::Standings::refused_makes))]
-    pub(crate) fn punct_between(&mut self, mark: Punctuator)
+    fn punct_and_blanks(&mut self, mark: Punctuator)
+        ensures items { Performs (punct_between (spelling mark))
+            S.lines C.maps W.sheet self.old self.new }
+    {
+        if self.refusal.is_some() {
+            return;
+        }
+        let done = self
+            .lower
+            .writes_punct_and_blanks(&self.cfg, &mut self.wr, mark);
+        keep_reason(&mut self.refusal, done, &self.lower);
+    }
+
+    /// The same as one text, where that may be.
+    #[inline(always)]
+    #[tactic(auto, using(crate::proofs::Standings::refused_makes))]
+    fn punct_in_blanks(&mut self, mark: Punctuator)
         ensures items { Performs (punct_between (spelling mark))
             S.lines C.maps W.sheet self.old self.new }
     {
@@ -542,10 +570,38 @@ impl<W: WriteJs, S: SourceMapper, C: Comments> Emitter<'_, W, S, C> {
         keep_reason(&mut self.refusal, done, &self.lower);
     }
 
-    /// Writes an operator that is a punctuator, between two blanks.
+    /// Writes an operator that is a punctuator, between two blanks. Where no positions are kept it is one text.
+    #[inline(never)]
+    pub(crate) fn operator_between(&mut self, mark: Punctuator)
+        ensures items { Performs (operator_between (spelling mark))
+            S.lines C.maps W.sheet self.old self.new }
+    {
+        if self.wr.care_about_srcmap() {
+            return self.operator_and_blanks(mark);
+        }
+        self.operator_in_blanks(mark)
+    }
+
+    /// The same, text by text.
     #[inline(never)]
     #[tactic(auto, using(crate::proofs::Standings::refused_makes))]
-    pub(crate) fn operator_between(&mut self, mark: Punctuator)
+    fn operator_and_blanks(&mut self, mark: Punctuator)
+        ensures items { Performs (operator_between (spelling mark))
+            S.lines C.maps W.sheet self.old self.new }
+    {
+        if self.refusal.is_some() {
+            return;
+        }
+        let done = self
+            .lower
+            .writes_operator_and_blanks(&self.cfg, &mut self.wr, mark);
+        keep_reason(&mut self.refusal, done, &self.lower);
+    }
+
+    /// The same as one text, where that may be.
+    #[inline(always)]
+    #[tactic(auto, using(crate::proofs::Standings::refused_makes))]
+    fn operator_in_blanks(&mut self, mark: Punctuator)
         ensures items { Performs (operator_between (spelling mark))
             S.lines C.maps W.sheet self.old self.new }
     {

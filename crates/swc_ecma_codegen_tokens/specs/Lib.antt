@@ -4,6 +4,7 @@ pub mod Targets
 pub mod Words
 pub mod Tags
 pub mod Adds
+pub mod Between
 pub mod Calls
 pub mod Choices
 pub mod Keys

@@ -84,7 +84,7 @@ impl LowerEmitter {
     /// Notes that a text wasn't sent, whose token was noted ahead, with the reason and the error that the writer keeps.
     #[cold]
     #[inline(never)]
-    fn give_up_sent<W: WriteJs>(&mut self, wr: &mut W, before: Snapshot<PreviousToken>)
+    pub(crate) fn give_up_sent<W: WriteJs>(&mut self, wr: &mut W, before: Snapshot<PreviousToken>)
         ensures reason { self.new.reason ≡ W.reason wr.old }
         ensures sheet { W.sheet wr.new ≡ W.sheet wr.old }
         ensures token { self.new.token.value ≡ before.value }

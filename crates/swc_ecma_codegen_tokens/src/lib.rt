@@ -8,6 +8,7 @@ ghost use Rattle.swc_ecma_codegen_tokens.specs.PreviousToken.{class_of};
 
 mod answers;
 mod attributes;
+mod between;
 mod calls;
 mod comments;
 mod guard;

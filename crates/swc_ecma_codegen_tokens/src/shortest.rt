@@ -1,7 +1,7 @@
 //! The tokens that trees have most of, by the shortest way. Each call only says whether its token was written, so that its answer is one
 //! bit: else `reason` says why not.
 
-ghost use Rattle.std.specs.Prelude.{◌≡◌, ◌&&◌, is_some, None, [], ◌∷◌, true, false};
+ghost use Rattle.std.specs.Prelude.{◌≡◌, ◌&&◌, ℕ, List, is_some, None, [], ◌∷◌, true, false};
 ghost use Rattle.std.specs.Str.{chars};
 ghost use Rattle.swc_ecma_codegen_grammar.specs.Comments.{maps_in};
 ghost use Rattle.swc_ecma_codegen_grammar.specs.GapRules.{fuses};
@@ -298,10 +298,45 @@ impl LowerEmitter {
         self.puts_space(cfg, wr)
     }
 
-    /// Writes an operator that is a punctuator, between two blanks: ` + `.
+    /// Writes an operator that is a punctuator, between two blanks: ` + `. Where no positions are kept it is one text.
+    #[inline(always)]
+    pub fn writes_operator_between<W: WriteJs>(
+        &mut self,
+        cfg: &Config,
+        wr: &mut W,
+        mark: Punctuator,
+    ) -> bool
+        ensures items { Does (operator_between (spelling mark))
+            (state_of cfg.now (W.sheet wr.old) self.old)
+            (state_of cfg.now (W.sheet wr.new) self.new) (answered result self.new.reason) }
+        ensures level { Stays (W.sheet wr.old) (W.sheet wr.new) (answered result self.new.reason) }
+    {
+        if self.failed || !wr.is_settled() || wr.care_about_srcmap() {
+            return self.writes_operator_and_blanks_apart(cfg, wr, mark);
+        }
+        self.sends_operator_between(cfg, wr, mark)
+    }
+
+    /// The same in a function of its own.
+    #[inline(never)]
+    fn writes_operator_and_blanks_apart<W: WriteJs>(
+        &mut self,
+        cfg: &Config,
+        wr: &mut W,
+        mark: Punctuator,
+    ) -> bool
+        ensures items { Does (operator_between (spelling mark))
+            (state_of cfg.now (W.sheet wr.old) self.old)
+            (state_of cfg.now (W.sheet wr.new) self.new) (answered result self.new.reason) }
+        ensures level { Stays (W.sheet wr.old) (W.sheet wr.new) (answered result self.new.reason) }
+    {
+        self.writes_operator_and_blanks(cfg, wr, mark)
+    }
+
+    /// The same, text by text.
     #[inline(always)]
     #[tactic(auto, unfolding(crate::specs::Words::operator_between))]
-    pub fn writes_operator_between<W: WriteJs>(
+    pub fn writes_operator_and_blanks<W: WriteJs>(
         &mut self,
         cfg: &Config,
         wr: &mut W,
@@ -315,10 +350,45 @@ impl LowerEmitter {
         if !self.puts_space(cfg, wr) {
             return false;
         }
-        if !self.writes_operator(cfg, wr, mark) {
+        if !self.writes_operator_behind(cfg, wr, mark) {
             return false;
         }
         self.puts_space(cfg, wr)
+    }
+
+    /// Writes an operator that is a punctuator where mostly no blank is due, whatever it is: behind a blank.
+    #[inline(always)]
+    fn writes_operator_behind<W: WriteJs>(
+        &mut self,
+        cfg: &Config,
+        wr: &mut W,
+        mark: Punctuator,
+    ) -> bool
+        ensures items { Does (operator (spelling mark)) (state_of cfg.now (W.sheet wr.old) self.old)
+            (state_of cfg.now (W.sheet wr.new) self.new) (answered result self.new.reason) }
+        ensures level { Stays (W.sheet wr.old) (W.sheet wr.new) (answered result self.new.reason) }
+    {
+        if matches!(mark, Punctuator::Bang) || !self.may_go_on_anyhow() {
+            return self.writes_operator_apart(cfg, wr, mark);
+        }
+        self.writes_operator_undue(cfg, wr, mark)
+    }
+
+    /// The same where none is due.
+    #[inline(always)]
+    fn writes_operator_undue<W: WriteJs>(
+        &mut self,
+        cfg: &Config,
+        wr: &mut W,
+        mark: Punctuator,
+    ) -> bool
+        requires unfailed { self.old.failed ≡ false }
+        requires passes { (text : List ℕ) → fuses (last_at self.old.token.value) text ≡ false }
+        ensures items { Does (operator (spelling mark)) (state_of cfg.now (W.sheet wr.old) self.old)
+            (state_of cfg.now (W.sheet wr.new) self.new) (answered result self.new.reason) }
+        ensures level { Stays (W.sheet wr.old) (W.sheet wr.new) (answered result self.new.reason) }
+    {
+        self.puts_operator(cfg, wr, mark)
     }
 
     /// Writes an operator that is a punctuator.
@@ -377,10 +447,45 @@ impl LowerEmitter {
         self.puts_operator(cfg, wr, mark)
     }
 
-    /// Writes a punctuator between two blanks: ` ? `.
+    /// Writes a punctuator between two blanks: ` ? `. Where no positions are kept and lines aren't bounded it is one text.
+    #[inline(always)]
+    pub fn writes_punct_between<W: WriteJs>(
+        &mut self,
+        cfg: &Config,
+        wr: &mut W,
+        mark: Punctuator,
+    ) -> bool
+        ensures items { Does (punct_between (spelling mark))
+            (state_of cfg.now (W.sheet wr.old) self.old)
+            (state_of cfg.now (W.sheet wr.new) self.new) (answered result self.new.reason) }
+        ensures level { Stays (W.sheet wr.old) (W.sheet wr.new) (answered result self.new.reason) }
+    {
+        if self.failed || !wr.is_settled() || wr.care_about_srcmap() || is_bounded(cfg) {
+            return self.writes_punct_and_blanks_apart(cfg, wr, mark);
+        }
+        self.sends_punct_between(cfg, wr, mark)
+    }
+
+    /// The same in a function of its own.
+    #[inline(never)]
+    fn writes_punct_and_blanks_apart<W: WriteJs>(
+        &mut self,
+        cfg: &Config,
+        wr: &mut W,
+        mark: Punctuator,
+    ) -> bool
+        ensures items { Does (punct_between (spelling mark))
+            (state_of cfg.now (W.sheet wr.old) self.old)
+            (state_of cfg.now (W.sheet wr.new) self.new) (answered result self.new.reason) }
+        ensures level { Stays (W.sheet wr.old) (W.sheet wr.new) (answered result self.new.reason) }
+    {
+        self.writes_punct_and_blanks(cfg, wr, mark)
+    }
+
+    /// The same, text by text.
     #[inline(always)]
     #[tactic(auto, unfolding(crate::specs::Words::punct_between))]
-    pub fn writes_punct_between<W: WriteJs>(
+    pub fn writes_punct_and_blanks<W: WriteJs>(
         &mut self,
         cfg: &Config,
         wr: &mut W,

@@ -1,0 +1,134 @@
+//! A punctuator with the blanks round it as one text: ` = `.
+
+ghost use Rattle.std.specs.Prelude.{◌≡◌, ◌&&◌, OnOk, OnErr, is_some, true, false};
+ghost use Rattle.swc_ecma_codegen_literals.specs.Punctuators.{spelling};
+ghost use Rattle.swc_ecma_codegen_text_writer.specs.Sheet.{Str, Writes, answered, is_settled};
+ghost use Rattle.swc_ecma_codegen_tokens.specs.Between.{in_blanks, last_between};
+ghost use Rattle.swc_ecma_codegen_tokens.specs.Run.{Does, Stays};
+ghost use Rattle.swc_ecma_codegen_tokens.specs.Words.{operator_between, punct_between};
+ghost use Rattle.swc_ecma_codegen_tokens.specs.View.{state_of};
+ghost use Rattle.swc_ecma_codegen_tokens.specs.declared.previous.PreviousToken.{PreviousToken};
+
+use crate::LowerEmitter;
+use crate::previous::PreviousToken;
+use std::snapshot::Snapshot;
+use swc_ecma_codegen_literals::Punctuator;
+use swc_ecma_codegen_text_writer::WriteJs;
+use swc_ecma_codegen_util::config::Config;
+
+/// Each punctuator between two blanks.
+const IN_BLANKS: [&str; 58] = [
+    " { ", " } ", " ( ", " ) ", " [ ", " ] ", " . ", " ... ", " ; ", " , ", " < ", " > ", " <= ",
+    " >= ", " == ", " != ", " === ", " !== ", " + ", " - ", " * ", " % ", " ** ", " ++ ", " -- ",
+    " << ", " >> ", " >>> ", " & ", " | ", " ^ ", " ! ", " ~ ", " && ", " || ", " ?? ", " ? ",
+    " : ", " = ", " += ", " -= ", " *= ", " %= ", " **= ", " <<= ", " >>= ", " >>>= ", " &= ",
+    " |= ", " ^= ", " &&= ", " ||= ", " ??= ", " => ", " / ", " /= ", " ?. ", " @ ",
+];
+
+const _: () = prove!(IN_BLANKS.len() == Punctuator::At as usize + 1);
+
+/// A punctuator between two blanks: ` = `.
+#[inline(always)]
+fn in_blanks(mark: Punctuator) -> &'static str
+    ensures { result.now ≡ in_blanks (spelling mark) }
+{
+    IN_BLANKS[mark as usize]
+}
+
+/// Passes the last token on, as any other one. It exists only in proofs, and so does the choice: it is no more than what proofs say of
+/// an emission that was refused.
+#[inline(always)]
+fn shown_as(before: Snapshot<PreviousToken>) -> Snapshot<PreviousToken>
+    ghost shown: { PreviousToken }
+    ensures { result.value ≡ shown }
+{
+    before
+}
+
+impl LowerEmitter {
+    /// Sends a punctuator between two blanks, where no semicolon is held back. Whether it was sent: else `reason` says why not.
+    #[inline(always)]
+    fn sends_between<W: WriteJs>(&mut self, wr: &mut W, mark: Punctuator) -> bool
+        requires unfailed { self.old.failed ≡ false }
+        requires settled { is_settled (W.sheet wr.old).semicolons ≡ true }
+        ensures writes { Writes (Str (in_blanks (spelling mark))) (W.sheet wr.old) (W.sheet wr.new)
+            (answered result self.new.reason) }
+        ensures ok { OnOk (answered result self.new.reason) (
+            (self.new.token.value ≡ PreviousToken.Separated)
+            × (self.new.failed ≡ self.old.failed)) }
+        ensures err { OnErr (answered result self.new.reason) (
+            (self.new.token.value ≡ last_between mark self.old.token.value
+            (W.sheet wr.old) (W.sheet wr.new)) × (self.new.failed ≡ true)) }
+    {
+        let was = Snapshot::of(&*wr);
+        let before = self.note(PreviousToken::Separated);
+        if wr.writes_in_line(in_blanks(mark)) {
+            return true;
+        }
+        self.give_up_between(wr, before, was, mark);
+        false
+    }
+
+    /// Notes that such a text wasn't sent. It stands for three calls, one of which was stopped: where ` =` of ` = ` is out, that of `=`. So
+    /// which token was the last one depends on how much went out, which proofs alone know.
+    #[cold]
+    #[inline(never)]
+    fn give_up_between<W: WriteJs>(
+        &mut self,
+        wr: &mut W,
+        before: Snapshot<PreviousToken>,
+        was: Snapshot<W>,
+        mark: Punctuator,
+    )
+        ghost shown: { PreviousToken }
+        ensures reason { self.new.reason ≡ W.reason wr.old }
+        ensures sheet { W.sheet wr.new ≡ W.sheet wr.old }
+        ensures token { self.new.token.value ≡ shown }
+        ensures failed { self.new.failed ≡ true }
+    {
+        let _ = was;
+        let _ = mark;
+        self.give_up_sent(wr, shown_as(before));
+    }
+
+    /// Writes an operator between two blanks as one text, where no semicolon is held back and no positions are kept.
+    #[inline(always)]
+    pub(crate) fn sends_operator_between<W: WriteJs>(
+        &mut self,
+        cfg: &Config,
+        wr: &mut W,
+        mark: Punctuator,
+    ) -> bool
+        requires unfailed { self.old.failed ≡ false }
+        requires settled { is_settled (W.sheet wr.old).semicolons ≡ true }
+        requires unplaced { (W.sheet wr.old).keeps_positions ≡ false }
+        ensures items { Does (operator_between (spelling mark))
+            (state_of cfg.now (W.sheet wr.old) self.old)
+            (state_of cfg.now (W.sheet wr.new) self.new) (answered result self.new.reason) }
+        ensures level { Stays (W.sheet wr.old) (W.sheet wr.new) (answered result self.new.reason) }
+    {
+        let _ = cfg;
+        self.sends_between(wr, mark)
+    }
+
+    /// The same of a punctuator, where lines aren't bounded.
+    #[inline(always)]
+    pub(crate) fn sends_punct_between<W: WriteJs>(
+        &mut self,
+        cfg: &Config,
+        wr: &mut W,
+        mark: Punctuator,
+    ) -> bool
+        requires unfailed { self.old.failed ≡ false }
+        requires settled { is_settled (W.sheet wr.old).semicolons ≡ true }
+        requires unplaced { (W.sheet wr.old).keeps_positions ≡ false }
+        requires unbounded { (is_some cfg.now.max_line && cfg.now.minify) ≡ false }
+        ensures items { Does (punct_between (spelling mark))
+            (state_of cfg.now (W.sheet wr.old) self.old)
+            (state_of cfg.now (W.sheet wr.new) self.new) (answered result self.new.reason) }
+        ensures level { Stays (W.sheet wr.old) (W.sheet wr.new) (answered result self.new.reason) }
+    {
+        let _ = cfg;
+        self.sends_between(wr, mark)
+    }
+}
