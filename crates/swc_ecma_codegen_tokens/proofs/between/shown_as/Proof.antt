@@ -25,8 +25,8 @@ use denote.Triple.Entry.{on_entry, alive}
 use denote.Triple.Spec.{Meets, triple_of}
 use denote.Triple.Table.{entered}
 use denote.Triple.Walked.{says, Stays, stay_dropped, walk_of, ends_at, walk_Meets, Goes-dropped}
-use Rattle.core.specs.contracts.marker.PhantomData as marker
-use Rattle.core.specs.contracts.snapshot.Snapshot as snapshot
+use Rattle.std.specs.contracts.marker.PhantomData as marker
+use Rattle.std.specs.contracts.snapshot.Snapshot as snapshot
 use Rattle.swc_ecma_codegen_tokens.specs.contracts.previous.PreviousToken as token
 use Rattle.swc_ecma_codegen_tokens.specs.contracts.between.shown_as as F
 use Rattle.swc_ecma_codegen_tokens.specs.contracts.between.shown_as.Key.{name as #self}
