@@ -1,15 +1,18 @@
-//! A punctuator with the blanks round it as one text: ` = `.
+//! A punctuator with the blanks round it: ` = `. Where no positions are kept it is one text.
 
-ghost use Rattle.std.specs.Prelude.{◌≡◌, ◌&&◌, OnOk, OnErr, is_some, true, false};
+ghost use Rattle.std.specs.Prelude.{◌≡◌, ◌&&◌, ℕ, List, OnOk, OnErr, is_some, true, false};
+ghost use Rattle.swc_ecma_codegen_grammar.specs.GapRules.{fuses};
 ghost use Rattle.swc_ecma_codegen_literals.specs.Punctuators.{spelling};
 ghost use Rattle.swc_ecma_codegen_text_writer.specs.Sheet.{Str, Writes, answered, is_settled};
 ghost use Rattle.swc_ecma_codegen_tokens.specs.Between.{in_blanks, last_between};
+ghost use Rattle.swc_ecma_codegen_tokens.specs.PreviousToken.{last_at};
 ghost use Rattle.swc_ecma_codegen_tokens.specs.Run.{Does, Stays};
-ghost use Rattle.swc_ecma_codegen_tokens.specs.Words.{operator_between, punct_between};
+ghost use Rattle.swc_ecma_codegen_tokens.specs.Words.{operator, operator_between, punct_between};
 ghost use Rattle.swc_ecma_codegen_tokens.specs.View.{state_of};
 ghost use Rattle.swc_ecma_codegen_tokens.specs.declared.previous.PreviousToken.{PreviousToken};
 
 use crate::LowerEmitter;
+use crate::lines::is_bounded;
 use crate::previous::PreviousToken;
 use std::snapshot::Snapshot;
 use swc_ecma_codegen_literals::Punctuator;
@@ -91,9 +94,102 @@ impl LowerEmitter {
         self.give_up_sent(wr, shown_as(before));
     }
 
+    /// Writes an operator that is a punctuator, between two blanks: ` + `. Where no positions are kept it is one text.
+    #[inline(always)]
+    pub fn writes_operator_between<W: WriteJs>(
+        &mut self,
+        cfg: &Config,
+        wr: &mut W,
+        mark: Punctuator,
+    ) -> bool
+        ensures items { Does (operator_between (spelling mark))
+            (state_of cfg.now (W.sheet wr.old) self.old)
+            (state_of cfg.now (W.sheet wr.new) self.new) (answered result self.new.reason) }
+        ensures level { Stays (W.sheet wr.old) (W.sheet wr.new) (answered result self.new.reason) }
+    {
+        if self.failed || !wr.is_settled() || wr.care_about_srcmap() {
+            return self.writes_operator_and_blanks_apart(cfg, wr, mark);
+        }
+        self.sends_operator_between(cfg, wr, mark)
+    }
+
+    /// The same in a function of its own.
+    #[inline(never)]
+    fn writes_operator_and_blanks_apart<W: WriteJs>(
+        &mut self,
+        cfg: &Config,
+        wr: &mut W,
+        mark: Punctuator,
+    ) -> bool
+        ensures items { Does (operator_between (spelling mark))
+            (state_of cfg.now (W.sheet wr.old) self.old)
+            (state_of cfg.now (W.sheet wr.new) self.new) (answered result self.new.reason) }
+        ensures level { Stays (W.sheet wr.old) (W.sheet wr.new) (answered result self.new.reason) }
+    {
+        self.writes_operator_and_blanks(cfg, wr, mark)
+    }
+
+    /// The same, text by text.
+    #[inline(always)]
+    #[tactic(auto, unfolding(crate::specs::Words::operator_between))]
+    pub fn writes_operator_and_blanks<W: WriteJs>(
+        &mut self,
+        cfg: &Config,
+        wr: &mut W,
+        mark: Punctuator,
+    ) -> bool
+        ensures items { Does (operator_between (spelling mark))
+            (state_of cfg.now (W.sheet wr.old) self.old)
+            (state_of cfg.now (W.sheet wr.new) self.new) (answered result self.new.reason) }
+        ensures level { Stays (W.sheet wr.old) (W.sheet wr.new) (answered result self.new.reason) }
+    {
+        if !self.puts_space(cfg, wr) {
+            return false;
+        }
+        if !self.writes_operator_behind(cfg, wr, mark) {
+            return false;
+        }
+        self.puts_space(cfg, wr)
+    }
+
+    /// Writes an operator that is a punctuator where mostly no blank is due, whatever it is: behind a blank.
+    #[inline(always)]
+    fn writes_operator_behind<W: WriteJs>(
+        &mut self,
+        cfg: &Config,
+        wr: &mut W,
+        mark: Punctuator,
+    ) -> bool
+        ensures items { Does (operator (spelling mark)) (state_of cfg.now (W.sheet wr.old) self.old)
+            (state_of cfg.now (W.sheet wr.new) self.new) (answered result self.new.reason) }
+        ensures level { Stays (W.sheet wr.old) (W.sheet wr.new) (answered result self.new.reason) }
+    {
+        if matches!(mark, Punctuator::Bang) || !self.may_go_on_anyhow() {
+            return self.writes_operator_apart(cfg, wr, mark);
+        }
+        self.writes_operator_undue(cfg, wr, mark)
+    }
+
+    /// The same where none is due.
+    #[inline(always)]
+    fn writes_operator_undue<W: WriteJs>(
+        &mut self,
+        cfg: &Config,
+        wr: &mut W,
+        mark: Punctuator,
+    ) -> bool
+        requires unfailed { self.old.failed ≡ false }
+        requires passes { (text : List ℕ) → fuses (last_at self.old.token.value) text ≡ false }
+        ensures items { Does (operator (spelling mark)) (state_of cfg.now (W.sheet wr.old) self.old)
+            (state_of cfg.now (W.sheet wr.new) self.new) (answered result self.new.reason) }
+        ensures level { Stays (W.sheet wr.old) (W.sheet wr.new) (answered result self.new.reason) }
+    {
+        self.puts_operator(cfg, wr, mark)
+    }
+
     /// Writes an operator between two blanks as one text, where no semicolon is held back and no positions are kept.
     #[inline(always)]
-    pub(crate) fn sends_operator_between<W: WriteJs>(
+    fn sends_operator_between<W: WriteJs>(
         &mut self,
         cfg: &Config,
         wr: &mut W,
@@ -111,9 +207,67 @@ impl LowerEmitter {
         self.sends_between(wr, mark)
     }
 
-    /// The same of a punctuator, where lines aren't bounded.
+    /// Writes a punctuator between two blanks: ` ? `. Where no positions are kept and lines aren't bounded it is one text.
     #[inline(always)]
-    pub(crate) fn sends_punct_between<W: WriteJs>(
+    pub fn writes_punct_between<W: WriteJs>(
+        &mut self,
+        cfg: &Config,
+        wr: &mut W,
+        mark: Punctuator,
+    ) -> bool
+        ensures items { Does (punct_between (spelling mark))
+            (state_of cfg.now (W.sheet wr.old) self.old)
+            (state_of cfg.now (W.sheet wr.new) self.new) (answered result self.new.reason) }
+        ensures level { Stays (W.sheet wr.old) (W.sheet wr.new) (answered result self.new.reason) }
+    {
+        if self.failed || !wr.is_settled() || wr.care_about_srcmap() || is_bounded(cfg) {
+            return self.writes_punct_and_blanks_apart(cfg, wr, mark);
+        }
+        self.sends_punct_between(cfg, wr, mark)
+    }
+
+    /// The same in a function of its own.
+    #[inline(never)]
+    fn writes_punct_and_blanks_apart<W: WriteJs>(
+        &mut self,
+        cfg: &Config,
+        wr: &mut W,
+        mark: Punctuator,
+    ) -> bool
+        ensures items { Does (punct_between (spelling mark))
+            (state_of cfg.now (W.sheet wr.old) self.old)
+            (state_of cfg.now (W.sheet wr.new) self.new) (answered result self.new.reason) }
+        ensures level { Stays (W.sheet wr.old) (W.sheet wr.new) (answered result self.new.reason) }
+    {
+        self.writes_punct_and_blanks(cfg, wr, mark)
+    }
+
+    /// The same, text by text.
+    #[inline(always)]
+    #[tactic(auto, unfolding(crate::specs::Words::punct_between))]
+    pub fn writes_punct_and_blanks<W: WriteJs>(
+        &mut self,
+        cfg: &Config,
+        wr: &mut W,
+        mark: Punctuator,
+    ) -> bool
+        ensures items { Does (punct_between (spelling mark))
+            (state_of cfg.now (W.sheet wr.old) self.old)
+            (state_of cfg.now (W.sheet wr.new) self.new) (answered result self.new.reason) }
+        ensures level { Stays (W.sheet wr.old) (W.sheet wr.new) (answered result self.new.reason) }
+    {
+        if !self.puts_space(cfg, wr) {
+            return false;
+        }
+        if !self.writes_punct(cfg, wr, mark) {
+            return false;
+        }
+        self.puts_space(cfg, wr)
+    }
+
+    /// Writes such a punctuator as one text, where lines aren't bounded.
+    #[inline(always)]
+    fn sends_punct_between<W: WriteJs>(
         &mut self,
         cfg: &Config,
         wr: &mut W,

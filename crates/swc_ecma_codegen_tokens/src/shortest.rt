@@ -1,7 +1,7 @@
 //! The tokens that trees have most of, by the shortest way. Each call only says whether its token was written, so that its answer is one
 //! bit: else `reason` says why not.
 
-ghost use Rattle.std.specs.Prelude.{◌≡◌, ◌&&◌, ℕ, List, is_some, None, [], ◌∷◌, true, false};
+ghost use Rattle.std.specs.Prelude.{◌≡◌, ◌&&◌, is_some, None, true, false};
 ghost use Rattle.std.specs.Str.{chars};
 ghost use Rattle.swc_ecma_codegen_grammar.specs.Comments.{maps_in};
 ghost use Rattle.swc_ecma_codegen_grammar.specs.GapRules.{fuses};
@@ -13,7 +13,7 @@ ghost use Rattle.swc_ecma_codegen_tokens.specs.PreviousToken.{last_at};
 ghost use Rattle.swc_ecma_codegen_tokens.specs.Run.{Does, DoesTaking, Stays};
 ghost use Rattle.swc_ecma_codegen_tokens.specs.Starts.{begins_letter, begins_name};
 ghost use Rattle.swc_ecma_codegen_tokens.specs.Targets.{wants_escapes};
-ghost use Rattle.swc_ecma_codegen_tokens.specs.Words.{bare_punct, bare_semi, break_behind, allow_break, keyword, name, name_text, operator, operator_between, punct, punct_between, semi, space, spelled_symbol, symbol, valid_symbol};
+ghost use Rattle.swc_ecma_codegen_tokens.specs.Words.{bare_punct, bare_semi, break_behind, allow_break, keyword, name, name_text, operator, punct, semi, space, spelled_symbol, symbol, valid_symbol};
 ghost use Rattle.swc_ecma_codegen_tokens.specs.View.{state_of};
 
 use crate::LowerEmitter;
@@ -298,99 +298,6 @@ impl LowerEmitter {
         self.puts_space(cfg, wr)
     }
 
-    /// Writes an operator that is a punctuator, between two blanks: ` + `. Where no positions are kept it is one text.
-    #[inline(always)]
-    pub fn writes_operator_between<W: WriteJs>(
-        &mut self,
-        cfg: &Config,
-        wr: &mut W,
-        mark: Punctuator,
-    ) -> bool
-        ensures items { Does (operator_between (spelling mark))
-            (state_of cfg.now (W.sheet wr.old) self.old)
-            (state_of cfg.now (W.sheet wr.new) self.new) (answered result self.new.reason) }
-        ensures level { Stays (W.sheet wr.old) (W.sheet wr.new) (answered result self.new.reason) }
-    {
-        if self.failed || !wr.is_settled() || wr.care_about_srcmap() {
-            return self.writes_operator_and_blanks_apart(cfg, wr, mark);
-        }
-        self.sends_operator_between(cfg, wr, mark)
-    }
-
-    /// The same in a function of its own.
-    #[inline(never)]
-    fn writes_operator_and_blanks_apart<W: WriteJs>(
-        &mut self,
-        cfg: &Config,
-        wr: &mut W,
-        mark: Punctuator,
-    ) -> bool
-        ensures items { Does (operator_between (spelling mark))
-            (state_of cfg.now (W.sheet wr.old) self.old)
-            (state_of cfg.now (W.sheet wr.new) self.new) (answered result self.new.reason) }
-        ensures level { Stays (W.sheet wr.old) (W.sheet wr.new) (answered result self.new.reason) }
-    {
-        self.writes_operator_and_blanks(cfg, wr, mark)
-    }
-
-    /// The same, text by text.
-    #[inline(always)]
-    #[tactic(auto, unfolding(crate::specs::Words::operator_between))]
-    pub fn writes_operator_and_blanks<W: WriteJs>(
-        &mut self,
-        cfg: &Config,
-        wr: &mut W,
-        mark: Punctuator,
-    ) -> bool
-        ensures items { Does (operator_between (spelling mark))
-            (state_of cfg.now (W.sheet wr.old) self.old)
-            (state_of cfg.now (W.sheet wr.new) self.new) (answered result self.new.reason) }
-        ensures level { Stays (W.sheet wr.old) (W.sheet wr.new) (answered result self.new.reason) }
-    {
-        if !self.puts_space(cfg, wr) {
-            return false;
-        }
-        if !self.writes_operator_behind(cfg, wr, mark) {
-            return false;
-        }
-        self.puts_space(cfg, wr)
-    }
-
-    /// Writes an operator that is a punctuator where mostly no blank is due, whatever it is: behind a blank.
-    #[inline(always)]
-    fn writes_operator_behind<W: WriteJs>(
-        &mut self,
-        cfg: &Config,
-        wr: &mut W,
-        mark: Punctuator,
-    ) -> bool
-        ensures items { Does (operator (spelling mark)) (state_of cfg.now (W.sheet wr.old) self.old)
-            (state_of cfg.now (W.sheet wr.new) self.new) (answered result self.new.reason) }
-        ensures level { Stays (W.sheet wr.old) (W.sheet wr.new) (answered result self.new.reason) }
-    {
-        if matches!(mark, Punctuator::Bang) || !self.may_go_on_anyhow() {
-            return self.writes_operator_apart(cfg, wr, mark);
-        }
-        self.writes_operator_undue(cfg, wr, mark)
-    }
-
-    /// The same where none is due.
-    #[inline(always)]
-    fn writes_operator_undue<W: WriteJs>(
-        &mut self,
-        cfg: &Config,
-        wr: &mut W,
-        mark: Punctuator,
-    ) -> bool
-        requires unfailed { self.old.failed ≡ false }
-        requires passes { (text : List ℕ) → fuses (last_at self.old.token.value) text ≡ false }
-        ensures items { Does (operator (spelling mark)) (state_of cfg.now (W.sheet wr.old) self.old)
-            (state_of cfg.now (W.sheet wr.new) self.new) (answered result self.new.reason) }
-        ensures level { Stays (W.sheet wr.old) (W.sheet wr.new) (answered result self.new.reason) }
-    {
-        self.puts_operator(cfg, wr, mark)
-    }
-
     /// Writes an operator that is a punctuator.
     #[inline(always)]
     pub fn writes_operator<W: WriteJs>(
@@ -411,7 +318,7 @@ impl LowerEmitter {
 
     /// The same in a function of its own: a token that goes the shortest way takes fewer registers.
     #[inline(never)]
-    fn writes_operator_apart<W: WriteJs>(
+    pub(crate) fn writes_operator_apart<W: WriteJs>(
         &mut self,
         cfg: &Config,
         wr: &mut W,
@@ -445,64 +352,6 @@ impl LowerEmitter {
             }
         }
         self.puts_operator(cfg, wr, mark)
-    }
-
-    /// Writes a punctuator between two blanks: ` ? `. Where no positions are kept and lines aren't bounded it is one text.
-    #[inline(always)]
-    pub fn writes_punct_between<W: WriteJs>(
-        &mut self,
-        cfg: &Config,
-        wr: &mut W,
-        mark: Punctuator,
-    ) -> bool
-        ensures items { Does (punct_between (spelling mark))
-            (state_of cfg.now (W.sheet wr.old) self.old)
-            (state_of cfg.now (W.sheet wr.new) self.new) (answered result self.new.reason) }
-        ensures level { Stays (W.sheet wr.old) (W.sheet wr.new) (answered result self.new.reason) }
-    {
-        if self.failed || !wr.is_settled() || wr.care_about_srcmap() || is_bounded(cfg) {
-            return self.writes_punct_and_blanks_apart(cfg, wr, mark);
-        }
-        self.sends_punct_between(cfg, wr, mark)
-    }
-
-    /// The same in a function of its own.
-    #[inline(never)]
-    fn writes_punct_and_blanks_apart<W: WriteJs>(
-        &mut self,
-        cfg: &Config,
-        wr: &mut W,
-        mark: Punctuator,
-    ) -> bool
-        ensures items { Does (punct_between (spelling mark))
-            (state_of cfg.now (W.sheet wr.old) self.old)
-            (state_of cfg.now (W.sheet wr.new) self.new) (answered result self.new.reason) }
-        ensures level { Stays (W.sheet wr.old) (W.sheet wr.new) (answered result self.new.reason) }
-    {
-        self.writes_punct_and_blanks(cfg, wr, mark)
-    }
-
-    /// The same, text by text.
-    #[inline(always)]
-    #[tactic(auto, unfolding(crate::specs::Words::punct_between))]
-    pub fn writes_punct_and_blanks<W: WriteJs>(
-        &mut self,
-        cfg: &Config,
-        wr: &mut W,
-        mark: Punctuator,
-    ) -> bool
-        ensures items { Does (punct_between (spelling mark))
-            (state_of cfg.now (W.sheet wr.old) self.old)
-            (state_of cfg.now (W.sheet wr.new) self.new) (answered result self.new.reason) }
-        ensures level { Stays (W.sheet wr.old) (W.sheet wr.new) (answered result self.new.reason) }
-    {
-        if !self.puts_space(cfg, wr) {
-            return false;
-        }
-        if !self.writes_punct(cfg, wr, mark) {
-            return false;
-        }
-        self.puts_space(cfg, wr)
     }
 
     /// Whether a name goes the shortest way: it stays in its line and has no backslash, no blank is due before it, and nothing is to be
