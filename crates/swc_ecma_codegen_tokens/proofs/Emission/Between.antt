@@ -1,7 +1,7 @@
 -- A punctuator between two blanks, by one call.
-use Rattle.std.proofs.Common.{◌≡◌, inl, inr, ℕ, Bool, true, false, cond, List, ◌++◌, codes, length, length-append, None, Result, Ok, Err, OnOk, OnErr, refl, sym, ◌∙◌, ap, subst, arith}
+use Rattle.std.proofs.Common.{◌≡◌, inl, inr, ℕ, Bool, true, false, cond, List, ◌++◌, codes, None, Result, Ok, Err, OnOk, OnErr, refl, sym, ◌∙◌, ap, subst}
 use Rattle.std.specs.Str.{chars}
-use Rattle.std.proofs.lemmas.Bool.{cases_Bool, leb-true, leb-false, le-leb, true≢false}
+use Rattle.std.proofs.lemmas.Bool.{cases_Bool}
 use Rattle.swc_ecma_codegen_common.specs.declared.errors.Refusal.{Refusal}
 use Rattle.swc_ecma_codegen_util.specs.declared.config.Config.{Config}
 use Rattle.swc_ecma_codegen_grammar.specs.declared.kinds.Kind.TheVariants.{Punctuator}
@@ -11,9 +11,7 @@ use Rattle.swc_ecma_codegen_grammar.specs.SourceLines.{no_lines}
 use Rattle.swc_ecma_codegen_grammar.specs.Comments.{no_maps}
 use Rattle.swc_ecma_codegen_literals.specs.Punctuators.{spelling as spelled}
 use Rattle.swc_ecma_codegen_literals.specs.declared.punctuators.Punctuator.{Punctuator as Mark}
-use Rattle.swc_ecma_codegen_text_writer.specs.Contents.{IsPrefix}
-use Rattle.swc_ecma_codegen_text_writer.specs.Sheet.{Sheet, Item, Str, Space, Operator, Punct, is_settled, written, effect, Stopped, Writes, Refuses, earlier, stopped}
-use Rattle.swc_ecma_codegen_text_writer.proofs.Sheets.{written_alike, written_same}
+use Rattle.swc_ecma_codegen_text_writer.specs.Sheet.{Sheet, Item, Str, Space, Operator, Punct, is_settled, written, effect, Writes, Refuses, earlier, stopped}
 use Rattle.swc_ecma_codegen_tokens.specs.declared.LowerEmitter.{LowerEmitter}
 use Rattle.swc_ecma_codegen_tokens.specs.declared.previous.PreviousToken.{PreviousToken}
 use Rattle.swc_ecma_codegen_tokens.specs.declared.previous.PreviousToken.TheVariants as last
@@ -24,7 +22,7 @@ use Rattle.swc_ecma_codegen_tokens.specs.Words.{space, operator, operator_betwee
 use Rattle.swc_ecma_codegen_tokens.specs.Run.{unlined, is_bounded, Plan, Part, State, Step, Guard, Token, Plain, step, put, text_of, spelling as characters, after_token, after_plain, IsRefused, Follows, Does, with_source}
 use Rattle.swc_ecma_codegen_tokens.proofs.Emission.Emitting.{does_step, emits_refused, refused_lines}
 use Rattle.swc_ecma_codegen_tokens.proofs.Emission.Calls.{passed, effect_keeps, unbounded_behind}
-use Rattle.swc_ecma_codegen_tokens.proofs.Emission.OneText.{WritesPlain, written_both, space_plain, str_plain, operator_plain, punct_plain, still_settled, still_bare, stopped_first, stopped_later, causes_here, causes_later, shorter}
+use Rattle.swc_ecma_codegen_tokens.proofs.Emission.OneText.{WritesPlain, written_both, space_plain, str_plain, operator_plain, punct_plain, still_settled, still_bare, stops_first, stops_later}
 use Rattle.swc_ecma_codegen_tokens.proofs.Gaps.AfterBlanks.{apart_alone}
 use Rattle.swc_ecma_codegen_tokens.proofs.Gaps.AfterPunctuators.{after_is}
 
@@ -58,61 +56,19 @@ by_three t x s plain q = ap (effect Space) (by_calls t x s plain q) ∙ space_pl
 
 -- ---- where it was stopped
 
-stopped_whole : (t : List ℕ) (s new : Sheet) → is_settled s.semicolons ≡ true → Stopped (effect (Str (in_blanks t)) s) s new → Stopped (written None (in_blanks t) s) s new
-stopped_whole t s new q h = subst (λ (z : Sheet). Stopped z s new) (str_plain (in_blanks t) s q) h
-
 -- no more is out than the first blank
-stops_first : (t : List ℕ) (e : Refusal) (s new : Sheet) → is_settled s.semicolons ≡ true → s.keeps_positions ≡ false → is_within new (first s) ≡ true → Refuses (Str (in_blanks t)) e s new → Refuses Space e s new
-stops_first t e s new q bare w (earlier i j k) = earlier i j k
-stops_first t e s new q bare w (stopped i j k) =
-    let h = stopped_whole t s new q k in
-    let goal : IsPrefix (first s).text (written None (in_blanks t) s).text = subst (λ (z : Sheet). IsPrefix (first s).text z.text) (sym (written_both blank (t ++ blank) s)) (written_alike None (t ++ blank) (first s)).grows in
-    let front = shorter new.text (first s).text _ h.front goal (leb-true _ _ w) in
-    stopped i (causes_here (in_blanks t) Space e s new bare j) (subst (λ (z : Sheet). Stopped z s new) (sym (space_plain s q)) (stopped_first blank (t ++ blank) s new bare h front))
+stops_blank : (t : List ℕ) (e : Refusal) (s new : Sheet) → is_settled s.semicolons ≡ true → s.keeps_positions ≡ false → is_within new (first s) ≡ true → Refuses (Str (in_blanks t)) e s new → Refuses Space e s new
+stops_blank t e s new q bare w h = stops_first blank (t ++ blank) Space e s new space_plain q bare w h
 
-within_still : (s new : Sheet) → new ≡ s → is_within new (first s) ≡ true
-within_still s new k =
-    let r = (written_alike None blank s).grows in
-    let same : length new.text ≡ length s.text = ap (λ (z : Sheet). length z.text) k in
-    let longer : length (first s).text ≡ length (s.text ++ r.0) = ap length r.1 in
-    let sum = length-append s.text r.0 in
-    le-leb (length new.text) (length (first s).text) (omega (arith, same, longer, sum))
-
--- the first blank is out
-cut_first : (t : List ℕ) (s new : Sheet) → is_settled s.semicolons ≡ true → s.keeps_positions ≡ false → is_within new (first s) ≡ false → Stopped (written None (in_blanks t) s) s new → Stopped (written None (t ++ blank) (first s)) (first s) new
-cut_first t s new q bare w h =
-    let goal : IsPrefix (first s).text (written None (in_blanks t) s).text = subst (λ (z : Sheet). IsPrefix (first s).text z.text) (sym (written_both blank (t ++ blank) s)) (written_alike None (t ++ blank) (first s)).grows in
-    let more = leb-false (length new.text) (length (first s).text) w in
-    stopped_later blank (t ++ blank) s new bare q h (shorter (first s).text new.text _ goal h.front (omega (arith, more)))
-
--- and no more than the token
-stops_second : (t : List ℕ) (x : Item) (e : Refusal) (s new : Sheet) → WritesPlain t x → is_settled s.semicolons ≡ true → s.keeps_positions ≡ false → is_within new (first s) ≡ false → is_within new (second t s) ≡ true → Refuses (Str (in_blanks t)) e s new → Refuses x e (first s) new
-stops_second t x e s new plain q bare w v (earlier i j k) = absurd (true≢false (sym (within_still s new k) ∙ w))
-stops_second t x e s new plain q bare w v (stopped i j k) =
-    let c : Sheet = first s in
-    let q₁ = still_settled blank s q in
-    let bare₁ = still_bare blank s bare in
-    let h = cut_first t s new q bare w (stopped_whole t s new q k) in
-    let goal : IsPrefix (second t s).text (written None (t ++ blank) c).text = subst (λ (z : Sheet). IsPrefix (second t s).text z.text) (sym (written_both t blank c)) (written_alike None blank (second t s)).grows in
-    let front = shorter new.text (second t s).text _ h.front goal (leb-true _ _ v) in
-    stopped ((written_same None blank s).refused ∙ i) (causes_here (in_blanks t) x e c new bare₁ (causes_later (in_blanks t) blank e s new bare j))
-    (subst (λ (z : Sheet). Stopped z c new) (sym (plain c q₁)) (stopped_first t blank c new bare₁ h front))
+-- the first blank is out, and no more than the token
+stops_token : (t : List ℕ) (x : Item) (e : Refusal) (s new : Sheet) → WritesPlain t x → is_settled s.semicolons ≡ true → s.keeps_positions ≡ false → is_within new (first s) ≡ false → is_within new (second t s) ≡ true → Refuses (Str (in_blanks t)) e s new → Refuses x e (first s) new
+stops_token t x e s new plain q bare w v h =
+    stops_first t blank x e (first s) new plain (still_settled blank s q) (still_bare blank s bare) v (stops_later blank (t ++ blank) (Str (t ++ blank)) e s new (str_plain (t ++ blank)) q bare w h)
 
 -- the token is out
-stops_third : (t : List ℕ) (e : Refusal) (s new : Sheet) → is_settled s.semicolons ≡ true → s.keeps_positions ≡ false → is_within new (first s) ≡ false → is_within new (second t s) ≡ false → Refuses (Str (in_blanks t)) e s new → Refuses Space e (second t s) new
-stops_third t e s new q bare w v (earlier i j k) = absurd (true≢false (sym (within_still s new k) ∙ w))
-stops_third t e s new q bare w v (stopped i j k) =
-    let c : Sheet = first s in
-    let d : Sheet = second t s in
-    let q₁ = still_settled blank s q in
-    let bare₁ = still_bare blank s bare in
-    let h = cut_first t s new q bare w (stopped_whole t s new q k) in
-    let goal : IsPrefix d.text (written None (t ++ blank) c).text = subst (λ (z : Sheet). IsPrefix d.text z.text) (sym (written_both t blank c)) (written_alike None blank d).grows in
-    let more = leb-false (length new.text) (length d.text) v in
-    let p = shorter d.text new.text _ goal h.front (omega (arith, more)) in
-    stopped ((written_same None t c).refused ∙ (written_same None blank s).refused ∙ i)
-    (causes_here (in_blanks t) Space e d new (still_bare t c bare₁) (causes_later (in_blanks t) t e c new bare₁ (causes_later (in_blanks t) blank e s new bare j)))
-    (subst (λ (z : Sheet). Stopped z d new) (sym (space_plain d (still_settled t c q₁))) (stopped_later t blank c new bare₁ q₁ h p))
+stops_last : (t : List ℕ) (e : Refusal) (s new : Sheet) → is_settled s.semicolons ≡ true → s.keeps_positions ≡ false → is_within new (first s) ≡ false → is_within new (second t s) ≡ false → Refuses (Str (in_blanks t)) e s new → Refuses Space e (second t s) new
+stops_last t e s new q bare w v h =
+    stops_later t blank Space e (first s) new space_plain (still_settled blank s q) (still_bare blank s bare) v (stops_later blank (t ++ blank) (Str (t ++ blank)) e s new (str_plain (t ++ blank)) q bare w h)
 
 -- ---- as steps
 
@@ -214,10 +170,10 @@ module _ (mark : Mark) (x : Item) (mid : Part) (config : Config) (e f : LowerEmi
       let keeps = refuses_keeps old new w in
       let rest : Bool → PreviousToken = λ z. cond z last.Separated (last.Mark mark) in
       elim (cases_Bool (is_within new (first old))) [
-        | inl h ↦ refused_first er fresh (l ∙ ap (λ z. cond z e.token.value (rest (is_within new (second t old)))) h) n (stops_first t er old new q bare h w)
+        | inl h ↦ refused_first er fresh (l ∙ ap (λ z. cond z e.token.value (rest (is_within new (second t old)))) h) n (stops_blank t er old new q bare h w)
         | inr h ↦ elim (cases_Bool (is_within new (second t old))) [
-          | inl k ↦ refused_second er fresh keeps q (l ∙ ap (λ z. cond z e.token.value (rest (is_within new (second t old)))) h ∙ ap rest k) n (stops_second t x er old new plain q bare h k w)
-          | inr k ↦ refused_third er plain idle text fresh keeps q (l ∙ ap (λ z. cond z e.token.value (rest (is_within new (second t old)))) h ∙ ap rest k) n (stops_third t er old new q bare h k w)
+          | inl k ↦ refused_second er fresh keeps q (l ∙ ap (λ z. cond z e.token.value (rest (is_within new (second t old)))) h ∙ ap rest k) n (stops_token t x er old new plain q bare h k w)
+          | inr k ↦ refused_third er plain idle text fresh keeps q (l ∙ ap (λ z. cond z e.token.value (rest (is_within new (second t old)))) h ∙ ap rest k) n (stops_last t er old new q bare h k w)
         ]
       ]
 

@@ -1,19 +1,20 @@
 -- Texts that are written as one, and where that is stopped. No positions are kept, and no semicolon is held back.
-use Rattle.std.proofs.Common.{◌≡◌, ◌≤◌, inl, inr, ℕ, Bool, true, false, cond, ◌||◌, List, [], ◌∷◌, ◌++◌, length, Option, Some, None, refl, sym, ◌∙◌, ap, subst, append_assoc, append-nil, ◌==◌, not, ◌&&◌, arith}
+use Rattle.std.proofs.Common.{◌≡◌, ◌≤◌, inl, inr, ℕ, Bool, true, false, cond, ◌||◌, List, [], ◌∷◌, ◌++◌, length, length-append, Option, Some, None, refl, sym, ◌∙◌, ap, subst, append_assoc, append-nil, ◌==◌, not, ◌&&◌, arith}
 use Rattle.std.specs.List.{repeat}
-use Rattle.std.proofs.lemmas.Bool.{false≢true, true≢false}
+use Rattle.std.proofs.lemmas.Bool.{false≢true, true≢false, leb-true, leb-false, le-leb}
 use Rattle.std.proofs.lemmas.List.{append_cancel_left}
 use Rattle.swc_ecma_codegen_common.specs.declared.errors.Refusal.{Refusal}
 use Rattle.swc_ecma_codegen_common.specs.declared.errors.Refusal.TheVariants.{Writer, OutOfMemory, UnsupportedNode, BadShape, NameOutOfTarget, PositionTooLarge, Failed}
 use Rattle.swc_ecma_codegen_common.specs.declared.positions.BytePos.{BytePos}
 use Rattle.swc_ecma_codegen_text_writer.specs.Contents.{IsPrefix, Rises}
 use Rattle.swc_ecma_codegen_text_writer.specs.Places.{after_text}
-use Rattle.swc_ecma_codegen_text_writer.specs.Sheet.{Sheet, Item, Pair, Str, Space, Operator, Punct, Deeper, Semicolons, AtOnce, HoldsNone, HoldsOne, is_settled, Flow, Flowing, Filling, Cutting, Segment, with_text, fills_lines, may_take_memory, released, appended, appended_by, indented, recorded, recorded_by, start_recorded, end_recorded, pending_recorded, started, written, settled, dropped, is_ending, before_punct, effect, Causes, Stopped}
+use Rattle.swc_ecma_codegen_text_writer.specs.Sheet.{Sheet, Item, Pair, Str, Space, Operator, Punct, Deeper, Semicolons, AtOnce, HoldsNone, HoldsOne, is_settled, Flow, Flowing, Filling, Cutting, Segment, with_text, fills_lines, may_take_memory, released, appended, appended_by, indented, recorded, recorded_by, start_recorded, end_recorded, pending_recorded, started, written, settled, dropped, is_ending, before_punct, effect, Causes, Stopped, Refuses, earlier, stopped}
 use Rattle.swc_ecma_codegen_text_writer.proofs.AsStrings.{commit_is}
 use Rattle.swc_ecma_codegen_text_writer.proofs.Flows.{appended_leaves}
 use Rattle.swc_ecma_codegen_text_writer.proofs.Reaching.{after_both}
 use Rattle.swc_ecma_codegen_text_writer.proofs.Sheets.{written_alike, written_same}
 use Rattle.swc_ecma_codegen_text_writer.proofs.Stays.{written_stays, written_indentation}
+use Rattle.swc_ecma_codegen_tokens.specs.Between.{is_within}
 use Rattle.swc_ecma_codegen_tokens.proofs.Emission.PendingSemi.{in_line, written_semicolons}
 
 -- ---- one text after another
@@ -120,7 +121,7 @@ still_bare t s h = (written_same None t s).keeps_positions ∙ h
 -- ---- stops
 
 -- it was stopped in the first of two texts
-pub stopped_first : (x y : List ℕ) (s new : Sheet) → s.keeps_positions ≡ false → Stopped (written None (x ++ y) s) s new → IsPrefix new.text (written None x s).text → Stopped (written None x s) s new
+stopped_first : (x y : List ℕ) (s new : Sheet) → s.keeps_positions ≡ false → Stopped (written None (x ++ y) s) s new → IsPrefix new.text (written None x s).text → Stopped (written None x s) s new
 stopped_first x y s new bare h front = record {
   grows = h.grows;
   front = front;
@@ -136,7 +137,7 @@ abbrev over : Sheet → Sheet → Sheet
 over new s = record s { text = new.text; whole = new.whole; at_line_start = new.at_line_start; semicolons = new.semicolons; pairs = new.pairs; pending = new.pending; place = new.place; lines = new.lines; faults = new.faults; refused = true }
 
 -- or in the second
-pub stopped_later : (x y : List ℕ) (s new : Sheet) → s.keeps_positions ≡ false → is_settled s.semicolons ≡ true → Stopped (written None (x ++ y) s) s new → IsPrefix (written None x s).text new.text → Stopped (written None y (written None x s)) (written None x s) new
+stopped_later : (x y : List ℕ) (s new : Sheet) → s.keeps_positions ≡ false → is_settled s.semicolons ≡ true → Stopped (written None (x ++ y) s) s new → IsPrefix (written None x s).text new.text → Stopped (written None y (written None x s)) (written None x s) new
 stopped_later x y s new bare q h p =
     let m : Sheet = written None x s in
     let a = written_alike None x s in
@@ -157,7 +158,7 @@ memory_same : (t : List ℕ) (s : Sheet) → may_take_memory (written None t s) 
 memory_same t s = ap (λ b. b || fills_lines (written None t s).lines) (written_same None t s).takes_memory ∙ ap (λ b. s.takes_memory || b) (written_stays None t s).fills
 
 -- the cause is one of each call on the way
-pub causes_here : (t : List ℕ) (y : Item) (e : Refusal) (s new : Sheet) → s.keeps_positions ≡ false → Causes (Str t) e s new → Causes y e s new
+causes_here : (t : List ℕ) (y : Item) (e : Refusal) (s new : Sheet) → s.keeps_positions ≡ false → Causes (Str t) e s new → Causes y e s new
 unfolding Causes
 causes_here t y Writer s new b h = h
 causes_here t y OutOfMemory s new b h = h
@@ -168,7 +169,7 @@ causes_here t y PositionTooLarge s new b (inl h) = absurd (let z : Str t ≡ Dee
 causes_here t y PositionTooLarge s new b (inr h) = absurd (true≢false (sym h.0 ∙ b))
 causes_here t y Failed s new b h = h
 
-pub causes_later : (t x : List ℕ) (e : Refusal) (s new : Sheet) → s.keeps_positions ≡ false → Causes (Str t) e s new → Causes (Str t) e (written None x s) new
+causes_later : (t x : List ℕ) (e : Refusal) (s new : Sheet) → s.keeps_positions ≡ false → Causes (Str t) e s new → Causes (Str t) e (written None x s) new
 unfolding Causes
 causes_later t x Writer s new b h = subst (λ (n : ℕ). Rises n new.faults) (sym (written_same None x s).faults) h
 causes_later t x OutOfMemory s new b h = memory_same x s ∙ h
@@ -190,7 +191,7 @@ tail_of [] = []
 tail_of (c ∷ cs) = cs
 
 -- of two fronts of a text the shorter one is a front of the other
-pub shorter : (x y g : List ℕ) → IsPrefix x g → IsPrefix y g → length x ≤ length y → IsPrefix x y
+shorter : (x y g : List ℕ) → IsPrefix x g → IsPrefix y g → length x ≤ length y → IsPrefix x y
 unfolding head_of tail_of
 shorter [] y g p q n = (y, refl)
 shorter (c ∷ x) [] g p q n = absurd (let z : ⊥ = omega (arith, n) in z)
@@ -199,3 +200,38 @@ shorter (c ∷ x) (d ∷ y) g p q n =
     let same : d ≡ c = sym (ap head_of e) in
     let r = shorter x y (y ++ q.0) (p.0, sym (ap tail_of e)) (q.0, refl) (omega (arith, n)) in
     (r.0, λ i. same i ∷ r.1 i)
+
+-- ---- a text that stands for two calls
+
+still_within : (x : List ℕ) (s new : Sheet) → new ≡ s → is_within new (written None x s) ≡ true
+still_within x s new k =
+    let r = (written_alike None x s).grows in
+    let same : length new.text ≡ length s.text = ap (λ (z : Sheet). length z.text) k in
+    let longer : length (written None x s).text ≡ length (s.text ++ r.0) = ap length r.1 in
+    let sum = length-append s.text r.0 in
+    le-leb (length new.text) (length (written None x s).text) (omega (arith, same, longer, sum))
+
+front_goes : (x y : List ℕ) (s : Sheet) → IsPrefix (written None x s).text (written None (x ++ y) s).text
+front_goes x y s = subst (λ (z : Sheet). IsPrefix (written None x s).text z.text) (sym (written_both x y s)) (written_alike None y (written None x s)).grows
+
+both_stopped : (x y : List ℕ) (s new : Sheet) → is_settled s.semicolons ≡ true → Stopped (effect (Str (x ++ y)) s) s new → Stopped (written None (x ++ y) s) s new
+both_stopped x y s new q h = subst (λ (z : Sheet). Stopped z s new) (str_plain (x ++ y) s q) h
+
+-- no more is out than the first of them writes: it was stopped there
+pub stops_first : (x y : List ℕ) (call : Item) (e : Refusal) (s new : Sheet) → WritesPlain x call → is_settled s.semicolons ≡ true → s.keeps_positions ≡ false → is_within new (written None x s) ≡ true → Refuses (Str (x ++ y)) e s new → Refuses call e s new
+stops_first x y call e s new plain q bare w (earlier i j k) = earlier i j k
+stops_first x y call e s new plain q bare w (stopped i j k) =
+    let h = both_stopped x y s new q k in
+    let front = shorter new.text (written None x s).text _ h.front (front_goes x y s) (leb-true _ _ w) in
+    stopped i (causes_here (x ++ y) call e s new bare j) (subst (λ (z : Sheet). Stopped z s new) (sym (plain s q)) (stopped_first x y s new bare h front))
+
+-- more is out: it was stopped in the second
+pub stops_later : (x y : List ℕ) (call : Item) (e : Refusal) (s new : Sheet) → WritesPlain y call → is_settled s.semicolons ≡ true → s.keeps_positions ≡ false → is_within new (written None x s) ≡ false → Refuses (Str (x ++ y)) e s new → Refuses call e (written None x s) new
+stops_later x y call e s new plain q bare w (earlier i j k) = absurd (true≢false (sym (still_within x s new k) ∙ w))
+stops_later x y call e s new plain q bare w (stopped i j k) =
+    let c : Sheet = written None x s in
+    let h = both_stopped x y s new q k in
+    let more = leb-false (length new.text) (length c.text) w in
+    let p = shorter c.text new.text _ (front_goes x y s) h.front (omega (arith, more)) in
+    stopped ((written_same None x s).refused ∙ i) (causes_here (x ++ y) call e c new (still_bare x s bare) (causes_later (x ++ y) x e s new bare j))
+    (subst (λ (z : Sheet). Stopped z c new) (sym (plain c (still_settled x s q))) (stopped_later x y s new bare q h p))
