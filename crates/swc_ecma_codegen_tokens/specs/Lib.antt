@@ -24,4 +24,5 @@ pub mod Named
 pub mod Ready
 pub mod Starts
 pub mod ShortNames
+pub mod PlainNames
 pub mod Classes

@@ -6,14 +6,13 @@ ghost use Rattle.std.specs.Str.{chars};
 ghost use Rattle.swc_ecma_codegen_grammar.specs.Comments.{maps_in};
 ghost use Rattle.swc_ecma_codegen_grammar.specs.GapRules.{fuses};
 ghost use Rattle.swc_ecma_codegen_literals.specs.Punctuators.{spelling};
-ghost use Rattle.swc_ecma_codegen_literals.specs.ValidNames.{has_byte};
 ghost use Rattle.swc_ecma_codegen_text_writer.specs.Reach.{is_in_line};
 ghost use Rattle.swc_ecma_codegen_text_writer.specs.Sheet.{answered, is_settled};
+ghost use Rattle.swc_ecma_codegen_tokens.specs.PlainNames.{IsPlain};
 ghost use Rattle.swc_ecma_codegen_tokens.specs.PreviousToken.{last_at};
 ghost use Rattle.swc_ecma_codegen_tokens.specs.Run.{Does, DoesTaking, Stays};
 ghost use Rattle.swc_ecma_codegen_tokens.specs.Starts.{begins_letter, begins_name};
-ghost use Rattle.swc_ecma_codegen_tokens.specs.Targets.{wants_escapes};
-ghost use Rattle.swc_ecma_codegen_tokens.specs.Words.{bare_punct, bare_semi, break_behind, allow_break, keyword, name, name_text, operator, punct, semi, space, spelled_symbol, symbol, valid_symbol};
+ghost use Rattle.swc_ecma_codegen_tokens.specs.Words.{bare_punct, bare_semi, break_behind, allow_break, keyword, name, name_text, operator, punct, semi, space, symbol};
 ghost use Rattle.swc_ecma_codegen_tokens.specs.View.{state_of};
 
 use crate::LowerEmitter;
@@ -358,13 +357,7 @@ impl LowerEmitter {
     /// escaped.
     #[inline(always)]
     fn is_plain<W: WriteJs>(&self, cfg: &Config, wr: &mut W, sym: &str) -> bool
-        ensures unfailed { result ≡ true → self.now.failed ≡ false }
-        ensures passes { result ≡ true →
-            fuses (last_at self.now.token.value) (chars sym.now) ≡ false }
-        ensures in_line { result ≡ true → is_in_line sym.now ≡ true }
-        ensures unescaped { result ≡ true → has_byte 92 sym.now ≡ false }
-        ensures as_it_is { result ≡ true → wants_escapes cfg.now sym.now ≡ false }
-        ensures valid { result ≡ true → (W.sheet wr.old).keeps_invalid ≡ false }
+        ensures plain { result ≡ true → IsPlain cfg.now (W.sheet wr.new) self.now sym.now }
         ensures same { W.sheet wr.new ≡ W.sheet wr.old }
     {
         if !begins_name(sym) {
@@ -375,16 +368,9 @@ impl LowerEmitter {
 
     /// The same of a name that begins with a letter of ASCII, `$` or `_`.
     #[inline(always)]
-    #[tactic(auto, unfolding(crate::specs::Targets::wants_escapes))]
     fn is_plain_begun<W: WriteJs>(&self, cfg: &Config, wr: &mut W, sym: &str) -> bool
         requires { begins_name sym.now ≡ true }
-        ensures unfailed { result ≡ true → self.now.failed ≡ false }
-        ensures passes { result ≡ true →
-            fuses (last_at self.now.token.value) (chars sym.now) ≡ false }
-        ensures in_line { result ≡ true → is_in_line sym.now ≡ true }
-        ensures unescaped { result ≡ true → has_byte 92 sym.now ≡ false }
-        ensures as_it_is { result ≡ true → wants_escapes cfg.now sym.now ≡ false }
-        ensures valid { result ≡ true → (W.sheet wr.old).keeps_invalid ≡ false }
+        ensures plain { result ≡ true → IsPlain cfg.now (W.sheet wr.new) self.now sym.now }
         ensures same { W.sheet wr.new ≡ W.sheet wr.old }
     {
         if cfg.ascii_only {
@@ -408,13 +394,7 @@ impl LowerEmitter {
     pub fn stands_alone<W: WriteJs>(&self, cfg: &Config, wr: &mut W, sym: &str) -> bool
         requires { begins_name sym.now ≡ true }
         ensures settled { result ≡ true → is_settled (W.sheet wr.old).semicolons ≡ true }
-        ensures unfailed { result ≡ true → self.now.failed ≡ false }
-        ensures passes { result ≡ true →
-            fuses (last_at self.now.token.value) (chars sym.now) ≡ false }
-        ensures in_line { result ≡ true → is_in_line sym.now ≡ true }
-        ensures unescaped { result ≡ true → has_byte 92 sym.now ≡ false }
-        ensures as_it_is { result ≡ true → wants_escapes cfg.now sym.now ≡ false }
-        ensures valid { result ≡ true → (W.sheet wr.old).keeps_invalid ≡ false }
+        ensures plain { result ≡ true → IsPlain cfg.now (W.sheet wr.new) self.now sym.now }
         ensures same { W.sheet wr.new ≡ W.sheet wr.old }
     {
         if !wr.is_settled() {
@@ -441,12 +421,7 @@ impl LowerEmitter {
         requires uncommented { is_some comments.old ≡ false }
         requires unplaced { (W.sheet wr.old).keeps_positions ≡ false }
         requires settled { is_settled (W.sheet wr.old).semicolons ≡ true }
-        requires unfailed { self.old.failed ≡ false }
-        requires passes { fuses (last_at self.old.token.value) (chars sym.now) ≡ false }
-        requires in_line { is_in_line sym.now ≡ true }
-        requires unescaped { has_byte 92 sym.now ≡ false }
-        requires as_it_is { wants_escapes cfg.now sym.now ≡ false }
-        requires valid { (W.sheet wr.old).keeps_invalid ≡ false }
+        requires plain { IsPlain cfg.now (W.sheet wr.old) self.old sym.now }
         ensures items { DoesTaking (name span sym.now optional) (maps_in C.maps comments.old)
             (maps_in C.maps comments.new) (state_of cfg.now (W.sheet wr.old) self.old)
             (state_of cfg.now (W.sheet wr.new) self.new) (answered result self.new.reason) }
@@ -551,12 +526,7 @@ impl LowerEmitter {
         span: Span,
         sym: &str,
     ) -> bool
-        requires unfailed { self.old.failed ≡ false }
-        requires passes { fuses (last_at self.old.token.value) (chars sym.now) ≡ false }
-        requires in_line { is_in_line sym.now ≡ true }
-        requires unescaped { has_byte 92 sym.now ≡ false }
-        requires as_it_is { wants_escapes cfg.now sym.now ≡ false }
-        requires valid { (W.sheet wr.old).keeps_invalid ≡ false }
+        requires plain { IsPlain cfg.now (W.sheet wr.old) self.old sym.now }
         ensures items { Does (name_text span sym.now) (state_of cfg.now (W.sheet wr.old) self.old)
             (state_of cfg.now (W.sheet wr.new) self.new) (answered result self.new.reason) }
         ensures level { Stays (W.sheet wr.old) (W.sheet wr.new) (answered result self.new.reason) }

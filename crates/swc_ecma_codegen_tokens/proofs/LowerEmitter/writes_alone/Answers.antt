@@ -23,10 +23,16 @@ returns-clause-items g c =
     let r : Result (Unit {0}) Refusal = answered c.sends_symbol.result c.sends_symbol.new.self.reason in
     let token : Part = step (Token Name (Symbol dummy_span c.args.sym.now)) in
     let text : Does (symbol c.args.span c.args.sym.now) a b r =
-    both (step (Guard c.args.sym.now)) (λ rest. start_of c.args.span (token rest)) _ _ _ _ (passed c.args.sym.now a c.requires.unfailed c.requires.passes)
+    both (step (Guard c.args.sym.now)) (λ rest. start_of c.args.span (token rest)) _ _ _ _ (passed c.args.sym.now a c.requires.plain.unfailed c.requires.plain.passes)
     (unplaced c.args.span token _ _ _ c.requires.unplaced c.sends_symbol.ensures.items) in
     let whole : Does (name_text c.args.span c.args.sym.now) a b r =
-    made_name _ _ _ _ _ c.requires.valid (remade _ _ _ _ _ _ (sym (turned_no_backslash c.args.sym.now c.requires.unescaped))
-    (spelled_as_it_is _ _ a _ _ c.requires.as_it_is text)) in
+    made_name _ _ _ _ _ c.requires.plain.valid (remade _ _ _ _ _ _ (sym (turned_no_backslash c.args.sym.now c.requires.plain.unescaped))
+    (spelled_as_it_is _ _ a _ _ c.requires.plain.as_it_is text)) in
     let P : Bool → Type 0 = λ o. DoesTaking (name c.args.span c.args.sym.now o) (maps_in g.C.Comments.maps c.args.comments.now) (maps_in g.C.Comments.maps c.args.comments.now) a b r in
     subst P (sym c.requires.single) (alone g.C.Comments.maps c.args.comments.now c.args.span c.args.sym.now a b r c.requires.uncommented c.requires.settled whole)
+
+pub sends_symbol-requires-clause-unfailed : goal.sends_symbol-requires-clause-unfailed
+sends_symbol-requires-clause-unfailed g c = c.requires.plain.unfailed
+
+pub sends_symbol-requires-clause-in_line : goal.sends_symbol-requires-clause-in_line
+sends_symbol-requires-clause-in_line g c = c.requires.plain.in_line
