@@ -6,6 +6,8 @@ use Rattle.swc_ecma_codegen_tree.specs.declared.links.AnyNode.{AnyNode}
 use Rattle.swc_ecma_codegen_tree.specs.declared.exprs.BinExpr.{BinExpr}
 use Rattle.swc_ecma_codegen_tree.specs.declared.exprs.Expr.{Expr}
 use Rattle.swc_ecma_codegen_tree.specs.declared.exprs.Expr.TheVariants as exprs
+use Rattle.swc_ecma_codegen_syntax.specs.Parameters.{of_script}
+use Rattle.swc_ecma_codegen_syntax.specs.declared.nonterminals.Nonterminal.TheVariants.{Expression}
 use Rattle.swc_ecma_codegen_parentheses.specs.Roots.{SameExprTree, expr_in}
 
 -- an operator between these two, with no parentheses round them
@@ -18,4 +20,4 @@ pub record IsOperationOf (op : BinaryOp) (left right n : Expr AnyNode) : Type 0 
 
 -- their product, or the same tree but for parentheses
 abbrev pub OfProduct : Expr AnyNode → Expr AnyNode → Expr AnyNode → Type 0
-OfProduct left right r = (n : Expr AnyNode) × (IsOperationOf Mul left right n × ((n ≡ r) ⊎ SameExprTree n r))
+OfProduct left right r = (n : Expr AnyNode) × (IsOperationOf Mul left right n × ((n ≡ r) ⊎ SameExprTree Expression of_script n r))

@@ -1,3 +1,5 @@
 pub mod Held
 pub mod InPlace
+pub mod Needed
+pub mod OperandParts
 pub mod Verdicts

@@ -52,9 +52,9 @@ is_property n = is_some (target_of n)
 -- Whether a pair stays by what stands in it: the statement `("use strict");` is no directive; and `(a) = function () {}` gives the function no name,
 -- section 13.15.2, where `(a.b) = c` is `a.b = c`.
 abbrev pub stays : {X : Type 0} → Usage → Expr X → Bool
-stays usages.Value inside = false
 stays usages.Statement inside = is_string inside
 stays usages.Target inside = not (is_property inside)
+stays usage inside = false
 
 -- No pair of parentheses, or one that stays.
 pub data Stands {X : Type 0} (expr_in : X → Option (Expr X)) (usage : Usage) (n : Expr X) : Type 0 where

@@ -1,5 +1,5 @@
 -- Nodes that are the same but for parentheses, and blocks, round them and in them.
-use Rattle.std.specs.Prelude.{◌≡◌, List, [], ◌∷◌, Option, Some, None}
+use Rattle.std.specs.Prelude.{◌≡◌, Bool, true, false, not, is_some, [], ◌∷◌, Option, Some, None}
 use Rattle.swc_ecma_codegen_common.specs.declared.positions.Span.{Span}
 use Rattle.swc_ecma_codegen_tree.specs.declared.exprs.Expr.{Expr}
 use Rattle.swc_ecma_codegen_tree.specs.declared.exprs.Expr.TheVariants as exprs
@@ -7,14 +7,21 @@ use Rattle.swc_ecma_codegen_tree.specs.declared.stmts.BlockStmt.{BlockStmt}
 use Rattle.swc_ecma_codegen_tree.specs.declared.stmts.Stmt.{Stmt}
 use Rattle.swc_ecma_codegen_tree.specs.declared.stmts.Stmt.TheVariants as stmts
 use Rattle.swc_ecma_codegen_spans.specs.Spans.{expr_span, stmt_span}
+use Rattle.swc_ecma_codegen_grammar.specs.declared.roles.Role.{Role}
+use Rattle.swc_ecma_codegen_syntax.specs.declared.parameters.Parameters.{Parameters}
+use Rattle.swc_ecma_codegen_syntax.specs.Summary.{Summary}
 use Rattle.swc_ecma_codegen_parentheses.specs.declared.mends.Usage.{Usage}
+use Rattle.swc_ecma_codegen_parentheses.specs.declared.operands.Context.{Context}
+use Rattle.swc_ecma_codegen_parentheses.specs.declared.operands.Operand.TheVariants.{Inside}
+use Rattle.swc_ecma_codegen_parentheses.specs.Needed.{needs}
+use Rattle.swc_ecma_codegen_parentheses.specs.Operands.{operand_context, stands_in, within}
 use Rattle.swc_ecma_codegen_parentheses.specs.SameExprs.{same_expr}
 use Rattle.swc_ecma_codegen_parentheses.specs.SameStmts.{same_stmt}
 
--- The second is the first in parentheses, which have the span of what they enclose.
-unfoldable pub encloses : {X : Type 0} → (X → Option (Expr X)) → (X → Span) → Expr X → Expr X → Type 0
-encloses expr_in place n (exprs.Paren pair) = (pair.span ≡ expr_span place n) × (expr_in pair.expr.node.value ≡ Some n)
-encloses expr_in place n r = ⊥
+-- The second is the first in parentheses, which have the span of what they enclose, and of which something holds.
+unfoldable pub encloses : {X : Type 0} → (X → Option (Expr X)) → (X → Span) → (X → Type 0) → Expr X → Expr X → Type 0
+encloses expr_in place P n (exprs.Paren pair) = (pair.span ≡ expr_span place n) × ((expr_in pair.expr.node.value ≡ Some n) × P pair.expr.node.value)
+encloses expr_in place P n r = ⊥
 
 -- The block is one of that statement alone, with its span.
 unfoldable pub is_block_of : {X : Type 0} → (X → Span) → Stmt X → Option (BlockStmt X) → Type 0
@@ -26,12 +33,17 @@ unfoldable pub blocks : {X : Type 0} → (X → Option (BlockStmt X)) → (X →
 blocks block_in place n (stmts.Block link) = is_block_of place n (block_in link.node.value)
 blocks block_in place n r = ⊥
 
--- The same expression, or the same in parentheses.
-pub data SameExpr {X : Type 0} (expr_in : X → Option (Expr X)) (place : X → Span) (m : Usage → X → X → Type 0) (n r : Expr X) : Type 0 where
-  bare : same_expr m n r → SameExpr expr_in place m n r
-  enclosed : (inside : Expr X) → same_expr m n inside → encloses expr_in place inside r → SameExpr expr_in place m n r
+-- The same expression, or the same in parentheses, which can't be left out where it is used as an operand. Its own operands stand by where it stands.
+pub data SameExpr {X : Type 0} (f : X → Role → Parameters → Summary) (expr_in : X → Option (Expr X)) (place : X → Span) (m : Usage → X → X → Type 0) (usage : Usage) (n r : Expr X) : Type 0 where
+  bare : (at : Context) → stands_in usage at → same_expr (λ u. m (within at u)) n r → SameExpr f expr_in place m usage n r
+  enclosed : (at : Context) → stands_in usage at → (inside : Expr X) → same_expr (λ u. m (within (operand_context Inside at) u)) n inside → encloses expr_in place (needs f usage) inside r → SameExpr f expr_in place m usage n r
 
--- The same statement, or the same in a block.
+-- an `if` without `else`, which takes the `else` behind it
+abbrev pub is_short_if : {X : Type 0} → Stmt X → Bool
+is_short_if (stmts.If n) = not (is_some n.alt)
+is_short_if n = false
+
+-- The same statement, or an `if` without `else` in a block.
 pub data SameStmt {X : Type 0} (block_in : X → Option (BlockStmt X)) (place : X → Span) (m : Usage → X → X → Type 0) (n r : Stmt X) : Type 0 where
   unblocked : same_stmt m n r → SameStmt block_in place m n r
-  blocked : (inside : Stmt X) → same_stmt m n inside → blocks block_in place inside r → SameStmt block_in place m n r
+  blocked : is_short_if n ≡ true → (inside : Stmt X) → same_stmt m n inside → blocks block_in place inside r → SameStmt block_in place m n r

@@ -3,6 +3,8 @@ pub mod Depths
 pub mod Enclosed
 pub mod Lent
 pub mod Lists
+pub mod Needed
+pub mod Operands
 pub mod Roots
 pub mod SameClasses
 pub mod SameDecls

@@ -1,7 +1,9 @@
 -- What two links, two options and two lists of nodes have in common.
 use Rattle.std.specs.Prelude.{◌≡◌, ⊤, Bool, true, false, List, [], ◌∷◌, Option, Some, None}
 use Rattle.swc_ecma_codegen_tree.specs.declared.links.Link.{Link}
+use Rattle.swc_ecma_codegen_syntax.specs.declared.nonterminals.Nonterminal.{Nonterminal}
 use Rattle.swc_ecma_codegen_parentheses.specs.declared.mends.Usage.{Usage}
+use Rattle.swc_ecma_codegen_parentheses.specs.Operands.{in_brackets}
 use Rattle.swc_ecma_codegen_parentheses.specs.declared.mends.Usage.TheVariants as usages
 
 -- their elements stand in a relation, one by one
@@ -22,6 +24,10 @@ linked_as usage m n r = m usage n.node.value r.node.value
 -- the same where it is used as a value
 abbrev pub linked : {K X : Type 0} → (Usage → X → X → Type 0) → Link K X → Link K X → Type 0
 linked m n r = linked_as usages.Value m n r
+
+-- the same where this nonterminal stands in brackets
+abbrev pub bracketed : {K X : Type 0} → Nonterminal → (Usage → X → X → Type 0) → Link K X → Link K X → Type 0
+bracketed place m n r = linked_as (in_brackets place) m n r
 
 -- what they hold stands in a relation where a node was found in it, and else they are the same link
 unfoldable pub where_found : {K X : Type 0} → Bool → (X → X → Type 0) → Link K X → Link K X → Type 0

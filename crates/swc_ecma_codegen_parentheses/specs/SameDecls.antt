@@ -9,7 +9,10 @@ use Rattle.swc_ecma_codegen_tree.specs.declared.decls.Param.{Param}
 use Rattle.swc_ecma_codegen_tree.specs.declared.decls.VarDecl.{VarDecl}
 use Rattle.swc_ecma_codegen_tree.specs.declared.decls.VarDeclarator.{VarDeclarator}
 use Rattle.swc_ecma_codegen_parentheses.specs.declared.mends.Usage.{Usage}
-use Rattle.swc_ecma_codegen_parentheses.specs.Lists.{Pairwise, linked, optionally}
+use Rattle.swc_ecma_codegen_parentheses.specs.declared.mends.Usage.TheVariants as usages
+use Rattle.swc_ecma_codegen_parentheses.specs.declared.operands.Operand.TheVariants.{Last}
+use Rattle.swc_ecma_codegen_parentheses.specs.Lists.{Pairwise, linked, linked_as, optionally}
+use Rattle.swc_ecma_codegen_parentheses.specs.Operands.{declared, within}
 use Rattle.swc_ecma_codegen_parentheses.specs.SamePats.{same_pat}
 use Rattle.swc_ecma_codegen_parentheses.specs.SameTsDecls.{same_ts_enum_decl}
 
@@ -20,7 +23,7 @@ unfoldable pub same_fn_decl : {X : Type 0} → (Usage → X → X → Type 0) �
 same_fn_decl m n r = (r ≡ record n { function = r.function }) × linked m n.function r.function
 
 unfoldable pub same_var_declarator : {X : Type 0} → (Usage → X → X → Type 0) → VarDeclarator X → VarDeclarator X → Type 0
-same_var_declarator m n r = (r ≡ record n { name = r.name; init = r.init }) × (same_pat m n.name r.name × optionally (linked m) n.init r.init)
+same_var_declarator m n r = (r ≡ record n { name = r.name; init = r.init }) × (same_pat m n.name r.name × optionally (linked_as (usages.Operand Last) m) n.init r.init)
 
 unfoldable pub same_var_decl : {X : Type 0} → (Usage → X → X → Type 0) → VarDecl X → VarDecl X → Type 0
 same_var_decl m n r = (r ≡ record n { decls = r.decls }) × Pairwise (same_var_declarator m) n.decls.items r.decls.items
@@ -28,7 +31,7 @@ same_var_decl m n r = (r ≡ record n { decls = r.decls }) × Pairwise (same_var
 unfoldable pub same_decl : {X : Type 0} → (Usage → X → X → Type 0) → Decl X → Decl X → Type 0
 same_decl m (decls.Class n) (decls.Class r) = same_class_decl m n r
 same_decl m (decls.Fn n) (decls.Fn r) = same_fn_decl m n r
-same_decl m (decls.Var n) (decls.Var r) = same_var_decl m n r
+same_decl m (decls.Var n) (decls.Var r) = same_var_decl (λ u. m (within declared u)) n r
 same_decl m (decls.TsEnum n) (decls.TsEnum r) = same_ts_enum_decl m n.value r.value
 same_decl m n r = n ≡ r
 

@@ -15,11 +15,12 @@ use Rattle.swc_ecma_codegen_tree.specs.declared.jsx.JSXFragment.{JSXFragment}
 use Rattle.swc_ecma_codegen_tree.specs.declared.jsx.JSXOpeningElement.{JSXOpeningElement}
 use Rattle.swc_ecma_codegen_tree.specs.declared.jsx.JSXSpreadChild.{JSXSpreadChild}
 use Rattle.swc_ecma_codegen_parentheses.specs.declared.mends.Usage.{Usage}
-use Rattle.swc_ecma_codegen_parentheses.specs.Lists.{Pairwise, linked, optionally}
+use Rattle.swc_ecma_codegen_syntax.specs.declared.nonterminals.Nonterminal.TheVariants as nt
+use Rattle.swc_ecma_codegen_parentheses.specs.Lists.{Pairwise, bracketed, linked, optionally}
 use Rattle.swc_ecma_codegen_parentheses.specs.SameObjects.{same_spread_element}
 
 unfoldable pub same_jsx_expr : {X : Type 0} → (Usage → X → X → Type 0) → JSXExpr X → JSXExpr X → Type 0
-same_jsx_expr m (jsx_exprs.Expr n) (jsx_exprs.Expr r) = linked m n r
+same_jsx_expr m (jsx_exprs.Expr n) (jsx_exprs.Expr r) = bracketed nt.Expression m n r
 same_jsx_expr m n r = n ≡ r
 
 unfoldable pub same_jsx_expr_container : {X : Type 0} → (Usage → X → X → Type 0) → JSXExprContainer X → JSXExprContainer X → Type 0
@@ -43,7 +44,7 @@ unfoldable pub same_jsx_opening_element : {X : Type 0} → (Usage → X → X �
 same_jsx_opening_element m n r = (r ≡ record n { attrs = r.attrs }) × Pairwise (same_jsx_attr_or_spread m) n.attrs.items r.attrs.items
 
 unfoldable pub same_jsx_spread_child : {X : Type 0} → (Usage → X → X → Type 0) → JSXSpreadChild X → JSXSpreadChild X → Type 0
-same_jsx_spread_child m n r = (r ≡ record n { expr = r.expr }) × linked m n.expr r.expr
+same_jsx_spread_child m n r = (r ≡ record n { expr = r.expr }) × bracketed nt.Expression m n.expr r.expr
 
 unfoldable pub same_jsx_element_child : {X : Type 0} → (Usage → X → X → Type 0) → JSXElementChild X → JSXElementChild X → Type 0
 same_jsx_element_child m (jsx_element_childs.JSXExprContainer n) (jsx_element_childs.JSXExprContainer r) = same_jsx_expr_container m n r

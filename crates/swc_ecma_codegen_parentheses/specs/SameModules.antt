@@ -14,7 +14,10 @@ use Rattle.swc_ecma_codegen_tree.specs.declared.programs.Program.{Program}
 use Rattle.swc_ecma_codegen_tree.specs.declared.programs.Program.TheVariants as programs
 use Rattle.swc_ecma_codegen_tree.specs.declared.programs.Script.{Script}
 use Rattle.swc_ecma_codegen_parentheses.specs.declared.mends.Usage.{Usage}
-use Rattle.swc_ecma_codegen_parentheses.specs.Lists.{Pairwise, linked}
+use Rattle.swc_ecma_codegen_syntax.specs.declared.lookahead.Lookahead.TheVariants.{DefaultStart}
+use Rattle.swc_ecma_codegen_syntax.specs.declared.nonterminals.Nonterminal.TheVariants as nt
+use Rattle.swc_ecma_codegen_parentheses.specs.Operands.{under}
+use Rattle.swc_ecma_codegen_parentheses.specs.Lists.{Pairwise, linked, linked_as}
 use Rattle.swc_ecma_codegen_parentheses.specs.SameExprs.{same_class_expr, same_fn_expr}
 use Rattle.swc_ecma_codegen_parentheses.specs.SameStmts.{same_stmt}
 use Rattle.swc_ecma_codegen_parentheses.specs.SameTsDecls.{same_ts_export_assignment}
@@ -31,7 +34,7 @@ unfoldable pub same_export_default_decl : {X : Type 0} → (Usage → X → X �
 same_export_default_decl m n r = (r ≡ record n { decl = r.decl }) × same_default_decl m n.decl r.decl
 
 unfoldable pub same_export_default_expr : {X : Type 0} → (Usage → X → X → Type 0) → ExportDefaultExpr X → ExportDefaultExpr X → Type 0
-same_export_default_expr m n r = (r ≡ record n { expr = r.expr }) × linked m n.expr r.expr
+same_export_default_expr m n r = (r ≡ record n { expr = r.expr }) × linked_as (under DefaultStart nt.AssignmentExpression) m n.expr r.expr
 
 unfoldable pub same_module_item : {X : Type 0} → (Usage → X → X → Type 0) → ModuleItem X → ModuleItem X → Type 0
 same_module_item m (module_items.ModuleDecl n) (module_items.ModuleDecl r) = linked m n r

@@ -15,23 +15,26 @@ use Rattle.swc_ecma_codegen_tree.specs.declared.exprs.PropOrSpread.TheVariants a
 use Rattle.swc_ecma_codegen_tree.specs.declared.exprs.SetterProp.{SetterProp}
 use Rattle.swc_ecma_codegen_tree.specs.declared.exprs.SpreadElement.{SpreadElement}
 use Rattle.swc_ecma_codegen_parentheses.specs.declared.mends.Usage.{Usage}
-use Rattle.swc_ecma_codegen_parentheses.specs.Lists.{Pairwise, linked, optionally}
+use Rattle.swc_ecma_codegen_syntax.specs.declared.nonterminals.Nonterminal.{Nonterminal}
+use Rattle.swc_ecma_codegen_syntax.specs.declared.nonterminals.Nonterminal.TheVariants as nt
+use Rattle.swc_ecma_codegen_parentheses.specs.Lists.{Pairwise, bracketed, linked, optionally}
 
 unfoldable pub same_spread_element : {X : Type 0} → (Usage → X → X → Type 0) → SpreadElement X → SpreadElement X → Type 0
-same_spread_element m n r = (r ≡ record n { expr = r.expr }) × linked m n.expr r.expr
+same_spread_element m n r = (r ≡ record n { expr = r.expr }) × bracketed nt.AssignmentExpression m n.expr r.expr
 
-unfoldable pub same_computed_prop_name : {X : Type 0} → (Usage → X → X → Type 0) → ComputedPropName X → ComputedPropName X → Type 0
-same_computed_prop_name m n r = (r ≡ record n { expr = r.expr }) × linked m n.expr r.expr
+-- where this nonterminal stands in the brackets
+unfoldable pub same_computed_prop_name : {X : Type 0} → Nonterminal → (Usage → X → X → Type 0) → ComputedPropName X → ComputedPropName X → Type 0
+same_computed_prop_name place m n r = (r ≡ record n { expr = r.expr }) × bracketed place m n.expr r.expr
 
 unfoldable pub same_prop_name : {X : Type 0} → (Usage → X → X → Type 0) → PropName X → PropName X → Type 0
-same_prop_name m (prop_names.Computed n) (prop_names.Computed r) = same_computed_prop_name m n r
+same_prop_name m (prop_names.Computed n) (prop_names.Computed r) = same_computed_prop_name nt.AssignmentExpression m n r
 same_prop_name m n r = n ≡ r
 
 unfoldable pub same_key_value_prop : {X : Type 0} → (Usage → X → X → Type 0) → KeyValueProp X → KeyValueProp X → Type 0
-same_key_value_prop m n r = same_prop_name m n.key r.key × linked m n.value r.value
+same_key_value_prop m n r = same_prop_name m n.key r.key × bracketed nt.AssignmentExpression m n.value r.value
 
 unfoldable pub same_assign_prop : {X : Type 0} → (Usage → X → X → Type 0) → AssignProp X → AssignProp X → Type 0
-same_assign_prop m n r = (r ≡ record n { value = r.value }) × linked m n.value r.value
+same_assign_prop m n r = (r ≡ record n { value = r.value }) × bracketed nt.AssignmentExpression m n.value r.value
 
 unfoldable pub same_getter_prop : {X : Type 0} → (Usage → X → X → Type 0) → GetterProp X → GetterProp X → Type 0
 same_getter_prop m n r = (r ≡ record n { key = r.key; body = r.body }) × (linked m n.key r.key × optionally (linked m) n.body r.body)

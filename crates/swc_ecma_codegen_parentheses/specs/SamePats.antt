@@ -18,7 +18,8 @@ use Rattle.swc_ecma_codegen_tree.specs.declared.pats.SimpleAssignTarget.{SimpleA
 use Rattle.swc_ecma_codegen_tree.specs.declared.pats.SimpleAssignTarget.TheVariants as simple_assign_targets
 use Rattle.swc_ecma_codegen_parentheses.specs.declared.mends.Usage.{Usage}
 use Rattle.swc_ecma_codegen_parentheses.specs.declared.mends.Usage.TheVariants as usages
-use Rattle.swc_ecma_codegen_parentheses.specs.Lists.{Pairwise, linked, linked_as, optionally}
+use Rattle.swc_ecma_codegen_syntax.specs.declared.nonterminals.Nonterminal.TheVariants as nt
+use Rattle.swc_ecma_codegen_parentheses.specs.Lists.{Pairwise, bracketed, linked, linked_as, optionally}
 use Rattle.swc_ecma_codegen_parentheses.specs.SameObjects.{same_prop_name}
 use Rattle.swc_ecma_codegen_parentheses.specs.SameExprs.{same_member_expr, same_opt_chain_expr, same_paren_expr, same_super_prop_expr}
 use Rattle.swc_ecma_codegen_parentheses.specs.SameTsExprs.{same_ts_as_expr, same_ts_instantiation, same_ts_non_null_expr, same_ts_satisfies_expr, same_ts_type_assertion}
@@ -33,7 +34,7 @@ unfoldable pub same_key_value_pat_prop : {X : Type 0} → (Usage → X → X →
 same_key_value_pat_prop m n r = same_prop_name m n.key r.key × linked m n.value r.value
 
 unfoldable pub same_assign_pat_prop : {X : Type 0} → (Usage → X → X → Type 0) → AssignPatProp X → AssignPatProp X → Type 0
-same_assign_pat_prop m n r = (r ≡ record n { value = r.value }) × optionally (linked m) n.value r.value
+same_assign_pat_prop m n r = (r ≡ record n { value = r.value }) × optionally (bracketed nt.AssignmentExpression m) n.value r.value
 
 unfoldable pub same_object_pat_prop : {X : Type 0} → (Usage → X → X → Type 0) → ObjectPatProp X → ObjectPatProp X → Type 0
 same_object_pat_prop m (object_pat_props.KeyValue n) (object_pat_props.KeyValue r) = same_key_value_pat_prop m n r
@@ -45,7 +46,7 @@ unfoldable pub same_object_pat : {X : Type 0} → (Usage → X → X → Type 0)
 same_object_pat m n r = (r ≡ record n { props = r.props }) × Pairwise (same_object_pat_prop m) n.props.items r.props.items
 
 unfoldable pub same_assign_pat : {X : Type 0} → (Usage → X → X → Type 0) → AssignPat X → AssignPat X → Type 0
-same_assign_pat m n r = (r ≡ record n { left = r.left; right = r.right }) × (linked m n.left r.left × linked m n.right r.right)
+same_assign_pat m n r = (r ≡ record n { left = r.left; right = r.right }) × (linked m n.left r.left × bracketed nt.AssignmentExpression m n.right r.right)
 
 unfoldable pub same_pat : {X : Type 0} → (Usage → X → X → Type 0) → Pat X → Pat X → Type 0
 same_pat m (pats.Array n) (pats.Array r) = same_array_pat m n r

@@ -26,31 +26,33 @@ use Rattle.swc_ecma_codegen_tree.specs.Links.{BlockStmtBox}
 use Rattle.swc_ecma_codegen_tree.specs.declared.decls.Decl.{Decl}
 use Rattle.swc_ecma_codegen_parentheses.specs.declared.mends.Usage.{Usage}
 use Rattle.swc_ecma_codegen_parentheses.specs.declared.mends.Usage.TheVariants as usages
-use Rattle.swc_ecma_codegen_parentheses.specs.Lists.{Pairwise, linked, linked_as, optionally}
+use Rattle.swc_ecma_codegen_syntax.specs.declared.nonterminals.Nonterminal.TheVariants as nt
+use Rattle.swc_ecma_codegen_parentheses.specs.Operands.{in_for_head}
+use Rattle.swc_ecma_codegen_parentheses.specs.Lists.{Pairwise, bracketed, linked, linked_as, optionally}
 use Rattle.swc_ecma_codegen_parentheses.specs.SameDecls.{same_decl}
 
 unfoldable pub same_with_stmt : {X : Type 0} → (Usage → X → X → Type 0) → WithStmt X → WithStmt X → Type 0
-same_with_stmt m n r = (r ≡ record n { obj = r.obj; body = r.body }) × (linked m n.obj r.obj × linked m n.body r.body)
+same_with_stmt m n r = (r ≡ record n { obj = r.obj; body = r.body }) × (bracketed nt.Expression m n.obj r.obj × linked m n.body r.body)
 
 unfoldable pub same_return_stmt : {X : Type 0} → (Usage → X → X → Type 0) → ReturnStmt X → ReturnStmt X → Type 0
-same_return_stmt m n r = (r ≡ record n { arg = r.arg }) × optionally (linked m) n.arg r.arg
+same_return_stmt m n r = (r ≡ record n { arg = r.arg }) × optionally (bracketed nt.Expression m) n.arg r.arg
 
 unfoldable pub same_labeled_stmt : {X : Type 0} → (Usage → X → X → Type 0) → LabeledStmt X → LabeledStmt X → Type 0
 same_labeled_stmt m n r = (r ≡ record n { body = r.body }) × linked m n.body r.body
 
 unfoldable pub same_if_stmt : {X : Type 0} → (Usage → X → X → Type 0) → IfStmt X → IfStmt X → Type 0
 same_if_stmt m n r =
-    (r ≡ record n { test = r.test; cons = r.cons; alt = r.alt }) × (linked m n.test r.test × (linked m n.cons r.cons × optionally (linked m) n.alt r.alt))
+    (r ≡ record n { test = r.test; cons = r.cons; alt = r.alt }) × (bracketed nt.Expression m n.test r.test × (linked m n.cons r.cons × optionally (linked m) n.alt r.alt))
 
 unfoldable pub same_switch_case : {X : Type 0} → (Usage → X → X → Type 0) → SwitchCase X → SwitchCase X → Type 0
-same_switch_case m n r = (r ≡ record n { test = r.test; cons = r.cons }) × (optionally (linked m) n.test r.test × Pairwise (linked m) n.cons.items r.cons.items)
+same_switch_case m n r = (r ≡ record n { test = r.test; cons = r.cons }) × (optionally (bracketed nt.Expression m) n.test r.test × Pairwise (linked m) n.cons.items r.cons.items)
 
 unfoldable pub same_switch_stmt : {X : Type 0} → (Usage → X → X → Type 0) → SwitchStmt X → SwitchStmt X → Type 0
 same_switch_stmt m n r =
-    (r ≡ record n { discriminant = r.discriminant; cases = r.cases }) × (linked m n.discriminant r.discriminant × Pairwise (same_switch_case m) n.cases.items r.cases.items)
+    (r ≡ record n { discriminant = r.discriminant; cases = r.cases }) × (bracketed nt.Expression m n.discriminant r.discriminant × Pairwise (same_switch_case m) n.cases.items r.cases.items)
 
 unfoldable pub same_throw_stmt : {X : Type 0} → (Usage → X → X → Type 0) → ThrowStmt X → ThrowStmt X → Type 0
-same_throw_stmt m n r = (r ≡ record n { arg = r.arg }) × linked m n.arg r.arg
+same_throw_stmt m n r = (r ≡ record n { arg = r.arg }) × bracketed nt.Expression m n.arg r.arg
 
 unfoldable pub same_catch_clause : {X : Type 0} → (Usage → X → X → Type 0) → CatchClause X → CatchClause X → Type 0
 same_catch_clause m n r = (r ≡ record n { param = r.param; body = r.body }) × (optionally (linked m) n.param r.param × linked m n.body r.body)
@@ -61,20 +63,20 @@ same_try_stmt m n r =
     optionally (linked m) n.finalizer r.finalizer))
 
 unfoldable pub same_while_stmt : {X : Type 0} → (Usage → X → X → Type 0) → WhileStmt X → WhileStmt X → Type 0
-same_while_stmt m n r = (r ≡ record n { test = r.test; body = r.body }) × (linked m n.test r.test × linked m n.body r.body)
+same_while_stmt m n r = (r ≡ record n { test = r.test; body = r.body }) × (bracketed nt.Expression m n.test r.test × linked m n.body r.body)
 
 unfoldable pub same_do_while_stmt : {X : Type 0} → (Usage → X → X → Type 0) → DoWhileStmt X → DoWhileStmt X → Type 0
-same_do_while_stmt m n r = (r ≡ record n { test = r.test; body = r.body }) × (linked m n.test r.test × linked m n.body r.body)
+same_do_while_stmt m n r = (r ≡ record n { test = r.test; body = r.body }) × (bracketed nt.Expression m n.test r.test × linked m n.body r.body)
 
 unfoldable pub same_var_decl_or_expr : {X : Type 0} → (Usage → X → X → Type 0) → VarDeclOrExpr X → VarDeclOrExpr X → Type 0
 same_var_decl_or_expr m (var_decl_or_exprs.VarDecl n) (var_decl_or_exprs.VarDecl r) = linked m n r
-same_var_decl_or_expr m (var_decl_or_exprs.Expr n) (var_decl_or_exprs.Expr r) = linked m n r
+same_var_decl_or_expr m (var_decl_or_exprs.Expr n) (var_decl_or_exprs.Expr r) = linked_as in_for_head m n r
 same_var_decl_or_expr m n r = ⊥
 
 unfoldable pub same_for_stmt : {X : Type 0} → (Usage → X → X → Type 0) → ForStmt X → ForStmt X → Type 0
 same_for_stmt m n r =
     (r ≡ record n { init = r.init; test = r.test; update = r.update; body = r.body }) × (optionally (same_var_decl_or_expr m) n.init r.init × (
-    optionally (linked m) n.test r.test × (optionally (linked m) n.update r.update × linked m n.body r.body)))
+    optionally (bracketed nt.Expression m) n.test r.test × (optionally (bracketed nt.Expression m) n.update r.update × linked m n.body r.body)))
 
 unfoldable pub same_for_head : {X : Type 0} → (Usage → X → X → Type 0) → ForHead X → ForHead X → Type 0
 same_for_head m (for_heads.VarDecl n) (for_heads.VarDecl r) = linked m n r
@@ -83,11 +85,11 @@ same_for_head m n r = n ≡ r
 
 unfoldable pub same_for_in_stmt : {X : Type 0} → (Usage → X → X → Type 0) → ForInStmt X → ForInStmt X → Type 0
 same_for_in_stmt m n r =
-    (r ≡ record n { left = r.left; right = r.right; body = r.body }) × (same_for_head m n.left r.left × (linked m n.right r.right × linked m n.body r.body))
+    (r ≡ record n { left = r.left; right = r.right; body = r.body }) × (same_for_head m n.left r.left × (bracketed nt.Expression m n.right r.right × linked m n.body r.body))
 
 unfoldable pub same_for_of_stmt : {X : Type 0} → (Usage → X → X → Type 0) → ForOfStmt X → ForOfStmt X → Type 0
 same_for_of_stmt m n r =
-    (r ≡ record n { left = r.left; right = r.right; body = r.body }) × (same_for_head m n.left r.left × (linked m n.right r.right × linked m n.body r.body))
+    (r ≡ record n { left = r.left; right = r.right; body = r.body }) × (same_for_head m n.left r.left × (bracketed nt.AssignmentExpression m n.right r.right × linked m n.body r.body))
 
 unfoldable pub same_expr_stmt : {X : Type 0} → (Usage → X → X → Type 0) → ExprStmt X → ExprStmt X → Type 0
 same_expr_stmt m n r = (r ≡ record n { expr = r.expr }) × linked_as usages.Statement m n.expr r.expr

@@ -12,7 +12,9 @@ use crate::linked::{
     mend_linked_prop_name, mend_linked_tpl, mend_linked_var_decl,
 };
 use crate::mends::{Mends, Stop, Usage};
+use crate::operands::Context;
 use crate::places::Place;
+use crate::within::Within;
 use std::alloc::Global;
 use swc_ecma_codegen_tree::{
     AssignTargetBox, BlockStmtBox, ClassBox, ClassMemberBox, DeclBox, Expr, ExprBox, ExprPart,
@@ -25,7 +27,7 @@ pub(crate) enum Added {}
 
 impl<N: Lends> Change<N> for Added {
     ghost changed = { SameHeld
-        (AddedHeld (⟦<N as Holds<Expr<N>>>⟧.node_in) (⟦<N as Holds<ExprPart<N>>>⟧.node_in)
+        (AddedHeld N.answers (⟦<N as Holds<Expr<N>>>⟧.node_in) (⟦<N as Holds<ExprPart<N>>>⟧.node_in)
         (⟦<N as Holds<StmtPart<N>>>⟧.node_in) (⟦<N as Holds<Stmt<N>>>⟧.node_in) N.place)
         (SamePart (⟦<N as Holds<ExprPart<N>>>⟧.node_in) (⟦<N as Holds<StmtPart<N>>>⟧.node_in)
         (⟦<N as Holds<MemberExpr<N>>>⟧.node_in) (⟦<N as Holds<JSXPart<N>>>⟧.node_in)) };
@@ -35,10 +37,10 @@ impl<N: Lends> Change<N> for Added {
         alloc: Global,
         link: &mut ExprBox<N>,
         place: Place,
-        _: Usage,
+        usage: Usage,
     ) -> Result<(), Stop> {
         match link.get_mut() {
-            Some(node) => mend_expr::<N, M>(mender, alloc, node, place),
+            Some(node) => mend_expr::<N, M>(mender, alloc, node, place, usage),
             None => Ok(()),
         }
     }
@@ -78,8 +80,11 @@ impl<N: Lends> Change<N> for Added {
         alloc: Global,
         link: &mut MemberExprBox<N>,
         place: Place,
+        usage: Usage,
     ) -> Result<(), Stop> {
-        mend_linked_member_expr::<N, M>(mender, alloc, link, place)?;
+        let context = usage.context(place);
+        let within = Within { mender, context };
+        mend_linked_member_expr::<N, Within<M>>(&within, alloc, link, place)?;
         Ok(())
     }
 
@@ -88,8 +93,11 @@ impl<N: Lends> Change<N> for Added {
         alloc: Global,
         link: &mut OptCallBox<N>,
         place: Place,
+        usage: Usage,
     ) -> Result<(), Stop> {
-        mend_linked_opt_call::<N, M>(mender, alloc, link, place)?;
+        let context = usage.context(place);
+        let within = Within { mender, context };
+        mend_linked_opt_call::<N, Within<M>>(&within, alloc, link, place)?;
         Ok(())
     }
 
@@ -98,8 +106,11 @@ impl<N: Lends> Change<N> for Added {
         alloc: Global,
         link: &mut AssignTargetBox<N>,
         place: Place,
+        usage: Usage,
     ) -> Result<(), Stop> {
-        mend_linked_assign_target::<N, M>(mender, alloc, link, place)?;
+        let context = usage.context(place);
+        let within = Within { mender, context };
+        mend_linked_assign_target::<N, Within<M>>(&within, alloc, link, place)?;
         Ok(())
     }
 
@@ -171,7 +182,9 @@ impl<N: Lends> Change<N> for Added {
         link: &mut VarDeclBox<N>,
         place: Place,
     ) -> Result<(), Stop> {
-        mend_linked_var_decl::<N, M>(mender, alloc, link, place)?;
+        let context = Context::declared_in_head();
+        let within = Within { mender, context };
+        mend_linked_var_decl::<N, Within<M>>(&within, alloc, link, place)?;
         Ok(())
     }
 

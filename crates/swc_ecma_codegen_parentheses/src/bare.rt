@@ -39,9 +39,14 @@ fn stays<N>(usage: Usage, inside: &Expr<N>) -> bool
     ensures { result ≡ stays usage inside.now }
 {
     match usage {
-        Usage::Value => false,
         Usage::Statement => is_string(inside),
         Usage::Target => !is_property(inside),
+        Usage::Value
+        | Usage::Operand(_)
+        | Usage::Part(_, _)
+        | Usage::Called(_, _, _)
+        | Usage::CalledByNew(_, _)
+        | Usage::Link(_) => false,
     }
 }
 

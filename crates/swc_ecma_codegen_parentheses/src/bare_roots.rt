@@ -28,7 +28,7 @@ fn not_bare<T>(stop: Stop, tree: T) -> NotBare<T> {
     match stop {
         Stop::OutOfMemory => NotBare::OutOfMemory(tree),
         Stop::TooDeep => NotBare::TooDeep(tree),
-        Stop::Stray => NotBare::Stray(tree),
+        Stop::Stray | Stop::Needless => NotBare::Stray(tree),
     }
 }
 

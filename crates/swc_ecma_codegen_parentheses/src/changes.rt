@@ -56,24 +56,27 @@ pub(crate) trait Change<N>: Sized {
         alloc: Global,
         link: &mut MemberExprBox<N>,
         place: Place,
+        usage: Usage,
     ) -> Result<(), Stop>
-        ensures { OnOk result (linked (changed (M.mended mender.now)) link.old link.new) };
+        ensures { OnOk result (linked_as usage (changed (M.mended mender.now)) link.old link.new) };
 
     fn opt_call<M: Mends<N>>(
         mender: &M,
         alloc: Global,
         link: &mut OptCallBox<N>,
         place: Place,
+        usage: Usage,
     ) -> Result<(), Stop>
-        ensures { OnOk result (linked (changed (M.mended mender.now)) link.old link.new) };
+        ensures { OnOk result (linked_as usage (changed (M.mended mender.now)) link.old link.new) };
 
     fn assign_target<M: Mends<N>>(
         mender: &M,
         alloc: Global,
         link: &mut AssignTargetBox<N>,
         place: Place,
+        usage: Usage,
     ) -> Result<(), Stop>
-        ensures { OnOk result (linked (changed (M.mended mender.now)) link.old link.new) };
+        ensures { OnOk result (linked_as usage (changed (M.mended mender.now)) link.old link.new) };
 
     fn stmt<M: Mends<N>>(
         mender: &M,
@@ -211,10 +214,11 @@ pub(crate) fn change_member_expr<N, C: Change<N>, M: Mends<N>>(
     alloc: Global,
     link: &mut MemberExprBox<N>,
     place: Place,
+    usage: Usage,
 ) -> Result<(), Stop>
-    ensures { OnOk result (linked (C.changed (M.mended mender.now)) link.old link.new) }
+    ensures { OnOk result (linked_as usage (C.changed (M.mended mender.now)) link.old link.new) }
 {
-    C::member_expr::<M>(mender, alloc, link, place)
+    C::member_expr::<M>(mender, alloc, link, place, usage)
 }
 
 /// The change of the call in a chain that a link holds.
@@ -223,10 +227,11 @@ pub(crate) fn change_opt_call<N, C: Change<N>, M: Mends<N>>(
     alloc: Global,
     link: &mut OptCallBox<N>,
     place: Place,
+    usage: Usage,
 ) -> Result<(), Stop>
-    ensures { OnOk result (linked (C.changed (M.mended mender.now)) link.old link.new) }
+    ensures { OnOk result (linked_as usage (C.changed (M.mended mender.now)) link.old link.new) }
 {
-    C::opt_call::<M>(mender, alloc, link, place)
+    C::opt_call::<M>(mender, alloc, link, place, usage)
 }
 
 /// The change of the target that a link holds.
@@ -235,10 +240,11 @@ pub(crate) fn change_assign_target<N, C: Change<N>, M: Mends<N>>(
     alloc: Global,
     link: &mut AssignTargetBox<N>,
     place: Place,
+    usage: Usage,
 ) -> Result<(), Stop>
-    ensures { OnOk result (linked (C.changed (M.mended mender.now)) link.old link.new) }
+    ensures { OnOk result (linked_as usage (C.changed (M.mended mender.now)) link.old link.new) }
 {
-    C::assign_target::<M>(mender, alloc, link, place)
+    C::assign_target::<M>(mender, alloc, link, place, usage)
 }
 
 /// The change of the statement that a link holds.

@@ -4,7 +4,7 @@ ghost use Rattle.swc_ecma_codegen_parentheses.specs.SameClasses.{same_class, sam
 ghost use Rattle.swc_ecma_codegen_parentheses.specs.SameDecls.{same_class_decl};
 ghost use Rattle.swc_ecma_codegen_parentheses.specs.SameExprs.{same_class_expr};
 
-use crate::mends::{Mend, Mends, Stop};
+use crate::mends::{Mend, Mends, Stop, mend_optional};
 use crate::places::Place;
 use std::alloc::Global;
 use swc_ecma_codegen_syntax::{Answers, Nonterminal};
@@ -38,11 +38,8 @@ impl<N: Answers, M: Mends<N>> Mend<N, M> for Class<N> {
     #[tactic(auto, unfolding(crate::specs::SameClasses::same_class))]
     fn mend(&mut self, mender: &M, alloc: Global, place: Place) -> Result<(), Stop> {
         self.body.mend(mender, alloc, place)?;
-        self.super_class.mend(
-            mender,
-            alloc,
-            place.bracketed(Nonterminal::LeftHandSideExpression),
-        )
+        let nonterminal = Nonterminal::LeftHandSideExpression;
+        mend_optional(mender, alloc, &mut self.super_class, place, nonterminal)
     }
 }
 
@@ -114,11 +111,8 @@ impl<N: Answers, M: Mends<N>> Mend<N, M> for ClassProp<N> {
     #[tactic(auto, unfolding(crate::specs::SameClasses::same_class_prop))]
     fn mend(&mut self, mender: &M, alloc: Global, place: Place) -> Result<(), Stop> {
         self.key.mend(mender, alloc, place)?;
-        self.value.mend(
-            mender,
-            alloc,
-            place.bracketed(Nonterminal::AssignmentExpression),
-        )
+        let nonterminal = Nonterminal::AssignmentExpression;
+        mend_optional(mender, alloc, &mut self.value, place, nonterminal)
     }
 }
 
@@ -127,11 +121,8 @@ impl<N: Answers, M: Mends<N>> Mend<N, M> for PrivateProp<N> {
 
     #[tactic(auto, unfolding(crate::specs::SameClasses::same_private_prop))]
     fn mend(&mut self, mender: &M, alloc: Global, place: Place) -> Result<(), Stop> {
-        self.value.mend(
-            mender,
-            alloc,
-            place.bracketed(Nonterminal::AssignmentExpression),
-        )
+        let nonterminal = Nonterminal::AssignmentExpression;
+        mend_optional(mender, alloc, &mut self.value, place, nonterminal)
     }
 }
 
@@ -162,11 +153,8 @@ impl<N: Answers, M: Mends<N>> Mend<N, M> for AutoAccessor<N> {
     #[tactic(auto, unfolding(crate::specs::SameClasses::same_auto_accessor))]
     fn mend(&mut self, mender: &M, alloc: Global, place: Place) -> Result<(), Stop> {
         self.key.mend(mender, alloc, place)?;
-        self.value.mend(
-            mender,
-            alloc,
-            place.bracketed(Nonterminal::AssignmentExpression),
-        )
+        let nonterminal = Nonterminal::AssignmentExpression;
+        mend_optional(mender, alloc, &mut self.value, place, nonterminal)
     }
 }
 

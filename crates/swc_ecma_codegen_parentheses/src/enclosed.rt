@@ -1,31 +1,40 @@
 //! Parentheses round an expression, and blocks round an `if`.
 
-ghost use Rattle.std.specs.Prelude.{◌≡◌, IfOk};
+ghost use Rattle.std.specs.Prelude.{◌≡◌, IfOk, true};
 ghost use Rattle.std.specs.Option.{option_and_then};
 ghost use Rattle.std.specs.Result.{OnOk};
-ghost use Rattle.swc_ecma_codegen_parentheses.specs.Enclosed.{SameExpr, SameStmt, blocks, encloses};
+ghost use Rattle.swc_ecma_codegen_parentheses.specs.Enclosed.{SameExpr, SameStmt, blocks, encloses, is_short_if};
+ghost use Rattle.swc_ecma_codegen_parentheses.specs.Needed.{needs};
 ghost use Rattle.swc_ecma_codegen_tree.specs.LinkTargets.{block_stmt_in};
 
 use crate::exprs::wants_parentheses;
 use crate::lends::Lends;
-use crate::mends::{Mend, Mends, Stop};
+use crate::mends::{Mend, Mends, Stop, Usage};
+use crate::operands::Operand;
 use crate::places::Place;
+use crate::within::Within;
 use std::alloc::{AllocError, Global};
 use std::mem;
 use swc_ecma_codegen_common::DUMMY_SP;
 use swc_ecma_codegen_spans::Spanned;
 use swc_ecma_codegen_tree::{
-    BlockStmt, BlockStmtBox, EmptyStmt, Expr, ExprBox, Holds, Invalid, ParenExpr, Stmt, StmtPart,
+    BlockStmt, BlockStmtBox, EmptyStmt, Expr, ExprBox, Holds, IfStmt, Invalid, ParenExpr, Stmt,
+    StmtPart,
 };
 
-/// An expression in parentheses.
+/// An expression in parentheses, which can't be left out where it is used so.
 #[tactic(auto, unfolding(crate::specs::Enclosed::encloses))]
-fn in_parentheses<N: Lends>(alloc: Global, expr: Expr<N>) -> Result<Expr<N>, AllocError>
-    ensures { IfOk result (λ r. encloses (⟦<N as Holds<Expr<N>>>⟧.node_in) N.place expr r) }
+fn in_parentheses<N: Lends>(alloc: Global, expr: Expr<N>, usage: Usage) -> Result<Expr<N>, Stop>
+    ensures { IfOk result (λ r. encloses
+        (⟦<N as Holds<Expr<N>>>⟧.node_in) N.place (needs N.answers usage) expr r) }
 {
     let span = expr.span();
     let expr = ExprBox::new(alloc, expr)?;
-    Ok(Expr::Paren(ParenExpr { span, expr }))
+    if usage.needs_parentheses(&expr) {
+        Ok(Expr::Paren(ParenExpr { span, expr }))
+    } else {
+        Err(Stop::Needless)
+    }
 }
 
 /// A statement in a block.
@@ -43,30 +52,39 @@ fn in_block<N: Lends>(alloc: Global, stmt: Stmt<N>) -> Result<Stmt<N>, AllocErro
 }
 
 /// Puts parentheses into an expression, and round it, where they are missing.
-#[tactic(auto, using(crate::specs::Enclosed::bare))]
 pub(crate) fn mend_expr<N: Lends, M: Mends<N>>(
     mender: &M,
     alloc: Global,
     expr: &mut Expr<N>,
     place: Place,
+    usage: Usage,
 ) -> Result<(), Stop>
-    ensures { OnOk result (SameExpr
-        (⟦<N as Holds<Expr<N>>>⟧.node_in) N.place (M.mended mender.now) expr.old expr.new) }
+    ensures { OnOk result (SameExpr N.answers (⟦<N as Holds<Expr<N>>>⟧.node_in) N.place
+        (M.mended mender.now) usage expr.old expr.new) }
 {
-    let is_missing = wants_parentheses(expr, place);
-    let within = if is_missing { place.enclosed() } else { place };
-    expr.mend(mender, alloc, within)?;
-    if is_missing {
+    let context = usage.context(place);
+    if wants_parentheses(expr, place) {
+        let inside = Operand::Inside.context(context);
+        let within = Within {
+            mender,
+            context: inside,
+        };
+        expr.mend(&within, alloc, place.enclosed())?;
         let bare = mem::replace(expr, Expr::Invalid(Invalid { span: DUMMY_SP }));
-        *expr = in_parentheses(alloc, bare)?;
+        *expr = in_parentheses(alloc, bare, usage)?;
+        Ok(())
+    } else {
+        let within = Within { mender, context };
+        expr.mend(&within, alloc, place)
     }
-    Ok(())
 }
 
 /// Whether a statement is an `if` without `else` that would take the `else` behind it.
-fn takes_else<N>(stmt: &Stmt<N>, place: Place) -> bool {
+fn takes_else<N>(stmt: &Stmt<N>, place: Place) -> bool
+    ensures { result ≡ true → is_short_if stmt.now ≡ true }
+{
     match stmt {
-        Stmt::If(node) => place.before_else && node.alt.is_none(),
+        Stmt::If(IfStmt { alt: None, .. }) => place.before_else,
         _ => false,
     }
 }

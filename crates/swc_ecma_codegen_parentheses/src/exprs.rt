@@ -29,7 +29,8 @@ fn call_or_member<N: Answers>(object: &ExprBox<N>, place: Nonterminal) -> Nonter
 
 /// What `new` is, with arguments or without.
 fn new_nonterminal<N>(node: &NewExpr<N>, place: Place) -> Nonterminal {
-    if has_arguments(&node.args, place.may_minify && !place.is_called) {
+    let keeps_arguments = place.is_called || place.is_called_by_empty_new;
+    if has_arguments(&node.args, place.may_minify && !keeps_arguments) {
         Nonterminal::MemberExpression
     } else {
         Nonterminal::NewExpression

@@ -3,7 +3,8 @@
 ghost use Rattle.swc_ecma_codegen_parentheses.specs.SameDecls.{same_fn_decl, same_param, same_function};
 ghost use Rattle.swc_ecma_codegen_parentheses.specs.SameExprs.{same_fn_expr, same_block_stmt_or_expr, same_arrow_expr};
 
-use crate::mends::{Mend, Mends, Stop};
+use crate::mends::{Mend, Mends, Stop, Usage};
+use crate::operands::Operand;
 use crate::places::Place;
 use std::alloc::Global;
 use swc_ecma_codegen_grammar::roles::Role;
@@ -30,7 +31,7 @@ impl<N: Answers, M: Mends<N>> Mend<N, M> for BlockStmtOrExpr<N> {
                 let begins = node.target().begins(Role::Expression);
                 let body = place.here(Nonterminal::AssignmentExpression);
                 let body = body.restricted(Lookahead::BodyStart, begins);
-                node.mend(mender, alloc, body)
+                mender.expr(alloc, node, body, Usage::Operand(Operand::Body))
             }
         }
     }

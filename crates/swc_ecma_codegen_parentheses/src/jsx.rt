@@ -2,7 +2,7 @@
 
 ghost use Rattle.swc_ecma_codegen_parentheses.specs.SameJsx.{same_jsx_expr, same_jsx_expr_container, same_jsx_attr_value, same_jsx_attr, same_jsx_attr_or_spread, same_jsx_opening_element, same_jsx_spread_child, same_jsx_element_child, same_jsx_element, same_jsx_fragment};
 
-use crate::mends::{Mend, Mends, Stop};
+use crate::mends::{Mend, Mends, Stop, mend_bracketed};
 use crate::places::Place;
 use std::alloc::Global;
 use swc_ecma_codegen_syntax::{Answers, Nonterminal};
@@ -18,8 +18,7 @@ impl<N: Answers, M: Mends<N>> Mend<N, M> for JSXExpr<N> {
     fn mend(&mut self, mender: &M, alloc: Global, place: Place) -> Result<(), Stop> {
         match self {
             JSXExpr::Expr(node) => {
-                let within = place.bracketed(Nonterminal::Expression);
-                node.mend(mender, alloc, within)
+                mend_bracketed(mender, alloc, node, place, Nonterminal::Expression)
             }
             _ => Ok(()),
         }
@@ -84,8 +83,13 @@ impl<N: Answers, M: Mends<N>> Mend<N, M> for JSXSpreadChild<N> {
 
     #[tactic(auto, unfolding(crate::specs::SameJsx::same_jsx_spread_child))]
     fn mend(&mut self, mender: &M, alloc: Global, place: Place) -> Result<(), Stop> {
-        self.expr
-            .mend(mender, alloc, place.bracketed(Nonterminal::Expression))
+        mend_bracketed(
+            mender,
+            alloc,
+            &mut self.expr,
+            place,
+            Nonterminal::Expression,
+        )
     }
 }
 

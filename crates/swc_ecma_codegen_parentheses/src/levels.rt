@@ -1,6 +1,9 @@
 //! Which expressions stand where, by how strongly their operators bind: the levels of docs/LEVELS.md. What comes of
 //! them is asked by the verdict of `_syntax` once the pass is over, so a wrong one makes no wrong tree.
 
+ghost use Rattle.std.specs.Prelude.{◌≡◌};
+ghost use Rattle.swc_ecma_codegen_syntax.specs.ExprForms.{binary_nonterminal, left_nonterminal, right_nonterminal};
+
 use swc_ecma_codegen_common::BinaryOp;
 use swc_ecma_codegen_syntax::Nonterminal;
 
@@ -45,7 +48,10 @@ pub(crate) fn takes(place: Nonterminal, part: Nonterminal) -> bool {
 }
 
 /// What a node with this operator is.
-pub(crate) fn of_operator(op: BinaryOp) -> Nonterminal {
+#[tactic(auto, unfolding(swc_ecma_codegen_syntax::specs::ExprForms::binary_nonterminal))]
+pub(crate) fn of_operator(op: BinaryOp) -> Nonterminal
+    ensures { result ≡ binary_nonterminal op }
+{
     match op {
         BinaryOp::Exp => Nonterminal::ExponentiationExpression,
         BinaryOp::Mul | BinaryOp::Div | BinaryOp::Mod => Nonterminal::MultiplicativeExpression,
@@ -70,28 +76,41 @@ pub(crate) fn of_operator(op: BinaryOp) -> Nonterminal {
 }
 
 /// What stands left of an operator.
-pub(crate) fn left_of(op: BinaryOp) -> Nonterminal {
+#[tactic(auto, unfolding(swc_ecma_codegen_syntax::specs::ExprForms::left_nonterminal))]
+pub(crate) fn left_of(op: BinaryOp) -> Nonterminal
+    ensures { result ≡ left_nonterminal op }
+{
     match op {
         BinaryOp::Exp => Nonterminal::UpdateExpression,
         BinaryOp::NullishCoalescing => Nonterminal::CoalesceExpressionHead,
+        BinaryOp::In => Nonterminal::InLeft,
         _ => of_operator(op),
     }
 }
 
 /// What stands right of an operator: what binds more strongly, save behind `**`.
-pub(crate) fn right_of(op: BinaryOp) -> Nonterminal {
-    match of_operator(op) {
-        Nonterminal::MultiplicativeExpression => Nonterminal::ExponentiationExpression,
-        Nonterminal::AdditiveExpression => Nonterminal::MultiplicativeExpression,
-        Nonterminal::ShiftExpression => Nonterminal::AdditiveExpression,
-        Nonterminal::RelationalExpression => Nonterminal::ShiftExpression,
-        Nonterminal::EqualityExpression => Nonterminal::RelationalExpression,
-        Nonterminal::BitwiseAndExpression => Nonterminal::EqualityExpression,
-        Nonterminal::BitwiseXorExpression => Nonterminal::BitwiseAndExpression,
-        Nonterminal::BitwiseOrExpression => Nonterminal::BitwiseXorExpression,
-        Nonterminal::LogicalAndExpression | Nonterminal::CoalesceExpression =>
-            Nonterminal::BitwiseOrExpression,
-        Nonterminal::LogicalOrExpression => Nonterminal::LogicalAndExpression,
-        other => other,
+#[tactic(auto, unfolding(swc_ecma_codegen_syntax::specs::ExprForms::right_nonterminal))]
+pub(crate) fn right_of(op: BinaryOp) -> Nonterminal
+    ensures { result ≡ right_nonterminal op }
+{
+    match op {
+        BinaryOp::Exp | BinaryOp::Mul | BinaryOp::Div | BinaryOp::Mod =>
+            Nonterminal::ExponentiationExpression,
+        BinaryOp::Add | BinaryOp::Sub => Nonterminal::MultiplicativeExpression,
+        BinaryOp::LShift | BinaryOp::RShift | BinaryOp::ZeroFillRShift =>
+            Nonterminal::AdditiveExpression,
+        BinaryOp::Lt
+        | BinaryOp::Gt
+        | BinaryOp::LtEq
+        | BinaryOp::GtEq
+        | BinaryOp::InstanceOf
+        | BinaryOp::In => Nonterminal::ShiftExpression,
+        BinaryOp::EqEq | BinaryOp::NotEq | BinaryOp::EqEqEq | BinaryOp::NotEqEq =>
+            Nonterminal::RelationalExpression,
+        BinaryOp::BitAnd => Nonterminal::EqualityExpression,
+        BinaryOp::BitXor => Nonterminal::BitwiseAndExpression,
+        BinaryOp::BitOr => Nonterminal::BitwiseXorExpression,
+        BinaryOp::LogicalAnd | BinaryOp::NullishCoalescing => Nonterminal::BitwiseOrExpression,
+        BinaryOp::LogicalOr => Nonterminal::LogicalAndExpression,
     }
 }

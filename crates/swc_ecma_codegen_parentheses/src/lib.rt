@@ -18,6 +18,7 @@ mod members;
 mod mends;
 mod modules;
 mod objects;
+mod operands;
 mod operators;
 mod pats;
 mod places;
@@ -27,6 +28,7 @@ mod stmts;
 mod taken;
 mod ts_decls;
 mod ts_exprs;
+mod within;
 
 pub use crate::bare_roots::{
     NotBare, without_parentheses, without_parentheses_expr, without_parentheses_item,

@@ -2,7 +2,7 @@
 
 ghost use Rattle.swc_ecma_codegen_parentheses.specs.SameStmts.{same_while_stmt, same_do_while_stmt, same_var_decl_or_expr, same_for_stmt, same_for_head, same_for_in_stmt, same_for_of_stmt};
 
-use crate::mends::{Mend, Mends, Stop};
+use crate::mends::{Mend, Mends, Stop, Usage, mend_bracketed, mend_optional};
 use crate::places::Place;
 use std::alloc::Global;
 use swc_ecma_codegen_grammar::roles::Role;
@@ -33,8 +33,13 @@ impl<N: Answers, M: Mends<N>> Mend<N, M> for WhileStmt<N> {
 
     #[tactic(auto, unfolding(crate::specs::SameStmts::same_while_stmt))]
     fn mend(&mut self, mender: &M, alloc: Global, place: Place) -> Result<(), Stop> {
-        self.test
-            .mend(mender, alloc, place.bracketed(Nonterminal::Expression))?;
+        mend_bracketed(
+            mender,
+            alloc,
+            &mut self.test,
+            place,
+            Nonterminal::Expression,
+        )?;
         self.body.mend(mender, alloc, place)
     }
 }
@@ -45,8 +50,13 @@ impl<N: Answers, M: Mends<N>> Mend<N, M> for DoWhileStmt<N> {
     #[tactic(auto, unfolding(crate::specs::SameStmts::same_do_while_stmt))]
     fn mend(&mut self, mender: &M, alloc: Global, place: Place) -> Result<(), Stop> {
         self.body.mend(mender, alloc, place.listed())?;
-        self.test
-            .mend(mender, alloc, place.bracketed(Nonterminal::Expression))
+        mend_bracketed(
+            mender,
+            alloc,
+            &mut self.test,
+            place,
+            Nonterminal::Expression,
+        )
     }
 }
 
@@ -60,7 +70,7 @@ impl<N: Answers, M: Mends<N>> Mend<N, M> for VarDeclOrExpr<N> {
             VarDeclOrExpr::Expr(node) => {
                 let begins = node.target().begins(Role::Expression);
                 let init = place.without_in().restricted(Lookahead::ForStart, begins);
-                node.mend(mender, alloc, init)
+                mender.expr(alloc, node, init, Usage::in_for_head())
             }
         }
     }
@@ -72,10 +82,20 @@ impl<N: Answers, M: Mends<N>> Mend<N, M> for ForStmt<N> {
     #[tactic(auto, unfolding(crate::specs::SameStmts::same_for_stmt))]
     fn mend(&mut self, mender: &M, alloc: Global, place: Place) -> Result<(), Stop> {
         self.init.mend(mender, alloc, place)?;
-        self.test
-            .mend(mender, alloc, place.bracketed(Nonterminal::Expression))?;
-        self.update
-            .mend(mender, alloc, place.bracketed(Nonterminal::Expression))?;
+        mend_optional(
+            mender,
+            alloc,
+            &mut self.test,
+            place,
+            Nonterminal::Expression,
+        )?;
+        mend_optional(
+            mender,
+            alloc,
+            &mut self.update,
+            place,
+            Nonterminal::Expression,
+        )?;
         self.body.mend(mender, alloc, place)
     }
 }
@@ -103,8 +123,13 @@ impl<N: Answers, M: Mends<N>> Mend<N, M> for ForInStmt<N> {
     fn mend(&mut self, mender: &M, alloc: Global, place: Place) -> Result<(), Stop> {
         let head = place.restricted(Lookahead::ForStart, head_begins(&self.left));
         self.left.mend(mender, alloc, head)?;
-        let right = place.bracketed(Nonterminal::Expression);
-        self.right.mend(mender, alloc, right)?;
+        mend_bracketed(
+            mender,
+            alloc,
+            &mut self.right,
+            place,
+            Nonterminal::Expression,
+        )?;
         self.body.mend(mender, alloc, place)
     }
 }
@@ -116,8 +141,8 @@ impl<N: Answers, M: Mends<N>> Mend<N, M> for ForOfStmt<N> {
     fn mend(&mut self, mender: &M, alloc: Global, place: Place) -> Result<(), Stop> {
         let head = place.restricted(of_start(self.is_await), head_begins(&self.left));
         self.left.mend(mender, alloc, head)?;
-        let right = place.bracketed(Nonterminal::AssignmentExpression);
-        self.right.mend(mender, alloc, right)?;
+        let nonterminal = Nonterminal::AssignmentExpression;
+        mend_bracketed(mender, alloc, &mut self.right, place, nonterminal)?;
         self.body.mend(mender, alloc, place)
     }
 }

@@ -1,8 +1,12 @@
 //! Members, calls and `new`, arrays and templates.
 
-ghost use Rattle.swc_ecma_codegen_parentheses.specs.SameExprs.{same_member_prop, same_member_expr, same_super_prop, same_super_prop_expr, same_expr_or_spread, same_array_lit, same_callee, same_call_expr, same_new_expr, same_opt_chain_base, same_opt_chain_expr, same_opt_call, same_tagged_tpl, same_tpl};
+ghost use Rattle.std.specs.Prelude.{◌≡◌};
+ghost use Rattle.std.specs.Result.{OnOk};
+ghost use Rattle.swc_ecma_codegen_parentheses.specs.SameExprs.{new_operand, object_operand, same_member_prop, same_member_expr, same_super_prop, same_super_prop_expr, same_expr_or_spread, same_array_lit, same_callee, same_call_expr, same_new_expr, same_opt_chain_base, same_opt_chain_expr, same_opt_call, same_tagged_tpl, same_tpl};
 
-use crate::mends::{Mend, Mends, Stop};
+use crate::mends::{Mend, Mends, Stop, Usage, mend_bracketed, mend_each};
+use crate::objects::mend_computed;
+use crate::operands::Operand;
 use crate::places::Place;
 use std::alloc::Global;
 use swc_ecma_codegen_syntax::{Answers, Nonterminal};
@@ -29,9 +33,32 @@ fn called_by_new<N>(args: &Option<Vec<ExprOrSpread<N>>>, place: Place) -> Place 
         Nonterminal::MemberExpression
     };
     if may_be_bare {
-        place.to_end(nonterminal)
+        place.to_end(nonterminal).called_by_new(!is_bare)
     } else {
         place.bracketed(nonterminal)
+    }
+}
+
+/// Which operand is called by `new`, with arguments or without.
+#[tactic(auto, unfolding(crate::specs::SameExprs::new_operand, crate::specs::SameExprs::called_with))]
+fn new_operand<A>(args: &Option<Vec<A>>) -> Operand
+    ensures { result ≡ new_operand args.now }
+{
+    match args {
+        None => Operand::New,
+        Some(args) if args.is_empty() => Operand::NewEmpty,
+        Some(_) => Operand::NewCalled,
+    }
+}
+
+/// Which operand the object of a property is.
+#[tactic(auto, unfolding(crate::specs::SameExprs::object_operand))]
+fn object_operand<N>(prop: &MemberProp<N>) -> Operand
+    ensures { result ≡ object_operand prop.now }
+{
+    match prop {
+        MemberProp::Computed(_) => Operand::Indexed,
+        _ => Operand::Called,
     }
 }
 
@@ -50,10 +77,13 @@ impl<N: Answers, M: Mends<N>> Mend<N, M> for MemberProp<N> {
     #[tactic(auto, unfolding(crate::specs::SameExprs::same_member_prop))]
     fn mend(&mut self, mender: &M, alloc: Global, place: Place) -> Result<(), Stop> {
         match self {
-            MemberProp::Computed(node) => {
-                let within = place.bracketed(Nonterminal::Expression);
-                node.mend(mender, alloc, within)
-            }
+            MemberProp::Computed(node) => mend_computed(
+                mender,
+                alloc,
+                node,
+                place,
+                Nonterminal::Expression,
+            ),
             _ => Ok(()),
         }
     }
@@ -65,7 +95,8 @@ impl<N: Answers, M: Mends<N>> Mend<N, M> for MemberExpr<N> {
     #[tactic(auto, unfolding(crate::specs::SameExprs::same_member_expr))]
     fn mend(&mut self, mender: &M, alloc: Global, place: Place) -> Result<(), Stop> {
         let object = place.bracketed(place.nonterminal).callee().beginning(place);
-        self.obj.mend(mender, alloc, object)?;
+        let usage = Usage::Operand(object_operand(&self.prop));
+        mender.expr(alloc, &mut self.obj, object, usage)?;
         self.prop.mend(mender, alloc, place)
     }
 }
@@ -76,10 +107,13 @@ impl<N: Answers, M: Mends<N>> Mend<N, M> for SuperProp<N> {
     #[tactic(auto, unfolding(crate::specs::SameExprs::same_super_prop))]
     fn mend(&mut self, mender: &M, alloc: Global, place: Place) -> Result<(), Stop> {
         match self {
-            SuperProp::Computed(node) => {
-                let within = place.bracketed(Nonterminal::Expression);
-                node.mend(mender, alloc, within)
-            }
+            SuperProp::Computed(node) => mend_computed(
+                mender,
+                alloc,
+                node,
+                place,
+                Nonterminal::Expression,
+            ),
             _ => Ok(()),
         }
     }
@@ -99,11 +133,8 @@ impl<N: Answers, M: Mends<N>> Mend<N, M> for ExprOrSpread<N> {
 
     #[tactic(auto, unfolding(crate::specs::SameExprs::same_expr_or_spread))]
     fn mend(&mut self, mender: &M, alloc: Global, place: Place) -> Result<(), Stop> {
-        self.expr.mend(
-            mender,
-            alloc,
-            place.bracketed(Nonterminal::AssignmentExpression),
-        )
+        let nonterminal = Nonterminal::AssignmentExpression;
+        mend_bracketed(mender, alloc, &mut self.expr, place, nonterminal)
     }
 }
 
@@ -127,7 +158,7 @@ impl<N: Answers, M: Mends<N>> Mend<N, M> for Callee<N> {
                     .bracketed(Nonterminal::CallOrMember)
                     .callee()
                     .beginning(place);
-                node.mend(mender, alloc, within)
+                mender.expr(alloc, node, within, Usage::Operand(Operand::Called))
             }
             _ => Ok(()),
         }
@@ -150,20 +181,27 @@ impl<N: Answers, M: Mends<N>> Mend<N, M> for NewExpr<N> {
     #[tactic(auto, unfolding(crate::specs::SameExprs::same_new_expr))]
     fn mend(&mut self, mender: &M, alloc: Global, place: Place) -> Result<(), Stop> {
         let callee = called_by_new(&self.args, place);
-        self.callee.mend(mender, alloc, callee)?;
+        let usage = Usage::Operand(new_operand(&self.args));
+        mender.expr(alloc, &mut self.callee, callee, usage)?;
         self.args.mend(mender, alloc, place)
     }
 }
 
-impl<N: Answers, M: Mends<N>> Mend<N, M> for OptChainBase<N> {
-    ghost same = { same_opt_chain_base };
-
-    #[tactic(auto, unfolding(crate::specs::SameExprs::same_opt_chain_base))]
-    fn mend(&mut self, mender: &M, alloc: Global, place: Place) -> Result<(), Stop> {
-        match self {
-            OptChainBase::Member(node) => node.mend(mender, alloc, place),
-            OptChainBase::Call(node) => node.mend(mender, alloc, place),
-        }
+/// Goes on to a link of a chain, with `?.` or without.
+#[tactic(auto, unfolding(crate::specs::SameExprs::same_opt_chain_base))]
+fn mend_chain_base<N, M: Mends<N>>(
+    mender: &M,
+    alloc: Global,
+    base: &mut OptChainBase<N>,
+    place: Place,
+    optional: bool,
+) -> Result<(), Stop>
+    ensures { OnOk result (same_opt_chain_base optional (M.mended mender.now) base.old base.new) }
+{
+    let usage = Usage::Operand(Operand::Chain(optional));
+    match base {
+        OptChainBase::Member(link) => mender.member_expr(alloc, link, place, usage),
+        OptChainBase::Call(link) => mender.opt_call(alloc, link, place, usage),
     }
 }
 
@@ -173,7 +211,7 @@ impl<N: Answers, M: Mends<N>> Mend<N, M> for OptChainExpr<N> {
     #[tactic(auto, unfolding(crate::specs::SameExprs::same_opt_chain_expr))]
     fn mend(&mut self, mender: &M, alloc: Global, place: Place) -> Result<(), Stop> {
         let base = place.bracketed(chained(self.optional)).beginning(place);
-        self.base.mend(mender, alloc, base)
+        mend_chain_base(mender, alloc, &mut self.base, base, self.optional)
     }
 }
 
@@ -183,7 +221,8 @@ impl<N: Answers, M: Mends<N>> Mend<N, M> for OptCall<N> {
     #[tactic(auto, unfolding(crate::specs::SameExprs::same_opt_call))]
     fn mend(&mut self, mender: &M, alloc: Global, place: Place) -> Result<(), Stop> {
         let callee = place.bracketed(place.nonterminal).callee().beginning(place);
-        self.callee.mend(mender, alloc, callee)?;
+        let usage = Usage::Operand(Operand::Called);
+        mender.expr(alloc, &mut self.callee, callee, usage)?;
         self.args.mend(mender, alloc, place)
     }
 }
@@ -194,7 +233,8 @@ impl<N: Answers, M: Mends<N>> Mend<N, M> for TaggedTpl<N> {
     #[tactic(auto, unfolding(crate::specs::SameExprs::same_tagged_tpl))]
     fn mend(&mut self, mender: &M, alloc: Global, place: Place) -> Result<(), Stop> {
         let tag = place.bracketed(Nonterminal::CallOrMember).callee();
-        self.tag.mend(mender, alloc, tag.beginning(place))?;
+        let tag = tag.beginning(place);
+        mender.expr(alloc, &mut self.tag, tag, Usage::Operand(Operand::Called))?;
         self.tpl.mend(mender, alloc, place)
     }
 }
@@ -204,7 +244,8 @@ impl<N: Answers, M: Mends<N>> Mend<N, M> for Tpl<N> {
 
     #[tactic(auto, unfolding(crate::specs::SameExprs::same_tpl))]
     fn mend(&mut self, mender: &M, alloc: Global, place: Place) -> Result<(), Stop> {
-        self.exprs
-            .mend(mender, alloc, place.bracketed(Nonterminal::Expression))
+        let usage = Usage::in_brackets(Nonterminal::Expression);
+        let each = place.bracketed(Nonterminal::Expression);
+        mend_each(mender, alloc, &mut self.exprs, each, usage)
     }
 }

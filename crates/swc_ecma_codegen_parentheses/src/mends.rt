@@ -3,10 +3,12 @@
 ghost use Rattle.std.specs.Prelude.{◌≡◌};
 ghost use Rattle.std.specs.Result.{OnOk};
 ghost use Rattle.swc_ecma_codegen_parentheses.specs.declared.mends.Usage.{Usage};
-ghost use Rattle.swc_ecma_codegen_parentheses.specs.Lists.{Pairwise, linked, linked_as, optionally};
+ghost use Rattle.swc_ecma_codegen_parentheses.specs.Lists.{Pairwise, bracketed, linked, linked_as, optionally};
 
+use crate::operands::{Context, Operand};
 use crate::places::Place;
 use std::alloc::{AllocError, Global};
+use swc_ecma_codegen_syntax::Nonterminal;
 use swc_ecma_codegen_tree::{
     AssignTargetBox, BlockStmtBox, ClassBox, ClassMemberBox, DeclBox, ExprBox, FunctionBox,
     JSXElementBox, JSXFragmentBox, MemberExprBox, ModuleDeclBox, OptCallBox, PatBox, PropNameBox,
@@ -21,6 +23,8 @@ pub(crate) enum Stop {
     TooDeep,
     /// A link holds no node of its sort.
     Stray,
+    /// A pair of parentheses was put in that could be left out.
+    Needless,
 }
 
 /// How the expression is used that a link holds.
@@ -32,6 +36,16 @@ pub(crate) enum Usage {
     Statement,
     /// It is assigned to, as `a` in `[a] = b`.
     Target,
+    /// It is an operand of the node that has the link.
+    Operand(Operand),
+    /// The same, where this nonterminal stands in this context.
+    Part(Nonterminal, Context),
+    /// It is called, or has a property, where this nonterminal stands in this context, with `[` right behind it or not.
+    Called(Nonterminal, bool, Context),
+    /// It is called by `new`, where this nonterminal stands in this context.
+    CalledByNew(Nonterminal, Context),
+    /// It is a link of a chain, or what is assigned to, and no expression. What stands in it stands in this context.
+    Link(Context),
 }
 
 impl From<AllocError> for Stop {
@@ -68,19 +82,27 @@ pub(crate) trait Mends<N>: Sized {
         alloc: Global,
         link: &mut MemberExprBox<N>,
         place: Place,
+        usage: Usage,
     ) -> Result<(), Stop>
-        ensures { OnOk result (linked (mended self.now) link.old link.new) };
+        ensures { OnOk result (linked_as usage (mended self.now) link.old link.new) };
 
-    fn opt_call(&self, alloc: Global, link: &mut OptCallBox<N>, place: Place) -> Result<(), Stop>
-        ensures { OnOk result (linked (mended self.now) link.old link.new) };
+    fn opt_call(
+        &self,
+        alloc: Global,
+        link: &mut OptCallBox<N>,
+        place: Place,
+        usage: Usage,
+    ) -> Result<(), Stop>
+        ensures { OnOk result (linked_as usage (mended self.now) link.old link.new) };
 
     fn assign_target(
         &self,
         alloc: Global,
         link: &mut AssignTargetBox<N>,
         place: Place,
+        usage: Usage,
     ) -> Result<(), Stop>
-        ensures { OnOk result (linked (mended self.now) link.old link.new) };
+        ensures { OnOk result (linked_as usage (mended self.now) link.old link.new) };
 
     fn stmt(&self, alloc: Global, link: &mut StmtBox<N>, place: Place) -> Result<(), Stop>
         ensures { OnOk result (linked (mended self.now) link.old link.new) };
@@ -181,6 +203,76 @@ impl<T: Mend<N, M>, N, M: Mends<N>> Mend<N, M> for Vec<T> {
     }
 }
 
+/// Goes on to the expression of a link that stands in brackets.
+#[tactic(auto, unfolding(crate::specs::Lists::linked_as))]
+pub(crate) fn mend_bracketed<N, M: Mends<N>>(
+    mender: &M,
+    alloc: Global,
+    link: &mut ExprBox<N>,
+    place: Place,
+    nonterminal: Nonterminal,
+) -> Result<(), Stop>
+    ensures { OnOk result (bracketed nonterminal (M.mended mender.now) link.old link.new) }
+{
+    let usage = Usage::in_brackets(nonterminal);
+    mender.expr(alloc, link, place.bracketed(nonterminal), usage)
+}
+
+/// The same where there may be none.
+#[tactic(auto, unfolding(crate::specs::Lists::optionally))]
+pub(crate) fn mend_optional<N, M: Mends<N>>(
+    mender: &M,
+    alloc: Global,
+    link: &mut Option<ExprBox<N>>,
+    place: Place,
+    nonterminal: Nonterminal,
+) -> Result<(), Stop>
+    ensures { OnOk result
+        (optionally (bracketed nonterminal (M.mended mender.now)) link.old link.new) }
+{
+    match link {
+        Some(link) => mend_bracketed(mender, alloc, link, place, nonterminal),
+        None => Ok(()),
+    }
+}
+
+/// Goes on to the expression of a link that may be there.
+#[tactic(auto, unfolding(crate::specs::Lists::optionally))]
+pub(crate) fn mend_if_any<N, M: Mends<N>>(
+    mender: &M,
+    alloc: Global,
+    link: &mut Option<ExprBox<N>>,
+    place: Place,
+    usage: Usage,
+) -> Result<(), Stop>
+    ensures { OnOk result
+        (optionally (linked_as usage (M.mended mender.now)) link.old link.new) }
+{
+    match link {
+        Some(link) => mender.expr(alloc, link, place, usage),
+        None => Ok(()),
+    }
+}
+
+/// Goes on to each expression of a list. Only the first begins what the list stands in.
+pub(crate) fn mend_each<N, M: Mends<N>>(
+    mender: &M,
+    alloc: Global,
+    links: &mut Vec<ExprBox<N>>,
+    place: Place,
+    usage: Usage,
+) -> Result<(), Stop>
+    ensures { OnOk result
+        (Pairwise (linked_as usage (M.mended mender.now)) links.old.items links.new.items) }
+{
+    let mut each = place;
+    for link in links.iter_mut() {
+        mender.expr(alloc, link, each, usage)?;
+        each = each.behind_first();
+    }
+    Ok(())
+}
+
 impl<N, M: Mends<N>> Mend<N, M> for ExprBox<N> {
     ghost same = { linked };
 
@@ -210,30 +302,6 @@ impl<N, M: Mends<N>> Mend<N, M> for PropNameBox<N> {
 
     fn mend(&mut self, mender: &M, alloc: Global, place: Place) -> Result<(), Stop> {
         mender.prop_name(alloc, self, place)
-    }
-}
-
-impl<N, M: Mends<N>> Mend<N, M> for MemberExprBox<N> {
-    ghost same = { linked };
-
-    fn mend(&mut self, mender: &M, alloc: Global, place: Place) -> Result<(), Stop> {
-        mender.member_expr(alloc, self, place)
-    }
-}
-
-impl<N, M: Mends<N>> Mend<N, M> for OptCallBox<N> {
-    ghost same = { linked };
-
-    fn mend(&mut self, mender: &M, alloc: Global, place: Place) -> Result<(), Stop> {
-        mender.opt_call(alloc, self, place)
-    }
-}
-
-impl<N, M: Mends<N>> Mend<N, M> for AssignTargetBox<N> {
-    ghost same = { linked };
-
-    fn mend(&mut self, mender: &M, alloc: Global, place: Place) -> Result<(), Stop> {
-        mender.assign_target(alloc, self, place)
     }
 }
 

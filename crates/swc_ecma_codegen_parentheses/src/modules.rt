@@ -2,7 +2,7 @@
 
 ghost use Rattle.swc_ecma_codegen_parentheses.specs.SameModules.{same_export_decl, same_default_decl, same_export_default_decl, same_export_default_expr, same_module_item, same_module, same_script, same_program, same_module_decl};
 
-use crate::mends::{Mend, Mends, Stop};
+use crate::mends::{Mend, Mends, Stop, Usage};
 use crate::places::Place;
 use std::alloc::Global;
 use swc_ecma_codegen_grammar::roles::Role;
@@ -51,7 +51,8 @@ impl<N: Answers, M: Mends<N>> Mend<N, M> for ExportDefaultExpr<N> {
         let begins = self.expr.target().begins(Role::Expression);
         let whole = place.bracketed(Nonterminal::AssignmentExpression);
         let whole = whole.restricted(Lookahead::DefaultStart, begins);
-        self.expr.mend(mender, alloc, whole)
+        let usage = Usage::under(Lookahead::DefaultStart, Nonterminal::AssignmentExpression);
+        mender.expr(alloc, &mut self.expr, whole, usage)
     }
 }
 

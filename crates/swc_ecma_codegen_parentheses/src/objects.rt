@@ -1,8 +1,9 @@
 //! Objects and the names of properties.
 
+ghost use Rattle.std.specs.Result.{OnOk};
 ghost use Rattle.swc_ecma_codegen_parentheses.specs.SameObjects.{same_spread_element, same_computed_prop_name, same_prop_name, same_key_value_prop, same_assign_prop, same_getter_prop, same_setter_prop, same_method_prop, same_prop, same_prop_or_spread, same_object_lit};
 
-use crate::mends::{Mend, Mends, Stop};
+use crate::mends::{Mend, Mends, Stop, mend_bracketed};
 use crate::places::Place;
 use std::alloc::Global;
 use swc_ecma_codegen_syntax::{Answers, Nonterminal};
@@ -16,22 +17,24 @@ impl<N: Answers, M: Mends<N>> Mend<N, M> for SpreadElement<N> {
 
     #[tactic(auto, unfolding(crate::specs::SameObjects::same_spread_element))]
     fn mend(&mut self, mender: &M, alloc: Global, place: Place) -> Result<(), Stop> {
-        self.expr.mend(
-            mender,
-            alloc,
-            place.bracketed(Nonterminal::AssignmentExpression),
-        )
+        let nonterminal = Nonterminal::AssignmentExpression;
+        mend_bracketed(mender, alloc, &mut self.expr, place, nonterminal)
     }
 }
 
-impl<N: Answers, M: Mends<N>> Mend<N, M> for ComputedPropName<N> {
-    ghost same = { same_computed_prop_name };
-
-    #[tactic(auto, unfolding(crate::specs::SameObjects::same_computed_prop_name))]
-    fn mend(&mut self, mender: &M, alloc: Global, place: Place) -> Result<(), Stop> {
-        self.expr
-            .mend(mender, alloc, place.bracketed(place.nonterminal))
-    }
+/// Goes on to a name in brackets, where this nonterminal stands in them: `[a]` of `{ [a]: b }` and of `b[a]`.
+#[tactic(auto, unfolding(crate::specs::SameObjects::same_computed_prop_name))]
+pub(crate) fn mend_computed<N, M: Mends<N>>(
+    mender: &M,
+    alloc: Global,
+    name: &mut ComputedPropName<N>,
+    place: Place,
+    nonterminal: Nonterminal,
+) -> Result<(), Stop>
+    ensures { OnOk result
+        (same_computed_prop_name nonterminal (M.mended mender.now) name.old name.new) }
+{
+    mend_bracketed(mender, alloc, &mut name.expr, place, nonterminal)
 }
 
 impl<N: Answers, M: Mends<N>> Mend<N, M> for PropName<N> {
@@ -40,10 +43,13 @@ impl<N: Answers, M: Mends<N>> Mend<N, M> for PropName<N> {
     #[tactic(auto, unfolding(crate::specs::SameObjects::same_prop_name))]
     fn mend(&mut self, mender: &M, alloc: Global, place: Place) -> Result<(), Stop> {
         match self {
-            PropName::Computed(node) => {
-                let within = place.bracketed(Nonterminal::AssignmentExpression);
-                node.mend(mender, alloc, within)
-            }
+            PropName::Computed(node) => mend_computed(
+                mender,
+                alloc,
+                node,
+                place,
+                Nonterminal::AssignmentExpression,
+            ),
             _ => Ok(()),
         }
     }
@@ -55,11 +61,8 @@ impl<N: Answers, M: Mends<N>> Mend<N, M> for KeyValueProp<N> {
     #[tactic(auto, unfolding(crate::specs::SameObjects::same_key_value_prop))]
     fn mend(&mut self, mender: &M, alloc: Global, place: Place) -> Result<(), Stop> {
         self.key.mend(mender, alloc, place)?;
-        self.value.mend(
-            mender,
-            alloc,
-            place.bracketed(Nonterminal::AssignmentExpression),
-        )
+        let nonterminal = Nonterminal::AssignmentExpression;
+        mend_bracketed(mender, alloc, &mut self.value, place, nonterminal)
     }
 }
 
@@ -68,11 +71,8 @@ impl<N: Answers, M: Mends<N>> Mend<N, M> for AssignProp<N> {
 
     #[tactic(auto, unfolding(crate::specs::SameObjects::same_assign_prop))]
     fn mend(&mut self, mender: &M, alloc: Global, place: Place) -> Result<(), Stop> {
-        self.value.mend(
-            mender,
-            alloc,
-            place.bracketed(Nonterminal::AssignmentExpression),
-        )
+        let nonterminal = Nonterminal::AssignmentExpression;
+        mend_bracketed(mender, alloc, &mut self.value, place, nonterminal)
     }
 }
 

@@ -3,7 +3,8 @@
 ghost use Rattle.swc_ecma_codegen_parentheses.specs.SameExprs.{same_unary_expr, same_update_expr, same_bin_expr, same_assign_expr, same_cond_expr, same_seq_expr, same_yield_expr, same_await_expr, same_paren_expr};
 
 use crate::levels::{left_of, right_of};
-use crate::mends::{Mend, Mends, Stop};
+use crate::mends::{Mend, Mends, Stop, Usage, mend_each, mend_if_any};
+use crate::operands::Operand;
 use crate::places::Place;
 use std::alloc::Global;
 use swc_ecma_codegen_syntax::{Answers, Nonterminal};
@@ -16,8 +17,8 @@ impl<N: Answers, M: Mends<N>> Mend<N, M> for UnaryExpr<N> {
 
     #[tactic(auto, unfolding(crate::specs::SameExprs::same_unary_expr))]
     fn mend(&mut self, mender: &M, alloc: Global, place: Place) -> Result<(), Stop> {
-        self.arg
-            .mend(mender, alloc, place.to_end(Nonterminal::UnaryExpression))
+        let place = place.to_end(Nonterminal::UnaryExpression);
+        mender.expr(alloc, &mut self.arg, place, Usage::Operand(Operand::Unary))
     }
 }
 
@@ -28,10 +29,16 @@ impl<N: Answers, M: Mends<N>> Mend<N, M> for UpdateExpr<N> {
     fn mend(&mut self, mender: &M, alloc: Global, place: Place) -> Result<(), Stop> {
         if self.prefix {
             let place = place.bracketed(Nonterminal::UnaryExpression);
-            self.arg.mend(mender, alloc, place)
+            mender.expr(alloc, &mut self.arg, place, Usage::Operand(Operand::Prefix))
         } else {
             let within = place.bracketed(Nonterminal::LeftHandSideExpression);
-            self.arg.mend(mender, alloc, within.beginning(place))
+            let place = within.beginning(place);
+            mender.expr(
+                alloc,
+                &mut self.arg,
+                place,
+                Usage::Operand(Operand::Postfix),
+            )
         }
     }
 }
@@ -45,9 +52,19 @@ impl<N: Answers, M: Mends<N>> Mend<N, M> for BinExpr<N> {
             .here(left_of(self.op))
             .before_operator(self.op)
             .beginning(place);
-        self.left.mend(mender, alloc, left)?;
+        mender.expr(
+            alloc,
+            &mut self.left,
+            left,
+            Usage::Operand(Operand::Left(self.op)),
+        )?;
         let right = place.here(right_of(self.op));
-        self.right.mend(mender, alloc, right)
+        mender.expr(
+            alloc,
+            &mut self.right,
+            right,
+            Usage::Operand(Operand::Right(self.op)),
+        )
     }
 }
 
@@ -59,9 +76,10 @@ impl<N: Answers, M: Mends<N>> Mend<N, M> for AssignExpr<N> {
         let target = place
             .bracketed(Nonterminal::AssignmentTarget)
             .beginning(place);
-        self.left.mend(mender, alloc, target)?;
+        let usage = Usage::Operand(Operand::Assigned);
+        mender.assign_target(alloc, &mut self.left, target, usage)?;
         let value = place.here(Nonterminal::AssignmentExpression);
-        self.right.mend(mender, alloc, value)
+        mender.expr(alloc, &mut self.right, value, Usage::Operand(Operand::Last))
     }
 }
 
@@ -71,11 +89,12 @@ impl<N: Answers, M: Mends<N>> Mend<N, M> for CondExpr<N> {
     #[tactic(auto, unfolding(crate::specs::SameExprs::same_cond_expr))]
     fn mend(&mut self, mender: &M, alloc: Global, place: Place) -> Result<(), Stop> {
         let test = place.here(Nonterminal::ShortCircuitExpression);
-        self.test.mend(mender, alloc, test.beginning(place))?;
+        let test = test.beginning(place);
+        mender.expr(alloc, &mut self.test, test, Usage::Operand(Operand::Test))?;
         let cons = place.bracketed(Nonterminal::AssignmentExpression);
-        self.cons.mend(mender, alloc, cons)?;
+        mender.expr(alloc, &mut self.cons, cons, Usage::Operand(Operand::Branch))?;
         let alt = place.here(Nonterminal::AssignmentExpression);
-        self.alt.mend(mender, alloc, alt)
+        mender.expr(alloc, &mut self.alt, alt, Usage::Operand(Operand::Last))
     }
 }
 
@@ -85,7 +104,14 @@ impl<N: Answers, M: Mends<N>> Mend<N, M> for SeqExpr<N> {
     #[tactic(auto, unfolding(crate::specs::SameExprs::same_seq_expr))]
     fn mend(&mut self, mender: &M, alloc: Global, place: Place) -> Result<(), Stop> {
         let each = place.here(Nonterminal::AssignmentExpression);
-        self.exprs.mend(mender, alloc, each.beginning(place))
+        let each = each.beginning(place);
+        mend_each(
+            mender,
+            alloc,
+            &mut self.exprs,
+            each,
+            Usage::Operand(Operand::Each),
+        )
     }
 }
 
@@ -94,7 +120,14 @@ impl<N: Answers, M: Mends<N>> Mend<N, M> for YieldExpr<N> {
 
     #[tactic(auto, unfolding(crate::specs::SameExprs::same_yield_expr))]
     fn mend(&mut self, mender: &M, alloc: Global, place: Place) -> Result<(), Stop> {
-        self.arg.mend(mender, alloc, place.here(Nonterminal::AssignmentExpression))
+        let place = place.here(Nonterminal::AssignmentExpression);
+        mend_if_any(
+            mender,
+            alloc,
+            &mut self.arg,
+            place,
+            Usage::Operand(Operand::Last),
+        )
     }
 }
 
@@ -103,8 +136,8 @@ impl<N: Answers, M: Mends<N>> Mend<N, M> for AwaitExpr<N> {
 
     #[tactic(auto, unfolding(crate::specs::SameExprs::same_await_expr))]
     fn mend(&mut self, mender: &M, alloc: Global, place: Place) -> Result<(), Stop> {
-        self.arg
-            .mend(mender, alloc, place.to_end(Nonterminal::UnaryExpression))
+        let place = place.to_end(Nonterminal::UnaryExpression);
+        mender.expr(alloc, &mut self.arg, place, Usage::Operand(Operand::Unary))
     }
 }
 
@@ -113,7 +146,12 @@ impl<N: Answers, M: Mends<N>> Mend<N, M> for ParenExpr<N> {
 
     #[tactic(auto, unfolding(crate::specs::SameExprs::same_paren_expr))]
     fn mend(&mut self, mender: &M, alloc: Global, place: Place) -> Result<(), Stop> {
-        self.expr
-            .mend(mender, alloc, place.bracketed(Nonterminal::Expression))
+        let place = place.bracketed(Nonterminal::Expression);
+        mender.expr(
+            alloc,
+            &mut self.expr,
+            place,
+            Usage::Operand(Operand::Inside),
+        )
     }
 }

@@ -2,7 +2,7 @@
 
 ghost use Rattle.swc_ecma_codegen_parentheses.specs.SamePats.{same_array_pat, same_rest_pat, same_key_value_pat_prop, same_assign_pat_prop, same_object_pat_prop, same_object_pat, same_assign_pat, same_pat, same_simple_assign_target, same_assign_target_pat, same_assign_target};
 
-use crate::mends::{Mend, Mends, Stop, Usage};
+use crate::mends::{Mend, Mends, Stop, Usage, mend_bracketed, mend_optional};
 use crate::places::Place;
 use std::alloc::Global;
 use swc_ecma_codegen_syntax::{Answers, Nonterminal};
@@ -44,11 +44,8 @@ impl<N: Answers, M: Mends<N>> Mend<N, M> for AssignPatProp<N> {
 
     #[tactic(auto, unfolding(crate::specs::SamePats::same_assign_pat_prop))]
     fn mend(&mut self, mender: &M, alloc: Global, place: Place) -> Result<(), Stop> {
-        self.value.mend(
-            mender,
-            alloc,
-            place.bracketed(Nonterminal::AssignmentExpression),
-        )
+        let nonterminal = Nonterminal::AssignmentExpression;
+        mend_optional(mender, alloc, &mut self.value, place, nonterminal)
     }
 }
 
@@ -80,11 +77,8 @@ impl<N: Answers, M: Mends<N>> Mend<N, M> for AssignPat<N> {
     #[tactic(auto, unfolding(crate::specs::SamePats::same_assign_pat))]
     fn mend(&mut self, mender: &M, alloc: Global, place: Place) -> Result<(), Stop> {
         self.left.mend(mender, alloc, place)?;
-        self.right.mend(
-            mender,
-            alloc,
-            place.bracketed(Nonterminal::AssignmentExpression),
-        )
+        let nonterminal = Nonterminal::AssignmentExpression;
+        mend_bracketed(mender, alloc, &mut self.right, place, nonterminal)
     }
 }
 

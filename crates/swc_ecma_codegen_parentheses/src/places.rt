@@ -22,6 +22,8 @@ pub(crate) struct Place {
     pub(crate) is_restricted: bool,
     /// The node is called, or has a property, so that `new A()` keeps its `()`.
     pub(crate) is_called: bool,
+    /// `new` calls it with `()`. Both `()` of `new new A()()` go where it is minified.
+    pub(crate) is_called_by_empty_new: bool,
     /// The emission may be one that minifies.
     pub(crate) may_minify: bool,
     /// It is one for sure.
@@ -40,6 +42,7 @@ impl Place {
             lookahead: None,
             is_restricted: false,
             is_called: false,
+            is_called_by_empty_new: false,
             may_minify: true,
             must_minify: false,
         }
@@ -56,8 +59,18 @@ impl Place {
             lookahead: None,
             is_restricted: false,
             is_called: false,
+            is_called_by_empty_new: false,
             may_minify: parameters.minify,
             must_minify: parameters.minify,
+        }
+    }
+
+    /// The parameters of an expression that stands there, as far as its parentheses depend on them.
+    pub(crate) fn parameters(self) -> Parameters {
+        Parameters {
+            has_in: self.has_in,
+            before_less: self.before_less,
+            ..Parameters::script()
         }
     }
 
@@ -68,6 +81,7 @@ impl Place {
             lookahead: None,
             is_restricted: false,
             is_called: false,
+            is_called_by_empty_new: false,
             ..self
         }
     }
@@ -110,6 +124,14 @@ impl Place {
     pub(crate) fn callee(self) -> Place {
         Place {
             is_called: true,
+            ..self
+        }
+    }
+
+    /// The same of what `new` calls with `()`, which go where it is minified, or with others.
+    pub(crate) fn called_by_new(self, empty: bool) -> Place {
+        Place {
+            is_called_by_empty_new: empty,
             ..self
         }
     }

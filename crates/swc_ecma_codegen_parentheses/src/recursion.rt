@@ -93,19 +93,28 @@ impl<N, C: Change<N>> Mends<N> for Levels<N, C> {
         alloc: Global,
         link: &mut MemberExprBox<N>,
         place: Place,
+        usage: Usage,
     ) -> Result<(), Stop> {
         match self {
             Levels::More(fewer) => change_member_expr::<N, C, Levels<N, C>>(
-                fewer, alloc, link, place,
+                fewer, alloc, link, place, usage,
             ),
             Levels::Out(_) => Err(Stop::TooDeep),
         }
     }
 
     #[cycle(mend)]
-    fn opt_call(&self, alloc: Global, link: &mut OptCallBox<N>, place: Place) -> Result<(), Stop> {
+    fn opt_call(
+        &self,
+        alloc: Global,
+        link: &mut OptCallBox<N>,
+        place: Place,
+        usage: Usage,
+    ) -> Result<(), Stop> {
         match self {
-            Levels::More(fewer) => change_opt_call::<N, C, Levels<N, C>>(fewer, alloc, link, place),
+            Levels::More(fewer) => change_opt_call::<N, C, Levels<N, C>>(
+                fewer, alloc, link, place, usage,
+            ),
             Levels::Out(_) => Err(Stop::TooDeep),
         }
     }
@@ -116,10 +125,11 @@ impl<N, C: Change<N>> Mends<N> for Levels<N, C> {
         alloc: Global,
         link: &mut AssignTargetBox<N>,
         place: Place,
+        usage: Usage,
     ) -> Result<(), Stop> {
         match self {
             Levels::More(fewer) => change_assign_target::<N, C, Levels<N, C>>(
-                fewer, alloc, link, place,
+                fewer, alloc, link, place, usage,
             ),
             Levels::Out(_) => Err(Stop::TooDeep),
         }

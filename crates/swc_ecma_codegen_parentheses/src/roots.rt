@@ -8,7 +8,8 @@ ghost use Rattle.swc_ecma_codegen_syntax.specs.Verdicts.{holds};
 
 use crate::added::Added;
 use crate::enclosed::{mend_expr, mend_stmt};
-use crate::mends::{Mend, Stop};
+use crate::mends::{Mend, Stop, Usage};
+use crate::operands::Context;
 use crate::places::Place;
 use crate::recursion::{Levels, all_levels};
 use std::alloc::{AllocError, Global};
@@ -22,7 +23,8 @@ use swc_ecma_codegen_tree::{AnyNode, Expr, ModuleItem, Program, Stmt};
 pub enum Unmended<T> {
     /// Memory was refused. The tree is let go.
     OutOfMemory,
-    /// More than 10,000 links lie below one another. The tree is given back with the parentheses that it got.
+    /// The pass went no further: more than 10,000 links lie below one another, or a pair that it put in could be left out, which no test has met. The
+    /// tree is given back with the parentheses that it got.
     TooDeep(T),
     /// Parentheses are missing still. The tree is given back with those that it got.
     Left(T),
@@ -73,11 +75,18 @@ fn mend_whole_stmt(alloc: Global, stmt: &mut Stmt, place: Place) -> Result<(), S
 }
 
 /// Puts parentheses into an expression, and round it.
-fn mend_whole_expr(alloc: Global, expr: &mut Expr, place: Place) -> Result<(), Stop>
-    ensures { OnOk result (SameExprTree expr.old expr.new) }
+fn mend_whole_expr(
+    alloc: Global,
+    expr: &mut Expr,
+    place: Nonterminal,
+    parameters: Parameters,
+) -> Result<(), Stop>
+    ensures { OnOk result (SameExprTree place parameters expr.old expr.new) }
 {
     let levels: Levels<AnyNode, Added> = all_levels(alloc)?;
-    mend_expr::<AnyNode, Levels<AnyNode, Added>>(&levels, alloc, expr, place)
+    let at = Place::of(place, parameters);
+    let usage = Usage::Part(place, Context::free(parameters));
+    mend_expr::<AnyNode, Levels<AnyNode, Added>>(&levels, alloc, expr, at, usage)
 }
 
 /// A program with parentheses where the syntactic grammar of ECMA-262 needs them, whatever the settings of the emission are, and with
@@ -107,7 +116,7 @@ pub fn parenthesize(alloc: Global, program: Program) -> Result<Program, Unmended
     let mut program = program;
     match mend_program(alloc, &mut program) {
         Err(Stop::OutOfMemory) => Err(Unmended::OutOfMemory),
-        Err(Stop::TooDeep | Stop::Stray) => Err(Unmended::TooDeep(program)),
+        Err(Stop::TooDeep | Stop::Stray | Stop::Needless) => Err(Unmended::TooDeep(program)),
         Ok(()) if is_mended(before, verdict(&program)) => Ok(program),
         Ok(()) => Err(Unmended::Left(program)),
     }
@@ -136,7 +145,7 @@ pub fn parenthesize_item(
     let place = Place::of(Nonterminal::Expression, parameters);
     match mend_item(alloc, &mut item, place) {
         Err(Stop::OutOfMemory) => Err(Unmended::OutOfMemory),
-        Err(Stop::TooDeep | Stop::Stray) => Err(Unmended::TooDeep(item)),
+        Err(Stop::TooDeep | Stop::Stray | Stop::Needless) => Err(Unmended::TooDeep(item)),
         Ok(()) if is_mended(before, verdict_item(&item, parameters)) => Ok(item),
         Ok(()) => Err(Unmended::Left(item)),
     }
@@ -168,7 +177,7 @@ pub fn parenthesize_stmt(
     let at = Place::of(place, parameters);
     match mend_whole_stmt(alloc, &mut stmt, at) {
         Err(Stop::OutOfMemory) => Err(Unmended::OutOfMemory),
-        Err(Stop::TooDeep | Stop::Stray) => Err(Unmended::TooDeep(stmt)),
+        Err(Stop::TooDeep | Stop::Stray | Stop::Needless) => Err(Unmended::TooDeep(stmt)),
         Ok(()) if is_mended(before, verdict_stmt(&stmt, place, parameters)) => Ok(stmt),
         Ok(()) => Err(Unmended::Left(stmt)),
     }
@@ -187,8 +196,8 @@ pub fn parenthesize_expr(
         (λ r. (expr_verdict place parameters r).parenthesized ≡ true) }
     ensures keeps { holds false (expr_verdict place parameters expr) ≡ true →
         IfOk result (λ r. holds true (expr_verdict place parameters r) ≡ true) }
-    ensures same { IfOk result (λ r. (expr ≡ r) ⊎ SameExprTree expr r) }
-    ensures left { IfErr result (λ e. IfLeft e (SameExprTree expr)) }
+    ensures same { IfOk result (λ r. (expr ≡ r) ⊎ SameExprTree place parameters expr r) }
+    ensures left { IfErr result (λ e. IfLeft e (SameExprTree place parameters expr)) }
     ensures untouched { (expr_verdict place parameters expr).covered ≡ true →
         (expr_verdict place parameters expr).parenthesized ≡ true → result ≡ Ok expr }
 {
@@ -197,10 +206,9 @@ pub fn parenthesize_expr(
         return Ok(expr);
     }
     let mut expr = expr;
-    let at = Place::of(place, parameters);
-    match mend_whole_expr(alloc, &mut expr, at) {
+    match mend_whole_expr(alloc, &mut expr, place, parameters) {
         Err(Stop::OutOfMemory) => Err(Unmended::OutOfMemory),
-        Err(Stop::TooDeep | Stop::Stray) => Err(Unmended::TooDeep(expr)),
+        Err(Stop::TooDeep | Stop::Stray | Stop::Needless) => Err(Unmended::TooDeep(expr)),
         Ok(()) if is_mended(before, verdict_expr(&expr, place, parameters)) => Ok(expr),
         Ok(()) => Err(Unmended::Left(expr)),
     }

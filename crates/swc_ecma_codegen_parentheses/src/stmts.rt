@@ -3,8 +3,10 @@
 ghost use Rattle.swc_ecma_codegen_parentheses.specs.SameDecls.{same_var_declarator, same_var_decl, same_decl};
 ghost use Rattle.swc_ecma_codegen_parentheses.specs.SameStmts.{same_with_stmt, same_return_stmt, same_labeled_stmt, same_if_stmt, same_switch_case, same_switch_stmt, same_throw_stmt, same_catch_clause, same_try_stmt, same_expr_stmt, same_stmt, same_block_stmt};
 
-use crate::mends::{Mend, Mends, Stop, Usage};
+use crate::mends::{Mend, Mends, Stop, Usage, mend_bracketed, mend_if_any, mend_optional};
+use crate::operands::{Context, Operand};
 use crate::places::Place;
+use crate::within::Within;
 use std::alloc::Global;
 use swc_ecma_codegen_grammar::roles::Role;
 use swc_ecma_codegen_syntax::{Answers, Lookahead, Nonterminal};
@@ -19,7 +21,14 @@ impl<N: Answers, M: Mends<N>> Mend<N, M> for VarDeclarator<N> {
     #[tactic(auto, unfolding(crate::specs::SameDecls::same_var_declarator))]
     fn mend(&mut self, mender: &M, alloc: Global, place: Place) -> Result<(), Stop> {
         self.name.mend(mender, alloc, place)?;
-        self.init.mend(mender, alloc, place.here(Nonterminal::AssignmentExpression))
+        let init = place.here(Nonterminal::AssignmentExpression);
+        mend_if_any(
+            mender,
+            alloc,
+            &mut self.init,
+            init,
+            Usage::Operand(Operand::Last),
+        )
     }
 }
 
@@ -41,8 +50,13 @@ impl<N: Answers, M: Mends<N>> Mend<N, M> for Decl<N> {
             Decl::Class(node) => node.mend(mender, alloc, place),
             Decl::Fn(node) => node.mend(mender, alloc, place),
             Decl::Var(node) => {
-                let within = place.bracketed(Nonterminal::AssignmentExpression);
-                node.mend(mender, alloc, within)
+                let context = Context::declared();
+                let within = Within { mender, context };
+                node.mend(
+                    &within,
+                    alloc,
+                    place.bracketed(Nonterminal::AssignmentExpression),
+                )
             }
             Decl::TsEnum(node) => node.mend(mender, alloc, place),
             _ => Ok(()),
@@ -55,8 +69,7 @@ impl<N: Answers, M: Mends<N>> Mend<N, M> for WithStmt<N> {
 
     #[tactic(auto, unfolding(crate::specs::SameStmts::same_with_stmt))]
     fn mend(&mut self, mender: &M, alloc: Global, place: Place) -> Result<(), Stop> {
-        self.obj
-            .mend(mender, alloc, place.bracketed(Nonterminal::Expression))?;
+        mend_bracketed(mender, alloc, &mut self.obj, place, Nonterminal::Expression)?;
         self.body.mend(mender, alloc, place)
     }
 }
@@ -66,8 +79,7 @@ impl<N: Answers, M: Mends<N>> Mend<N, M> for ReturnStmt<N> {
 
     #[tactic(auto, unfolding(crate::specs::SameStmts::same_return_stmt))]
     fn mend(&mut self, mender: &M, alloc: Global, place: Place) -> Result<(), Stop> {
-        self.arg
-            .mend(mender, alloc, place.bracketed(Nonterminal::Expression))
+        mend_optional(mender, alloc, &mut self.arg, place, Nonterminal::Expression)
     }
 }
 
@@ -86,8 +98,13 @@ impl<N: Answers, M: Mends<N>> Mend<N, M> for IfStmt<N> {
     #[tactic(auto, unfolding(crate::specs::SameStmts::same_if_stmt))]
     fn mend(&mut self, mender: &M, alloc: Global, place: Place) -> Result<(), Stop> {
         let cons = place.before_else(self.alt.is_some());
-        self.test
-            .mend(mender, alloc, place.bracketed(Nonterminal::Expression))?;
+        mend_bracketed(
+            mender,
+            alloc,
+            &mut self.test,
+            place,
+            Nonterminal::Expression,
+        )?;
         self.cons.mend(mender, alloc, cons)?;
         self.alt.mend(mender, alloc, place)
     }
@@ -98,8 +115,13 @@ impl<N: Answers, M: Mends<N>> Mend<N, M> for SwitchCase<N> {
 
     #[tactic(auto, unfolding(crate::specs::SameStmts::same_switch_case))]
     fn mend(&mut self, mender: &M, alloc: Global, place: Place) -> Result<(), Stop> {
-        self.test
-            .mend(mender, alloc, place.bracketed(Nonterminal::Expression))?;
+        mend_optional(
+            mender,
+            alloc,
+            &mut self.test,
+            place,
+            Nonterminal::Expression,
+        )?;
         self.cons.mend(mender, alloc, place.listed())
     }
 }
@@ -109,8 +131,13 @@ impl<N: Answers, M: Mends<N>> Mend<N, M> for SwitchStmt<N> {
 
     #[tactic(auto, unfolding(crate::specs::SameStmts::same_switch_stmt))]
     fn mend(&mut self, mender: &M, alloc: Global, place: Place) -> Result<(), Stop> {
-        self.discriminant
-            .mend(mender, alloc, place.bracketed(Nonterminal::Expression))?;
+        mend_bracketed(
+            mender,
+            alloc,
+            &mut self.discriminant,
+            place,
+            Nonterminal::Expression,
+        )?;
         self.cases.mend(mender, alloc, place)
     }
 }
@@ -120,8 +147,7 @@ impl<N: Answers, M: Mends<N>> Mend<N, M> for ThrowStmt<N> {
 
     #[tactic(auto, unfolding(crate::specs::SameStmts::same_throw_stmt))]
     fn mend(&mut self, mender: &M, alloc: Global, place: Place) -> Result<(), Stop> {
-        self.arg
-            .mend(mender, alloc, place.bracketed(Nonterminal::Expression))
+        mend_bracketed(mender, alloc, &mut self.arg, place, Nonterminal::Expression)
     }
 }
 

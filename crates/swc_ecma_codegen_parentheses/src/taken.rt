@@ -13,7 +13,9 @@ use crate::linked::{
     mend_linked_prop_name, mend_linked_tpl, mend_linked_var_decl,
 };
 use crate::mends::{Mend, Mends, Stop, Usage};
+use crate::operands::Context;
 use crate::places::Place;
+use crate::within::Within;
 use std::alloc::Global;
 use swc_ecma_codegen_tree::{
     AssignTargetBox, BlockStmtBox, ClassBox, ClassMemberBox, DeclBox, Expr, ExprBox, ExprPart,
@@ -76,8 +78,11 @@ impl<N: Lends> Change<N> for Taken {
         alloc: Global,
         link: &mut MemberExprBox<N>,
         place: Place,
+        usage: Usage,
     ) -> Result<(), Stop> {
-        found(mend_linked_member_expr::<N, M>(mender, alloc, link, place)?)
+        let context = usage.context(place);
+        let within = Within { mender, context };
+        found(mend_linked_member_expr::<N, Within<M>>(&within, alloc, link, place)?)
     }
 
     fn opt_call<M: Mends<N>>(
@@ -85,8 +90,11 @@ impl<N: Lends> Change<N> for Taken {
         alloc: Global,
         link: &mut OptCallBox<N>,
         place: Place,
+        usage: Usage,
     ) -> Result<(), Stop> {
-        found(mend_linked_opt_call::<N, M>(mender, alloc, link, place)?)
+        let context = usage.context(place);
+        let within = Within { mender, context };
+        found(mend_linked_opt_call::<N, Within<M>>(&within, alloc, link, place)?)
     }
 
     fn assign_target<M: Mends<N>>(
@@ -94,6 +102,7 @@ impl<N: Lends> Change<N> for Taken {
         alloc: Global,
         link: &mut AssignTargetBox<N>,
         place: Place,
+        _: Usage,
     ) -> Result<(), Stop> {
         match link.get_mut() {
             Some(node) => bare_target::<N, M>(mender, alloc, node, place),
@@ -164,7 +173,9 @@ impl<N: Lends> Change<N> for Taken {
         link: &mut VarDeclBox<N>,
         place: Place,
     ) -> Result<(), Stop> {
-        found(mend_linked_var_decl::<N, M>(mender, alloc, link, place)?)
+        let context = Context::declared_in_head();
+        let within = Within { mender, context };
+        found(mend_linked_var_decl::<N, Within<M>>(&within, alloc, link, place)?)
     }
 
     fn class_member<M: Mends<N>>(

@@ -1,9 +1,6 @@
-use Rattle.std.proofs.Common.{◌≡◌, ap, not, refl, subst, sym, false}
+use Rattle.std.proofs.Common.{◌≡◌, ap, not, subst, sym}
 use Rattle.swc_ecma_codegen_parentheses.specs.Bare.{stays}
 use Rattle.swc_ecma_codegen_parentheses.proofs.bare.stays.Goals as goal
-
-pub returns-in-Value : goal.returns-in-Value
-returns-in-Value g c = subst (λ u. false ≡ stays u c.args.inside.now) (sym c.in-Value.is) refl
 
 pub returns-in-Statement : goal.returns-in-Statement
 returns-in-Statement g c = subst (λ u. c.is_string.result ≡ stays u c.args.inside.now) (sym c.in-Statement.is) c.is_string.ensures

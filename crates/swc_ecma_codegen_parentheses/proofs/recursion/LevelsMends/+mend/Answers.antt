@@ -16,13 +16,13 @@ pub prop_name-returns-in-More : goal.prop_name-returns-in-More
 prop_name-returns-in-More g t c = on_ok_weaker c.change_prop_name.result (one_level_linked g.C.Change.changed c.args.self.now c.deref.result.now c.in-More.fewer usages.Value c.args.link.now c.change_prop_name.new.link c.in-More.is c.deref.ensures) c.change_prop_name.ensures
 
 pub member_expr-returns-in-More : goal.member_expr-returns-in-More
-member_expr-returns-in-More g t c = on_ok_weaker c.change_member_expr.result (one_level_linked g.C.Change.changed c.args.self.now c.deref.result.now c.in-More.fewer usages.Value c.args.link.now c.change_member_expr.new.link c.in-More.is c.deref.ensures) c.change_member_expr.ensures
+member_expr-returns-in-More g t c = on_ok_weaker c.change_member_expr.result (one_level_linked g.C.Change.changed c.args.self.now c.deref.result.now c.in-More.fewer c.args.usage c.args.link.now c.change_member_expr.new.link c.in-More.is c.deref.ensures) c.change_member_expr.ensures
 
 pub opt_call-returns-in-More : goal.opt_call-returns-in-More
-opt_call-returns-in-More g t c = on_ok_weaker c.change_opt_call.result (one_level_linked g.C.Change.changed c.args.self.now c.deref.result.now c.in-More.fewer usages.Value c.args.link.now c.change_opt_call.new.link c.in-More.is c.deref.ensures) c.change_opt_call.ensures
+opt_call-returns-in-More g t c = on_ok_weaker c.change_opt_call.result (one_level_linked g.C.Change.changed c.args.self.now c.deref.result.now c.in-More.fewer c.args.usage c.args.link.now c.change_opt_call.new.link c.in-More.is c.deref.ensures) c.change_opt_call.ensures
 
 pub assign_target-returns-in-More : goal.assign_target-returns-in-More
-assign_target-returns-in-More g t c = on_ok_weaker c.change_assign_target.result (one_level_linked g.C.Change.changed c.args.self.now c.deref.result.now c.in-More.fewer usages.Value c.args.link.now c.change_assign_target.new.link c.in-More.is c.deref.ensures) c.change_assign_target.ensures
+assign_target-returns-in-More g t c = on_ok_weaker c.change_assign_target.result (one_level_linked g.C.Change.changed c.args.self.now c.deref.result.now c.in-More.fewer c.args.usage c.args.link.now c.change_assign_target.new.link c.in-More.is c.deref.ensures) c.change_assign_target.ensures
 
 pub stmt-returns-in-More : goal.stmt-returns-in-More
 stmt-returns-in-More g t c = on_ok_weaker c.change_stmt.result (one_level_linked g.C.Change.changed c.args.self.now c.deref.result.now c.in-More.fewer usages.Value c.args.link.now c.change_stmt.new.link c.in-More.is c.deref.ensures) c.change_stmt.ensures
