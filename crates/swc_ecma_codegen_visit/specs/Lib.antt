@@ -1,0 +1,15 @@
+pub mod Changed
+pub mod Mapped
+pub mod MappedClasses
+pub mod MappedDecls
+pub mod MappedExprs
+pub mod MappedIdents
+pub mod MappedJsx
+pub mod MappedModules
+pub mod MappedParts
+pub mod MappedPats
+pub mod MappedStmts
+pub mod MappedTsDecls
+pub mod MappedTsTypes
+pub mod Mapping
+pub mod Pairs
