@@ -23,6 +23,7 @@ use crate::sums::{
 };
 use std::alloc::{AllocError, Global};
 use std::marker::PhantomData;
+use std::mem;
 
 /// A link to a node of the sort `K`: `Link<ToExpr>`, which is `ExprBox`, is what `Box<Expr>` is in swc.
 pub struct Link<K, N = AnyNode> {
@@ -38,11 +39,30 @@ impl<K, N: Drop> Drop for Link<K, N> {
 }
 
 impl<K, N> Link<K, N> {
+    ghost use Rattle.swc_ecma_codegen_tree.specs.contracts.links.Link.{the_row};
+    ghost use Rattle.swc_ecma_codegen_tree.specs.Targets.{LendsTarget};
+
     /// What is held, whatever it is.
     pub fn target(&self) -> &N
         ensures { result.now ≡ self.now.node.value }
     {
         &self.node
+    }
+
+    /// What is held, whatever it is, to be changed in place.
+    pub fn target_mut(&mut self) -> &mut N
+        ensures* lends { sem 𝓛 (LendsTarget K.row N.row self.entry result) }
+        ensures target { result.now ≡ self.old.node.value }
+    {
+        &mut *self.node
+    }
+
+    /// Holds `node` from now on. The answer is what was held.
+    pub fn replace_target(&mut self, node: N) -> N
+        ensures taken { result ≡ self.old.node.value }
+        ensures held { self.new.node.value ≡ node }
+    {
+        mem::replace(&mut *self.node, node)
     }
 }
 
@@ -94,7 +114,7 @@ impl<K: LinkSortMut<N>, N: Holds<K::Part>> Link<K, N> {
         ensures node { option_copied_mut result ≡ K.linked (N.node_in self.old.node.value) }
     {
         let node = &mut *self.node;
-        K::node_mut(node)
+        K::node_mut(node, PhantomData)
     }
 }
 

@@ -29,11 +29,20 @@ pub trait LinkSort<N>: Sized {
     /// What is held of it: the sum of its area, or where it has none, the node.
     type Part: Holds<Self::Node> + Drop;
 
+    /// How the node stands in what is held: `Itself` or `InPart`.
+    type Way;
+
     /// The node, of the part that is held.
     ghost linked: { Option Self.Part → Option Self.Node };
 
     ghost linked_is_held: { (part : Option Self.Part) → linked part ≡ option_and_then Self.Part.node_in part };
 }
+
+/// The way of a node that is what a link holds, as an expression is.
+pub enum Itself {}
+
+/// The way of a node that stands in a part of its area, as a pattern does in an `ExprPart`.
+pub enum InPart {}
 
 /// A link to an expression, as `Box<Expr>` in swc.
 pub type ExprBox<N = AnyNode> = Link<ToExpr, N>;
@@ -45,6 +54,8 @@ impl<N: Drop> LinkSort<N> for ToExpr {
     type Node = Expr<N>;
 
     type Part = Expr<N>;
+
+    type Way = Itself;
 
     ghost linked = { λ part. part };
 
@@ -62,6 +73,8 @@ impl<N: Drop> LinkSort<N> for ToPat {
 
     type Part = ExprPart<N>;
 
+    type Way = InPart;
+
     ghost linked = { option_and_then pat_in };
 
     ghost linked_is_held = { λ part. refl };
@@ -77,6 +90,8 @@ impl<N: Drop> LinkSort<N> for ToTpl {
     type Node = Tpl<N>;
 
     type Part = ExprPart<N>;
+
+    type Way = InPart;
 
     ghost linked = { option_and_then tpl_in };
 
@@ -94,6 +109,8 @@ impl<N: Drop> LinkSort<N> for ToObjectLit {
 
     type Part = ExprPart<N>;
 
+    type Way = InPart;
+
     ghost linked = { option_and_then object_lit_in };
 
     ghost linked_is_held = { λ part. refl };
@@ -109,6 +126,8 @@ impl<N: Drop> LinkSort<N> for ToPropName {
     type Node = PropName<N>;
 
     type Part = ExprPart<N>;
+
+    type Way = InPart;
 
     ghost linked = { option_and_then prop_name_in };
 
@@ -126,6 +145,8 @@ impl<N: Drop> LinkSort<N> for ToMemberExpr {
 
     type Part = MemberExpr<N>;
 
+    type Way = Itself;
+
     ghost linked = { λ part. part };
 
     ghost linked_is_held = { Prim.search rules };
@@ -141,6 +162,8 @@ impl<N: Drop> LinkSort<N> for ToOptCall {
     type Node = OptCall<N>;
 
     type Part = ExprPart<N>;
+
+    type Way = InPart;
 
     ghost linked = { option_and_then opt_call_in };
 
@@ -158,6 +181,8 @@ impl<N: Drop> LinkSort<N> for ToAssignTarget {
 
     type Part = ExprPart<N>;
 
+    type Way = InPart;
+
     ghost linked = { option_and_then assign_target_in };
 
     ghost linked_is_held = { λ part. refl };
@@ -173,6 +198,8 @@ impl<N: Drop> LinkSort<N> for ToStmt {
     type Node = Stmt<N>;
 
     type Part = Stmt<N>;
+
+    type Way = Itself;
 
     ghost linked = { λ part. part };
 
@@ -190,6 +217,8 @@ impl<N: Drop> LinkSort<N> for ToFunction {
 
     type Part = StmtPart<N>;
 
+    type Way = InPart;
+
     ghost linked = { option_and_then function_in };
 
     ghost linked_is_held = { λ part. refl };
@@ -205,6 +234,8 @@ impl<N: Drop> LinkSort<N> for ToClass {
     type Node = Class<N>;
 
     type Part = StmtPart<N>;
+
+    type Way = InPart;
 
     ghost linked = { option_and_then class_in };
 
@@ -222,6 +253,8 @@ impl<N: Drop> LinkSort<N> for ToBlockStmt {
 
     type Part = StmtPart<N>;
 
+    type Way = InPart;
+
     ghost linked = { option_and_then block_stmt_in };
 
     ghost linked_is_held = { λ part. refl };
@@ -237,6 +270,8 @@ impl<N: Drop> LinkSort<N> for ToDecl {
     type Node = Decl<N>;
 
     type Part = StmtPart<N>;
+
+    type Way = InPart;
 
     ghost linked = { option_and_then decl_in };
 
@@ -254,6 +289,8 @@ impl<N: Drop> LinkSort<N> for ToModuleDecl {
 
     type Part = StmtPart<N>;
 
+    type Way = InPart;
+
     ghost linked = { option_and_then module_decl_in };
 
     ghost linked_is_held = { λ part. refl };
@@ -269,6 +306,8 @@ impl<N: Drop> LinkSort<N> for ToVarDecl {
     type Node = VarDecl<N>;
 
     type Part = StmtPart<N>;
+
+    type Way = InPart;
 
     ghost linked = { option_and_then var_decl_in };
 
@@ -286,6 +325,8 @@ impl<N: Drop> LinkSort<N> for ToClassMember {
 
     type Part = StmtPart<N>;
 
+    type Way = InPart;
+
     ghost linked = { option_and_then class_member_in };
 
     ghost linked_is_held = { λ part. refl };
@@ -301,6 +342,8 @@ impl<N: Drop> LinkSort<N> for ToJSXElement {
     type Node = JSXElement<N>;
 
     type Part = JSXPart<N>;
+
+    type Way = InPart;
 
     ghost linked = { option_and_then jsx_element_in };
 
@@ -318,6 +361,8 @@ impl<N: Drop> LinkSort<N> for ToJSXFragment {
 
     type Part = JSXPart<N>;
 
+    type Way = InPart;
+
     ghost linked = { option_and_then jsx_fragment_in };
 
     ghost linked_is_held = { λ part. refl };
@@ -333,6 +378,8 @@ impl<N: Drop> LinkSort<N> for ToJSXObject {
     type Node = JSXObject<N>;
 
     type Part = JSXPart<N>;
+
+    type Way = InPart;
 
     ghost linked = { option_and_then jsx_object_in };
 
@@ -350,6 +397,8 @@ impl<N: Drop> LinkSort<N> for ToTsType {
 
     type Part = TsPart<N>;
 
+    type Way = InPart;
+
     ghost linked = { option_and_then ts_type_in };
 
     ghost linked_is_held = { λ part. refl };
@@ -365,6 +414,8 @@ impl<N: Drop> LinkSort<N> for ToTsNamespaceBody {
     type Node = TsNamespaceBody<N>;
 
     type Part = TsPart<N>;
+
+    type Way = InPart;
 
     ghost linked = { option_and_then ts_namespace_body_in };
 
@@ -382,6 +433,8 @@ impl<N: Drop> LinkSort<N> for ToTsTypeAnn {
 
     type Part = TsPart<N>;
 
+    type Way = InPart;
+
     ghost linked = { option_and_then ts_type_ann_in };
 
     ghost linked_is_held = { λ part. refl };
@@ -397,6 +450,8 @@ impl<N: Drop> LinkSort<N> for ToTsTypeParamDecl {
     type Node = TsTypeParamDecl<N>;
 
     type Part = TsPart<N>;
+
+    type Way = InPart;
 
     ghost linked = { option_and_then ts_type_param_decl_in };
 
@@ -414,6 +469,8 @@ impl<N: Drop> LinkSort<N> for ToTsTypeParamInstantiation {
 
     type Part = TsPart<N>;
 
+    type Way = InPart;
+
     ghost linked = { option_and_then ts_type_param_instantiation_in };
 
     ghost linked_is_held = { λ part. refl };
@@ -429,6 +486,8 @@ impl<N: Drop> LinkSort<N> for ToTsFnParam {
     type Node = TsFnParam<N>;
 
     type Part = TsPart<N>;
+
+    type Way = InPart;
 
     ghost linked = { option_and_then ts_fn_param_in };
 
@@ -446,6 +505,8 @@ impl<N: Drop> LinkSort<N> for ToTsInterfaceBody {
 
     type Part = TsPart<N>;
 
+    type Way = InPart;
+
     ghost linked = { option_and_then ts_interface_body_in };
 
     ghost linked_is_held = { λ part. refl };
@@ -461,6 +522,8 @@ impl<N: Drop> LinkSort<N> for ToTsEntityName {
     type Node = TsEntityName<N>;
 
     type Part = TsPart<N>;
+
+    type Way = InPart;
 
     ghost linked = { option_and_then ts_entity_name_in };
 
