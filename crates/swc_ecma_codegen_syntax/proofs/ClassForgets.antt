@@ -37,10 +37,10 @@ use Rattle.swc_ecma_codegen_syntax.specs.declared.nonterminals.Nonterminal.{Nont
 use Rattle.swc_ecma_codegen_syntax.specs.declared.nonterminals.Nonterminal.TheVariants as nt
 use Rattle.swc_ecma_codegen_syntax.specs.declared.parameters.Parameters.{Parameters}
 use Rattle.swc_ecma_codegen_syntax.specs.Summary.{Summary}
-use Rattle.swc_ecma_codegen_syntax.specs.Parameters.{of_class, of_function}
+use Rattle.swc_ecma_codegen_syntax.specs.Parameters.{of_class, of_function, of_parameters}
 use Rattle.swc_ecma_codegen_syntax.specs.Forms.{Form, Part, forget, keeps, is_met, ending_after, ending_listed}
 use Rattle.swc_ecma_codegen_syntax.specs.NameForms.{name_form}
-use Rattle.swc_ecma_codegen_syntax.specs.FunctionForms.{type_params_form, bound_name_form, decorators_form, own_of, param_form}
+use Rattle.swc_ecma_codegen_syntax.specs.FunctionForms.{type_params_form, bound_name_form, decorators_form, own_of, parameters_of, param_form}
 use Rattle.swc_ecma_codegen_syntax.specs.ClassForms.{heritage_form, implemented_form, implements_form, class_tail_form, class_decl_form, class_rest_form, class_expr_form, accessibility_form, constructor_param_form, constructor_form, rest_of_accessor, accessor_form, kind_form, method_kind_form, optional_mark_form, method_form, private_method_form, field_value_form, field_type_form, field_form, private_field_form, static_block_form, member_of_class_form, field_expr_form}
 use Rattle.swc_ecma_codegen_syntax.proofs.Judged.{listed_forgets, order_forgets, map_same}
 use Rattle.swc_ecma_codegen_syntax.proofs.Forgets.{annotation_forgets, args_forget}
@@ -111,17 +111,17 @@ constructor_param_forgets places f p c place (params.TsParamProp n) k = absurd (
 constructor_forgets : {X : Type 0} (places : Bool) (f : X → Role → Parameters → Summary) (p : X → Role → Phrase) (c : Parameters) (n : Constructor X) → keeps places f (constructor_form c n) ≡ true → forget p (constructor_form c n) ≡ class_constructor p n
 unfolding forget keeps constructor_form accessibility_form class_constructor
 constructor_forgets places f p c n k =
-    let own : Parameters = of_function false false c in
+    let listed : Parameters = of_parameters false false c in
     let (_, l) = and_parts _ _ k in
-    let (params, _) = and_parts (keeps places f (ending_listed (constructor_param_form own) n.params.items)) _ l in
+    let (params, _) = and_parts (keeps places f (ending_listed (constructor_param_form listed) n.params.items)) _ l in
     ap₂ (λ q r. accessibility n.accessibility > word (codes "constructor") > mark (codes "(") > q > mark (codes ")") > r)
-    (kept_ending places f p (constructor_param_form own) (constructor_param p) (constructor_param_forgets places f p own) n.params.items params) (body_forgets p own n.body)
+    (kept_ending places f p (constructor_param_form listed) (constructor_param p) (constructor_param_forgets places f p listed) n.params.items params) (body_forgets p (of_function false false c) n.body)
 
 rest_of_accessor_forgets : {X : Type 0} (p : X → Role → Phrase) (c : Parameters) (n : functions.Function X) → forget p (rest_of_accessor c n) ≡ method_tail p n
 unfolding forget rest_of_accessor method_tail
 rest_of_accessor_forgets p c n =
     ap₂ (λ q r. q > mark (codes "(") > r) (type_params_forget p c n.type_params)
-    (ap₂ (λ q r. q > mark (codes ")") > r) (listed_forgets p (codes ",") (param_form (own_of c n) nt.PatternElement) n.params.items ∙ ap (phrases.listed (codes ",")) (map_same _ _ (param_forgets p (own_of c n) nt.PatternElement) n.params.items))
+    (ap₂ (λ q r. q > mark (codes ")") > r) (listed_forgets p (codes ",") (param_form (parameters_of c n) nt.PatternElement) n.params.items ∙ ap (phrases.listed (codes ",")) (map_same _ _ (param_forgets p (parameters_of c n) nt.PatternElement) n.params.items))
     (ap₂ (λ q r. q > r) (annotation_forgets p c n.return_type) (body_forgets p (own_of c n) n.body)))
 
 pub accessor_forgets : {X : Type 0} (p : X → Role → Phrase) (c : Parameters) (n : functions.Function X) → forget p (accessor_form c n) ≡ accessor_tail p n

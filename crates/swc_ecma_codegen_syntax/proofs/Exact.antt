@@ -20,7 +20,8 @@ use Rattle.swc_ecma_codegen_tree.specs.declared.pats.AssignTargetPat.TheVariants
 use Rattle.swc_ecma_codegen_tree.specs.declared.parts.ExprPart.{ExprPart}
 use Rattle.swc_ecma_codegen_tree.specs.declared.parts.ExprPart.TheVariants as expr_parts
 use Rattle.swc_ecma_codegen_grammar.specs.ElementPhrases.{last_is_hole}
-use Rattle.swc_ecma_codegen_grammar.specs.Phrases.{Phrase, Closing, RightBrace, Then, CommaBefore, OptionalParentheses, in_parentheses, Generates}
+use Rattle.swc_ecma_codegen_grammar.specs.Phrases.{Phrase, Closing, RightBrace, Then, CommaBefore, OptionalParentheses, Argument, Parameter, open_parenthesis, close_parenthesis, in_parentheses, Generates}
+use Rattle.swc_ecma_codegen_grammar.specs.PlainPhrases.{plain_phrase}
 use Rattle.swc_ecma_codegen_grammar.specs.FunctionPhrases.{is_never}
 use Rattle.swc_ecma_codegen_grammar.specs.Settings.{Settings}
 use Rattle.swc_ecma_codegen_grammar.specs.Tokens.{Token}
@@ -362,79 +363,98 @@ derived_kept places s a ts (bare {a = b} d) =
     let (k, x) = derived_kept places s b ts d in
     (k, inl x)
 
--- ---- what keeps its structure derives each of its lists without what syntax leaves open
+-- ---- what keeps its structure derives each of its lists that settles what syntax leaves open, with parentheses round the only parameter of an arrow function or without
 
-bare_generates : (s : Settings) (p : Phrase) (ts : List Token) → Generates s (bare_phrase p) ts → Generates s p ts
-unfolding Generates bare_phrase
-bare_generates s (Then a b) ts (us, vs, x, y, q) = (us, vs, bare_generates s a us x, bare_generates s b vs y, q)
-bare_generates s (CommaBefore close) ts x = inl x
-bare_generates s (OptionalParentheses a) ts x = inl (bare_generates s a ts x)
-bare_generates s p ts x = x
+-- the tokens of a pair and of what stands in it
+enclosed : (us vs ws zs ts : List Token) → us ≡ open_parenthesis ∷ [] → zs ≡ close_parenthesis ∷ [] → vs ≡ ws ++ zs → ts ≡ us ++ vs → ts ≡ in_parentheses ws
+enclosed us vs ws zs ts x z q r = r ∙ ap₂ (λ l m. l ++ m) x (q ∙ ap (λ l. ws ++ l) z)
 
-abbrev DerivesLaw : Bool → Settings → AnyNode → Type 0
-DerivesLaw places s n = (role : Role) (c : Parameters) → holds places (facts n role c).verdict ≡ true → (ts : List Token) → Generates s (bare_phrase (phrase n role)) ts →
+plain_generates : (s : Settings) (m : Bool) (p : Phrase) (ts : List Token) → Generates s (plain_phrase m p) ts → Generates s p ts
+unfolding Generates plain_phrase
+plain_generates s m (Then a b) ts (us, vs, x, y, q) = (us, vs, plain_generates s m a us x, plain_generates s m b vs y, q)
+plain_generates s m (CommaBefore close) ts x = inl x
+plain_generates s m (OptionalParentheses Argument a) ts x = inl (plain_generates s m a ts x)
+plain_generates s true (OptionalParentheses Parameter a) ts x = inl (plain_generates s true a ts x)
+plain_generates s false (OptionalParentheses Parameter a) ts (us, vs, x, (ws, zs, y, z, q), r) = inr (ws, plain_generates s false a ws y, enclosed us vs ws zs ts x z q r)
+plain_generates s m p ts x = x
+
+abbrev DerivesLaw : Bool → Bool → Settings → AnyNode → Type 0
+DerivesLaw places m s n = (role : Role) (c : Parameters) → holds places (facts n role c).verdict ≡ true → (ts : List Token) → Generates s (plain_phrase m (phrase n role)) ts →
     Derives places s (node_form (is_called_node summary_of c (out-AnyNode n)) c (out-AnyNode n) role) ts
 
-part_built : (places : Bool) (s : Settings) (place : Nonterminal) (c : Parameters) (role : Role) (n : AnyNode) → DerivesLaw places s n →
-    (stands places place (facts n role c).nonterminal && holds places (facts n role c).verdict) ≡ true → (ts : List Token) → Generates s (bare_phrase (phrase n role)) ts → Derives places s (Part place c role n) ts
-part_built places s place c role n law k ts x =
+part_built : (places m : Bool) (s : Settings) (place : Nonterminal) (c : Parameters) (role : Role) (n : AnyNode) → DerivesLaw places m s n →
+    (stands places place (facts n role c).nonterminal && holds places (facts n role c).verdict) ≡ true → (ts : List Token) → Generates s (plain_phrase m (phrase n role)) ts → Derives places s (Part place c role n) ts
+part_built places m s place c role n law k ts x =
     let (t, h) = and_parts (stands places place (facts n role c).nonterminal) (holds places (facts n role c).verdict) k in
     part (is_called_node summary_of c (out-AnyNode n)) (ap (stands places place) (sym (sort_at n role c)) ∙ t) (law role c h ts x)
 
-lone_built : (places : Bool) (s : Settings) (place : Nonterminal) (c : Parameters) (n : AnyNode) → DerivesLaw places s n →
+lone_built : (places m : Bool) (s : Settings) (place : Nonterminal) (c : Parameters) (n : AnyNode) → DerivesLaw places m s n →
     (stands places place (facts n Pattern c).nonterminal && holds places (facts n Pattern c).verdict) ≡ true → (ts : List Token) (b : Bool) → is_never (phrase n PlainParameter) ≡ b →
-    Generates s (bare_phrase (only_phrase b (phrase n Pattern))) ts → Derives places s (Lone place c n) ts
-unfolding bare_phrase Generates
-lone_built places s place c n law k ts true e (us, vs, x, (ws, zs, y, z, q), r) =
-    subst (λ l. Derives places s (Lone place c n) l) (sym (r ∙ ap₂ (λ l m. l ++ m) x (q ∙ ap (λ l. ws ++ l) z))) (lone_in_parentheses (part_built places s place c Pattern n law k ws y))
-lone_built places s place c n law k ts false e x = lone e (part_built places s place c Pattern n law k ts x)
+    Generates s (plain_phrase m (only_phrase b (phrase n Pattern))) ts → Derives places s (Lone place c n) ts
+unfolding plain_phrase Generates
+lone_built places m s place c n law k ts true e (us, vs, x, (ws, zs, y, z, q), r) =
+    subst (λ l. Derives places s (Lone place c n) l) (sym (enclosed us vs ws zs ts x z q r)) (lone_in_parentheses (part_built places m s place c Pattern n law k ws y))
+lone_built places true s place c n law k ts false e x = lone e (part_built places true s place c Pattern n law k ts x)
+lone_built places false s place c n law k ts false e (us, vs, x, (ws, zs, y, z, q), r) =
+    subst (λ l. Derives places s (Lone place c n) l) (sym (enclosed us vs ws zs ts x z q r)) (lone_in_parentheses (part_built places false s place c Pattern n law k ws y))
 
-built : {X : Type 0} (places : Bool) (s : Settings) (g : X → AnyNode) → ((x : X) → DerivesLaw places s (g x)) → (a : Form X) → keeps places (λ x. summary_of (g x)) a ≡ true → (ts : List Token) →
-    Generates s (bare_phrase (forget (λ x. phrase (g x)) a)) ts → Derives places s (map_form g a) ts
-unfolding keeps forget map_form bare_phrase Generates
-built places s g law (Fixed p) k ts x = fixed (bare_generates s p ts x)
-built places s g law (Part place c role n) k ts x = part_built places s place c role (g n) (law n) k ts x
-built places s g law (Simple named place c n) k ts x =
+built : {X : Type 0} (places m : Bool) (s : Settings) (g : X → AnyNode) → ((x : X) → DerivesLaw places m s (g x)) → (a : Form X) → keeps places (λ x. summary_of (g x)) a ≡ true → (ts : List Token) →
+    Generates s (plain_phrase m (forget (λ x. phrase (g x)) a)) ts → Derives places s (map_form g a) ts
+unfolding keeps forget map_form plain_phrase Generates
+built places m s g law (Fixed p) k ts x = fixed (plain_generates s m p ts x)
+built places m s g law (Part place c role n) k ts x = part_built places m s place c role (g n) (law n) k ts x
+built places m s g law (Simple named place c n) k ts x =
     let (h, l) = and_parts (is_target named (facts (g n) Expression c)) (stands places place (facts (g n) Expression c).nonterminal && holds places (facts (g n) Expression c).verdict) k in
-    simple (sym (target_facts_at named (g n) c) ∙ h) (part_built places s place c Expression (g n) (law n) l ts x)
-built places s g law (Restricted lookahead place c as_pattern n) k ts x =
+    simple (sym (target_facts_at named (g n) c) ∙ h) (part_built places m s place c Expression (g n) (law n) l ts x)
+built places m s g law (Restricted lookahead place c as_pattern n) k ts x =
     let role : Role = role_in as_pattern in
     let known : Facts = facts (g n) role c in
     let (h, l) = and_parts (is_met places ByPlace (not (excludes lookahead (begins_in summary_of (g n) role)))) (stands places place known.nonterminal && holds places known.verdict) k in
     let (_, v) = and_parts (stands places place known.nonterminal) (holds places known.verdict) l in
-    restricted (avoided places lookahead (sym (begins_as_summed places s (g n) as_pattern c v ts (bare_generates s (phrase (g n) role) ts x))) h) (part_built places s place c role (g n) (law n) l ts x)
-built places s g law (Lone place c n) k ts x = lone_built places s place c (g n) (law n) k ts (is_never (phrase (g n) PlainParameter)) refl x
-built places s g law (Both a b) k ts (us, vs, x, y, q) =
+    restricted (avoided places lookahead (sym (begins_as_summed places s (g n) as_pattern c v ts (plain_generates s m (phrase (g n) role) ts x))) h) (part_built places m s place c role (g n) (law n) l ts x)
+built places m s g law (Lone place c n) k ts x = lone_built places m s place c (g n) (law n) k ts (is_never (phrase (g n) PlainParameter)) refl x
+built places m s g law (Both a b) k ts (us, vs, x, y, q) =
     let (h, l) = and_parts (keeps places (λ z. summary_of (g z)) a) (keeps places (λ z. summary_of (g z)) b) k in
-    subst (λ z. Derives places s (Both (map_form g a) (map_form g b)) z) (sym q) (both (built places s g law a h us x) (built places s g law b l vs y))
-built places s g law (Provided cure condition a) k ts x =
+    subst (λ z. Derives places s (Both (map_form g a) (map_form g b)) z) (sym q) (both (built places m s g law a h us x) (built places m s g law b l vs y))
+built places m s g law (Provided cure condition a) k ts x =
     let (h, l) = and_parts (is_met places cure condition) (keeps places (λ z. summary_of (g z)) a) k in
-    provided h (built places s g law a l ts x)
-built places s g law (Closed comma close) k ts x = subst (λ z. Derives places s (Closed comma close) z) (sym x) closed
-built places s g law (Bare a) k ts x = bare (built places s g law a k ts x)
-built places s g law (Followed place c n next) k ts x =
+    provided h (built places m s g law a l ts x)
+built places m s g law (Closed comma close) k ts x = subst (λ z. Derives places s (Closed comma close) z) (sym x) closed
+built places m s g law (Bare a) k ts x = bare (built places m s g law a k ts x)
+built places m s g law (Followed place c n next) k ts x =
     let b : Bool = empty_in summary_of (g next) in
-    followed (subst (λ e. Derives places s (Part place (before e c) Statement (g n)) ts) (empty_at (g next) Statement of_script) (part_built places s place (before b c) Statement (g n) (law n) k ts x))
+    followed (subst (λ e. Derives places s (Part place (before e c) Statement (g n)) ts) (empty_at (g next) Statement of_script) (part_built places m s place (before b c) Statement (g n) (law n) k ts x))
 
 -- a node, by what its links hold
-layer_derives : {X : Type 0} (places : Bool) (s : Settings) (g : X → AnyNode) → ((x : X) → DerivesLaw places s (g x)) → (y : AnyNode-F X) → DerivesLaw places s (roll-AnyNode (map-AnyNode X AnyNode g y))
-layer_derives {X} places s g law y role c h ts x =
-    let m : AnyNode-F AnyNode = map-AnyNode X AnyNode g y in
-    let b : Bool = is_called_node summary_of c (out-AnyNode (roll-AnyNode m)) in
-    let o : out-AnyNode (roll-AnyNode m) ≡ m = out-roll-AnyNode m in
-    let e : node_form b c (out-AnyNode (roll-AnyNode m)) role ≡ map_form g (node_form b c y role) = ap (λ z. node_form b c z role) o ∙ node_mapped g b c y role in
+layer_derives : {X : Type 0} (places m : Bool) (s : Settings) (g : X → AnyNode) → ((x : X) → DerivesLaw places m s (g x)) → (y : AnyNode-F X) → DerivesLaw places m s (roll-AnyNode (map-AnyNode X AnyNode g y))
+layer_derives {X} places m s g law y role c h ts x =
+    let inner : AnyNode-F AnyNode = map-AnyNode X AnyNode g y in
+    let b : Bool = is_called_node summary_of c (out-AnyNode (roll-AnyNode inner)) in
+    let o : out-AnyNode (roll-AnyNode inner) ≡ inner = out-roll-AnyNode inner in
+    let e : node_form b c (out-AnyNode (roll-AnyNode inner)) role ≡ map_form g (node_form b c y role) = ap (λ z. node_form b c z role) o ∙ node_mapped g b c y role in
     let k : keeps places (λ z. summary_of (g z)) (node_form b c y role) ≡ true =
-    sym (keeps_mapped places g summary_of (node_form b c y role)) ∙ sym (ap (keeps places summary_of) e) ∙ sym (holds_at places (roll-AnyNode m) role c) ∙ h in
-    let p : phrase (roll-AnyNode m) role ≡ forget (λ z. phrase (g z)) (node_form b c y role) =
+    sym (keeps_mapped places g summary_of (node_form b c y role)) ∙ sym (ap (keeps places summary_of) e) ∙ sym (holds_at places (roll-AnyNode inner) role c) ∙ h in
+    let p : phrase (roll-AnyNode inner) role ≡ forget (λ z. phrase (g z)) (node_form b c y role) =
     phrase_of g y role ∙ sym (node_forgets places (λ z. summary_of (g z)) (λ z. phrase (g z)) b c y role k) in
-    subst (λ a. Derives places s a ts) (sym e) (built places s g law (node_form b c y role) k ts (subst (λ q. Generates s (bare_phrase q) ts) p x))
+    subst (λ a. Derives places s a ts) (sym e) (built places m s g law (node_form b c y role) k ts (subst (λ q. Generates s (plain_phrase m q) ts) p x))
 
-derives_at : (places : Bool) (s : Settings) (n : AnyNode) → DerivesLaw places s n
-derives_at places s = ind-AnyNode (DerivesLaw places s) (λ x y q. subst (λ z. DerivesLaw places s (roll-AnyNode z)) q (layer_derives places s (λ z. z.0) (λ z. z.1) y))
+derives_at : (places m : Bool) (s : Settings) (n : AnyNode) → DerivesLaw places m s n
+derives_at places m s = ind-AnyNode (DerivesLaw places m s) (λ x y q. subst (λ z. DerivesLaw places m s (roll-AnyNode z)) q (layer_derives places m s (λ z. z.0) (λ z. z.1) y))
+
+-- a list without any of that is one of these
+bare_is_plain : (p : Phrase) → bare_phrase p ≡ plain_phrase true p
+unfolding bare_phrase plain_phrase
+bare_is_plain (Then a b) = ap₂ Then (bare_is_plain a) (bare_is_plain b)
+bare_is_plain (OptionalParentheses Argument a) = bare_is_plain a
+bare_is_plain (OptionalParentheses Parameter a) = bare_is_plain a
+bare_is_plain p = refl
+
+from_bare : (s : Settings) (p : Phrase) (ts : List Token) → Generates s (bare_phrase p) ts → Generates s (plain_phrase true p) ts
+from_bare s p ts x = subst (λ q. Generates s q ts) (bare_is_plain p) x
 
 pub kept_derives : (places : Bool) (s : Settings) (place : Nonterminal) (c : Parameters) (role : Role) (n : AnyNode) →
     (stands places place (facts n role c).nonterminal && holds places (facts n role c).verdict) ≡ true → (ts : List Token) → Generates s (bare_phrase (phrase n role)) ts → Derives places s (Part place c role n) ts
-kept_derives places s place c role n k ts x = part_built places s place c role n (derives_at places s n) k ts x
+kept_derives places s place c role n k ts x = part_built places true s place c role n (derives_at places true s n) k ts (from_bare s (phrase n role) ts x)
 
 -- ---- of a form that no link holds
 
@@ -451,5 +471,8 @@ map_same (Followed place c n next) = refl
 map_same (Lone place c n) = refl
 map_same (Restricted lookahead place c as_pattern n) = refl
 
+pub form_derives_plain : (places m : Bool) (s : Settings) (a : Form AnyNode) → keeps places summary_of a ≡ true → (ts : List Token) → Generates s (plain_phrase m (forget phrase a)) ts → Derives places s a ts
+form_derives_plain places m s a k ts x = subst (λ z. Derives places s z ts) (map_same a) (built places m s (λ z. z) (derives_at places m s) a k ts x)
+
 pub form_derives : (places : Bool) (s : Settings) (a : Form AnyNode) → keeps places summary_of a ≡ true → (ts : List Token) → Generates s (bare_phrase (forget phrase a)) ts → Derives places s a ts
-form_derives places s a k ts x = subst (λ z. Derives places s z ts) (map_same a) (built places s (λ z. z) (derives_at places s) a k ts x)
+form_derives places s a k ts x = form_derives_plain places true s a k ts (from_bare s (forget phrase a) ts x)

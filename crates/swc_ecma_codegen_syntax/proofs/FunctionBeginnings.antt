@@ -9,7 +9,7 @@ use Rattle.swc_ecma_codegen_tree.specs.declared.parts.TsPart.TheVariants as ts_p
 use Rattle.swc_ecma_codegen_tree.specs.declared.parts.JSXPart.TheVariants as jsx_parts
 use Rattle.swc_ecma_codegen_tree.specs.declared.parts.StmtPart.TheVariants as stmt_parts
 use Rattle.swc_ecma_codegen_tree.specs.declared.pats.Pat.TheVariants as pats
-use Rattle.swc_ecma_codegen_grammar.specs.Phrases.{Phrase, Nothing, Then, OptionalParentheses, mark, word, same_line, Generates}
+use Rattle.swc_ecma_codegen_grammar.specs.Phrases.{Phrase, Nothing, Then, OptionalParentheses, Parameter, mark, word, same_line, Generates}
 use Rattle.swc_ecma_codegen_grammar.specs.Settings.{Settings}
 use Rattle.swc_ecma_codegen_grammar.specs.Tokens as tokens
 use Rattle.swc_ecma_codegen_grammar.specs.FunctionPhrases.{after_async, is_never, only_parameter, arrow_parameters}
@@ -65,7 +65,7 @@ unfolding sign sign_of mark_sign tokens.punctuator
 enclosed_leads s p q = leads_other s _ (first_then s _ q AnyToken (first_then s _ p AnyToken (first_one s _ AnyToken refl)))
 
 optional_leads : (s : Settings) (p q : Phrase) (b : Beginning) → Leads s p b → goes_on_in_line b ≡ begins.Other → First s q AnyToken →
-    Leads s (Then (OptionalParentheses p) (Then Nothing (Then same_line q))) begins.Other
+    Leads s (Then (OptionalParentheses Parameter p) (Then Nothing (Then same_line q))) begins.Other
 unfolding Generates begun beginning sign sign_of mark_sign tokens.punctuator
 optional_leads s p q b leads e first ts (us, vs, inl x, (ns, ws, y, z, k), l) =
     let (h, _) = list_in_line s q b us ws (leads us x) first z in

@@ -27,7 +27,7 @@ use Rattle.swc_ecma_codegen_syntax.specs.Forms.{Form, Fixed, Provided, ByRule, f
 use Rattle.swc_ecma_codegen_syntax.specs.NameForms.{name_form}
 use Rattle.swc_ecma_codegen_syntax.specs.PatForms.{pat_part}
 use Rattle.swc_ecma_codegen_syntax.specs.Parameters.{of_arrow_parameters}
-use Rattle.swc_ecma_codegen_syntax.specs.FunctionForms.{type_params_form, decorator_form, decorators_form, bound_name_form, optional_name_form, pat_in, param_form, own_of, body_form, rest_of_function, function_form, fn_expr_form, fn_decl_form, arrow_params_form, arrow_body_form, async_form, arrow_form, fn_default_form}
+use Rattle.swc_ecma_codegen_syntax.specs.FunctionForms.{type_params_form, decorator_form, decorators_form, bound_name_form, optional_name_form, pat_in, param_form, own_of, parameters_of, body_form, rest_of_function, function_form, fn_expr_form, fn_decl_form, arrow_params_form, arrow_body_form, async_form, arrow_form, fn_default_form}
 use Rattle.swc_ecma_codegen_syntax.proofs.Judged.{order_forgets}
 use Rattle.swc_ecma_codegen_syntax.proofs.Forgets.{annotation_forgets}
 use Rattle.swc_ecma_codegen_syntax.proofs.PatForgets.{pat_forgets}
@@ -81,7 +81,7 @@ pub rest_forgets : {X : Type 0} (p : X → Role → Phrase) (c : Parameters) (n 
 unfolding forget rest_of_function method_tail
 rest_forgets p c n =
     ap₂ (λ q r. q > mark (codes "(") > r) (type_params_forget p c n.type_params)
-    (ap₂ (λ q r. q > mark (codes ")") > r) (ending_forgets p (param_form (own_of c n)) (param p) (param_forgets p (own_of c n)) n.params.items)
+    (ap₂ (λ q r. q > mark (codes ")") > r) (ending_forgets p (param_form (parameters_of c n)) (param p) (param_forgets p (parameters_of c n)) n.params.items)
     (ap₂ (λ q r. q > r) (annotation_forgets p c n.return_type) (body_forgets p (own_of c n) n.body)))
 
 pub never_or : {X : Type 0} (p : X → Role → Phrase) (b : Bool) (a : Form X) (q : Phrase) → forget p a ≡ q → forget p (cond b (Provided ByRule false (Fixed Never)) a) ≡ cond b Never q

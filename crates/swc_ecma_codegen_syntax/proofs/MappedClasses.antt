@@ -29,7 +29,7 @@ use Rattle.swc_ecma_codegen_grammar.proofs.MappedClasses.{each_param}
 use Rattle.swc_ecma_codegen_grammar.proofs.MappedFunctions.{with_parts}
 use Rattle.swc_ecma_codegen_syntax.specs.declared.nonterminals.Nonterminal.TheVariants as nt
 use Rattle.swc_ecma_codegen_syntax.specs.declared.parameters.Parameters.{Parameters}
-use Rattle.swc_ecma_codegen_syntax.specs.Parameters.{of_class, of_function}
+use Rattle.swc_ecma_codegen_syntax.specs.Parameters.{of_class, of_parameters}
 use Rattle.swc_ecma_codegen_syntax.specs.Forms.{Form, Fixed, Part, Provided, ByRule, ◌⇢◌, map_form}
 use Rattle.swc_ecma_codegen_syntax.specs.MemberForms.{annotation_form, type_args_form}
 use Rattle.swc_ecma_codegen_syntax.specs.ExprForms.{expr_form}
@@ -137,8 +137,8 @@ constructor_same before params others body e = ap (λ a. constructor_parts befor
 constructor_by : {X Y : Type 0} (g : X → Y) (called : Bool) (c : Parameters) (b : Box (class_members.ClassMember X) Global) (n : Constructor X) (body : Option (BlockStmtBox X)) →
     node_form called c (map-AnyNode X Y g (as_member b (members.Constructor (record n { body = body })))) Member ≡ map_form g (constructor_form c (record n { body = body }))
 unfolding node_form part_form node_nonterminal part_nonterminal stmt_part_form member_of_class_form constructor_form accessibility_form constructor_param_form body_form decorator_form map_form
-constructor_by {X} {Y} g called c b n None = constructor_same _ _ _ _ (ending_mapped {A = ParamOrTsParamProp X} g _ (constructor_param_form (of_function false false c)) (constructor_param_form (of_function false false c)) (λ place. each_param {X = X} _ (λ m. refl) (param_mapped {X = X} {Y = Y} g _ _ _ (λ x. refl) (λ x. pat_mapped g false _ x.pat) (λ x. pat_sort_mapped g false c x.pat) (λ x. refl) place)) n.params.items)
-constructor_by {X} {Y} g called c b n (Some body) = constructor_same _ _ _ _ (ending_mapped {A = ParamOrTsParamProp X} g _ (constructor_param_form (of_function false false c)) (constructor_param_form (of_function false false c)) (λ place. each_param {X = X} _ (λ m. refl) (param_mapped {X = X} {Y = Y} g _ _ _ (λ x. refl) (λ x. pat_mapped g false _ x.pat) (λ x. pat_sort_mapped g false c x.pat) (λ x. refl) place)) n.params.items)
+constructor_by {X} {Y} g called c b n None = constructor_same _ _ _ _ (ending_mapped {A = ParamOrTsParamProp X} g _ (constructor_param_form (of_parameters false false c)) (constructor_param_form (of_parameters false false c)) (λ place. each_param {X = X} _ (λ m. refl) (param_mapped {X = X} {Y = Y} g _ _ _ (λ x. refl) (λ x. pat_mapped g false _ x.pat) (λ x. pat_sort_mapped g false c x.pat) (λ x. refl) place)) n.params.items)
+constructor_by {X} {Y} g called c b n (Some body) = constructor_same _ _ _ _ (ending_mapped {A = ParamOrTsParamProp X} g _ (constructor_param_form (of_parameters false false c)) (constructor_param_form (of_parameters false false c)) (λ place. each_param {X = X} _ (λ m. refl) (param_mapped {X = X} {Y = Y} g _ _ _ (λ x. refl) (λ x. pat_mapped g false _ x.pat) (λ x. pat_sort_mapped g false c x.pat) (λ x. refl) place)) n.params.items)
 
 method_by : {X Y : Type 0} (g : X → Y) (called : Bool) (c : Parameters) (b : Box (class_members.ClassMember X) Global) (n : ClassMethod X) (kind : MethodKind) →
     node_form called c (map-AnyNode X Y g (as_member b (members.Method (record n { kind = kind })))) Member ≡ map_form g (method_form c (record n { kind = kind }))

@@ -38,7 +38,7 @@ use Rattle.swc_ecma_codegen_syntax.specs.declared.parameters.Parameters.{Paramet
 use Rattle.swc_ecma_codegen_syntax.specs.Forms.{Form, Fixed, Provided, ByRule, ◌⇢◌, map_form, in_order}
 use Rattle.swc_ecma_codegen_syntax.specs.MemberForms.{type_args_form}
 use Rattle.swc_ecma_codegen_syntax.specs.ObjectForms.{spread_form}
-use Rattle.swc_ecma_codegen_syntax.specs.JsxForms.{tag_member_form, tag_object_form, element_name_form, contained_form, container_form, spread_child_form, attr_value_form, attr_init_form, attr_form, opening_form, closing_form, child_form, children_form, unclosed_form, element_rest_form, is_closed, element_form, fragment_form}
+use Rattle.swc_ecma_codegen_syntax.specs.JsxForms.{tag_member_form, tag_object_form, element_name_form, contained_form, container_form, spread_child_form, holds_expression, attr_value_form, attr_init_form, attr_form, opening_form, closing_form, child_form, children_form, unclosed_form, element_rest_form, is_closed, element_form, fragment_form}
 use Rattle.swc_ecma_codegen_syntax.specs.NodeForms.{node_form, node_nonterminal, jsx_part_form, jsx_part_nonterminal}
 use Rattle.swc_ecma_codegen_syntax.proofs.Judged.{order_mapped}
 
@@ -207,7 +207,7 @@ element_same is_child self {a} {b} {n} {m} {t} {u} {x} {y} {r} {q} e f g h k =
     ap (λ z. whole_element is_child z self n t x r) e ∙ ap₂ (λ z w. whole_element is_child b self z w x r) f g ∙ ap₂ (λ z w. whole_element is_child b self m u z w) h k
 
 element_mapped : {X Y : Type 0} (g : X → Y) (called : Bool) (c : Parameters) (is_child : Bool) (b : Box (JSXElement X) Global) → node_form called c (map-AnyNode X Y g (nodes.JSXPart (jsx_parts.JSXElement b))) (role_of is_child) ≡ map_form g (element_form c is_child b.value)
-unfolding node_form jsx_part_form element_form opening_form attr_form attr_init_form attr_value_form container_form contained_form spread_form map_form
+unfolding node_form jsx_part_form element_form opening_form attr_form attr_init_form attr_value_form holds_expression container_form contained_form spread_form map_form
 element_mapped {X} {Y} g called c true b = element_same true b.value.opening.self_closing (closes_mapped g b b.value b.value.opening.self_closing b.value.closing) (name_mapped g c b b.value b.value.opening.name) (types_mapped g c b b.value b.value.opening.type_args) (order_mapped {A = JSXAttrOrSpread X} g _ (attr_form c) (attr_form c) (by_attr {X = X} _ (λ m. refl) (λ m v. refl) (λ m at v. refl) (λ m at v. refl) (λ m v. refl) (λ m v. refl) (λ m. refl)) b.value.opening.attrs.items) (rest_mapped g c b b.value b.value.closing)
 element_mapped {X} {Y} g called c false b = element_same false b.value.opening.self_closing (closes_mapped g b b.value b.value.opening.self_closing b.value.closing) (name_mapped g c b b.value b.value.opening.name) (types_mapped g c b b.value b.value.opening.type_args) (order_mapped {A = JSXAttrOrSpread X} g _ (attr_form c) (attr_form c) (by_attr {X = X} _ (λ m. refl) (λ m v. refl) (λ m at v. refl) (λ m at v. refl) (λ m v. refl) (λ m v. refl) (λ m. refl)) b.value.opening.attrs.items) (rest_mapped g c b b.value b.value.closing)
 

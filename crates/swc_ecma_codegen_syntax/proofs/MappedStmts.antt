@@ -1,5 +1,5 @@
 -- The forms of statements and declarations over what links hold as something else.
-use Rattle.std.proofs.Common.{◌≡◌, Bool, true, false, ◌&&◌, ◌||◌, not, cond, length, ◌==◌, refl, ◌∙◌, ap, ap₂, List, [], ◌∷◌, map, codes, Option, Some, None}
+use Rattle.std.proofs.Common.{◌≡◌, Bool, true, false, ◌&&◌, ◌||◌, not, is_none, cond, length, ◌==◌, refl, ◌∙◌, ap, ap₂, List, [], ◌∷◌, map, codes, Option, Some, None}
 use Rattle.swc_ecma_codegen_tree.specs.declared.links.AnyNode.{AnyNode-F, map-AnyNode}
 use Rattle.swc_ecma_codegen_tree.specs.declared.links.AnyNode.TheOpen as nodes
 use Rattle.swc_ecma_codegen_tree.specs.Links.{BlockStmtBox, ExprBox, PatBox, StmtBox}
@@ -45,7 +45,7 @@ use Rattle.swc_ecma_codegen_syntax.specs.Parameters.{of_bindings, of_declaration
 use Rattle.swc_ecma_codegen_syntax.specs.Forms.{Form, Fixed, Provided, ByRule, ByScope, ◌⇢◌, map_form}
 use Rattle.swc_ecma_codegen_syntax.specs.NameForms.{name_form}
 use Rattle.swc_ecma_codegen_syntax.specs.DeclForms.{is_pattern, value_form, is_valued, declarator_form, declarators_form, is_const, is_single, var_decl_form, decl_form, decl_nonterminal}
-use Rattle.swc_ecma_codegen_syntax.specs.StmtForms.{expression_part, optional_form, expr_stmt_form, with_form, return_rest_form, return_form, labeled_form, jump_form, break_form, continue_form, branches_form, if_form, case_test_form, clause_item_form, clause_list_form, case_form, switch_form, throw_form, catch_param_form, catch_form, handler_form, finalizer_form, try_form, while_form, do_while_form, for_init_form, for_form, head_form, for_in_form, for_of_form, stmt_form, stmt_nonterminal, is_empty, is_empty_node, begins_empty, list_form, block_form}
+use Rattle.swc_ecma_codegen_syntax.specs.StmtForms.{expression_part, optional_form, expr_stmt_form, with_form, return_rest_form, return_form, labeled_form, jump_form, break_form, continue_form, branches_form, if_form, case_test_form, clause_item_form, clause_list_form, case_form, is_case_block, switch_form, throw_form, catch_param_form, catch_form, handler_form, finalizer_form, try_form, while_form, do_while_form, for_init_form, for_form, head_form, for_in_form, for_of_form, stmt_form, stmt_nonterminal, is_empty, is_empty_node, begins_empty, list_form, block_form}
 use Rattle.swc_ecma_codegen_syntax.specs.NodeForms.{stmt_part_form, node_form, part_form, part_nonterminal, node_nonterminal}
 use Rattle.swc_ecma_codegen_syntax.specs.FunctionForms.{bound_name_form, fn_decl_form}
 use Rattle.swc_ecma_codegen_syntax.proofs.Judged.{after_mapped, order_mapped}
@@ -145,10 +145,17 @@ case_mapped : {X Y : Type 0} (g : X → Y) (h : StmtBox X → StmtBox Y) (c : Pa
     (test ⇢ Fixed (mark (codes ":")) ⇢ clause_list_form c (map h xs)) ≡ (test ⇢ Fixed (mark (codes ":")) ⇢ map_form g (clause_list_form c xs))
 case_mapped g h c last front test xs = ap (λ a. test ⇢ Fixed (mark (codes ":")) ⇢ a) (clause_list_mapped g h c last front xs)
 
+case_block_mapped : {X Y : Type 0} (h : SwitchCase X → SwitchCase Y) → ((x : SwitchCase X) → is_none (h x).test ≡ is_none x.test) → (seen : Bool) (xs : List (SwitchCase X)) → is_case_block seen (map h xs) ≡ is_case_block seen xs
+unfolding is_case_block
+case_block_mapped h same seen [] = refl
+case_block_mapped h same seen (x ∷ xs) =
+    ap₂ (λ a b. not (seen && a) && b) (same x) (ap (λ a. is_case_block (seen || a) (map h xs)) (same x) ∙ case_block_mapped h same (seen || is_none x.test) xs)
+
 switch_mapped : {X Y : Type 0} (g : X → Y) (called : Bool) (c : Parameters) (n : SwitchStmt X) → node_form called c (map-AnyNode X Y g (nodes.Stmt (stmts.Switch n))) Statement ≡ map_form g (switch_form c n)
 unfolding node_form stmt_form switch_form case_form case_test_form clause_item_form map_form
 switch_mapped {X} {Y} g called c n =
-    ap (λ a. Fixed (word (codes "switch")) ⇢ Fixed (mark (codes "(")) ⇢ map_form g (expression_part c n.discriminant) ⇢ Fixed (mark (codes ")")) ⇢ Fixed (mark (codes "{")) ⇢ a ⇢ Fixed (mark (codes "}")))
+    ap₂ (λ b a. Provided ByRule b (Fixed (word (codes "switch")) ⇢ Fixed (mark (codes "(")) ⇢ map_form g (expression_part c n.discriminant) ⇢ Fixed (mark (codes ")")) ⇢ Fixed (mark (codes "{")) ⇢ a ⇢ Fixed (mark (codes "}"))))
+    (case_block_mapped {X = X} {Y = Y} _ (by_test {X = X} _ (λ span cons. refl) (λ span test cons. refl)) false n.cases.items)
     (order_mapped {A = SwitchCase X} g _ (case_form c) (case_form c) (by_test {X = X} _
     (λ span cons. case_mapped {X = X} {Y = Y} g _ c (λ s. refl) (λ s r. refl) _ cons.items) (λ span test cons. case_mapped {X = X} {Y = Y} g _ c (λ s. refl) (λ s r. refl) _ cons.items)) n.cases.items)
 

@@ -8,6 +8,7 @@ use Rattle.swc_ecma_codegen_tree.specs.declared.programs.ModuleItem.{ModuleItem}
 use Rattle.swc_ecma_codegen_tree.specs.declared.programs.Program.{Program}
 use Rattle.swc_ecma_codegen_tree.specs.declared.stmts.Stmt.{Stmt}
 use Rattle.swc_ecma_codegen_grammar.specs.Phrases.{Phrase, Generates, is_possible}
+use Rattle.swc_ecma_codegen_grammar.specs.PlainPhrases.{plain_phrase}
 use Rattle.swc_ecma_codegen_grammar.specs.Settings.{Settings}
 use Rattle.swc_ecma_codegen_grammar.specs.Tokens.{Token}
 use Rattle.swc_ecma_codegen_grammar.specs.TreePhrases.{node_phrase, phrase, stmt_phrase, program_phrase}
@@ -24,7 +25,7 @@ use Rattle.swc_ecma_codegen_syntax.proofs.Judged.{judged}
 use Rattle.swc_ecma_codegen_syntax.proofs.VerdictLaws.{holds_meet}
 use Rattle.swc_ecma_codegen_syntax.proofs.TreeFacts.{facts_stmt}
 use Rattle.swc_ecma_codegen_syntax.proofs.SummaryForms.{unasked_holds}
-use Rattle.swc_ecma_codegen_syntax.proofs.Exact.{derived_kept, form_derives}
+use Rattle.swc_ecma_codegen_syntax.proofs.Exact.{derived_kept, form_derives, form_derives_plain}
 use Rattle.swc_ecma_codegen_syntax.proofs.ModuleForgets.{item_forgets, program_forgets}
 use Rattle.swc_ecma_codegen_syntax.proofs.Wholes.{listed, said, node_sound, node_complete, node_exactly}
 
@@ -45,6 +46,11 @@ form_complete : (places : Bool) (a : Form AnyNode) (p : Phrase) → Reads places
 form_complete places a p reads b e h s ts x =
     let k : keeps places summary_of a ≡ true = sym (form_kept places a) ∙ sym e ∙ h in
     form_derives places s a k ts (subst (λ q. Generates s (bare_phrase q) ts) (sym (reads k)) x)
+
+form_complete_plain : (places m : Bool) (a : Form AnyNode) (p : Phrase) → Reads places a p → (b : Bool) → b ≡ holds places (judge summary_of unasked a) → b ≡ true → (s : Settings) (ts : List Token) → Generates s (plain_phrase m p) ts → Derives places s a ts
+form_complete_plain places m a p reads b e h s ts x =
+    let k : keeps places summary_of a ≡ true = sym (form_kept places a) ∙ sym e ∙ h in
+    form_derives_plain places m s a k ts (subst (λ q. Generates s (plain_phrase m q) ts) (sym (reads k)) x)
 
 -- ---- items
 
@@ -97,6 +103,12 @@ pub program_complete : (places : Bool) (n : Program AnyNode) (b : Bool) → b �
     Generates s (bare_phrase (program_phrase n)) ts → DerivesProgram places s n ts
 program_complete places n b e h s ts x =
     form_complete places (program_form s.minify n) (program_phrase n) (program_reads places s.minify n) (holds_with places s.minify n) refl (holds_in_both places n s.minify (sym e ∙ h)) s ts x
+
+-- what is written of it where there are neither comments nor a source text is derived with it
+pub program_complete_plain : (places m : Bool) (n : Program AnyNode) (b : Bool) → b ≡ holds places (program_verdict n) → b ≡ true → (s : Settings) (ts : List Token) →
+    Generates s (plain_phrase m (program_phrase n)) ts → DerivesProgram places s n ts
+program_complete_plain places m n b e h s ts x =
+    form_complete_plain places m (program_form s.minify n) (program_phrase n) (program_reads places s.minify n) (holds_with places s.minify n) refl (holds_in_both places n s.minify (sym e ∙ h)) s ts x
 
 abbrev with_minify : Bool → Settings
 with_minify minify = record { target = Es5; ascii_only = false; minify = minify; assert_for_attributes = false }

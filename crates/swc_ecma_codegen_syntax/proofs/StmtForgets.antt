@@ -35,7 +35,7 @@ use Rattle.swc_ecma_codegen_syntax.specs.declared.lookahead.Lookahead.{Lookahead
 use Rattle.swc_ecma_codegen_syntax.specs.declared.lookahead.Lookahead.TheVariants.{ForStart}
 use Rattle.swc_ecma_codegen_syntax.specs.declared.parameters.Parameters.{Parameters}
 use Rattle.swc_ecma_codegen_syntax.specs.Summary.{Summary}
-use Rattle.swc_ecma_codegen_syntax.specs.Parameters.{of_bindings, of_declarations, in_list}
+use Rattle.swc_ecma_codegen_syntax.specs.Parameters.{of_bindings, of_declarations, in_list, may_await}
 use Rattle.swc_ecma_codegen_syntax.specs.Forms.{ByRule, ByScope, forget, keeps, is_met, each_after}
 use Rattle.swc_ecma_codegen_syntax.specs.NameForms.{name_form}
 use Rattle.swc_ecma_codegen_syntax.specs.DeclForms.{value_form, declarator_form, declarators_form, is_const, is_single, var_decl_form, decl_form}
@@ -183,7 +183,7 @@ for_in_forgets places f p c n k =
 for_of_forgets : {X : Type 0} (places : Bool) (f : X → Role → Parameters → Summary) (p : X → Role → Phrase) (c : Parameters) (n : ForOfStmt X) → keeps places f (for_of_form c n) ≡ true → forget p (for_of_form c n) ≡ for_of_stmt p n
 unfolding forget keeps for_of_form for_of_stmt
 for_of_forgets places f p c n k =
-    let (h, l) = and_parts (is_met places ByRule (not n.is_await || c.has_await)) _ k in
+    let (h, l) = and_parts (is_met places ByRule (not n.is_await || may_await c)) _ k in
     ap (λ a. word (codes "for") > word_if n.is_await (word (codes "await")) > mark (codes "(") > a > word (codes "of") > value_at p n.right > mark (codes ")") > stmt_at p n.body)
     (head_forgets places f p (of_start n.is_await) c n.left (and_parts (keeps places f (head_form (of_start n.is_await) c n.left)) _ l).0)
 

@@ -1,10 +1,11 @@
 -- What the check says of lists of statements, cases and declarations.
-use Rattle.std.proofs.Common.{◌≡◌, ℕ, suc, ◌+◌, ◌<◌, Bool, not, List, [], ◌∷◌, length, get_or, drop, drop-cons, add-one, codes, refl, sym, ◌∙◌, ap}
+use Rattle.std.proofs.Common.{◌≡◌, ℕ, suc, ◌+◌, ◌<◌, Bool, true, false, ◌&&◌, ◌||◌, not, is_none, List, [], ◌∷◌, length, get_or, drop, drop-cons, add-one, codes, refl, sym, ◌∙◌, ap}
 use Rattle.swc_ecma_codegen_tree.specs.Links.{StmtBox}
 use Rattle.swc_ecma_codegen_tree.specs.declared.decls.VarDecl.{VarDecl}
 use Rattle.swc_ecma_codegen_tree.specs.declared.decls.VarDeclarator.{VarDeclarator}
 use Rattle.swc_ecma_codegen_tree.specs.declared.programs.ModuleItem.{ModuleItem}
 use Rattle.swc_ecma_codegen_tree.specs.declared.stmts.Stmt.{Stmt}
+use Rattle.swc_ecma_codegen_tree.specs.declared.stmts.SwitchCase.{SwitchCase}
 use Rattle.swc_ecma_codegen_tree.specs.declared.stmts.SwitchStmt.{SwitchStmt}
 use Rattle.swc_ecma_codegen_grammar.specs.declared.roles.Role.{Role}
 use Rattle.swc_ecma_codegen_syntax.specs.declared.parameters.Parameters.{Parameters}
@@ -14,7 +15,7 @@ use Rattle.swc_ecma_codegen_syntax.specs.Verdicts.{by_rule, by_scope}
 use Rattle.swc_ecma_codegen_syntax.specs.Parameters.{in_list}
 use Rattle.swc_ecma_codegen_syntax.specs.Forms.{asked, judge, verdict_all}
 use Rattle.swc_ecma_codegen_syntax.specs.DeclForms.{declarator_form, declarators_form, is_const, is_single, var_decl_form}
-use Rattle.swc_ecma_codegen_syntax.specs.StmtForms.{expression_part, clause_item_form, clause_list_form, case_form, switch_form, stmt_form, begins_empty, list_form}
+use Rattle.swc_ecma_codegen_syntax.specs.StmtForms.{expression_part, clause_item_form, clause_list_form, case_form, is_case_block, switch_form, stmt_form, begins_empty, list_form}
 use Rattle.swc_ecma_codegen_syntax.specs.ModuleForms.{item_form, begins_empty_item, items_form}
 use Rattle.swc_ecma_codegen_syntax.proofs.Judged.{after_judged, order_judged}
 
@@ -31,9 +32,24 @@ unfolding judge asked var_decl_form
 var_decl_judged f c v n = declarators_judged f c (is_const n.kind) (by_rule (by_scope v (not n.declare)) (is_single c n)) n.decls.items
 
 pub switch_judged : {X : Type 0} (f : X → Role → Parameters → Summary) (c : Parameters) (v : Verdict) (n : SwitchStmt X) →
-    judge f v (switch_form c n) ≡ verdict_all (λ x w. judge f w (case_form c x)) (judge f v (expression_part c n.discriminant)) n.cases.items
-unfolding judge switch_form
-switch_judged f c v n = order_judged f (case_form c) (judge f v (expression_part c n.discriminant)) n.cases.items
+    judge f v (switch_form c n)
+    ≡ verdict_all (λ x w. judge f w (case_form c x)) (judge f (by_rule v (is_case_block false n.cases.items)) (expression_part c n.discriminant)) n.cases.items
+unfolding judge asked switch_form
+switch_judged f c v n = order_judged f (case_form c) (judge f (by_rule v (is_case_block false n.cases.items)) (expression_part c n.discriminant)) n.cases.items
+
+-- one more clause: where a `default` stood before it, and it is none or there was none
+pub case_block_next : {X : Type 0} (seen is_default clash : Bool) (xs : List (SwitchCase X)) (i : ℕ) (x : SwitchCase X) → i < length xs → x ≡ get_or xs i x → is_default ≡ is_none x.test → clash ≡ (seen && is_default) → clash ≡ false →
+    is_case_block seen (drop i xs) ≡ is_case_block (seen || is_default) (drop (i + 1) xs)
+unfolding is_case_block
+case_block_next seen is_default clash xs i x h here e same k =
+    rw (add-one, drop-cons xs i x h) (ap (λ z. not (seen && is_none z.test) && is_case_block (seen || is_none z.test) (drop (suc i) xs)) (sym here)
+    ∙ ap (λ b. not (seen && b) && is_case_block (seen || b) (drop (suc i) xs)) (sym e) ∙ ap (λ b. not b && is_case_block (seen || is_default) (drop (suc i) xs)) (sym same ∙ k))
+
+pub case_block_stops : {X : Type 0} (seen is_default clash : Bool) (xs : List (SwitchCase X)) (i : ℕ) (x : SwitchCase X) → i < length xs → x ≡ get_or xs i x → is_default ≡ is_none x.test → clash ≡ (seen && is_default) → clash ≡ true → is_case_block seen (drop i xs) ≡ false
+unfolding is_case_block
+case_block_stops seen is_default clash xs i x h here e same k =
+    rw (drop-cons xs i x h) (ap (λ z. not (seen && is_none z.test) && is_case_block (seen || is_none z.test) (drop (suc i) xs)) (sym here)
+    ∙ ap (λ b. not (seen && b) && is_case_block (seen || b) (drop (suc i) xs)) (sym e) ∙ ap (λ b. not b && is_case_block (seen || is_default) (drop (suc i) xs)) (sym same ∙ k))
 
 -- one more
 pub clause_next : {X : Type 0} (f : X → Role → Parameters → Summary) (c : Parameters) (v w : Verdict) (xs : List (StmtBox X)) (i : ℕ) (x : StmtBox X) → i < length xs → x ≡ get_or xs i x →

@@ -65,7 +65,7 @@ listed s (Then a b) h =
     let (vs, y) = listed s b l in
     (us ++ vs, (us, vs, x, y, refl))
 listed s (CommaBefore close) h = (_, refl)
-listed s (OptionalParentheses a) h = listed s a h
+listed s (OptionalParentheses round a) h = listed s a h
 listed s (Chosen choice) h = (_, refl)
 
 pub node_exactly : (places : Bool) (place : Nonterminal) (c : Parameters) (role : Role) (n : AnyNode) (b : Bool) → b ≡ holds places (said place c role n) → is_possible (phrase n role) ≡ true → (s : Settings) →

@@ -34,10 +34,10 @@ use Rattle.swc_ecma_codegen_grammar.specs.declared.roles.Role.TheVariants.{Prope
 use Rattle.swc_ecma_codegen_syntax.specs.declared.nonterminals.Nonterminal.{Nonterminal}
 use Rattle.swc_ecma_codegen_syntax.specs.declared.nonterminals.Nonterminal.TheVariants as nt
 use Rattle.swc_ecma_codegen_syntax.specs.declared.parameters.Parameters.{Parameters}
-use Rattle.swc_ecma_codegen_syntax.specs.Parameters.{of_class, of_field, of_function, of_static_block}
+use Rattle.swc_ecma_codegen_syntax.specs.Parameters.{of_class, of_field, of_function, of_parameters, of_static_block}
 use Rattle.swc_ecma_codegen_syntax.specs.Forms.{Form, Fixed, Part, Provided, ByRule, ByScope, ◌⇢◌, in_order, listed, ending_listed}
 use Rattle.swc_ecma_codegen_syntax.specs.MemberForms.{expr_part, annotation_form, type_args_form}
-use Rattle.swc_ecma_codegen_syntax.specs.FunctionForms.{type_params_form, decorators_form, bound_name_form, optional_name_form, param_form, own_of, block_body, body_form}
+use Rattle.swc_ecma_codegen_syntax.specs.FunctionForms.{type_params_form, decorators_form, bound_name_form, optional_name_form, param_form, own_of, parameters_of, block_body, body_form}
 
 -- ---- a class
 
@@ -110,7 +110,7 @@ constructor_param_form c place (params.TsParamProp n) = Provided ByScope false (
 unfoldable pub constructor_form : {X : Type 0} → Parameters → Constructor X → Form X
 constructor_form c n =
     accessibility_form n.accessibility ⇢ Fixed (word (codes "constructor")) ⇢ Fixed (mark (codes "("))
-    ⇢ ending_listed (constructor_param_form (of_function false false c)) n.params.items ⇢ Fixed (mark (codes ")")) ⇢ body_form (of_function false false c) n.body
+    ⇢ ending_listed (constructor_param_form (of_parameters false false c)) n.params.items ⇢ Fixed (mark (codes ")")) ⇢ body_form (of_function false false c) n.body
 
 -- `( ) { FunctionBody }` and `( PropertySetParameterList ) { FunctionBody }`
 unfoldable pub accessor_nonterminal : {X : Type 0} → List (Param X) → Nonterminal
@@ -124,7 +124,7 @@ plain_params_form c ns = listed (codes ",") (param_form c nt.PatternElement) ns
 
 unfoldable pub rest_of_accessor : {X : Type 0} → Parameters → functions.Function X → Form X
 rest_of_accessor c n =
-    type_params_form c n.type_params ⇢ Fixed (mark (codes "(")) ⇢ plain_params_form (own_of c n) n.params.items
+    type_params_form c n.type_params ⇢ Fixed (mark (codes "(")) ⇢ plain_params_form (parameters_of c n) n.params.items
     ⇢ Fixed (mark (codes ")")) ⇢ annotation_form c n.return_type ⇢ body_form (own_of c n) n.body
 
 -- neither is async or a generator

@@ -89,7 +89,7 @@ pat_phrase n = pat phrase n
 unfoldable pub bare_phrase : Phrase → Phrase
 bare_phrase (Then a b) = Then (bare_phrase a) (bare_phrase b)
 bare_phrase (CommaBefore close) = mark (closing_mark close)
-bare_phrase (OptionalParentheses a) = bare_phrase a
+bare_phrase (OptionalParentheses round a) = bare_phrase a
 bare_phrase p = p
 
 -- what is said of an expression and of a pattern by itself, as a nonterminal with its parameters

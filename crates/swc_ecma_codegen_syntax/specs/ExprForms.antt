@@ -23,7 +23,7 @@ use Rattle.swc_ecma_codegen_grammar.specs.declared.roles.Role.TheVariants.{Assig
 use Rattle.swc_ecma_codegen_syntax.specs.declared.nonterminals.Nonterminal.{Nonterminal}
 use Rattle.swc_ecma_codegen_syntax.specs.declared.nonterminals.Nonterminal.TheVariants as nt
 use Rattle.swc_ecma_codegen_syntax.specs.declared.parameters.Parameters.{Parameters}
-use Rattle.swc_ecma_codegen_syntax.specs.Parameters.{with_in, to_end, before_operator}
+use Rattle.swc_ecma_codegen_syntax.specs.Parameters.{with_in, to_end, before_operator, may_yield, may_await}
 use Rattle.swc_ecma_codegen_syntax.specs.Forms.{Form, Fixed, Part, Simple, Provided, Bare, ByPlace, ByRule, ByScope, ◌⇢◌, some_listed}
 use Rattle.swc_ecma_codegen_syntax.specs.NameForms.{name_form, lit_form}
 use Rattle.swc_ecma_codegen_syntax.specs.MemberForms.{expr_part, member_form, super_prop_form, tagged_form, opt_chain_form}
@@ -145,11 +145,11 @@ yield_rest_form c false None = Fixed Nothing
 yield_rest_form c false (Some arg) = Fixed same_line ⇢ Bare (expr_part nt.AssignmentExpression c arg)
 
 unfoldable pub yield_form : {X : Type 0} → Parameters → YieldExpr X → Form X
-yield_form c n = Provided ByRule c.has_yield (Fixed (word (codes "yield")) ⇢ yield_rest_form c n.delegate n.arg)
+yield_form c n = Provided ByRule (may_yield c) (Fixed (word (codes "yield")) ⇢ yield_rest_form c n.delegate n.arg)
 
 -- 15.8: await UnaryExpression
 unfoldable pub await_form : {X : Type 0} → Parameters → AwaitExpr X → Form X
-await_form c n = Provided ByRule c.has_await (Fixed (word (codes "await")) ⇢ expr_part nt.UnaryExpression (to_end c) n.arg)
+await_form c n = Provided ByRule (may_await c) (Fixed (word (codes "await")) ⇢ expr_part nt.UnaryExpression (to_end c) n.arg)
 
 -- 13.16: Expression , AssignmentExpression
 unfoldable pub seq_form : {X : Type 0} → Parameters → SeqExpr X → Form X

@@ -1,6 +1,6 @@
 -- Productions with nonterminals at their parts.
 use Rattle.std.specs.Prelude.{ℕ, Bool, true, false, ◌&&◌, ◌||◌, not, codes, List, [], ◌∷◌, Option, Some, None, if◌then◌else◌}
-use Rattle.swc_ecma_codegen_grammar.specs.Phrases.{Phrase, Closing, Never, Nothing, Then, CommaBefore, OptionalParentheses, ◌>◌, mark}
+use Rattle.swc_ecma_codegen_grammar.specs.Phrases.{Phrase, Closing, Never, Nothing, Then, CommaBefore, OptionalParentheses, Argument, Parameter, ◌>◌, mark}
 use Rattle.swc_ecma_codegen_grammar.specs.FunctionPhrases.{is_never}
 use Rattle.swc_ecma_codegen_grammar.specs.declared.roles.Role.{Role}
 use Rattle.swc_ecma_codegen_grammar.specs.declared.roles.Role.TheVariants.{Expression, Pattern, Statement, PlainParameter}
@@ -45,7 +45,7 @@ role_in as_pattern = if as_pattern then Pattern else Expression
 
 -- the only parameter of an arrow function: a name alone, or another
 abbrev pub only_phrase : Bool → Phrase → Phrase
-only_phrase is_other p = if is_other then mark (codes "(") > p > mark (codes ")") else OptionalParentheses p
+only_phrase is_other p = if is_other then mark (codes "(") > p > mark (codes ")") else OptionalParentheses Parameter p
 
 infixr 20 ◌⇢◌
 abbrev pub ◌⇢◌ : {X : Type 0} → Form X → Form X → Form X
@@ -61,7 +61,7 @@ forget f (Lone place parameters n) = only_phrase (is_never (f n PlainParameter))
 forget f (Both a b) = Then (forget f a) (forget f b)
 forget f (Provided cure condition a) = forget f a
 forget f (Closed comma close) = CommaBefore close
-forget f (Bare a) = OptionalParentheses (forget f a)
+forget f (Bare a) = OptionalParentheses Argument (forget f a)
 forget f (Followed place parameters n next) = f n Statement
 
 -- the same over what links hold as something else

@@ -20,7 +20,7 @@ use Rattle.swc_ecma_codegen_syntax.specs.declared.nonterminals.Nonterminal.{Nont
 use Rattle.swc_ecma_codegen_syntax.specs.declared.nonterminals.Nonterminal.TheVariants as nt
 use Rattle.swc_ecma_codegen_syntax.specs.declared.parameters.Parameters.{Parameters}
 use Rattle.swc_ecma_codegen_syntax.specs.Nonterminals.{takes}
-use Rattle.swc_ecma_codegen_syntax.specs.Parameters.{of_function, of_function_name, of_arrow_parameters, of_arrow_value, of_arrow_block}
+use Rattle.swc_ecma_codegen_syntax.specs.Parameters.{of_parameters, of_function, of_function_name, of_arrow_parameters, of_arrow_value, of_arrow_block}
 use Rattle.swc_ecma_codegen_syntax.specs.Forms.{Form, Fixed, Part, Restricted, Lone, Provided, ByRule, ByScope, ◌⇢◌, in_order, ending_listed}
 use Rattle.swc_ecma_codegen_syntax.specs.NameForms.{name_form, is_assignable}
 use Rattle.swc_ecma_codegen_syntax.specs.MemberForms.{expr_part, annotation_form}
@@ -72,9 +72,12 @@ body_form c (Some n) = block_body c n
 abbrev pub own_of : {X : Type 0} → Parameters → functions.Function X → Parameters
 own_of c n = of_function n.is_generator n.is_async c
 
+abbrev pub parameters_of : {X : Type 0} → Parameters → functions.Function X → Parameters
+parameters_of c n = of_parameters n.is_generator n.is_async c
+
 unfoldable pub rest_of_function : {X : Type 0} → Parameters → functions.Function X → Form X
 rest_of_function c n =
-    type_params_form c n.type_params ⇢ Fixed (mark (codes "(")) ⇢ params_form (own_of c n) n.params.items ⇢ Fixed (mark (codes ")"))
+    type_params_form c n.type_params ⇢ Fixed (mark (codes "(")) ⇢ params_form (parameters_of c n) n.params.items ⇢ Fixed (mark (codes ")"))
     ⇢ annotation_form c n.return_type ⇢ body_form (own_of c n) n.body
 
 -- Only methods of classes have decorators.

@@ -61,9 +61,14 @@ spread_child_form c n = Fixed (open_mark true (codes "{")) ⇢ Fixed (mark (code
 
 -- ---- attributes
 
+-- in an attribute an expression stands in them: `<a b={} />` is none
+unfoldable pub holds_expression : {X : Type 0} → JSXExpr X → Bool
+holds_expression (contained.JSXEmptyExpr n) = false
+holds_expression (contained.Expr n) = true
+
 unfoldable pub attr_value_form : {X : Type 0} → Parameters → JSXAttrValue X → Form X
 attr_value_form c (attr_values.Lit n) = Fixed (jsx_attr_lit n)
-attr_value_form c (attr_values.JSXExprContainer n) = container_form c false n
+attr_value_form c (attr_values.JSXExprContainer n) = Provided ByRule (holds_expression n.expr) (container_form c false n)
 attr_value_form c (attr_values.JSXElement n) = Part nt.JSXElement (with_in c) Element n.node.value
 attr_value_form c (attr_values.JSXFragment n) = Part nt.JSXElement (with_in c) Element n.node.value
 

@@ -46,7 +46,7 @@ unfoldable pub is_free : Parameters → List ℕ → Bool
 is_free c text =
     not (is_reserved text)
     && (not (c.is_strict && is_one_of strict_words text)
-    && (not (c.has_yield && bytes_eq text (codes "yield")) && not ((c.has_await || (c.reserves_await || c.in_static_block)) && bytes_eq text (codes "await"))))
+    && (not (c.has_yield && bytes_eq text (codes "yield")) && not ((c.has_await || c.reserves_await) && bytes_eq text (codes "await"))))
 
 -- Section 13.1.3: `eval` and `arguments` are no targets in strict code, and no names that are bound there: 13.1.1.
 unfoldable pub is_assignable : Bool → List ℕ → Bool

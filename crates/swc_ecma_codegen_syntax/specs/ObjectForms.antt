@@ -19,7 +19,7 @@ use Rattle.swc_ecma_codegen_grammar.specs.declared.roles.Role.TheVariants.{Block
 use Rattle.swc_ecma_codegen_grammar.specs.LitPhrases.{str_lit, number, big_int}
 use Rattle.swc_ecma_codegen_syntax.specs.declared.nonterminals.Nonterminal.TheVariants as nt
 use Rattle.swc_ecma_codegen_syntax.specs.declared.parameters.Parameters.{Parameters}
-use Rattle.swc_ecma_codegen_syntax.specs.Parameters.{with_in, of_function}
+use Rattle.swc_ecma_codegen_syntax.specs.Parameters.{with_in, of_parameters, of_function}
 use Rattle.swc_ecma_codegen_syntax.specs.Forms.{Form, Fixed, Part, Provided, ByRule, ByScope, ◌⇢◌, listed}
 use Rattle.swc_ecma_codegen_syntax.specs.NameForms.{name_form, is_literal_number}
 use Rattle.swc_ecma_codegen_syntax.specs.MemberForms.{expr_part, computed_form, annotation_form}
@@ -63,7 +63,7 @@ this_param_form c (Some n) = Provided ByScope false (Part nt.Uncovered c Pattern
 unfoldable pub setter_form : {X : Type 0} → Parameters → SetterProp X → Form X
 setter_form c n =
     Fixed (word (codes "set")) ⇢ own_key c n.key ⇢ Fixed (mark (codes "(")) ⇢ this_param_form c n.this_param
-    ⇢ Part nt.PatternElement (of_function false false c) Pattern n.param.node.value ⇢ Fixed (mark (codes ")")) ⇢ accessor_body_form c n.body
+    ⇢ Part nt.PatternElement (of_parameters false false c) Pattern n.param.node.value ⇢ Fixed (mark (codes ")")) ⇢ accessor_body_form c n.body
 
 -- `async *a() { b; }`
 unfoldable pub method_prop_form : {X : Type 0} → Parameters → MethodProp X → Form X

@@ -13,7 +13,7 @@ of_script = record {
   has_return = false;
   is_strict = false;
   reserves_await = false;
-  in_static_block = false;
+  bars_operators = false;
   is_binding = false;
   is_loop_head = false;
   position = Item;
@@ -83,32 +83,53 @@ labelled position = Labelled
 abbrev pub behind_label : Parameters → Parameters
 behind_label c = record c { position = labelled c.position }
 
--- parameters and body of a function: sections 15.2 to 15.6 and 15.8
+-- ---- functions and classes: what each part has of [Yield], [Await] and [Return], and whether the operators are barred. What isn't named here has what
+-- stands round it: the name of a declaration, a label, a computed key, a heritage, a template.
+
+-- FunctionBody : StatementList[?Yield, ?Await, +Return] of a function, a method, a getter or a setter, with [Yield] in a generator and [Await] in an async
+-- one: sections 15.2 to 15.6 and 15.8
 abbrev pub of_function : Bool → Bool → Parameters → Parameters
 of_function generator is_async c =
-    record c { has_in = true; has_yield = generator; has_await = is_async; has_return = true; in_static_block = false; is_binding = true }
+    record c { has_in = true; has_yield = generator; has_await = is_async; has_return = true; bars_operators = false; is_binding = true }
 
--- the name of a function expression
+-- FormalParameters[?Yield, ?Await], with the same. That none of them has an operator, even so, are early errors of sections 15.5.1, 15.6.1 and 15.8.1:
+-- `function* g(a = yield) {}`.
+abbrev pub of_parameters : Bool → Bool → Parameters → Parameters
+of_parameters generator is_async c = record (of_function generator is_async c) { has_return = c.has_return; bars_operators = true }
+
+-- BindingIdentifier of a function expression, which the words before it restrict too: `function await() {}` stands anywhere in a script
 abbrev pub of_function_name : Parameters → Parameters
 of_function_name c = record c { has_yield = false; has_await = false }
 
--- what an arrow function has before `=>`, and behind it: sections 15.3 and 15.9
+-- ArrowParameters[?Yield, ?Await], section 15.3; ArrowFormalParameters[~Yield, +Await], which CoverCallExpressionAndAsyncArrowHead[?Yield, ?Await] covers,
+-- section 15.9: no name among them is a word in either. No operator stands there: sections 15.3.1 and 15.9.1.
 abbrev pub of_arrow_parameters : Bool → Parameters → Parameters
-of_arrow_parameters is_async c =
-    record c { has_in = true; has_yield = c.has_yield && not is_async; has_await = is_async || c.has_await; is_binding = true }
+of_arrow_parameters is_async c = record c { has_in = true; has_await = is_async || c.has_await; bars_operators = true; is_binding = true }
 
+-- ExpressionBody[?In, ~Await], or [?In, +Await] : AssignmentExpression[?In, ~Yield, ?Await]
 abbrev pub of_arrow_value : Bool → Parameters → Parameters
-of_arrow_value is_async c = record c { has_yield = false; has_await = is_async }
+of_arrow_value is_async c = record c { has_yield = false; has_await = is_async; bars_operators = false }
 
+-- FunctionBody[~Yield, ~Await], or [~Yield, +Await]
 abbrev pub of_arrow_block : Bool → Parameters → Parameters
-of_arrow_block is_async c = record c { has_in = true; has_yield = false; has_await = is_async; has_return = true; in_static_block = false }
+of_arrow_block is_async c = record c { has_in = true; has_yield = false; has_await = is_async; has_return = true; bars_operators = false }
 
--- what stands in a class, its fields and its static blocks: section 15.7
+-- ClassTail: all of a class is strict code, section 11.2.2
 abbrev pub of_class : Parameters → Parameters
 of_class c = record c { has_in = true; before_less = false; is_strict = true }
 
+-- Initializer[+In, ~Yield, ~Await] of a field
 abbrev pub of_field : Parameters → Parameters
-of_field c = record c { has_in = true; has_yield = false; has_await = false }
+of_field c = record c { has_in = true; has_yield = false; has_await = false; bars_operators = false }
 
+-- ClassStaticBlockStatementList : StatementList[~Yield, +Await, ~Return], which has no `await` in it: section 15.7.1
 abbrev pub of_static_block : Parameters → Parameters
-of_static_block c = record c { has_in = true; has_yield = false; has_await = true; has_return = false; in_static_block = true }
+of_static_block c = record c { has_in = true; has_yield = false; has_await = true; has_return = false; bars_operators = true }
+
+-- ---- the operators `yield` and `await`
+
+abbrev pub may_yield : Parameters → Bool
+may_yield c = c.has_yield && not c.bars_operators
+
+abbrev pub may_await : Parameters → Bool
+may_await c = c.has_await && not c.bars_operators

@@ -1,5 +1,5 @@
 -- Statements: one production a node, with nonterminals. ECMA-262, section 14.
-use Rattle.std.specs.Prelude.{Bool, true, false, ◌||◌, not, is_some, codes, List, [], ◌∷◌, Option, Some, None}
+use Rattle.std.specs.Prelude.{Bool, true, false, ◌||◌, ◌&&◌, not, is_some, is_none, codes, List, [], ◌∷◌, Option, Some, None}
 use Rattle.swc_ecma_codegen_tree.specs.declared.links.AnyNode.{AnyNode-F}
 use Rattle.swc_ecma_codegen_tree.specs.declared.links.AnyNode.TheOpen as nodes
 use Rattle.swc_ecma_codegen_tree.specs.Links.{BlockStmtBox, ExprBox, PatBox, StmtBox}
@@ -39,7 +39,7 @@ use Rattle.swc_ecma_codegen_syntax.specs.declared.nonterminals.Nonterminal.TheVa
 use Rattle.swc_ecma_codegen_syntax.specs.declared.parameters.Parameters.{Parameters}
 use Rattle.swc_ecma_codegen_syntax.specs.declared.parameters.Position.{Position}
 use Rattle.swc_ecma_codegen_syntax.specs.declared.parameters.Position.TheVariants as positions
-use Rattle.swc_ecma_codegen_syntax.specs.Parameters.{with_in, of_targets, of_bindings, of_for, of_loop, in_list, behind_label, in_statement, in_do_while, in_if_else}
+use Rattle.swc_ecma_codegen_syntax.specs.Parameters.{with_in, of_targets, of_bindings, of_for, of_loop, in_list, behind_label, in_statement, in_do_while, in_if_else, may_await}
 use Rattle.swc_ecma_codegen_syntax.specs.Forms.{Form, Fixed, Part, Restricted, Followed, Provided, Bare, ByPlace, ByRule, ByScope, ◌⇢◌, in_order}
 use Rattle.swc_ecma_codegen_syntax.specs.NameForms.{name_form}
 use Rattle.swc_ecma_codegen_syntax.specs.MemberForms.{expr_part}
@@ -129,10 +129,16 @@ case_test_form c (Some n) = Fixed (word (codes "case")) ⇢ expression_part c n
 unfoldable pub case_form : {X : Type 0} → Parameters → SwitchCase X → Form X
 case_form c n = case_test_form c n.test ⇢ Fixed (mark (codes ":")) ⇢ clause_list_form c n.cons.items
 
+-- CaseBlock : { CaseClauses DefaultClause CaseClauses }, where each list may be missing: no DefaultClause stands behind another
+unfoldable pub is_case_block : {X : Type 0} → Bool → List (SwitchCase X) → Bool
+is_case_block with_default [] = true
+is_case_block with_default (x ∷ xs) = not (with_default && is_none x.test) && is_case_block (with_default || is_none x.test) xs
+
 unfoldable pub switch_form : {X : Type 0} → Parameters → SwitchStmt X → Form X
 switch_form c n =
-    Fixed (word (codes "switch")) ⇢ Fixed (mark (codes "(")) ⇢ expression_part c n.discriminant ⇢ Fixed (mark (codes ")")) ⇢ Fixed (mark (codes "{"))
-    ⇢ in_order (case_form c) n.cases.items ⇢ Fixed (mark (codes "}"))
+    Provided ByRule (is_case_block false n.cases.items)
+    (Fixed (word (codes "switch")) ⇢ Fixed (mark (codes "(")) ⇢ expression_part c n.discriminant ⇢ Fixed (mark (codes ")")) ⇢ Fixed (mark (codes "{"))
+    ⇢ in_order (case_form c) n.cases.items ⇢ Fixed (mark (codes "}")))
 
 -- 14.14: ThrowStatement
 unfoldable pub throw_form : {X : Type 0} → Parameters → ThrowStmt X → Form X
@@ -199,10 +205,10 @@ unfoldable pub of_start : Bool → Lookahead
 of_start true = AwaitOfStart
 of_start false = OfStart
 
--- `for await` stands under [Await]
+-- `for await` stands where `await` may
 unfoldable pub for_of_form : {X : Type 0} → Parameters → ForOfStmt X → Form X
 for_of_form c n =
-    Provided ByRule (not n.is_await || c.has_await)
+    Provided ByRule (not n.is_await || may_await c)
     (Fixed (word (codes "for")) ⇢ Fixed (word_if n.is_await (word (codes "await"))) ⇢ Fixed (mark (codes "("))
     ⇢ head_form (of_start n.is_await) c n.left ⇢ Fixed (word (codes "of")) ⇢ expr_part nt.AssignmentExpression (with_in c) n.right ⇢ Fixed (mark (codes ")")) ⇢ inner_part c n.body)
 

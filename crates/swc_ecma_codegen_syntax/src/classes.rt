@@ -15,7 +15,9 @@ use crate::functions::{
 };
 use crate::names::is;
 use crate::nonterminals::Nonterminal;
-use crate::parameters::{Parameters, of_class, of_field, of_function, of_static_block};
+use crate::parameters::{
+    Parameters, of_class, of_field, of_function, of_parameters, of_static_block,
+};
 use crate::pats::annotation;
 use crate::verdicts::Verdict;
 use swc_ecma_codegen_grammar::roles::Role;
@@ -256,10 +258,10 @@ impl<N: Answers> Stands for Constructor<N> {
 
     #[tactic(auto, unfolding(crate::specs::ClassForms::constructor_form, crate::specs::ClassForms::accessibility_form, crate::specs::Forms::judge, crate::specs::Forms::asked))]
     fn judge(&self, so_far: Verdict, parameters: Parameters) -> Verdict {
-        let own = of_function(false, false, parameters);
         let verdict = so_far.by_scope(self.accessibility.is_none());
-        let verdict = constructor_params(verdict, &self.params, own);
-        body(verdict, &self.body, own)
+        let listed = of_parameters(false, false, parameters);
+        let verdict = constructor_params(verdict, &self.params, listed);
+        body(verdict, &self.body, of_function(false, false, parameters))
     }
 }
 
@@ -292,9 +294,10 @@ fn rest_of_accessor<N: Answers>(
 ) -> Verdict
     ensures { result ≡ judge N.answers so_far (rest_of_accessor parameters function.now) }
 {
+    let listed = of_parameters(function.is_generator, function.is_async, parameters);
     let own = of_function(function.is_generator, function.is_async, parameters);
     let verdict = type_params(so_far, &function.type_params, parameters);
-    let verdict = plain_params(verdict, &function.params, own);
+    let verdict = plain_params(verdict, &function.params, listed);
     let verdict = annotation(verdict, &function.return_type, parameters);
     body(verdict, &function.body, own)
 }

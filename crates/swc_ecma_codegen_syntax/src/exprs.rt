@@ -19,7 +19,7 @@ use crate::objects::computed;
 use crate::operators::{
     binary_nonterminal, is_in, is_less, left_nonterminal, right_nonterminal, target_of,
 };
-use crate::parameters::{Parameters, before_operator, to_end, with_in};
+use crate::parameters::{Parameters, before_operator, may_await, may_yield, to_end, with_in};
 use crate::verdicts::{Facts, Verdict};
 use swc_ecma_codegen_grammar::roles::Role;
 use swc_ecma_codegen_tree::{
@@ -234,7 +234,7 @@ impl<N: Answers> Stands for YieldExpr<N> {
 
     #[tactic(auto, unfolding(crate::specs::ExprForms::yield_form, crate::specs::ExprForms::yield_rest_form, crate::specs::ExprForms::yield_arg_form, crate::specs::Forms::judge, crate::specs::Forms::asked))]
     fn judge(&self, so_far: Verdict, parameters: Parameters) -> Verdict {
-        let verdict = so_far.by_rule(parameters.has_yield);
+        let verdict = so_far.by_rule(may_yield(parameters));
         match (&self.arg, self.delegate) {
             (Some(arg), _) => {
                 verdict.part(
@@ -255,7 +255,7 @@ impl<N: Answers> Stands for AwaitExpr<N> {
 
     #[tactic(auto, unfolding(crate::specs::ExprForms::await_form, crate::specs::Forms::judge, crate::specs::Forms::asked))]
     fn judge(&self, so_far: Verdict, parameters: Parameters) -> Verdict {
-        so_far.by_rule(parameters.has_await).part(
+        so_far.by_rule(may_await(parameters)).part(
             &self.arg,
             Nonterminal::UnaryExpression,
             to_end(parameters),

@@ -14,6 +14,7 @@ use crate::names::{is, is_assignable, name};
 use crate::nonterminals::{Nonterminal, takes};
 use crate::parameters::{
     Parameters, of_arrow_block, of_arrow_parameters, of_arrow_value, of_function, of_function_name,
+    of_parameters,
 };
 use crate::pats::{annotation, pat_nonterminal};
 use crate::verdicts::Verdict;
@@ -207,9 +208,10 @@ pub(crate) fn rest_of_function<N: Answers>(
 ) -> Verdict
     ensures { result ≡ judge N.answers so_far (rest_of_function parameters function.now) }
 {
+    let listed = of_parameters(function.is_generator, function.is_async, parameters);
     let own = of_function(function.is_generator, function.is_async, parameters);
     let verdict = type_params(so_far, &function.type_params, parameters);
-    let verdict = params(verdict, &function.params, own);
+    let verdict = params(verdict, &function.params, listed);
     let verdict = annotation(verdict, &function.return_type, parameters);
     body(verdict, &function.body, own)
 }

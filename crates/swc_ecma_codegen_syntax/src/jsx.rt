@@ -3,7 +3,7 @@
 ghost use Rattle.std.specs.Prelude.{◌≡◌, ◌&&◌, false};
 ghost use Rattle.swc_ecma_codegen_grammar.specs.JsxPhrases.{is_text, is_parted, ends_in_text};
 ghost use Rattle.swc_ecma_codegen_syntax.specs.Forms.{judge};
-ghost use Rattle.swc_ecma_codegen_syntax.specs.JsxForms.{tag_member_form, tag_object_form, element_name_form, contained_form, container_form, spread_child_form, attr_value_form, attr_init_form, attr_form, opening_form, closing_form, child_form, children_form, unclosed_form, element_rest_form, is_closed, element_form, fragment_form};
+ghost use Rattle.swc_ecma_codegen_syntax.specs.JsxForms.{tag_member_form, tag_object_form, element_name_form, contained_form, container_form, spread_child_form, holds_expression, attr_value_form, attr_init_form, attr_form, opening_form, closing_form, child_form, children_form, unclosed_form, element_rest_form, is_closed, element_form, fragment_form};
 
 use crate::calls::type_args;
 use crate::forms::{Answers, Stands, all};
@@ -78,15 +78,26 @@ fn container<N: Answers>(
     }
 }
 
+/// Whether an expression stands in braces.
+#[tactic(auto, unfolding(crate::specs::JsxForms::holds_expression))]
+fn holds_expression<N: Answers>(contained: &JSXExpr<N>) -> bool
+    ensures { result ≡ holds_expression contained.now }
+{
+    matches!(contained, JSXExpr::Expr(_))
+}
+
 impl<N: Answers> Stands for JSXAttrValue<N> {
     ghost judged = { λ c n v. judge N.answers v (attr_value_form c n) };
 
-    #[tactic(auto, unfolding(crate::specs::JsxForms::attr_value_form, crate::specs::Forms::judge))]
+    #[tactic(auto, unfolding(crate::specs::JsxForms::attr_value_form, crate::specs::Forms::judge, crate::specs::Forms::asked))]
     fn judge(&self, so_far: Verdict, parameters: Parameters) -> Verdict {
         let place = Nonterminal::JSXElement;
         match self {
             JSXAttrValue::Lit(_) => so_far,
-            JSXAttrValue::JSXExprContainer(node) => container(so_far, false, node, parameters),
+            JSXAttrValue::JSXExprContainer(node) => {
+                let verdict = so_far.by_rule(holds_expression(&node.expr));
+                container(verdict, false, node, parameters)
+            }
             JSXAttrValue::JSXElement(link) => {
                 so_far.part(link, place, with_in(parameters), Role::Element)
             }

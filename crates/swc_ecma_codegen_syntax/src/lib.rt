@@ -33,6 +33,7 @@ mod targets;
 mod templates;
 mod unit_productions;
 mod verdicts;
+mod whole_trees;
 
 pub use crate::forms::{Answers, Stands};
 pub use crate::lookahead::{Beginning, Lookahead};
@@ -47,3 +48,4 @@ pub use crate::roots::{
     keeps_structure_item, keeps_structure_stmt, verdict, verdict_item, verdict_stmt,
 };
 pub use crate::verdicts::{Facts, Verdict};
+pub use crate::whole_trees::WholeTree;

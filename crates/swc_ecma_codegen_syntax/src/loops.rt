@@ -7,7 +7,7 @@ ghost use Rattle.swc_ecma_codegen_syntax.specs.StmtForms.{optional_form, while_f
 use crate::forms::{Answers, Stands};
 use crate::lookahead::Lookahead;
 use crate::nonterminals::Nonterminal;
-use crate::parameters::{Parameters, in_do_while, of_for, of_loop, of_targets, with_in};
+use crate::parameters::{Parameters, in_do_while, may_await, of_for, of_loop, of_targets, with_in};
 use crate::verdicts::Verdict;
 use swc_ecma_codegen_grammar::roles::Role;
 use swc_ecma_codegen_tree::{
@@ -150,7 +150,7 @@ impl<N: Answers> Stands for ForOfStmt<N> {
 
     #[tactic(auto, unfolding(crate::specs::StmtForms::for_of_form, crate::specs::Forms::judge, crate::specs::Forms::asked))]
     fn judge(&self, so_far: Verdict, parameters: Parameters) -> Verdict {
-        let verdict = so_far.by_rule(!self.is_await || parameters.has_await);
+        let verdict = so_far.by_rule(!self.is_await || may_await(parameters));
         head(verdict, of_start(self.is_await), &self.left, parameters)
             .part(
                 &self.right,

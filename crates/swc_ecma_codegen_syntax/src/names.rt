@@ -105,8 +105,7 @@ pub(crate) fn is_free(text: &str, parameters: Parameters) -> bool
     !is_reserved(text)
         && !(parameters.is_strict && is_strict_word(text))
         && !(parameters.has_yield && is(text, "yield"))
-        && !((parameters.has_await || parameters.reserves_await || parameters.in_static_block)
-            && is(text, "await"))
+        && !((parameters.has_await || parameters.reserves_await) && is(text, "await"))
 }
 
 /// Whether a name may be assigned to, or bound: not `eval` and `arguments` in strict code. ECMA-262, section 13.1.3.

@@ -10,7 +10,7 @@ ghost use Rattle.swc_ecma_codegen_syntax.specs.ObjectForms.{prop_name_form, key_
 use crate::forms::{Answers, Stands, all};
 use crate::names::{is_literal_number, name};
 use crate::nonterminals::Nonterminal;
-use crate::parameters::{Parameters, of_function, with_in};
+use crate::parameters::{Parameters, of_function, of_parameters, with_in};
 use crate::pats::annotation;
 use crate::verdicts::Verdict;
 use swc_ecma_codegen_grammar::roles::Role;
@@ -157,7 +157,7 @@ impl<N: Answers> Stands for SetterProp<N> {
         let verdict = this_param(verdict, &self.this_param, parameters).part(
             &self.param,
             Nonterminal::PatternElement,
-            of_function(false, false, parameters),
+            of_parameters(false, false, parameters),
             Role::Pattern,
         );
         accessor_body(verdict, &self.body, parameters)

@@ -1,7 +1,7 @@
 //! The parameters of nonterminals.
 
 ghost use Rattle.std.specs.Prelude.{◌≡◌, true, false};
-ghost use Rattle.swc_ecma_codegen_syntax.specs.Parameters.{of_script, of_module, with_in, to_end, before_operator, of_targets, of_bindings, of_declarations, of_for, of_loop, in_list, before, in_statement, in_do_while, in_if_else, labelled, behind_label, of_function, of_function_name, of_arrow_parameters, of_arrow_value, of_arrow_block, of_class, of_field, of_static_block};
+ghost use Rattle.swc_ecma_codegen_syntax.specs.Parameters.{of_script, of_module, with_in, to_end, before_operator, of_targets, of_bindings, of_declarations, of_for, of_loop, in_list, before, in_statement, in_do_while, in_if_else, labelled, behind_label, of_parameters, of_function, of_function_name, of_arrow_parameters, of_arrow_value, of_arrow_block, of_class, of_field, of_static_block, may_yield, may_await};
 
 /// Where a statement stands.
 #[derive(Clone, Copy, Debug, PartialEq, Eq)]
@@ -19,9 +19,9 @@ pub enum Position {
 pub struct Parameters {
     /// `[In]`: `in` is an operator here. It is none in the head of `for (a; b; c) {}`.
     pub has_in: bool,
-    /// `[Yield]`: inside a generator.
+    /// `[Yield]`: inside a generator, where `yield` is no name.
     pub has_yield: bool,
-    /// `[Await]`: inside an async function, or in a module outside functions.
+    /// `[Await]`: inside an async function, in a module outside functions, and in a static block of a class, where `await` is no name.
     pub has_await: bool,
     /// `[Return]`: inside a function. No expression by itself asks for it.
     pub has_return: bool,
@@ -29,8 +29,9 @@ pub struct Parameters {
     pub is_strict: bool,
     /// `await` is no name here: in a module. Section 13.1.1.
     pub reserves_await: bool,
-    /// In a static block of a class, and not in a function there: `await` is no name. Section 15.7.1.
-    pub in_static_block: bool,
+    /// No `yield a` and no `await a` stands here, whatever `[Yield]` and `[Await]` are: among the parameters of a function (sections 15.3.1, 15.5.1,
+    /// 15.6.1, 15.8.1 and 15.9.1), and in a static block of a class, but not in a function there (section 15.7.1).
+    pub bars_operators: bool,
     /// A pattern here is one of a binding, as in `let [a] = b`, and not one of an assignment, as `[a.b] = c`.
     pub is_binding: bool,
     /// Variables that are declared here get their values of a loop, as `a` of `for (let a of b) {}`.
@@ -59,7 +60,7 @@ impl Parameters {
             has_return: false,
             is_strict: false,
             reserves_await: false,
-            in_static_block: false,
+            bars_operators: false,
             is_binding: false,
             is_loop_head: false,
             position: Position::Item,
@@ -247,7 +248,22 @@ pub(crate) fn behind_label(parameters: Parameters) -> Parameters
     }
 }
 
-/// Those of the parameters and the body of a function.
+/// Those of the parameters of a function.
+pub(crate) fn of_parameters(
+    is_generator: bool,
+    is_async: bool,
+    parameters: Parameters,
+) -> Parameters
+    ensures { result ≡ of_parameters is_generator is_async parameters }
+{
+    Parameters {
+        has_return: parameters.has_return,
+        bars_operators: true,
+        ..of_function(is_generator, is_async, parameters)
+    }
+}
+
+/// Those of the body of a function.
 pub(crate) fn of_function(is_generator: bool, is_async: bool, parameters: Parameters) -> Parameters
     ensures { result ≡ of_function is_generator is_async parameters }
 {
@@ -256,7 +272,7 @@ pub(crate) fn of_function(is_generator: bool, is_async: bool, parameters: Parame
         has_yield: is_generator,
         has_await: is_async,
         has_return: true,
-        in_static_block: false,
+        bars_operators: false,
         is_binding: true,
         ..parameters
     }
@@ -279,8 +295,8 @@ pub(crate) fn of_arrow_parameters(is_async: bool, parameters: Parameters) -> Par
 {
     Parameters {
         has_in: true,
-        has_yield: parameters.has_yield && !is_async,
         has_await: is_async || parameters.has_await,
+        bars_operators: true,
         is_binding: true,
         ..parameters
     }
@@ -293,6 +309,7 @@ pub(crate) fn of_arrow_value(is_async: bool, parameters: Parameters) -> Paramete
     Parameters {
         has_yield: false,
         has_await: is_async,
+        bars_operators: false,
         ..parameters
     }
 }
@@ -306,7 +323,7 @@ pub(crate) fn of_arrow_block(is_async: bool, parameters: Parameters) -> Paramete
         has_yield: false,
         has_await: is_async,
         has_return: true,
-        in_static_block: false,
+        bars_operators: false,
         ..parameters
     }
 }
@@ -331,6 +348,7 @@ pub(crate) fn of_field(parameters: Parameters) -> Parameters
         has_in: true,
         has_yield: false,
         has_await: false,
+        bars_operators: false,
         ..parameters
     }
 }
@@ -344,7 +362,21 @@ pub(crate) fn of_static_block(parameters: Parameters) -> Parameters
         has_yield: false,
         has_await: true,
         has_return: false,
-        in_static_block: true,
+        bars_operators: true,
         ..parameters
     }
+}
+
+/// Whether `yield a` may stand there.
+pub(crate) fn may_yield(parameters: Parameters) -> bool
+    ensures { result ≡ may_yield parameters }
+{
+    parameters.has_yield && !parameters.bars_operators
+}
+
+/// Whether `await a` may stand there, and `for await (a of b) {}`.
+pub(crate) fn may_await(parameters: Parameters) -> bool
+    ensures { result ≡ may_await parameters }
+{
+    parameters.has_await && !parameters.bars_operators
 }

@@ -29,6 +29,7 @@ use crate::stmts::{is_empty, stmt_nonterminal};
 use crate::targets::target_nonterminal;
 use crate::templates::tpl;
 use crate::verdicts::{Facts, Verdict};
+use crate::whole_trees::WholeTree;
 use swc_ecma_codegen_grammar::roles::Role;
 use swc_ecma_codegen_tree::{AnyNode, Expr, ExprPart, JSXPart, Pat, Stmt, StmtPart};
 
@@ -248,8 +249,12 @@ impl Answers for AnyNode {
 ///
 /// `(a + b) * c` without its parentheses, as an Expression of a script, is covered and curable, and not
 /// parenthesized.
-pub fn verdict_expr(expr: &Expr, place: Nonterminal, parameters: Parameters) -> Verdict
-    ensures { result ≡ expr_verdict place parameters expr.now }
+pub fn verdict_expr<N: WholeTree>(
+    expr: &Expr<N>,
+    place: Nonterminal,
+    parameters: Parameters,
+) -> Verdict
+    ensures { result ≡ expr_verdict place parameters (N.expr_in expr.now) }
 {
     Verdict::unasked().of_part(place, expr_facts(expr, false, parameters))
 }
@@ -263,19 +268,23 @@ pub fn verdict_expr(expr: &Expr, place: Nonterminal, parameters: Parameters) -> 
 /// of them is derived that has no parentheses round what `yield`, `return` and `throw` have and round the only
 /// parameter of an arrow function, and no comma before the bracket that closes a pattern. `parameters.minify` has to
 /// be that of the settings: `new (new A())()` is `new new A` then. Takes no memory.
-pub fn keeps_structure_expr(expr: &Expr, place: Nonterminal, parameters: Parameters) -> bool
+pub fn keeps_structure_expr<N: WholeTree>(
+    expr: &Expr<N>,
+    place: Nonterminal,
+    parameters: Parameters,
+) -> bool
     ensures sound { (s : Settings) (ts : List Token)
-        → DerivesExpr true s place parameters expr.now ts
-        → (result ≡ true) × Generates s (expr_phrase expr.now) ts }
+        → DerivesExpr true s place parameters (N.expr_in expr.now) ts
+        → (result ≡ true) × Generates s (expr_phrase (N.expr_in expr.now)) ts }
     ensures complete { result ≡ true → (s : Settings) (ts : List Token)
         → s.minify ≡ parameters.minify
-        → Generates s (bare_phrase (expr_phrase expr.now)) ts
-        → DerivesExpr true s place parameters expr.now ts }
-    ensures exactly { is_possible (expr_phrase expr.now) ≡ true → (s : Settings)
+        → Generates s (bare_phrase (expr_phrase (N.expr_in expr.now))) ts
+        → DerivesExpr true s place parameters (N.expr_in expr.now) ts }
+    ensures exactly { is_possible (expr_phrase (N.expr_in expr.now)) ≡ true → (s : Settings)
         → s.minify ≡ parameters.minify
         → (result ≡ true)
-        ↔ ((ts : List Token) × DerivesExpr true s place parameters expr.now ts) }
-    ensures verdict { result ≡ holds true (expr_verdict place parameters expr.now) }
+        ↔ ((ts : List Token) × DerivesExpr true s place parameters (N.expr_in expr.now) ts) }
+    ensures verdict { result ≡ holds true (expr_verdict place parameters (N.expr_in expr.now)) }
 {
     verdict_expr(expr, place, parameters).is_derivation()
 }
@@ -283,19 +292,23 @@ pub fn keeps_structure_expr(expr: &Expr, place: Nonterminal, parameters: Paramet
 /// Whether nothing is wrong with an expression but parentheses that are missing: true exactly where the grammar
 /// derives a list of its tokens if any part may stand where it would stand in parentheses. `a + b * c` for the
 /// product of a sum is curable, `a() = b` isn't. Takes no memory.
-pub fn is_curable_expr(expr: &Expr, place: Nonterminal, parameters: Parameters) -> bool
+pub fn is_curable_expr<N: WholeTree>(
+    expr: &Expr<N>,
+    place: Nonterminal,
+    parameters: Parameters,
+) -> bool
     ensures sound { (s : Settings) (ts : List Token)
-        → DerivesExpr false s place parameters expr.now ts
-        → (result ≡ true) × Generates s (expr_phrase expr.now) ts }
+        → DerivesExpr false s place parameters (N.expr_in expr.now) ts
+        → (result ≡ true) × Generates s (expr_phrase (N.expr_in expr.now)) ts }
     ensures complete { result ≡ true → (s : Settings) (ts : List Token)
         → s.minify ≡ parameters.minify
-        → Generates s (bare_phrase (expr_phrase expr.now)) ts
-        → DerivesExpr false s place parameters expr.now ts }
-    ensures exactly { is_possible (expr_phrase expr.now) ≡ true → (s : Settings)
+        → Generates s (bare_phrase (expr_phrase (N.expr_in expr.now))) ts
+        → DerivesExpr false s place parameters (N.expr_in expr.now) ts }
+    ensures exactly { is_possible (expr_phrase (N.expr_in expr.now)) ≡ true → (s : Settings)
         → s.minify ≡ parameters.minify
         → (result ≡ true)
-        ↔ ((ts : List Token) × DerivesExpr false s place parameters expr.now ts) }
-    ensures verdict { result ≡ holds false (expr_verdict place parameters expr.now) }
+        ↔ ((ts : List Token) × DerivesExpr false s place parameters (N.expr_in expr.now) ts) }
+    ensures verdict { result ≡ holds false (expr_verdict place parameters (N.expr_in expr.now)) }
 {
     verdict_expr(expr, place, parameters).is_curable()
 }
@@ -303,10 +316,14 @@ pub fn is_curable_expr(expr: &Expr, place: Nonterminal, parameters: Parameters) 
 /// Whether no part of an expression wants parentheses that it hasn't. With `is_curable_expr` it is
 /// `keeps_structure_expr`. Takes no memory.
 #[tactic(auto, using(crate::proofs::VerdictLaws::holds_both))]
-pub fn is_parenthesized_expr(expr: &Expr, place: Nonterminal, parameters: Parameters) -> bool
-    ensures verdict { result ≡ (expr_verdict place parameters expr.now).parenthesized }
-    ensures both { holds true (expr_verdict place parameters expr.now)
-        ≡ (holds false (expr_verdict place parameters expr.now) && result) }
+pub fn is_parenthesized_expr<N: WholeTree>(
+    expr: &Expr<N>,
+    place: Nonterminal,
+    parameters: Parameters,
+) -> bool
+    ensures verdict { result ≡ (expr_verdict place parameters (N.expr_in expr.now)).parenthesized }
+    ensures both { holds true (expr_verdict place parameters (N.expr_in expr.now))
+        ≡ (holds false (expr_verdict place parameters (N.expr_in expr.now)) && result) }
 {
     verdict_expr(expr, place, parameters).parenthesized
 }
@@ -315,10 +332,14 @@ pub fn is_parenthesized_expr(expr: &Expr, place: Nonterminal, parameters: Parame
 /// false of TypeScript, of decorators, and of names that are spelled with escapes; then the
 /// expression neither keeps its structure nor is curable. Takes no memory.
 #[tactic(auto, using(crate::proofs::VerdictLaws::uncovered_holds))]
-pub fn is_covered_expr(expr: &Expr, place: Nonterminal, parameters: Parameters) -> bool
-    ensures verdict { result ≡ (expr_verdict place parameters expr.now).covered }
+pub fn is_covered_expr<N: WholeTree>(
+    expr: &Expr<N>,
+    place: Nonterminal,
+    parameters: Parameters,
+) -> bool
+    ensures verdict { result ≡ (expr_verdict place parameters (N.expr_in expr.now)).covered }
     ensures uncovered { result ≡ false → (places : Bool)
-        → holds places (expr_verdict place parameters expr.now) ≡ false }
+        → holds places (expr_verdict place parameters (N.expr_in expr.now)) ≡ false }
 {
     verdict_expr(expr, place, parameters).covered
 }
@@ -326,8 +347,12 @@ pub fn is_covered_expr(expr: &Expr, place: Nonterminal, parameters: Parameters) 
 /// The same of a pattern, as `verdict_expr` says it of an expression. `parameters.is_binding` says whether the
 /// pattern is one of a binding, as in `let [a] = b`, or one of an assignment, as `[a.b] = c`. Takes no memory.
 #[tactic(auto, unfolding(crate::specs::NodeForms::part_facts, crate::specs::NodeForms::part_nonterminal, crate::specs::NodeForms::part_form))]
-pub fn verdict_pat(pat: &Pat, place: Nonterminal, parameters: Parameters) -> Verdict
-    ensures { result ≡ pat_verdict place parameters pat.now }
+pub fn verdict_pat<N: WholeTree>(
+    pat: &Pat<N>,
+    place: Nonterminal,
+    parameters: Parameters,
+) -> Verdict
+    ensures { result ≡ pat_verdict place parameters (N.pat_in pat.now) }
 {
     Verdict::unasked().of_part(place, pat_facts(pat, parameters))
 }
@@ -335,38 +360,46 @@ pub fn verdict_pat(pat: &Pat, place: Nonterminal, parameters: Parameters) -> Ver
 /// Whether a pattern keeps its structure, where this nonterminal with these parameters stands: PatternTarget, or
 /// PatternElement where a value may stand behind it, or LastElement where it may be a rest. See
 /// `keeps_structure_expr`. Takes no memory.
-pub fn keeps_structure_pat(pat: &Pat, place: Nonterminal, parameters: Parameters) -> bool
+pub fn keeps_structure_pat<N: WholeTree>(
+    pat: &Pat<N>,
+    place: Nonterminal,
+    parameters: Parameters,
+) -> bool
     ensures sound { (s : Settings) (ts : List Token)
-        → DerivesPat true s place parameters pat.now ts
-        → (result ≡ true) × Generates s (pat_phrase pat.now) ts }
+        → DerivesPat true s place parameters (N.pat_in pat.now) ts
+        → (result ≡ true) × Generates s (pat_phrase (N.pat_in pat.now)) ts }
     ensures complete { result ≡ true → (s : Settings) (ts : List Token)
         → s.minify ≡ parameters.minify
-        → Generates s (bare_phrase (pat_phrase pat.now)) ts
-        → DerivesPat true s place parameters pat.now ts }
-    ensures exactly { is_possible (pat_phrase pat.now) ≡ true → (s : Settings)
+        → Generates s (bare_phrase (pat_phrase (N.pat_in pat.now))) ts
+        → DerivesPat true s place parameters (N.pat_in pat.now) ts }
+    ensures exactly { is_possible (pat_phrase (N.pat_in pat.now)) ≡ true → (s : Settings)
         → s.minify ≡ parameters.minify
         → (result ≡ true)
-        ↔ ((ts : List Token) × DerivesPat true s place parameters pat.now ts) }
-    ensures verdict { result ≡ holds true (pat_verdict place parameters pat.now) }
+        ↔ ((ts : List Token) × DerivesPat true s place parameters (N.pat_in pat.now) ts) }
+    ensures verdict { result ≡ holds true (pat_verdict place parameters (N.pat_in pat.now)) }
 {
     verdict_pat(pat, place, parameters).is_derivation()
 }
 
 /// Whether nothing is wrong with a pattern but parentheses that are missing. See `is_curable_expr`. Takes no
 /// memory.
-pub fn is_curable_pat(pat: &Pat, place: Nonterminal, parameters: Parameters) -> bool
+pub fn is_curable_pat<N: WholeTree>(
+    pat: &Pat<N>,
+    place: Nonterminal,
+    parameters: Parameters,
+) -> bool
     ensures sound { (s : Settings) (ts : List Token)
-        → DerivesPat false s place parameters pat.now ts
-        → (result ≡ true) × Generates s (pat_phrase pat.now) ts }
+        → DerivesPat false s place parameters (N.pat_in pat.now) ts
+        → (result ≡ true) × Generates s (pat_phrase (N.pat_in pat.now)) ts }
     ensures complete { result ≡ true → (s : Settings) (ts : List Token)
         → s.minify ≡ parameters.minify
-        → Generates s (bare_phrase (pat_phrase pat.now)) ts
-        → DerivesPat false s place parameters pat.now ts }
-    ensures exactly { is_possible (pat_phrase pat.now) ≡ true → (s : Settings)
+        → Generates s (bare_phrase (pat_phrase (N.pat_in pat.now))) ts
+        → DerivesPat false s place parameters (N.pat_in pat.now) ts }
+    ensures exactly { is_possible (pat_phrase (N.pat_in pat.now)) ≡ true → (s : Settings)
         → s.minify ≡ parameters.minify
         → (result ≡ true)
-        ↔ ((ts : List Token) × DerivesPat false s place parameters pat.now ts) }
-    ensures verdict { result ≡ holds false (pat_verdict place parameters pat.now) }
+        ↔ ((ts : List Token) × DerivesPat false s place parameters (N.pat_in pat.now) ts) }
+    ensures verdict { result ≡ holds false (pat_verdict place parameters (N.pat_in pat.now)) }
 {
     verdict_pat(pat, place, parameters).is_curable()
 }

@@ -1,8 +1,8 @@
 //! Statements but for loops.
 
-ghost use Rattle.std.specs.Prelude.{◌≡◌};
+ghost use Rattle.std.specs.Prelude.{◌≡◌, ◌&&◌, ◌||◌, false, is_none};
 ghost use Rattle.swc_ecma_codegen_syntax.specs.Forms.{judge};
-ghost use Rattle.swc_ecma_codegen_syntax.specs.StmtForms.{expression_part, inner_part, block_part, expr_stmt_form, with_form, return_rest_form, return_form, labelled_place, labeled_form, jump_form, branches_form, if_form, case_test_form, clause_item_form, clause_list_form, case_form, switch_form, throw_form, catch_param_form, catch_form, handler_form, finalizer_form, try_form, stmt_form, stmt_nonterminal, is_empty, begins_empty, list_form, block_form};
+ghost use Rattle.swc_ecma_codegen_syntax.specs.StmtForms.{expression_part, inner_part, block_part, expr_stmt_form, with_form, is_case_block, return_rest_form, return_form, labelled_place, labeled_form, jump_form, branches_form, if_form, case_test_form, clause_item_form, clause_list_form, case_form, switch_form, throw_form, catch_param_form, catch_form, handler_form, finalizer_form, try_form, stmt_form, stmt_nonterminal, is_empty, begins_empty, list_form, block_form};
 
 use crate::decls::decl_nonterminal;
 use crate::forms::{Answers, Stands, all};
@@ -210,12 +210,52 @@ impl<N: Answers> Stands for SwitchCase<N> {
     }
 }
 
+/// Whether a clause is `default`.
+fn is_default<N: Answers>(case: &SwitchCase<N>) -> bool
+    ensures { result ≡ is_none case.now.test }
+{
+    case.test.is_none()
+}
+
+/// Whether a clause is a second `default`.
+fn clashes(with_default: bool, is_default: bool) -> bool
+    ensures { result ≡ (with_default && is_default) }
+{
+    with_default && is_default
+}
+
+/// Whether a `default` stands among the clauses up to this one.
+fn is_behind_default(with_default: bool, is_default: bool) -> bool
+    ensures { result ≡ (with_default || is_default) }
+{
+    with_default || is_default
+}
+
+/// Whether `default` stands once at most. ECMA-262, section 14.12.
+#[tactic(auto, using(crate::proofs::StmtsJudged::case_block_stops), unfolding(crate::specs::StmtForms::is_case_block))]
+fn is_case_block<N: Answers>(cases: &[SwitchCase<N>]) -> bool
+    ensures { result ≡ is_case_block false cases.now }
+{
+    let mut with_default = false;
+    for case in cases {
+        let default = is_default(case);
+        let clash = clashes(with_default, default);
+        if clash {
+            return false;
+        }
+        with_default = is_behind_default(with_default, default);
+    }
+    true
+}
+
 impl<N: Answers> Stands for SwitchStmt<N> {
     ghost judged = { λ c n v. judge N.answers v (switch_form c n) };
 
     fn judge(&self, so_far: Verdict, parameters: Parameters) -> Verdict {
         all(
-            so_far.expression(&self.discriminant, parameters),
+            so_far
+                .by_rule(is_case_block(&self.cases))
+                .expression(&self.discriminant, parameters),
             &self.cases,
             parameters,
         )

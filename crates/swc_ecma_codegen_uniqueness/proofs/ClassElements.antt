@@ -35,10 +35,10 @@ use Rattle.swc_ecma_codegen_grammar.specs.TsDeclPhrases.{declare_word}
 use Rattle.swc_ecma_codegen_grammar.specs.declared.roles.Role.TheVariants.{MethodHead, MethodDecorators, MethodTail, AccessorTail}
 use Rattle.swc_ecma_codegen_syntax.specs.declared.nonterminals.Nonterminal.TheVariants as nt
 use Rattle.swc_ecma_codegen_syntax.specs.declared.parameters.Parameters.{Parameters}
-use Rattle.swc_ecma_codegen_syntax.specs.Parameters.{of_function}
+use Rattle.swc_ecma_codegen_syntax.specs.Parameters.{of_function, of_parameters}
 use Rattle.swc_ecma_codegen_syntax.specs.ClassForms.{accessibility_form, constructor_param_form, constructor_form, rest_of_accessor, accessor_form, tail_of, kind_form, method_kind_form, optional_mark_form, method_form, private_method_form, field_value_form, plain_modifiers, field_type_form, field_form, plain_private_modifiers, private_field_form, static_block_form, member_of_class_form}
 use Rattle.swc_ecma_codegen_syntax.specs.Forms.{Fixed, Part, Provided, ByRule, ByScope, is_met}
-use Rattle.swc_ecma_codegen_syntax.specs.FunctionForms.{own_of}
+use Rattle.swc_ecma_codegen_syntax.specs.FunctionForms.{own_of, parameters_of}
 use Rattle.swc_ecma_codegen_syntax.specs.NodeForms.{node_form, part_form, stmt_part_form, jsx_part_form}
 use Rattle.swc_ecma_codegen_syntax.specs.Derives.{Derives, fixed, part, both, provided}
 use Rattle.swc_ecma_codegen_uniqueness.specs.ParseTrees.{Variant, ParseTree, End, Read, Node, Constructor, ClassMethod, PrivateMethod, ClassProp, PrivateProp, StaticBlock, EmptyStmt, member_variant}
@@ -184,7 +184,7 @@ accessor_rest c x (both t (both (fixed g) (both d (both (fixed h) (both a e)))))
   is = λ rest. no_type_params c x.type_params t _;
   good =
       λ n i rest r. subst (λ w. Good (Rest (Parameter n.place) n.variant n.of) (derived_parse d (Read (punctuator (codes ")")) w))) (sym (no_annotation c x.return_type a (derived_parse e rest)))
-      (plain_params_good n (each_param n (own_of c x) refl m) x.params.items d o (derived_parse e rest) (body_good n (own_of c x) x.body i e q m rest r));
+      (plain_params_good n (each_param n (parameters_of c x) refl m) x.params.items d o (derived_parse e rest) (body_good n (own_of c x) x.body i e q m rest r));
 }
 
 accessor_by : {s : Settings} (b : Bool) (c : Parameters) (x : functions.Function AnyNode) {ts : List Token} (d : Derives true s (if b then Provided ByRule false (Fixed phrases.Never) else rest_of_accessor c x) ts) → AllGood d → s.minify ≡ c.minify →
@@ -257,7 +257,7 @@ constructor_good : {s : Settings} (c : Parameters) (n : constructors.Constructor
 unfolding constructor_form AllGood derived_parse read_phrase word punctuator
 constructor_good c n (both a (both (fixed g) (both (fixed h) (both d (both (fixed i) e))))) (y, (z, (u, (o, (v, r))))) m =
     subst (λ p. Good (Whole Constructor nt.ClassElement) p) (sym (no_accessibility n.accessibility a _))
-    (begun_member (word (codes "constructor")) refl (shifted refl (params_good (member_within Constructor) (param_read (member_within Constructor) (of_function false false c) refl m) n.params.items d o _
+    (begun_member (word (codes "constructor")) refl (shifted refl (params_good (member_within Constructor) (param_read (member_within Constructor) (of_parameters false false c) refl m) n.params.items d o _
     (body_good (member_within Constructor) (of_function false false c) n.body refl e r m End (ended Constructor nt.ClassElement)))))
 
 -- ---- fields

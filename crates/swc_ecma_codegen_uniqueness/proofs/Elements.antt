@@ -334,7 +334,7 @@ value_good : {s : Settings} (n : Nonterminal) (c : Parameters) (x : JSXAttrValue
     InElement AttributeValue n (derived_parse d rest)
 unfolding attr_value_form container_form open_mark AllGood PlacedGood derived_parse read_phrase placed is_inlined
 value_good {s = s} n c (attr_values.Lit x) (fixed {ts = ts} g) o m rest b = lit_good s n x ts g (goes_on_in b)
-value_good n c (attr_values.JSXExprContainer x) (both (fixed g) (both d (fixed h))) (y, (o, z)) m rest b = braced_value n (contained_good tag_braces n c x.expr d o m (goes_on_in b))
+value_good n c (attr_values.JSXExprContainer x) (provided i (both (fixed g) (both d (fixed h)))) (y, (o, z)) m rest b = braced_value n (contained_good tag_braces n c x.expr d o m (goes_on_in b))
 value_good n c (attr_values.JSXElement x) (part a sa d) o m rest b = value_element n a (with_in c) (out-AnyNode x.node.value) d (o m) rest b
 value_good n c (attr_values.JSXFragment x) (part a sa d) o m rest b = value_element n a (with_in c) (out-AnyNode x.node.value) d (o m) rest b
 

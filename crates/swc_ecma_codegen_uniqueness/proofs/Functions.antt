@@ -32,7 +32,7 @@ use Rattle.swc_ecma_codegen_syntax.specs.declared.parameters.Parameters.{Paramet
 use Rattle.swc_ecma_codegen_syntax.specs.Nonterminals.{takes, is_pattern_target, is_pattern_element, is_last_element}
 use Rattle.swc_ecma_codegen_syntax.specs.Parameters.{of_function_name}
 use Rattle.swc_ecma_codegen_syntax.specs.Forms.{Form, Fixed, Part, Provided, ByRule, ByScope, is_met, in_order, each_after, listed, ending_after, ending_listed}
-use Rattle.swc_ecma_codegen_syntax.specs.FunctionForms.{type_params_form, decorators_form, bound_name_form, optional_name_form, pat_in, param_form, body_form, own_of, rest_of_function, function_form, fn_expr_form, fn_default_form, fn_decl_form}
+use Rattle.swc_ecma_codegen_syntax.specs.FunctionForms.{type_params_form, decorators_form, bound_name_form, optional_name_form, pat_in, param_form, body_form, own_of, parameters_of, rest_of_function, function_form, fn_expr_form, fn_default_form, fn_decl_form}
 use Rattle.swc_ecma_codegen_syntax.specs.PatForms.{pat_form, pat_nonterminal}
 use Rattle.swc_ecma_codegen_syntax.specs.NodeForms.{node_form, part_form, stmt_part_form, jsx_part_form}
 use Rattle.swc_ecma_codegen_syntax.specs.Derives.{Derives, fixed, part, both, provided}
@@ -182,7 +182,7 @@ rest_good c x (both t (both (fixed g) (both d (both (fixed h) (both a e))))) (y,
   is = λ rest. no_type_params c x.type_params t _;
   good =
       λ n i rest r. subst (λ w. Good (Rest (Parameter n.place) n.variant n.of) (derived_parse d (Read (punctuator (codes ")")) w))) (sym (no_annotation c x.return_type a (derived_parse e rest)))
-      (params_good n (each_param n (own_of c x) refl m) x.params.items d o (derived_parse e rest) (body_good n (own_of c x) x.body i e q m rest r));
+      (params_good n (each_param n (parameters_of c x) refl m) x.params.items d o (derived_parse e rest) (body_good n (own_of c x) x.body i e q m rest r));
 }
 
 function_by : {s : Settings} (b : Bool) (c : Parameters) (x : functions.Function AnyNode) {ts : List Token} (d : Derives true s (if b then Provided ByRule false (Fixed phrases.Never) else rest_of_function c x) ts) → AllGood d → s.minify ≡ c.minify →

@@ -30,8 +30,8 @@ phrase_joined s (TagNameOf at bytes) ts g m rest = refl
 phrase_joined s (Then a b) ts (us, vs, x, y, e) m rest = phrase_joined s a us x (read_phrase s b vs y m) rest ∙ ap (read_phrase s a us x) (phrase_joined s b vs y m rest)
 phrase_joined s (CommaBefore close) ts (inl e) m rest = refl
 phrase_joined s (CommaBefore close) ts (inr e) m rest = refl
-phrase_joined s (OptionalParentheses a) ts (inl x) m rest = phrase_joined s a ts x m rest
-phrase_joined s (OptionalParentheses a) ts (inr (us, x, e)) m rest = ap (Optional open_parenthesis) (phrase_joined s a us x (Optional close_parenthesis m) rest)
+phrase_joined s (OptionalParentheses round a) ts (inl x) m rest = phrase_joined s a ts x m rest
+phrase_joined s (OptionalParentheses round a) ts (inr (us, x, e)) m rest = ap (Optional open_parenthesis) (phrase_joined s a us x (Optional close_parenthesis m) rest)
 phrase_joined s (Chosen choice) ts g m rest = all_joined (chosen s choice) m rest
 
 placed_joined : (b : Bool) (variant : Variant) (f : ParseTree → ParseTree) → ((m rest : ParseTree) → joined (f m) rest ≡ f (joined m rest)) → (m rest : ParseTree) → joined (placed b variant f m) rest ≡ placed b variant f (joined m rest)

@@ -312,8 +312,8 @@ phrase_settled s (Then a b) ts (us, vs, x, y, e) rest =
     phrase_settled s a us x (read_phrase s b vs y rest) ∙ ap (read_all (phrase_tokens s a)) (phrase_settled s b vs y rest) ∙ sym (read_on (phrase_tokens s a) (phrase_tokens s b) (settled rest))
 phrase_settled s (CommaBefore close) ts (inl e) rest = refl
 phrase_settled s (CommaBefore close) ts (inr e) rest = refl
-phrase_settled s (OptionalParentheses a) ts (inl x) rest = phrase_settled s a ts x rest
-phrase_settled s (OptionalParentheses a) ts (inr (us, x, e)) rest = phrase_settled s a us x (Optional close_parenthesis rest)
+phrase_settled s (OptionalParentheses round a) ts (inl x) rest = phrase_settled s a ts x rest
+phrase_settled s (OptionalParentheses round a) ts (inr (us, x, e)) rest = phrase_settled s a us x (Optional close_parenthesis rest)
 phrase_settled s (Chosen choice) ts g rest = all_settled (chosen s choice) rest
 
 placed_settled : (b : Bool) (variant : Variant) (f g : ParseTree → ParseTree) → ((rest : ParseTree) → settled (f rest) ≡ g (settled rest)) → (rest : ParseTree) → settled (placed b variant f rest) ≡ placed b variant g (settled rest)

@@ -32,8 +32,8 @@ phrase_tokens s (Then a b) ts (vs, ws, x, y, e) rest us =
     phrase_tokens s a vs x (read_phrase s b ws y rest) us ∙ ap (λ z. vs ++ z) (phrase_tokens s b ws y rest us) ∙ sym (append_assoc vs ws (tokens_of rest us)) ∙ in_front (tokens_of rest us) e
 phrase_tokens s (CommaBefore close) ts (inl e) rest us = in_front (tokens_of rest us) e
 phrase_tokens s (CommaBefore close) ts (inr e) rest us = in_front (tokens_of rest us) e
-phrase_tokens s (OptionalParentheses a) ts (inl x) rest us = phrase_tokens s a ts x rest us
-phrase_tokens s (OptionalParentheses a) ts (inr (vs, x, e)) rest us =
+phrase_tokens s (OptionalParentheses round a) ts (inl x) rest us = phrase_tokens s a ts x rest us
+phrase_tokens s (OptionalParentheses round a) ts (inr (vs, x, e)) rest us =
     ap (λ z. open_parenthesis ∷ z) (phrase_tokens s a vs x (Optional close_parenthesis rest) us ∙ sym (append_assoc vs (close_parenthesis ∷ []) (tokens_of rest us))) ∙ in_front (tokens_of rest us) e
 phrase_tokens s (Chosen choice) ts g rest us = read_tokens (chosen s choice) rest us ∙ in_front (tokens_of rest us) g
 
@@ -79,8 +79,8 @@ phrase_allowed s (TagNameOf at bytes) ts g rest k = k
 phrase_allowed s (Then a b) ts (vs, ws, x, y, e) rest k = phrase_allowed s a vs x (read_phrase s b ws y rest) (phrase_allowed s b ws y rest k)
 phrase_allowed s (CommaBefore close) ts (inl e) rest k = k
 phrase_allowed s (CommaBefore close) ts (inr e) rest k = (inl refl, k)
-phrase_allowed s (OptionalParentheses a) ts (inl x) rest k = phrase_allowed s a ts x rest k
-phrase_allowed s (OptionalParentheses a) ts (inr (vs, x, e)) rest k = (inr (inl refl), phrase_allowed s a vs x (Optional close_parenthesis rest) (inr (inr refl), k))
+phrase_allowed s (OptionalParentheses round a) ts (inl x) rest k = phrase_allowed s a ts x rest k
+phrase_allowed s (OptionalParentheses round a) ts (inr (vs, x, e)) rest k = (inr (inl refl), phrase_allowed s a vs x (Optional close_parenthesis rest) (inr (inr refl), k))
 phrase_allowed s (Chosen choice) ts g rest k = all_allowed (chosen s choice) rest k
 
 placed_allowed : (b : Bool) (variant : Variant) (inside : ParseTree → ParseTree) → ((rest : ParseTree) → AreCommasAndParentheses rest → AreCommasAndParentheses (inside rest)) → (rest : ParseTree) → AreCommasAndParentheses rest →

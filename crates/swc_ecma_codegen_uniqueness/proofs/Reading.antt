@@ -25,7 +25,7 @@ read_phrase s (PrivateOf bytes) ts g rest = Read (tokens.private_name (name_valu
 read_phrase s (TagNameOf at bytes) ts g rest = Read (tokens.tag_name (chars bytes)) rest
 read_phrase s (Then a b) ts g rest = read_phrase s a g.0 g.2 (read_phrase s b g.1 g.3 rest)
 read_phrase s (CommaBefore close) ts g rest = elim g [ inl e ↦ Read (closing_token close) rest | inr e ↦ Optional comma (Read (closing_token close) rest) ]
-read_phrase s (OptionalParentheses a) ts g rest = elim g [ inl x ↦ read_phrase s a ts x rest | inr x ↦ Optional open_parenthesis (read_phrase s a x.0 x.1 (Optional close_parenthesis rest)) ]
+read_phrase s (OptionalParentheses round a) ts g rest = elim g [ inl x ↦ read_phrase s a ts x rest | inr x ↦ Optional open_parenthesis (read_phrase s a x.0 x.1 (Optional close_parenthesis rest)) ]
 read_phrase s (Chosen choice) ts g rest = read_all (chosen s choice) rest
 
 unfoldable pub derived_parse : {places : Bool} {s : Settings} {a : Form AnyNode} {ts : List Token} → Derives places s a ts → ParseTree → ParseTree

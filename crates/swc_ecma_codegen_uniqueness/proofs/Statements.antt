@@ -215,7 +215,7 @@ stmt_good c (stmts.Labeled n) d o m = labeled_good c n d o m
 stmt_good c (stmts.Break n) (both (fixed g) d) (x, o) m = jump_by (follower c) (word (codes "break")) BreakStmt c n.label d refl refl refl
 stmt_good c (stmts.Continue n) (both (fixed g) d) (x, o) m = jump_by (follower c) (word (codes "continue")) ContinueStmt c n.label d refl refl refl
 stmt_good c (stmts.If n) (both (fixed g) (both (fixed h) (both (part a sa d) (both (fixed k) e)))) (x, (y, (o, (z, q)))) m = if_by c n.cons n.alt (at_place _ _ sa (o m)) e q m
-stmt_good c (stmts.Switch n) (both (fixed g) (both (fixed h) (both (part a sa d) (both (fixed k) (both (fixed l) (both e (fixed j))))))) (x, (y, (o, (z, (w, (q, v)))))) m =
+stmt_good c (stmts.Switch n) (provided i (both (fixed g) (both (fixed h) (both (part a sa d) (both (fixed k) (both (fixed l) (both e (fixed j)))))))) (x, (y, (o, (z, (w, (q, v)))))) m =
     switch_begun (follower c) (at_place _ _ sa (o m)) (cases_good (item_of (follower c)) c n.cases.items e q m (switch_ends (item_of (follower c)))).0
 stmt_good c (stmts.Throw n) (both (fixed g) (both (fixed h) (both (bare (part a sa d)) (fixed k)))) (x, (y, (o, z))) m = word_valued (word (codes "throw")) ThrowStmt (follower c) refl refl refl (at_place _ _ sa (o m))
 stmt_good c (stmts.Try n) (provided h (both (fixed g) (both (part a sa d) (both e f)))) (x, (o, (q, r))) m =

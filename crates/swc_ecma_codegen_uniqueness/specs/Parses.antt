@@ -37,7 +37,7 @@ phrase_tokens s (PrivateOf bytes) = tokens.private_name (name_value (spelled_nam
 phrase_tokens s (TagNameOf at bytes) = tokens.tag_name (chars bytes) ∷ []
 phrase_tokens s (Then a b) = phrase_tokens s a ++ phrase_tokens s b
 phrase_tokens s (CommaBefore close) = closing_token close ∷ []
-phrase_tokens s (OptionalParentheses a) = phrase_tokens s a
+phrase_tokens s (OptionalParentheses round a) = phrase_tokens s a
 phrase_tokens s (Chosen choice) = chosen s choice
 
 unfoldable pub read_all : List Token → ParseTree → ParseTree

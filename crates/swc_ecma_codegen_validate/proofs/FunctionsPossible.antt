@@ -13,7 +13,7 @@ use Rattle.swc_ecma_codegen_grammar.specs.declared.roles.Role.TheVariants.{Plain
 use Rattle.swc_ecma_codegen_grammar.specs.PatPhrases.{pat_at}
 use Rattle.swc_ecma_codegen_grammar.specs.FunctionPhrases.{after_async, word_if, is_some_listed, param, function_body, function, function_head, method_head, is_never, only_parameter, arrow_parameters, is_typed_arrow, arrow_body, arrow_expr}
 use Rattle.swc_ecma_codegen_grammar.specs.StmtPhrases.{stmt, block_stmt}
-use Rattle.swc_ecma_codegen_grammar.specs.Phrases.{Phrase, Never, OptionalParentheses, ◌>◌, mark, word, in_order, listed, is_possible}
+use Rattle.swc_ecma_codegen_grammar.specs.Phrases.{Phrase, Never, OptionalParentheses, Parameter, ◌>◌, mark, word, in_order, listed, is_possible}
 use Rattle.swc_ecma_codegen_validate.specs.Possible.{all_possible}
 use Rattle.swc_ecma_codegen_validate.proofs.Annotations.{annotation_possible, params_possible}
 use Rattle.swc_ecma_codegen_validate.proofs.Lists.{in_order_possible, listed_possible, and_true}
@@ -75,7 +75,7 @@ block_possible f n = and_true (is_possible (in_order (map (stmt f) n.stmts.items
 
 -- ---- arrow functions
 
-either_parentheses : (b : Bool) (p : Phrase) → is_possible (cond b (mark (codes "(") > p > mark (codes ")")) (OptionalParentheses p)) ≡ is_possible p
+either_parentheses : (b : Bool) (p : Phrase) → is_possible (cond b (mark (codes "(") > p > mark (codes ")")) (OptionalParentheses Parameter p)) ≡ is_possible p
 unfolding is_possible
 either_parentheses true p = and_true (is_possible p)
 either_parentheses false p = refl

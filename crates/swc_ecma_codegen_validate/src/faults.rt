@@ -4,7 +4,7 @@ ghost use Rattle.std.specs.Prelude.{◌≡◌, ◌||◌, ◌∷◌, [], false, c
 ghost use Rattle.std.specs.Option.{is_none, is_some};
 ghost use Rattle.swc_ecma_codegen_grammar.specs.declared.roles.Role.{Role as InRole};
 ghost use Rattle.swc_ecma_codegen_grammar.specs.TreePhrases.{is_well_formed};
-ghost use Rattle.swc_ecma_codegen_validate.specs.Rules.{Findings, Finds, Named, below, by_rule, in_each, in_some, path_of, place_of};
+ghost use Rattle.swc_ecma_codegen_validate.specs.Rules.{Findings, Finds, Named, below, by_rule, in_each, in_some, in_turn as turn, path_of, place_of};
 ghost use Rattle.swc_ecma_codegen_validate.specs.TreeRules.{IsTold};
 
 mod decls;
@@ -138,30 +138,112 @@ pub(crate) fn under_as<K, N: FaultIn>(
     }
 }
 
-/// The first fault that one of these finds, in their order.
+/// The first fault of two fields, in their order.
+pub(crate) fn under_two<A: FindsFault, B: FindsFault>(
+    alloc: Global,
+    node_name: &'static str,
+    node: &A,
+    second_name: &'static str,
+    second: &B,
+) -> Found
+    ensures { IfOk result (Finds (turn (below (Named node_name.now) (A.found node.now))
+        (below (Named second_name.now) (B.found second.now)))) }
+{
+    match under(alloc, node_name, node) {
+        Ok(None) => under(alloc, second_name, second),
+        found => found,
+    }
+}
+
+/// The first fault of three fields, in their order.
+pub(crate) fn under_three<A: FindsFault, B: FindsFault, C: FindsFault>(
+    alloc: Global,
+    node_name: &'static str,
+    node: &A,
+    second_name: &'static str,
+    second: &B,
+    third_name: &'static str,
+    third: &C,
+) -> Found
+    ensures { IfOk result (Finds (turn (below (Named node_name.now) (A.found node.now))
+        (turn (below (Named second_name.now) (B.found second.now))
+        (below (Named third_name.now) (C.found third.now))))) }
+{
+    match under(alloc, node_name, node) {
+        Ok(None) => under_two(alloc, second_name, second, third_name, third),
+        found => found,
+    }
+}
+
+/// The first fault of four fields, in their order.
+pub(crate) fn under_four<A: FindsFault, B: FindsFault, C: FindsFault, D: FindsFault>(
+    alloc: Global,
+    node_name: &'static str,
+    node: &A,
+    second_name: &'static str,
+    second: &B,
+    third_name: &'static str,
+    third: &C,
+    fourth_name: &'static str,
+    fourth: &D,
+) -> Found
+    ensures { IfOk result (Finds (turn (below (Named node_name.now) (A.found node.now))
+        (turn (below (Named second_name.now) (B.found second.now))
+        (turn (below (Named third_name.now) (C.found third.now))
+        (below (Named fourth_name.now) (D.found fourth.now)))))) }
+{
+    match under(alloc, node_name, node) {
+        Ok(None) => under_three(
+            alloc,
+            second_name,
+            second,
+            third_name,
+            third,
+            fourth_name,
+            fourth,
+        ),
+        found => found,
+    }
+}
+
+/// The first fault that one of these finds, in their order. None is looked for behind the first one that is found.
 macro_rules! in_turn {
-    ($($found:expr,)+) => {{
-        $(
-            if let Some(broken) = $found? {
-                return Ok(Some(broken));
-            }
-        )+
-        Ok(None)
-    }};
+    ($found:expr,) => {
+        $found
+    };
+    ($found:expr, $($later:expr,)+) => {
+        match $found {
+            Ok(None) => crate::faults::in_turn! { $($later,)+ },
+            found => found,
+        }
+    };
 }
 
 pub(crate) use in_turn;
 
 /// The first fault of these fields, in their order.
 macro_rules! within {
-    ($node:ident, $alloc:ident; $($field:ident)+) => {{
-        $(
-            if let Some(broken) = crate::faults::under($alloc, stringify!($field), &$node.$field)? {
-                return Ok(Some(broken));
-            }
-        )+
-        Ok(None)
-    }};
+    ($node:ident, $alloc:ident; $a:ident) => {
+        crate::faults::under($alloc, stringify!($a), &$node.$a)
+    };
+    ($node:ident, $alloc:ident; $a:ident $b:ident) => {
+        crate::faults::under_two(
+            $alloc,
+            stringify!($a), &$node.$a, stringify!($b), &$node.$b,
+        )
+    };
+    ($node:ident, $alloc:ident; $a:ident $b:ident $c:ident) => {
+        crate::faults::under_three(
+            $alloc,
+            stringify!($a), &$node.$a, stringify!($b), &$node.$b, stringify!($c), &$node.$c,
+        )
+    };
+    ($node:ident, $alloc:ident; $a:ident $b:ident $c:ident $d:ident) => {
+        crate::faults::under_four(
+            $alloc,
+            stringify!($a), &$node.$a, stringify!($b), &$node.$b, stringify!($c), &$node.$c, stringify!($d), &$node.$d,
+        )
+    };
 }
 
 pub(crate) use within;

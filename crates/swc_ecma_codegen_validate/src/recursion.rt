@@ -1,8 +1,9 @@
 //! The whole tree.
 
 ghost use Rattle.std.specs.Prelude.{◌≡◌};
-ghost use Rattle.swc_ecma_codegen_grammar.specs.StmtPhrases.{module_item};
-ghost use Rattle.swc_ecma_codegen_grammar.specs.TreePhrases.{phrase, expr_phrase, stmt_phrase, is_well_formed};
+ghost use Rattle.swc_ecma_codegen_grammar.specs.ExprPhrases.{expr as an_expr};
+ghost use Rattle.swc_ecma_codegen_grammar.specs.StmtPhrases.{module_item as an_item, program as a_program, stmt as a_stmt};
+ghost use Rattle.swc_ecma_codegen_grammar.specs.TreePhrases.{phrase};
 ghost use Rattle.swc_ecma_codegen_grammar.specs.Phrases.{is_possible};
 
 use crate::forms::{Fits, WellFormed};
@@ -34,29 +35,32 @@ impl Fits for AnyNode {
 }
 
 /// Whether a program is well-formed: whether its syntax has a list of tokens for it. Takes no memory.
-pub fn is_well_formed(program: &Program) -> bool
-    ensures { result ≡ is_well_formed program.now }
+///
+/// This call and the three below are generic in what links hold. In a whole tree that is `AnyNode`, whose `reads` is
+/// `phrase`: there the clause says `is_well_formed program.now`.
+pub fn is_well_formed<N: Fits>(program: &Program<N>) -> bool
+    ensures { result ≡ is_possible (a_program N.reads program.now) }
 {
     program.is_well_formed()
 }
 
 /// Whether an item of a module is well-formed. Takes no memory.
-pub fn is_well_formed_item(item: &ModuleItem) -> bool
-    ensures { result ≡ is_possible (module_item phrase item.now) }
+pub fn is_well_formed_item<N: Fits>(item: &ModuleItem<N>) -> bool
+    ensures { result ≡ is_possible (an_item N.reads item.now) }
 {
     item.is_well_formed()
 }
 
 /// Whether a statement is well-formed. Takes no memory.
-pub fn is_well_formed_stmt(stmt: &Stmt) -> bool
-    ensures { result ≡ is_possible (stmt_phrase stmt.now) }
+pub fn is_well_formed_stmt<N: Fits>(stmt: &Stmt<N>) -> bool
+    ensures { result ≡ is_possible (a_stmt N.reads stmt.now) }
 {
     stmt.is_well_formed()
 }
 
 /// Whether an expression is well-formed. Takes no memory.
-pub fn is_well_formed_expr(expr: &Expr) -> bool
-    ensures { result ≡ is_possible (expr_phrase expr.now) }
+pub fn is_well_formed_expr<N: Fits>(expr: &Expr<N>) -> bool
+    ensures { result ≡ is_possible (an_expr N.reads expr.now) }
 {
     expr.is_well_formed()
 }

@@ -1,7 +1,7 @@
 //! Expressions.
 
-ghost use Rattle.std.specs.Prelude.{IfOk};
-ghost use Rattle.swc_ecma_codegen_validate.specs.Rules.{findings, no_links, Finds, in_each};
+ghost use Rattle.std.specs.Prelude.{IfOk, codes};
+ghost use Rattle.swc_ecma_codegen_validate.specs.Rules.{findings, no_links, by_rule, Finds, in_each};
 ghost use Rattle.swc_ecma_codegen_validate.specs.ExprRules.{this_expr, unary_expr, update_expr, bin_expr, computed_prop_name, member_prop, member_expr, super_prop, super_prop_expr, spread_element, opt_chain_expr, meta_prop_expr, assign_expr, yield_expr, await_expr, cond_expr, seq_expr, paren_expr, expr_or_spread, array_lit, callee, call_expr, new_expr, opt_call, prop_name, key_value_prop, assign_prop, getter_prop, setter_prop, method_prop, prop, prop_or_spread, object_lit, tagged_tpl, element, elements, tpl};
 ghost use Rattle.swc_ecma_codegen_validate.specs.TreeRules.{expr};
 
@@ -464,18 +464,32 @@ pub(crate) fn elements_fault<N: FaultIn>(
     }
 }
 
+/// The fault of a template that hasn't one part more than it has expressions or types.
+pub(crate) fn count_fault(alloc: Global, is_counted: bool) -> Found
+    ensures { IfOk result (Finds (by_rule is_counted
+        (codes "a template hasn't one part more than expressions"))) }
+{
+    broken_unless(
+        alloc,
+        is_counted,
+        "a template hasn't one part more than expressions",
+    )
+}
+
 /// What is wrong with a template, with a tag or without.
 #[tactic(auto, unfolding(crate::specs::ExprRules::tpl, crate::specs::Rules::findings))]
 pub(crate) fn template_fault<N: FaultIn>(alloc: Global, tagged: bool, node: &Tpl<N>) -> Found
     ensures { IfOk result (Finds (findings N.found_as (tpl tagged node.now))) }
 {
-    in_turn! {
-        broken_unless(
-            alloc,
-            is_counted(&node.exprs, &node.quasis),
-            "a template hasn't one part more than expressions",
-        ),
-        elements_fault::<N>(alloc, tagged, &node.quasis),
-        under(alloc, "exprs", &node.exprs),
+    let is_counted = is_counted(&node.exprs, &node.quasis);
+    if let Some(broken) = count_fault(alloc, is_counted)? {
+        return Ok(Some(broken));
     }
+    if let Some(broken) = elements_fault::<N>(alloc, tagged, &node.quasis)? {
+        return Ok(Some(broken));
+    }
+    if let Some(broken) = under(alloc, "exprs", &node.exprs)? {
+        return Ok(Some(broken));
+    }
+    Ok(None)
 }

@@ -4,7 +4,7 @@ ghost use Rattle.std.specs.Prelude.{◌≡◌, ◌&&◌, not};
 ghost use Rattle.swc_ecma_codegen_validate.specs.Rules.{findings, no_links};
 ghost use Rattle.swc_ecma_codegen_validate.specs.TypeRules.{ts_qualified_name, ts_entity_name, ts_type_ref, ts_type_param_instantiation, ts_type_param, ts_type_param_decl, ts_fn_param, ts_fn_type, ts_constructor_type, ts_fn_or_constructor_type, ts_tpl_lit_type, ts_lit, ts_lit_type, ts_import_type, ts_type_query_expr, ts_type_query, ts_type_lit, ts_array_type, ts_tuple_element, ts_tuple_type, ts_optional_type, ts_rest_type, ts_mapped_type, ts_union_type, ts_intersection_type, ts_union_or_intersection_type, ts_parenthesized_type, ts_type_operator, ts_indexed_access_type, ts_conditional_type, ts_infer_type, ts_this_type_or_ident, ts_type_predicate, ts_type, ts_type_ann};
 
-use crate::faults::exprs::elements_fault;
+use crate::faults::exprs::{count_fault, elements_fault};
 use crate::faults::{FaultIn, FindsFault, Found, broken_unless, in_turn, under, within};
 use crate::templates::is_counted;
 use std::alloc::Global;
@@ -129,11 +129,16 @@ impl<N: FaultIn> FindsFault for TsTplLitType<N> {
 
     #[tactic(auto, unfolding(crate::specs::TypeRules::ts_tpl_lit_type, crate::specs::Rules::findings))]
     fn fault(&self, alloc: Global) -> Found {
-        in_turn! {
-            broken_unless(alloc, is_counted(&self.types, &self.quasis), "a template hasn't one part more than expressions"),
-            elements_fault::<N>(alloc, false, &self.quasis),
-            under(alloc, "types", &self.types),
+        if let Some(broken) = count_fault(alloc, is_counted(&self.types, &self.quasis))? {
+            return Ok(Some(broken));
         }
+        if let Some(broken) = elements_fault::<N>(alloc, false, &self.quasis)? {
+            return Ok(Some(broken));
+        }
+        if let Some(broken) = under(alloc, "types", &self.types)? {
+            return Ok(Some(broken));
+        }
+        Ok(None)
     }
 }
 
