@@ -31,7 +31,7 @@ use Rattle.swc_ecma_codegen_syntax.specs.MemberForms.{callee_part, chain_member_
 use Rattle.swc_ecma_codegen_syntax.specs.TargetForms.{simple_target_form}
 use Rattle.swc_ecma_codegen_syntax.specs.declared.nonterminals.Nonterminal.{Nonterminal}
 use Rattle.swc_ecma_codegen_syntax.specs.declared.nonterminals.Nonterminal.TheVariants as nt
-use Rattle.swc_ecma_codegen_syntax.specs.Parameters.{with_in}
+use Rattle.swc_ecma_codegen_syntax.specs.Parameters.{may_await, with_in}
 use Rattle.swc_ecma_codegen_parentheses.specs.declared.operands.Operand.{Operand}
 use Rattle.swc_ecma_codegen_parentheses.specs.declared.operands.Operand.TheVariants.{Branch, Called, Inside, Last, Left, New, Postfix, Prefix, Right, Test, Unary}
 use Rattle.swc_ecma_codegen_parentheses.specs.Operands.{object_nonterminal, operand_nonterminal, operand_parameters}
@@ -68,7 +68,7 @@ pub assign_operand : {X : Type 0} (c : Parameters) (n : AssignExpr X) →
 unfolding assign_form operand_nonterminal operand_parameters
 assign_operand c n = refl
 
-pub await_operand : {X : Type 0} (c : Parameters) (n : AwaitExpr X) → await_form c n ≡ Provided ByRule c.has_await (Fixed (word (codes "await")) ⇢ operand_part Unary c n.arg)
+pub await_operand : {X : Type 0} (c : Parameters) (n : AwaitExpr X) → await_form c n ≡ Provided ByRule (may_await c) (Fixed (word (codes "await")) ⇢ operand_part Unary c n.arg)
 unfolding await_form operand_nonterminal operand_parameters
 await_operand c n = refl
 

@@ -6,6 +6,7 @@ use Rattle.swc_ecma_codegen_tree.specs.declared.decls.Decl.TheVariants as decls
 use Rattle.swc_ecma_codegen_tree.specs.declared.decls.FnDecl.{FnDecl}
 use Rattle.swc_ecma_codegen_tree.specs.declared.decls.Function.{Function}
 use Rattle.swc_ecma_codegen_tree.specs.declared.decls.Param.{Param}
+use Rattle.swc_ecma_codegen_tree.specs.declared.decls.UsingDecl.{UsingDecl}
 use Rattle.swc_ecma_codegen_tree.specs.declared.decls.VarDecl.{VarDecl}
 use Rattle.swc_ecma_codegen_tree.specs.declared.decls.VarDeclarator.{VarDeclarator}
 use Rattle.swc_ecma_codegen_parentheses.specs.declared.mends.Usage.{Usage}
@@ -28,10 +29,14 @@ same_var_declarator m n r = (r ≡ record n { name = r.name; init = r.init }) ×
 unfoldable pub same_var_decl : {X : Type 0} → (Usage → X → X → Type 0) → VarDecl X → VarDecl X → Type 0
 same_var_decl m n r = (r ≡ record n { decls = r.decls }) × Pairwise (same_var_declarator m) n.decls.items r.decls.items
 
+unfoldable pub same_using_decl : {X : Type 0} → (Usage → X → X → Type 0) → UsingDecl X → UsingDecl X → Type 0
+same_using_decl m n r = (r ≡ record n { decls = r.decls }) × Pairwise (same_var_declarator m) n.decls.items r.decls.items
+
 unfoldable pub same_decl : {X : Type 0} → (Usage → X → X → Type 0) → Decl X → Decl X → Type 0
 same_decl m (decls.Class n) (decls.Class r) = same_class_decl m n r
 same_decl m (decls.Fn n) (decls.Fn r) = same_fn_decl m n r
 same_decl m (decls.Var n) (decls.Var r) = same_var_decl (λ u. m (within declared u)) n r
+same_decl m (decls.Using n) (decls.Using r) = same_using_decl (λ u. m (within declared u)) n r
 same_decl m (decls.TsEnum n) (decls.TsEnum r) = same_ts_enum_decl m n.value r.value
 same_decl m n r = n ≡ r
 

@@ -7,6 +7,7 @@ ghost use Rattle.swc_ecma_codegen_parentheses.specs.Operands.{before_bracket, de
 ghost use Rattle.swc_ecma_codegen_syntax.specs.Parameters.{of_for, of_script};
 ghost use Rattle.swc_ecma_codegen_syntax.specs.Nonterminals.{takes};
 ghost use Rattle.swc_ecma_codegen_syntax.specs.Summary.{begins_in};
+ghost use Rattle.swc_ecma_codegen_syntax.specs.declared.lookahead.Lookahead.TheVariants.{StatementStart};
 ghost use Rattle.swc_ecma_codegen_syntax.specs.declared.nonterminals.Nonterminal.TheVariants.{CallOrMember, ChainBase, OptionalExpression};
 
 use crate::lends::Lends;
@@ -50,6 +51,13 @@ impl Context {
             lookahead: Some(lookahead),
             chain: None,
         }
+    }
+
+    /// That of an expression that is a statement.
+    fn of_statement() -> Context
+        ensures { result ≡ restricted StatementStart of_script }
+    {
+        Context::restricted(Lookahead::StatementStart, Parameters::script())
     }
 
     /// That of what a statement declares.
@@ -298,10 +306,7 @@ impl Usage {
             | Usage::Called(_, _, context)
             | Usage::CalledByNew(_, context)
             | Usage::Link(context) => context,
-            Usage::Statement => Context::restricted(
-                Lookahead::StatementStart,
-                Parameters::script(),
-            ),
+            Usage::Statement => Context::of_statement(),
             _ => Context {
                 parameters: place.parameters(),
                 lookahead: place.lookahead,
@@ -310,7 +315,7 @@ impl Usage {
         }
     }
 
-    /// Whether parentheses can't be left out round what a link holds that is used so: as an operand it would lack them.
+    /// Whether parentheses can't be left out round what a link holds that is used so: as a statement or an operand it would lack them.
     #[tactic(auto, unfolding(crate::specs::Needed::needs))]
     pub(crate) fn needs_parentheses<N: Lends>(self, link: &ExprBox<N>) -> bool
         ensures { result ≡ true → needs N.answers self link.now.node.value }
@@ -328,6 +333,7 @@ impl Usage {
                 nonterminal,
                 context.parameters,
             ),
+            Usage::Statement => are_needed(link, Nonterminal::Expression, Context::of_statement()),
             _ => true,
         }
     }

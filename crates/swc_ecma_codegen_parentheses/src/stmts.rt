@@ -1,6 +1,6 @@
 //! Statements and declarations.
 
-ghost use Rattle.swc_ecma_codegen_parentheses.specs.SameDecls.{same_var_declarator, same_var_decl, same_decl};
+ghost use Rattle.swc_ecma_codegen_parentheses.specs.SameDecls.{same_var_declarator, same_var_decl, same_using_decl, same_decl};
 ghost use Rattle.swc_ecma_codegen_parentheses.specs.SameStmts.{same_with_stmt, same_return_stmt, same_labeled_stmt, same_if_stmt, same_switch_case, same_switch_stmt, same_throw_stmt, same_catch_clause, same_try_stmt, same_expr_stmt, same_stmt, same_block_stmt};
 
 use crate::mends::{Mend, Mends, Stop, Usage, mend_bracketed, mend_if_any, mend_optional};
@@ -12,7 +12,7 @@ use swc_ecma_codegen_grammar::roles::Role;
 use swc_ecma_codegen_syntax::{Answers, Lookahead, Nonterminal};
 use swc_ecma_codegen_tree::{
     BlockStmt, CatchClause, Decl, ExprStmt, IfStmt, LabeledStmt, ReturnStmt, Stmt, SwitchCase,
-    SwitchStmt, ThrowStmt, TryStmt, VarDecl, VarDeclarator, WithStmt,
+    SwitchStmt, ThrowStmt, TryStmt, UsingDecl, VarDecl, VarDeclarator, WithStmt,
 };
 
 impl<N: Answers, M: Mends<N>> Mend<N, M> for VarDeclarator<N> {
@@ -41,6 +41,15 @@ impl<N: Answers, M: Mends<N>> Mend<N, M> for VarDecl<N> {
     }
 }
 
+impl<N: Answers, M: Mends<N>> Mend<N, M> for UsingDecl<N> {
+    ghost same = { same_using_decl };
+
+    #[tactic(auto, unfolding(crate::specs::SameDecls::same_using_decl))]
+    fn mend(&mut self, mender: &M, alloc: Global, place: Place) -> Result<(), Stop> {
+        self.decls.mend(mender, alloc, place)
+    }
+}
+
 impl<N: Answers, M: Mends<N>> Mend<N, M> for Decl<N> {
     ghost same = { same_decl };
 
@@ -50,6 +59,15 @@ impl<N: Answers, M: Mends<N>> Mend<N, M> for Decl<N> {
             Decl::Class(node) => node.mend(mender, alloc, place),
             Decl::Fn(node) => node.mend(mender, alloc, place),
             Decl::Var(node) => {
+                let context = Context::declared();
+                let within = Within { mender, context };
+                node.mend(
+                    &within,
+                    alloc,
+                    place.bracketed(Nonterminal::AssignmentExpression),
+                )
+            }
+            Decl::Using(node) => {
                 let context = Context::declared();
                 let within = Within { mender, context };
                 node.mend(
