@@ -17,8 +17,8 @@ pub struct Decimal {
 
 impl Decimal {
     /// The number `digits` times ten to `exponent`, below zero (or negative zero) where `negative`. `None` unless the
-    /// digits are 1 to 800 ASCII digits without a leading or trailing zero, or `0` with the exponent 0, and the
-    /// exponent is from -1100 to 1100: so each number has one form. Takes no memory.
+    /// digits are 1 to 800 ASCII digits without a leading or trailing zero, or `0` times ten to 0, and `exponent` lies
+    /// between -1100 and 1100 (both allowed): so each number has one form. Takes no memory.
     pub fn new(negative: bool, digits: String, exponent: i32) -> Option<Decimal>
         ensures exactly { MatchOption result (is_decimal (string_bytes digits) exponent ≡ false)
             (λ _. is_decimal (string_bytes digits) exponent ≡ true) }

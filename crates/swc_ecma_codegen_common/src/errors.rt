@@ -9,11 +9,11 @@ use std::io;
 use std::io::ErrorKind;
 use thiserror::Error as ThisError;
 
-/// Why a call was refused. After any refusal the bytes that are out are a beginning of the text, and whoever refused
-/// answers `Failed` to every further call of its own that gives a `Result`.
+/// Why a call was refused. After any refusal the bytes that are out are a beginning of the text. Whoever refused once
+/// refuses from then on: each later call of it that can answer an error answers `Failed`.
 #[derive(Debug, Drop, ThisError)]
 pub enum Error {
-    /// The underlying writer failed in this call.
+    /// The writer below answered an error, in this very call.
     #[error("the writer failed: {0}")]
     Writer(io::Error),
     /// A growth was refused.
@@ -28,7 +28,7 @@ pub enum Error {
     /// A name that can't be spelled in ASCII for this target.
     #[error("name out of target")]
     NameOutOfTarget,
-    /// A position to be recorded has a line or a column above 4294967295, or the indentation would pass that number.
+    /// The line or the column of a position that is kept is larger than 4294967295, or the indentation would be.
     #[error("position too large")]
     PositionTooLarge,
     /// An earlier call was refused.
@@ -43,7 +43,7 @@ pub type Result = std::result::Result<(), Error>;
 /// public calls make an `Error` of the refusal and of the writer's own error, which is kept until then.
 #[derive(Debug, Clone, Copy, PartialEq, Eq)]
 pub enum Refusal {
-    /// The underlying writer failed in this call.
+    /// The writer below answered an error, in this very call.
     Writer,
     /// A growth was refused.
     OutOfMemory,

@@ -48,7 +48,7 @@ use Rattle.swc_ecma_codegen_grammar.specs.Chars.{is_start, is_part, is_letter, i
 use Rattle.swc_ecma_codegen_grammar.specs.Names.{is_word, all_part}
 use Rattle.swc_ecma_codegen_grammar.specs.Punctuators.{is_punctuator, punctuators}
 use Rattle.swc_ecma_codegen_grammar.specs.Texts.{is_same, is_among}
-use Rattle.swc_ecma_codegen_grammar.specs.Phrases.{Phrase, OptionalParentheses, One, ◌>◌, mark, word}
+use Rattle.swc_ecma_codegen_grammar.specs.Phrases.{Phrase, OptionalParentheses, Argument, One, ◌>◌, mark, word}
 use Rattle.swc_ecma_codegen_grammar.specs.NamePhrases as names
 use Rattle.swc_ecma_codegen_grammar.specs.ExprPhrases as lists
 use Rattle.swc_ecma_codegen_grammar.specs.PropPhrases as prop_lists
@@ -62,10 +62,10 @@ use Rattle.swc_ecma_codegen_tokens.proofs.NameTokens.PrivatePrints.{prints_priva
 use Rattle.swc_ecma_codegen_tokens.proofs.Reading.Printed.{writes_then, writes_if, writes_nothing, writes_space, writes_formatting_space, writes_commit, writes_position, writes_position_before, Fills}
 use Rattle.swc_ecma_codegen_tokens.proofs.Commenting.CommentPrints.{writes_leading}
 use Rattle.swc_ecma_codegen_tokens.specs.Written.{IsWord, IsMark}
-use Rattle.swc_ecma_codegen_tokens.proofs.Reading.Choices.{prints_bare, prints_optional_parentheses}
+use Rattle.swc_ecma_codegen_tokens.proofs.Reading.Choices.{parentheses_among, prints_bare, prints_by_test, prints_parenthesized}
 use Rattle.swc_ecma_codegen_tokens.proofs.LiteralTokens.EachLit.{prints_lit}
 use Rattle.swc_ecma_codegen_tokens.proofs.LiteralTokens.NumberPrints.{prints_number, prints_number_object}
-use Rattle.swc_ecma_codegen_tokens.proofs.Reading.Phrased.{Prints, prints_by_maps, then, after, before, prints_nothing, prints_never, prints_keyword, prints_operator, prints_punct, prints_ident, prints_name, PrintsAt, prints_wider, prints_joined_operator, joined_then, prints_unbroken}
+use Rattle.swc_ecma_codegen_tokens.proofs.Reading.Phrased.{Prints, then, after, before, prints_nothing, prints_never, prints_keyword, prints_operator, prints_punct, prints_ident, prints_name, PrintsAt, prints_wider, prints_joined_operator, joined_then, prints_unbroken}
 use Rattle.swc_ecma_codegen_emit.specs.declared.nodes.Context.{Context}
 use Rattle.swc_ecma_codegen_emit.specs.declared.nodes.Context.TheVariants.{Plain, LeftOperand, Object, DottedObject, Callee}
 use Rattle.swc_ecma_codegen_emit.specs.Places.{Whole, chain}
@@ -370,14 +370,17 @@ assign_prints l n =
     (after (writes_formatting_space l.env)
     (then (assign_op_prints l.env n.op) (after (writes_formatting_space l.env) (expr_at l n.right Plain)))))
 
-yield_argument_by : {X : Type 0} (l : Linked X) (delegate : Bool) (n : ExprBox X) (breaks : Bool) → Prints l.env (words.yield_argument_in l.asks l.items delegate n.node.value breaks) (OptionalParentheses (value_at l.reads n))
+yield_in_parentheses : {X : Type 0} (l : Linked X) (delegate : Bool) (n : ExprBox X) → Prints l.env (words.yield_argument_in l.asks l.items delegate n.node.value true) (mark (codes "(") > value_at l.reads n > mark (codes ")"))
 unfolding words.yield_argument_in
-yield_argument_by l delegate n true = prints_optional_parentheses true (expr_at l n Plain)
-yield_argument_by l delegate n false = after (writes_blank l.env (cond delegate false (l.asks n.node.value).starts)) (prints_bare (expr_at l n Plain))
+yield_in_parentheses l delegate n = prints_parenthesized (expr_at l n Plain)
 
-yield_argument_prints : {X : Type 0} (l : Linked X) (delegate : Bool) (n : ExprBox X) → Prints l.env (words.yield_argument l.asks l.items delegate n.node.value) (OptionalParentheses (value_at l.reads n))
+yield_bare : {X : Type 0} (l : Linked X) (delegate : Bool) (n : ExprBox X) → Prints l.env (words.yield_argument_in l.asks l.items delegate n.node.value false) (OptionalParentheses Argument (value_at l.reads n))
+unfolding words.yield_argument_in
+yield_bare l delegate n = after (writes_blank l.env (cond delegate false (l.asks n.node.value).starts)) (prints_bare (expr_at l n Plain))
+
+yield_argument_prints : {X : Type 0} (l : Linked X) (delegate : Bool) (n : ExprBox X) → Prints l.env (words.yield_argument l.asks l.items delegate n.node.value) (OptionalParentheses Argument (value_at l.reads n))
 unfolding words.yield_argument
-yield_argument_prints l delegate n = prints_by_maps (λ maps. words.yield_argument_in l.asks l.items delegate n.node.value ((l.asks n.node.value).breaks maps)) (λ maps. yield_argument_by l delegate n ((l.asks n.node.value).breaks maps))
+yield_argument_prints l delegate n = prints_by_test (words.yield_argument_in l.asks l.items delegate n.node.value) (l.asks n.node.value).breaks (l.quiet n.node.value) (parentheses_among l.env.config Argument (value_at l.reads n)) (yield_in_parentheses l delegate n) (yield_bare l delegate n)
 
 yield_arg_prints : {X : Type 0} (l : Linked X) (arg : Option (ExprBox X)) → PrintsAt open_ l.env (words.yield_arg l.asks l.items true arg) (lists.yield_arg l.reads arg)
 unfolding words.yield_arg lists.yield_arg

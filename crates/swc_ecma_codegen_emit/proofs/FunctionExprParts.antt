@@ -13,7 +13,7 @@ use Rattle.swc_ecma_codegen_grammar.specs.declared.kinds.Kind.TheVariants.{Punct
 use Rattle.swc_ecma_codegen_grammar.specs.declared.roles.Role.TheVariants.{Annotation, Pattern, PlainParameter, Function, FunctionHead, ClassHead, ClassWord, ClassTail}
 use Rattle.swc_ecma_codegen_grammar.specs.Tokens as lexical
 use Rattle.swc_ecma_codegen_grammar.specs.Tokens.{token_of}
-use Rattle.swc_ecma_codegen_grammar.specs.Phrases.{Phrase, Never, OptionalParentheses, ◌>◌, mark, is_possible}
+use Rattle.swc_ecma_codegen_grammar.specs.Phrases.{Phrase, Never, OptionalParentheses, Parameter, ◌>◌, mark, is_possible}
 use Rattle.swc_ecma_codegen_grammar.specs.Phrases as phrases
 use Rattle.swc_ecma_codegen_grammar.specs.AnnotationPhrases.{annotation}
 use Rattle.swc_ecma_codegen_grammar.specs.NamePhrases as names
@@ -22,10 +22,10 @@ use Rattle.swc_ecma_codegen_grammar.specs.ClassPhrases as classes
 use Rattle.swc_ecma_codegen_grammar.specs.FunctionPhrases as lists
 use Rattle.swc_ecma_codegen_grammar.specs.FunctionPhrases.{is_never}
 use Rattle.swc_ecma_codegen_tokens.specs.Run.{Env, Part, at_maps, spelling, no_part}
-use Rattle.swc_ecma_codegen_tokens.specs.Lists.{list, deeper}
-use Rattle.swc_ecma_codegen_tokens.specs.Words.{punct, space, formatting_space}
+use Rattle.swc_ecma_codegen_tokens.specs.Lists.{ListChild, list, deeper}
+use Rattle.swc_ecma_codegen_tokens.specs.Words.{by_maps, punct, space, formatting_space}
 use Rattle.swc_ecma_codegen_tokens.specs.Written.{IsMark}
-use Rattle.swc_ecma_codegen_tokens.proofs.Reading.Choices.{prints_bare, prints_parentheses}
+use Rattle.swc_ecma_codegen_tokens.proofs.Reading.Choices.{parentheses_among, prints_by_test, prints_small_parameter, prints_wide_parameter}
 use Rattle.swc_ecma_codegen_tokens.proofs.Emission.Emitting.{minified_same, pretty_same}
 use Rattle.swc_ecma_codegen_tokens.proofs.Listing.ListLaws.{children_of, prints_list, prints_one_child}
 use Rattle.swc_ecma_codegen_tokens.proofs.Reading.Phrased.{Prints, prints_by_maps, then, after, before, prints_nothing, prints_same, prints_punct, prints_ident, mark_spelled, PrintsAt, prints_wider, loosened, joined_then, joined_mark, prints_joined_punct, prints_regrouped}
@@ -38,6 +38,7 @@ use Rattle.swc_ecma_codegen_emit.specs.ClassExprs as class_words
 use Rattle.swc_ecma_codegen_emit.specs.FunctionExprs as words
 use Rattle.swc_ecma_codegen_emit.specs.Commented.{has_comment_after}
 use Rattle.swc_ecma_codegen_grammar.specs.CommentMaps.{Maps}
+use Rattle.swc_ecma_codegen_grammar.specs.Comments.{no_maps}
 use Rattle.swc_ecma_codegen_emit.specs.FunctionExprs.{comma_list_format}
 use Rattle.swc_ecma_codegen_emit.proofs.Impossible.{prints_impossible, never_impossible}
 use Rattle.swc_ecma_codegen_emit.proofs.AnnotationParts.{type_params_print}
@@ -113,14 +114,14 @@ abbrev only_part : {X : Type 0} → Linked X → Bool → Span → PatBox X → 
 only_part l plain span n rest = words.parenthesis plain (codes "(") (params_list l span (n ∷ []) (words.parenthesis plain (codes ")") rest))
 
 -- `(a)`, and minified `a`
-plain_prints : {X : Type 0} (l : Linked X) (span : Span) (n : PatBox X) → Prints l.env (only_part l true span n) (OptionalParentheses (pats.pat_at l.reads n))
+plain_prints : {X : Type 0} (l : Linked X) (span : Span) (n : PatBox X) → Prints l.env (only_part l true span n) (OptionalParentheses Parameter (pats.pat_at l.reads n))
 plain_prints l span n = elim (cases_Bool l.env.config.minify) [
-  | inl small ↦ prints_bare (after (no_parenthesis l.env (codes "(") small) (before (only_list_prints l span n) (no_parenthesis l.env (codes ")") small)))
-  | inr wide ↦ prints_parentheses (then (wide_parenthesis l.env (codes "(") marks.left_parenthesis wide) (then (only_list_prints l span n) (wide_parenthesis l.env (codes ")") marks.right_parenthesis wide)))
+  | inl small ↦ prints_small_parameter small (after (no_parenthesis l.env (codes "(") small) (before (only_list_prints l span n) (no_parenthesis l.env (codes ")") small)))
+  | inr wide ↦ prints_wide_parameter wide (then (wide_parenthesis l.env (codes "(") marks.left_parenthesis wide) (then (only_list_prints l span n) (wide_parenthesis l.env (codes ")") marks.right_parenthesis wide)))
 ]
 
 -- where the pattern is none, no tree is written so
-plain_or_never : {X : Type 0} (l : Linked X) (span : Span) (n : PatBox X) (never : Bool) → is_never (pats.pat_at l.reads n) ≡ never → Prints l.env (only_part l true span n) (cond never (mark (codes "(") > pats.pat_at l.reads n > mark (codes ")")) (OptionalParentheses (pats.pat_at l.reads n)))
+plain_or_never : {X : Type 0} (l : Linked X) (span : Span) (n : PatBox X) (never : Bool) → is_never (pats.pat_at l.reads n) ≡ never → Prints l.env (only_part l true span n) (cond never (mark (codes "(") > pats.pat_at l.reads n > mark (codes ")")) (OptionalParentheses Parameter (pats.pat_at l.reads n)))
 unfolding is_possible
 plain_or_never l span n true h = prints_impossible (Rattle.std.proofs.Common.ap (λ b. true && (b && true)) (never_impossible (pats.pat_at l.reads n) h))
 plain_or_never l span n false h = plain_prints l span n
@@ -128,33 +129,51 @@ plain_or_never l span n false h = plain_prints l span n
 only_prints : {X : Type 0} (l : Linked X) (span : Span) (n : PatBox X) (plain : Bool) → l.reads n.node.value PlainParameter ≡ cond plain (l.reads n.node.value Pattern) Never → Prints l.env (only_part l plain span n) (lists.only_parameter l.reads n)
 unfolding lists.only_parameter is_never
 only_prints l span n true e =
-    let P : Phrase → Type 0 = λ z. Prints l.env (only_part l true span n) (cond (is_never z) (mark (codes "(") > pats.pat_at l.reads n > mark (codes ")")) (OptionalParentheses (pats.pat_at l.reads n))) in
+    let P : Phrase → Type 0 = λ z. Prints l.env (only_part l true span n) (cond (is_never z) (mark (codes "(") > pats.pat_at l.reads n > mark (codes ")")) (OptionalParentheses Parameter (pats.pat_at l.reads n))) in
     subst P (sym e) (plain_or_never l span n (is_never (pats.pat_at l.reads n)) refl)
 only_prints l span n false e =
-    let P : Phrase → Type 0 = λ z. Prints l.env (only_part l false span n) (cond (is_never z) (mark (codes "(") > pats.pat_at l.reads n > mark (codes ")")) (OptionalParentheses (pats.pat_at l.reads n))) in
+    let P : Phrase → Type 0 = λ z. Prints l.env (only_part l false span n) (cond (is_never z) (mark (codes "(") > pats.pat_at l.reads n > mark (codes ")")) (OptionalParentheses Parameter (pats.pat_at l.reads n))) in
     subst P (sym e) (then (other_parenthesis l.env (codes "(") marks.left_parenthesis) (then (only_list_prints l span n) (other_parenthesis l.env (codes ")") marks.right_parenthesis)))
 
--- in parentheses where a comment stands behind it, and minified too
-kept_or_never : {X : Type 0} (l : Linked X) (span : Span) (n : PatBox X) (never : Bool) → is_never (pats.pat_at l.reads n) ≡ never → Prints l.env (only_part l false span n) (cond never (mark (codes "(") > pats.pat_at l.reads n > mark (codes ")")) (OptionalParentheses (pats.pat_at l.reads n)))
-kept_or_never l span n true h = then (other_parenthesis l.env (codes "(") marks.left_parenthesis) (then (only_list_prints l span n) (other_parenthesis l.env (codes ")") marks.right_parenthesis))
-kept_or_never l span n false h = prints_parentheses (then (other_parenthesis l.env (codes "(") marks.left_parenthesis) (then (only_list_prints l span n) (other_parenthesis l.env (codes ")") marks.right_parenthesis)))
+abbrev only_child : {X : Type 0} → Linked X → PatBox X → List ListChild
+only_child l n = children_of (λ p. (l.asks p.node.value).place) (λ p. l.items p.node.value (Whole Plain)) (n ∷ [])
 
-only_commented : {X : Type 0} (l : Linked X) (span : Span) (n : PatBox X) (plain behind : Bool) → l.reads n.node.value PlainParameter ≡ cond plain (l.reads n.node.value Pattern) Never → Prints l.env (only_part l (plain && not behind) span n) (lists.only_parameter l.reads n)
-unfolding lists.only_parameter is_never
-only_commented l span n false behind e = only_prints l span n false e
-only_commented l span n true false e = only_prints l span n true e
-only_commented l span n true true e =
-    let P : Phrase → Type 0 = λ z. Prints l.env (only_part l false span n) (cond (is_never z) (mark (codes "(") > pats.pat_at l.reads n > mark (codes ")")) (OptionalParentheses (pats.pat_at l.reads n))) in
+abbrev commented_part : {X : Type 0} → Linked X → Bool → Span → PatBox X → Bool → Part
+commented_part l plain span n behind = words.arrow_within (plain && not behind) span (only_child l n)
+
+none_behind : (span : Span) → has_comment_after span no_maps ≡ false
+unfolding has_comment_after
+none_behind span = refl
+
+-- in parentheses where a comment stands behind it, and minified too
+kept_or_never : {X : Type 0} (l : Linked X) (span : Span) (n : PatBox X) (never : Bool) → is_never (pats.pat_at l.reads n) ≡ never →
+    Prints l.env (by_maps (λ maps. commented_part l true span n (has_comment_after (l.asks n.node.value).place maps))) (cond never (mark (codes "(") > pats.pat_at l.reads n > mark (codes ")")) (OptionalParentheses Parameter (pats.pat_at l.reads n)))
+unfolding words.arrow_within is_possible
+kept_or_never l span n true h = prints_impossible (Rattle.std.proofs.Common.ap (λ b. true && (b && true)) (never_impossible (pats.pat_at l.reads n) h))
+kept_or_never l span n false h =
+    prints_by_test (commented_part l true span n) (has_comment_after (l.asks n.node.value).place) (none_behind (l.asks n.node.value).place) (parentheses_among l.env.config Parameter (pats.pat_at l.reads n))
+    (then (other_parenthesis l.env (codes "(") marks.left_parenthesis) (then (only_list_prints l span n) (other_parenthesis l.env (codes ")") marks.right_parenthesis)))
+    (plain_prints l span n)
+
+only_commented : {X : Type 0} (l : Linked X) (span : Span) (n : PatBox X) (plain : Bool) → l.reads n.node.value PlainParameter ≡ cond plain (l.reads n.node.value Pattern) Never →
+    Prints l.env (by_maps (λ maps. commented_part l plain span n (has_comment_after (l.asks n.node.value).place maps))) (lists.only_parameter l.reads n)
+unfolding lists.only_parameter is_never words.arrow_within
+only_commented l span n false e = prints_by_maps (λ maps. commented_part l false span n (has_comment_after (l.asks n.node.value).place maps)) (λ maps. only_prints l span n false e)
+only_commented l span n true e =
+    let P : Phrase → Type 0 = λ z. Prints l.env (by_maps (λ maps. commented_part l true span n (has_comment_after (l.asks n.node.value).place maps))) (cond (is_never z) (mark (codes "(") > pats.pat_at l.reads n > mark (codes ")")) (OptionalParentheses Parameter (pats.pat_at l.reads n))) in
     subst P (sym e) (kept_or_never l span n (is_never (pats.pat_at l.reads n)) refl)
 
-arrow_params_prints : {X : Type 0} (l : Linked X) (span : Span) (typed : Bool) (ns : List (PatBox X)) (maps : Maps) → Prints l.env (words.arrow_within (not typed && (words.is_only words.is_plain l.asks ns && not (words.has_comment_behind l.asks ns maps))) span (children_of (λ p. (l.asks p.node.value).place) (λ p. l.items p.node.value (Whole Plain)) ns)) (lists.arrow_parameters l.reads typed ns)
+abbrev params_part : {X : Type 0} → Linked X → Span → Bool → List (PatBox X) → Maps → Part
+params_part l span typed ns maps = words.arrow_within (not typed && (words.is_only words.is_plain l.asks ns && not (words.has_comment_behind l.asks ns maps))) span (children_of (λ p. (l.asks p.node.value).place) (λ p. l.items p.node.value (Whole Plain)) ns)
+
+arrow_params_prints : {X : Type 0} (l : Linked X) (span : Span) (typed : Bool) (ns : List (PatBox X)) → Prints l.env (by_maps (params_part l span typed ns)) (lists.arrow_parameters l.reads typed ns)
 unfolding words.arrow_within words.is_only words.has_comment_behind lists.arrow_parameters
-arrow_params_prints l span true [] maps = params_prints l span []
-arrow_params_prints l span true (n ∷ []) maps = params_prints l span (n ∷ [])
-arrow_params_prints l span true (n ∷ m ∷ ns) maps = params_prints l span (n ∷ m ∷ ns)
-arrow_params_prints l span false [] maps = params_prints l span []
-arrow_params_prints l span false (n ∷ []) maps = only_commented l span n (words.is_plain (l.asks n.node.value).pattern) (has_comment_after (l.asks n.node.value).place maps) (l.plain n.node.value)
-arrow_params_prints l span false (n ∷ m ∷ ns) maps = params_prints l span (n ∷ m ∷ ns)
+arrow_params_prints l span true [] = prints_by_maps (params_part l span true []) (λ maps. params_prints l span [])
+arrow_params_prints l span true (n ∷ []) = prints_by_maps (params_part l span true (n ∷ [])) (λ maps. params_prints l span (n ∷ []))
+arrow_params_prints l span true (n ∷ m ∷ ns) = prints_by_maps (params_part l span true (n ∷ m ∷ ns)) (λ maps. params_prints l span (n ∷ m ∷ ns))
+arrow_params_prints l span false [] = prints_by_maps (params_part l span false []) (λ maps. params_prints l span [])
+arrow_params_prints l span false (n ∷ []) = only_commented l span n (words.is_plain (l.asks n.node.value).pattern) (l.plain n.node.value)
+arrow_params_prints l span false (n ∷ m ∷ ns) = prints_by_maps (params_part l span false (n ∷ m ∷ ns)) (λ maps. params_prints l span (n ∷ m ∷ ns))
 
 arrow_result_prints : {X : Type 0} (l : Linked X) (n : Option (TsTypeAnnBox X)) → PrintsAt open_ l.env (words.arrow_result l.items n) (annotation l.reads n)
 unfolding words.arrow_result annotation
@@ -189,7 +208,7 @@ arrow_expr_prints l n =
     (async_arrow_then l.env n.is_async (words.is_only words.is_name l.asks n.params.items)
     (then (star_prints l.env n.is_generator)
     (then (type_params_print l n.type_params)
-    (then (prints_by_maps (λ maps. words.arrow_within (not (lists.is_typed_arrow n) && (words.is_only words.is_plain l.asks n.params.items && not (words.has_comment_behind l.asks n.params.items maps))) n.span (words.arrow_children l.asks l.items n)) (arrow_params_prints l n.span (lists.is_typed_arrow n) n.params.items))
+    (then (arrow_params_prints l n.span (lists.is_typed_arrow n) n.params.items)
     (then (arrow_result_prints l n.return_type) (arrow_body_prints l n.body)))))))
 
 -- ---- classes in expressions

@@ -4,6 +4,7 @@ use Rattle.std.proofs.lemmas.Bool.{true≢false}
 use Rattle.swc_ecma_codegen_grammar.specs.Tokens as lexical
 use Rattle.swc_ecma_codegen_util.specs.declared.config.Config.{Config}
 use Rattle.swc_ecma_codegen_grammar.specs.Phrases.{Phrase, Never, Nothing, ◌>◌, mark, Generates, is_possible, names_in}
+use Rattle.swc_ecma_codegen_grammar.specs.PlainPhrases.{plain_phrase}
 use Rattle.swc_ecma_codegen_grammar.specs.FunctionPhrases.{is_never}
 use Rattle.swc_ecma_codegen_tokens.specs.Escapes.{is_spelled_anew, may_make_text}
 use Rattle.swc_ecma_codegen_tokens.specs.Named.{EachName}
@@ -51,4 +52,5 @@ last_among config t f = record {
 }
 
 pub prints_last : {i : Shape} {env : Env} {p : Part} (t : List ℕ) {f : Phrase} → PrintsAt i env p (mark t > f > Nothing) → PrintsAt i env p (mark t > f)
-prints_last {env = env} t {f} h = prints_among (last_among env.config t f) h
+unfolding plain_phrase
+prints_last {env = env} t {f} h = prints_among (last_among env.config t f) (λ maps e. (last_among env.config t (plain_phrase env.config.minify f)).generates) h

@@ -1,5 +1,6 @@
 -- What a law of one node takes: what is known of whatever its links hold.
 use Rattle.std.proofs.Common.{◌≡◌, false, cond, None}
+use Rattle.swc_ecma_codegen_grammar.specs.Comments.{no_maps}
 use Rattle.swc_ecma_codegen_grammar.specs.Phrases.{Phrase, Never}
 use Rattle.swc_ecma_codegen_grammar.specs.declared.roles.Role.{Role}
 use Rattle.swc_ecma_codegen_grammar.specs.declared.roles.Role.TheVariants.{Expression, Function, Statement, Pattern, PlainParameter, PropertyName, Block, Declaration, VariableDeclaration, MethodHead, MethodTail, AccessorTail, ClassHead, MethodDecorators, Member, ExportedHead, ExportedTail, ModuleDeclaration, Element, Child, TagObject, TypeArguments}
@@ -57,7 +58,7 @@ abbrev pub PrintsIn : Role → Place → Env → Part → Phrase → Type 0
 PrintsIn role place env part phrase = PrintsOn (role_before role) (role_behind role) (role_shape role place) env part phrase
 
 -- What it answers, what is written of it, and what it reads as, in each role; that it is said to be a name alone where it may stand
--- without parentheses; and that what is written is what it reads as, also inside of what no line may be ended in.
+-- without parentheses; that where there are no comments none stands before it after which a line ends; and that what is written is what it reads as, also inside of what no line may be ended in.
 pub record Linked (X : Type 0) : Type 0 where
   pub env : Env
   pub leaves_out : env.keeps_invalid ≡ false
@@ -65,12 +66,13 @@ pub record Linked (X : Type 0) : Type 0 where
   pub items : X → Place → Part
   pub reads : X → Role → Phrase
   pub plain : (x : X) → reads x PlainParameter ≡ cond (is_plain (asks x).pattern) (reads x Pattern) Never
+  pub quiet : (x : X) → (asks x).breaks no_maps ≡ false
   pub law : (x : X) (place : Place) (role : Role) → PrintsIn role place env (items x (placed role place)) (reads x role)
   pub inside : (x : X) (place : Place) (role : Role) → PrintsIn role place (at_length None env) (items x (placed role place)) (reads x role)
 
 -- the same where no line may be ended
 abbrev pub unbounded_linked : {X : Type 0} → Linked X → Linked X
-unbounded_linked l = record { env = at_length None l.env; leaves_out = l.leaves_out; asks = l.asks; items = l.items; reads = l.reads; plain = l.plain; law = l.inside; inside = l.inside }
+unbounded_linked l = record { env = at_length None l.env; leaves_out = l.leaves_out; asks = l.asks; items = l.items; reads = l.reads; plain = l.plain; quiet = l.quiet; law = l.inside; inside = l.inside }
 
 pub expr_at : {X : Type 0} (l : Linked X) (n : ExprBox X) (context : Context) → Prints l.env (l.items n.node.value (placed Expression (Whole context))) (l.reads n.node.value Expression)
 expr_at l n context = l.law n.node.value (Whole context) Expression

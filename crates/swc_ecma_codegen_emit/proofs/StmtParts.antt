@@ -18,15 +18,15 @@ use Rattle.swc_ecma_codegen_tree.specs.declared.stmts.ThrowStmt.{ThrowStmt}
 use Rattle.swc_ecma_codegen_tree.specs.declared.stmts.TryStmt.{TryStmt}
 use Rattle.swc_ecma_codegen_tree.specs.declared.stmts.WithStmt.{WithStmt}
 use Rattle.swc_ecma_codegen_spans.specs.Spans.{stmt_span}
-use Rattle.swc_ecma_codegen_grammar.specs.Phrases.{◌>◌, word, OptionalParentheses}
+use Rattle.swc_ecma_codegen_grammar.specs.Phrases.{◌>◌, mark, word, OptionalParentheses, Argument}
 use Rattle.swc_ecma_codegen_grammar.specs.StmtPhrases as lists
 use Rattle.swc_ecma_codegen_grammar.specs.CallPhrases.{value_at}
 use Rattle.swc_ecma_codegen_grammar.specs.NamePhrases as names
 use Rattle.swc_ecma_codegen_tokens.specs.Lists.{blank_if}
 use Rattle.swc_ecma_codegen_tokens.specs.Run.{Env}
 use Rattle.swc_ecma_codegen_tokens.specs.Words.{formatting_space, formatting_line, trailing_comments, semi}
-use Rattle.swc_ecma_codegen_tokens.proofs.Reading.Choices.{prints_bare, prints_optional_parentheses}
-use Rattle.swc_ecma_codegen_tokens.proofs.Reading.Phrased.{Prints, prints_by_maps, then, after, before, prints_nothing, prints_keyword, prints_punct, prints_semi, PrintsAt, prints_wider, joined_then, prints_ident}
+use Rattle.swc_ecma_codegen_tokens.proofs.Reading.Choices.{parentheses_among, prints_bare, prints_by_test, prints_parenthesized}
+use Rattle.swc_ecma_codegen_tokens.proofs.Reading.Phrased.{Prints, then, after, before, prints_nothing, prints_keyword, prints_punct, prints_semi, PrintsAt, prints_wider, joined_then, prints_ident}
 use Rattle.swc_ecma_codegen_tokens.proofs.Reading.Printed.{writes_then, writes_if, writes_nothing, writes_formatting_space, writes_formatting_line, writes_commit, writes_position, Fills, makes_wider, EndsLines, writes_space}
 use Rattle.swc_ecma_codegen_tokens.proofs.Commenting.CommentPrints.{writes_leading, writes_trailing}
 use Rattle.swc_ecma_codegen_emit.specs.declared.nodes.Context.TheVariants.{Plain, Statement}
@@ -64,15 +64,18 @@ with_prints l n =
     (then (prints_keyword l.env None (codes "with") marks.with_word)
     (after (writes_formatting_space l.env) (enclosed_then l n.obj (stmt_at l n.body)))))
 
--- an argument in parentheses, or bare
-argument_by : {X : Type 0} (l : Linked X) (n : ExprBox X) (breaks : Bool) → Prints l.env (words.argument_in l.asks l.items n.node.value breaks) (OptionalParentheses (value_at l.reads n))
+-- an argument, bare, or in parentheses where a line ends in or after a comment before it
+in_parentheses_by : {X : Type 0} (l : Linked X) (n : ExprBox X) → Prints l.env (words.argument_in l.asks l.items n.node.value true) (mark (codes "(") > value_at l.reads n > mark (codes ")"))
 unfolding words.argument_in
-argument_by l n true = prints_optional_parentheses true (expr_at l n Plain)
-argument_by l n false = prints_bare (spaced_expr l n)
+in_parentheses_by l n = prints_parenthesized (expr_at l n Plain)
 
-argument_prints : {X : Type 0} (l : Linked X) (n : ExprBox X) → Prints l.env (words.argument l.asks l.items n.node.value) (OptionalParentheses (value_at l.reads n))
+bare_by : {X : Type 0} (l : Linked X) (n : ExprBox X) → Prints l.env (words.argument_in l.asks l.items n.node.value false) (OptionalParentheses Argument (value_at l.reads n))
+unfolding words.argument_in
+bare_by l n = prints_bare (spaced_expr l n)
+
+argument_prints : {X : Type 0} (l : Linked X) (n : ExprBox X) → Prints l.env (words.argument l.asks l.items n.node.value) (OptionalParentheses Argument (value_at l.reads n))
 unfolding words.argument
-argument_prints l n = prints_by_maps (λ maps. words.argument_in l.asks l.items n.node.value ((l.asks n.node.value).breaks maps)) (λ maps. argument_by l n ((l.asks n.node.value).breaks maps))
+argument_prints l n = prints_by_test (words.argument_in l.asks l.items n.node.value) (l.asks n.node.value).breaks (l.quiet n.node.value) (parentheses_among l.env.config Argument (value_at l.reads n)) (in_parentheses_by l n) (bare_by l n)
 
 return_by : {X : Type 0} (l : Linked X) (span : Span) (arg : Option (ExprBox X)) → PrintsAt ended l.env (λ rest. words.stmt_word span (codes "return") (words.return_arg l.asks l.items arg (semi rest))) (word (codes "return") > lists.return_rest l.reads arg)
 unfolding words.return_arg lists.return_rest

@@ -16,6 +16,9 @@ use Rattle.swc_ecma_codegen_tokens.proofs.Jsx.TagPrints.{prints_never_on}
 use Rattle.swc_ecma_codegen_emit.specs.declared.nodes.Context.{Context}
 use Rattle.swc_ecma_codegen_emit.specs.declared.nodes.Context.TheVariants.{Object, DottedObject, Callee, FieldValue}
 use Rattle.swc_ecma_codegen_emit.specs.Answers.{any_answers}
+use Rattle.swc_ecma_codegen_emit.proofs.Unbroken.{unbroken}
+use Rattle.swc_ecma_codegen_grammar.specs.CommentMaps.{Maps}
+use Rattle.swc_ecma_codegen_grammar.specs.Comments.{maps_in, no_maps}
 use Rattle.swc_ecma_codegen_emit.specs.Exprs.{member_at}
 use Rattle.swc_ecma_codegen_emit.specs.AnyExpr.{is_field_value}
 use Rattle.swc_ecma_codegen_emit.specs.Calls.{keeps_arguments}
@@ -78,9 +81,14 @@ node_prints l n place role = prints_never_on
 abbrev Law : Env → AnyNode → Type 0
 Law env n = (max : Option ℕ) (place : Place) (role : Role) → PrintsIn role place (at_length max env) (any_items n (placed role place)) (phrase n role)
 
+-- where there are no comments no line ends after one
+pub never_breaks : (n : AnyNode) → (any_answers n).breaks no_maps ≡ false
+unfolding any_answers maps_in
+never_breaks n = sym (unbroken {C = Maps} (λ m. m) None n refl)
+
 -- nodes that a link of the tree holds, with the law of each
 abbrev children : (max : Option ℕ) (env : Env) → env.keeps_invalid ≡ false → Linked (Such the_family (claims (Law env)) member-AnyNode)
-children max env e = record { env = at_length max env; leaves_out = e; asks = λ y. any_answers y.0; items = λ y. any_items y.0; reads = λ y. phrase y.0; plain = λ y. plain_reads y.0; law = λ y. y.1 max; inside = λ y. y.1 None }
+children max env e = record { env = at_length max env; leaves_out = e; asks = λ y. any_answers y.0; items = λ y. any_items y.0; reads = λ y. phrase y.0; plain = λ y. plain_reads y.0; quiet = λ y. never_breaks y.0; law = λ y. y.1 max; inside = λ y. y.1 None }
 
 prints_at : (env : Env) → env.keeps_invalid ≡ false → (n : AnyNode) → Law env n
 prints_at env e = ind-AnyNode (Law env) (λ x y q. subst (λ z. Law env (roll-AnyNode z)) q (λ max place role.
@@ -94,4 +102,4 @@ prints env e n = prints_at env e n env.max_line
 
 -- the nodes of a whole tree
 abbrev pub known : (env : Env) → env.keeps_invalid ≡ false → Linked AnyNode
-known env e = record { env = env; leaves_out = e; asks = any_answers; items = any_items; reads = phrase; plain = plain_reads; law = prints env e; inside = prints (at_length None env) e }
+known env e = record { env = env; leaves_out = e; asks = any_answers; items = any_items; reads = phrase; plain = plain_reads; quiet = never_breaks; law = prints env e; inside = prints (at_length None env) e }

@@ -7,7 +7,7 @@ use Rattle.std.specs.declared.cmp.Ordering.{Ordering}
 use Rattle.swc_ecma_codegen_common.specs.declared.positions.BytePos.{BytePos}
 use Rattle.swc_ecma_codegen_grammar.specs.declared.comments.Comment.{Comment}
 
--- two finite maps from positions to lists of comments
+-- the comments of each position: those before it, and those after it
 pub record Maps : Type 0 where
   pub leading : ℕ → Option (List Comment)
   pub trailing : ℕ → Option (List Comment)

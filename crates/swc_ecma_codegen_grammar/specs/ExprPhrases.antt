@@ -32,7 +32,7 @@ use Rattle.swc_ecma_codegen_tree.specs.declared.exprs.AwaitExpr.{AwaitExpr}
 use Rattle.swc_ecma_codegen_tree.specs.declared.exprs.CondExpr.{CondExpr}
 use Rattle.swc_ecma_codegen_tree.specs.declared.exprs.SeqExpr.{SeqExpr}
 use Rattle.swc_ecma_codegen_tree.specs.declared.exprs.ParenExpr.{ParenExpr}
-use Rattle.swc_ecma_codegen_grammar.specs.Phrases.{Phrase, Never, Nothing, One, OptionalParentheses, ◌>◌, word, mark, some_listed, same_line}
+use Rattle.swc_ecma_codegen_grammar.specs.Phrases.{Phrase, Never, Nothing, One, OptionalParentheses, Argument, ◌>◌, word, mark, some_listed, same_line}
 use Rattle.swc_ecma_codegen_grammar.specs.Tokens.{Token}
 use Rattle.swc_ecma_codegen_grammar.specs.Tokens as tokens
 use Rattle.swc_ecma_codegen_grammar.specs.declared.roles.Role.{Role}
@@ -138,13 +138,13 @@ assign_expr f n = f n.left.node.value AssignmentTarget > One (assign_op n.op) > 
 -- section 15.5: `yield`, `yield a`, `yield* a`; parentheses may stand round the argument
 unfoldable pub yield_arg : {X : Type 0} → (X → Role → Phrase) → Option (ExprBox X) → Phrase
 yield_arg f None = Nothing
-yield_arg f (Some arg) = OptionalParentheses (expr_at f arg)
+yield_arg f (Some arg) = OptionalParentheses Argument (expr_at f arg)
 
 -- no line may end between `yield` and what belongs to it
 unfoldable pub yield_rest : {X : Type 0} → (X → Role → Phrase) → Bool → Option (ExprBox X) → Phrase
 yield_rest f true arg = same_line > mark (codes "*") > yield_arg f arg
 yield_rest f false None = Nothing
-yield_rest f false (Some arg) = same_line > OptionalParentheses (expr_at f arg)
+yield_rest f false (Some arg) = same_line > OptionalParentheses Argument (expr_at f arg)
 
 unfoldable pub yield_expr : {X : Type 0} → (X → Role → Phrase) → YieldExpr X → Phrase
 yield_expr f n = word (codes "yield") > yield_rest f n.delegate n.arg

@@ -9,7 +9,7 @@ use Rattle.swc_ecma_codegen_tree.specs.declared.exprs.ArrowExpr.{ArrowExpr}
 use Rattle.swc_ecma_codegen_tree.specs.declared.exprs.BlockStmtOrExpr.{BlockStmtOrExpr}
 use Rattle.swc_ecma_codegen_tree.specs.declared.exprs.BlockStmtOrExpr.TheVariants as bodies
 use Rattle.swc_ecma_codegen_tree.specs.declared.idents.Ident.{Ident}
-use Rattle.swc_ecma_codegen_grammar.specs.Phrases.{Phrase, Never, Nothing, OptionalParentheses, ◌>◌, word, mark, ending, listed, in_order, same_line}
+use Rattle.swc_ecma_codegen_grammar.specs.Phrases.{Phrase, Never, Nothing, OptionalParentheses, Parameter, ◌>◌, word, mark, ending, listed, in_order, same_line}
 use Rattle.swc_ecma_codegen_grammar.specs.AnnotationPhrases.{annotation, type_params}
 use Rattle.swc_ecma_codegen_grammar.specs.NamePhrases.{ident}
 use Rattle.swc_ecma_codegen_grammar.specs.PatPhrases.{value_at, pat_at, pat}
@@ -82,7 +82,7 @@ is_never phrase = false
 unfoldable pub only_parameter : {X : Type 0} → (X → Role → Phrase) → PatBox X → Phrase
 only_parameter f n =
     if is_never (f n.node.value PlainParameter) then mark (codes "(") > pat_at f n > mark (codes ")")
-    else OptionalParentheses (pat_at f n)
+    else OptionalParentheses Parameter (pat_at f n)
 
 -- types around the parameters: before them their own parameters, and behind them that of the result
 abbrev pub is_typed_arrow : {X : Type 0} → ArrowExpr X → Bool

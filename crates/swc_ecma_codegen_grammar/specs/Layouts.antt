@@ -45,7 +45,7 @@ Alongside s t (TagNameOf at bytes) xs ys = AreBoth (tokens.tag_name (chars bytes
 Alongside s t (Then a b) xs ys =
     (us vs ks ns : List Token) × Alongside s t a us ks × Alongside s t b vs ns × (xs ≡ us ++ vs) × (ys ≡ ks ++ ns)
 Alongside s t (CommaBefore close) xs ys = IsClosing close xs × IsClosing close ys
-Alongside s t (OptionalParentheses a) xs ys = (us ks : List Token) × Alongside s t a us ks × IsBareOrIn us xs × IsBareOrIn ks ys
+Alongside s t (OptionalParentheses round a) xs ys = (us ks : List Token) × Alongside s t a us ks × IsBareOrIn us xs × IsBareOrIn ks ys
 Alongside s t (Chosen EmptyArguments) xs ys = (xs ≡ chosen s EmptyArguments) × (ys ≡ chosen t EmptyArguments)
 Alongside s t (Chosen choice) xs ys = AreBoth (chosen s choice) xs ys
 
@@ -60,7 +60,7 @@ leaves_open (PrivateOf bytes) = false
 leaves_open (TagNameOf at bytes) = false
 leaves_open (Then a b) = leaves_open a || leaves_open b
 leaves_open (CommaBefore close) = true
-leaves_open (OptionalParentheses a) = true
+leaves_open (OptionalParentheses round a) = true
 leaves_open (Chosen choice) = false
 
 -- ---- by the tokens alone

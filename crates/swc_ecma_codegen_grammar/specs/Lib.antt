@@ -38,6 +38,7 @@ pub mod PartPhrases
 pub mod Parts
 pub mod PatPhrases
 pub mod Phrases
+pub mod PlainPhrases
 pub mod PropPhrases
 pub mod Punctuators
 pub mod Reading

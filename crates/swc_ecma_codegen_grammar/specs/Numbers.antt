@@ -82,7 +82,7 @@ is_numeric (c ∷ cs) =
     else if is_digit c then integer false cs
     else ((c == 46) && fraction false true cs)
 
--- a decimal number without dot, exponent or `n`, not legacy octal: a dot after it would be its own
+-- a number that is still one with a dot right behind it: `12`, since `12.` is one; not `1.2`, `1e2`, `1n` or `017`
 unfoldable pub takes_dot : List ℕ → Bool
 takes_dot text = is_numeric (text ++ 46 ∷ [])
 

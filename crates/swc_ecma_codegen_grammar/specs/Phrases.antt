@@ -16,6 +16,11 @@ pub data Choice : Type 0 where
   LoopEnding : Choice
   AttributesWord : Choice
 
+-- what parentheses may stand round that syntax leaves open: what is returned, thrown or yielded; the only parameter of an arrow function
+pub data Round : Type 0 where
+  Argument : Round
+  Parameter : Round
+
 -- the marks before which a trailing comma may stand: `[a,]` and `{ a, }`
 pub data Closing : Type 0 where
   RightBracket : Closing
@@ -38,7 +43,7 @@ pub data Phrase : Type 0 where
   TagNameOf : (at : BytePos) → (bytes : List ℕ) → Phrase
   Then : (first second : Phrase) → Phrase
   CommaBefore : (close : Closing) → Phrase
-  OptionalParentheses : (inside : Phrase) → Phrase
+  OptionalParentheses : (round : Round) → (inside : Phrase) → Phrase
   Chosen : (choice : Choice) → Phrase
 
 infixr 20 ◌>◌
@@ -78,7 +83,7 @@ Generates s (PrivateOf bytes) ts = ts ≡ tokens.private_name (name_value (spell
 Generates s (TagNameOf at bytes) ts = ts ≡ tokens.tag_name (chars bytes) ∷ []
 Generates s (Then a b) ts = (us vs : List Token) × Generates s a us × Generates s b vs × (ts ≡ us ++ vs)
 Generates s (CommaBefore close) ts = (ts ≡ closing_token close ∷ []) ⊎ (ts ≡ comma ∷ closing_token close ∷ [])
-Generates s (OptionalParentheses a) ts = Generates s a ts ⊎ ((us : List Token) × Generates s a us × (ts ≡ in_parentheses us))
+Generates s (OptionalParentheses round a) ts = Generates s a ts ⊎ ((us : List Token) × Generates s a us × (ts ≡ in_parentheses us))
 Generates s (Chosen choice) ts = ts ≡ chosen s choice
 
 -- The tree is well-formed: no part of it is refused, and its names are names.
@@ -92,7 +97,7 @@ is_possible (PrivateOf bytes) = is_well_formed_name bytes
 is_possible (TagNameOf at bytes) = is_well_formed_tag_name bytes
 is_possible (Then a b) = is_possible a && is_possible b
 is_possible (CommaBefore close) = true
-is_possible (OptionalParentheses a) = is_possible a
+is_possible (OptionalParentheses round a) = is_possible a
 is_possible (Chosen choice) = true
 
 -- how a name is printed: as the settings ask; so too as a key, which may be put in quotes; in a tag as it is
@@ -118,7 +123,7 @@ names_in (PrivateOf bytes) = []
 names_in (TagNameOf at bytes) = record { at = at; bytes = bytes; sort = Tag } ∷ []
 names_in (Then a b) = names_in a ++ names_in b
 names_in (CommaBefore close) = []
-names_in (OptionalParentheses a) = names_in a
+names_in (OptionalParentheses round a) = names_in a
 names_in (Chosen choice) = []
 
 -- on a condition

@@ -25,8 +25,9 @@ is_same_line kind = false
 unfoldable pub is_close_by : Kind → Bool
 is_close_by kind = is_child kind || is_hashbang_kind kind
 
--- The rest of a text is trivia and longest tokens in turn, in the order of the list, and trivia at the end. A child of
--- JSX has no trivia before it. `first`: nothing was read yet, so that a hashbang may stand here.
+-- The rest of a text reads as this list: before each token there may be trivia, each token is the longest that can be
+-- read there, and behind the last one trivia alone are left. A child of JSX has no trivia before it.
+-- `first`: nothing was read yet, so that a hashbang may stand here.
 -- `joined`: `[no LineTerminator here]` stands right before, so that the trivia before the next token hold no line terminator,
 -- also within a comment (ECMA-262, section 12.4): `return` LF `a` is no reading of `return a`.
 unfoldable pub ReadsOn : Bool → Bool → List ℕ → List Token → List Remark → Type 0

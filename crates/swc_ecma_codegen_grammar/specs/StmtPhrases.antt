@@ -39,7 +39,7 @@ use Rattle.swc_ecma_codegen_grammar.specs.declared.kinds.Kind.TheVariants.{Hashb
 use Rattle.swc_ecma_codegen_grammar.specs.Chars.{is_one_line}
 use Rattle.swc_ecma_codegen_grammar.specs.LitPhrases.{characters}
 use Rattle.swc_ecma_codegen_grammar.specs.Tokens.{token_of}
-use Rattle.swc_ecma_codegen_grammar.specs.Phrases.{Phrase, Nothing, One, OptionalParentheses, Chosen, LoopEnding, ◌>◌, where_, word, mark, ending, in_order, same_line}
+use Rattle.swc_ecma_codegen_grammar.specs.Phrases.{Phrase, Nothing, One, OptionalParentheses, Argument, Chosen, LoopEnding, ◌>◌, where_, word, mark, ending, in_order, same_line}
 use Rattle.swc_ecma_codegen_grammar.specs.declared.roles.Role.{Role}
 use Rattle.swc_ecma_codegen_grammar.specs.declared.roles.Role.TheVariants.{Statement, Block, ModuleDeclaration}
 use Rattle.swc_ecma_codegen_grammar.specs.NamePhrases.{ident}
@@ -76,7 +76,7 @@ with_stmt f n = word (codes "with") > mark (codes "(") > value_at f n.obj > mark
 -- section 14.10: `return a;`, `return;`; parentheses may stand round the argument, and no line may end before it
 unfoldable pub return_rest : {X : Type 0} → (X → Role → Phrase) → Option (ExprBox X) → Phrase
 return_rest f None = ending
-return_rest f (Some n) = same_line > OptionalParentheses (value_at f n) > ending
+return_rest f (Some n) = same_line > OptionalParentheses Argument (value_at f n) > ending
 
 unfoldable pub return_stmt : {X : Type 0} → (X → Role → Phrase) → ReturnStmt X → Phrase
 return_stmt f n = word (codes "return") > return_rest f n.arg
@@ -118,7 +118,7 @@ switch_stmt f n = word (codes "switch") > mark (codes "(") > value_at f n.discri
 
 -- section 14.14: parentheses may stand round the argument
 unfoldable pub throw_stmt : {X : Type 0} → (X → Role → Phrase) → ThrowStmt X → Phrase
-throw_stmt f n = word (codes "throw") > same_line > OptionalParentheses (value_at f n.arg) > ending
+throw_stmt f n = word (codes "throw") > same_line > OptionalParentheses Argument (value_at f n.arg) > ending
 
 -- section 14.15: `catch { b; }`, `catch (a) { b; }`
 unfoldable pub catch_param : {X : Type 0} → (X → Role → Phrase) → Option (PatBox X) → Phrase

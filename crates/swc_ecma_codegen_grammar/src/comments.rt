@@ -26,8 +26,8 @@ pub struct Comment {
     pub text: String,
 }
 
-/// Two finite maps from positions to lists of comments: those that stand before a position, and those after one.
-/// Taking gives the list and removes the entry, and nothing else changes.
+/// The comments of each position: the list of those before it, and the list of those after it. Each list can be taken
+/// once. What is taken of one position changes nothing at another one.
 pub trait Comments {
     ghost maps: { Self → Maps };
 

@@ -25,9 +25,9 @@ use Rattle.swc_ecma_codegen_emit.specs.Exprs.{binary_op, yield_star}
 use Rattle.swc_ecma_codegen_emit.specs.Operands.{is_word_op}
 use Rattle.swc_ecma_codegen_emit.specs.Templates.{tpl_parts, tpl_all, tpl_rest}
 use Rattle.swc_ecma_codegen_emit.specs.Tree.{any_items}
-use Rattle.swc_ecma_codegen_laws.specs.Breaks.{marks, operators, is_mark, is_break, holds_break, IsWritten, semicolon, EndsBehindMarks, no_more, mark, other, yield_star as star_of_yield, element, template, without_body}
+use Rattle.swc_ecma_codegen_laws.specs.Breaks.{marks, operators, is_mark, is_break, is_enclosed, holds_break, IsWritten, whole_node, semicolon, EndsBehindMarks, no_more, mark, other, yield_star as star_of_yield, element, template, without_body}
 use Rattle.swc_ecma_codegen_laws.specs.Enclosing.{is_element, is_function}
-use Rattle.swc_ecma_codegen_laws.proofs.Children.{PartsHold}
+use Rattle.swc_ecma_codegen_laws.proofs.Children.{NodesHold}
 use Rattle.swc_ecma_codegen_laws.proofs.OfSteps.{OfSteps, is_other}
 use Rattle.swc_ecma_codegen_laws.proofs.StepsOfTemplates.{tpl_element_holds}
 
@@ -41,10 +41,10 @@ holds_append (x ∷ xs) ys h k = let p = or_parts (is_break x) (holds_break xs) 
 pub ends_append : (xs ys : List Step) → EndsBehindMarks xs → EndsBehindMarks ys → EndsBehindMarks (xs ++ ys)
 ends_append xs ys no_more k = k
 ends_append xs ys (mark x us h e) k = mark x (us ++ ys) h (ends_append us ys e k)
-ends_append xs ys (other x us h e) k = other x (us ++ ys) h (ends_append us ys e k)
+ends_append xs ys (other x us h n e) k = other x (us ++ ys) h n (ends_append us ys e k)
 ends_append xs ys (star_of_yield us e) k = star_of_yield (us ++ ys) (ends_append us ys e k)
 ends_append xs ys (element node place us vs h w n e) k = subst EndsBehindMarks (sym (append_assoc us vs ys)) (element node place us (vs ++ ys) h w n (ends_append vs ys e k))
-ends_append xs ys (template tagged inside parts us vs w n e) k = subst EndsBehindMarks (sym (append_assoc us vs ys)) (template tagged inside parts us (vs ++ ys) w n (ends_append vs ys e k))
+ends_append xs ys (template tagged nodes parts us vs w n e) k = subst EndsBehindMarks (sym (append_assoc us vs ys)) (template tagged nodes parts us (vs ++ ys) w n (ends_append vs ys e k))
 ends_append xs ys (without_body node place us vs h w d e) k = subst EndsBehindMarks (sym (append_assoc us (semicolon ++ vs) ys)) (without_body node place us (vs ++ ys) h w d (ends_append vs ys e k))
 
 -- by where they stand
@@ -61,10 +61,10 @@ fits_append : (bounded : Bool) (xs ys : List Step) → Fits bounded xs → Fits 
 fits_append true xs ys h k = ends_append xs ys h k
 fits_append false xs ys h k = holds_append xs ys h k
 
-fits_other : (bounded : Bool) (x : Step) → (is_mark x || is_break x) ≡ false → Fits bounded (x ∷ [])
+fits_other : (bounded : Bool) (x : Step) → (is_mark x || is_break x) ≡ false → is_enclosed x ≡ false → Fits bounded (x ∷ [])
 unfolding holds_break
-fits_other true x h = other x [] h no_more
-fits_other false x h = or_from (is_break x) false (or_parts (is_mark x) (is_break x) h).1 refl
+fits_other true x h n = other x [] h n no_more
+fits_other false x h n = or_from (is_break x) false (or_parts (is_mark x) (is_break x) h).1 refl
 
 -- ---- what a part writes
 
@@ -111,17 +111,33 @@ breaks_by_env bounded ask h = record { at = λ env e. let x = (h (record env { m
 steps_break : (bounded : Bool) (part : Part) (xs : List Step) → ((rest : Plan) (env : Env) → is_bounded env ≡ bounded → part rest env ≡ chain xs (rest (env_after xs env))) → Fits bounded xs → Breaks bounded part
 steps_break bounded part xs h fit = record { at = λ env e. record { steps = xs; stop = None; is_steps = λ rest. h rest env e; fit = fit } }
 
-one_step : (bounded : Bool) (x : Step) → (is_mark x || is_break x) ≡ false → Breaks bounded (step x)
+one_step : (bounded : Bool) (x : Step) → (is_mark x || is_break x) ≡ false → is_enclosed x ≡ false → Breaks bounded (step x)
 unfolding chain step maps_after
-one_step bounded x h = steps_break bounded (step x) (x ∷ []) (λ rest env e. refl) (fits_other bounded x h)
+one_step bounded x h n = steps_break bounded (step x) (x ∷ []) (λ rest env e. refl) (fits_other bounded x h n)
 
 neither : (a b : Bool) → (not a && b) ≡ true → a ≡ false
 neither true b h = absurd (cc)
 neither false b h = refl
 
+second : (a b : Bool) → (not a && b) ≡ true → b ≡ true
+second true b h = absurd (cc)
+second false b h = h
+
 breaks_step : (bounded : Bool) (x : Step) → is_other x ≡ true → Breaks bounded (step x)
 unfolding is_other
-breaks_step bounded x h = one_step bounded x (neither (is_mark x || is_break x) (is_inner_step x) h)
+breaks_step bounded x h =
+    let more : Bool = not (is_enclosed x) && is_inner_step x in
+    one_step bounded x (neither (is_mark x || is_break x) more h) (neither (is_enclosed x) (is_inner_step x) (second (is_mark x || is_break x) more h))
+
+-- none of those that are written in templates and elements alone says that a line may be ended
+no_break : (x : Step) → is_enclosed x ≡ true → is_break x ≡ false
+unfolding is_break
+no_break (Plain AllowBreak) h = absurd (cc)
+no_break x h = refl
+
+breaks_enclosed : (x : Step) → is_enclosed x ≡ true → is_inner_step x ≡ true → Breaks false (step x)
+unfolding chain step maps_after holds_break
+breaks_enclosed x h i = steps_break false (step x) (x ∷ []) (λ rest env e. refl) (or_from (is_break x) false (no_break x h) refl)
 
 -- ---- marks
 
@@ -136,7 +152,7 @@ broken false rest env e = ap (λ b. break_where b rest env) e
 
 fits_mark : (bounded : Bool) (t : List ℕ) (x : Step) → is_mark x ≡ true → is_break x ≡ false → Fits bounded (Guard t ∷ x ∷ behind bounded)
 unfolding is_mark is_break holds_break
-fits_mark true t x h k = other (Guard t) (x ∷ Plain AllowBreak ∷ []) refl (mark x [] h no_more)
+fits_mark true t x h k = other (Guard t) (x ∷ Plain AllowBreak ∷ []) refl refl (mark x [] h no_more)
 fits_mark false t x h k = or_from (is_break x) false k refl
 
 marked_tail : (b : Bool) (t : List ℕ) (kind : Kind) (item : Item) (rest : Plan) (env : Env) → next (Guard t) (next (Token kind item) (chain (behind b) (rest env))) ≡ chain (Guard t ∷ Token kind item ∷ behind b) (rest (env_after (Guard t ∷ Token kind item ∷ behind b) env))
@@ -149,9 +165,9 @@ marked : (bounded : Bool) (t : List ℕ) (kind : Kind) (item : Item) → is_mark
 unfolding step chain maps_after after_step is_break
 marked bounded t kind item h = steps_break bounded (λ rest. step (Guard t) (step (Token kind item) (allow_break rest))) (Guard t ∷ Token kind item ∷ behind bounded) (λ rest env e. ap (λ z. next (Guard t) (next (Token kind item) z)) (broken bounded rest env e) ∙ marked_tail bounded t kind item rest env) (fits_mark bounded t (Token kind item) h refl)
 
-pub unmarked : (bounded : Bool) (t : List ℕ) (x : Step) → (is_mark x || is_break x) ≡ false → Breaks bounded (λ rest. step (Guard t) (step x rest))
+pub unmarked : (bounded : Bool) (t : List ℕ) (x : Step) → (is_mark x || is_break x) ≡ false → is_enclosed x ≡ false → Breaks bounded (λ rest. step (Guard t) (step x rest))
 unfolding is_mark is_break
-unmarked bounded t x h = breaks_then bounded (one_step bounded (Guard t) refl) (one_step bounded x h)
+unmarked bounded t x h n = breaks_then bounded (one_step bounded (Guard t) refl refl) (one_step bounded x h n)
 
 -- the five marks of `punct`
 of_two : (a b c d e : Bool) → ((a && true) || ((b && true) || ((c && true) || ((d && true) || ((e && true) || false))))) ≡ (a || (b || (c || (d || e))))
@@ -178,7 +194,7 @@ among_marks (c ∷ d ∷ cs) = none_of (c == 40) (c == 44) (c == 59) (c == 91) (
 punct_by : (bounded b : Bool) (t : List ℕ) → allows_break t ≡ b → Breaks bounded (λ rest. step (Guard t) (step (Token Punctuator (Punct None t)) (if b then allow_break rest else rest)))
 unfolding is_mark is_break
 punct_by bounded true t h = marked bounded t Punctuator (Punct None t) (among_marks t ∙ h)
-punct_by bounded false t h = unmarked bounded t (Token Punctuator (Punct None t)) (or_from (is_among t marks) false (among_marks t ∙ h) refl)
+punct_by bounded false t h = unmarked bounded t (Token Punctuator (Punct None t)) (or_from (is_among t marks) false (among_marks t ∙ h) refl) refl
 
 pub breaks_punct : (bounded : Bool) (t : List ℕ) → Breaks bounded (punct t)
 unfolding punct bare_punct
@@ -189,7 +205,7 @@ unfolding semi bare_semi is_mark
 breaks_semi bounded = marked bounded (codes ";") Ending (Semi None) refl
 
 pub break_steps : OfSteps Breaks
-break_steps = record { none = breaks_none; and_then = breaks_then; refuse = breaks_refuse; by_env = breaks_by_env; step = breaks_step; punct = breaks_punct; semi = breaks_semi }
+break_steps = record { none = breaks_none; and_then = breaks_then; refuse = breaks_refuse; by_env = breaks_by_env; step = breaks_step; enclosed = breaks_enclosed; punct = breaks_punct; semi = breaks_semi }
 
 -- ---- operators
 
@@ -235,7 +251,7 @@ breaks_binary bounded binary.NullishCoalescing = operator_breaks bounded (codes 
 
 no_operand : (bounded : Bool) (t : List ℕ) → is_among t operators ≡ false → Breaks bounded (operator t)
 unfolding operator is_mark is_break
-no_operand bounded t h = unmarked bounded t (Token Punctuator (Operator None t)) (or_from (is_among t operators) false h refl)
+no_operand bounded t h = unmarked bounded t (Token Punctuator (Operator None t)) (or_from (is_among t operators) false h refl) refl
 
 pub breaks_update : (bounded : Bool) (op : UpdateOp) → Breaks bounded (operator (update_text op))
 unfolding update_text is_among is_same
@@ -263,13 +279,13 @@ breaks_assign bounded assign.NullishAssign = no_operand bounded (codes "??=") re
 
 fits_yield : (b : Bool) → Fits b (Guard (codes "yield") ∷ Token Word (Keyword None (codes "yield")) ∷ Guard (codes "*") ∷ Token Punctuator (Operator None (codes "*")) ∷ [])
 unfolding is_mark is_break holds_break
-fits_yield true = other (Guard (codes "yield")) _ refl (star_of_yield [] no_more)
+fits_yield true = other (Guard (codes "yield")) _ refl refl (star_of_yield [] no_more)
 fits_yield false = refl
 
 -- `yield` and `yield*`
 pub breaks_yield : (bounded delegate : Bool) → Breaks bounded (λ rest. keyword None (codes "yield") (yield_star delegate rest))
 unfolding keyword operator yield_star step chain maps_after after_step is_mark is_break holds_break
-breaks_yield bounded false = unmarked bounded (codes "yield") (Token Word (Keyword None (codes "yield"))) refl
+breaks_yield bounded false = unmarked bounded (codes "yield") (Token Word (Keyword None (codes "yield"))) refl refl
 breaks_yield bounded true = steps_break bounded (λ rest. keyword None (codes "yield") (operator (codes "*") rest)) (Guard (codes "yield") ∷ Token Word (Keyword None (codes "yield")) ∷ Guard (codes "*") ∷ Token Punctuator (Operator None (codes "*")) ∷ []) (λ rest env e. refl) (fits_yield bounded)
 
 -- ---- templates, elements, and functions without a body
@@ -303,20 +319,20 @@ within bounded whole part q h k = record {
       record { steps = x.steps; stop = x.stop; is_steps = is; fit = fits_within bounded x.steps x.fit (k x.steps (written_by whole env x.steps x.stop is) x.fit) };
 }
 
-rest_breaks : (tagged : Bool) (inside : List Part) (qs : List TplElement) → PartsHold Breaks false inside → Breaks false (tpl_rest (λ part. part) tagged inside qs)
-unfolding tpl_rest PartsHold
+rest_breaks : (tagged : Bool) (nodes : List AnyNode) (qs : List TplElement) → NodesHold Breaks nodes → Breaks false (tpl_rest whole_node tagged nodes qs)
+unfolding tpl_rest NodesHold
 rest_breaks tagged [] qs h = breaks_none false
 rest_breaks tagged (x ∷ xs) [] h = breaks_none false
-rest_breaks tagged (x ∷ xs) (q ∷ qs) h = breaks_then false h.0 (breaks_then false (tpl_element_holds break_steps false false (part_before tagged qs) q) (rest_breaks tagged xs qs h.1))
+rest_breaks tagged (x ∷ xs) (q ∷ qs) h = breaks_then false h.0 (breaks_then false (tpl_element_holds break_steps false (part_before tagged qs) q) (rest_breaks tagged xs qs h.1))
 
-all_break : (tagged : Bool) (inside : List Part) (qs : List TplElement) → PartsHold Breaks false inside → Breaks false (tpl_all (λ part. part) tagged inside qs)
+all_break : (tagged : Bool) (nodes : List AnyNode) (qs : List TplElement) → NodesHold Breaks nodes → Breaks false (tpl_all whole_node tagged nodes qs)
 unfolding tpl_all
-all_break tagged inside [] h = breaks_none false
-all_break tagged inside (q ∷ qs) h = breaks_then false (tpl_element_holds break_steps false true (part_before tagged qs) q) (rest_breaks tagged inside qs h)
+all_break tagged nodes [] h = breaks_none false
+all_break tagged nodes (q ∷ qs) h = breaks_then false (tpl_element_holds break_steps true (part_before tagged qs) q) (rest_breaks tagged nodes qs h)
 
-pub breaks_template : (bounded tagged : Bool) (inside : List Part) (quasis : List TplElement) → PartsHold Breaks false inside → Breaks bounded (tpl_parts (λ part. part) tagged inside quasis)
+pub breaks_template : (bounded tagged : Bool) (nodes : List AnyNode) (quasis : List TplElement) → NodesHold Breaks nodes → Breaks bounded (tpl_parts whole_node tagged nodes quasis)
 unfolding tpl_parts
-breaks_template bounded tagged inside quasis h = within bounded (tpl_parts (λ part. part) tagged inside quasis) (tpl_all (λ part. part) tagged inside quasis) refl (all_break tagged inside quasis h) (λ xs w n e. template tagged inside quasis xs [] w n e)
+breaks_template bounded tagged nodes quasis h = within bounded (tpl_parts whole_node tagged nodes quasis) (tpl_all whole_node tagged nodes quasis) refl (all_break tagged nodes quasis h) (λ xs w n e. template tagged nodes quasis xs [] w n e)
 
 pub breaks_element : (bounded : Bool) (node : AnyNode) (place : Place) (inside : Part) → is_element node ≡ true → any_items node place ≡ unbounded inside → Breaks false inside → Breaks bounded (any_items node place)
 breaks_element bounded node place inside h q k = within bounded (any_items node place) inside q k (λ xs w n e. element node place xs [] h w n e)

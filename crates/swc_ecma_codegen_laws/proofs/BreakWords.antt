@@ -13,7 +13,7 @@ use Rattle.swc_ecma_codegen_laws.proofs.WordsOfSteps.{words_of}
 
 ellipsis_breaks : (bounded : Bool) (span : Span) → Breaks bounded (placed_punct span (codes "..."))
 unfolding placed_punct is_mark is_break is_among is_same
-ellipsis_breaks bounded span = unmarked bounded (codes "...") (Token Punctuator (Punct (Some span) (codes "..."))) refl
+ellipsis_breaks bounded span = unmarked bounded (codes "...") (Token Punctuator (Punct (Some span) (codes "..."))) refl refl
 
 pub break_words : OfWords Breaks
 break_words = words_of break_steps (record {

@@ -59,8 +59,8 @@ lines_end : (part : Part) → Breaks true part → (env : Env) (max : ℕ) → e
 unfolding with_max_line bounded in_lines begin_lines end_lines step after_step steps_of nothing is_mark is_break
 lines_end part h env max m =
     let within : Env = record env { max_line = Some max } in
-    other (Call (BeginLines max)) _ refl
-    (part_ends part h (λ inner. step (Call EndLines) (λ last. nothing (record last { max_line = env.max_line })) (record inner { max_line = None })) within m (λ e. other (Call EndLines) [] refl no_more))
+    other (Call (BeginLines max)) _ refl refl
+    (part_ends part h (λ inner. step (Call EndLines) (λ last. nothing (record last { max_line = env.max_line })) (record inner { max_line = None })) within m (λ e. other (Call EndLines) [] refl refl no_more))
 
 at_lines : (env : Env) (max : ℕ) → env.config.minify ≡ true → env.max_line ≡ Some max → alone env ≡ Whole (ByItself max)
 at_lines env max m l = ap (λ b. cond b (with_lines env.max_line) (Whole Plain)) m ∙ ap with_lines l

@@ -15,9 +15,11 @@ use Rattle.swc_ecma_codegen_tree.specs.declared.exprs.Import.{Import}
 use Rattle.swc_ecma_codegen_tree.specs.declared.exprs.NewExpr.{NewExpr}
 use Rattle.swc_ecma_codegen_tree.specs.declared.exprs.OptCall.{OptCall}
 use Rattle.swc_ecma_codegen_tree.specs.declared.exprs.Super.{Super}
+use Rattle.swc_ecma_codegen_tree.specs.Links.{TsTypeParamInstantiationBox}
 use Rattle.swc_ecma_codegen_spans.specs.Spans.{option_span, expr_or_spread_span}
 use Rattle.swc_ecma_codegen_grammar.specs.ElementPhrases.{last_is_hole}
 use Rattle.swc_ecma_codegen_tokens.specs.Run.{Part}
+use Rattle.swc_ecma_codegen_tokens.specs.Choices.{empty_arguments}
 use Rattle.swc_ecma_codegen_tokens.specs.Words.{keyword}
 use Rattle.swc_ecma_codegen_emit.specs.Annotations.{type_args}
 use Rattle.swc_ecma_codegen_emit.specs.declared.nodes.Context.TheVariants.{Plain, Callee}
@@ -85,10 +87,16 @@ new_gap_holds words bounded starts = either words bounded starts (words.space bo
 new_callee_holds : {X : Type 0} {holds : Bool → Part → Type 0} (known : Known holds X) (bounded : Bool) (n : NewExpr X) → holds bounded (λ rest. new_gap ((asks_in known) n.callee.node.value).starts ((items_in known) n.callee.node.value (Whole Plain) (type_args (items_in known) Plain n.type_args rest)))
 new_callee_holds known bounded n = known.words.and_then bounded (new_gap_holds known.words bounded ((asks_in known) n.callee.node.value).starts) (known.words.and_then bounded (known.law bounded n.callee.node.value (Whole Plain)) (type_args_holds known bounded Plain n.type_args))
 
+-- without arguments
+bare_new_holds : {X : Type 0} {holds : Bool → Part → Type 0} (known : Known holds X) (bounded : Bool) (callee : X) (types : Option (TsTypeParamInstantiationBox X)) → holds bounded (λ rest. new_gap ((asks_in known) callee).starts ((items_in known) callee (Whole Plain) (type_args (items_in known) Plain types rest))) → holds bounded (λ rest. keyword None (codes "new") (new_gap ((asks_in known) callee).starts ((items_in known) callee (Whole Plain) (type_args (items_in known) Plain types (empty_arguments rest)))))
+unfolding type_args
+bare_new_holds known bounded callee None h = known.words.bare_new bounded (known.node callee) None h
+bare_new_holds known bounded callee (Some types) h = known.words.bare_new bounded (known.node callee) (Some (known.node types.node.value)) h
+
 -- and its arguments
 new_listed_holds : {X : Type 0} {holds : Bool → Part → Type 0} (known : Known holds X) (bounded : Bool) (n : NewExpr X) (keeps : Bool) (xs : List (ExprOrSpread X)) → holds bounded (λ rest. keyword None (codes "new") (new_gap ((asks_in known) n.callee.node.value).starts ((items_in known) n.callee.node.value (Whole Plain) (type_args (items_in known) Plain n.type_args (listed_arguments (asks_in known) (items_in known) n.span keeps xs rest)))))
 unfolding listed_arguments
-new_listed_holds known bounded n false [] = known.words.bare_new bounded (λ rest. new_gap ((asks_in known) n.callee.node.value).starts ((items_in known) n.callee.node.value (Whole Plain) (type_args (items_in known) Plain n.type_args rest))) (new_callee_holds known bounded n)
+new_listed_holds known bounded n false [] = bare_new_holds known bounded n.callee.node.value n.type_args (new_callee_holds known bounded n)
 new_listed_holds known bounded n keeps xs = known.words.and_then bounded (known.words.keyword bounded None (codes "new")) (known.words.and_then bounded (new_callee_holds known bounded n) (arguments_holds known bounded new_format refl n.span xs))
 
 new_parts_hold : {Z : Type 0} {X : Type 0} {holds : Bool → Part → Type 0} (known : Known holds X) (bounded : Bool) (n : NewExpr X) (keeps : Bool) (args : Option (Vec (ExprOrSpread X) Z)) → holds bounded (λ rest. keyword None (codes "new") (new_gap ((asks_in known) n.callee.node.value).starts ((items_in known) n.callee.node.value (Whole Plain) (type_args (items_in known) Plain n.type_args (new_arguments (asks_in known) (items_in known) n.span keeps args rest)))))

@@ -60,7 +60,7 @@ use Rattle.swc_ecma_codegen_tree.specs.declared.stmts.Stmt.TheVariants as stmts
 use Rattle.swc_ecma_codegen_grammar.specs.Tokens.{Token}
 use Rattle.swc_ecma_codegen_grammar.specs.Tokens as tokens
 use Rattle.swc_ecma_codegen_common.specs.declared.positions.BytePos.{BytePos}
-use Rattle.swc_ecma_codegen_grammar.specs.Phrases.{Phrase, Never, Nothing, One, NameOf, KeyOf, PrivateOf, Then, OptionalParentheses, Generates, ◌>◌, mark, open_parenthesis}
+use Rattle.swc_ecma_codegen_grammar.specs.Phrases.{Phrase, Never, Nothing, One, NameOf, KeyOf, PrivateOf, Then, OptionalParentheses, Parameter, Generates, ◌>◌, mark, open_parenthesis}
 use Rattle.swc_ecma_codegen_grammar.specs.Phrases as phrases
 use Rattle.swc_ecma_codegen_grammar.specs.Settings.{Settings}
 use Rattle.swc_ecma_codegen_grammar.specs.declared.roles.Role.{Role}
@@ -296,7 +296,7 @@ begins_behind f b h = record {
   joins = λ s x xs k j. h.joins s x xs (subst (λ z. Generates s f z) (sym (k.4 ∙ ap (λ z. z ++ k.1) k.2)) k.3) j;
 }
 
-begins_parentheses : (f : Phrase) (b : Bool) → Begins f b → Begins (OptionalParentheses f) b
+begins_parentheses : (f : Phrase) (b : Bool) → Begins f b → Begins (OptionalParentheses Parameter f) b
 unfolding Generates tokens.punctuator joins_a_word
 begins_parentheses f b h = record {
   some = λ s k. elim k [ inl g ↦ h.some s g | inr g ↦ nothing_first _ _ g.2 ];
@@ -328,7 +328,7 @@ only_begins : {X : Type 0} (reads : X → Role → Phrase) (starts : X → Bool)
 unfolding function_lists.only_parameter leads begins_as
 only_begins reads starts law n = either (function_lists.is_never (reads n.node.value PlainParameter))
   where
-    either : (never : Bool) → Begins (cond never (mark (codes "(") > reads n.node.value Pattern > mark (codes ")")) (OptionalParentheses (reads n.node.value Pattern))) (starts n.node.value)
+    either : (never : Bool) → Begins (cond never (mark (codes "(") > reads n.node.value Pattern > mark (codes ")")) (OptionalParentheses Parameter (reads n.node.value Pattern))) (starts n.node.value)
     either true = begins_then _ _ _ (begins_mark _ _)
     either false = begins_parentheses _ _ (law n.node.value Pattern refl)
 

@@ -72,7 +72,7 @@ jsx_attr_name_holds words bounded (attr_names.JSXNamespacedName n) = jsx_namespa
 
 pub open_at_holds : {holds : Bool → Part → Type 0} (words : OfWords holds) (context : Context) (t : List ℕ) → holds false (open_at context t)
 unfolding open_at
-open_at_holds words Child t = words.child_open false t
+open_at_holds words Child t = words.child_open t
 open_at_holds words context t = words.bare_punct t
 
 pub jsx_expr_holds : {X : Type 0} {holds : Bool → Part → Type 0} (known : Known holds X) (bounded : Bool) (x1 : JSXExpr X) → holds bounded (jsx_expr (items_in known) x1)
@@ -86,7 +86,7 @@ jsx_expr_container_holds known n context = known.words.and_then false (open_at_h
 
 pub jsx_spread_child_holds : {X : Type 0} {holds : Bool → Part → Type 0} (known : Known holds X) (n : JSXSpreadChild X) → holds false (jsx_spread_child (items_in known) n)
 unfolding jsx_spread_child
-jsx_spread_child_holds known n = known.words.and_then false (known.words.child_open false (codes "{")) (known.words.and_then false (known.words.punct false (codes "...")) (known.words.and_then false (known.law false n.expr.node.value (Whole Plain)) (known.words.punct false (codes "}"))))
+jsx_spread_child_holds known n = known.words.and_then false (known.words.child_open (codes "{")) (known.words.and_then false (known.words.punct false (codes "...")) (known.words.and_then false (known.law false n.expr.node.value (Whole Plain)) (known.words.punct false (codes "}"))))
 
 pub jsx_attr_lit_holds : {holds : Bool → Part → Type 0} (words : OfWords holds) (bounded : Bool) (n : Lit) → holds bounded (jsx_attr_lit n)
 unfolding jsx_attr_lit
@@ -129,7 +129,7 @@ jsx_opening_element_holds known n context = known.words.and_then false (open_at_
 
 pub jsx_closing_element_holds : {X : Type 0} {holds : Bool → Part → Type 0} (known : Known holds X) (n : JSXClosingElement X) → holds false (jsx_closing_element (items_in known) n)
 unfolding jsx_closing_element
-jsx_closing_element_holds known n = known.words.and_then false (known.words.child_open false (codes "<")) (known.words.and_then false (known.words.punct false (codes "/")) (known.words.and_then false (jsx_element_name_holds known false n.name) (known.words.close false)))
+jsx_closing_element_holds known n = known.words.and_then false (known.words.child_open (codes "<")) (known.words.and_then false (known.words.punct false (codes "/")) (known.words.and_then false (jsx_element_name_holds known false n.name) (known.words.close false)))
 
 pub jsx_element_child_holds : {X : Type 0} {holds : Bool → Part → Type 0} (known : Known holds X) (x1 : JSXElementChild X) → holds false (jsx_element_child (items_in known) x1)
 unfolding jsx_element_child
@@ -158,7 +158,7 @@ opening_fragment_holds words context = words.and_then false (open_at_holds words
 
 pub closing_fragment_holds : {holds : Bool → Part → Type 0} (words : OfWords holds) → holds false closing_fragment
 unfolding closing_fragment
-closing_fragment_holds words = words.and_then false (words.child_open false (codes "<")) (words.and_then false (words.punct false (codes "/")) (words.close false))
+closing_fragment_holds words = words.and_then false (words.child_open (codes "<")) (words.and_then false (words.punct false (codes "/")) (words.close false))
 
 pub jsx_fragment_parts_holds : {X : Type 0} {holds : Bool → Part → Type 0} (known : Known holds X) (n : JSXFragment X) (context : Context) → holds false (jsx_fragment_parts (items_in known) n context)
 unfolding jsx_fragment_parts

@@ -29,6 +29,7 @@ pub mod OfSteps
 pub mod OfWords
 pub mod OneName
 pub mod PatsWords
+pub mod PlainTexts
 pub mod ProgramsWords
 pub mod PropsWords
 pub mod Quiet

@@ -8,20 +8,22 @@ use Rattle.swc_ecma_codegen_tokens.specs.Run as run
 use Rattle.swc_ecma_codegen_tokens.specs.Run.{Env, Part, Step, when_minified}
 use Rattle.swc_ecma_codegen_tokens.specs.Words as calls
 use Rattle.swc_ecma_codegen_tokens.proofs.Emission.Fronts.{is_inner_step}
-use Rattle.swc_ecma_codegen_laws.specs.Breaks.{is_mark, is_break}
+use Rattle.swc_ecma_codegen_laws.specs.Breaks.{is_mark, is_break, is_enclosed}
 
--- a step that writes no mark behind which a line may be ended, doesn't say that one may, and neither begins nor ends lines
+-- a step that writes no mark behind which a line may be ended, doesn't say that one may, isn't written in templates and elements alone, and
+-- neither begins nor ends lines
 unfoldable pub is_other : Step → Bool
-is_other x = not (is_mark x || is_break x) && is_inner_step x
+is_other x = not (is_mark x || is_break x) && (not (is_enclosed x) && is_inner_step x)
 
 -- It holds of nothing, of one part after another, of what the settings, the comments and the lines of the source text tell, but not the greatest length of lines,
--- of steps, and of marks.
+-- of steps, where no line may be ended also of those that are written in templates and elements alone, and of marks.
 pub record OfSteps (holds : Bool → Part → Type 0) : Type 0 where
   pub none : (bounded : Bool) → holds bounded (λ rest. rest)
   pub and_then : (bounded : Bool) {p q : Part} → holds bounded p → holds bounded q → holds bounded (λ rest. p (q rest))
   pub refuse : (bounded : Bool) (r : Unprintable) → holds bounded (run.refuse r)
   pub by_env : (bounded : Bool) (ask : Env → Part) → ((now : Env) → holds bounded (ask now)) → holds bounded (λ rest env. ask (record env { max_line = None }) rest env)
   pub step : (bounded : Bool) (x : Step) → is_other x ≡ true → holds bounded (run.step x)
+  pub enclosed : (x : Step) → is_enclosed x ≡ true → is_inner_step x ≡ true → holds false (run.step x)
   pub punct : (bounded : Bool) (t : List ℕ) → holds bounded (calls.punct t)
   pub semi : (bounded : Bool) → holds bounded calls.semi
 

@@ -44,8 +44,9 @@ use Rattle.swc_ecma_codegen_emit.specs.Stmts as stmts
 use Rattle.swc_ecma_codegen_emit.specs.Templates as templates
 use Rattle.swc_ecma_codegen_emit.specs.Tree.{any_items}
 use Rattle.swc_ecma_codegen_laws.specs.Enclosing.{is_element, is_function}
-use Rattle.swc_ecma_codegen_laws.specs.Layouts.{is_brace}
-use Rattle.swc_ecma_codegen_laws.proofs.Children.{ChildrenHold, PartsHold, parts_hold}
+use Rattle.swc_ecma_codegen_laws.specs.Breaks.{whole_node}
+use Rattle.swc_ecma_codegen_laws.specs.Layouts.{called, is_brace}
+use Rattle.swc_ecma_codegen_laws.proofs.Children.{ChildrenHold, NodesHold, nodes_hold}
 use Rattle.swc_ecma_codegen_laws.proofs.OneName.{HoldsOneName}
 
 -- The comma behind the last child of a list hangs on nothing: there is none, or always one.
@@ -91,7 +92,7 @@ pub record OfWords (holds : Bool → Part → Type 0) : Type 0 where
   pub yield_word : (bounded delegate : Bool) → holds bounded (λ rest. calls.keyword None (codes "yield") (exprs.yield_star delegate rest))
   pub attributes_word : (bounded : Bool) → holds bounded choices.attributes_word
   -- `new` and what is called, where no arguments are
-  pub bare_new : (bounded : Bool) (called : Part) → holds bounded called → holds bounded (λ rest. calls.keyword None (codes "new") (called (choices.empty_arguments rest)))
+  pub bare_new : (bounded : Bool) (callee : AnyNode) (types : Option AnyNode) → holds bounded (called callee types) → holds bounded (λ rest. calls.keyword None (codes "new") (called callee types (choices.empty_arguments rest)))
   pub hashbang : (bounded : Bool) (t : List ℕ) → holds bounded (literals.hashbang t)
   -- names and literals
   pub name : (bounded : Bool) (span : Span) (sym : List ℕ) (optional : Bool) → holds bounded (calls.name span sym optional)
@@ -108,7 +109,7 @@ pub record OfWords (holds : Bool → Part → Type 0) : Type 0 where
   pub jsx_text_node : (bounded : Bool) (n : JSXText) → holds bounded (attributes.jsx_text_node n)
   pub jsx_text_lit : (bounded : Bool) (n : JSXText) → holds bounded (attributes.jsx_text_lit n)
   pub tag_name : (bounded : Bool) (span : Span) (t : List ℕ) → holds bounded (tags.tag_name span t)
-  pub child_open : (bounded : Bool) (t : List ℕ) → holds bounded (tags.child_open t)
+  pub child_open : (t : List ℕ) → holds false (tags.child_open t)
   pub close : (bounded : Bool) → holds bounded tags.close
   -- lists
   pub list : (bounded : Bool) (format : ℕ) → keeps_comma format ≡ true → (parent : Span) (cs : List ListChild) → ChildrenHold holds bounded cs → holds bounded (lists.list format parent cs)
@@ -120,7 +121,7 @@ pub record OfWords (holds : Bool → Part → Type 0) : Type 0 where
   -- the parameters of an arrow function, what stands behind them, and `=>`: one that needs no parentheses is a name, and nothing stands behind it
   pub arrow : (bounded : Bool) (plain : Maps → Bool) (span : Span) (cs : List ListChild) (result : Part) → ChildrenHold holds bounded cs → holds bounded result → ((maps : Maps) → plain maps ≡ true → (rest : Plan) → result rest ≡ rest) → ((maps : Maps) → plain maps ≡ true → HoldsOneName cs) → holds bounded (λ rest. calls.by_maps (λ maps. arrows.arrow_within (plain maps) span cs) (result (calls.punct (codes "=>") rest)))
   -- templates, elements and fragments, in which no line may be ended, and functions without a body
-  pub template : (bounded tagged : Bool) (inside : List Part) (quasis : List TplElement) → PartsHold holds false inside → holds bounded (templates.tpl_parts (λ part. part) tagged inside quasis)
+  pub template : (bounded tagged : Bool) (nodes : List AnyNode) (quasis : List TplElement) → NodesHold holds nodes → holds bounded (templates.tpl_parts whole_node tagged nodes quasis)
   pub element : (bounded : Bool) (node : AnyNode) (place : Place) (inside : Part) → is_element node ≡ true → any_items node place ≡ run.unbounded inside → holds false inside → holds bounded (any_items node place)
   pub without_body : (bounded : Bool) (node : AnyNode) (place : Place) (head : Part) → is_function node ≡ true → any_items node place ≡ (λ rest. head (calls.bare_semi rest)) → holds bounded head → holds bounded (any_items node place)
 
@@ -152,20 +153,20 @@ optional_parentheses_hold words bounded there part h = either words bounded ther
 
 -- ---- templates
 
-rest_of_parts : {A : Type 0} (each : A → Part) (tagged : Bool) (xs : List A) (qs : List TplElement) (rest : Plan) → templates.tpl_rest (λ part. part) tagged (map each xs) qs rest ≡ templates.tpl_rest each tagged xs qs rest
+rest_of_nodes : {A : Type 0} (node : A → AnyNode) (tagged : Bool) (xs : List A) (qs : List TplElement) (rest : Plan) → templates.tpl_rest whole_node tagged (map node xs) qs rest ≡ templates.tpl_rest (λ x. whole_node (node x)) tagged xs qs rest
 unfolding templates.tpl_rest
-rest_of_parts each tagged [] qs rest = refl
-rest_of_parts each tagged (x ∷ xs) [] rest = refl
-rest_of_parts each tagged (x ∷ xs) (q ∷ qs) rest = ap (λ z. each x (tpl_element false (part_before tagged qs) q z)) (rest_of_parts each tagged xs qs rest)
+rest_of_nodes node tagged [] qs rest = refl
+rest_of_nodes node tagged (x ∷ xs) [] rest = refl
+rest_of_nodes node tagged (x ∷ xs) (q ∷ qs) rest = ap (λ z. whole_node (node x) (tpl_element false (part_before tagged qs) q z)) (rest_of_nodes node tagged xs qs rest)
 
-all_of_parts : {A : Type 0} (each : A → Part) (tagged : Bool) (xs : List A) (qs : List TplElement) (rest : Plan) → templates.tpl_all (λ part. part) tagged (map each xs) qs rest ≡ templates.tpl_all each tagged xs qs rest
+all_of_nodes : {A : Type 0} (node : A → AnyNode) (tagged : Bool) (xs : List A) (qs : List TplElement) (rest : Plan) → templates.tpl_all whole_node tagged (map node xs) qs rest ≡ templates.tpl_all (λ x. whole_node (node x)) tagged xs qs rest
 unfolding templates.tpl_all
-all_of_parts each tagged xs [] rest = refl
-all_of_parts each tagged xs (q ∷ qs) rest = ap (λ z. tpl_element true (part_before tagged qs) q z) (rest_of_parts each tagged xs qs rest)
+all_of_nodes node tagged xs [] rest = refl
+all_of_nodes node tagged xs (q ∷ qs) rest = ap (λ z. tpl_element true (part_before tagged qs) q z) (rest_of_nodes node tagged xs qs rest)
 
-of_parts : {A : Type 0} (each : A → Part) (tagged : Bool) (xs : List A) (qs : List TplElement) → templates.tpl_parts (λ part. part) tagged (map each xs) qs ≡ templates.tpl_parts each tagged xs qs
+of_nodes : {A : Type 0} (node : A → AnyNode) (tagged : Bool) (xs : List A) (qs : List TplElement) → templates.tpl_parts whole_node tagged (map node xs) qs ≡ templates.tpl_parts (λ x. whole_node (node x)) tagged xs qs
 unfolding templates.tpl_parts run.with_max_line
-of_parts each tagged xs qs = λ i. λ rest. λ env. (ap (λ z. z (record env { max_line = None })) (all_of_parts each tagged xs qs (λ inner. rest (record inner { max_line = env.max_line })))) i
+of_nodes node tagged xs qs = λ i. λ rest. λ env. (ap (λ z. z (record env { max_line = None })) (all_of_nodes node tagged xs qs (λ inner. rest (record inner { max_line = env.max_line })))) i
 
-pub tpl_parts_hold : {holds : Bool → Part → Type 0} (words : OfWords holds) (bounded : Bool) {A : Type 0} (each : A → Part) → ((x : A) → holds false (each x)) → (tagged : Bool) (xs : List A) (qs : List TplElement) → holds bounded (templates.tpl_parts each tagged xs qs)
-tpl_parts_hold {holds} words bounded each h tagged xs qs = subst (λ z. holds bounded z) (of_parts each tagged xs qs) (words.template bounded tagged (map each xs) qs (parts_hold holds false each h xs))
+pub tpl_parts_hold : {holds : Bool → Part → Type 0} (words : OfWords holds) (bounded : Bool) {A : Type 0} (node : A → AnyNode) → ((x : A) → holds false (whole_node (node x))) → (tagged : Bool) (xs : List A) (qs : List TplElement) → holds bounded (templates.tpl_parts (λ x. whole_node (node x)) tagged xs qs)
+tpl_parts_hold {holds} words bounded node h tagged xs qs = subst (λ z. holds bounded z) (of_nodes node tagged xs qs) (words.template bounded tagged (map node xs) qs (nodes_hold holds node h xs))

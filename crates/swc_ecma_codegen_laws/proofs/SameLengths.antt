@@ -22,11 +22,11 @@ use Rattle.swc_ecma_codegen_emit.specs.Exprs.{binary_op, yield_star}
 use Rattle.swc_ecma_codegen_emit.specs.Operands.{is_word_op}
 use Rattle.swc_ecma_codegen_emit.specs.Templates.{tpl_parts, tpl_all, tpl_rest}
 use Rattle.swc_ecma_codegen_emit.specs.Tree.{any_items}
-use Rattle.swc_ecma_codegen_laws.specs.Breaks.{is_mark, is_break}
+use Rattle.swc_ecma_codegen_laws.specs.Breaks.{is_mark, is_break, is_enclosed, whole_node}
 use Rattle.swc_ecma_codegen_laws.specs.Enclosing.{is_element, is_function}
 use Rattle.swc_ecma_codegen_laws.specs.Lengths.{is_break_call, unbroken_calls}
 use Rattle.swc_ecma_codegen_laws.proofs.BreakSteps.{behind, broken, on}
-use Rattle.swc_ecma_codegen_laws.proofs.Children.{PartsHold}
+use Rattle.swc_ecma_codegen_laws.proofs.Children.{NodesHold}
 use Rattle.swc_ecma_codegen_laws.proofs.OfSteps.{OfSteps, is_other}
 use Rattle.swc_ecma_codegen_laws.proofs.OfWords.{OfWords}
 use Rattle.swc_ecma_codegen_laws.proofs.StepsOfTemplates.{tpl_element_holds}
@@ -152,7 +152,7 @@ inner_of false b h = h
 
 same_step : (bounded : Bool) (x : Step) → is_other x ≡ true → IsSame bounded (step x)
 unfolding is_other
-same_step bounded x h = any_step bounded x (inner_of (is_mark x || is_break x) (is_inner_step x) h)
+same_step bounded x h = any_step bounded x (inner_of (is_enclosed x) (is_inner_step x) (inner_of (is_mark x || is_break x) (not (is_enclosed x) && is_inner_step x) h))
 
 -- ---- breaks
 
@@ -192,7 +192,7 @@ unfolding semi bare_semi
 same_semi bounded = same_then bounded (guarded bounded (codes ";") (Token Ending (Semi None)) refl) (same_break bounded)
 
 pub same_steps_hold : OfSteps IsSame
-same_steps_hold = record { none = same_none; and_then = same_then; refuse = same_refuse; by_env = same_by_env; step = same_step; punct = same_punct; semi = same_semi }
+same_steps_hold = record { none = same_none; and_then = same_then; refuse = same_refuse; by_env = same_by_env; step = same_step; enclosed = λ x h i. any_step false x i; punct = same_punct; semi = same_semi }
 
 -- ---- marks, operators and words
 
@@ -235,20 +235,20 @@ same_within bounded part h = record {
       record { xs = x.xs; ys = x.ys; stop = x.stop; first = within_by part env max x.xs x.stop x.first; second = within_by part env other x.ys x.stop x.second; same = x.same };
 }
 
-same_rest : (tagged : Bool) (inside : List Part) (qs : List TplElement) → PartsHold IsSame false inside → IsSame false (tpl_rest (λ part. part) tagged inside qs)
-unfolding tpl_rest PartsHold
+same_rest : (tagged : Bool) (nodes : List AnyNode) (qs : List TplElement) → NodesHold IsSame nodes → IsSame false (tpl_rest whole_node tagged nodes qs)
+unfolding tpl_rest NodesHold
 same_rest tagged [] qs h = same_none false
 same_rest tagged (x ∷ xs) [] h = same_none false
-same_rest tagged (x ∷ xs) (q ∷ qs) h = same_then false h.0 (same_then false (tpl_element_holds same_steps_hold false false (part_before tagged qs) q) (same_rest tagged xs qs h.1))
+same_rest tagged (x ∷ xs) (q ∷ qs) h = same_then false h.0 (same_then false (tpl_element_holds same_steps_hold false (part_before tagged qs) q) (same_rest tagged xs qs h.1))
 
-same_all : (tagged : Bool) (inside : List Part) (qs : List TplElement) → PartsHold IsSame false inside → IsSame false (tpl_all (λ part. part) tagged inside qs)
+same_all : (tagged : Bool) (nodes : List AnyNode) (qs : List TplElement) → NodesHold IsSame nodes → IsSame false (tpl_all whole_node tagged nodes qs)
 unfolding tpl_all
-same_all tagged inside [] h = same_none false
-same_all tagged inside (q ∷ qs) h = same_then false (tpl_element_holds same_steps_hold false true (part_before tagged qs) q) (same_rest tagged inside qs h)
+same_all tagged nodes [] h = same_none false
+same_all tagged nodes (q ∷ qs) h = same_then false (tpl_element_holds same_steps_hold true (part_before tagged qs) q) (same_rest tagged nodes qs h)
 
-same_template : (bounded tagged : Bool) (inside : List Part) (quasis : List TplElement) → PartsHold IsSame false inside → IsSame bounded (tpl_parts (λ part. part) tagged inside quasis)
+same_template : (bounded tagged : Bool) (nodes : List AnyNode) (quasis : List TplElement) → NodesHold IsSame nodes → IsSame bounded (tpl_parts whole_node tagged nodes quasis)
 unfolding tpl_parts
-same_template bounded tagged inside quasis h = same_within bounded (tpl_all (λ part. part) tagged inside quasis) (same_all tagged inside quasis h)
+same_template bounded tagged nodes quasis h = same_within bounded (tpl_all whole_node tagged nodes quasis) (same_all tagged nodes quasis h)
 
 same_element : (bounded : Bool) (node : AnyNode) (place : Place) (inside : Part) → is_element node ≡ true → any_items node place ≡ unbounded inside → IsSame false inside → IsSame bounded (any_items node place)
 same_element bounded node place inside f q h = subst (λ z. IsSame bounded z) (sym q) (same_within bounded inside h)

@@ -1,5 +1,5 @@
 -- Tags: what holds of the words that a definition is made of holds of it.
-use Rattle.std.proofs.Common.{Bool}
+use Rattle.std.proofs.Common.{Bool, false}
 use Rattle.swc_ecma_codegen_laws.specs.Breaks.{is_mark, is_break}
 use Rattle.swc_ecma_codegen_laws.proofs.OfSteps.{is_other}
 use Rattle.std.proofs.Common.{refl}
@@ -30,6 +30,6 @@ pub jsx_text_holds : {holds : Bool → Part → Type 0} (words : OfSteps holds) 
 unfolding jsx_text is_other is_mark is_break
 jsx_text_holds words bounded span t = words.step bounded (run.Token JsxText (StrLit span t)) refl
 
-pub child_open_holds : {holds : Bool → Part → Type 0} (words : OfSteps holds) (bounded : Bool) (t : List ℕ) → holds bounded (child_open t)
-unfolding child_open is_other is_mark is_break
-child_open_holds words bounded t = words.step bounded (run.Token JsxOpen (Punct None t)) refl
+pub child_open_holds : {holds : Bool → Part → Type 0} (words : OfSteps holds) (t : List ℕ) → holds false (child_open t)
+unfolding child_open
+child_open_holds words t = words.enclosed (run.Token JsxOpen (Punct None t)) refl refl

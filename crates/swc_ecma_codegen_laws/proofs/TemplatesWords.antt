@@ -1,5 +1,6 @@
 -- Templates: what holds of the words that a definition is made of holds of it.
 use Rattle.std.specs.Prelude.{Bool, false}
+use Rattle.swc_ecma_codegen_tree.specs.Links.{ExprBox}
 use Rattle.swc_ecma_codegen_tree.specs.declared.exprs.Tpl.{Tpl}
 use Rattle.swc_ecma_codegen_tree.specs.declared.exprs.TaggedTpl.{TaggedTpl}
 use Rattle.swc_ecma_codegen_grammar.specs.TemplatePhrases.{is_counted}
@@ -7,14 +8,13 @@ use Rattle.swc_ecma_codegen_tokens.specs.Run.{Part}
 use Rattle.swc_ecma_codegen_tokens.specs.declared.refusals.Unprintable.TheVariants as unprintable
 use Rattle.swc_ecma_codegen_emit.specs.declared.nodes.Context.TheVariants.{Plain, Callee, Tagged}
 use Rattle.swc_ecma_codegen_emit.specs.Places.{Whole}
-use Rattle.swc_ecma_codegen_emit.specs.Exprs.{held}
 use Rattle.swc_ecma_codegen_laws.proofs.OfWords.{Known, items_in, either, tpl_parts_hold}
 use Rattle.swc_ecma_codegen_emit.specs.Templates.{tpl_placed, bad_shape, tpl, tagged_tpl}
 use Rattle.swc_ecma_codegen_laws.proofs.AnnotationsWords.{type_args_holds}
 
 pub tpl_placed_holds : {X : Type 0} {holds : Bool → Part → Type 0} (known : Known holds X) (bounded : Bool) (tagged : Bool) (n : Tpl X) → holds bounded (tpl_placed (items_in known) tagged n)
 unfolding tpl_placed
-tpl_placed_holds known bounded tagged n = known.words.and_then bounded (known.words.leading_comments bounded n.span.lo) (known.words.and_then bounded (known.words.position bounded n.span.lo) (known.words.and_then bounded (tpl_parts_hold known.words bounded (held (items_in known)) (λ x. (known.law false x.node.value (Whole Plain))) tagged n.exprs.items n.quasis.items) (known.words.position bounded n.span.hi)))
+tpl_placed_holds {X = X} known bounded tagged n = known.words.and_then bounded (known.words.leading_comments bounded n.span.lo) (known.words.and_then bounded (known.words.position bounded n.span.lo) (known.words.and_then bounded (tpl_parts_hold known.words bounded (λ (x : ExprBox X). known.node x.node.value) (λ x. known.law false x.node.value (Whole Plain)) tagged n.exprs.items n.quasis.items) (known.words.position bounded n.span.hi)))
 
 pub tpl_holds : {X : Type 0} {holds : Bool → Part → Type 0} (known : Known holds X) (bounded : Bool) (tagged : Bool) (n : Tpl X) → holds bounded (tpl (items_in known) tagged n)
 unfolding tpl bad_shape

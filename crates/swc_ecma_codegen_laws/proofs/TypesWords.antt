@@ -158,7 +158,7 @@ ts_fn_or_constructor_type_holds known bounded (function_types.TsConstructorType 
 
 pub ts_tpl_parts_holds : {X : Type 0} {holds : Bool → Part → Type 0} (known : Known holds X) (bounded : Bool) (n : TsTplLitType X) → holds bounded (ts_tpl_parts (items_in known) n)
 unfolding ts_tpl_parts
-ts_tpl_parts_holds known bounded n = known.words.and_then bounded (known.words.leading_comments bounded n.span.lo) (tpl_parts_hold known.words bounded (type_at (items_in known)) (λ x. (known.law false x.node.value (Whole Plain))) false n.types.items n.quasis.items)
+ts_tpl_parts_holds {X = X} known bounded n = known.words.and_then bounded (known.words.leading_comments bounded n.span.lo) (tpl_parts_hold known.words bounded (λ (x : TsTypeBox X). known.node x.node.value) (λ x. known.law false x.node.value (Whole Plain)) false n.types.items n.quasis.items)
 
 pub ts_tpl_lit_type_holds : {X : Type 0} {holds : Bool → Part → Type 0} (known : Known holds X) (bounded : Bool) (n : TsTplLitType X) → holds bounded (ts_tpl_lit_type (items_in known) n)
 unfolding ts_tpl_lit_type bad_shape

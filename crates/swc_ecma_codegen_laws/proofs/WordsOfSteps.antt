@@ -24,8 +24,9 @@ use Rattle.swc_ecma_codegen_emit.specs.FunctionExprs.{arrow_within, comma_list_f
 use Rattle.swc_ecma_codegen_emit.specs.Programs.{last_semi}
 use Rattle.swc_ecma_codegen_emit.specs.Props.{flat_object_format, object_format, object_lines, object_list, lined_object_list}
 use Rattle.swc_ecma_codegen_emit.specs.Stmts.{case_body, case_format, case_list}
+use Rattle.swc_ecma_codegen_laws.specs.Breaks.{whole_node}
 use Rattle.swc_ecma_codegen_laws.specs.Enclosing.{is_element, is_function}
-use Rattle.swc_ecma_codegen_laws.proofs.Children.{ChildrenHold, PartsHold}
+use Rattle.swc_ecma_codegen_laws.proofs.Children.{ChildrenHold, NodesHold}
 use Rattle.swc_ecma_codegen_laws.proofs.OfSteps.{OfSteps, either, either_at, when_minified_holds, by_lines_holds, by_maps_holds}
 use Rattle.swc_ecma_codegen_laws.proofs.OfWords.{OfWords}
 use Rattle.swc_ecma_codegen_laws.proofs.OneName.{HoldsOneName}
@@ -89,7 +90,7 @@ pub record OfMarks (holds : Bool → Part → Type 0) : Type 0 where
   pub update_operator : (bounded : Bool) (op : UpdateOp) → holds bounded (calls.operator (update_text op))
   pub assign_operator : (bounded : Bool) (op : AssignOp) → holds bounded (calls.operator (assign_text op))
   pub yield_word : (bounded delegate : Bool) → holds bounded (λ rest. calls.keyword None (codes "yield") (yield_star delegate rest))
-  pub template : (bounded tagged : Bool) (inside : List Part) (quasis : List TplElement) → PartsHold holds false inside → holds bounded (tpl_parts (λ part. part) tagged inside quasis)
+  pub template : (bounded tagged : Bool) (nodes : List AnyNode) (quasis : List TplElement) → NodesHold holds nodes → holds bounded (tpl_parts whole_node tagged nodes quasis)
   pub element : (bounded : Bool) (node : AnyNode) (place : Place) (inside : Part) → is_element node ≡ true → any_items node place ≡ run.unbounded inside → holds false inside → holds bounded (any_items node place)
   pub without_body : (bounded : Bool) (node : AnyNode) (place : Place) (head : Part) → is_function node ≡ true → any_items node place ≡ (λ rest. head (calls.bare_semi rest)) → holds bounded head → holds bounded (any_items node place)
 
@@ -125,7 +126,7 @@ words_of steps marks = record {
   assign_operator = marks.assign_operator;
   yield_word = marks.yield_word;
   attributes_word = attributes_word_holds steps;
-  bare_new = λ bounded called h. steps.and_then bounded (keyword_holds steps bounded None (codes "new")) (steps.and_then bounded h (empty_arguments_holds steps bounded));
+  bare_new = λ bounded callee types h. steps.and_then bounded (keyword_holds steps bounded None (codes "new")) (steps.and_then bounded h (empty_arguments_holds steps bounded));
   hashbang = hashbang_holds steps;
   name = name_holds steps;
   private_name = private_name_holds steps;

@@ -5,4 +5,5 @@ pub mod FirstTokens
 pub mod HeldRoots
 pub mod Layouts
 pub mod Lengths
+pub mod PlainTexts
 pub mod SameTokens

@@ -64,7 +64,7 @@ pub use crate::basic::{basic_nodes_take_no_memory, basic_trees_take_no_memory};
 pub use crate::breaks::{filled_lines_keep_the_text, lines_may_be_ended_behind_marks};
 pub use crate::layouts::{
     arguments_stand_bare, layouts_write_the_same_tokens, other_parentheses_stand_in_both,
-    source_texts_write_the_same_tokens,
+    plain_texts_read_plainly, source_texts_write_the_same_tokens,
 };
 pub use crate::links::{links_write_members, links_write_targets, links_write_their_roots};
 pub use swc_ecma_codegen_grammar::reading_laws::{

@@ -27,7 +27,7 @@ pub(crate) enum Piece {
     Backslashed(char),
     /// `\x1b`
     Hex(u8),
-    /// Nothing: a backslash before U+2028 or U+2029, or a CR before a LF.
+    /// Nothing: the backslash that stands right before U+2028 or U+2029, and a CR that stands right before a LF.
     Gone,
 }
 

@@ -1,5 +1,5 @@
 -- What is written of a program is no other program's text.
-use Rattle.std.proofs.Common.{◌≡◌, ℕ, true, false, ◌||◌, List, refl, sym, ap₂, subst}
+use Rattle.std.proofs.Common.{◌≡◌, ℕ, Bool, true, false, List, refl, sym, ap₂, subst}
 use Rattle.std.proofs.lemmas.Bool.{true≢false, or_parts}
 use Rattle.std.specs.Str.{chars}
 use Rattle.swc_ecma_codegen_tree.specs.declared.links.AnyNode.{AnyNode}
@@ -7,35 +7,46 @@ use Rattle.swc_ecma_codegen_tree.specs.declared.programs.Program.{Program}
 use Rattle.swc_ecma_codegen_grammar.specs.Comments.{all_tame}
 use Rattle.swc_ecma_codegen_grammar.specs.Layouts.{leaves_open}
 use Rattle.swc_ecma_codegen_grammar.specs.Phrases.{Phrase, Then, CommaBefore, OptionalParentheses, Generates}
+use Rattle.swc_ecma_codegen_grammar.specs.PlainPhrases.{plain_phrase}
 use Rattle.swc_ecma_codegen_grammar.specs.Reads.{Reads}
 use Rattle.swc_ecma_codegen_grammar.specs.Settings.{Settings}
 use Rattle.swc_ecma_codegen_grammar.specs.Tokens.{Token}
 use Rattle.swc_ecma_codegen_grammar.specs.TreePhrases.{program_phrase}
 use Rattle.swc_ecma_codegen_grammar.specs.Trivia.{Remark}
-use Rattle.swc_ecma_codegen_syntax.specs.Derives.{DerivesProgram, bare_phrase, program_verdict}
+use Rattle.swc_ecma_codegen_syntax.specs.Derives.{DerivesProgram, program_verdict}
 use Rattle.swc_ecma_codegen_syntax.specs.Verdicts.{holds}
-use Rattle.swc_ecma_codegen_syntax.proofs.RootLaws.{program_complete}
 use Rattle.swc_ecma_codegen_tokens.specs.Settings.{settings_of}
 use Rattle.swc_ecma_codegen_tokens.specs.Written.{AddsText}
 use Rattle.swc_ecma_codegen_util.specs.declared.config.Config.{Config}
 use Rattle.swc_ecma_codegen_uniqueness.proofs.Texts.{one_text}
 use Rattle.swc_ecma_codegen_printed.specs.Told.{IsTold}
+use Rattle.swc_ecma_codegen_printed.proofs.Derived.{plain_derived}
+
+-- of any text that reads as some phrase
+text_told : (config : Config) (remarks ds : List Remark) (old new : List ℕ) (p : Phrase) (a b : Program AnyNode) (t : Settings) (ys : List Token) → (x : AddsText config false p remarks old new) → all_tame remarks ≡ true →
+    DerivesProgram true (settings_of config) a x.reading.tokens → Reads (chars x.added) ys ds → DerivesProgram true t b ys → IsTold (settings_of config) t a b x.reading.tokens ys
+text_told config remarks ds old new p a b t ys x c d k e =
+    one_text (settings_of config) t a b x.reading.tokens ys (chars x.added) remarks ds d e (subst (λ z. Reads (chars x.added) z remarks) (x.reading.whole refl) (x.reading.keeps_lines c)) k
 
 pub derived_told : (config : Config) (remarks ds : List Remark) (old new : List ℕ) (a b : Program AnyNode) (t : Settings) (ys : List Token) → (x : AddsText config false (program_phrase a) remarks old new) → all_tame remarks ≡ true →
     DerivesProgram true (settings_of config) a x.reading.tokens → Reads (chars x.added) ys ds → DerivesProgram true t b ys → IsTold (settings_of config) t a b x.reading.tokens ys
-derived_told config remarks ds old new a b t ys x c d k e =
-    one_text (settings_of config) t a b x.reading.tokens ys (chars x.added) remarks ds d e (subst (λ z. Reads (chars x.added) z remarks) (x.reading.whole refl) (x.reading.keeps_lines c)) k
+derived_told config remarks ds old new a b t ys x c d k e = text_told config remarks ds old new (program_phrase a) a b t ys x c d k e
 
--- where syntax leaves nothing open there is nothing to take away
-bare_same : (p : Phrase) → leaves_open p ≡ false → bare_phrase p ≡ p
-unfolding leaves_open bare_phrase
-bare_same (Then p q) h = let x = or_parts (leaves_open p) (leaves_open q) h in ap₂ Then (bare_same p x.0) (bare_same q x.1)
-bare_same (CommaBefore close) h = absurd (true≢false h)
-bare_same (OptionalParentheses p) h = absurd (true≢false h)
-bare_same p h = refl
+pub kept_told : (config : Config) (remarks ds : List Remark) (old new : List ℕ) (a b : Program AnyNode) (t : Settings) (ys : List Token) → (x : AddsText config false (plain_phrase config.minify (program_phrase a)) remarks old new) → all_tame remarks ≡ true →
+    holds true (program_verdict a) ≡ true → Reads (chars x.added) ys ds → DerivesProgram true t b ys → IsTold (settings_of config) t a b x.reading.tokens ys
+kept_told config remarks ds old new a b t ys x c h k e =
+    text_told config remarks ds old new (plain_phrase config.minify (program_phrase a)) a b t ys x c (plain_derived config.minify (settings_of config) a x.reading.tokens h x.reading.is_list) k e
 
-pub kept_told : (config : Config) (remarks ds : List Remark) (old new : List ℕ) (a b : Program AnyNode) (t : Settings) (ys : List Token) → (x : AddsText config false (program_phrase a) remarks old new) → all_tame remarks ≡ true →
+-- where syntax leaves nothing open there is nothing to settle
+plain_same : (minify : Bool) (p : Phrase) → leaves_open p ≡ false → plain_phrase minify p ≡ p
+unfolding leaves_open plain_phrase
+plain_same minify (Then p q) h = let x = or_parts (leaves_open p) (leaves_open q) h in ap₂ Then (plain_same minify p x.0) (plain_same minify q x.1)
+plain_same minify (CommaBefore close) h = absurd (true≢false h)
+plain_same minify (OptionalParentheses round p) h = absurd (true≢false h)
+plain_same minify p h = refl
+
+pub closed_told : (config : Config) (remarks ds : List Remark) (old new : List ℕ) (a b : Program AnyNode) (t : Settings) (ys : List Token) → (x : AddsText config false (program_phrase a) remarks old new) → all_tame remarks ≡ true →
     holds true (program_verdict a) ≡ true → leaves_open (program_phrase a) ≡ false → Reads (chars x.added) ys ds → DerivesProgram true t b ys → IsTold (settings_of config) t a b x.reading.tokens ys
-kept_told config remarks ds old new a b t ys x c h o k e =
+closed_told config remarks ds old new a b t ys x c h o k e =
     derived_told config remarks ds old new a b t ys x c
-    (program_complete true a _ refl h (settings_of config) x.reading.tokens (subst (λ p. Generates (settings_of config) p x.reading.tokens) (sym (bare_same (program_phrase a) o)) x.reading.is_list)) k e
+    (plain_derived config.minify (settings_of config) a x.reading.tokens h (subst (λ p. Generates (settings_of config) p x.reading.tokens) (sym (plain_same config.minify (program_phrase a) o)) x.reading.is_list)) k e

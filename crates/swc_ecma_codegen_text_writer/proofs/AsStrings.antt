@@ -23,7 +23,7 @@ writes_as : (t : List ℕ) (x : Item) (a b : Sheet) (r : Result (Unit {0}) Refus
 unfolding Writes
 writes_as t x a b (Ok u) e h = (h.0, h.1 ∙ e h.0)
 writes_as t x a b (Err f) e (earlier i j k) = earlier i j k
-writes_as t x a b (Err f) e (stopped i j k) = stopped i (causes_as t x f a b j) (subst (λ (z : Sheet). Stopped z a b) (e i) k)
+writes_as t x a b (Err f) e (stopped i j k) = stopped i (causes_as t x f a b j) (subst (λ (z : Sheet). Stopped f z a b) (e i) k)
 
 settled_as : (q : Semicolons) (s : Sheet) → is_settled q ≡ true → settled_by q s ≡ s
 unfolding settled_by

@@ -1,5 +1,5 @@
 -- Segments that go out.
-use Rattle.std.proofs.Common.{◌≡◌, ℕ, ◌<◌, ◌^◌, min, Bool, true, false, List, [], ◌∷◌, refl, sym, ◌∙◌, ap, subst, arith, length, Option, Some, None, Result, Ok, Err, ◌||◌, IfSome}
+use Rattle.std.proofs.Common.{◌≡◌, inl, inr, ℕ, ◌<◌, ◌^◌, min, Bool, true, false, List, [], ◌∷◌, refl, sym, ◌∙◌, ap, subst, arith, length, Option, Some, None, Result, Ok, Err, ◌||◌, IfSome}
 use Rattle.std.proofs.lemmas.Bool.Decides.{nat_tests}
 use Rattle.std.proofs.Math.Bool.{or-true}
 use Rattle.swc_ecma_codegen_common.specs.declared.positions.BytePos.{BytePos}
@@ -95,6 +95,7 @@ reaches_lines l goal s c (Err e) f h = record {
   place = h.place;
   more_pairs = h.more_pairs;
   front_pairs = h.front_pairs;
+  room = λ q. elim (h.room q) [ inl m ↦ inl (f, m.1) | inr p ↦ inr p ];
   same = h.same;
 }
 

@@ -26,6 +26,7 @@ pub mod InPlace
 pub mod Reaching
 pub mod Released
 mod Recording
+mod Room
 mod Steps
 pub mod Text
 mod Walks

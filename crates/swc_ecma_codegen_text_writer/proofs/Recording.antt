@@ -132,9 +132,11 @@ records_new pos p xs ys b r s h k n e t m =
     let same = pair_reached pos r p s h k in
     m ∙ ap (λ x. xs ++ (x ∷ [])) same ∙ with_new pos p xs n (ap (λ x. has_pair x xs) (sym same) ∙ sym e ∙ t)
 
-pub records_refused : (pos : BytePos) (p : Place) (xs ys : List Pair) → ys ≡ xs → Records pos p xs ys (Err OutOfMemory)
+pub records_refused : (pos : BytePos) (p : Place) (xs ys : List Pair) (b : Bool) (r : Reached) → Shows r p → r.line < 2 ^ 32 → r.column < 2 ^ 32 → (pos.0 ≡ 0 → ⊥) → b ≡ has_pair (pos, record { line = r.line; col = r.column }) xs → b ≡ false → ys ≡ xs → Records pos p xs ys (Err OutOfMemory)
 unfolding Records
-records_refused pos p xs ys h = h
+records_refused pos p xs ys b r s h k n e t m =
+    let same = pair_reached pos r p s h k in
+    (m, sym (with_new pos p xs n (ap (λ x. has_pair x xs) (sym same) ∙ sym e ∙ t)) ∙ ap (λ zs. zs ++ (pair_at pos p ∷ [])) (sym m))
 
 -- a slice that goes to the end
 pub last_part : (xs ys : List Pair) (n : ℕ) → ys ≡ xs → take (length ys - n) (drop n ys) ≡ drop n xs

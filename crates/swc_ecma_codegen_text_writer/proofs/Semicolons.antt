@@ -8,12 +8,13 @@ use Rattle.swc_ecma_codegen_common.specs.declared.positions.BytePos.{BytePos}
 use Rattle.swc_ecma_codegen_common.specs.declared.positions.Span.{Span}
 use Rattle.swc_ecma_codegen_text_writer.specs.Contents.{Rises, IsPrefix}
 use Rattle.swc_ecma_codegen_text_writer.proofs.Sheets.{front_refl, front_trans, placed_on}
-use Rattle.swc_ecma_codegen_text_writer.specs.Sheet.{Sheet, Item, Semi, Space, Keyword, Operator, Param, Property, Line, Lit, Comment, StrLit, Str, Symbol, Punct, Position, Commit, Deeper, Shallower, BeginLines, AllowBreak, EndLines, Semicolons, AtOnce, HoldsNone, HoldsOne, holds_semicolons, is_settled, allowed, passed_on, allowed_at, written, literal_written, ended, pointed, settled_by, settled, semicolon_by, dropped, is_ending, before_punct, effect, effects, Causes, Stopped, Refuses, earlier, stopped, Writes}
+use Rattle.swc_ecma_codegen_text_writer.specs.Sheet.{Sheet, Item, Semi, Space, Keyword, Operator, Param, Property, Line, Lit, Comment, StrLit, Str, Symbol, Punct, Position, Commit, Deeper, Shallower, BeginLines, AllowBreak, EndLines, Semicolons, AtOnce, HoldsNone, HoldsOne, holds_semicolons, is_settled, allowed, passed_on, allowed_at, written, literal_written, ended, pointed, settled_by, settled, semicolon_by, dropped, is_ending, before_punct, effect, effects, Causes, fills_lines, LacksRoom, for_pair, for_text, behind_semicolon, to_hold, Stopped, Refuses, earlier, stopped, Writes}
 use Rattle.swc_ecma_codegen_common.specs.declared.errors.Error.{Error}
 use Rattle.swc_ecma_codegen_common.specs.Refusals.{in_short, reason_of}
 use Rattle.swc_ecma_codegen_text_writer.specs.declared.semicolon.HeldSemi.{HeldSemi}
 use Rattle.swc_ecma_codegen_text_writer.specs.PendingSemi.{semicolons_of, with_held, WritesAtOnce, IsSettled, Settles, break_after}
 use Rattle.swc_ecma_codegen_text_writer.proofs.Commuting.{holding, written_commutes, literal_commutes, ended_commutes, pointed_commutes, allowed_commutes, passed_commutes, begun_by_commutes, closed_by_commutes}
+use Rattle.swc_ecma_codegen_text_writer.proofs.Room.{leaves_on, lacks_on, written_held, allowed_bare}
 use Rattle.swc_ecma_codegen_text_writer.proofs.Ways.{Way, way_trans, alike_way, written_way, literal_way, ended_way, passed_way, settled_way}
 
 -- ---- writers that write semicolons at once
@@ -243,6 +244,13 @@ causes_held x y PositionTooLarge p q a b d (inl h) = inl (d h.0, h.1)
 causes_held x y PositionTooLarge p q a b d (inr h) = inr h
 causes_held x y Failed p q a b d h = h
 
+-- what memory was wanting for there
+lacks_above : (goal to : Sheet) (p q : Semicolons) (a b : Sheet) → a.semicolons ≡ AtOnce → IsPrefix goal.pairs to.pairs → LacksRoom goal a b → LacksRoom to (holding p a) (holding q b)
+lacks_above goal to p q a b o k (for_pair h) = for_pair (leaves_on goal to b k h)
+lacks_above goal to p q a b o k (for_text h) = for_text h
+lacks_above goal to p q a b o k (behind_semicolon h) = for_text (h ∙ ap (λ (z : Sheet). z.pairs) (settled_at_once a o))
+lacks_above goal to p q a b o k (to_hold f g) = to_hold f g
+
 -- a call of the whole does what another does on the writer under it, but for the semicolon
 abbrev Lifts : Item → Item → Semicolons → Semicolons → Sheet → Type 0
 Lifts x y p q a = WritesAtOnce a → a.refused ≡ false → effect y (holding p a) ≡ holding q (effect x a)
@@ -263,6 +271,7 @@ lifted_err x y p q a b e d h l (stopped i j k) =
       place = k.place;
       more_pairs = k.more_pairs;
       front_pairs = subst Pairs goal k.front_pairs;
+      room = λ f. lacks_above (effect x a) (effect y (holding p a)) p p a b (at_once _ (h i)) (subst (λ (z : Sheet). IsPrefix (effect x a).pairs z.pairs) goal (front_refl (effect x a).pairs)) (k.room f);
       held = inl refl;
       same = ap (holding p) k.same;
     })
@@ -333,9 +342,34 @@ held_err semi a b e h (stopped i j k) =
       place = k.place;
       more_pairs = k.more_pairs;
       front_pairs = unfold effect in front_trans b.pairs _ _ k.front_pairs way.pairs;
+      room = λ f. unfold effect in lacks_above _ _ _ _ a b (at_once _ (h i)) way.pairs (k.room f);
       held = inl refl;
       same = ap (holding (semicolons_of (Some semi))) k.same;
     })
+
+-- the semicolon went out, and memory was wanting behind it, where its pairs are recorded
+lacks_there : (semi : HeldSemi) (a b c : Sheet) → a.semicolons ≡ AtOnce → b ≡ effect (Semi semi.span) a → fills_lines b.lines ≡ fills_lines a.lines
+    → (effect AllowBreak b).pairs ≡ (settled (with_held (Some semi) a)).pairs → c.pairs ≡ b.pairs → LacksRoom (settled (with_held (Some semi) a)) (with_held (Some semi) a) (with_held (Some semi) c)
+unfolding with_held
+lacks_there semi a b c o k f pairs h =
+    let goal : Sheet = settled (holding (semicolons_of (Some semi)) a) in
+    let Room : Type 0 = LacksRoom goal (holding (semicolons_of (Some semi)) a) (holding (semicolons_of (Some semi)) c) in
+    let one : b.semicolons ≡ AtOnce = ap (λ (z : Sheet). z.semicolons) k ∙ effect_at_once (Semi semi.span) a o in
+    let written_pairs : b ≡ written semi.span (codes ";") a = k ∙ semi_at_once semi.span a o in
+    let held : fills_lines b.lines ≡ true → Room = λ m. for_text (h ∙ (ap (λ (z : Sheet). z.pairs) written_pairs ∙ written_held semi.span (codes ";") a (sym f ∙ m))) in
+    let out : fills_lines b.lines ≡ false → Room = λ m. behind_semicolon (h ∙ (sym (ap (λ (z : Sheet). z.pairs) (break_at_once b one) ∙ allowed_bare b m) ∙ pairs)) in
+    elim (fills_lines b.lines) as (λ z. fills_lines b.lines ≡ z → Room) [ true ↦ held | false ↦ out ] refl
+
+-- the same of the call that allows a break
+lacks_behind : (semi : HeldSemi) (a b c : Sheet) → a.semicolons ≡ AtOnce → b ≡ effect (Semi semi.span) a → fills_lines b.lines ≡ fills_lines a.lines
+    → (effect AllowBreak b).pairs ≡ (settled (with_held (Some semi) a)).pairs → LacksRoom (effect AllowBreak b) b c → LacksRoom (settled (with_held (Some semi) a)) (with_held (Some semi) a) (with_held (Some semi) c)
+unfolding with_held
+lacks_behind semi a b c o k f pairs (for_pair h) = for_pair (h.0, h.1, sym pairs ∙ h.2)
+lacks_behind semi a b c o k f pairs (for_text h) = lacks_there semi a b c o k f pairs h
+lacks_behind semi a b c o k f pairs (behind_semicolon h) =
+    let one : b.semicolons ≡ AtOnce = ap (λ (z : Sheet). z.semicolons) k ∙ effect_at_once (Semi semi.span) a o in
+    lacks_there semi a b c o k f pairs (h ∙ ap (λ (z : Sheet). z.pairs) (settled_at_once b one))
+lacks_behind semi a b c o k f pairs (to_hold m n) = to_hold (sym f ∙ m) n
 
 -- the semicolon went out, and the break behind it was refused: it may still be held
 pub broken_err : (semi : HeldSemi) (a b c : Sheet) (u : Unit {0}) (e : Refusal) → semi.allows_break ≡ true → WritesAtOnce a → Writes (Semi semi.span) a b (Ok u) → Writes AllowBreak b c (Err e) → Refuses Commit e (with_held (Some semi) a) (with_held (Some semi) c)
@@ -357,6 +391,7 @@ broken_err semi a b c u e t h (r, k) (stopped i j m) =
       place = placed_on way.text.0 m.grows.0 a.place b.place c.place way.place m.place;
       more_pairs = front_trans a.pairs b.pairs c.pairs way.pairs m.more_pairs;
       front_pairs = subst (λ z. IsPrefix c.pairs z) pairs m.front_pairs;
+      room = λ f. unfold with_held in lacks_behind semi a b c one k way.fills pairs (m.room f);
       held = inl refl;
       same =
           ap (holding (semicolons_of (Some semi))) (m.same ∙ ap (λ (s : Sheet). record s { text = c.text; whole = c.whole; at_line_start = c.at_line_start; semicolons = c.semicolons; pairs = c.pairs; pending = c.pending; place = c.place; lines = c.lines; faults = c.faults; refused = true }) way.same);
@@ -415,8 +450,15 @@ dropped_twice AtOnce = refl
 dropped_twice HoldsNone = refl
 dropped_twice (HoldsOne span allowed) = refl
 
-stopped_on : (x : Item) → Settling x → (a b c : Sheet) → b ≡ settled a → Stopped (effect x b) b c → Stopped (effect x a) a c
-stopped_on x m a b c e k =
+-- what memory was wanting for behind it
+lacks_settled : (goal to a b c : Sheet) → b ≡ settled a → goal ≡ to → fills_lines b.lines ≡ fills_lines a.lines → LacksRoom goal b c → LacksRoom to a c
+lacks_settled goal to a b c e g f (for_pair h) = for_pair (h.0, h.1, sym (ap (λ (z : Sheet). z.pairs) g) ∙ h.2)
+lacks_settled goal to a b c e g f (for_text h) = behind_semicolon (h ∙ ap (λ (z : Sheet). z.pairs) e)
+lacks_settled goal to a b c e g f (behind_semicolon h) = behind_semicolon (h ∙ (ap (λ (z : Sheet). (settled z).pairs) e ∙ ap (λ (z : Sheet). z.pairs) (settled_twice a)))
+lacks_settled goal to a b c e g f (to_hold m n) = to_hold (sym f ∙ m) n
+
+stopped_on : (x : Item) → Settling x → (e : Refusal) (a b c : Sheet) → b ≡ settled a → Stopped e (effect x b) b c → Stopped e (effect x a) a c
+stopped_on x m f a b c e k =
     let way : Way a b = (let P : Sheet → Type 0 = λ z. Way a z in subst P (sym e) (settled_way a)) in
     let goal : effect x b ≡ effect x a = ap (effect x) e ∙ same_goal x m a (settled_twice a) in
     let Text : Sheet → Type 0 = λ z. IsPrefix c.text z.text in
@@ -430,6 +472,7 @@ stopped_on x m a b c e k =
       place = placed_on way.text.0 k.grows.0 a.place b.place c.place way.place k.place;
       more_pairs = front_trans a.pairs b.pairs c.pairs way.pairs k.more_pairs;
       front_pairs = subst Pairs goal k.front_pairs;
+      room = λ q. lacks_settled (effect x b) (effect x a) a b c e goal way.fills (k.room q);
       held = inr (lost, subst Out e k.grows);
       same = k.same ∙ ap (λ (s : Sheet). record s { text = c.text; whole = c.whole; at_line_start = c.at_line_start; semicolons = c.semicolons; pairs = c.pairs; pending = c.pending; place = c.place; lines = c.lines; faults = c.faults; refused = true }) way.same;
     }
@@ -446,7 +489,7 @@ joined x m a b c u (Err e) (h, inl i) (earlier j k l) =
 joined x m a b c u (Err e) (h, inr i) (earlier j k l) = earlier (sym (ap (λ (z : Sheet). z.refused) i) ∙ j) k (l ∙ i)
 joined x m a b c u (Err e) h (stopped i j k) =
     let way : Way a b = (let P : Sheet → Type 0 = λ z. Way a z in subst P (sym h.0) (settled_way a)) in
-    stopped (sym (ap (λ (z : Sheet). z.refused) way.same) ∙ i) (causes_on x e a b c way j) (stopped_on x m a b c h.0 k)
+    stopped (sym (ap (λ (z : Sheet). z.refused) way.same) ∙ i) (causes_on x e a b c way j) (stopped_on x m e a b c h.0 k)
 
 -- a call before which a held semicolon is written
 settling_lifts : (x : Item) → Settling x → (a : Sheet) → Lifts x x HoldsNone HoldsNone a
@@ -484,6 +527,7 @@ settled_not x m a b e (stopped i j k) =
       front = subst Text (sym (m.is a)) (front_trans b.text (settled a).text (m.act (settled a)).text k.front (m.text (settled a)));
       more_pairs = k.more_pairs;
       front_pairs = subst Pairs (sym (m.is a)) (front_trans b.pairs (settled a).pairs (m.act (settled a)).pairs k.front_pairs (m.pairs (settled a)));
+      room = λ q. lacks_on (settled a) (effect x a) a b (subst (λ (z : Sheet). IsPrefix (settled a).pairs z.pairs) (sym (m.is a)) (m.pairs (settled a))) (k.room q);
       held = k.held;
       same = k.same;
     })

@@ -1,5 +1,5 @@
 -- Sheets on the way to others.
-use Rattle.std.proofs.Common.{◌≡◌, inl, inr, ℕ, ◌+◌, ◌-◌, ◌^◌, ◌<◌, ◌≤◌, Bool, true, false, List, [], ◌∷◌, ◌++◌, length, refl, sym, ◌∙◌, ap, subst, append_assoc, arith, append-nil, codes, zero, suc, Option, Some, None, Result, Ok, Err, cond, ◌&&◌, ◌==◌, not, ◌||◌}
+use Rattle.std.proofs.Common.{◌≡◌, ◌⊎◌, inl, inr, ℕ, ◌+◌, ◌-◌, ◌^◌, ◌<◌, ◌≤◌, Bool, true, false, List, [], ◌∷◌, ◌++◌, length, refl, sym, ◌∙◌, ap, subst, append_assoc, arith, append-nil, codes, zero, suc, Option, Some, None, Result, Ok, Err, cond, ◌&&◌, ◌==◌, not, ◌||◌}
 use Rattle.std.specs.List.{repeat}
 use Rattle.std.proofs.lemmas.List.{append_cancel_left}
 use Rattle.std.proofs.lemmas.Bool.{and_right, ne_eqb}
@@ -14,9 +14,10 @@ use Rattle.swc_ecma_codegen_text_writer.specs.Contents.{or_empty, IsPrefix}
 use Rattle.swc_ecma_codegen_text_writer.specs.Outlets.{bytes_so_far}
 use Rattle.swc_ecma_codegen_text_writer.specs.declared.outlet.Outlet.{Outlet}
 use Rattle.swc_ecma_codegen_text_writer.specs.Places.{Place, origin, after_text}
-use Rattle.swc_ecma_codegen_text_writer.specs.Sheet.{Sheet, Pair, Flow, Flowing, Filling, Cutting, Segment, with_text, with_note, released, noted, appended_by, recorded_by, is_recorded, with_pair, pointed, Item, Causes, earlier, stopped, Writes, Semicolons, AtOnce, appended, indented, start_recorded, end_recorded, pending_recorded, recorded, started, written, literal_written, ended, settled, settled_by, semicolon_by, dropped, is_ending, before_punct, effect, Deeper, fills_lines, may_take_memory}
+use Rattle.swc_ecma_codegen_text_writer.specs.Sheet.{Sheet, Pair, Flow, Flowing, Filling, Cutting, Segment, with_text, with_note, released, noted, appended_by, recorded_by, is_recorded, pair_at, with_pair, pointed, Item, Causes, LeavesOut, LacksRoom, for_pair, to_hold, earlier, stopped, Writes, Semicolons, AtOnce, appended, indented, start_recorded, end_recorded, pending_recorded, recorded, started, written, literal_written, ended, settled, settled_by, semicolon_by, dropped, is_ending, before_punct, effect, Deeper, fills_lines, may_take_memory}
 use Rattle.swc_ecma_codegen_text_writer.specs.View.{HasReason, Halted, Reaches, Prefaces}
 use Rattle.swc_ecma_codegen_text_writer.proofs.Sheets.{Alike, placed_on, alike_refl, alike_trans, start_alike, end_alike, pending_alike, appended_alike, indented_alike, front_refl, front_trans}
+use Rattle.swc_ecma_codegen_text_writer.proofs.Room.{far_not_memory, leaves_on}
 use Rattle.swc_ecma_codegen_text_writer.proofs.Stays.{Stays, stays_refl, indented_stays}
 
 -- ---- copies
@@ -147,6 +148,7 @@ halted_on e goal next a b c h l k s =
       place = placed_on h.grows.0 s.grows.0 a.place b.place c.place h.place s.place;
       more_pairs = front_trans a.pairs b.pairs c.pairs h.more_pairs s.more_pairs;
       front_pairs = front_trans c.pairs next.pairs goal.pairs s.front_pairs k.more_pairs;
+      room = λ q. elim (s.room q) [ inl m ↦ inl (sym l.fills ∙ m.0, m.1) | inr p ↦ inr (leaves_on next goal c k.more_pairs p) ];
       same = s.same ∙ ap (λ (x : Sheet). record x { text = c.text; whole = c.whole; at_line_start = c.at_line_start; semicolons = c.semicolons; pairs = c.pairs; pending = c.pending; place = c.place; lines = c.lines; faults = c.faults; refused = true }) same_level;
     }
 
@@ -334,7 +336,7 @@ recorded_sheet pos s new u keeps memory pending h t k m l =
 pub refused_pairs : (pos : BytePos) (p : Place) (keeps : Bool) (old new : List Pair) (e : Refusal) → RecordsIn pos p keeps old new (Err e) → new ≡ old
 unfolding RecordsIn Records
 refused_pairs pos p true old new Writer h = absurd h
-refused_pairs pos p true old new OutOfMemory h = h
+refused_pairs pos p true old new OutOfMemory h = h.0
 refused_pairs pos p true old new UnsupportedNode h = absurd h
 refused_pairs pos p true old new BadShape h = absurd h
 refused_pairs pos p true old new NameOutOfTarget h = absurd h
@@ -354,9 +356,19 @@ refused_reason pos true old new PositionTooLarge s c h k m = (sym k, h.0)
 refused_reason pos true old new Failed s c h k m = absurd h
 refused_reason pos false old new e s c h k m = absurd h
 
+records_memory : (pos : BytePos) (p : Place) (keeps : Bool) (old new : List Pair) → RecordsIn pos p keeps old new (Err OutOfMemory) → with_pair pos p old ≡ new ++ (pair_at pos p ∷ [])
+unfolding RecordsIn Records
+records_memory pos p true old new h = h.1
+records_memory pos p false old new h = absurd h
+
+-- it had no room
+pub refused_room : (pos : BytePos) (keeps : Bool) (e : Refusal) (s : Sheet) (new : List Pair) → RecordsIn pos s.place keeps s.pairs new (Err e) → e ≡ OutOfMemory → (noted pos s).pairs ≡ new ++ (pair_at pos s.place ∷ [])
+unfolding noted
+refused_room pos keeps e s new h q = records_memory pos s.place keeps s.pairs new (subst (λ (z : Refusal). RecordsIn pos s.place keeps s.pairs new (Err z)) q h)
+
 -- something was refused, and the sheet is marked; what is held isn't told
-pub refused_here : (e : Refusal) (goal s c : Sheet) (l : Flow) → c ≡ record s { lines = l; refused = true } → Alike s goal → HasReason e s c → Halted e goal s c
-refused_here e goal s c l h k r =
+pub refused_here : (e : Refusal) (goal s c : Sheet) (l : Flow) → c ≡ record s { lines = l; refused = true } → Alike s goal → HasReason e s c → (e ≡ OutOfMemory → ((fills_lines s.lines ≡ true) × (fills_lines l ≡ true)) ⊎ LeavesOut goal c) → Halted e goal s c
+refused_here e goal s c l h k r m =
     let P : Sheet → Type 0 = λ z. z ≡ record s { text = z.text; whole = z.whole; at_line_start = z.at_line_start; semicolons = z.semicolons; pairs = z.pairs; pending = z.pending; place = z.place; lines = z.lines; faults = z.faults; refused = true } in
     let T : Sheet → Type 0 = λ z. IsPrefix z.text goal.text in
     let Q : Sheet → Type 0 = λ z. IsPrefix z.pairs goal.pairs in
@@ -368,6 +380,7 @@ refused_here e goal s c l h k r =
       place = unfold after_text in ap (λ (z : Sheet). z.place) h;
       more_pairs = subst V (sym h) (front_refl s.pairs);
       front_pairs = subst Q (sym h) k.more_pairs;
+      room = λ q. elim (m q) [ inl f ↦ inl (f.0, ap (λ (z : Sheet). fills_lines z.lines) h ∙ f.1) | inr p ↦ inr p ];
       same = subst P (sym h) refl;
     }
 
@@ -440,6 +453,10 @@ pub punct_at_once : (span : Option Span) (t : List ℕ) (s : Sheet) → s.semico
 unfolding before_punct
 punct_at_once span t s h = ap (written span t) (punct_case (is_ending t) s h)
 
+room_lacked : (goal a b : Sheet) → ((fills_lines a.lines ≡ true) × (fills_lines b.lines ≡ true)) ⊎ LeavesOut goal b → LacksRoom goal a b
+room_lacked goal a b (inl f) = to_hold f.0 f.1
+room_lacked goal a b (inr p) = for_pair p
+
 -- what was refused on the way to a call's sheet refuses the call
 pub writes_halted : (x : Item) (e : Refusal) (a b : Sheet) → a.semicolons ≡ AtOnce → b.semicolons ≡ AtOnce → a.refused ≡ false → Halted e (effect x a) a b → Writes x a b (Err e)
 unfolding Writes dropped
@@ -450,6 +467,7 @@ writes_halted x e a b o n h k =
       place = k.place;
       more_pairs = k.more_pairs;
       front_pairs = k.front_pairs;
+      room = λ q. room_lacked (effect x a) a b (k.room q);
       held = inr (n ∙ sym (ap dropped o), subst (λ (z : Sheet). IsPrefix z.text b.text) (sym (settled_at_once a o)) k.grows);
       same = k.same;
     })
@@ -495,6 +513,7 @@ deeper_refused a c o r h k =
       front = ([], ap (λ (s : Sheet). s.text) z ∙ sym e ∙ sym (append-nil c.text));
       more_pairs = ([], q ∙ sym (append-nil a.pairs));
       front_pairs = ([], ap (λ (s : Sheet). s.pairs) z ∙ sym q ∙ sym (append-nil c.pairs));
+      room = λ far. far_not_memory far;
       held = inl (ap (λ (s : Sheet). s.semicolons) k);
       same = subst P (sym k) refl;
     })

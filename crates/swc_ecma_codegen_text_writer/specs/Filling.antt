@@ -44,8 +44,8 @@ IsBounded max line_end p (x ∷ xs) =
     (x.ended ≡ false → 0 < p.column → 0 < first_units (x.segment ++ text_of line_end xs) → p.column + first_units (x.segment ++ text_of line_end xs) ≤ max)
     × IsBounded max line_end (after_text (part_text line_end x.ended x.segment) p) xs
 
--- A line end is put only where the line before it and what follows, up to the next allowed break or line end, have together more
--- than `max` units, and neither is empty.
+-- A line end is put only before a segment that has no room: the line so far and the segment's first line have together more than
+-- `max` units, and neither is empty.
 unfoldable pub IsNeeded : ℕ → List ℕ → Place → List Part → Type 0
 IsNeeded max line_end p [] = ⊤
 IsNeeded max line_end p (x ∷ xs) =

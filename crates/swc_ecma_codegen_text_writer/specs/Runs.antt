@@ -34,9 +34,9 @@ segments_released max first (g ∷ gs) s = segments_released max false gs (segme
 
 -- Some calls lead from a sheet to another with a greatest line length, and to a third without. Both texts have the same segments,
 -- those that the calls cut at the allowed breaks. With the setting a line end stands at some of these, and nowhere else; each line
--- has at most so many units, or no allowed break within; a line end is put only where the line before it and what follows up to
--- the next allowed break or line end have together more units; and no other choice of allowed breaks that bounds the lines so
--- has fewer line ends. In all but text, places and pairs the sheets are the same.
+-- has at most so many units, or no allowed break within; a line end is put only before a segment whose first line has no room in
+-- the line so far; and no other choice of allowed breaks that bounds the lines so has fewer line ends. In all but text, places and
+-- pairs the sheets are the same.
 pub record FillsLines (max : ℕ) (calls : List Item) (old plain new : Sheet) : Type 0 where
   pub done : List Segment
   pub begun : Segment

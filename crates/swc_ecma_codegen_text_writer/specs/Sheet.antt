@@ -342,22 +342,38 @@ Causes x NameOutOfTarget old new = ⊥
 Causes x PositionTooLarge old new = ((x ≡ Deeper) × (old.indentation ≡ 2 ^ 32 - 1)) ⊎ ((old.keeps_positions ≡ true) × IsFar new.place)
 Causes x Failed old new = ⊥
 
+-- The pairs that are recorded end before this one, which is the next on the way to a sheet: it would hold the place that was reached.
+abbrev pub LeavesOut : Sheet → Sheet → Type 0
+LeavesOut goal new = (pos : BytePos) × (more : List Pair) × (goal.pairs ≡ new.pairs ++ (pair_at pos new.place ∷ more))
+
+-- What memory was wanting for, on the way to a sheet.
+pub data LacksRoom (goal old new : Sheet) : Type 0 where
+  -- a pair, which isn't recorded
+  for_pair : LeavesOut goal new → LacksRoom goal old new
+  -- a text, and no pair was recorded before it,
+  for_text : new.pairs ≡ old.pairs → LacksRoom goal old new
+  -- or none but those of the semicolon that was held
+  behind_semicolon : new.pairs ≡ (settled old).pairs → LacksRoom goal old new
+  -- what is held while lines are filled
+  to_hold : fills_lines old.lines ≡ true → fills_lines new.lines ≡ true → LacksRoom goal old new
+
 -- A call was stopped on its way: a beginning of its text is out, and the place is that behind it; a beginning of its pairs is
--- recorded, a semicolon that was held back still is, or is out and no longer held, and nothing else changed but the count of faults
--- and what is held of a segment.
-pub record Stopped (goal old new : Sheet) : Type 0 where
+-- recorded, and a pair that had no room isn't; a semicolon that was held back still is, or is out and no longer held; and nothing
+-- else changed but the count of faults and what is held of a segment. (A pair that stands too far is none: no pair can tell its place.)
+pub record Stopped (e : Refusal) (goal old new : Sheet) : Type 0 where
   pub grows : IsPrefix old.text new.text
   pub front : IsPrefix new.text goal.text
   pub place : new.place ≡ after_text grows.0 old.place
   pub more_pairs : IsPrefix old.pairs new.pairs
   pub front_pairs : IsPrefix new.pairs goal.pairs
+  pub room : e ≡ OutOfMemory → LacksRoom goal old new
   pub held : (new.semicolons ≡ old.semicolons) ⊎ ((new.semicolons ≡ dropped old.semicolons) × IsPrefix (settled old).text new.text)
   pub same : new ≡ record old { text = new.text; whole = new.whole; at_line_start = new.at_line_start; semicolons = new.semicolons; pairs = new.pairs; pending = new.pending; place = new.place; lines = new.lines; faults = new.faults; refused = true }
 
 -- A call is refused since an earlier one was, and does nothing; or it is stopped, for the cause that its error names.
 pub data Refuses (x : Item) (e : Refusal) (old new : Sheet) : Type 0 where
   earlier : old.refused ≡ true → e ≡ Failed → new ≡ old → Refuses x e old new
-  stopped : old.refused ≡ false → Causes x e old new → Stopped (effect x old) old new → Refuses x e old new
+  stopped : old.refused ≡ false → Causes x e old new → Stopped e (effect x old) old new → Refuses x e old new
 
 -- What a call does: its effect where it answers `Ok`, else it was refused.
 unfoldable pub Writes : Item → Sheet → Sheet → Result (Unit {0}) Refusal → Type 0

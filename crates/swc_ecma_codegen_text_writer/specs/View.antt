@@ -10,7 +10,7 @@ use Rattle.swc_ecma_codegen_text_writer.specs.Outlets.{bytes_so_far}
 use Rattle.swc_ecma_codegen_common.specs.declared.positions.BytePos.{BytePos}
 use Rattle.swc_ecma_codegen_common.specs.declared.positions.Span.{Span}
 use Rattle.swc_ecma_codegen_text_writer.specs.Places.{origin, after_text}
-use Rattle.swc_ecma_codegen_text_writer.specs.Sheet.{Sheet, Pair, Item, AtOnce, Flowing, may_take_memory, IsFar, Writes, appended, effect, written, literal_written, ended, pointed}
+use Rattle.swc_ecma_codegen_text_writer.specs.Sheet.{Sheet, Pair, Item, AtOnce, Flowing, fills_lines, may_take_memory, IsFar, LeavesOut, Writes, appended, effect, written, literal_written, ended, pointed}
 use Rattle.swc_ecma_codegen_text_writer.specs.Held.{flow_of}
 use Rattle.swc_ecma_codegen_text_writer.specs.declared.basic_impl.Lines.{Lines}
 
@@ -76,7 +76,8 @@ HasReason NameOutOfTarget old new = ⊥
 HasReason PositionTooLarge old new = (old.keeps_positions ≡ true) × IsFar new.place
 HasReason Failed old new = ⊥
 
--- On the way to a sheet something was refused: a beginning of its text is out, with the place behind it, and of its pairs recorded. What is then held of a segment isn't told.
+-- On the way to a sheet something was refused: a beginning of its text is out, with the place behind it, and of its pairs recorded. Where memory
+-- was wanting, it was for the next pair, or to hold what is written. What is then held of a segment isn't told.
 pub record Halted (e : Refusal) (goal old new : Sheet) : Type 0 where
   pub reason : HasReason e old new
   pub grows : IsPrefix old.text new.text
@@ -84,6 +85,7 @@ pub record Halted (e : Refusal) (goal old new : Sheet) : Type 0 where
   pub place : new.place ≡ after_text grows.0 old.place
   pub more_pairs : IsPrefix old.pairs new.pairs
   pub front_pairs : IsPrefix new.pairs goal.pairs
+  pub room : e ≡ OutOfMemory → ((fills_lines old.lines ≡ true) × (fills_lines new.lines ≡ true)) ⊎ LeavesOut goal new
   pub same : new ≡ record old { text = new.text; whole = new.whole; at_line_start = new.at_line_start; semicolons = new.semicolons; pairs = new.pairs; pending = new.pending; place = new.place; lines = new.lines; faults = new.faults; refused = true }
 
 -- a way to a sheet, which ends there or where something was refused

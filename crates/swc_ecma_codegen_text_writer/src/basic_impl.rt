@@ -66,13 +66,13 @@ pub struct Lines<'a, W: Write, K: KeepsPositions> {
 ///
 /// Where it was given a list, it records positions there: a position with the line and the column, both from 0, that
 /// what stands there has in all that this writer wrote. Lines end with LF, CR, or CR and LF, and columns are UTF-16
-/// units. Position 0 is never recorded, nor a pair that stands in the list already.
+/// units. Position 0 is none, and is left out; so is a pair that the list has.
 ///
 /// Without such a list no call takes memory, so none answers `OutOfMemory`, unless lines are filled; with one a call does where the
-/// list can't grow. While lines are filled, what was written since the last allowed break is held in memory. A call answers `Writer` where the writer under it failed, was interrupted, or took no byte of some
-/// (`ErrorKind::WriteZero`); `PositionTooLarge` where the indentation would pass 4294967295 levels, or a position to be
-/// recorded has a line or a column above that; `Failed` where an earlier call was refused. swc's
-/// `text_writer::basic_impl::JsWriter`.
+/// list can't grow, and the list is then as it was. While lines are filled, what was written since the last allowed break is held in
+/// memory. A call answers `Writer` where the writer under it failed, was interrupted, or took no byte of some
+/// (`ErrorKind::WriteZero`); `PositionTooLarge` where the indentation would pass 4294967295 levels, or where the line or the
+/// column of a position would; `Failed` where an earlier call was refused. swc's `text_writer::basic_impl::JsWriter`.
 pub type JsWriter<'a, W> = Lines<'a, W, OptionalPositions<'a>>;
 
 impl<'a, W: Write> JsWriter<'a, W> {

@@ -28,7 +28,8 @@ use swc_ecma_codegen_common::{BytePos, Error, Result, Span};
 /// A writer of tokens. Its value is a sheet, and each call has one effect on it, or is refused.
 ///
 /// After a refusal what is out is a beginning of what the call would have written, and every further call that gives
-/// a `Result` answers `Failed`, one of an empty text too. swc's `text_writer::WriteJs`.
+/// a `Result` answers `Failed`, one of an empty text too. A position that had no room is not recorded then: the list ends
+/// before it. swc's `text_writer::WriteJs`.
 pub trait WriteJs {
     ghost sheet: { Self → Sheet };
 
@@ -114,9 +115,9 @@ pub trait WriteJs {
     fn begin_lines(&mut self, max: u32) -> Result
         ensures { Writes (BeginLines max) (sheet self.old) (sheet self.new) (in_short result) };
 
-    /// Here a line may end. What is held goes out, after a line end where the line, and what is held up to its first line end,
-    /// would have together more than `max` units; never before the first since `begin_lines`. Where lines aren't filled it does
-    /// nothing.
+    /// Here a line may end. What is held goes out. If its first line has no room in the line so far, because both together have more
+    /// than `max` units, a line end goes out before it, but never before the first since `begin_lines`. Where lines aren't filled
+    /// it does nothing.
     fn allow_break(&mut self) -> Result
         ensures { Writes AllowBreak (sheet self.old) (sheet self.new) (in_short result) };
 

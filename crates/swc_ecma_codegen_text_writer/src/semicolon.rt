@@ -21,8 +21,8 @@ pub struct HeldSemi {
 ///
 /// The calls `write_str("a")`, `write_semi`, `write_punct("}")` write `a}`; with `write_space` or `write_line` in place
 /// of `write_punct("}")` they write `a;` and then the blank or the line's end. Of two semicolons in a row the first is
-/// left out. `add_srcmap` passes a held semicolon by, and `commit_pending_semi` writes it. A break that is allowed while a
-/// semicolon is held is kept with it: it is allowed right after the semicolon is written, and lost with it.
+/// left out. `add_srcmap` passes a held semicolon by, and `commit_pending_semi` writes it. Where a break is allowed behind a
+/// held semicolon, both wait: the break is allowed once the semicolon is out, and is left out if that is.
 ///
 /// A call takes no memory of its own and is refused where the writer under it refuses: then a semicolon that was to be
 /// written stays held, unless it is out. swc's `text_writer::semicolon::OmitTrailingSemi`.

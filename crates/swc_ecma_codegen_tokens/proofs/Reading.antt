@@ -8,6 +8,7 @@ pub mod Phrased
 pub mod Printed
 pub mod SoFar
 pub mod Standing
+pub mod StillPlain
 pub mod Texts
 pub mod TokenLays
 pub mod TokensSoFar

@@ -1,5 +1,5 @@
 -- What a call adds to the tokens so far, told by where a lower emitter stands before it and after it.
-use Rattle.std.specs.Prelude.{◌≡◌, ◌==◌, ◌&&◌, ◌||◌, ℕ, Bool, true, not, if◌then◌else◌, List, [], ◌∷◌, ◌++◌, codes, Result, OnOk}
+use Rattle.std.specs.Prelude.{◌≡◌, ◌==◌, ◌&&◌, ◌||◌, ℕ, Bool, true, false, not, if◌then◌else◌, List, [], ◌∷◌, ◌++◌, codes, Result, OnOk}
 use Rattle.std.specs.Str.{chars}
 use Rattle.swc_ecma_codegen_common.specs.declared.errors.Refusal.{Refusal}
 use Rattle.swc_ecma_codegen_common.specs.declared.positions.Span.{Span}
@@ -10,6 +10,7 @@ use Rattle.swc_ecma_codegen_grammar.specs.Comments.{AreClosed}
 use Rattle.swc_ecma_codegen_grammar.specs.Phrases.{Phrase, Generates, is_possible}
 use Rattle.swc_ecma_codegen_grammar.specs.ListFormats.{comma_delimited, bar_delimited, ampersand_delimited, allows_trailing_comma, forces_trailing_comma}
 use Rattle.swc_ecma_codegen_grammar.specs.SourceLines.{Lines, no_lines}
+use Rattle.swc_ecma_codegen_grammar.specs.SpelledNames.{is_well_formed_name}
 use Rattle.swc_ecma_codegen_grammar.specs.Tokens.{Token, token_of, punctuator}
 use Rattle.swc_ecma_codegen_grammar.specs.Trivia.{Remark}
 use Rattle.swc_ecma_codegen_text_writer.specs.Sheet.{Sheet}
@@ -18,7 +19,8 @@ use Rattle.swc_ecma_codegen_tokens.specs.Lists.{may_have_comma, source_has_comma
 use Rattle.swc_ecma_codegen_tokens.specs.Run.{Part}
 use Rattle.swc_ecma_codegen_tokens.specs.Settings.{settings_of}
 use Rattle.swc_ecma_codegen_tokens.specs.View.{env_of, state_of}
-use Rattle.swc_ecma_codegen_tokens.specs.Written.{Spot, Anything, ReadsSoFar, ReadsSoFarAt, taken_remarks}
+use Rattle.swc_ecma_codegen_tokens.specs.Words.{name}
+use Rattle.swc_ecma_codegen_tokens.specs.Written.{Spot, Anything, ReadsSoFar, ReadsSoFarAt, name_tokens, taken_remarks}
 
 -- A call that is answered `Ok` adds these tokens: what reads as the tokens so far reads as those and these, whatever goes on after them.
 -- They stand where this may come next, and leave what that lets come next.
@@ -45,6 +47,12 @@ AddsTakingOn before behind phrase part maps config a e b f result =
 
 abbrev pub AddsTaking : Phrase → Part → Maps → Config → Sheet → LowerEmitter → Sheet → LowerEmitter → Result (Unit {0}) Refusal → Type 0
 AddsTaking phrase part maps config a e b f result = AddsTakingOn Anything Anything phrase part maps config a e b f result
+
+-- A call adds a well-formed name, behind the comments before it, which it takes out of these maps.
+abbrev pub AddsName : Span → List ℕ → Bool → Maps → Config → Sheet → LowerEmitter → Sheet → LowerEmitter → Result (Unit {0}) Refusal → Type 0
+AddsName span sym optional maps config a e b f result =
+    (old : List ℕ) (tokens : List Token) (remarks : List Remark) → AreClosed maps → is_well_formed_name sym ≡ true → a.keeps_invalid ≡ false → ReadsSoFar old tokens remarks (state_of config a e)
+    → OnOk result (ReadsSoFar old (tokens ++ name_tokens sym optional) (remarks ++ taken_remarks (name span sym optional) (env_of no_lines maps config a)) (state_of config b f))
 
 -- the tokens of a number that may have a sign: `-5` is two
 unfoldable pub tokens_of_number : List ℕ → List Token

@@ -138,7 +138,7 @@ may_keep_other (PrivateOf bytes) = false
 may_keep_other (TagNameOf at bytes) = not (is_ascii_text (chars bytes))
 may_keep_other (Then a b) = may_keep_other a || may_keep_other b
 may_keep_other (CommaBefore close) = false
-may_keep_other (OptionalParentheses a) = may_keep_other a
+may_keep_other (OptionalParentheses round a) = may_keep_other a
 may_keep_other (Chosen choice) = false
 
 -- An emission is to write ASCII: the settings ask for it, lines are indented by ASCII and end with it, no lines are filled

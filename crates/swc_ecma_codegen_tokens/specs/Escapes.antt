@@ -31,5 +31,5 @@ may_make_text config (PrivateOf bytes) = has_backslash bytes || wants_escapes co
 may_make_text config (TagNameOf at bytes) = false
 may_make_text config (Then a b) = may_make_text config a || may_make_text config b
 may_make_text config (CommaBefore close) = true
-may_make_text config (OptionalParentheses a) = may_make_text config a
+may_make_text config (OptionalParentheses round a) = may_make_text config a
 may_make_text config (Chosen choice) = false

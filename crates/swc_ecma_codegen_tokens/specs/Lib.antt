@@ -25,4 +25,5 @@ pub mod Ready
 pub mod Starts
 pub mod ShortNames
 pub mod PlainNames
+pub mod Plain
 pub mod Classes

@@ -66,7 +66,7 @@ EachName holds s behind (PrivateOf bytes) ts = ts ≡ tokens.private_name (name_
 EachName holds s behind (TagNameOf at bytes) ts = (ts ≡ tokens.tag_name (chars bytes) ∷ []) × holds behind (tokens.tag_name (chars bytes)) (record { at = at; bytes = bytes; sort = Tag })
 EachName holds s behind (Then a b) ts = (us vs : List Token) × EachName holds s behind a us × EachName holds s (behind ++ us) b vs × (ts ≡ us ++ vs)
 EachName holds s behind (CommaBefore close) ts = (ts ≡ closing_token close ∷ []) ⊎ (ts ≡ comma ∷ closing_token close ∷ [])
-EachName holds s behind (OptionalParentheses a) ts = EachName holds s behind a ts ⊎ ((us : List Token) × EachName holds s (behind ++ (open_parenthesis ∷ [])) a us × (ts ≡ in_parentheses us))
+EachName holds s behind (OptionalParentheses round a) ts = EachName holds s behind a ts ⊎ ((us : List Token) × EachName holds s (behind ++ (open_parenthesis ∷ [])) a us × (ts ≡ in_parentheses us))
 EachName holds s behind (Chosen choice) ts = ts ≡ chosen s choice
 
 -- a list of a phrase's tokens, behind some, in which each name stands as its token, with its position where it begins

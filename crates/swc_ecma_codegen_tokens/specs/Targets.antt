@@ -47,5 +47,5 @@ is_out config (PrivateOf bytes) = is_out_name config (turned bytes)
 is_out config (TagNameOf at bytes) = false
 is_out config (Then a b) = is_out config a || is_out config b
 is_out config (CommaBefore close) = false
-is_out config (OptionalParentheses a) = is_out config a
+is_out config (OptionalParentheses round a) = is_out config a
 is_out config (Chosen choice) = false

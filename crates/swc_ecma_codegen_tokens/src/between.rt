@@ -1,9 +1,11 @@
 //! A punctuator with the blanks round it: ` = `. Where no positions are kept it is one text.
 
-ghost use Rattle.std.specs.Prelude.{◌≡◌, ◌&&◌, ℕ, List, OnOk, OnErr, is_some, true, false};
+ghost use Rattle.std.specs.Prelude.{◌≡◌, ◌&&◌, ℕ, List, [], ◌∷◌, OnOk, OnErr, is_some, true, false};
 ghost use Rattle.swc_ecma_codegen_grammar.specs.GapRules.{fuses};
+ghost use Rattle.swc_ecma_codegen_grammar.specs.Tokens as lexical;
 ghost use Rattle.swc_ecma_codegen_literals.specs.Punctuators.{spelling};
 ghost use Rattle.swc_ecma_codegen_text_writer.specs.Sheet.{Str, Writes, answered, is_settled};
+ghost use Rattle.swc_ecma_codegen_tokens.specs.Adds.{Adds};
 ghost use Rattle.swc_ecma_codegen_tokens.specs.Between.{in_blanks, last_between};
 ghost use Rattle.swc_ecma_codegen_tokens.specs.PreviousToken.{last_at};
 ghost use Rattle.swc_ecma_codegen_tokens.specs.Run.{Does, Stays};
@@ -105,6 +107,8 @@ impl LowerEmitter {
         ensures items { Does (operator_between (spelling mark))
             (state_of cfg.now (W.sheet wr.old) self.old)
             (state_of cfg.now (W.sheet wr.new) self.new) (answered result self.new.reason) }
+        ensures reads { Adds (lexical.punctuator (spelling mark) ∷ [])
+            cfg.now (W.sheet wr.old) self.old (W.sheet wr.new) self.new (answered result self.new.reason) }
         ensures level { Stays (W.sheet wr.old) (W.sheet wr.new) (answered result self.new.reason) }
     {
         if self.failed || !wr.is_settled() || wr.care_about_srcmap() {
@@ -126,13 +130,31 @@ impl LowerEmitter {
             (state_of cfg.now (W.sheet wr.new) self.new) (answered result self.new.reason) }
         ensures level { Stays (W.sheet wr.old) (W.sheet wr.new) (answered result self.new.reason) }
     {
-        self.writes_operator_and_blanks(cfg, wr, mark)
+        self.writes_operator_and_blanks_here(cfg, wr, mark)
     }
 
     /// The same, text by text.
     #[inline(always)]
-    #[tactic(auto, unfolding(crate::specs::Words::operator_between))]
     pub fn writes_operator_and_blanks<W: WriteJs>(
+        &mut self,
+        cfg: &Config,
+        wr: &mut W,
+        mark: Punctuator,
+    ) -> bool
+        ensures items { Does (operator_between (spelling mark))
+            (state_of cfg.now (W.sheet wr.old) self.old)
+            (state_of cfg.now (W.sheet wr.new) self.new) (answered result self.new.reason) }
+        ensures reads { Adds (lexical.punctuator (spelling mark) ∷ [])
+            cfg.now (W.sheet wr.old) self.old (W.sheet wr.new) self.new (answered result self.new.reason) }
+        ensures level { Stays (W.sheet wr.old) (W.sheet wr.new) (answered result self.new.reason) }
+    {
+        self.writes_operator_and_blanks_here(cfg, wr, mark)
+    }
+
+    /// The same, where it is called.
+    #[inline(always)]
+    #[tactic(auto, unfolding(crate::specs::Words::operator_between))]
+    fn writes_operator_and_blanks_here<W: WriteJs>(
         &mut self,
         cfg: &Config,
         wr: &mut W,
@@ -218,6 +240,8 @@ impl LowerEmitter {
         ensures items { Does (punct_between (spelling mark))
             (state_of cfg.now (W.sheet wr.old) self.old)
             (state_of cfg.now (W.sheet wr.new) self.new) (answered result self.new.reason) }
+        ensures reads { Adds (lexical.punctuator (spelling mark) ∷ [])
+            cfg.now (W.sheet wr.old) self.old (W.sheet wr.new) self.new (answered result self.new.reason) }
         ensures level { Stays (W.sheet wr.old) (W.sheet wr.new) (answered result self.new.reason) }
     {
         if self.failed || !wr.is_settled() || wr.care_about_srcmap() || is_bounded(cfg) {
@@ -239,13 +263,31 @@ impl LowerEmitter {
             (state_of cfg.now (W.sheet wr.new) self.new) (answered result self.new.reason) }
         ensures level { Stays (W.sheet wr.old) (W.sheet wr.new) (answered result self.new.reason) }
     {
-        self.writes_punct_and_blanks(cfg, wr, mark)
+        self.writes_punct_and_blanks_here(cfg, wr, mark)
     }
 
     /// The same, text by text.
     #[inline(always)]
-    #[tactic(auto, unfolding(crate::specs::Words::punct_between))]
     pub fn writes_punct_and_blanks<W: WriteJs>(
+        &mut self,
+        cfg: &Config,
+        wr: &mut W,
+        mark: Punctuator,
+    ) -> bool
+        ensures items { Does (punct_between (spelling mark))
+            (state_of cfg.now (W.sheet wr.old) self.old)
+            (state_of cfg.now (W.sheet wr.new) self.new) (answered result self.new.reason) }
+        ensures reads { Adds (lexical.punctuator (spelling mark) ∷ [])
+            cfg.now (W.sheet wr.old) self.old (W.sheet wr.new) self.new (answered result self.new.reason) }
+        ensures level { Stays (W.sheet wr.old) (W.sheet wr.new) (answered result self.new.reason) }
+    {
+        self.writes_punct_and_blanks_here(cfg, wr, mark)
+    }
+
+    /// The same, where it is called.
+    #[inline(always)]
+    #[tactic(auto, unfolding(crate::specs::Words::punct_between))]
+    fn writes_punct_and_blanks_here<W: WriteJs>(
         &mut self,
         cfg: &Config,
         wr: &mut W,

@@ -1,4 +1,4 @@
-//! What stands before, between and after the children of a list, by its format. Most of it is inlined where the format is named.
+//! The brackets, separators and blanks of a list, by its format. Most of it is inlined where the format is named.
 
 ghost use Rattle.std.specs.Prelude.{◌≡◌, true, ◌+◌, ◌<◌, ◌≤◌, OnOk};
 ghost use Rattle.swc_ecma_codegen_grammar.specs.Comments.{maps_in};

@@ -1,19 +1,13 @@
 //! Names.
 
-ghost use Rattle.std.specs.Prelude.{◌≡◌, ℕ, OnOk, List, ◌++◌, false, true};
+ghost use Rattle.std.specs.Prelude.{◌≡◌, OnOk, false, true};
 ghost use Rattle.std.specs.Str.{chars};
 ghost use Rattle.swc_ecma_codegen_grammar.specs.GapRules.{fuses};
 ghost use Rattle.swc_ecma_codegen_tokens.specs.PreviousToken.{last_at};
-ghost use Rattle.swc_ecma_codegen_grammar.specs.Comments.{maps_in, AreClosed};
-ghost use Rattle.swc_ecma_codegen_grammar.specs.SourceLines.{no_lines};
-ghost use Rattle.swc_ecma_codegen_tokens.specs.Run.{DoesTaking, Does, Stays};
+ghost use Rattle.swc_ecma_codegen_tokens.specs.Run.{Does, Stays};
 ghost use Rattle.swc_ecma_codegen_tokens.specs.Targets.{wants_escapes};
-ghost use Rattle.swc_ecma_codegen_tokens.specs.Words.{name, name_text, symbol, spelled_symbol, valid_symbol, question};
-ghost use Rattle.swc_ecma_codegen_grammar.specs.Tokens.{Token};
-ghost use Rattle.swc_ecma_codegen_grammar.specs.Trivia.{Remark};
-ghost use Rattle.swc_ecma_codegen_grammar.specs.SpelledNames.{is_well_formed_name};
-ghost use Rattle.swc_ecma_codegen_tokens.specs.Written.{ReadsSoFar, name_tokens, taken_remarks};
-ghost use Rattle.swc_ecma_codegen_tokens.specs.View.{state_of, env_of};
+ghost use Rattle.swc_ecma_codegen_tokens.specs.Words.{name_text, symbol, spelled_symbol, valid_symbol, question};
+ghost use Rattle.swc_ecma_codegen_tokens.specs.View.{state_of};
 
 use crate::LowerEmitter;
 use crate::guard::REFUSED;
@@ -21,7 +15,6 @@ use crate::raws::is_ascii;
 use crate::short_names::has_backslash;
 use crate::starts::StartClass;
 use swc_ecma_codegen_common::{Answer, Refusal, Span};
-use swc_ecma_codegen_grammar::comments::Comments;
 use swc_ecma_codegen_literals::{Punctuator, ascii_only_ident, valid_name};
 use swc_ecma_codegen_text_writer::WriteJs;
 use swc_ecma_codegen_util::config::Config;
@@ -243,34 +236,5 @@ impl LowerEmitter {
             return self.answer(done);
         }
         Ok(())
-    }
-
-    /// Writes a name with its comments, and `?` after an optional one. swc's `emit_ident_like`.
-    #[inline(always)]
-    pub fn name<W: WriteJs, C: Comments>(
-        &mut self,
-        cfg: &Config,
-        comments: &mut Option<C>,
-        wr: &mut W,
-        span: Span,
-        sym: &str,
-        optional: bool,
-    ) -> Answer
-        ensures items { DoesTaking (name span sym.now optional) (maps_in C.maps comments.old)
-            (maps_in C.maps comments.new) (state_of cfg.now (W.sheet wr.old) self.old)
-            (state_of cfg.now (W.sheet wr.new) self.new) result }
-        // The text reads as the tokens so far and the name, whatever follows that doesn't fuse.
-        ensures reads { (text_before : List ℕ) (tokens : List Token) (remarks : List Remark) →
-            AreClosed (maps_in C.maps comments.old) → is_well_formed_name sym.now ≡ true →
-            (W.sheet wr.old).keeps_invalid ≡ false →
-            ReadsSoFar text_before tokens remarks (state_of cfg.now (W.sheet wr.old) self.old) →
-            OnOk result (ReadsSoFar text_before (tokens ++ name_tokens sym.now optional)
-            (remarks ++ taken_remarks (name span sym.now optional)
-            (env_of no_lines (maps_in C.maps comments.old) cfg.now (W.sheet wr.old)))
-            (state_of cfg.now (W.sheet wr.new) self.new)) }
-        ensures level { Stays (W.sheet wr.old) (W.sheet wr.new) result }
-    {
-        let done = self.writes_name(cfg, comments, wr, span, sym, optional);
-        self.answer(done)
     }
 }

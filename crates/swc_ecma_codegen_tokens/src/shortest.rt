@@ -1,18 +1,21 @@
 //! The tokens that trees have most of, by the shortest way. Each call only says whether its token was written, so that its answer is one
 //! bit: else `reason` says why not.
 
-ghost use Rattle.std.specs.Prelude.{◌≡◌, ◌&&◌, is_some, None, true, false};
+ghost use Rattle.std.specs.Prelude.{◌≡◌, ◌&&◌, is_some, None, [], ◌∷◌, true, false};
 ghost use Rattle.std.specs.Str.{chars};
 ghost use Rattle.swc_ecma_codegen_grammar.specs.Comments.{maps_in};
 ghost use Rattle.swc_ecma_codegen_grammar.specs.GapRules.{fuses};
+ghost use Rattle.swc_ecma_codegen_grammar.specs.Tokens as lexical;
 ghost use Rattle.swc_ecma_codegen_literals.specs.Punctuators.{spelling};
 ghost use Rattle.swc_ecma_codegen_text_writer.specs.Reach.{is_in_line};
 ghost use Rattle.swc_ecma_codegen_text_writer.specs.Sheet.{answered, is_settled};
+ghost use Rattle.swc_ecma_codegen_tokens.specs.Adds.{Adds, AddsName};
 ghost use Rattle.swc_ecma_codegen_tokens.specs.PlainNames.{IsPlain};
 ghost use Rattle.swc_ecma_codegen_tokens.specs.PreviousToken.{last_at};
 ghost use Rattle.swc_ecma_codegen_tokens.specs.Run.{Does, DoesTaking, Stays};
 ghost use Rattle.swc_ecma_codegen_tokens.specs.Starts.{begins_letter, begins_name};
 ghost use Rattle.swc_ecma_codegen_tokens.specs.Words.{bare_punct, bare_semi, break_behind, allow_break, keyword, name, name_text, operator, punct, semi, space, symbol};
+ghost use Rattle.swc_ecma_codegen_tokens.specs.Written.{IsWord};
 ghost use Rattle.swc_ecma_codegen_tokens.specs.View.{state_of};
 
 use crate::LowerEmitter;
@@ -31,6 +34,9 @@ impl LowerEmitter {
     pub fn writes_punct<W: WriteJs>(&mut self, cfg: &Config, wr: &mut W, mark: Punctuator) -> bool
         ensures items { Does (punct (spelling mark)) (state_of cfg.now (W.sheet wr.old) self.old)
             (state_of cfg.now (W.sheet wr.new) self.new) (answered result self.new.reason) }
+        // The text reads as the tokens so far and this one, whatever follows that doesn't fuse.
+        ensures reads { Adds (lexical.punctuator (spelling mark) ∷ [])
+            cfg.now (W.sheet wr.old) self.old (W.sheet wr.new) self.new (answered result self.new.reason) }
         ensures level { Stays (W.sheet wr.old) (W.sheet wr.new) (answered result self.new.reason) }
     {
         if self.is_apart(mark) {
@@ -127,6 +133,9 @@ impl LowerEmitter {
     pub fn writes_semi<W: WriteJs>(&mut self, cfg: &Config, wr: &mut W) -> bool
         ensures items { Does (semi) (state_of cfg.now (W.sheet wr.old) self.old)
             (state_of cfg.now (W.sheet wr.new) self.new) (answered result self.new.reason) }
+        // The text reads as the tokens so far and this one, whatever follows that doesn't fuse.
+        ensures reads { Adds (lexical.ending ∷ [])
+            cfg.now (W.sheet wr.old) self.old (W.sheet wr.new) self.new (answered result self.new.reason) }
         ensures level { Stays (W.sheet wr.old) (W.sheet wr.new) (answered result self.new.reason) }
     {
         if self.is_apart(Punctuator::Semicolon) {
@@ -211,6 +220,9 @@ impl LowerEmitter {
         requires { begins_letter word.now ≡ true }
         ensures items { Does (keyword span word.now) (state_of cfg.now (W.sheet wr.old) self.old)
             (state_of cfg.now (W.sheet wr.new) self.new) (answered result self.new.reason) }
+        // The text reads as the tokens so far and this one, whatever follows that doesn't fuse.
+        ensures reads { IsWord word.now → Adds (lexical.word word.now ∷ [])
+            cfg.now (W.sheet wr.old) self.old (W.sheet wr.new) self.new (answered result self.new.reason) }
         ensures level { Stays (W.sheet wr.old) (W.sheet wr.new) (answered result self.new.reason) }
     {
         match span {
@@ -307,6 +319,9 @@ impl LowerEmitter {
     ) -> bool
         ensures items { Does (operator (spelling mark)) (state_of cfg.now (W.sheet wr.old) self.old)
             (state_of cfg.now (W.sheet wr.new) self.new) (answered result self.new.reason) }
+        // The text reads as the tokens so far and this one, whatever follows that doesn't fuse.
+        ensures reads { Adds (lexical.punctuator (spelling mark) ∷ [])
+            cfg.now (W.sheet wr.old) self.old (W.sheet wr.new) self.new (answered result self.new.reason) }
         ensures level { Stays (W.sheet wr.old) (W.sheet wr.new) (answered result self.new.reason) }
     {
         if self.is_apart(mark) {
@@ -425,6 +440,9 @@ impl LowerEmitter {
         ensures items { DoesTaking (name span sym.now optional) (maps_in C.maps comments.old)
             (maps_in C.maps comments.new) (state_of cfg.now (W.sheet wr.old) self.old)
             (state_of cfg.now (W.sheet wr.new) self.new) (answered result self.new.reason) }
+        // The text reads as the tokens so far and the name, whatever follows that doesn't fuse.
+        ensures reads { AddsName span sym.now optional (maps_in C.maps comments.old)
+            cfg.now (W.sheet wr.old) self.old (W.sheet wr.new) self.new (answered result self.new.reason) }
         ensures level { Stays (W.sheet wr.old) (W.sheet wr.new) (answered result self.new.reason) }
     {
         let _ = comments;
@@ -433,10 +451,32 @@ impl LowerEmitter {
         self.sends_symbol(cfg, wr, sym)
     }
 
-    /// Writes a name with its comments, and `?` after an optional one.
+    /// Writes a name with its comments, and `?` after an optional one. swc's `emit_ident_like`.
+    #[inline(always)]
+    pub fn writes_name<W: WriteJs, C: Comments>(
+        &mut self,
+        cfg: &Config,
+        comments: &mut Option<C>,
+        wr: &mut W,
+        span: Span,
+        sym: &str,
+        optional: bool,
+    ) -> bool
+        ensures items { DoesTaking (name span sym.now optional) (maps_in C.maps comments.old)
+            (maps_in C.maps comments.new) (state_of cfg.now (W.sheet wr.old) self.old)
+            (state_of cfg.now (W.sheet wr.new) self.new) (answered result self.new.reason) }
+        // The text reads as the tokens so far and the name, whatever follows that doesn't fuse.
+        ensures reads { AddsName span sym.now optional (maps_in C.maps comments.old)
+            cfg.now (W.sheet wr.old) self.old (W.sheet wr.new) self.new (answered result self.new.reason) }
+        ensures level { Stays (W.sheet wr.old) (W.sheet wr.new) (answered result self.new.reason) }
+    {
+        self.writes_name_here(cfg, comments, wr, span, sym, optional)
+    }
+
+    /// The same, where it is called.
     #[inline(always)]
     #[tactic(auto, unfolding(crate::specs::Words::name))]
-    pub fn writes_name<W: WriteJs, C: Comments>(
+    fn writes_name_here<W: WriteJs, C: Comments>(
         &mut self,
         cfg: &Config,
         comments: &mut Option<C>,

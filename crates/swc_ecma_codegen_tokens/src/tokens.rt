@@ -13,7 +13,7 @@ ghost use Rattle.swc_ecma_codegen_grammar.specs.GapRules.{fuses};
 ghost use Rattle.swc_ecma_codegen_grammar.specs.Tokens as lexical;
 ghost use Rattle.swc_ecma_codegen_tokens.specs.PreviousToken.{last_at};
 ghost use Rattle.swc_ecma_codegen_tokens.specs.Run.{Does, step, Guard, Plain, Stays};
-ghost use Rattle.swc_ecma_codegen_tokens.specs.Words.{bare_punct, bare_semi, keyword, operator, operator_between, punct_between, word_operator, punct, placed_punct, semi, space, formatting_space, commit_pending_semi, position, position_before};
+ghost use Rattle.swc_ecma_codegen_tokens.specs.Words.{bare_punct, bare_semi, keyword, word_operator, punct, placed_punct, formatting_space, commit_pending_semi, position, position_before};
 ghost use Rattle.swc_ecma_codegen_tokens.specs.Written.{IsWord};
 ghost use Rattle.swc_ecma_codegen_tokens.specs.Adds.{Adds};
 ghost use Rattle.swc_ecma_codegen_tokens.specs.View.{state_of};
@@ -132,20 +132,6 @@ impl LowerEmitter {
         self.answer(done)
     }
 
-    /// Writes an operator that is a punctuator.
-    #[inline(always)]
-    pub fn operator<W: WriteJs>(&mut self, cfg: &Config, wr: &mut W, mark: Punctuator) -> Answer
-        ensures items { Does (operator (spelling mark)) (state_of cfg.now (W.sheet wr.old) self.old)
-            (state_of cfg.now (W.sheet wr.new) self.new) result }
-        // The text reads as the tokens so far and this one, whatever follows that doesn't fuse.
-        ensures reads { Adds (lexical.punctuator (spelling mark) ∷ [])
-            cfg.now (W.sheet wr.old) self.old (W.sheet wr.new) self.new result }
-        ensures level { Stays (W.sheet wr.old) (W.sheet wr.new) result }
-    {
-        let done = self.writes_operator(cfg, wr, mark);
-        self.answer(done)
-    }
-
     /// Writes an operator that is a word, as `in`.
     #[inline(always)]
     #[tactic(auto, unfolding(crate::specs::Words::word_operator))]
@@ -218,20 +204,6 @@ impl LowerEmitter {
         Ok(())
     }
 
-    /// Writes a semicolon that may be left out where it isn't needed.
-    #[inline(always)]
-    pub fn semi<W: WriteJs>(&mut self, cfg: &Config, wr: &mut W) -> Answer
-        ensures items { Does (semi) (state_of cfg.now (W.sheet wr.old) self.old)
-            (state_of cfg.now (W.sheet wr.new) self.new) result }
-        // The text reads as the tokens so far and this one, whatever follows that doesn't fuse.
-        ensures reads { Adds (lexical.ending ∷ [])
-            cfg.now (W.sheet wr.old) self.old (W.sheet wr.new) self.new result }
-        ensures level { Stays (W.sheet wr.old) (W.sheet wr.new) result }
-    {
-        let done = self.writes_semi(cfg, wr);
-        self.answer(done)
-    }
-
     /// Writes a semicolon behind which no line may be ended: that of a function without a body.
     #[inline(never)]
     pub fn bare_semi<W: WriteJs>(&mut self, cfg: &Config, wr: &mut W) -> Answer
@@ -243,61 +215,6 @@ impl LowerEmitter {
     {
         let done = self.writes_bare_semi(cfg, wr);
         self.answer(done)
-    }
-
-    /// Writes a blank.
-    #[inline(never)]
-    pub fn space<W: WriteJs>(&mut self, cfg: &Config, wr: &mut W) -> Answer
-        ensures items { Does (space) (state_of cfg.now (W.sheet wr.old) self.old)
-            (state_of cfg.now (W.sheet wr.new) self.new) result }
-        ensures level { Stays (W.sheet wr.old) (W.sheet wr.new) result }
-    {
-        let done = self.puts_space(cfg, wr);
-        self.answer(done)
-    }
-
-    /// Writes an operator that is a punctuator, between two blanks: ` + `.
-    #[inline(always)]
-    #[tactic(auto, unfolding(crate::specs::Words::operator_between))]
-    pub fn operator_between<W: WriteJs>(
-        &mut self,
-        cfg: &Config,
-        wr: &mut W,
-        mark: Punctuator,
-    ) -> Answer
-        ensures items { Does (operator_between (spelling mark))
-            (state_of cfg.now (W.sheet wr.old) self.old)
-            (state_of cfg.now (W.sheet wr.new) self.new) result }
-        ensures reads { Adds (lexical.punctuator (spelling mark) ∷ [])
-            cfg.now (W.sheet wr.old) self.old (W.sheet wr.new) self.new result }
-        ensures level { Stays (W.sheet wr.old) (W.sheet wr.new) result }
-    {
-        self.space(cfg, wr)?;
-        self.operator(cfg, wr, mark)?;
-        self.space(cfg, wr)?;
-        Ok(())
-    }
-
-    /// Writes a punctuator between two blanks: ` ? `.
-    #[inline(always)]
-    #[tactic(auto, unfolding(crate::specs::Words::punct_between))]
-    pub fn punct_between<W: WriteJs>(
-        &mut self,
-        cfg: &Config,
-        wr: &mut W,
-        mark: Punctuator,
-    ) -> Answer
-        ensures items { Does (punct_between (spelling mark))
-            (state_of cfg.now (W.sheet wr.old) self.old)
-            (state_of cfg.now (W.sheet wr.new) self.new) result }
-        ensures reads { Adds (lexical.punctuator (spelling mark) ∷ [])
-            cfg.now (W.sheet wr.old) self.old (W.sheet wr.new) self.new result }
-        ensures level { Stays (W.sheet wr.old) (W.sheet wr.new) result }
-    {
-        self.space(cfg, wr)?;
-        self.punct(cfg, wr, mark)?;
-        self.space(cfg, wr)?;
-        Ok(())
     }
 
     /// Writes a semicolon that is held back. Where none is, that takes no call.

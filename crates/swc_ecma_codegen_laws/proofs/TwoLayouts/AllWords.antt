@@ -19,8 +19,9 @@ use Rattle.swc_ecma_codegen_emit.specs.Stmts.{case_body, case_format, case_list}
 use Rattle.swc_ecma_codegen_emit.specs.Templates.{tpl_all, tpl_parts, tpl_rest}
 use Rattle.swc_ecma_codegen_emit.specs.Tree.{any_items}
 use Rattle.swc_ecma_codegen_emit.specs.Places.{Place}
+use Rattle.swc_ecma_codegen_laws.specs.Breaks.{whole_node}
 use Rattle.swc_ecma_codegen_laws.specs.Enclosing.{is_element, is_function}
-use Rattle.swc_ecma_codegen_laws.proofs.Children.{ChildrenHold, PartsHold}
+use Rattle.swc_ecma_codegen_laws.proofs.Children.{ChildrenHold, NodesHold}
 use Rattle.swc_ecma_codegen_laws.proofs.TwoLayouts.Arrows.{alike_arrow, alike_new}
 use Rattle.swc_ecma_codegen_laws.proofs.TwoLayouts.Lists.{alike_closed, alike_list, both_formats}
 use Rattle.swc_ecma_codegen_laws.proofs.TwoLayouts.Literals.{alike_attribute, alike_big_int, alike_element, alike_lit, alike_number, alike_number_object, alike_string, always_bool_node, always_text_lit}
@@ -94,20 +95,20 @@ alike_cases {two} bounded single span cs h =
 
 -- ---- templates, elements, and functions without a body
 
-alike_rest : {two : TwoLayouts} (tagged : Bool) (inside : List Part) (qs : List TplElement) → PartsHold (IsAlike two) false inside → IsAlike two false (tpl_rest (λ part. part) tagged inside qs)
-unfolding tpl_rest PartsHold
+alike_rest : {two : TwoLayouts} (tagged : Bool) (nodes : List AnyNode) (qs : List TplElement) → NodesHold (IsAlike two) nodes → IsAlike two false (tpl_rest whole_node tagged nodes qs)
+unfolding tpl_rest NodesHold
 alike_rest tagged [] qs h = alike_always false always_none
 alike_rest tagged (p ∷ ps) [] h = alike_always false always_none
 alike_rest tagged (p ∷ ps) (q ∷ qs) h = alike_then false h.0 (alike_then false (alike_element false false (part_before tagged qs) q) (alike_rest tagged ps qs h.1))
 
-alike_all : {two : TwoLayouts} (tagged : Bool) (inside : List Part) (qs : List TplElement) → PartsHold (IsAlike two) false inside → IsAlike two false (tpl_all (λ part. part) tagged inside qs)
+alike_all : {two : TwoLayouts} (tagged : Bool) (nodes : List AnyNode) (qs : List TplElement) → NodesHold (IsAlike two) nodes → IsAlike two false (tpl_all whole_node tagged nodes qs)
 unfolding tpl_all
-alike_all tagged inside [] h = alike_always false always_none
-alike_all tagged inside (q ∷ qs) h = alike_then false (alike_element false true (part_before tagged qs) q) (alike_rest tagged inside qs h)
+alike_all tagged nodes [] h = alike_always false always_none
+alike_all tagged nodes (q ∷ qs) h = alike_then false (alike_element false true (part_before tagged qs) q) (alike_rest tagged nodes qs h)
 
-alike_template : {two : TwoLayouts} (bounded tagged : Bool) (inside : List Part) (quasis : List TplElement) → PartsHold (IsAlike two) false inside → IsAlike two bounded (tpl_parts (λ part. part) tagged inside quasis)
+alike_template : {two : TwoLayouts} (bounded tagged : Bool) (nodes : List AnyNode) (quasis : List TplElement) → NodesHold (IsAlike two) nodes → IsAlike two bounded (tpl_parts whole_node tagged nodes quasis)
 unfolding tpl_parts
-alike_template bounded tagged inside quasis h = alike_within bounded (tpl_all (λ part. part) tagged inside quasis) (alike_all tagged inside quasis h)
+alike_template bounded tagged nodes quasis h = alike_within bounded (tpl_all whole_node tagged nodes quasis) (alike_all tagged nodes quasis h)
 
 alike_in_element : {two : TwoLayouts} (bounded : Bool) (node : AnyNode) (place : Place) (inside : Part) → is_element node ≡ true → any_items node place ≡ unbounded inside → IsAlike two false inside → IsAlike two bounded (any_items node place)
 alike_in_element {two} bounded node place inside f q h = subst (λ (z : Part). IsAlike two bounded z) (sym q) (alike_within bounded inside h)
@@ -162,7 +163,7 @@ layout_words two = record {
   jsx_text_node = λ bounded n. alike_always bounded (always_jsx_text n.span (text_spelling n));
   jsx_text_lit = λ bounded n. alike_always bounded (always_text_lit n);
   tag_name = λ bounded span t. alike_always bounded (always_tag_name span t);
-  child_open = λ bounded t. alike_always bounded (always_child_open t);
+  child_open = λ t. alike_always false (always_child_open t);
   close = λ bounded. alike_always bounded always_close;
   list = alike_list;
   closed_list = alike_closed;

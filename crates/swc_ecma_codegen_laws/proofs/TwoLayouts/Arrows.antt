@@ -8,19 +8,20 @@ use Rattle.swc_ecma_codegen_grammar.specs.declared.kinds.Kind.TheVariants as kin
 use Rattle.swc_ecma_codegen_tokens.specs.declared.refusals.Unprintable.{Unprintable}
 use Rattle.swc_ecma_codegen_tokens.specs.Choices.{empty_arguments}
 use Rattle.swc_ecma_codegen_tokens.specs.Lists.{ListChild, list}
-use Rattle.swc_ecma_codegen_tokens.specs.Run.{Env, Part, Plan, no_part, when_minified}
+use Rattle.swc_ecma_codegen_tree.specs.declared.links.AnyNode.{AnyNode}
+use Rattle.swc_ecma_codegen_tokens.specs.Run.{Env, Part, Plan, no_part, nothing, steps_of, unprintable_in, when_minified}
 use Rattle.swc_ecma_codegen_tokens.specs.Targets.{in_ascii, is_out_name, wants_escapes}
 use Rattle.swc_ecma_codegen_tokens.specs.declared.refusals.Unprintable.TheVariants.{NameOutOfTarget}
 use Rattle.swc_ecma_codegen_tokens.specs.Words.{by_maps, keyword, name, punct, trailing_comments}
 use Rattle.swc_ecma_codegen_emit.specs.FunctionExprs.{arrow_within, comma_list_format, parenthesis}
-use Rattle.swc_ecma_codegen_laws.specs.Layouts.{Tokens, mark, no_more, token, parameter, arguments}
+use Rattle.swc_ecma_codegen_laws.specs.Layouts.{IsCalled, Tokens, called, mark, new_word, no_more, token, parameter, arguments, tokens_in}
 use Rattle.swc_ecma_codegen_laws.proofs.Children.{ChildrenHold}
 use Rattle.swc_ecma_codegen_laws.proofs.OneName.{HoldsOneName, IsOneName}
 use Rattle.swc_ecma_codegen_laws.proofs.TwoLayouts.Differing.{differ_append, differ_same}
 use Rattle.swc_ecma_codegen_laws.proofs.TwoLayouts.Lists.{alike_list, list_of_one}
 use Rattle.swc_ecma_codegen_laws.proofs.TwoLayouts.Names.{kept, name_stop, name_tokens, name_writes, stop_if, unless}
 use Rattle.swc_ecma_codegen_laws.proofs.TwoLayouts.Words.{always_keyword, always_punct, always_trailing}
-use Rattle.swc_ecma_codegen_laws.proofs.TwoLayouts.Emissions.{TwoLayouts, Both, Fits, IsAlike, Writes, bare, Always, always_none, always_then, both_always, both_as, both_then, first_env, second_env, writes_as, writes_chosen, writes_more, writes_stop, writes_then}
+use Rattle.swc_ecma_codegen_laws.proofs.TwoLayouts.Emissions.{TwoLayouts, Both, Fits, IsAlike, Writes, bare, Always, always_none, always_then, both_always, both_as, both_then, ends_with, first_config, first_env, second_config, second_env, whole_steps, writes_as, writes_chosen, writes_more, writes_stop, writes_then}
 
 -- ---- arrow functions
 
@@ -112,14 +113,26 @@ arguments_write env =
     let both : Part = λ rest. punct (codes "(") (punct (codes ")") rest) in
     writes_as empty_arguments (λ rest now. if env.config.minify then rest now else both rest now) (λ rest. refl) (writes_chosen env.config.minify (λ rest. rest) both (always_none.at env) ((always_then (always_punct (codes "(")) (always_punct (codes ")"))).at env))
 
-fits_new : (two : TwoLayouts) (a b : Bool) → (b ≡ true → a ≡ true) → (two.layout ≡ false → a ≡ b) → (us vs : Tokens) → Fits two us vs → Fits two ((kinds.Word, codes "new") ∷ (us ++ no_arguments a)) ((kinds.Word, codes "new") ∷ (vs ++ no_arguments b))
-fits_new two true true o e us vs h = token (kinds.Word, codes "new") (us ++ []) (vs ++ []) (differ_append us vs [] [] h no_more)
-fits_new two true false o e us vs h = arguments us vs [] [] (elim (cases_Bool two.layout) [ inl l ↦ l | inr l ↦ absurd (true≢false (e l)) ]) h no_more
-fits_new two false true o e us vs h = absurd (true≢false (sym (o refl)))
-fits_new two false false o e us vs h = token (kinds.Word, codes "new") (us ++ no_arguments false) (vs ++ no_arguments false) (differ_append us vs (no_arguments false) (no_arguments false) h (differ_same (no_arguments false)))
+-- what is called, as an emission writes it
+is_called : (env : Env) (callee : AnyNode) (types : Option AnyNode) (ts : Tokens) → Writes (bare env) (called callee types) ts None → IsCalled env.config callee types ts
+unfolding nothing
+is_called env callee types ts h = record {
+  env = bare env;
+  settings = refl;
+  bare = refl;
+  whole = ap unprintable_in (h.is_steps nothing) ∙ ends_with h.steps None (bare env);
+  tokens = ap (λ z. tokens_in (steps_of z)) (h.is_steps nothing) ∙ ap tokens_in (whole_steps h.steps None (bare env)) ∙ h.tokens;
+}
 
-new_by : {two : TwoLayouts} (x y : Option ℕ) (before : Part) (us vs : Tokens) (stop : Option Unprintable) → Writes (first_env two x) before us stop → Writes (second_env two y) before vs stop → (stop ≡ None → Fits two us vs) → Both two x y (λ rest. keyword None (codes "new") (before (empty_arguments rest))) (λ rest. keyword None (codes "new") (before (empty_arguments rest)))
-new_by {two} x y before us vs (Some r) h k fit =
+fits_new : (two : TwoLayouts) (callee : AnyNode) (types : Option AnyNode) (a b : Bool) → (b ≡ true → a ≡ true) → (two.layout ≡ false → a ≡ b) → (us vs : Tokens) → IsCalled (first_config two) callee types us → IsCalled (second_config two) callee types vs → Fits two us vs → Fits two (new_word ∷ (us ++ no_arguments a)) (new_word ∷ (vs ++ no_arguments b))
+fits_new two callee types true true o e us vs k m h = token new_word (us ++ []) (vs ++ []) (differ_append us vs [] [] h no_more)
+fits_new two callee types true false o e us vs k m h = arguments callee types us vs [] [] (elim (cases_Bool two.layout) [ inl l ↦ l | inr l ↦ absurd (true≢false (e l)) ]) k m h no_more
+fits_new two callee types false true o e us vs k m h = absurd (true≢false (sym (o refl)))
+fits_new two callee types false false o e us vs k m h = token new_word (us ++ no_arguments false) (vs ++ no_arguments false) (differ_append us vs (no_arguments false) (no_arguments false) h (differ_same (no_arguments false)))
+
+new_by : {two : TwoLayouts} (x y : Option ℕ) (callee : AnyNode) (types : Option AnyNode) (us vs : Tokens) (stop : Option Unprintable) → Writes (first_env two x) (called callee types) us stop → Writes (second_env two y) (called callee types) vs stop → (stop ≡ None → Fits two us vs) → Both two x y (λ rest. keyword None (codes "new") (called callee types (empty_arguments rest))) (λ rest. keyword None (codes "new") (called callee types (empty_arguments rest)))
+new_by {two} x y callee types us vs (Some r) h k fit =
+    let before : Part = called callee types in
     let word : Always (keyword None (codes "new")) ((kinds.Word, codes "new") ∷ []) = always_keyword None (codes "new") in
     let more : Part = λ rest. before (empty_arguments rest) in
     record {
@@ -130,7 +143,8 @@ new_by {two} x y before us vs (Some r) h k fit =
       second = writes_then (keyword None (codes "new")) more (word.at (second_env two y)) (writes_stop before empty_arguments k);
       fit = λ z. never_ends r z;
     }
-new_by {two} x y before us vs None h k fit =
+new_by {two} x y callee types us vs None h k fit =
+    let before : Part = called callee types in
     let word : Always (keyword None (codes "new")) ((kinds.Word, codes "new") ∷ []) = always_keyword None (codes "new") in
     let more : Part = λ rest. before (empty_arguments rest) in
     record {
@@ -139,8 +153,8 @@ new_by {two} x y before us vs None h k fit =
       stop = None;
       first = writes_then (keyword None (codes "new")) more (word.at (first_env two x)) (writes_then before empty_arguments h (arguments_write (first_env two x)));
       second = writes_then (keyword None (codes "new")) more (word.at (second_env two y)) (writes_then before empty_arguments k (arguments_write (second_env two y)));
-      fit = λ z. fits_new two two.first_minify two.second_minify two.ordered two.one_layout us vs (fit refl);
+      fit = λ z. fits_new two callee types two.first_minify two.second_minify two.ordered two.one_layout us vs (is_called (first_env two x) callee types us h) (is_called (second_env two y) callee types vs k) (fit refl);
     }
 
-pub alike_new : {two : TwoLayouts} (bounded : Bool) (before : Part) → IsAlike two bounded before → IsAlike two bounded (λ rest. keyword None (codes "new") (before (empty_arguments rest)))
-alike_new bounded before h = record { at = λ x y. let m = h.at x y in new_by x y before m.us m.vs m.stop m.first m.second m.fit }
+pub alike_new : {two : TwoLayouts} (bounded : Bool) (callee : AnyNode) (types : Option AnyNode) → IsAlike two bounded (called callee types) → IsAlike two bounded (λ rest. keyword None (codes "new") (called callee types (empty_arguments rest)))
+alike_new bounded callee types h = record { at = λ x y. let m = h.at x y in new_by x y callee types m.us m.vs m.stop m.first m.second m.fit }

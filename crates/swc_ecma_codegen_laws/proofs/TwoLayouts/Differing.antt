@@ -1,10 +1,9 @@
 -- Lists of tokens that differ in what two layouts may differ in.
 use Rattle.std.proofs.Common.{◌≡◌, Bool, true, false, ◌&&◌, ◌||◌, [], ◌∷◌, ◌++◌, codes, refl, sym, ap, subst, append_assoc, append-nil, inl, inr}
 use Rattle.std.proofs.lemmas.Bool.{cases_Bool, true≢false}
-use Rattle.swc_ecma_codegen_grammar.specs.declared.kinds.Kind.TheVariants.{Word}
 use Rattle.swc_ecma_codegen_grammar.specs.Phrases.{Closing}
 use Rattle.swc_ecma_codegen_util.specs.declared.config.Config.{Config}
-use Rattle.swc_ecma_codegen_laws.specs.Layouts.{Tokens, Allowed, IsOneLiteral, Differ, no_more, token, literal, first_comma, second_comma, parameter, arguments, closing, is_brace, mark}
+use Rattle.swc_ecma_codegen_laws.specs.Layouts.{Tokens, Allowed, IsOneLiteral, Differ, no_more, token, literal, first_comma, second_comma, parameter, arguments, closing, is_brace, mark, new_word}
 
 pub differ_same : {allowed : Allowed} (xs : Tokens) → Differ allowed xs xs
 differ_same [] = no_more
@@ -20,10 +19,10 @@ differ_append {allowed} xs ys us vs (literal ps qs fs gs e one h) k =
 differ_append xs ys us vs (first_comma close fs gs e h) k = first_comma close (fs ++ us) (gs ++ vs) e (differ_append fs gs us vs h k)
 differ_append xs ys us vs (second_comma close fs gs e h) k = second_comma close (fs ++ us) (gs ++ vs) e (differ_append fs gs us vs h k)
 differ_append xs ys us vs (parameter name fs gs e h) k = parameter name (fs ++ us) (gs ++ vs) e (differ_append fs gs us vs h k)
-differ_append {allowed} xs ys us vs (arguments ps qs fs gs e m h) k =
-    subst (λ z. Differ allowed ((Word, codes "new") ∷ z) ((Word, codes "new") ∷ ((qs ++ (mark (codes "(") ∷ mark (codes ")") ∷ gs)) ++ vs))) (sym (append_assoc ps fs us))
-    (subst (λ z. Differ allowed ((Word, codes "new") ∷ (ps ++ (fs ++ us))) ((Word, codes "new") ∷ z)) (sym (append_assoc qs (mark (codes "(") ∷ mark (codes ")") ∷ gs) vs))
-    (arguments ps qs (fs ++ us) (gs ++ vs) e m (differ_append fs gs us vs h k)))
+differ_append {allowed} xs ys us vs (arguments callee types ps qs fs gs e a b m h) k =
+    subst (λ z. Differ allowed (new_word ∷ z) (new_word ∷ ((qs ++ (mark (codes "(") ∷ mark (codes ")") ∷ gs)) ++ vs))) (sym (append_assoc ps fs us))
+    (subst (λ z. Differ allowed (new_word ∷ (ps ++ (fs ++ us))) (new_word ∷ z)) (sym (append_assoc qs (mark (codes "(") ∷ mark (codes ")") ∷ gs) vs))
+    (arguments callee types ps qs (fs ++ us) (gs ++ vs) e a b m (differ_append fs gs us vs h k)))
 
 -- where neither source texts nor layouts differ they are the same
 pub differ_equal : (first second : Config) (xs ys : Tokens) → Differ (record { commas = false; layout = false; first = first; second = second }) xs ys → xs ≡ ys
@@ -33,7 +32,7 @@ differ_equal first second xs ys (literal ps qs fs gs e one h) = absurd (true≢f
 differ_equal first second xs ys (first_comma close fs gs e h) = absurd (true≢false (sym e))
 differ_equal first second xs ys (second_comma close fs gs e h) = absurd (true≢false (sym e))
 differ_equal first second xs ys (parameter name fs gs e h) = absurd (true≢false (sym e))
-differ_equal first second xs ys (arguments ps qs fs gs e m h) = absurd (true≢false (sym e))
+differ_equal first second xs ys (arguments callee types ps qs fs gs e a b m h) = absurd (true≢false (sym e))
 
 -- one literal
 pub differ_literal : {allowed : Allowed} (us vs : Tokens) → allowed.layout ≡ true → IsOneLiteral allowed.first allowed.second us vs → Differ allowed us vs

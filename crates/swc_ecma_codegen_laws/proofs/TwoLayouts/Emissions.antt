@@ -8,10 +8,10 @@ use Rattle.swc_ecma_codegen_util.specs.declared.config.Config.{Config}
 use Rattle.swc_ecma_codegen_text_writer.specs.Sheet.{Item}
 use Rattle.swc_ecma_codegen_grammar.specs.declared.kinds.Kind.{Kind}
 use Rattle.swc_ecma_codegen_tokens.specs.declared.refusals.Unprintable.{Unprintable}
-use Rattle.swc_ecma_codegen_tokens.specs.Run.{Env, Part, Plan, Step, Guard, Token, Plain, next, at_maps, after_step, refuse, step, text_of, unbounded, when_minified, with_max_line}
+use Rattle.swc_ecma_codegen_tokens.specs.Run.{Env, Part, Plan, Step, Steps, Guard, Token, Plain, done, next, nothing, refused, at_maps, after_step, refuse, step, steps_of, text_of, unbounded, unprintable_in, when_minified, with_max_line}
 use Rattle.swc_ecma_codegen_tokens.proofs.Reading.Printed.{chain, chain_append}
 use Rattle.swc_ecma_codegen_laws.specs.Layouts.{Tokens, tokens_by, tokens_in, IsOneLiteral, Differ}
-use Rattle.swc_ecma_codegen_laws.proofs.BreakSteps.{on}
+use Rattle.swc_ecma_codegen_laws.proofs.BreakSteps.{on, steps_on}
 use Rattle.swc_ecma_codegen_laws.proofs.TwoLayouts.Differing.{differ_append, differ_literal, differ_same}
 
 -- ---- what one emission writes
@@ -59,6 +59,23 @@ writes_chosen false p q h k = k
 pub writes_if : {env : Env} (b : Bool) (p q : Part) (g : Bool → Tokens) (c d : Bool) {stop : Option Unprintable} → Writes env p (g c) stop → Writes env q (g d) stop → Writes env (λ rest. if b then p rest else q rest) (g (if b then c else d)) stop
 writes_if true p q g c d h k = h
 writes_if false p q g c d h k = k
+
+-- ---- all of an emission
+
+pub whole_steps : (xs : List Step) (stop : Option Unprintable) (env : Env) → steps_of (chain xs (on stop nothing env)) ≡ xs
+unfolding steps_of nothing
+whole_steps xs None env = steps_on xs done ∙ append-nil xs
+whole_steps xs (Some r) env = steps_on xs (refused r) ∙ append-nil xs
+
+last_of : (xs : List Step) (more : Steps) → unprintable_in (chain xs more) ≡ unprintable_in more
+unfolding unprintable_in chain
+last_of [] more = refl
+last_of (x ∷ xs) more = last_of xs more
+
+pub ends_with : (xs : List Step) (stop : Option Unprintable) (env : Env) → unprintable_in (chain xs (on stop nothing env)) ≡ stop
+unfolding unprintable_in nothing
+ends_with xs None env = last_of xs done
+ends_with xs (Some r) env = last_of xs (refused r)
 
 -- ---- parts that write the same tokens, whatever an emission goes by
 

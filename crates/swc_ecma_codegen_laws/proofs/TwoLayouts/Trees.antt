@@ -1,5 +1,5 @@
 -- What two layouts, and two source texts, may differ in: of whole trees.
-use Rattle.std.proofs.Common.{◌≡◌, ℕ, Bool, true, false, if◌then◌else◌, List, [], ◌∷◌, Option, Some, None, refl, sym, ap, ◌∙◌, subst, append-nil, inl, inr}
+use Rattle.std.proofs.Common.{◌≡◌, ℕ, Bool, true, false, if◌then◌else◌, List, Option, Some, None, refl, sym, ap, ◌∙◌, subst, inl, inr}
 use Rattle.std.proofs.lemmas.Bool.{cases_Bool, true≢false}
 use Rattle.swc_ecma_codegen_common.specs.declared.positions.Span.{Span}
 use Rattle.swc_ecma_codegen_grammar.specs.CommentMaps.{Maps}
@@ -7,7 +7,7 @@ use Rattle.swc_ecma_codegen_grammar.specs.Comments.{maps_in, no_maps}
 use Rattle.swc_ecma_codegen_grammar.specs.SourceLines.{Lines}
 use Rattle.swc_ecma_codegen_tree.specs.declared.links.AnyNode.{AnyNode}
 use Rattle.swc_ecma_codegen_tokens.specs.declared.refusals.Unprintable.{Unprintable}
-use Rattle.swc_ecma_codegen_tokens.specs.Run.{Env, Part, Plan, Step, Steps, done, nothing, refused, steps_of, unbounded, unprintable_in, with_max_line}
+use Rattle.swc_ecma_codegen_tokens.specs.Run.{Env, Part, Plan, Step, nothing, steps_of, unbounded, unprintable_in, with_max_line}
 use Rattle.swc_ecma_codegen_tokens.specs.Words.{begin_lines, bounded, by_maps, end_lines, in_lines}
 use Rattle.swc_ecma_codegen_tokens.proofs.Reading.Printed.{chain}
 use Rattle.swc_ecma_codegen_emit.specs.Answers.{any_answers}
@@ -21,7 +21,7 @@ use Rattle.swc_ecma_codegen_emit.specs.declared.nodes.Context.TheVariants.{Plain
 use Rattle.swc_ecma_codegen_emit.proofs.Unbroken.{unbroken}
 use Rattle.swc_ecma_codegen_laws.specs.Layouts.{DifferByLayout, DifferInCommas, IsWhole, Tokens, laid_out, over, stop_of, tokens_in, tokens_of}
 use Rattle.swc_ecma_codegen_laws.proofs.AnyExprWords.{expr_holds}
-use Rattle.swc_ecma_codegen_laws.proofs.BreakSteps.{on, steps_on}
+use Rattle.swc_ecma_codegen_laws.proofs.BreakSteps.{on}
 use Rattle.swc_ecma_codegen_laws.proofs.TwoLayouts.Differing.{differ_equal}
 use Rattle.swc_ecma_codegen_laws.proofs.TwoLayouts.AllWords.{layout_words}
 use Rattle.swc_ecma_codegen_laws.proofs.TwoLayouts.Words.{always_begin_lines, always_end_lines}
@@ -30,7 +30,7 @@ use Rattle.swc_ecma_codegen_laws.proofs.ModulesWords.{module_item_holds}
 use Rattle.swc_ecma_codegen_laws.proofs.NodeWords.{in_trees, tree_holds}
 use Rattle.swc_ecma_codegen_laws.proofs.RootWords.{lined_program, plain_program, program_holds, program_parts}
 use Rattle.swc_ecma_codegen_laws.proofs.StmtsWords.{stmt_holds}
-use Rattle.swc_ecma_codegen_laws.proofs.TwoLayouts.Emissions.{TwoLayouts, Both, Fits, IsAlike, Writes, bare, both_within, first_env, second_env, writes_more, writes_then, writes_within}
+use Rattle.swc_ecma_codegen_laws.proofs.TwoLayouts.Emissions.{TwoLayouts, Both, Fits, IsAlike, Writes, bare, both_within, ends_with, first_env, second_env, whole_steps, writes_more, writes_then, writes_within}
 
 -- ---- roots
 
@@ -73,21 +73,6 @@ root_both two root x y = elim (cases_Bool (is_program root)) [
 ]
 
 -- ---- the end
-
-whole_steps : (xs : List Step) (stop : Option Unprintable) (env : Env) → steps_of (chain xs (on stop nothing env)) ≡ xs
-unfolding steps_of nothing
-whole_steps xs None env = steps_on xs done ∙ append-nil xs
-whole_steps xs (Some r) env = steps_on xs (refused r) ∙ append-nil xs
-
-last_of : (xs : List Step) (more : Steps) → unprintable_in (chain xs more) ≡ unprintable_in more
-unfolding unprintable_in chain
-last_of [] more = refl
-last_of (x ∷ xs) more = last_of xs more
-
-ends_with : (xs : List Step) (stop : Option Unprintable) (env : Env) → unprintable_in (chain xs (on stop nothing env)) ≡ stop
-unfolding unprintable_in nothing
-ends_with xs None env = last_of xs done
-ends_with xs (Some r) env = last_of xs (refused r)
 
 -- the lines that a root is told of
 abbrev told : Env → Option ℕ

@@ -158,8 +158,8 @@ kept_listed s (Then a b) ts w g =
     ap keeps_tokens g.4 ∙ tokens_keep g.0 g.1 ∙ ap (λ z. z || keeps_tokens g.1) (kept_listed s a g.0 p.0 g.2) ∙ ap (λ z. may_keep_other a || z) (kept_listed s b g.1 p.1 g.3)
 kept_listed s (CommaBefore close) ts w (inl g) = ap keeps_tokens g
 kept_listed s (CommaBefore close) ts w (inr g) = ap keeps_tokens g
-kept_listed s (OptionalParentheses a) ts w (inl g) = kept_listed s a ts w g
-kept_listed s (OptionalParentheses a) ts w (inr g) = ap keeps_tokens g.2 ∙ tokens_keep g.0 (close_parenthesis ∷ []) ∙ kept_alone (keeps_tokens g.0) ∙ kept_listed s a g.0 w g.1
+kept_listed s (OptionalParentheses round a) ts w (inl g) = kept_listed s a ts w g
+kept_listed s (OptionalParentheses round a) ts w (inr g) = ap keeps_tokens g.2 ∙ tokens_keep g.0 (close_parenthesis ∷ []) ∙ kept_alone (keeps_tokens g.0) ∙ kept_listed s a g.0 w g.1
 kept_listed s (Chosen EmptyArguments) ts w g = ap keeps_tokens g ∙ choice_kept s
 kept_listed s (Chosen LoopEnding) ts w g = ap keeps_tokens g ∙ ending_kept s
 kept_listed s (Chosen AttributesWord) ts w g = ap keeps_tokens g ∙ word_kept s

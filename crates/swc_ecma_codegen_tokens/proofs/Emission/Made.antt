@@ -48,8 +48,8 @@ counted s (Then a b) ts g =
     omega (arith, h, k, e, length-append g.0 g.1)
 counted s (CommaBefore close) ts (inl g) = let e = ap length g in omega (arith, e)
 counted s (CommaBefore close) ts (inr g) = let e = ap length g in omega (arith, e)
-counted s (OptionalParentheses a) ts (inl g) = let h = counted s a ts g in omega (arith, h)
-counted s (OptionalParentheses a) ts (inr g) =
+counted s (OptionalParentheses round a) ts (inl g) = let h = counted s a ts g in omega (arith, h)
+counted s (OptionalParentheses round a) ts (inr g) =
     let h = counted s a g.0 g.1 in
     let e = ap length g.2 in
     omega (arith, h, e, length-append g.0 (close_parenthesis ∷ []))

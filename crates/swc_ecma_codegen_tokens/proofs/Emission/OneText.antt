@@ -8,7 +8,7 @@ use Rattle.swc_ecma_codegen_common.specs.declared.errors.Refusal.TheVariants.{Wr
 use Rattle.swc_ecma_codegen_common.specs.declared.positions.BytePos.{BytePos}
 use Rattle.swc_ecma_codegen_text_writer.specs.Contents.{IsPrefix, Rises}
 use Rattle.swc_ecma_codegen_text_writer.specs.Places.{after_text}
-use Rattle.swc_ecma_codegen_text_writer.specs.Sheet.{Sheet, Item, Pair, Str, Space, Operator, Punct, Deeper, Semicolons, AtOnce, HoldsNone, HoldsOne, is_settled, Flow, Flowing, Filling, Cutting, Segment, with_text, fills_lines, may_take_memory, released, appended, appended_by, indented, recorded, recorded_by, start_recorded, end_recorded, pending_recorded, started, written, settled, dropped, is_ending, before_punct, effect, Causes, Stopped, Refuses, earlier, stopped}
+use Rattle.swc_ecma_codegen_text_writer.specs.Sheet.{Sheet, Item, Pair, Str, Space, Operator, Punct, Deeper, Semicolons, AtOnce, HoldsNone, HoldsOne, is_settled, Flow, Flowing, Filling, Cutting, Segment, with_text, fills_lines, may_take_memory, released, appended, appended_by, indented, recorded, recorded_by, start_recorded, end_recorded, pending_recorded, started, written, settled, dropped, is_ending, before_punct, effect, Causes, for_text, Stopped, Refuses, earlier, stopped}
 use Rattle.swc_ecma_codegen_text_writer.proofs.AsStrings.{commit_is}
 use Rattle.swc_ecma_codegen_text_writer.proofs.Flows.{appended_leaves}
 use Rattle.swc_ecma_codegen_text_writer.proofs.Reaching.{after_both}
@@ -120,14 +120,30 @@ still_bare t s h = (written_same None t s).keeps_positions ∙ h
 
 -- ---- stops
 
+none_left : (xs ys : List Pair) → xs ++ ys ≡ [] → xs ≡ []
+none_left [] ys e = refl
+none_left (x ∷ xs) ys e = absurd (cc)
+
+-- no pairs stand between two lists that are one
+between_fronts : (xs ys zs : List Pair) → IsPrefix xs ys → IsPrefix ys zs → zs ≡ xs → ys ≡ xs
+between_fronts xs ys zs h k e =
+    let both : xs ++ (h.0 ++ k.0) ≡ xs ++ [] = sym (append_assoc xs h.0 k.0) ∙ (ap (λ z. z ++ k.0) (sym h.1) ∙ (sym k.1 ∙ (e ∙ sym (append-nil xs)))) in
+    let none : h.0 ++ k.0 ≡ [] = append_cancel_left xs (h.0 ++ k.0) [] both in
+    h.1 ∙ (ap (λ z. xs ++ z) (none_left h.0 k.0 none) ∙ append-nil xs)
+
+-- where no positions are kept, none was recorded
+no_pair : (e : Refusal) (t : List ℕ) (s new : Sheet) → s.keeps_positions ≡ false → Stopped e (written None t s) s new → new.pairs ≡ s.pairs
+no_pair e t s new bare h = between_fronts s.pairs new.pairs (written None t s).pairs h.more_pairs h.front_pairs (written_bare t s bare)
+
 -- it was stopped in the first of two texts
-stopped_first : (x y : List ℕ) (s new : Sheet) → s.keeps_positions ≡ false → Stopped (written None (x ++ y) s) s new → IsPrefix new.text (written None x s).text → Stopped (written None x s) s new
-stopped_first x y s new bare h front = record {
+stopped_first : (e : Refusal) (x y : List ℕ) (s new : Sheet) → s.keeps_positions ≡ false → Stopped e (written None (x ++ y) s) s new → IsPrefix new.text (written None x s).text → Stopped e (written None x s) s new
+stopped_first e x y s new bare h front = record {
   grows = h.grows;
   front = front;
   place = h.place;
   more_pairs = h.more_pairs;
   front_pairs = subst (λ (z : List Pair). IsPrefix new.pairs z) (written_bare (x ++ y) s bare ∙ sym (written_bare x s bare)) h.front_pairs;
+  room = λ q. for_text (no_pair e (x ++ y) s new bare h);
   held = h.held;
   same = h.same;
 }
@@ -137,8 +153,8 @@ abbrev over : Sheet → Sheet → Sheet
 over new s = record s { text = new.text; whole = new.whole; at_line_start = new.at_line_start; semicolons = new.semicolons; pairs = new.pairs; pending = new.pending; place = new.place; lines = new.lines; faults = new.faults; refused = true }
 
 -- or in the second
-stopped_later : (x y : List ℕ) (s new : Sheet) → s.keeps_positions ≡ false → is_settled s.semicolons ≡ true → Stopped (written None (x ++ y) s) s new → IsPrefix (written None x s).text new.text → Stopped (written None y (written None x s)) (written None x s) new
-stopped_later x y s new bare q h p =
+stopped_later : (e : Refusal) (x y : List ℕ) (s new : Sheet) → s.keeps_positions ≡ false → is_settled s.semicolons ≡ true → Stopped e (written None (x ++ y) s) s new → IsPrefix (written None x s).text new.text → Stopped e (written None y (written None x s)) (written None x s) new
+stopped_later f x y s new bare q h p =
     let m : Sheet = written None x s in
     let a = written_alike None x s in
     let whole : written None (x ++ y) s ≡ written None y m = written_both x y s in
@@ -150,6 +166,7 @@ stopped_later x y s new bare q h p =
       place = h.place ∙ ap (λ z. after_text z s.place) (sym cut) ∙ after_both a.grows.0 p.0 s.place ∙ ap (after_text p.0) (sym a.place);
       more_pairs = subst (λ (z : List Pair). IsPrefix z new.pairs) (sym (written_bare x s bare)) h.more_pairs;
       front_pairs = subst (λ (z : Sheet). IsPrefix new.pairs z.pairs) whole h.front_pairs;
+      room = λ m. for_text (no_pair f (x ++ y) s new bare h ∙ sym (written_bare x s bare));
       held = inl (semi ∙ sym (written_semicolons None x s));
       same = h.same ∙ ap (λ n. over new (record s { indentation = n })) (sym (written_indentation None x s)) ∙ sym (ap (over new) a.same);
     }
@@ -214,24 +231,24 @@ still_within x s new k =
 front_goes : (x y : List ℕ) (s : Sheet) → IsPrefix (written None x s).text (written None (x ++ y) s).text
 front_goes x y s = subst (λ (z : Sheet). IsPrefix (written None x s).text z.text) (sym (written_both x y s)) (written_alike None y (written None x s)).grows
 
-both_stopped : (x y : List ℕ) (s new : Sheet) → is_settled s.semicolons ≡ true → Stopped (effect (Str (x ++ y)) s) s new → Stopped (written None (x ++ y) s) s new
-both_stopped x y s new q h = subst (λ (z : Sheet). Stopped z s new) (str_plain (x ++ y) s q) h
+both_stopped : (e : Refusal) (x y : List ℕ) (s new : Sheet) → is_settled s.semicolons ≡ true → Stopped e (effect (Str (x ++ y)) s) s new → Stopped e (written None (x ++ y) s) s new
+both_stopped e x y s new q h = subst (λ (z : Sheet). Stopped e z s new) (str_plain (x ++ y) s q) h
 
 -- no more is out than the first of them writes: it was stopped there
 pub stops_first : (x y : List ℕ) (call : Item) (e : Refusal) (s new : Sheet) → WritesPlain x call → is_settled s.semicolons ≡ true → s.keeps_positions ≡ false → is_within new (written None x s) ≡ true → Refuses (Str (x ++ y)) e s new → Refuses call e s new
 stops_first x y call e s new plain q bare w (earlier i j k) = earlier i j k
 stops_first x y call e s new plain q bare w (stopped i j k) =
-    let h = both_stopped x y s new q k in
+    let h = both_stopped e x y s new q k in
     let front = shorter new.text (written None x s).text _ h.front (front_goes x y s) (leb-true _ _ w) in
-    stopped i (causes_here (x ++ y) call e s new bare j) (subst (λ (z : Sheet). Stopped z s new) (sym (plain s q)) (stopped_first x y s new bare h front))
+    stopped i (causes_here (x ++ y) call e s new bare j) (subst (λ (z : Sheet). Stopped e z s new) (sym (plain s q)) (stopped_first e x y s new bare h front))
 
 -- more is out: it was stopped in the second
 pub stops_later : (x y : List ℕ) (call : Item) (e : Refusal) (s new : Sheet) → WritesPlain y call → is_settled s.semicolons ≡ true → s.keeps_positions ≡ false → is_within new (written None x s) ≡ false → Refuses (Str (x ++ y)) e s new → Refuses call e (written None x s) new
 stops_later x y call e s new plain q bare w (earlier i j k) = absurd (true≢false (sym (still_within x s new k) ∙ w))
 stops_later x y call e s new plain q bare w (stopped i j k) =
     let c : Sheet = written None x s in
-    let h = both_stopped x y s new q k in
+    let h = both_stopped e x y s new q k in
     let more = leb-false (length new.text) (length c.text) w in
     let p = shorter c.text new.text _ (front_goes x y s) h.front (omega (arith, more)) in
     stopped ((written_same None x s).refused ∙ i) (causes_here (x ++ y) call e c new (still_bare x s bare) (causes_later (x ++ y) x e s new bare j))
-    (subst (λ (z : Sheet). Stopped z c new) (sym (plain c (still_settled x s q))) (stopped_later x y s new bare q h p))
+    (subst (λ (z : Sheet). Stopped e z c new) (sym (plain c (still_settled x s q))) (stopped_later e x y s new bare q h p))

@@ -5,6 +5,7 @@ use Rattle.swc_ecma_codegen_common.specs.declared.positions.Span.{Span}
 use Rattle.swc_ecma_codegen_grammar.specs.declared.kinds.Kind.{Kind}
 use Rattle.swc_ecma_codegen_grammar.specs.LitPhrases.{after_sign}
 use Rattle.swc_ecma_codegen_grammar.specs.Phrases.{One, Generates, names_in}
+use Rattle.swc_ecma_codegen_grammar.specs.PlainPhrases.{plain_phrase}
 use Rattle.swc_ecma_codegen_grammar.specs.Tokens as lexical
 use Rattle.swc_ecma_codegen_grammar.specs.Tokens.{Value}
 use Rattle.swc_ecma_codegen_tokens.specs.Escapes.{is_spelled_anew, may_make_text}
@@ -38,11 +39,12 @@ prints_anew {env} {p} x e h safe = prints_made env p x (subst (λ z. Makes env p
 
 -- the same after its sign, of one that is no string
 pub prints_signed : {env : Env} {p : Part} {made : Bool} (kind : Kind) (value : Value) (negative : Bool) → is_spelled_anew kind ≡ true → is_str kind ≡ false → Makes env p (signed_tokens kind value negative) made → Prints env p (after_sign negative (One (record { kind = kind; value = value })))
-unfolding after_sign may_make_text is_spelled_anew is_out Generates names_in lexical.punctuator holds_string is_str
+unfolding plain_phrase after_sign may_make_text is_spelled_anew is_out Generates names_in lexical.punctuator holds_string is_str
 prints_signed {env} {p} kind value true e none h = record {
   where_possible = λ w o maps. record {
     tokens = signed_tokens kind value true;
     generated = (lexical.punctuator (codes "-") ∷ [], record { kind = kind; value = value } ∷ [], refl, refl, refl);
+    plain = λ e. (lexical.punctuator (codes "-") ∷ [], record { kind = kind; value = value } ∷ [], refl, refl, refl);
     writes = (subst (λ z. Makes env p (signed_tokens kind value true) z) (sym e) (makes_some h)).from maps;
     named = no_names (at_maps maps env) p;
     placed = placed_none (at_maps maps env) p (after_sign true (One (record { kind = kind; value = value }))) (signed_tokens kind value true) refl (lexical.punctuator (codes "-") ∷ [], record { kind = kind; value = value } ∷ [], refl, refl, refl);

@@ -74,8 +74,8 @@ each_holds g s us (PrivateOf bytes) ts h = h
 each_holds g s us (TagNameOf at bytes) ts h = (h.0, g us _ _ h.1)
 each_holds g s us (Then a b) ts h = (h.0, h.1, each_holds g s us a h.0 h.2, each_holds g s (us ++ h.0) b h.1 h.3, h.4)
 each_holds g s us (CommaBefore close) ts h = h
-each_holds g s us (OptionalParentheses a) ts (inl h) = inl (each_holds g s us a ts h)
-each_holds g s us (OptionalParentheses a) ts (inr h) = inr (h.0, each_holds g s _ a h.0 h.1, h.2)
+each_holds g s us (OptionalParentheses round a) ts (inl h) = inl (each_holds g s us a ts h)
+each_holds g s us (OptionalParentheses round a) ts (inr h) = inr (h.0, each_holds g s _ a h.0 h.1, h.2)
 each_holds g s us (Chosen choice) ts h = h
 
 pub cut_more : (x : PlacedName) (name : List ℕ) (written : List Token) (token : Token) (remarks : List Remark) (b c : Sheet) → LinesGoOn b c → CutHere x name written token remarks b → CutHere x name written token remarks c

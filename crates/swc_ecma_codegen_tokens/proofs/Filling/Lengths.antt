@@ -21,6 +21,7 @@ prints_at_length max env p h = record {
       record {
         tokens = b.tokens;
         generated = b.generated;
+        plain = λ e. b.plain (record { no_comments = e.no_comments; no_source = e.no_source });
         writes = record {
           steps = m.steps;
           is_steps = λ rest. m.is_steps (λ inner. rest (record inner { max_line = env.max_line }));

@@ -16,6 +16,7 @@ use Rattle.swc_ecma_codegen_grammar.specs.Punctuators.{is_punctuator, punctuator
 use Rattle.swc_ecma_codegen_grammar.specs.Reads.{is_hashbang_kind}
 use Rattle.swc_ecma_codegen_grammar.specs.GapRules.{ends_text}
 use Rattle.swc_ecma_codegen_grammar.specs.Phrases.{Phrase, Never, Nothing, One, TagNameOf, PlacedName, Tag, where_, mark, ◌>◌, Generates, is_possible, names_in}
+use Rattle.swc_ecma_codegen_grammar.specs.PlainPhrases.{plain_phrase}
 use Rattle.swc_ecma_codegen_grammar.specs.SpelledNames.{is_well_formed_tag_name}
 use Rattle.swc_ecma_codegen_text_writer.specs.Sheet.{Space, StrLit, Symbol, Punct, Position, Commit, effect, before_punct, is_ending}
 use Rattle.swc_ecma_codegen_literals.specs.AsciiNames.{is_ascii_text}
@@ -56,6 +57,7 @@ prints_spots {v} {w} u x e k h = record {
       record {
         tokens = b.tokens;
         generated = b.generated;
+        plain = b.plain;
         writes = record { steps = m.steps; is_steps = m.is_steps; lays = λ s r c. lays_narrower w x s (run m.steps s) k (m.lays s (rests_narrower u v s e r) c); remakes = m.remakes; inner = m.inner; deep = m.deep; hands = m.hands; comment_texts = m.comment_texts };
         named = b.named;
         placed = placed_narrower u e b.placed;
@@ -141,7 +143,7 @@ tag_placed env span t p = record {
 }
 
 prints_settled_tag : (env : Env) (span : Span) (t : List ℕ) → PrintsOn InName InName whole env (settled_tag span t) (TagNameOf span.lo t)
-unfolding Generates is_possible is_out may_make_text names_in is_well_formed_tag_name holds_string is_str token_of value_of spelling lexical.tag_name settled_tag tag_at
+unfolding plain_phrase Generates is_possible is_out may_make_text names_in is_well_formed_tag_name holds_string is_str token_of value_of spelling lexical.tag_name settled_tag tag_at
 prints_settled_tag env span t = record {
   where_possible = λ w o maps.
       let u = and_parts (is_utf8 t) (is_jsx_name (chars t)) w in
@@ -149,7 +151,7 @@ prints_settled_tag env span t = record {
       let v : Env = at_maps maps env in
       let x = (writes_named_commit env).from maps in
       let m = from_both v commit_pending_semi (tag_symbol span t) [] (tag_name_token t ∷ []) x ((writes_tag_symbol env span t p).from (maps_after x.steps maps)) in
-      record { tokens = tag_name_token t ∷ []; generated = refl; writes = m; named = tag_named v span t p.some; placed = tag_placed v span t p; safe = no_strings m refl };
+      record { tokens = tag_name_token t ∷ []; generated = refl; plain = λ e. refl; writes = m; named = tag_named v span t p.some; placed = tag_placed v span t p; safe = no_strings m refl };
   where_out = λ w o. absurd (true≢false (sym o));
 }
 
@@ -271,13 +273,13 @@ slash_is_mark = record { utf8 = refl; ascii = refl; shape = refl }
 
 -- nothing, and a shape that leads no farther
 pub prints_none : {v : Spot} {env : Env} → PrintsOn v v open_ env (λ rest. rest) Nothing
-unfolding Generates is_out may_make_text names_in chain run makes_text levels are_ascii has_string is_string_call takes_none maps_after
+unfolding plain_phrase Generates is_out may_make_text names_in chain run makes_text levels are_ascii has_string is_string_call takes_none maps_after
 prints_none {v} {env} =
     let m : MakesWithinOn v v open_ 0 env (λ rest. rest) [] false = makes_on env (λ rest. rest) [] [] refl (λ maps rest. refl) (λ s r. lays_nothing s r) no_text (omega arith) (hands_ascii env [] [] refl no_text) in
-    record { where_possible = λ k o maps. record { tokens = []; generated = refl; writes = m.from maps; named = no_names (at_maps maps env) (λ rest. rest); placed = placed_none (at_maps maps env) (λ rest. rest) Nothing [] refl refl; safe = no_strings (m.from maps) (unfold holds_string in refl) }; where_out = λ k o. absurd (true≢false (sym o)) }
+    record { where_possible = λ k o maps. record { tokens = []; generated = refl; plain = λ e. refl; writes = m.from maps; named = no_names (at_maps maps env) (λ rest. rest); placed = placed_none (at_maps maps env) (λ rest. rest) Nothing [] refl refl; safe = no_strings (m.from maps) (unfold holds_string in refl) }; where_out = λ k o. absurd (true≢false (sym o)) }
 
 pub wider_on : {v w : Spot} {i : Shape} (j : Shape) {env : Env} {p : Part} {f : Phrase} → is_within i j ≡ true → PrintsOn v w i env p f → PrintsOn v w j env p f
 wider_on j e h = record {
-  where_possible = λ k o maps. let a = h.where_possible k o maps in record { tokens = a.tokens; generated = a.generated; writes = from_wider j e a.writes; named = a.named; placed = placed_wider j e a.placed; safe = a.safe };
+  where_possible = λ k o maps. let a = h.where_possible k o maps in record { tokens = a.tokens; generated = a.generated; plain = a.plain; writes = from_wider j e a.writes; named = a.named; placed = placed_wider j e a.placed; safe = a.safe };
   where_out = h.where_out;
 }

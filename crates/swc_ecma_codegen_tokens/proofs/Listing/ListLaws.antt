@@ -1,5 +1,5 @@
 -- What lists write: what stands before, between and after their children, and the tokens of the whole.
-use Rattle.std.proofs.Common.{◌≡◌, ℕ, arith, Bool, true, false, cond, not, ◌&&◌, ◌==◌, List, [], ◌∷◌, map, codes, refl, sym, ap, ◌∙◌, subst, inl, inr}
+use Rattle.std.proofs.Common.{◌≡◌, ℕ, None, arith, Bool, true, false, cond, not, ◌&&◌, ◌==◌, List, [], ◌∷◌, map, codes, refl, sym, ap, ◌∙◌, subst, inl, inr}
 use Rattle.std.specs.Str.{chars, is_utf8}
 use Rattle.std.proofs.lemmas.Bool.{cases_Bool, true≢false}
 use Rattle.swc_ecma_codegen_common.specs.declared.positions.Span.{Span}
@@ -12,10 +12,13 @@ use Rattle.swc_ecma_codegen_grammar.specs.Tokens.{token_of}
 use Rattle.swc_ecma_codegen_grammar.specs.Punctuators.{is_punctuator, punctuators}
 use Rattle.swc_ecma_codegen_grammar.specs.Texts.{is_same, is_among}
 use Rattle.swc_ecma_codegen_grammar.specs.Phrases as phrases
+use Rattle.swc_ecma_codegen_grammar.specs.PlainPhrases.{plain_phrase}
 use Rattle.swc_ecma_codegen_grammar.specs.Phrases.{Phrase, Closing, CommaBefore, closing_mark, is_possible, names_in, mark, ◌>◌}
 use Rattle.swc_ecma_codegen_tokens.specs.Run.{Env, Plan, Part, Remake, at_maps, maps_after, step, spelling, when_minified, no_part}
 use Rattle.swc_ecma_codegen_tokens.specs.Words.{allows_break, punct, formatting_space, formatting_line, trailing_comments}
 use Rattle.swc_ecma_codegen_tokens.specs.Written.{IsMark}
+use Rattle.swc_ecma_codegen_tokens.specs.Plain.{IsPlain}
+use Rattle.swc_ecma_codegen_tokens.proofs.Reading.StillPlain.{still_plain}
 use Rattle.swc_ecma_codegen_tokens.specs.Lists.{ListChild, by_lines, blank_if, line_or_blank, deeper, formatting_deeper, deeper_if, shallower, formatting_shallower, shallower_if, opening, delimiter, separator, child_comments, first_child_after, next_child_after, comma_if, source_comma, wanted_comma, source_has_comma, may_have_comma, trailing_comma, closing, list_end, list_closing, empty_list, more_children, last_place, list}
 use Rattle.swc_ecma_codegen_tokens.proofs.Emission.Emitting.{minified_same, pretty_same}
 use Rattle.swc_ecma_codegen_tokens.proofs.Listing.ListCommas.{written_same, left_out_same, forced_same, source_same}
@@ -24,7 +27,7 @@ use Rattle.swc_ecma_codegen_tokens.proofs.Commenting.CommentPrints.{writes_trail
 use Rattle.swc_ecma_codegen_tokens.specs.Escapes.{may_make_text}
 use Rattle.swc_ecma_codegen_tokens.specs.Targets.{is_out}
 use Rattle.swc_ecma_codegen_tokens.proofs.Emission.StepAscii.{holds_string}
-use Rattle.swc_ecma_codegen_tokens.proofs.Reading.Choices.{IsAmong, placed_among, comma_among, no_comma_among, prints_no_comma}
+use Rattle.swc_ecma_codegen_tokens.proofs.Reading.Choices.{IsAmong, IsPlainAmong, placed_among, comma_among, no_comma_among, prints_no_comma}
 use Rattle.swc_ecma_codegen_tokens.proofs.Filling.Shapes.{Shape, open_, ended, loose, closed, past_line, join}
 use Rattle.swc_ecma_codegen_tokens.proofs.Emission.PartSteps.{NamedBy, names_then, no_names, placed_after, safe_then, no_strings}
 use Rattle.swc_ecma_codegen_tokens.proofs.Reading.Phrased.{Prints, PrintsAt, prints_wider, loosened, then, after as behind, before, prints_nothing, prints_never, prints_same, prints_opened, prints_punct, prints_unbroken, prints_mark, mark_spelled}
@@ -401,9 +404,9 @@ prints_joined env format t parent place part e law j (x ∷ xs) =
 -- ---- a trailing comma where the source text has one
 
 -- What reads the source text may take memory.
-prints_asked : {i : Shape} {env : Env} {f : Phrase} (mark_after : Closing) (p : Part) → IsAmong env.config f (CommaBefore mark_after) → PrintsAt i env p f → PrintsAt (join open_ i) env (λ rest. step (Remake true) (p rest)) (CommaBefore mark_after)
+prints_asked : {i : Shape} {env : Env} {f : Phrase} (mark_after : Closing) (p : Part) → IsAmong env.config f (CommaBefore mark_after) → IsPlainAmong env f (CommaBefore mark_after) → PrintsAt i env p f → PrintsAt (join open_ i) env (λ rest. step (Remake true) (p rest)) (CommaBefore mark_after)
 unfolding is_possible is_out may_make_text names_in holds_string
-prints_asked {env = env} {f = f} mark_after p i h = record {
+prints_asked {env = env} {f = f} mark_after p i plain h = record {
   where_possible = λ w o maps.
       let v : Env = at_maps maps env in
       let m = (writes_remake env true).from maps in
@@ -411,6 +414,7 @@ prints_asked {env = env} {f = f} mark_after p i h = record {
       record {
         tokens = a.tokens;
         generated = i.generates a.tokens a.generated;
+        plain = λ e. let still = still_plain m.steps maps env e in plain (maps_after m.steps maps) still a.tokens (a.plain still);
         writes = from_both v (step (Remake true)) p [] a.tokens m a.writes;
         named = subst (λ ns. NamedBy v (λ rest. step (Remake true) (p rest)) ns) i.names (names_then p [] (names_in f) m (no_names v (step (Remake true))) a.named);
         placed = placed_after p (CommaBefore mark_after) a.tokens m (placed_among i a.placed);
@@ -423,19 +427,24 @@ prints_asked {env = env} {f = f} mark_after p i h = record {
 abbrev Closes : Env → Closing → Part → Type 0
 Closes env mark_after p = PrintsAt closed env p (mark (closing_mark mark_after))
 
-prints_read : {env : Env} (mark_after : Closing) (end : Part) (b : Bool) → Closes env mark_after end → PrintsAt closed env (λ rest. step (Remake true) (comma_if b (end rest))) (CommaBefore mark_after)
-unfolding comma_if
-prints_read {env = env} mark_after end true h = prints_wider closed refl (prints_asked mark_after (λ rest. comma_if true (end rest)) (comma_among env.config mark_after) (then (prints_comma_if env) h))
-prints_read {env = env} mark_after end false h = prints_wider closed refl (prints_asked mark_after end (no_comma_among env.config mark_after) h)
+prints_read : {env : Env} (mark_after : Closing) (end : Part) (b : Bool) → ((maps : Maps) → IsPlain (at_maps maps env) → b ≡ false) → Closes env mark_after end → PrintsAt closed env (λ rest. step (Remake true) (comma_if b (end rest))) (CommaBefore mark_after)
+unfolding comma_if plain_phrase
+prints_read {env = env} mark_after end true never h = prints_wider closed refl (prints_asked mark_after (λ rest. comma_if true (end rest)) (comma_among env.config mark_after) (λ maps e. absurd (true≢false (never maps e))) (then (prints_comma_if env) h))
+prints_read {env = env} mark_after end false never h = prints_wider closed refl (prints_asked mark_after end (no_comma_among env.config mark_after) (λ maps e ts g. g) h)
 
 nowhere_same : (parent : Span) (rest : Plan) (env : Env) → (parent.lo.0 == 0) ≡ true → source_comma parent rest env ≡ rest env
 unfolding source_comma
 nowhere_same parent rest env h = picked (parent.lo.0 == 0) rest _ env h
 
+-- a text that isn't known has none
+no_text_no_comma : source_has_comma None ≡ false
+unfolding source_has_comma
+no_text_no_comma = refl
+
 prints_source_comma : {env : Env} (parent : Span) (mark_after : Closing) (end : Part) → Closes env mark_after end → PrintsAt closed env (λ rest. source_comma parent (end rest)) (CommaBefore mark_after)
 prints_source_comma {env = env} parent mark_after end h = elim (cases_Bool (parent.lo.0 == 0)) [
   | inl none ↦ prints_same (λ rest. source_comma parent (end rest)) end (λ maps rest. nowhere_same parent (end rest) (at_maps maps env) none) (prints_no_comma mark_after h)
-  | inr some ↦ prints_same (λ rest. source_comma parent (end rest)) (λ rest. step (Remake true) (comma_if (source_has_comma (env.lines.snippet parent)) (end rest))) (λ maps rest. source_same parent (end rest) (at_maps maps env) some) (prints_read mark_after end (source_has_comma (env.lines.snippet parent)) h)
+  | inr some ↦ prints_same (λ rest. source_comma parent (end rest)) (λ rest. step (Remake true) (comma_if (source_has_comma (env.lines.snippet parent)) (end rest))) (λ maps rest. source_same parent (end rest) (at_maps maps env) some) (prints_read mark_after end (source_has_comma (env.lines.snippet parent)) (λ maps e. ap source_has_comma (e.no_source parent) ∙ no_text_no_comma) h)
 ]
 
 allowed_same : (format : ℕ) (parent : Span) (rest : Plan) (env : Env) → forces_trailing_comma format ≡ false → allows_trailing_comma format ≡ true → wanted_comma format parent rest env ≡ source_comma parent rest env

@@ -10,6 +10,7 @@ use Rattle.swc_ecma_codegen_grammar.specs.declared.kinds.Kind.{Kind}
 use Rattle.swc_ecma_codegen_grammar.specs.declared.kinds.Kind.TheVariants.{Name, Str}
 use Rattle.swc_ecma_codegen_grammar.specs.Keys.{key_token}
 use Rattle.swc_ecma_codegen_grammar.specs.Phrases.{KeyOf, Key, PlacedName, Generates, is_possible, names_in}
+use Rattle.swc_ecma_codegen_grammar.specs.PlainPhrases.{plain_phrase}
 use Rattle.swc_ecma_codegen_grammar.specs.SpelledNames.{is_well_formed_name}
 use Rattle.swc_ecma_codegen_grammar.specs.Tokens.{token_of}
 use Rattle.swc_ecma_codegen_grammar.specs.ValidNames.{turned}
@@ -216,10 +217,10 @@ makes_own env span bytes t h = writes_then env commit_pending_semi (placed Name 
 
 -- by a part that it is written as
 key_by : (env : Env) (span : Span) (bytes : List ℕ) (p : Part) → ((maps : Maps) (rest : Plan) → settled_key span bytes rest (at_maps maps env) ≡ p rest (at_maps maps env)) → Makes env p (key_token (settings_of env.config) bytes ∷ []) (has_backslash bytes || wants_escapes env.config (turned bytes)) → ((maps : Maps) → NamedBy (at_maps maps env) p (key_at span.lo bytes ∷ [])) → ((maps : Maps) → PlacedBy shapes.whole (at_maps maps env) p (KeyOf span.lo bytes) (key_token (settings_of env.config) bytes ∷ [])) → ((maps : Maps) → IsSafe (at_maps maps env) p) → Prints env (settled_key span bytes) (KeyOf span.lo bytes)
-unfolding Generates is_out may_make_text names_in
+unfolding plain_phrase Generates is_out may_make_text names_in
 key_by env span bytes p same m n d s =
     prints_same (settled_key span bytes) p same
-    (record { where_possible = λ w o maps. record { tokens = key_token (settings_of env.config) bytes ∷ []; generated = refl; writes = m.from maps; named = n maps; placed = d maps; safe = s maps }; where_out = λ w o. absurd (true≢false (sym o)) })
+    (record { where_possible = λ w o maps. record { tokens = key_token (settings_of env.config) bytes ∷ []; generated = refl; plain = λ e. refl; writes = m.from maps; named = n maps; placed = d maps; safe = s maps }; where_out = λ w o. absurd (true≢false (sym o)) })
 
 -- ---- it stands as its own token
 

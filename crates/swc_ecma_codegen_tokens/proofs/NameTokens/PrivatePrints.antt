@@ -10,6 +10,7 @@ use Rattle.swc_ecma_codegen_grammar.specs.GapRules.{allows, last_after}
 use Rattle.swc_ecma_codegen_grammar.specs.Names.{is_name, name_rest, name_value, is_private_name, private_name_value}
 use Rattle.swc_ecma_codegen_grammar.specs.Parts.{tokens_of}
 use Rattle.swc_ecma_codegen_grammar.specs.Phrases.{PrivateOf, Generates, is_possible, names_in}
+use Rattle.swc_ecma_codegen_grammar.specs.PlainPhrases.{plain_phrase}
 use Rattle.swc_ecma_codegen_grammar.specs.Reads.{is_child, is_hashbang_kind}
 use Rattle.swc_ecma_codegen_grammar.specs.SpelledNames.{spelled_name}
 use Rattle.swc_ecma_codegen_grammar.specs.Tokens as lexical
@@ -205,7 +206,7 @@ some_name [] h e = true≢false (sym h)
 some_name (c ∷ cs) h e = cc
 
 prints_text : (env : Env) (span : Span) (bytes : List ℕ) → env.keeps_invalid ≡ false → Prints env (words.private_text span bytes) (PrivateOf bytes)
-unfolding Generates is_possible is_out may_make_text names_in is_str spelled_name token_of
+unfolding plain_phrase Generates is_possible is_out may_make_text names_in is_str spelled_name token_of
 prints_text env span bytes e = record {
   where_possible = λ w o maps.
       let h = name_written env.config bytes w o in
@@ -214,6 +215,7 @@ prints_text env span bytes e = record {
       record {
         tokens = _;
         generated = ap (λ z. z ∷ []) (private_value t) ∙ ap (λ z. lexical.private_name z ∷ []) h.value;
+        plain = λ e. ap (λ z. z ∷ []) (private_value t) ∙ ap (λ z. lexical.private_name z ∷ []) h.value;
         writes = m.from maps;
         named = no_names (at_maps maps env) (words.private_text span bytes);
         placed = placed_none (at_maps maps env) (words.private_text span bytes) (PrivateOf bytes) _ refl (ap (λ z. z ∷ []) (private_value t) ∙ ap (λ z. lexical.private_name z ∷ []) h.value);

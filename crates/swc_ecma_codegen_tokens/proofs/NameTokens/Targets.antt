@@ -46,7 +46,7 @@ plain_not_out config (KeyOf at bytes) h = refl
 plain_not_out config (PrivateOf bytes) h = kept_is_in config (turned bytes) (or_parts (has_backslash bytes) (wants_escapes config (turned bytes)) h).1
 plain_not_out config (TagNameOf at bytes) h = refl
 plain_not_out config (CommaBefore close) h = refl
-plain_not_out config (OptionalParentheses a) h = plain_not_out config a h
+plain_not_out config (OptionalParentheses round a) h = plain_not_out config a h
 plain_not_out config (Chosen choice) h = refl
 plain_not_out config (Then a b) h =
     let p = or_parts (may_make_text config a) (may_make_text config b) h in
@@ -63,7 +63,7 @@ bare_not_out config (KeyOf at bytes) h = refl
 bare_not_out config (PrivateOf bytes) h = ap (λ b. b && is_out_of_target false config.target (chars (turned bytes))) h
 bare_not_out config (TagNameOf at bytes) h = refl
 bare_not_out config (CommaBefore close) h = refl
-bare_not_out config (OptionalParentheses a) h = bare_not_out config a h
+bare_not_out config (OptionalParentheses round a) h = bare_not_out config a h
 bare_not_out config (Chosen choice) h = refl
 bare_not_out config (Then a b) h = or_from (is_out config a) (is_out config b) (bare_not_out config a h) (bare_not_out config b h)
 

@@ -31,6 +31,7 @@ use Rattle.swc_ecma_codegen_text_writer.specs.Recorded.{RecordsTruly}
 use Rattle.swc_ecma_codegen_text_writer.specs.Sheet.{Sheet, Symbol, Position, Commit, is_ending, may_take_memory, fills_lines}
 use Rattle.swc_ecma_codegen_grammar.specs.Phrases.{Phrase, Never, Nothing, One, NameOf, Then, PlacedName, Generates, is_possible, names_in, where_, ◌>◌, mark}
 use Rattle.swc_ecma_codegen_grammar.specs.Phrases as phrases
+use Rattle.swc_ecma_codegen_grammar.specs.PlainPhrases.{plain_phrase}
 use Rattle.swc_ecma_codegen_grammar.specs.SpelledNames as names
 use Rattle.swc_ecma_codegen_grammar.specs.SpelledNames.{is_well_formed_name}
 use Rattle.swc_ecma_codegen_grammar.specs.ValidNames.{turned}
@@ -42,6 +43,8 @@ use Rattle.swc_ecma_codegen_literals.proofs.SpelledTexts.{ascii_from_all}
 use Rattle.swc_ecma_codegen_tokens.specs.declared.refusals.Unprintable.TheVariants.{NameOutOfTarget}
 use Rattle.swc_ecma_codegen_tokens.specs.Run.{Env, Plan, Part, State, Step, Guard, Token, Plain, Remake, Ends, Take, CommentText, at_maps, after_step, maps_after, taken_by, taken_in, spoken, Steps, step, steps_of, unprintable_in, refuse, run, nothing, spelling, Follows, HasCause, has_backslash, makes_text}
 use Rattle.swc_ecma_codegen_tokens.specs.Settings.{settings_of}
+use Rattle.swc_ecma_codegen_tokens.specs.Plain.{IsPlain}
+use Rattle.swc_ecma_codegen_tokens.proofs.Reading.StillPlain.{still_plain}
 use Rattle.swc_ecma_codegen_tokens.specs.Tags.{closing, close}
 use Rattle.swc_ecma_codegen_tokens.specs.Targets.{written_as, written_by, wants_escapes, is_out_name, written_name, is_out}
 use Rattle.swc_ecma_codegen_tokens.specs.Words.{allows_break, bare_punct, bare_semi, keyword, operator, word_operator, punct, placed_punct, semi, commit_pending_semi, position, by_maps, symbol, valid_symbol, name_text, question, name}
@@ -81,6 +84,8 @@ or_assoc false b c = refl
 pub record PrintedOn (before behind : Spot) (shape : Shape) (env : Env) (part : Part) (phrase : Phrase) : Type 0 where
   pub tokens : List lexical.Token
   pub generated : Generates (settings_of env.config) phrase tokens
+  -- where there are neither comments nor a source text, it is the plain one
+  pub plain : IsPlain env → Generates (settings_of env.config) (plain_phrase env.config.minify phrase) tokens
   pub writes : MakesOn before behind shape (length tokens) env part tokens (may_make_text env.config phrase)
   pub named : NamedBy env part (names_in phrase)
   pub placed : PlacedOn before shape env part phrase tokens
@@ -106,7 +111,7 @@ Prints env part phrase = PrintsAt whole env part phrase
 -- what leads less far
 pub prints_wider : {i : Shape} (j : Shape) {env : Env} {p : Part} {f : Phrase} → is_within i j ≡ true → PrintsAt i env p f → PrintsAt j env p f
 prints_wider j e h = record {
-  where_possible = λ w o maps. let a = h.where_possible w o maps in record { tokens = a.tokens; generated = a.generated; writes = from_wider j e a.writes; named = a.named; placed = placed_wider j e a.placed; safe = a.safe };
+  where_possible = λ w o maps. let a = h.where_possible w o maps in record { tokens = a.tokens; generated = a.generated; plain = a.plain; writes = from_wider j e a.writes; named = a.named; placed = placed_wider j e a.placed; safe = a.safe };
   where_out = h.where_out;
 }
 
@@ -130,7 +135,7 @@ out_of_two false b h f g = g refl h
 
 -- one part after the other, where the second may stand behind the first
 pub then_on : {u v w : Spot} {i j : Shape} {env : Env} {p q : Part} {f g : Phrase} → PrintsOn u v i env p f → PrintsOn v w j env q g → PrintsOn u w (join i j) env (λ rest. p (q rest)) (Then f g)
-unfolding Generates is_possible is_out may_make_text names_in
+unfolding plain_phrase Generates is_possible is_out may_make_text names_in
 then_on {env = env} {p = p} {q = q} {f = f} {g = g} h k = record {
   where_possible = λ w o maps.
       let both = and_parts (is_possible f) (is_possible g) w in
@@ -140,6 +145,7 @@ then_on {env = env} {p = p} {q = q} {f = f} {g = g} h k = record {
       record {
         tokens = a.tokens ++ b.tokens;
         generated = (a.tokens, b.tokens, a.generated, b.generated, refl);
+        plain = λ e. (a.tokens, b.tokens, a.plain e, b.plain (still_plain a.writes.steps maps env e), refl);
         writes = from_both (at_maps maps env) p q a.tokens b.tokens a.writes b.writes;
         named = names_then q (names_in f) (names_in g) a.writes a.named b.named;
         placed = placed_then q f g b.tokens a.writes a.placed b.placed;
@@ -163,6 +169,7 @@ after_on {env = env} {q = q} {p = p} {f = f} k h = record {
       record {
         tokens = a.tokens;
         generated = a.generated;
+        plain = λ e. a.plain (still_plain x.steps maps env e);
         writes = from_both (at_maps maps env) q p [] a.tokens x a.writes;
         named = names_then p [] (names_in f) x (no_names (at_maps maps env) q) a.named;
         placed = placed_after p f a.tokens x a.placed;
@@ -185,6 +192,7 @@ before {i} {j} {env} {p} {q} {f} h k = record {
       record {
         tokens = a.tokens;
         generated = a.generated;
+        plain = a.plain;
         writes = subst (λ z. MakesFrom (join i j) (length a.tokens) v (λ rest. p (q rest)) a.tokens z) (or_false made) (subst (λ z. MakesFrom (join i j) (length z) v (λ rest. p (q rest)) z (made || false)) (append-nil a.tokens) (from_both v p q a.tokens [] a.writes x));
         named = subst (λ z. NamedBy v (λ rest. p (q rest)) z) (append-nil (names_in f)) (names_then q (names_in f) [] a.writes a.named (no_names (env_after a.writes.steps v) q));
         placed = placed_before j q f a.writes a.placed;
@@ -194,8 +202,8 @@ before {i} {j} {env} {p} {q} {f} h k = record {
 }
 
 pub prints_nothing : {env : Env} → PrintsAt open_ env (λ rest. rest) Nothing
-unfolding Generates is_out may_make_text names_in holds_string
-prints_nothing {env} = record { where_possible = λ w o maps. record { tokens = []; generated = refl; writes = (writes_nothing env).from maps; named = no_names (at_maps maps env) (λ rest. rest); placed = placed_none (at_maps maps env) (λ rest. rest) Nothing [] refl refl; safe = no_strings ((writes_nothing env).from maps) refl }; where_out = λ w o. absurd (true≢false (sym o)) }
+unfolding plain_phrase Generates is_out may_make_text names_in holds_string
+prints_nothing {env} = record { where_possible = λ w o maps. record { tokens = []; generated = refl; plain = λ e. refl; writes = (writes_nothing env).from maps; named = no_names (at_maps maps env) (λ rest. rest); placed = placed_none (at_maps maps env) (λ rest. rest) Nothing [] refl refl; safe = no_strings ((writes_nothing env).from maps) refl }; where_out = λ w o. absurd (true≢false (sym o)) }
 
 -- what is Never has no list
 pub prints_never : {i : Shape} {env : Env} {p : Part} → PrintsAt i env p Never
@@ -214,6 +222,7 @@ unfolding NamedBy IsSafe
 printed_same {f = f} env p q e a = record {
   tokens = a.tokens;
   generated = a.generated;
+  plain = a.plain;
   writes = from_same env p q a.tokens e a.writes;
   named = λ s k n. let P : Steps → Type 0 = λ z. Named env.config (names_in f) s.sheet (run (steps_of z) s).sheet in subst P (sym (e nothing)) (a.named s k n);
   placed = placed_same env p q e a.placed;
@@ -236,8 +245,8 @@ prints_same {env = env} {f = f} p q e h = record {
 
 -- a token, whose text may be made anew where it is a literal
 pub prints_made : {i : Shape} (env : Env) (p : Part) (x : lexical.Token) → MakesAt i env p (x ∷ []) (may_make_text env.config (One x)) → ((maps : Maps) → IsSafe (at_maps maps env) p) → PrintsAt i env p (One x)
-unfolding Generates is_out names_in
-prints_made env p x h safe = record { where_possible = λ w o maps. record { tokens = x ∷ []; generated = refl; writes = h.from maps; named = no_names (at_maps maps env) p; placed = placed_none (at_maps maps env) p (One x) (x ∷ []) refl refl; safe = safe maps }; where_out = λ w o. absurd (true≢false (sym o)) }
+unfolding plain_phrase Generates is_out names_in
+prints_made env p x h safe = record { where_possible = λ w o maps. record { tokens = x ∷ []; generated = refl; plain = λ e. refl; writes = h.from maps; named = no_names (at_maps maps env) p; placed = placed_none (at_maps maps env) p (One x) (x ∷ []) refl refl; safe = safe maps }; where_out = λ w o. absurd (true≢false (sym o)) }
 
 -- one that is no string
 pub no_string : {i : Shape} {env : Env} {p : Part} {x : lexical.Token} {b : Bool} → MakesAt i env p (x ∷ []) b → is_str x.kind ≡ false → (maps : Maps) → IsSafe (at_maps maps env) p
@@ -250,8 +259,8 @@ prints_one env p x h none = prints_made env p x (writes_whatever (may_make_text 
 
 -- the same between two spots
 pub one_on : {v w : Spot} {i : Shape} (env : Env) (p : Part) (x : lexical.Token) → MakesWithinOn v w i 1 env p (x ∷ []) false → is_str x.kind ≡ false → PrintsOn v w i env p (One x)
-unfolding Generates may_make_text names_in is_out holds_string
-one_on env p x h none = record { where_possible = λ k o maps. record { tokens = x ∷ []; generated = refl; writes = from_where (λ e. absurd (true≢false (sym e))) (h.from maps); named = no_names (at_maps maps env) p; placed = placed_none (at_maps maps env) p (One x) (x ∷ []) refl refl; safe = no_strings (h.from maps) (or_from (is_str x.kind) false none refl) }; where_out = λ k o. absurd (true≢false (sym o)) }
+unfolding plain_phrase Generates may_make_text names_in is_out holds_string
+one_on env p x h none = record { where_possible = λ k o maps. record { tokens = x ∷ []; generated = refl; plain = λ e. refl; writes = from_where (λ e. absurd (true≢false (sym e))) (h.from maps); named = no_names (at_maps maps env) p; placed = placed_none (at_maps maps env) p (One x) (x ∷ []) refl refl; safe = no_strings (h.from maps) (or_from (is_str x.kind) false none refl) }; where_out = λ k o. absurd (true≢false (sym o)) }
 
 -- ---- words and punctuators, which are ASCII
 
@@ -317,11 +326,12 @@ prints_close env = prints_one env close _ (writes_close env) refl
 
 -- the phrase of two tokens
 prints_pair : {i : Shape} (env : Env) (p : Part) (x y : lexical.Token) → MakesAt i env p (x ∷ y ∷ []) false → is_str x.kind ≡ false → is_str y.kind ≡ false → PrintsAt i env p (One x > One y)
-unfolding Generates is_out is_possible names_in holds_string
+unfolding plain_phrase Generates is_out is_possible names_in holds_string
 prints_pair env p x y h a b = record {
   where_possible = λ w o maps. record {
     tokens = x ∷ y ∷ [];
     generated = (x ∷ [], y ∷ [], refl, refl, refl);
+    plain = λ e. (x ∷ [], y ∷ [], refl, refl, refl);
     writes = (writes_whatever (may_make_text env.config (One x > One y)) h).from maps;
     named = no_names (at_maps maps env) p;
     placed = placed_none (at_maps maps env) p (One x > One y) (x ∷ y ∷ []) refl (x ∷ [], y ∷ [], refl, refl, refl);
@@ -349,7 +359,7 @@ joint_word env p t w h = subst (λ z. PrintsAt (join whole joining) env p (phras
 
 -- the lists of three phrases, however they are taken together
 pub prints_regrouped : {i : Shape} {env : Env} {p : Part} {f g h : Phrase} → PrintsAt i env p ((f > g) > h) → PrintsAt i env p (f > g > h)
-unfolding Generates is_possible is_out may_make_text names_in
+unfolding plain_phrase Generates is_possible is_out may_make_text names_in
 prints_regrouped {i} {env} {p} {f} {g} {h} x = record {
   where_possible = λ w o maps.
       let v : Env = at_maps maps env in
@@ -358,6 +368,7 @@ prints_regrouped {i} {env} {p} {f} {g} {h} x = record {
       record {
         tokens = a.tokens;
         generated = (k.2.0, k.2.1 ++ k.1, k.2.2, (k.2.1, k.1, k.2.3, k.3, refl), k.4 ∙ ap (λ z. z ++ k.1) k.2.4 ∙ append_assoc k.2.0 k.2.1 k.1);
+        plain = λ e. let q = a.plain e in (q.2.0, q.2.1 ++ q.1, q.2.2, (q.2.1, q.1, q.2.3, q.3, refl), q.4 ∙ ap (λ z. z ++ q.1) q.2.4 ∙ append_assoc q.2.0 q.2.1 q.1);
         writes = subst (λ z. MakesFrom i (length a.tokens) v p a.tokens z) (or_assoc (may_make_text env.config f) (may_make_text env.config g) (may_make_text env.config h)) a.writes;
         named = subst (λ z. NamedBy v p z) (append_assoc (names_in f) (names_in g) (names_in h)) a.named;
         placed = placed_regrouped f g h a.placed;
@@ -418,7 +429,7 @@ unfolding settled_name commit_pending_semi valid_symbol step refuse unprintable_
 name_out env span bytes rest e o = ap unprintable_in (valid_same span bytes rest env e) ∙ ap unprintable_in (out_same span (turned bytes) rest env o)
 
 prints_settled_name : (env : Env) (span : Span) (bytes : List ℕ) → env.keeps_invalid ≡ false → Prints env (settled_name span bytes) (NameOf span.lo bytes)
-unfolding settled_name token_of value_of spelling lexical.name names.spelled_name Generates is_possible is_out may_make_text names_in is_str
+unfolding settled_name token_of value_of spelling lexical.name names.spelled_name plain_phrase Generates is_possible is_out may_make_text names_in is_str
 prints_settled_name env span bytes e = record {
   where_possible = λ w o maps.
       let h = name_written env.config bytes w o in
@@ -427,6 +438,7 @@ prints_settled_name env span bytes e = record {
       record {
         tokens = _;
         generated = ap (λ z. lexical.name z ∷ []) h.value;
+        plain = λ e. ap (λ z. lexical.name z ∷ []) h.value;
         writes = m.from maps;
         named = names_here (at_maps maps env) span bytes e o spelled.some;
         placed = name_here (at_maps maps env) span bytes e o spelled (ap lexical.name h.value);
@@ -594,6 +606,15 @@ steps_read anywhere p f a n m closed prints w o =
 pub made_not_out : {v w : Spot} {i : Shape} (p : Part) (f : Phrase) (env : Env) → PrintsOn v w i env p f → is_possible f ≡ true → unprintable_in (p nothing env) ≡ None → is_out env.config f ≡ false
 made_not_out p f env prints w end = false_from_ne_true (is_out env.config f) (λ o. let z = sym end ∙ prints.where_out w o env.maps nothing in absurd (cc))
 
+-- where there are neither comments nor a source text, they read as the plain list
+pub steps_read_plain : (anywhere : Bool) (p : Part) (f : Phrase) (a : State) → IsNew a → (anywhere ≡ false → IsAtMargin a) → AreClosed a.env.maps → PrintsAt (unbroken_at anywhere) a.env p f → is_possible f ≡ true → is_out a.env.config f ≡ false → IsPlain a.env → AddsReading a.env.config (plain_phrase a.env.config.minify f) (taken_remarks p a.env) a.sheet (run (steps_of (p nothing a.env)) a).sheet
+unfolding nothing
+steps_read_plain anywhere p f a n m closed prints w o plain =
+    let h = prints.where_possible w o a.env.maps in
+    let same : steps_of (p nothing a.env) ≡ h.writes.steps = ap steps_of (h.writes.is_steps nothing) ∙ steps_of_chain h.writes.steps in
+    let P : List Step → Type 0 = λ z. AddsReading a.env.config (plain_phrase a.env.config.minify f) (remarks_by z a.env) a.sheet (run z a).sheet in
+    subst P (sym same) (laid_reads anywhere a.env.config (plain_phrase a.env.config.minify f) h.tokens a (run h.writes.steps a) (h.plain plain) n m (h.writes.lays a (new_at_rest a n) (taken_closed h.writes.steps a.env.maps closed)))
+
 -- of an empty text the whole reads
 pub whole_reads : (config : Config) (holds : Bool) (f : Phrase) (rs : List Remark) (text : List ℕ) → AddsText config holds f rs [] text → ReadsAs config holds f rs text
 whole_reads config holds f rs text h = subst (λ z. ReadsAs config holds f rs z) (sym h.is_added) h.reading
@@ -602,6 +623,11 @@ pub printed_reads : (anywhere : Bool) (p : Part) (f : Phrase) (a b : State) (r :
 unfolding Follows
 printed_reads anywhere p f a b (Ok u) n m c prints w k = let P : State → Type 0 = λ z. AddsReading a.env.config f (taken_remarks p a.env) a.sheet z.sheet in subst P (sym k.1) (steps_read anywhere p f a n m c prints w (made_not_out p f a.env prints w k.0))
 printed_reads anywhere p f a b (Err e) n m c prints w k = tt
+
+pub printed_reads_plain : (anywhere : Bool) (p : Part) (f : Phrase) (a b : State) (r : Result (Unit {0}) Refusal) → IsNew a → (anywhere ≡ false → IsAtMargin a) → AreClosed a.env.maps → PrintsAt (unbroken_at anywhere) a.env p f → is_possible f ≡ true → IsPlain a.env → Follows (p nothing) a b r → OnOk r (AddsReading a.env.config (plain_phrase a.env.config.minify f) (taken_remarks p a.env) a.sheet b.sheet)
+unfolding Follows
+printed_reads_plain anywhere p f a b (Ok u) n m c prints w plain k = let P : State → Type 0 = λ z. AddsReading a.env.config (plain_phrase a.env.config.minify f) (taken_remarks p a.env) a.sheet z.sheet in subst P (sym k.1) (steps_read_plain anywhere p f a n m c prints w (made_not_out p f a.env prints w k.0) plain)
+printed_reads_plain anywhere p f a b (Err e) n m c prints w plain k = tt
 
 -- no text is made anew where nothing of the phrase may be
 pub printed_remakes : {v w : Spot} {i : Shape} (p : Part) (f : Phrase) (env : Env) → PrintsOn v w i env p f → is_possible f ≡ true → may_make_text env.config f ≡ false → makes_text (steps_of (p nothing env)) ≡ false

@@ -23,7 +23,7 @@ use Rattle.swc_ecma_codegen_grammar.specs.CommentMaps.{Maps}
 use Rattle.swc_ecma_codegen_grammar.specs.SourceLines.{Lines}
 use Rattle.swc_ecma_codegen_tokens.specs.Run.{Env, is_bounded, Part, State, at_source, Step, Plain, step, after_step, taken_in, taken_by, when_minified, no_part, steps_of, unprintable_in, run, nothing, Follows, Emits}
 use Rattle.swc_ecma_codegen_tokens.specs.Targets.{is_out}
-use Rattle.swc_ecma_codegen_tokens.specs.Words.{allow_break, allows_break, bare_punct, bare_semi, break_where, keyword, operator, word_operator, punct, placed_punct, semi, name, space, formatting_space, line_end, formatting_line, commit_pending_semi, position, position_before, leading_comments, trailing_comments}
+use Rattle.swc_ecma_codegen_tokens.specs.Words.{allow_break, allows_break, bare_punct, bare_semi, break_where, keyword, operator, operator_between, word_operator, punct, punct_between, placed_punct, semi, name, space, formatting_space, line_end, formatting_line, commit_pending_semi, position, position_before, leading_comments, trailing_comments}
 use Rattle.swc_ecma_codegen_tokens.specs.Tags.{closing, close, text_token, jsx_text, open_token, child_open}
 use Rattle.swc_ecma_codegen_grammar.specs.Jsx.{is_jsx_text, is_jsx_open}
 use Rattle.swc_ecma_codegen_tokens.proofs.Jsx.TagPrints.{prints_tag_end, is_text_token, prints_jsx_text, prints_opens}
@@ -40,8 +40,8 @@ use Rattle.std.proofs.lemmas.Bool.{or_from}
 use Rattle.swc_ecma_codegen_tokens.proofs.Reading.Printed.{writes_space, writes_formatting_space, writes_line, writes_formatting_line, writes_commit, writes_position, writes_position_before, MakesOn, MakesAt, EndsLines, makes_wider, from_wider, remarks_by}
 use Rattle.swc_ecma_codegen_tokens.proofs.Commenting.CommentPrints.{writes_leading, writes_trailing}
 use Rattle.swc_ecma_codegen_tokens.proofs.Emission.PartSteps.{steps_of_chain}
-use Rattle.swc_ecma_codegen_tokens.proofs.Reading.Phrased.{PrintsOn, new_at_rest, kept_front, prints_keyword, prints_operator, prints_word_operator, prints_punct, prints_bare_punct, prints_bare_semi, prints_placed_punct, prints_semi, prints_close, prints_ident, made_not_out, taken_closed}
-use Rattle.swc_ecma_codegen_tokens.proofs.Filling.Shapes.{Shape, Le, line_first, loose, whole, ended, is_within, walk_append, walk_le, not_broken}
+use Rattle.swc_ecma_codegen_tokens.proofs.Reading.Phrased.{PrintsOn, PrintsAt, after, before, prints_opened, new_at_rest, kept_front, prints_keyword, prints_operator, prints_word_operator, prints_punct, prints_bare_punct, prints_bare_semi, prints_placed_punct, prints_semi, prints_close, prints_ident, made_not_out, taken_closed}
+use Rattle.swc_ecma_codegen_tokens.proofs.Filling.Shapes.{Shape, Le, line_first, loose, open_, whole, ended, join, is_within, walk_append, walk_le, not_broken}
 
 -- where no line ends within what follows the end of a line, none does where some parts stand before
 kept_on : (xs more : List parts.Part) → Le (walk PastLine xs) PastLine → is_broken (walk PastLine more) ≡ false → is_broken (walk PastLine (xs ++ more)) ≡ false
@@ -182,6 +182,37 @@ punct_fits false = refl
 pub punct_so_far : (t old : List ℕ) (tokens : List lexical.Token) (rs : List Remark) (a b : State) → IsMark t → Emits (punct t) a b (Ok tt) → ReadsSoFar old tokens rs a → ReadsSoFar old (tokens ++ lexical.punctuator t ∷ []) rs b
 unfolding lexical.punctuator is_same_line
 punct_so_far t old tokens rs a b w e h = one_so_far (punct_fits (allows_break t)) (punct t) (lexical.punctuator t) old tokens rs a b (prints_punct a.env t w) refl (punct_takes t a.env) e h
+
+-- the same with the blanks round it
+operator_between_prints : (env : Env) (t : List ℕ) → IsMark t → PrintsAt (join open_ (join whole open_)) env (operator_between t) (mark t)
+unfolding operator_between
+operator_between_prints env t w = after (writes_space env) (before (prints_operator env t w) (writes_space env))
+
+pub operator_between_so_far : (t old : List ℕ) (tokens : List lexical.Token) (rs : List Remark) (a b : State) → IsMark t → Emits (operator_between t) a b (Ok tt) → ReadsSoFar old tokens rs a → ReadsSoFar old (tokens ++ lexical.punctuator t ∷ []) rs b
+unfolding operator_between operator space step steps_of nothing after_step taken_in taken_by remarks_of lexical.word lexical.punctuator lexical.ending is_same_line
+operator_between_so_far t old tokens rs a b w e h = one_so_far refl (operator_between t) (lexical.punctuator t) old tokens rs a b (operator_between_prints a.env t w) refl refl e h
+
+break_and_space_take : (allowed : Bool) (env : Env) → taken_in (steps_of (break_where allowed (space nothing) env)) env.maps ≡ []
+unfolding break_where space step steps_of nothing taken_in taken_by after_step
+break_and_space_take true env = refl
+break_and_space_take false env = refl
+
+space_behind_takes : (b : Bool) (env : Env) → taken_in (steps_of (cond b (allow_break (space nothing)) (space nothing) env)) env.maps ≡ []
+unfolding allow_break space step steps_of nothing taken_in taken_by after_step
+space_behind_takes true env = break_and_space_take (is_bounded env) env
+space_behind_takes false env = refl
+
+between_takes : (t : List ℕ) (env : Env) → taken_remarks (punct_between t) env ≡ []
+unfolding punct_between punct bare_punct space step steps_of after_step taken_in taken_by
+between_takes t env = ap remarks_of (space_behind_takes (allows_break t) env) ∙ (unfold remarks_of in refl)
+
+punct_between_prints : (env : Env) (t : List ℕ) → IsMark t → PrintsAt (join open_ (join ended open_)) env (punct_between t) (mark t)
+unfolding punct_between
+punct_between_prints env t w = after (writes_space env) (before (prints_opened env t w) (writes_space env))
+
+pub punct_between_so_far : (t old : List ℕ) (tokens : List lexical.Token) (rs : List Remark) (a b : State) → IsMark t → Emits (punct_between t) a b (Ok tt) → ReadsSoFar old tokens rs a → ReadsSoFar old (tokens ++ lexical.punctuator t ∷ []) rs b
+unfolding lexical.punctuator is_same_line
+punct_between_so_far t old tokens rs a b w e h = one_so_far refl (punct_between t) (lexical.punctuator t) old tokens rs a b (punct_between_prints a.env t w) refl (between_takes t a.env) e h
 
 pub bare_punct_so_far : (t old : List ℕ) (tokens : List lexical.Token) (rs : List Remark) (a b : State) → IsMark t → Emits (bare_punct t) a b (Ok tt) → ReadsSoFar old tokens rs a → ReadsSoFar old (tokens ++ lexical.punctuator t ∷ []) rs b
 unfolding bare_punct step steps_of nothing after_step taken_in taken_by remarks_of lexical.word lexical.punctuator lexical.ending is_same_line

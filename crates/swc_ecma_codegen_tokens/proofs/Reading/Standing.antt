@@ -78,8 +78,8 @@ all_more config a b c us (PrivateOf bytes) ts r h = h
 all_more config a b c us (TagNameOf at bytes) ts r h = (h.0, here_more config a b c us _ _ r h.1)
 all_more config a b c us (Then f g) ts r h = (h.0, h.1, all_more config a b c us f h.0 r h.2, all_more config a b c (us ++ h.0) g h.1 r h.3, h.4)
 all_more config a b c us (CommaBefore close) ts r h = h
-all_more config a b c us (OptionalParentheses f) ts r (inl h) = inl (all_more config a b c us f ts r h)
-all_more config a b c us (OptionalParentheses f) ts r (inr h) = inr (h.0, all_more config a b c _ f h.0 r h.1, h.2)
+all_more config a b c us (OptionalParentheses round f) ts r (inl h) = inl (all_more config a b c us f ts r h)
+all_more config a b c us (OptionalParentheses round f) ts r (inr h) = inr (h.0, all_more config a b c _ f h.0 r h.1, h.2)
 all_more config a b c us (Chosen choice) ts r h = h
 
 -- ---- a phrase without names
@@ -103,8 +103,8 @@ nameless config a b us (PrivateOf bytes) ts e h = h
 nameless config a b us (TagNameOf at bytes) ts e h = absurd (cc)
 nameless config a b us (Then f g) ts e h = (h.0, h.1, nameless config a b us f h.0 (none_left (names_in f) (names_in g) e) h.2, nameless config a b (us ++ h.0) g h.1 (none_right (names_in f) (names_in g) e) h.3, h.4)
 nameless config a b us (CommaBefore close) ts e h = h
-nameless config a b us (OptionalParentheses f) ts e (inl h) = inl (nameless config a b us f ts e h)
-nameless config a b us (OptionalParentheses f) ts e (inr h) = inr (h.0, nameless config a b _ f h.0 e h.1, h.2)
+nameless config a b us (OptionalParentheses round f) ts e (inl h) = inl (nameless config a b us f ts e h)
+nameless config a b us (OptionalParentheses round f) ts e (inr h) = inr (h.0, nameless config a b _ f h.0 e h.1, h.2)
 nameless config a b us (Chosen choice) ts e h = h
 
 -- ---- how far an emission has come

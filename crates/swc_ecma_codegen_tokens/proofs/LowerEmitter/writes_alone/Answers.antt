@@ -13,6 +13,7 @@ use Rattle.swc_ecma_codegen_tokens.specs.View.{state_of}
 use Rattle.swc_ecma_codegen_tokens.proofs.Emission.Calls.{passed}
 use Rattle.swc_ecma_codegen_tokens.proofs.NameTokens.Alone.{alone, both, unplaced}
 use Rattle.swc_ecma_codegen_tokens.proofs.NameTokens.Spelled.{made_name, remade, spelled_as_it_is}
+use Rattle.swc_ecma_codegen_tokens.proofs.Reading.Answered.{name_adds}
 use Rattle.swc_ecma_codegen_tokens.proofs.LowerEmitter.writes_alone.Goals as goal
 
 pub returns-clause-items : goal.returns-clause-items
@@ -36,3 +37,6 @@ sends_symbol-requires-clause-unfailed g c = c.requires.plain.unfailed
 
 pub sends_symbol-requires-clause-in_line : goal.sends_symbol-requires-clause-in_line
 sends_symbol-requires-clause-in_line g c = c.requires.plain.in_line
+
+pub returns-clause-reads : goal.returns-clause-reads
+returns-clause-reads g c = name_adds c.args.span c.args.sym.now c.args.optional c.args.cfg.now _ _ (g.W.WriteJs.sheet c.args.wr.now) c.args.self.now (g.W.WriteJs.sheet c.sends_symbol.new.wr) c.sends_symbol.new.self _ (returns-clause-items g c)

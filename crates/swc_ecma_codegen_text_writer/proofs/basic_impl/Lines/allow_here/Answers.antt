@@ -5,6 +5,7 @@ use Rattle.swc_ecma_codegen_text_writer.specs.Columns.{Stands}
 use Rattle.swc_ecma_codegen_text_writer.specs.Sheet.{Sheet, Filling, no_segment, released}
 use Rattle.swc_ecma_codegen_text_writer.specs.View.{sheet_of, Reaches, HasReason}
 use Rattle.swc_ecma_codegen_text_writer.proofs.Flushes.{allowed_on, goes, goes_nowhere, none_some}
+use Rattle.swc_ecma_codegen_text_writer.proofs.Room.{writer_not_memory}
 use Rattle.swc_ecma_codegen_text_writer.proofs.Sheets.{front_refl, other_lines}
 use Rattle.swc_ecma_codegen_text_writer.proofs.Steps.{sent_sheet, place_on, place_since, first_halted, reaches_to}
 use Rattle.swc_ecma_codegen_text_writer.proofs.basic_impl.Lines.allow_here.Goals as goal
@@ -63,5 +64,6 @@ returns-in-Err g c =
       place = place_since c.args.self.now.outlet c.write_text.new.self c.in-Err.ensures.before c.in-Err.ensures.grows;
       more_pairs = front_refl _;
       front_pairs = front_refl _;
+      room = λ q. writer_not_memory q;
       same = refl;
     }))

@@ -1,4 +1,4 @@
-use Rattle.std.proofs.Common.{refl, ap, sym, ◌∙◌}
+use Rattle.std.proofs.Common.{inl, refl, ap, sym, ◌∙◌}
 use Rattle.swc_ecma_codegen_text_writer.specs.Held.{flow_of}
 use Rattle.swc_ecma_codegen_text_writer.specs.Sheet.{Sheet, Segment, Filling, fills_lines, appended}
 use Rattle.swc_ecma_codegen_text_writer.specs.View.{sheet_of, Reaches}
@@ -34,6 +34,7 @@ returns-in-Err g c =
     let s : Sheet = sheet_of c.args.self.now in
     refused_here c.in-Err.refusal (appended c.args.text.now s) s _ _ refl (appended_alike c.args.text.now s)
     (may_hold c.in-Err.refusal s _ c.in-Err.ensures.err (ap (λ x. fills_lines (flow_of x)) c.in-Some.is))
+    (λ q. inl (ap (λ x. fills_lines (flow_of x)) c.in-Some.is, refl))
 
 pub returns-in-None : goal.returns-in-None
 unfolding sheet_of

@@ -1,8 +1,8 @@
-use Rattle.std.proofs.Common.{true, refl}
+use Rattle.std.proofs.Common.{true, [], inr, refl}
 use Rattle.swc_ecma_codegen_text_writer.specs.Sheet.{noted}
 use Rattle.swc_ecma_codegen_text_writer.specs.View.{sheet_of, Reaches}
 use Rattle.swc_ecma_codegen_text_writer.proofs.Sheets.{noted_alike}
-use Rattle.swc_ecma_codegen_text_writer.proofs.Steps.{recorded_sheet, refused_here, refused_pairs, refused_reason}
+use Rattle.swc_ecma_codegen_text_writer.proofs.Steps.{recorded_sheet, refused_here, refused_pairs, refused_reason, refused_room}
 use Rattle.swc_ecma_codegen_text_writer.proofs.basic_impl.Lines.note.Goals as goal
 
 pub returns-in-Ok : goal.returns-in-Ok
@@ -20,3 +20,4 @@ returns-in-Err g c =
     (λ i. record old { refused = true; keeps_positions = c.in-Err.ensures.keeps i; takes_memory = c.in-Err.ensures.keeps i; pairs = refused_pairs c.args.pos _ _ _ _ c.in-Err.refusal refused i; pending = c.in-Err.ensures.pending i })
     (noted_alike c.args.pos old)
     (refused_reason c.args.pos _ _ _ c.in-Err.refusal old _ refused refl refl)
+    (λ q. inr (c.args.pos, [], refused_room c.args.pos _ c.in-Err.refusal old _ refused q))

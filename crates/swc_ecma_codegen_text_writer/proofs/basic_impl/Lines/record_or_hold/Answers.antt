@@ -1,4 +1,4 @@
-use Rattle.std.proofs.Common.{refl, ap, sym, ◌∙◌, not, ◌==◌}
+use Rattle.std.proofs.Common.{inl, refl, ap, sym, ◌∙◌, not, ◌==◌}
 use Rattle.std.proofs.lemmas.Bool.{and_parts, true≢false}
 use Rattle.swc_ecma_codegen_text_writer.specs.Held.{flow_of}
 use Rattle.swc_ecma_codegen_text_writer.specs.Sheet.{Sheet, Segment, Filling, fills_lines, recorded}
@@ -46,3 +46,4 @@ returns-in-Err g c =
     let s : Sheet = sheet_of c.args.self.now in
     refused_here c.in-Err.refusal (recorded c.args.pos s) s _ _ refl (recorded_alike c.args.pos s)
     (may_hold c.in-Err.refusal s _ c.in-Err.ensures.err (ap (λ x. fills_lines (flow_of x)) c.in-Some.is))
+    (λ q. inl (ap (λ x. fills_lines (flow_of x)) c.in-Some.is, refl))

@@ -8,6 +8,7 @@ use Rattle.swc_ecma_codegen_text_writer.specs.Sheet.{Sheet, Segment, Filling, no
 use Rattle.swc_ecma_codegen_text_writer.specs.View.{sheet_of, Reaches, HasReason}
 use Rattle.swc_ecma_codegen_text_writer.proofs.Flushes.{none_some}
 use Rattle.swc_ecma_codegen_text_writer.proofs.InPlace.{in_line_some, in_line_nowhere, released_some}
+use Rattle.swc_ecma_codegen_text_writer.proofs.Room.{writer_not_memory}
 use Rattle.swc_ecma_codegen_text_writer.proofs.Sheets.{front_refl, other_lines}
 use Rattle.swc_ecma_codegen_text_writer.proofs.Steps.{sent_sheet, place_on, place_since, first_halted, reaches_to}
 use Rattle.swc_ecma_codegen_text_writer.proofs.basic_impl.Lines.release_in_place.Goals as goal
@@ -63,5 +64,6 @@ returns-in-Err g c =
       place = place_since c.args.self.now.outlet c.write_text.new.self c.in-Err.ensures.before c.in-Err.ensures.grows;
       more_pairs = front_refl _;
       front_pairs = front_refl _;
+      room = λ q. writer_not_memory q;
       same = refl;
     }))

@@ -4,6 +4,7 @@ use Rattle.swc_ecma_codegen_text_writer.specs.Held.{flow_of}
 use Rattle.swc_ecma_codegen_text_writer.specs.Columns.{Stands}
 use Rattle.swc_ecma_codegen_text_writer.specs.Reach.{Shows}
 use Rattle.swc_ecma_codegen_text_writer.specs.View.{sheet_of, Reaches, HasReason}
+use Rattle.swc_ecma_codegen_text_writer.proofs.Room.{writer_not_memory}
 use Rattle.swc_ecma_codegen_text_writer.proofs.Sheets.{front_refl}
 use Rattle.swc_ecma_codegen_text_writer.proofs.Steps.{sent_sheet, reaches_to, appended_flowing, place_on, place_since}
 use Rattle.swc_ecma_codegen_text_writer.proofs.basic_impl.Lines.send_plainly.Goals as goal
@@ -23,6 +24,7 @@ returns-in-Err g c = reaches_to _ _ _ _ (Err _) (sym (appended_flowing c.args.te
   place = place_since c.args.self.now.outlet c.write_array.new.self c.in-Err.ensures.before c.in-Err.ensures.grows;
   more_pairs = front_refl _;
   front_pairs = front_refl _;
+  room = λ q. writer_not_memory q;
   same = refl;
 })
 

@@ -3,6 +3,7 @@ use Rattle.swc_ecma_codegen_text_writer.specs.Sheet.{released}
 use Rattle.swc_ecma_codegen_text_writer.specs.Columns.{Stands}
 use Rattle.swc_ecma_codegen_text_writer.specs.Reach.{Shows}
 use Rattle.swc_ecma_codegen_text_writer.specs.View.{sheet_of, Reaches, HasReason}
+use Rattle.swc_ecma_codegen_text_writer.proofs.Room.{writer_not_memory}
 use Rattle.swc_ecma_codegen_text_writer.proofs.Sheets.{front_refl}
 use Rattle.swc_ecma_codegen_text_writer.proofs.Steps.{sent_sheet, place_on, place_since}
 use Rattle.swc_ecma_codegen_text_writer.proofs.basic_impl.Lines.sends_array.Goals as goal
@@ -21,6 +22,7 @@ returns-in-Err g c = record {
   place = place_since c.args.self.now.outlet c.write_array.new.self c.in-Err.ensures.before c.in-Err.ensures.grows;
   more_pairs = front_refl _;
   front_pairs = front_refl _;
+  room = λ q. writer_not_memory q;
   same = refl;
 }
 

@@ -25,4 +25,6 @@ returns-in-Ok-clause-pairs g c = λ p h.
     records_new c.args.pos p (g.L.HoldsPairs.pairs w.list) (g.L.HoldsPairs.pairs c.add.new.self) c.stands.result w.reached h (omega arith) (omega arith) (λ e. omega (arith, e, c.requires)) c.stands.ensures c.if-stands.false c.in-Ok.ensures.pushed
 
 pub returns-in-Err-clause-pairs : goal.returns-in-Err-clause-pairs
-returns-in-Err-clause-pairs g c = λ p h. records_refused c.args.pos p (g.L.HoldsPairs.pairs c.args.self.now.list) (g.L.HoldsPairs.pairs c.add.new.self) c.in-Err.ensures.same
+returns-in-Err-clause-pairs g c = λ p h.
+    let w = c.args.self.now in
+    records_refused c.args.pos p (g.L.HoldsPairs.pairs w.list) (g.L.HoldsPairs.pairs c.add.new.self) c.stands.result w.reached h (omega arith) (omega arith) (λ e. omega (arith, e, c.requires)) c.stands.ensures c.if-stands.false c.in-Err.ensures.same

@@ -1,0 +1,5 @@
+use Rattle.swc_ecma_codegen_tokens.proofs.Reading.Answered.{operator_between_adds}
+use Rattle.swc_ecma_codegen_tokens.proofs.LowerEmitter.writes_operator_and_blanks.Goals as goal
+
+pub returns-clause-reads : goal.returns-clause-reads
+returns-clause-reads g c = operator_between_adds c.args.mark c.args.cfg.now (g.W.WriteJs.sheet c.args.wr.now) c.args.self.now (g.W.WriteJs.sheet c.writes_operator_and_blanks_here.new.wr) c.writes_operator_and_blanks_here.new.self _ c.writes_operator_and_blanks_here.ensures.items

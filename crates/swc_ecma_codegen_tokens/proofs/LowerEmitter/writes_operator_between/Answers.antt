@@ -1,0 +1,8 @@
+use Rattle.swc_ecma_codegen_tokens.proofs.Reading.Answered.{operator_between_adds}
+use Rattle.swc_ecma_codegen_tokens.proofs.LowerEmitter.writes_operator_between.Goals as goal
+
+pub returns-then-self-clause-reads : goal.returns-then-self-clause-reads
+returns-then-self-clause-reads g c = operator_between_adds c.args.mark c.args.cfg.now (g.W.WriteJs.sheet c.args.wr.now) c.args.self.now (g.W.WriteJs.sheet c.writes_operator_and_blanks_apart.new.wr) c.writes_operator_and_blanks_apart.new.self _ c.writes_operator_and_blanks_apart.ensures.items
+
+pub returns-clause-reads : goal.returns-clause-reads
+returns-clause-reads g c = operator_between_adds c.args.mark c.args.cfg.now (g.W.WriteJs.sheet c.args.wr.now) c.args.self.now (g.W.WriteJs.sheet c.sends_operator_between.new.wr) c.sends_operator_between.new.self _ c.sends_operator_between.ensures.items
