@@ -6,8 +6,9 @@ ghost use Rattle.std.specs.Prelude.{◌≡◌, ◌≢◌, ◌≤◌, length, IfS
 use crate::input::Input;
 use crate::names;
 use crate::reading::{ExprPartSort, JSXPartSort, Make, Readable, Sort, StmtPartSort, TsPartSort};
-use crate::source::{Failed, Fault, Source};
+use crate::source::{Failed, Fault, Form, Source};
 use crate::stmt_nodes::read_program;
+use crate::trees::Short;
 use serde::{Deserialize, DeserializeOwned, Deserializer, Format};
 use std::alloc::Global;
 use std::cell::Cell;
@@ -54,8 +55,20 @@ impl<const LEVELS: u32, N: Readable> DeserializeOwned for FlatTree<LEVELS, N> {
         alloc: Global,
         from: &mut Deserializer<'_, '_, F>,
     ) -> Result<FlatTree<LEVELS, N>, F::Error> {
-        match read_flat_tree(&mut Input::new(alloc, from), LEVELS) {
+        match read_flat_tree(&mut Input::new(alloc, from, Form::Whole), LEVELS) {
             Ok(program) => Ok(FlatTree(program)),
+            Err(error) => Err(error),
+        }
+    }
+}
+
+impl<const LEVELS: u32, N: Readable> DeserializeOwned for Short<FlatTree<LEVELS, N>> {
+    fn deserialize_owned<F: Format>(
+        alloc: Global,
+        from: &mut Deserializer<'_, '_, F>,
+    ) -> Result<Short<FlatTree<LEVELS, N>>, F::Error> {
+        match read_flat_tree(&mut Input::new(alloc, from, Form::Short), LEVELS) {
+            Ok(program) => Ok(Short(FlatTree(program))),
             Err(error) => Err(error),
         }
     }
@@ -67,6 +80,15 @@ impl<'de, const LEVELS: u32, N: Readable> Deserialize<'de> for FlatTree<LEVELS, 
         from: &mut Deserializer<'de, '_, F>,
     ) -> Result<FlatTree<LEVELS, N>, F::Error> {
         FlatTree::<LEVELS, N>::deserialize_owned(alloc, from)
+    }
+}
+
+impl<'de, const LEVELS: u32, N: Readable> Deserialize<'de> for Short<FlatTree<LEVELS, N>> {
+    fn deserialize<F: Format>(
+        alloc: Global,
+        from: &mut Deserializer<'de, '_, F>,
+    ) -> Result<Short<FlatTree<LEVELS, N>>, F::Error> {
+        Short::<FlatTree<LEVELS, N>>::deserialize_owned(alloc, from)
     }
 }
 
@@ -179,7 +201,7 @@ fn linked<N: Drop>(
     }
 }
 
-/// Reads the object with the list of nodes. Its other members are passed over.
+/// Reads the object with the list of nodes. Its other members are passed over, or refused in the short form.
 fn read_flat<N: Readable, S: Source>(source: &mut S, most: u32) -> Result<Program<N>, Failed> {
     let mut program = None;
     source.begin_object()?;
@@ -192,7 +214,7 @@ fn read_flat<N: Readable, S: Source>(source: &mut S, most: u32) -> Result<Progra
                 }
                 program = Some(read_nodes(source, most)?);
             }
-            Some(_) => source.skip()?,
+            Some(_) => source.skip_unwanted()?,
         }
     }
     match program {

@@ -1,6 +1,6 @@
 //! serde's formats as sources.
 
-use crate::source::{Failed, Fault, Source};
+use crate::source::{Failed, Fault, Form, Source};
 use serde::{DeserializeOwned, Deserializer, Format, Kind, Name};
 use std::alloc::Global;
 
@@ -9,14 +9,20 @@ use std::alloc::Global;
 pub struct Input<'a, 'de, 's, F: Format> {
     alloc: Global,
     from: &'a mut Deserializer<'de, 's, F>,
+    form: Form,
     error: Option<F::Error>,
 }
 
 impl<'a, 'de, 's, F: Format> Input<'a, 'de, 's, F> {
-    pub fn new(alloc: Global, from: &'a mut Deserializer<'de, 's, F>) -> Input<'a, 'de, 's, F> {
+    pub fn new(
+        alloc: Global,
+        from: &'a mut Deserializer<'de, 's, F>,
+        form: Form,
+    ) -> Input<'a, 'de, 's, F> {
         Input {
             alloc,
             from,
+            form,
             error: None,
         }
     }
@@ -61,6 +67,11 @@ impl<'a, 'de, 's, F: Format> Source for Input<'a, 'de, 's, F> {
     #[inline(always)]
     fn alloc(&self) -> Global {
         self.alloc
+    }
+
+    #[inline(always)]
+    fn form(&self) -> Form {
+        self.form
     }
 
     #[inline(always)]
@@ -141,7 +152,10 @@ impl<'a, 'de, 's, F: Format> Source for Input<'a, 'de, 's, F> {
     }
 
     #[inline(always)]
-    fn skip(&mut self) -> Result<(), Failed> {
+    fn skip_unwanted(&mut self) -> Result<(), Failed> {
+        if self.form == Form::Short {
+            return Err(self.fail(Fault::UnknownMember));
+        }
         let read = self.from.skip();
         self.keep(read)
     }
@@ -153,6 +167,7 @@ impl<'a, 'de, 's, F: Format> Source for Input<'a, 'de, 's, F> {
         self.error = Some(match fault {
             Fault::Missing(name) => self.from.missing(name),
             Fault::Duplicate(name) => self.from.duplicate(name),
+            Fault::UnknownMember => self.from.unknown_key(),
             Fault::UnknownVariant => self.from.unknown_variant(),
             Fault::Invalid => self.from.invalid(),
             Fault::NotInItsForm => self.from.custom("a number that isn't in its one form"),

@@ -1,15 +1,24 @@
 //! Positions, operators and the digits of numbers.
 
-use crate::reading::{Make, ReadFrom, Whole, Word, members};
+use crate::reading::{Make, OrDefault, ReadFrom, Whole, Word, members};
 use crate::source::{Failed, Fault, Source};
 use crate::{names, spelled, values};
 use serde::Name;
-use swc_ecma_codegen_common::{AssignOp, BinaryOp, BytePos, Decimal, Span, UnaryOp, UpdateOp};
+use swc_ecma_codegen_common::{
+    AssignOp, BinaryOp, BytePos, DUMMY_SP, Decimal, Span, UnaryOp, UpdateOp,
+};
 
 impl<N: Drop> ReadFrom<N> for Span {
-    type Parts = Whole;
+    type Parts = OrDefault;
 
-    fn of<S: Source, M: Make<N>>(_whole: Whole, source: &mut S, make: &M) -> Result<Span, Failed> {
+    fn of<S: Source, M: Make<N>>(
+        member: OrDefault,
+        source: &mut S,
+        make: &M,
+    ) -> Result<Span, Failed> {
+        if member == OrDefault::LeftOut {
+            return Ok(DUMMY_SP);
+        }
         let values!(lo, hi) = members(names!(lo, hi), source, make)?;
         Ok(Span { lo, hi })
     }

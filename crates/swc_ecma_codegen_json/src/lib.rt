@@ -1,9 +1,10 @@
 //! Reads a program from JSON, in one pass.
 //!
-//! A struct is an object with all its members under their names, in any order. `None` is `null`, a `Vec` is an array, a
-//! `BytePos` a number, and an enum's value an object of one member, `{"Empty":{"span":{"lo":0,"hi":0}}}`, or its name alone
-//! where it holds nothing, `"Add"`. A member that is missing, or that comes twice, is an error; one with another name is
-//! passed over.
+//! A node is written as an object that has each of its fields as a member, by name, in any order: `{"span":{"lo":0,"hi":0}}`.
+//! An option that is absent is written `null`, a list as an array, and a position as a number. A value of an enum is an
+//! object whose only member is named for the variant, `{"Empty":{"span":{"lo":0,"hi":0}}}`, or that name alone where it
+//! holds nothing, `"Add"`. A member that is missing, or that comes twice, is an error; one with another name is
+//! passed over. In the [short form](Short) members that have a default may be missing, and others are errors.
 #![tactic(auto)]
 
 ghost use Rattle.std.specs.Prelude.{◌≡◌, ◌≢◌, Err, IsErrOf};
@@ -49,7 +50,7 @@ mod values;
 
 pub use crate::errors::{Read, ReadError};
 pub use crate::flat::FlatTree;
-pub use crate::trees::Tree;
+pub use crate::trees::{Short, Tree};
 use std::alloc::Global;
 use swc_ecma_codegen_tree::Program;
 

@@ -1,7 +1,7 @@
 //! The members of an object.
 
 use crate::reading::{Make, Parts, ReadFrom};
-use crate::source::{Failed, Fault, Source};
+use crate::source::{Failed, Fault, Form, Source};
 use serde::Name;
 
 /// The values of members that are wanted, one in another: `(A, (B, ()))`.
@@ -15,7 +15,8 @@ pub trait Wanted<N: Drop>: Sized {
     /// Nothing was read yet.
     fn empty() -> Self::Slots;
 
-    /// Reads the member at a place among them, or passes over another one. It says no to one that was read before.
+    /// Reads the member at a place among them, or passes over another one, or refuses it in the short form. It says no to one
+    /// that was read before.
     fn fill<S: Source, M: Make<N>>(
         slots: &mut Self::Slots,
         at: usize,
@@ -23,12 +24,14 @@ pub trait Wanted<N: Drop>: Sized {
         make: &M,
     ) -> Result<bool, Failed>;
 
-    /// What was read. A member that is missing is an error; `at` says where among the names these begin.
-    fn finish<S: Source>(
+    /// What was read. A member that is missing is an error, unless it may be left out; `at` says where among the names these
+    /// begin.
+    fn finish<S: Source, M: Make<N>>(
         slots: Self::Slots,
         names: &[Name<'_>],
         at: usize,
         source: &mut S,
+        make: &M,
     ) -> Result<Self, Failed>;
 }
 
@@ -50,16 +53,17 @@ impl<N: Drop> Wanted<N> for () {
         source: &mut S,
         _make: &M,
     ) -> Result<bool, Failed> {
-        source.skip()?;
+        source.skip_unwanted()?;
         Ok(true)
     }
 
     #[inline(always)]
-    fn finish<S: Source>(
+    fn finish<S: Source, M: Make<N>>(
         _slots: (),
         _names: &[Name<'_>],
         _at: usize,
         _source: &mut S,
+        _make: &M,
     ) -> Result<(), Failed> {
         Ok(())
     }
@@ -96,18 +100,38 @@ impl<N: Drop, T: ReadFrom<N> + Drop, R: Wanted<N>> Wanted<N> for (T, R) {
     }
 
     #[inline(always)]
-    fn finish<S: Source>(
+    fn finish<S: Source, M: Make<N>>(
         slots: (Option<T>, R::Slots),
         names: &[Name<'_>],
         at: usize,
         source: &mut S,
+        make: &M,
     ) -> Result<(T, R), Failed> {
         let (first, rest) = slots;
-        match first {
-            Some(value) => Ok((value, R::finish(rest, names, at.wrapping_add(1), source)?)),
-            None => Err(source.fail(Fault::Missing(name_at(names, at)))),
+        let value = match first {
+            Some(value) => value,
+            None => left_out(name_at(names, at), source, make)?,
+        };
+        Ok((
+            value,
+            R::finish(rest, names, at.wrapping_add(1), source, make)?,
+        ))
+    }
+}
+
+/// What stands for a member that is missing. That is an error, unless it may be left out.
+#[inline(always)]
+fn left_out<N: Drop, T: ReadFrom<N> + Drop, S: Source, M: Make<N>>(
+    name: &str,
+    source: &mut S,
+    make: &M,
+) -> Result<T, Failed> {
+    if source.form() == Form::Short {
+        if let Some(parts) = T::Parts::left_out() {
+            return T::of(parts, source, make);
         }
     }
+    Err(source.fail(Fault::Missing(name)))
 }
 
 /// The values of members in two groups: what a check does of one member in another it does of each group by itself.
@@ -140,20 +164,21 @@ impl<N: Drop, V: Wanted<N> + Drop, W: Wanted<N>> Wanted<N> for Both<V, W> {
     }
 
     #[inline(always)]
-    fn finish<S: Source>(
+    fn finish<S: Source, M: Make<N>>(
         slots: (V::Slots, W::Slots),
         names: &[Name<'_>],
         at: usize,
         source: &mut S,
+        make: &M,
     ) -> Result<Both<V, W>, Failed> {
         let (first, second) = slots;
-        let first = V::finish(first, names, at, source)?;
-        let second = W::finish(second, names, at.wrapping_add(V::count()), source)?;
+        let first = V::finish(first, names, at, source, make)?;
+        let second = W::finish(second, names, at.wrapping_add(V::count()), source, make)?;
         Ok(Both(first, second))
     }
 }
 
-/// The members of an object, in any order. What isn't wanted is passed over.
+/// The members of an object, in any order. What isn't wanted is passed over, or refused in the short form.
 #[inline(always)]
 fn gathered<N: Drop, P: Wanted<N>, S: Source, M: Make<N>>(
     names: &[Name<'_>],
@@ -172,7 +197,7 @@ fn gathered<N: Drop, P: Wanted<N>, S: Source, M: Make<N>>(
             }
         }
     }
-    P::finish(slots, names, 0, source)
+    P::finish(slots, names, 0, source, make)
 }
 
 impl<N: Drop, T: ReadFrom<N> + Drop, R: Wanted<N>> Parts<N> for (T, R) {

@@ -107,6 +107,12 @@ pub trait ReadFrom<N: Drop>: Sized {
 
 /// What is read of a value before it is made.
 pub trait Parts<N: Drop>: Sized {
+    /// What makes the default of a value whose member is left out of the short form; none where there is no default.
+    #[inline(always)]
+    fn left_out() -> Option<Self> {
+        None
+    }
+
     fn begin<S: Source, M: Make<N>>(
         names: &[Name<'_>],
         source: &mut S,
@@ -130,6 +136,34 @@ impl<N: Drop> Parts<N> for Whole {
         _make: &M,
     ) -> Result<Whole, Failed> {
         Ok(Whole)
+    }
+
+    #[inline(always)]
+    fn end<S: Source>(_source: &mut S) {}
+}
+
+/// Nothing, as of `Whole`, of a value that has a default.
+#[derive(Debug, Clone, Copy, PartialEq, Eq)]
+pub enum OrDefault {
+    /// The value stands there.
+    Given,
+    /// Its member is left out.
+    LeftOut,
+}
+
+impl<N: Drop> Parts<N> for OrDefault {
+    #[inline(always)]
+    fn left_out() -> Option<OrDefault> {
+        Some(OrDefault::LeftOut)
+    }
+
+    #[inline(always)]
+    fn begin<S: Source, M: Make<N>>(
+        _names: &[Name<'_>],
+        _source: &mut S,
+        _make: &M,
+    ) -> Result<OrDefault, Failed> {
+        Ok(OrDefault::Given)
     }
 
     #[inline(always)]

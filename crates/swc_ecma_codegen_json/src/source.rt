@@ -7,6 +7,15 @@ use std::alloc::Global;
 #[derive(Debug, Clone, Copy, PartialEq, Eq)]
 pub struct Failed;
 
+/// The forms that a tree is read in.
+#[derive(Debug, Clone, Copy, PartialEq, Eq)]
+pub enum Form {
+    /// All members stand there, and others are passed over.
+    Whole,
+    /// Members that have a default may be left out, and others are refused.
+    Short,
+}
+
 /// What is wrong with what was read.
 #[derive(Debug, Clone, Copy, PartialEq, Eq)]
 pub enum Fault<'a> {
@@ -14,6 +23,8 @@ pub enum Fault<'a> {
     Missing(&'a str),
     /// A member comes a second time.
     Duplicate(&'a str),
+    /// A member stands there that isn't wanted.
+    UnknownMember,
     /// No variant has this name.
     UnknownVariant,
     /// Something else stands where an object or its end was wanted.
@@ -42,6 +53,9 @@ pub enum Fault<'a> {
 pub trait Source {
     /// Where what is read is kept.
     fn alloc(&self) -> Global;
+
+    /// The form that it is in.
+    fn form(&self) -> Form;
 
     fn flag(&mut self) -> Result<bool, Failed>;
 
@@ -73,8 +87,8 @@ pub trait Source {
     /// Where among the names a text stands, or past them.
     fn word(&mut self, names: &[Name<'_>]) -> Result<usize, Failed>;
 
-    /// Passes over a value.
-    fn skip(&mut self) -> Result<(), Failed>;
+    /// Passes over the value of a member that isn't wanted. In the short form it fails.
+    fn skip_unwanted(&mut self) -> Result<(), Failed>;
 
     /// Fails. Of several faults the first is kept.
     fn fail(&mut self, fault: Fault<'_>) -> Failed;

@@ -1,13 +1,20 @@
 //! Flags, texts, numbers, lists, and what may be left out or stands in a box.
 
-use crate::reading::{Make, ReadFrom, Whole};
+use crate::reading::{Make, OrDefault, ReadFrom, Whole};
 use crate::source::{Failed, Fault, Source};
 
 impl<N: Drop> ReadFrom<N> for bool {
-    type Parts = Whole;
+    type Parts = OrDefault;
 
     #[inline(always)]
-    fn of<S: Source, M: Make<N>>(_whole: Whole, source: &mut S, _make: &M) -> Result<bool, Failed> {
+    fn of<S: Source, M: Make<N>>(
+        member: OrDefault,
+        source: &mut S,
+        _make: &M,
+    ) -> Result<bool, Failed> {
+        if member == OrDefault::LeftOut {
+            return Ok(false);
+        }
         source.flag()
     }
 }
@@ -35,15 +42,15 @@ impl<N: Drop> ReadFrom<N> for i32 {
 }
 
 impl<N: Drop, T: ReadFrom<N>> ReadFrom<N> for Option<T> {
-    type Parts = Whole;
+    type Parts = OrDefault;
 
     #[inline(always)]
     fn of<S: Source, M: Make<N>>(
-        _whole: Whole,
+        member: OrDefault,
         source: &mut S,
         make: &M,
     ) -> Result<Option<T>, Failed> {
-        if source.skip_if_null()? {
+        if member == OrDefault::LeftOut || source.skip_if_null()? {
             return Ok(None);
         }
         Ok(Some(T::read_from(source, make)?))
@@ -51,15 +58,18 @@ impl<N: Drop, T: ReadFrom<N>> ReadFrom<N> for Option<T> {
 }
 
 impl<N: Drop, T: ReadFrom<N> + Drop> ReadFrom<N> for Vec<T> {
-    type Parts = Whole;
+    type Parts = OrDefault;
 
     fn of<S: Source, M: Make<N>>(
-        _whole: Whole,
+        member: OrDefault,
         source: &mut S,
         make: &M,
     ) -> Result<Vec<T>, Failed> {
-        source.begin_list()?;
         let mut found = Vec::new(source.alloc());
+        if member == OrDefault::LeftOut {
+            return Ok(found);
+        }
+        source.begin_list()?;
         for _ in 0..u64::MAX {
             if !source.next_item()? {
                 break;

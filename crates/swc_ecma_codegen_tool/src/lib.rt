@@ -34,7 +34,7 @@ use swc_ecma_codegen_json::{Tree, program_from_slice};
 /// program that isn't well-formed is printed too: the name `a b` as `a b;`. With `--positions`, after the text, `err` gets a
 /// line for each position of the source that was recorded: `4 0 2` says that what stands at 4 there was written in line 0, column 2.
 ///
-/// On a fault `err` gets one line, and `out` nothing, save what it took before a fault of its own. The status is 2 for
+/// On a fault `err` gets one line. `out` then holds nothing, unless it was `out` that failed: it may hold what it had taken. The status is 2 for
 /// wrong words, else 1: `cannot read` for a failed read and for bytes that aren't UTF-8, `bad tree` for what is no
 /// program's JSON, `not well-formed` for a program that isn't, and `refused: ` and a reason for an emission that is refused, for
 /// want of memory, and for a fault of `out`, an interruption too (`refused: writer`). Faults are found in this order; what a
