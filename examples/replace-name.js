@@ -9,8 +9,8 @@
 // `{ x: a + b }`. A name that is declared or assigned to stays.
 const { spawnSync } = require('child_process');
 const { readFileSync } = require('fs');
-const { byName } = require('../scripts/tree_of/files.js');
-const { treeOf } = require('../scripts/tree_of/tree.js');
+const { byName } = require('../packages/ecmaprint/lib/tree_of/files.js');
+const { treeOf } = require('../packages/ecmaprint/lib/tree_of/tree.js');
 
 const [program, name, expression, file] = process.argv.slice(2);
 
