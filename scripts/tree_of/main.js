@@ -1,8 +1,8 @@
 'use strict';
 // See scripts/tree-of.
 const { writeFileSync } = require('fs');
-const { FLAGS, Fault, byName, faultOf, textOf, located, titleOf } = require('./files.js');
-const { treeOf } = require('./tree.js');
+const { FLAGS, Fault, byName, faultOf, textOf, located, titleOf } = require('../../packages/ecmaprint/lib/tree_of/files.js');
+const { treeOf } = require('../../packages/ecmaprint/lib/tree_of/tree.js');
 
 const OWN = { '--estree': 'estree', '--without-parentheses': 'bare', '--parenthesize': 'mends', '--flat': 'flat' };
 
@@ -32,7 +32,7 @@ function parsedJson(text, path) {
 function made(asked) {
   const text = textOf(asked.path);
   try {
-    return asked.estree ? require('./ast_tree.js').treeOfAst(parsedJson(text, asked.path), asked) : treeOf(text, asked);
+    return asked.estree ? require('../../packages/ecmaprint/lib/tree_of/ast_tree.js').treeOfAst(parsedJson(text, asked.path), asked) : treeOf(text, asked);
   } catch (error) {
     throw located(error, asked.path);
   }
@@ -62,7 +62,7 @@ function main() {
   }
   const { tree, comments, warnings } = made(asked);
   const shaped = reshaped(tree, asked);
-  written(1, asked.flat ? require('./flat.js').flat(shaped) : shaped);
+  written(1, asked.flat ? require('../../packages/ecmaprint/lib/tree_of/flat.js').flat(shaped) : shaped);
   if (asked.comments !== null) written(asked.comments, comments);
   warnings.forEach((warning) => console.error(`${titleOf(asked.path)}:${warning}`));
 }
