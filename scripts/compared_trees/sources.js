@@ -3,9 +3,9 @@
 const { spawn } = require('child_process');
 const { existsSync, readFileSync } = require('fs');
 const { createInterface } = require('readline');
-const { byName } = require('../tree_of/files.js');
-const { flat } = require('../tree_of/flat.js');
-const { treeOf } = require('../tree_of/tree.js');
+const { byName } = require('../../packages/ecmaprint/lib/tree_of/files.js');
+const { flat } = require('../../packages/ecmaprint/lib/tree_of/flat.js');
+const { treeOf } = require('../../packages/ecmaprint/lib/tree_of/tree.js');
 
 const MANNERS = {
   pretty: { config: {}, args: [] },

@@ -5,7 +5,7 @@
 //
 // A line may be ended right behind `,` `;` `(` `[` `{`, and behind the operator of two operands, but not in templates and JSX.
 const { createInterface } = require('readline');
-const { parsed } = require('../tree_of/parser.js');
+const { parsed } = require('../../packages/ecmaprint/lib/tree_of/parser.js');
 
 const OPENS = [',', ';', '(', '[', '{'];
 const BINARY = ['BinaryExpression', 'LogicalExpression'];

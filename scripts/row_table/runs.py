@@ -132,6 +132,9 @@ def of_row_mended(rows_of, word, rest):
     sort, _, plain = word.rpartition("_")
     if (word, rest[0]) == ("mended", "fewest"):
         return [(["--fewest"], of_sort(rows_of, sort, rest[1]), (0, rest[2] + "\n", ""))]
+    # (one that isn't curable is refused, and what the pass makes of one that lacks a pair isn't told here)
+    if word == "told_program":
+        return mends(framed(PROGRAM, rest[0]), rest[1]) if rest[1] != "110" else []
     if plain not in ("mended", "structure") or rest[0] != ("program" if sort else "script") or UNMENDED.search(rest[1]):
         return []
     json = of_sort(rows_of, sort, rest[1])

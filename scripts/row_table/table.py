@@ -187,6 +187,8 @@ class Table:
             return [] if rest[1] or "`" in rest[0] else [self.of_steps(row, ["--minify", "--bare", "--max-line", rest[2]], word, rest[0], rest[3])]
         if word in ("tree", "malformed", "script", "script_malformed"):
             return self.both(row, *rest, word.startswith("script"))
+        if word.endswith("bare_for"):
+            return [self.of_steps(row, ["--minify", "--bare", "--target", rest[0].lower()], word, *rest[1:])]
         if word == "node":
             return [self.case(row, [], *rest)]
         if word in ("prints", "script_prints"):

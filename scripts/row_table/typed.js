@@ -1,6 +1,6 @@
 'use strict';
 // Trees that hold TypeScript, and whether a text is read as one of them.
-const { treeOf } = require('../tree_of/tree.js');
+const { treeOf } = require('../../packages/ecmaprint/lib/tree_of/tree.js');
 
 const TYPES = ['type_ann', 'type_args', 'type_params', 'return_type', 'super_type_params', 'accessibility'];
 const FLAGS = ['declare', 'type_only', 'is_type_only', 'definite', 'is_abstract', 'is_optional', 'is_override', 'readonly'];

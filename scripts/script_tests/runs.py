@@ -11,10 +11,15 @@ LIB_DOM = "/usr/share/nodejs/typescript/lib/lib.dom.d.ts"
 PACKAGES = {**os.environ, "NODE_PATH": "/usr/share/nodejs:/usr/lib/nodejs"}
 
 
+def path_of(name):
+    """Where a script is: those for developers have a folder of their own."""
+    return next((path for path in (f"{SCRIPTS}/{name}", f"{SCRIPTS}/dev/{name}") if os.path.isfile(path)), f"{SCRIPTS}/{name}")
+
+
 def run(name, *words, given="", seconds=120):
     """What a script does with these words: its status, and the texts of both of its streams."""
     return subprocess.run(
-        [f"{SCRIPTS}/{name}", *words], input=given, capture_output=True, text=True, check=False, timeout=seconds, cwd=TOP
+        [path_of(name), *words], input=given, capture_output=True, text=True, check=False, timeout=seconds, cwd=TOP
     )  # fmt: skip
 
 
@@ -31,6 +36,7 @@ def node(name, *words, given=""):
 
 def write(folder, name, text):
     path = os.path.join(folder, name)
+    os.makedirs(os.path.dirname(path), exist_ok=True)
     with open(path, "w", encoding="utf-8", newline="") as file:
         file.write(text)
     return path

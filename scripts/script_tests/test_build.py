@@ -5,6 +5,7 @@ import re
 import shutil
 import subprocess
 import tempfile
+import time
 import unittest
 
 from runs import SCRIPTS, text_of, write, write_program
@@ -72,6 +73,35 @@ class Building(unittest.TestCase):
         write_program(self.top, "scripts/build-unproved", "exit 1")
         self.assertEqual(self.built("app"), ("", 1, []))
         self.assertEqual(text_of(f"{self.top}/out/app"), "made\n")
+
+    def test_one_run_waits_for_another(self):
+        begun, ends = f"{self.top}/begun", f"{self.top}/ends"
+        write_program(self.top, "scripts/build-unproved", f'echo one >> {begun}; while [ ! -e {ends} ]; do sleep 0.05; done; echo made > "$3"')
+        words, environment = [f"{self.top}/scripts/build", "app"], {**os.environ, "PATH": f"{self.top}/bin:{os.environ['PATH']}"}
+        start = lambda: subprocess.Popen(words, stdout=subprocess.PIPE, stderr=subprocess.PIPE, text=True, env=environment)
+        with start() as first:
+            while not os.path.exists(begun):
+                time.sleep(0.05)
+            with start() as second:
+                self.assertEqual(second.stderr.readline(), "out/app: another run builds it, and this one waits for that\n")
+                write(self.top, "ends", "")
+                self.assertEqual(second.communicate()[0], "out/app: up to date\n")
+            self.assertRegex(first.communicate()[0], r"^out/app: built in \d+ s\n$")
+        self.assertEqual(text_of(begun), "one\n")
+        self.assertEqual(sorted(os.listdir(f"{self.top}/out")), ["app", "app.lock", "app.sources"])
+
+    def test_a_folder_that_cannot_be_written(self):
+        write(self.top, "out", "")
+        ran = subprocess.run([f"{self.top}/scripts/build", "app"], capture_output=True, text=True, check=False)
+        self.assertEqual((ran.returncode, ran.stdout), (1, ""))
+        self.assertIn("/out: nothing can be written there: ", ran.stderr)
+
+    def test_progress(self):
+        words, environment = [f"{self.top}/scripts/build", "app", "shown"], {**os.environ, "PATH": f"{self.top}/bin:{os.environ['PATH']}"}
+        for told in ("that takes 2 to 5 minutes", "the last time it took 0 s"):
+            ran = subprocess.run([*words, "--force"], capture_output=True, text=True, check=False, env=environment)
+            self.assertEqual(ran.stderr.split("\n")[0], f"out/app: is built now (1 of 2); {told}")
+            self.assertEqual(ran.stderr.split("\n")[1], f"out/swc_ecma_codegen_shown: is built now (2 of 2); {told}")
 
     def test_what_is_no_program(self):
         for name in ("below", "nix", "../app"):

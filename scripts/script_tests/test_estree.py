@@ -92,9 +92,9 @@ class Asts(unittest.TestCase):
 
     def test_what_is_no_ast(self):
         for text, error in (
-            ("{", "no JSON"), ("[]", "no AST of a program"), ('{"type":"Program","body":[{"type":"Nix"}]}', "Nix is not a statement"),
-            ('{"type":"Program","body":[{"type":"ExpressionStatement"}]}', "ExpressionStatement lacks a node"),
-            ('{"type":"Program","body":[{"type":"VariableDeclaration","kind":"var"}]}', "VariableDeclaration lacks a part"),
+            ("{", "no JSON"), ("[]", "no AST of a program"), ('{"type":"Program","body":[{"type":"Nix"}]}', "Nix is no type of node"),
+            ('{"type":"Program","body":[{"type":"ExpressionStatement"}]}', "`expression` of ExpressionStatement has no node"),
+            ('{"type":"Program","body":[{"type":"VariableDeclaration","kind":"var"}]}', "`declarations` of VariableDeclaration has no list"),
         ):  # fmt: skip
             with self.subTest(text=text):
                 ran = run("tree-of", "--estree", "-", given=text)

@@ -20,6 +20,11 @@ class Structure(unittest.TestCase):
         self.assertIn(" 0 disagreements", self.agreed("--trees", "150", "--pass"))
         self.assertIn(" 0 disagreements", self.agreed("--trees", "300", "--cut"))
 
+    def test_names_and_operators_in_each_place(self):
+        told = self.agreed("--contexts", "--trees", "2000")
+        self.assertRegex(told, r"^\d{4} programs, \d+ derivations; \d+ where one parser alone says otherwise; 0 disagreements\n$")
+        self.assertIn(" 0 disagreements", self.agreed("--deep", "--trees", "1500"))
+
     def test_files(self):
         told = self.agreed(JQUERY)
         self.assertIn("1 are derivations; without their parentheses and after the pass 1 are read as the same tree, 1 as that of the file", told)

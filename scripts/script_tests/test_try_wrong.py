@@ -62,7 +62,9 @@ def write_crate(top):
     """A repository with one crate and this script."""
     for folder in ("command_line", "unproved", "wrong_bodies"):
         shutil.copytree(f"{SCRIPTS}/{folder}", f"{top}/scripts/{folder}", ignore=shutil.ignore_patterns("__pycache__"))
-    shutil.copy(f"{SCRIPTS}/try-wrong", f"{top}/scripts/try-wrong")
+    script = f"{top}/scripts/try-wrong"
+    os.makedirs(os.path.dirname(script), exist_ok=True)
+    shutil.copy(f"{SCRIPTS}/try-wrong", script)
     for folder in ("src", "wrong"):
         os.makedirs(f"{top}/crates/tiny/{folder}")
     write(top, "crates.txt", "tiny:\n")

@@ -7,11 +7,17 @@ from concurrent.futures import ThreadPoolExecutor
 
 from runs import SCRIPTS, run, write
 
-ALL = sorted(
-    name for name in os.listdir(SCRIPTS) if os.path.isfile(f"{SCRIPTS}/{name}") and os.access(f"{SCRIPTS}/{name}", os.X_OK)
-)  # fmt: skip
+
+def scripts_in(folder):
+    """The scripts of a folder below scripts/, by their paths there."""
+    names = os.listdir(f"{SCRIPTS}/{folder}") if os.path.isdir(f"{SCRIPTS}/{folder}") else []
+    paths = [os.path.join(folder, name) for name in sorted(names)]
+    return [path for path in paths if os.path.isfile(f"{SCRIPTS}/{path}") and os.access(f"{SCRIPTS}/{path}", os.X_OK)]
+
+
+ALL = [*scripts_in(""), *scripts_in("dev")]
 # these do their work without words
-BUSY = ["build", "build-bench", "jsx-trees", "make-cases", "make-map", "read-back", "test", "try-runs", "try-tests", "try-trees", "ts-trees"]
+BUSY = ["build", "build-bench", "install", "jsx-trees", "make-cases", "make-links", "make-map", "make-visit-files", "pack", "read-back", "test", "try-runs", "try-tests", "try-trees", "ts-trees"]
 
 
 MISSING = f"{os.path.abspath(__file__)}/missing"  # below a file nothing can be made either
@@ -36,7 +42,7 @@ class Words(unittest.TestCase):
                 self.assertIn(f"usage: scripts/{name}", ran.stdout)
 
     def test_no_words(self):
-        for (name, _), ran in answers([(name, []) for name in ALL if name not in BUSY]):
+        for (name, _), ran in answers([(name, []) for name in ALL if os.path.basename(name) not in BUSY]):
             with self.subTest(script=name):
                 self.assertEqual((ran.returncode, ran.stdout), (2, ""))
                 self.assertIn(f"usage: scripts/{name}", ran.stderr)

@@ -16,21 +16,21 @@ const EXPRESSIONS = {
   Array: (walk, part, context, within) => ({ ...part, elems: part.elems.map((each) => each && walk.argument(each, within)) }),
   Object: (walk, part, context, within) => ({ ...part, props: part.props.map((each) => walk.property(each, within)) }),
   Fn: (walk, part, context) => {
-    walk.name(part.ident, { ...context, yield: part.function.is_generator, await: part.function.is_async });
+    walk.bound(part.ident, { ...context, yield: part.function.is_generator, await: part.function.is_async });
     return { ...part, function: walk.function(part.function, context) };
   },
   Class: (walk, part, context) => {
-    walk.name(part.ident, { ...context, strict: true });
+    walk.bound(part.ident, { ...context, strict: true });
     return { ...part, class: walk.class(part.class, context) };
   },
   Unary: (walk, part, context, within) => ({ ...part, arg: walk.expr(part.arg, 'Unary', within) }),
   Await: (walk, part, context, within) => {
-    if (!context.await) walk.fault('grammar', 'await without [Await]');
+    if (!context.await || context.bars) walk.fault('grammar', 'await where it is no operator');
     return { ...part, arg: walk.expr(part.arg, 'Unary', within) };
   },
   Update: (walk, part, context, within) => {
     const arg = walk.expr(part.arg, part.prefix ? 'Unary' : 'LeftHandSide', within);
-    if (!walk.isSimple(arg)) walk.fault('grammar', 'target of an update');
+    if (!walk.isSimple(arg, context)) walk.fault('grammar', 'target of an update');
     return { ...part, arg };
   },
   Bin: (walk, part, context) => walk.binary(part, context),
@@ -46,7 +46,7 @@ const EXPRESSIONS = {
     return { ...part, exprs: part.exprs.map((each) => walk.expr(each, 'Assignment', context)) };
   },
   Yield: (walk, part, context) => {
-    if (!context.yield) walk.fault('grammar', 'yield without [Yield]');
+    if (!context.yield || context.bars) walk.fault('grammar', 'yield where it is no operator');
     if (part.delegate && !part.arg) walk.fault('grammar', 'yield* without operand');
     return { ...part, arg: walk.optionalExpr(part.arg, 'Assignment', context) };
   },
@@ -182,7 +182,7 @@ const expressions = {
 
   // The context of a body of its own, as a getter's.
   plain(context) {
-    return { ...context, in: true, yield: false, await: false, return: true, block: false };
+    return { ...context, in: true, yield: false, await: false, return: true, bars: true };
   },
 
   // Functions' parameters and bodies are those of functions.js.
@@ -190,9 +190,9 @@ const expressions = {
     const { params, body, is_async, is_generator } = part;
     if (part.type_params || part.return_type) this.scope('types of a function');
     if (is_generator) this.fault('grammar', 'arrow generator');
-    // (15.9: in parentheses [~Yield, +Await])
-    const own = { ...context, in: true, await: is_async || context.await, yield: is_async ? false : context.yield };
-    const inner = { ...context, yield: false, await: is_async };
+    // (15.9: [~Yield, +Await], which [?Yield, ?Await] covers)
+    const own = { ...context, in: true, await: is_async || context.await, bars: true };
+    const inner = { ...context, yield: false, await: is_async, bars: false };
     const made = body.BlockStmt
       ? { BlockStmt: this.functionBody(body.BlockStmt, inner) }
       : { Expr: this.exprNot(body.Expr, 'Assignment', inner, BEGINNINGS.arrowBody, 'the body of an arrow') };

@@ -1,10 +1,10 @@
 'use strict';
 // Functions and classes, ECMA-262 15.
-const { tag, paren } = require('./nodes.js');
+const { tag, paren, valueOf } = require('./nodes.js');
 
 const MARKS = ['accessibility', 'is_abstract', 'is_optional', 'is_override', 'readonly', 'declare', 'definite', 'type_ann'];
 
-const isConstructorName = (key) => (key.Ident && key.Ident.sym === 'constructor') || (key.Str && key.Str.value === 'constructor');
+const isConstructorName = (key) => (key.Ident && valueOf(key.Ident.sym) === 'constructor') || (key.Str && key.Str.value === 'constructor');
 const isPath = (node) => !!node.Ident || (!!node.Member && !node.Member.prop.Computed && isPath(node.Member.obj));
 const isDecorator = (node) => !!node.Paren || isPath(node) || !!(node.Call && node.Call.callee.Expr && isPath(node.Call.callee.Expr));
 
@@ -21,7 +21,7 @@ const MEMBERS = {
     ...walk.field(part, context), key: part.key.Public ? { Public: walk.propName(part.key.Public, context) } : part.key,
   }),
   StaticBlock: (walk, part, context) => ({
-    ...part, body: walk.block(part.body, { ...context, yield: false, await: true, return: walk.returnsAnywhere, block: true }),
+    ...part, body: walk.block(part.body, { ...context, yield: false, await: true, return: walk.returnsAnywhere, bars: true }),
   }),
   Empty: (walk, part) => part,
 };
@@ -37,14 +37,14 @@ const functions = {
   },
 
   function(part, context) {
-    const own = { ...context, in: true, yield: part.is_generator, await: part.is_async, return: true, block: false };
+    const own = { ...context, in: true, yield: part.is_generator, await: part.is_async, return: true, bars: true };
     if (part.type_params || part.return_type || !part.body) this.scope('types of a function');
     if (part.params.some(({ decorators }) => decorators.length)) this.scope('decorators of parameters');
     return { ...part, params: this.parameters(part.params, own), body: part.body && this.functionBody(part.body, own) };
   },
 
   functionBody(block, context) {
-    return this.block(block, { ...context, in: true, return: true, block: false });
+    return this.block(block, { ...context, in: true, return: true, bars: false });
   },
 
   class(part, outside) {
@@ -101,7 +101,7 @@ const functions = {
 
   field(part, context) {
     this.checkMarks(part);
-    const value = this.optionalExpr(part.value, 'Assignment', { ...context, yield: false, await: false });
+    const value = this.optionalExpr(part.value, 'Assignment', { ...context, yield: false, await: false, bars: false });
     return { ...part, decorators: this.decorators(part.decorators, context), value };
   },
 };

@@ -30,6 +30,7 @@ const jsx = {
   jsxAttribute(attribute, context) {
     if (attribute.SpreadElement) return { SpreadElement: this.argument(attribute.SpreadElement, context) };
     const { value } = attribute.JSXAttr;
+    if (value && value.JSXExprContainer && !value.JSXExprContainer.expr.Expr) this.fault('grammar', 'an attribute of no value');
     return { JSXAttr: { ...attribute.JSXAttr, value: value && this.jsxChild(value, context) } };
   },
 

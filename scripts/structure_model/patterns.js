@@ -1,12 +1,13 @@
 'use strict';
 // Targets of assignments and patterns, ECMA-262 8.6.4, 13.15 and 14.3.3.
-const { tag } = require('./nodes.js');
+const { tag, valueOf } = require('./nodes.js');
 
 const patterns = {
   // Whether AssignmentTargetType is simple.
-  isSimple(node) {
+  isSimple(node, context) {
     const kind = tag(node);
-    return ['Ident', 'Member', 'SuperProp'].includes(kind) || (kind === 'Paren' && this.isSimple(node.Paren.expr));
+    if (kind === 'Ident') return !(context.strict && ['eval', 'arguments'].includes(valueOf(node.Ident.sym)));
+    return kind === 'Member' || kind === 'SuperProp' || (kind === 'Paren' && this.isSimple(node.Paren.expr, context));
   },
 
   target(target, op, context) {
@@ -17,14 +18,14 @@ const patterns = {
     const { Simple: simple } = target, kind = tag(simple);
     if (kind === 'Ident') {
       if (simple.Ident.type_ann) this.scope('type');
-      this.name(simple.Ident.id, context);
+      this.bound(simple.Ident.id, context);
       return target;
     }
     if (!['Member', 'SuperProp', 'Paren', 'OptChain'].includes(kind)) {
       this.scope(`target ${kind}`);
       return target;
     }
-    if (kind === 'Paren' && !this.isSimple(simple)) this.fault('grammar', 'target in parentheses');
+    if (kind === 'Paren' && !this.isSimple(simple, context)) this.fault('grammar', 'target in parentheses');
     if (kind === 'OptChain') this.fault('grammar', 'optional chain as a target');
     return { Simple: this.expr(simple, 'LeftHandSide', context) };
   },
@@ -34,7 +35,7 @@ const patterns = {
     const within = { ...context, in: true }, kind = tag(pat), part = pat[kind];
     if (part.type_ann || part.optional) this.scope('type of a pattern');
     switch (kind) {
-      case 'Ident': this.name(part.id, context); return pat;
+      case 'Ident': this.bound(part.id, context); return pat;
       case 'Array': return { Array: { ...part, elems: part.elems.map((each, at) => each && this.element(each, within, assigns, at === part.elems.length - 1)) } };
       case 'Object': return { Object: { ...part, props: part.props.map((each, at) => this.patProp(each, within, assigns, at === part.props.length - 1)) } };
       case 'Expr': return this.patExpr(pat, within, assigns);
@@ -47,14 +48,14 @@ const patterns = {
       this.fault('grammar', 'an expression in a binding');
       return pat;
     }
-    this.checkTarget(pat.Expr);
+    this.checkTarget(pat.Expr, context);
     return { Expr: this.expr(pat.Expr, 'LeftHandSide', context) };
   },
 
   // An expression that stands as a pattern: a name is a pattern by itself.
-  checkTarget(node) {
+  checkTarget(node, context) {
     if (node.Ident) this.fault('grammar', 'a name as an expression of a pattern');
-    else if (!this.isSimple(node)) this.fault('grammar', 'a target that is none');
+    else if (!this.isSimple(node, context)) this.fault('grammar', 'a target that is none');
   },
 
   // `...a`, which stands last.
@@ -85,7 +86,7 @@ const patterns = {
     }
     const { key, value } = prop.Assign;
     if (key.type_ann) this.scope('type');
-    this.name(key.id, context);
+    this.bound(key.id, context);
     return { Assign: { ...prop.Assign, value: this.optionalExpr(value, 'Assignment', { ...context, in: true }) } };
   },
 };

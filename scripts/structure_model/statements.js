@@ -1,6 +1,6 @@
 'use strict';
 // Statements and declarations, ECMA-262 14.
-const { NOWHERE, tag, paren } = require('./nodes.js');
+const { NOWHERE, tag, paren, valueOf } = require('./nodes.js');
 const { BEGINNINGS, endsInIf, endsInDoWhile } = require('./edges.js');
 
 const isPlainFunction = (decl) => !!decl && !!decl.Fn && !decl.Fn.function.is_async && !decl.Fn.function.is_generator;
@@ -21,10 +21,11 @@ const STATEMENTS = {
   Break: (walk, part, context) => { walk.name(part.label, context); return part; },
   Continue: (walk, part, context) => { walk.name(part.label, context); return part; },
   If: (walk, part, context, within) => walk.ifStatement(part, context, within),
-  Switch: (walk, part, context, within) => ({
-    ...part, discriminant: walk.expr(part.discriminant, 'Expression', within),
-    cases: part.cases.map((each) => ({ ...each, test: walk.optionalExpr(each.test, 'Expression', within), cons: walk.list(each.cons, context) })),
-  }),
+  Switch: (walk, part, context, within) => {
+    if (part.cases.filter(({ test }) => !test).length > 1) walk.fault('grammar', 'a second default');
+    const cases = part.cases.map((each) => ({ ...each, test: walk.optionalExpr(each.test, 'Expression', within), cons: walk.list(each.cons, context) }));
+    return { ...part, discriminant: walk.expr(part.discriminant, 'Expression', within), cases };
+  },
   Throw: (walk, part, context, within) => ({ ...part, arg: walk.expr(part.arg, 'Expression', within) }),
   Try: (walk, part, context) => walk.tryStatement(part, context),
   While: (walk, part, context, within) => ({ ...part, test: walk.expr(part.test, 'Expression', within), body: walk.body(part.body, context) }),
@@ -37,7 +38,7 @@ const STATEMENTS = {
     ...part, left: walk.head(part.left, context, false, false), right: walk.expr(part.right, 'Expression', within), body: walk.body(part.body, context),
   }),
   ForOf: (walk, part, context, within) => {
-    if (part.is_await && !context.await) walk.fault('grammar', 'for await without [Await]');
+    if (part.is_await && (!context.await || context.bars)) walk.fault('grammar', 'for await where await is no operator');
     const left = walk.head(part.left, context, true, part.is_await);
     return { ...part, left, right: walk.expr(part.right, 'Assignment', within), body: walk.body(part.body, context) };
   },
@@ -45,7 +46,7 @@ const STATEMENTS = {
 
 const statements = {
   block(part, context) {
-    return { ...part, stmts: this.list(part.stmts, context) };
+    return { ...part, stmts: this.list(part.stmts, { ...context, top: false }) };
   },
 
   list(stmts, context) {
@@ -109,15 +110,12 @@ const statements = {
   },
 
   head(head, context, isOf, isAwait) {
-    if (head.UsingDecl) {
-      this.scope('using');
-      return head;
-    }
+    if (head.UsingDecl) return { UsingDecl: this.headUsing(head.UsingDecl, context, isOf) };
     if (head.VarDecl) return { VarDecl: this.headVariables(head.VarDecl, context, isOf) };
     const { Pat: pat } = head;
     if (pat.Ident) return { Pat: this.headName(pat, context, isOf, isAwait) };
     if (!pat.Expr) return { Pat: this.pattern(pat, context, true) };
-    this.checkTarget(pat.Expr);
+    this.checkTarget(pat.Expr, context);
     const begins = isOf ? BEGINNINGS.headOfForOf : BEGINNINGS.head;
     return { Pat: { Expr: this.exprNot(pat.Expr, 'LeftHandSide', { ...context, in: true }, begins, 'the head of for') } };
   },
@@ -132,11 +130,34 @@ const statements = {
 
   headName(pat, context, isOf, isAwait) {
     const { sym } = pat.Ident.id;
-    this.name(pat.Ident.id, context);
+    this.bound(pat.Ident.id, context);
     if (!isOf || (sym !== 'let' && (sym !== 'async' || isAwait))) return pat;
     if (this.mends) return { Expr: paren({ Ident: pat.Ident.id }) };
     this.fault('lookahead', `${sym} of`);
     return pat;
+  },
+
+  // `using a = b` (proposal): names, each with a value; in a block, a function or a module, and `await using` where `await a` may stand.
+  using(part, context) {
+    if (context.top) this.fault('grammar', 'using in a script');
+    this.checkUsing(part, context);
+    if (part.decls.some(({ init }) => !init)) this.fault('grammar', 'using without a value');
+    return { ...part, decls: part.decls.map((each) => this.declarator(each, context, false)) };
+  },
+
+  // `for (using a of b)`, where no name is `of` (`for (await using of of b)` is none either)
+  headUsing(part, context, isOf) {
+    this.checkUsing(part, context);
+    const [{ name, init }, ...others] = part.decls;
+    if (!isOf || init || others.length) this.fault('grammar', 'what the head of for declares');
+    if (name.Ident && name.Ident.id.sym === 'of') this.fault('grammar', 'using of');
+    return { ...part, decls: part.decls.map((each) => this.declarator(each, { ...context, in: false }, true)) };
+  },
+
+  checkUsing(part, context) {
+    if (part.is_await && (!context.await || context.bars)) this.fault('grammar', 'await using where await is no operator');
+    if (part.decls.length === 0 || part.decls.some(({ name }) => !name.Ident)) this.fault('grammar', 'using of a pattern');
+    if (part.decls.some(({ name }) => name.Ident && valueOf(name.Ident.id.sym) === 'await')) this.fault('grammar', 'using await');
   },
 
   variables(part, context) {
@@ -155,13 +176,14 @@ const statements = {
   decl(decl, context, isItem) {
     const kind = tag(decl), part = decl[kind];
     if (!isItem && !(kind === 'Var' && part.kind === 'Var')) this.fault('grammar', 'a declaration as a statement');
+    if (kind === 'Using') return { Using: this.using(part, { ...context, in: true }) };
     if (!['Var', 'Fn', 'Class'].includes(kind)) {
       this.scope(kind);
       return decl;
     }
     if (kind === 'Var') return { Var: this.variables(part, { ...context, in: true }) };
     if (part.declare) this.scope('declare');
-    this.name(part.ident, kind === 'Class' ? { ...context, strict: true } : context);
+    this.bound(part.ident, kind === 'Class' ? { ...context, strict: true } : context);
     return kind === 'Fn' ? { Fn: { ...part, function: this.function(part.function, context) } } : { Class: { ...part, class: this.class(part.class, context) } };
   },
 };

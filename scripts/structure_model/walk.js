@@ -2,7 +2,7 @@
 // Goes through a tree by the productions of docs/LEVELS.md: finds where it is no derivation, or puts parentheses there. Each file beside this one
 // has the methods for an area of the tree; a method returns its node, with parentheses where they are put.
 const { GOALS, levelOf } = require('./levels.js');
-const { tag, paren } = require('./nodes.js');
+const { tag, paren, valueOf } = require('./nodes.js');
 const { leftmost } = require('./edges.js');
 
 const RESERVED = new Set((
@@ -12,7 +12,8 @@ const RESERVED = new Set((
 const CALLED = new Set(['Callee', 'ChainBase', 'ChainLink']);
 const STRICT = new Set('implements interface let package private protected public static yield'.split(' '));
 
-// A context has the parameters of a goal, [In], [Yield], [Await] and [Return], and whether the code is strict, a module's or a static block's.
+// A context has the parameters of a goal, [In], [Yield], [Await] and [Return], whether the code is strict or a module's, and whether `yield` and `await`
+// are barred as operators, as among parameters.
 class Walk {
   // With `mends` parentheses are put; `minified` asks for the text without blanks, `annexB` for what browsers take besides (Annex B of ECMA-262).
   constructor({ mends = false, minified = false, annexB = false, strictWords = true } = {}) {
@@ -57,12 +58,18 @@ class Walk {
   // A name (13.1): of a reference, a binding or a label.
   name(ident, context) {
     if (!ident) return;
-    const { sym, optional } = ident;
+    const { optional } = ident, sym = valueOf(ident.sym);
     if (optional) this.scope('optional name');
     if (RESERVED.has(sym)) this.fault('grammar', 'reserved word as a name');
     if (sym === 'yield' && (context.yield || context.strict)) this.fault('grammar', 'yield as a name');
-    if (sym === 'await' && (context.await || context.module || context.block)) this.fault('grammar', 'await as a name');
+    if (sym === 'await' && (context.await || context.module)) this.fault('grammar', 'await as a name');
     if (this.strictWords && context.strict && STRICT.has(sym)) this.fault('grammar', 'strict reserved word');
+  }
+
+  // One that is bound or assigned to (13.1.1, 13.1.3).
+  bound(ident, context) {
+    this.name(ident, context);
+    if (ident && context.strict && ['eval', 'arguments'].includes(valueOf(ident.sym))) this.fault('grammar', 'eval or arguments as a target');
   }
 }
 
