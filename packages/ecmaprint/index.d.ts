@@ -87,7 +87,7 @@ export interface GeneratorResult {
 
 /** Why there is no text. */
 export class PrintError extends Error {
-  kind: 'unsupported' | 'not well-formed' | 'not a derivation' | 'refused' | 'bad option' | 'no program' | 'no library' | 'program ended' | 'bad request' | 'bad tree' | 'bad JSON';
+  kind: 'unsupported' | 'not well-formed' | 'not a derivation' | 'too deep' | 'refused' | 'bad option' | 'no program' | 'no library' | 'program ended' | 'bad request' | 'bad tree' | 'bad JSON';
   /** The same, as `ECMAPRINT_NOT_WELL_FORMED`. */
   code: string;
   reason: string;
@@ -105,7 +105,7 @@ export interface PrinterOptions {
   program?: string;
   /** The way by which `printSync` asks it: named pipes (Unix), a thread, or a process a call. */
   sync?: 'pipes' | 'thread' | 'spawn';
-  /** Whether the program reads trees without the members that have their defaults, as `ecmaprint` does not yet. */
+  /** Whether trees are sent without the members that have their defaults: true unless given. A program that doesn't read one gets all members. */
   isShort?: boolean;
 }
 

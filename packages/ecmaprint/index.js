@@ -8,10 +8,10 @@ const { generatorOptions, generatorResult } = require('./lib/generate.js');
 
 const CHANNELS = { pipes: Pipes, thread: Threaded, spawn: Spawning };
 
-// A running program. `sync` says by which way `printSync` asks it: `pipes` (Unix), `thread`, or `spawn`, a process a call. `isShort` says that the
-// program reads trees without the members that have their defaults. Where it doesn't, the call is made again with all, as are the next ones.
+// A running program. `sync` says by which way `printSync` asks it: `pipes` (Unix), `thread`, or `spawn`, a process a call. With `isShort` trees are
+// sent without the members that have their defaults. A program that doesn't read such a tree is asked again with all members, as from then on.
 class Printer {
-  constructor({ program, isShort = false, sync = process.env.ECMAPRINT_SYNC || (process.platform === 'win32' ? 'thread' : 'pipes') } = {}) {
+  constructor({ program, isShort = true, sync = process.env.ECMAPRINT_SYNC || (process.platform === 'win32' ? 'thread' : 'pipes') } = {}) {
     if (!(sync in CHANNELS)) throw new PrintError('bad option', `\`sync\` is one of ${Object.keys(CHANNELS).join(', ')}`);
     Object.assign(this, { program: programPath({ program }), sync, service: null, channel: null, isShort });
   }

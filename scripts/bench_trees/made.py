@@ -1,4 +1,4 @@
-"""Trees that are made from a seed, for scripts/bench.
+"""Trees that are made from a seed, for scripts/dev/bench.
 
 `made(KIND, SIZE)` is the JSON of a script whose text has about so many bytes, of one of the `KINDS`. Each node has the span that it
 has in a text without line ends, counted from 1.

@@ -1,6 +1,6 @@
 'use strict';
 // Reads lines of JSON, each a text as a string, and answers each with the comments that acorn finds in it, in order, as they are
-// written, or with null where it reads none of it. See scripts/compare-comments.
+// written, or with null where it reads none of it. See scripts/dev/compare-comments.
 let acorn;
 try {
   acorn = require('acorn');

@@ -1,5 +1,5 @@
 'use strict';
-// See scripts/compare-sources.
+// See scripts/dev/compare-sources.
 const { spawn } = require('child_process');
 const { existsSync, readFileSync } = require('fs');
 const { createInterface } = require('readline');

@@ -1,7 +1,7 @@
 'use strict';
 // Where lines of texts may be ended. Reads lines of JSON, `{"text":"a,b;","isTyped":false}`, and answers each with how many tokens Babel
 // finds in the text, which is TypeScript where it holds types, and with the places behind which a line may end, in UTF-16 units:
-// `{"tokens":4,"breaks":[2,4]}`, or `{"fault":".."}`. It is for scripts/try-lines.
+// `{"tokens":4,"breaks":[2,4]}`, or `{"fault":".."}`. It is for scripts/dev/try-lines.
 //
 // A line may be ended right behind `,` `;` `(` `[` `{`, and behind the operator of two operands, but not in templates and JSX.
 const { createInterface } = require('readline');

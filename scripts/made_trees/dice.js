@@ -1,5 +1,5 @@
 'use strict';
-// What scripts/jsx-trees and scripts/ts-trees make trees with: the words that they are given, chance, and how much may still be made.
+// What scripts/dev/jsx-trees and scripts/dev/ts-trees make trees with: the words that they are given, chance, and how much may still be made.
 const DEEPEST = 118; // the program reads 127 levels of JSON, some of which stand round a tree
 const ROOTS = ['Expr', 'Stmt', 'ModuleItem', 'Program'];
 const options = { seed: 1, n: 10, size: 40, root: 'Expr', plain: false };

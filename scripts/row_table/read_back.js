@@ -2,7 +2,7 @@
 // Reads lines of JSON, each some texts of one tree, `{"texts":[{"text":"..","tokens":["n:a",..]},..],"tree":..}`, and answers each
 // with who told the tokens of each text, how many texts Babel parsed, how many elements and fragments the tree holds, whether it
 // holds types, and a fault or null. With `isRow` a text may be no program; with `typed` in place of `tree` only the texts are compared,
-// by the plugin for TypeScript where that holds types. See scripts/read-back and scripts/fuzz.
+// by the plugin for TypeScript where that holds types. See scripts/dev/read-back and scripts/dev/fuzz.
 const { PROPOSALS } = require('../../packages/ecmaprint/lib/tree_of/parser.js');
 const { holdsTypes, isReadAs } = require('./typed.js');
 let acorn, babel;

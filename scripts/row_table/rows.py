@@ -13,7 +13,8 @@ ROWS = os.path.join(CRATE, "rows")
 SUBJECTS = [
     "steps", "operators", "literals", "expressions", "lists", "functions", "statements", "well_formed", "nestings",
     "json", "runs", "literal_table", "classes", "modules", "members", "comments",
-    "reading", "spellings", "list_formats", "writers", "gaps",
+    "tokens", "names_and_numbers", "string_values", "template_values", "regular_expressions",
+    "spellings", "string_spellings", "script_ends", "template_spellings", "list_formats", "writers", "gaps",
     "jsx", "source_texts", "malformed", "bad_json", "comments_everywhere",
     "ts_types", "ts_decls", "ts_files", "ts_exprs", "ts_classes", "reserved", "lines", "structures", "mended", "added", "flat",
 ]  # fmt: skip

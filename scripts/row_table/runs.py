@@ -4,10 +4,11 @@ import collections
 import re
 
 import rows
+import settings
 import table
 
 # A run: its row, its words, its input, its status, and what it writes to standard output (`None` for some text, whichever) and to
-# standard error.
+# standard error (a text, or a pattern of it).
 Run = collections.namedtuple("Run", "row words input status text lines")
 
 PROGRAM = "•"
@@ -20,8 +21,14 @@ NOT_WELL_FORMED = (1, "", "not well-formed\n")
 NOT_A_DERIVATION = (1, "", "not a derivation\n")
 UNPRINTED = (1, "", "refused: unsupported node\n")
 SOME_TEXT = (0, None, "")
-# an expression that begins as a statement may not, and a head of a `for` whose name no parentheses are put round
-UNMENDED = re.compile(r"class_extends•{•}$|pat:(let|async)! head:pat")
+# an expression that begins as a statement may not
+UNMENDED = re.compile(r"class_extends•{•}$")
+# the status where a word is none of the options
+WRONG_WORDS = 2
+# what may stand behind an option
+VALUES = {"--target": ", ".join(settings.VERSIONS), "--max-line": f"the numbers 0 to {settings.LONGEST}"}
+# what swc prints, and no grammar derives
+NO_DERIVATIONS = ("export*as a,{", "export using ")
 # what frames what steps leave, by the word of a row
 FRAMES = {"script": STATEMENTS, "program": PROGRAM, "": EXPRESSION}
 # by the letters of rows `replaced`
@@ -115,11 +122,28 @@ def mends(json, answers):
     return [([], json, SOME_TEXT)]
 
 
+def wrong_words(words):
+    """What `ecmafix` says of the first of these words that is wrong. Which option is near to it is left open."""
+    given = iter(words)
+    for word in given:
+        if word not in VALUES:
+            if settings.request_of([word]) is None:
+                return re.compile(f"ecmafix: no option {re.escape(word)}(: is --[a-z-]+ meant\\?)? \\(--help lists all\\)\n")
+            continue
+        value = next(given, None)
+        if value is None:
+            return f"ecmafix: a word is missing behind {word} of {VALUES[word]}\n"
+        if settings.request_of([word, value]) is None:
+            return f"ecmafix: {word} {value}: {value} is none of {VALUES[word]}\n"
+    raise ValueError(f"{words}: none of these words is wrong")
+
+
 def by_ecmafix(words, json, answer):
     """A run of `ecmafix` by one of `ecmagen`, of a tree that lacks no parentheses but in the value of an accessor."""
     status, text, lines = answer
-    # (which swc prints, and no grammar derives)
-    if text.startswith("export*as a,{"):
+    if status == WRONG_WORDS:
+        return words, json, (status, text, wrong_words(words))
+    if text.startswith(NO_DERIVATIONS):
         return words, json, NOT_A_DERIVATION
     text = re.sub(r"(?<=accessor a)( ?= ?)(b, ?c)", r"\1(\2)", text)
     return words, json, (status, text, lines.replace("ecmagen", "ecmafix"))
@@ -132,9 +156,8 @@ def of_row_mended(rows_of, word, rest):
     sort, _, plain = word.rpartition("_")
     if (word, rest[0]) == ("mended", "fewest"):
         return [(["--fewest"], of_sort(rows_of, sort, rest[1]), (0, rest[2] + "\n", ""))]
-    # (one that isn't curable is refused, and what the pass makes of one that lacks a pair isn't told here)
     if word == "told_program":
-        return mends(framed(PROGRAM, rest[0]), rest[1]) if rest[1] != "110" else []
+        return mends(framed(PROGRAM, rest[0]), rest[1])
     if plain not in ("mended", "structure") or rest[0] != ("program" if sort else "script") or UNMENDED.search(rest[1]):
         return []
     json = of_sort(rows_of, sort, rest[1])

@@ -35,7 +35,7 @@ class Building(unittest.TestCase):
         write(self.top, "START-HERE.md", "")
         os.mkdir(f"{self.top}/bin")
         write_program(self.top, "bin/rt", f"[ $1 = doc ] && echo {self.top}/START-HERE.md || echo kit 1")
-        write_program(self.top, "scripts/build-unproved", f'echo "$1 $2" >> {self.top}/asked; echo made > "$3"')
+        write_program(self.top, "scripts/dev/build-unproved", f'echo "$1 $2" >> {self.top}/asked; echo made > "$3"')
 
     def built(self, *words):
         """What the script prints, with its status, and what it asked the builder for."""
@@ -52,7 +52,7 @@ class Building(unittest.TestCase):
         self.assertEqual(text_of(f"{self.top}/out/app"), "made\n")
         self.assertEqual(self.built("app"), ("out/app: up to date\n", 0, []))
         self.assertEqual(self.built("--force", "app"), ("out/app: built in 0 s\n", 0, asked))
-        for path in ("crates/app/src/main.rt", "crates/below/src/lib.rt", "crates/below/specs/Lib.antt", "scripts/build-unproved"):
+        for path in ("crates/app/src/main.rt", "crates/below/src/lib.rt", "crates/below/specs/Lib.antt", "scripts/dev/build-unproved"):
             write(self.top, path, text_of(f"{self.top}/{path}") + "\n# two")
             self.assertEqual(self.built("app"), ("out/app: built in 0 s\n", 0, asked), path)
         for path in ("crates/other/src/lib.rt", "scripts/shown_program/main.txt"):
@@ -70,13 +70,13 @@ class Building(unittest.TestCase):
 
     def test_the_last_program_stays_where_none_is_built(self):
         self.built("app")
-        write_program(self.top, "scripts/build-unproved", "exit 1")
+        write_program(self.top, "scripts/dev/build-unproved", "exit 1")
         self.assertEqual(self.built("app"), ("", 1, []))
         self.assertEqual(text_of(f"{self.top}/out/app"), "made\n")
 
     def test_one_run_waits_for_another(self):
         begun, ends = f"{self.top}/begun", f"{self.top}/ends"
-        write_program(self.top, "scripts/build-unproved", f'echo one >> {begun}; while [ ! -e {ends} ]; do sleep 0.05; done; echo made > "$3"')
+        write_program(self.top, "scripts/dev/build-unproved", f'echo one >> {begun}; while [ ! -e {ends} ]; do sleep 0.05; done; echo made > "$3"')
         words, environment = [f"{self.top}/scripts/build", "app"], {**os.environ, "PATH": f"{self.top}/bin:{os.environ['PATH']}"}
         start = lambda: subprocess.Popen(words, stdout=subprocess.PIPE, stderr=subprocess.PIPE, text=True, env=environment)
         with start() as first:

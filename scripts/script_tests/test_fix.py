@@ -23,6 +23,13 @@ class Fix(unittest.TestCase):
             ran = subprocess.run([PROGRAM, *words], input=tree, capture_output=True, text=True, check=False)
             self.assertEqual((ran.returncode, ran.stdout.count("("), ran.stderr), (0, pairs, ""))
 
+    def test_the_nearest_option(self):
+        near = {"--minfy": "--minify", "--inline_script": "--inline-script", "--ascii": "--ascii-only", "--fewer": "--fewest", "--x": None}
+        for word, option in near.items():
+            ran = subprocess.run([PROGRAM, word], input="", capture_output=True, text=True, check=False)
+            meant = f": is {option} meant?" if option else ""
+            self.assertEqual((ran.returncode, ran.stderr), (2, f"ecmafix: no option {word}{meant} (--help lists all)\n"))
+
     def test_runs_of_the_rows(self):
         ran = run("try-runs", PROGRAM)
         self.assertRegex(ran.stdout, r"\n1\d{3} passed, 0 failed\n$")

@@ -1,4 +1,4 @@
-"""scripts/try-lines, on the trees that are kept with what Babel says of their lines."""
+"""scripts/dev/try-lines, on the trees that are kept with what Babel says of their lines."""
 
 import glob
 import json

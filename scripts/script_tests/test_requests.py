@@ -1,4 +1,4 @@
-"""scripts/try-requests over out/ecmaprint, and the clients of examples/: their texts, and where source maps lead."""
+"""scripts/dev/try-requests over out/ecmaprint, and the clients of examples/: their texts, and where source maps lead."""
 
 import os
 import subprocess

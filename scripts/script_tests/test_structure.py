@@ -1,4 +1,4 @@
-"""scripts/try-structure, on a few trees and a file."""
+"""scripts/dev/try-structure, on a few trees and a file."""
 
 import tempfile
 import unittest

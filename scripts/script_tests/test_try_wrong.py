@@ -62,9 +62,9 @@ def write_crate(top):
     """A repository with one crate and this script."""
     for folder in ("command_line", "unproved", "wrong_bodies"):
         shutil.copytree(f"{SCRIPTS}/{folder}", f"{top}/scripts/{folder}", ignore=shutil.ignore_patterns("__pycache__"))
-    script = f"{top}/scripts/try-wrong"
+    script = f"{top}/scripts/dev/try-wrong"
     os.makedirs(os.path.dirname(script), exist_ok=True)
-    shutil.copy(f"{SCRIPTS}/try-wrong", script)
+    shutil.copy(f"{SCRIPTS}/dev/try-wrong", script)
     for folder in ("src", "wrong"):
         os.makedirs(f"{top}/crates/tiny/{folder}")
     write(top, "crates.txt", "tiny:\n")
@@ -181,7 +181,7 @@ class Tried(unittest.TestCase):
     def test_a_crate(self):
         with tempfile.TemporaryDirectory() as top:
             write_crate(top)
-            ran = subprocess.run([f"{top}/scripts/try-wrong", "tiny"], capture_output=True, text=True, check=False, cwd=top)
+            ran = subprocess.run([f"{top}/scripts/dev/try-wrong", "tiny"], capture_output=True, text=True, check=False, cwd=top)
             said = dict(re.findall(r"(?m)^tiny/(\w+)\.edit: (.*)$", ran.stdout))
             self.assertEqual(said.pop("gives_nothing"), "refused at same (returns)")
             self.assertEqual(said.pop("gives_zero"), "refused at by_another (returns)")

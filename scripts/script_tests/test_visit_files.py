@@ -1,4 +1,4 @@
-"""That the files of crates/swc_ecma_codegen_visit which go through the tree type by type are what scripts/make-visit-files makes, and what it
+"""That the files of crates/swc_ecma_codegen_visit which go through the tree type by type are what scripts/dev/make-visit-files makes, and what it
 makes of a tree."""
 
 import os

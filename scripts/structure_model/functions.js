@@ -17,9 +17,10 @@ const MEMBERS = {
     return { ...walk.field(part, context), key: walk.propName(part.key, context) };
   },
   PrivateProp: (walk, part, context) => walk.field(part, context),
-  AutoAccessor: (walk, part, context) => ({
-    ...walk.field(part, context), key: part.key.Public ? { Public: walk.propName(part.key.Public, context) } : part.key,
-  }),
+  AutoAccessor: (walk, part, context) => {
+    if (part.key.Public && isConstructorName(part.key.Public)) walk.fault('grammar', 'field of the name constructor');
+    return { ...walk.field(part, context), key: part.key.Public ? { Public: walk.propName(part.key.Public, context) } : part.key };
+  },
   StaticBlock: (walk, part, context) => ({
     ...part, body: walk.block(part.body, { ...context, yield: false, await: true, return: walk.returnsAnywhere, bars: true }),
   }),
@@ -59,12 +60,9 @@ const functions = {
   decorators(list, context) {
     return list.map((each) => {
       const isOne = isDecorator(each.expr);
-      if (!isOne && !this.mends) {
-        this.fault('level', 'decorator');
-        return each;
-      }
+      if (!isOne && !this.mends) this.fault('level', 'decorator');
       const expr = this.inside(each.expr, { ...context, in: true });
-      return { ...each, expr: isOne ? expr : paren(expr) };
+      return { ...each, expr: isOne || !this.mends ? expr : paren(expr) };
     });
   },
 

@@ -9,7 +9,10 @@ const ITEMS = {
     walk.attributes(part.with);
     return part;
   },
-  ExportDecl: (walk, part, context) => ({ ...part, decl: walk.decl(part.decl, context, true) }),
+  ExportDecl: (walk, part, context) => {
+    if (part.decl.Using) walk.fault('grammar', 'export using');
+    return { ...part, decl: walk.decl(part.decl, context, true) };
+  },
   ExportDefaultDecl: (walk, part, context) => ({ ...part, decl: walk.defaultDecl(part.decl, context) }),
   ExportDefaultExpr: (walk, part, context) => ({
     ...part, expr: walk.exprNot(part.expr, 'Assignment', { ...context, in: true }, BEGINNINGS.defaultExport, 'export default'),

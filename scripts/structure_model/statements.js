@@ -145,12 +145,12 @@ const statements = {
     return { ...part, decls: part.decls.map((each) => this.declarator(each, context, false)) };
   },
 
-  // `for (using a of b)`, where no name is `of` (`for (await using of of b)` is none either)
+  // `for (using a of b)`, where no name is `of`; `for (await using of of b)` is one
   headUsing(part, context, isOf) {
     this.checkUsing(part, context);
     const [{ name, init }, ...others] = part.decls;
     if (!isOf || init || others.length) this.fault('grammar', 'what the head of for declares');
-    if (name.Ident && name.Ident.id.sym === 'of') this.fault('grammar', 'using of');
+    if (!part.is_await && name.Ident && name.Ident.id.sym === 'of') this.fault('grammar', 'using of');
     return { ...part, decls: part.decls.map((each) => this.declarator(each, { ...context, in: false }, true)) };
   },
 

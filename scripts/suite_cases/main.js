@@ -1,5 +1,5 @@
 'use strict';
-// See scripts/suites.
+// See scripts/dev/suites.
 const { join } = require('path');
 const { difference } = require('../../packages/babel-plugin-ecmaprint/same.js');
 const ecmaprint = require('../../packages/ecmaprint');

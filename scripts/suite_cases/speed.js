@@ -46,11 +46,15 @@ function speed() {
   const size = FILES.reduce((sum, { code }) => sum + code.length, 0), printer = new Printer();
   console.log(`${FILES.length} files, ${(size / 1e6).toFixed(2)} MB\n\n| Text | @babel/generator | ecmaprint | ratio | making requests | request / source |\n|---|---|---|---|---|---|`);
   for (const [name, options] of Object.entries(KINDS)) {
-    const read = (printed) => [printed.code, printed.map], asked = (ast, code) => new Call(ast, options, code, printer).line;
+    const read = (printed) => [printed.code, printed.map], asked = (ast, code) => {
+      const { line: { length }, source } = new Call(ast, options, code, printer);
+      source.release();
+      return length;
+    };
     const [theirs, ours, making] = least([
       (ast, code) => read(generate(ast, options, code)), (ast, code) => read(printer.printSync(ast, options, code)), asked,
     ]);
-    const bytes = FILES.reduce((sum, { ast, code }) => sum + Buffer.byteLength(asked(ast, code)), 0);
+    const bytes = FILES.reduce((sum, { ast, code }) => sum + asked(ast, code), 0);
     console.log(`| ${name} | ${theirs.toFixed(0)} ms | ${ours.toFixed(0)} ms | ${(ours / theirs).toFixed(2)} | ${making.toFixed(0)} ms | ${(bytes / size).toFixed(2)} |`);
   }
   printer.end();

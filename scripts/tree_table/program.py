@@ -12,7 +12,7 @@ use swc_ecma_codegen_common::{AssignOp, BinaryOp, BytePos, Decimal, Span, UnaryO
 use swc_ecma_codegen_json::program_from_slice;
 use swc_ecma_codegen_spans::Spanned;
 use swc_ecma_codegen_tree::{%s};
-use swc_ecma_codegen_util::util::{EndsWithAlphaNum, StartsWithAlphaNum};
+use swc_ecma_codegen_settings::util::{EndsWithAlphaNum, StartsWithAlphaNum};
 
 type Done = Result<(), AllocError>;
 

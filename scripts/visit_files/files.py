@@ -5,7 +5,7 @@ import re
 from tree import DECLARED, ORDER, argument, camel, within
 
 WIDTH = 140
-MADE = "Made by scripts/make-visit-files."
+MADE = "Made by scripts/dev/make-visit-files."
 
 
 def laid_out(line):

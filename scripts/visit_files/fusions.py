@@ -3,7 +3,7 @@
 import re
 
 from files import MADE, Words, folded, maps_used, uses
-from rules import OF_STD, common
+from rules import OF_STD, by_variants, common
 from tree import ORDER, SUBJECT, argument, camel, within
 
 FIRST, SECOND, BOTH = ("h", "k"), ("g", "f"), ("(λ x. g (h x))", "(λ x. f (k x))")
@@ -36,7 +36,7 @@ def proof(tree, written):
 
 def lemma(tree, one, words):
     """That one map of a type behind another is one map."""
-    of, name, there = words.self_type(one), one.snake, one.variants
+    of, name = words.self_type(one), one.snake
     words.plain.add("Ident")
     if one.is_generic:
         head = f"pub fused_{name} : {{X : Type 0}} (g h : Ident → Ident) (f k : X → X) (n : {of})"
@@ -58,15 +58,8 @@ def lemma(tree, one, words):
                 changed.append(f"{field} = {proof(tree, written)} n.{field} i")
         return f"{head}\n{self} n = λ i. record n {{ {'; '.join(changed)} }}"
     words.variants.add(one.name)
-    lines = [head]
-    for variant, written in one.fields:
-        if written is None:
-            lines.append(f"{self} {there}.{variant} = refl")
-        elif is_easy(tree, written):
-            lines.append(f"{self} ({there}.{variant} n) = refl")
-        else:
-            lines.append(f"{self} ({there}.{variant} n) = ap {there}.{variant} ({proof(tree, written)} n)")
-    return "\n".join(lines)
+    cases = by_variants(one, self, lambda written: None if is_easy(tree, written) else proof(tree, written))
+    return "\n".join([head, *cases])
 
 
 def is_hard(tree, one):

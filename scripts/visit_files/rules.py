@@ -93,23 +93,25 @@ def kept(tree, written):
     return f"kept_{tree.of(inner).snake}"
 
 
+def by_variants(one, lemma, proof_of):
+    """The cases of a lemma on an enum: by what proves it of what a variant holds, or `refl` where nothing has to."""
+    there = one.variants
+    for variant, written in one.fields:
+        proof = written and proof_of(written)
+        shown = f"({there}.{variant} n)" if written else f"{there}.{variant}"
+        yield f"{lemma} {shown} = " + (f"ap {there}.{variant} ({proof} n)" if proof else "refl")
+
+
 def kept_rule(tree, one, words):
     """That a type without links stays, with names as they are."""
-    of, name, there = words.self_type(one), one.snake, one.variants
+    of, name = words.self_type(one), one.snake
     head = f"pub kept_{name} : (n : {of}) → map_{name} {SAME} n ≡ n"
     if not one.is_enum:
         hard = [f"{field} = {kept(tree, written)} n.{field} i" for field, written in one.fields if not is_easy(tree, written)]
         return f"{head}\nkept_{name} n = λ i. record n {{ {'; '.join(hard)} }}"
     words.variants.add(one.name)
-    lines = [head]
-    for variant, written in one.fields:
-        if written is None:
-            lines.append(f"kept_{name} {there}.{variant} = refl")
-        elif is_easy(tree, written):
-            lines.append(f"kept_{name} ({there}.{variant} n) = refl")
-        else:
-            lines.append(f"kept_{name} ({there}.{variant} n) = ap {there}.{variant} ({kept(tree, written)} n)")
-    return "\n".join(lines)
+    cases = by_variants(one, f"kept_{name}", lambda written: None if is_easy(tree, written) else kept(tree, written))
+    return "\n".join([head, *cases])
 
 
 def is_hard(tree, one):

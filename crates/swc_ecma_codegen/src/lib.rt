@@ -12,8 +12,8 @@ pub use swc_ecma_codegen_emit::{
     to_code_with_positions,
 };
 pub use swc_ecma_codegen_laws as laws;
-pub use swc_ecma_codegen_util::config::Config;
-pub use swc_ecma_codegen_util::util;
+pub use swc_ecma_codegen_settings::config::Config;
+pub use swc_ecma_codegen_settings::util;
 pub use swc_ecma_codegen_validate::{
     Fault, Step, first_fault, is_well_formed, is_well_formed_expr, is_well_formed_item,
     is_well_formed_stmt,

@@ -8,9 +8,9 @@ pub use swc_ecma_codegen_emit::{
     to_code_with_positions,
 };
 pub use swc_ecma_codegen_grammar::comments::{Comment, CommentKind, CommentMaps, Comments};
+pub use swc_ecma_codegen_settings::config::Config;
 pub use swc_ecma_codegen_spans::Spanned;
 pub use swc_ecma_codegen_text_writer::{JsWriter, WriteJs, omit_trailing_semi};
-pub use swc_ecma_codegen_util::config::Config;
 pub use swc_ecma_codegen_validate::{
     is_well_formed, is_well_formed_expr, is_well_formed_item, is_well_formed_stmt,
 };

@@ -43,7 +43,7 @@ use Rattle.swc_ecma_codegen_tree.specs.declared.lits.Lit.{Lit}
 use Rattle.swc_ecma_codegen_tree.specs.declared.lits.Lit.TheVariants as lits
 use Rattle.swc_ecma_codegen_common.specs.Operators.{assign_text, unary_text, binary_text, update_text}
 use Rattle.swc_ecma_codegen_spans.specs.Spans.{spread_element_span}
-use Rattle.swc_ecma_codegen_util.specs.Starts as starts
+use Rattle.swc_ecma_codegen_settings.specs.Starts as starts
 use Rattle.swc_ecma_codegen_grammar.specs.Chars.{is_start, is_part, is_letter, is_digit}
 use Rattle.swc_ecma_codegen_grammar.specs.Names.{is_word, all_part}
 use Rattle.swc_ecma_codegen_grammar.specs.Punctuators.{is_punctuator, punctuators}

@@ -2,7 +2,7 @@
 use Rattle.std.proofs.Common.{◌≡◌, ◌∙◌, sym, refl, ap, ℕ, Bool, true, false, ◌&&◌, ◌||◌, List, ◌++◌, append-nil, subst}
 use Rattle.std.proofs.lemmas.Bool.{true≢false}
 use Rattle.swc_ecma_codegen_grammar.specs.Tokens as lexical
-use Rattle.swc_ecma_codegen_util.specs.declared.config.Config.{Config}
+use Rattle.swc_ecma_codegen_settings.specs.declared.config.Config.{Config}
 use Rattle.swc_ecma_codegen_grammar.specs.Phrases.{Phrase, Never, Nothing, ◌>◌, mark, Generates, is_possible, names_in}
 use Rattle.swc_ecma_codegen_grammar.specs.PlainPhrases.{plain_phrase}
 use Rattle.swc_ecma_codegen_grammar.specs.FunctionPhrases.{is_never}

@@ -2,7 +2,7 @@
 use Rattle.std.proofs.Common.{◌≡◌, ℕ, append_assoc, Bool, true, false, not, refl, sym, ap, ◌∙◌, subst, inl, inr, List, [], ◌∷◌, ◌++◌, None, Ok, append-nil, if◌then◌else◌}
 use Rattle.std.proofs.lemmas.Bool.{not-false, cases_Bool}
 use Rattle.std.proofs.lemmas.Str.{is_utf8-from_IsUtf8, IsUtf8-nil}
-use Rattle.swc_ecma_codegen_util.specs.declared.config.Config.{Config}
+use Rattle.swc_ecma_codegen_settings.specs.declared.config.Config.{Config}
 use Rattle.swc_ecma_codegen_text_writer.specs.Places.{Place, origin, after_text}
 use Rattle.swc_ecma_codegen_text_writer.specs.Recorded.{RecordsTruly, StandIn, AreNew}
 use Rattle.swc_ecma_codegen_text_writer.specs.Sheet.{Sheet, Pair, Commit, effect, settled, holds_semicolons, fills_lines}

@@ -18,7 +18,7 @@ use Rattle.swc_ecma_codegen_grammar.specs.Phrases as phrases
 use Rattle.swc_ecma_codegen_grammar.specs.PatPhrases.{value_at}
 use Rattle.swc_ecma_codegen_grammar.specs.FunctionPhrases.{word_if}
 use Rattle.swc_ecma_codegen_grammar.specs.StmtPhrases as lists
-use Rattle.swc_ecma_codegen_util.specs.Ends.{head_ends}
+use Rattle.swc_ecma_codegen_settings.specs.Ends.{head_ends}
 use Rattle.swc_ecma_codegen_tokens.specs.Lists.{by_lines}
 use Rattle.swc_ecma_codegen_tokens.specs.Run.{Env, Part}
 use Rattle.swc_ecma_codegen_tokens.specs.Words.{punct, position_before}

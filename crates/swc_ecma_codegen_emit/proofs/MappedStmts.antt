@@ -28,8 +28,8 @@ use Rattle.swc_ecma_codegen_grammar.specs.ListFormats.{leading_line}
 use Rattle.swc_ecma_codegen_grammar.specs.SourceLines.{Lines}
 use Rattle.swc_ecma_codegen_grammar.proofs.Mapped.{list_mapped}
 use Rattle.swc_ecma_codegen_grammar.proofs.MappedStmts.{by_init, by_test}
-use Rattle.swc_ecma_codegen_util.specs.Ends.{init_ends, declarator_ends, head_ends, expr_part_ends, node_ends}
-use Rattle.swc_ecma_codegen_util.proofs.Finishes.{declarators_mapped as ends_mapped, pat_mapped as pat_ends_mapped}
+use Rattle.swc_ecma_codegen_settings.specs.Ends.{init_ends, declarator_ends, head_ends, expr_part_ends, node_ends}
+use Rattle.swc_ecma_codegen_settings.proofs.Finishes.{declarators_mapped as ends_mapped, pat_mapped as pat_ends_mapped}
 use Rattle.swc_ecma_codegen_tokens.specs.Lists.{ListChild, by_lines, list}
 use Rattle.swc_ecma_codegen_tokens.specs.Run.{Plan, Part}
 use Rattle.swc_ecma_codegen_tokens.specs.Words.{keyword, punct, space, formatting_space, last_of, leading_comments, trailing_comments, formatting_line}

@@ -3,7 +3,7 @@ use Rattle.std.proofs.Common.{◌≡◌, ℕ, true, false, cond, List, None, ref
 use Rattle.swc_ecma_codegen_common.specs.declared.operators.UnaryOp.{UnaryOp}
 use Rattle.swc_ecma_codegen_common.specs.declared.operators.BinaryOp.{BinaryOp}
 use Rattle.swc_ecma_codegen_common.specs.Operators.{unary_text, binary_text}
-use Rattle.swc_ecma_codegen_util.specs.Starts as starts
+use Rattle.swc_ecma_codegen_settings.specs.Starts as starts
 use Rattle.swc_ecma_codegen_tokens.specs.Run.{Part}
 use Rattle.swc_ecma_codegen_tokens.specs.Words.{keyword, operator, word_operator, punct, space, operator_between}
 use Rattle.swc_ecma_codegen_emit.specs.Exprs.{unary_op, binary_op, spaced_operator, word_between}

@@ -4,8 +4,8 @@ use Rattle.std.proofs.lemmas.Bool.{not-false, true≢false}
 use Rattle.swc_ecma_codegen_common.specs.declared.errors.Error.{Error}
 use Rattle.swc_ecma_codegen_common.specs.Refusals.{in_short, reason_of}
 use Rattle.swc_ecma_codegen_common.specs.declared.errors.Error.TheVariants.{Writer, OutOfMemory, UnsupportedNode, BadShape, NameOutOfTarget, PositionTooLarge, Failed}
-use Rattle.swc_ecma_codegen_util.specs.declared.config.Config.{Config}
-use Rattle.swc_ecma_codegen_util.specs.Defaults.{default_config}
+use Rattle.swc_ecma_codegen_settings.specs.declared.config.Config.{Config}
+use Rattle.swc_ecma_codegen_settings.specs.Defaults.{default_config}
 use Rattle.swc_ecma_codegen_text_writer.specs.View.{new_sheet}
 use Rattle.swc_ecma_codegen_grammar.specs.SourceLines.{Lines, no_lines}
 use Rattle.swc_ecma_codegen_grammar.specs.CommentMaps.{Maps}

@@ -1,5 +1,5 @@
 -- Where there are no comments, what takes them isn't called.
-use Rattle.std.proofs.Common.{◌≡◌, ℕ, Bool, true, false, cond, ◌==◌, List, [], ◌∷◌, Option, Some, None, refl, ap, ◌∙◌, subst}
+use Rattle.std.proofs.Common.{◌≡◌, ℕ, Bool, true, false, cond, ◌==◌, List, [], ◌∷◌, Option, Some, None, Result, refl, ap, ◌∙◌, subst}
 use Rattle.std.specs.Prelude.{is_some}
 use Rattle.swc_ecma_codegen_common.specs.declared.errors.Refusal.{Refusal}
 use Rattle.swc_ecma_codegen_common.specs.declared.positions.BytePos.{BytePos}
@@ -13,7 +13,7 @@ use Rattle.swc_ecma_codegen_tokens.specs.Lists.{child_comments}
 use Rattle.swc_ecma_codegen_tokens.specs.Run.{Env, Plan, Part, State, Follows, maps_after, nothing, steps_of}
 use Rattle.swc_ecma_codegen_tokens.specs.Words.{leading_comments, trailing_comments, comments_before_end}
 use Rattle.swc_ecma_codegen_tokens.proofs.Emission.Made.{run_env}
-use Rattle.swc_ecma_codegen_tokens.proofs.Commenting.NoComments.{IsSilent, silent_leading, silent_trailing, silent_before_end, silent_child, none_after as none_left}
+use Rattle.swc_ecma_codegen_tokens.proofs.Commenting.NoComments.{IsSilent, leading_at, trailing_at, silent_trailing, silent_before_end, silent_child, none_after as none_left}
 use Rattle.swc_ecma_codegen_emit.specs.declared.nodes.Context.{Context}
 use Rattle.swc_ecma_codegen_emit.specs.Places.{Place}
 use Rattle.swc_ecma_codegen_emit.specs.Answers.{Answers, place_of}
@@ -48,20 +48,35 @@ none_inside maps (Some c) span h = absurd (let z : true ≡ false = h in cc)
 
 -- ---- a part that does nothing then
 
-leads_on : (old : Option Refusal) (level : ℕ) (part : Part) (rest : Plan) (a c : Standing) → IsSilent part → (old ≡ None → a.state.env.maps ≡ no_maps) → LeadsAfter old level rest a c → LeadsAfter old level (part rest) a c
+-- what follows behind a part that does nothing in a state follows behind nothing
+abbrev IsIdle : Part → State → Type 0
+IsIdle part a = (rest : Plan) (c : State) (r : Result (Unit {0}) Refusal) → Follows rest a c r → Follows (part rest) a c r
+
+leads_idly : (old : Option Refusal) (level : ℕ) (part : Part) (rest : Plan) (a c : Standing) → (old ≡ None → IsIdle part a.state) → LeadsAfter old level rest a c → LeadsAfter old level (part rest) a c
 unfolding LeadsAfter
-leads_on None level part rest a c s m h = (s rest a.state c.state (outcome c.refusal) (m refl) h.0, h.1)
-leads_on (Some e) level part rest a c s m h = h
+leads_idly None level part rest a c idle h = (idle refl rest c.state (outcome c.refusal) h.0, h.1)
+leads_idly (Some e) level part rest a c idle h = h
+
+makes_idly : (part : Part) (a : Standing) → IsIdle part a.state → Makes part a a
+unfolding Leads
+makes_idly part a idle = λ level rest c k. leads_idly a.refusal level part rest a c (λ n. idle) k
+
+leads_on : (old : Option Refusal) (level : ℕ) (part : Part) (rest : Plan) (a c : Standing) → IsSilent part → (old ≡ None → a.state.env.maps ≡ no_maps) → LeadsAfter old level rest a c → LeadsAfter old level (part rest) a c
+leads_on old level part rest a c s m h = leads_idly old level part rest a c (λ n rest c r f. s rest a.state c r (m n) f) h
 
 makes_silently : (part : Part) (a : Standing) → IsSilent part → a.state.env.maps ≡ no_maps → Makes part a a
-unfolding Leads
-makes_silently part a s m = λ level rest c k. leads_on a.refusal level part rest a c s (λ n. m) k
+makes_silently part a s m = makes_idly part a (λ rest c r f. s rest a.state c r m f)
 
-pub no_leading : (pos : BytePos) (a : Standing) → a.state.env.maps ≡ no_maps → Makes (leading_comments pos) a a
-no_leading pos a m = makes_silently (leading_comments pos) a (silent_leading pos) m
+-- none stand at one position
+pub no_leading : (pos : BytePos) (a : Standing) → is_some (a.state.env.maps.leading pos.0) ≡ false → Makes (leading_comments pos) a a
+no_leading pos a none = makes_idly (leading_comments pos) a (λ rest c r f. leading_at pos rest a.state c r none f)
 
-pub no_trailing : (prefix_space : Bool) (pos : BytePos) (a : Standing) → a.state.env.maps ≡ no_maps → Makes (trailing_comments prefix_space pos) a a
-no_trailing prefix_space pos a m = makes_silently (trailing_comments prefix_space pos) a (silent_trailing prefix_space pos) m
+pub no_trailing : (prefix_space : Bool) (pos : BytePos) (a : Standing) → is_some (a.state.env.maps.trailing pos.0) ≡ false → Makes (trailing_comments prefix_space pos) a a
+no_trailing prefix_space pos a none = makes_idly (trailing_comments prefix_space pos) a (λ rest c r f. trailing_at prefix_space pos rest a.state c r none f)
+
+-- none stand anywhere
+pub trailing_nowhere : (prefix_space : Bool) (pos : BytePos) (a : Standing) → a.state.env.maps ≡ no_maps → Makes (trailing_comments prefix_space pos) a a
+trailing_nowhere prefix_space pos a m = makes_silently (trailing_comments prefix_space pos) a (silent_trailing prefix_space pos) m
 
 pub none_before_end : (pos : BytePos) (a : Standing) → a.state.env.maps ≡ no_maps → Makes (comments_before_end pos) a a
 none_before_end pos a m = makes_silently (comments_before_end pos) a (silent_before_end pos) m

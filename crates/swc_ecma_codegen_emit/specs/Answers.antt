@@ -4,8 +4,8 @@ use Rattle.swc_ecma_codegen_tree.specs.declared.links.AnyNode.{AnyNode}
 use Rattle.swc_ecma_codegen_common.specs.declared.positions.Span.{Span}
 use Rattle.swc_ecma_codegen_spans.specs.Spans.{any_span}
 use Rattle.swc_ecma_codegen_common.specs.declared.operators.BinaryOp.{BinaryOp}
-use Rattle.swc_ecma_codegen_util.specs.Starts.{any_starts}
-use Rattle.swc_ecma_codegen_util.specs.Ends.{any_ends}
+use Rattle.swc_ecma_codegen_settings.specs.Starts.{any_starts}
+use Rattle.swc_ecma_codegen_settings.specs.Ends.{any_ends}
 use Rattle.swc_ecma_codegen_emit.specs.declared.operands.OperandKind.{OperandKind}
 use Rattle.swc_ecma_codegen_emit.specs.declared.patterns.PatternKind.{PatternKind}
 use Rattle.swc_ecma_codegen_emit.specs.declared.nodes.Question.{Question}

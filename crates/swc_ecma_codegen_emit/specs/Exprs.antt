@@ -35,7 +35,7 @@ use Rattle.swc_ecma_codegen_tree.specs.declared.exprs.SeqExpr.{SeqExpr}
 use Rattle.swc_ecma_codegen_tree.specs.declared.exprs.ParenExpr.{ParenExpr}
 use Rattle.swc_ecma_codegen_common.specs.Operators.{assign_text, unary_text, binary_text, update_text}
 use Rattle.swc_ecma_codegen_spans.specs.Spans.{spread_element_span}
-use Rattle.swc_ecma_codegen_util.specs.Starts as starts
+use Rattle.swc_ecma_codegen_settings.specs.Starts as starts
 use Rattle.swc_ecma_codegen_tokens.specs.PrivateNames as names
 use Rattle.swc_ecma_codegen_tokens.specs.Run.{Part}
 use Rattle.swc_ecma_codegen_tokens.specs.Choices.{optional_parentheses}

@@ -31,7 +31,7 @@ use Rattle.swc_ecma_codegen_tree.specs.declared.stmts.WithStmt.{WithStmt}
 use Rattle.swc_ecma_codegen_spans.specs.Spans.{stmt_span}
 use Rattle.swc_ecma_codegen_grammar.specs.ListFormats.{leading_line}
 use Rattle.swc_ecma_codegen_grammar.specs.SourceLines.{Lines}
-use Rattle.swc_ecma_codegen_util.specs.Ends.{head_ends}
+use Rattle.swc_ecma_codegen_settings.specs.Ends.{head_ends}
 use Rattle.swc_ecma_codegen_tokens.specs.Choices.{loop_ending, optional_parentheses}
 use Rattle.swc_ecma_codegen_tokens.specs.Lists.{ListChild, by_lines, blank_if, list}
 use Rattle.swc_ecma_codegen_tokens.specs.Run.{Part}

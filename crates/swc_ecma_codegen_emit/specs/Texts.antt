@@ -3,8 +3,8 @@ use Rattle.std.specs.Prelude.{◌≡◌, ◌⊎◌, ℕ, Bool, true, false, if�
 use Rattle.swc_ecma_codegen_common.specs.declared.errors.Error.{Error}
 use Rattle.swc_ecma_codegen_common.specs.declared.errors.Error.TheVariants.{Writer}
 use Rattle.swc_ecma_codegen_common.specs.Refusals.{reason_of}
-use Rattle.swc_ecma_codegen_util.specs.Defaults.{default_config}
-use Rattle.swc_ecma_codegen_util.specs.declared.config.Config.{Config}
+use Rattle.swc_ecma_codegen_settings.specs.Defaults.{default_config}
+use Rattle.swc_ecma_codegen_settings.specs.declared.config.Config.{Config}
 use Rattle.swc_ecma_codegen_text_writer.specs.Sheet.{Sheet, HoldsNone, Commit, Refuses, settled}
 use Rattle.swc_ecma_codegen_text_writer.specs.View.{new_sheet, keeping}
 use Rattle.swc_ecma_codegen_grammar.specs.SourceLines.{Lines, no_lines}

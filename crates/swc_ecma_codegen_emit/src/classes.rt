@@ -485,7 +485,8 @@ impl<W: WriteJs, S: SourceMapper, C: Comments> Emitter<'_, W, S, C> {
         self.word_before(is_override, "override");
     }
 
-    /// Writes `async *` of a static method, behind that word: where another stands between, that has a blank before it.
+    /// Writes `async *` of a static method, behind that word: where another stands between, that
+    /// has a blank before it.
     #[tactic(auto, unfolding(crate::specs::Classes::static_method))]
     fn static_method<N: LinkTarget>(&mut self, node: &ClassMethod<N>)
         ensures items { Performs (static_method N.answers N.items node.now)

@@ -7,7 +7,7 @@ ghost use Rattle.swc_ecma_codegen_tokens.specs.Run.{printed, start};
 ghost use Rattle.swc_ecma_codegen_grammar.specs.Comments.{maps_in, no_maps, AreClosed};
 ghost use Rattle.swc_ecma_codegen_tokens.specs.Written.{ReadsAs, taken_remarks};
 ghost use Rattle.swc_ecma_codegen_tokens.specs.Ready.{token_count};
-ghost use Rattle.swc_ecma_codegen_util.specs.Defaults.{default_config};
+ghost use Rattle.swc_ecma_codegen_settings.specs.Defaults.{default_config};
 ghost use Rattle.swc_ecma_codegen_emit.specs.Roots.{Root, root_items, root_phrase, is_well_formed_root};
 ghost use Rattle.swc_ecma_codegen_common.specs.Refusals.{reason_of};
 ghost use Rattle.swc_ecma_codegen_text_writer.specs.Places.{origin};
@@ -25,8 +25,8 @@ use std::alloc::Global;
 use swc_ecma_codegen_common::{BytePos, Error, LineCol};
 use swc_ecma_codegen_grammar::comments::{CommentMaps, Comments};
 use swc_ecma_codegen_grammar::mapper::{NoSource, SourceMapper};
+use swc_ecma_codegen_settings::config::Config;
 use swc_ecma_codegen_text_writer::{JsWriter, PositionsWriter, WriteJs, omit_trailing_semi};
-use swc_ecma_codegen_util::config::Config;
 
 /// Prints a node to a writer, with the settings of `Config::default()`, and gives the writer back.
 fn print_to<N: Node, S: SourceMapper, C: Comments + Drop, W: WriteJs + Drop>(
@@ -49,9 +49,10 @@ fn print_to<N: Node, S: SourceMapper, C: Comments + Drop, W: WriteJs + Drop>(
     Ok(emitter.into_writer())
 }
 
-/// The text of a node, with the settings of `Config::default()`, lines that end with LF, and four blanks a level. `cm` tells
-/// where lines end in the source text, and `comments` has its comments: those that the node takes are written.
-/// `OutOfMemory` is want of memory for the text too. swc's `to_code_default`.
+/// The text of a node, with the settings of `Config::default()`, lines that end with LF, and four
+/// blanks a level. `cm` tells where lines end in the source text, and `comments` has its comments:
+/// those that the node takes are written. `OutOfMemory` is want of memory for the text too. swc's
+/// `to_code_default`.
 pub fn to_code_default<N: Node, S: SourceMapper, C: Comments + Drop>(
     alloc: Global,
     cm: &S,
@@ -60,11 +61,12 @@ pub fn to_code_default<N: Node, S: SourceMapper, C: Comments + Drop>(
 ) -> std::result::Result<String, Error>
     ensures text { IfOk result (λ text. string_bytes text
         ≡ text_over (S.lines cm.now) (maps_in C.maps comments) (N.part node.now)) }
-    // Its steps were made: what a root's steps do, `swc_ecma_codegen_laws::emissions_of_roots` says.
+    // Its steps were made: what a root's steps do, `swc_ecma_codegen_laws::emissions_of_roots`
+    // says.
     ensures printed { IfOk result (λ text. IsPrinted (N.part node.now)
         (start (S.lines cm.now) (maps_in C.maps comments) default_config blank_sheet)) }
-    // Where each comment can be read back, the text of a well-formed tree is UTF-8, and reads as one of the tree's token lists
-    // with the comments that were taken between the tokens, in order.
+    // Where each comment can be read back, the text of a well-formed tree is UTF-8, and reads as
+    // one of the tree's token lists with the comments that were taken between the tokens, in order.
     ensures reads { (root : Root) → N.part node.now ≡ root_items root →
         is_well_formed_root root ≡ true → AreClosed (maps_in C.maps comments) →
         IfOk result (λ text.
@@ -89,7 +91,8 @@ pub fn to_code_default<N: Node, S: SourceMapper, C: Comments + Drop>(
     }
 }
 
-/// The text of a node with its comments, over no source text, as `to_code_default` gives it. swc's `to_code_with_comments`.
+/// The text of a node with its comments, over no source text, as `to_code_default` gives it. swc's
+/// `to_code_with_comments`.
 pub fn to_code_with_comments<N: Node, C: Comments + Drop>(
     alloc: Global,
     comments: Option<C>,
@@ -99,8 +102,8 @@ pub fn to_code_with_comments<N: Node, C: Comments + Drop>(
         ≡ text_over no_lines (maps_in C.maps comments) (N.part node.now)) }
     ensures printed { IfOk result (λ text. IsPrinted (N.part node.now)
         (start no_lines (maps_in C.maps comments) default_config blank_sheet)) }
-    // Where each comment can be read back, the text of a well-formed tree reads as one of the tree's token lists with the
-    // comments that were taken between the tokens, in order.
+    // Where each comment can be read back, the text of a well-formed tree reads as one of the
+    // tree's token lists with the comments that were taken between the tokens, in order.
     ensures reads { (root : Root) → N.part node.now ≡ root_items root →
         is_well_formed_root root ≡ true → AreClosed (maps_in C.maps comments) →
         IfOk result (λ text.
@@ -118,13 +121,15 @@ pub fn to_code_with_comments<N: Node, C: Comments + Drop>(
     to_code_default(alloc, &NoSource, comments, node)
 }
 
-/// The text of a node without comments, over no source text, as `to_code_default` gives it. swc's `to_code`.
+/// The text of a node without comments, over no source text, as `to_code_default` gives it. swc's
+/// `to_code`.
 #[tactic(auto, unfolding(swc_ecma_codegen_grammar::specs::Comments::maps_in))]
 pub fn to_code<N: Node>(alloc: Global, node: &N) -> std::result::Result<String, Error>
     ensures text { IfOk result (λ text. string_bytes text ≡ text_of (N.part node.now)) }
     ensures printed { IfOk result (λ text. IsPrinted (N.part node.now)
         (start no_lines no_maps default_config blank_sheet)) }
-    // The text of a well-formed tree is UTF-8, and reads as one of the tree's token lists, with no comments.
+    // The text of a well-formed tree is UTF-8, and reads as one of the tree's token lists, with no
+    // comments.
     ensures reads { (root : Root) → N.part node.now ≡ root_items root →
         is_well_formed_root root ≡ true →
         IfOk result (λ text.
@@ -141,7 +146,8 @@ pub fn to_code<N: Node>(alloc: Global, node: &N) -> std::result::Result<String, 
     to_code_with_comments(alloc, None::<CommentMaps>, node)
 }
 
-/// Writes a semicolon that is held back at the end, unless the settings leave it out, and gives the writer back.
+/// Writes a semicolon that is held back at the end, unless the settings leave it out, and gives the
+/// writer back.
 #[tactic(auto, unfolding(crate::specs::Texts::with_last, swc_ecma_codegen_text_writer::specs::Sheet::Writes, swc_ecma_codegen_text_writer::specs::Sheet::effect))]
 fn write_last<W: WriteJs + Drop>(cfg: Config, wr: W) -> std::result::Result<W, Error>
     ensures sheet { IfOk result (λ w. W.sheet w ≡ with_last cfg (W.sheet wr)) }
@@ -158,7 +164,8 @@ fn write_last<W: WriteJs + Drop>(cfg: Config, wr: W) -> std::result::Result<W, E
     }
 }
 
-/// Prints a node to a writer, with a semicolon that is held back at the end, and gives the writer back.
+/// Prints a node to a writer, with a semicolon that is held back at the end, and gives the writer
+/// back.
 fn print_whole<N: Node, S: SourceMapper, C: Comments + Drop, W: WriteJs + Drop>(
     alloc: Global,
     cfg: Config,
@@ -181,8 +188,8 @@ fn print_whole<N: Node, S: SourceMapper, C: Comments + Drop, W: WriteJs + Drop>(
     write_last(cfg, emitter.into_writer())
 }
 
-/// Prints a node to a writer, with a semicolon that is held back at the end, and gives the writer back. Where the settings are to
-/// minify, semicolons that aren't needed are left out.
+/// Prints a node to a writer, with a semicolon that is held back at the end, and gives the writer
+/// back. Where the settings are to minify, semicolons that aren't needed are left out.
 fn print_with_settings<N: Node, S: SourceMapper, C: Comments + Drop, W: WriteJs + Drop>(
     alloc: Global,
     cfg: Config,
@@ -232,13 +239,16 @@ fn print_to_memory<N: Node, S: SourceMapper, C: Comments + Drop>(
     print_with_settings(alloc, cfg, cm, comments, node, blank)
 }
 
-/// The text of a node with these settings: `a + b;`, and `a+b;` with `Config::default().with_minify(true)`.
+/// The text of a node with these settings: `a + b;`, and `a+b;` with
+/// `Config::default().with_minify(true)`.
 ///
-/// Lines end with LF, and four blanks are a level. With `minify` semicolons that aren't needed are left out before `}` and
-/// `;`; with `omit_last_semi` too, the last one is. `cm` tells where lines end in the source text, and `comments` has its comments:
-/// those that the node takes are written. `to_code_with_positions` gives the positions too, and takes memory for them.
+/// Lines end with LF, and four blanks are a level. With `minify` semicolons that aren't needed are
+/// left out before `}` and `;`; with `omit_last_semi` too, the last one is. `cm` tells where lines
+/// end in the source text, and `comments` has its comments: those that the node takes are written.
+/// `to_code_with_positions` gives the positions too, and takes memory for them.
 ///
-/// It is refused as the emitter refuses the node; `OutOfMemory` is want of memory for the text too. Then there is no text.
+/// It is refused as the emitter refuses the node; `OutOfMemory` is want of memory for the text too.
+/// Then there is no text.
 pub fn to_code_with<N: Node, S: SourceMapper, C: Comments + Drop>(
     alloc: Global,
     cfg: Config,
@@ -248,11 +258,13 @@ pub fn to_code_with<N: Node, S: SourceMapper, C: Comments + Drop>(
 ) -> std::result::Result<String, Error>
     ensures text { IfOk result (λ text. string_bytes text
         ≡ text_with (S.lines cm.now) (maps_in C.maps comments) cfg (N.part node.now)) }
-    // Its steps were made: what a root's steps do, `swc_ecma_codegen_laws::emissions_of_roots` says.
+    // Its steps were made: what a root's steps do, `swc_ecma_codegen_laws::emissions_of_roots`
+    // says.
     ensures printed { IfOk result (λ text. IsPrinted (N.part node.now)
         (start_on blank_sheet (S.lines cm.now) (maps_in C.maps comments) cfg)) }
-    // Where each comment can be read back, the text of a well-formed tree is UTF-8, and reads as one of the tree's token lists
-    // with the comments that were taken between the tokens, in order; minified, without some semicolons that aren't needed.
+    // Where each comment can be read back, the text of a well-formed tree is UTF-8, and reads as
+    // one of the tree's token lists with the comments that were taken between the tokens, in order;
+    // minified, without some semicolons that aren't needed.
     ensures reads { (root : Root) → N.part node.now ≡ root_items root →
         is_well_formed_root root ≡ true → AreClosed (maps_in C.maps comments) →
         IfOk result (λ text.
@@ -293,16 +305,17 @@ fn print_with_positions<N: Node, S: SourceMapper, C: Comments + Drop>(
     print_with_settings(alloc, cfg, cm, comments, node, writer)
 }
 
-/// The text of a node, and its positions: each position of the source with the line and the column, both from 0, where what
-/// stands there begins or ends in the text. Columns are UTF-16 units. Position 0 is never among them, and none stands there twice
-/// with one place.
+/// The text of a node, and its positions: each position of the source with the line and the column,
+/// both from 0, where what stands there begins or ends in the text. Columns are UTF-16 units.
+/// Position 0 is never among them, and none stands there twice with one place.
 ///
-/// Lines end with LF, and four blanks are a level. With `minify` semicolons that aren't needed are left out before `}` and
-/// `;`; with `omit_last_semi` too, the last one is. `cm` tells where lines end in the source text, and `comments` has its comments:
-/// those that the node takes are written.
+/// Lines end with LF, and four blanks are a level. With `minify` semicolons that aren't needed are
+/// left out before `}` and `;`; with `omit_last_semi` too, the last one is. `cm` tells where lines
+/// end in the source text, and `comments` has its comments: those that the node takes are written.
 ///
-/// It is refused as the emitter refuses the node, or with `PositionTooLarge` where the last semicolon stands at a line or a
-/// column above `u32::MAX`; `OutOfMemory` is want of memory for the text or the list too. Then there is neither.
+/// It is refused as the emitter refuses the node, or with `PositionTooLarge` where the last
+/// semicolon stands at a line or a column above `u32::MAX`; `OutOfMemory` is want of memory for the
+/// text or the list too. Then there is neither.
 pub fn to_code_with_positions<N: Node, S: SourceMapper, C: Comments + Drop>(
     alloc: Global,
     cfg: Config,
@@ -312,14 +325,16 @@ pub fn to_code_with_positions<N: Node, S: SourceMapper, C: Comments + Drop>(
 ) -> std::result::Result<(String, Vec<(BytePos, LineCol)>), Error>
     ensures text { IfOk result (λ made. string_bytes made.0
         ≡ (sheet_with (S.lines cm.now) (maps_in C.maps comments) cfg (N.part node.now)).text) }
-    // Its steps were made: what a root's steps do, `swc_ecma_codegen_laws::emissions_of_roots` says.
+    // Its steps were made: what a root's steps do, `swc_ecma_codegen_laws::emissions_of_roots`
+    // says.
     ensures printed { IfOk result (λ made. IsPrinted (N.part node.now)
         (start_with (S.lines cm.now) (maps_in C.maps comments) cfg)) }
     // The list is that of the sheet.
     ensures positions { IfOk result (λ made. made.1.items
         ≡ (sheet_with (S.lines cm.now) (maps_in C.maps comments) cfg (N.part node.now)).pairs) }
-    // Where each comment can be read back, the text of a well-formed tree is UTF-8, and reads as one of the tree's token lists
-    // with the comments that were taken between the tokens, in order; minified, without some semicolons that aren't needed.
+    // Where each comment can be read back, the text of a well-formed tree is UTF-8, and reads as
+    // one of the tree's token lists with the comments that were taken between the tokens, in order;
+    // minified, without some semicolons that aren't needed.
     ensures reads { (root : Root) → N.part node.now ≡ root_items root →
         is_well_formed_root root ≡ true → AreClosed (maps_in C.maps comments) →
         IfOk result (λ made.
@@ -330,7 +345,8 @@ pub fn to_code_with_positions<N: Node, S: SourceMapper, C: Comments + Drop>(
     ensures recorded { IfOk result (λ made. StandIn origin (string_bytes made.0) made.1.items) }
     // None stands there twice.
     ensures once { IfOk result (λ made. AreNew [] made.1.items) }
-    // Each name of a well-formed tree stands in the text, with its position where it begins, unless that is 0.
+    // Each name of a well-formed tree stands in the text, with its position where it begins, unless
+    // that is 0.
     ensures names { (root : Root) → N.part node.now ≡ root_items root →
         is_well_formed_root root ≡ true →
         IfOk result (λ made.

@@ -16,7 +16,8 @@ use swc_ecma_codegen_tree::{
     OptChainBase, SimpleAssignTarget,
 };
 
-/// What tells whether a line ends in or after a comment before one of its leftmost parts: `return (// a` LF `b)`.
+/// What tells whether a line ends in or after a comment before one of its leftmost parts:
+/// `return (// a` LF `b)`.
 pub trait BreaksBefore {
     ghost breaking: { Self → Maps → Bool };
 

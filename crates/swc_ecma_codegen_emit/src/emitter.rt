@@ -10,12 +10,13 @@ use std::alloc::Global;
 use swc_ecma_codegen_common::{Error, Refusal, Result};
 use swc_ecma_codegen_grammar::comments::Comments;
 use swc_ecma_codegen_grammar::mapper::SourceMapper;
+use swc_ecma_codegen_settings::config::Config;
 use swc_ecma_codegen_text_writer::WriteJs;
 use swc_ecma_codegen_tokens::LowerEmitter;
 use swc_ecma_codegen_tree::{Module, ModuleExportName, ModuleItem, Program, Script};
-use swc_ecma_codegen_util::config::Config;
 
-/// Prints nodes to a writer. Once a call was refused, each further call that gives a `Result` answers `Failed`.
+/// Prints nodes to a writer. Once a call was refused, each further call that gives a `Result`
+/// answers `Failed`.
 #[derive(Drop)]
 pub struct Emitter<'a, W, S, C> {
     /// The settings.
@@ -27,7 +28,8 @@ pub struct Emitter<'a, W, S, C> {
     /// Where the text goes.
     pub wr: W,
     pub(crate) lower: LowerEmitter,
-    /// Why a call was refused since the last call of a caller began, if one was: the calls after it do nothing.
+    /// Why a call was refused since the last call of a caller began, if one was: the calls after it
+    /// do nothing.
     pub(crate) refusal: Option<Refusal>,
 }
 
@@ -59,7 +61,8 @@ impl<'a, W: WriteJs, S: SourceMapper, C: Comments> Emitter<'a, W, S, C> {
     /// Prints a node, unless a call was refused before.
     #[tactic(auto, using(swc_ecma_codegen_tokens::proofs::Emission::Emitting::emits_nothing, swc_ecma_codegen_tokens::proofs::Emission::Fronts::follows_failed, swc_ecma_codegen_tokens::proofs::Emission::Fronts::follows_front, swc_ecma_codegen_tokens::proofs::Emission::Fronts::follows_marked, swc_ecma_codegen_tokens::proofs::Emission::Fronts::follows_cause, swc_ecma_codegen_tokens::proofs::Emission::Fronts::follows_succeeds))]
     pub(crate) fn emit<T: EmitAt>(&mut self, node: &T) -> Result
-        // The steps of the tree are made, and it comes to no node that can't be printed; or it halts.
+        // The steps of the tree are made, and it comes to no node that can't be printed; or it
+        // halts.
         ensures items { Follows (by_itself (T.items node.now) nothing)
             (state_of S.lines C.maps W.sheet self.old)
             (state_of S.lines C.maps W.sheet self.new) (in_short result) }
@@ -98,7 +101,8 @@ impl<'a, W: WriteJs, S: SourceMapper, C: Comments> Emitter<'a, W, S, C> {
         self.cfg.max_line = max_line;
     }
 
-    /// Where a node stands by itself: the greatest length of lines acts in a module or script that is minified.
+    /// Where a node stands by itself: the greatest length of lines acts in a module or script that
+    /// is minified.
     fn context_alone(&self) -> Context
         ensures { Whole result ≡ alone (state_of S.lines C.maps W.sheet self.now).env }
     {
@@ -131,8 +135,8 @@ impl<'a, W: WriteJs, S: SourceMapper, C: Comments> Emitter<'a, W, S, C> {
         node.emit_with(self)
     }
 
-    /// Prints a module: its hashbang, the text of each item, and then a semicolon that is held back, unless the settings leave
-    /// it out. swc's `emit_module`.
+    /// Prints a module: its hashbang, the text of each item, and then a semicolon that is held
+    /// back, unless the settings leave it out. swc's `emit_module`.
     pub fn emit_module(&mut self, node: &Module) -> Result
         ensures { Emission (root_items (OfModule node.now))
             (state_of S.lines C.maps W.sheet self.old) (state_of S.lines C.maps W.sheet self.new)
@@ -141,8 +145,8 @@ impl<'a, W: WriteJs, S: SourceMapper, C: Comments> Emitter<'a, W, S, C> {
         node.emit_with(self)
     }
 
-    /// Prints a script: its hashbang, the text of each statement, and then a semicolon that is held back, unless the settings
-    /// leave it out. swc's `emit_script`.
+    /// Prints a script: its hashbang, the text of each statement, and then a semicolon that is held
+    /// back, unless the settings leave it out. swc's `emit_script`.
     pub fn emit_script(&mut self, node: &Script) -> Result
         ensures { Emission (root_items (OfScript node.now))
             (state_of S.lines C.maps W.sheet self.old) (state_of S.lines C.maps W.sheet self.new)
@@ -160,7 +164,8 @@ impl<'a, W: WriteJs, S: SourceMapper, C: Comments> Emitter<'a, W, S, C> {
         node.emit_with(self)
     }
 
-    /// Prints the name of what a module imports or exports: a name, or a string. swc's `emit_module_export_name`.
+    /// Prints the name of what a module imports or exports: a name, or a string. swc's
+    /// `emit_module_export_name`.
     pub fn emit_module_export_name(&mut self, node: &ModuleExportName) -> Result
         ensures { Emission (by_itself (λ _. module_export_name node.now))
             (state_of S.lines C.maps W.sheet self.old) (state_of S.lines C.maps W.sheet self.new)

@@ -10,7 +10,7 @@ ghost use Rattle.swc_ecma_codegen_emit.specs.Answers.{place_of};
 ghost use Rattle.swc_ecma_codegen_emit.specs.Lists.{unsupported};
 ghost use Rattle.swc_ecma_codegen_emit.specs.Operands.{operand_space};
 ghost use Rattle.swc_ecma_codegen_emit.specs.declared.nodes.Context.TheVariants.{Plain};
-ghost use Rattle.swc_ecma_codegen_util.specs.Starts.{is_word_op as is_word_unary};
+ghost use Rattle.swc_ecma_codegen_settings.specs.Starts.{is_word_op as is_word_unary};
 ghost use Rattle.swc_ecma_codegen_emit.specs.Places.{Whole, in_context};
 
 use crate::branches::is_wrapped;
@@ -39,8 +39,8 @@ fn is_left_operand(context: Context) -> bool
     matches!(context, Context::LeftOperand)
 }
 
-/// Whether the comments after it are left where they are: those of an inner left operand, as `a + b` in `a + b + c`, and of
-/// a number that is an object, as `10` in `10..x`.
+/// Whether the comments after it are left where they are: those of an inner left operand, as
+/// `a + b` in `a + b + c`, and of a number that is an object, as `10` in `10..x`.
 #[tactic(auto, unfolding(crate::specs::AnyExpr::leaves_comments))]
 fn leaves_comments<N>(node: &Expr<N>, context: Context) -> bool
     ensures { result ≡ leaves_comments node.now context }
@@ -52,7 +52,8 @@ fn leaves_comments<N>(node: &Expr<N>, context: Context) -> bool
     }
 }
 
-/// Writes a template, an element or a fragment. The context that it is told would be part of the frame that is there at each level of a tree.
+/// Writes a template, an element or a fragment. The context that it is told would be part of the
+/// frame that is there at each level of a tree.
 #[inline(never)]
 fn plainly<N: LinkTarget, W: WriteJs, S: SourceMapper, C: Comments>(
     node: &N,
@@ -177,7 +178,8 @@ fn wrapped<N: LinkTarget, W: WriteJs, S: SourceMapper, C: Comments>(
     e.punct(Punctuator::RightParenthesis);
 }
 
-/// Writes an expression where it stands: a sequence that is the value of a field stands in parentheses.
+/// Writes an expression where it stands: a sequence that is the value of a field stands in
+/// parentheses.
 #[inline(always)]
 #[tactic(auto, unfolding(crate::specs::AnyExpr::placed_expr))]
 pub(crate) fn placed_expr<N: LinkTarget, W: WriteJs, S: SourceMapper, C: Comments>(
@@ -468,7 +470,8 @@ impl<W: WriteJs, S: SourceMapper, C: Comments> Emitter<'_, W, S, C> {
         self.trailing_comments(expr_place(node).hi, true)
     }
 
-    /// Writes the comments before a binary expression and its start, unless it is an inner left operand.
+    /// Writes the comments before a binary expression and its start, unless it is an inner left
+    /// operand.
     #[tactic(auto, unfolding(crate::specs::Exprs::bin_opened))]
     fn bin_opened(&mut self, context: Context, span: Span)
         ensures items { Performs (bin_opened context span)
@@ -501,8 +504,8 @@ impl<W: WriteJs, S: SourceMapper, C: Comments> Emitter<'_, W, S, C> {
         node.right.target().emit_at(self, Context::Plain);
     }
 
-    /// Writes the operator with what stands beside it. Unless the settings are to minify these are blanks, whatever the operands are:
-    /// `a + b`.
+    /// Writes the operator with what stands beside it. Unless the settings are to minify these are
+    /// blanks, whatever the operands are: `a + b`.
     #[inline(always)]
     #[tactic(auto, unfolding(crate::specs::Exprs::bin_operator, crate::specs::Exprs::tight_operator), using(crate::proofs::Between::binary_tight, crate::proofs::Between::binary_between))]
     fn bin_operator<N: Asked>(&mut self, node: &BinExpr<N>)
@@ -625,7 +628,7 @@ impl<W: WriteJs, S: SourceMapper, C: Comments> Emitter<'_, W, S, C> {
 }
 
 /// Whether a unary operator is a word.
-#[tactic(auto, unfolding(swc_ecma_codegen_util::specs::Starts::is_word_op))]
+#[tactic(auto, unfolding(swc_ecma_codegen_settings::specs::Starts::is_word_op))]
 fn is_word_unary(op: UnaryOp) -> bool
     ensures { result ≡ is_word_unary op }
 {
@@ -635,7 +638,8 @@ fn is_word_unary(op: UnaryOp) -> bool
     }
 }
 
-/// Whether a blank is due between a sign and its operand: `- -a`. What the operand is, is only asked after `+` and `-`.
+/// Whether a blank is due between a sign and its operand: `- -a`. What the operand is, is only
+/// asked after `+` and `-`.
 #[tactic(auto, unfolding(crate::specs::Operands::operand_space))]
 fn sign_space<N: Asked>(op: UnaryOp, arg: &N) -> bool
     ensures { result ≡ operand_space op (N.answers arg.now).kind }
@@ -646,7 +650,8 @@ fn sign_space<N: Asked>(op: UnaryOp, arg: &N) -> bool
     }
 }
 
-/// Whether a blank is due between an operand and an operator. What the operand is, is only asked before an operator like `>`.
+/// Whether a blank is due between an operand and an operator. What the operand is, is only asked
+/// before an operator like `>`.
 #[tactic(auto, using(crate::proofs::OperatorLaws::not_greater), unfolding(crate::specs::Exprs::before_op))]
 fn before_op<N: Asked>(op: BinaryOp, left: &N) -> bool
     ensures { result ≡ before_op op (N.answers left.now) }

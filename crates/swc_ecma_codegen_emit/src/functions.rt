@@ -49,7 +49,8 @@ fn is_only_plain<N: Asked>(params: &[PatBox<N>]) -> bool
     }
 }
 
-/// Whether the only parameter has a comment after it. Where it stands is asked only where there are comments.
+/// Whether the only parameter has a comment after it. Where it stands is asked only where there are
+/// comments.
 #[tactic(auto, using(crate::proofs::Without::none_behind), unfolding(crate::specs::FunctionExprs::has_comment_behind))]
 fn has_comment_behind<N: Asked, C: Comments>(params: &[PatBox<N>], comments: &Option<C>) -> bool
     ensures { result ≡ has_comment_behind N.answers params.now (maps_in C.maps comments.now) }
@@ -78,7 +79,8 @@ fn is_typed_arrow<N>(node: &ArrowExpr<N>) -> bool
     node.type_params.is_some() || node.return_type.is_some()
 }
 
-/// Whether the parameters of an arrow function are a name alone, without a comment after it or types around it.
+/// Whether the parameters of an arrow function are a name alone, without a comment after it or
+/// types around it.
 fn is_bare_arrow<N: Asked, C: Comments>(node: &ArrowExpr<N>, comments: &Option<C>) -> bool
     ensures { result ≡ (not (is_typed_arrow node.now)
         && (is_only is_plain N.answers node.now.params.items
@@ -333,8 +335,8 @@ impl<W: WriteJs, S: SourceMapper, C: Comments> Emitter<'_, W, S, C> {
         }
     }
 
-    /// Writes `<A>(a): B { c; }` of a function that is declared, and of a private method. Where `;` stands for a body, a line may end
-    /// behind it.
+    /// Writes `<A>(a): B { c; }` of a function that is declared, and of a private method. Where `;`
+    /// stands for a body, a line may end behind it.
     #[tactic(auto, unfolding(crate::specs::Functions::declaration_tail))]
     fn declaration_tail<N: LinkTarget>(&mut self, node: &Function<N>)
         ensures items { Performs (declaration_tail N.answers N.items node.now)
@@ -399,8 +401,8 @@ impl<W: WriteJs, S: SourceMapper, C: Comments> Emitter<'_, W, S, C> {
         }
     }
 
-    /// Writes the blank after `static`, and `async *` or a part of it. `starts` says whether the key of the method begins with
-    /// a character of a name.
+    /// Writes the blank after `static`, and `async *` or a part of it. `starts` says whether the
+    /// key of the method begins with a character of a name.
     #[tactic(auto, unfolding(crate::specs::Functions::static_head))]
     fn static_head<N>(&mut self, starts: bool, node: &Function<N>)
         ensures items { Performs (static_head starts node.now)
@@ -508,7 +510,8 @@ impl<W: WriteJs, S: SourceMapper, C: Comments> Emitter<'_, W, S, C> {
         self.list(comma_list_format(), node.span, &node.params)
     }
 
-    /// Writes the parameters of an arrow function, in parentheses unless there is one name alone and the settings are to minify.
+    /// Writes the parameters of an arrow function, in parentheses unless there is one name alone
+    /// and the settings are to minify.
     #[tactic(auto, unfolding(crate::specs::FunctionExprs::arrow_within))]
     fn arrow_within<N: LinkTarget>(&mut self, plain: bool, node: &ArrowExpr<N>)
         ensures items { Performs (arrow_within plain node.now.span

@@ -414,7 +414,7 @@ impl<W: WriteJs, S: SourceMapper, C: Comments> Emitter<'_, W, S, C> {
         self.tag_name(node.span, &node.sym)
     }
 
-    /// The same of a name that is no reference: of an attribute, or behind a dot.
+    /// Writes a name that is no reference: of an attribute, or behind a dot of a tag.
     #[tactic(auto, unfolding(crate::specs::Jsx::tag_ident_name))]
     fn tag_ident_name(&mut self, node: &IdentName)
         ensures items { Performs (tag_ident_name node.now)

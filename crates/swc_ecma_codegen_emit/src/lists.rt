@@ -18,7 +18,8 @@ use swc_ecma_codegen_literals::Punctuator;
 use swc_ecma_codegen_text_writer::WriteJs;
 use swc_ecma_codegen_tree::ExprBox;
 
-/// Where a child stands, as far as the lines of its list ask for that: only those do that end where the source text's do.
+/// Where a child stands, as far as the lines of its list ask for that: only those do that end where
+/// the source text's do.
 #[inline(always)]
 #[tactic(auto, unfolding(crate::specs::Lists::as_asked))]
 fn asked_place<T: Child>(format: ListFormat, child: &T) -> Span
@@ -69,8 +70,8 @@ impl<W: WriteJs, S: SourceMapper, C: Comments> Emitter<'_, W, S, C> {
     }
 }
 
-/// Lists by their format. swc's `emit_list`. Each function is inlined into the one that names the format, as `arguments` does, so a format is
-/// asked for nothing while a list is printed.
+/// Lists by their format. swc's `emit_list`. Each function is inlined into the one that names the
+/// format, as `arguments` does, so a format is asked for nothing while a list is printed.
 impl<W: WriteJs, S: SourceMapper, C: Comments> Emitter<'_, W, S, C> {
     /// Writes what stands before the first child.
     #[inline(always)]
@@ -108,7 +109,8 @@ impl<W: WriteJs, S: SourceMapper, C: Comments> Emitter<'_, W, S, C> {
         );
     }
 
-    /// Writes the comments right after a child. Where it stands is asked only where there are comments.
+    /// Writes the comments right after a child. Where it stands is asked only where there are
+    /// comments.
     #[inline(always)]
     #[tactic(auto, using(crate::proofs::Without::none_there, crate::proofs::Without::none_behind_child))]
     fn child_comments<T: Child>(&mut self, format: ListFormat, line: bool, child: &T)
@@ -121,7 +123,7 @@ impl<W: WriteJs, S: SourceMapper, C: Comments> Emitter<'_, W, S, C> {
         self.child_taken(format, line, child)
     }
 
-    /// The same where there are some.
+    /// Writes the comments right after a child, where there are some.
     #[inline(never)]
     #[tactic(auto, using(crate::proofs::Standings::refused_makes))]
     fn child_taken<T: Child>(&mut self, format: ListFormat, line: bool, child: &T)
@@ -213,7 +215,8 @@ impl<W: WriteJs, S: SourceMapper, C: Comments> Emitter<'_, W, S, C> {
         self.child_comments(format, line, child);
     }
 
-    /// Writes the first child, which stands at `place` as far as the lines of the list ask for that, and what stands before it.
+    /// Writes the first child, which stands at `place` as far as the lines of the list ask for
+    /// that, and what stands before it.
     #[inline(always)]
     pub(crate) fn first_child<T: Child>(
         &mut self,
@@ -247,8 +250,8 @@ impl<W: WriteJs, S: SourceMapper, C: Comments> Emitter<'_, W, S, C> {
         self.child_comments(format, line, child);
     }
 
-    /// Writes a child, which stands at `place` as far as the lines of the list ask for that, after one that stands at
-    /// `previous`, and what stands between them.
+    /// Writes a child, which stands at `place` as far as the lines of the list ask for that, after
+    /// one that stands at `previous`, and what stands between them.
     #[inline(always)]
     pub(crate) fn next_child<T: Child>(
         &mut self,
@@ -280,7 +283,8 @@ impl<W: WriteJs, S: SourceMapper, C: Comments> Emitter<'_, W, S, C> {
         self.closing(format, parent, last);
     }
 
-    /// Writes the first child of a list, and says where it stands as far as the lines of the list ask.
+    /// Writes the first child of a list, and says where it stands as far as the lines of the list
+    /// ask.
     #[inline(always)]
     fn child_of_list<T: Child>(&mut self, format: ListFormat, parent: Span, child: &T) -> Span
         ensures place { as_asked format.0 result ≡ as_asked format.0 (T.stands child.now) }
@@ -297,7 +301,7 @@ impl<W: WriteJs, S: SourceMapper, C: Comments> Emitter<'_, W, S, C> {
         place
     }
 
-    /// The same of a child after one that stands at `previous`.
+    /// Writes a child that stands after one at `previous`.
     #[inline(always)]
     fn child_after<T: Child>(&mut self, format: ListFormat, previous: Span, child: &T) -> Span
         ensures place { as_asked format.0 result ≡ as_asked format.0 (T.stands child.now) }

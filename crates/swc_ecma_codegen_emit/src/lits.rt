@@ -1,7 +1,7 @@
 //! Literals.
 //!
-//! Calls of the lower emitter that spell a text are never inlined: each needs more of the stack than others, which would be
-//! part of the frames that are there once for each level of a tree.
+//! Calls of the lower emitter that spell a text are never inlined: each needs more of the stack
+//! than others, which would be part of the frames that are there once for each level of a tree.
 
 ghost use Rattle.std.specs.Prelude.{◌≡◌};
 ghost use Rattle.swc_ecma_codegen_emit.specs.Standing.{Performs};
@@ -193,8 +193,8 @@ impl<W: WriteJs, S: SourceMapper, C: Comments> Emitter<'_, W, S, C> {
         );
     }
 
-    /// Writes a number before the dot of a property, which stands at `prop`: with a dot of its own, where the other one would
-    /// be its.
+    /// Writes a number before the dot of a property, which stands at `prop`: with a dot of its own,
+    /// where the other one would be its.
     #[inline(never)]
     #[tactic(auto, using(crate::proofs::Standings::refused_makes))]
     fn number_object(&mut self, node: &Number, prop: BytePos)

@@ -2,7 +2,7 @@
 
 ghost use Rattle.std.specs.Prelude.{◌≡◌, true};
 ghost use Rattle.swc_ecma_codegen_grammar.specs.Settings.{is_up_to_es5};
-ghost use Rattle.swc_ecma_codegen_util.specs.Ends.{pat_ends, declarator_ends, declarators_end, head_ends};
+ghost use Rattle.swc_ecma_codegen_settings.specs.Ends.{pat_ends, declarator_ends, declarators_end, head_ends};
 ghost use Rattle.swc_ecma_codegen_tokens.specs.Choices.{loop_ending};
 ghost use Rattle.swc_ecma_codegen_emit.specs.Standing.{Performs};
 ghost use Rattle.swc_ecma_codegen_tokens.specs.Starts.{begins_letter};
@@ -69,7 +69,7 @@ fn is_single<S: SourceMapper, N: Asked>(cm: &S, span: Span, nodes: &[StmtBox<N>]
 }
 
 /// Whether a pattern ends with a character of a name.
-#[tactic(auto, unfolding(swc_ecma_codegen_util::specs::Ends::pat_ends))]
+#[tactic(auto, unfolding(swc_ecma_codegen_settings::specs::Ends::pat_ends))]
 fn pat_ends<N: Asked>(pat: &Pat<N>) -> bool
     ensures { result ≡ pat_ends (λ x. (N.answers x).ends) pat.now }
 {
@@ -83,7 +83,7 @@ fn pat_ends<N: Asked>(pat: &Pat<N>) -> bool
 }
 
 /// Whether a declarator ends with a character of a name.
-#[tactic(auto, unfolding(swc_ecma_codegen_util::specs::Ends::declarator_ends, swc_ecma_codegen_util::specs::Ends::init_ends))]
+#[tactic(auto, unfolding(swc_ecma_codegen_settings::specs::Ends::declarator_ends, swc_ecma_codegen_settings::specs::Ends::init_ends))]
 fn declarator_ends<N: Asked>(declarator: &VarDeclarator<N>) -> bool
     ensures { result ≡ declarator_ends (λ x. (N.answers x).ends) declarator.now }
 {
@@ -94,7 +94,7 @@ fn declarator_ends<N: Asked>(declarator: &VarDeclarator<N>) -> bool
 }
 
 /// Whether the last declarator does.
-#[tactic(auto, unfolding(swc_ecma_codegen_util::specs::Ends::declarators_end, swc_ecma_codegen_util::specs::Ends::last_ends))]
+#[tactic(auto, unfolding(swc_ecma_codegen_settings::specs::Ends::declarators_end, swc_ecma_codegen_settings::specs::Ends::last_ends))]
 fn declarators_end<N: Asked>(declarators: &[VarDeclarator<N>]) -> bool
     ensures { result ≡ declarators_end (λ x. (N.answers x).ends) declarators.now }
 {
@@ -105,7 +105,7 @@ fn declarators_end<N: Asked>(declarators: &[VarDeclarator<N>]) -> bool
 }
 
 /// Whether what the head of a `for` begins with does.
-#[tactic(auto, unfolding(swc_ecma_codegen_util::specs::Ends::head_ends))]
+#[tactic(auto, unfolding(swc_ecma_codegen_settings::specs::Ends::head_ends))]
 fn head_ends<N: Asked>(head: &ForHead<N>) -> bool
     ensures { result ≡ head_ends (λ x. (N.answers x).ends) head.now }
 {

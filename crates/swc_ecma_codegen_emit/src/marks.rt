@@ -3,7 +3,7 @@
 ghost use Rattle.std.specs.Prelude.{◌≡◌, true, false, IfNone, IfSome};
 ghost use Rattle.swc_ecma_codegen_common.specs.Operators.{assign_text, binary_text, unary_text, update_text};
 ghost use Rattle.swc_ecma_codegen_literals.specs.Punctuators.{spelling};
-ghost use Rattle.swc_ecma_codegen_util.specs.Starts.{is_word_op as is_word_unary};
+ghost use Rattle.swc_ecma_codegen_settings.specs.Starts.{is_word_op as is_word_unary};
 ghost use Rattle.swc_ecma_codegen_tokens.specs.Starts.{begins_letter};
 ghost use Rattle.swc_ecma_codegen_emit.specs.Operands.{is_word_op};
 
@@ -48,7 +48,7 @@ pub(crate) fn binary_mark(op: BinaryOp) -> Option<Punctuator>
 }
 
 /// The punctuator that a unary operator is; `None` for a word.
-#[tactic(auto, unfolding(swc_ecma_codegen_util::specs::Starts::is_word_op, swc_ecma_codegen_common::specs::Operators::unary_text))]
+#[tactic(auto, unfolding(swc_ecma_codegen_settings::specs::Starts::is_word_op, swc_ecma_codegen_common::specs::Operators::unary_text))]
 pub(crate) fn unary_mark(op: UnaryOp) -> Option<Punctuator>
     ensures spelled { IfSome result (λ mark. spelling mark ≡ unary_text op) }
     ensures is_mark { IfSome result (λ mark. is_word_unary op ≡ false) }

@@ -1,6 +1,7 @@
 //! Names: a name, the key of a property, a private name.
 
 ghost use Rattle.std.specs.Prelude.{◌≡◌, is_some, true, false};
+ghost use Rattle.swc_ecma_codegen_grammar.specs.Comments.{maps_in};
 ghost use Rattle.swc_ecma_codegen_tokens.specs.Starts.{begins_name};
 ghost use Rattle.swc_ecma_codegen_tokens.specs.PrivateNames.{private_name};
 ghost use Rattle.swc_ecma_codegen_emit.specs.Standing.{Performs};
@@ -13,11 +14,12 @@ use swc_ecma_codegen_common::Span;
 use swc_ecma_codegen_grammar::comments::Comments;
 use swc_ecma_codegen_grammar::mapper::SourceMapper;
 use swc_ecma_codegen_text_writer::WriteJs;
-use swc_ecma_codegen_tokens::begins_name;
+use swc_ecma_codegen_tokens::{begins_name, leads};
 
 impl<W: WriteJs, S: SourceMapper, C: Comments> Emitter<'_, W, S, C> {
-    /// Writes a name that is the key of a property, with its comments. Never inlined: what spells it needs more of the stack than others,
-    /// which would be part of the frames that are there once for each level of a tree.
+    /// Writes a name that is the key of a property, with its comments. Never inlined: what spells
+    /// it needs more of the stack than others, which would be part of the frames that are there
+    /// once for each level of a tree.
     #[inline(never)]
     #[tactic(auto, using(crate::proofs::Standings::refused_makes))]
     pub(crate) fn key(&mut self, span: Span, sym: &str)
@@ -33,13 +35,14 @@ impl<W: WriteJs, S: SourceMapper, C: Comments> Emitter<'_, W, S, C> {
         );
     }
 
-    /// Writes a name with its comments. Never inlined, since what it calls is: so a name takes one call. Mostly it is a text alone.
+    /// Writes a name with its comments. Never inlined, since what it calls is: so a name takes one
+    /// call. Mostly it is a text alone.
     #[inline(never)]
     pub(crate) fn name(&mut self, span: Span, sym: &str, optional: bool)
         ensures items { Performs (name span sym.now optional)
             S.lines C.maps W.sheet self.old self.new }
     {
-        if self.wr.care_about_srcmap() || self.comments.is_some() || optional {
+        if self.wr.care_about_srcmap() || leads(&self.comments, span.lo) || optional {
             return self.name_anyhow(span, sym, optional);
         }
         if !begins_name(sym) {
@@ -48,12 +51,13 @@ impl<W: WriteJs, S: SourceMapper, C: Comments> Emitter<'_, W, S, C> {
         self.name_alone(span, sym, optional)
     }
 
-    /// The same where no positions are kept, no comments are there, and no `?` is written.
+    /// Writes a name where no positions are kept, no comments stand before it, and no `?` is
+    /// written.
     #[inline(never)]
     #[tactic(auto, using(crate::proofs::Standings::refused_makes))]
     fn name_alone(&mut self, span: Span, sym: &str, optional: bool)
         requires unplaced { (W.sheet self.old.wr).keeps_positions ≡ false }
-        requires uncommented { is_some self.old.comments ≡ false }
+        requires uncommented { is_some ((maps_in C.maps self.old.comments).leading span.lo.0) ≡ false }
         requires single { optional ≡ false }
         requires begins { begins_name sym.now ≡ true }
         ensures items { Performs (name span sym.now optional)
@@ -76,7 +80,7 @@ impl<W: WriteJs, S: SourceMapper, C: Comments> Emitter<'_, W, S, C> {
         keep_reason(&mut self.refusal, done, &self.lower);
     }
 
-    /// The same, whatever stands round the name.
+    /// Writes a name, whatever stands round it.
     #[inline(never)]
     #[tactic(auto, using(crate::proofs::Standings::refused_makes))]
     fn name_anyhow(&mut self, span: Span, sym: &str, optional: bool)

@@ -15,7 +15,8 @@ use swc_ecma_codegen_spans::Spanned;
 use swc_ecma_codegen_text_writer::WriteJs;
 use swc_ecma_codegen_tree::Link;
 
-/// A node that can be printed: each type of node, a link, and a reference, a box or an option of these. swc's `Node`.
+/// A node that can be printed: each type of node, a link, and a reference, a box or an option of
+/// these. swc's `Node`.
 pub trait Node: Spanned {
     ghost part: { Self → Part };
 

@@ -1,4 +1,4 @@
-//! What a node is to those above it.
+//! What a parent may ask of a child: to print, its span, what it begins with.
 
 ghost use Rattle.std.specs.Prelude.{◌≡◌};
 ghost use Rattle.swc_ecma_codegen_tokens.specs.Run.{Part};
@@ -21,7 +21,8 @@ use swc_ecma_codegen_tree::Link;
 /// The context that a whole node stands in.
 #[derive(Debug, Clone, Copy, PartialEq, Eq)]
 pub enum Context {
-    /// Any other. A function or a class by itself is what stands behind its name, as in swc: `(a) { b; }` of `function f(a) { b; }`
+    /// Any other. A function or a class by itself is what stands behind its name, as in swc:
+    /// `(a) { b; }` of `function f(a) { b; }`
     Plain,
     /// The left operand of a binary operator: `a + b` in `a + b + c`.
     LeftOperand,
@@ -29,35 +30,41 @@ pub enum Context {
     Object,
     /// The object of a property after a dot, and where the property stands: `1` in `1..a`.
     DottedObject(BytePos),
-    /// What is called: `f` of `f(a)`. The object of a property in an optional chain stands there too.
+    /// What is called: `f` of `f(a)`. The object of a property in an optional chain stands there
+    /// too.
     Callee,
-    /// A member or a call in an optional chain that has no `?.` before its property or its arguments: `a?.b.c`
+    /// A member or a call in an optional chain that has no `?.` before its property or its
+    /// arguments: `a?.b.c`
     Chain,
     /// And one behind `?.`: `a?.b`
     OptionalChain,
     /// A block as the body of a function: `{ a; }` of `function f() { a; }`
     Body,
-    /// A function that is exported by default, whose end is that of a declaration: `function f() {}` of `export default function f() {}`
+    /// A function that is exported by default, whose end is that of a declaration:
+    /// `function f() {}` of `export default function f() {}`
     DefaultExport,
     /// A declaration as a statement: where one of variables ends isn't recorded there.
     Statement,
     /// A template after its tag.
     Tagged,
-    /// The value of a field, where a sequence stands in parentheses: `(a, b)` of `class B { c = (a, b); }`
+    /// The value of a field, where a sequence stands in parentheses: `(a, b)` of
+    /// `class B { c = (a, b); }`
     FieldValue,
     /// Between two tags: `<b/>` and `{c}` of `<a><b/>{c}</a>`
     Child,
-    /// Type arguments behind the name of a type, and the type of a getter, which leave the comments before them: `<B>` of `A<B>`, `C` of
-    /// `{ get a(): C; }`
+    /// Type arguments behind the name of a type, and the type of a getter, which leave the comments
+    /// before them: `<B>` of `A<B>`, `C` of `{ get a(): C; }`
     Reference,
-    /// The body of a namespace behind its name: ` {}` of `namespace a {}`, `.b {}` of `namespace a.b {}`
+    /// The body of a namespace behind its name: ` {}` of `namespace a {}`, `.b {}` of
+    /// `namespace a.b {}`
     Dotted,
-    /// By itself, in no other node, and the greatest length of the lines that a module or script is written in there: with 2, `a;b` is `a;` LF
-    /// `b`.
+    /// By itself, in no other node, and the greatest length of the lines that a module or script is
+    /// written in there: with 2, `a;b` is `a;` LF `b`.
     ByItself(u32),
 }
 
-/// A piece of a node. What another node has, a name or the word `export`, stands between two pieces.
+/// A piece of a node. What another node has, a name or the word `export`, stands between two
+/// pieces.
 #[derive(Debug, Clone, Copy, PartialEq, Eq)]
 pub enum Piece {
     /// What of a function stands before its name: `async function*`
@@ -66,14 +73,16 @@ pub enum Piece {
     MethodHead,
     /// What of a function that is declared stands before its name: `async function*` and a blank
     DeclarationHead,
-    /// What of a function that is declared, or of a private method, stands behind its name: `(a) { b; }`, and `(a);` where it has no body.
-    /// Behind that semicolon a line may be ended, since neither is an expression.
+    /// What of a function that is declared, or of a private method, stands behind its name:
+    /// `(a) { b; }`, and `(a);` where it has no body. Behind that semicolon a line may be ended,
+    /// since neither is an expression.
     DeclarationTail,
     /// What of a class stands before the word: `@a` of `@a class B {}`
     ClassHead,
     /// The word of a class, and what stands right before it: `abstract class`
     ClassWord,
-    /// What of a static method stands before its name, and whether that begins with a character of a name: ` async *`
+    /// What of a static method stands before its name, and whether that begins with a character of
+    /// a name: ` async *`
     StaticHead(bool),
     /// What of a method stands before its modifiers: `@a` of `@a b() {}`
     MethodDecorators,
@@ -122,7 +131,8 @@ pub enum Reply {
     Pattern(PatternKind),
 }
 
-/// The questions that those above it ask. What answers them is one function, since a check of each that names `AnyNode` is dear.
+/// The questions that those above it ask. What answers them is one function, since a check of each
+/// that names `AnyNode` is dear.
 pub trait Asked: Known {
     fn reply(&self, question: Question) -> Reply
         ensures { result ≡ reply_of (Self.answers self.now) question };
@@ -208,7 +218,8 @@ pub trait Asked: Known {
 pub trait EmitAt {
     ghost items: { Self → At → Part };
 
-    /// Prints the whole of it, in this context, unless a call was refused before. Why one is, the emitter keeps.
+    /// Prints the whole of it, in this context, unless a call was refused before. Why one is, the
+    /// emitter keeps.
     fn emit_at<W: WriteJs, S: SourceMapper, C: Comments>(
         &self,
         e: &mut Emitter<'_, W, S, C>,
@@ -218,9 +229,11 @@ pub trait EmitAt {
             S.lines C.maps W.sheet e.old e.new };
 }
 
-/// What can be printed in pieces too: a function, a class, a declaration, and what a link holds. A piece that another has is the whole here.
+/// What can be printed in pieces too: a function, a class, a declaration, and what a link holds. A
+/// piece that another has is the whole here.
 pub trait EmitPiece: EmitAt {
-    /// Prints this piece of it alone, unless a call was refused before. Why one is, the emitter keeps.
+    /// Prints this piece of it alone, unless a call was refused before. Why one is, the emitter
+    /// keeps.
     fn emit_piece<W: WriteJs, S: SourceMapper, C: Comments>(
         &self,
         e: &mut Emitter<'_, W, S, C>,

@@ -36,7 +36,8 @@ pub trait Operand {
 pub trait SpaceBefore: Operand {
     ghost space: { Self → Op → Bool };
 
-    /// Whether a blank is due between `op`, which is no word, and it: `a- -b`. swc's `require_space_before_rhs`.
+    /// Whether a blank is due between `op`, which is no word, and it: `a- -b`. swc's
+    /// `require_space_before_rhs`.
     fn require_space_before(&self, op: BinaryOp) -> bool
         ensures { result ≡ space self.now op };
 }
@@ -178,8 +179,8 @@ fn is_decrement(kind: OperandKind) -> bool
     }
 }
 
-/// Whether a blank is due between an operator and a sign with its operand: `a< !--b`. What the operand is, is only asked between
-/// `<` and `!`.
+/// Whether a blank is due between an operator and a sign with its operand: `a< !--b`. What the
+/// operand is, is only asked between `<` and `!`.
 #[tactic(auto, unfolding(crate::specs::Operands::bang_space))]
 fn bang_space<N: Operand>(node: &UnaryExpr<N>, op: BinaryOp) -> bool
     ensures { result ≡ bang_space (N.kind node.now.arg.node.value) op node.now.op }
@@ -228,7 +229,8 @@ impl SpaceBefore for AnyNode {
     }
 }
 
-/// Whether a blank is due between a sign and its operand: `- -a`, `- -1`. swc's `should_emit_whitespace_before_operand`.
+/// Whether a blank is due between a sign and its operand: `- -a`, `- -1`. swc's
+/// `should_emit_whitespace_before_operand`.
 #[tactic(auto, unfolding(crate::specs::Operands::operand_space))]
 pub(crate) fn operand_space(op: UnaryOp, arg: OperandKind) -> bool
     ensures { result ≡ operand_space op arg }

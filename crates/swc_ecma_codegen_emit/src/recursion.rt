@@ -1,5 +1,5 @@
-//! The whole tree. Only these functions go from what a link holds to the function for its sort, so only these see that
-//! the tree refers to itself, and only these use the laws of the fold.
+//! The whole tree: these functions dispatch from a link to its node's own function. Nothing else
+//! knows that the tree is recursive, or uses the laws of the fold.
 
 ghost use Rattle.swc_ecma_codegen_emit.specs.Answers.{any_answers};
 ghost use Rattle.swc_ecma_codegen_emit.specs.Tree.{any_items};
@@ -13,10 +13,10 @@ use crate::operands::{Operand, SpaceBefore};
 use crate::patterns::{PatternKind, kind_of_part};
 use swc_ecma_codegen_grammar::comments::Comments;
 use swc_ecma_codegen_grammar::mapper::SourceMapper;
+use swc_ecma_codegen_settings::util::{EndsWithAlphaNum, StartsWithAlphaNum};
 use swc_ecma_codegen_spans::Spanned;
 use swc_ecma_codegen_text_writer::WriteJs;
 use swc_ecma_codegen_tree::AnyNode;
-use swc_ecma_codegen_util::util::{EndsWithAlphaNum, StartsWithAlphaNum};
 
 impl Known for AnyNode {
     ghost answers = { any_answers };

@@ -353,9 +353,10 @@ impl<W: WriteJs, S: SourceMapper, C: Comments> Emitter<'_, W, S, C> {
         self.formatting_line()
     }
 
-    /// Writes the comments after a statement. Where it stands is asked only where there are comments.
+    /// Writes the comments after a statement. Where it stands is asked only where there are
+    /// comments.
     #[inline(always)]
-    #[tactic(auto, using(crate::proofs::Without::none_there, crate::proofs::Without::no_trailing))]
+    #[tactic(auto, using(crate::proofs::Without::none_there, crate::proofs::Without::trailing_nowhere))]
     fn stmt_comments<N: LinkTarget>(&mut self, node: &Stmt<N>)
         ensures items { Performs (trailing_comments true
             (stmt_span (place_of N.answers) node.now).hi) S.lines C.maps W.sheet self.old self.new }

@@ -66,7 +66,8 @@ impl<N: LinkTarget> EmitAt for Tpl<N> {
     }
 }
 
-/// Only the text of the part, as of a template without a tag: `b` of `` `a${c}b` ``. swc's `emit_quasi`.
+/// Only the text of the part, as of a template without a tag: `b` of `` `a${c}b` ``. swc's
+/// `emit_quasi`.
 impl EmitAt for TplElement {
     ghost items = { λ n _. quasi n };
 

@@ -18,7 +18,7 @@ use swc_ecma_codegen_grammar::comments::Comments;
 use swc_ecma_codegen_grammar::mapper::SourceMapper;
 use swc_ecma_codegen_literals::Punctuator;
 use swc_ecma_codegen_text_writer::WriteJs;
-use swc_ecma_codegen_tokens::Unprintable;
+use swc_ecma_codegen_tokens::{Unprintable, leads, trails};
 
 impl<W: WriteJs, S: SourceMapper, C: Comments> Emitter<'_, W, S, C> {
     /// Refuses a node that has no text, as `Invalid`.
@@ -93,7 +93,8 @@ impl<W: WriteJs, S: SourceMapper, C: Comments> Emitter<'_, W, S, C> {
         self.punct_here(mark)
     }
 
-    /// The same in a function of its own: where there is no greatest length it takes fewer registers.
+    /// Writes a punctuator where lines have a greatest length. A function of its own: where there
+    /// is none it takes fewer registers.
     #[inline(never)]
     fn punct_in_bounds(&mut self, mark: Punctuator)
         ensures items { Performs (punct (spelling mark)) S.lines C.maps W.sheet self.old self.new }
@@ -101,7 +102,7 @@ impl<W: WriteJs, S: SourceMapper, C: Comments> Emitter<'_, W, S, C> {
         self.punct_here(mark)
     }
 
-    /// The same, where it is called.
+    /// Writes a punctuator. Inlined where it is called.
     #[inline(always)]
     #[tactic(auto, using(crate::proofs::Standings::refused_makes))]
     fn punct_here(&mut self, mark: Punctuator)
@@ -260,7 +261,8 @@ impl<W: WriteJs, S: SourceMapper, C: Comments> Emitter<'_, W, S, C> {
         );
     }
 
-    /// Writes a semicolon that may be left out where it isn't needed. Where lines may have a greatest length, a break may be due behind it.
+    /// Writes a semicolon that may be left out where it isn't needed. Where lines may have a
+    /// greatest length, a break may be due behind it.
     #[inline(never)]
     pub(crate) fn semi(&mut self)
         ensures items { Performs (semi) S.lines C.maps W.sheet self.old self.new }
@@ -271,7 +273,8 @@ impl<W: WriteJs, S: SourceMapper, C: Comments> Emitter<'_, W, S, C> {
         self.semi_here()
     }
 
-    /// The same in a function of its own: where there is no greatest length it takes fewer registers.
+    /// Writes a semicolon where lines have a greatest length. A function of its own: where there is
+    /// none it takes fewer registers.
     #[inline(never)]
     fn semi_in_bounds(&mut self)
         ensures items { Performs (semi) S.lines C.maps W.sheet self.old self.new }
@@ -279,7 +282,7 @@ impl<W: WriteJs, S: SourceMapper, C: Comments> Emitter<'_, W, S, C> {
         self.semi_here()
     }
 
-    /// The same, where it is called.
+    /// Writes a semicolon. Inlined where it is called.
     #[inline(always)]
     #[tactic(auto, using(crate::proofs::Standings::refused_makes))]
     fn semi_here(&mut self)
@@ -354,7 +357,7 @@ impl<W: WriteJs, S: SourceMapper, C: Comments> Emitter<'_, W, S, C> {
         self.kept_position(pos)
     }
 
-    /// The same where it keeps them.
+    /// Records a position where the writer keeps them.
     #[tactic(auto, using(crate::proofs::Standings::refused_makes))]
     fn kept_position(&mut self, pos: BytePos)
         ensures items { Performs (position pos) S.lines C.maps W.sheet self.old self.new }
@@ -368,7 +371,8 @@ impl<W: WriteJs, S: SourceMapper, C: Comments> Emitter<'_, W, S, C> {
         );
     }
 
-    /// Records the position before one, unless that one is none. Where the writer keeps none, nothing else is asked.
+    /// Records the position before one, unless that one is none. Where the writer keeps none,
+    /// nothing else is asked.
     #[inline(always)]
     #[tactic(auto, using(crate::proofs::Unkept::no_position_before))]
     pub(crate) fn position_before(&mut self, pos: BytePos)
@@ -380,7 +384,7 @@ impl<W: WriteJs, S: SourceMapper, C: Comments> Emitter<'_, W, S, C> {
         self.kept_position_before(pos)
     }
 
-    /// The same where it keeps them.
+    /// Records a position where the writer keeps them.
     #[tactic(auto, using(crate::proofs::Standings::refused_makes))]
     fn kept_position_before(&mut self, pos: BytePos)
         ensures items { Performs (position_before pos) S.lines C.maps W.sheet self.old self.new }
@@ -415,19 +419,20 @@ impl<W: WriteJs, S: SourceMapper, C: Comments> Emitter<'_, W, S, C> {
         self.position_before(span.hi)
     }
 
-    /// Writes the comments that stand before a position. Where there are none, that takes no call.
+    /// Writes the comments that stand before a position. Where there are none there, that takes no
+    /// call.
     #[inline(always)]
-    #[tactic(auto, using(crate::proofs::Without::none_there, crate::proofs::Without::no_leading))]
+    #[tactic(auto, using(crate::proofs::Without::no_leading))]
     pub(crate) fn leading_comments(&mut self, pos: BytePos)
         ensures items { Performs (leading_comments pos) S.lines C.maps W.sheet self.old self.new }
     {
-        if self.comments.is_none() {
+        if !leads(&self.comments, pos) {
             return;
         }
         self.leading_taken(pos)
     }
 
-    /// The same where there are some.
+    /// Writes the comments before a position where there are some.
     #[inline(never)]
     #[tactic(auto, using(crate::proofs::Standings::refused_makes))]
     fn leading_taken(&mut self, pos: BytePos)
@@ -443,20 +448,21 @@ impl<W: WriteJs, S: SourceMapper, C: Comments> Emitter<'_, W, S, C> {
         );
     }
 
-    /// Writes the comments that stand after a position. Where there are none, that takes no call.
+    /// Writes the comments that stand after a position. Where there are none there, that takes no
+    /// call.
     #[inline(always)]
-    #[tactic(auto, using(crate::proofs::Without::none_there, crate::proofs::Without::no_trailing))]
+    #[tactic(auto, using(crate::proofs::Without::no_trailing))]
     pub(crate) fn trailing_comments(&mut self, pos: BytePos, prefix_space: bool)
         ensures items { Performs (trailing_comments prefix_space pos)
             S.lines C.maps W.sheet self.old self.new }
     {
-        if self.comments.is_none() {
+        if !trails(&self.comments, pos) {
             return;
         }
         self.trailing_taken(pos, prefix_space)
     }
 
-    /// The same where there are some.
+    /// Writes the comments after a position where there are some.
     #[inline(never)]
     #[tactic(auto, using(crate::proofs::Standings::refused_makes))]
     fn trailing_taken(&mut self, pos: BytePos, prefix_space: bool)
@@ -500,7 +506,8 @@ impl<W: WriteJs, S: SourceMapper, C: Comments> Emitter<'_, W, S, C> {
         }
     }
 
-    /// Writes a punctuator between two blanks, as ` ? `; the blanks aren't written where the settings are to minify.
+    /// Writes a punctuator between two blanks, as ` ? `; the blanks aren't written where the
+    /// settings are to minify.
     #[tactic(auto, using(crate::proofs::Between::spaced_tight, crate::proofs::Between::spaced_between))]
     pub(crate) fn spaced_punct(&mut self, mark: Punctuator)
         ensures items { Performs (spaced_punct (spelling mark))
@@ -513,7 +520,8 @@ impl<W: WriteJs, S: SourceMapper, C: Comments> Emitter<'_, W, S, C> {
         }
     }
 
-    /// The same of an operator, as ` = `.
+    /// Writes an operator between two blanks, as ` = `; the blanks aren't written where the
+    /// settings are to minify.
     #[tactic(auto, using(crate::proofs::Between::formatted_tight, crate::proofs::Between::formatted_between))]
     pub(crate) fn formatted_operator(&mut self, mark: Punctuator)
         ensures items { Performs (formatted_operator (spelling mark))
@@ -538,7 +546,7 @@ impl<W: WriteJs, S: SourceMapper, C: Comments> Emitter<'_, W, S, C> {
         self.punct_in_blanks(mark)
     }
 
-    /// The same, text by text.
+    /// Writes a punctuator between two blanks, text by text.
     #[inline(never)]
     #[tactic(auto, using(crate::proofs::Standings::refused_makes))]
     fn punct_and_blanks(&mut self, mark: Punctuator)
@@ -554,7 +562,7 @@ impl<W: WriteJs, S: SourceMapper, C: Comments> Emitter<'_, W, S, C> {
         keep_reason(&mut self.refusal, done, &self.lower);
     }
 
-    /// The same as one text, where that may be.
+    /// Writes a punctuator between two blanks as one text, where that may be.
     #[inline(always)]
     #[tactic(auto, using(crate::proofs::Standings::refused_makes))]
     fn punct_in_blanks(&mut self, mark: Punctuator)
@@ -570,7 +578,8 @@ impl<W: WriteJs, S: SourceMapper, C: Comments> Emitter<'_, W, S, C> {
         keep_reason(&mut self.refusal, done, &self.lower);
     }
 
-    /// Writes an operator that is a punctuator, between two blanks. Where no positions are kept it is one text.
+    /// Writes an operator that is a punctuator, between two blanks. Where no positions are kept it
+    /// is one text.
     #[inline(never)]
     pub(crate) fn operator_between(&mut self, mark: Punctuator)
         ensures items { Performs (operator_between (spelling mark))
@@ -582,7 +591,7 @@ impl<W: WriteJs, S: SourceMapper, C: Comments> Emitter<'_, W, S, C> {
         self.operator_in_blanks(mark)
     }
 
-    /// The same, text by text.
+    /// Writes an operator between two blanks, text by text.
     #[inline(never)]
     #[tactic(auto, using(crate::proofs::Standings::refused_makes))]
     fn operator_and_blanks(&mut self, mark: Punctuator)
@@ -598,7 +607,7 @@ impl<W: WriteJs, S: SourceMapper, C: Comments> Emitter<'_, W, S, C> {
         keep_reason(&mut self.refusal, done, &self.lower);
     }
 
-    /// The same as one text, where that may be.
+    /// Writes an operator between two blanks as one text, where that may be.
     #[inline(always)]
     #[tactic(auto, using(crate::proofs::Standings::refused_makes))]
     fn operator_in_blanks(&mut self, mark: Punctuator)
@@ -634,7 +643,8 @@ impl<W: WriteJs, S: SourceMapper, C: Comments> Emitter<'_, W, S, C> {
         self.leading_comments(BytePos(pos.0 - 1))
     }
 
-    /// Writes the comments before the last character of what ends at a position. Where there are none, that takes no call.
+    /// Writes the comments before the last character of what ends at a position. Where there are
+    /// none, that takes no call.
     #[inline(always)]
     #[tactic(auto, using(crate::proofs::Without::none_there, crate::proofs::Without::none_before_end))]
     pub(crate) fn comments_before_end(&mut self, pos: BytePos)
@@ -647,7 +657,8 @@ impl<W: WriteJs, S: SourceMapper, C: Comments> Emitter<'_, W, S, C> {
         self.taken_before_end(pos)
     }
 
-    /// The same where there are some.
+    /// Writes the comments before the last character of what ends at a position, where there are
+    /// some.
     #[inline(never)]
     #[tactic(auto, using(crate::proofs::Standings::refused_makes))]
     fn taken_before_end(&mut self, pos: BytePos)

@@ -32,7 +32,7 @@ use Rattle.swc_ecma_codegen_grammar.proofs.TreeLaws.{phrase_expr}
 use Rattle.swc_ecma_codegen_tokens.specs.Ready.{token_count}
 use Rattle.swc_ecma_codegen_tokens.specs.Settings.{settings_of}
 use Rattle.swc_ecma_codegen_tokens.specs.Written.{ReadsAs}
-use Rattle.swc_ecma_codegen_util.specs.Defaults.{default_config}
+use Rattle.swc_ecma_codegen_settings.specs.Defaults.{default_config}
 use Rattle.swc_ecma_codegen_examples.specs.Negation.{IsNegation, IsOperation, negation_tokens}
 
 -- the expression that a link holds

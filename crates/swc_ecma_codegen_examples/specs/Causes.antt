@@ -7,8 +7,8 @@ use Rattle.swc_ecma_codegen_grammar.specs.CommentMaps.{Maps}
 use Rattle.swc_ecma_codegen_grammar.specs.Comments.{no_maps}
 use Rattle.swc_ecma_codegen_grammar.specs.SourceLines.{no_lines}
 use Rattle.swc_ecma_codegen_grammar.specs.TreePhrases.{is_well_formed}
-use Rattle.swc_ecma_codegen_util.specs.Defaults.{default_config}
-use Rattle.swc_ecma_codegen_util.specs.declared.config.Config.{Config}
+use Rattle.swc_ecma_codegen_settings.specs.Defaults.{default_config}
+use Rattle.swc_ecma_codegen_settings.specs.declared.config.Config.{Config}
 use Rattle.swc_ecma_codegen_text_writer.specs.Sheet.{HoldsNone}
 use Rattle.swc_ecma_codegen_tokens.specs.Run.{State, start}
 use Rattle.swc_ecma_codegen_emit.specs.Roots.{OfProgram, root_items}

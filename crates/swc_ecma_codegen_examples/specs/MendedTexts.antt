@@ -8,7 +8,7 @@ use Rattle.swc_ecma_codegen_grammar.specs.Tokens.{Token}
 use Rattle.swc_ecma_codegen_grammar.specs.TreePhrases.{program_phrase}
 use Rattle.swc_ecma_codegen_syntax.specs.Derives.{DerivesProgram, bare_phrase}
 use Rattle.swc_ecma_codegen_tokens.specs.Written.{ReadsAs}
-use Rattle.swc_ecma_codegen_util.specs.Defaults.{default_config}
+use Rattle.swc_ecma_codegen_settings.specs.Defaults.{default_config}
 use Rattle.swc_ecma_codegen_parentheses.specs.Roots.{SameProgramTree}
 
 -- A text reads as a program that is this one but for parentheses and braces, and the grammar of ECMA-262 derives it as that very tree, but

@@ -1,5 +1,8 @@
-//! Callers of the printer: how a project makes a tree or reads one, prints it, and what it may say of the text. Each is proved
-//! from the clauses of what it calls; docs/CALLING.md quotes them.
+//! Callers of the printer: how a project makes a tree or reads one, prints it, and what it may say
+//! of the text. Each is proved from the clauses of what it calls; docs/CALLING.md quotes them. And
+//! a caller of each public call that asks something of its arguments and that neither these nor the
+//! programs make (`turns`, `writers`), and a map of a source text (`sources`): they show that what
+//! is asked can be met. Tests run each.
 #![tactic(auto)]
 
 ghost use Rattle.std.specs.Prelude.{◌≡◌, ◌≢◌, ◌⊎◌, ◌<◌, ◌^◌, ℕ, List, [], true, false, Err, IfOk, IfErr, IsErrOf, IsSome, OnOk, Some, codes, string_bytes};
@@ -13,7 +16,7 @@ ghost use Rattle.swc_ecma_codegen_grammar.specs.Reads.{Reads};
 ghost use Rattle.swc_ecma_codegen_grammar.specs.SourceLines.{no_lines};
 ghost use Rattle.swc_ecma_codegen_grammar.specs.SpelledNames.{is_well_formed_name};
 ghost use Rattle.swc_ecma_codegen_grammar.specs.TreePhrases.{program_phrase, is_well_formed};
-ghost use Rattle.swc_ecma_codegen_util.specs.Defaults.{default_config};
+ghost use Rattle.swc_ecma_codegen_settings.specs.Defaults.{default_config};
 ghost use Rattle.swc_ecma_codegen_text_writer.specs.Recorded.{RecordsTruly};
 ghost use Rattle.swc_ecma_codegen_text_writer.specs.Contents.{or_empty};
 ghost use Rattle.swc_ecma_codegen_text_writer.specs.View.{sheet_of, new_sheet, keeping};
@@ -28,13 +31,19 @@ ghost use Rattle.swc_ecma_codegen_examples.specs.Negation.{negation_tokens, IsOp
 
 mod links;
 mod parentheses;
+mod sources;
 mod structure;
+mod turns;
+mod writers;
 
 pub use crate::links::{
     emitted_box_reads, emitted_link_reads, emitted_option_reads, emitted_ref_reads,
 };
 pub use crate::parentheses::{mended_text, product};
+pub use crate::sources::Source;
 pub use crate::structure::{NoMeaning, text_that_keeps_structure};
+pub use crate::turns::{brace_turn, digit_turn, escaped_turn, name_turn, octal_turn};
+pub use crate::writers::{there_and_back, write_list, write_tokens, writes_where_settled};
 use std::alloc::{AllocError, Global};
 use std::io::Write;
 use swc_ecma_codegen::ast::mapper::SourceText;
@@ -83,7 +92,8 @@ fn operation<N: Holds<Expr<N>> + Drop>(
     Ok(ExprStmt { span, expr })
 }
 
-/// The text of `-a;`, a tree made by hand: it reads as a minus, the name and a semicolon, where the name is one.
+/// The text of `-a;`, a tree made by hand: it reads as a minus, the name and a semicolon, where the
+/// name is one.
 pub fn negation_text(alloc: Global, name: &str) -> Result<String, Error>
     ensures reads { is_well_formed_name name.now ≡ true →
         IfOk result (λ text. Reads (chars (string_bytes text)) (negation_tokens name.now) []) }
@@ -94,7 +104,8 @@ pub fn negation_text(alloc: Global, name: &str) -> Result<String, Error>
     to_code(alloc, &statement)
 }
 
-/// Changes the operator of a unary expression in place: `+a` with `-` becomes `-a`. Other expressions stay as they are.
+/// Changes the operator of a unary expression in place: `+a` with `-` becomes `-a`. Other
+/// expressions stay as they are.
 pub fn set_operator<N: HoldsMut<Expr<N>> + Drop>(link: &mut ExprBox<N>, op: UnaryOp)
     ensures { (node : UnaryExprOf N) → N.node_in link.old.node.value ≡ Some (Unary node) →
         N.node_in link.new.node.value ≡ Some (Unary (record node { op = op })) }
@@ -119,7 +130,8 @@ pub fn changed_operator_text(alloc: Global, name: &str) -> Result<String, Error>
     to_code(alloc, &statement)
 }
 
-/// The text of a program, where it is well-formed: UTF-8 that reads, by longest match, as one of the program's token lists.
+/// The text of a program, where it is well-formed: UTF-8 that reads, by longest match, as one of
+/// the program's token lists.
 pub fn checked_text(alloc: Global, program: &Program) -> Result<String, NoText>
     ensures reads { IfOk result (λ text.
         ReadsAs default_config false (program_phrase program.now) [] (string_bytes text)) }
@@ -139,15 +151,17 @@ pub fn checked_text(alloc: Global, program: &Program) -> Result<String, NoText>
     }
 }
 
-/// Prints a program to any writer of bytes by way of memory, so that nothing is out unless the whole text was made. A writer that
-/// tells its bytes, as a `Vec` does, tells more by a text that reads as the program.
+/// Prints a program to any writer of bytes by way of memory, so that nothing is out unless the
+/// whole text was made. A writer that tells its bytes, as a `Vec` does, tells more by a text that
+/// reads as the program.
 pub fn append_checked<W: Write>(alloc: Global, program: &Program, out: &mut W) -> Result<(), NoText>
     ensures reads { OnOk result ((text : List ℕ)
         × ReadsAs default_config false (program_phrase program.now) [] text
         × Appends (W.contents out.old) (W.contents out.new) text) }
     ensures not_well_formed { is_well_formed program.now ≡ false →
         IsErrOf result NoText.NotWellFormed × (out.new ≡ out.old) }
-    // A well-formed program of fewer than 2 ^ 32 tokens is refused for want of memory alone, or since `out` failed.
+    // A well-formed program of fewer than 2 ^ 32 tokens is refused for want of memory alone, or
+    // since `out` failed.
     ensures made { is_well_formed program.now ≡ true →
         token_count (program_phrase program.now) < 2 ^ 32 → IfErr result IsOfMachine }
     ensures kept { result ≡ Err (NoText.Refused Error.OutOfMemory) → out.new ≡ out.old }
@@ -184,9 +198,11 @@ fn printed_on<P: Node, W: WriteJs + Drop>(
     Ok(emitter.wr)
 }
 
-/// Prints a node to any writer of bytes, as a file, and gives that back. A `&mut` of one is one too.
+/// Prints a node to any writer of bytes, as a file, and gives that back. A `&mut` of one is one
+/// too.
 pub fn print_into<P: Node, W: Write + Drop>(alloc: Global, node: &P, out: W) -> Result<W, Error>
-    // Where all writers of this type tell their bytes, as each `Vec` does, it tells more by a text that reads as the root that `node` prints.
+    // Where all writers of this type tell their bytes, as each `Vec` does, it tells more by a text
+    // that reads as the root that `node` prints.
     ensures reads { (root : Root) → P.part node.now ≡ root_items root →
         is_well_formed_root root ≡ true → ((w : W) → IsSome (W.contents w)) →
         IfOk result (λ w.
@@ -201,8 +217,8 @@ pub fn print_into<P: Node, W: Write + Drop>(alloc: Global, node: &P, out: W) -> 
     Ok(printed.into_inner())
 }
 
-/// Prints a node, and records in `pairs`, after those that stand there, where its parts were written: `into_inner` of the
-/// writer is the text.
+/// Prints a node, and records in `pairs`, after those that stand there, where its parts were
+/// written: `into_inner` of the writer is the text.
 pub fn print_with_positions<'a, P: Node>(
     alloc: Global,
     node: &P,
@@ -221,14 +237,15 @@ pub fn print_with_positions<'a, P: Node>(
     printed_on(alloc, Config::default(), node, writer)
 }
 
-/// Prints a node with its comments. Gives the text, and the comments that are left: those that it didn't take.
+/// Prints a node with its comments. Gives the text, and the comments that are left: those that it
+/// didn't take.
 pub fn print_with_comments<P: Node, C: Comments + Drop>(
     alloc: Global,
     node: &P,
     comments: C,
 ) -> Result<(Vec<u8>, Option<C>), Error>
-    // Where each comment can be read back, the text reads as the root that `node` prints, and between its tokens stand exactly the
-    // comments that were taken, in order.
+    // Where each comment can be read back, the text reads as the root that `node` prints, and
+    // between its tokens stand exactly the comments that were taken, in order.
     ensures reads { (root : Root) → P.part node.now ≡ root_items root →
         is_well_formed_root root ≡ true → AreClosed (C.maps comments) →
         IfOk result (λ printed.
@@ -247,8 +264,9 @@ pub fn print_with_comments<P: Node, C: Comments + Drop>(
     Ok((emitter.wr.into_inner(), emitter.comments))
 }
 
-/// The text of a node over the source text that it was read from, whose first byte stands at 1. In lists that keep their lines, as those
-/// of arrays do, a line ends where one ends there: `[` LF `a, b]` is printed `[` LF `    a, b` LF `]`.
+/// The text of a node over the source text that it was read from, whose first byte stands at 1. In
+/// lists that keep their lines, as those of arrays do, a line ends where one ends there: `[` LF
+/// `a, b]` is printed `[` LF `    a, b` LF `]`.
 pub fn print_over_source<P: Node>(alloc: Global, node: &P, text: &str) -> Result<String, Error>
     // It asks this source text where lines end, and which lists end with a comma.
     ensures text { IfOk result (λ printed. string_bytes printed
@@ -276,7 +294,7 @@ pub fn minified<P: Node>(alloc: Global, node: &P) -> Result<Vec<u8>, Error>
     Ok(plain.into_inner())
 }
 
-/// The same of a program, where it is well-formed.
+/// The text of a program, minified, where it is well-formed.
 fn checked_minified(alloc: Global, program: &Program) -> Result<Vec<u8>, NoText>
     ensures reads { IfOk result (λ text. (is_well_formed program.now ≡ true)
         × ReadsAs minified_config true (program_phrase program.now) [] text.items) }

@@ -1,6 +1,6 @@
-//! How a link, a reference, a box and an option are printed, whatever links hold: `emit_with` of one writes what is written of
-//! what it holds, and where that is what is written of a root, what it adds to the text reads as that root, with the comments
-//! that it took between the tokens.
+//! How a link, a reference, a box and an option are printed, whatever links hold: `emit_with` of
+//! one writes what is written of what it holds, and where that is what is written of a root, what
+//! it adds to the text reads as that root, with the comments that it took between the tokens.
 
 ghost use Rattle.std.specs.Prelude.{◌≡◌, Some, None, IsOk, false};
 ghost use Rattle.swc_ecma_codegen_common.specs.Refusals.{in_short};
@@ -67,7 +67,8 @@ pub fn emitted_box_reads<T: EmitAt + Spanned, W: WriteJs, S: SourceMapper, C: Co
     node.emit_with(e)
 }
 
-/// What may be missing: where it is, nothing is written, and nothing is refused but for an earlier refusal.
+/// What may be missing: where it is, nothing is written, and nothing is refused but for an earlier
+/// refusal.
 pub fn emitted_option_reads<T: EmitAt + Spanned, W: WriteJs, S: SourceMapper, C: Comments>(
     node: &Option<T>,
     e: &mut Emitter<'_, W, S, C>,

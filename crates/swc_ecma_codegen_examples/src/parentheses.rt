@@ -1,4 +1,5 @@
-//! Callers that make trees of others, as a code mod does: these need parentheses that none of their parts has.
+//! Callers that make trees of others, as a code mod does: these need parentheses that none of their
+//! parts has.
 
 ghost use Rattle.std.specs.Prelude.{◌≡◌, true, IfOk, string_bytes};
 ghost use Rattle.swc_ecma_codegen_syntax.specs.declared.nonterminals.Nonterminal.TheVariants.{Expression};
@@ -31,7 +32,8 @@ fn operation_of(alloc: Global, op: BinaryOp, left: Expr, right: Expr) -> Result<
     }))
 }
 
-/// `left * right`, with the parentheses that the operands need there: of `a + b` and `c` it makes `(a + b) * c`.
+/// `left * right`, with the parentheses that the operands need there: of `a + b` and `c` it makes
+/// `(a + b) * c`.
 pub fn product(alloc: Global, left: Expr, right: Expr) -> Result<Expr, Unmended<Expr>>
     ensures parenthesized { IfOk result
         (λ r. (expr_verdict Expression of_script r).parenthesized ≡ true) }
@@ -46,8 +48,9 @@ pub fn product(alloc: Global, left: Expr, right: Expr) -> Result<Expr, Unmended<
     )
 }
 
-/// The text of a program that a code mod put together, with the parentheses that it lacks: `(a + b) * c` of a sum in a product. It is
-/// refused if its text would mean another program even so, as that of `a() = b` does.
+/// The text of a program that a code mod put together, with the parentheses that it lacks:
+/// `(a + b) * c` of a sum in a product. It is refused if its text would mean another program even
+/// so, as that of `a() = b` does.
 pub fn mended_text(alloc: Global, program: Program) -> Result<String, NoMeaning>
     ensures { IfOk result (λ text. IsMendedText program (string_bytes text)) }
 {
@@ -60,7 +63,7 @@ pub fn mended_text(alloc: Global, program: Program) -> Result<String, NoMeaning>
         Err(Unmended::OutOfMemory) => {
             Err(NoMeaning::NoText(NoText::Refused(Error::OutOfMemory)))
         }
-        Err(Unmended::TooDeep(program) | Unmended::Left(program)) => {
+        Err(Unmended::TooDeep(program) | Unmended::Stopped(program) | Unmended::Left(program)) => {
             let _left = Tree(program);
             Err(NoMeaning::OtherStructure)
         }

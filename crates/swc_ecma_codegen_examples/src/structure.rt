@@ -8,7 +8,7 @@ ghost use Rattle.swc_ecma_codegen_grammar.specs.TreePhrases.{program_phrase};
 ghost use Rattle.swc_ecma_codegen_syntax.specs.Derives.{DerivesProgram, bare_phrase, program_verdict};
 ghost use Rattle.swc_ecma_codegen_syntax.specs.Verdicts.{holds};
 ghost use Rattle.swc_ecma_codegen_tokens.specs.Written.{ReadsAs};
-ghost use Rattle.swc_ecma_codegen_util.specs.Defaults.{default_config};
+ghost use Rattle.swc_ecma_codegen_settings.specs.Defaults.{default_config};
 
 use crate::{NoText, checked_text};
 use std::alloc::Global;
@@ -26,8 +26,9 @@ pub enum NoMeaning {
     NoText(NoText),
 }
 
-/// The text of a program that keeps its structure: it reads as one of the program's token lists, and the grammar of ECMA-262
-/// derives these lists with this very tree, but for what syntax leaves open. `(a + b) * c` without its parentheses is refused.
+/// The text of a program that keeps its structure: it reads as one of the program's token lists,
+/// and the grammar of ECMA-262 derives these lists with this very tree, but for what syntax leaves
+/// open. `(a + b) * c` without its parentheses is refused.
 pub fn text_that_keeps_structure(alloc: Global, program: &Program) -> Result<String, NoMeaning>
     ensures reads { IfOk result (λ text.
         ReadsAs default_config false (program_phrase program.now) [] (string_bytes text)) }

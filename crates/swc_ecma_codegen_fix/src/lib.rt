@@ -18,22 +18,28 @@ pub enum Unmendable {
     /// Memory was refused.
     #[error("out of memory")]
     OutOfMemory,
-    /// Its text would be read as another tree, or as none. No parentheses mend it, as of `a() = b`, or `parenthesize` left some out.
+    /// Its text would be read as another tree, or as none. No parentheses mend it, as of `a() = b`,
+    /// or `parenthesize` left some out.
     #[error("not a derivation")]
     NotADerivation,
+    /// It lacks parentheses, and is deeper than `parenthesize` goes.
+    #[error("too deep")]
+    TooDeep,
 }
 
-/// A program with the parentheses that its text needs to be read as this tree, and with braces round an `if` that would take the
-/// `else` of another. A sum as the operand of a product gets a pair: `(a + b) * c`. A program whose text is read as this tree is
-/// given back as it is.
+/// A program with the parentheses that its text needs to be read as this tree, and with braces
+/// round an `if` that would take the `else` of another. A sum as the operand of a product gets a
+/// pair: `(a + b) * c`. A program whose text is read as this tree is given back as it is.
 ///
-/// `a() = b` is refused, since no parentheses mend it. With `any` such a program is given back, with the pairs that it got.
+/// `a() = b` is refused, since no parentheses mend it. With `any` such a program is given back,
+/// with the pairs that it got.
 ///
-/// Two kinds of programs are refused with `any` too: one that lacks nothing but parentheses, if `parenthesize` left some out, as in
-/// `for (let of a)`; and one that lacks parentheses and has more than 10,000 links below one another.
+/// Two kinds of programs are refused with `any` too: one that lacks nothing but parentheses, if
+/// `parenthesize` left some out; and one that lacks parentheses and has more than 4,000 links below
+/// one another (`MAX_DEPTH` of `swc_ecma_codegen_parentheses`).
 ///
-/// ECMA-262 has no productions for TypeScript and decorators. A program with these is given back unless missing parentheses are
-/// seen in it.
+/// ECMA-262 has no productions for TypeScript and decorators. A program with these is given back
+/// unless missing parentheses are seen in it.
 #[tactic(auto, unfolding(swc_ecma_codegen_syntax::specs::Verdicts::holds))]
 pub fn mended(alloc: Global, any: bool, tree: Tree) -> Result<Tree, Unmendable>
     ensures mended { IfOk result (λ r. IsMended any tree.0 r.0) }
@@ -53,27 +59,29 @@ pub fn mended(alloc: Global, any: bool, tree: Tree) -> Result<Tree, Unmendable>
     match parenthesize(alloc, tree.into_program()) {
         Ok(program) => Ok(Tree(program)),
         Err(Unmended::Left(program)) => left(any, before, Tree(program)),
+        Err(Unmended::TooDeep(program)) => refused(Unmendable::TooDeep, Tree(program)),
         // (nothing is promised of what it got until then)
-        Err(Unmended::TooDeep(program)) => left(false, before, Tree(program)),
+        Err(Unmended::Stopped(program)) => refused(Unmendable::NotADerivation, Tree(program)),
         Err(Unmended::OutOfMemory) => Err(Unmendable::OutOfMemory),
     }
 }
 
-/// The same of a program whose own parentheses are taken away before, but for those that `without_parentheses` lets stand. Of
-/// `((a) + (b)) * c` it makes `(a + b) * c`. A program of more than 10,000 links below one another is refused.
+/// Mends a program whose own parentheses are taken away before, but for those that
+/// `without_parentheses` lets stand. Of `((a) + (b)) * c` it makes `(a + b) * c`. A program of more
+/// than 4,000 links below one another is refused.
 pub fn fewest(alloc: Global, any: bool, tree: Tree) -> Result<Tree, Unmendable>
     ensures { IfOk result (λ r. HasFewest any tree.0 r.0) }
 {
     match without_parentheses(alloc, tree.into_program()) {
         Ok(program) => mended(alloc, any, Tree(program)),
         Err(NotBare::OutOfMemory(program)) => refused(Unmendable::OutOfMemory, Tree(program)),
-        Err(NotBare::TooDeep(program) | NotBare::Stray(program)) => {
-            refused(Unmendable::NotADerivation, Tree(program))
-        }
+        Err(NotBare::TooDeep(program)) => refused(Unmendable::TooDeep, Tree(program)),
+        Err(NotBare::Stray(program)) => refused(Unmendable::NotADerivation, Tree(program)),
     }
 }
 
-/// A program as `ecmafix` prints it: mended, after its own parentheses are taken away if the fewest are asked for.
+/// A program as `ecmafix` prints it: mended, after its own parentheses are taken away if the fewest
+/// are asked for.
 #[tactic(auto, unfolding(crate::specs::Mended::IsFixed))]
 pub fn fixed(alloc: Global, fewest_asked: bool, any: bool, tree: Tree) -> Result<Tree, Unmendable>
     ensures { IfOk result (λ r. IsFixed fewest_asked any tree.0 r.0) }
@@ -92,7 +100,8 @@ fn refused(why: Unmendable, _tree: Tree) -> Result<Tree, Unmendable>
     Err(why)
 }
 
-/// A program that lacks parentheses even now, if any is asked for and something else was wrong with it before.
+/// A program that lacks parentheses even now, if any is asked for and something else was wrong with
+/// it before.
 fn left(any: bool, before: Verdict, tree: Tree) -> Result<Tree, Unmendable>
     ensures { IfOk result (λ r. (any ≡ true) × (holds false before ≡ false) × (r ≡ tree)) }
 {

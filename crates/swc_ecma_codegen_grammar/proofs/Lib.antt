@@ -1,4 +1,5 @@
 pub mod CharLaws
+pub mod CommentMarks
 pub mod Conditions
 pub mod Dropped
 pub mod HashbangShapes

@@ -1,5 +1,5 @@
 -- The comments of a source text, by their positions.
-use Rattle.std.specs.Prelude.{ℕ, ◌==◌, if◌then◌else◌, List, [], ◌∷◌, ◌++◌, Option, None, Some}
+use Rattle.std.specs.Prelude.{get_or, ℕ, Bool, false, is_some, ◌≡◌, ◌==◌, ◌%◌, if◌then◌else◌, List, [], ◌∷◌, ◌++◌, Option, None, Some}
 use Rattle.std.specs.Option.{option_map}
 use Rattle.std.specs.Prelude.{Vec}
 use Rattle.std.specs.BTreeMap.{BTreeMap, get}
@@ -40,3 +40,15 @@ without_trailing pos maps = record maps { trailing = without pos maps.trailing }
 -- an ordered map of lists, as such a map
 unfoldable pub lists_in : {Y : Type 0} → (BytePos → BytePos → Ordering) → BTreeMap BytePos (Vec Comment Y) → ℕ → Option (List Comment)
 lists_in cmp entries pos = option_map (λ list. list.items) (get cmp entries (record { 0 = pos }))
+
+-- the place of a position in a list of marks
+unfoldable pub place : ℕ → ℕ
+place pos = pos % 16384
+
+-- whether a position is marked
+unfoldable pub is_marked : List Bool → ℕ → Bool
+is_marked marks pos = get_or marks (place pos) false
+
+-- No position that isn't marked has an entry.
+abbrev pub AreMarked : {A : Type 0} → List Bool → (ℕ → Option A) → Type 0
+AreMarked marks entries = (pos : ℕ) → is_marked marks pos ≡ false → is_some (entries pos) ≡ false

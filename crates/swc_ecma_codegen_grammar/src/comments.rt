@@ -1,9 +1,10 @@
 //! The comments of a source text, by the positions that they stand before or after.
 
-ghost use Rattle.std.specs.Prelude.{◌≡◌, ℕ, is_some, option_map, OnOk, OnErr, IfErr};
+ghost use Rattle.std.specs.Prelude.{◌≡◌, ℕ, true, false, is_some, option_map, OnOk, OnErr, IfErr};
+ghost use Rattle.std.proofs.Props.{props};
 ghost use Rattle.std.specs.Option.{option_copied};
 ghost use Rattle.swc_ecma_codegen_common.specs.declared.errors.Error.TheVariants.{OutOfMemory};
-ghost use Rattle.swc_ecma_codegen_grammar.specs.CommentMaps.{Maps, with_leading, with_trailing, with, without_leading, without_trailing, without, lists_in};
+ghost use Rattle.swc_ecma_codegen_grammar.specs.CommentMaps.{Maps, with_leading, with_trailing, with, without_leading, without_trailing, without, lists_in, is_marked};
 
 use std::alloc::{AllocError, Global};
 use std::collections::BTreeMap;
@@ -26,8 +27,8 @@ pub struct Comment {
     pub text: String,
 }
 
-/// The comments of each position: the list of those before it, and the list of those after it. Each list can be taken
-/// once. What is taken of one position changes nothing at another one.
+/// The comments of each position: the list of those before it, and the list of those after it. Each
+/// list can be taken once. What is taken of one position changes nothing at another one.
 pub trait Comments {
     ghost maps: { Self → Maps };
 
@@ -58,8 +59,8 @@ pub trait Comments {
 #[derive(Drop)]
 pub struct CommentMaps {
     alloc: Global,
-    leading: BTreeMap<BytePos, Vec<Comment>>,
-    trailing: BTreeMap<BytePos, Vec<Comment>>,
+    leading: Lists,
+    trailing: Lists,
 }
 
 impl CommentMaps {
@@ -72,13 +73,13 @@ impl CommentMaps {
     {
         CommentMaps {
             alloc,
-            leading: BTreeMap::new(alloc),
-            trailing: BTreeMap::new(alloc),
+            leading: Lists::new(alloc),
+            trailing: Lists::new(alloc),
         }
     }
 
-    /// Puts a comment behind those that stand before `pos`. Want of memory, which is the only error, changes nothing and
-    /// drops the comment.
+    /// Puts a comment behind those that stand before `pos`. Want of memory, which is the only
+    /// error, changes nothing and drops the comment.
     #[tactic(auto, unfolding(crate::specs::CommentMaps::with_leading))]
     pub fn add_leading(&mut self, pos: BytePos, comment: Comment) -> Result
         ensures added { OnOk result (⟦<CommentMaps as Comments>⟧.maps self.new
@@ -87,14 +88,14 @@ impl CommentMaps {
             ≡ ⟦<CommentMaps as Comments>⟧.maps self.old) }
         ensures no_memory { IfErr result (λ error. error ≡ OutOfMemory) }
     {
-        match add(self.alloc, &mut self.leading, pos, comment) {
+        match self.leading.add(self.alloc, pos, comment) {
             Ok(()) => Ok(()),
             Err(_) => Err(Error::OutOfMemory),
         }
     }
 
-    /// Puts a comment behind those that stand after `pos`. Want of memory, which is the only error, changes nothing and
-    /// drops the comment.
+    /// Puts a comment behind those that stand after `pos`. Want of memory, which is the only error,
+    /// changes nothing and drops the comment.
     #[tactic(auto, unfolding(crate::specs::CommentMaps::with_trailing))]
     pub fn add_trailing(&mut self, pos: BytePos, comment: Comment) -> Result
         ensures added { OnOk result (⟦<CommentMaps as Comments>⟧.maps self.new
@@ -103,10 +104,132 @@ impl CommentMaps {
             ≡ ⟦<CommentMaps as Comments>⟧.maps self.old) }
         ensures no_memory { IfErr result (λ error. error ≡ OutOfMemory) }
     {
-        match add(self.alloc, &mut self.trailing, pos, comment) {
+        match self.trailing.add(self.alloc, pos, comment) {
             Ok(()) => Ok(()),
             Err(_) => Err(Error::OutOfMemory),
         }
+    }
+}
+
+/// So many places have marks.
+const PLACES: u32 = 16384;
+
+/// Lists of comments by their positions, and marks that tell of most positions that they have none,
+/// without a look into the map. Positions that are equal but for a multiple of 16,384 have the same
+/// mark.
+#[derive(Drop)]
+struct Lists {
+    lists: BTreeMap<BytePos, Vec<Comment>>,
+    // Empty until there is a list. A position that has one is marked.
+    marks: Vec<bool>,
+    ghost marked: { (pos : ℕ) → is_marked marks.items pos ≡ false
+        → is_some (lists_in ⟦<BytePos as Ord>⟧.cmp lists pos) ≡ false } by { Prim.hlevel props },
+}
+
+impl Lists {
+    /// No lists. Takes no memory.
+    #[tactic(auto, unfolding(crate::specs::CommentMaps::lists_in))]
+    fn new(alloc: Global) -> Lists
+        ensures { (pos : ℕ) → lists_in ⟦<BytePos as Ord>⟧.cmp result.lists pos ≡ None }
+    {
+        Lists {
+            lists: BTreeMap::new(alloc),
+            marks: Vec::new(alloc),
+        }
+    }
+
+    /// Whether a position is marked: one that isn't has no list.
+    #[inline(always)]
+    #[tactic(auto, unfolding(crate::specs::CommentMaps::is_marked, crate::specs::CommentMaps::place))]
+    fn is_marked(&self, pos: BytePos) -> bool
+        ensures { result ≡ is_marked self.now.marks.items pos.0 }
+    {
+        match self.marks.get((pos.0 % PLACES) as usize) {
+            Some(mark) => *mark,
+            None => false,
+        }
+    }
+
+    /// Puts a comment behind the list at `pos`, where there is one, and else makes a list of it.
+    fn add(
+        &mut self,
+        alloc: Global,
+        pos: BytePos,
+        comment: Comment,
+    ) -> std::result::Result<(), AllocError>
+        ensures added { OnOk result (lists_in ⟦<BytePos as Ord>⟧.cmp self.new.lists
+            ≡ with pos.0 comment (lists_in ⟦<BytePos as Ord>⟧.cmp self.old.lists)) }
+        ensures unchanged { OnErr result (lists_in ⟦<BytePos as Ord>⟧.cmp self.new.lists
+            ≡ lists_in ⟦<BytePos as Ord>⟧.cmp self.old.lists) }
+    {
+        mark(&mut self.marks, pos)?;
+        add(alloc, &mut self.lists, pos, comment)
+    }
+
+    /// Whether there is a list at `pos`.
+    #[inline(always)]
+    fn has(&self, pos: BytePos) -> bool
+        ensures { result ≡ is_some (lists_in ⟦<BytePos as Ord>⟧.cmp self.now.lists pos.0) }
+    {
+        self.is_marked(pos) && is_listed(&self.lists, pos)
+    }
+
+    /// The list at `pos`.
+    fn get(&self, pos: BytePos) -> Option<&[Comment]>
+        ensures { option_copied result ≡ lists_in ⟦<BytePos as Ord>⟧.cmp self.now.lists pos.0 }
+    {
+        if !self.is_marked(pos) {
+            return None;
+        }
+        list_at(&self.lists, pos)
+    }
+
+    /// The list at `pos`, taken out.
+    fn take(&mut self, pos: BytePos) -> Option<Vec<Comment>>
+        ensures taken { option_map (λ list. list.items) result
+            ≡ lists_in ⟦<BytePos as Ord>⟧.cmp self.old.lists pos.0 }
+        ensures removed { lists_in ⟦<BytePos as Ord>⟧.cmp self.new.lists
+            ≡ without pos.0 (lists_in ⟦<BytePos as Ord>⟧.cmp self.old.lists) }
+    {
+        if !self.is_marked(pos) {
+            return None;
+        }
+        take(&mut self.lists, pos)
+    }
+}
+
+/// Marks a position. Want of memory changes no mark.
+#[tactic(auto, unfolding(crate::specs::CommentMaps::is_marked, crate::specs::CommentMaps::place))]
+fn mark(marks: &mut Vec<bool>, pos: BytePos) -> std::result::Result<(), AllocError>
+    ensures marked { OnOk result (is_marked marks.new.items pos.0 ≡ true) }
+    ensures kept { (q : ℕ) → is_marked marks.new.items q ≡ false
+        → is_marked marks.old.items q ≡ false }
+{
+    let place = (pos.0 % PLACES) as usize;
+    if marks.len() <= place {
+        marks.resize(PLACES as usize, false)?;
+    }
+    marks[place] = true;
+    Ok(())
+}
+
+/// Whether there is a list at `pos`.
+#[inline(never)]
+#[tactic(auto, using(crate::proofs::Lists::is_some_mapped), unfolding(crate::specs::CommentMaps::lists_in))]
+fn is_listed(lists: &BTreeMap<BytePos, Vec<Comment>>, pos: BytePos) -> bool
+    ensures { result ≡ is_some (lists_in ⟦<BytePos as Ord>⟧.cmp lists.now pos.0) }
+{
+    lists.contains_key(&pos)
+}
+
+/// The list at `pos`.
+#[tactic(auto, unfolding(crate::specs::CommentMaps::lists_in))]
+fn list_at(lists: &BTreeMap<BytePos, Vec<Comment>>, pos: BytePos) -> Option<&[Comment]>
+    ensures { option_copied result ≡ lists_in ⟦<BytePos as Ord>⟧.cmp lists.now pos.0 }
+{
+    match lists.get(&pos) {
+        Some(list) => Some(list),
+        None => None,
     }
 }
 
@@ -147,34 +270,33 @@ fn take(lists: &mut BTreeMap<BytePos, Vec<Comment>>, pos: BytePos) -> Option<Vec
 }
 
 impl Comments for CommentMaps {
-    ghost maps = { λ m. record { leading = lists_in ⟦<BytePos as Ord>⟧.cmp m.leading; trailing = lists_in ⟦<BytePos as Ord>⟧.cmp m.trailing } };
+    ghost maps = { λ m. record {
+      leading = lists_in ⟦<BytePos as Ord>⟧.cmp m.leading.lists;
+      trailing = lists_in ⟦<BytePos as Ord>⟧.cmp m.trailing.lists;
+    } };
 
-    #[tactic(auto, using(crate::proofs::Lists::is_some_mapped), unfolding(crate::specs::CommentMaps::lists_in))]
+    #[inline(always)]
     fn has_leading(&self, pos: BytePos) -> bool {
-        self.leading.contains_key(&pos)
+        self.leading.has(pos)
     }
 
-    #[tactic(auto, using(crate::proofs::Lists::is_some_mapped), unfolding(crate::specs::CommentMaps::lists_in))]
+    #[inline(always)]
     fn has_trailing(&self, pos: BytePos) -> bool {
-        self.trailing.contains_key(&pos)
+        self.trailing.has(pos)
     }
 
-    #[tactic(auto, unfolding(crate::specs::CommentMaps::lists_in))]
     fn get_leading(&self, pos: BytePos) -> Option<&[Comment]> {
-        match self.leading.get(&pos) {
-            Some(list) => Some(list),
-            None => None,
-        }
+        self.leading.get(pos)
     }
 
     #[tactic(auto, unfolding(crate::specs::CommentMaps::without_leading))]
     fn take_leading(&mut self, pos: BytePos) -> Option<Vec<Comment>> {
-        take(&mut self.leading, pos)
+        self.leading.take(pos)
     }
 
     #[tactic(auto, unfolding(crate::specs::CommentMaps::without_trailing))]
     fn take_trailing(&mut self, pos: BytePos) -> Option<Vec<Comment>> {
-        take(&mut self.trailing, pos)
+        self.trailing.take(pos)
     }
 }
 

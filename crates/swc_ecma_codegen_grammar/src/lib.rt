@@ -1,5 +1,5 @@
-//! The lexical grammar that a text is read by, and what an emission asks besides of a tree: the map of its source text,
-//! and its comments.
+//! The lexical grammar that a text is read by, and what an emission asks besides of a tree: the map
+//! of its source text, and its comments.
 #![tactic(auto)]
 
 pub mod characters;

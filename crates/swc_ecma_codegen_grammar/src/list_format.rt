@@ -7,7 +7,8 @@ use crate::mapper::SourceMapper;
 use bitflags::{Flag, Flags};
 use swc_ecma_codegen_common::{BytePos, Span};
 
-/// A set of flags. Sets are joined by the calls of `bitflags::Flags`, as `a.union(b)`. `ListFormat` of `swc_ecma_ast`.
+/// A set of flags. Sets are joined by the calls of `bitflags::Flags`, as `a.union(b)`. `ListFormat`
+/// of `swc_ecma_ast`.
 #[derive(Debug, Clone, Copy, PartialEq, Eq)]
 pub struct ListFormat(u16);
 

@@ -8,7 +8,8 @@ ghost use Rattle.swc_ecma_codegen_common.specs.declared.errors.Error.TheVariants
 use std::alloc::Global;
 use swc_ecma_codegen_common::{BytePos, Error, Span};
 
-/// A source text. Each answer depends on the mapper's value and the arguments alone. `SourceMapper` of `swc_common`.
+/// A source text. Each answer depends on the mapper's value and the arguments alone. `SourceMapper`
+/// of `swc_common`.
 pub trait SourceMapper {
     ghost lines: { Self → Lines };
 
@@ -27,7 +28,8 @@ pub trait SourceMapper {
         ensures refused { IfErr result (λ error. error ≡ OutOfMemory) };
 }
 
-/// No source text, as an empty `SourceMap` of swc: no two positions stand on one line, and no span has a text.
+/// No source text, as an empty `SourceMap` of swc: no two positions stand on one line, and no span
+/// has a text.
 #[derive(Debug, Clone, Copy)]
 pub struct NoSource;
 

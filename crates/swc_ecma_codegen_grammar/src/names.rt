@@ -170,8 +170,8 @@ fn push_rest(
     }
 }
 
-/// The characters of a name, its escapes decoded. `None`: the text isn't a name. `AllocError`: a growth was refused.
-/// Section 12.7.1.2.
+/// The characters of a name, its escapes decoded. `None`: the text isn't a name. `AllocError`: a
+/// growth was refused. Section 12.7.1.2.
 #[tactic(auto, unfolding(crate::specs::Names::is_name, crate::specs::Names::name_value, crate::specs::Names::IsSmall))]
 pub fn name_value(alloc: Global, text: &[char]) -> Result<Option<Vec<char>>, AllocError>
     ensures name { IfOk result (λ value. is_some value ≡ names.is_name text.now) }

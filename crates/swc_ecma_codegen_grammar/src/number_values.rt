@@ -1,4 +1,5 @@
-//! What numeric literals stand for, as plain programs. ECMA-262, sections 12.9.3 and B.1.1, "MV" and "NumericValue".
+//! What numeric literals stand for, as plain programs. ECMA-262, sections 12.9.3 and B.1.1, "MV"
+//! and "NumericValue".
 
 ghost use Rattle.std.specs.Prelude.{◌≡◌, ◌<◌, ◌≤◌, ◌+◌, ◌*◌, ◌^◌, true, false, IfSome, IfNone};
 ghost use Rattle.std.specs.Char.{digit_value};
@@ -8,8 +9,8 @@ ghost use Rattle.swc_ecma_codegen_grammar.specs.NumberValues as values;
 
 use crate::numerals::{hex_digit, is_either, is_octal};
 
-/// A number that a numeric literal stands for, exactly: `whole` times ten to the power `tens`, divided by ten to the
-/// power `tenths`. `2.5e3` is 25 with `tens` 3 and `tenths` 1.
+/// A number that a numeric literal stands for, exactly: `whole` times ten to the power `tens`,
+/// divided by ten to the power `tenths`. `2.5e3` is 25 with `tens` 3 and `tenths` 1.
 #[derive(Clone, Copy, PartialEq, Eq, Debug)]
 pub struct HeldNumber {
     /// The digits, without dot and exponent.
@@ -152,7 +153,8 @@ fn zero_value(text: &[char]) -> Option<HeldNumber>
     }
 }
 
-/// The number that a numeric literal stands for: NumericValue. `None`: one of its three parts is 2^128 or more.
+/// The number that a numeric literal stands for: NumericValue. `None`: one of its three parts is
+/// 2^128 or more.
 #[tactic(auto, unfolding(crate::specs::NumberValues::numeric_value, crate::specs::NumberValues::times_ten))]
 pub fn numeric_value(text: &[char]) -> Option<HeldNumber>
     ensures value { IfSome result (λ value. IsHeld value (values.numeric_value text.now)) }

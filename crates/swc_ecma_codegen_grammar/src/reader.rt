@@ -1,4 +1,5 @@
-//! A plain, slow reader of texts: for given kinds of tokens it finds the tokens, or that there are none.
+//! A plain, slow reader of texts: for given kinds of tokens it finds the tokens, or that there are
+//! none.
 
 ghost use Rattle.std.specs.Prelude.{◌≡◌, ◌<◌, ◌≤◌, ◌-◌, ◌||◌, ◌&&◌, ℕ, List, map, not, take, true, false, length, IfOk, IfSome, IfNone};
 ghost use Rattle.std.specs.Str.{chars as chars_of};
@@ -289,7 +290,8 @@ fn takes(first: bool, joined: bool, kind: Kind, text: &[char], start: &[char], n
     keeps_line(joined, text, start) && fits(first, kind, start, n)
 }
 
-/// The next token, where it is of this kind, and what is left. `joined`: no line terminator may stand before it.
+/// The next token, where it is of this kind, and what is left. `joined`: no line terminator may
+/// stand before it.
 #[tactic(auto, using(crate::proofs::ReadOne::starts_within))]
 fn read_one(first: bool, joined: bool, kind: Kind, text: &[char]) -> Option<(&[char], &[char])>
     ensures found { IfSome result (λ pair.
@@ -306,7 +308,8 @@ fn read_one(first: bool, joined: bool, kind: Kind, text: &[char]) -> Option<(&[c
     }
 }
 
-/// The same of `[no LineTerminator here]` too, which is no text.
+/// The next token, where it is of this kind, and what is left. `[no LineTerminator here]` is one
+/// too, though it is no text.
 fn read_next(first: bool, joined: bool, kind: Kind, text: &[char]) -> Option<(&[char], &[char])>
     ensures found { IfSome result (λ pair.
         reading.ReadsNext first joined kind text.now pair.0.now pair.1.now) }
@@ -328,8 +331,8 @@ fn still_first(first: bool, joint: bool) -> bool
     first && joint
 }
 
-/// The tokens of a text, one of each of these kinds in turn, as they are spelled. `None`: the text reads as no list of
-/// tokens of these kinds. `AllocError`: a growth was refused.
+/// The tokens of a text, one of each of these kinds in turn, as they are spelled. `None`: the text
+/// reads as no list of tokens of these kinds. `AllocError`: a growth was refused.
 pub fn read_tokens<'a>(
     alloc: Global,
     text: &'a [char],

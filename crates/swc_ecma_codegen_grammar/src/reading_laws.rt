@@ -11,17 +11,18 @@ ghost use Rattle.swc_ecma_codegen_grammar.specs.Phrases.{Phrase, Generates};
 ghost use Rattle.swc_ecma_codegen_grammar.specs.Settings.{Settings};
 ghost use Rattle.swc_ecma_codegen_grammar.specs.Parts.{Part, text_of, tokens_of, remarks_in, AllSpelled, AtStart, KeepsLines, NoneFuse, Reduced, spaced};
 
-/// What the second pass makes of tokens, their spellings and comments reads as these tokens, with the comments between,
-/// each once and in order: `a` `-` `-` `b` becomes `a- -b`, and that reads as these four. Where no line may end, as in
-/// `return a`, none does.
+/// What the second pass makes of tokens, their spellings and comments reads as these tokens, with
+/// the comments between, each once and in order: `a` `-` `-` `b` becomes `a- -b`, and that reads as
+/// these four. Where no line may end, as in `return a`, none does.
 #[tactic(auto, using(crate::proofs::Spacing::reads_spaced))]
 pub fn spaced_tokens_read()
     ensures { (xs : List Part) → AllSpelled AtStart xs → KeepsLines xs →
         Reads (text_of (spaced Start xs)) (tokens_of xs) (remarks_in xs) }
 {}
 
-/// A text without some ending semicolons, each of which stood right before `}`, `;` or the end, reads as the tokens that
-/// are left, and these are all but such semicolons: without its semicolon `a;` reads as `a`.
+/// A text without some ending semicolons, each of which stood right before `}`, `;` or the end,
+/// reads as the tokens that are left, and these are all but such semicolons: without its semicolon
+/// `a;` reads as `a`.
 #[tactic(auto, using(crate::proofs::Dropped::reads_reduced, crate::proofs::Dropped::tokens_reduced))]
 pub fn reduced_tokens_read()
     ensures reads { (xs ys : List Part) → NoneFuse Start xs → KeepsLines xs → Reduced xs ys →
@@ -37,11 +38,13 @@ pub fn one_reading()
         Reads text ys ds → kinds_of xs ≡ kinds_of ys → (xs ≡ ys) × (cs ≡ ds) }
 {}
 
-/// Under settings that differ in whether they minify the lists of a tree are the same part for part, but for what syntax leaves
-/// open: a comma before the mark that closes a list, some parentheses, and the empty arguments of `new`: `(a) => new B();`
-/// and minified `a=>new B`. So are those that what is written of it is reduced from, where a writer leaves semicolons out. By
-/// their tokens alone the written lists are the same but for semicolons that end a statement, commas before `]` and `}`,
-/// and pairs of parentheses. Under the same settings there is one list, where syntax leaves nothing open.
+/// Under settings that differ in whether they minify the lists of a tree are the same part for
+/// part, but for what syntax leaves open: a comma before the mark that closes a list, some
+/// parentheses, and the empty arguments of `new`: `(a) => new B();` and minified `a=>new B`. So are
+/// those that what is written of it is reduced from, where a writer leaves semicolons out. By their
+/// tokens alone the written lists are the same but for semicolons that end a statement, commas
+/// before `]` and `}`, and pairs of parentheses. Under the same settings there is one list, where
+/// syntax leaves nothing open.
 pub fn layouts_keep_the_tokens()
     ensures lists { (s t : Settings) (phrase : Phrase) (xs ys : List Token) → AreAlike s t →
         Generates s phrase xs → Generates t phrase ys → Alongside s t phrase xs ys }

@@ -8,16 +8,17 @@ pub enum Role {
     Callee,
     Statement,
     MemberExpression,
-    /// A member as it stands in an optional chain, and whether `?.` stands before its property: true for `a?.b`, false for
-    /// `.c` of `a?.b.c`.
+    /// A member as it stands in an optional chain, and whether `?.` stands before its property:
+    /// true for `a?.b`, false for `.c` of `a?.b.c`.
     ChainMember(bool),
-    /// A call as it stands in an optional chain, and whether `?.` stands before its arguments: true for `a?.(b)`, false for
-    /// `(c)` of `a?.b(c)`.
+    /// A call as it stands in an optional chain, and whether `?.` stands before its arguments: true
+    /// for `a?.(b)`, false for `(c)` of `a?.b(c)`.
     ChainCall(bool),
     AssignmentTarget,
     /// `[a]` of `[a] = b`, and each parameter of an arrow function.
     Pattern,
-    /// A pattern that is a name alone: round it as the only parameter of an arrow function parentheses may be left out.
+    /// A pattern that is a name alone: round it as the only parameter of an arrow function
+    /// parentheses may be left out.
     PlainParameter,
     /// `a` of `{ a: b }`.
     PropertyName,
@@ -37,7 +38,7 @@ pub enum Role {
     VariableDeclaration,
     /// `a${b}c` between back quotes.
     Template,
-    /// The same after a tag.
+    /// `a${b}c` between back quotes, after a tag.
     TaggedTemplate,
     /// `@a` of `@a class B {}`.
     ClassHead,
@@ -49,9 +50,11 @@ pub enum Role {
     Member,
     /// `@a` of `class B { @a c() {} }`.
     MethodDecorators,
-    /// `() {}` of `class B { @a c() {} }`: the function of a method, whose decorators stand elsewhere.
+    /// `() {}` of `class B { @a c() {} }`: the function of a method, whose decorators stand
+    /// elsewhere.
     MethodTail,
-    /// `() {}` of `class B { get a() {} }`: the same of a getter or a setter, which is neither async nor a generator.
+    /// `() {}` of `class B { get a() {} }`: the same of a getter or a setter, which is neither
+    /// async nor a generator.
     AccessorTail,
     /// `(a, b)` of `class B { c = (a, b); }`: an expression, and a sequence in parentheses.
     FieldValue,

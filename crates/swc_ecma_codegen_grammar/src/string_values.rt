@@ -118,7 +118,8 @@ fn has_string_rest(quote: char, sloppy: bool, place: Place, text: &[char]) -> bo
     }
 }
 
-/// Whether a text is a string whose escapes are well formed. `sloppy` says that it may have the octal escapes of section B.1.2.
+/// Whether a text is a string whose escapes are well formed. `sloppy` says that it may have the
+/// octal escapes of section B.1.2.
 #[tactic(auto, unfolding(crate::specs::StringValues::string_value, crate::specs::Turns::IsReached))]
 pub fn has_string_value(sloppy: bool, text: &[char]) -> bool
     ensures { result ≡ is_some (values.string_value sloppy text.now) }
@@ -159,8 +160,9 @@ fn push_string_rest(
     }
 }
 
-/// The code units that a string stands for: "SV". `None`: it is no string, or it has a malformed escape. `sloppy` says that
-/// it may have the octal escapes of section B.1.2. `AllocError`: a growth was refused.
+/// The code units that a string stands for: "SV". `None`: it is no string, or it has a malformed
+/// escape. `sloppy` says that it may have the octal escapes of section B.1.2. `AllocError`: a
+/// growth was refused.
 #[tactic(auto, unfolding(crate::specs::StringValues::string_value, crate::specs::StringValues::before, crate::specs::Turns::IsReached))]
 pub fn string_value(
     alloc: Global,

@@ -103,8 +103,8 @@ fn push_cooked_rest(units: &mut Vec<u16>, place: Place, text: &[char]) -> Result
     }
 }
 
-/// The code units that a template's text stands for: "TV". `None`: it has a malformed escape, a bare back quote or a bare
-/// `${`. `AllocError`: a growth was refused.
+/// The code units that a template's text stands for: "TV". `None`: it has a malformed escape, a
+/// bare back quote or a bare `${`. `AllocError`: a growth was refused.
 #[tactic(auto, unfolding(crate::specs::StringValues::before, crate::specs::Turns::IsReached))]
 pub fn cooked_value(alloc: Global, text: &[char]) -> Result<Option<Vec<u16>>, AllocError>
     ensures some { IfOk result (λ value.

@@ -1,5 +1,5 @@
-//! What one character of a string or a template does, as plain programs: the rules that both share. `next` is the
-//! character after it, if there is one.
+//! What one character of a string or a template does, as plain programs: the rules that both share.
+//! `next` is the character after it, if there is one.
 
 ghost use Rattle.std.specs.Prelude.{ℕ, ◌≡◌, ◌<◌, ◌≤◌, List, [], ◌∷◌, drop, true, false};
 ghost use Rattle.swc_ecma_codegen_grammar.specs.declared.units.Place.TheVariants.{Escaped, Due, Unicode, Braced};

@@ -28,7 +28,8 @@ pub enum Place {
     Continued,
 }
 
-/// The code units of one character: UTF16EncodeCodePoint, ECMA-262, section 11.1.1. `AllocError`: a growth was refused.
+/// The code units of one character: UTF16EncodeCodePoint, ECMA-262, section 11.1.1. `AllocError`: a
+/// growth was refused.
 #[tactic(auto, unfolding(crate::specs::CodeUnits::utf16))]
 pub fn utf16(alloc: Global, c: char) -> Result<Vec<u16>, AllocError>
     ensures { IfOk result (λ units. units.items ≡ code_units.utf16 c) }
@@ -38,7 +39,8 @@ pub fn utf16(alloc: Global, c: char) -> Result<Vec<u16>, AllocError>
     Ok(units)
 }
 
-/// Appends the code units of a code point, which may be a surrogate. `AllocError`: a growth was refused.
+/// Appends the code units of a code point, which may be a surrogate. `AllocError`: a growth was
+/// refused.
 #[tactic(auto, unfolding(crate::specs::CodeUnits::utf16))]
 pub(crate) fn push_utf16(units: &mut Vec<u16>, code: u32) -> Result<(), AllocError>
     requires { code ≤ 1114111 }
@@ -97,7 +99,8 @@ fn braced_unit(text: &[char]) -> Option<(u32, &[char])>
     }
 }
 
-/// What follows the `u` of a written surrogate escape, as `d83d` or `{d83d}`: its unit, and the rest of the text.
+/// What follows the `u` of a written surrogate escape, as `d83d` or `{d83d}`: its unit, and the
+/// rest of the text.
 #[tactic(auto, unfolding(crate::specs::CodeUnits::begins_like, crate::specs::CodeUnits::short_escape, crate::specs::CodeUnits::long_escape, crate::specs::CodeUnits::escape_length, crate::specs::CodeUnits::escape_unit))]
 fn unicode_unit(text: &[char]) -> Option<(u32, &[char])>
     ensures some { IfSome result (λ found. IsWrittenUnit (117 ∷ text.now) found.0 found.1.now) }
@@ -140,8 +143,8 @@ fn push_units(units: &mut Vec<u16>, text: &[char]) -> Result<(), AllocError>
     }
 }
 
-/// The code units of a text, in which complete written surrogate escapes stand for their units. `AllocError`: a growth was
-/// refused.
+/// The code units of a text, in which complete written surrogate escapes stand for their units.
+/// `AllocError`: a growth was refused.
 pub fn units(alloc: Global, text: &[char]) -> Result<Vec<u16>, AllocError>
     ensures { IfOk result (λ units. units.items ≡ code_units.units text.now) }
 {

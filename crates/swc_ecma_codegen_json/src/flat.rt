@@ -1,5 +1,5 @@
-//! The flat form of a program: a list of nodes, in which a link is the number of an earlier one, and the program at its
-//! end. However deep a tree is, its flat form nests a few levels only.
+//! The flat form of a program: a list of nodes, in which a link is the number of an earlier one,
+//! and the program at its end. However deep a tree is, its flat form nests a few levels only.
 
 ghost use Rattle.std.specs.Prelude.{◌≡◌, ◌≢◌, ◌≤◌, length, IfSome, None, Some, Ok, Err};
 
@@ -14,8 +14,9 @@ use std::alloc::Global;
 use std::cell::Cell;
 use swc_ecma_codegen_tree::{AnyNode, Program};
 
-/// A program that serde reads in its flat form, `let tree: FlatTree<8000> = serde_json::from_slice(alloc, bytes)?`, if at
-/// most `LEVELS` links lie below one another. That of `-a;` is
+/// A program that serde reads in its flat form,
+/// `let tree: FlatTree<8000> = serde_json::from_slice(alloc, bytes)?`, if at most `LEVELS` links
+/// lie below one another. That of `-a;` is
 ///
 /// ```json
 /// {"nodes":[
@@ -25,12 +26,14 @@ use swc_ecma_codegen_tree::{AnyNode, Program};
 /// ]}
 /// ```
 ///
-/// A node is what it is in a [`Tree`](crate::Tree), but a link in it is a number: how many nodes stand before the one that
-/// it leads to. Each node is the value of an object of one member, whose name is that of the link without `Box`, as `Expr`
-/// for an `ExprBox`. Exactly one link leads to each node, and stands behind it; none leads to the program, which is the last.
+/// A node is what it is in a [`Tree`](crate::Tree), but a link in it is a number: how many nodes
+/// stand before the one that it leads to. Each node is the value of an object of one member, whose
+/// name is that of the link without `Box`, as `Expr` for an `ExprBox`. Exactly one link leads to
+/// each node, and stands behind it; none leads to the program, which is the last.
 ///
-/// Reading takes time by the length of the text, and no stack by the depth of the tree; but to print a tree and to let it
-/// go do. A stack of 8 MiB has room for 8,000 links below one another of any kind, and for 87,000 of parentheses.
+/// Reading takes time by the length of the text, and no stack by the depth of the tree; but to
+/// print a tree and to let it go do. A stack of 8 MiB has room for 8,000 links below one another of
+/// any kind, and for 87,000 of parentheses.
 pub struct FlatTree<const LEVELS: u32, N = AnyNode>(pub Program<N>);
 
 impl<const LEVELS: u32, N: Drop> FlatTree<LEVELS, N> {
@@ -103,7 +106,8 @@ fn read_flat_tree<'a, 'de, 's, N: Readable, F: Format>(
     }
 }
 
-/// A node that was read, with its sort, and how many links lie below one another from the one that leads to it.
+/// A node that was read, with its sort, and how many links lie below one another from the one that
+/// leads to it.
 #[derive(Drop)]
 struct Held<N: Drop> {
     sort: Sort,
@@ -182,8 +186,8 @@ impl<N: Drop> Make<N> for Table<N> {
     }
 }
 
-/// The node of this number, to which a link to a sort of nodes leads. `held` is what the table has of it: nothing where a
-/// link led to it before.
+/// The node of this number, to which a link to a sort of nodes leads. `held` is what the table has
+/// of it: nothing where a link led to it before.
 fn linked<N: Drop>(
     held: Option<Held<N>>,
     sort: Sort,
@@ -201,7 +205,8 @@ fn linked<N: Drop>(
     }
 }
 
-/// Reads the object with the list of nodes. Its other members are passed over, or refused in the short form.
+/// Reads the object with the list of nodes. Its other members are passed over, or refused in the
+/// short form.
 fn read_flat<N: Readable, S: Source>(source: &mut S, most: u32) -> Result<Program<N>, Failed> {
     let mut program = None;
     source.begin_object()?;
@@ -250,8 +255,8 @@ fn read_nodes<N: Readable, S: Source>(source: &mut S, most: u32) -> Result<Progr
     Err(source.fail(Fault::NoProgram))
 }
 
-/// Takes what comes behind the program. Where that is more than the ends, or no link led to a node, the source fails from
-/// then on.
+/// Takes what comes behind the program. Where that is more than the ends, or no link led to a node,
+/// the source fails from then on.
 fn end_nodes<N: Drop, S: Source>(source: &mut S, table: &mut Table<N>) {
     source.end_object();
     if let Ok(true) = source.next_item() {
@@ -262,7 +267,8 @@ fn end_nodes<N: Drop, S: Source>(source: &mut S, table: &mut Table<N>) {
     }
 }
 
-/// The sort that stands at the place of the next member's name among these names; none at that of `Program` behind them.
+/// The sort that stands at the place of the next member's name among these names; none at that of
+/// `Program` behind them.
 macro_rules! sort_named {
     ($source:ident => $($name:ident: $sort:expr),* $(,)?) => {
         match $source.next_member(names!($($name),*, Program))? {
@@ -275,7 +281,8 @@ macro_rules! sort_named {
     };
 }
 
-/// Reads of what sort the node in an object is, by the name of its one member; none where it is the program.
+/// Reads of what sort the node in an object is, by the name of its one member; none where it is the
+/// program.
 fn read_sort<S: Source>(source: &mut S) -> Result<Option<Sort>, Failed> {
     sort_named!(source =>
         Expr: Sort::Expr,

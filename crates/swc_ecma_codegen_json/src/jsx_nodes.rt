@@ -1,5 +1,5 @@
-//! Nodes of the sorts of JSX, as links hold them. A function each, since a check of one that names the readers of many
-//! sorts is dear.
+//! Nodes of the sorts of JSX, as links hold them. A function each, since a check of one that names
+//! the readers of many sorts is dear.
 
 use crate::part;
 use crate::reading::{JSXPartSort, Make};

@@ -1,4 +1,5 @@
-//! What ties the readers of the nodes together: they are generic in what links hold, and only here is it `AnyNode`.
+//! What ties the readers of the nodes together: they are generic in what links hold, and only here
+//! is it `AnyNode`.
 
 use crate::expr_nodes::{read_expr, read_expr_part, read_member_expr};
 use crate::jsx_nodes::read_jsx_part;
@@ -9,7 +10,8 @@ use crate::ts_nodes::read_ts_part;
 use std::alloc::{AllocError, Global};
 use swc_ecma_codegen_tree::AnyNode;
 
-/// How many links may still lie below one another. It gets shorter at each link, so that reading ends.
+/// How many links may still lie below one another. It gets shorter at each link, so that reading
+/// ends.
 #[derive(Drop)]
 pub enum Levels {
     Out,
@@ -51,8 +53,9 @@ impl Make<AnyNode> for Levels {
     }
 }
 
-/// A node of a sort, read by its area. What its links hold is made by `make`. What a link holds is made of it here, by its
-/// variant: that a link may hold a sort, said to a reader of that sort, would be compared with the whole tree.
+/// A node of a sort, read by its area. What its links hold is made by `make`. What a link holds is
+/// made of it here, by its variant: that a link may hold a sort, said to a reader of that sort,
+/// would be compared with the whole tree.
 fn read_node<S: Source, M: Make<AnyNode>>(
     sort: Sort,
     source: &mut S,

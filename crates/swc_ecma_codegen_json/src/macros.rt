@@ -36,7 +36,8 @@ macro_rules! groups {
     };
 }
 
-/// A struct of the values of its members: `BinExpr { span, op, left, right }`, or in groups where it is wide, `{ a, b; c, d }`.
+/// A struct of the values of its members: `BinExpr { span, op, left, right }`, or in groups where
+/// it is wide, `{ a, b; c, d }`.
 #[macro_export]
 macro_rules! made {
     ($values:ident => $name:ident { $($($field:ident),* $(,)?);* }) => {{
@@ -45,8 +46,8 @@ macro_rules! made {
     }};
 }
 
-/// The variant at a place. Past these variants the enum's others are looked for, where they are named: a check of few variants
-/// at a time is cheaper.
+/// The variant at a place. Past these variants the enum's others are looked for, where they are
+/// named: a check of few variants at a time is cheaper.
 #[macro_export]
 macro_rules! held {
     ($variant:ident, $source:ident, $make:ident => $name:ident {
@@ -58,7 +59,8 @@ macro_rules! held {
     };
 }
 
-/// The arms of `held`, each with its place. They match, since a check of as many `?` costs a twelfth more.
+/// The arms of `held`, each with its place. They match, since a check of as many `?` costs a
+/// twelfth more.
 #[macro_export]
 macro_rules! held_arms {
     (

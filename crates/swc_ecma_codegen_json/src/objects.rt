@@ -15,8 +15,8 @@ pub trait Wanted<N: Drop>: Sized {
     /// Nothing was read yet.
     fn empty() -> Self::Slots;
 
-    /// Reads the member at a place among them, or passes over another one, or refuses it in the short form. It says no to one
-    /// that was read before.
+    /// Reads the member at a place among them, or passes over another one, or refuses it in the
+    /// short form. It says no to one that was read before.
     fn fill<S: Source, M: Make<N>>(
         slots: &mut Self::Slots,
         at: usize,
@@ -24,8 +24,8 @@ pub trait Wanted<N: Drop>: Sized {
         make: &M,
     ) -> Result<bool, Failed>;
 
-    /// What was read. A member that is missing is an error, unless it may be left out; `at` says where among the names these
-    /// begin.
+    /// What was read. A member that is missing is an error, unless it may be left out; `at` says
+    /// where among the names these begin.
     fn finish<S: Source, M: Make<N>>(
         slots: Self::Slots,
         names: &[Name<'_>],
@@ -134,7 +134,8 @@ fn left_out<N: Drop, T: ReadFrom<N> + Drop, S: Source, M: Make<N>>(
     Err(source.fail(Fault::Missing(name)))
 }
 
-/// The values of members in two groups: what a check does of one member in another it does of each group by itself.
+/// The values of members in two groups: what a check does of one member in another it does of each
+/// group by itself.
 pub struct Both<V, W>(pub V, pub W);
 
 impl<N: Drop, V: Wanted<N> + Drop, W: Wanted<N>> Wanted<N> for Both<V, W> {
@@ -178,7 +179,8 @@ impl<N: Drop, V: Wanted<N> + Drop, W: Wanted<N>> Wanted<N> for Both<V, W> {
     }
 }
 
-/// The members of an object, in any order. What isn't wanted is passed over, or refused in the short form.
+/// The members of an object, in any order. What isn't wanted is passed over, or refused in the
+/// short form.
 #[inline(always)]
 fn gathered<N: Drop, P: Wanted<N>, S: Source, M: Make<N>>(
     names: &[Name<'_>],

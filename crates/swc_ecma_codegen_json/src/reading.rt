@@ -80,7 +80,7 @@ pub trait Readable: Drop {
     ) -> Result<Self, Failed>;
 }
 
-/// What can be read, by the readers of the area `A`. What a link holds is made by `make`.
+/// What can be read. What a link holds is made by `make`.
 pub trait ReadFrom<N: Drop>: Sized {
     /// What is read of it before it is made.
     type Parts: Parts<N>;
@@ -107,7 +107,8 @@ pub trait ReadFrom<N: Drop>: Sized {
 
 /// What is read of a value before it is made.
 pub trait Parts<N: Drop>: Sized {
-    /// What makes the default of a value whose member is left out of the short form; none where there is no default.
+    /// What makes the default of a value whose member is left out of the short form; none where
+    /// there is no default.
     #[inline(always)]
     fn left_out() -> Option<Self> {
         None
@@ -119,8 +120,8 @@ pub trait Parts<N: Drop>: Sized {
         make: &M,
     ) -> Result<Self, Failed>;
 
-    /// What has to come after the value. Where something else comes, the source fails from then on: so a value that is read
-    /// is never let go here.
+    /// What has to come after the value. Where something else comes, the source fails from then on:
+    /// so a value that is read is never let go here.
     fn end<S: Source>(source: &mut S);
 }
 
@@ -229,7 +230,8 @@ pub fn read<N: Drop, T: ReadFrom<N>, S: Source, M: Make<N>>(
     T::read_from(source, make)
 }
 
-/// The members of an object that stands in place in others, of which the check follows one in another and no further.
+/// The members of an object that stands in place in another. (The prover follows one level of
+/// nesting here, not two.)
 #[inline(always)]
 pub fn members<N: Drop, V: Parts<N>, S: Source, M: Make<N>>(
     names: &[Name<'_>],

@@ -49,7 +49,8 @@ pub enum Fault<'a> {
     PastProgram,
 }
 
-/// A text that is read once, from its beginning to its end. Once a call has failed, so does each later one.
+/// A text that is read once, from its beginning to its end. Once a call has failed, so does each
+/// later one.
 pub trait Source {
     /// Where what is read is kept.
     fn alloc(&self) -> Global;
@@ -78,10 +79,12 @@ pub trait Source {
 
     fn begin_object(&mut self) -> Result<(), Failed>;
 
-    /// Where among the names the next member's stands, or past them; none at the end of the object, which is taken.
+    /// Where among the names the next member's stands, or past them; none at the end of the object,
+    /// which is taken.
     fn next_member(&mut self, names: &[Name<'_>]) -> Result<Option<usize>, Failed>;
 
-    /// Takes the end of an object. Where another member comes, this fails, which the next call tells.
+    /// Takes the end of an object. Where another member comes, this fails, which the next call
+    /// tells.
     fn end_object(&mut self);
 
     /// Where among the names a text stands, or past them.

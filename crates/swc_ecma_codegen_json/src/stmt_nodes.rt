@@ -1,5 +1,5 @@
-//! Nodes of the sorts of statements, as links hold them. A function each, since a check of one that names the readers of many
-//! sorts is dear.
+//! Nodes of the sorts of statements, as links hold them. A function each, since a check of one that
+//! names the readers of many sorts is dear.
 
 use crate::part;
 use crate::reading::{Make, StmtPartSort, read};
@@ -59,7 +59,8 @@ fn class_member<N: Drop, S: Source, M: Make<N>>(
     part!(ClassMember, source, make)
 }
 
-/// A part of a statement, of a declaration, a class or a module, by its sort, and all that lies below it.
+/// A part of a statement, of a declaration, a class or a module, by its sort, and all that lies
+/// below it.
 pub fn read_stmt_part<N: Drop, S: Source, M: Make<N>>(
     sort: StmtPartSort,
     source: &mut S,

@@ -10,7 +10,8 @@ use serde::{Deserialize, DeserializeOwned, Deserializer, Format};
 use std::alloc::Global;
 use swc_ecma_codegen_tree::{AnyNode, Program};
 
-/// A program that serde reads, in any of its formats: `let tree: Tree = serde_json::from_slice(alloc, bytes)?`.
+/// A program that serde reads, in any of its formats:
+/// `let tree: Tree = serde_json::from_slice(alloc, bytes)?`.
 pub struct Tree<N = AnyNode>(pub Program<N>);
 
 impl<N: Drop> Tree<N> {
@@ -51,8 +52,9 @@ fn tree_in<N: Readable, F: Format>(
     read_tree(&mut Input::new(alloc, from, form), &make)
 }
 
-/// The program that is read, or why there is none. In a function that is lent the input, since the check doesn't follow the
-/// loan of a local that holds a reference to where any `S: Source` is taken.
+/// The program that is read, or why there is none. In a function that is lent the input, since the
+/// check doesn't follow the loan of a local that holds a reference to where any `S: Source` is
+/// taken.
 fn read_tree<'a, 'de, 's, N: Drop, F: Format, M: Make<N>>(
     input: &mut Input<'a, 'de, 's, F>,
     make: &M,
@@ -72,10 +74,12 @@ impl<'de, N: Readable> Deserialize<'de> for Tree<N> {
     }
 }
 
-/// What serde reads in the short form: a program, as `Short<Tree>`, or its flat form, as `Short<FlatTree<8000>>`.
+/// What serde reads in the short form: a program, as `Short<Tree>`, or its flat form, as
+/// `Short<FlatTree<8000>>`.
 ///
-/// A member may be left out that has a default: a span that is 0 to 0, `null`, `false`, or an empty list. So the name `a` is
-/// `{"Ident":{"sym":"a"}}`. A member that its object doesn't have is an error, and isn't passed over: it may be a misspelt one.
+/// A member may be left out that has a default: a span that is 0 to 0, `null`, `false`, or an empty
+/// list. So the name `a` is `{"Ident":{"sym":"a"}}`. A member that its object doesn't have is an
+/// error, and isn't passed over: it may be a misspelt one.
 pub struct Short<T>(pub T);
 
 impl<T: Drop> Short<T> {

@@ -35,7 +35,7 @@ use Rattle.swc_ecma_codegen_tree.specs.declared.stmts.Stmt.TheVariants as stmts
 use Rattle.swc_ecma_codegen_tree.specs.declared.programs.Script.{Script}
 use Rattle.swc_ecma_codegen_tree.specs.declared.programs.Program.TheVariants as program_variants
 use Rattle.swc_ecma_codegen_spans.specs.Spans.{expr_span, stmt_span}
-use Rattle.swc_ecma_codegen_util.specs.Starts as starts
+use Rattle.swc_ecma_codegen_settings.specs.Starts as starts
 use Rattle.swc_ecma_codegen_tokens.specs.Run.{Env, Part, at_maps, is_bounded}
 use Rattle.swc_ecma_codegen_tokens.specs.Words.{keyword, operator, word_operator, punct, formatting_line, commit_pending_semi, trailing_comments}
 use Rattle.swc_ecma_codegen_tokens.proofs.Reading.Printed.{writes_commit, writes_formatting_line, writes_formatting_space, writes_position, writes_position_before}
@@ -57,7 +57,7 @@ use Rattle.swc_ecma_codegen_emit.proofs.Asked.{kept_same, committed_same}
 use Rattle.swc_ecma_codegen_emit.proofs.ExprParts.{writes_blank, writes_comments_before, writes_opened, writes_space_if}
 use Rattle.swc_ecma_codegen_emit.proofs.MappedNodes.{items_of}
 use Rattle.swc_ecma_codegen_laws.specs.Basic.{is_bare, basic_prop, all_basic, basic_expr, basic_stmt, basic_node, any_basic, basic_stmts, is_basic, TakesNoMemory}
-use Rattle.swc_ecma_codegen_laws.proofs.Quiet.{Quiet, then, inside, quiet_allow_break, quiet_itself, quiet_same, quiet_made, quiet_if, quiet_nothing, quiet_keyword, quiet_operator, quiet_word_operator, quiet_punct, quiet_semi, quiet_name, takes_none, itself_takes_none}
+use Rattle.swc_ecma_codegen_laws.proofs.NoMemory.{Quiet, then, inside, quiet_allow_break, quiet_itself, quiet_same, quiet_made, quiet_if, quiet_nothing, quiet_keyword, quiet_operator, quiet_word_operator, quiet_punct, quiet_semi, quiet_name, takes_none, itself_takes_none}
 
 -- What is known of whatever links hold: what is written of it takes no memory where it is basic.
 record Linked (X : Type 0) : Type 0 where

@@ -13,13 +13,13 @@ use Rattle.swc_ecma_codegen_emit.specs.Places.{Place, Whole, alone, by_itself, p
 use Rattle.swc_ecma_codegen_emit.specs.Programs.{whole_module, script, program}
 use Rattle.swc_ecma_codegen_emit.specs.Roots.{Root, OfExpr, OfStmt, OfItem, OfModule, OfScript, OfProgram, OfLink, is_program, root_at, root_items}
 use Rattle.swc_ecma_codegen_laws.specs.Breaks.{EndsBehindMarks, no_more, other, holds_break, is_mark, is_break}
-use Rattle.swc_ecma_codegen_laws.proofs.AnyExprWords.{expr_holds}
+use Rattle.swc_ecma_codegen_laws.proofs.AnyExprLifted.{expr_holds}
 use Rattle.swc_ecma_codegen_laws.proofs.BreakSteps.{Breaks, on, ends_append, holds_append, steps_on}
 use Rattle.swc_ecma_codegen_laws.proofs.BreakWords.{break_words}
-use Rattle.swc_ecma_codegen_laws.proofs.ModulesWords.{module_item_holds}
-use Rattle.swc_ecma_codegen_laws.proofs.NodeWords.{in_trees, tree_holds}
+use Rattle.swc_ecma_codegen_laws.proofs.ModulesLifted.{module_item_holds}
+use Rattle.swc_ecma_codegen_laws.proofs.NodesLifted.{in_trees, tree_holds}
 use Rattle.swc_ecma_codegen_laws.proofs.RootWords.{program_parts, program_holds, plain_program, lined_program}
-use Rattle.swc_ecma_codegen_laws.proofs.StmtsWords.{stmt_holds}
+use Rattle.swc_ecma_codegen_laws.proofs.StmtsLifted.{stmt_holds}
 
 -- ---- what is written where lines may be ended, before what comes next
 

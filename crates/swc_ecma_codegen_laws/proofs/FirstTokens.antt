@@ -86,8 +86,8 @@ use Rattle.swc_ecma_codegen_grammar.specs.JsxPhrases as jsx_lists
 use Rattle.swc_ecma_codegen_grammar.specs.StmtPhrases as stmt_lists
 use Rattle.swc_ecma_codegen_grammar.specs.TreePhrases.{node_phrase, phrase, expr_phrase}
 use Rattle.swc_ecma_codegen_grammar.proofs.TreeLaws.{phrase_of}
-use Rattle.swc_ecma_codegen_util.specs.Starts.{is_word_op, lit_starts, update_starts, first_starts, only_starts, arrow_starts, chain_starts, expr_starts, prop_name_starts, pat_starts, stmt_part_starts, simple_target_starts, target_starts, expr_part_starts, stmt_starts, node_starts, any_starts, callee_starts}
-use Rattle.swc_ecma_codegen_util.proofs.Begins.{starts_of}
+use Rattle.swc_ecma_codegen_settings.specs.Starts.{is_word_op, lit_starts, update_starts, first_starts, only_starts, arrow_starts, chain_starts, expr_starts, prop_name_starts, pat_starts, stmt_part_starts, simple_target_starts, target_starts, expr_part_starts, stmt_starts, node_starts, any_starts, callee_starts}
+use Rattle.swc_ecma_codegen_settings.proofs.Begins.{starts_of}
 use Rattle.swc_ecma_codegen_laws.specs.FirstTokens.{joins_a_word}
 
 -- No list of a phrase is empty, and where one begins with a word, a name or a number, b is true.

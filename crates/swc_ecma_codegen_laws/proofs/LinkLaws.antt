@@ -24,7 +24,7 @@ use Rattle.swc_ecma_codegen_emit.specs.Roots.{Root, OfExpr, OfStmt, OfItem, OfMo
 use Rattle.swc_ecma_codegen_laws.specs.HeldRoots.{IsHeld}
 use Rattle.swc_ecma_codegen_emit.specs.Tree.{any_items}
 use Rattle.swc_ecma_codegen_emit.proofs.MappedNodes.{any_items_plain_expr, any_items_stmt, any_items_member_expr, any_items_expr_part}
-use Rattle.swc_ecma_codegen_laws.proofs.LinedNodes.{any_items_lined_expr, any_items_in_role, by_itself_same}
+use Rattle.swc_ecma_codegen_laws.proofs.LengthOfRoots.{any_items_lined_expr, any_items_in_role, by_itself_same}
 
 -- ---- what is written
 

@@ -9,9 +9,9 @@ use Rattle.swc_ecma_codegen_emit.specs.Answers.{any_answers}
 use Rattle.swc_ecma_codegen_emit.specs.Programs.{module_parts, script_parts, whole_module, script, program}
 use Rattle.swc_ecma_codegen_emit.specs.Roots.{Root, OfExpr, OfStmt, OfItem, OfModule, OfScript, OfProgram, OfLink, is_program, root_at}
 use Rattle.swc_ecma_codegen_emit.specs.Tree.{any_items}
-use Rattle.swc_ecma_codegen_laws.proofs.NodeWords.{in_trees}
+use Rattle.swc_ecma_codegen_laws.proofs.NodesLifted.{in_trees}
 use Rattle.swc_ecma_codegen_laws.proofs.OfWords.{OfWords}
-use Rattle.swc_ecma_codegen_laws.proofs.ProgramsWords.{module_parts_holds, script_parts_holds}
+use Rattle.swc_ecma_codegen_laws.proofs.ProgramsLifted.{module_parts_holds, script_parts_holds}
 
 -- what stands in a program
 abbrev pub program_parts : Root → Part

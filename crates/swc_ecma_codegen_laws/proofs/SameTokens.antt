@@ -11,7 +11,7 @@ use Rattle.swc_ecma_codegen_grammar.proofs.LayoutLaws.{alongside, one_list}
 use Rattle.swc_ecma_codegen_text_writer.specs.Filling.{text_of}
 use Rattle.swc_ecma_codegen_text_writer.specs.Runs.{cut_from_here}
 use Rattle.swc_ecma_codegen_text_writer.specs.Sheet.{Sheet}
-use Rattle.swc_ecma_codegen_util.specs.declared.config.Config.{Config}
+use Rattle.swc_ecma_codegen_settings.specs.declared.config.Config.{Config}
 use Rattle.swc_ecma_codegen_tokens.specs.Run.{Env, State, Step, Follows, nothing, run, steps_of}
 use Rattle.swc_ecma_codegen_tokens.specs.Settings.{settings_of}
 use Rattle.swc_ecma_codegen_tokens.specs.Written.{ReadsAs, IsNew, IsAtMargin, AddsReading, AddsText, taken_remarks}

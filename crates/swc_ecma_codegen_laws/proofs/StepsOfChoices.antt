@@ -1,4 +1,4 @@
--- Choices: what holds of the words that a definition is made of holds of it.
+-- Choices: a law of the words holds of the plan.
 use Rattle.std.specs.Prelude.{None, Bool, if◌then◌else◌, codes}
 use Rattle.swc_ecma_codegen_grammar.specs.Settings.{is_up_to_es5}
 use Rattle.swc_ecma_codegen_tokens.specs.Run.{Part, no_part}

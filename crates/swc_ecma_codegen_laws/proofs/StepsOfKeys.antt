@@ -1,4 +1,4 @@
--- Keys: what holds of the words that a definition is made of holds of it.
+-- Keys: a law of the words holds of the plan.
 use Rattle.swc_ecma_codegen_laws.specs.Breaks.{is_mark, is_break}
 use Rattle.swc_ecma_codegen_laws.proofs.OfSteps.{is_other}
 use Rattle.std.proofs.Common.{refl}

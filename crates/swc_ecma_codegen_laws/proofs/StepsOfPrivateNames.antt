@@ -1,4 +1,4 @@
--- PrivateNames: what holds of the words that a definition is made of holds of it.
+-- PrivateNames: a law of the words holds of the plan.
 use Rattle.std.proofs.Common.{Bool}
 use Rattle.swc_ecma_codegen_laws.specs.Breaks.{is_mark, is_break}
 use Rattle.swc_ecma_codegen_laws.proofs.OfSteps.{is_other}

@@ -15,7 +15,7 @@ use Rattle.swc_ecma_codegen_tree.specs.declared.links.AnyNode.{AnyNode}
 use Rattle.swc_ecma_codegen_tree.specs.declared.lits.BigInt.{BigInt}
 use Rattle.swc_ecma_codegen_tree.specs.declared.lits.Number.{Number}
 use Rattle.swc_ecma_codegen_tree.specs.declared.lits.Str.{Str}
-use Rattle.swc_ecma_codegen_util.specs.declared.config.Config.{Config}
+use Rattle.swc_ecma_codegen_settings.specs.declared.config.Config.{Config}
 use Rattle.swc_ecma_codegen_tokens.specs.declared.refusals.Unprintable.{Unprintable}
 use Rattle.swc_ecma_codegen_tokens.specs.Literals.{signed, size_of}
 use Rattle.swc_ecma_codegen_tokens.specs.Lits.{string_text, number_text, prints_big_raw, big_int_text}

@@ -7,3 +7,4 @@ pub mod Layouts
 pub mod Lengths
 pub mod PlainTexts
 pub mod SameTokens
+pub mod Told

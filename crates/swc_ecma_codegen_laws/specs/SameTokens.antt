@@ -6,7 +6,7 @@ use Rattle.swc_ecma_codegen_grammar.specs.Trivia.{Remark}
 use Rattle.swc_ecma_codegen_tokens.specs.Settings.{settings_of}
 use Rattle.swc_ecma_codegen_tokens.specs.Written.{AddsReading}
 use Rattle.swc_ecma_codegen_text_writer.specs.Sheet.{Sheet}
-use Rattle.swc_ecma_codegen_util.specs.declared.config.Config.{Config}
+use Rattle.swc_ecma_codegen_settings.specs.declared.config.Config.{Config}
 
 -- What the text of b is longer by than that of a reads as a list of this phrase, and what that of d is longer by than that of c as another: of the
 -- same tokens with the same values, but for what the phrase leaves open.

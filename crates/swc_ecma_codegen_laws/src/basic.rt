@@ -26,18 +26,20 @@ ghost use Rattle.swc_ecma_codegen_emit.specs.Stmts.{empty_stmt, expr_stmt};
 ghost use Rattle.swc_ecma_codegen_emit.specs.Tree.{any_items};
 ghost use Rattle.swc_ecma_codegen_laws.specs.Basic.{any_basic, is_bare, is_basic, TakesNoMemory};
 
-/// An emission of names and operators alone takes no memory, nor comes to a node that can't be printed, where the settings don't
-/// ask for ASCII and lines have no greatest length (a script holds text in memory until it knows where its lines end), be the tree
-/// well-formed or not: a script without a hashbang, statements of expressions and empty ones, and in
-/// these `this`, names, `-a`, `a++`, `a + b`, `a.b`, `a[b]`, `a ? b : c`, `a, b` and `(a)`, where no name holds a backslash.
-/// So by the clause `no_memory` of `emit_with` none is refused for memory over a writer that takes none, and by its clause
-/// `succeeds` one over an emitter that is ready is `Ok` where the writer counts no fault.
+/// An emission of names and operators alone takes no memory, nor comes to a node that can't be
+/// printed, where the settings don't ask for ASCII and lines have no greatest length (a script
+/// holds text in memory until it knows where its lines end), be the tree well-formed or not: a
+/// script without a hashbang, statements of expressions and empty ones, and in these `this`, names,
+/// `-a`, `a++`, `a + b`, `a.b`, `a[b]`, `a ? b : c`, `a, b` and `(a)`, where no name holds a
+/// backslash. So by the clause `no_memory` of `emit_with` none is refused for memory over a writer
+/// that takes none, and by its clause `succeeds` one over an emitter that is ready is `Ok` where
+/// the writer counts no fault.
 pub fn basic_trees_take_no_memory()
     ensures { (root : Root) → is_basic root ≡ true → TakesNoMemory (root_items root) }
 {}
 
-/// The same of each type of node of these by itself, as `emit_with` of one prints it, without the comments after it that the
-/// expression or statement that it is would take.
+/// An emission of one such node by itself takes no memory, as `emit_with` prints it, without the
+/// comments after it that it would take as an expression or a statement.
 pub fn basic_nodes_take_no_memory()
     ensures this { (n : ThisExpr) → TakesNoMemory (by_itself (λ _. this n)) }
     ensures ident { (n : Ident) → is_bare (string_bytes n.sym) ≡ true →

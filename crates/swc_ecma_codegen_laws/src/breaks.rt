@@ -8,9 +8,10 @@ ghost use Rattle.swc_ecma_codegen_emit.specs.Roots.{Root, is_program, root_at, r
 ghost use Rattle.swc_ecma_codegen_laws.specs.Breaks.{EndsBehindMarks, holds_break};
 ghost use Rattle.swc_ecma_codegen_laws.specs.Lengths.{unlined};
 
-/// Where a module or script is minified and lines have a greatest length, a line may be ended right behind each written `(` `,`
-/// `;` `[` and `{`, and behind each operator of two operands, and nowhere else: not in an element, a fragment or a template, nor
-/// behind the `;` of a function expression without a body. That is said of the steps that the clause `fills` of `emit_with` goes
+/// Where a module or script is minified and lines have a greatest length, a line may be ended right
+/// behind each written `(` `,` `;` `[` and `{`, and behind each operator of two operands, and
+/// nowhere else: not in an element, a fragment or a template, nor behind the `;` of a function
+/// expression without a body. That is said of the steps that the clause `fills` of `emit_with` goes
 /// by, and of the steps of the emission. In any other emission no line may be ended.
 pub fn lines_may_be_ended_behind_marks()
     ensures filled { (root : Root) (s : State) (max : ℕ) → is_program root ≡ true →
@@ -23,8 +24,9 @@ pub fn lines_may_be_ended_behind_marks()
         holds_break (steps_of (steps_in (root_items root) s)) ≡ false }
 {}
 
-/// What lines are filled with is what is written of the module or script where lines have no greatest length: the clause `fills` of
-/// `emit_with` compares with the text of that emission, and with its positions.
+/// What lines are filled with is what is written of the module or script where lines have no
+/// greatest length: the clause `fills` of `emit_with` compares with the text of that emission, and
+/// with its positions.
 pub fn filled_lines_keep_the_text()
     ensures text { (root : Root) (s : State) (max : ℕ) → is_program root ≡ true →
         s.sheet.lines ≡ Flowing →

@@ -1,8 +1,8 @@
-//! Laws for callers. Each is the contract of a function without parameters that does nothing: a proof cites the function,
-//! and a program has no need to call it.
+//! Laws for callers. Each is the contract of a function without parameters that does nothing: a
+//! proof cites the function, and a program has no need to call it.
 //!
-//! What is printed of a well-formed tree reads back as the tree's tokens, by longest match: `a < !--b` isn't printed as
-//! the start of a comment, nor `a - -b` as a decrement.
+//! What is printed of a well-formed tree reads back as the tree's tokens, by longest match:
+//! `a < !--b` isn't printed as the start of a comment, nor `a - -b` as a decrement.
 #![tactic(auto)]
 
 ghost use Rattle.std.specs.Prelude.{◌≡◌, ◌&&◌, is_some, ℕ, Bool, true, false, if◌then◌else◌, List, [], ◌∷◌, Ok, Err, Some, None};
@@ -16,7 +16,7 @@ ghost use Rattle.swc_ecma_codegen_tree.specs.declared.stmts.Stmt.{Stmt};
 ghost use Rattle.swc_ecma_codegen_tree.specs.declared.links.AnyNode.{AnyNode};
 ghost use Rattle.swc_ecma_codegen_tree.specs.declared.lits.Str.{Str};
 ghost use Rattle.swc_ecma_codegen_tree.specs.declared.modules.ImportDecl.{ImportDecl};
-ghost use Rattle.swc_ecma_codegen_util.specs.declared.config.Config.{Config};
+ghost use Rattle.swc_ecma_codegen_settings.specs.declared.config.Config.{Config};
 ghost use Rattle.swc_ecma_codegen_grammar.specs.Tokens.{Token};
 ghost use Rattle.swc_ecma_codegen_grammar.specs.Phrases.{Phrase, Generates};
 ghost use Rattle.swc_ecma_codegen_grammar.specs.Settings.{Settings};
@@ -39,7 +39,7 @@ ghost use Rattle.swc_ecma_codegen_grammar.specs.Trivia.{Remark};
 ghost use Rattle.swc_ecma_codegen_tokens.specs.Settings.{settings_of};
 ghost use Rattle.swc_ecma_codegen_tokens.specs.Written.{IsLineEnd, IsNew, ReadsAs, all_indent, taken_remarks};
 ghost use Rattle.swc_ecma_codegen_tokens.specs.Ready.{IsReady};
-ghost use Rattle.swc_ecma_codegen_util.specs.Starts.{expr_starts, any_starts};
+ghost use Rattle.swc_ecma_codegen_settings.specs.Starts.{expr_starts, any_starts};
 ghost use Rattle.swc_ecma_codegen_emit.specs.Emission.{Outcome, AddsOnlyAscii, AddsSafeStrings, FillsItsLines, LeavesNone, PlacesEachName, ReadsAsRoot, RecordsEachName, TakesComments, WritesTaken};
 ghost use Rattle.swc_ecma_codegen_emit.specs.Places.{by_itself, in_context};
 ghost use Rattle.swc_ecma_codegen_emit.specs.Answers.{any_answers};
@@ -59,6 +59,7 @@ mod basic;
 mod breaks;
 mod layouts;
 mod links;
+mod programs;
 
 pub use crate::basic::{basic_nodes_take_no_memory, basic_trees_take_no_memory};
 pub use crate::breaks::{filled_lines_keep_the_text, lines_may_be_ended_behind_marks};
@@ -67,12 +68,16 @@ pub use crate::layouts::{
     plain_texts_read_plainly, source_texts_write_the_same_tokens,
 };
 pub use crate::links::{links_write_members, links_write_targets, links_write_their_roots};
+pub use crate::programs::{
+    plain_lists_are_derived, printed_programs_are_derived, printed_programs_are_told,
+};
 pub use swc_ecma_codegen_grammar::reading_laws::{
     one_reading, reduced_tokens_read, spaced_tokens_read,
 };
 
-/// What is written of an expression, and of a statement, by itself is what is written of the root that it is, which may begin wherever an
-/// emission is new. So the clauses of `emit_with` that speak of roots speak of these.
+/// What is written of an expression, and of a statement, by itself is what is written of the root
+/// that it is, which may begin wherever an emission is new. So the clauses of `emit_with` that
+/// speak of roots speak of these.
 #[tactic(auto, using(swc_ecma_codegen_emit::proofs::TreeReads::may_begin))]
 pub fn expressions_and_statements_are_roots()
     ensures expr { (expr : Expr AnyNode) →
@@ -84,10 +89,11 @@ pub fn expressions_and_statements_are_roots()
         s.sheet.lines ≡ Flowing → MayBegin root s }
 {}
 
-/// A new emitter over a new `JsWriter`, whose lines end with LF or with CR and LF, is one that these laws speak of, whatever
-/// the root, the source text and the comments; and after `set_indent_str` of blanks and tabs, and inside
-/// `omit_trailing_semi`. It is ready, whatever its lines end with, unless it minifies and lines have a greatest length. Under
-/// `ascii_only` it is one that is to write ASCII.
+/// A new emitter over a new `JsWriter`, whose lines end with LF or with CR and LF, is one that
+/// these laws speak of, whatever the root, the source text and the comments; and after
+/// `set_indent_str` of blanks and tabs, and inside `omit_trailing_semi`. It is ready, whatever its
+/// lines end with, unless it minifies and lines have a greatest length. Under `ascii_only` it is
+/// one that is to write ASCII.
 pub fn new_emitter_reads()
     ensures new { (root : Root) (lines : Lines) (maps : Maps) (config : Config)
         (bytes line_end : List ℕ) → IsLineEnd line_end →
@@ -108,8 +114,8 @@ pub fn new_emitter_reads()
         (record (new_sheet bytes line_end) { indent_text = indent })) }
 {}
 
-/// Comments that are put into maps one by one can be read back, where each of them can: no line terminator stands in one of
-/// a line, and no `*/` in one of a block.
+/// Comments that are put into maps one by one can be read back, where each of them can: no line
+/// terminator stands in one of a line, and no `*/` in one of a block.
 #[tactic(auto, using(crate::proofs::ClosedMaps::nowhere_closed, crate::proofs::ClosedMaps::leading_closed, crate::proofs::ClosedMaps::trailing_closed))]
 pub fn added_comments_can_be_read_back()
     ensures none { (maps : Maps) → ((pos : ℕ) → maps.leading pos ≡ None) →
@@ -121,8 +127,8 @@ pub fn added_comments_can_be_read_back()
 {}
 
 /// Where an expression begins with a word, a name or a number, by the first token of a list that
-/// syntax gives it, `starts_with_alpha_num` is true, which answers `expr_starts any_starts`: of `a + b`, `typeof a` and
-/// `this.a`, but not only of these.
+/// syntax gives it, `starts_with_alpha_num` is true, which answers `expr_starts any_starts`: of
+/// `a + b`, `typeof a` and `this.a`, but not only of these.
 #[tactic(auto, using(crate::proofs::FirstTokens::first_joins))]
 pub fn first_token_is_told()
     ensures { (expr : Expr AnyNode) (settings : Settings) (first : Token) (rest : List Token) →
@@ -130,9 +136,10 @@ pub fn first_token_is_told()
         expr_starts any_starts expr ≡ true }
 {}
 
-/// What an emission of a root does, by the state where it begins, the one where it ends, and what it answers: what `emit_with`
-/// says in its clauses follows from the root's steps alone. So it is said of the `to_code` calls too, whose clause `printed`
-/// says that the steps were made, and whose clauses `text` and `positions` tell what was written.
+/// What an emission of a root does, by the state where it begins, the one where it ends, and what
+/// it answers: what `emit_with` says in its clauses follows from the root's steps alone. So it is
+/// said of the `to_code` calls too, whose clause `printed` says that the steps were made, and whose
+/// clauses `text` and `positions` tell what was written.
 #[tactic(auto, using(swc_ecma_codegen_emit::proofs::TreeReads::root_reads, swc_ecma_codegen_emit::proofs::TreeReads::root_told, swc_ecma_codegen_emit::proofs::ItemsTaken::root_leaves, swc_ecma_codegen_emit::proofs::TreeReads::root_names, swc_ecma_codegen_emit::proofs::TreeReads::root_places, swc_ecma_codegen_emit::proofs::TreeReads::root_ascii, swc_ecma_codegen_emit::proofs::TreeReads::root_safe, swc_ecma_codegen_emit::proofs::TreeReads::root_fills, swc_ecma_codegen_emit::proofs::TreeReads::root_taken))]
 pub fn emissions_of_roots()
     ensures reads { (root : Root) (a b : State) (answer : Outcome) →
@@ -156,10 +163,12 @@ pub fn emissions_of_roots()
         Follows (root_items root nothing) a b (in_short answer) → FillsItsLines root a b answer }
 {}
 
-/// No step of an emission of a well-formed tree makes a text anew, in memory, where no name of the tree holds a backslash, or
-/// isn't ASCII under `ascii_only`, no number, no big integer and no string stands in it, and lines have no greatest length, over a
-/// writer that leaves out U+0000 after a backslash: what the clauses `cause`, `no_memory` and `succeeds` of `emit_with` ask of memory. Of a tree with
-/// such, these clauses speak of its steps: one takes memory where the text of a literal isn't its raw.
+/// No step of an emission of a well-formed tree makes a text anew, in memory, where no name of the
+/// tree holds a backslash, or isn't ASCII under `ascii_only`, no number, no big integer and no
+/// string stands in it, and lines have no greatest length, over a writer that leaves out U+0000
+/// after a backslash: what the clauses `cause`, `no_memory` and `succeeds` of `emit_with` ask of
+/// memory. Of a tree with such, these clauses speak of its steps: one takes memory where the text
+/// of a literal isn't its raw.
 #[tactic(auto, using(swc_ecma_codegen_emit::proofs::TreeReads::root_remakes))]
 pub fn plain_trees_take_no_memory()
     ensures { (root : Root) (s : State) → is_well_formed_root root ≡ true →
@@ -168,9 +177,11 @@ pub fn plain_trees_take_no_memory()
         makes_text (steps_of (steps_in (root_items root) s)) ≡ false }
 {}
 
-/// Only texts of comments aren't ASCII among the steps of an emission of a well-formed tree whose names can all be written,
-/// where each regular expression, template with a tag and hashbang of the tree is ASCII, and all of its JSX, and no string of it reads `use strict`: of
-/// these texts the clause `ascii` of `emit_with` speaks. Such a string is another only where it has a backslash and isn't ASCII.
+/// Only texts of comments aren't ASCII among the steps of an emission of a well-formed tree whose
+/// names can all be written, where each regular expression, template with a tag and hashbang of the
+/// tree is ASCII, and all of its JSX, and no string of it reads `use strict`: of these texts the
+/// clause `ascii` of `emit_with` speaks. Such a string is another only where it has a backslash and
+/// isn't ASCII.
 #[tactic(auto, using(swc_ecma_codegen_emit::proofs::TreeReads::root_keeps))]
 pub fn plain_trees_keep_no_other_text()
     ensures { (root : Root) (s : State) → is_well_formed_root root ≡ true →
@@ -180,8 +191,8 @@ pub fn plain_trees_keep_no_other_text()
         ≡ spoken (steps_of (steps_in (root_items root) s)) }
 {}
 
-/// A string literal is printed by its value exactly where its raw isn't printed: it is one of the strings that the clause
-/// `inline` of `emit_with` speaks of.
+/// A string literal is printed by its value exactly where its raw isn't printed: it is one of the
+/// strings that the clause `inline` of `emit_with` speaks of.
 #[tactic(auto, using(swc_ecma_codegen_tokens::proofs::LiteralTokens::StringPrints::value_strings_told))]
 pub fn strings_by_value_are_told()
     ensures { (env : Env) (in_lit : Bool) (n : Str) →
@@ -190,9 +201,10 @@ pub fn strings_by_value_are_told()
         ∷ []) }
 {}
 
-/// An emission of a well-formed tree comes to a node that can't be printed exactly where some name of the tree is to be
-/// written in ASCII and can't be for the target. So it answers `NameOutOfTarget` for no other cause, and a tree that holds
-/// such a name is never printed as a whole.
+/// An emission of a well-formed tree comes to a node that can't be printed exactly where some name
+/// of the tree is to be written in ASCII and can't be for the target. So it answers
+/// `NameOutOfTarget` for no other cause, and a tree that holds such a name is never printed as a
+/// whole.
 #[tactic(auto, using(swc_ecma_codegen_emit::proofs::TreeReads::root_ends, swc_ecma_codegen_emit::proofs::TreeReads::root_in_target, swc_ecma_codegen_emit::proofs::TreeReads::root_out_of_target))]
 pub fn names_out_of_target_are_refused()
     ensures steps { (root : Root) (s : State) → is_well_formed_root root ≡ true →
@@ -208,8 +220,8 @@ pub fn names_out_of_target_are_refused()
         is_out a.env.config (root_phrase root) ≡ true }
 {}
 
-/// An emission of a well-formed tree is refused neither for a shape of which no text is written nor for a node that isn't
-/// supported.
+/// An emission of a well-formed tree is refused neither for a shape of which no text is written nor
+/// for a node that isn't supported.
 #[tactic(auto, using(swc_ecma_codegen_emit::proofs::TreeReads::root_shaped, swc_ecma_codegen_emit::proofs::TreeReads::root_supported))]
 pub fn well_formed_trees_are_supported()
     ensures shape { (root : Root) (a b : State) → is_well_formed_root root ≡ true →
@@ -220,9 +232,10 @@ pub fn well_formed_trees_are_supported()
         Follows (root_items root nothing) a b (Err refusals.UnsupportedNode) → ⊥ }
 {}
 
-/// The shapes of which no text is written, and no step is made before the refusal: an import of a namespace among more than
-/// two specifiers, a template without one part more than expressions or types, and a string of an attribute of JSX without a
-/// raw whose value holds both quotes. A plan comes to `BadShape` in no other words.
+/// The shapes of which no text is written, and no step is made before the refusal: an import of a
+/// namespace among more than two specifiers, a template without one part more than expressions or
+/// types, and a string of an attribute of JSX without a raw whose value holds both quotes. A plan
+/// comes to `BadShape` in no other words.
 #[tactic(auto, using(swc_ecma_codegen_emit::proofs::TreeReads::crowded_refused, swc_ecma_codegen_emit::proofs::TreeReads::uncounted_refused, crate::proofs::BadShapes::textless_refused, crate::proofs::BadShapes::type_template_refused))]
 pub fn bad_shapes_are_refused_first()
     ensures import_ { (n : ImportDecl AnyNode) (rest : Plan) (env : Env) →
@@ -237,11 +250,13 @@ pub fn bad_shapes_are_refused_first()
         attribute_string n rest env ≡ refused BadShape }
 {}
 
-/// Under settings that differ in whether they minify the lists of a tree are the same part for part, but for what syntax leaves
-/// open: a comma before the mark that closes a list, some parentheses, and the empty arguments of `new`: `(a) => new B();`
-/// and minified `a=>new B`. So are those that what is written of it is reduced from, where a writer leaves semicolons out. By
-/// their tokens alone the written lists are the same but for semicolons that end a statement, commas before `]` and `}`,
-/// and pairs of parentheses. Without comments `layouts_write_the_same_tokens` says which, token for token.
+/// Under settings that differ in whether they minify the lists of a tree are the same part for
+/// part, but for what syntax leaves open: a comma before the mark that closes a list, some
+/// parentheses, and the empty arguments of `new`: `(a) => new B();` and minified `a=>new B`. So are
+/// those that what is written of it is reduced from, where a writer leaves semicolons out. By their
+/// tokens alone the written lists are the same but for semicolons that end a statement, commas
+/// before `]` and `}`, and pairs of parentheses. Without comments `layouts_write_the_same_tokens`
+/// says which, token for token.
 pub fn layouts_keep_the_tokens()
     ensures lists { (s t : Settings) (phrase : Phrase) (xs ys : List Token) → AreAlike s t →
         Generates s phrase xs → Generates t phrase ys → Alongside s t phrase xs ys }
@@ -252,12 +267,14 @@ pub fn layouts_keep_the_tokens()
         IsWritten s phrase us → IsWritten t phrase vs → AreSameBut us vs }
 {}
 
-/// Two emissions of one well-formed tree under the same settings write the same tokens with the same values, whatever the map of
-/// the source text answers, whatever the indentation, the line end and the comments, but for what syntax leaves open: a
-/// comma before `]` or `}`, which is asked of the source text, and parentheses round the only parameter of an arrow function or
-/// round an argument, which depend on comments. So do two texts that each read as the tree; and where syntax leaves nothing
-/// open, all that is written is the same, over a writer that holds no semicolons back. Without comments
-/// `source_texts_write_the_same_tokens` says that nothing but such commas differs.
+/// Two emissions of one well-formed tree under the same settings write the same tokens with the
+/// same values, whatever the map of the source text answers, whatever the indentation, the line end
+/// and the comments, but for what syntax leaves open: a comma before `]` or `}`, which is asked of
+/// the source text, and parentheses round the only parameter of an arrow function or round an
+/// argument, which depend on comments. So do two texts that each read as the tree; and where syntax
+/// leaves nothing open, all that is written is the same, over a writer that holds no semicolons
+/// back. Without comments `source_texts_write_the_same_tokens` says that nothing but such commas
+/// differs.
 pub fn source_texts_keep_the_tokens()
     ensures texts { (config : Config) (holds : Bool) (phrase : Phrase) (first second : List Remark)
         (us vs : List ℕ) → (x : ReadsAs config holds phrase first us) →
@@ -274,9 +291,10 @@ pub fn source_texts_keep_the_tokens()
         (taken_remarks (root_items root) c.env) a.sheet b.sheet c.sheet d.sheet }
 {}
 
-/// Two emissions of one well-formed tree that go by the same settings, the same answers of the map of the source text and the
-/// same comments write one list of tokens, with the same comments between, whatever the indentation, the line end, and
-/// what was written before. Where a writer holds semicolons back, some of those that end a statement may be left out of it.
+/// Two emissions of one well-formed tree that go by the same settings, the same answers of the map
+/// of the source text and the same comments write one list of tokens, with the same comments
+/// between, whatever the indentation, the line end, and what was written before. Where a writer
+/// holds semicolons back, some of those that end a statement may be left out of it.
 pub fn indentations_keep_the_tokens()
     ensures { (root : Root) (a b c d : State) → is_well_formed_root root ≡ true → MayBegin root a →
         MayBegin root c → AreClosed a.env.maps → a.env ≡ c.env →

@@ -17,8 +17,8 @@ ghost use Rattle.swc_ecma_codegen_laws.specs.HeldRoots.{IsHeld};
 
 use swc_ecma_codegen_tree::{AnyNode, ExprPart};
 
-/// What is written of what a link holds is what is written of the root that it is. So the clauses of `emit_with`, `to_code` and the
-/// laws here that speak of roots speak of links.
+/// What is written of what a link holds is what is written of the root that it is. So the clauses
+/// of `emit_with`, `to_code` and the laws here that speak of roots speak of links.
 #[tactic(auto, using(crate::proofs::LinkLaws::held_written))]
 pub fn links_write_their_roots()
     ensures { (node : AnyNode) (root : Root) → IsHeld node root →

@@ -12,8 +12,8 @@ use std::alloc::Global;
 use swc_ecma_codegen_common::Error;
 use swc_ecma_codegen_tree::{BigInt, Radix};
 
-/// A big integer up to its `n`: its sign, the prefix of its radix and its digits without `_`, `-0xff` of -255 in
-/// hexadecimal digits. `Error::OutOfMemory` where there is no room for the text.
+/// A big integer up to its `n`: its sign, the prefix of its radix and its digits without `_`,
+/// `-0xff` of -255 in hexadecimal digits. `Error::OutOfMemory` where there is no room for the text.
 ///
 /// Source: `emit_big_lit` of swc, but the digits are those of the tree, whatever is minified.
 #[tactic(auto, unfolding(crate::specs::BigIntegers::big_text))]

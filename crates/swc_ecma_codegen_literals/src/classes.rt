@@ -24,8 +24,8 @@ pub enum TokenClass {
     Rest,
 }
 
-/// The class of a number that is spelled so: `Integer` where a dot after it would belong to it, as after `5` and `08`,
-/// and not after `5.`, `5e3`, `0x5`, `05` or `5n`; else `Word`.
+/// The class of a number that is spelled so: `Integer` where a dot after it would belong to it, as
+/// after `5` and `08`, and not after `5.`, `5e3`, `0x5`, `05` or `5n`; else `Word`.
 pub fn number_class(spelling: &str) -> TokenClass
     ensures { result ≡ (if takes_dot (chars spelling.now) then TokenClass.Integer
         else TokenClass.Word) }

@@ -60,8 +60,8 @@ pub(crate) fn is_unseen(c: char) -> bool
     c == '\u{2028}' || c == '\u{2029}' || c == '\u{FEFF}'
 }
 
-/// The escape of a character that doesn't stand for itself, which `rest` follows. A backslash that begins a surrogate
-/// escape that is written in plain characters stays alone.
+/// The escape of a character that doesn't stand for itself, which `rest` follows. A backslash that
+/// begins a surrogate escape that is written in plain characters stays alone.
 #[tactic(auto, unfolding(crate::specs::StringTexts::escape_text))]
 pub(crate) fn push_escape(
     literal: &mut String,

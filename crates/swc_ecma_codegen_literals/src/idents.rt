@@ -15,13 +15,15 @@ use crate::escapes::{is_up_to_es5, lower_digit, push_code};
 use std::alloc::{AllocError, Global};
 use swc_ecma_codegen_common::{Error, EsVersion};
 
-/// A name in ASCII alone. What isn't ASCII is escaped: `\u00e9`, `\u0301`, `\u{1D4AB}`. A key of an object or a class
-/// may be quoted; it is, where a character has a shorter escape in a string, `"\xe9"`, or one there alone,
-/// `"\uD835\uDCAB"` up to ECMAScript 5. A name that holds escapes already keeps them. `Error::NameOutOfTarget` for a
-/// character above U+FFFF, not spelled by an escape, in a name that may not be quoted, up to ECMAScript 5;
-/// `Error::OutOfMemory` where there is no room for the text.
+/// A name in ASCII alone. What isn't ASCII is escaped: `\u00e9`, `\u0301`, `\u{1D4AB}`. A key of an
+/// object or a class may be quoted; it is, where a character has a shorter escape in a string,
+/// `"\xe9"`, or one there alone, `"\uD835\uDCAB"` up to ECMAScript 5. A name that holds escapes
+/// already keeps them. `Error::NameOutOfTarget` for a character above U+FFFF, not spelled by an
+/// escape, in a name that may not be quoted, up to ECMAScript 5; `Error::OutOfMemory` where there
+/// is no room for the text.
 ///
-/// Source: `get_ascii_only_ident` of swc, but quotes stand only round the whole name, and backslashes stay.
+/// Source: `get_ascii_only_ident` of swc, but quotes stand only round the whole name, and
+/// backslashes stay.
 pub fn ascii_only_ident(
     alloc: Global,
     text: &str,
@@ -108,8 +110,9 @@ fn is_better_quoted(text: &str, key: bool, target: EsVersion) -> bool
     key && wants_quotes(text, target)
 }
 
-/// Whether some character has a shorter escape in a string than in a name, or one there alone: U+007F to U+00FF, and up
-/// to ECMAScript 5 one above U+FFFF. So a key of an object or a class that isn't ASCII is quoted in ASCII.
+/// Whether some character has a shorter escape in a string than in a name, or one there alone:
+/// U+007F to U+00FF, and up to ECMAScript 5 one above U+FFFF. So a key of an object or a class that
+/// isn't ASCII is quoted in ASCII.
 pub fn wants_quotes(text: &str, target: EsVersion) -> bool
     ensures { result ≡ list_any (wants_quotes target) (chars text.now) }
 {
@@ -123,7 +126,8 @@ fn asks_quotes(c: char, target: EsVersion) -> bool
     matches!(c, '\u{7F}'..='\u{FF}') || (c >= '\u{10000}' && is_up_to_es5(target))
 }
 
-// The characters of a name, each as it is spelled. Those that stand for themselves are copied a run at a time.
+// The characters of a name, each as it is spelled. Those that stand for themselves are copied a run
+// at a time.
 fn push_escapes(
     name: &mut String,
     text: &str,

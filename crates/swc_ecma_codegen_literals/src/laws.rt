@@ -1,5 +1,5 @@
-//! Laws for callers, each the contract of a function that does nothing: what the spellings are as tokens, and how they
-//! begin.
+//! Laws for callers, each the contract of a function that does nothing: what the spellings are as
+//! tokens, and how they begin.
 
 ghost use Rattle.std.specs.Prelude.{◌≡◌, ℕ, Bool, List, true, false, Some};
 ghost use Rattle.std.specs.Str.{chars, IsAscii, IsUtf8};
@@ -22,8 +22,8 @@ ghost use Rattle.swc_ecma_codegen_literals.specs.BigIntegers.{big_text, big_part
 ghost use Rattle.swc_ecma_codegen_literals.specs.NumberTexts.{plain_text, minified_text, plain_part, minified_part, IsSignedSize, IsSizeOf};
 ghost use Rattle.swc_ecma_codegen_literals.specs.Separators.{without_underscores, IsWorthAsMuch};
 
-/// A string literal without octal escapes, as `quoted_utf16` gives it, is one too where these are allowed, and means the
-/// same.
+/// A string literal without octal escapes, as `quoted_utf16` gives it, is one too where these are
+/// allowed, and means the same.
 #[tactic(auto, using(crate::proofs::StringTokens::strict_is_string, crate::proofs::StringTokens::strict_same))]
 pub fn strict_strings_stay()
     ensures token { (text units : List ℕ) → string_value false text ≡ Some units →
@@ -32,8 +32,9 @@ pub fn strict_strings_stay()
         string_value true text ≡ Some units }
 {}
 
-/// A string literal begins with a quote, a number with a digit or with a dot and a digit, and a name with a character
-/// that a name may begin with or with a backslash. The same of a name in ASCII, which a quote begins where it is quoted.
+/// A string literal begins with a quote, a number with a digit or with a dot and a digit, and a
+/// name with a character that a name may begin with or with a backslash. The same of a name in
+/// ASCII, which a quote begins where it is quoted.
 #[tactic(auto, using(crate::proofs::BeginningLaws::string_begins, crate::proofs::BeginningLaws::number_begins, crate::proofs::BeginningLaws::big_integer_begins, crate::proofs::BeginningLaws::name_begins, crate::proofs::BeginningLaws::ascii_name_begins, crate::proofs::BeginningLaws::quoted_key_begins))]
 pub fn spellings_begin()
     ensures string { (text : List ℕ) → is_string text ≡ true → begins_quoted text ≡ true }
@@ -54,7 +55,8 @@ pub fn ascii_names_stay()
         ascii_name key v (chars text) ≡ text }
 {}
 
-/// The text of a number is `-` where it is below zero, and then one numeric token of its size: `-5` is `-` and `5`.
+/// The text of a number is `-` where it is below zero, and then one numeric token of its size: `-5`
+/// is `-` and `5`.
 #[tactic(auto, using(crate::proofs::NumberTokens::plain_signed, crate::proofs::NumberTokens::minified_signed))]
 pub fn numbers_are_signed_sizes()
     ensures plain { (number : Decimal) →
@@ -63,8 +65,8 @@ pub fn numbers_are_signed_sizes()
         IsSignedSize number (minified_text number) (minified_part number) }
 {}
 
-/// A number without `_` is one, of the same value, and so is a big integer, of the same radix and digits. That the bytes
-/// of a text are without `_` or its characters is one and the same.
+/// A number without `_` is one, of the same value, and so is a big integer, of the same radix and
+/// digits. That the bytes of a text are without `_` or its characters is one and the same.
 #[tactic(auto, using(crate::proofs::SeparatedTexts::worth_as_much, crate::proofs::SeparatedTexts::chars_without, crate::proofs::SeparatedTexts::ascii_without))]
 pub fn separators_stand_for_nothing()
     ensures worth { (text : List ℕ) → IsWorthAsMuch text (without_underscores text) }
@@ -73,15 +75,17 @@ pub fn separators_stand_for_nothing()
     ensures ascii { (bytes : List ℕ) → IsAscii bytes → IsAscii (without_underscores bytes) }
 {}
 
-/// The text of a big integer is `-` where it is below zero, and then, with its `n`, one token of its radix and digits.
+/// The text of a big integer is `-` where it is below zero, and then, with its `n`, one token of
+/// its radix and digits.
 #[tactic(auto, using(crate::proofs::BigTokens::big_signed))]
 pub fn big_integers_are_signed_sizes()
     ensures { (n : BigInt) → are_digits n.radix (chars (string_bytes n.digits)) ≡ true →
         IsSignedInteger n (big_text n) (big_part n) }
 {}
 
-/// The spellings are tokens: a string literal without octal escapes is one of its units, the size of a number one of its
-/// value, a big integer one of its radix and digits. A number or a big integer stays the same token without `_`.
+/// The spellings are tokens: a string literal without octal escapes is one of its units, the size
+/// of a number one of its value, a big integer one of its radix and digits. A number or a big
+/// integer stays the same token without `_`.
 pub fn spellings_are_tokens()
     ensures string { (text units : List ℕ) → string_value false text ≡ Some units →
         Spells (string_token units) text }

@@ -19,9 +19,9 @@ pub fn holds_backslash(name: &str) -> bool
     name.as_bytes().contains(&b'\\')
 }
 
-/// The name that is written for `name`, where a parser put U+0000 after a backslash to mark a name that is invalid:
-/// each such U+0000 is left out, from left to right. `Error::OutOfMemory` where there is one and no room for the new
-/// text; a name without one is lent as it is.
+/// The name that is written for `name`, where a parser put U+0000 after a backslash to mark a name
+/// that is invalid: each such U+0000 is left out, from left to right. `Error::OutOfMemory` where
+/// there is one and no room for the new text; a name without one is lent as it is.
 ///
 /// Source: `handle_invalid_unicodes` of swc.
 pub fn valid_name(alloc: Global, name: &str) -> std::result::Result<CowStr<'_>, Error>

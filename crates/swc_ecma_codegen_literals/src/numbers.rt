@@ -10,11 +10,11 @@ ghost use Rattle.swc_ecma_codegen_literals.specs.NumberTexts.{plain_text, minifi
 use std::alloc::{AllocError, Global};
 use swc_ecma_codegen_common::{Decimal, Error};
 
-/// The shortest of the spellings of a number that a minifier writes: `1e3`, `.5`, `123e-6`, `0x38d7ea4c68001`.
-/// `Error::OutOfMemory` where there is no room for a text.
+/// The shortest of the spellings of a number that a minifier writes: `1e3`, `.5`, `123e-6`,
+/// `0x38d7ea4c68001`. `Error::OutOfMemory` where there is no room for a text.
 ///
-/// Source: `minify_number` of swc, but a number above 2 to the 63 in size has no hexadecimal spelling, and a negative
-/// one has the sign before its size.
+/// Source: `minify_number` of swc, but a number above 2 to the 63 in size has no hexadecimal
+/// spelling, and a negative one has the sign before its size.
 #[tactic(auto, unfolding(crate::specs::NumberTexts::minified_text, crate::specs::NumberTexts::minified_size, crate::specs::NumberTexts::plain_text))]
 pub fn minified_number(alloc: Global, number: &Decimal) -> std::result::Result<String, Error>
     ensures exactly { IfOk result (λ text. string_bytes text ≡ minified_text number.now) }
@@ -28,8 +28,8 @@ pub fn minified_number(alloc: Global, number: &Decimal) -> std::result::Result<S
     Ok(shorter(short, shorter(hexadecimal, plain)))
 }
 
-/// All digits of a number, without an exponent: `1000`, `0.000123`, `-0`. `Error::OutOfMemory` where there is no room
-/// for the text.
+/// All digits of a number, without an exponent: `1000`, `0.000123`, `-0`. `Error::OutOfMemory`
+/// where there is no room for the text.
 ///
 /// Source: `Display` of Rust's `f64`, as swc writes numbers.
 #[tactic(auto, unfolding(crate::specs::NumberTexts::plain_text))]

@@ -16,9 +16,9 @@ use crate::strings::quoted_utf16;
 use std::alloc::{AllocError, Global};
 use swc_ecma_codegen_common::{Error, EsVersion};
 
-/// The string literal of a text, as `quoted_utf16` gives it, for a script inside HTML: `</script` before the end of a
-/// tag's name is written `<\/script`, `<!--` is `\x3c!--` and `-->` is `--\x3e`. `Error::OutOfMemory` where there is no
-/// room for the literal.
+/// The string literal of a text, as `quoted_utf16` gives it, for a script inside HTML: `</script`
+/// before the end of a tag's name is written `<\/script`, `<!--` is `\x3c!--` and `-->` is
+/// `--\x3e`. `Error::OutOfMemory` where there is no room for the literal.
 ///
 /// Source: `replace_close_inline_script` and `emit_str_lit` of swc.
 pub fn quoted_for_inline_script(

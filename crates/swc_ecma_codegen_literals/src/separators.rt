@@ -12,8 +12,8 @@ use std::alloc::{AllocError, Global};
 use std::borrow::CowStr;
 use swc_ecma_codegen_common::Error;
 
-/// A number without the `_` between its digits: `1000` of `1_000`. `Error::OutOfMemory` where there is one and no room
-/// for the new text; a text without one is lent as it is.
+/// A number without the `_` between its digits: `1000` of `1_000`. `Error::OutOfMemory` where there
+/// is one and no room for the new text; a text without one is lent as it is.
 ///
 /// Source: `emit_num_lit_internal` and `emit_big_lit` of swc.
 pub fn without_separators(alloc: Global, spelling: &str) -> std::result::Result<CowStr<'_>, Error>

@@ -15,9 +15,9 @@ use crate::escapes::{Style, push_escape, stands};
 use std::alloc::{AllocError, Global};
 use swc_ecma_codegen_common::{Error, EsVersion};
 
-/// The string literal of a text: in `'` where it has more `"` than `'`, else in `"`. A surrogate escape that is written
-/// in the text in plain characters, as `\ud83d`, stands for its code unit and is copied. `Error::OutOfMemory` where
-/// there is no room for the literal.
+/// The string literal of a text: in `'` where it has more `"` than `'`, else in `"`. A surrogate
+/// escape that is written in the text in plain characters, as `\ud83d`, stands for its code unit
+/// and is copied. `Error::OutOfMemory` where there is no room for the literal.
 ///
 /// Source: `get_quoted_utf16` of swc, but a written surrogate escape must be complete.
 pub fn quoted_utf16(
@@ -55,7 +55,8 @@ fn is_plain(text: &str, ascii_only: bool, target: EsVersion) -> bool
     text.chars().all(|c| stands(c, style))
 }
 
-// Whether a text stands for itself between `"` in each style: `it's`, but not `say "no"`, `C:\\temp` or `café`.
+// Whether a text stands for itself between `"` in each style: `it's`, but not `say "no"`,
+// `C:\\temp` or `café`.
 fn is_plain_ascii(text: &[u8]) -> bool
     ensures { result ≡ list_all is_plain_ascii text.now }
 {
@@ -120,7 +121,8 @@ fn count(text: &str, quote: char) -> usize
     text.chars().filter(|c| *c == quote).count()
 }
 
-// The characters of a text, each as it is spelled. Those that stand for themselves are copied a run at a time.
+// The characters of a text, each as it is spelled. Those that stand for themselves are copied a run
+// at a time.
 fn push_spelled(literal: &mut String, text: &str, style: Style) -> Result<(), AllocError>
     ensures { OnOk result (string_bytes literal.new
         ≡ string_bytes literal.old ++ encode_utf8_all

@@ -27,13 +27,14 @@ pub(crate) enum Piece {
     Backslashed(char),
     /// `\x1b`
     Hex(u8),
-    /// Nothing: the backslash that stands right before U+2028 or U+2029, and a CR that stands right before a LF.
+    /// Nothing: the backslash that stands right before U+2028 or U+2029, and a CR that stands right
+    /// before a LF.
     Gone,
 }
 
-/// The text of an untagged template that is printed for its raw text. An escape that isn't needed is the character that
-/// it stands for, CR LF and CR are LF, and with `ascii_only` all is in ASCII. `Error::OutOfMemory` where there is no
-/// room for it. ECMA-262, section 12.9.6.
+/// The text of an untagged template that is printed for its raw text. An escape that isn't needed
+/// is the character that it stands for, CR LF and CR are LF, and with `ascii_only` all is in ASCII.
+/// `Error::OutOfMemory` where there is no room for it. ECMA-262, section 12.9.6.
 ///
 /// Source: `get_template_element_from_raw` of swc, but every escape keeps its value.
 pub fn template_from_raw(
@@ -55,7 +56,8 @@ pub fn template_from_raw(
     Ok(text)
 }
 
-// The pieces of a raw text, each as it is spelled. Characters that stand for themselves are copied a run at a time.
+// The pieces of a raw text, each as it is spelled. Characters that stand for themselves are copied
+// a run at a time.
 fn push_spelled(text: &mut String, raw: &str, ascii_only: bool) -> Result<(), AllocError>
     ensures { OnOk result (string_bytes text.new
         ≡ string_bytes text.old ++ spelled_bytes false ascii_only raw.now) }
@@ -70,8 +72,8 @@ fn push_spelled(text: &mut String, raw: &str, ascii_only: bool) -> Result<(), Al
     Ok(())
 }
 
-// The first piece of a raw text as it is spelled, which gives what follows it. `dollar` says that a bare `$` was written
-// right before.
+// The first piece of a raw text as it is spelled, which gives what follows it. `dollar` says that a
+// bare `$` was written right before.
 fn push_first_piece<'a>(
     text: &mut String,
     raw: &'a str,
@@ -94,7 +96,8 @@ fn push_first_piece<'a>(
     }
 }
 
-// The characters at the start of a text that stand for themselves, whatever is written round them, and what follows.
+// The characters at the start of a text that stand for themselves, whatever is written round them,
+// and what follows.
 fn split_run(text: &str, ascii_only: bool) -> (&str, &str)
     ensures texts { IsUtf8 result.0.now × IsUtf8 result.1.now }
     ensures parts { text.now ≡ result.0.now ++ result.1.now }
@@ -216,7 +219,7 @@ fn is_kept(c: char, rest: &str) -> bool
     }
 }
 
-// The same after `\x`.
+// What stands behind `\x` in a raw, and the rest of the raw.
 #[tactic(auto, unfolding(crate::specs::TemplateTexts::pieces_after, crate::specs::TemplateTexts::hex_piece, crate::specs::TemplateTexts::hex_more))]
 fn split_hex(raw: &str) -> (Piece, &str)
     ensures piece { result.0 ≡ hex_piece (chars raw.now) }
@@ -260,7 +263,8 @@ fn hex_value(c: char) -> Option<u8>
     Some(value as u8)
 }
 
-// `\x41` is `A`, `\x1B` is `\x1b`. A bare `$`, backslash, back quote or `{` may mean more: there `\x` is copied.
+// `\x41` is `A`, `\x1B` is `\x1b`. A bare `$`, backslash, back quote or `{` may mean more: there
+// `\x` is copied.
 #[tactic(auto, unfolding(crate::specs::TemplateTexts::hex_value_piece, crate::specs::TemplateTexts::stays_hex))]
 fn hex_value_piece(value: u8) -> Piece
     ensures { result ≡ hex_value_piece value }

@@ -1,5 +1,5 @@
-//! Two code mods over whole programs, each with a clause that says what it makes of any program: a name in the place of another,
-//! and strict operators in the place of loose ones.
+//! Two code mods over whole programs, each with a clause that says what it makes of any program: a
+//! name in the place of another, and strict operators in the place of loose ones.
 #![tactic(auto)]
 
 mod names;

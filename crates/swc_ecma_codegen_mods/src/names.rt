@@ -28,8 +28,9 @@ impl ChangeIdent for Rename {
     }
 }
 
-/// Renames each `a` of a program to `b`, wherever it is bound, assigned or referred to: `let a = 1; a = f(a);` becomes
-/// `let b = 1; b = f(b);`. `x.a` and `{ a: 1 }` stay, since there `a` is the name of a property.
+/// Renames each `a` of a program to `b`, wherever it is bound, assigned or referred to:
+/// `let a = 1; a = f(a);` becomes `let b = 1; b = f(b);`. `x.a` and `{ a: 1 }` stay, since there
+/// `a` is the name of a property.
 pub fn with_b_for_a(alloc: Global, program: &mut Program) -> Result<(), Stop>
     ensures { OnOk result (with_idents renamed program.old ≡ with_idents spelled program.new) }
 {

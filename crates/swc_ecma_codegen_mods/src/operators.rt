@@ -40,7 +40,8 @@ impl ChangeNode for Strict {
     }
 }
 
-/// Puts `===` in the place of each `==` of a program, and `!==` in the place of each `!=`: `a == b` becomes `a === b`.
+/// Puts `===` in the place of each `==` of a program, and `!==` in the place of each `!=`: `a == b`
+/// becomes `a === b`.
 pub fn with_strict_equality(alloc: Global, program: &mut Program) -> Result<(), Stop>
     ensures { OnOk result (program.new ≡ with_nodes strict program.old) }
 {

@@ -16,7 +16,7 @@ use Rattle.swc_ecma_codegen_syntax.specs.NodeForms.{summary_of}
 use Rattle.swc_ecma_codegen_parentheses.specs.declared.mends.Usage.{Usage}
 use Rattle.swc_ecma_codegen_parentheses.specs.declared.mends.Usage.TheVariants.{Part}
 use Rattle.swc_ecma_codegen_parentheses.specs.declared.roots.Unmended.{Unmended}
-use Rattle.swc_ecma_codegen_parentheses.specs.declared.roots.Unmended.TheVariants.{Left}
+use Rattle.swc_ecma_codegen_parentheses.specs.declared.roots.Unmended.TheVariants.{Left, TooDeep}
 use Rattle.swc_ecma_codegen_parentheses.specs.Enclosed.{SameExpr, SameStmt}
 use Rattle.swc_ecma_codegen_parentheses.specs.Operands.{free}
 use Rattle.swc_ecma_codegen_parentheses.specs.SameModules.{same_module_item, same_program}
@@ -54,3 +54,8 @@ SameProgramTree n r = (depth : ℕ) × same_program (same_to added depth) n r
 unfoldable pub IfLeft : {T : Type 0} → Unmended T → (T → Type 0) → Type 0
 IfLeft (Left r) P = P r
 IfLeft e P = ⊤
+
+-- what is said of the tree that is given back since it is too deep
+unfoldable pub IfTooDeep : {T : Type 0} → Unmended T → (T → Type 0) → Type 0
+IfTooDeep (TooDeep r) P = P r
+IfTooDeep e P = ⊤

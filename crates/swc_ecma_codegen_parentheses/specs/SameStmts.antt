@@ -26,7 +26,10 @@ use Rattle.swc_ecma_codegen_tree.specs.Links.{BlockStmtBox}
 use Rattle.swc_ecma_codegen_tree.specs.declared.decls.Decl.{Decl}
 use Rattle.swc_ecma_codegen_parentheses.specs.declared.mends.Usage.{Usage}
 use Rattle.swc_ecma_codegen_parentheses.specs.declared.mends.Usage.TheVariants as usages
+use Rattle.swc_ecma_codegen_syntax.specs.declared.lookahead.Lookahead.{Lookahead}
+use Rattle.swc_ecma_codegen_syntax.specs.declared.lookahead.Lookahead.TheVariants.{ForStart}
 use Rattle.swc_ecma_codegen_syntax.specs.declared.nonterminals.Nonterminal.TheVariants as nt
+use Rattle.swc_ecma_codegen_syntax.specs.StmtForms.{of_start}
 use Rattle.swc_ecma_codegen_parentheses.specs.Operands.{in_for_head}
 use Rattle.swc_ecma_codegen_parentheses.specs.Lists.{Pairwise, bracketed, linked, linked_as, optionally}
 use Rattle.swc_ecma_codegen_parentheses.specs.SameDecls.{same_decl}
@@ -78,18 +81,19 @@ same_for_stmt m n r =
     (r ≡ record n { init = r.init; test = r.test; update = r.update; body = r.body }) × (optionally (same_var_decl_or_expr m) n.init r.init × (
     optionally (bracketed nt.Expression m) n.test r.test × (optionally (bracketed nt.Expression m) n.update r.update × linked m n.body r.body)))
 
-unfoldable pub same_for_head : {X : Type 0} → (Usage → X → X → Type 0) → ForHead X → ForHead X → Type 0
-same_for_head m (for_heads.VarDecl n) (for_heads.VarDecl r) = linked m n r
-same_for_head m (for_heads.Pat n) (for_heads.Pat r) = linked m n r
-same_for_head m n r = n ≡ r
+-- the head of `for (a in b) {}` and `for (a of b) {}`, which may not begin so
+unfoldable pub same_for_head : {X : Type 0} → Lookahead → (Usage → X → X → Type 0) → ForHead X → ForHead X → Type 0
+same_for_head lookahead m (for_heads.VarDecl n) (for_heads.VarDecl r) = linked m n r
+same_for_head lookahead m (for_heads.Pat n) (for_heads.Pat r) = linked_as (usages.Head lookahead) m n r
+same_for_head lookahead m n r = n ≡ r
 
 unfoldable pub same_for_in_stmt : {X : Type 0} → (Usage → X → X → Type 0) → ForInStmt X → ForInStmt X → Type 0
 same_for_in_stmt m n r =
-    (r ≡ record n { left = r.left; right = r.right; body = r.body }) × (same_for_head m n.left r.left × (bracketed nt.Expression m n.right r.right × linked m n.body r.body))
+    (r ≡ record n { left = r.left; right = r.right; body = r.body }) × (same_for_head ForStart m n.left r.left × (bracketed nt.Expression m n.right r.right × linked m n.body r.body))
 
 unfoldable pub same_for_of_stmt : {X : Type 0} → (Usage → X → X → Type 0) → ForOfStmt X → ForOfStmt X → Type 0
 same_for_of_stmt m n r =
-    (r ≡ record n { left = r.left; right = r.right; body = r.body }) × (same_for_head m n.left r.left × (bracketed nt.AssignmentExpression m n.right r.right × linked m n.body r.body))
+    (r ≡ record n { left = r.left; right = r.right; body = r.body }) × (same_for_head (of_start n.is_await) m n.left r.left × (bracketed nt.AssignmentExpression m n.right r.right × linked m n.body r.body))
 
 unfoldable pub same_expr_stmt : {X : Type 0} → (Usage → X → X → Type 0) → ExprStmt X → ExprStmt X → Type 0
 same_expr_stmt m n r = (r ≡ record n { expr = r.expr }) × linked_as usages.Statement m n.expr r.expr

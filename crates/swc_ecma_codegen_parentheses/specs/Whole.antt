@@ -13,7 +13,7 @@ use Rattle.swc_ecma_codegen_grammar.specs.declared.roles.Role.{Role}
 use Rattle.swc_ecma_codegen_syntax.specs.declared.parameters.Parameters.{Parameters}
 use Rattle.swc_ecma_codegen_syntax.specs.Summary.{Summary}
 use Rattle.swc_ecma_codegen_parentheses.specs.declared.mends.Usage.{Usage}
-use Rattle.swc_ecma_codegen_parentheses.specs.Enclosed.{SameExpr, SameStmt}
+use Rattle.swc_ecma_codegen_parentheses.specs.Enclosed.{SameExpr, SamePat, SameStmt}
 use Rattle.swc_ecma_codegen_parentheses.specs.Lent.{Lent}
 use Rattle.swc_ecma_codegen_parentheses.specs.Operands.{declared_in_head, stands_in, within}
 use Rattle.swc_ecma_codegen_parentheses.specs.declared.operands.Context.{Context}
@@ -45,12 +45,13 @@ module _ {X : Type 0} (expr_part_in : X → Option (ExprPart X)) (stmt_part_in :
     jsx_fragment : Lent (λ a. option_and_then jsx_fragment_in (jsx_part_in a)) (same_jsx_fragment m) n r → SamePart m usage n r
 
 module _ {X : Type 0} (f : X → Role → Parameters → Summary) (expr_in : X → Option (Expr X)) (expr_part_in : X → Option (ExprPart X)) (stmt_part_in : X → Option (StmtPart X)) (stmt_in : X → Option (Stmt X)) (place : X → Span) where
-  -- Both are expressions, statements, or targets, the same but for what their links hold, and for parentheses round an expression and a block round an
-  -- `if`; or what is held stays.
+  -- Both are expressions, patterns, statements, or targets, the same but for what their links hold, and for parentheses round an expression or a name and
+  -- a block round an `if`; or what is held stays.
   pub data AddedHeld (m : Usage → X → X → Type 0) (usage : Usage) (n r : X) : Type 0 where
     expr : Lent expr_in (SameExpr f expr_in place m usage) n r → AddedHeld m usage n r
     stmt : Lent stmt_in (SameStmt (λ a. option_and_then block_stmt_in (stmt_part_in a)) place m) n r → AddedHeld m usage n r
     assign_target : (at : Context) → stands_in usage at → Lent (λ a. option_and_then assign_target_in (expr_part_in a)) (same_assign_target (λ u. m (within at u))) n r → AddedHeld m usage n r
+    pattern : Lent (λ a. option_and_then pat_in (expr_part_in a)) (SamePat expr_in m usage) n r → AddedHeld m usage n r
     kept : n ≡ r → AddedHeld m usage n r
 
 -- They are changed in a way of their own, or they are a part that is the same but for what its links hold.

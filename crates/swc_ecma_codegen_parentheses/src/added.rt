@@ -3,13 +3,13 @@
 ghost use Rattle.swc_ecma_codegen_parentheses.specs.Whole.{AddedHeld, SameHeld, SamePart};
 
 use crate::changes::Change;
-use crate::enclosed::{mend_expr, mend_stmt};
+use crate::enclosed::{mend_expr, mend_pat, mend_stmt};
 use crate::lends::Lends;
 use crate::linked::{
     mend_linked_assign_target, mend_linked_block_stmt, mend_linked_class, mend_linked_class_member,
     mend_linked_decl, mend_linked_function, mend_linked_jsx_element, mend_linked_jsx_fragment,
-    mend_linked_member_expr, mend_linked_module_decl, mend_linked_opt_call, mend_linked_pat,
-    mend_linked_prop_name, mend_linked_tpl, mend_linked_var_decl,
+    mend_linked_member_expr, mend_linked_module_decl, mend_linked_opt_call, mend_linked_prop_name,
+    mend_linked_tpl, mend_linked_var_decl,
 };
 use crate::mends::{Mends, Stop, Usage};
 use crate::operands::Context;
@@ -22,7 +22,7 @@ use swc_ecma_codegen_tree::{
     ModuleDeclBox, OptCallBox, PatBox, PropNameBox, Stmt, StmtBox, StmtPart, TplBox, VarDeclBox,
 };
 
-/// Parentheses are put round an expression where they are missing, and a block round an `if`.
+/// Parentheses are put round an expression or a name where they are missing, and a block round an `if`.
 pub(crate) enum Added {}
 
 impl<N: Lends> Change<N> for Added {
@@ -50,9 +50,12 @@ impl<N: Lends> Change<N> for Added {
         alloc: Global,
         link: &mut PatBox<N>,
         place: Place,
+        usage: Usage,
     ) -> Result<(), Stop> {
-        mend_linked_pat::<N, M>(mender, alloc, link, place)?;
-        Ok(())
+        match link.get_mut() {
+            Some(node) => mend_pat::<N, M>(mender, alloc, node, place, usage),
+            None => Ok(()),
+        }
     }
 
     fn tpl<M: Mends<N>>(

@@ -42,6 +42,7 @@ fn stays<N>(usage: Usage, inside: &Expr<N>) -> bool
         Usage::Statement => is_string(inside),
         Usage::Target => !is_property(inside),
         Usage::Value
+        | Usage::Head(_)
         | Usage::Operand(_)
         | Usage::Part(_, _)
         | Usage::Called(_, _, _)

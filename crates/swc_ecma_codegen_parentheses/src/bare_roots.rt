@@ -17,7 +17,7 @@ use swc_ecma_codegen_tree::{AnyNode, Expr, ModuleItem, Program, Stmt};
 pub enum NotBare<T> {
     /// Memory was refused.
     OutOfMemory(T),
-    /// More than 10,000 links lie below one another.
+    /// More than `MAX_DEPTH` links, 4,000, lie below one another.
     TooDeep(T),
     /// A link holds a node of another sort than its own, as `ExprBox::holding` can make one.
     Stray(T),
@@ -86,7 +86,7 @@ fn bare_whole_expr(alloc: Global, expr: &mut Expr) -> Result<(), Stop>
 ///   `((a)) = b` becomes `(a) = b`, also in a pattern, as `[(a)] = b`; and `((a.b)) = c` becomes `a.b = c`.
 ///
 /// Types, decorators, declarations with `using`, attributes of imports and the bodies of namespaces are not gone into. A comment at the position of a
-/// parenthesis isn't printed where no other node begins or ends there. Takes memory for 10,000 levels, which it gives back, and no more stack than the
+/// parenthesis isn't printed where no other node begins or ends there. Takes memory for 4,000 levels, which it gives back, and no more stack than the
 /// tree is deep.
 pub fn without_parentheses(alloc: Global, program: Program) -> Result<Program, NotBare<Program>>
     ensures bare { IfOk result (λ r. BareProgramTree program r) }

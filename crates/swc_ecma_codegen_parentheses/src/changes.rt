@@ -32,8 +32,9 @@ pub(crate) trait Change<N>: Sized {
         alloc: Global,
         link: &mut PatBox<N>,
         place: Place,
+        usage: Usage,
     ) -> Result<(), Stop>
-        ensures { OnOk result (linked (changed (M.mended mender.now)) link.old link.new) };
+        ensures { OnOk result (linked_as usage (changed (M.mended mender.now)) link.old link.new) };
 
     fn tpl<M: Mends<N>>(
         mender: &M,
@@ -178,10 +179,11 @@ pub(crate) fn change_pat<N, C: Change<N>, M: Mends<N>>(
     alloc: Global,
     link: &mut PatBox<N>,
     place: Place,
+    usage: Usage,
 ) -> Result<(), Stop>
-    ensures { OnOk result (linked (C.changed (M.mended mender.now)) link.old link.new) }
+    ensures { OnOk result (linked_as usage (C.changed (M.mended mender.now)) link.old link.new) }
 {
-    C::pat::<M>(mender, alloc, link, place)
+    C::pat::<M>(mender, alloc, link, place, usage)
 }
 
 /// The change of the template that a link holds.

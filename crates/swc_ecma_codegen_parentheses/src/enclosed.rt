@@ -1,10 +1,11 @@
-//! Parentheses round an expression, and blocks round an `if`.
+//! Parentheses round an expression or a name, and blocks round an `if`.
 
 ghost use Rattle.std.specs.Prelude.{◌≡◌, IfOk, true};
 ghost use Rattle.std.specs.Option.{option_and_then};
 ghost use Rattle.std.specs.Result.{OnOk};
-ghost use Rattle.swc_ecma_codegen_parentheses.specs.Enclosed.{SameExpr, SameStmt, blocks, encloses, is_short_if};
+ghost use Rattle.swc_ecma_codegen_parentheses.specs.Enclosed.{SameExpr, SamePat, SameStmt, blocks, encloses, encloses_name, is_barred, is_barred_name, is_short_if};
 ghost use Rattle.swc_ecma_codegen_parentheses.specs.Needed.{needs};
+ghost use Rattle.swc_ecma_codegen_syntax.specs.Beginnings.{name_begins};
 ghost use Rattle.swc_ecma_codegen_tree.specs.LinkTargets.{block_stmt_in};
 
 use crate::exprs::wants_parentheses;
@@ -17,9 +18,10 @@ use std::alloc::{AllocError, Global};
 use std::mem;
 use swc_ecma_codegen_common::DUMMY_SP;
 use swc_ecma_codegen_spans::Spanned;
+use swc_ecma_codegen_syntax::Beginning;
 use swc_ecma_codegen_tree::{
-    BlockStmt, BlockStmtBox, EmptyStmt, Expr, ExprBox, Holds, IfStmt, Invalid, ParenExpr, Stmt,
-    StmtPart,
+    BindingIdent, BlockStmt, BlockStmtBox, EmptyStmt, Expr, ExprBox, Holds, IfStmt, Invalid,
+    ParenExpr, Pat, Stmt, StmtPart,
 };
 
 /// An expression in parentheses, which can't be left out where it is used so.
@@ -76,6 +78,76 @@ pub(crate) fn mend_expr<N: Lends, M: Mends<N>>(
     } else {
         let within = Within { mender, context };
         expr.mend(&within, alloc, place)
+    }
+}
+
+/// What the text of a name begins with.
+#[tactic(auto, unfolding(swc_ecma_codegen_syntax::specs::Beginnings::name_begins))]
+fn name_begins(name: &str) -> Beginning
+    ensures { result ≡ name_begins name.now }
+{
+    if name == "let" {
+        Beginning::LetAlone
+    } else if name == "async" {
+        Beginning::AsyncAlone
+    } else {
+        Beginning::Other
+    }
+}
+
+/// Whether what is used so may not be this name: `let` and `async` in `for (a of b) {}`.
+fn is_barred(usage: Usage, name: &str) -> bool
+    ensures { result ≡ is_barred usage name.now }
+{
+    match usage {
+        Usage::Head(lookahead) => lookahead.excludes(name_begins(name)),
+        _ => false,
+    }
+}
+
+/// Whether a pattern is a name that it may not be where it is used so. A name with a type stays, since none stands in parentheses.
+fn is_barred_name<N>(pat: &Pat<N>, usage: Usage) -> bool
+    ensures { result ≡ true → is_barred_name usage pat.now ≡ true }
+{
+    match pat {
+        Pat::Ident(BindingIdent { id, type_ann: None }) => is_barred(usage, &id.sym),
+        _ => false,
+    }
+}
+
+/// A name in parentheses, as an expression that is assigned to: `(async)` of `async`.
+#[tactic(auto, unfolding(crate::specs::Enclosed::encloses_name, crate::specs::Enclosed::is_name_in_pair))]
+fn name_in_parentheses<N: Lends>(alloc: Global, pat: Pat<N>) -> Result<Pat<N>, Stop>
+    ensures { IfOk result (encloses_name (⟦<N as Holds<Expr<N>>>⟧.node_in) pat) }
+{
+    match pat {
+        Pat::Ident(name) => {
+            let span = name.id.span;
+            let expr = ExprBox::new(alloc, Expr::Ident(name.id))?;
+            let pair = ExprBox::new(alloc, Expr::Paren(ParenExpr { span, expr }))?;
+            Ok(Pat::Expr(pair))
+        }
+        _ => Err(Stop::Needless),
+    }
+}
+
+/// Puts parentheses into a pattern, and round a name that the head of a loop may not be.
+pub(crate) fn mend_pat<N: Lends, M: Mends<N>>(
+    mender: &M,
+    alloc: Global,
+    pat: &mut Pat<N>,
+    place: Place,
+    usage: Usage,
+) -> Result<(), Stop>
+    ensures { OnOk result (SamePat (⟦<N as Holds<Expr<N>>>⟧.node_in)
+        (M.mended mender.now) usage pat.old pat.new) }
+{
+    if is_barred_name(pat, usage) {
+        let bare = mem::replace(pat, Pat::Invalid(Invalid { span: DUMMY_SP }));
+        *pat = name_in_parentheses(alloc, bare)?;
+        Ok(())
+    } else {
+        pat.mend(mender, alloc, place)
     }
 }
 

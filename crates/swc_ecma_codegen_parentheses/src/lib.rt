@@ -6,6 +6,7 @@ mod bare;
 mod bare_roots;
 mod changes;
 mod classes;
+mod depths;
 mod enclosed;
 mod exprs;
 mod functions;
@@ -34,6 +35,7 @@ pub use crate::bare_roots::{
     NotBare, without_parentheses, without_parentheses_expr, without_parentheses_item,
     without_parentheses_stmt,
 };
+pub use crate::depths::MAX_DEPTH;
 pub use crate::roots::{
     Unmended, parenthesize, parenthesize_expr, parenthesize_item, parenthesize_stmt,
 };

@@ -1,5 +1,8 @@
 //! Loops.
 
+ghost use Rattle.std.specs.Prelude.{◌≡◌};
+ghost use Rattle.std.specs.Result.{OnOk};
+ghost use Rattle.swc_ecma_codegen_syntax.specs.StmtForms.{of_start};
 ghost use Rattle.swc_ecma_codegen_parentheses.specs.SameStmts.{same_while_stmt, same_do_while_stmt, same_var_decl_or_expr, same_for_stmt, same_for_head, same_for_in_stmt, same_for_of_stmt};
 
 use crate::mends::{Mend, Mends, Stop, Usage, mend_bracketed, mend_optional};
@@ -20,7 +23,10 @@ fn head_begins<N: Answers>(head: &ForHead<N>) -> Beginning {
 }
 
 /// What may not begin the head of `for (a of b) {}`.
-fn of_start(is_await: bool) -> Lookahead {
+#[tactic(auto, unfolding(swc_ecma_codegen_syntax::specs::StmtForms::of_start))]
+fn of_start(is_await: bool) -> Lookahead
+    ensures { result ≡ of_start is_await }
+{
     if is_await {
         Lookahead::AwaitOfStart
     } else {
@@ -100,19 +106,27 @@ impl<N: Answers, M: Mends<N>> Mend<N, M> for ForStmt<N> {
     }
 }
 
-impl<N: Answers, M: Mends<N>> Mend<N, M> for ForHead<N> {
-    ghost same = { same_for_head };
-
-    #[tactic(auto, unfolding(crate::specs::SameStmts::same_for_head))]
-    fn mend(&mut self, mender: &M, alloc: Global, place: Place) -> Result<(), Stop> {
-        match self {
-            ForHead::VarDecl(node) => node.mend(mender, alloc, place.without_in()),
-            ForHead::Pat(node) => {
-                let head = place.bracketed(Nonterminal::LeftHandSideExpression);
-                node.mend(mender, alloc, head.beginning(place))
-            }
-            ForHead::UsingDecl(_) => Ok(()),
+/// Goes into the head of `for (a in b) {}` and `for (a of b) {}`, which may not begin so.
+#[tactic(auto, unfolding(crate::specs::SameStmts::same_for_head))]
+fn mend_head<N: Answers, M: Mends<N>>(
+    mender: &M,
+    alloc: Global,
+    head: &mut ForHead<N>,
+    lookahead: Lookahead,
+    place: Place,
+) -> Result<(), Stop>
+    ensures { OnOk result (same_for_head lookahead (M.mended mender.now) head.old head.new) }
+{
+    let place = place.restricted(lookahead, head_begins(head));
+    match head {
+        ForHead::VarDecl(node) => node.mend(mender, alloc, place.without_in()),
+        ForHead::Pat(node) => {
+            let target = place
+                .bracketed(Nonterminal::LeftHandSideExpression)
+                .beginning(place);
+            mender.pat(alloc, node, target, Usage::Head(lookahead))
         }
+        ForHead::UsingDecl(_) => Ok(()),
     }
 }
 
@@ -121,8 +135,7 @@ impl<N: Answers, M: Mends<N>> Mend<N, M> for ForInStmt<N> {
 
     #[tactic(auto, unfolding(crate::specs::SameStmts::same_for_in_stmt))]
     fn mend(&mut self, mender: &M, alloc: Global, place: Place) -> Result<(), Stop> {
-        let head = place.restricted(Lookahead::ForStart, head_begins(&self.left));
-        self.left.mend(mender, alloc, head)?;
+        mend_head(mender, alloc, &mut self.left, Lookahead::ForStart, place)?;
         mend_bracketed(
             mender,
             alloc,
@@ -139,8 +152,8 @@ impl<N: Answers, M: Mends<N>> Mend<N, M> for ForOfStmt<N> {
 
     #[tactic(auto, unfolding(crate::specs::SameStmts::same_for_of_stmt))]
     fn mend(&mut self, mender: &M, alloc: Global, place: Place) -> Result<(), Stop> {
-        let head = place.restricted(of_start(self.is_await), head_begins(&self.left));
-        self.left.mend(mender, alloc, head)?;
+        let lookahead = of_start(self.is_await);
+        mend_head(mender, alloc, &mut self.left, lookahead, place)?;
         let nonterminal = Nonterminal::AssignmentExpression;
         mend_bracketed(mender, alloc, &mut self.right, place, nonterminal)?;
         self.body.mend(mender, alloc, place)

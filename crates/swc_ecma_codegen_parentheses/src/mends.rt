@@ -8,7 +8,7 @@ ghost use Rattle.swc_ecma_codegen_parentheses.specs.Lists.{Pairwise, bracketed, 
 use crate::operands::{Context, Operand};
 use crate::places::Place;
 use std::alloc::{AllocError, Global};
-use swc_ecma_codegen_syntax::Nonterminal;
+use swc_ecma_codegen_syntax::{Lookahead, Nonterminal};
 use swc_ecma_codegen_tree::{
     AssignTargetBox, BlockStmtBox, ClassBox, ClassMemberBox, DeclBox, ExprBox, FunctionBox,
     JSXElementBox, JSXFragmentBox, MemberExprBox, ModuleDeclBox, OptCallBox, PatBox, PropNameBox,
@@ -16,6 +16,7 @@ use swc_ecma_codegen_tree::{
 };
 
 /// Why the pass went no further.
+#[derive(Drop)]
 pub(crate) enum Stop {
     /// Memory was refused.
     OutOfMemory,
@@ -36,6 +37,8 @@ pub(crate) enum Usage {
     Statement,
     /// It is assigned to, as `a` in `[a] = b`.
     Target,
+    /// The head of a loop assigns to it, and may not begin so, as `a` in `for (a of b) {}`.
+    Head(Lookahead),
     /// It is an operand of the node that has the link.
     Operand(Operand),
     /// The same, where this nonterminal stands in this context.
@@ -54,6 +57,15 @@ impl From<AllocError> for Stop {
     }
 }
 
+impl From<swc_ecma_codegen_visit::Stop> for Stop {
+    fn from(stop: swc_ecma_codegen_visit::Stop) -> Stop {
+        match stop {
+            swc_ecma_codegen_visit::Stop::OutOfMemory => Stop::OutOfMemory,
+            swc_ecma_codegen_visit::Stop::TooDeep => Stop::TooDeep,
+        }
+    }
+}
+
 /// What goes on to what links hold, and changes that.
 pub(crate) trait Mends<N>: Sized {
     /// What a link held, and what it holds.
@@ -68,8 +80,14 @@ pub(crate) trait Mends<N>: Sized {
     ) -> Result<(), Stop>
         ensures { OnOk result (linked_as usage (mended self.now) link.old link.new) };
 
-    fn pat(&self, alloc: Global, link: &mut PatBox<N>, place: Place) -> Result<(), Stop>
-        ensures { OnOk result (linked (mended self.now) link.old link.new) };
+    fn pat(
+        &self,
+        alloc: Global,
+        link: &mut PatBox<N>,
+        place: Place,
+        usage: Usage,
+    ) -> Result<(), Stop>
+        ensures { OnOk result (linked_as usage (mended self.now) link.old link.new) };
 
     fn tpl(&self, alloc: Global, link: &mut TplBox<N>, place: Place) -> Result<(), Stop>
         ensures { OnOk result (linked (mended self.now) link.old link.new) };
@@ -285,7 +303,7 @@ impl<N, M: Mends<N>> Mend<N, M> for PatBox<N> {
     ghost same = { linked };
 
     fn mend(&mut self, mender: &M, alloc: Global, place: Place) -> Result<(), Stop> {
-        mender.pat(alloc, self, place)
+        mender.pat(alloc, self, place, Usage::Value)
     }
 }
 

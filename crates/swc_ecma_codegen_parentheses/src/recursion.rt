@@ -8,6 +8,7 @@ use crate::changes::{
     change_member_expr, change_module_decl, change_opt_call, change_pat, change_prop_name,
     change_stmt, change_tpl, change_var_decl,
 };
+use crate::depths::MAX_DEPTH;
 use crate::mends::{Mends, Stop, Usage};
 use crate::places::Place;
 use std::alloc::{AllocError, Global};
@@ -25,13 +26,10 @@ pub(crate) enum Levels<N, C> {
     More(Box<Levels<N, C>>),
 }
 
-/// How many links are gone down at most, one below another.
-const DEPTH: usize = 10_000;
-
 /// As many levels as are gone down at most.
 pub(crate) fn all_levels<N, C>(alloc: Global) -> Result<Levels<N, C>, AllocError> {
     let mut levels = Levels::Out(PhantomData);
-    for _ in 0..DEPTH {
+    for _ in 0..MAX_DEPTH {
         levels = Levels::More(Box::new(alloc, levels)?);
     }
     Ok(levels)
@@ -57,9 +55,17 @@ impl<N, C: Change<N>> Mends<N> for Levels<N, C> {
     }
 
     #[cycle(mend)]
-    fn pat(&self, alloc: Global, link: &mut PatBox<N>, place: Place) -> Result<(), Stop> {
+    fn pat(
+        &self,
+        alloc: Global,
+        link: &mut PatBox<N>,
+        place: Place,
+        usage: Usage,
+    ) -> Result<(), Stop> {
         match self {
-            Levels::More(fewer) => change_pat::<N, C, Levels<N, C>>(fewer, alloc, link, place),
+            Levels::More(fewer) => change_pat::<N, C, Levels<N, C>>(
+                fewer, alloc, link, place, usage,
+            ),
             Levels::Out(_) => Err(Stop::TooDeep),
         }
     }

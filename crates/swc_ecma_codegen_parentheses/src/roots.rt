@@ -2,11 +2,12 @@
 
 ghost use Rattle.std.specs.Prelude.{◌≡◌, ◌⊎◌, IfErr, IfOk, Ok, true, false};
 ghost use Rattle.std.specs.Result.{OnOk};
-ghost use Rattle.swc_ecma_codegen_parentheses.specs.Roots.{IfLeft, SameExprTree, SameItemTree, SameProgramTree, SameStmtTree};
+ghost use Rattle.swc_ecma_codegen_parentheses.specs.Roots.{IfLeft, IfTooDeep, SameExprTree, SameItemTree, SameProgramTree, SameStmtTree};
 ghost use Rattle.swc_ecma_codegen_syntax.specs.Derives.{expr_verdict, item_verdict, program_verdict, stmt_verdict};
 ghost use Rattle.swc_ecma_codegen_syntax.specs.Verdicts.{holds};
 
 use crate::added::Added;
+use crate::depths::{is_item_too_deep, is_program_too_deep};
 use crate::enclosed::{mend_expr, mend_stmt};
 use crate::mends::{Mend, Stop, Usage};
 use crate::operands::Context;
@@ -23,9 +24,11 @@ use swc_ecma_codegen_tree::{AnyNode, Expr, ModuleItem, Program, Stmt};
 pub enum Unmended<T> {
     /// Memory was refused. The tree is let go.
     OutOfMemory,
-    /// The pass went no further: more than 10,000 links lie below one another, or a pair that it put in could be left out, which no test has met. The
-    /// tree is given back with the parentheses that it got.
+    /// More than `MAX_DEPTH` links lie below one another. The tree is given back as it was.
     TooDeep(T),
+    /// The pass stopped: a pair that it had put in could be left out, which no test has met; or `parenthesize_stmt` or `parenthesize_expr` was given what is
+    /// too deep. The tree is given back with the parentheses that it got.
+    Stopped(T),
     /// Parentheses are missing still. The tree is given back with those that it got.
     Left(T),
 }
@@ -94,18 +97,20 @@ fn mend_whole_expr(
 ///
 /// `(a + b) * c` without its parentheses gets them, and `({}).a;` as a statement too. A pair has the span of what it encloses. All else of
 /// the tree stays: spans, spellings, and parentheses that were there. What parentheses don't mend, as `a() = b`, stays as wrong as it was; `keeps_structure`
-/// of the result tells. Takes memory for new nodes, and no more stack than the tree is deep.
+/// of the result tells. A tree of more than `MAX_DEPTH` links below one another is refused, if it lacks parentheses, before any are put in. Takes memory
+/// for new nodes, and for `MAX_DEPTH` levels, which it gives back.
 ///
 /// A tree with TypeScript gets them too, as `(a as T).b` does, by the levels of docs/LEVELS.md. No grammar of it is cited, so of such a tree, and of
 /// one with decorators, the clauses say no more than that it is the same but for parentheses and blocks. Types, decorators and the bodies of
 /// namespaces are not gone into.
-#[tactic(auto, using(crate::proofs::Verdicts::kept), unfolding(crate::specs::Roots::IfLeft))]
+#[tactic(auto, using(crate::proofs::Verdicts::kept), unfolding(crate::specs::Roots::IfLeft, crate::specs::Roots::IfTooDeep))]
 pub fn parenthesize(alloc: Global, program: Program) -> Result<Program, Unmended<Program>>
     ensures parenthesized { IfOk result (λ r. (program_verdict r).parenthesized ≡ true) }
     ensures keeps { holds false (program_verdict program) ≡ true →
         IfOk result (λ r. holds true (program_verdict r) ≡ true) }
     ensures same { IfOk result (λ r. (program ≡ r) ⊎ SameProgramTree program r) }
     ensures left { IfErr result (λ e. IfLeft e (SameProgramTree program)) }
+    ensures too_deep { IfErr result (λ e. IfTooDeep e (λ r. r ≡ program)) }
     ensures untouched { (program_verdict program).covered ≡ true →
         (program_verdict program).parenthesized ≡ true → result ≡ Ok program }
 {
@@ -114,16 +119,22 @@ pub fn parenthesize(alloc: Global, program: Program) -> Result<Program, Unmended
         return Ok(program);
     }
     let mut program = program;
+    match is_program_too_deep(alloc, &mut program) {
+        Ok(false) => {}
+        Ok(true) => return Err(Unmended::TooDeep(program)),
+        Err(Stop::OutOfMemory) => return Err(Unmended::OutOfMemory),
+        Err(_) => return Err(Unmended::Stopped(program)),
+    }
     match mend_program(alloc, &mut program) {
         Err(Stop::OutOfMemory) => Err(Unmended::OutOfMemory),
-        Err(Stop::TooDeep | Stop::Stray | Stop::Needless) => Err(Unmended::TooDeep(program)),
+        Err(Stop::TooDeep | Stop::Stray | Stop::Needless) => Err(Unmended::Stopped(program)),
         Ok(()) if is_mended(before, verdict(&program)) => Ok(program),
         Ok(()) => Err(Unmended::Left(program)),
     }
 }
 
 /// An item of a module with these parameters, as `Parameters::module()`, with its parentheses. See `parenthesize`.
-#[tactic(auto, using(crate::proofs::Verdicts::kept), unfolding(crate::specs::Roots::IfLeft))]
+#[tactic(auto, using(crate::proofs::Verdicts::kept), unfolding(crate::specs::Roots::IfLeft, crate::specs::Roots::IfTooDeep))]
 pub fn parenthesize_item(
     alloc: Global,
     item: ModuleItem,
@@ -134,6 +145,7 @@ pub fn parenthesize_item(
         IfOk result (λ r. holds true (item_verdict parameters r) ≡ true) }
     ensures same { IfOk result (λ r. (item ≡ r) ⊎ SameItemTree item r) }
     ensures left { IfErr result (λ e. IfLeft e (SameItemTree item)) }
+    ensures too_deep { IfErr result (λ e. IfTooDeep e (λ r. r ≡ item)) }
     ensures untouched { (item_verdict parameters item).covered ≡ true →
         (item_verdict parameters item).parenthesized ≡ true → result ≡ Ok item }
 {
@@ -142,17 +154,24 @@ pub fn parenthesize_item(
         return Ok(item);
     }
     let mut item = item;
+    match is_item_too_deep(alloc, &mut item) {
+        Ok(false) => {}
+        Ok(true) => return Err(Unmended::TooDeep(item)),
+        Err(Stop::OutOfMemory) => return Err(Unmended::OutOfMemory),
+        Err(_) => return Err(Unmended::Stopped(item)),
+    }
     let place = Place::of(Nonterminal::Expression, parameters);
     match mend_item(alloc, &mut item, place) {
         Err(Stop::OutOfMemory) => Err(Unmended::OutOfMemory),
-        Err(Stop::TooDeep | Stop::Stray | Stop::Needless) => Err(Unmended::TooDeep(item)),
+        Err(Stop::TooDeep | Stop::Stray | Stop::Needless) => Err(Unmended::Stopped(item)),
         Ok(()) if is_mended(before, verdict_item(&item, parameters)) => Ok(item),
         Ok(()) => Err(Unmended::Left(item)),
     }
 }
 
 /// A statement where this nonterminal with these parameters stands, with its parentheses: Statement, or StatementListItem where a declaration
-/// may stand. See `parenthesize`.
+/// may stand. See `parenthesize`. How deep it is isn't asked before: one that is too deep is answered by `Stopped`, with the parentheses that it got until
+/// then.
 #[tactic(auto, using(crate::proofs::Verdicts::kept), unfolding(crate::specs::Roots::IfLeft))]
 pub fn parenthesize_stmt(
     alloc: Global,
@@ -177,14 +196,14 @@ pub fn parenthesize_stmt(
     let at = Place::of(place, parameters);
     match mend_whole_stmt(alloc, &mut stmt, at) {
         Err(Stop::OutOfMemory) => Err(Unmended::OutOfMemory),
-        Err(Stop::TooDeep | Stop::Stray | Stop::Needless) => Err(Unmended::TooDeep(stmt)),
+        Err(Stop::TooDeep | Stop::Stray | Stop::Needless) => Err(Unmended::Stopped(stmt)),
         Ok(()) if is_mended(before, verdict_stmt(&stmt, place, parameters)) => Ok(stmt),
         Ok(()) => Err(Unmended::Left(stmt)),
     }
 }
 
 /// An expression where this nonterminal with these parameters stands, with its parentheses, round it too. See `parenthesize`; here
-/// `parameters.minify` has to be that of the settings.
+/// `parameters.minify` has to be that of the settings. How deep it is isn't asked before either.
 #[tactic(auto, using(crate::proofs::Verdicts::kept), unfolding(crate::specs::Roots::IfLeft))]
 pub fn parenthesize_expr(
     alloc: Global,
@@ -208,7 +227,7 @@ pub fn parenthesize_expr(
     let mut expr = expr;
     match mend_whole_expr(alloc, &mut expr, place, parameters) {
         Err(Stop::OutOfMemory) => Err(Unmended::OutOfMemory),
-        Err(Stop::TooDeep | Stop::Stray | Stop::Needless) => Err(Unmended::TooDeep(expr)),
+        Err(Stop::TooDeep | Stop::Stray | Stop::Needless) => Err(Unmended::Stopped(expr)),
         Ok(()) if is_mended(before, verdict_expr(&expr, place, parameters)) => Ok(expr),
         Ok(()) => Err(Unmended::Left(expr)),
     }

@@ -51,6 +51,7 @@ impl<N: Lends> Change<N> for Taken {
         alloc: Global,
         link: &mut PatBox<N>,
         place: Place,
+        _: Usage,
     ) -> Result<(), Stop> {
         found(mend_linked_pat::<N, M>(mender, alloc, link, place)?)
     }

@@ -34,9 +34,16 @@ impl<N, M: Mends<N>> Mends<N> for Within<'_, M> {
             .expr(alloc, link, place, usage.within(self.context))
     }
 
-    #[tactic(auto, unfolding(crate::specs::Lists::linked_as, crate::specs::Operands::within))]
-    fn pat(&self, alloc: Global, link: &mut PatBox<N>, place: Place) -> Result<(), Stop> {
-        self.mender.pat(alloc, link, place)
+    #[tactic(auto, unfolding(crate::specs::Lists::linked_as))]
+    fn pat(
+        &self,
+        alloc: Global,
+        link: &mut PatBox<N>,
+        place: Place,
+        usage: Usage,
+    ) -> Result<(), Stop> {
+        self.mender
+            .pat(alloc, link, place, usage.within(self.context))
     }
 
     #[tactic(auto, unfolding(crate::specs::Lists::linked_as, crate::specs::Operands::within))]

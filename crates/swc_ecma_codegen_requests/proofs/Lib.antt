@@ -1,4 +1,6 @@
+pub mod Bytes
 pub mod Folds
 pub mod Kept
 pub mod MapsIn
+pub mod Parts
 pub mod Texts

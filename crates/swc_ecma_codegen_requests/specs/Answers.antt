@@ -12,6 +12,7 @@ use Rattle.swc_ecma_codegen_syntax.specs.Derives.{program_verdict}
 use Rattle.swc_ecma_codegen_syntax.specs.Verdicts.{holds}
 use Rattle.swc_ecma_codegen_fix.specs.Mended.{IsMended}
 use Rattle.swc_ecma_codegen_json.specs.declared.flat.FlatTree.{FlatTree}
+use Rattle.swc_ecma_codegen_json.specs.declared.trees.Short.{Short}
 use Rattle.swc_ecma_codegen_json.specs.declared.trees.Tree.{Tree}
 use Rattle.swc_ecma_codegen_tokens.specs.Run.{Part, printed}
 use Rattle.swc_ecma_codegen_emit.specs.Answers.{any_answers}
@@ -20,14 +21,15 @@ use Rattle.swc_ecma_codegen_emit.specs.Programs.{program}
 use Rattle.swc_ecma_codegen_emit.specs.Texts.{GivesCause, IsPrinted}
 use Rattle.swc_ecma_codegen_emit.specs.Tree.{any_items}
 use Rattle.swc_ecma_codegen_requests.specs.Faults.{Tells}
+use Rattle.swc_ecma_codegen_requests.specs.Ids.{IsKnownBy, IsKnownIn}
 use Rattle.swc_ecma_codegen_requests.specs.Members.{fault_members, text_members, IsLineOf}
 use Rattle.swc_ecma_codegen_requests.specs.Prints.{if_asked, maps_left, start_by}
 use Rattle.swc_ecma_codegen_requests.specs.Remarks.{left_by, places_in}
-use Rattle.swc_ecma_codegen_requests.specs.Settings.{config_of}
+use Rattle.swc_ecma_codegen_requests.specs.Settings.{config_of, layout_of}
 use Rattle.swc_ecma_codegen_requests.specs.declared.answers.Preparation.{Preparation}
 use Rattle.swc_ecma_codegen_requests.specs.declared.emissions.Manner.{Manner}
 use Rattle.swc_ecma_codegen_requests.specs.declared.faults.Fault.{Fault}
-use Rattle.swc_ecma_codegen_requests.specs.declared.faults.Fault.TheVariants.{BadJson, BadRequest, BadTree, NotOneProgram, Memory, NotWellFormed, NotADerivation, Refused}
+use Rattle.swc_ecma_codegen_requests.specs.declared.faults.Fault.TheVariants.{BadJson, BadRequest, BadTree, NotOneProgram, Memory, NotWellFormed, NotADerivation, TooDeep, Refused}
 use Rattle.swc_ecma_codegen_requests.specs.declared.requests.Request.{Request}
 
 -- what is written of a program
@@ -48,7 +50,7 @@ abbrev pub IsPrepared : Preparation → Program AnyNode → Program AnyNode → 
 IsPrepared preparation p r = MayPrint preparation.any p × Becomes preparation.parenthesize preparation.any p r
 
 -- An answer has the text of a part, the positions where they are asked for, and of the request's comments, where it has some, those that are left.
-pub record IsTextLine (id : Option Data) (manner : Manner) (part : Part) (answer : List ℕ) : Type 0 where
+pub record IsTextLine (id : Option (List ℕ)) (manner : Manner) (part : Part) (answer : List ℕ) : Type 0 where
   pub whole : IsPrinted part (start_by manner)
   pub line :
       IsLineOf id
@@ -58,7 +60,7 @@ pub record IsTextLine (id : Option Data) (manner : Manner) (part : Part) (answer
       answer
 
 -- an answer tells of a fault
-abbrev pub IsFaultLine : Option Data → Fault → List ℕ → Type 0
+abbrev pub IsFaultLine : Option (List ℕ) → Fault → List ℕ → Type 0
 IsFaultLine id fault answer = (told : Data) × Tells fault told × IsLineOf id (fault_members told) answer
 
 -- A program isn't well-formed, or there was no memory to say why.
@@ -71,6 +73,7 @@ IsBroken p fault = ⊥
 -- memory to ask that.
 abbrev pub IsUnprepared : Preparation → Program AnyNode → Fault → Type 0
 IsUnprepared preparation p NotADerivation = (preparation.parenthesize ≡ true) × (holds true (program_verdict p) ≡ false)
+IsUnprepared preparation p TooDeep = (preparation.parenthesize ≡ true) × (holds true (program_verdict p) ≡ false)
 IsUnprepared preparation p Memory = (preparation.any ≡ false) ⊎ (preparation.parenthesize ≡ true)
 IsUnprepared preparation p fault = (preparation.any ≡ false) × IsBroken p fault
 
@@ -81,32 +84,31 @@ IsWhy preparation manner p (Refused error) =
 IsWhy preparation manner p fault = IsUnprepared preparation p fault
 
 -- the answer to a request for the text of a program
-pub data AnswersProgram (id : Option Data) (preparation : Preparation) (manner : Manner) (p : Program AnyNode) (answer : List ℕ) : Type 0 where
+pub data AnswersProgram (id : Option (List ℕ)) (preparation : Preparation) (manner : Manner) (p : Program AnyNode) (answer : List ℕ) : Type 0 where
   a_text : (r : Program AnyNode) → IsPrepared preparation p r → IsTextLine id manner (program_part r) answer → AnswersProgram id preparation manner p answer
   a_fault : (fault : Fault) → IsWhy preparation manner p fault → IsFaultLine id fault answer → AnswersProgram id preparation manner p answer
 
 -- a request, whose program is a tree or has its flat form
 abbrev pub Asked : Type 0
-Asked = Request (Tree AnyNode) (FlatTree 8000 AnyNode)
+Asked = Request (Short (Tree AnyNode)) (Short (FlatTree 8000 AnyNode))
 
 -- how it is to be printed: the source text begins at 1 unless it is said where
 abbrev pub manner_of : Asked → Manner
-manner_of request = record { config = config_of request.config; source = request.source; first = unwrap_or request.first 1; comments = request.comments; positions = request.positions }
+manner_of request = record { config = config_of request.config.0; layout = layout_of request.config.0; source = request.source; first = unwrap_or request.first 1; comments = option_map (λ c. c.0) request.comments; positions = request.positions }
 
 -- what is done with its program before
 abbrev pub preparation_of : Asked → Preparation
 preparation_of request = record { any = request.any; parenthesize = request.parenthesize }
 
 -- its program, where it has one
-abbrev pub program_in : Option (Tree AnyNode) → Option (FlatTree 8000 AnyNode) → Option (Program AnyNode)
-program_in (Some tree) None = Some tree.0
-program_in None (Some flat) = Some flat.0
+abbrev pub program_in : Option (Short (Tree AnyNode)) → Option (Short (FlatTree 8000 AnyNode)) → Option (Program AnyNode)
+program_in (Some tree) None = Some tree.0.0
+program_in None (Some flat) = Some flat.0.0
 program_in tree flat = None
 
--- the answer to a request
-abbrev pub AnswersRequest : Asked → List ℕ → Type 0
-AnswersRequest request answer =
-    let id = option_map view request.id in
+-- the answer to a request, which is known by this text
+abbrev pub AnswersRequest : Option (List ℕ) → Asked → List ℕ → Type 0
+AnswersRequest id request answer =
     MatchOption (program_in request.tree request.flat)
     (IsFaultLine id NotOneProgram answer)
     (λ p. AnswersProgram id (preparation_of request) (manner_of request) p answer)
@@ -119,7 +121,11 @@ IsUnread (BadTree error) = Unit {0}
 IsUnread Memory = Unit {0}
 IsUnread fault = ⊥
 
+-- what a request asks for, which is read of a line, and known by the text of its id there
+abbrev pub AnswersLine : List ℕ → Asked → List ℕ → Type 0
+AnswersLine line request answer = (id : Option (List ℕ)) × IsKnownBy line (option_map view request.id.0) id × AnswersRequest id request answer
+
 -- What is answered to a line: what some request asks for that is read of it, as serde reads JSON; or that none is.
 pub data IsAnswer (line answer : List ℕ) : Type 0 where
-  to_request : IsUtf8 line → (request : Asked) → AnswersRequest request answer → IsAnswer line answer
-  to_no_request : (id : Option Data) (fault : Fault) → IsUnread fault → IsFaultLine id fault answer → IsAnswer line answer
+  to_request : IsUtf8 line → (request : Asked) → AnswersLine line request answer → IsAnswer line answer
+  to_no_request : (id : Option (List ℕ)) (fault : Fault) → IsKnownIn line id → IsUnread fault → IsFaultLine id fault answer → IsAnswer line answer

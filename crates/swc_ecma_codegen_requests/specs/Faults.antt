@@ -1,5 +1,5 @@
 -- What is told of a request that has no text.
-use Rattle.std.specs.Prelude.{◌≡◌, ℕ, List, map, codes}
+use Rattle.std.specs.Prelude.{◌≡◌, ℕ, List, map, codes, string_bytes}
 use Rattle.serde_json.specs.Data.{Data, array, object, string, number, unsigned, member, no_members}
 use Rattle.serde_json.specs.View.{items_of}
 use Rattle.swc_ecma_codegen_common.specs.Refusals.{reason_of}
@@ -9,7 +9,10 @@ use Rattle.swc_ecma_codegen_validate.specs.declared.faults.Fault.{Fault as TreeF
 use Rattle.swc_ecma_codegen_validate.specs.declared.faults.Step.{Step}
 use Rattle.swc_ecma_codegen_validate.specs.declared.faults.Step.TheVariants.{Field, Element}
 use Rattle.swc_ecma_codegen_requests.specs.declared.faults.Fault.{Fault}
-use Rattle.swc_ecma_codegen_requests.specs.declared.faults.Fault.TheVariants.{BadJson, BadRequest, BadTree, NotOneProgram, Memory, NotWellFormed, NotADerivation, Refused}
+use Rattle.swc_ecma_codegen_requests.specs.declared.faults.Unread.{Unread}
+use Rattle.swc_ecma_codegen_requests.specs.declared.places.Key.{Key}
+use Rattle.swc_ecma_codegen_requests.specs.declared.places.Key.TheVariants.{Name, Index}
+use Rattle.swc_ecma_codegen_requests.specs.declared.faults.Fault.TheVariants.{BadJson, BadRequest, BadTree, NotOneProgram, Memory, NotWellFormed, NotADerivation, TooDeep, Refused}
 
 -- a text is made in memory, so a fault of its writer is want of memory
 abbrev pub cause_of : Refusal → List ℕ
@@ -25,14 +28,19 @@ cause_of refusals.Failed = codes "failed"
 abbrev pub refused_data : List ℕ → Data
 refused_data cause = object (member (codes "cause") (string cause) (member (codes "kind") (string (codes "refused")) no_members))
 
--- `{"column":2,"kind":"bad JSON","line":1,"message":"expected value"}`
-abbrev pub unread_data : List ℕ → List ℕ → ℕ → ℕ → Data
-unread_data kind message line column =
-    object (member (codes "column") (number (unsigned column)) (member (codes "kind") (string kind) (member (codes "line") (number (unsigned line)) (member (codes "message") (string message) no_members))))
+-- a step to a part of a request: `"config"`, or 3
+abbrev pub key_data : Key → Data
+key_data (Name name) = string (string_bytes name)
+key_data (Index index) = number (unsigned index)
 
--- what is wrong with a line, in some words, and where
-abbrev pub TellsUnread : List ℕ → Data → Type 0
-TellsUnread kind told = (message : List ℕ) × (line : ℕ) × (column : ℕ) × (told ≡ unread_data kind message line column)
+abbrev pub keys_data : List Key → Data
+keys_data path = array (items_of (map key_data path))
+
+-- `{"column":2,"kind":"bad request","line":1,"message":"unknown member `minfy`","path":["config","minfy"]}`
+abbrev pub unread_data : List ℕ → Unread → Data
+unread_data kind unread =
+    object
+    (member (codes "column") (number (unsigned unread.column)) (member (codes "kind") (string kind) (member (codes "line") (number (unsigned unread.line)) (member (codes "message") (string (string_bytes unread.message)) (member (codes "path") (keys_data unread.path.items) no_members)))))
 
 -- a step to a node: `"body"`, or 3
 abbrev pub step_data : Step → Data
@@ -49,11 +57,12 @@ tree_fault_data fault =
 
 -- what an answer tells of a fault
 abbrev pub Tells : Fault → Data → Type 0
-Tells (BadJson error) told = TellsUnread (codes "bad JSON") told
-Tells (BadRequest error) told = TellsUnread (codes "bad request") told
-Tells (BadTree error) told = TellsUnread (codes "bad tree") told
+Tells (BadJson unread) told = told ≡ unread_data (codes "bad JSON") unread
+Tells (BadRequest unread) told = told ≡ unread_data (codes "bad request") unread
+Tells (BadTree unread) told = told ≡ unread_data (codes "bad tree") unread
 Tells NotOneProgram told = told ≡ object (member (codes "kind") (string (codes "bad request")) (member (codes "message") (string (codes "one of `tree` and `flat` is wanted")) no_members))
 Tells Memory told = told ≡ refused_data (codes "memory")
 Tells (NotWellFormed fault) told = told ≡ tree_fault_data fault
 Tells NotADerivation told = told ≡ object (member (codes "kind") (string (codes "not a derivation")) no_members)
+Tells TooDeep told = told ≡ object (member (codes "kind") (string (codes "too deep")) no_members)
 Tells (Refused error) told = told ≡ refused_data (cause_of (reason_of error))

@@ -1,8 +1,12 @@
 pub mod Answers
 pub mod Faults
+pub mod Ids
+pub mod Layouts
 pub mod Members
 pub mod Prints
 pub mod Remarks
 pub mod Serves
 pub mod Settings
+pub mod Sheets
 pub mod Streams
+pub mod Words

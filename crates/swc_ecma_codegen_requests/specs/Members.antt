@@ -1,5 +1,5 @@
 -- The members of answers, and their lines.
-use Rattle.std.specs.Prelude.{◌≡◌, ◌≤◌, ℕ, false, List, [], ◌∷◌, ◌++◌, map, codes, Option, Some, None}
+use Rattle.std.specs.Prelude.{◌≡◌, ◌≤◌, ℕ, false, List, [], ◌∷◌, ◌++◌, drop, map, codes, Option, Some, None}
 use Rattle.std.specs.Option.{option_map}
 use Rattle.serde_json.specs.Data.{Data, Members, array, object, string, number, unsigned, item, no_items, no_members, put, depth}
 use Rattle.serde_json.specs.Read.{read, max_depth}
@@ -29,14 +29,15 @@ text_members code positions left =
 abbrev pub fault_members : Data → Members
 fault_members fault = put (codes "error") fault no_members
 
--- an answer: its members, and what its request is known by
-abbrev pub answer_data : Option Data → Members → Data
-answer_data id members = object (with_member (codes "id") id members)
+-- an answer: the text of its members, and first what its request is known by, if that is known: `{"id":7,"code":"a;\n"}`
+unfoldable pub with_id : Option (List ℕ) → List ℕ → List ℕ
+with_id None json = json
+with_id (Some id) json = codes "{\"id\":" ++ (id ++ 44 ∷ drop 1 json)
 
--- An answer's line: its JSON without blanks, and LF (10). Where the request is known by a number with a fraction no digits are said of that;
--- but read again, the JSON is the answer, unless it nests too deep to be read.
-pub record IsLineOf (id : Option Data) (members : Members) (line : List ℕ) : Type 0 where
+-- An answer's line: the JSON of its members without blanks, in it first the text that the request is known by, and LF (10). Read again, the
+-- JSON of the members is these.
+pub record IsLineOf (id : Option (List ℕ)) (members : Members) (line : List ℕ) : Type 0 where
   pub json : List ℕ
-  pub is_line : line ≡ json ++ 10 ∷ []
-  pub text : has_float (answer_data id members) ≡ false → json ≡ compact_text (answer_data id members)
-  pub reads_back : depth (answer_data id members) ≤ max_depth → read json ≡ Some (answer_data id members)
+  pub is_line : line ≡ with_id id json ++ 10 ∷ []
+  pub text : has_float (object members) ≡ false → json ≡ compact_text (object members)
+  pub reads_back : depth (object members) ≤ max_depth → read json ≡ Some (object members)

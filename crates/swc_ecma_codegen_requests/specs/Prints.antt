@@ -9,8 +9,9 @@ use Rattle.swc_ecma_codegen_grammar.specs.SourceLines.{Lines, no_lines}
 use Rattle.swc_ecma_codegen_source.specs.SourceTexts.{lines_of}
 use Rattle.swc_ecma_codegen_text_writer.specs.Sheet.{Pair}
 use Rattle.swc_ecma_codegen_tokens.specs.Run.{Part, State, maps_after, printed, steps_in, steps_of}
-use Rattle.swc_ecma_codegen_emit.specs.Texts.{start_with, IsPrinted}
+use Rattle.swc_ecma_codegen_emit.specs.Texts.{start_on, IsPrinted}
 use Rattle.swc_ecma_codegen_requests.specs.Remarks.{left_by, placed_maps, places_in}
+use Rattle.swc_ecma_codegen_requests.specs.Sheets.{sheet_by}
 use Rattle.swc_ecma_codegen_requests.specs.declared.emissions.Manner.{Manner}
 use Rattle.swc_ecma_codegen_requests.specs.declared.emissions.Printed.{Printed}
 use Rattle.swc_ecma_codegen_requests.specs.declared.remarks.Placed.{Placed}
@@ -27,7 +28,7 @@ maps_by (Some placed) = placed_maps placed
 
 -- where an emission begins that is asked for so
 abbrev pub start_by : Manner → State
-start_by manner = start_with (lines_over manner.source manner.first) (maps_by manner.comments) manner.config
+start_by manner = start_on (sheet_by manner.layout) (lines_over manner.source manner.first) (maps_by manner.comments) manner.config
 
 -- the comments that an emission of a part from a state leaves
 abbrev pub maps_left : Part → State → Maps

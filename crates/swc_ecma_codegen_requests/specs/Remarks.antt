@@ -28,7 +28,7 @@ kind_of kinds.Block = comments.Block
 
 -- the comment that a request has
 abbrev pub comment_of : Remark → Comment
-comment_of r = record { kind = kind_of r.kind; span = record { lo = record { 0 = r.span.lo }; hi = record { 0 = r.span.hi } }; text = r.text }
+comment_of r = record { kind = kind_of r.kind; span = record { lo = record { 0 = r.span.0.lo }; hi = record { 0 = r.span.0.hi } }; text = r.text }
 
 -- the comments on one side, by their positions
 unfoldable pub entries : Side → Maps → ℕ → Option (List Comment)
@@ -54,7 +54,7 @@ with_all side lists maps = fold (λ m e. with_list side e.0 e.1.items m) maps li
 
 -- the comments of a request
 abbrev pub placed_maps : Placed → Maps
-placed_maps placed = with_all After placed.trailing.entries (with_all Before placed.leading.entries no_maps)
+placed_maps placed = with_all After placed.trailing.0.entries (with_all Before placed.leading.0.entries no_maps)
 
 -- where they stand
 abbrev pub positions : {A : Type 0} → List (ℕ × A) → List BytePos
@@ -102,7 +102,7 @@ places_of places = record { leading = places.leading.items; trailing = places.tr
 
 -- where the comments of a request stand
 abbrev pub places_in : Placed → Where
-places_in placed = record { leading = positions placed.leading.entries; trailing = positions placed.trailing.entries }
+places_in placed = record { leading = positions placed.leading.0.entries; trailing = positions placed.trailing.0.entries }
 
 -- the comments there that maps have, as requests have comments
 abbrev pub left_at : Where → Maps → Data

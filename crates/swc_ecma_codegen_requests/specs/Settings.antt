@@ -2,11 +2,12 @@
 use Rattle.std.specs.Option.{option_map, unwrap_or}
 use Rattle.swc_ecma_codegen_common.specs.declared.versions.EsVersion.{EsVersion}
 use Rattle.swc_ecma_codegen_common.specs.declared.versions.EsVersion.TheVariants as versions
-use Rattle.swc_ecma_codegen_util.specs.Defaults.{default_config}
-use Rattle.swc_ecma_codegen_util.specs.declared.config.Config.{Config}
-use Rattle.swc_ecma_codegen_requests.specs.declared.requests.Settings.{Settings}
-use Rattle.swc_ecma_codegen_requests.specs.declared.requests.Version.{Version}
-use Rattle.swc_ecma_codegen_requests.specs.declared.requests.Version.TheVariants.{Es3, Es5, Es2015, Es2016, Es2017, Es2018, Es2019, Es2020, Es2021, Es2022, EsNext}
+use Rattle.swc_ecma_codegen_settings.specs.Defaults.{default_config}
+use Rattle.swc_ecma_codegen_settings.specs.declared.config.Config.{Config}
+use Rattle.swc_ecma_codegen_requests.specs.declared.layouts.Layout.{Layout}
+use Rattle.swc_ecma_codegen_requests.specs.declared.settings.Settings.{Settings}
+use Rattle.swc_ecma_codegen_requests.specs.declared.settings.Version.{Version}
+use Rattle.swc_ecma_codegen_requests.specs.declared.settings.Version.TheVariants.{Es3, Es5, Es2015, Es2016, Es2017, Es2018, Es2019, Es2020, Es2021, Es2022, EsNext}
 
 abbrev pub version_of : Version → EsVersion
 version_of Es3 = versions.Es3
@@ -33,3 +34,7 @@ config_of settings =
       inline_script = settings.inline_script;
       max_line = settings.max_line;
     }
+
+-- how lines begin and end that these ask for
+abbrev pub layout_of : Settings → Layout
+layout_of settings = record { indent = settings.indent; new_line = settings.new_line }

@@ -1,20 +1,24 @@
 //! Answers: what is printed of a program as its request asks, or why there is no text.
 
-ghost use Rattle.std.specs.Prelude.{◌≡◌, false, IfOk, IfErr, OnOk, option_map, string_bytes};
-ghost use Rattle.serde_json.specs.View.{view};
+ghost use Rattle.std.specs.Prelude.{◌≡◌, ℕ, false, List, Option, IfOk, IfErr, OnOk, option_map, string_bytes};
 ghost use Rattle.swc_ecma_codegen_tree.specs.declared.links.AnyNode.{AnyNode};
 ghost use Rattle.swc_ecma_codegen_tree.specs.declared.programs.Program.{Program};
-ghost use Rattle.swc_ecma_codegen_requests.specs.Answers.{program_part, AnswersProgram, AnswersRequest, IsAnswer, IsBroken, IsFaultLine, IsPrepared, IsUnprepared, IsUnread, IsWhy, MayPrint};
+ghost use Rattle.swc_ecma_codegen_requests.specs.Answers.{program_part, AnswersLine, AnswersProgram, AnswersRequest, IsAnswer, IsBroken, IsFaultLine, IsPrepared, IsUnprepared, IsUnread, IsWhy, MayPrint};
+ghost use Rattle.swc_ecma_codegen_requests.specs.Ids.{IsKnownIn};
 ghost use Rattle.swc_ecma_codegen_requests.specs.Prints.{IsPrintedBy};
+ghost use Rattle.swc_ecma_codegen_requests.specs.declared.faults.Fault.{Fault as AnyFault};
 
 use crate::emissions::{Manner, Printed, print};
 use crate::faults::Fault;
+use crate::ids::text_in;
 use crate::members::{fault_members, line_of, text_members};
-use crate::requests::{Name, Request, Skipped};
-use serde_json::Value;
+use crate::objects::Object;
+use crate::remarks::Placed;
+use crate::requests::Request;
+use crate::unread::fault_of;
 use std::alloc::{AllocError, Global};
 use swc_ecma_codegen_fix::{Unmendable, mended};
-use swc_ecma_codegen_json::{FlatTree, Tree};
+use swc_ecma_codegen_json::{FlatTree, Short, Tree};
 use swc_ecma_codegen_tree::Program;
 use swc_ecma_codegen_validate::first_fault;
 
@@ -22,39 +26,34 @@ use swc_ecma_codegen_validate::first_fault;
 const LEVELS: u32 = 8000;
 
 /// A request to print a program.
-type Asked = Request<Tree, FlatTree<LEVELS>>;
+type Asked = Request<Short<Tree>, Short<FlatTree<LEVELS>>>;
 
 /// The answer to a line, with an LF at its end. Want of memory for the answer itself is the only error.
-pub(crate) fn answer_to(alloc: Global, line: &[u8]) -> Result<String, AllocError>
-    ensures { IfOk result (λ answer. IsAnswer line.now (string_bytes answer)) }
+pub(crate) fn answer_to(alloc: Global, line: &[u8]) -> Result<Vec<u8>, AllocError>
+    ensures { IfOk result (λ answer. IsAnswer line.now answer.items) }
 {
-    match serde_json::from_slice::<Asked>(alloc, line) {
-        Ok(request) => answer_of(alloc, request),
-        Err(error) => fault_line(alloc, id_in(alloc, line), fault_in(alloc, line, &error)),
+    match serde_json::from_slice::<Object<Asked>>(alloc, line) {
+        Ok(Object(request)) => answer_in(alloc, line, request),
+        Err(error) => refusal(alloc, line, &error),
     }
 }
 
-/// What the answer to a line that is no request is known by, if that can be read.
-fn id_in(alloc: Global, line: &[u8]) -> Option<Value> {
-    match serde_json::from_slice::<Name>(alloc, line) {
-        Ok(name) => name.id,
-        Err(_) => None,
-    }
+/// The answer to a request, which a line is.
+fn answer_in(alloc: Global, line: &[u8], request: Asked) -> Result<Vec<u8>, AllocError>
+    ensures { IfOk result (λ answer. AnswersLine line.now request answer.items) }
+{
+    let id = request.id.text(alloc, line)?;
+    answer_of(alloc, id, request)
 }
 
-/// What is wrong with a line, of which no request was read for this reason.
-fn fault_in(alloc: Global, line: &[u8], error: &serde_json::Error) -> Fault
-    ensures { IsUnread result }
+/// The answer to a line that is no request.
+fn refusal(alloc: Global, line: &[u8], error: &serde_json::Error) -> Result<Vec<u8>, AllocError>
+    ensures { IfOk result (λ answer. (id : Option (List ℕ)) × (fault : AnyFault)
+        × IsKnownIn line.now id × IsUnread fault × IsFaultLine id fault answer.items) }
 {
-    if error.is_memory() {
-        Fault::Memory
-    } else if !error.is_data() {
-        Fault::BadJson(*error)
-    } else if serde_json::from_slice::<Request<Skipped, Skipped>>(alloc, line).is_ok() {
-        Fault::BadTree(*error)
-    } else {
-        Fault::BadRequest(*error)
-    }
+    let id = text_in(alloc, line)?;
+    let fault = fault_of(alloc, line, error)?;
+    fault_line(alloc, id, fault)
 }
 
 /// What is done with a program before it is printed.
@@ -67,40 +66,63 @@ pub(crate) struct Preparation {
 }
 
 /// The answer to a request.
-fn answer_of(alloc: Global, request: Asked) -> Result<String, AllocError>
-    ensures { IfOk result (λ answer. AnswersRequest request (string_bytes answer)) }
+fn answer_of(alloc: Global, id: Option<String>, request: Asked) -> Result<Vec<u8>, AllocError>
+    ensures { IfOk result (λ answer. AnswersRequest (option_map string_bytes id) request
+        answer.items) }
 {
     let preparation = Preparation {
         any: request.any,
         parenthesize: request.parenthesize,
     };
     let manner = Manner {
-        config: request.config.config(),
+        config: request.config.0.config(),
+        layout: request.config.0.layout(),
         source: request.source,
         first: request.first.unwrap_or(1),
-        comments: request.comments,
+        comments: placed_in(request.comments),
         positions: request.positions,
     };
     match (request.tree, request.flat) {
-        (Some(tree), None) => text_line(alloc, request.id, preparation, manner, tree),
-        (None, Some(flat)) => {
-            let tree = Tree(flat.into_program());
-            text_line(alloc, request.id, preparation, manner, tree)
-        }
-        _ => fault_line(alloc, request.id, Fault::NotOneProgram),
+        (Some(tree), None) => text_line(alloc, id, preparation, manner, tree_in(tree)),
+        (None, Some(flat)) => text_line(alloc, id, preparation, manner, tree_of(flat)),
+        _ => fault_line(alloc, id, Fault::NotOneProgram),
+    }
+}
+
+/// A program in its short form.
+fn tree_in(tree: Short<Tree>) -> Tree
+    ensures { result.0 ≡ tree.0.0 }
+{
+    tree.into_inner()
+}
+
+/// A program in its flat form.
+fn tree_of(flat: Short<FlatTree<LEVELS>>) -> Tree
+    ensures { result.0 ≡ flat.0.0 }
+{
+    Tree(flat.into_inner().into_program())
+}
+
+/// The comments of a request, where it has some.
+fn placed_in(comments: Option<Object<Placed>>) -> Option<Placed>
+    ensures { result ≡ option_map (λ c. c.0) comments }
+{
+    match comments {
+        Some(Object(placed)) => Some(placed),
+        None => None,
     }
 }
 
 /// The answer with the text of a program, if it may be printed; or with what is wrong with it.
 fn text_line(
     alloc: Global,
-    id: Option<Value>,
+    id: Option<String>,
     preparation: Preparation,
     manner: Manner,
     tree: Tree,
-) -> Result<String, AllocError>
-    ensures { IfOk result (λ answer. AnswersProgram (option_map view id) preparation manner tree.0
-        (string_bytes answer)) }
+) -> Result<Vec<u8>, AllocError>
+    ensures { IfOk result (λ answer. AnswersProgram (option_map string_bytes id) preparation
+        manner tree.0 answer.items) }
 {
     match checked(alloc, preparation, manner, tree) {
         Ok(made) => {
@@ -149,6 +171,7 @@ fn prepare(alloc: Global, preparation: Preparation, tree: Tree) -> Result<Tree, 
         Ok(tree) => Ok(tree),
         Err(Unmendable::OutOfMemory) => Err(Fault::Memory),
         Err(Unmendable::NotADerivation) => Err(Fault::NotADerivation),
+        Err(Unmendable::TooDeep) => Err(Fault::TooDeep),
     }
 }
 
@@ -168,8 +191,8 @@ fn check(alloc: Global, any: bool, program: &Program) -> Result<(), Fault>
 }
 
 /// The answer with what is wrong.
-fn fault_line(alloc: Global, id: Option<Value>, fault: Fault) -> Result<String, AllocError>
-    ensures { IfOk result (λ answer. IsFaultLine (option_map view id) fault (string_bytes answer)) }
+fn fault_line(alloc: Global, id: Option<String>, fault: Fault) -> Result<Vec<u8>, AllocError>
+    ensures { IfOk result (λ answer. IsFaultLine (option_map string_bytes id) fault answer.items) }
 {
     let told = fault.value(alloc)?;
     let members = fault_members(alloc, told)?;

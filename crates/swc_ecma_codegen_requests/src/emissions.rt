@@ -7,26 +7,30 @@ ghost use Rattle.swc_ecma_codegen_common.specs.declared.errors.Error.TheVariants
 ghost use Rattle.swc_ecma_codegen_grammar.specs.Comments.{maps_in};
 ghost use Rattle.swc_ecma_codegen_text_writer.specs.View.{sheet_of};
 ghost use Rattle.swc_ecma_codegen_tokens.specs.Run.{maps_after, printed, start, steps_in, steps_of};
-ghost use Rattle.swc_ecma_codegen_emit.specs.Texts.{start_with, unheld, GivesCause, IsPrinted};
+ghost use Rattle.swc_ecma_codegen_emit.specs.Texts.{start_on, unheld, GivesCause, IsPrinted};
 ghost use Rattle.swc_ecma_codegen_requests.specs.Prints as prints;
 ghost use Rattle.swc_ecma_codegen_requests.specs.Prints.{lines_over, maps_by, start_by, IsMadeOf, IsPrintedBy};
 ghost use Rattle.swc_ecma_codegen_requests.specs.Remarks.{left_by, places_in, places_of};
+ghost use Rattle.swc_ecma_codegen_requests.specs.Sheets.{sheet_by};
 
+use crate::layouts::Layout;
 use crate::remarks::{Placed, Places, left_in, maps_of};
+use crate::writers::new_writer;
 use serde_json::Value;
 use std::alloc::{AllocError, Global};
 use swc_ecma_codegen_common::{BytePos, Error, LineCol};
 use swc_ecma_codegen_emit::{Emitter, Node};
 use swc_ecma_codegen_grammar::comments::{CommentMaps, Comments};
 use swc_ecma_codegen_grammar::mapper::{NoSource, SourceMapper};
+use swc_ecma_codegen_settings::config::Config;
 use swc_ecma_codegen_source::SourceText;
 use swc_ecma_codegen_text_writer::{PositionsWriter, WriteJs, omit_trailing_semi};
-use swc_ecma_codegen_util::config::Config;
 
 /// How a tree is printed.
 #[derive(Drop)]
 pub(crate) struct Manner {
     pub(crate) config: Config,
+    pub(crate) layout: Layout,
     pub(crate) source: Option<String>,
     /// The position of the source text's first byte.
     pub(crate) first: u32,
@@ -59,13 +63,14 @@ pub(crate) fn print<P: Node>(alloc: Global, manner: Manner, tree: &P) -> Result<
 {
     let Manner {
         config,
+        layout,
         source,
         first,
         comments,
         positions,
     } = manner;
     let (maps, places) = with_places(alloc, comments)?;
-    let page = page_over(alloc, config, &source, first, maps, tree)?;
+    let page = page_over(alloc, config, layout, &source, first, maps, tree)?;
     Ok(told(alloc, page, positions, places)?)
 }
 
@@ -157,26 +162,27 @@ fn all_of(alloc: Global, comments: Option<CommentMaps>) -> CommentMaps
 fn page_over<P: Node>(
     alloc: Global,
     config: Config,
+    layout: Layout,
     source: &Option<String>,
     first: u32,
     comments: Option<CommentMaps>,
     tree: &P,
 ) -> Result<Page<CommentMaps>, Error>
     ensures made { IfOk result (λ page. IsMadeOf (P.part tree.now)
-        (start_with (lines_over source.now first)
+        (start_on (sheet_by layout) (lines_over source.now first)
         (maps_in ⟦<CommentMaps as Comments>⟧.maps comments) config)
         page.text.items page.positions.items
         (maps_in ⟦<CommentMaps as Comments>⟧.maps page.comments)) }
     ensures cause { IfErr result (λ error. (error ≡ OutOfMemory)
-        ⊎ GivesCause (P.part tree.now) (start_with (lines_over source.now first)
+        ⊎ GivesCause (P.part tree.now) (start_on (sheet_by layout) (lines_over source.now first)
         (maps_in ⟦<CommentMaps as Comments>⟧.maps comments) config) error) }
 {
     match source {
         Some(text) => match SourceText::new(alloc, text, BytePos(first)) {
-            Ok(source) => page_of(alloc, config, &source, comments, tree),
+            Ok(source) => page_of(alloc, config, layout, &source, comments, tree),
             Err(error) => Err(error),
         },
-        None => page_of(alloc, config, &NoSource, comments, tree),
+        None => page_of(alloc, config, layout, &NoSource, comments, tree),
     }
 }
 
@@ -184,20 +190,21 @@ fn page_over<P: Node>(
 fn page_of<P: Node, S: SourceMapper, C: Comments + Drop>(
     alloc: Global,
     config: Config,
+    layout: Layout,
     source: &S,
     comments: Option<C>,
     tree: &P,
 ) -> Result<Page<C>, Error>
     // The text, the positions and the comments that are left are those of the tree, over this source text, with these comments and settings.
     ensures made { IfOk result (λ page. IsMadeOf (P.part tree.now)
-        (start_with (S.lines source.now) (maps_in C.maps comments) config)
+        (start_on (sheet_by layout) (S.lines source.now) (maps_in C.maps comments) config)
         page.text.items page.positions.items (maps_in C.maps page.comments)) }
     // It is refused for the cause that the error names, a fault of the writer for want of memory.
     ensures cause { IfErr result (λ error. (error ≡ OutOfMemory)
-        ⊎ GivesCause (P.part tree.now) (start_with (S.lines source.now) (maps_in C.maps comments)
-        config) error) }
+        ⊎ GivesCause (P.part tree.now) (start_on (sheet_by layout) (S.lines source.now)
+        (maps_in C.maps comments) config) error) }
 {
-    match writer_of(alloc, config, source, comments, tree) {
+    match writer_of(alloc, config, layout, source, comments, tree) {
         Ok((writer, left)) => Ok(Page::of_writer(writer, left)),
         Err(error) => Err(error),
     }
@@ -207,24 +214,25 @@ fn page_of<P: Node, S: SourceMapper, C: Comments + Drop>(
 fn writer_of<P: Node, S: SourceMapper, C: Comments + Drop>(
     alloc: Global,
     config: Config,
+    layout: Layout,
     source: &S,
     comments: Option<C>,
     tree: &P,
 ) -> Result<(PositionsWriter<'static, Vec<u8>>, Option<C>), Error>
     // A semicolon that is still held back is left out.
     ensures sheet { IfOk result (λ made. unheld (sheet_of made.0) ≡ unheld
-        (printed (P.part tree.now)
-        (start_with (S.lines source.now) (maps_in C.maps comments) config)).sheet) }
+        (printed (P.part tree.now) (start_on (sheet_by layout) (S.lines source.now)
+        (maps_in C.maps comments) config)).sheet) }
     ensures printed { IfOk result (λ made. IsPrinted (P.part tree.now)
-        (start_with (S.lines source.now) (maps_in C.maps comments) config)) }
+        (start_on (sheet_by layout) (S.lines source.now) (maps_in C.maps comments) config)) }
     ensures left { IfOk result (λ made. maps_in C.maps made.1
         ≡ maps_after (steps_of (steps_in (P.part tree.now)
-        (start_with (S.lines source.now) (maps_in C.maps comments) config)))
+        (start_on (sheet_by layout) (S.lines source.now) (maps_in C.maps comments) config)))
         (maps_in C.maps comments)) }
     ensures cause { IfErr result (GivesCause (P.part tree.now)
-        (start_with (S.lines source.now) (maps_in C.maps comments) config)) }
+        (start_on (sheet_by layout) (S.lines source.now) (maps_in C.maps comments) config)) }
 {
-    let writer = PositionsWriter::keeping_positions(alloc, source, "\n", Vec::new(alloc));
+    let writer = new_writer(alloc, layout, source);
     if config.minify {
         let held = omit_trailing_semi(writer);
         match printed_on(alloc, config, source, comments, tree, held) {

@@ -3,8 +3,9 @@
 ghost use Rattle.std.specs.Prelude.{◌≡◌, IfOk, codes};
 ghost use Rattle.serde_json.specs.View.{view};
 ghost use Rattle.swc_ecma_codegen_common.specs.Refusals.{reason_of};
-ghost use Rattle.swc_ecma_codegen_requests.specs.Faults.{cause_of, path_data, step_data, tree_fault_data, unread_data, Tells, TellsUnread};
+ghost use Rattle.swc_ecma_codegen_requests.specs.Faults.{cause_of, key_data, keys_data, path_data, step_data, tree_fault_data, unread_data, Tells};
 
+use crate::places::Key;
 use serde_json::{Value, json};
 use std::alloc::{AllocError, Global};
 use swc_ecma_codegen_common::Error;
@@ -14,11 +15,11 @@ use swc_ecma_codegen_validate::{Fault as TreeFault, Step};
 #[derive(Drop)]
 pub(crate) enum Fault {
     /// The line is no JSON.
-    BadJson(serde_json::Error),
+    BadJson(Unread),
     /// It is no request, its program aside.
-    BadRequest(serde_json::Error),
+    BadRequest(Unread),
     /// Its `tree` or its `flat` is no program.
-    BadTree(serde_json::Error),
+    BadTree(Unread),
     /// It has no program, or both `tree` and `flat`.
     NotOneProgram,
     /// No memory for the request.
@@ -27,8 +28,20 @@ pub(crate) enum Fault {
     NotWellFormed(TreeFault),
     /// The program's text would be read as another tree, or as none, and should not: no parentheses mend it.
     NotADerivation,
+    /// The program lacks parentheses, and is deeper than these are put in.
+    TooDeep,
     /// The emission was refused.
     Refused(Error),
+}
+
+/// What is wrong with a line that isn't read, and where.
+#[derive(Drop)]
+pub(crate) struct Unread {
+    pub(crate) message: String,
+    /// The way from the request to what is wrong.
+    pub(crate) path: Vec<Key>,
+    pub(crate) line: usize,
+    pub(crate) column: usize,
 }
 
 impl Fault {
@@ -37,15 +50,16 @@ impl Fault {
         ensures { IfOk result (λ value. Tells self.now (view value)) }
     {
         match self {
-            Fault::BadJson(error) => unread(alloc, "bad JSON", error),
-            Fault::BadRequest(error) => unread(alloc, "bad request", error),
-            Fault::BadTree(error) => unread(alloc, "bad tree", error),
+            Fault::BadJson(error) => unread_value(alloc, "bad JSON", error),
+            Fault::BadRequest(error) => unread_value(alloc, "bad request", error),
+            Fault::BadTree(error) => unread_value(alloc, "bad tree", error),
             Fault::NotOneProgram => {
                 json!(in alloc; {"kind": "bad request", "message": "one of `tree` and `flat` is wanted"})
             }
             Fault::Memory => json!(in alloc; {"kind": "refused", "cause": "memory"}),
             Fault::NotWellFormed(fault) => tree_fault(alloc, fault),
             Fault::NotADerivation => json!(in alloc; {"kind": "not a derivation"}),
+            Fault::TooDeep => json!(in alloc; {"kind": "too deep"}),
             Fault::Refused(error) => {
                 let cause = cause_of(error);
                 json!(in alloc; {"kind": "refused", "cause": cause})
@@ -84,37 +98,40 @@ fn step_value(alloc: Global, step: Step) -> Result<Value, AllocError>
 }
 
 /// What is told of a line that isn't read, and where.
-fn unread(alloc: Global, kind: &'static str, error: &serde_json::Error) -> Result<Value, AllocError>
-    ensures { IfOk result (λ value. TellsUnread kind.now (view value)) }
+fn unread_value(alloc: Global, kind: &'static str, unread: &Unread) -> Result<Value, AllocError>
+    ensures { IfOk result (λ value. view value ≡ unread_data kind.now unread.now) }
 {
-    let told = format!(in alloc; "{error}")?;
-    unread_value(
-        alloc,
-        kind,
-        without_place(&told),
-        error.line(),
-        error.column(),
-    )
+    let path = keys_value(alloc, &unread.path)?;
+    json!(in alloc; {
+        "kind": kind,
+        "message": &unread.message,
+        "path": path,
+        "line": unread.line,
+        "column": unread.column
+    })
 }
 
-/// The same, of these words and this place.
-fn unread_value(
-    alloc: Global,
-    kind: &'static str,
-    message: &str,
-    line: usize,
-    column: usize,
-) -> Result<Value, AllocError>
-    ensures { IfOk result (λ value. view value ≡ unread_data kind.now message.now line column) }
+/// The way to a part of a request.
+fn keys_value(alloc: Global, path: &[Key]) -> Result<Value, AllocError>
+    ensures { IfOk result (λ value. view value ≡ keys_data path.now) }
 {
-    json!(in alloc; {"kind": kind, "message": message, "line": line, "column": column})
+    let mut items = Vec::with_capacity(alloc, path.len())?;
+    for key in path {
+        items.push(key_value(alloc, key)?)?;
+    }
+    Ok(Value::Array(items))
 }
 
-/// What serde_json says is wrong, without the place that it tells behind it.
-fn without_place(told: &str) -> &str {
-    match told.rsplit_once(" at line ") {
-        Some((message, _)) => message,
-        None => told,
+/// A step on this way.
+fn key_value(alloc: Global, key: &Key) -> Result<Value, AllocError>
+    ensures { IfOk result (λ value. view value ≡ key_data key.now) }
+{
+    match key {
+        Key::Name(name) => json!(in alloc; name),
+        Key::Index(index) => {
+            let index = *index;
+            json!(in alloc; index)
+        }
     }
 }
 

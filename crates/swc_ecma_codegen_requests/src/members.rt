@@ -1,6 +1,6 @@
 //! Members of objects, and the lines that answers are.
 
-ghost use Rattle.std.specs.Prelude.{◌≡◌, IfOk, OnOk, string_bytes, option_map};
+ghost use Rattle.std.specs.Prelude.{◌≡◌, drop, IfOk, OnOk, string_bytes, option_map};
 ghost use Rattle.serde_json.specs.View.{view, members_view};
 ghost use Rattle.swc_ecma_codegen_requests.specs.Members as answer;
 
@@ -86,18 +86,46 @@ pub(crate) fn fault_members(alloc: Global, fault: Value) -> Result<Map<String, V
     Ok(members)
 }
 
-/// The line of an answer that is known by what its request is known by.
+/// The line of an answer: its members, and first what its request is known by, if that is known: `{"id":7,"code":"a;\n"}`.
 pub(crate) fn line_of(
     alloc: Global,
-    id: Option<Value>,
+    id: Option<String>,
     members: Map<String, Value>,
-) -> Result<String, AllocError>
-    ensures { IfOk result (λ line. answer.IsLineOf (option_map view id)
-        (members_view members.entries) (string_bytes line)) }
+) -> Result<Vec<u8>, AllocError>
+    ensures { IfOk result (λ line. answer.IsLineOf (option_map string_bytes id)
+        (members_view members.entries) line.items) }
 {
-    let mut members = members;
-    put_some(&mut members, alloc, "id", id)?;
-    let mut line = Value::Object(members).to_string(alloc)?;
-    line.push('\n')?;
+    let json = Value::Object(members).to_string(alloc)?;
+    let mut line = with_id(alloc, &id, json.as_bytes())?;
+    line.push(b'\n')?;
     Ok(line)
+}
+
+/// The text of an object with members, in which what its request is known by comes first.
+#[tactic(auto, unfolding(crate::specs::Members::with_id))]
+fn with_id(alloc: Global, id: &Option<String>, json: &[u8]) -> Result<Vec<u8>, AllocError>
+    ensures { IfOk result (λ line. line.items
+        ≡ answer.with_id (option_map string_bytes id.now) json.now) }
+{
+    match id {
+        Some(id) => {
+            let mut line = Vec::with_capacity(alloc, json.len().saturating_add(id.len()))?;
+            line.extend_from_slice(b"{\"id\":")?;
+            line.extend_from_slice(id.as_bytes())?;
+            line.push(b',')?;
+            line.extend_from_slice(behind_first(json))?;
+            Ok(line)
+        }
+        None => Vec::from_slice(alloc, json),
+    }
+}
+
+/// The bytes behind the first one.
+fn behind_first(bytes: &[u8]) -> &[u8]
+    ensures { result.now ≡ drop 1 bytes.now }
+{
+    match bytes.split_first() {
+        Some((_, rest)) => rest,
+        None => bytes,
+    }
 }

@@ -8,6 +8,7 @@ ghost use Rattle.swc_ecma_codegen_requests.specs.Members as answer;
 ghost use Rattle.swc_ecma_codegen_requests.specs.Remarks as remarks;
 
 use crate::members::put_some;
+use crate::objects::Object;
 use serde::Deserialize;
 use serde_json::{Map, Value, json};
 use std::alloc::{AllocError, Global};
@@ -19,22 +20,26 @@ use swc_ecma_codegen_grammar::comments::{Comment, CommentKind, CommentMaps, Comm
 #[derive(Drop, Deserialize)]
 #[serde(deny_unknown_fields)]
 pub(crate) struct Placed {
-    pub(crate) leading: BTreeMap<u32, Vec<Remark>>,
-    pub(crate) trailing: BTreeMap<u32, Vec<Remark>>,
+    pub(crate) leading: Lists,
+    pub(crate) trailing: Lists,
 }
+
+/// Lists of comments by their positions, each of which comes once.
+#[derive(Drop)]
+pub(crate) struct Lists(pub(crate) BTreeMap<u32, Vec<Remark>>);
 
 /// A comment, without the characters that open and close it.
 #[derive(Drop, Deserialize)]
 #[serde(deny_unknown_fields)]
 pub(crate) struct Remark {
-    kind: Kind,
-    text: String,
+    pub(crate) kind: Kind,
+    pub(crate) text: String,
     #[serde(default)]
-    span: Place,
+    span: Object<Place>,
 }
 
 #[derive(Debug, Clone, Copy, PartialEq, Eq, Deserialize)]
-enum Kind {
+pub(crate) enum Kind {
     Line,
     Block,
 }
@@ -54,7 +59,7 @@ impl Remark {
             Kind::Line => CommentKind::Line,
             Kind::Block => CommentKind::Block,
         };
-        let (lo, hi) = (BytePos(self.span.lo), BytePos(self.span.hi));
+        let (lo, hi) = (BytePos(self.span.0.lo), BytePos(self.span.0.hi));
         Comment {
             kind,
             span: Span { lo, hi },
@@ -126,14 +131,14 @@ fn add_all(
     alloc: Global,
     maps: &mut CommentMaps,
     side: Side,
-    lists: BTreeMap<u32, Vec<Remark>>,
+    lists: Lists,
 ) -> Result<Vec<BytePos>, AllocError>
     ensures maps { OnOk result (⟦<CommentMaps as Comments>⟧.maps maps.new
-        ≡ remarks.with_all side lists.entries (⟦<CommentMaps as Comments>⟧.maps maps.old)) }
-    ensures places { IfOk result (λ places. places.items ≡ remarks.positions lists.entries) }
+        ≡ remarks.with_all side lists.0.entries (⟦<CommentMaps as Comments>⟧.maps maps.old)) }
+    ensures places { IfOk result (λ places. places.items ≡ remarks.positions lists.0.entries) }
 {
     let mut places = Vec::new(alloc);
-    for (pos, list) in lists {
+    for (pos, list) in lists.0 {
         add_list(maps, side, BytePos(pos), list)?;
         places.push(BytePos(pos))?;
     }

@@ -1,21 +1,17 @@
 //! Requests: a program, its source text, and how it is printed.
 
-ghost use Rattle.std.specs.Prelude.{◌≡◌};
-ghost use Rattle.swc_ecma_codegen_requests.specs.Settings.{config_of, version_of};
-
+use crate::ids::Known;
+use crate::objects::Object;
 use crate::remarks::Placed;
-use serde::{Deserialize, DeserializeOwned, Deserializer, Format};
-use serde_json::Value;
-use std::alloc::Global;
-use swc_ecma_codegen_common::EsVersion;
-use swc_ecma_codegen_util::config::Config;
+use crate::settings::Settings;
+use serde::Deserialize;
 
 /// A request, whose program is a `T`, or an `F` in its flat form.
 #[derive(Drop, Deserialize)]
 #[serde(deny_unknown_fields)]
 pub(crate) struct Request<T, F> {
     #[serde(default)]
-    pub(crate) id: Option<Value>,
+    pub(crate) id: Known,
     #[serde(default)]
     pub(crate) tree: Option<T>,
     #[serde(default)]
@@ -25,120 +21,13 @@ pub(crate) struct Request<T, F> {
     #[serde(default)]
     pub(crate) first: Option<u32>,
     #[serde(default)]
-    pub(crate) comments: Option<Placed>,
+    pub(crate) comments: Option<Object<Placed>>,
     #[serde(default)]
-    pub(crate) config: Settings,
+    pub(crate) config: Object<Settings>,
     #[serde(default)]
     pub(crate) positions: bool,
     #[serde(default)]
     pub(crate) any: bool,
     #[serde(default)]
     pub(crate) parenthesize: bool,
-}
-
-/// What an answer is known by, of a line whose rest may be no request.
-#[derive(Drop, Deserialize)]
-pub(crate) struct Name {
-    #[serde(default)]
-    pub(crate) id: Option<Value>,
-}
-
-/// A value that is passed over.
-#[derive(Debug, Clone, Copy, PartialEq, Eq)]
-pub(crate) struct Skipped;
-
-impl DeserializeOwned for Skipped {
-    fn deserialize_owned<F: Format>(
-        _alloc: Global,
-        from: &mut Deserializer<'_, '_, F>,
-    ) -> Result<Skipped, F::Error> {
-        from.skip()?;
-        Ok(Skipped)
-    }
-}
-
-impl<'de> Deserialize<'de> for Skipped {
-    fn deserialize<F: Format>(
-        alloc: Global,
-        from: &mut Deserializer<'de, '_, F>,
-    ) -> Result<Skipped, F::Error> {
-        Skipped::deserialize_owned(alloc, from)
-    }
-}
-
-/// Settings; those left out are as in `Config::default()`.
-#[derive(Clone, Copy, Default, Deserialize)]
-#[serde(deny_unknown_fields)]
-pub(crate) struct Settings {
-    #[serde(default)]
-    minify: bool,
-    #[serde(default)]
-    ascii_only: bool,
-    #[serde(default)]
-    omit_last_semi: bool,
-    #[serde(default)]
-    emit_assert_for_import_attributes: bool,
-    #[serde(default)]
-    inline_script: bool,
-    #[serde(default)]
-    target: Option<Version>,
-    #[serde(default)]
-    max_line: Option<u32>,
-}
-
-/// A version of the language.
-#[derive(Debug, Clone, Copy, PartialEq, Eq, Deserialize)]
-#[serde(rename_all = "lowercase")]
-enum Version {
-    Es3,
-    Es5,
-    Es2015,
-    Es2016,
-    Es2017,
-    Es2018,
-    Es2019,
-    Es2020,
-    Es2021,
-    Es2022,
-    EsNext,
-}
-
-impl Version {
-    fn target(self) -> EsVersion
-        ensures { result ≡ version_of self }
-    {
-        match self {
-            Version::Es3 => EsVersion::Es3,
-            Version::Es5 => EsVersion::Es5,
-            Version::Es2015 => EsVersion::Es2015,
-            Version::Es2016 => EsVersion::Es2016,
-            Version::Es2017 => EsVersion::Es2017,
-            Version::Es2018 => EsVersion::Es2018,
-            Version::Es2019 => EsVersion::Es2019,
-            Version::Es2020 => EsVersion::Es2020,
-            Version::Es2021 => EsVersion::Es2021,
-            Version::Es2022 => EsVersion::Es2022,
-            Version::EsNext => EsVersion::EsNext,
-        }
-    }
-}
-
-impl Settings {
-    /// The settings that they ask for.
-    pub(crate) fn config(self) -> Config
-        ensures { result ≡ config_of self }
-    {
-        let target = match self.target {
-            Some(version) => version.target(),
-            None => EsVersion::latest(),
-        };
-        Config::default()
-            .with_target(target)
-            .with_minify(self.minify)
-            .with_ascii_only(self.ascii_only)
-            .with_omit_last_semi(self.omit_last_semi)
-            .with_emit_assert_for_import_attributes(self.emit_assert_for_import_attributes)
-            .with_inline_script(self.inline_script)
-            .with_max_line(self.max_line)
-    }
 }

@@ -5,8 +5,9 @@ ghost use Rattle.swc_ecma_codegen_common.specs.declared.positions.Span.{Span as 
 ghost use Rattle.swc_ecma_codegen_grammar.specs.ListFormats.{leading_line, separating_line, closing_line};
 ghost use Rattle.swc_ecma_codegen_source.specs.SourceTexts.{lines_of, keeps_lines, is_broken, IsIn};
 
-/// A list whose format has PreserveLines, and not MultiLine, has a line end before its first child, between two children or
-/// after the last exactly where one stands there in the source text: `[1, 2,` LF `3]` has one before `3` alone.
+/// A list whose format has PreserveLines, and not MultiLine, has a line end before its first child,
+/// between two children or after the last exactly where one stands there in the source text:
+/// `[1, 2,` LF `3]` has one before `3` alone.
 #[tactic(auto, using(crate::proofs::KeptLines::leading_kept, crate::proofs::KeptLines::separating_kept, crate::proofs::KeptLines::closing_kept))]
 pub fn lists_keep_their_lines()
     ensures before_first { (text : List ℕ) (first format : ℕ) (list child : Place) →

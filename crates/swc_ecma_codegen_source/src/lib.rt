@@ -1,4 +1,5 @@
-//! A source text as an emission asks for it: which positions stand on one line, and what the text of a span is.
+//! A source text as an emission asks for it: which positions stand on one line, and what the text
+//! of a span is.
 #![tactic(auto)]
 
 pub mod laws;
@@ -38,11 +39,12 @@ fn between(text: &str, left: usize, right: usize) -> Option<&str>
     }
 }
 
-/// A source text whose first byte stands at a position, with an index of its line ends. Lines end with LF, CR, CR LF, U+2028 or U+2029
-/// (ECMA-262, section 12.3). No position outside of the text stands on a line, nor has a span outside of it a text.
+/// A source text whose first byte stands at a position, with an index of its line ends. Lines end
+/// with LF, CR, CR LF, U+2028 or U+2029 (ECMA-262, section 12.3). No position outside of the text
+/// stands on a line, nor has a span outside of it a text.
 ///
-/// Over `[` LF `a, b]` with its first byte at 1 the bracket and `a` stand on two lines, 1 and 3, and `a` and `b`, 3 and 6, on
-/// one; the text of the span from 3 to 7 is `a, b`.
+/// Over `[` LF `a, b]` with its first byte at 1 the bracket and `a` stand on two lines, 1 and 3,
+/// and `a` and `b`, 3 and 6, on one; the text of the span from 3 to 7 is `a, b`.
 #[derive(Drop)]
 pub struct SourceText<'a> {
     text: &'a str,
@@ -52,8 +54,9 @@ pub struct SourceText<'a> {
 }
 
 impl<'a> SourceText<'a> {
-    /// Goes through the text once, for its line ends: eight bytes of memory for each. `first` is the position of the first byte, mostly
-    /// `BytePos(1)`, where parsers let a file begin. `Error::OutOfMemory`: a growth was refused.
+    /// Goes through the text once, for its line ends: eight bytes of memory for each. `first` is
+    /// the position of the first byte, mostly `BytePos(1)`, where parsers let a file begin.
+    /// `Error::OutOfMemory`: a growth was refused.
     #[tactic(auto, unfolding(crate::specs::SourceTexts::lines_of))]
     pub fn new(alloc: Global, text: &'a str, first: BytePos) -> Result<SourceText<'a>, Error>
         ensures lines { IfOk result (λ source. ⟦<SourceText<'a> as SourceMapper>⟧.lines source
@@ -81,7 +84,8 @@ impl<'a> SourceText<'a> {
 impl<'a> SourceMapper for SourceText<'a> {
     ghost lines = { λ source. texts.lines_of source.text.now source.first.0 };
 
-    /// Whether no line end stands between two places of the text, whichever is first. By a binary search.
+    /// Whether no line end stands between two places of the text, whichever is first. By a binary
+    /// search.
     #[tactic(auto, unfolding(crate::specs::SourceTexts::lines_of, crate::specs::SourceTexts::share_line))]
     fn is_on_same_line(&self, lo: BytePos, hi: BytePos) -> bool {
         match (self.place_of(lo), self.place_of(hi)) {
@@ -90,8 +94,8 @@ impl<'a> SourceMapper for SourceText<'a> {
         }
     }
 
-    /// The text of a span, which is all that takes memory; `None` where an end of it is out of the text or inside a character, or
-    /// they stand the other way round.
+    /// The text of a span, which is all that takes memory; `None` where an end of it is out of the
+    /// text or inside a character, or they stand the other way round.
     #[tactic(auto, unfolding(crate::specs::SourceTexts::lines_of, crate::specs::SourceTexts::text_between))]
     fn span_to_snippet(&self, alloc: Global, span: Span) -> Result<Option<String>, Error> {
         match (self.place_of(span.lo), self.place_of(span.hi)) {

@@ -8,7 +8,8 @@ use swc_ecma_codegen_grammar::mapper::SourceMapper;
 /// Lines that end with LF, CR, CR LF, U+2028, U+2029, and one that ends with the text.
 const TEXT: &str = "a\nb\rc\r\nd\u{2028}e\u{2029}f";
 
-/// The line of each position from 10 on, where the text begins. That between CR and LF is on the line that they end.
+/// The line of each position from 10 on, where the text begins. That between CR and LF is on the
+/// line that they end.
 const LINES: [u32; 17] = [1, 1, 2, 2, 3, 3, 3, 4, 4, 4, 4, 5, 5, 5, 5, 6, 6];
 
 fn snippet(

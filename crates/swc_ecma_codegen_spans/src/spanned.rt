@@ -6,8 +6,8 @@ ghost use Rattle.swc_ecma_codegen_spans.specs.Spans.{option_span};
 
 use swc_ecma_codegen_common::{BytePos, DUMMY_SP, Span};
 
-/// What stands somewhere in a source text. An enum stands where its value does; a node without a span of its own from the
-/// start of its first part to the end of its last.
+/// What stands somewhere in a source text. An enum stands where its value does; a node without a
+/// span of its own from the start of its first part to the end of its last.
 pub trait Spanned {
     ghost place: { Self → Place };
 

@@ -1,4 +1,4 @@
--- Without nonterminals each type's form is today's production.
+-- Without nonterminals each type's form is the production that tells its tokens.
 use Rattle.std.proofs.Common.{◌≡◌, codes, refl, ap}
 use Rattle.swc_ecma_codegen_tree.specs.declared.idents.Ident.{Ident}
 use Rattle.swc_ecma_codegen_tree.specs.declared.lits.Lit.{Lit}

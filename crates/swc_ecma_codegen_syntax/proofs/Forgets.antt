@@ -1,4 +1,4 @@
--- Without nonterminals a form is today's production, where it keeps its structure.
+-- Without nonterminals a form is the production that tells its tokens, where it keeps its structure.
 use Rattle.std.proofs.Common.{◌≡◌, ℕ, Bool, true, false, cond, refl, ◌∙◌, ap, ap₂, List, [], ◌∷◌, map, codes, Option, Some, None}
 use Rattle.std.specs.declared.vec.Vec.{Vec}
 use Rattle.std.proofs.lemmas.Bool.{and_parts}
@@ -59,6 +59,7 @@ use Rattle.swc_ecma_codegen_syntax.specs.CallForms.{argument_form, elements_form
 use Rattle.swc_ecma_codegen_syntax.specs.TemplateForms.{tpl_rest_form, tpl_parts_form, tpl_form}
 use Rattle.swc_ecma_codegen_syntax.specs.ObjectForms.{prop_name_form, key_value_form, assign_prop_form, accessor_body_form, getter_form, this_param_form, setter_form, method_prop_form, property_form, spread_form, prop_or_spread_form, object_form}
 use Rattle.swc_ecma_codegen_syntax.specs.ExprForms.{update_form, yield_arg_form, yield_rest_form}
+use Rattle.swc_ecma_codegen_syntax.specs.Verdicts.{Grammar}
 use Rattle.swc_ecma_codegen_syntax.proofs.Judged.{listed_forgets, map_same, element_forgets}
 
 -- ---- types
@@ -221,42 +222,42 @@ method_forgets : {X : Type 0} (p : X → Role → Phrase) (c : Parameters) (n : 
 unfolding forget method_prop_form method_prop
 method_forgets p c n = ap (λ q. p n.function.node.value MethodHead > q > function_at p n.function) (prop_name_forgets p c n.key)
 
-property_forgets : {X : Type 0} (places : Bool) (f : X → Role → Parameters → Summary) (p : X → Role → Phrase) (c : Parameters) (n : Prop X) → keeps places f (property_form c n) ≡ true → forget p (property_form c n) ≡ prop p n
+property_forgets : {X : Type 0} (grammar : Grammar) (f : X → Role → Parameters → Summary) (p : X → Role → Phrase) (c : Parameters) (n : Prop X) → keeps grammar f (property_form c n) ≡ true → forget p (property_form c n) ≡ prop p n
 unfolding forget keeps is_met property_form assign_prop_form name_form prop assign_prop
-property_forgets places f p c (props.Shorthand n) k = refl
-property_forgets places f p c (props.KeyValue n) k = key_value_forgets p c n
-property_forgets places f p c (props.Assign n) k = refl
-property_forgets places f p c (props.Getter n) k = getter_forgets p c n
-property_forgets places f p c (props.Setter n) k = setter_forgets p c n
-property_forgets places f p c (props.Method n) k = method_forgets p c n
+property_forgets grammar f p c (props.Shorthand n) k = refl
+property_forgets grammar f p c (props.KeyValue n) k = key_value_forgets p c n
+property_forgets grammar f p c (props.Assign n) k = refl
+property_forgets grammar f p c (props.Getter n) k = getter_forgets p c n
+property_forgets grammar f p c (props.Setter n) k = setter_forgets p c n
+property_forgets grammar f p c (props.Method n) k = method_forgets p c n
 
-spread_or_forgets : {X : Type 0} (places : Bool) (f : X → Role → Parameters → Summary) (p : X → Role → Phrase) (c : Parameters) (n : PropOrSpread X) → keeps places f (prop_or_spread_form c n) ≡ true → forget p (prop_or_spread_form c n) ≡ prop_or_spread p n
+spread_or_forgets : {X : Type 0} (grammar : Grammar) (f : X → Role → Parameters → Summary) (p : X → Role → Phrase) (c : Parameters) (n : PropOrSpread X) → keeps grammar f (prop_or_spread_form c n) ≡ true → forget p (prop_or_spread_form c n) ≡ prop_or_spread p n
 unfolding forget prop_or_spread_form spread_form prop_or_spread spread_element
-spread_or_forgets places f p c (prop_or_spreads.Spread n) k = refl
-spread_or_forgets places f p c (prop_or_spreads.Prop n) k = property_forgets places f p c n k
+spread_or_forgets grammar f p c (prop_or_spreads.Spread n) k = refl
+spread_or_forgets grammar f p c (prop_or_spreads.Prop n) k = property_forgets grammar f p c n k
 
 -- lists of what keeps its structure
-pub kept_after : {X A : Type 0} (places : Bool) (f : X → Role → Parameters → Summary) (p : X → Role → Phrase) (t : List ℕ) (e : A → Form X) (d : A → Phrase) → ((x : A) → keeps places f (e x) ≡ true → forget p (e x) ≡ d x) →
-    (xs : List A) → keeps places f (each_after t e xs) ≡ true → forget p (each_after t e xs) ≡ phrases.each_after t (map d xs)
+pub kept_after : {X A : Type 0} (grammar : Grammar) (f : X → Role → Parameters → Summary) (p : X → Role → Phrase) (t : List ℕ) (e : A → Form X) (d : A → Phrase) → ((x : A) → keeps grammar f (e x) ≡ true → forget p (e x) ≡ d x) →
+    (xs : List A) → keeps grammar f (each_after t e xs) ≡ true → forget p (each_after t e xs) ≡ phrases.each_after t (map d xs)
 unfolding forget keeps each_after phrases.each_after
-kept_after places f p t e d same [] k = refl
-kept_after places f p t e d same (x ∷ xs) k =
-    let (h, l) = and_parts (keeps places f (e x)) (keeps places f (each_after t e xs)) k in
-    ap₂ (λ a b. mark t > a > b) (same x h) (kept_after places f p t e d same xs l)
+kept_after grammar f p t e d same [] k = refl
+kept_after grammar f p t e d same (x ∷ xs) k =
+    let (h, l) = and_parts (keeps grammar f (e x)) (keeps grammar f (each_after t e xs)) k in
+    ap₂ (λ a b. mark t > a > b) (same x h) (kept_after grammar f p t e d same xs l)
 
-pub kept_listed : {X A : Type 0} (places : Bool) (f : X → Role → Parameters → Summary) (p : X → Role → Phrase) (t : List ℕ) (e : A → Form X) (d : A → Phrase) → ((x : A) → keeps places f (e x) ≡ true → forget p (e x) ≡ d x) →
-    (xs : List A) → keeps places f (listed t e xs) ≡ true → forget p (listed t e xs) ≡ phrases.listed t (map d xs)
+pub kept_listed : {X A : Type 0} (grammar : Grammar) (f : X → Role → Parameters → Summary) (p : X → Role → Phrase) (t : List ℕ) (e : A → Form X) (d : A → Phrase) → ((x : A) → keeps grammar f (e x) ≡ true → forget p (e x) ≡ d x) →
+    (xs : List A) → keeps grammar f (listed t e xs) ≡ true → forget p (listed t e xs) ≡ phrases.listed t (map d xs)
 unfolding forget keeps listed phrases.listed
-kept_listed places f p t e d same [] k = refl
-kept_listed places f p t e d same (x ∷ xs) k =
-    let (h, l) = and_parts (keeps places f (e x)) (keeps places f (each_after t e xs)) k in
-    ap₂ (λ a b. a > b) (same x h) (kept_after places f p t e d same xs l)
+kept_listed grammar f p t e d same [] k = refl
+kept_listed grammar f p t e d same (x ∷ xs) k =
+    let (h, l) = and_parts (keeps grammar f (e x)) (keeps grammar f (each_after t e xs)) k in
+    ap₂ (λ a b. a > b) (same x h) (kept_after grammar f p t e d same xs l)
 
-pub object_forgets : {X : Type 0} (places : Bool) (f : X → Role → Parameters → Summary) (p : X → Role → Phrase) (c : Parameters) (n : ObjectLit X) → keeps places f (object_form c n) ≡ true → forget p (object_form c n) ≡ object_lit p n
+pub object_forgets : {X : Type 0} (grammar : Grammar) (f : X → Role → Parameters → Summary) (p : X → Role → Phrase) (c : Parameters) (n : ObjectLit X) → keeps grammar f (object_form c n) ≡ true → forget p (object_form c n) ≡ object_lit p n
 unfolding forget keeps object_form object_lit
-object_forgets places f p c n k =
-    ap (λ q. mark (codes "{") > q > mark (codes "}")) (kept_listed places f p (codes ",") (prop_or_spread_form c) (prop_or_spread p) (spread_or_forgets places f p c) n.props.items
-    (and_parts (keeps places f (listed (codes ",") (prop_or_spread_form c) n.props.items)) true k).0)
+object_forgets grammar f p c n k =
+    ap (λ q. mark (codes "{") > q > mark (codes "}")) (kept_listed grammar f p (codes ",") (prop_or_spread_form c) (prop_or_spread p) (spread_or_forgets grammar f p c) n.props.items
+    (and_parts (keeps grammar f (listed (codes ",") (prop_or_spread_form c) n.props.items)) true k).0)
 
 -- ---- operators
 

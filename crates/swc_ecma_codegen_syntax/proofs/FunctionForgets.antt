@@ -1,4 +1,4 @@
--- Without nonterminals the forms of functions are today's productions.
+-- Without nonterminals the forms of functions are the productions that tell their tokens.
 use Rattle.std.proofs.Common.{◌≡◌, Bool, true, false, cond, refl, ap, ap₂, List, [], ◌∷◌, map, codes, Option, Some, None}
 use Rattle.swc_ecma_codegen_tree.specs.Links.{BlockStmtBox, PatBox, TsTypeParamDeclBox}
 use Rattle.swc_ecma_codegen_tree.specs.declared.decls.Decorator.{Decorator}
@@ -23,7 +23,7 @@ use Rattle.swc_ecma_codegen_grammar.specs.declared.roles.Role.TheVariants.{Funct
 use Rattle.swc_ecma_codegen_syntax.specs.declared.nonterminals.Nonterminal.{Nonterminal}
 use Rattle.swc_ecma_codegen_syntax.specs.declared.nonterminals.Nonterminal.TheVariants as nt
 use Rattle.swc_ecma_codegen_syntax.specs.declared.parameters.Parameters.{Parameters}
-use Rattle.swc_ecma_codegen_syntax.specs.Forms.{Form, Fixed, Provided, ByRule, forget, ending_after, ending_listed}
+use Rattle.swc_ecma_codegen_syntax.specs.Forms.{Form, Fixed, Provided, ByRule, forget, ending_after, ending_listed, Cure, ByScope}
 use Rattle.swc_ecma_codegen_syntax.specs.NameForms.{name_form}
 use Rattle.swc_ecma_codegen_syntax.specs.PatForms.{pat_part}
 use Rattle.swc_ecma_codegen_syntax.specs.Parameters.{of_arrow_parameters}
@@ -55,9 +55,9 @@ unfolding forget type_params_form type_params
 type_params_forget p c None = refl
 type_params_forget p c (Some n) = refl
 
-pub decorators_forget : {X : Type 0} (p : X → Role → Phrase) (c : Parameters) (ns : List (Decorator X)) → forget p (decorators_form c ns) ≡ phrases.in_order (map (decorator p) ns)
+pub decorators_forget : {X : Type 0} (p : X → Role → Phrase) (cure : Cure) (c : Parameters) (ns : List (Decorator X)) → forget p (decorators_form cure c ns) ≡ phrases.in_order (map (decorator p) ns)
 unfolding forget decorators_form decorator_form decorator
-decorators_forget p c ns = order_forgets p (decorator_form c) ns
+decorators_forget p cure c ns = order_forgets p (decorator_form c) ns
 
 pub bound_name_forgets : {X : Type 0} (p : X → Role → Phrase) (c : Parameters) (n : Ident) → forget p (bound_name_form c n) ≡ ident n
 unfolding forget bound_name_form name_form
@@ -70,7 +70,7 @@ optional_name_forgets p c (Some n) = bound_name_forgets p c n
 
 pub param_forgets : {X : Type 0} (p : X → Role → Phrase) (c : Parameters) (place : Nonterminal) (n : Param X) → forget p (param_form c place n) ≡ param p n
 unfolding forget param_form pat_in param
-param_forgets p c place n = ap₂ Then (decorators_forget p c n.decorators.items) (pat_forgets p false c n.pat)
+param_forgets p c place n = ap₂ Then (decorators_forget p ByScope c n.decorators.items) (pat_forgets p false c n.pat)
 
 pub body_forgets : {X : Type 0} (p : X → Role → Phrase) (c : Parameters) (n : Option (BlockStmtBox X)) → forget p (body_form c n) ≡ function_body p n
 unfolding forget body_form function_body

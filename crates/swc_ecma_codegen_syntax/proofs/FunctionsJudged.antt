@@ -13,9 +13,9 @@ use Rattle.swc_ecma_codegen_syntax.specs.declared.nonterminals.Nonterminal.TheVa
 use Rattle.swc_ecma_codegen_syntax.specs.declared.parameters.Parameters.{Parameters}
 use Rattle.swc_ecma_codegen_syntax.specs.declared.verdicts.Verdict.{Verdict}
 use Rattle.swc_ecma_codegen_syntax.specs.Summary.{Summary}
-use Rattle.swc_ecma_codegen_syntax.specs.Verdicts.{by_rule, by_scope}
+use Rattle.swc_ecma_codegen_syntax.specs.Verdicts.{by_rule, by_scope, by_core}
 use Rattle.swc_ecma_codegen_syntax.specs.Parameters.{of_arrow_parameters}
-use Rattle.swc_ecma_codegen_syntax.specs.Forms.{Form, asked, judge, verdict_all, ending_after, ending_listed}
+use Rattle.swc_ecma_codegen_syntax.specs.Forms.{Form, asked, judge, verdict_all, ending_after, ending_listed, ByScope, ByCore}
 use Rattle.swc_ecma_codegen_syntax.specs.MemberForms.{annotation_form}
 use Rattle.swc_ecma_codegen_syntax.specs.PatForms.{pat_part}
 use Rattle.swc_ecma_codegen_syntax.specs.FunctionForms.{type_params_form, decorator_form, decorators_form, param_form, params_form, rest_of_function, function_form, arrow_params_form, arrow_body_form, async_form, arrow_form}
@@ -55,9 +55,14 @@ pub nil_params_judged : {X : Type 0} (f : X → Role → Parameters → Summary)
 nil_params_judged f c v xs h = no_ending_judged f (param_form c) v xs (ap length h)
 
 pub decorators_judged : {X : Type 0} (f : X → Role → Parameters → Summary) (c : Parameters) (v : Verdict) (ns : List (Decorator X)) →
-    judge f v (decorators_form c ns) ≡ verdict_all (λ n w. judge f w (decorator_form c n)) (by_scope v (not (is_some_listed ns))) ns
+    judge f v (decorators_form ByCore c ns) ≡ verdict_all (λ n w. judge f w (decorator_form c n)) (by_core v (not (is_some_listed ns))) ns
 unfolding judge asked decorators_form
-decorators_judged f c v ns = order_judged f (decorator_form c) (by_scope v (not (is_some_listed ns))) ns
+decorators_judged f c v ns = order_judged f (decorator_form c) (by_core v (not (is_some_listed ns))) ns
+
+pub param_decorators_judged : {X : Type 0} (f : X → Role → Parameters → Summary) (c : Parameters) (v : Verdict) (ns : List (Decorator X)) →
+    judge f v (decorators_form ByScope c ns) ≡ verdict_all (λ n w. judge f w (decorator_form c n)) (by_scope v (not (is_some_listed ns))) ns
+unfolding judge asked decorators_form
+param_decorators_judged f c v ns = order_judged f (decorator_form c) (by_scope v (not (is_some_listed ns))) ns
 
 -- ---- functions
 

@@ -1,4 +1,4 @@
--- Without nonterminals the forms of JSX are today's productions.
+-- Without nonterminals the forms of JSX are the productions that tell their tokens.
 use Rattle.std.proofs.Common.{◌≡◌, Bool, true, false, cond, not, refl, ◌∙◌, ap, ap₂, List, map, codes, Option, Some, None}
 use Rattle.swc_ecma_codegen_tree.specs.declared.jsx.JSXAttrOrSpread.{JSXAttrOrSpread}
 use Rattle.swc_ecma_codegen_tree.specs.declared.jsx.JSXAttrOrSpread.TheVariants as attrs

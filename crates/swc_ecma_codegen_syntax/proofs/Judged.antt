@@ -8,47 +8,54 @@ use Rattle.swc_ecma_codegen_grammar.specs.declared.roles.Role.TheVariants.{Expre
 use Rattle.swc_ecma_codegen_syntax.specs.declared.nonterminals.Nonterminal.{Nonterminal}
 use Rattle.swc_ecma_codegen_syntax.specs.declared.parameters.Parameters.{Parameters}
 use Rattle.swc_ecma_codegen_syntax.specs.declared.verdicts.Facts.{Facts}
-use Rattle.swc_ecma_codegen_syntax.specs.Summary.{Summary, begins_in, empty_in}
+use Rattle.swc_ecma_codegen_syntax.specs.Summary.{Summary, begins_in, empty_in, shape_in}
+use Rattle.swc_ecma_codegen_syntax.specs.Shapes.{fits}
 use Rattle.swc_ecma_codegen_syntax.specs.declared.verdicts.Verdict.{Verdict}
-use Rattle.swc_ecma_codegen_syntax.specs.Verdicts.{by_rule, standing, holds}
+use Rattle.swc_ecma_codegen_syntax.specs.Verdicts.{Grammar, by_rule, standing, holds_in}
 use Rattle.swc_ecma_codegen_syntax.specs.Parameters.{before}
 use Rattle.swc_ecma_codegen_syntax.specs.Lookahead.{excludes}
-use Rattle.swc_ecma_codegen_syntax.specs.Forms.{Form, Fixed, Part, Simple, Restricted, ByPlace, role_in, Both, Provided, Closed, Bare, Followed, ByRule, forget, map_form, is_target, asked, of_part, judge, is_met, stands, keeps, each_after, listed, some_listed, in_order, element, verdict_all, Lone}
+use Rattle.swc_ecma_codegen_syntax.specs.Forms.{Form, Fixed, Part, Simple, Shaped, cure_of, Restricted, ByPlace, role_in, Both, Provided, Closed, Bare, Followed, ByRule, forget, map_form, is_target, asked, of_part, judge, is_met, stands, keeps, each_after, listed, some_listed, in_order, element, verdict_all, Lone}
 use Rattle.swc_ecma_codegen_syntax.proofs.VerdictLaws.{and_true, and_assoc, holds_meet, holds_rule, holds_asked, holds_standing}
 
-part_judged : (places : Bool) (v : Verdict) (place : Nonterminal) (known : Facts) →
-    holds places (of_part place v known) ≡ (holds places v && (stands places place known.nonterminal && holds places known.verdict))
-part_judged places v place known =
-    holds_meet places (standing v place known.nonterminal) known.verdict
-    ∙ ap (λ b. b && holds places known.verdict) (holds_standing places v place known.nonterminal)
-    ∙ and_assoc (holds places v) (stands places place known.nonterminal) (holds places known.verdict)
+part_judged : (grammar : Grammar) (v : Verdict) (place : Nonterminal) (known : Facts) →
+    holds_in grammar (of_part place v known) ≡ (holds_in grammar v && (stands grammar.places place known.nonterminal && holds_in grammar known.verdict))
+part_judged grammar v place known =
+    holds_meet grammar (standing v place known.nonterminal) known.verdict
+    ∙ ap (λ b. b && holds_in grammar known.verdict) (holds_standing grammar v place known.nonterminal)
+    ∙ and_assoc (holds_in grammar v) (stands grammar.places place known.nonterminal) (holds_in grammar known.verdict)
 
 -- the verdict of a form holds where the one before it did and the form keeps its structure
-pub judged : {X : Type 0} (places : Bool) (f : X → Role → Parameters → Summary) (v : Verdict) (a : Form X) → holds places (judge f v a) ≡ (holds places v && keeps places f a)
+pub judged : {X : Type 0} (grammar : Grammar) (f : X → Role → Parameters → Summary) (v : Verdict) (a : Form X) → holds_in grammar (judge f v a) ≡ (holds_in grammar v && keeps grammar f a)
 unfolding judge keeps
-judged places f v (Fixed p) = sym (and_true (holds places v))
-judged places f v (Part place c role n) = part_judged places v place (f n role c).facts
-judged places f v (Simple named place c n) =
+judged grammar f v (Fixed p) = sym (and_true (holds_in grammar v))
+judged grammar f v (Part place c role n) = part_judged grammar v place (f n role c).facts
+judged grammar f v (Simple named place c n) =
     let t = (f n Expression c).facts in
     let b = is_target named t in
-    part_judged places (by_rule v b) place t
-    ∙ ap (λ k. k && (stands places place t.nonterminal && holds places t.verdict)) (holds_rule places v b)
-    ∙ and_assoc (holds places v) b (stands places place t.nonterminal && holds places t.verdict)
-judged places f v (Restricted lookahead place c as_pattern n) =
+    part_judged grammar (by_rule v b) place t
+    ∙ ap (λ k. k && (stands grammar.places place t.nonterminal && holds_in grammar t.verdict)) (holds_rule grammar v b)
+    ∙ and_assoc (holds_in grammar v) b (stands grammar.places place t.nonterminal && holds_in grammar t.verdict)
+judged grammar f v (Shaped shape place c role n) =
+    let t = (f n role c).facts in
+    let b = fits shape (shape_in f n) in
+    part_judged grammar (asked (cure_of shape) v b) place t
+    ∙ ap (λ k. k && (stands grammar.places place t.nonterminal && holds_in grammar t.verdict)) (holds_asked grammar (cure_of shape) v b)
+    ∙ and_assoc (holds_in grammar v) (is_met grammar (cure_of shape) b) (stands grammar.places place t.nonterminal && holds_in grammar t.verdict)
+judged grammar f v (Restricted lookahead place c as_pattern n) =
     let t = (f n (role_in as_pattern) c).facts in
     let b = not (excludes lookahead (begins_in f n (role_in as_pattern))) in
-    part_judged places (asked ByPlace v b) place t
-    ∙ ap (λ k. k && (stands places place t.nonterminal && holds places t.verdict)) (holds_asked places ByPlace v b)
-    ∙ and_assoc (holds places v) (is_met places ByPlace b) (stands places place t.nonterminal && holds places t.verdict)
-judged places f v (Lone place c n) = part_judged places v place (f n Pattern c).facts
-judged places f v (Both a b) =
-    judged places f (judge f v a) b ∙ ap (λ k. k && keeps places f b) (judged places f v a) ∙ and_assoc (holds places v) (keeps places f a) (keeps places f b)
-judged places f v (Provided cure condition a) =
-    judged places f (asked cure v condition) a ∙ ap (λ k. k && keeps places f a) (holds_asked places cure v condition)
-    ∙ and_assoc (holds places v) (is_met places cure condition) (keeps places f a)
-judged places f v (Closed comma close) = sym (and_true (holds places v))
-judged places f v (Bare a) = judged places f v a
-judged places f v (Followed place c n next) = part_judged places v place (f n Statement (before (empty_in f next) c)).facts
+    part_judged grammar (asked ByPlace v b) place t
+    ∙ ap (λ k. k && (stands grammar.places place t.nonterminal && holds_in grammar t.verdict)) (holds_asked grammar ByPlace v b)
+    ∙ and_assoc (holds_in grammar v) (is_met grammar ByPlace b) (stands grammar.places place t.nonterminal && holds_in grammar t.verdict)
+judged grammar f v (Lone place c n) = part_judged grammar v place (f n Pattern c).facts
+judged grammar f v (Both a b) =
+    judged grammar f (judge f v a) b ∙ ap (λ k. k && keeps grammar f b) (judged grammar f v a) ∙ and_assoc (holds_in grammar v) (keeps grammar f a) (keeps grammar f b)
+judged grammar f v (Provided cure condition a) =
+    judged grammar f (asked cure v condition) a ∙ ap (λ k. k && keeps grammar f a) (holds_asked grammar cure v condition)
+    ∙ and_assoc (holds_in grammar v) (is_met grammar cure condition) (keeps grammar f a)
+judged grammar f v (Closed comma close) = sym (and_true (holds_in grammar v))
+judged grammar f v (Bare a) = judged grammar f v a
+judged grammar f v (Followed place c n next) = part_judged grammar v place (f n Statement (before (empty_in f next) c)).facts
 
 -- ---- over what links hold as something else
 
@@ -57,6 +64,7 @@ unfolding judge map_form
 judge_mapped g f v (Fixed p) = refl
 judge_mapped g f v (Part place c role n) = refl
 judge_mapped g f v (Simple named place c n) = refl
+judge_mapped g f v (Shaped shape place c role n) = refl
 judge_mapped g f v (Restricted lookahead place c as_pattern n) = refl
 judge_mapped g f v (Lone place c n) = refl
 judge_mapped g f v (Both a b) = judge_mapped g f (judge f v (map_form g a)) b ∙ ap (λ w. judge (λ x. f (g x)) w b) (judge_mapped g f v a)
@@ -65,18 +73,19 @@ judge_mapped g f v (Closed comma close) = refl
 judge_mapped g f v (Bare a) = judge_mapped g f v a
 judge_mapped g f v (Followed place c n next) = refl
 
-pub keeps_mapped : {X Y : Type 0} (places : Bool) (g : X → Y) (f : Y → Role → Parameters → Summary) (a : Form X) → keeps places f (map_form g a) ≡ keeps places (λ x. f (g x)) a
+pub keeps_mapped : {X Y : Type 0} (grammar : Grammar) (g : X → Y) (f : Y → Role → Parameters → Summary) (a : Form X) → keeps grammar f (map_form g a) ≡ keeps grammar (λ x. f (g x)) a
 unfolding keeps map_form
-keeps_mapped places g f (Fixed p) = refl
-keeps_mapped places g f (Part place c role n) = refl
-keeps_mapped places g f (Simple named place c n) = refl
-keeps_mapped places g f (Restricted lookahead place c as_pattern n) = refl
-keeps_mapped places g f (Lone place c n) = refl
-keeps_mapped places g f (Both a b) = ap₂ (λ x y. x && y) (keeps_mapped places g f a) (keeps_mapped places g f b)
-keeps_mapped places g f (Provided cure condition a) = ap (λ x. is_met places cure condition && x) (keeps_mapped places g f a)
-keeps_mapped places g f (Closed comma close) = refl
-keeps_mapped places g f (Bare a) = keeps_mapped places g f a
-keeps_mapped places g f (Followed place c n next) = refl
+keeps_mapped grammar g f (Fixed p) = refl
+keeps_mapped grammar g f (Part place c role n) = refl
+keeps_mapped grammar g f (Simple named place c n) = refl
+keeps_mapped grammar g f (Shaped shape place c role n) = refl
+keeps_mapped grammar g f (Restricted lookahead place c as_pattern n) = refl
+keeps_mapped grammar g f (Lone place c n) = refl
+keeps_mapped grammar g f (Both a b) = ap₂ (λ x y. x && y) (keeps_mapped grammar g f a) (keeps_mapped grammar g f b)
+keeps_mapped grammar g f (Provided cure condition a) = ap (λ x. is_met grammar cure condition && x) (keeps_mapped grammar g f a)
+keeps_mapped grammar g f (Closed comma close) = refl
+keeps_mapped grammar g f (Bare a) = keeps_mapped grammar g f a
+keeps_mapped grammar g f (Followed place c n next) = refl
 
 -- ---- lists
 

@@ -26,6 +26,7 @@ pub mod MappedJsx
 pub mod MappedModules
 pub mod MappedParts
 pub mod MappedPats
+pub mod MappedShapes
 pub mod MappedStmts
 pub mod ModuleForgets
 pub mod NameSigns

@@ -31,7 +31,8 @@ use Rattle.swc_ecma_codegen_tree.specs.declared.pats.SimpleAssignTarget.TheVaria
 use Rattle.swc_ecma_codegen_grammar.specs.declared.roles.Role.{Role}
 use Rattle.swc_ecma_codegen_grammar.specs.declared.roles.Role.TheVariants as roles
 use Rattle.swc_ecma_codegen_syntax.specs.declared.lookahead.Beginning.{Beginning}
-use Rattle.swc_ecma_codegen_syntax.specs.Beginnings.{goes_on, prop_begins, chain_begins, base_begins, callee_begins, seq_begins, expr_begins, simple_target_begins, target_pat_begins, target_begins, pat_begins, part_begins, stmt_part_begins, node_begins, jsx_part_begins}
+use Rattle.swc_ecma_codegen_syntax.specs.Beginnings.{goes_on, prop_begins, chain_begins, base_begins, callee_begins, seq_begins, expr_begins, simple_target_begins, target_pat_begins, target_begins, pat_begins, part_begins, stmt_part_begins, node_begins, jsx_part_begins, decorators_begin}
+use Rattle.swc_ecma_codegen_tree.specs.declared.decls.Decorator.{Decorator}
 
 -- ---- expressions
 
@@ -123,9 +124,15 @@ part_mapped g f (expr_parts.Pat n) roles.Pattern = pat_mapped g f n
 part_mapped g f (expr_parts.AssignTarget n) roles.AssignmentTarget = target_mapped g f n
 part_mapped g f n role = refl
 
+decorators_mapped : {X Y : Type 0} (h : Decorator X → Decorator Y) (xs : List (Decorator X)) → decorators_begin (map h xs) ≡ decorators_begin xs
+unfolding decorators_begin
+decorators_mapped h [] = refl
+decorators_mapped h (x ∷ xs) = refl
+
 stmt_part_mapped : {X Y : Type 0} (g : X → Y) (f : Y → Role → Beginning) (n : StmtPart X) (role : Role) → node_begins f (map-AnyNode X Y g (nodes.StmtPart n)) role ≡ stmt_part_begins n role
 unfolding node_begins stmt_part_begins
 stmt_part_mapped g f (stmt_parts.Function n) roles.FunctionHead = refl
+stmt_part_mapped {X} {Y} g f (stmt_parts.Class n) roles.ClassHead = decorators_mapped {X = X} {Y = Y} _ n.value.decorators.items
 stmt_part_mapped g f (stmt_parts.Class n) roles.ClassWord = refl
 stmt_part_mapped g f n role = refl
 

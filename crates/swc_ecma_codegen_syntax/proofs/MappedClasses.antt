@@ -10,7 +10,10 @@ use Rattle.swc_ecma_codegen_tree.specs.declared.classes.ClassMember.TheVariants 
 use Rattle.swc_ecma_codegen_tree.specs.declared.classes.ClassMethod.{ClassMethod}
 use Rattle.swc_ecma_codegen_tree.specs.declared.classes.ClassProp.{ClassProp}
 use Rattle.swc_ecma_codegen_tree.specs.declared.classes.Constructor.{Constructor}
+use Rattle.swc_ecma_codegen_tree.specs.declared.classes.AutoAccessor.{AutoAccessor}
 use Rattle.swc_ecma_codegen_tree.specs.declared.classes.MethodKind.{MethodKind}
+use Rattle.swc_ecma_codegen_tree.specs.declared.classes.Key.{Key}
+use Rattle.swc_ecma_codegen_tree.specs.declared.classes.Key.TheVariants as keys
 use Rattle.swc_ecma_codegen_tree.specs.declared.classes.MethodKind.TheVariants.{Method, Getter, Setter}
 use Rattle.swc_ecma_codegen_tree.specs.declared.classes.ParamOrTsParamProp.{ParamOrTsParamProp}
 use Rattle.swc_ecma_codegen_tree.specs.declared.classes.PrivateMethod.{PrivateMethod}
@@ -22,7 +25,7 @@ use Rattle.swc_ecma_codegen_tree.specs.declared.exprs.ClassExpr.{ClassExpr}
 use Rattle.swc_ecma_codegen_tree.specs.declared.exprs.Expr.TheVariants as exprs
 use Rattle.swc_ecma_codegen_tree.specs.declared.ts_decls.TsExprWithTypeArgs.{TsExprWithTypeArgs}
 use Rattle.swc_ecma_codegen_grammar.specs.Phrases.{Never, mark, word}
-use Rattle.swc_ecma_codegen_grammar.specs.ClassPhrases.{tail_role, prop_modifiers, private_modifiers}
+use Rattle.swc_ecma_codegen_grammar.specs.ClassPhrases.{tail_role, prop_modifiers, private_modifiers, accessor_modifiers}
 use Rattle.swc_ecma_codegen_grammar.specs.FunctionPhrases.{is_some_listed}
 use Rattle.swc_ecma_codegen_grammar.specs.declared.roles.Role.TheVariants.{ClassHead, ClassWord, ClassTail, Member, MethodDecorators, AccessorTail}
 use Rattle.swc_ecma_codegen_grammar.proofs.MappedClasses.{each_param}
@@ -30,11 +33,11 @@ use Rattle.swc_ecma_codegen_grammar.proofs.MappedFunctions.{with_parts}
 use Rattle.swc_ecma_codegen_syntax.specs.declared.nonterminals.Nonterminal.TheVariants as nt
 use Rattle.swc_ecma_codegen_syntax.specs.declared.parameters.Parameters.{Parameters}
 use Rattle.swc_ecma_codegen_syntax.specs.Parameters.{of_class, of_parameters}
-use Rattle.swc_ecma_codegen_syntax.specs.Forms.{Form, Fixed, Part, Provided, ByRule, ◌⇢◌, map_form}
+use Rattle.swc_ecma_codegen_syntax.specs.Forms.{Form, Fixed, Part, Provided, ByRule, ◌⇢◌, map_form, ByCore}
 use Rattle.swc_ecma_codegen_syntax.specs.MemberForms.{annotation_form, type_args_form}
 use Rattle.swc_ecma_codegen_syntax.specs.ExprForms.{expr_form}
 use Rattle.swc_ecma_codegen_syntax.specs.FunctionForms.{type_params_form, decorator_form, decorators_form, param_form, body_form}
-use Rattle.swc_ecma_codegen_syntax.specs.ClassForms.{heritage_form, implemented_form, implements_form, class_tail_form, class_expr_form, accessibility_form, constructor_param_form, constructor_form, accessor_nonterminal, rest_of_accessor, accessor_form, tail_of, kind_form, method_kind_form, optional_mark_form, method_form, private_method_form, field_value_form, plain_modifiers, field_type_form, field_form, plain_private_modifiers, private_field_form, static_block_form, member_of_class_form}
+use Rattle.swc_ecma_codegen_syntax.specs.ClassForms.{heritage_form, implemented_form, implements_form, class_tail_form, class_expr_form, accessibility_form, constructor_param_form, constructor_form, accessor_nonterminal, rest_of_accessor, accessor_form, tail_of, kind_form, method_kind_form, optional_mark_form, method_form, private_method_form, field_value_form, plain_modifiers, field_type_form, field_form, plain_private_modifiers, private_field_form, static_block_form, member_of_class_form, accessor_key_form, accessor_value_form, auto_accessor_form, plain_accessor_modifiers}
 use Rattle.swc_ecma_codegen_syntax.specs.NodeForms.{node_form, node_nonterminal, stmt_part_form, stmt_part_nonterminal, part_form, part_nonterminal}
 use Rattle.swc_ecma_codegen_syntax.proofs.Judged.{listed_mapped, order_mapped}
 use Rattle.swc_ecma_codegen_syntax.proofs.MappedCalls.{form_in}
@@ -44,9 +47,9 @@ use Rattle.swc_ecma_codegen_syntax.proofs.MappedFunctions.{decorators_mapped, pa
 -- ---- functions of methods
 
 pub method_decorators_mapped : {X Y : Type 0} (g : X → Y) (called : Bool) (c : Parameters) (b : Box (functions.Function X) Global) →
-    node_form called c (map-AnyNode X Y g (nodes.StmtPart (stmt_parts.Function b))) MethodDecorators ≡ map_form g (decorators_form c b.value.decorators.items)
+    node_form called c (map-AnyNode X Y g (nodes.StmtPart (stmt_parts.Function b))) MethodDecorators ≡ map_form g (decorators_form ByCore c b.value.decorators.items)
 unfolding node_form stmt_part_form decorator_form map_form
-method_decorators_mapped g called c b = decorators_mapped g _ c (λ n. refl) b.value.decorators.items
+method_decorators_mapped g called c b = decorators_mapped g _ ByCore c (λ n. refl) b.value.decorators.items
 
 accessor_same : {X Y : Type 0} (g : X → Y) (other : Bool) (types params others result body : Form Y) (a : Form X) → params ≡ others → rest_parts types others result body ≡ map_form g a →
     cond other (Provided ByRule false (Fixed Never)) (rest_parts types params result body) ≡ map_form g (cond other (Provided ByRule false (Fixed Never)) a)
@@ -83,9 +86,9 @@ accessor_sort_mapped g called c b = params_sort _ b.value.params.items
 -- ---- classes
 
 pub class_head_mapped : {X Y : Type 0} (g : X → Y) (called : Bool) (c : Parameters) (b : Box (classes.Class X) Global) →
-    node_form called c (map-AnyNode X Y g (nodes.StmtPart (stmt_parts.Class b))) ClassHead ≡ map_form g (decorators_form c b.value.decorators.items)
+    node_form called c (map-AnyNode X Y g (nodes.StmtPart (stmt_parts.Class b))) ClassHead ≡ map_form g (decorators_form ByCore c b.value.decorators.items)
 unfolding node_form stmt_part_form decorator_form map_form
-class_head_mapped g called c b = decorators_mapped g _ c (λ n. refl) b.value.decorators.items
+class_head_mapped g called c b = decorators_mapped g _ ByCore c (λ n. refl) b.value.decorators.items
 
 implements_mapped : {X Y : Type 0} (g : X → Y) (h : TsExprWithTypeArgs X → TsExprWithTypeArgs Y) (ns : List (TsExprWithTypeArgs X)) → implements_form (map h ns) ≡ map_form g (implements_form ns)
 unfolding implements_form implemented_form is_some_listed map_form
@@ -155,8 +158,8 @@ private_method_by g called c b n Getter = refl
 private_method_by g called c b n Setter = refl
 
 decorated : {X Y : Type 0} (g : X → Y) (h : Decorator X → Decorator Y) (c : Parameters) → ((n : Decorator X) → decorator_form c (h n) ≡ map_form g (decorator_form c n)) → (rest : Form Y) (ns : List (Decorator X)) →
-    (decorators_form c (map h ns) ⇢ rest) ≡ (map_form g (decorators_form c ns) ⇢ rest)
-decorated g h c same rest ns = ap (λ a. a ⇢ rest) (decorators_mapped g h c same ns)
+    (decorators_form ByCore c (map h ns) ⇢ rest) ≡ (map_form g (decorators_form ByCore c ns) ⇢ rest)
+decorated g h c same rest ns = ap (λ a. a ⇢ rest) (decorators_mapped g h ByCore c same ns)
 
 field_by : {X Y : Type 0} (g : X → Y) (called : Bool) (c : Parameters) (b : Box (class_members.ClassMember X) Global) (n : ClassProp X) (type_ann : Option (TsTypeAnnBox X)) (value : Option (ExprBox X)) →
     node_form called c (map-AnyNode X Y g (as_member b (members.ClassProp (record n { type_ann = type_ann; value = value })))) Member ≡ map_form g (field_form c (record n { type_ann = type_ann; value = value }))
@@ -174,6 +177,18 @@ private_field_by g called c b n None (Some v) = decorated g _ c (λ m. refl) _ n
 private_field_by g called c b n (Some t) None = decorated g _ c (λ m. refl) _ n.decorators.items
 private_field_by g called c b n (Some t) (Some v) = decorated g _ c (λ m. refl) _ n.decorators.items
 
+auto_accessor_by : {X Y : Type 0} (g : X → Y) (called : Bool) (c : Parameters) (b : Box (class_members.ClassMember X) Global) (n : AutoAccessor X) (key : Key X) (type_ann : Option (TsTypeAnnBox X)) (value : Option (ExprBox X)) →
+    node_form called c (map-AnyNode X Y g (as_member b (members.AutoAccessor (record n { key = key; type_ann = type_ann; value = value })))) Member ≡ map_form g (member_of_class_form c (members.AutoAccessor (record n { key = key; type_ann = type_ann; value = value })))
+unfolding node_form stmt_part_form member_of_class_form auto_accessor_form accessor_key_form plain_accessor_modifiers accessor_modifiers field_type_form accessor_value_form decorator_form map_form
+auto_accessor_by g called c b n (keys.Public k) None None = ap (Provided ByCore false) (decorated g _ c (λ m. refl) _ n.decorators.items)
+auto_accessor_by g called c b n (keys.Public k) None (Some v) = ap (Provided ByCore false) (decorated g _ c (λ m. refl) _ n.decorators.items)
+auto_accessor_by g called c b n (keys.Public k) (Some t) None = ap (Provided ByCore false) (decorated g _ c (λ m. refl) _ n.decorators.items)
+auto_accessor_by g called c b n (keys.Public k) (Some t) (Some v) = ap (Provided ByCore false) (decorated g _ c (λ m. refl) _ n.decorators.items)
+auto_accessor_by g called c b n (keys.Private k) None None = ap (Provided ByCore false) (decorated g _ c (λ m. refl) _ n.decorators.items)
+auto_accessor_by g called c b n (keys.Private k) None (Some v) = ap (Provided ByCore false) (decorated g _ c (λ m. refl) _ n.decorators.items)
+auto_accessor_by g called c b n (keys.Private k) (Some t) None = ap (Provided ByCore false) (decorated g _ c (λ m. refl) _ n.decorators.items)
+auto_accessor_by g called c b n (keys.Private k) (Some t) (Some v) = ap (Provided ByCore false) (decorated g _ c (λ m. refl) _ n.decorators.items)
+
 member_by : {X Y : Type 0} (g : X → Y) (called : Bool) (c : Parameters) (b : Box (class_members.ClassMember X) Global) (n : class_members.ClassMember X) →
     node_form called c (map-AnyNode X Y g (as_member b n)) Member ≡ map_form g (member_of_class_form c n)
 unfolding node_form stmt_part_form member_of_class_form static_block_form map_form
@@ -182,6 +197,7 @@ member_by g called c b (members.Method n) = method_by g called c b n n.kind
 member_by g called c b (members.PrivateMethod n) = private_method_by g called c b n n.kind
 member_by g called c b (members.ClassProp n) = field_by g called c b n n.type_ann n.value
 member_by g called c b (members.PrivateProp n) = private_field_by g called c b n n.type_ann n.value
+member_by g called c b (members.AutoAccessor n) = auto_accessor_by g called c b n n.key n.type_ann n.value
 member_by g called c b n = refl
 
 pub class_member_mapped : {X Y : Type 0} (g : X → Y) (called : Bool) (c : Parameters) (b : Box (class_members.ClassMember X) Global) →

@@ -22,7 +22,7 @@ use Rattle.swc_ecma_codegen_syntax.specs.declared.nonterminals.Nonterminal.TheVa
 use Rattle.swc_ecma_codegen_syntax.specs.declared.parameters.Parameters.{Parameters}
 use Rattle.swc_ecma_codegen_syntax.specs.Nonterminals.{takes}
 use Rattle.swc_ecma_codegen_syntax.specs.Parameters.{of_function_name}
-use Rattle.swc_ecma_codegen_syntax.specs.Forms.{Form, Fixed, Part, Provided, ByRule, ByScope, ◌⇢◌, map_form, ending_after, ending_listed}
+use Rattle.swc_ecma_codegen_syntax.specs.Forms.{Form, Fixed, Part, Provided, ByRule, ByScope, ◌⇢◌, map_form, ending_after, ending_listed, Cure}
 use Rattle.swc_ecma_codegen_syntax.specs.NameForms.{name_form}
 use Rattle.swc_ecma_codegen_syntax.specs.MemberForms.{annotation_form}
 use Rattle.swc_ecma_codegen_syntax.specs.PatForms.{pat_part, pat_form, pat_nonterminal}
@@ -51,17 +51,17 @@ ending_mapped g h e d same (x ∷ y ∷ xs) = ap₂ (λ a b. a ⇢ b) (same nt.P
 
 -- ---- parameters
 
-pub decorators_mapped : {X Y : Type 0} (g : X → Y) (h : Decorator X → Decorator Y) (c : Parameters) → ((n : Decorator X) → decorator_form c (h n) ≡ map_form g (decorator_form c n)) → (ns : List (Decorator X)) →
-    decorators_form c (map h ns) ≡ map_form g (decorators_form c ns)
+pub decorators_mapped : {X Y : Type 0} (g : X → Y) (h : Decorator X → Decorator Y) (cure : Cure) (c : Parameters) → ((n : Decorator X) → decorator_form c (h n) ≡ map_form g (decorator_form c n)) → (ns : List (Decorator X)) →
+    decorators_form cure c (map h ns) ≡ map_form g (decorators_form cure c ns)
 unfolding decorators_form map_form
-decorators_mapped g h c same ns = ap₂ (λ b a. Provided ByScope (not b) a) (some_mapped h ns) (order_mapped g h (decorator_form c) (decorator_form c) same ns)
+decorators_mapped g h cure c same ns = ap₂ (λ b a. Provided cure (not b) a) (some_mapped h ns) (order_mapped g h (decorator_form c) (decorator_form c) same ns)
 
 pub param_mapped : {X Y : Type 0} (g : X → Y) (k : Param X → Param Y) (h : Decorator X → Decorator Y) (c : Parameters) → ((n : Param X) → (k n).decorators.items ≡ map h n.decorators.items) →
     ((n : Param X) → pat_form false c (k n).pat ≡ map_form g (pat_form false c n.pat)) → ((n : Param X) → pat_nonterminal (k n).pat ≡ pat_nonterminal n.pat) →
     ((n : Decorator X) → decorator_form c (h n) ≡ map_form g (decorator_form c n)) → (place : Nonterminal) (n : Param X) → param_form c place (k n) ≡ map_form g (param_form c place n)
 unfolding param_form pat_in map_form
 param_mapped g k h c items pattern sort same place n =
-    ap₂ (λ a b. a ⇢ b) (ap (decorators_form c) (items n) ∙ decorators_mapped g h c same n.decorators.items)
+    ap₂ (λ a b. a ⇢ b) (ap (decorators_form ByScope c) (items n) ∙ decorators_mapped g h ByScope c same n.decorators.items)
     (ap₂ (λ b a. Provided ByRule (takes place b) a) (sort n) (pattern n))
 
 -- ---- functions

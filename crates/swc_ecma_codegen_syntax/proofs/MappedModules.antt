@@ -83,4 +83,5 @@ exported_head_mapped g called c n = refl
 pub exported_tail_mapped : {X Y : Type 0} (g : X → Y) (called : Bool) (c : Parameters) (n : Decl X) → node_form called c (map-AnyNode X Y g (nodes.StmtPart (stmt_parts.Decl n))) ExportedTail ≡ map_form g (exported_tail_form c n)
 unfolding node_form stmt_part_form stmt_form exported_tail_form class_rest_form bound_name_form name_form map_form
 exported_tail_mapped g called c (decls.Class n) = refl
+exported_tail_mapped g called c (decls.Using n) = refl
 exported_tail_mapped g called c n = decl_mapped g called c n

@@ -8,6 +8,7 @@ use Rattle.swc_ecma_codegen_tree.specs.declared.parts.ExprPart.TheVariants as ex
 use Rattle.swc_ecma_codegen_tree.specs.declared.parts.StmtPart.TheVariants as stmt_parts
 use Rattle.swc_ecma_codegen_tree.specs.declared.decls.Decl.{Decl}
 use Rattle.swc_ecma_codegen_tree.specs.declared.decls.Decl.TheVariants as decls
+use Rattle.swc_ecma_codegen_tree.specs.declared.decls.UsingDecl.{UsingDecl}
 use Rattle.swc_ecma_codegen_tree.specs.declared.decls.VarDecl.{VarDecl}
 use Rattle.swc_ecma_codegen_tree.specs.declared.decls.VarDeclKind.{VarDeclKind}
 use Rattle.swc_ecma_codegen_tree.specs.declared.decls.VarDeclarator.{VarDeclarator}
@@ -31,21 +32,25 @@ use Rattle.swc_ecma_codegen_tree.specs.declared.stmts.SwitchStmt.{SwitchStmt}
 use Rattle.swc_ecma_codegen_tree.specs.declared.stmts.TryStmt.{TryStmt}
 use Rattle.swc_ecma_codegen_tree.specs.declared.stmts.VarDeclOrExpr.{VarDeclOrExpr}
 use Rattle.swc_ecma_codegen_tree.specs.declared.stmts.VarDeclOrExpr.TheVariants as inits
-use Rattle.swc_ecma_codegen_grammar.specs.Phrases.{mark, word, ending}
+use Rattle.swc_ecma_codegen_grammar.specs.Phrases.{mark, word, same_line, ending}
 use Rattle.swc_ecma_codegen_grammar.specs.DeclPhrases.{var_kind}
 use Rattle.swc_ecma_codegen_grammar.specs.TsDeclPhrases.{declare_word}
+use Rattle.swc_ecma_codegen_grammar.specs.FunctionPhrases.{word_if}
 use Rattle.swc_ecma_codegen_grammar.specs.declared.roles.Role.TheVariants.{Statement, Block, VariableDeclaration}
 use Rattle.swc_ecma_codegen_grammar.proofs.MappedStmts.{by_init, by_test}
 use Rattle.swc_ecma_codegen_grammar.proofs.MappedTemplates.{length_mapped}
 use Rattle.swc_ecma_codegen_syntax.specs.declared.nonterminals.Nonterminal.{Nonterminal}
 use Rattle.swc_ecma_codegen_syntax.specs.declared.nonterminals.Nonterminal.TheVariants as nt
 use Rattle.swc_ecma_codegen_syntax.specs.declared.parameters.Parameters.{Parameters}
+use Rattle.swc_ecma_codegen_syntax.specs.declared.lookahead.Lookahead.{Lookahead}
+use Rattle.swc_ecma_codegen_syntax.specs.declared.lookahead.Lookahead.TheVariants.{ForStart}
 use Rattle.swc_ecma_codegen_syntax.specs.Nonterminals.{takes}
-use Rattle.swc_ecma_codegen_syntax.specs.Parameters.{of_bindings, of_declarations, in_list}
-use Rattle.swc_ecma_codegen_syntax.specs.Forms.{Form, Fixed, Provided, ByRule, ByScope, ◌⇢◌, map_form}
+use Rattle.swc_ecma_codegen_syntax.specs.Parameters.{of_bindings, of_declarations, of_loop, in_list, in_block, with_in, may_await}
+use Rattle.swc_ecma_codegen_syntax.specs.Forms.{Form, Fixed, Provided, ByRule, ByScope, ByCore, ◌⇢◌, map_form}
 use Rattle.swc_ecma_codegen_syntax.specs.NameForms.{name_form}
-use Rattle.swc_ecma_codegen_syntax.specs.DeclForms.{is_pattern, value_form, is_valued, declarator_form, declarators_form, is_const, is_single, var_decl_form, decl_form, decl_nonterminal}
-use Rattle.swc_ecma_codegen_syntax.specs.StmtForms.{expression_part, optional_form, expr_stmt_form, with_form, return_rest_form, return_form, labeled_form, jump_form, break_form, continue_form, branches_form, if_form, case_test_form, clause_item_form, clause_list_form, case_form, is_case_block, switch_form, throw_form, catch_param_form, catch_form, handler_form, finalizer_form, try_form, while_form, do_while_form, for_init_form, for_form, head_form, for_in_form, for_of_form, stmt_form, stmt_nonterminal, is_empty, is_empty_node, begins_empty, list_form, block_form}
+use Rattle.swc_ecma_codegen_syntax.specs.MemberForms.{expr_part}
+use Rattle.swc_ecma_codegen_syntax.specs.DeclForms.{is_pattern, value_form, is_valued, declarator_form, declarators_form, is_const, is_single, of_kind, var_decl_form, is_resource_name, are_resource_names, are_resources, after_await_form, resources_form, using_form, decl_form, decl_nonterminal}
+use Rattle.swc_ecma_codegen_syntax.specs.StmtForms.{expression_part, inner_part, optional_form, expr_stmt_form, with_form, return_rest_form, return_form, labeled_form, jump_form, break_form, continue_form, branches_form, if_form, case_test_form, clause_item_form, clause_list_form, case_form, is_case_block, switch_form, throw_form, catch_param_form, catch_form, handler_form, finalizer_form, try_form, while_form, do_while_form, for_init_form, for_form, head_form, is_of_head, for_in_form, of_start, for_of_form, stmt_form, stmt_nonterminal, is_empty, is_empty_node, begins_empty, list_form, block_form}
 use Rattle.swc_ecma_codegen_syntax.specs.NodeForms.{stmt_part_form, node_form, part_form, part_nonterminal, node_nonterminal}
 use Rattle.swc_ecma_codegen_syntax.specs.FunctionForms.{bound_name_form, fn_decl_form}
 use Rattle.swc_ecma_codegen_syntax.proofs.Judged.{after_mapped, order_mapped}
@@ -81,29 +86,71 @@ declarators_mapped g h c constant same (x ∷ xs) = ap₂ (λ a b. a ⇢ b) (sam
 -- a declaration of variables, by its list
 abbrev declaration : {X : Type 0} → Parameters → Bool → VarDeclKind → List (VarDeclarator X) → Form X
 declaration c declare kind xs =
-    Provided ByScope (not declare) (Provided ByRule (not c.is_loop_head || length xs == 1) (Fixed (declare_word declare) ⇢ Fixed (var_kind kind) ⇢ declarators_form c (is_const kind) xs))
+    Provided ByScope (not declare) (Provided ByRule (not c.is_loop_head || length xs == 1) (Fixed (declare_word declare) ⇢ Fixed (var_kind kind) ⇢ declarators_form (of_kind kind c) (is_const kind) xs))
 
 declaration_mapped : {X Y : Type 0} (g : X → Y) (h : VarDeclarator X → VarDeclarator Y) (c : Parameters) (declare : Bool) (kind : VarDeclKind) →
-    ((n : VarDeclarator X) → declarator_form c (is_const kind) (h n) ≡ map_form g (declarator_form c (is_const kind) n)) → (xs : List (VarDeclarator X)) → declaration c declare kind (map h xs) ≡ map_form g (declaration c declare kind xs)
+    ((n : VarDeclarator X) → declarator_form (of_kind kind c) (is_const kind) (h n) ≡ map_form g (declarator_form (of_kind kind c) (is_const kind) n)) → (xs : List (VarDeclarator X)) → declaration c declare kind (map h xs) ≡ map_form g (declaration c declare kind xs)
 unfolding map_form
 declaration_mapped g h c declare kind same xs =
-    ap₂ (λ b a. Provided ByScope (not declare) (Provided ByRule (not c.is_loop_head || b == 1) (Fixed (declare_word declare) ⇢ Fixed (var_kind kind) ⇢ a))) (length_mapped h xs) (declarators_mapped g h c (is_const kind) same xs)
+    ap₂ (λ b a. Provided ByScope (not declare) (Provided ByRule (not c.is_loop_head || b == 1) (Fixed (declare_word declare) ⇢ Fixed (var_kind kind) ⇢ a))) (length_mapped h xs) (declarators_mapped g h (of_kind kind c) (is_const kind) same xs)
 
 -- whether a value is there or none
 abbrev valued_by : Parameters → Bool → Bool → Bool → Bool
-valued_by c constant init pattern = cond c.is_loop_head (not init) (init || not (constant || pattern))
+valued_by c constant init pattern = cond c.is_loop_head (not init || (c.initializes && not pattern)) (init || not (constant || pattern))
 
 pub var_decl_mapped : {X Y : Type 0} (g : X → Y) (called : Bool) (c : Parameters) (n : VarDecl X) → node_form called c (map-AnyNode X Y g (nodes.StmtPart (stmt_parts.VarDecl n))) VariableDeclaration ≡ map_form g (var_decl_form c n)
 unfolding node_form part_form node_nonterminal part_nonterminal stmt_part_form is_single var_decl_form declarator_form is_valued value_form map_form
 var_decl_mapped {X} {Y} g called c n = declaration_mapped {X = X} {Y = Y} g _ c n.declare n.kind (by_init {X = X} _
-    (λ span name definite. declared_same definite (valued_by c (is_const n.kind) false) _ _ _ _ _ _ _ (is_pattern_mapped g name) (pat_sort_mapped g false c name) (pat_mapped g false (of_bindings c) name))
-    (λ span name init definite. declared_same definite (valued_by c (is_const n.kind) true) _ _ _ _ _ _ _ (is_pattern_mapped g name) (pat_sort_mapped g false c name) (pat_mapped g false (of_bindings c) name))) n.decls.items
+    (λ span name definite. declared_same definite (valued_by (of_kind n.kind c) (is_const n.kind) false) _ _ _ _ _ _ _ (is_pattern_mapped g name) (pat_sort_mapped g false (of_kind n.kind c) name) (pat_mapped g false (of_bindings (of_kind n.kind c)) name))
+    (λ span name init definite. declared_same definite (valued_by (of_kind n.kind c) (is_const n.kind) true) _ _ _ _ _ _ _ (is_pattern_mapped g name) (pat_sort_mapped g false (of_kind n.kind c) name) (pat_mapped g false (of_bindings (of_kind n.kind c)) name))) n.decls.items
+
+-- what `using` declares
+abbrev resource_in : {X : Type 0} → Bool → AnyNode-F X → Bool
+resource_in bars_of (nodes.ExprPart (expr_parts.Pat n)) = is_resource_name bars_of n
+resource_in bars_of n = false
+
+resource_mapped : {X Y : Type 0} (g : X → Y) (bars_of : Bool) (n : Pat X) → resource_in bars_of (map-AnyNode X Y g (nodes.ExprPart (expr_parts.Pat n))) ≡ is_resource_name bars_of n
+unfolding is_resource_name
+resource_mapped g bars_of (pats.Ident n) = refl
+resource_mapped g bars_of n = refl
+
+resources_named : {X Y : Type 0} (h : VarDeclarator X → VarDeclarator Y) (bars_of : Bool) → ((n : VarDeclarator X) → is_resource_name bars_of (h n).name ≡ is_resource_name bars_of n.name) →
+    (xs : List (VarDeclarator X)) → are_resource_names bars_of (map h xs) ≡ are_resource_names bars_of xs
+unfolding are_resource_names
+resources_named h bars_of same [] = refl
+resources_named h bars_of same (x ∷ xs) = ap₂ (λ a b. a && b) (same x) (resources_named h bars_of same xs)
+
+abbrev used : {X : Type 0} → Bool → Bool → Form X → Form X
+used is_await condition a = Provided ByRule condition (after_await_form is_await (Fixed (word (codes "using")) ⇢ Fixed same_line ⇢ a))
+
+used_mapped : {X Y : Type 0} (g : X → Y) (is_await condition : Bool) (a : Form X) → used is_await condition (map_form g a) ≡ map_form g (used is_await condition a)
+unfolding map_form after_await_form
+used_mapped g true condition a = refl
+used_mapped g false condition a = refl
+
+resources_mapped : {X Y : Type 0} (g : X → Y) (h : VarDeclarator X → VarDeclarator Y) (c : Parameters) (is_await : Bool) →
+    ((bars_of : Bool) (n : VarDeclarator X) → is_resource_name bars_of (h n).name ≡ is_resource_name bars_of n.name) →
+    ((n : VarDeclarator X) → declarator_form c true (h n) ≡ map_form g (declarator_form c true n)) → (xs : List (VarDeclarator X)) → resources_form c is_await (map h xs) ≡ map_form g (resources_form c is_await xs)
+unfolding resources_form are_resources
+resources_mapped g h c is_await named same xs =
+    ap₂ (λ b a. used is_await b a) (ap₂ (λ l b. (not is_await || may_await c) && ((not c.is_loop_head || l == 1) && b)) (length_mapped h xs) (resources_named h (c.is_loop_head && not is_await) (named (c.is_loop_head && not is_await)) xs))
+    (declarators_mapped g h c true same xs) ∙ used_mapped g is_await (are_resources c is_await xs) (declarators_form c true xs)
+
+using_declared : {X Y : Type 0} (g : X → Y) (called : Bool) (c : Parameters) (n : UsingDecl X) → node_form called c (map-AnyNode X Y g (nodes.Stmt (stmts.Decl (decls.Using n)))) Statement ≡ map_form g (decl_form c (decls.Using n))
+unfolding node_form part_form node_nonterminal part_nonterminal stmt_form decl_form using_form declarator_form is_valued value_form map_form
+using_declared {X} {Y} g called c n = ap (λ a. Provided ByCore false (Provided ByRule (not c.bars_using) (a ⇢ Fixed ending)))
+    (resources_mapped {X = X} {Y = Y} g _ (of_declarations c) n.is_await
+    (λ bars_of. by_init {X = X} _ (λ span name definite. resource_mapped g bars_of name) (λ span name init definite. resource_mapped g bars_of name))
+    (by_init {X = X} _
+    (λ span name definite. declared_same definite (valued_by (of_declarations c) true false) _ _ _ _ _ _ _ (is_pattern_mapped g name) (pat_sort_mapped g false (of_declarations c) name) (pat_mapped g false (of_bindings (of_declarations c)) name))
+    (λ span name init definite. declared_same definite (valued_by (of_declarations c) true true) _ _ _ _ _ _ _ (is_pattern_mapped g name) (pat_sort_mapped g false (of_declarations c) name) (pat_mapped g false (of_bindings (of_declarations c)) name))) n.decls.items)
 
 pub decl_mapped : {X Y : Type 0} (g : X → Y) (called : Bool) (c : Parameters) (n : Decl X) → node_form called c (map-AnyNode X Y g (nodes.Stmt (stmts.Decl n))) Statement ≡ map_form g (decl_form c n)
 unfolding node_form stmt_part_form stmt_form decl_form fn_decl_form class_decl_form bound_name_form name_form map_form
 decl_mapped g called c (decls.Var n) = ap (λ a. a ⇢ Fixed ending) (var_decl_mapped g called (of_declarations c) n)
 decl_mapped g called c (decls.Fn n) = refl
 decl_mapped g called c (decls.Class n) = refl
+decl_mapped g called c (decls.Using n) = using_declared g called c n
 decl_mapped g called c n = refl
 
 -- ---- statements
@@ -192,16 +239,36 @@ for_by g called c n (Some (inits.Expr i)) None (Some u) = refl
 for_by g called c n (Some (inits.Expr i)) (Some t) None = refl
 for_by g called c n (Some (inits.Expr i)) (Some t) (Some u) = refl
 
+using_in_head : {X Y : Type 0} (g : X → Y) (h : VarDeclarator X → VarDeclarator Y) (c : Parameters) (is_await : Bool) →
+    ((bars_of : Bool) (n : VarDeclarator X) → is_resource_name bars_of (h n).name ≡ is_resource_name bars_of n.name) →
+    ((n : VarDeclarator X) → declarator_form (of_loop false c) true (h n) ≡ map_form g (declarator_form (of_loop false c) true n)) → (lookahead : Lookahead) (xs : List (VarDeclarator X)) →
+    Provided ByCore false (Provided ByRule (is_of_head lookahead) (resources_form (of_loop false c) is_await (map h xs))) ≡ map_form g (Provided ByCore false (Provided ByRule (is_of_head lookahead) (resources_form (of_loop false c) is_await xs)))
+unfolding map_form
+using_in_head g h c is_await named same lookahead xs = ap (λ a. Provided ByCore false (Provided ByRule (is_of_head lookahead) a)) (resources_mapped g h (of_loop false c) is_await named same xs)
+
 for_in_by : {X Y : Type 0} (g : X → Y) (called : Bool) (c : Parameters) (n : ForInStmt X) (left : ForHead X) → node_form called c (map-AnyNode X Y g (nodes.Stmt (stmts.ForIn (record n { left = left })))) Statement ≡ map_form g (for_in_form c (record n { left = left }))
-unfolding node_form stmt_form for_in_form head_form map_form
+unfolding node_form part_form node_nonterminal part_nonterminal stmt_form for_in_form head_form using_form declarator_form is_valued value_form map_form
 for_in_by g called c n (heads.VarDecl h) = refl
-for_in_by g called c n (heads.UsingDecl h) = refl
+for_in_by {X} {Y} g called c n (heads.UsingDecl h) =
+    ap (λ a. Fixed (word (codes "for")) ⇢ Fixed (mark (codes "(")) ⇢ a ⇢ Fixed (word (codes "in")) ⇢ map_form g (expression_part c n.right) ⇢ Fixed (mark (codes ")")) ⇢ map_form g (inner_part c n.body))
+    (using_in_head {X = X} {Y = Y} g _ c h.value.is_await
+    (λ bars_of. by_init {X = X} _ (λ span name definite. resource_mapped g bars_of name) (λ span name init definite. resource_mapped g bars_of name))
+    (by_init {X = X} _
+    (λ span name definite. declared_same definite (valued_by (of_loop false c) true false) _ _ _ _ _ _ _ (is_pattern_mapped g name) (pat_sort_mapped g false (of_loop false c) name) (pat_mapped g false (of_bindings (of_loop false c)) name))
+    (λ span name init definite. declared_same definite (valued_by (of_loop false c) true true) _ _ _ _ _ _ _ (is_pattern_mapped g name) (pat_sort_mapped g false (of_loop false c) name) (pat_mapped g false (of_bindings (of_loop false c)) name))) ForStart h.value.decls.items)
 for_in_by g called c n (heads.Pat h) = refl
 
 for_of_by : {X Y : Type 0} (g : X → Y) (called : Bool) (c : Parameters) (n : ForOfStmt X) (left : ForHead X) → node_form called c (map-AnyNode X Y g (nodes.Stmt (stmts.ForOf (record n { left = left })))) Statement ≡ map_form g (for_of_form c (record n { left = left }))
-unfolding node_form stmt_form for_of_form head_form map_form
+unfolding node_form part_form node_nonterminal part_nonterminal stmt_form for_of_form head_form using_form declarator_form is_valued value_form map_form
 for_of_by g called c n (heads.VarDecl h) = refl
-for_of_by g called c n (heads.UsingDecl h) = refl
+for_of_by {X} {Y} g called c n (heads.UsingDecl h) =
+    ap (λ a. Provided ByRule (not n.is_await || may_await c) (Fixed (word (codes "for")) ⇢ Fixed (word_if n.is_await (word (codes "await"))) ⇢ Fixed (mark (codes "(")) ⇢ a ⇢ Fixed (word (codes "of"))
+    ⇢ map_form g (expr_part nt.AssignmentExpression (with_in c) n.right) ⇢ Fixed (mark (codes ")")) ⇢ map_form g (inner_part c n.body)))
+    (using_in_head {X = X} {Y = Y} g _ c h.value.is_await
+    (λ bars_of. by_init {X = X} _ (λ span name definite. resource_mapped g bars_of name) (λ span name init definite. resource_mapped g bars_of name))
+    (by_init {X = X} _
+    (λ span name definite. declared_same definite (valued_by (of_loop false c) true false) _ _ _ _ _ _ _ (is_pattern_mapped g name) (pat_sort_mapped g false (of_loop false c) name) (pat_mapped g false (of_bindings (of_loop false c)) name))
+    (λ span name init definite. declared_same definite (valued_by (of_loop false c) true true) _ _ _ _ _ _ _ (is_pattern_mapped g name) (pat_sort_mapped g false (of_loop false c) name) (pat_mapped g false (of_bindings (of_loop false c)) name))) (of_start n.is_await) h.value.decls.items)
 for_of_by g called c n (heads.Pat h) = refl
 
 pub stmt_mapped : {X Y : Type 0} (g : X → Y) (called : Bool) (c : Parameters) (n : Stmt X) → node_form called c (map-AnyNode X Y g (nodes.Stmt n)) Statement ≡ map_form g (stmt_form c n)
@@ -256,4 +323,4 @@ list_mapped g h c empty same (x ∷ xs) =
 pub block_mapped : {X Y : Type 0} (g : X → Y) (called : Bool) (c : Parameters) (n : BlockStmt X) → node_form called c (map-AnyNode X Y g (nodes.StmtPart (stmt_parts.BlockStmt n))) Block ≡ map_form g (block_form c n)
 unfolding node_form stmt_part_form block_form is_empty_node map_form
 block_mapped {X} {Y} g called c n =
-    ap (λ a. Fixed (mark (codes "{")) ⇢ a ⇢ Fixed (mark (codes "}"))) (list_mapped {X = X} {Y = Y} g _ c (empty_mapped g) (λ d. stmt_mapped g called d) n.stmts.items)
+    ap (λ a. Fixed (mark (codes "{")) ⇢ a ⇢ Fixed (mark (codes "}"))) (list_mapped {X = X} {Y = Y} g _ (in_block c) (empty_mapped g) (λ d. stmt_mapped g called d) n.stmts.items)

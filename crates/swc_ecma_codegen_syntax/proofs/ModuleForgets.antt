@@ -1,4 +1,4 @@
--- Without nonterminals the forms of modules and programs are today's productions, where they keep their structure.
+-- Without nonterminals the forms of modules and programs are the productions that tell their tokens, where they keep their structure.
 use Rattle.std.proofs.Common.{◌≡◌, Bool, true, refl, sym, ap, ap₂, List, [], ◌∷◌, map, codes, Option, Some, None}
 use Rattle.std.proofs.lemmas.Bool.{true≢false, and_parts}
 use Rattle.swc_ecma_codegen_tree.specs.declared.modules.DefaultDecl.{DefaultDecl}
@@ -27,6 +27,7 @@ use Rattle.swc_ecma_codegen_syntax.specs.Summary.{Summary}
 use Rattle.swc_ecma_codegen_syntax.specs.Parameters.{of_script, of_module, in_list}
 use Rattle.swc_ecma_codegen_syntax.specs.Forms.{forget, keeps, is_met}
 use Rattle.swc_ecma_codegen_syntax.specs.ModuleForms.{attributes_form, import_form, from_form, export_named_form, export_all_form, exported_head_form, exported_tail_form, export_decl_form, export_default_form, module_decl_form, item_form, begins_empty_item, items_form, module_form, script_form, program_form, default_form, default_decl_form}
+use Rattle.swc_ecma_codegen_syntax.specs.Verdicts.{Grammar}
 use Rattle.swc_ecma_codegen_syntax.proofs.StmtForgets.{decl_forgets, stmt_forgets, list_forgets}
 use Rattle.swc_ecma_codegen_syntax.proofs.ClassForgets.{class_rest_forgets, class_expr_forgets}
 use Rattle.swc_ecma_codegen_syntax.proofs.FunctionForgets.{fn_default_forgets}
@@ -55,54 +56,55 @@ all_forgets : {X : Type 0} (p : X → Role → Phrase) (c : Parameters) (n : Exp
 unfolding forget export_all_form export_all
 all_forgets p c n = ap (λ a. word (codes "export") > type_word n.type_only > mark (codes "*") > word (codes "from") > str_lit n.src > a > ending) (attributes_forget p c n.with)
 
-pub exported_head_forgets : {X : Type 0} (places : Bool) (f : X → Role → Parameters → Summary) (p : X → Role → Phrase) (c : Parameters) (n : Decl X) →
-    keeps places f (exported_head_form c n) ≡ true → forget p (exported_head_form c n) ≡ exported_head p n
+pub exported_head_forgets : {X : Type 0} (grammar : Grammar) (f : X → Role → Parameters → Summary) (p : X → Role → Phrase) (c : Parameters) (n : Decl X) →
+    keeps grammar f (exported_head_form c n) ≡ true → forget p (exported_head_form c n) ≡ exported_head p n
 unfolding forget keeps is_met exported_head_form exported_head
-exported_head_forgets places f p c (decls.Class n) k = refl
-exported_head_forgets places f p c n k = refl
+exported_head_forgets grammar f p c (decls.Class n) k = refl
+exported_head_forgets grammar f p c n k = refl
 
-pub exported_tail_forgets : {X : Type 0} (places : Bool) (f : X → Role → Parameters → Summary) (p : X → Role → Phrase) (c : Parameters) (n : Decl X) →
-    keeps places f (exported_tail_form c n) ≡ true → forget p (exported_tail_form c n) ≡ exported_tail p n
+pub exported_tail_forgets : {X : Type 0} (grammar : Grammar) (f : X → Role → Parameters → Summary) (p : X → Role → Phrase) (c : Parameters) (n : Decl X) →
+    keeps grammar f (exported_tail_form c n) ≡ true → forget p (exported_tail_form c n) ≡ exported_tail p n
 unfolding keeps is_met exported_tail_form exported_tail
-exported_tail_forgets places f p c (decls.Class n) k = class_rest_forgets p c n
-exported_tail_forgets places f p c n k = decl_forgets places f p c n k
+exported_tail_forgets grammar f p c (decls.Class n) k = class_rest_forgets p c n
+exported_tail_forgets grammar f p c (decls.Using n) k = absurd (true≢false (sym k))
+exported_tail_forgets grammar f p c n k = decl_forgets grammar f p c n k
 
-default_forgets : {X : Type 0} (places : Bool) (f : X → Role → Parameters → Summary) (p : X → Role → Phrase) (c : Parameters) (n : DefaultDecl X) →
-    keeps places f (default_form c n) ≡ true → forget p (default_form c n) ≡ default_decl p n
+default_forgets : {X : Type 0} (grammar : Grammar) (f : X → Role → Parameters → Summary) (p : X → Role → Phrase) (c : Parameters) (n : DefaultDecl X) →
+    keeps grammar f (default_form c n) ≡ true → forget p (default_form c n) ≡ default_decl p n
 unfolding keeps is_met default_form default_decl
-default_forgets places f p c (default_decls.Class n) k = class_expr_forgets p c n
-default_forgets places f p c (default_decls.Fn n) k = fn_default_forgets p c n
-default_forgets places f p c (default_decls.TsInterfaceDecl n) k = absurd (true≢false (sym k))
+default_forgets grammar f p c (default_decls.Class n) k = class_expr_forgets p c n
+default_forgets grammar f p c (default_decls.Fn n) k = fn_default_forgets p c n
+default_forgets grammar f p c (default_decls.TsInterfaceDecl n) k = absurd (true≢false (sym k))
 
-pub module_decl_forgets : {X : Type 0} (places : Bool) (f : X → Role → Parameters → Summary) (p : X → Role → Phrase) (c : Parameters) (n : ModuleDecl X) →
-    keeps places f (module_decl_form c n) ≡ true → forget p (module_decl_form c n) ≡ module_decl p n
+pub module_decl_forgets : {X : Type 0} (grammar : Grammar) (f : X → Role → Parameters → Summary) (p : X → Role → Phrase) (c : Parameters) (n : ModuleDecl X) →
+    keeps grammar f (module_decl_form c n) ≡ true → forget p (module_decl_form c n) ≡ module_decl p n
 unfolding forget keeps is_met module_decl_form export_decl_form default_decl_form export_default_form module_decl export_decl export_default_decl export_default_expr
-module_decl_forgets places f p c (module_decls.Import n) k = import_forgets p c n
-module_decl_forgets places f p c (module_decls.ExportDecl n) k = refl
-module_decl_forgets places f p c (module_decls.ExportNamed n) k = named_forgets p c n
-module_decl_forgets places f p c (module_decls.ExportDefaultDecl n) k = ap (λ q. word (codes "export") > word (codes "default") > q) (default_forgets places f p c n.decl k)
-module_decl_forgets places f p c (module_decls.ExportDefaultExpr n) k = refl
-module_decl_forgets places f p c (module_decls.ExportAll n) k = all_forgets p c n
-module_decl_forgets places f p c n k = absurd (true≢false (sym k))
+module_decl_forgets grammar f p c (module_decls.Import n) k = import_forgets p c n
+module_decl_forgets grammar f p c (module_decls.ExportDecl n) k = refl
+module_decl_forgets grammar f p c (module_decls.ExportNamed n) k = named_forgets p c n
+module_decl_forgets grammar f p c (module_decls.ExportDefaultDecl n) k = ap (λ q. word (codes "export") > word (codes "default") > q) (default_forgets grammar f p c n.decl k)
+module_decl_forgets grammar f p c (module_decls.ExportDefaultExpr n) k = refl
+module_decl_forgets grammar f p c (module_decls.ExportAll n) k = all_forgets p c n
+module_decl_forgets grammar f p c n k = absurd (true≢false (sym k))
 
 -- ---- programs
 
-pub item_forgets : {X : Type 0} (places : Bool) (f : X → Role → Parameters → Summary) (p : X → Role → Phrase) (c : Parameters) (n : ModuleItem X) →
-    keeps places f (item_form c n) ≡ true → forget p (item_form c n) ≡ module_item p n
+pub item_forgets : {X : Type 0} (grammar : Grammar) (f : X → Role → Parameters → Summary) (p : X → Role → Phrase) (c : Parameters) (n : ModuleItem X) →
+    keeps grammar f (item_form c n) ≡ true → forget p (item_form c n) ≡ module_item p n
 unfolding forget item_form module_item
-item_forgets places f p c (module_items.ModuleDecl n) k = refl
-item_forgets places f p c (module_items.Stmt n) k = stmt_forgets places f p c n k
+item_forgets grammar f p c (module_items.ModuleDecl n) k = refl
+item_forgets grammar f p c (module_items.Stmt n) k = stmt_forgets grammar f p c n k
 
-items_forget : {X : Type 0} (places : Bool) (f : X → Role → Parameters → Summary) (p : X → Role → Phrase) (c : Parameters) (xs : List (ModuleItem X)) →
-    keeps places f (items_form c xs) ≡ true → forget p (items_form c xs) ≡ phrases.in_order (map (module_item p) xs)
+items_forget : {X : Type 0} (grammar : Grammar) (f : X → Role → Parameters → Summary) (p : X → Role → Phrase) (c : Parameters) (xs : List (ModuleItem X)) →
+    keeps grammar f (items_form c xs) ≡ true → forget p (items_form c xs) ≡ phrases.in_order (map (module_item p) xs)
 unfolding forget keeps items_form phrases.in_order
-items_forget places f p c [] k = refl
-items_forget places f p c (x ∷ xs) k =
-    let (h, l) = and_parts (keeps places f (item_form (in_list (begins_empty_item xs) c) x)) (keeps places f (items_form c xs)) k in
-    ap₂ Then (item_forgets places f p (in_list (begins_empty_item xs) c) x h) (items_forget places f p c xs l)
+items_forget grammar f p c [] k = refl
+items_forget grammar f p c (x ∷ xs) k =
+    let (h, l) = and_parts (keeps grammar f (item_form (in_list (begins_empty_item xs) c) x)) (keeps grammar f (items_form c xs)) k in
+    ap₂ Then (item_forgets grammar f p (in_list (begins_empty_item xs) c) x h) (items_forget grammar f p c xs l)
 
-pub program_forgets : {X : Type 0} (places : Bool) (f : X → Role → Parameters → Summary) (p : X → Role → Phrase) (minify : Bool) (n : Program X) →
-    keeps places f (program_form minify n) ≡ true → forget p (program_form minify n) ≡ program p n
+pub program_forgets : {X : Type 0} (grammar : Grammar) (f : X → Role → Parameters → Summary) (p : X → Role → Phrase) (minify : Bool) (n : Program X) →
+    keeps grammar f (program_form minify n) ≡ true → forget p (program_form minify n) ≡ program p n
 unfolding forget keeps program_form module_form script_form program whole_module script
-program_forgets places f p minify (programs.Module n) k = ap (Then (shebang n.shebang)) (items_forget places f p (record of_module { minify = minify }) n.body.items k)
-program_forgets places f p minify (programs.Script n) k = ap (Then (shebang n.shebang)) (list_forgets places f p (record of_script { minify = minify }) n.body.items k)
+program_forgets grammar f p minify (programs.Module n) k = ap (Then (shebang n.shebang)) (items_forget grammar f p (record of_module { minify = minify }) n.body.items k)
+program_forgets grammar f p minify (programs.Script n) k = ap (Then (shebang n.shebang)) (list_forgets grammar f p (record of_script { minify = minify }) n.body.items k)

@@ -1,4 +1,4 @@
--- Without nonterminals the forms of patterns and of targets are today's productions, where they keep their structure.
+-- Without nonterminals the forms of patterns and of targets are the productions that tell their tokens, where they keep their structure.
 use Rattle.std.proofs.Common.{◌≡◌, Bool, true, false, not, refl, sym, ap, ap₂, List, [], ◌∷◌, map, codes, Option, Some, None}
 use Rattle.std.proofs.lemmas.Bool.{true≢false}
 use Rattle.swc_ecma_codegen_tree.specs.Links.{ExprBox, PatBox}
@@ -35,6 +35,7 @@ use Rattle.swc_ecma_codegen_syntax.specs.Forms.{forget, keeps, is_met}
 use Rattle.swc_ecma_codegen_syntax.specs.NameForms.{name_form}
 use Rattle.swc_ecma_codegen_syntax.specs.PatForms.{last_place, binding_form, initializer_form, question_form, pat_element_form, pat_elements_after, pat_elements_form, closing_form, elements_end_form, array_pat_form, rest_form, assign_pat_form, key_value_pat_form, assign_pat_prop_form, pat_prop_form, pat_props_after, pat_props_form, object_pat_form, pat_form}
 use Rattle.swc_ecma_codegen_syntax.specs.TargetForms.{paren_target_form, simple_target_form, target_pat_form, target_form}
+use Rattle.swc_ecma_codegen_syntax.specs.Verdicts.{Grammar}
 use Rattle.swc_ecma_codegen_syntax.proofs.Forgets.{annotation_forgets, member_forgets, super_prop_forgets, chain_forgets, prop_name_forgets}
 
 binding_forgets : {X : Type 0} (p : X → Role → Phrase) (c : Parameters) (n : BindingIdent X) → forget p (binding_form c n) ≡ binding_ident p n
@@ -129,17 +130,17 @@ target_pat_forgets p comma c (target_pats.Array n) = array_forgets p comma c n
 target_pat_forgets p comma c (target_pats.Object n) = object_pat_forgets p comma c n
 target_pat_forgets p comma c (target_pats.Invalid n) = refl
 
-simple_forgets : {X : Type 0} (places : Bool) (f : X → Role → Parameters → Summary) (p : X → Role → Phrase) (c : Parameters) (n : SimpleAssignTarget X) → keeps places f (simple_target_form c n) ≡ true → forget p (simple_target_form c n) ≡ simple_assign_target p n
+simple_forgets : {X : Type 0} (grammar : Grammar) (f : X → Role → Parameters → Summary) (p : X → Role → Phrase) (c : Parameters) (n : SimpleAssignTarget X) → keeps grammar f (simple_target_form c n) ≡ true → forget p (simple_target_form c n) ≡ simple_assign_target p n
 unfolding forget keeps is_met simple_target_form paren_target_form simple_assign_target paren_expr
-simple_forgets places f p c (simple_targets.Ident n) k = binding_forgets p c n
-simple_forgets places f p c (simple_targets.Member n) k = member_forgets p nt.CallOrMember c n
-simple_forgets places f p c (simple_targets.SuperProp n) k = super_prop_forgets p c n
-simple_forgets places f p c (simple_targets.Paren n) k = refl
-simple_forgets places f p c (simple_targets.OptChain n) k = chain_forgets p c n
-simple_forgets places f p c (simple_targets.Invalid n) k = refl
-simple_forgets places f p c n k = absurd (true≢false (sym k))
+simple_forgets grammar f p c (simple_targets.Ident n) k = binding_forgets p c n
+simple_forgets grammar f p c (simple_targets.Member n) k = member_forgets p nt.CallOrMember c n
+simple_forgets grammar f p c (simple_targets.SuperProp n) k = super_prop_forgets p c n
+simple_forgets grammar f p c (simple_targets.Paren n) k = refl
+simple_forgets grammar f p c (simple_targets.OptChain n) k = chain_forgets p c n
+simple_forgets grammar f p c (simple_targets.Invalid n) k = refl
+simple_forgets grammar f p c n k = absurd (true≢false (sym k))
 
-pub target_forgets : {X : Type 0} (comma places : Bool) (f : X → Role → Parameters → Summary) (p : X → Role → Phrase) (c : Parameters) (n : AssignTarget X) → keeps places f (target_form comma c n) ≡ true → forget p (target_form comma c n) ≡ assign_target p n
+pub target_forgets : {X : Type 0} (comma : Bool) (grammar : Grammar) (f : X → Role → Parameters → Summary) (p : X → Role → Phrase) (c : Parameters) (n : AssignTarget X) → keeps grammar f (target_form comma c n) ≡ true → forget p (target_form comma c n) ≡ assign_target p n
 unfolding target_form assign_target
-target_forgets comma places f p c (targets.Simple n) k = simple_forgets places f p (of_targets c) n k
-target_forgets comma places f p c (targets.Pat n) k = target_pat_forgets p comma (of_targets c) n
+target_forgets comma grammar f p c (targets.Simple n) k = simple_forgets grammar f p (of_targets c) n k
+target_forgets comma grammar f p c (targets.Pat n) k = target_pat_forgets p comma (of_targets c) n

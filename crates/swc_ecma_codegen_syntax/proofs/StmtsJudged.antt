@@ -1,20 +1,22 @@
 -- What the check says of lists of statements, cases and declarations.
 use Rattle.std.proofs.Common.{◌≡◌, ℕ, suc, ◌+◌, ◌<◌, Bool, true, false, ◌&&◌, ◌||◌, not, is_none, List, [], ◌∷◌, length, get_or, drop, drop-cons, add-one, codes, refl, sym, ◌∙◌, ap}
 use Rattle.swc_ecma_codegen_tree.specs.Links.{StmtBox}
+use Rattle.swc_ecma_codegen_tree.specs.declared.decls.UsingDecl.{UsingDecl}
 use Rattle.swc_ecma_codegen_tree.specs.declared.decls.VarDecl.{VarDecl}
 use Rattle.swc_ecma_codegen_tree.specs.declared.decls.VarDeclarator.{VarDeclarator}
 use Rattle.swc_ecma_codegen_tree.specs.declared.programs.ModuleItem.{ModuleItem}
 use Rattle.swc_ecma_codegen_tree.specs.declared.stmts.Stmt.{Stmt}
 use Rattle.swc_ecma_codegen_tree.specs.declared.stmts.SwitchCase.{SwitchCase}
 use Rattle.swc_ecma_codegen_tree.specs.declared.stmts.SwitchStmt.{SwitchStmt}
+use Rattle.swc_ecma_codegen_grammar.specs.Phrases.{word, same_line}
 use Rattle.swc_ecma_codegen_grammar.specs.declared.roles.Role.{Role}
 use Rattle.swc_ecma_codegen_syntax.specs.declared.parameters.Parameters.{Parameters}
 use Rattle.swc_ecma_codegen_syntax.specs.Summary.{Summary}
 use Rattle.swc_ecma_codegen_syntax.specs.declared.verdicts.Verdict.{Verdict}
 use Rattle.swc_ecma_codegen_syntax.specs.Verdicts.{by_rule, by_scope}
 use Rattle.swc_ecma_codegen_syntax.specs.Parameters.{in_list}
-use Rattle.swc_ecma_codegen_syntax.specs.Forms.{asked, judge, verdict_all}
-use Rattle.swc_ecma_codegen_syntax.specs.DeclForms.{declarator_form, declarators_form, is_const, is_single, var_decl_form}
+use Rattle.swc_ecma_codegen_syntax.specs.Forms.{Form, Fixed, ◌⇢◌, asked, judge, verdict_all}
+use Rattle.swc_ecma_codegen_syntax.specs.DeclForms.{declarator_form, declarators_form, is_const, is_single, of_kind, var_decl_form, are_resources, after_await_form, resources_form, using_form}
 use Rattle.swc_ecma_codegen_syntax.specs.StmtForms.{expression_part, clause_item_form, clause_list_form, case_form, is_case_block, switch_form, stmt_form, begins_empty, list_form}
 use Rattle.swc_ecma_codegen_syntax.specs.ModuleForms.{item_form, begins_empty_item, items_form}
 use Rattle.swc_ecma_codegen_syntax.proofs.Judged.{after_judged, order_judged}
@@ -27,9 +29,21 @@ declarators_judged f c constant v (x ∷ xs) = after_judged f (codes ",") (decla
 
 pub var_decl_judged : {X : Type 0} (f : X → Role → Parameters → Summary) (c : Parameters) (v : Verdict) (n : VarDecl X) →
     judge f v (var_decl_form c n)
-    ≡ verdict_all (λ x w. judge f w (declarator_form c (is_const n.kind) x)) (by_rule (by_scope v (not n.declare)) (is_single c n)) n.decls.items
+    ≡ verdict_all (λ x w. judge f w (declarator_form (of_kind n.kind c) (is_const n.kind) x)) (by_rule (by_scope v (not n.declare)) (is_single c n)) n.decls.items
 unfolding judge asked var_decl_form
-var_decl_judged f c v n = declarators_judged f c (is_const n.kind) (by_rule (by_scope v (not n.declare)) (is_single c n)) n.decls.items
+var_decl_judged f c v n = declarators_judged f (of_kind n.kind c) (is_const n.kind) (by_rule (by_scope v (not n.declare)) (is_single c n)) n.decls.items
+
+used_judged : {X : Type 0} (f : X → Role → Parameters → Summary) (v : Verdict) (is_await : Bool) (a : Form X) → judge f v (after_await_form is_await (Fixed (word (codes "using")) ⇢ Fixed same_line ⇢ a)) ≡ judge f v a
+unfolding judge after_await_form
+used_judged f v true a = refl
+used_judged f v false a = refl
+
+pub using_judged : {X : Type 0} (f : X → Role → Parameters → Summary) (c : Parameters) (v : Verdict) (n : UsingDecl X) →
+    judge f v (using_form c n) ≡ verdict_all (λ x w. judge f w (declarator_form c true x)) (by_rule v (are_resources c n.is_await n.decls.items)) n.decls.items
+unfolding judge asked using_form resources_form
+using_judged f c v n =
+    let w : Verdict = by_rule v (are_resources c n.is_await n.decls.items) in
+    used_judged f w n.is_await (declarators_form c true n.decls.items) ∙ declarators_judged f c true w n.decls.items
 
 pub switch_judged : {X : Type 0} (f : X → Role → Parameters → Summary) (c : Parameters) (v : Verdict) (n : SwitchStmt X) →
     judge f v (switch_form c n)

@@ -1,6 +1,6 @@
 -- The facts of a whole node, by its sort.
-use Rattle.std.proofs.Common.{◌≡◌, Bool, true, false, refl, sym, ◌∙◌, ap, ap₂}
-use Rattle.swc_ecma_codegen_tree.specs.declared.links.AnyNode.{AnyNode, AnyNode-F, map-AnyNode, roll-AnyNode, out-AnyNode}
+use Rattle.std.proofs.Common.{◌≡◌, Bool, true, false, refl, sym, subst, ◌∙◌, ap, ap₂}
+use Rattle.swc_ecma_codegen_tree.specs.declared.links.AnyNode.{AnyNode, AnyNode-F, map-AnyNode, roll-AnyNode, out-AnyNode, ind-AnyNode}
 use Rattle.swc_ecma_codegen_tree.specs.declared.links.AnyNode.TheOpen as nodes
 use Rattle.swc_ecma_codegen_tree.specs.declared.links.AnyNode.TheViews.{roll-out-AnyNode}
 use Rattle.swc_ecma_codegen_tree.specs.declared.links.AnyNode.TheVariants as whole
@@ -18,7 +18,9 @@ use Rattle.swc_ecma_codegen_syntax.specs.declared.nonterminals.Nonterminal.{Nont
 use Rattle.swc_ecma_codegen_syntax.specs.declared.nonterminals.Nonterminal.TheVariants as nt
 use Rattle.swc_ecma_codegen_syntax.specs.declared.parameters.Parameters.{Parameters}
 use Rattle.swc_ecma_codegen_syntax.specs.declared.verdicts.Facts.{Facts}
-use Rattle.swc_ecma_codegen_syntax.specs.Summary.{Summary, begins_in}
+use Rattle.swc_ecma_codegen_syntax.specs.declared.verdicts.Shape.{Shape}
+use Rattle.swc_ecma_codegen_syntax.specs.Shapes.{node_shape, shape_of}
+use Rattle.swc_ecma_codegen_syntax.specs.Summary.{Summary, begins_in, shape_in}
 use Rattle.swc_ecma_codegen_syntax.specs.declared.verdicts.Verdict.{Verdict}
 use Rattle.swc_ecma_codegen_syntax.specs.Verdicts.{unasked}
 use Rattle.swc_ecma_codegen_syntax.specs.Forms.{map_form, judge}
@@ -35,6 +37,7 @@ use Rattle.swc_ecma_codegen_syntax.proofs.MappedExprs.{chain_member_mapped}
 use Rattle.swc_ecma_codegen_syntax.proofs.EachExprMapped.{expr_mapped, nonterminal_mapped, field_mapped}
 use Rattle.swc_ecma_codegen_syntax.proofs.MappedPats.{part_mapped, part_sort_mapped}
 use Rattle.swc_ecma_codegen_syntax.proofs.MappedStmts.{stmt_mapped, stmt_sort_mapped, empty_node_mapped}
+use Rattle.swc_ecma_codegen_syntax.proofs.MappedShapes.{shape_mapped, shape_same}
 use Rattle.swc_ecma_codegen_syntax.proofs.MappedJsx.{jsx_part_mapped, jsx_part_sort_mapped}
 use Rattle.swc_ecma_codegen_syntax.proofs.MappedParts.{stmt_part_mapped, stmt_part_sort_mapped}
 
@@ -141,8 +144,8 @@ facts_mapped g f n role c = refl
 pub summary_mapped : {X Y : Type 0} (g : X → Y) (f : Y → Role → Parameters → Summary) (n : AnyNode-F X) (role : Role) (c : Parameters) → node_summary f (map-AnyNode X Y g n) role c ≡ node_summary (λ x. f (g x)) n role c
 unfolding node_summary
 summary_mapped {X} {Y} g f n role c =
-    ap₂ (λ a b. record { facts = a; begins = b; is_empty = is_empty_node (map-AnyNode X Y g n) }) (facts_mapped g f n role c) (begins_mapped g (begins_in f) n role)
-    ∙ ap (λ b. record { facts = node_facts (λ x. f (g x)) n role c; begins = node_begins (begins_in (λ x. f (g x))) n role; is_empty = b }) (empty_node_mapped g n)
+    ap₂ (λ a b. record { facts = a; begins = b; is_empty = is_empty_node (map-AnyNode X Y g n); shape = node_shape (shape_in f) (map-AnyNode X Y g n) }) (facts_mapped g f n role c) (begins_mapped g (begins_in f) n role)
+    ∙ ap₂ (λ b s. record { facts = node_facts (λ x. f (g x)) n role c; begins = node_begins (begins_in (λ x. f (g x))) n role; is_empty = b; shape = s }) (empty_node_mapped g n) (shape_mapped g (shape_in f) n)
 
 -- ---- whole nodes
 
@@ -161,6 +164,29 @@ begins_of_layer n role c = ap (λ t. t.begins) (summary_of_layer n role c)
 pub empty_at : (n : AnyNode) (role : Role) (c : Parameters) → (summary_of n role c).is_empty ≡ is_empty_node (out-AnyNode n)
 unfolding node_summary
 empty_at n role c = ap (λ x. (summary_of x role c).is_empty) (sym (roll-out-AnyNode n)) ∙ ap (λ t. t.is_empty) (summary_of_layer (out-AnyNode n) role c)
+
+shape_of_layer : (n : AnyNode-F AnyNode) (role : Role) (c : Parameters) → (summary_of (roll-AnyNode n) role c).shape ≡ node_shape (shape_in summary_of) n
+unfolding node_summary
+shape_of_layer n role c = ap (λ t. t.shape) (summary_of_layer n role c)
+
+pub shape_at : (n : AnyNode) → shape_in summary_of n ≡ node_shape (shape_in summary_of) (out-AnyNode n)
+shape_at n = ap (λ x. shape_in summary_of x) (sym (roll-out-AnyNode n)) ∙ shape_of_layer (out-AnyNode n) Statement of_script
+
+pub shape_expr : (n : Expr AnyNode) → shape_in summary_of (whole.Expr n) ≡ node_shape (shape_in summary_of) (nodes.Expr n)
+shape_expr n = ap (λ x. shape_in summary_of x) (sym (whole.rolls-Expr n)) ∙ shape_of_layer (nodes.Expr n) Statement of_script
+
+pub shape_expr_part : (n : ExprPart AnyNode) → shape_in summary_of (whole.ExprPart n) ≡ node_shape (shape_in summary_of) (nodes.ExprPart n)
+shape_expr_part n = ap (λ x. shape_in summary_of x) (sym (whole.rolls-ExprPart n)) ∙ shape_of_layer (nodes.ExprPart n) Statement of_script
+
+-- the summary has the shape of the tree
+shape_of_shape : (n : AnyNode-F AnyNode) → shape_of (roll-AnyNode n) ≡ node_shape shape_of n
+unfolding shape_of
+shape_of_shape n = fold-roll-AnyNode Shape (node_shape (λ known. known)) n ∙ shape_mapped shape_of (λ known. known) n
+
+pub shape_known : (n : AnyNode) → shape_in summary_of n ≡ shape_of n
+shape_known = ind-AnyNode (λ n. shape_in summary_of n ≡ shape_of n) (λ x y q. subst (λ z. shape_in summary_of (roll-AnyNode z) ≡ shape_of (roll-AnyNode z)) q
+    (shape_of_layer (map-AnyNode _ AnyNode (λ z. z.0) y) Statement of_script ∙ shape_mapped (λ z. z.0) (shape_in summary_of) y ∙ shape_same (λ z. shape_in summary_of z.0) (λ z. shape_of z.0) (λ z. z.1) y
+    ∙ sym (shape_of_shape (map-AnyNode _ AnyNode (λ z. z.0) y) ∙ shape_mapped (λ z. z.0) shape_of y)))
 
 pub empty_stmt : (n : Stmt AnyNode) (role : Role) (c : Parameters) → (summary_of (whole.Stmt n) role c).is_empty ≡ is_empty_node (nodes.Stmt n)
 unfolding node_summary

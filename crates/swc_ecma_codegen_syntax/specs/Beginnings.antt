@@ -3,6 +3,7 @@ use Rattle.std.specs.Prelude.{ℕ, Bool, true, false, List, [], ◌∷◌, codes
 use Rattle.swc_ecma_codegen_tree.specs.Links.{ExprBox}
 use Rattle.swc_ecma_codegen_tree.specs.declared.links.AnyNode.{AnyNode-F}
 use Rattle.swc_ecma_codegen_tree.specs.declared.links.AnyNode.TheOpen as nodes
+use Rattle.swc_ecma_codegen_tree.specs.declared.decls.Decorator.{Decorator}
 use Rattle.swc_ecma_codegen_tree.specs.declared.exprs.Expr.{Expr}
 use Rattle.swc_ecma_codegen_tree.specs.declared.exprs.Expr.TheVariants as exprs
 use Rattle.swc_ecma_codegen_tree.specs.declared.exprs.Callee.{Callee}
@@ -79,6 +80,11 @@ unfoldable pub update_begins : Bool → Beginning → Beginning
 update_begins true b = begins.Other
 update_begins false b = goes_on_in_line b
 
+-- a class: its decorators, or the word
+unfoldable pub behind_decorators : Beginning → Beginning → Beginning
+behind_decorators begins.At word = begins.At
+behind_decorators b word = word
+
 unfoldable pub expr_begins : {X : Type 0} → (X → Role → Beginning) → Expr X → Beginning
 expr_begins f (exprs.Ident n) = name_begins (string_bytes n.sym)
 expr_begins f (exprs.Object n) = begins.Brace
@@ -93,7 +99,7 @@ expr_begins f (exprs.TaggedTpl n) = goes_on (f n.tag.node.value roles.Callee)
 expr_begins f (exprs.OptChain n) = base_begins f n.optional n.base
 expr_begins f (exprs.Tpl n) = f n.node.value roles.Template
 expr_begins f (exprs.Fn n) = f n.function.node.value roles.FunctionHead
-expr_begins f (exprs.Class n) = f n.class.node.value roles.ClassWord
+expr_begins f (exprs.Class n) = behind_decorators (f n.class.node.value roles.ClassHead) (f n.class.node.value roles.ClassWord)
 expr_begins f (exprs.JSXElement n) = f n.node.value roles.Element
 expr_begins f (exprs.JSXFragment n) = f n.node.value roles.Element
 expr_begins f n = begins.Other
@@ -140,8 +146,13 @@ unfoldable pub function_begins : Bool → Beginning
 function_begins true = begins.AsyncFunction
 function_begins false = begins.Function
 
+unfoldable pub decorators_begin : {X : Type 0} → List (Decorator X) → Beginning
+decorators_begin [] = begins.Nothing
+decorators_begin (x ∷ xs) = begins.At
+
 unfoldable pub stmt_part_begins : {X : Type 0} → StmtPart X → Role → Beginning
 stmt_part_begins (stmt_parts.Function n) roles.FunctionHead = function_begins n.value.is_async
+stmt_part_begins (stmt_parts.Class n) roles.ClassHead = decorators_begin n.value.decorators.items
 stmt_part_begins (stmt_parts.Class n) roles.ClassWord = begins.Class
 stmt_part_begins n role = begins.Nothing
 

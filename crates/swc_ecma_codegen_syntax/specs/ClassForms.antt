@@ -2,12 +2,15 @@
 use Rattle.std.specs.Prelude.{Bool, false, ◌||◌, ◌&&◌, not, is_none, codes, string_bytes, bytes_eq, List, [], ◌∷◌, Option, Some, None, if◌then◌else◌}
 use Rattle.swc_ecma_codegen_tree.specs.Links.{ClassMemberBox, ExprBox, FunctionBox, TsTypeAnnBox, TsTypeParamInstantiationBox}
 use Rattle.swc_ecma_codegen_tree.specs.declared.classes.Accessibility.{Accessibility}
+use Rattle.swc_ecma_codegen_tree.specs.declared.classes.AutoAccessor.{AutoAccessor}
 use Rattle.swc_ecma_codegen_tree.specs.declared.classes.Class as classes
 use Rattle.swc_ecma_codegen_tree.specs.declared.classes.ClassMember as class_members
 use Rattle.swc_ecma_codegen_tree.specs.declared.classes.ClassMember.TheVariants as members
 use Rattle.swc_ecma_codegen_tree.specs.declared.classes.ClassMethod.{ClassMethod}
 use Rattle.swc_ecma_codegen_tree.specs.declared.classes.ClassProp.{ClassProp}
 use Rattle.swc_ecma_codegen_tree.specs.declared.classes.Constructor.{Constructor}
+use Rattle.swc_ecma_codegen_tree.specs.declared.classes.Key.{Key}
+use Rattle.swc_ecma_codegen_tree.specs.declared.classes.Key.TheVariants as keys
 use Rattle.swc_ecma_codegen_tree.specs.declared.classes.MethodKind.{MethodKind}
 use Rattle.swc_ecma_codegen_tree.specs.declared.classes.MethodKind.TheVariants.{Method, Getter, Setter}
 use Rattle.swc_ecma_codegen_tree.specs.declared.classes.ParamOrTsParamProp.{ParamOrTsParamProp}
@@ -24,9 +27,9 @@ use Rattle.swc_ecma_codegen_tree.specs.declared.exprs.Expr.TheVariants as exprs
 use Rattle.swc_ecma_codegen_tree.specs.declared.exprs.PropName.{PropName}
 use Rattle.swc_ecma_codegen_tree.specs.declared.exprs.PropName.TheVariants as prop_names
 use Rattle.swc_ecma_codegen_tree.specs.declared.ts_decls.TsExprWithTypeArgs.{TsExprWithTypeArgs}
-use Rattle.swc_ecma_codegen_grammar.specs.Phrases.{Never, Nothing, where_, word, mark, ending}
+use Rattle.swc_ecma_codegen_grammar.specs.Phrases.{Never, Nothing, where_, word, mark, same_line, ending}
 use Rattle.swc_ecma_codegen_grammar.specs.AnnotationPhrases.{question, bang}
-use Rattle.swc_ecma_codegen_grammar.specs.ClassPhrases.{class_word, accessibility, tail_role, prop_modifiers, private_modifiers}
+use Rattle.swc_ecma_codegen_grammar.specs.ClassPhrases.{class_word, accessibility, tail_role, prop_modifiers, private_modifiers, accessor_modifiers}
 use Rattle.swc_ecma_codegen_grammar.specs.FunctionPhrases.{is_some_listed, word_if}
 use Rattle.swc_ecma_codegen_grammar.specs.NamePhrases.{private_name}
 use Rattle.swc_ecma_codegen_grammar.specs.TsDeclPhrases.{declare_word}
@@ -35,7 +38,7 @@ use Rattle.swc_ecma_codegen_syntax.specs.declared.nonterminals.Nonterminal.{Nont
 use Rattle.swc_ecma_codegen_syntax.specs.declared.nonterminals.Nonterminal.TheVariants as nt
 use Rattle.swc_ecma_codegen_syntax.specs.declared.parameters.Parameters.{Parameters}
 use Rattle.swc_ecma_codegen_syntax.specs.Parameters.{of_class, of_field, of_function, of_parameters, of_static_block}
-use Rattle.swc_ecma_codegen_syntax.specs.Forms.{Form, Fixed, Part, Provided, ByRule, ByScope, ◌⇢◌, in_order, listed, ending_listed}
+use Rattle.swc_ecma_codegen_syntax.specs.Forms.{Form, Fixed, Part, Provided, ByRule, ByScope, ByCore, ◌⇢◌, in_order, listed, ending_listed}
 use Rattle.swc_ecma_codegen_syntax.specs.MemberForms.{expr_part, annotation_form, type_args_form}
 use Rattle.swc_ecma_codegen_syntax.specs.FunctionForms.{type_params_form, decorators_form, bound_name_form, optional_name_form, param_form, own_of, parameters_of, block_body, body_form}
 
@@ -182,7 +185,7 @@ field_type_form c definite (Some n) = Provided ByScope false (Fixed (bang defini
 -- no field is named `constructor`: 15.7.1
 unfoldable pub field_form : {X : Type 0} → Parameters → ClassProp X → Form X
 field_form c n =
-    decorators_form c n.decorators.items ⇢ Provided ByScope (plain_modifiers n) (Fixed (prop_modifiers n)) ⇢ Part nt.PropertyName c PropertyName n.key.node.value
+    decorators_form ByCore c n.decorators.items ⇢ Provided ByScope (plain_modifiers n) (Fixed (prop_modifiers n)) ⇢ Part nt.PropertyName c PropertyName n.key.node.value
     ⇢ optional_mark_form n.is_optional ⇢ field_type_form c n.definite n.type_ann ⇢ field_value_form c n.value ⇢ Fixed ending
 
 unfoldable pub plain_private_modifiers : {X : Type 0} → PrivateProp X → Bool
@@ -190,8 +193,25 @@ plain_private_modifiers n = is_none n.accessibility && (not n.is_override && not
 
 unfoldable pub private_field_form : {X : Type 0} → Parameters → PrivateProp X → Form X
 private_field_form c n =
-    decorators_form c n.decorators.items ⇢ Provided ByScope (plain_private_modifiers n) (Fixed (private_modifiers n)) ⇢ Fixed (private_name n.key)
+    decorators_form ByCore c n.decorators.items ⇢ Provided ByScope (plain_private_modifiers n) (Fixed (private_modifiers n)) ⇢ Fixed (private_name n.key)
     ⇢ optional_mark_form n.is_optional ⇢ field_type_form c n.definite n.type_ann ⇢ field_value_form c n.value ⇢ Fixed ending
+
+-- `static accessor a = b;`, of the proposal for decorators: ClassElementName Initializer behind `accessor`, with no line end between
+unfoldable pub accessor_key_form : {X : Type 0} → Parameters → Key X → Form X
+accessor_key_form c (keys.Public n) = Part nt.PropertyName c PropertyName n.node.value
+accessor_key_form c (keys.Private n) = Fixed (private_name n)
+
+unfoldable pub accessor_value_form : {X : Type 0} → Parameters → Option (ExprBox X) → Form X
+accessor_value_form c None = Fixed Nothing
+accessor_value_form c (Some n) = Fixed (mark (codes "=")) ⇢ expr_part nt.AssignmentExpression (of_field c) n
+
+unfoldable pub plain_accessor_modifiers : {X : Type 0} → AutoAccessor X → Bool
+plain_accessor_modifiers n = is_none n.accessibility && (not n.is_abstract && not n.is_override)
+
+unfoldable pub auto_accessor_form : {X : Type 0} → Parameters → AutoAccessor X → Form X
+auto_accessor_form c n =
+    decorators_form ByCore c n.decorators.items ⇢ Provided ByScope (plain_accessor_modifiers n) (Fixed (accessor_modifiers n)) ⇢ Fixed (word (codes "accessor"))
+    ⇢ Fixed same_line ⇢ accessor_key_form c n.key ⇢ field_type_form c n.definite n.type_ann ⇢ accessor_value_form c n.value ⇢ Fixed ending
 
 -- ---- members
 
@@ -199,7 +219,7 @@ private_field_form c n =
 unfoldable pub static_block_form : {X : Type 0} → Parameters → StaticBlock X → Form X
 static_block_form c n = Fixed (word (codes "static")) ⇢ block_body (of_static_block c) n.body
 
--- ClassElement; an index signature is of TypeScript, and `accessor a;` a proposal
+-- ClassElement; an index signature is of TypeScript
 unfoldable pub member_of_class_form : {X : Type 0} → Parameters → class_members.ClassMember X → Form X
 member_of_class_form c (members.Constructor n) = constructor_form c n
 member_of_class_form c (members.Method n) = method_form c n
@@ -208,7 +228,7 @@ member_of_class_form c (members.ClassProp n) = field_form c n
 member_of_class_form c (members.PrivateProp n) = private_field_form c n
 member_of_class_form c (members.Empty n) = Fixed (mark (codes ";"))
 member_of_class_form c (members.StaticBlock n) = static_block_form c n
-member_of_class_form c (members.AutoAccessor n) = Provided ByScope false (Fixed Never)
+member_of_class_form c (members.AutoAccessor n) = Provided ByCore false (auto_accessor_form c n)
 member_of_class_form c (members.TsIndexSignature n) = Provided ByScope false (Fixed Never)
 
 -- ---- the value of a field: a sequence stands in parentheses, which read back as some of the tree

@@ -21,61 +21,89 @@ use Rattle.swc_ecma_codegen_grammar.specs.declared.roles.Role.TheVariants.{Expre
 use Rattle.swc_ecma_codegen_syntax.specs.declared.nonterminals.Nonterminal.{Nonterminal}
 use Rattle.swc_ecma_codegen_syntax.specs.declared.parameters.Parameters.{Parameters}
 use Rattle.swc_ecma_codegen_syntax.specs.declared.verdicts.Verdict.{Verdict}
-use Rattle.swc_ecma_codegen_syntax.specs.Verdicts.{unasked, meet}
+use Rattle.swc_ecma_codegen_syntax.specs.Verdicts.{Grammar, full, core, unasked, meet}
 use Rattle.swc_ecma_codegen_syntax.specs.declared.lookahead.Lookahead.{Lookahead}
 use Rattle.swc_ecma_codegen_syntax.specs.Lookahead.{beginning, excludes}
-use Rattle.swc_ecma_codegen_syntax.specs.Forms.{of_part, judge, Form, Fixed, Part, Simple, Restricted, Both, Provided, Closed, Bare, Followed, Cure, ByPlace, role_in, is_met, stands, Lone}
+use Rattle.swc_ecma_codegen_syntax.specs.Forms.{of_part, judge, Form, Fixed, Part, Simple, Shaped, cure_of, Restricted, Both, Provided, Closed, Bare, Followed, Cure, ByPlace, role_in, is_met, stands, Lone}
 use Rattle.swc_ecma_codegen_syntax.specs.NodeForms.{node_nonterminal, node_form, is_simple, is_name_node, expr_facts, part_facts, stmt_facts, summary_of}
 use Rattle.swc_ecma_codegen_syntax.specs.Parameters.{before}
+use Rattle.swc_ecma_codegen_syntax.specs.declared.verdicts.Shape.{Shape}
+use Rattle.swc_ecma_codegen_syntax.specs.Shapes.{fits, shape_of}
 use Rattle.swc_ecma_codegen_syntax.specs.StmtForms.{is_empty_node}
 use Rattle.swc_ecma_codegen_syntax.specs.ModuleForms.{item_form, program_form}
 
 -- A form derives a list. A part is derived by a production of its node (`other` chooses between two: a member's, by a MemberExpression or a
 -- CallExpression, and a pattern's, where no comma may stand before its closing mark, or one may), whose nonterminal stands where the place wants one: by unit productions.
--- Where `places` is false a part may stand where only parentheses would let it.
-pub data Derives (places : Bool) (s : Settings) : Form AnyNode → List Token → Type 0 where
-  fixed : {p : Phrase} {ts : List Token} → Generates s p ts → Derives places s (Fixed p) ts
+-- Where `grammar.places` is false a part may stand where only parentheses would let it.
+pub data Derives (grammar : Grammar) (s : Settings) : Form AnyNode → List Token → Type 0 where
+  fixed : {p : Phrase} {ts : List Token} → Generates s p ts → Derives grammar s (Fixed p) ts
   part : {place : Nonterminal} {c : Parameters} {role : Role} {n : AnyNode} {ts : List Token} → (called : Bool) →
-      stands places place (node_nonterminal called c (out-AnyNode n) role) ≡ true → Derives places s (node_form called c (out-AnyNode n) role) ts →
-      Derives places s (Part place c role n) ts
+      stands grammar.places place (node_nonterminal called c (out-AnyNode n) role) ≡ true → Derives grammar s (node_form called c (out-AnyNode n) role) ts →
+      Derives grammar s (Part place c role n) ts
   simple : {named : Bool} {place : Nonterminal} {c : Parameters} {n : AnyNode} {ts : List Token} →
-      (is_simple n c.is_strict && (named || not (is_name_node (out-AnyNode n)))) ≡ true → Derives places s (Part place c Expression n) ts →
-      Derives places s (Simple named place c n) ts
+      (is_simple n c.is_strict && (named || not (is_name_node (out-AnyNode n)))) ≡ true → Derives grammar s (Part place c Expression n) ts →
+      Derives grammar s (Simple named place c n) ts
+  shaped : {shape : Shape} {place : Nonterminal} {c : Parameters} {role : Role} {n : AnyNode} {ts : List Token} →
+      is_met grammar (cure_of shape) (fits shape (shape_of n)) ≡ true → Derives grammar s (Part place c role n) ts →
+      Derives grammar s (Shaped shape place c role n) ts
   restricted : {lookahead : Lookahead} {place : Nonterminal} {c : Parameters} {as_pattern : Bool} {n : AnyNode} {ts : List Token} →
-      is_met places ByPlace (not (excludes lookahead (beginning ts))) ≡ true → Derives places s (Part place c (role_in as_pattern) n) ts →
-      Derives places s (Restricted lookahead place c as_pattern n) ts
+      is_met grammar ByPlace (not (excludes lookahead (beginning ts))) ≡ true → Derives grammar s (Part place c (role_in as_pattern) n) ts →
+      Derives grammar s (Restricted lookahead place c as_pattern n) ts
   -- 15.3: ArrowParameters is a BindingIdentifier, or stands in parentheses
   lone : {place : Nonterminal} {c : Parameters} {n : AnyNode} {ts : List Token} → is_never (phrase n PlainParameter) ≡ false →
-      Derives places s (Part place c Pattern n) ts → Derives places s (Lone place c n) ts
-  lone_in_parentheses : {place : Nonterminal} {c : Parameters} {n : AnyNode} {ts : List Token} → Derives places s (Part place c Pattern n) ts →
-      Derives places s (Lone place c n) (in_parentheses ts)
-  both : {a b : Form AnyNode} {ts us : List Token} → Derives places s a ts → Derives places s b us → Derives places s (Both a b) (ts ++ us)
-  provided : {cure : Cure} {condition : Bool} {a : Form AnyNode} {ts : List Token} → is_met places cure condition ≡ true → Derives places s a ts →
-      Derives places s (Provided cure condition a) ts
-  closed : {comma : Bool} {close : Closing} → Derives places s (Closed comma close) (closing_token close ∷ [])
-  comma_closed : {close : Closing} → Derives places s (Closed true close) (phrases.comma ∷ closing_token close ∷ [])
+      Derives grammar s (Part place c Pattern n) ts → Derives grammar s (Lone place c n) ts
+  lone_in_parentheses : {place : Nonterminal} {c : Parameters} {n : AnyNode} {ts : List Token} → Derives grammar s (Part place c Pattern n) ts →
+      Derives grammar s (Lone place c n) (in_parentheses ts)
+  both : {a b : Form AnyNode} {ts us : List Token} → Derives grammar s a ts → Derives grammar s b us → Derives grammar s (Both a b) (ts ++ us)
+  provided : {cure : Cure} {condition : Bool} {a : Form AnyNode} {ts : List Token} → is_met grammar cure condition ≡ true → Derives grammar s a ts →
+      Derives grammar s (Provided cure condition a) ts
+  closed : {comma : Bool} {close : Closing} → Derives grammar s (Closed comma close) (closing_token close ∷ [])
+  comma_closed : {close : Closing} → Derives grammar s (Closed true close) (phrases.comma ∷ closing_token close ∷ [])
   followed : {place : Nonterminal} {c : Parameters} {n next : AnyNode} {ts : List Token} →
-      Derives places s (Part place (before (is_empty_node (out-AnyNode next)) c) Statement n) ts → Derives places s (Followed place c n next) ts
-  bare : {a : Form AnyNode} {ts : List Token} → Derives places s a ts → Derives places s (Bare a) ts
+      Derives grammar s (Part place (before (is_empty_node (out-AnyNode next)) c) Statement n) ts → Derives grammar s (Followed place c n next) ts
+  bare : {a : Form AnyNode} {ts : List Token} → Derives grammar s a ts → Derives grammar s (Bare a) ts
 
--- an expression by itself, as a nonterminal with its parameters, under settings that minify where these say so
-abbrev pub DerivesExpr : Bool → Settings → Nonterminal → Parameters → Expr AnyNode → List Token → Type 0
-DerivesExpr places s place c n ts = (s.minify ≡ c.minify) × Derives places s (Part place c Expression (whole.Expr n)) ts
+-- in a grammar: an expression by itself, as a nonterminal with its parameters, under settings that minify where these say so
+abbrev pub DerivesExprIn : Grammar → Settings → Nonterminal → Parameters → Expr AnyNode → List Token → Type 0
+DerivesExprIn grammar s place c n ts = (s.minify ≡ c.minify) × Derives grammar s (Part place c Expression (whole.Expr n)) ts
 
 -- a pattern by itself: `parameters` say whether it is one of a binding
-abbrev pub DerivesPat : Bool → Settings → Nonterminal → Parameters → Pat AnyNode → List Token → Type 0
-DerivesPat places s place c n ts = (s.minify ≡ c.minify) × Derives places s (Part place c Pattern (whole.ExprPart (expr_parts.Pat n))) ts
+abbrev pub DerivesPatIn : Grammar → Settings → Nonterminal → Parameters → Pat AnyNode → List Token → Type 0
+DerivesPatIn grammar s place c n ts = (s.minify ≡ c.minify) × Derives grammar s (Part place c Pattern (whole.ExprPart (expr_parts.Pat n))) ts
 
 -- a statement by itself, and an item of a module
-abbrev pub DerivesStmt : Bool → Settings → Nonterminal → Parameters → Stmt AnyNode → List Token → Type 0
-DerivesStmt places s place c n ts = (s.minify ≡ c.minify) × Derives places s (Part place c Statement (whole.Stmt n)) ts
+abbrev pub DerivesStmtIn : Grammar → Settings → Nonterminal → Parameters → Stmt AnyNode → List Token → Type 0
+DerivesStmtIn grammar s place c n ts = (s.minify ≡ c.minify) × Derives grammar s (Part place c Statement (whole.Stmt n)) ts
 
-abbrev pub DerivesItem : Bool → Settings → Parameters → ModuleItem AnyNode → List Token → Type 0
-DerivesItem places s c n ts = (s.minify ≡ c.minify) × Derives places s (item_form c n) ts
+abbrev pub DerivesItemIn : Grammar → Settings → Parameters → ModuleItem AnyNode → List Token → Type 0
+DerivesItemIn grammar s c n ts = (s.minify ≡ c.minify) × Derives grammar s (item_form c n) ts
 
 -- a program, from Script or Module
+abbrev pub DerivesProgramIn : Grammar → Settings → Program AnyNode → List Token → Type 0
+DerivesProgramIn grammar s n ts = Derives grammar s (program_form s.minify n) ts
+
+-- the same in all of the grammar
+abbrev pub DerivesExpr : Bool → Settings → Nonterminal → Parameters → Expr AnyNode → List Token → Type 0
+DerivesExpr places = DerivesExprIn (full places)
+
+abbrev pub DerivesPat : Bool → Settings → Nonterminal → Parameters → Pat AnyNode → List Token → Type 0
+DerivesPat places = DerivesPatIn (full places)
+
+abbrev pub DerivesStmt : Bool → Settings → Nonterminal → Parameters → Stmt AnyNode → List Token → Type 0
+DerivesStmt places = DerivesStmtIn (full places)
+
+abbrev pub DerivesItem : Bool → Settings → Parameters → ModuleItem AnyNode → List Token → Type 0
+DerivesItem places = DerivesItemIn (full places)
+
 abbrev pub DerivesProgram : Bool → Settings → Program AnyNode → List Token → Type 0
-DerivesProgram places s n ts = Derives places s (program_form s.minify n) ts
+DerivesProgram places = DerivesProgramIn (full places)
+
+-- and in its core
+abbrev pub DerivesCoreExpr : Settings → Nonterminal → Parameters → Expr AnyNode → List Token → Type 0
+DerivesCoreExpr = DerivesExprIn core
+
+abbrev pub DerivesCoreProgram : Settings → Program AnyNode → List Token → Type 0
+DerivesCoreProgram = DerivesProgramIn core
 
 -- what an item of a module reads as
 abbrev pub item_phrase : ModuleItem AnyNode → Phrase

@@ -9,21 +9,30 @@ use Rattle.swc_ecma_codegen_syntax.specs.declared.nonterminals.Nonterminal.TheVa
 use Rattle.swc_ecma_codegen_syntax.specs.declared.parameters.Parameters.{Parameters}
 use Rattle.swc_ecma_codegen_syntax.specs.Parameters.{before}
 use Rattle.swc_ecma_codegen_syntax.specs.declared.verdicts.Facts.{Facts}
-use Rattle.swc_ecma_codegen_syntax.specs.Summary.{Summary, begins_in, empty_in}
+use Rattle.swc_ecma_codegen_syntax.specs.Summary.{Summary, begins_in, empty_in, shape_in}
+use Rattle.swc_ecma_codegen_syntax.specs.declared.verdicts.Shape.{Shape}
+use Rattle.swc_ecma_codegen_syntax.specs.declared.verdicts.Shape.TheVariants as shapes
+use Rattle.swc_ecma_codegen_syntax.specs.Shapes.{fits}
 use Rattle.swc_ecma_codegen_syntax.specs.declared.verdicts.Verdict.{Verdict}
 use Rattle.swc_ecma_codegen_syntax.specs.Nonterminals.{takes}
 use Rattle.swc_ecma_codegen_syntax.specs.declared.lookahead.Lookahead.{Lookahead}
 use Rattle.swc_ecma_codegen_syntax.specs.Lookahead.{excludes}
-use Rattle.swc_ecma_codegen_syntax.specs.Verdicts.{meet, by_place, by_rule, by_scope, standing, is_mended, holds}
+use Rattle.swc_ecma_codegen_syntax.specs.Verdicts.{Grammar, meet, by_place, by_rule, by_scope, by_core, standing, is_mended, holds_in}
 
--- what it means where a condition fails: parentheses mend it; nothing does; there is no production here
+-- what it means where a condition fails: parentheses mend it; nothing does; there is no production here; there is none in the core of the grammar
 pub data Cure : Type 0 where
   ByPlace : Cure
   ByRule : Cure
   ByScope : Cure
+  ByCore : Cure
+
+-- any expression in parentheses is a decorator
+unfoldable pub cure_of : Shape → Cure
+cure_of shapes.Decorator = ByPlace
+cure_of shape = ByRule
 
 -- What has no parts; a part, by what a link holds, as a nonterminal with its parameters; an expression whose AssignmentTargetType is simple,
--- and which is no name unless `named`; an expression or a pattern whose
+-- and which is no name unless `named`; a part of a shape; an expression or a pattern whose
 -- tokens may not begin with what a lookahead restriction names; the only parameter of an arrow function, which stands in parentheses, or bare where
 -- it is a name alone; one and then another; on a condition; a closing mark, and whether a comma may stand before
 -- it, as in `[a,] = b`; what
@@ -32,6 +41,7 @@ pub data Form (X : Type 0) : Type 0 where
   Fixed : (phrase : Phrase) → Form X
   Part : (place : Nonterminal) → (parameters : Parameters) → (role : Role) → (node : X) → Form X
   Simple : (named : Bool) → (place : Nonterminal) → (parameters : Parameters) → (node : X) → Form X
+  Shaped : (shape : Shape) → (place : Nonterminal) → (parameters : Parameters) → (role : Role) → (node : X) → Form X
   Restricted : (lookahead : Lookahead) → (place : Nonterminal) → (parameters : Parameters) → (as_pattern : Bool) → (node : X) → Form X
   Lone : (place : Nonterminal) → (parameters : Parameters) → (node : X) → Form X
   Both : (first second : Form X) → Form X
@@ -56,6 +66,7 @@ unfoldable pub forget : {X : Type 0} → (X → Role → Phrase) → Form X → 
 forget f (Fixed p) = p
 forget f (Part place parameters role n) = f n role
 forget f (Simple named place parameters n) = f n Expression
+forget f (Shaped shape place parameters role n) = f n role
 forget f (Restricted lookahead place parameters as_pattern n) = f n (role_in as_pattern)
 forget f (Lone place parameters n) = only_phrase (is_never (f n PlainParameter)) (f n Pattern)
 forget f (Both a b) = Then (forget f a) (forget f b)
@@ -69,6 +80,7 @@ unfoldable pub map_form : {X Y : Type 0} → (X → Y) → Form X → Form Y
 map_form g (Fixed p) = Fixed p
 map_form g (Part place parameters role n) = Part place parameters role (g n)
 map_form g (Simple named place parameters n) = Simple named place parameters (g n)
+map_form g (Shaped shape place parameters role n) = Shaped shape place parameters role (g n)
 map_form g (Restricted lookahead place parameters as_pattern n) = Restricted lookahead place parameters as_pattern (g n)
 map_form g (Lone place parameters n) = Lone place parameters (g n)
 map_form g (Both a b) = Both (map_form g a) (map_form g b)
@@ -86,6 +98,7 @@ unfoldable pub asked : Cure → Verdict → Bool → Verdict
 asked ByPlace v condition = by_place v condition
 asked ByRule v condition = by_rule v condition
 asked ByScope v condition = by_scope v condition
+asked ByCore v condition = by_core v condition
 
 abbrev pub of_part : Nonterminal → Verdict → Facts → Verdict
 of_part place v facts = meet (standing v place facts.nonterminal) facts.verdict
@@ -96,6 +109,8 @@ judge f v (Fixed p) = v
 judge f v (Part place parameters role n) = of_part place v (f n role parameters).facts
 judge f v (Simple named place parameters n) =
     of_part place (by_rule v (is_target named (f n Expression parameters).facts)) (f n Expression parameters).facts
+judge f v (Shaped shape place parameters role n) =
+    of_part place (asked (cure_of shape) v (fits shape (shape_in f n))) (f n role parameters).facts
 judge f v (Restricted lookahead place parameters as_pattern n) =
     of_part place (asked ByPlace v (not (excludes lookahead (begins_in f n (role_in as_pattern))))) (f n (role_in as_pattern) parameters).facts
 judge f v (Lone place parameters n) = of_part place v (f n Pattern parameters).facts
@@ -105,34 +120,38 @@ judge f v (Closed comma close) = v
 judge f v (Bare a) = judge f v a
 judge f v (Followed place parameters n next) = of_part place v (f n Statement (before (empty_in f next) parameters)).facts
 
--- the same, as a condition; `places` says whether a missing parenthesis counts
-unfoldable pub is_met : Bool → Cure → Bool → Bool
-is_met places ByPlace condition = not places || condition
-is_met places ByRule condition = condition
-is_met places ByScope condition = condition
+-- the same, as a condition in a grammar
+unfoldable pub is_met : Grammar → Cure → Bool → Bool
+is_met grammar ByPlace condition = not grammar.places || condition
+is_met grammar ByRule condition = condition
+is_met grammar ByScope condition = condition
+is_met grammar ByCore condition = grammar.wide || condition
 
 unfoldable pub stands : Bool → Nonterminal → Nonterminal → Bool
 stands places place part = takes place part || (not places && is_mended place part)
 
-unfoldable pub keeps : {X : Type 0} → Bool → (X → Role → Parameters → Summary) → Form X → Bool
-keeps places f (Fixed p) = true
-keeps places f (Part place parameters role n) =
-    stands places place (f n role parameters).facts.nonterminal && holds places (f n role parameters).facts.verdict
-keeps places f (Simple named place parameters n) =
+unfoldable pub keeps : {X : Type 0} → Grammar → (X → Role → Parameters → Summary) → Form X → Bool
+keeps grammar f (Fixed p) = true
+keeps grammar f (Part place parameters role n) =
+    stands grammar.places place (f n role parameters).facts.nonterminal && holds_in grammar (f n role parameters).facts.verdict
+keeps grammar f (Simple named place parameters n) =
     is_target named (f n Expression parameters).facts
-    && (stands places place (f n Expression parameters).facts.nonterminal && holds places (f n Expression parameters).facts.verdict)
-keeps places f (Restricted lookahead place parameters as_pattern n) =
-    is_met places ByPlace (not (excludes lookahead (begins_in f n (role_in as_pattern))))
-    && (stands places place (f n (role_in as_pattern) parameters).facts.nonterminal && holds places (f n (role_in as_pattern) parameters).facts.verdict)
-keeps places f (Lone place parameters n) =
-    stands places place (f n Pattern parameters).facts.nonterminal && holds places (f n Pattern parameters).facts.verdict
-keeps places f (Both a b) = keeps places f a && keeps places f b
-keeps places f (Provided cure condition a) = is_met places cure condition && keeps places f a
-keeps places f (Closed comma close) = true
-keeps places f (Bare a) = keeps places f a
-keeps places f (Followed place parameters n next) =
-    stands places place (f n Statement (before (empty_in f next) parameters)).facts.nonterminal
-    && holds places (f n Statement (before (empty_in f next) parameters)).facts.verdict
+    && (stands grammar.places place (f n Expression parameters).facts.nonterminal && holds_in grammar (f n Expression parameters).facts.verdict)
+keeps grammar f (Shaped shape place parameters role n) =
+    is_met grammar (cure_of shape) (fits shape (shape_in f n))
+    && (stands grammar.places place (f n role parameters).facts.nonterminal && holds_in grammar (f n role parameters).facts.verdict)
+keeps grammar f (Restricted lookahead place parameters as_pattern n) =
+    is_met grammar ByPlace (not (excludes lookahead (begins_in f n (role_in as_pattern))))
+    && (stands grammar.places place (f n (role_in as_pattern) parameters).facts.nonterminal && holds_in grammar (f n (role_in as_pattern) parameters).facts.verdict)
+keeps grammar f (Lone place parameters n) =
+    stands grammar.places place (f n Pattern parameters).facts.nonterminal && holds_in grammar (f n Pattern parameters).facts.verdict
+keeps grammar f (Both a b) = keeps grammar f a && keeps grammar f b
+keeps grammar f (Provided cure condition a) = is_met grammar cure condition && keeps grammar f a
+keeps grammar f (Closed comma close) = true
+keeps grammar f (Bare a) = keeps grammar f a
+keeps grammar f (Followed place parameters n next) =
+    stands grammar.places place (f n Statement (before (empty_in f next) parameters)).facts.nonterminal
+    && holds_in grammar (f n Statement (before (empty_in f next) parameters)).facts.verdict
 
 -- ---- lists
 

@@ -14,14 +14,15 @@ use Rattle.swc_ecma_codegen_tree.specs.declared.pats.Pat.{Pat}
 use Rattle.swc_ecma_codegen_grammar.specs.Phrases.{Never, Nothing, word, mark, same_line, ending}
 use Rattle.swc_ecma_codegen_grammar.specs.FunctionPhrases.{is_some_listed, word_if, is_typed_arrow}
 use Rattle.swc_ecma_codegen_grammar.specs.TsDeclPhrases.{declare_word}
-use Rattle.swc_ecma_codegen_grammar.specs.declared.roles.Role.TheVariants.{Block, Function, FunctionHead, TypeParameters}
+use Rattle.swc_ecma_codegen_grammar.specs.declared.roles.Role.TheVariants.{Block, Expression, Function, FunctionHead, TypeParameters}
 use Rattle.swc_ecma_codegen_syntax.specs.declared.lookahead.Lookahead.TheVariants.{BodyStart}
 use Rattle.swc_ecma_codegen_syntax.specs.declared.nonterminals.Nonterminal.{Nonterminal}
 use Rattle.swc_ecma_codegen_syntax.specs.declared.nonterminals.Nonterminal.TheVariants as nt
 use Rattle.swc_ecma_codegen_syntax.specs.declared.parameters.Parameters.{Parameters}
 use Rattle.swc_ecma_codegen_syntax.specs.Nonterminals.{takes}
-use Rattle.swc_ecma_codegen_syntax.specs.Parameters.{of_parameters, of_function, of_function_name, of_arrow_parameters, of_arrow_value, of_arrow_block}
-use Rattle.swc_ecma_codegen_syntax.specs.Forms.{Form, Fixed, Part, Restricted, Lone, Provided, ByRule, ByScope, ◌⇢◌, in_order, ending_listed}
+use Rattle.swc_ecma_codegen_syntax.specs.Parameters.{with_in, of_parameters, of_function, of_function_name, of_arrow_parameters, of_arrow_value, of_arrow_block}
+use Rattle.swc_ecma_codegen_syntax.specs.declared.verdicts.Shape.TheVariants as shapes
+use Rattle.swc_ecma_codegen_syntax.specs.Forms.{Form, Fixed, Part, Shaped, Restricted, Lone, Provided, Cure, ByRule, ByScope, ◌⇢◌, in_order, ending_listed}
 use Rattle.swc_ecma_codegen_syntax.specs.NameForms.{name_form, is_assignable}
 use Rattle.swc_ecma_codegen_syntax.specs.MemberForms.{expr_part, annotation_form}
 use Rattle.swc_ecma_codegen_syntax.specs.PatForms.{pat_form, pat_nonterminal, pat_part}
@@ -31,12 +32,13 @@ unfoldable pub type_params_form : {X : Type 0} → Parameters → Option (TsType
 type_params_form c None = Fixed Nothing
 type_params_form c (Some n) = Provided ByScope false (Part nt.Uncovered c TypeParameters n.node.value)
 
--- a proposal, with no production here: `@a`
+-- A proposal, decorators: `@a.b`, `@a.b(c)`, `@(a)`. What is none of these stands in parentheses.
 unfoldable pub decorator_form : {X : Type 0} → Parameters → Decorator X → Form X
-decorator_form c n = Fixed (mark (codes "@")) ⇢ expr_part nt.Uncovered c n.expr
+decorator_form c n = Fixed (mark (codes "@")) ⇢ Shaped shapes.Decorator nt.LeftHandSideExpression (with_in c) Expression n.expr.node.value
 
-unfoldable pub decorators_form : {X : Type 0} → Parameters → List (Decorator X) → Form X
-decorators_form c ns = Provided ByScope (not (is_some_listed ns)) (in_order (decorator_form c) ns)
+-- DecoratorList, of which the core has none; those of a parameter are of TypeScript
+unfoldable pub decorators_form : {X : Type 0} → Cure → Parameters → List (Decorator X) → Form X
+decorators_form cure c ns = Provided cure (not (is_some_listed ns)) (in_order (decorator_form c) ns)
 
 -- 13.1: BindingIdentifier, which in strict code is neither `eval` nor `arguments`
 unfoldable pub bound_name_form : {X : Type 0} → Parameters → Ident → Form X
@@ -54,7 +56,7 @@ pat_in place c n = Provided ByRule (takes place (pat_nonterminal n)) (pat_form f
 
 -- 15.1: FormalParameter. Decorators of one are of TypeScript.
 unfoldable pub param_form : {X : Type 0} → Parameters → Nonterminal → Param X → Form X
-param_form c place n = decorators_form c n.decorators.items ⇢ pat_in place c n.pat
+param_form c place n = decorators_form ByScope c n.decorators.items ⇢ pat_in place c n.pat
 
 -- FormalParameters: the last may be a rest
 abbrev pub params_form : {X : Type 0} → Parameters → List (Param X) → Form X

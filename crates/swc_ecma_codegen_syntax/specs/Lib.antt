@@ -19,6 +19,7 @@ pub mod PatForms
 pub mod StmtForms
 pub mod TargetForms
 pub mod TemplateForms
+pub mod Shapes
 pub mod Summary
 pub mod UnitProductions
 pub mod Verdicts

@@ -36,7 +36,8 @@ use Rattle.swc_ecma_codegen_syntax.specs.declared.lookahead.Lookahead.TheVariant
 use Rattle.swc_ecma_codegen_syntax.specs.declared.nonterminals.Nonterminal.TheVariants as nt
 use Rattle.swc_ecma_codegen_syntax.specs.declared.parameters.Parameters.{Parameters}
 use Rattle.swc_ecma_codegen_syntax.specs.Parameters.{of_script, of_module, with_in, in_list}
-use Rattle.swc_ecma_codegen_syntax.specs.Forms.{Form, Fixed, Part, Restricted, Provided, ByRule, ByScope, ◌⇢◌}
+use Rattle.swc_ecma_codegen_syntax.specs.Forms.{Form, Fixed, Part, Shaped, Restricted, Provided, ByRule, ByScope, ByCore, ◌⇢◌}
+use Rattle.swc_ecma_codegen_syntax.specs.declared.verdicts.Shape.TheVariants.{Attribute}
 use Rattle.swc_ecma_codegen_syntax.specs.NameForms.{is_free, is_assignable, has_no_escape}
 use Rattle.swc_ecma_codegen_syntax.specs.CallForms.{is_evaluation}
 use Rattle.swc_ecma_codegen_syntax.specs.DeclForms.{decl_form}
@@ -84,10 +85,10 @@ unfoldable pub are_plain_imports : List ImportSpecifier → Bool
 are_plain_imports [] = true
 are_plain_imports (x ∷ xs) = is_plain_import x && are_plain_imports xs
 
--- `with { type: 'json' }` is of ECMA-262, 2025
+-- WithClause : with { WithEntries }, of ECMA-262, 2025, section 16.2.2
 unfoldable pub attributes_form : {X : Type 0} → Parameters → Option (ObjectLitBox X) → Form X
 attributes_form c None = Fixed Nothing
-attributes_form c (Some n) = Provided ByScope false (Fixed (Chosen AttributesWord) ⇢ Part nt.Uncovered c ObjectLiteral n.node.value)
+attributes_form c (Some n) = Provided ByCore false (Fixed (Chosen AttributesWord) ⇢ Shaped Attribute nt.PrimaryExpression (with_in c) ObjectLiteral n.node.value)
 
 -- ImportDeclaration. `source` and `defer` are proposals.
 unfoldable pub import_form : {X : Type 0} → Parameters → ImportDecl X → Form X
@@ -170,13 +171,14 @@ export_all_form c n =
     (Fixed (word (codes "export")) ⇢ Fixed (type_word n.type_only) ⇢ Fixed (mark (codes "*")) ⇢ Fixed (word (codes "from")) ⇢ Fixed (str_lit n.src)
     ⇢ attributes_form c n.with ⇢ Fixed ending)
 
--- What stands before `export`, and behind it.
+-- What stands before `export`, and behind it: no `using`.
 unfoldable pub exported_head_form : {X : Type 0} → Parameters → Decl X → Form X
 exported_head_form c (decls.Class n) = Part nt.DecoratorList c ClassHead n.class.node.value
 exported_head_form c n = Fixed Nothing
 
 unfoldable pub exported_tail_form : {X : Type 0} → Parameters → Decl X → Form X
 exported_tail_form c (decls.Class n) = class_rest_form c n
+exported_tail_form c (decls.Using n) = Provided ByRule false (Fixed Never)
 exported_tail_form c n = decl_form c n
 
 -- export VariableStatement, export Declaration

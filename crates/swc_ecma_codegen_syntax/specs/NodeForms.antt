@@ -18,12 +18,13 @@ use Rattle.swc_ecma_codegen_syntax.specs.declared.nonterminals.Nonterminal.{Nont
 use Rattle.swc_ecma_codegen_syntax.specs.declared.nonterminals.Nonterminal.TheVariants as nt
 use Rattle.swc_ecma_codegen_syntax.specs.declared.parameters.Parameters.{Parameters}
 use Rattle.swc_ecma_codegen_syntax.specs.declared.verdicts.Facts.{Facts}
-use Rattle.swc_ecma_codegen_syntax.specs.Summary.{Summary, begins_in}
+use Rattle.swc_ecma_codegen_syntax.specs.Summary.{Summary, begins_in, shape_in}
+use Rattle.swc_ecma_codegen_syntax.specs.Shapes.{node_shape}
 use Rattle.swc_ecma_codegen_syntax.specs.declared.verdicts.Verdict.{Verdict}
 use Rattle.swc_ecma_codegen_syntax.specs.Nonterminals.{is_call}
 use Rattle.swc_ecma_codegen_syntax.specs.Verdicts.{unasked}
 use Rattle.swc_ecma_codegen_syntax.specs.Parameters.{with_in}
-use Rattle.swc_ecma_codegen_syntax.specs.Forms.{Form, Fixed, Provided, ByScope, judge}
+use Rattle.swc_ecma_codegen_syntax.specs.Forms.{Form, Fixed, Provided, ByScope, ByCore, judge}
 use Rattle.swc_ecma_codegen_syntax.specs.Beginnings.{node_begins}
 use Rattle.swc_ecma_codegen_syntax.specs.NameForms.{is_assignable}
 use Rattle.swc_ecma_codegen_syntax.specs.MemberForms.{chain_member_form}
@@ -92,9 +93,9 @@ stmt_part_form c (stmt_parts.Function n) Function = function_form c n.value
 stmt_part_form c (stmt_parts.Function n) FunctionHead = Fixed (function_head n.value)
 stmt_part_form c (stmt_parts.Function n) MethodHead = Fixed (method_head n.value)
 stmt_part_form c (stmt_parts.Function n) MethodTail = rest_of_function c n.value
-stmt_part_form c (stmt_parts.Function n) MethodDecorators = decorators_form c n.value.decorators.items
+stmt_part_form c (stmt_parts.Function n) MethodDecorators = decorators_form ByCore c n.value.decorators.items
 stmt_part_form c (stmt_parts.Function n) AccessorTail = accessor_form c n.value
-stmt_part_form c (stmt_parts.Class n) ClassHead = decorators_form c n.value.decorators.items
+stmt_part_form c (stmt_parts.Class n) ClassHead = decorators_form ByCore c n.value.decorators.items
 stmt_part_form c (stmt_parts.Class n) ClassWord = class_word_form n.value
 stmt_part_form c (stmt_parts.Class n) ClassTail = class_tail_form c n.value
 stmt_part_form c (stmt_parts.ClassMember n) Member = member_of_class_form c n.value
@@ -209,7 +210,7 @@ unfoldable pub jsx_part_facts : {X : Type 0} → (X → Role → Parameters → 
 jsx_part_facts f c n role = other_facts (jsx_part_nonterminal n role) (judge f unasked (jsx_part_form c n role))
 
 abbrev pub no_facts : Facts
-no_facts = other_facts nt.Uncovered (record { covered = false; curable = true; parenthesized = true })
+no_facts = other_facts nt.Uncovered (record { covered = false; curable = true; parenthesized = true; core = true })
 
 unfoldable pub node_facts : {X : Type 0} → (X → Role → Parameters → Summary) → AnyNode-F X → Role → Parameters → Facts
 node_facts f (nodes.Expr n) Expression c = expr_facts f false c n
@@ -223,7 +224,7 @@ node_facts f (nodes.JSXPart n) role c = jsx_part_facts f c n role
 node_facts f n role c = no_facts
 
 unfoldable pub node_summary : {X : Type 0} → (X → Role → Parameters → Summary) → AnyNode-F X → Role → Parameters → Summary
-node_summary f n role c = record { facts = node_facts f n role c; begins = node_begins (begins_in f) n role; is_empty = is_empty_node n }
+node_summary f n role c = record { facts = node_facts f n role c; begins = node_begins (begins_in f) n role; is_empty = is_empty_node n; shape = node_shape (shape_in f) n }
 
 unfoldable pub summary_of : AnyNode → Role → Parameters → Summary
 summary_of = fold-AnyNode (Role → Parameters → Summary) (node_summary (λ known. known))

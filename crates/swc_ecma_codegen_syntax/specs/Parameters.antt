@@ -2,7 +2,7 @@
 use Rattle.std.specs.Prelude.{Bool, true, false, ◌||◌, ◌&&◌, not}
 use Rattle.swc_ecma_codegen_syntax.specs.declared.parameters.Parameters.{Parameters}
 use Rattle.swc_ecma_codegen_syntax.specs.declared.parameters.Position.{Position}
-use Rattle.swc_ecma_codegen_syntax.specs.declared.parameters.Position.TheVariants.{Item, Labelled, Inner}
+use Rattle.swc_ecma_codegen_syntax.specs.declared.parameters.Position.TheVariants.{Item, Labelled, Inner, Branch}
 
 -- a script, and a module, outside functions: sections 16.1 and 16.2
 abbrev pub of_script : Parameters
@@ -14,8 +14,10 @@ of_script = record {
   is_strict = false;
   reserves_await = false;
   bars_operators = false;
+  bars_using = true;
   is_binding = false;
   is_loop_head = false;
+  initializes = false;
   position = Item;
   before_else = false;
   before_empty = false;
@@ -24,7 +26,7 @@ of_script = record {
 }
 
 abbrev pub of_module : Parameters
-of_module = record of_script { has_await = true; is_strict = true; reserves_await = true }
+of_module = record of_script { has_await = true; is_strict = true; reserves_await = true; bars_using = false }
 
 -- [+In], as between brackets
 abbrev pub with_in : Parameters → Parameters
@@ -53,18 +55,24 @@ of_declarations c = record c { has_in = true; is_loop_head = false }
 abbrev pub of_for : Parameters → Parameters
 of_for c = record c { has_in = false; is_loop_head = false }
 
-abbrev pub of_loop : Parameters → Parameters
-of_loop c = record c { has_in = false; is_loop_head = true }
+-- whether a `var` may have a value there: B.3.5, `for (var a = b in c)`
+abbrev pub of_loop : Bool → Parameters → Parameters
+of_loop initializes c = record c { has_in = false; is_loop_head = true; initializes = initializes }
 
 -- an item of a StatementList, and whether an empty statement stands right behind it
 abbrev pub in_list : Bool → Parameters → Parameters
 in_list empty c = record c { position = Item; before_else = false; before_empty = empty; before_less = false }
 
+-- a StatementList in braces
+abbrev pub in_block : Parameters → Parameters
+in_block c = record c { bars_using = false }
+
 -- whether an empty statement stands right behind
 abbrev pub before : Bool → Parameters → Parameters
 before empty c = record c { before_empty = empty }
 
--- the statement of another that ends with it, as `b;` of `while (a) b;`; `b;` of `do b; while (a)`; `b;` of `if (a) b; else c;`
+-- the statement of another that ends with it, as `b;` of `while (a) b;`; `b;` of `do b; while (a)`; that of an `if`, as `b;` of `if (a) b;`; `b;` of
+-- `if (a) b; else c;`
 
 abbrev pub in_statement : Parameters → Parameters
 in_statement c = record c { position = Inner }
@@ -72,12 +80,16 @@ in_statement c = record c { position = Inner }
 abbrev pub in_do_while : Parameters → Parameters
 in_do_while c = record c { position = Inner; before_else = false; before_empty = false }
 
+abbrev pub in_branch : Parameters → Parameters
+in_branch c = record c { position = Branch }
+
 abbrev pub in_if_else : Parameters → Parameters
-in_if_else c = record c { position = Inner; before_else = true; before_empty = false }
+in_if_else c = record c { position = Branch; before_else = true; before_empty = false }
 
 -- the statement behind a label
 unfoldable pub labelled : Position → Position
 labelled Inner = Inner
+labelled Branch = Inner
 labelled position = Labelled
 
 abbrev pub behind_label : Parameters → Parameters

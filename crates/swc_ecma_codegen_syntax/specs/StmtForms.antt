@@ -39,12 +39,12 @@ use Rattle.swc_ecma_codegen_syntax.specs.declared.nonterminals.Nonterminal.TheVa
 use Rattle.swc_ecma_codegen_syntax.specs.declared.parameters.Parameters.{Parameters}
 use Rattle.swc_ecma_codegen_syntax.specs.declared.parameters.Position.{Position}
 use Rattle.swc_ecma_codegen_syntax.specs.declared.parameters.Position.TheVariants as positions
-use Rattle.swc_ecma_codegen_syntax.specs.Parameters.{with_in, of_targets, of_bindings, of_for, of_loop, in_list, behind_label, in_statement, in_do_while, in_if_else, may_await}
-use Rattle.swc_ecma_codegen_syntax.specs.Forms.{Form, Fixed, Part, Restricted, Followed, Provided, Bare, ByPlace, ByRule, ByScope, ◌⇢◌, in_order}
+use Rattle.swc_ecma_codegen_syntax.specs.Parameters.{with_in, of_targets, of_bindings, of_for, of_loop, in_list, in_block, behind_label, in_statement, in_do_while, in_branch, in_if_else, may_await}
+use Rattle.swc_ecma_codegen_syntax.specs.Forms.{Form, Fixed, Part, Restricted, Followed, Provided, Bare, ByPlace, ByRule, ByCore, ◌⇢◌, in_order}
 use Rattle.swc_ecma_codegen_syntax.specs.NameForms.{name_form}
 use Rattle.swc_ecma_codegen_syntax.specs.MemberForms.{expr_part}
 use Rattle.swc_ecma_codegen_syntax.specs.PatForms.{pat_part}
-use Rattle.swc_ecma_codegen_syntax.specs.DeclForms.{decl_form, decl_nonterminal}
+use Rattle.swc_ecma_codegen_syntax.specs.DeclForms.{decl_form, decl_nonterminal, using_form}
 
 -- Expression[+In]
 abbrev pub expression_part : {X : Type 0} → Parameters → ExprBox X → Form X
@@ -85,6 +85,7 @@ return_form c n = Provided ByRule c.has_return (Fixed (word (codes "return")) �
 -- 14.13: LabelledItem : Statement, FunctionDeclaration. In strict code, and in the statement of another, no label stands before a function.
 unfoldable pub labelled_place : Bool → Position → Nonterminal
 labelled_place strict positions.Inner = nt.Statement
+labelled_place strict positions.Branch = nt.Statement
 labelled_place true position = nt.Statement
 labelled_place false position = nt.LabelledItem
 
@@ -103,10 +104,16 @@ break_form c n = Fixed (word (codes "break")) ⇢ jump_form c n.label
 unfoldable pub continue_form : {X : Type 0} → Parameters → ContinueStmt → Form X
 continue_form c n = Fixed (word (codes "continue")) ⇢ jump_form c n.label
 
+-- B.3.3: in sloppy code a branch of `if` may be a function. So may what stands behind a label, which has the same nonterminal.
+unfoldable pub branch_place : Bool → Nonterminal
+branch_place true = nt.Statement
+branch_place false = nt.LabelledItem
+
 -- 14.6: if ( Expression ) Statement else Statement; if ( Expression ) Statement [lookahead ≠ else], which a block mends
 unfoldable pub branches_form : {X : Type 0} → Parameters → StmtBox X → Option (StmtBox X) → Form X
-branches_form c cons None = Provided ByPlace (not c.before_else) (inner_part c cons ⇢ Fixed Nothing)
-branches_form c cons (Some alt) = stmt_part nt.Statement (in_if_else c) cons ⇢ Fixed (word (codes "else")) ⇢ inner_part c alt
+branches_form c cons None = Provided ByPlace (not c.before_else) (stmt_part (branch_place c.is_strict) (in_branch c) cons ⇢ Fixed Nothing)
+branches_form c cons (Some alt) =
+    stmt_part (branch_place c.is_strict) (in_if_else c) cons ⇢ Fixed (word (codes "else")) ⇢ stmt_part (branch_place c.is_strict) (in_branch c) alt
 
 unfoldable pub if_form : {X : Type 0} → Parameters → IfStmt X → Form X
 if_form c n =
@@ -189,10 +196,20 @@ for_form c n =
     Fixed (word (codes "for")) ⇢ Fixed (mark (codes "(")) ⇢ for_init_form c n.init ⇢ Fixed (mark (codes ";")) ⇢ optional_form c n.test
     ⇢ Fixed (mark (codes ";")) ⇢ optional_form c n.update ⇢ Fixed (mark (codes ")")) ⇢ inner_part c n.body
 
--- 14.7.5: ForBinding, ForDeclaration, or a LeftHandSideExpression, or the pattern that it covers, with a lookahead restriction. `using` is a proposal.
+-- the head of `for (a of b)`
+unfoldable pub is_of_head : Lookahead → Bool
+is_of_head ForStart = false
+is_of_head lookahead = true
+
+-- whether a `var` may have a value in the head: B.3.5
+abbrev pub initializes_in : Lookahead → Parameters → Bool
+initializes_in lookahead c = not (is_of_head lookahead) && not c.is_strict
+
+-- 14.7.5: ForBinding, ForDeclaration, or a LeftHandSideExpression, or the pattern that it covers, with a lookahead restriction. `using a` is of a proposal,
+-- before `of` alone.
 unfoldable pub head_form : {X : Type 0} → Lookahead → Parameters → ForHead X → Form X
-head_form lookahead c (heads.VarDecl n) = Part nt.VariableDeclarations (of_loop c) VariableDeclaration n.node.value
-head_form lookahead c (heads.UsingDecl n) = Provided ByScope false (Fixed Never)
+head_form lookahead c (heads.VarDecl n) = Part nt.VariableDeclarations (of_loop (initializes_in lookahead c) c) VariableDeclaration n.node.value
+head_form lookahead c (heads.UsingDecl n) = Provided ByCore false (Provided ByRule (is_of_head lookahead) (using_form (of_loop false c) n.value))
 head_form lookahead c (heads.Pat n) = Restricted lookahead nt.PatternTarget (of_targets c) true n.node.value
 
 unfoldable pub for_in_form : {X : Type 0} → Parameters → ForInStmt X → Form X
@@ -256,4 +273,4 @@ list_form c [] = Fixed Nothing
 list_form c (x ∷ xs) = stmt_form (in_list (begins_empty xs) c) x ⇢ list_form c xs
 
 unfoldable pub block_form : {X : Type 0} → Parameters → BlockStmt X → Form X
-block_form c n = Fixed (mark (codes "{")) ⇢ list_form c n.stmts.items ⇢ Fixed (mark (codes "}"))
+block_form c n = Fixed (mark (codes "{")) ⇢ list_form (in_block c) n.stmts.items ⇢ Fixed (mark (codes "}"))

@@ -5,7 +5,7 @@ ghost use Rattle.swc_ecma_codegen_syntax.specs.Forms.{Part, judge, ending_listed
 ghost use Rattle.swc_ecma_codegen_syntax.specs.declared.nonterminals.Nonterminal.TheVariants.{DecoratorList, ClassElement, PatternElement};
 ghost use Rattle.swc_ecma_codegen_grammar.specs.ClassPhrases.{tail_role};
 ghost use Rattle.swc_ecma_codegen_grammar.specs.declared.roles.Role.TheVariants.{Member, MethodDecorators};
-ghost use Rattle.swc_ecma_codegen_syntax.specs.ClassForms.{heritage_form, implements_form, members_form, plain_params_form, class_tail_form, class_decl_form, class_rest_form, class_expr_form, is_constructor_name, prop_name_nonterminal, key_of, accessibility_form, constructor_param_form, constructor_form, accessor_nonterminal, rest_of_accessor, accessor_form, tail_of, method_kind_form, method_form, private_method_form, field_value_form, field_type_form, field_form, private_field_form, static_block_form, member_of_class_form};
+ghost use Rattle.swc_ecma_codegen_syntax.specs.ClassForms.{accessor_key_form, accessor_value_form, auto_accessor_form, heritage_form, implements_form, members_form, plain_params_form, class_tail_form, class_decl_form, class_rest_form, class_expr_form, is_constructor_name, prop_name_nonterminal, key_of, accessibility_form, constructor_param_form, constructor_form, accessor_nonterminal, rest_of_accessor, accessor_form, tail_of, method_kind_form, method_form, private_method_form, field_value_form, field_type_form, field_form, private_field_form, static_block_form, member_of_class_form};
 
 use crate::calls::type_args;
 use crate::forms::{Answers, Stands, all};
@@ -22,10 +22,10 @@ use crate::pats::annotation;
 use crate::verdicts::Verdict;
 use swc_ecma_codegen_grammar::roles::Role;
 use swc_ecma_codegen_tree::{
-    Accessibility, Class, ClassDecl, ClassExpr, ClassMember, ClassMemberBox, ClassMethod,
-    ClassProp, Constructor, ExprBox, Function, FunctionBox, MethodKind, Param, ParamOrTsParamProp,
-    PrivateMethod, PrivateProp, PropName, StaticBlock, TsExprWithTypeArgs, TsTypeAnnBox,
-    TsTypeParamInstantiationBox,
+    Accessibility, AutoAccessor, Class, ClassDecl, ClassExpr, ClassMember, ClassMemberBox,
+    ClassMethod, ClassProp, Constructor, ExprBox, Function, FunctionBox, Key, MethodKind, Param,
+    ParamOrTsParamProp, PrivateMethod, PrivateProp, PropName, StaticBlock, TsExprWithTypeArgs,
+    TsTypeAnnBox, TsTypeParamInstantiationBox,
 };
 
 impl<N: Answers> Stands for ClassMemberBox<N> {
@@ -302,7 +302,7 @@ fn rest_of_accessor<N: Answers>(
     body(verdict, &function.body, own)
 }
 
-/// The same of one that is neither async nor a generator.
+/// Parameters and body of a function that is neither async nor a generator.
 #[tactic(auto, using(crate::proofs::ClassesJudged::plain_accessor_judged, crate::proofs::ClassesJudged::other_accessor_judged))]
 pub(crate) fn accessor<N: Answers>(
     so_far: Verdict,
@@ -508,6 +508,52 @@ impl<N: Answers> Stands for PrivateProp<N> {
     }
 }
 
+/// The name behind `accessor`.
+#[tactic(auto, unfolding(crate::specs::ClassForms::accessor_key_form, crate::specs::Forms::judge))]
+fn accessor_key<N: Answers>(so_far: Verdict, key: &Key<N>, parameters: Parameters) -> Verdict
+    ensures { result ≡ judge N.answers so_far (accessor_key_form parameters key.now) }
+{
+    match key {
+        Key::Public(link) => {
+            let place = Nonterminal::PropertyName;
+            so_far.part(link, place, parameters, Role::PropertyName)
+        }
+        Key::Private(_) => so_far,
+    }
+}
+
+/// Its value.
+#[tactic(auto, unfolding(crate::specs::ClassForms::accessor_value_form, crate::specs::Forms::judge))]
+fn accessor_value<N: Answers>(
+    so_far: Verdict,
+    value: &Option<ExprBox<N>>,
+    parameters: Parameters,
+) -> Verdict
+    ensures { result ≡ judge N.answers so_far (accessor_value_form parameters value.now) }
+{
+    match value {
+        Some(value) => {
+            let place = Nonterminal::AssignmentExpression;
+            let inside = of_field(parameters);
+            so_far.part(value, place, inside, Role::Expression)
+        }
+        None => so_far,
+    }
+}
+
+impl<N: Answers> Stands for AutoAccessor<N> {
+    ghost judged = { λ c n v. judge N.answers v (auto_accessor_form c n) };
+
+    #[tactic(auto, unfolding(crate::specs::ClassForms::auto_accessor_form, crate::specs::ClassForms::plain_accessor_modifiers, crate::specs::Forms::judge, crate::specs::Forms::asked))]
+    fn judge(&self, so_far: Verdict, parameters: Parameters) -> Verdict {
+        let plain = self.accessibility.is_none() && !self.is_abstract && !self.is_override;
+        let verdict = decorators(so_far, &self.decorators, parameters).by_scope(plain);
+        let verdict = accessor_key(verdict, &self.key, parameters);
+        let verdict = field_type(verdict, self.definite, &self.type_ann, parameters);
+        accessor_value(verdict, &self.value, parameters)
+    }
+}
+
 impl<N: Answers> Stands for StaticBlock<N> {
     ghost judged = { λ c n v. judge N.answers v (static_block_form c n) };
 
@@ -530,9 +576,8 @@ impl<N: Answers> Stands for ClassMember<N> {
             ClassMember::PrivateProp(node) => node.judge(so_far, parameters),
             ClassMember::StaticBlock(node) => node.judge(so_far, parameters),
             ClassMember::Empty(_) => so_far,
-            ClassMember::AutoAccessor(_) | ClassMember::TsIndexSignature(_) => so_far.by_scope(
-                false,
-            ),
+            ClassMember::AutoAccessor(node) => node.judge(so_far.by_core(false), parameters),
+            ClassMember::TsIndexSignature(_) => so_far.by_scope(false),
         }
     }
 }

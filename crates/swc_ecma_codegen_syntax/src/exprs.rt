@@ -140,17 +140,12 @@ impl<N: Answers> Stands for SeqExpr<N> {
 
     #[tactic(auto, using(crate::proofs::ExprsJudged::few_judged, crate::proofs::ExprsJudged::many_judged), unfolding(crate::specs::ExprForms::seq_form))]
     fn judge(&self, so_far: Verdict, parameters: Parameters) -> Verdict {
-        let verdict = if self.exprs.len() < 2 {
-            so_far.by_rule(false)
+        let place = Nonterminal::AssignmentExpression;
+        if self.exprs.len() < 2 {
+            all_exprs(so_far.by_rule(false), &self.exprs, place, parameters)
         } else {
-            so_far
-        };
-        all_exprs(
-            verdict,
-            &self.exprs,
-            Nonterminal::AssignmentExpression,
-            parameters,
-        )
+            all_exprs(so_far, &self.exprs, place, parameters)
+        }
     }
 }
 

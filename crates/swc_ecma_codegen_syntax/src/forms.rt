@@ -4,16 +4,16 @@ ghost use Rattle.std.specs.Prelude.{◌≡◌, true, false, Option};
 ghost use Rattle.swc_ecma_codegen_grammar.specs.declared.roles.Role.{Role as InRole};
 ghost use Rattle.swc_ecma_codegen_grammar.specs.declared.roles.Role.TheVariants.{Statement};
 ghost use Rattle.swc_ecma_codegen_syntax.specs.declared.parameters.Parameters.{Parameters as Given};
-ghost use Rattle.swc_ecma_codegen_syntax.specs.Summary.{Summary};
+ghost use Rattle.swc_ecma_codegen_syntax.specs.Summary.{Summary, shape_in};
 ghost use Rattle.swc_ecma_codegen_syntax.specs.declared.verdicts.Verdict.{Verdict as Judged};
 ghost use Rattle.swc_ecma_codegen_syntax.specs.Parameters.{of_script};
-ghost use Rattle.swc_ecma_codegen_syntax.specs.Forms.{Part, Simple, Restricted, Followed, of_part, judge, verdict_all, verdict_of};
+ghost use Rattle.swc_ecma_codegen_syntax.specs.Forms.{Part, Simple, Shaped, Restricted, Followed, of_part, judge, verdict_all, verdict_of};
 ghost use Rattle.swc_ecma_codegen_syntax.specs.MemberForms.{expr_part};
 
 use crate::lookahead::{Beginning, Lookahead};
 use crate::nonterminals::Nonterminal;
 use crate::parameters::{Parameters, before};
-use crate::verdicts::{Facts, Verdict};
+use crate::verdicts::{Facts, Shape, Verdict};
 use swc_ecma_codegen_grammar::roles::Role;
 use swc_ecma_codegen_tree::{ExprBox, Link, PatBox, StmtBox};
 
@@ -28,6 +28,10 @@ pub trait Answers {
     /// Whether it is an empty statement.
     fn is_empty(&self) -> bool
         ensures { result ≡ (answers self.now Statement of_script).is_empty };
+
+    /// What it looks like.
+    fn shape(&self) -> Shape
+        ensures { result ≡ shape_in answers self.now };
 
     /// What its text begins with, as a node in this role.
     fn begins(&self, role: Role) -> Beginning
@@ -44,7 +48,7 @@ pub trait Stands {
 }
 
 impl Verdict {
-    /// The same of a part, by its facts.
+    /// The verdict so far, and of a part, by its facts.
     #[inline]
     pub(crate) fn of_part(self, place: Nonterminal, facts: Facts) -> Verdict
         ensures { result ≡ of_part place self facts }
@@ -52,7 +56,7 @@ impl Verdict {
         self.standing(place, facts.nonterminal).meet(facts.verdict)
     }
 
-    /// The same of what a link holds.
+    /// The verdict so far, and of what a link holds.
     #[tactic(auto, unfolding(crate::specs::Forms::judge))]
     pub(crate) fn part<K, N: Answers>(
         self,
@@ -66,7 +70,8 @@ impl Verdict {
         self.of_part(place, link.target().answer(role, parameters))
     }
 
-    /// The same of an expression whose AssignmentTargetType is simple, and which is no name unless `named`.
+    /// The verdict so far, and of an expression whose AssignmentTargetType is simple, and which is
+    /// no name unless `named`.
     #[tactic(auto, unfolding(crate::specs::Forms::judge))]
     pub(crate) fn simple<N: Answers>(
         self,
@@ -83,7 +88,29 @@ impl Verdict {
             .of_part(place, facts)
     }
 
-    /// The same of an expression whose text may not begin with what a restriction names.
+    /// The same of a part of a shape; where it isn't, parentheses mend a decorator alone.
+    #[tactic(auto, unfolding(crate::specs::Forms::judge, crate::specs::Forms::asked, crate::specs::Forms::cure_of))]
+    pub(crate) fn shaped<K, N: Answers>(
+        self,
+        link: &Link<K, N>,
+        shape: Shape,
+        place: Nonterminal,
+        parameters: Parameters,
+        role: Role,
+    ) -> Verdict
+        ensures { result
+            ≡ judge N.answers self (Shaped shape place parameters role link.now.node.value) }
+    {
+        let is_so = shape.fits(link.target().shape());
+        let verdict = match shape {
+            Shape::Decorator => self.by_place(is_so),
+            _ => self.by_rule(is_so),
+        };
+        verdict.part(link, place, parameters, role)
+    }
+
+    /// The verdict so far, and of an expression whose text may not begin with what a restriction
+    /// names.
     #[tactic(auto, unfolding(crate::specs::Forms::judge, crate::specs::Forms::asked))]
     pub(crate) fn restricted_expr<N: Answers>(
         self,
@@ -100,7 +127,7 @@ impl Verdict {
             .part(link, place, parameters, Role::Expression)
     }
 
-    /// The same of a statement, by what stands right behind it.
+    /// The verdict so far, and of a statement, by what stands right behind it.
     #[tactic(auto, unfolding(crate::specs::Forms::judge))]
     pub(crate) fn followed<N: Answers>(
         self,
@@ -116,7 +143,7 @@ impl Verdict {
         self.part(link, place, parameters, Role::Statement)
     }
 
-    /// The same of a pattern.
+    /// The verdict so far, and of a pattern whose text may not begin with what a restriction names.
     #[tactic(auto, unfolding(crate::specs::Forms::judge, crate::specs::Forms::asked))]
     pub(crate) fn restricted_pat<N: Answers>(
         self,

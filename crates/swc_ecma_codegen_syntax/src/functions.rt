@@ -2,7 +2,7 @@
 
 ghost use Rattle.std.specs.Prelude.{◌≡◌, false, not};
 ghost use Rattle.swc_ecma_codegen_grammar.specs.FunctionPhrases.{is_some_listed};
-ghost use Rattle.swc_ecma_codegen_syntax.specs.Forms.{judge};
+ghost use Rattle.swc_ecma_codegen_syntax.specs.Forms.{judge, ByCore, ByScope};
 ghost use Rattle.swc_ecma_codegen_syntax.specs.declared.nonterminals.Nonterminal.TheVariants.{PatternElement};
 ghost use Rattle.swc_ecma_codegen_syntax.specs.PatForms.{pat_part};
 ghost use Rattle.swc_ecma_codegen_syntax.specs.FunctionForms.{type_params_form, decorator_form, decorators_form, bound_name_form, optional_name_form, pat_in, param_form, params_form, block_body, body_form, rest_of_function, function_form, function_head_nonterminal, head_before, fn_expr_form, fn_decl_form, arrow_params_form, arrow_body_form, arrow_form, fn_default_form};
@@ -14,10 +14,10 @@ use crate::names::{is, is_assignable, name};
 use crate::nonterminals::{Nonterminal, takes};
 use crate::parameters::{
     Parameters, of_arrow_block, of_arrow_parameters, of_arrow_value, of_function, of_function_name,
-    of_parameters,
+    of_parameters, with_in,
 };
 use crate::pats::{annotation, pat_nonterminal};
-use crate::verdicts::Verdict;
+use crate::verdicts::{Shape, Verdict};
 use swc_ecma_codegen_grammar::roles::Role;
 use swc_ecma_codegen_tree::{
     ArrowExpr, BlockStmtBox, BlockStmtOrExpr, Decorator, FnDecl, FnExpr, Function, Ident, Param,
@@ -60,23 +60,40 @@ impl<N: Answers> Stands for Decorator<N> {
 
     #[tactic(auto, unfolding(crate::specs::FunctionForms::decorator_form, crate::specs::Forms::judge))]
     fn judge(&self, so_far: Verdict, parameters: Parameters) -> Verdict {
-        so_far.part(
+        so_far.shaped(
             &self.expr,
-            Nonterminal::Uncovered,
-            parameters,
+            Shape::Decorator,
+            Nonterminal::LeftHandSideExpression,
+            with_in(parameters),
             Role::Expression,
         )
     }
 }
 
-/// Decorators, which have no production here.
+/// Decorators, which the core has none of.
 #[tactic(auto, using(crate::proofs::FunctionsJudged::decorators_judged))]
 pub(crate) fn decorators<N: Answers>(
     so_far: Verdict,
     decorators: &[Decorator<N>],
     parameters: Parameters,
 ) -> Verdict
-    ensures { result ≡ judge N.answers so_far (decorators_form parameters decorators.now) }
+    ensures { result ≡ judge N.answers so_far (decorators_form ByCore parameters decorators.now) }
+{
+    all(
+        so_far.by_core(is_none_listed(decorators)),
+        decorators,
+        parameters,
+    )
+}
+
+/// Those of a parameter, which are of TypeScript.
+#[tactic(auto, using(crate::proofs::FunctionsJudged::param_decorators_judged))]
+fn param_decorators<N: Answers>(
+    so_far: Verdict,
+    decorators: &[Decorator<N>],
+    parameters: Parameters,
+) -> Verdict
+    ensures { result ≡ judge N.answers so_far (decorators_form ByScope parameters decorators.now) }
 {
     all(
         so_far.by_scope(is_none_listed(decorators)),
@@ -139,7 +156,7 @@ pub(crate) fn param<N: Answers>(
 ) -> Verdict
     ensures { result ≡ judge N.answers so_far (param_form parameters place param.now) }
 {
-    let verdict = decorators(so_far, &param.decorators, parameters);
+    let verdict = param_decorators(so_far, &param.decorators, parameters);
     pat_in(verdict, place, &param.pat, parameters)
 }
 

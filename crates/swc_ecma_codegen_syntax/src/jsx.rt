@@ -238,7 +238,7 @@ fn children<N: Answers>(
     }
 }
 
-/// The same without a tag that closes them.
+/// The verdict so far, and of what stands behind a tag that none closes.
 #[tactic(auto, using(crate::proofs::JsxJudged::texted_judged, crate::proofs::JsxJudged::untexted_judged))]
 fn unclosed<N: Answers>(
     so_far: Verdict,

@@ -21,6 +21,7 @@ ghost use Rattle.swc_ecma_codegen_syntax.specs.Summary.{Summary};
 ghost use Rattle.swc_ecma_codegen_syntax.specs.Forms.{forget, keeps};
 ghost use Rattle.swc_ecma_codegen_syntax.specs.Nonterminals.{takes};
 ghost use Rattle.swc_ecma_codegen_syntax.specs.UnitProductions.{Chain};
+ghost use Rattle.swc_ecma_codegen_syntax.specs.Verdicts.{Grammar};
 ghost use Rattle.swc_ecma_codegen_syntax.specs.NameForms.{name_form, lit_form};
 ghost use Rattle.swc_ecma_codegen_syntax.specs.MemberForms.{member_form, super_prop_form, tagged_form, chain_member_form, opt_chain_form};
 ghost use Rattle.swc_ecma_codegen_syntax.specs.CallForms.{array_form, call_form, new_form, chain_call_form};
@@ -82,7 +83,8 @@ ghost use Rattle.swc_ecma_codegen_tree.specs.declared.decls.Function.{Function};
 ghost use Rattle.swc_ecma_codegen_tree.specs.declared.classes.Class.{Class};
 ghost use Rattle.swc_ecma_codegen_tree.specs.declared.classes.ClassMember.{ClassMember};
 
-/// Without its nonterminals a production with operators is the one that says which tokens a tree reads as.
+/// Without its nonterminals a production with operators is the one that says which tokens a tree
+/// reads as.
 #[tactic(auto, using(crate::proofs::EachForgets::name_law, crate::proofs::EachForgets::lit_law, crate::proofs::EachForgets::unary_law, crate::proofs::EachForgets::update_law, crate::proofs::EachForgets::bin_law, crate::proofs::EachForgets::cond_law, crate::proofs::EachForgets::assign_law, crate::proofs::EachForgets::yield_law, crate::proofs::EachForgets::await_law, crate::proofs::EachForgets::seq_law, crate::proofs::EachForgets::paren_law))]
 pub fn operators_forget<N>()
     ensures name { (f : N → Role → Phrase) (c : Given) (n : Ident)
@@ -108,7 +110,8 @@ pub fn operators_forget<N>()
         → forget f (paren_form c n) ≡ paren_expr f n }
 {}
 
-/// The same of members, calls, chains, `new`, arrays and templates.
+/// Without its nonterminals a production of members, calls, chains, `new`, arrays and templates is
+/// the one that says which tokens a tree reads as.
 #[tactic(auto, using(crate::proofs::Forgets::member_forgets, crate::proofs::Forgets::super_prop_forgets, crate::proofs::Forgets::chain_member_forgets, crate::proofs::Forgets::chain_forgets, crate::proofs::Forgets::chain_call_forgets, crate::proofs::Forgets::call_forgets, crate::proofs::Forgets::new_forgets, crate::proofs::Forgets::array_forgets, crate::proofs::Forgets::tpl_forgets, crate::proofs::Forgets::tagged_forgets))]
 pub fn members_forget<N>()
     ensures member { (f : N → Role → Phrase) (place : Place) (c : Given) (n : MemberExpr N)
@@ -133,7 +136,9 @@ pub fn members_forget<N>()
         → forget f (tagged_form place c n) ≡ tagged_tpl f n }
 {}
 
-/// The same of patterns and keys; and of objects, of targets and of any expression, where nothing in them lacks a production.
+/// Without its nonterminals a production of patterns and keys is the one that says which tokens a
+/// tree reads as; so is that of objects, of targets and of any expression, where nothing in them
+/// lacks a production.
 #[tactic(auto, using(crate::proofs::Forgets::prop_name_forgets, crate::proofs::PatForgets::pat_forgets, crate::proofs::PatForgets::target_pat_forgets, crate::proofs::Forgets::object_forgets, crate::proofs::PatForgets::target_forgets, crate::proofs::ExprForgets::expr_forgets))]
 pub fn parts_forget<N>()
     ensures key { (f : N → Role → Phrase) (c : Given) (n : PropName N)
@@ -142,21 +147,22 @@ pub fn parts_forget<N>()
         → forget f (pat_form b c n) ≡ pat f n }
     ensures target_pattern { (f : N → Role → Phrase) (b : Bool) (c : Given) (n : AssignTargetPat N)
         → forget f (target_pat_form b c n) ≡ assign_target_pat f n }
-    ensures object { (p : Bool) (t : N → Role → Given → Summary) (f : N → Role → Phrase)
+    ensures object { (p : Grammar) (t : N → Role → Given → Summary) (f : N → Role → Phrase)
         (c : Given) (n : ObjectLit N)
         → keeps p t (object_form c n) ≡ true
         → forget f (object_form c n) ≡ object_lit f n }
-    ensures target { (b p : Bool) (t : N → Role → Given → Summary) (f : N → Role → Phrase)
-        (c : Given) (n : AssignTarget N)
+    ensures target { (b : Bool) (p : Grammar) (t : N → Role → Given → Summary)
+        (f : N → Role → Phrase) (c : Given) (n : AssignTarget N)
         → keeps p t (target_form b c n) ≡ true
         → forget f (target_form b c n) ≡ assign_target f n }
-    ensures expression { (p : Bool) (t : N → Role → Given → Summary) (f : N → Role → Phrase)
+    ensures expression { (p : Grammar) (t : N → Role → Given → Summary) (f : N → Role → Phrase)
         (b : Bool) (c : Given) (n : Expr N)
         → keeps p t (expr_form false b c n) ≡ true
         → forget f (expr_form false b c n) ≡ expr f n }
 {}
 
-/// The same of functions and arrow functions, and of their parts.
+/// Without its nonterminals a production of functions and arrow functions, and of their parts, is
+/// the one that says which tokens a tree reads as.
 #[tactic(auto, using(crate::proofs::FunctionForgets::fn_expr_forgets, crate::proofs::FunctionForgets::fn_decl_forgets, crate::proofs::FunctionForgets::function_forgets, crate::proofs::FunctionForgets::rest_forgets, crate::proofs::FunctionForgets::arrow_forgets))]
 pub fn functions_forget<N>()
     ensures expression { (f : N → Role → Phrase) (c : Given) (n : FnExpr N)
@@ -171,7 +177,8 @@ pub fn functions_forget<N>()
         → forget f (arrow_form c n) ≡ arrow_expr f n }
 {}
 
-/// The same of classes; and of what stands in them, where nothing in it lacks a production.
+/// Without its nonterminals a production of classes is the one that says which tokens a tree reads
+/// as; so is that of what stands in them, where nothing in it lacks a production.
 #[tactic(auto, using(crate::proofs::ClassForgets::class_expr_forgets, crate::proofs::ClassForgets::class_decl_forgets, crate::proofs::ClassForgets::accessor_forgets, crate::proofs::ClassForgets::class_tail_forgets, crate::proofs::ClassForgets::class_member_forgets))]
 pub fn classes_forget<N>()
     ensures expression { (f : N → Role → Phrase) (c : Given) (n : ClassExpr N)
@@ -180,17 +187,18 @@ pub fn classes_forget<N>()
         → forget f (class_decl_form c n) ≡ class_decl f n }
     ensures accessor { (f : N → Role → Phrase) (c : Given) (n : Function N)
         → forget f (accessor_form c n) ≡ accessor_tail f n }
-    ensures tail { (p : Bool) (t : N → Role → Given → Summary) (f : N → Role → Phrase)
+    ensures tail { (p : Grammar) (t : N → Role → Given → Summary) (f : N → Role → Phrase)
         (c : Given) (n : Class N)
         → keeps p t (class_tail_form c n) ≡ true
         → forget f (class_tail_form c n) ≡ class_tail f n }
-    ensures member { (p : Bool) (t : N → Role → Given → Summary) (f : N → Role → Phrase)
+    ensures member { (p : Grammar) (t : N → Role → Given → Summary) (f : N → Role → Phrase)
         (c : Given) (n : ClassMember N)
         → keeps p t (member_of_class_form c n) ≡ true
         → forget f (member_of_class_form c n) ≡ class_member f n }
 {}
 
-/// The same of JSX: elements and fragments, the outermost or a child, and names of members.
+/// Without its nonterminals a production of JSX is the one that says which tokens a tree reads as:
+/// of elements and fragments, the outermost or a child, and of names of members.
 #[tactic(auto, using(crate::proofs::JsxForgets::element_forgets, crate::proofs::JsxForgets::fragment_forgets, crate::proofs::JsxForgets::tag_object_forgets))]
 pub fn elements_forget<N>()
     ensures element { (f : N → Role → Phrase) (c : Given) (b : Bool) (n : JSXElement N)
@@ -201,31 +209,33 @@ pub fn elements_forget<N>()
         → forget f (tag_object_form c n) ≡ jsx_object f n }
 {}
 
-/// The same of statements, declarations of variables, blocks, items of modules and programs, where nothing in them lacks a production.
+/// Without its nonterminals a production of statements, declarations of variables, blocks, items of
+/// modules and programs is the one that says which tokens a tree reads as, where nothing in them
+/// lacks a production.
 #[tactic(auto, using(crate::proofs::StmtForgets::stmt_forgets, crate::proofs::StmtForgets::var_decl_forgets, crate::proofs::StmtForgets::block_forgets, crate::proofs::ModuleForgets::module_decl_forgets, crate::proofs::ModuleForgets::item_forgets, crate::proofs::ModuleForgets::program_forgets))]
 pub fn statements_forget<N>()
-    ensures statement { (p : Bool) (t : N → Role → Given → Summary) (f : N → Role → Phrase)
+    ensures statement { (p : Grammar) (t : N → Role → Given → Summary) (f : N → Role → Phrase)
         (c : Given) (n : Stmt N)
         → keeps p t (stmt_form c n) ≡ true
         → forget f (stmt_form c n) ≡ stmt f n }
-    ensures variables { (p : Bool) (t : N → Role → Given → Summary) (f : N → Role → Phrase)
+    ensures variables { (p : Grammar) (t : N → Role → Given → Summary) (f : N → Role → Phrase)
         (c : Given) (n : VarDecl N)
         → keeps p t (var_decl_form c n) ≡ true
         → forget f (var_decl_form c n) ≡ var_decl f n }
-    ensures block { (p : Bool) (t : N → Role → Given → Summary) (f : N → Role → Phrase)
+    ensures block { (p : Grammar) (t : N → Role → Given → Summary) (f : N → Role → Phrase)
         (c : Given) (n : BlockStmt N)
         → keeps p t (block_form c n) ≡ true
         → forget f (block_form c n) ≡ block_stmt f n }
-    ensures declaration { (p : Bool) (t : N → Role → Given → Summary) (f : N → Role → Phrase)
+    ensures declaration { (p : Grammar) (t : N → Role → Given → Summary) (f : N → Role → Phrase)
         (c : Given) (n : ModuleDecl N)
         → keeps p t (module_decl_form c n) ≡ true
         → forget f (module_decl_form c n) ≡ module_decl f n }
-    ensures item { (p : Bool) (t : N → Role → Given → Summary) (f : N → Role → Phrase)
+    ensures item { (p : Grammar) (t : N → Role → Given → Summary) (f : N → Role → Phrase)
         (c : Given) (n : ModuleItem N)
         → keeps p t (item_form c n) ≡ true
         → forget f (item_form c n) ≡ module_item f n }
-    ensures program { (p m : Bool) (t : N → Role → Given → Summary) (f : N → Role → Phrase)
-        (n : Program N)
+    ensures program { (p : Grammar) (m : Bool) (t : N → Role → Given → Summary)
+        (f : N → Role → Phrase) (n : Program N)
         → keeps p t (program_form m n) ≡ true
         → forget f (program_form m n) ≡ program f n }
 {}

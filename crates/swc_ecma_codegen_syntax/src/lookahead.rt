@@ -2,14 +2,14 @@
 
 ghost use Rattle.std.specs.Prelude.{◌≡◌};
 ghost use Rattle.swc_ecma_codegen_syntax.specs.Lookahead.{is_statement_start, is_default_start, is_brace, is_let_bracket, is_let, is_of_start, excludes};
-ghost use Rattle.swc_ecma_codegen_syntax.specs.Beginnings.{name_begins, goes_on, goes_on_in_brackets, goes_on_in_line, prop_begins, chain_begins, base_begins, callee_begins, seq_begins, update_begins, expr_begins, simple_target_begins, target_pat_begins, target_begins, pat_begins, part_begins, function_begins, stmt_part_begins, jsx_part_begins};
+ghost use Rattle.swc_ecma_codegen_syntax.specs.Beginnings.{name_begins, goes_on, goes_on_in_brackets, goes_on_in_line, prop_begins, chain_begins, base_begins, callee_begins, seq_begins, update_begins, expr_begins, simple_target_begins, target_pat_begins, target_begins, pat_begins, part_begins, function_begins, stmt_part_begins, jsx_part_begins, decorators_begin, behind_decorators};
 ghost use Rattle.swc_ecma_codegen_syntax.specs.Summary.{begins_in};
 
 use crate::forms::Answers;
 use crate::names::is;
 use swc_ecma_codegen_grammar::roles::Role;
 use swc_ecma_codegen_tree::{
-    AssignTarget, AssignTargetPat, Callee, Expr, ExprBox, ExprPart, JSXPart, MemberProp,
+    AssignTarget, AssignTargetPat, Callee, Decorator, Expr, ExprBox, ExprPart, JSXPart, MemberProp,
     OptChainBase, Pat, SimpleAssignTarget, StmtPart,
 };
 
@@ -43,9 +43,11 @@ pub enum Beginning {
 /// A lookahead restriction: what a part may not begin with.
 #[derive(Clone, Copy, Debug, PartialEq, Eq)]
 pub enum Lookahead {
-    /// The expression of a statement: `{`, `function`, `async function`, `class`, `let [`, and a decorator. Section 14.5.
+    /// The expression of a statement: `{`, `function`, `async function`, `class`, `let [`, and a
+    /// decorator. Section 14.5.
     StatementStart,
-    /// The expression of `export default`: `function`, `async function`, `class`, and a decorator. Section 16.2.3.
+    /// The expression of `export default`: `function`, `async function`, `class`, and a decorator.
+    /// Section 16.2.3.
     DefaultStart,
     /// The expression that is the body of an arrow function: `{`. Section 15.3.
     BodyStart,
@@ -145,7 +147,7 @@ fn name_begins(name: &str) -> Beginning
 }
 
 impl Beginning {
-    /// The same, where another token comes behind, and no `[`.
+    /// What a name begins with, where another token than `[` comes behind.
     #[tactic(auto, unfolding(crate::specs::Beginnings::goes_on))]
     fn goes_on(self) -> Beginning
         ensures { result ≡ goes_on self }
@@ -157,7 +159,7 @@ impl Beginning {
         }
     }
 
-    /// The same, where `[` comes behind.
+    /// What a name begins with, where `[` comes behind.
     #[tactic(auto, unfolding(crate::specs::Beginnings::goes_on_in_brackets))]
     fn goes_on_in_brackets(self) -> Beginning
         ensures { result ≡ goes_on_in_brackets self }
@@ -169,7 +171,7 @@ impl Beginning {
         }
     }
 
-    /// The same, where `++` comes behind.
+    /// What a name begins with, where `++` comes behind.
     #[tactic(auto, unfolding(crate::specs::Beginnings::goes_on_in_line))]
     fn goes_on_in_line(self) -> Beginning
         ensures { result ≡ goes_on_in_line self }
@@ -192,7 +194,7 @@ fn prop_begins<N>(object: Beginning, prop: &MemberProp<N>) -> Beginning
     }
 }
 
-/// The same in a chain.
+/// What a member of a chain begins with, by its object.
 #[tactic(auto, unfolding(crate::specs::Beginnings::chain_begins))]
 pub(crate) fn chain_begins<N>(optional: bool, object: Beginning, prop: &MemberProp<N>) -> Beginning
     ensures { result ≡ chain_begins optional object prop.now }
@@ -263,7 +265,10 @@ pub(crate) fn expr_begins<N: Answers>(expr: &Expr<N>) -> Beginning
         Expr::OptChain(node) => base_begins(node.optional, &node.base),
         Expr::Tpl(node) => node.target().begins(Role::Template),
         Expr::Fn(node) => node.function.target().begins(Role::FunctionHead),
-        Expr::Class(node) => node.class.target().begins(Role::ClassWord),
+        Expr::Class(node) => {
+            let head = node.class.target().begins(Role::ClassHead);
+            behind_decorators(head, node.class.target().begins(Role::ClassWord))
+        }
         Expr::JSXElement(node) => node.target().begins(Role::Element),
         Expr::JSXFragment(node) => node.target().begins(Role::Element),
         _ => Beginning::Other,
@@ -326,7 +331,7 @@ pub(crate) fn part_begins<N: Answers>(part: &ExprPart<N>, role: Role) -> Beginni
     }
 }
 
-/// The same of an element of JSX, in its role.
+/// What a part of an element of JSX begins with, in its role.
 #[tactic(auto, unfolding(crate::specs::Beginnings::jsx_part_begins))]
 pub(crate) fn jsx_part_begins<N>(part: &JSXPart<N>, role: Role) -> Beginning
     ensures { result ≡ jsx_part_begins part.now role }
@@ -334,6 +339,28 @@ pub(crate) fn jsx_part_begins<N>(part: &JSXPart<N>, role: Role) -> Beginning
     match (part, role) {
         (JSXPart::JSXElement(_) | JSXPart::JSXFragment(_), Role::Element) => Beginning::Other,
         _ => Beginning::Nothing,
+    }
+}
+
+/// What decorators begin with.
+#[tactic(auto, unfolding(crate::specs::Beginnings::decorators_begin))]
+fn decorators_begin<N>(decorators: &[Decorator<N>]) -> Beginning
+    ensures { result ≡ decorators_begin decorators.now }
+{
+    match decorators {
+        [] => Beginning::Nothing,
+        [_, ..] => Beginning::At,
+    }
+}
+
+/// What a class begins with: its decorators, or the word.
+#[tactic(auto, unfolding(crate::specs::Beginnings::behind_decorators))]
+fn behind_decorators(head: Beginning, word: Beginning) -> Beginning
+    ensures { result ≡ behind_decorators head word }
+{
+    match head {
+        Beginning::At => Beginning::At,
+        _ => word,
     }
 }
 
@@ -345,6 +372,7 @@ pub(crate) fn stmt_part_begins<N>(part: &StmtPart<N>, role: Role) -> Beginning
     match (part, role) {
         (StmtPart::Function(node), Role::FunctionHead) if node.is_async => Beginning::AsyncFunction,
         (StmtPart::Function(_), Role::FunctionHead) => Beginning::Function,
+        (StmtPart::Class(node), Role::ClassHead) => decorators_begin(&node.decorators),
         (StmtPart::Class(_), Role::ClassWord) => Beginning::Class,
         _ => Beginning::Nothing,
     }

@@ -2,7 +2,7 @@
 
 ghost use Rattle.std.specs.Prelude.{◌≡◌, false};
 ghost use Rattle.swc_ecma_codegen_syntax.specs.Forms.{judge};
-ghost use Rattle.swc_ecma_codegen_syntax.specs.StmtForms.{optional_form, while_form, do_while_form, for_init_form, for_form, head_form, for_in_form, of_start, for_of_form};
+ghost use Rattle.swc_ecma_codegen_syntax.specs.StmtForms.{optional_form, while_form, do_while_form, for_init_form, for_form, head_form, is_of_head, for_in_form, of_start, for_of_form};
 
 use crate::forms::{Answers, Stands};
 use crate::lookahead::Lookahead;
@@ -95,6 +95,14 @@ impl<N: Answers> Stands for ForStmt<N> {
     }
 }
 
+/// Whether it is the head of `for (a of b) {}`.
+#[tactic(auto, unfolding(crate::specs::StmtForms::is_of_head))]
+fn is_of_head(lookahead: Lookahead) -> bool
+    ensures { result ≡ is_of_head lookahead }
+{
+    !matches!(lookahead, Lookahead::ForStart)
+}
+
 /// What gets a value from a loop.
 #[tactic(auto, unfolding(crate::specs::StmtForms::head_form, crate::specs::Forms::judge, crate::specs::Forms::asked))]
 fn head<N: Answers>(
@@ -109,10 +117,13 @@ fn head<N: Answers>(
         ForHead::VarDecl(decl) => so_far.part(
             decl,
             Nonterminal::VariableDeclarations,
-            of_loop(parameters),
+            of_loop(!is_of_head(lookahead) && !parameters.is_strict, parameters),
             Role::VariableDeclaration,
         ),
-        ForHead::UsingDecl(_) => so_far.by_scope(false),
+        ForHead::UsingDecl(decl) => {
+            let verdict = so_far.by_core(false).by_rule(is_of_head(lookahead));
+            decl.judge(verdict, of_loop(false, parameters))
+        }
         ForHead::Pat(pat) => so_far.restricted_pat(
             pat,
             lookahead,

@@ -12,7 +12,7 @@ use crate::lookahead::Lookahead;
 use crate::names::{has_no_escape, is_assignable, is_free};
 use crate::nonterminals::Nonterminal;
 use crate::parameters::{Parameters, with_in};
-use crate::verdicts::Verdict;
+use crate::verdicts::{Shape, Verdict};
 use swc_ecma_codegen_grammar::roles::Role;
 use swc_ecma_codegen_tree::{
     Decl, DefaultDecl, ExportAll, ExportDecl, ExportDefaultDecl, ExportDefaultExpr,
@@ -39,7 +39,7 @@ fn is_export_name(name: &ModuleExportName) -> bool
     }
 }
 
-/// The same where there is one.
+/// Whether a name may stand among what is exported, where there is one.
 #[tactic(auto, unfolding(crate::specs::ModuleForms::is_optional_name))]
 fn is_optional_name(name: &Option<ModuleExportName>) -> bool
     ensures { result ≡ is_optional_name name.now }
@@ -110,7 +110,7 @@ fn are_plain_imports(specifiers: &[ImportSpecifier]) -> bool
     true
 }
 
-/// Import attributes, which have no production here.
+/// Import attributes.
 #[tactic(auto, unfolding(crate::specs::ModuleForms::attributes_form, crate::specs::Forms::judge, crate::specs::Forms::asked))]
 fn attributes<N: Answers>(
     so_far: Verdict,
@@ -120,10 +120,11 @@ fn attributes<N: Answers>(
     ensures { result ≡ judge N.answers so_far (attributes_form parameters attributes.now) }
 {
     match attributes {
-        Some(link) => so_far.by_scope(false).part(
+        Some(link) => so_far.by_core(false).shaped(
             link,
-            Nonterminal::Uncovered,
-            parameters,
+            Shape::Attribute,
+            Nonterminal::PrimaryExpression,
+            with_in(parameters),
             Role::ObjectLiteral,
         ),
         None => so_far,
@@ -335,7 +336,7 @@ pub(crate) fn exported_head<N: Answers>(
     }
 }
 
-/// What of it stands behind `export`.
+/// What of it stands behind `export`: no `using` does.
 #[tactic(auto, unfolding(crate::specs::ModuleForms::exported_tail_form, crate::specs::Forms::judge, crate::specs::Forms::asked))]
 pub(crate) fn exported_tail<N: Answers>(
     so_far: Verdict,
@@ -346,6 +347,7 @@ pub(crate) fn exported_tail<N: Answers>(
 {
     match decl {
         Decl::Class(node) => class_rest(so_far, node, parameters),
+        Decl::Using(_) => so_far.by_rule(false),
         _ => decl.judge(so_far, parameters),
     }
 }

@@ -108,7 +108,8 @@ pub(crate) fn is_free(text: &str, parameters: Parameters) -> bool
         && !((parameters.has_await || parameters.reserves_await) && is(text, "await"))
 }
 
-/// Whether a name may be assigned to, or bound: not `eval` and `arguments` in strict code. ECMA-262, section 13.1.3.
+/// Whether a name may be assigned to, or bound: not `eval` and `arguments` in strict code.
+/// ECMA-262, section 13.1.3.
 #[tactic(auto, unfolding(crate::specs::NameForms::is_assignable))]
 pub(crate) fn is_assignable(text: &str, is_strict: bool) -> bool
     ensures { result ≡ is_assignable is_strict text.now }

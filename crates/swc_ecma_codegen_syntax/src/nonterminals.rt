@@ -1,4 +1,5 @@
-//! The nonterminals of the syntactic grammar, and which of them derive others by productions of one nonterminal alone.
+//! The nonterminals of the syntactic grammar, and which of them derive others by productions of one
+//! nonterminal alone.
 
 ghost use Rattle.std.specs.Prelude.{◌≡◌, ◌||◌};
 ghost use Rattle.swc_ecma_codegen_syntax.specs.Nonterminals.{is_member, is_new, is_call, is_left_hand_side, is_update, is_unary, is_exponentiation, is_multiplicative, is_additive, is_shift, is_relational, is_in_left, is_equality, is_bitwise_and, is_bitwise_xor, is_bitwise_or, is_logical_and, is_logical_or, is_coalesce_head, is_short_circuit, is_conditional, is_assignment, is_expression, is_callee, is_chained, is_assignment_target, is_pattern_target, is_pattern_element, is_last_element, is_coalesce, is_private, is_optional, is_primary, is_template, is_property_name, is_chain_link, is_assignment_pattern, is_pattern_name, is_rest, is_statement, is_hoistable_declaration, is_declaration, is_block, is_statement_list_item, is_variable_declarations, is_labelled_item, is_module_declaration, is_exported_head, is_function_head, is_generator_head, is_async_function_head, is_async_generator_head, is_function_tail, is_getter_tail, is_setter_tail, is_method_head, is_decorator_list, is_class_head, is_class_tail, is_class_element, is_constructor_name, is_any_function_head, is_head_without_yield, is_head_without_await, is_any_property_name, is_jsx_element, is_jsx_object, is_uncovered, takes};
@@ -12,7 +13,8 @@ use crate::unit_productions::{
     is_setter_tail, is_statement, is_statement_list_item, is_variable_declarations,
 };
 
-/// A nonterminal of ECMA-262. Those that its grammar writes as alternatives of one place have a name here too.
+/// A nonterminal of ECMA-262. Those that its grammar writes as alternatives of one place have a
+/// name here too.
 #[derive(Clone, Copy, Debug, PartialEq, Eq)]
 pub enum Nonterminal {
     /// Section 13.16.
@@ -72,7 +74,8 @@ pub enum Nonterminal {
     AssignmentPattern,
     /// A name, or in an assignment another target: `a` and `b.c` of `[a, b.c] = d`.
     PatternName,
-    /// That, or a pattern: DestructuringAssignmentTarget of section 13.15.5, and a name or BindingPattern of 14.3.3.
+    /// That, or a pattern: DestructuringAssignmentTarget of section 13.15.5, and a name or
+    /// BindingPattern of 14.3.3.
     PatternTarget,
     /// That, with or without a value: AssignmentElement and BindingElement.
     PatternElement,
@@ -87,7 +90,8 @@ pub enum Nonterminal {
     /// Section 14.2.
     Block,
     StatementListItem,
-    /// VariableDeclarationList, LexicalDeclaration without its semicolon, ForBinding or ForDeclaration: section 14.3, and 14.7.5.
+    /// VariableDeclarationList, LexicalDeclaration without its semicolon, ForBinding or
+    /// ForDeclaration: section 14.3, and 14.7.5.
     VariableDeclarations,
     /// Section 14.13.
     LabelledItem,
@@ -105,9 +109,9 @@ pub enum Nonterminal {
     AsyncGeneratorHead,
     /// `( FormalParameters ) { FunctionBody }`. Section 15.2.
     FunctionTail,
-    /// The same without parameters, as a getter has it. Section 15.4.
+    /// `() { FunctionBody }`, as a getter has it. Section 15.4.
     GetterTail,
-    /// The same with one parameter, as a setter has it. Section 15.4.
+    /// `( PropertySetParameterList ) { FunctionBody }`, as a setter has it. Section 15.4.
     SetterTail,
     /// `async *` of a method, or a part of it, or none of it. Section 15.4.
     MethodHead,
@@ -131,7 +135,8 @@ pub enum Nonterminal {
     AnyPropertyName,
     /// JSXElement and JSXFragment of the JSX specification.
     JSXElement,
-    /// What has a property in the name of a tag, as `a` of `<a.b />`: JSXIdentifier or JSXMemberExpression.
+    /// What has a property in the name of a tag, as `a` of `<a.b />`: JSXIdentifier or
+    /// JSXMemberExpression.
     JSXObject,
     /// TypeScript, and what has no production here.
     Uncovered,

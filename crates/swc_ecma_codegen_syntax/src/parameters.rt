@@ -1,17 +1,21 @@
 //! The parameters of nonterminals.
 
 ghost use Rattle.std.specs.Prelude.{◌≡◌, true, false};
-ghost use Rattle.swc_ecma_codegen_syntax.specs.Parameters.{of_script, of_module, with_in, to_end, before_operator, of_targets, of_bindings, of_declarations, of_for, of_loop, in_list, before, in_statement, in_do_while, in_if_else, labelled, behind_label, of_parameters, of_function, of_function_name, of_arrow_parameters, of_arrow_value, of_arrow_block, of_class, of_field, of_static_block, may_yield, may_await};
+ghost use Rattle.swc_ecma_codegen_syntax.specs.Parameters.{of_script, of_module, with_in, to_end, before_operator, of_targets, of_bindings, of_declarations, of_for, of_loop, in_list, in_block, before, in_statement, in_do_while, in_branch, in_if_else, labelled, behind_label, of_parameters, of_function, of_function_name, of_arrow_parameters, of_arrow_value, of_arrow_block, of_class, of_field, of_static_block, may_yield, may_await};
 
 /// Where a statement stands.
 #[derive(Clone, Copy, Debug, PartialEq, Eq)]
 pub enum Position {
     /// In a list, as in a block: a declaration may stand there.
     Item,
-    /// Behind a label, in a list: of declarations only a function may stand there, in code that isn't strict. ECMA-262, section 14.13.
+    /// Behind a label, in a list: of declarations only a function may stand there, in code that
+    /// isn't strict. ECMA-262, section 14.13.
     Labelled,
     /// In another statement, as `b;` of `while (a) b;`: no declaration may stand there.
     Inner,
+    /// In an `if`, as `b;` of `if (a) b;`: of declarations only a function may stand there, in code
+    /// that isn't strict. ECMA-262, section B.3.3.
+    Branch,
 }
 
 /// What a place gives the nonterminals that stand there. ECMA-262, section 5.1.5.
@@ -21,7 +25,8 @@ pub struct Parameters {
     pub has_in: bool,
     /// `[Yield]`: inside a generator, where `yield` is no name.
     pub has_yield: bool,
-    /// `[Await]`: inside an async function, in a module outside functions, and in a static block of a class, where `await` is no name.
+    /// `[Await]`: inside an async function, in a module outside functions, and in a static block of
+    /// a class, where `await` is no name.
     pub has_await: bool,
     /// `[Return]`: inside a function. No expression by itself asks for it.
     pub has_return: bool,
@@ -29,20 +34,32 @@ pub struct Parameters {
     pub is_strict: bool,
     /// `await` is no name here: in a module. Section 13.1.1.
     pub reserves_await: bool,
-    /// No `yield a` and no `await a` stands here, whatever `[Yield]` and `[Await]` are: among the parameters of a function (sections 15.3.1, 15.5.1,
-    /// 15.6.1, 15.8.1 and 15.9.1), and in a static block of a class, but not in a function there (section 15.7.1).
+    /// No `yield a` and no `await a` stands here, whatever `[Yield]` and `[Await]` are: among the
+    /// parameters of a function (sections 15.3.1, 15.5.1, 15.6.1, 15.8.1 and 15.9.1), and in a
+    /// static block of a class, but not in a function there (section 15.7.1).
     pub bars_operators: bool,
-    /// A pattern here is one of a binding, as in `let [a] = b`, and not one of an assignment, as `[a.b] = c`.
+    /// No `using` declaration stands here: in a script, outside blocks, functions and classes. A
+    /// proposal, explicit resource management.
+    pub bars_using: bool,
+    /// A pattern here is one of a binding, as in `let [a] = b`, and not one of an assignment, as
+    /// `[a.b] = c`.
     pub is_binding: bool,
-    /// Variables that are declared here get their values of a loop, as `a` of `for (let a of b) {}`.
+    /// Variables that are declared here get their values of a loop, as `a` of
+    /// `for (let a of b) {}`.
     pub is_loop_head: bool,
+    /// A `var` may have a value there: in `for (var a = b in c)`, in code that isn't strict.
+    /// ECMA-262, section B.3.5.
+    pub initializes: bool,
     /// Where a statement stands.
     pub position: Position,
-    /// `else` stands right behind the statement. It would belong to an `if` without one that ends it.
+    /// `else` stands right behind the statement. It would belong to an `if` without one that ends
+    /// it.
     pub before_else: bool,
-    /// An empty statement stands right behind the statement. A `do a; while (b)` that ends it would take its semicolon.
+    /// An empty statement stands right behind the statement. A `do a; while (b)` that ends it would
+    /// take its semicolon.
     pub before_empty: bool,
-    /// The operator `<` stands right behind the expression. Parsers take an element of JSX that ends it for one that stands beside another.
+    /// The operator `<` stands right behind the expression. Parsers take an element of JSX that
+    /// ends it for one that stands beside another.
     pub before_less: bool,
     /// The emission is to minify: it leaves `()` away from `new A()`.
     pub minify: bool,
@@ -61,8 +78,10 @@ impl Parameters {
             is_strict: false,
             reserves_await: false,
             bars_operators: false,
+            bars_using: true,
             is_binding: false,
             is_loop_head: false,
+            initializes: false,
             position: Position::Item,
             before_else: false,
             before_empty: false,
@@ -79,12 +98,23 @@ impl Parameters {
             has_await: true,
             is_strict: true,
             reserves_await: true,
+            bars_using: false,
             ..Parameters::script()
         }
     }
 }
 
-/// The same with `[+In]`, as between brackets.
+/// Those of a list of statements in braces.
+pub(crate) fn in_block(parameters: Parameters) -> Parameters
+    ensures { result ≡ in_block parameters }
+{
+    Parameters {
+        bars_using: false,
+        ..parameters
+    }
+}
+
+/// These parameters with `[+In]`, as between brackets.
 pub(crate) fn with_in(parameters: Parameters) -> Parameters
     ensures { result ≡ with_in parameters }
 {
@@ -95,7 +125,7 @@ pub(crate) fn with_in(parameters: Parameters) -> Parameters
     }
 }
 
-/// The same with `[+In]`, for what ends the expression.
+/// These parameters with `[+In]`, for what ends the expression.
 pub(crate) fn to_end(parameters: Parameters) -> Parameters
     ensures { result ≡ to_end parameters }
 {
@@ -160,12 +190,13 @@ pub(crate) fn of_for(parameters: Parameters) -> Parameters
 }
 
 /// Those of what is declared in `for (a of b) {}`.
-pub(crate) fn of_loop(parameters: Parameters) -> Parameters
-    ensures { result ≡ of_loop parameters }
+pub(crate) fn of_loop(initializes: bool, parameters: Parameters) -> Parameters
+    ensures { result ≡ of_loop initializes parameters }
 {
     Parameters {
         has_in: false,
         is_loop_head: true,
+        initializes,
         ..parameters
     }
 }
@@ -183,7 +214,7 @@ pub(crate) fn in_list(before_empty: bool, parameters: Parameters) -> Parameters
     }
 }
 
-/// The same by whether an empty statement stands right behind.
+/// These parameters, by whether an empty statement stands right behind.
 pub(crate) fn before(empty: bool, parameters: Parameters) -> Parameters
     ensures { result ≡ before empty parameters }
 {
@@ -205,12 +236,22 @@ pub(crate) fn in_do_while(parameters: Parameters) -> Parameters
     }
 }
 
+/// Those of a statement that ends an `if`.
+pub(crate) fn in_branch(parameters: Parameters) -> Parameters
+    ensures { result ≡ in_branch parameters }
+{
+    Parameters {
+        position: Position::Branch,
+        ..parameters
+    }
+}
+
 /// Those of the statement before `else`.
 pub(crate) fn in_if_else(parameters: Parameters) -> Parameters
     ensures { result ≡ in_if_else parameters }
 {
     Parameters {
-        position: Position::Inner,
+        position: Position::Branch,
         before_else: true,
         before_empty: false,
         ..parameters
@@ -233,7 +274,7 @@ fn labelled(position: Position) -> Position
     ensures { result ≡ labelled position }
 {
     match position {
-        Position::Inner => Position::Inner,
+        Position::Inner | Position::Branch => Position::Inner,
         Position::Item | Position::Labelled => Position::Labelled,
     }
 }

@@ -25,10 +25,11 @@ use crate::modules::{exported_head, exported_tail};
 use crate::nonterminals::Nonterminal;
 use crate::parameters::Parameters;
 use crate::pats::pat_nonterminal;
+use crate::shapes::{expr_shape, part_shape};
 use crate::stmts::{is_empty, stmt_nonterminal};
 use crate::targets::target_nonterminal;
 use crate::templates::tpl;
-use crate::verdicts::{Facts, Verdict};
+use crate::verdicts::{Facts, Shape, Verdict};
 use crate::whole_trees::WholeTree;
 use swc_ecma_codegen_grammar::roles::Role;
 use swc_ecma_codegen_tree::{AnyNode, Expr, ExprPart, JSXPart, Pat, Stmt, StmtPart};
@@ -227,6 +228,16 @@ impl Answers for AnyNode {
         }
     }
 
+    #[tactic(auto, using(crate::proofs::TreeFacts::shape_at, crate::proofs::TreeFacts::shape_expr, crate::proofs::TreeFacts::shape_expr_part), unfolding(crate::specs::Shapes::node_shape))]
+    #[cycle(answers)]
+    fn shape(&self) -> Shape {
+        match self {
+            AnyNode::Expr(node) => expr_shape(node),
+            AnyNode::ExprPart(node) => part_shape(node),
+            _ => Shape::Other,
+        }
+    }
+
     #[tactic(auto, using(crate::proofs::TreeFacts::begins_at, crate::proofs::TreeFacts::begins_expr, crate::proofs::TreeFacts::begins_member_expr, crate::proofs::TreeFacts::begins_expr_part, crate::proofs::TreeFacts::begins_stmt_part, crate::proofs::TreeFacts::begins_jsx_part), unfolding(crate::specs::Beginnings::node_begins))]
     #[cycle(answers)]
     fn begins(&self, role: Role) -> Beginning {
@@ -244,11 +255,11 @@ impl Answers for AnyNode {
     }
 }
 
-/// What is said of an expression where this nonterminal with these parameters stands. Takes no memory, and no more
-/// stack than the tree is deep.
+/// What is said of an expression where this nonterminal with these parameters stands. Takes no
+/// memory, and no more stack than the tree is deep.
 ///
-/// `(a + b) * c` without its parentheses, as an Expression of a script, is covered and curable, and not
-/// parenthesized.
+/// `(a + b) * c` without its parentheses, as an Expression of a script, is covered and curable, and
+/// not parenthesized.
 pub fn verdict_expr<N: WholeTree>(
     expr: &Expr<N>,
     place: Nonterminal,
@@ -259,15 +270,16 @@ pub fn verdict_expr<N: WholeTree>(
     Verdict::unasked().of_part(place, expr_facts(expr, false, parameters))
 }
 
-/// Whether an expression keeps its structure where this nonterminal with these parameters stands: true exactly
-/// where the syntactic grammar of ECMA-262, 2024, derives a list of the tree's tokens with this very tree as the
-/// derivation.
+/// Whether an expression keeps its structure where this nonterminal with these parameters stands:
+/// true exactly where the syntactic grammar of ECMA-262, 2024, derives a list of the tree's tokens
+/// with this very tree as the derivation.
 ///
-/// What has no production here has no derivation: TypeScript, decorators, and names spelled with escapes.
-/// `is_covered_expr` tells them apart. Each list that is derived is one of the tree's; where the answer is true each
-/// of them is derived that has no parentheses round what `yield`, `return` and `throw` have and round the only
-/// parameter of an arrow function, and no comma before the bracket that closes a pattern. `parameters.minify` has to
-/// be that of the settings: `new (new A())()` is `new new A` then. Takes no memory.
+/// What has no production here has no derivation: TypeScript, and names spelled with escapes.
+/// `is_covered_expr` tells them apart. Each list that is derived is one of the tree's; where the
+/// answer is true each of them is derived that has no parentheses round what `yield`, `return` and
+/// `throw` have and round the only parameter of an arrow function, and no comma before the bracket
+/// that closes a pattern. `parameters.minify` has to be that of the settings: `new (new A())()` is
+/// `new new A` then. Takes no memory.
 pub fn keeps_structure_expr<N: WholeTree>(
     expr: &Expr<N>,
     place: Nonterminal,
@@ -289,9 +301,9 @@ pub fn keeps_structure_expr<N: WholeTree>(
     verdict_expr(expr, place, parameters).is_derivation()
 }
 
-/// Whether nothing is wrong with an expression but parentheses that are missing: true exactly where the grammar
-/// derives a list of its tokens if any part may stand where it would stand in parentheses. `a + b * c` for the
-/// product of a sum is curable, `a() = b` isn't. Takes no memory.
+/// Whether nothing is wrong with an expression but parentheses that are missing: true exactly where
+/// the grammar derives a list of its tokens if any part may stand where it would stand in
+/// parentheses. `a + b * c` for the product of a sum is curable, `a() = b` isn't. Takes no memory.
 pub fn is_curable_expr<N: WholeTree>(
     expr: &Expr<N>,
     place: Nonterminal,
@@ -328,8 +340,8 @@ pub fn is_parenthesized_expr<N: WholeTree>(
     verdict_expr(expr, place, parameters).parenthesized
 }
 
-/// Whether each node of an expression has a production here, so that the other answers mean what they say. It is
-/// false of TypeScript, of decorators, and of names that are spelled with escapes; then the
+/// Whether each node of an expression has a production here, so that the other answers mean what
+/// they say. It is false of TypeScript, and of names that are spelled with escapes; then the
 /// expression neither keeps its structure nor is curable. Takes no memory.
 #[tactic(auto, using(crate::proofs::VerdictLaws::uncovered_holds))]
 pub fn is_covered_expr<N: WholeTree>(
@@ -344,8 +356,9 @@ pub fn is_covered_expr<N: WholeTree>(
     verdict_expr(expr, place, parameters).covered
 }
 
-/// The same of a pattern, as `verdict_expr` says it of an expression. `parameters.is_binding` says whether the
-/// pattern is one of a binding, as in `let [a] = b`, or one of an assignment, as `[a.b] = c`. Takes no memory.
+/// What syntax says of a pattern, as `verdict_expr` says it of an expression.
+/// `parameters.is_binding` says whether the pattern is one of a binding, as in `let [a] = b`, or
+/// one of an assignment, as `[a.b] = c`. Takes no memory.
 #[tactic(auto, unfolding(crate::specs::NodeForms::part_facts, crate::specs::NodeForms::part_nonterminal, crate::specs::NodeForms::part_form))]
 pub fn verdict_pat<N: WholeTree>(
     pat: &Pat<N>,
@@ -357,9 +370,9 @@ pub fn verdict_pat<N: WholeTree>(
     Verdict::unasked().of_part(place, pat_facts(pat, parameters))
 }
 
-/// Whether a pattern keeps its structure, where this nonterminal with these parameters stands: PatternTarget, or
-/// PatternElement where a value may stand behind it, or LastElement where it may be a rest. See
-/// `keeps_structure_expr`. Takes no memory.
+/// Whether a pattern keeps its structure, where this nonterminal with these parameters stands:
+/// PatternTarget, or PatternElement where a value may stand behind it, or LastElement where it may
+/// be a rest. See `keeps_structure_expr`. Takes no memory.
 pub fn keeps_structure_pat<N: WholeTree>(
     pat: &Pat<N>,
     place: Nonterminal,
@@ -381,8 +394,8 @@ pub fn keeps_structure_pat<N: WholeTree>(
     verdict_pat(pat, place, parameters).is_derivation()
 }
 
-/// Whether nothing is wrong with a pattern but parentheses that are missing. See `is_curable_expr`. Takes no
-/// memory.
+/// Whether nothing is wrong with a pattern but parentheses that are missing. See `is_curable_expr`.
+/// Takes no memory.
 pub fn is_curable_pat<N: WholeTree>(
     pat: &Pat<N>,
     place: Nonterminal,

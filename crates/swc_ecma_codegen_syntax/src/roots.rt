@@ -6,7 +6,7 @@ ghost use Rattle.swc_ecma_codegen_grammar.specs.Settings.{Settings};
 ghost use Rattle.swc_ecma_codegen_grammar.specs.Tokens.{Token};
 ghost use Rattle.swc_ecma_codegen_grammar.specs.TreePhrases.{stmt_phrase, program_phrase};
 ghost use Rattle.swc_ecma_codegen_syntax.specs.Derives.{DerivesStmt, DerivesItem, DerivesProgram, bare_phrase, item_phrase, stmt_verdict, item_verdict, program_verdict};
-ghost use Rattle.swc_ecma_codegen_syntax.specs.Verdicts.{holds};
+ghost use Rattle.swc_ecma_codegen_syntax.specs.Verdicts.{core, holds, holds_in};
 
 use crate::forms::Stands;
 use crate::nonterminals::Nonterminal;
@@ -17,21 +17,24 @@ use crate::verdicts::Verdict;
 use crate::whole_trees::WholeTree;
 use swc_ecma_codegen_tree::{ModuleItem, Program, Stmt};
 
-/// What is said of a program, whatever the settings are: what holds both of an emission that minifies and of one that doesn't.
-/// Takes no memory, and no more stack than the tree is deep.
+/// What is said of a program, whatever the settings are: what holds both of an emission that
+/// minifies and of one that doesn't. Takes no memory, and no more stack than the tree is deep.
 pub fn verdict<N: WholeTree>(program: &Program<N>) -> Verdict
     ensures { result ≡ program_verdict (N.program_in program.now) }
 {
     judged(program, false).meet(judged(program, true))
 }
 
-/// Whether a program keeps its structure: true exactly where under any settings the syntactic grammar of ECMA-262, 2024, derives a
-/// list of the program's tokens with this very tree as the derivation, from Script or from Module. So its text can be read
-/// as this tree.
+/// Whether a program keeps its structure: true exactly where under any settings the syntactic
+/// grammar of ECMA-262, 2024, with JSX, import attributes, decorators, `using` and sections B.3.3
+/// and B.3.5, derives a list of the program's tokens with this very tree as the derivation, from
+/// Script or from Module. So its text can be read as this tree.
 ///
-/// `(a + b) * c` without its parentheses doesn't, nor does `if (a) { if (b) c; } else d;` without its braces. Settings change a derivation only
-/// by leaving `()` away from `new A()` where they are to minify; both ways are asked for. A directive `"use strict"` isn't looked at:
-/// strict is the code of modules and of classes. What has no production here has no derivation; `is_covered` tells. Takes no memory.
+/// `(a + b) * c` without its parentheses doesn't, nor does `if (a) { if (b) c; } else d;` without
+/// its braces. Settings change a derivation only by leaving `()` away from `new A()` where they are
+/// to minify; both ways are asked for. A directive `"use strict"` isn't looked at: strict is the
+/// code of modules and of classes. What has no production here has no derivation; `is_covered`
+/// tells. Takes no memory.
 pub fn keeps_structure<N: WholeTree>(program: &Program<N>) -> bool
     ensures sound { (s t : Settings) (ts us : List Token)
         → s.minify ≡ false → t.minify ≡ true
@@ -53,8 +56,8 @@ pub fn keeps_structure<N: WholeTree>(program: &Program<N>) -> bool
     verdict(program).is_derivation()
 }
 
-/// Whether nothing is wrong with a program but parentheses that are missing, and braces round an `if` before `else`. See
-/// `is_curable_expr`. Takes no memory.
+/// Whether nothing is wrong with a program but parentheses that are missing, and braces round an
+/// `if` before `else`. See `is_curable_expr`. Takes no memory.
 pub fn is_curable<N: WholeTree>(program: &Program<N>) -> bool
     ensures sound { (s t : Settings) (ts us : List Token)
         → s.minify ≡ false → t.minify ≡ true
@@ -73,8 +76,8 @@ pub fn is_curable<N: WholeTree>(program: &Program<N>) -> bool
     verdict(program).is_curable()
 }
 
-/// Whether no part of a program wants parentheses that it hasn't, nor an `if` before `else` braces. With `is_curable` it is
-/// `keeps_structure`. Takes no memory.
+/// Whether no part of a program wants parentheses that it hasn't, nor an `if` before `else` braces.
+/// With `is_curable` it is `keeps_structure`. Takes no memory.
 #[tactic(auto, using(crate::proofs::VerdictLaws::holds_both))]
 pub fn is_parenthesized<N: WholeTree>(program: &Program<N>) -> bool
     ensures verdict { result ≡ (program_verdict (N.program_in program.now)).parenthesized }
@@ -84,8 +87,10 @@ pub fn is_parenthesized<N: WholeTree>(program: &Program<N>) -> bool
     verdict(program).parenthesized
 }
 
-/// Whether each node of a program has a production here, so that the other answers mean what they say. It is false of TypeScript, of
-/// proposals, and of names that are spelled with escapes; then the program neither keeps its structure nor is curable. Takes no memory.
+/// Whether each node of a program has a production here, so that the other answers mean what they
+/// say. It is false of TypeScript, of `source` and `defer` in imports, and of names that are
+/// spelled with escapes; then the program neither keeps its structure nor is curable. Takes no
+/// memory.
 #[tactic(auto, using(crate::proofs::VerdictLaws::uncovered_holds))]
 pub fn is_covered<N: WholeTree>(program: &Program<N>) -> bool
     ensures verdict { result ≡ (program_verdict (N.program_in program.now)).covered }
@@ -95,7 +100,20 @@ pub fn is_covered<N: WholeTree>(program: &Program<N>) -> bool
     verdict(program).covered
 }
 
-/// What is said of an item of a module with these parameters, as `Parameters::module()`. Takes no memory.
+/// Whether each production of a program is one of the core of the grammar: of ECMA-262, 2024, of
+/// its section B.3.3, and of JSX. With `keeps_structure` it says that the core derives the program;
+/// the laws of `swc_ecma_codegen_uniqueness` speak of such programs. It is false of `using`,
+/// decorators, `accessor`, import attributes and `for (var a = b in c)`. Takes no memory.
+pub fn is_core<N: WholeTree>(program: &Program<N>) -> bool
+    ensures verdict { result ≡ (program_verdict (N.program_in program.now)).core }
+    ensures both { holds_in core (program_verdict (N.program_in program.now))
+        ≡ (result && holds true (program_verdict (N.program_in program.now))) }
+{
+    verdict(program).core
+}
+
+/// What is said of an item of a module with these parameters, as `Parameters::module()`. Takes no
+/// memory.
 pub fn verdict_item<N: WholeTree>(item: &ModuleItem<N>, parameters: Parameters) -> Verdict
     ensures { result ≡ item_verdict parameters (N.item_in item.now) }
 {
@@ -120,7 +138,8 @@ pub fn keeps_structure_item<N: WholeTree>(item: &ModuleItem<N>, parameters: Para
     verdict_item(item, parameters).is_derivation()
 }
 
-/// Whether nothing is wrong with an item of a module but what parentheses or braces mend. See `is_curable_expr`. Takes no memory.
+/// Whether nothing is wrong with an item of a module but what parentheses or braces mend. See
+/// `is_curable_expr`. Takes no memory.
 pub fn is_curable_item<N: WholeTree>(item: &ModuleItem<N>, parameters: Parameters) -> bool
     ensures sound { (s : Settings) (ts : List Token)
         → DerivesItem false s parameters (N.item_in item.now) ts
@@ -138,8 +157,8 @@ pub fn is_curable_item<N: WholeTree>(item: &ModuleItem<N>, parameters: Parameter
     verdict_item(item, parameters).is_curable()
 }
 
-/// What is said of a statement where this nonterminal with these parameters stands: Statement, or StatementListItem where a declaration may stand.
-/// Takes no memory.
+/// What is said of a statement where this nonterminal with these parameters stands: Statement, or
+/// StatementListItem where a declaration may stand. Takes no memory.
 pub fn verdict_stmt<N: WholeTree>(
     stmt: &Stmt<N>,
     place: Nonterminal,
@@ -150,8 +169,9 @@ pub fn verdict_stmt<N: WholeTree>(
     Verdict::unasked().of_part(place, stmt_facts(stmt, parameters))
 }
 
-/// Whether a statement keeps its structure where this nonterminal with these parameters stands. See `keeps_structure_expr`. `parameters` say
-/// also whether `return` may stand there, and what stands right behind it: `else`, or an empty statement. Takes no memory.
+/// Whether a statement keeps its structure where this nonterminal with these parameters stands. See
+/// `keeps_structure_expr`. `parameters` say also whether `return` may stand there, and what stands
+/// right behind it: `else`, or an empty statement. Takes no memory.
 pub fn keeps_structure_stmt<N: WholeTree>(
     stmt: &Stmt<N>,
     place: Nonterminal,
@@ -173,7 +193,8 @@ pub fn keeps_structure_stmt<N: WholeTree>(
     verdict_stmt(stmt, place, parameters).is_derivation()
 }
 
-/// Whether nothing is wrong with a statement but what parentheses or braces mend. See `is_curable_expr`. Takes no memory.
+/// Whether nothing is wrong with a statement but what parentheses or braces mend. See
+/// `is_curable_expr`. Takes no memory.
 pub fn is_curable_stmt<N: WholeTree>(
     stmt: &Stmt<N>,
     place: Nonterminal,

@@ -2,7 +2,7 @@
 
 ghost use Rattle.std.specs.Prelude.{◌≡◌, ◌&&◌, ◌||◌, false, is_none};
 ghost use Rattle.swc_ecma_codegen_syntax.specs.Forms.{judge};
-ghost use Rattle.swc_ecma_codegen_syntax.specs.StmtForms.{expression_part, inner_part, block_part, expr_stmt_form, with_form, is_case_block, return_rest_form, return_form, labelled_place, labeled_form, jump_form, branches_form, if_form, case_test_form, clause_item_form, clause_list_form, case_form, switch_form, throw_form, catch_param_form, catch_form, handler_form, finalizer_form, try_form, stmt_form, stmt_nonterminal, is_empty, begins_empty, list_form, block_form};
+ghost use Rattle.swc_ecma_codegen_syntax.specs.StmtForms.{expression_part, inner_part, block_part, expr_stmt_form, with_form, is_case_block, return_rest_form, return_form, labelled_place, labeled_form, jump_form, branches_form, if_form, case_test_form, clause_item_form, clause_list_form, case_form, switch_form, throw_form, catch_param_form, catch_form, handler_form, finalizer_form, try_form, stmt_form, stmt_nonterminal, is_empty, begins_empty, list_form, block_form, branch_place};
 
 use crate::decls::decl_nonterminal;
 use crate::forms::{Answers, Stands, all};
@@ -10,7 +10,8 @@ use crate::lookahead::Lookahead;
 use crate::names::name;
 use crate::nonterminals::Nonterminal;
 use crate::parameters::{
-    Parameters, Position, behind_label, in_if_else, in_list, in_statement, of_bindings, with_in,
+    Parameters, Position, behind_label, in_block, in_branch, in_if_else, in_list, in_statement,
+    of_bindings, with_in,
 };
 use crate::verdicts::Verdict;
 use swc_ecma_codegen_grammar::roles::Role;
@@ -20,7 +21,7 @@ use swc_ecma_codegen_tree::{
 };
 
 impl Verdict {
-    /// The same of an Expression[+In].
+    /// The verdict so far, and of an Expression[+In].
     pub(crate) fn expression<N: Answers>(self, link: &ExprBox<N>, parameters: Parameters) -> Verdict
         ensures { result ≡ judge N.answers self (expression_part parameters link.now) }
     {
@@ -32,7 +33,7 @@ impl Verdict {
         )
     }
 
-    /// The same of the statement of another.
+    /// The verdict so far, and of the statement of another.
     pub(crate) fn inner<N: Answers>(self, link: &StmtBox<N>, parameters: Parameters) -> Verdict
         ensures { result ≡ judge N.answers self (inner_part parameters link.now) }
     {
@@ -44,7 +45,7 @@ impl Verdict {
         )
     }
 
-    /// The same of a block.
+    /// The verdict so far, and of a block.
     pub(crate) fn block<N: Answers>(self, link: &BlockStmtBox<N>, parameters: Parameters) -> Verdict
         ensures { result ≡ judge N.answers self (block_part parameters link.now) }
     {
@@ -97,7 +98,7 @@ fn labelled_place(is_strict: bool, position: Position) -> Nonterminal
     ensures { result ≡ labelled_place is_strict position }
 {
     match position {
-        Position::Inner => Nonterminal::Statement,
+        Position::Inner | Position::Branch => Nonterminal::Statement,
         Position::Item | Position::Labelled => {
             if is_strict {
                 Nonterminal::Statement
@@ -133,24 +134,33 @@ fn jump<N: Answers>(so_far: Verdict, label: &Option<Ident>, parameters: Paramete
     }
 }
 
+/// What may stand in an `if`: a function too, in code that isn't strict. ECMA-262, section B.3.3.
+#[tactic(auto, unfolding(crate::specs::StmtForms::branch_place))]
+fn branch_place(is_strict: bool) -> Nonterminal
+    ensures { result ≡ branch_place is_strict }
+{
+    if !is_strict {
+        Nonterminal::LabelledItem
+    } else {
+        Nonterminal::Statement
+    }
+}
+
 impl<N: Answers> Stands for IfStmt<N> {
     ghost judged = { λ c n v. judge N.answers v (if_form c n) };
 
     #[tactic(auto, unfolding(crate::specs::StmtForms::if_form, crate::specs::StmtForms::branches_form, crate::specs::Forms::judge, crate::specs::Forms::asked))]
     fn judge(&self, so_far: Verdict, parameters: Parameters) -> Verdict {
         let verdict = so_far.expression(&self.test, parameters);
+        let place = branch_place(parameters.is_strict);
+        let branch = in_branch(parameters);
         match &self.alt {
             Some(alt) => verdict
-                .part(
-                    &self.cons,
-                    Nonterminal::Statement,
-                    in_if_else(parameters),
-                    Role::Statement,
-                )
-                .inner(alt, parameters),
+                .part(&self.cons, place, in_if_else(parameters), Role::Statement)
+                .part(alt, place, branch, Role::Statement),
             None => verdict
                 .by_place(!parameters.before_else)
-                .inner(&self.cons, parameters),
+                .part(&self.cons, place, branch, Role::Statement),
         }
     }
 }
@@ -421,6 +431,6 @@ impl<N: Answers> Stands for BlockStmt<N> {
 
     #[tactic(auto, unfolding(crate::specs::StmtForms::block_form, crate::specs::Forms::judge))]
     fn judge(&self, so_far: Verdict, parameters: Parameters) -> Verdict {
-        list(so_far, &self.stmts, parameters)
+        list(so_far, &self.stmts, in_block(parameters))
     }
 }

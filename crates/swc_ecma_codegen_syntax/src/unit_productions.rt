@@ -1,4 +1,5 @@
-//! What the nonterminals of statements, declarations, functions, classes and JSX derive by productions of one nonterminal alone.
+//! What the nonterminals of statements, declarations, functions, classes and JSX derive by
+//! productions of one nonterminal alone.
 
 ghost use Rattle.std.specs.Prelude.{◌≡◌, ◌||◌};
 ghost use Rattle.swc_ecma_codegen_syntax.specs.Nonterminals.{is_statement, is_hoistable_declaration, is_declaration, is_block, is_statement_list_item, is_variable_declarations, is_labelled_item, is_module_declaration, is_exported_head, is_function_head, is_generator_head, is_async_function_head, is_async_generator_head, is_function_tail, is_getter_tail, is_setter_tail, is_method_head, is_decorator_list, is_class_head, is_class_tail, is_class_element, is_constructor_name, is_any_function_head, is_head_without_yield, is_head_without_await, is_any_property_name, is_jsx_element, is_jsx_object};

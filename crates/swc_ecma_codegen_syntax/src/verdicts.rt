@@ -1,7 +1,7 @@
 //! What is said of a node.
 
 ghost use Rattle.std.specs.Prelude.{◌≡◌, ◌&&◌, true, false};
-ghost use Rattle.swc_ecma_codegen_syntax.specs.Verdicts.{unasked, meet, by_place, by_rule, by_scope, standing, holds};
+ghost use Rattle.swc_ecma_codegen_syntax.specs.Verdicts.{unasked, meet, by_place, by_rule, by_scope, by_core, standing, holds};
 
 use crate::nonterminals::{Nonterminal, takes};
 
@@ -14,6 +14,8 @@ pub struct Verdict {
     pub curable: bool,
     /// Each part stands in parentheses where its place wants them.
     pub parenthesized: bool,
+    /// Each production is one of the core: of ECMA-262, 2024, of its section B.3.3, and of JSX.
+    pub core: bool,
 }
 
 /// What a node tells the one above it.
@@ -21,11 +23,27 @@ pub struct Verdict {
 pub struct Facts {
     /// The nonterminal of its production.
     pub nonterminal: Nonterminal,
-    /// Its AssignmentTargetType is simple, as that of `a`, `a.b` and `(a)`. ECMA-262, section 8.6.4.
+    /// Its AssignmentTargetType is simple, as that of `a`, `a.b` and `(a)`. ECMA-262, section
+    /// 8.6.4.
     pub is_simple: bool,
     /// It is a name.
     pub is_name: bool,
     pub verdict: Verdict,
+}
+
+/// What a node looks like, where a place asks for more than a nonterminal.
+#[derive(Clone, Copy, Debug, PartialEq, Eq)]
+pub enum Shape {
+    /// Names with dots between, as `a.b.c`.
+    Path,
+    /// A call of such, `a.b(c)`, or an expression in parentheses: with Path what stands behind `@`.
+    /// A proposal, decorators.
+    Decorator,
+    /// A string, or an object of import attributes: `{ type: 'json' }`. ECMA-262, 2025, section
+    /// 16.2.2.
+    Attribute,
+    /// Anything else, as `a + b` or `a[b]`.
+    Other,
 }
 
 impl Verdict {
@@ -37,6 +55,7 @@ impl Verdict {
             covered: true,
             curable: true,
             parenthesized: true,
+            core: true,
         }
     }
 
@@ -49,6 +68,7 @@ impl Verdict {
             covered: self.covered && other.covered,
             curable: self.curable && other.curable,
             parenthesized: self.parenthesized && other.parenthesized,
+            core: self.core && other.core,
         }
     }
 
@@ -81,6 +101,17 @@ impl Verdict {
     {
         Verdict {
             covered: self.covered && is_so,
+            ..self
+        }
+    }
+
+    /// Where this isn't so, the production lies outside the core.
+    #[tactic(auto, unfolding(crate::specs::Verdicts::by_core))]
+    pub(crate) fn by_core(self, is_so: bool) -> Verdict
+        ensures { result ≡ by_core self is_so }
+    {
+        Verdict {
+            core: self.core && is_so,
             ..self
         }
     }

@@ -20,10 +20,12 @@ ghost use Rattle.swc_ecma_codegen_tree.specs.declared.stmts.Stmt.{Stmt};
 use crate::forms::Answers;
 use swc_ecma_codegen_tree::AnyNode;
 
-/// What links hold in a whole tree, which is `AnyNode` alone. What asks about a root is generic in it: a check takes
-/// seconds for each signature that names `AnyNode`, and a tenth of one for this bound.
+/// What links hold in a whole tree, which is `AnyNode` alone. What asks about a root is generic in
+/// it: a check takes seconds for each signature that names `AnyNode`, and a tenth of one for this
+/// bound.
 pub trait WholeTree: Answers {
-    /// A root as one of a tree whose links hold `AnyNode`, and below, what its nodes answer is what is said of it there.
+    /// A root as one of a tree whose links hold `AnyNode`, and below, what its nodes answer is what
+    /// is said of it there.
     ghost expr_in: { Expr Self → Expr Whole };
 
     ghost pat_in: { Pat Self → Pat Whole };

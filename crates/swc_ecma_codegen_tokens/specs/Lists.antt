@@ -3,7 +3,7 @@ use Rattle.std.specs.Prelude.{ℕ, nat_lt, ◌==◌, ◌&&◌, Bool, true, false
 use Rattle.std.specs.Char.{is_whitespace}
 use Rattle.std.specs.Str.{chars}
 use Rattle.swc_ecma_codegen_common.specs.declared.positions.Span.{Span}
-use Rattle.swc_ecma_codegen_util.specs.declared.config.Config.{Config}
+use Rattle.swc_ecma_codegen_settings.specs.declared.config.Config.{Config}
 use Rattle.swc_ecma_codegen_text_writer.specs.Sheet.{Deeper, Shallower}
 use Rattle.swc_ecma_codegen_grammar.specs.SourceLines.{Lines}
 use Rattle.swc_ecma_codegen_grammar.specs.ListFormats.{multi_line, bar_delimited, ampersand_delimited, comma_delimited, allows_trailing_comma, indented, space_between_braces, space_between_siblings, optional_if_undefined, optional_if_empty, no_intervening_comments, no_space_if_empty, forces_trailing_comma, can_skip_trailing_comma, leading_line, separating_line, closing_line}

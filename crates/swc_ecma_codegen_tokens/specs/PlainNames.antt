@@ -8,7 +8,7 @@ use Rattle.swc_ecma_codegen_text_writer.specs.Sheet.{Sheet}
 use Rattle.swc_ecma_codegen_tokens.specs.PreviousToken.{last_at}
 use Rattle.swc_ecma_codegen_tokens.specs.Targets.{wants_escapes}
 use Rattle.swc_ecma_codegen_tokens.specs.declared.LowerEmitter.{LowerEmitter}
-use Rattle.swc_ecma_codegen_util.specs.declared.config.Config.{Config}
+use Rattle.swc_ecma_codegen_settings.specs.declared.config.Config.{Config}
 
 -- A name is written as it stands in the tree, by one call: `foo`, and not `\u0061`.
 pub record IsPlain (config : Config) (sheet : Sheet) (emitter : LowerEmitter) (name : List ℕ) : Type 0 where

@@ -3,7 +3,7 @@ use Rattle.std.specs.Prelude.{ℕ, Bool, true, false, not, ◌&&◌, ◌||◌, i
 use Rattle.std.specs.Str.{chars}
 use Rattle.swc_ecma_codegen_grammar.specs.Phrases.{Phrase, Never, Nothing, One, NameOf, KeyOf, PrivateOf, TagNameOf, Then, CommaBefore, OptionalParentheses, Chosen, NameSort, Plain, Key, Tag, PlacedName}
 use Rattle.swc_ecma_codegen_grammar.specs.ValidNames.{turned}
-use Rattle.swc_ecma_codegen_util.specs.declared.config.Config.{Config}
+use Rattle.swc_ecma_codegen_settings.specs.declared.config.Config.{Config}
 use Rattle.swc_ecma_codegen_literals.specs.AsciiNames.{is_ascii_text, is_out_of_target, ascii_name}
 
 -- A text of a name is made anew in ASCII.

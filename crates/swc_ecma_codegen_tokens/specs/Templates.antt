@@ -9,7 +9,7 @@ use Rattle.swc_ecma_codegen_grammar.specs.Texts.{begins}
 use Rattle.swc_ecma_codegen_grammar.specs.Templates.{part_end}
 use Rattle.swc_ecma_codegen_grammar.specs.TemplatePhrases.{part_kind, part_begin, part_text}
 use Rattle.swc_ecma_codegen_text_writer.specs.Sheet.{StrLit, Punct}
-use Rattle.swc_ecma_codegen_util.specs.declared.config.Config.{Config}
+use Rattle.swc_ecma_codegen_settings.specs.declared.config.Config.{Config}
 use Rattle.swc_ecma_codegen_literals.specs.AsciiNames.{is_ascii_text}
 use Rattle.swc_ecma_codegen_literals.specs.TemplateTexts.{template_text}
 use Rattle.swc_ecma_codegen_literals.specs.ValidNames.{has_byte}

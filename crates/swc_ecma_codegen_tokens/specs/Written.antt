@@ -17,7 +17,7 @@ use Rattle.swc_ecma_codegen_grammar.specs.GapRules.{PreviousToken, Start, Separa
 use Rattle.swc_ecma_codegen_grammar.specs.Parts.{Part, Gap, Own, Break, PastLine, walk, is_broken, text_of, tokens_of, remarks_in, NoneFuse, Reduced}
 use Rattle.swc_ecma_codegen_text_writer.specs.Sheet.{Sheet, Semicolons, AtOnce, HoldsNone, HoldsOne, holds_semicolons, fills_lines}
 use Rattle.swc_ecma_codegen_literals.specs.AsciiNames.{is_ascii_text}
-use Rattle.swc_ecma_codegen_util.specs.declared.config.Config.{Config}
+use Rattle.swc_ecma_codegen_settings.specs.declared.config.Config.{Config}
 use Rattle.swc_ecma_codegen_tokens.specs.Run as run
 use Rattle.swc_ecma_codegen_tokens.specs.Run.{Env, State, steps_of, nothing, taken_in}
 use Rattle.swc_ecma_codegen_tokens.specs.Settings.{settings_of}

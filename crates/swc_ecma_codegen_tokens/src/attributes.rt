@@ -28,9 +28,9 @@ use std::borrow::CowStr;
 use swc_ecma_codegen_common::{Answer, DUMMY_SP, Error, Refusal, Span};
 use swc_ecma_codegen_grammar::comments::Comments;
 use swc_ecma_codegen_grammar::texts::is_jsx_text;
+use swc_ecma_codegen_settings::config::Config;
 use swc_ecma_codegen_text_writer::WriteJs;
 use swc_ecma_codegen_tree::{JSXText, Str};
-use swc_ecma_codegen_util::config::Config;
 
 /// Which text is printed: the value, or the raw where that has no place between tags.
 #[tactic(auto, unfolding(swc_ecma_codegen_grammar::specs::JsxPhrases::text_spelling))]

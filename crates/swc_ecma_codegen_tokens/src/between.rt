@@ -18,8 +18,8 @@ use crate::lines::is_bounded;
 use crate::previous::PreviousToken;
 use std::snapshot::Snapshot;
 use swc_ecma_codegen_literals::Punctuator;
+use swc_ecma_codegen_settings::config::Config;
 use swc_ecma_codegen_text_writer::WriteJs;
-use swc_ecma_codegen_util::config::Config;
 
 /// Each punctuator between two blanks.
 const IN_BLANKS: [&str; 58] = [
@@ -108,7 +108,8 @@ impl LowerEmitter {
             (state_of cfg.now (W.sheet wr.old) self.old)
             (state_of cfg.now (W.sheet wr.new) self.new) (answered result self.new.reason) }
         ensures reads { Adds (lexical.punctuator (spelling mark) ∷ [])
-            cfg.now (W.sheet wr.old) self.old (W.sheet wr.new) self.new (answered result self.new.reason) }
+            cfg.now (W.sheet wr.old) self.old (W.sheet wr.new) self.new
+            (answered result self.new.reason) }
         ensures level { Stays (W.sheet wr.old) (W.sheet wr.new) (answered result self.new.reason) }
     {
         if self.failed || !wr.is_settled() || wr.care_about_srcmap() {
@@ -145,7 +146,8 @@ impl LowerEmitter {
             (state_of cfg.now (W.sheet wr.old) self.old)
             (state_of cfg.now (W.sheet wr.new) self.new) (answered result self.new.reason) }
         ensures reads { Adds (lexical.punctuator (spelling mark) ∷ [])
-            cfg.now (W.sheet wr.old) self.old (W.sheet wr.new) self.new (answered result self.new.reason) }
+            cfg.now (W.sheet wr.old) self.old (W.sheet wr.new) self.new
+            (answered result self.new.reason) }
         ensures level { Stays (W.sheet wr.old) (W.sheet wr.new) (answered result self.new.reason) }
     {
         self.writes_operator_and_blanks_here(cfg, wr, mark)
@@ -241,7 +243,8 @@ impl LowerEmitter {
             (state_of cfg.now (W.sheet wr.old) self.old)
             (state_of cfg.now (W.sheet wr.new) self.new) (answered result self.new.reason) }
         ensures reads { Adds (lexical.punctuator (spelling mark) ∷ [])
-            cfg.now (W.sheet wr.old) self.old (W.sheet wr.new) self.new (answered result self.new.reason) }
+            cfg.now (W.sheet wr.old) self.old (W.sheet wr.new) self.new
+            (answered result self.new.reason) }
         ensures level { Stays (W.sheet wr.old) (W.sheet wr.new) (answered result self.new.reason) }
     {
         if self.failed || !wr.is_settled() || wr.care_about_srcmap() || is_bounded(cfg) {
@@ -278,7 +281,8 @@ impl LowerEmitter {
             (state_of cfg.now (W.sheet wr.old) self.old)
             (state_of cfg.now (W.sheet wr.new) self.new) (answered result self.new.reason) }
         ensures reads { Adds (lexical.punctuator (spelling mark) ∷ [])
-            cfg.now (W.sheet wr.old) self.old (W.sheet wr.new) self.new (answered result self.new.reason) }
+            cfg.now (W.sheet wr.old) self.old (W.sheet wr.new) self.new
+            (answered result self.new.reason) }
         ensures level { Stays (W.sheet wr.old) (W.sheet wr.new) (answered result self.new.reason) }
     {
         self.writes_punct_and_blanks_here(cfg, wr, mark)

@@ -15,8 +15,8 @@ use crate::LowerEmitter;
 use crate::previous::PreviousToken;
 use swc_ecma_codegen_common::{Answer, DUMMY_SP, Refusal, Span};
 use swc_ecma_codegen_literals::Punctuator;
+use swc_ecma_codegen_settings::config::Config;
 use swc_ecma_codegen_text_writer::{WriteJs, is_in_line};
-use swc_ecma_codegen_util::config::Config;
 
 impl LowerEmitter {
     /// The call of an operator that is a punctuator. Whether it was written: else `reason` says why not.

@@ -1,6 +1,6 @@
 //! Comments that are taken out of the maps and written.
 
-ghost use Rattle.std.specs.Prelude.{codes, string_bytes};
+ghost use Rattle.std.specs.Prelude.{◌≡◌, codes, is_some, string_bytes};
 ghost use Rattle.swc_ecma_codegen_grammar.specs.declared.comments.CommentKind.TheVariants.{Line as OfLine, Block as OfBlock};
 ghost use Rattle.swc_ecma_codegen_text_writer.specs.Sheet.{Comment as Piece};
 ghost use Rattle.swc_ecma_codegen_grammar.specs.Comments.{maps_in};
@@ -14,8 +14,32 @@ use crate::starts::StartClass;
 use swc_ecma_codegen_common::{Answer, BytePos, Refusal};
 use swc_ecma_codegen_grammar::comments::{Comment, CommentKind, Comments};
 use swc_ecma_codegen_literals::Punctuator;
+use swc_ecma_codegen_settings::config::Config;
 use swc_ecma_codegen_text_writer::WriteJs;
-use swc_ecma_codegen_util::config::Config;
+
+/// Whether comments stand before a position.
+#[inline(always)]
+#[tactic(auto, unfolding(swc_ecma_codegen_grammar::specs::Comments::maps_in))]
+pub fn leads<C: Comments>(comments: &Option<C>, pos: BytePos) -> bool
+    ensures { result ≡ is_some ((maps_in C.maps comments.now).leading pos.0) }
+{
+    match comments {
+        None => false,
+        Some(all) => all.has_leading(pos),
+    }
+}
+
+/// Whether comments stand after a position.
+#[inline(always)]
+#[tactic(auto, unfolding(swc_ecma_codegen_grammar::specs::Comments::maps_in))]
+pub fn trails<C: Comments>(comments: &Option<C>, pos: BytePos) -> bool
+    ensures { result ≡ is_some ((maps_in C.maps comments.now).trailing pos.0) }
+{
+    match comments {
+        None => false,
+        Some(all) => all.has_trailing(pos),
+    }
+}
 
 impl LowerEmitter {
     /// The call of a piece of a comment: what opens or closes it, or the blank before it.
@@ -179,7 +203,7 @@ impl LowerEmitter {
         Ok(())
     }
 
-    /// Takes the comments before a position out of the maps, and writes them. Where there are none, that takes no call.
+    /// Takes the comments before a position out of the maps, and writes them. Where there are none there, that takes no call.
     #[inline(always)]
     #[tactic(auto, using(crate::proofs::Commenting::NoComments::leading_unasked))]
     pub fn leading_comments<W: WriteJs, C: Comments>(
@@ -194,7 +218,7 @@ impl LowerEmitter {
             (state_of cfg.now (W.sheet wr.new) self.new) result }
         ensures level { Stays (W.sheet wr.old) (W.sheet wr.new) result }
     {
-        if comments.is_none() {
+        if !leads(comments, pos) {
             return Ok(());
         }
         self.leading_taken(cfg, comments, wr, pos)
@@ -230,7 +254,32 @@ impl LowerEmitter {
     }
 
     /// The same before the last character of what ends at a position: those before `}`.
+    #[inline(always)]
+    #[tactic(auto, using(crate::proofs::Commenting::NoComments::end_unasked, crate::proofs::Commenting::CommentSteps::end_nowhere))]
     pub fn comments_before_end<W: WriteJs, C: Comments>(
+        &mut self,
+        cfg: &Config,
+        comments: &mut Option<C>,
+        wr: &mut W,
+        pos: BytePos,
+    ) -> Answer
+        ensures items { DoesTaking (comments_before_end pos) (maps_in C.maps comments.old)
+            (maps_in C.maps comments.new) (state_of cfg.now (W.sheet wr.old) self.old)
+            (state_of cfg.now (W.sheet wr.new) self.new) result }
+        ensures level { Stays (W.sheet wr.old) (W.sheet wr.new) result }
+    {
+        if pos.0 == 0 {
+            return Ok(());
+        }
+        if !leads(comments, BytePos(pos.0 - 1)) {
+            return Ok(());
+        }
+        self.end_taken(cfg, comments, wr, pos)
+    }
+
+    /// The same where there are some.
+    #[inline(never)]
+    fn end_taken<W: WriteJs, C: Comments>(
         &mut self,
         cfg: &Config,
         comments: &mut Option<C>,
@@ -257,8 +306,32 @@ impl LowerEmitter {
         }
     }
 
-    /// Takes the comments after a position out of the maps, and writes them.
+    /// Takes the comments after a position out of the maps, and writes them. Where there are none there, that takes no call.
+    #[inline(always)]
+    #[tactic(auto, using(crate::proofs::Commenting::NoComments::trailing_unasked))]
     pub fn trailing_comments<W: WriteJs, C: Comments>(
+        &mut self,
+        cfg: &Config,
+        comments: &mut Option<C>,
+        wr: &mut W,
+        pos: BytePos,
+        prefix_space: bool,
+    ) -> Answer
+        ensures items { DoesTaking (trailing_comments prefix_space pos)
+            (maps_in C.maps comments.old) (maps_in C.maps comments.new)
+            (state_of cfg.now (W.sheet wr.old) self.old)
+            (state_of cfg.now (W.sheet wr.new) self.new) result }
+        ensures level { Stays (W.sheet wr.old) (W.sheet wr.new) result }
+    {
+        if !trails(comments, pos) {
+            return Ok(());
+        }
+        self.trailing_taken(cfg, comments, wr, pos, prefix_space)
+    }
+
+    /// The same where there are some.
+    #[inline(never)]
+    fn trailing_taken<W: WriteJs, C: Comments>(
         &mut self,
         cfg: &Config,
         comments: &mut Option<C>,

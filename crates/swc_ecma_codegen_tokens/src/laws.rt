@@ -9,7 +9,7 @@ ghost use Rattle.swc_ecma_codegen_grammar.specs.Comments.{AreClosed};
 ghost use Rattle.swc_ecma_codegen_grammar.specs.LineEnds.{may_end};
 ghost use Rattle.swc_ecma_codegen_grammar.specs.Phrases.{Phrase, Generates};
 ghost use Rattle.swc_ecma_codegen_text_writer.specs.Sheet.{holds_semicolons};
-ghost use Rattle.swc_ecma_codegen_util.specs.declared.config.Config.{Config};
+ghost use Rattle.swc_ecma_codegen_settings.specs.declared.config.Config.{Config};
 ghost use Rattle.swc_ecma_codegen_tokens.specs.Run.{State, Emits};
 ghost use Rattle.swc_ecma_codegen_tokens.specs.Settings.{settings_of};
 ghost use Rattle.swc_ecma_codegen_tokens.specs.Words.{space, formatting_space, line_end, formatting_line, commit_pending_semi, allow_break, position, position_before, leading_comments, trailing_comments};

@@ -32,6 +32,7 @@ mod tags;
 mod templates;
 mod tokens;
 
+pub use crate::comments::{leads, trails};
 pub use crate::guard::blank_due;
 use crate::guard::row;
 pub use crate::previous::PreviousToken;

@@ -11,8 +11,8 @@ use crate::LowerEmitter;
 use crate::previous::PreviousToken;
 use swc_ecma_codegen_common::{Answer, Refusal};
 use swc_ecma_codegen_literals::Punctuator;
+use swc_ecma_codegen_settings::config::Config;
 use swc_ecma_codegen_text_writer::WriteJs;
-use swc_ecma_codegen_util::config::Config;
 
 /// Whether lines are bounded: there is a greatest length, and the settings are to minify.
 #[inline(always)]

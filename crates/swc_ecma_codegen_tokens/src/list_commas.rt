@@ -18,8 +18,8 @@ use swc_ecma_codegen_common::{Answer, Error, Refusal, Span};
 use swc_ecma_codegen_grammar::list_format::ListFormat;
 use swc_ecma_codegen_grammar::mapper::SourceMapper;
 use swc_ecma_codegen_literals::Punctuator;
+use swc_ecma_codegen_settings::config::Config;
 use swc_ecma_codegen_text_writer::WriteJs;
-use swc_ecma_codegen_util::config::Config;
 
 /// Whether a text without its last character ends in a comma, white space aside.
 fn comma_before_end(text: &str) -> bool

@@ -13,8 +13,8 @@ use swc_ecma_codegen_common::{Answer, Refusal, Span};
 use swc_ecma_codegen_grammar::comments::Comments;
 use swc_ecma_codegen_grammar::list_format::ListFormat;
 use swc_ecma_codegen_literals::Punctuator;
+use swc_ecma_codegen_settings::config::Config;
 use swc_ecma_codegen_text_writer::WriteJs;
-use swc_ecma_codegen_util::config::Config;
 
 impl LowerEmitter {
     /// Writes a blank where one is wanted, unless the settings are to minify.

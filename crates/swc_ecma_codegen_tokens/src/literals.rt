@@ -26,8 +26,8 @@ use crate::previous::PreviousToken;
 use crate::starts::StartClass;
 use swc_ecma_codegen_common::{Answer, DUMMY_SP, Refusal, Span};
 use swc_ecma_codegen_literals::{Punctuator, TokenClass, number_class};
+use swc_ecma_codegen_settings::config::Config;
 use swc_ecma_codegen_text_writer::WriteJs;
-use swc_ecma_codegen_util::config::Config;
 
 /// A text without its sign.
 pub(crate) fn size_of(text: &str) -> &str

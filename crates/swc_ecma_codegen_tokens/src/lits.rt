@@ -21,9 +21,9 @@ use std::borrow::CowStr;
 use swc_ecma_codegen_common::{Answer, Error, Refusal, Span};
 use swc_ecma_codegen_grammar::comments::Comments;
 use swc_ecma_codegen_literals::{quoted_for_inline_script, quoted_utf16};
+use swc_ecma_codegen_settings::config::Config;
 use swc_ecma_codegen_text_writer::WriteJs;
 use swc_ecma_codegen_tree::{Bool, Lit, Null, Regex, Str};
-use swc_ecma_codegen_util::config::Config;
 
 /// Whether it is a directive with a backslash, which is printed as it was spelled: `'use\x20strict'`.
 #[inline(always)]

@@ -16,8 +16,8 @@ use crate::short_names::has_backslash;
 use crate::starts::StartClass;
 use swc_ecma_codegen_common::{Answer, Refusal, Span};
 use swc_ecma_codegen_literals::{Punctuator, ascii_only_ident, valid_name};
+use swc_ecma_codegen_settings::config::Config;
 use swc_ecma_codegen_text_writer::WriteJs;
-use swc_ecma_codegen_util::config::Config;
 
 /// Whether a text of a name is made anew in ASCII.
 #[tactic(auto, unfolding(crate::specs::Targets::wants_escapes))]

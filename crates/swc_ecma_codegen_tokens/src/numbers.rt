@@ -20,9 +20,9 @@ use std::borrow::CowStr;
 use swc_ecma_codegen_common::{Answer, BytePos, DUMMY_SP, Decimal, Error, Refusal, Span};
 use swc_ecma_codegen_grammar::comments::Comments;
 use swc_ecma_codegen_literals::{big_integer_text, minified_number, plain_number};
+use swc_ecma_codegen_settings::config::Config;
 use swc_ecma_codegen_text_writer::WriteJs;
 use swc_ecma_codegen_tree::{BigInt, Number, NumberValue};
-use swc_ecma_codegen_util::config::Config;
 
 /// Whether a number is printed by its raw.
 #[tactic(auto, unfolding(crate::specs::Lits::prints_number_raw, crate::specs::Lits::raw_is))]

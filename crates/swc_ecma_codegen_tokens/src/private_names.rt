@@ -18,8 +18,8 @@ use crate::starts::StartClass;
 use swc_ecma_codegen_common::{Answer, DUMMY_SP, Refusal, Span};
 use swc_ecma_codegen_grammar::comments::Comments;
 use swc_ecma_codegen_literals::{ascii_only_ident, holds_backslash, valid_name};
+use swc_ecma_codegen_settings::config::Config;
 use swc_ecma_codegen_text_writer::WriteJs;
-use swc_ecma_codegen_util::config::Config;
 
 impl LowerEmitter {
     /// The call of the mark before a private name.

@@ -7,8 +7,8 @@ ghost use Rattle.swc_ecma_codegen_tokens.specs.View.{state_of};
 use crate::LowerEmitter;
 use crate::guard::REFUSED;
 use swc_ecma_codegen_common::{Answer, Refusal};
+use swc_ecma_codegen_settings::config::Config;
 use swc_ecma_codegen_text_writer::WriteJs;
-use swc_ecma_codegen_util::config::Config;
 
 /// Why a node can't be printed.
 #[derive(Debug, Clone, Copy, PartialEq, Eq)]

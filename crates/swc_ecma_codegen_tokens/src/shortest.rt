@@ -25,8 +25,8 @@ use crate::starts::{StartClass, begins_name};
 use swc_ecma_codegen_common::Span;
 use swc_ecma_codegen_grammar::comments::Comments;
 use swc_ecma_codegen_literals::Punctuator;
+use swc_ecma_codegen_settings::config::Config;
 use swc_ecma_codegen_text_writer::{WriteJs, is_in_line};
-use swc_ecma_codegen_util::config::Config;
 
 impl LowerEmitter {
     /// Writes a punctuator.
@@ -36,7 +36,8 @@ impl LowerEmitter {
             (state_of cfg.now (W.sheet wr.new) self.new) (answered result self.new.reason) }
         // The text reads as the tokens so far and this one, whatever follows that doesn't fuse.
         ensures reads { Adds (lexical.punctuator (spelling mark) ∷ [])
-            cfg.now (W.sheet wr.old) self.old (W.sheet wr.new) self.new (answered result self.new.reason) }
+            cfg.now (W.sheet wr.old) self.old (W.sheet wr.new) self.new
+            (answered result self.new.reason) }
         ensures level { Stays (W.sheet wr.old) (W.sheet wr.new) (answered result self.new.reason) }
     {
         if self.is_apart(mark) {
@@ -135,7 +136,8 @@ impl LowerEmitter {
             (state_of cfg.now (W.sheet wr.new) self.new) (answered result self.new.reason) }
         // The text reads as the tokens so far and this one, whatever follows that doesn't fuse.
         ensures reads { Adds (lexical.ending ∷ [])
-            cfg.now (W.sheet wr.old) self.old (W.sheet wr.new) self.new (answered result self.new.reason) }
+            cfg.now (W.sheet wr.old) self.old (W.sheet wr.new) self.new
+            (answered result self.new.reason) }
         ensures level { Stays (W.sheet wr.old) (W.sheet wr.new) (answered result self.new.reason) }
     {
         if self.is_apart(Punctuator::Semicolon) {
@@ -222,7 +224,8 @@ impl LowerEmitter {
             (state_of cfg.now (W.sheet wr.new) self.new) (answered result self.new.reason) }
         // The text reads as the tokens so far and this one, whatever follows that doesn't fuse.
         ensures reads { IsWord word.now → Adds (lexical.word word.now ∷ [])
-            cfg.now (W.sheet wr.old) self.old (W.sheet wr.new) self.new (answered result self.new.reason) }
+            cfg.now (W.sheet wr.old) self.old (W.sheet wr.new) self.new
+            (answered result self.new.reason) }
         ensures level { Stays (W.sheet wr.old) (W.sheet wr.new) (answered result self.new.reason) }
     {
         match span {
@@ -321,7 +324,8 @@ impl LowerEmitter {
             (state_of cfg.now (W.sheet wr.new) self.new) (answered result self.new.reason) }
         // The text reads as the tokens so far and this one, whatever follows that doesn't fuse.
         ensures reads { Adds (lexical.punctuator (spelling mark) ∷ [])
-            cfg.now (W.sheet wr.old) self.old (W.sheet wr.new) self.new (answered result self.new.reason) }
+            cfg.now (W.sheet wr.old) self.old (W.sheet wr.new) self.new
+            (answered result self.new.reason) }
         ensures level { Stays (W.sheet wr.old) (W.sheet wr.new) (answered result self.new.reason) }
     {
         if self.is_apart(mark) {
@@ -421,7 +425,7 @@ impl LowerEmitter {
         self.is_plain_begun(cfg, wr, sym)
     }
 
-    /// Writes such a name where no positions are kept, no comments are there, and no `?` is written: it is a text alone.
+    /// Writes such a name where no positions are kept, no comments stand before it, and no `?` is written: it is a text alone.
     #[inline(always)]
     pub fn writes_alone<W: WriteJs, C: Comments>(
         &mut self,
@@ -433,7 +437,7 @@ impl LowerEmitter {
         optional: bool,
     ) -> bool
         requires single { optional ≡ false }
-        requires uncommented { is_some comments.old ≡ false }
+        requires uncommented { is_some ((maps_in C.maps comments.old).leading span.lo.0) ≡ false }
         requires unplaced { (W.sheet wr.old).keeps_positions ≡ false }
         requires settled { is_settled (W.sheet wr.old).semicolons ≡ true }
         requires plain { IsPlain cfg.now (W.sheet wr.old) self.old sym.now }
@@ -442,7 +446,8 @@ impl LowerEmitter {
             (state_of cfg.now (W.sheet wr.new) self.new) (answered result self.new.reason) }
         // The text reads as the tokens so far and the name, whatever follows that doesn't fuse.
         ensures reads { AddsName span sym.now optional (maps_in C.maps comments.old)
-            cfg.now (W.sheet wr.old) self.old (W.sheet wr.new) self.new (answered result self.new.reason) }
+            cfg.now (W.sheet wr.old) self.old (W.sheet wr.new) self.new
+            (answered result self.new.reason) }
         ensures level { Stays (W.sheet wr.old) (W.sheet wr.new) (answered result self.new.reason) }
     {
         let _ = comments;
@@ -467,7 +472,8 @@ impl LowerEmitter {
             (state_of cfg.now (W.sheet wr.new) self.new) (answered result self.new.reason) }
         // The text reads as the tokens so far and the name, whatever follows that doesn't fuse.
         ensures reads { AddsName span sym.now optional (maps_in C.maps comments.old)
-            cfg.now (W.sheet wr.old) self.old (W.sheet wr.new) self.new (answered result self.new.reason) }
+            cfg.now (W.sheet wr.old) self.old (W.sheet wr.new) self.new
+            (answered result self.new.reason) }
         ensures level { Stays (W.sheet wr.old) (W.sheet wr.new) (answered result self.new.reason) }
     {
         self.writes_name_here(cfg, comments, wr, span, sym, optional)

@@ -26,9 +26,9 @@ use std::borrow::CowStr;
 use swc_ecma_codegen_common::{Answer, DUMMY_SP, Error, Refusal, Span};
 use swc_ecma_codegen_grammar::kinds::TemplatePart;
 use swc_ecma_codegen_literals::template_from_raw;
+use swc_ecma_codegen_settings::config::Config;
 use swc_ecma_codegen_text_writer::WriteJs;
 use swc_ecma_codegen_tree::TplElement;
-use swc_ecma_codegen_util::config::Config;
 
 fn holds_carriage_return(raw: &str) -> bool
     ensures { result ≡ has_byte 13 raw.now }

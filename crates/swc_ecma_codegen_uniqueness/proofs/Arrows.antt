@@ -32,6 +32,7 @@ use Rattle.swc_ecma_codegen_syntax.specs.MemberForms.{annotation_form}
 use Rattle.swc_ecma_codegen_syntax.specs.PatForms.{pat_form, pat_part, pat_nonterminal}
 use Rattle.swc_ecma_codegen_syntax.specs.NodeForms.{node_form, node_nonterminal, part_form, part_nonterminal, stmt_part_form, jsx_part_form}
 use Rattle.swc_ecma_codegen_syntax.specs.Derives.{Derives, fixed, part, restricted, lone, lone_in_parentheses, both, provided}
+use Rattle.swc_ecma_codegen_syntax.specs.Verdicts.{core}
 use Rattle.swc_ecma_codegen_uniqueness.specs.ParseTrees.{Variant, ParseTree, End, Read, Optional, Node, Ident, Seq, Arrow, Paren, part_variant, pat_variant, node_variant, tokens_of}
 use Rattle.swc_ecma_codegen_uniqueness.specs.Parses.{placed, is_inlined, is_inlined_pattern, is_inlined_pat}
 use Rattle.swc_ecma_codegen_uniqueness.proofs.Classes.{class, NameToken}
@@ -62,7 +63,7 @@ record Continued (m : ParseTree) : Type 0 where
   is : m ≡ Read (punctuator (codes ",")) rest
   good : Good (Rest Listed Seq nt.Expression) rest
 
-params_on : {s : Settings} (c : Parameters) (x : PatBox AnyNode) (xs : List (PatBox AnyNode)) {ts : List Token} (d : Derives true s (ending_after (λ place n. pat_part place c n) (x ∷ xs)) ts) → AllGood d → s.minify ≡ c.minify → Continued (derived_parse d End)
+params_on : {s : Settings} (c : Parameters) (x : PatBox AnyNode) (xs : List (PatBox AnyNode)) {ts : List Token} (d : Derives core s (ending_after (λ place n. pat_part place c n) (x ∷ xs)) ts) → AllGood d → s.minify ≡ c.minify → Continued (derived_parse d End)
 unfolding ending_after AllGood derived_parse read_phrase
 params_on c x [] (both (fixed g) (both d (fixed h))) (y, (o, z)) m = record { rest = derived_parse d End; is = refl; good = last_listed (last_at c x.node.value d o m) }
 params_on c x (y ∷ ys) (both (fixed g) (both d e)) (z, (o, q)) m =
@@ -74,7 +75,7 @@ params_on c x (y ∷ ys) (both (fixed g) (both d e)) (z, (o, q)) m =
       good = subst (λ w. Good (Rest Listed Seq nt.Expression) w) (sym (v.is (derived_parse e End) ∙ ap (Node v.variant v.inside) k.is)) (listed_next v.operand k.good);
     }
 
-params_seq : {s : Settings} (c : Parameters) (x y : PatBox AnyNode) (ys : List (PatBox AnyNode)) {ts : List Token} (d : Derives true s (ending_listed (λ place n. pat_part place c n) (x ∷ y ∷ ys)) ts) → AllGood d → s.minify ≡ c.minify →
+params_seq : {s : Settings} (c : Parameters) (x y : PatBox AnyNode) (ys : List (PatBox AnyNode)) {ts : List Token} (d : Derives core s (ending_listed (λ place n. pat_part place c n) (x ∷ y ∷ ys)) ts) → AllGood d → s.minify ≡ c.minify →
     Good (Whole Seq nt.Expression) (derived_parse d End)
 unfolding ending_listed AllGood derived_parse
 params_seq c x y ys (both d e) (o, q) m =
@@ -101,7 +102,7 @@ unfolding tokens_of
 name_heads text p k e = λ us. (tokens.name text, us, ap (λ z. tokens_of z us) e, ap begins_none k)
 
 -- a name alone needs no parentheses
-lone_in : {s : Settings} (called : Bool) (c : Parameters) (y : AnyNode-F AnyNode) {ts : List Token} (d : Derives true s (node_form called c y Pattern) ts) → is_never (node_phrase phrase y PlainParameter) ≡ false →
+lone_in : {s : Settings} (called : Bool) (c : Parameters) (y : AnyNode-F AnyNode) {ts : List Token} (d : Derives core s (node_form called c y Pattern) ts) → is_never (node_phrase phrase y PlainParameter) ≡ false →
     PlacedGood (is_inlined Pattern y) (s.minify ≡ c.minify → Fit c (node_variant y Pattern) (cover (node_nonterminal called c y Pattern)) (derived_parse d End)) (AllGood d) → s.minify ≡ c.minify →
     Turned (placed (is_inlined Pattern y) (node_variant y Pattern) (derived_parse d))
 unfolding node_phrase expr_part plain_parameter is_never node_form part_form pat_form node_nonterminal part_nonterminal pat_nonterminal node_variant part_variant pat_variant PlacedGood placed is_inlined is_inlined_pattern is_inlined_pat same_line stmt_part_form jsx_part_form
@@ -129,7 +130,7 @@ one_read (a_rest v) = record {
   heads = parenthesis_heads _;
 }
 
-params_read : {s : Settings} (typed : Bool) (c : Parameters) (ns : List (PatBox AnyNode)) {ts : List Token} → typed ≡ false → (d : Derives true s (arrow_params_form c typed ns) ts) → AllGood d → s.minify ≡ c.minify → Turned (derived_parse d)
+params_read : {s : Settings} (typed : Bool) (c : Parameters) (ns : List (PatBox AnyNode)) {ts : List Token} → typed ≡ false → (d : Derives core s (arrow_params_form c typed ns) ts) → AllGood d → s.minify ≡ c.minify → Turned (derived_parse d)
 unfolding arrow_params_form ending_listed AllGood derived_parse read_phrase same_line
 params_read true c ns t d o m = absurd (true≢false t)
 params_read false c [] t (both (fixed g) (both (fixed h) (fixed k))) o m =
@@ -150,25 +151,25 @@ params_read false c (x ∷ y ∷ ys) t (both (fixed g) (both d (fixed h))) (z, (
 
 -- ---- the rest of it
 
-no_params_types : {s : Settings} (c : Parameters) (o : Option (TsTypeParamDeclBox AnyNode)) {ts : List Token} (d : Derives true s (type_params_form c o) ts) (rest : ParseTree) → derived_parse d rest ≡ rest
+no_params_types : {s : Settings} (c : Parameters) (o : Option (TsTypeParamDeclBox AnyNode)) {ts : List Token} (d : Derives core s (type_params_form c o) ts) (rest : ParseTree) → derived_parse d rest ≡ rest
 unfolding type_params_form is_met derived_parse read_phrase
 no_params_types c None (fixed g) rest = refl
 no_params_types c (Some n) (provided h d) rest = absurd (true≢false (sym h))
 
-untyped : {s : Settings} (c : Parameters) (o : Option (TsTypeParamDeclBox AnyNode)) (p : Option (TsTypeAnnBox AnyNode)) {ts us : List Token} → Derives true s (type_params_form c o) ts → Derives true s (annotation_form c p) us →
+untyped : {s : Settings} (c : Parameters) (o : Option (TsTypeParamDeclBox AnyNode)) (p : Option (TsTypeAnnBox AnyNode)) {ts us : List Token} → Derives core s (type_params_form c o) ts → Derives core s (annotation_form c p) us →
     (is_some o || is_some p) ≡ false
 unfolding type_params_form annotation_form is_met
 untyped c None None d e = refl
 untyped c None (Some n) d (provided h e) = absurd (true≢false (sym h))
 untyped c (Some n) p (provided h d) e = absurd (true≢false (sym h))
 
-no_star : {s : Settings} (b : Bool) {ts : List Token} (d : Derives true s (Provided ByRule (not b) (Fixed (word_if b (mark (codes "*"))))) ts) (rest : ParseTree) → derived_parse d rest ≡ rest
+no_star : {s : Settings} (b : Bool) {ts : List Token} (d : Derives core s (Provided ByRule (not b) (Fixed (word_if b (mark (codes "*"))))) ts) (rest : ParseTree) → derived_parse d rest ≡ rest
 unfolding word_if is_met derived_parse read_phrase
 no_star true (provided h d) rest = absurd (true≢false (sym h))
 no_star false (provided h (fixed g)) rest = refl
 
 -- a value, or a block
-body_read : {s : Settings} (c : Parameters) (is_async : Bool) (n : BlockStmtOrExpr AnyNode) {ts : List Token} (d : Derives true s (arrow_body_form c is_async n) ts) → AllGood d → s.minify ≡ c.minify →
+body_read : {s : Settings} (c : Parameters) (is_async : Bool) (n : BlockStmtOrExpr AnyNode) {ts : List Token} (d : Derives core s (arrow_body_form c is_async n) ts) → AllGood d → s.minify ≡ c.minify →
     Good (Rest ArrowBody Arrow nt.AssignmentExpression) (derived_parse d End)
 unfolding arrow_body_form is_met AllGood PlacedGood derived_parse placed is_inlined tokens_of
 body_read c is_async (bodies.Expr n) (restricted {ts = ts} h (part b sb d)) o m =
@@ -188,9 +189,9 @@ record Shaped (m : ParseTree) : Type 0 where
   good : Good (Rest ArrowBody Arrow nt.AssignmentExpression) body
   is : m ≡ turned variant inside same_line (Read arrow_mark body)
 
-shaped : {s : Settings} (b : Bool) (c : Parameters) (n : ArrowExpr AnyNode) {ts us vs ws xs : List Token} (star : Derives true s (Provided ByRule (not n.is_generator) (Fixed (word_if n.is_generator (mark (codes "*"))))) ts)
-    (types : Derives true s (type_params_form c n.type_params) us) (params : Derives true s (arrow_params_form (of_arrow_parameters b c) (is_typed_arrow n) n.params.items) vs)
-    (annotation : Derives true s (annotation_form c n.return_type) ws) (body : Derives true s (arrow_body_form c b n.body) xs) → AllGood params → AllGood body → s.minify ≡ c.minify →
+shaped : {s : Settings} (b : Bool) (c : Parameters) (n : ArrowExpr AnyNode) {ts us vs ws xs : List Token} (star : Derives core s (Provided ByRule (not n.is_generator) (Fixed (word_if n.is_generator (mark (codes "*"))))) ts)
+    (types : Derives core s (type_params_form c n.type_params) us) (params : Derives core s (arrow_params_form (of_arrow_parameters b c) (is_typed_arrow n) n.params.items) vs)
+    (annotation : Derives core s (annotation_form c n.return_type) ws) (body : Derives core s (arrow_body_form c b n.body) xs) → AllGood params → AllGood body → s.minify ≡ c.minify →
     Shaped (derived_parse star (derived_parse types (derived_parse params (derived_parse annotation (Read same_line (Read arrow_mark (derived_parse body End)))))))
 shaped b c n star types params annotation body o q m =
     let p = params_read (is_typed_arrow n) (of_arrow_parameters b c) n.params.items (untyped c n.type_params n.return_type types annotation) params o m in
@@ -210,7 +211,7 @@ shaped b c n star types params annotation body o q m =
     }
 
 arrow_by : {s : Settings} (b : Bool) (c : Parameters) (n : ArrowExpr AnyNode) {ts : List Token} →
-    (d : Derives true s (async_form b (Provided ByRule (not n.is_generator) (Fixed (word_if n.is_generator (mark (codes "*")))) ⇢ type_params_form c n.type_params
+    (d : Derives core s (async_form b (Provided ByRule (not n.is_generator) (Fixed (word_if n.is_generator (mark (codes "*")))) ⇢ type_params_form c n.type_params
     ⇢ arrow_params_form (of_arrow_parameters b c) (is_typed_arrow n) n.params.items ⇢ annotation_form c n.return_type ⇢ Fixed phrases.same_line ⇢ Fixed (mark (codes "=>")) ⇢ arrow_body_form c b n.body)) ts) →
     AllGood d → s.minify ≡ c.minify → Good (Whole Arrow nt.AssignmentExpression) (derived_parse d End)
 unfolding async_form AllGood derived_parse read_phrase
@@ -221,13 +222,13 @@ arrow_by false c n (both star (both types (both params (both annotation (both (f
     let r = shaped false c n star types params annotation body o q m in
     arrow r.operand r.good r.is
 
-pub arrow_good : {s : Settings} (c : Parameters) (n : ArrowExpr AnyNode) {ts : List Token} (d : Derives true s (arrow_form c n) ts) → AllGood d → s.minify ≡ c.minify → Good (Whole Arrow nt.AssignmentExpression) (derived_parse d End)
+pub arrow_good : {s : Settings} (c : Parameters) (n : ArrowExpr AnyNode) {ts : List Token} (d : Derives core s (arrow_form c n) ts) → AllGood d → s.minify ≡ c.minify → Good (Whole Arrow nt.AssignmentExpression) (derived_parse d End)
 unfolding arrow_form
 arrow_good c n d o m = arrow_by n.is_async c n d o m
 
 -- no `in` takes what an arrow function begins with
 arrow_free_by : {s : Settings} (b : Bool) (c : Parameters) (n : ArrowExpr AnyNode) {ts : List Token} →
-    (d : Derives true s (async_form b (Provided ByRule (not n.is_generator) (Fixed (word_if n.is_generator (mark (codes "*")))) ⇢ type_params_form c n.type_params
+    (d : Derives core s (async_form b (Provided ByRule (not n.is_generator) (Fixed (word_if n.is_generator (mark (codes "*")))) ⇢ type_params_form c n.type_params
     ⇢ arrow_params_form (of_arrow_parameters b c) (is_typed_arrow n) n.params.items ⇢ annotation_form c n.return_type ⇢ Fixed phrases.same_line ⇢ Fixed (mark (codes "=>")) ⇢ arrow_body_form c b n.body)) ts) →
     AllGood d → s.minify ≡ c.minify → spine_free (derived_parse d End) ≡ true
 unfolding async_form AllGood derived_parse read_phrase same_line
@@ -236,6 +237,6 @@ arrow_free_by false c n (both star (both types (both params (both annotation (bo
     let r = shaped false c n star types params annotation body o q m in
     ap spine_free r.is ∙ turned_low same_line (Read arrow_mark r.body) r.operand.good (or_left _ _ (takes_on nt.ShiftExpression nt.LeftHandSideExpression r.operand.of shift_left r.operand.taken)) refl
 
-pub arrow_free : {s : Settings} (c : Parameters) (n : ArrowExpr AnyNode) {ts : List Token} (d : Derives true s (arrow_form c n) ts) → AllGood d → s.minify ≡ c.minify → spine_free (derived_parse d End) ≡ true
+pub arrow_free : {s : Settings} (c : Parameters) (n : ArrowExpr AnyNode) {ts : List Token} (d : Derives core s (arrow_form c n) ts) → AllGood d → s.minify ≡ c.minify → spine_free (derived_parse d End) ≡ true
 unfolding arrow_form
 arrow_free c n d o m = arrow_free_by n.is_async c n d o m

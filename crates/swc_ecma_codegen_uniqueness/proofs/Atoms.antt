@@ -39,6 +39,7 @@ use Rattle.swc_ecma_codegen_syntax.specs.MemberForms.{annotation_form}
 use Rattle.swc_ecma_codegen_syntax.specs.PatForms.{binding_form}
 use Rattle.swc_ecma_codegen_syntax.specs.TargetForms.{paren_target_form, simple_target_form}
 use Rattle.swc_ecma_codegen_syntax.specs.Derives.{Derives, fixed, part, simple, both, provided}
+use Rattle.swc_ecma_codegen_syntax.specs.Verdicts.{core}
 use Rattle.swc_ecma_codegen_uniqueness.specs.ParseTrees.{ParseTree, End, Read, Ident as a_name, Lit as a_literal, MetaProp, Paren, simple_target_variant}
 use Rattle.swc_ecma_codegen_uniqueness.specs.Parses.{placed, is_inlined}
 use Rattle.swc_ecma_codegen_uniqueness.proofs.Classes.{LiteralToken, RegexToken, class, NameToken, ConstantWord}
@@ -62,12 +63,12 @@ unfolding read_phrase
 named_read s false at bytes ts g h rest = refl
 named_read s true at bytes ts g h rest = absurd (true≢false (sym h))
 
-pub name_read : {s : Settings} (c : Parameters) (n : Ident) {ts : List Token} (d : Derives true s (name_form c n) ts) (rest : ParseTree) → derived_parse d rest ≡ Read (tokens.name (name_value (spelled_name (string_bytes n.sym)))) rest
+pub name_read : {s : Settings} (c : Parameters) (n : Ident) {ts : List Token} (d : Derives core s (name_form c n) ts) (rest : ParseTree) → derived_parse d rest ≡ Read (tokens.name (name_value (spelled_name (string_bytes n.sym)))) rest
 unfolding name_form ident is_met derived_parse
 name_read c n (provided h (provided k (fixed g))) rest = named_read _ n.optional n.span.lo (string_bytes n.sym) _ g (and_parts (has_no_escape (string_bytes n.sym)) (not n.optional) k).1 rest
 
 -- it is no reserved word
-pub name_free : {s : Settings} (c : Parameters) (n : Ident) {ts : List Token} (d : Derives true s (name_form c n) ts) → class (tokens.name (name_value (spelled_name (string_bytes n.sym)))) ≡ NameToken
+pub name_free : {s : Settings} (c : Parameters) (n : Ident) {ts : List Token} (d : Derives core s (name_form c n) ts) → class (tokens.name (name_value (spelled_name (string_bytes n.sym)))) ≡ NameToken
 unfolding name_form is_met
 name_free c n (provided h (provided k d)) =
     name_class (name_value (spelled_name (string_bytes n.sym))) (free_name c (string_bytes n.sym) (IsUtf8-string_bytes n.sym) h (and_parts (has_no_escape (string_bytes n.sym)) (not n.optional) k).0)
@@ -75,7 +76,7 @@ name_free c n (provided h (provided k d)) =
 pub name_atom : (n : Nonterminal) → is_place n ≡ false → (text : List ℕ) → class (tokens.name text) ≡ NameToken → Good (Whole a_name n) (Read (tokens.name text) End)
 name_atom n h text e = atom (tokens.name text) a_name n (ap starts e) h (ap started e)
 
-pub name_good : {s : Settings} (c : Parameters) (n : Ident) {ts : List Token} (d : Derives true s (name_form c n) ts) → Good (Whole a_name nt.PrimaryExpression) (derived_parse d End)
+pub name_good : {s : Settings} (c : Parameters) (n : Ident) {ts : List Token} (d : Derives core s (name_form c n) ts) → Good (Whole a_name nt.PrimaryExpression) (derived_parse d End)
 name_good c n d = subst (λ z. Good (Whole a_name nt.PrimaryExpression) z) (sym (name_read c n d End)) (name_atom nt.PrimaryExpression refl _ (name_free c n d))
 
 -- ---- literals
@@ -153,7 +154,7 @@ lit_by s (lits.BigInt n) ts h g = literal_good (big_literal s n.value ts h g)
 lit_by s (lits.Regex n) ts h g = regex_good s _ _ ts g refl
 lit_by s (lits.JSXText n) ts h g = absurd g
 
-pub lit_good : {s : Settings} (n : Lit) {ts : List Token} (d : Derives true s (lit_form n) ts) → Good (Whole a_literal nt.PrimaryExpression) (derived_parse d End)
+pub lit_good : {s : Settings} (n : Lit) {ts : List Token} (d : Derives core s (lit_form n) ts) → Good (Whole a_literal nt.PrimaryExpression) (derived_parse d End)
 unfolding lit_form is_met derived_parse
 lit_good {s = s} n {ts = ts} (provided h (fixed g)) = lit_by s n ts h g
 
@@ -166,28 +167,28 @@ meta_good s meta_props.ImportMeta ts g = import_meta
 
 -- ---- what is assigned to
 
-pub no_annotation : {s : Settings} (c : Parameters) (o : Option (TsTypeAnnBox AnyNode)) {ts : List Token} (d : Derives true s (annotation_form c o) ts) (rest : ParseTree) → derived_parse d rest ≡ rest
+pub no_annotation : {s : Settings} (c : Parameters) (o : Option (TsTypeAnnBox AnyNode)) {ts : List Token} (d : Derives core s (annotation_form c o) ts) (rest : ParseTree) → derived_parse d rest ≡ rest
 unfolding annotation_form is_met derived_parse read_phrase
 no_annotation c None (fixed g) rest = refl
 no_annotation c (Some n) (provided h d) rest = absurd (true≢false (sym h))
 
-pub binding_read : {s : Settings} (c : Parameters) (n : BindingIdent AnyNode) {ts : List Token} (d : Derives true s (binding_form c n) ts) (rest : ParseTree) →
+pub binding_read : {s : Settings} (c : Parameters) (n : BindingIdent AnyNode) {ts : List Token} (d : Derives core s (binding_form c n) ts) (rest : ParseTree) →
     derived_parse d rest ≡ Read (tokens.name (name_value (spelled_name (string_bytes n.id.sym)))) rest
 unfolding binding_form derived_parse
 binding_read c n (provided h (both d e)) rest = name_read c n.id d (derived_parse e rest) ∙ ap (Read (tokens.name (name_value (spelled_name (string_bytes n.id.sym))))) (no_annotation c n.type_ann e rest)
 
-pub binding_free : {s : Settings} (c : Parameters) (n : BindingIdent AnyNode) {ts : List Token} (d : Derives true s (binding_form c n) ts) → class (tokens.name (name_value (spelled_name (string_bytes n.id.sym)))) ≡ NameToken
+pub binding_free : {s : Settings} (c : Parameters) (n : BindingIdent AnyNode) {ts : List Token} (d : Derives core s (binding_form c n) ts) → class (tokens.name (name_value (spelled_name (string_bytes n.id.sym)))) ≡ NameToken
 unfolding binding_form
 binding_free c n (provided h (both d e)) = name_free c n.id d
 
-pub binding_good : {s : Settings} (c : Parameters) (n : BindingIdent AnyNode) {ts : List Token} (d : Derives true s (binding_form c n) ts) → Good (Whole a_name nt.LeftHandSideExpression) (derived_parse d End)
+pub binding_good : {s : Settings} (c : Parameters) (n : BindingIdent AnyNode) {ts : List Token} (d : Derives core s (binding_form c n) ts) → Good (Whole a_name nt.LeftHandSideExpression) (derived_parse d End)
 binding_good c n d = subst (λ z. Good (Whole a_name nt.LeftHandSideExpression) z) (sym (binding_read c n d End)) (name_atom nt.LeftHandSideExpression refl _ (binding_free c n d))
 
-paren_target_good : {s : Settings} (c : Parameters) (n : ParenExpr AnyNode) {ts : List Token} (d : Derives true s (paren_target_form c n) ts) → AllGood d → s.minify ≡ c.minify → Good (Whole Paren nt.LeftHandSideExpression) (derived_parse d End)
+paren_target_good : {s : Settings} (c : Parameters) (n : ParenExpr AnyNode) {ts : List Token} (d : Derives core s (paren_target_form c n) ts) → AllGood d → s.minify ≡ c.minify → Good (Whole Paren nt.LeftHandSideExpression) (derived_parse d End)
 unfolding paren_target_form AllGood PlacedGood derived_parse read_phrase placed is_inlined
 paren_target_good c n (both (fixed g) (both (simple k (part a sa d)) (fixed h))) (x, (o, y)) m = parenthesized nt.LeftHandSideExpression refl (at_place _ _ sa (o m))
 
-pub simple_target_good : {s : Settings} (c : Parameters) (n : SimpleAssignTarget AnyNode) {ts : List Token} (d : Derives true s (simple_target_form c n) ts) → AllGood d → s.minify ≡ c.minify →
+pub simple_target_good : {s : Settings} (c : Parameters) (n : SimpleAssignTarget AnyNode) {ts : List Token} (d : Derives core s (simple_target_form c n) ts) → AllGood d → s.minify ≡ c.minify →
     Good (Whole (simple_target_variant n) nt.LeftHandSideExpression) (derived_parse d End)
 unfolding simple_target_form simple_target_variant is_met
 simple_target_good c (simple_targets.Ident n) d o m = binding_good c n d

@@ -26,11 +26,12 @@ use Rattle.swc_ecma_codegen_syntax.specs.declared.nonterminals.Nonterminal.TheVa
 use Rattle.swc_ecma_codegen_syntax.specs.declared.parameters.Parameters.{Parameters}
 use Rattle.swc_ecma_codegen_syntax.specs.Parameters.{of_class}
 use Rattle.swc_ecma_codegen_syntax.specs.ClassForms.{heritage_form, implemented_form, implements_form, members_form, class_tail_form, class_word_form, class_rest_form, class_decl_form, class_expr_form}
-use Rattle.swc_ecma_codegen_syntax.specs.Forms.{Fixed, Part, Provided, ByScope, is_met, in_order}
+use Rattle.swc_ecma_codegen_syntax.specs.Forms.{Fixed, Part, Provided, ByCore, ByScope, is_met, in_order}
 use Rattle.swc_ecma_codegen_syntax.specs.FunctionForms.{bound_name_form, optional_name_form}
 use Rattle.swc_ecma_codegen_syntax.specs.Nonterminals.{takes, is_class_element, is_private}
 use Rattle.swc_ecma_codegen_syntax.specs.NodeForms.{node_form, part_form, stmt_part_form, jsx_part_form}
 use Rattle.swc_ecma_codegen_syntax.specs.Derives.{Derives, fixed, part, both, provided}
+use Rattle.swc_ecma_codegen_syntax.specs.Verdicts.{core}
 use Rattle.swc_ecma_codegen_uniqueness.specs.ParseTrees.{Variant, ParseTree, End, Read, Node, Class as AClass, tokens_of}
 use Rattle.swc_ecma_codegen_uniqueness.specs.Parses.{placed, is_inlined}
 use Rattle.swc_ecma_codegen_uniqueness.proofs.Classes.{Class, class}
@@ -71,14 +72,14 @@ member_then n {p = p} {rest = rest} g r = (
   λ us. listed_heads Members no_wrap g (member_stands) (tokens_of rest us),
 )
 
-members_good : {s : Settings} (n : Nonterminal) (c : Parameters) (xs : List (ClassMemberBox AnyNode)) {ts : List Token} (d : Derives true s (members_form c xs) ts) → AllGood d → s.minify ≡ c.minify → (rest : ParseTree) → InClass n rest → InClass n (derived_parse d rest)
+members_good : {s : Settings} (n : Nonterminal) (c : Parameters) (xs : List (ClassMemberBox AnyNode)) {ts : List Token} (d : Derives core s (members_form c xs) ts) → AllGood d → s.minify ≡ c.minify → (rest : ParseTree) → InClass n rest → InClass n (derived_parse d rest)
 unfolding in_order AllGood PlacedGood derived_parse read_phrase placed is_inlined
 members_good n c [] (fixed g) o m rest r = r
 members_good n c (x ∷ xs) (both (part a sa d) e) (o, q) m rest r = member_then n (o m).good (members_good n c xs e q m rest r)
 
 -- ---- what stands behind the name
 
-heritage_good : {s : Settings} (n : Nonterminal) (c : Parameters) (o : Option (ExprBox AnyNode)) (args : Option (TsTypeParamInstantiationBox AnyNode)) {ts : List Token} (d : Derives true s (heritage_form c o args) ts) → AllGood d → s.minify ≡ c.minify →
+heritage_good : {s : Settings} (n : Nonterminal) (c : Parameters) (o : Option (ExprBox AnyNode)) (args : Option (TsTypeParamInstantiationBox AnyNode)) {ts : List Token} (d : Derives core s (heritage_form c o args) ts) → AllGood d → s.minify ≡ c.minify →
     (m : ParseTree) → Good (Rest Members AClass n) m → Good (Rest AfterClass AClass n) (derived_parse d (Read (punctuator (codes "{")) m))
 unfolding heritage_form where_ is_met AllGood PlacedGood derived_parse read_phrase placed is_inlined punctuator word
 heritage_good n c None None (provided h (fixed g)) o m rest r = shifted refl r
@@ -87,72 +88,72 @@ heritage_good n c (Some x) args (both (fixed g) (both (part a sa d) t)) (y, (o, 
     let v = at_place _ _ sa (o m) in
     shifted refl (part_rest v (no_types c args t (Read (punctuator (codes "{")) rest)) (part_then Heritage (Read (punctuator (codes "{")) rest) (takes_self nt.LeftHandSideExpression) v (takes_self nt.LeftHandSideExpression, λ z. refl, r)))
 
-no_implements : {s : Settings} (ns : List (TsExprWithTypeArgs AnyNode)) {ts : List Token} (d : Derives true s (implements_form ns) ts) (rest : ParseTree) → derived_parse d rest ≡ rest
+no_implements : {s : Settings} (ns : List (TsExprWithTypeArgs AnyNode)) {ts : List Token} (d : Derives core s (implements_form ns) ts) (rest : ParseTree) → derived_parse d rest ≡ rest
 unfolding implements_form implemented_form is_some_listed is_met derived_parse read_phrase
 no_implements [] (provided h (fixed g)) rest = refl
 no_implements (n ∷ ns) (provided h d) rest = absurd (true≢false (sym h))
 
-tail_of : {s : Settings} (n : Nonterminal) (c : Parameters) (x : classes.Class AnyNode) {ts : List Token} (d : Derives true s (class_tail_form c x) ts) → AllGood d → s.minify ≡ c.minify → Good (Rest AfterClass AClass n) (derived_parse d End)
+tail_of : {s : Settings} (n : Nonterminal) (c : Parameters) (x : classes.Class AnyNode) {ts : List Token} (d : Derives core s (class_tail_form c x) ts) → AllGood d → s.minify ≡ c.minify → Good (Rest AfterClass AClass n) (derived_parse d End)
 unfolding class_tail_form AllGood derived_parse read_phrase
 tail_of n c x (both t (both h (both i (both (fixed g) (both d (fixed j)))))) (y, (o, (z, (u, (q, v))))) m =
     subst (λ z. Good (Rest AfterClass AClass n) z) (sym (no_type_params c x.type_params t _))
     (subst (λ z. Good (Rest AfterClass AClass n) (derived_parse h z)) (sym (no_implements x.implements.items i _))
     (heritage_good n (of_class c) x.super_class x.super_type_params h o m _ (members_good n (of_class c) x.body.items d q m _ (members_end n)).0))
 
-tail_in : {s : Settings} (n : Nonterminal) (k : Bool) (c : Parameters) (y : AnyNode-F AnyNode) {ts : List Token} (d : Derives true s (node_form k c y ClassTail) ts) → AllGood d → s.minify ≡ c.minify → Good (Rest AfterClass AClass n) (derived_parse d End)
+tail_in : {s : Settings} (n : Nonterminal) (k : Bool) (c : Parameters) (y : AnyNode-F AnyNode) {ts : List Token} (d : Derives core s (node_form k c y ClassTail) ts) → AllGood d → s.minify ≡ c.minify → Good (Rest AfterClass AClass n) (derived_parse d End)
 unfolding node_form part_form stmt_part_form jsx_part_form
 tail_in n k c (nodes.StmtPart (stmt_parts.Class x)) d o m = tail_of n c x.value d o m
 tail_in n k c (nodes.ExprPart (expr_parts.Tpl x)) d o m = absurd (no_form d)
 tail_in n k c (nodes.JSXPart (jsx_parts.JSXElement x)) d o m = absurd (no_form d)
 tail_in n k c y d o m = absurd (no_form d)
 
-pub class_tail_good : {s : Settings} (n : Nonterminal) (c : Parameters) (x : AnyNode) {ts : List Token} (d : Derives true s (Part nt.ClassTail c ClassTail x) ts) → AllGood d → s.minify ≡ c.minify → Good (Rest AfterClass AClass n) (derived_parse d End)
+pub class_tail_good : {s : Settings} (n : Nonterminal) (c : Parameters) (x : AnyNode) {ts : List Token} (d : Derives core s (Part nt.ClassTail c ClassTail x) ts) → AllGood d → s.minify ≡ c.minify → Good (Rest AfterClass AClass n) (derived_parse d End)
 unfolding AllGood PlacedGood derived_parse placed is_inlined
 class_tail_good n c x (part k sk d) o m = tail_in n k c (out-AnyNode x) d o m
 
 -- ---- what stands before it
 
-head_in : {s : Settings} (k : Bool) (c : Parameters) (y : AnyNode-F AnyNode) {ts : List Token} (d : Derives true s (node_form k c y ClassHead) ts) (rest : ParseTree) → derived_parse d rest ≡ rest
+head_in : {s : Settings} (k : Bool) (c : Parameters) (y : AnyNode-F AnyNode) {ts : List Token} (d : Derives core s (node_form k c y ClassHead) ts) (rest : ParseTree) → derived_parse d rest ≡ rest
 unfolding node_form part_form stmt_part_form jsx_part_form
-head_in k c (nodes.StmtPart (stmt_parts.Class x)) d rest = no_decorators c x.value.decorators.items d rest
+head_in k c (nodes.StmtPart (stmt_parts.Class x)) d rest = no_decorators ByCore c x.value.decorators.items d rest
 head_in k c (nodes.ExprPart (expr_parts.Tpl x)) d rest = absurd (no_form d)
 head_in k c (nodes.JSXPart (jsx_parts.JSXElement x)) d rest = absurd (no_form d)
 head_in k c y d rest = absurd (no_form d)
 
-pub no_class_decorators : {s : Settings} (c : Parameters) (x : AnyNode) {ts : List Token} (d : Derives true s (Part nt.DecoratorList c ClassHead x) ts) (rest : ParseTree) → derived_parse d rest ≡ rest
+pub no_class_decorators : {s : Settings} (c : Parameters) (x : AnyNode) {ts : List Token} (d : Derives core s (Part nt.DecoratorList c ClassHead x) ts) (rest : ParseTree) → derived_parse d rest ≡ rest
 unfolding derived_parse placed is_inlined
 no_class_decorators c x (part k sk d) rest = head_in k c (out-AnyNode x) d rest
 
-word_by : {s : Settings} (b : Bool) {ts : List Token} (d : Derives true s (Provided ByScope (not b) (Fixed (Then (word_if b (phrases.word (codes "abstract"))) (phrases.word (codes "class"))))) ts) (rest : ParseTree) → derived_parse d rest ≡ Read (word (codes "class")) rest
+word_by : {s : Settings} (b : Bool) {ts : List Token} (d : Derives core s (Provided ByScope (not b) (Fixed (Then (word_if b (phrases.word (codes "abstract"))) (phrases.word (codes "class"))))) ts) (rest : ParseTree) → derived_parse d rest ≡ Read (word (codes "class")) rest
 unfolding word_if is_met derived_parse read_phrase
 word_by true (provided h d) rest = absurd (true≢false (sym h))
 word_by false (provided h (fixed g)) rest = refl
 
-word_in : {s : Settings} (k : Bool) (c : Parameters) (y : AnyNode-F AnyNode) {ts : List Token} (d : Derives true s (node_form k c y ClassWord) ts) (rest : ParseTree) → derived_parse d rest ≡ Read (word (codes "class")) rest
+word_in : {s : Settings} (k : Bool) (c : Parameters) (y : AnyNode-F AnyNode) {ts : List Token} (d : Derives core s (node_form k c y ClassWord) ts) (rest : ParseTree) → derived_parse d rest ≡ Read (word (codes "class")) rest
 unfolding node_form part_form stmt_part_form jsx_part_form class_word_form class_word
 word_in k c (nodes.StmtPart (stmt_parts.Class x)) d rest = word_by x.value.is_abstract d rest
 word_in k c (nodes.ExprPart (expr_parts.Tpl x)) d rest = absurd (no_form d)
 word_in k c (nodes.JSXPart (jsx_parts.JSXElement x)) d rest = absurd (no_form d)
 word_in k c y d rest = absurd (no_form d)
 
-pub class_word_read : {s : Settings} (c : Parameters) (x : AnyNode) {ts : List Token} (d : Derives true s (Part nt.ClassHead c ClassWord x) ts) (rest : ParseTree) → derived_parse d rest ≡ Read (word (codes "class")) rest
+pub class_word_read : {s : Settings} (c : Parameters) (x : AnyNode) {ts : List Token} (d : Derives core s (Part nt.ClassHead c ClassWord x) ts) (rest : ParseTree) → derived_parse d rest ≡ Read (word (codes "class")) rest
 unfolding derived_parse placed is_inlined
 class_word_read c x (part k sk d) rest = word_in k c (out-AnyNode x) d rest
 
 -- ---- classes
 
-pub bound_class : {s : Settings} (n : Nonterminal) (c : Parameters) (x : Ident) {ts : List Token} (d : Derives true s (bound_name_form c x) ts) (m : ParseTree) → Good (Rest AfterClass AClass n) m → Good (Rest AfterClass AClass n) (derived_parse d m)
+pub bound_class : {s : Settings} (n : Nonterminal) (c : Parameters) (x : Ident) {ts : List Token} (d : Derives core s (bound_name_form c x) ts) (m : ParseTree) → Good (Rest AfterClass AClass n) m → Good (Rest AfterClass AClass n) (derived_parse d m)
 bound_class n c x d m g =
     let e = bound_free c x d in
     subst (λ z. Good (Rest AfterClass AClass n) z) (sym (bound_read c x d m)) (shifted (ap (without AfterClass) e) (subst (λ l. Good (Rest (shifted_to AfterClass l) AClass n) m) (sym e) g))
 
-optional_class : {s : Settings} (n : Nonterminal) (c : Parameters) (o : Option Ident) {ts : List Token} (d : Derives true s (optional_name_form c o) ts) (m : ParseTree) → Good (Rest AfterClass AClass n) m → Good (Rest AfterClass AClass n) (derived_parse d m)
+optional_class : {s : Settings} (n : Nonterminal) (c : Parameters) (o : Option Ident) {ts : List Token} (d : Derives core s (optional_name_form c o) ts) (m : ParseTree) → Good (Rest AfterClass AClass n) m → Good (Rest AfterClass AClass n) (derived_parse d m)
 unfolding optional_name_form derived_parse read_phrase
 optional_class n c None (fixed g) m r = r
 optional_class n c (Some x) d m r = bound_class n c x d m r
 
 -- behind the word
-pub class_rest : {s : Settings} (n : Nonterminal) (c : Parameters) (x : ClassExpr AnyNode) {ts us : List Token} (d : Derives true s (optional_name_form (of_class c) x.ident) ts) (e : Derives true s (Part nt.ClassTail c ClassTail x.class.node.value) us) → AllGood e → s.minify ≡ c.minify →
+pub class_rest : {s : Settings} (n : Nonterminal) (c : Parameters) (x : ClassExpr AnyNode) {ts us : List Token} (d : Derives core s (optional_name_form (of_class c) x.ident) ts) (e : Derives core s (Part nt.ClassTail c ClassTail x.class.node.value) us) → AllGood e → s.minify ≡ c.minify →
     Good (Rest AfterClass AClass n) (derived_parse d (derived_parse e End))
 class_rest n c x d e o m = optional_class n (of_class c) x.ident d _ (class_tail_good n c x.class.node.value e o m)
 
@@ -162,7 +163,7 @@ pub record ClassRead (n : Nonterminal) (m : ParseTree) : Type 0 where
   pub is : m ≡ Read (word (codes "class")) rest
   pub good : Good (Rest AfterClass AClass n) rest
 
-pub class_expr_read : {s : Settings} (at : Nonterminal) (c : Parameters) (n : ClassExpr AnyNode) {ts : List Token} (d : Derives true s (class_expr_form c n) ts) → AllGood d → s.minify ≡ c.minify → ClassRead at (derived_parse d End)
+pub class_expr_read : {s : Settings} (at : Nonterminal) (c : Parameters) (n : ClassExpr AnyNode) {ts : List Token} (d : Derives core s (class_expr_form c n) ts) → AllGood d → s.minify ≡ c.minify → ClassRead at (derived_parse d End)
 unfolding class_expr_form AllGood derived_parse
 class_expr_read at c n (both h (both w (both i t))) (x, (y, (z, o))) m = record {
   rest = _;
@@ -170,13 +171,13 @@ class_expr_read at c n (both h (both w (both i t))) (x, (y, (z, o))) m = record 
   good = class_rest at c n i t o m;
 }
 
-pub class_expr_good : {s : Settings} (c : Parameters) (n : ClassExpr AnyNode) {ts : List Token} (d : Derives true s (class_expr_form c n) ts) → AllGood d → s.minify ≡ c.minify → Good (Whole AClass nt.PrimaryExpression) (derived_parse d End)
+pub class_expr_good : {s : Settings} (c : Parameters) (n : ClassExpr AnyNode) {ts : List Token} (d : Derives core s (class_expr_form c n) ts) → AllGood d → s.minify ≡ c.minify → Good (Whole AClass nt.PrimaryExpression) (derived_parse d End)
 unfolding word
 class_expr_good c n d o m =
     let r = class_expr_read nt.PrimaryExpression c n d o m in subst (λ p. Good (Whole AClass nt.PrimaryExpression) p) (sym r.is) (begun (word (codes "class")) AClass nt.PrimaryExpression AfterClass _ refl refl refl r.good)
 
 -- behind `export`
-pub class_rest_read : {s : Settings} (at : Nonterminal) (c : Parameters) (n : ClassDecl AnyNode) {ts : List Token} (d : Derives true s (class_rest_form c n) ts) → AllGood d → s.minify ≡ c.minify → ClassRead at (derived_parse d End)
+pub class_rest_read : {s : Settings} (at : Nonterminal) (c : Parameters) (n : ClassDecl AnyNode) {ts : List Token} (d : Derives core s (class_rest_form c n) ts) → AllGood d → s.minify ≡ c.minify → ClassRead at (derived_parse d End)
 unfolding class_rest_form AllGood derived_parse
 class_rest_read at c n (both k (both w (both i t))) (x, (y, (z, o))) m = record {
   rest = _;
@@ -184,7 +185,7 @@ class_rest_read at c n (both k (both w (both i t))) (x, (y, (z, o))) m = record 
   good = bound_class at (of_class c) n.ident i _ (class_tail_good at c n.class.node.value t o m);
 }
 
-pub class_decl_good : {s : Settings} (b : Follower) (c : Parameters) (n : ClassDecl AnyNode) {ts : List Token} (d : Derives true s (class_decl_form c n) ts) → AllGood d → s.minify ≡ c.minify → Good (Whole AClass (item_of b)) (derived_parse d End)
+pub class_decl_good : {s : Settings} (b : Follower) (c : Parameters) (n : ClassDecl AnyNode) {ts : List Token} (d : Derives core s (class_decl_form c n) ts) → AllGood d → s.minify ≡ c.minify → Good (Whole AClass (item_of b)) (derived_parse d End)
 unfolding class_decl_form AllGood derived_parse
 class_decl_good b c n (both k (both h (both w (both i t)))) (x, (y, (z, (u, o)))) m =
     subst (λ p. Good (Whole AClass (item_of b)) p) (sym (no_declare n.declare k _ ∙ no_class_decorators c n.class.node.value h _ ∙ class_word_read c n.class.node.value w _))

@@ -44,6 +44,7 @@ use Rattle.swc_ecma_codegen_syntax.specs.NodeForms.{node_form, part_form, stmt_p
 use Rattle.swc_ecma_codegen_syntax.specs.ObjectForms.{spread_form}
 use Rattle.swc_ecma_codegen_syntax.specs.Parameters.{with_in}
 use Rattle.swc_ecma_codegen_syntax.specs.Derives.{Derives, fixed, part, both, provided}
+use Rattle.swc_ecma_codegen_syntax.specs.Verdicts.{core}
 use Rattle.swc_ecma_codegen_uniqueness.specs.ParseTrees.{Variant, ParseTree, End, Read, Node, JSXElement, tokens_of}
 use Rattle.swc_ecma_codegen_uniqueness.specs.Parses.{placed, is_inlined}
 use Rattle.swc_ecma_codegen_uniqueness.proofs.Classes.{Class, class}
@@ -114,7 +115,7 @@ namespaced_good : (s : Settings) {a b : Control} (p : NamePlace a b) (n : Nonter
 unfolding jsx_namespaced_name tag_ident_name read_phrase
 namespaced_good s p n x ts g r = name_then p n _ (colon_then (behind_part p) n (name_then (part_place (behind_part p)) n _ r))
 
-pub object_in : {s : Settings} (k : Bool) (c : Parameters) (y : AnyNode-F AnyNode) {ts : List Token} (d : Derives true s (node_form k c y TagObject) ts) → AllGood d → ObjectFit (derived_parse d)
+pub object_in : {s : Settings} (k : Bool) (c : Parameters) (y : AnyNode-F AnyNode) {ts : List Token} (d : Derives core s (node_form k c y TagObject) ts) → AllGood d → ObjectFit (derived_parse d)
 unfolding node_form part_form stmt_part_form jsx_part_form tag_object_form tag_member_form tag_ident_name AllGood PlacedGood derived_parse read_phrase placed is_inlined
 object_in k c (nodes.JSXPart (jsx_parts.JSXObject (objects.JSXMemberExpr x))) (both (part a sa d) (fixed g)) (o, z) =
     record { good = λ i j p n m r. o.good i j p n _ (dot_then (behind_part p) n (name_then (part_place (behind_part p)) n _ r)) }
@@ -123,7 +124,7 @@ object_in k c (nodes.ExprPart (expr_parts.Tpl x)) d o = absurd (no_form d)
 object_in k c (nodes.StmtPart (stmt_parts.BlockStmt x)) d o = absurd (no_form d)
 object_in k c y d o = absurd (no_form d)
 
-element_name_good : {s : Settings} {a b : Control} (p : NamePlace a b) (n : Nonterminal) (c : Parameters) (x : JSXElementName AnyNode) {ts : List Token} (d : Derives true s (element_name_form c x) ts) → AllGood d → {m : ParseTree} → InElement b n m → InElement a n (derived_parse d m)
+element_name_good : {s : Settings} {a b : Control} (p : NamePlace a b) (n : Nonterminal) (c : Parameters) (x : JSXElementName AnyNode) {ts : List Token} (d : Derives core s (element_name_form c x) ts) → AllGood d → {m : ParseTree} → InElement b n m → InElement a n (derived_parse d m)
 unfolding element_name_form tag_member_form tag_ident_name AllGood PlacedGood derived_parse read_phrase placed is_inlined
 element_name_good {s = s} p n c (element_names.Ident x) (fixed {ts = ts} g) o r = ident_good s p n x ts g r
 element_name_good {a = i} {b = j} p n c (element_names.JSXMemberExpr x) (both (part a sa d) (fixed g)) (o, z) r =
@@ -152,7 +153,7 @@ unfolding punctuator
 braces_then tag_braces n {m = m} o g = part_then AttributeBraces (Read (punctuator (codes "}")) m) (takes_self nt.Expression) o (takes_self nt.Expression, λ z. refl, g)
 braces_then child_braces n {m = m} o g = part_then ChildBraces (Read (punctuator (codes "}")) m) (takes_self nt.Expression) o (takes_self nt.Expression, λ z. refl, g)
 
-contained_good : {s : Settings} {a b : Control} (p : BracesPlace a b) (n : Nonterminal) (c : Parameters) (x : JSXExpr AnyNode) {ts : List Token} (d : Derives true s (contained_form c x) ts) → AllGood d → s.minify ≡ c.minify → {m : ParseTree} → InElement b n m →
+contained_good : {s : Settings} {a b : Control} (p : BracesPlace a b) (n : Nonterminal) (c : Parameters) (x : JSXExpr AnyNode) {ts : List Token} (d : Derives core s (contained_form c x) ts) → AllGood d → s.minify ≡ c.minify → {m : ParseTree} → InElement b n m →
     InElement a n (derived_parse d (Read (punctuator (codes "}")) m))
 unfolding contained_form AllGood PlacedGood derived_parse read_phrase placed is_inlined
 contained_good p n c (contained.JSXEmptyExpr x) (fixed g) o m r = braces_empty p n r
@@ -189,7 +190,7 @@ goes_on_in : {n : Nonterminal} {m : ParseTree} → BehindAttribute n m → InEle
 goes_on_in {n = n} b = subst (λ z. InElement InTag n z) (sym b.is) (shifted (attribute_taken (class b.token) b.follows) b.good)
 
 -- an element that is the value of an attribute has no node
-value_element : (n : Nonterminal) {s : Settings} (k : Bool) (c : Parameters) (y : AnyNode-F AnyNode) {ts : List Token} (d : Derives true s (node_form k c y Element) ts) → ElementFit false (derived_parse d) → (m : ParseTree) → BehindAttribute n m →
+value_element : (n : Nonterminal) {s : Settings} (k : Bool) (c : Parameters) (y : AnyNode-F AnyNode) {ts : List Token} (d : Derives core s (node_form k c y Element) ts) → ElementFit false (derived_parse d) → (m : ParseTree) → BehindAttribute n m →
     InElement AttributeValue n (derived_parse d m)
 unfolding punctuator tokens_of
 value_element n k c y d r m b =
@@ -272,7 +273,7 @@ child_then n {p = p} {rest = rest} g r = (
   λ us. listed_heads Children children_wrap g child_stands_there (tokens_of rest us),
 )
 
-child_good_at : {s : Settings} (n : Nonterminal) (c : Parameters) (x : JSXElementChild AnyNode) {ts : List Token} (d : Derives true s (child_form c x) ts) → AllGood d → s.minify ≡ c.minify → (rest : ParseTree) → InChildren n rest → InChildren n (derived_parse d rest)
+child_good_at : {s : Settings} (n : Nonterminal) (c : Parameters) (x : JSXElementChild AnyNode) {ts : List Token} (d : Derives core s (child_form c x) ts) → AllGood d → s.minify ≡ c.minify → (rest : ParseTree) → InChildren n rest → InChildren n (derived_parse d rest)
 unfolding child_form container_form spread_child_form open_mark jsx_text AllGood PlacedGood derived_parse read_phrase placed is_inlined
 child_good_at {s = s} n c (children.JSXText x) (fixed {ts = ts} g) o m rest r =
     let e = where_read s _ _ ts g rest in (subst (λ z. InElement Children n z) (sym e) (text_then n _ r.0), subst (λ z. Heads (λ u. goes_on (without Children (class u)) ≡ true) z) (sym e) (begins_text _ rest))
@@ -281,18 +282,18 @@ child_good_at n c (children.JSXSpreadChild x) (both (fixed g) (both (fixed h) (b
 child_good_at n c (children.JSXElement x) (part a sa d) o m rest r = child_then n (o m).good r
 child_good_at n c (children.JSXFragment x) (part a sa d) o m rest r = child_then n (o m).good r
 
-children_listed : {s : Settings} (n : Nonterminal) (c : Parameters) (xs : List (JSXElementChild AnyNode)) {ts : List Token} (d : Derives true s (in_order (child_form c) xs) ts) → AllGood d → s.minify ≡ c.minify → (rest : ParseTree) → InChildren n rest → InChildren n (derived_parse d rest)
+children_listed : {s : Settings} (n : Nonterminal) (c : Parameters) (xs : List (JSXElementChild AnyNode)) {ts : List Token} (d : Derives core s (in_order (child_form c) xs) ts) → AllGood d → s.minify ≡ c.minify → (rest : ParseTree) → InChildren n rest → InChildren n (derived_parse d rest)
 unfolding in_order AllGood derived_parse read_phrase
 children_listed n c [] (fixed g) o m rest r = r
 children_listed n c (x ∷ xs) (both d e) (o, q) m rest r = child_good_at n c x d o m (derived_parse e rest) (children_listed n c xs e q m rest r)
 
-children_by : {s : Settings} (b : Bool) (n : Nonterminal) (c : Parameters) (xs : List (JSXElementChild AnyNode)) {ts : List Token} (d : Derives true s (if b then in_order (child_form c) xs else Provided ByRule false (Fixed phrases.Never)) ts) → AllGood d → s.minify ≡ c.minify →
+children_by : {s : Settings} (b : Bool) (n : Nonterminal) (c : Parameters) (xs : List (JSXElementChild AnyNode)) {ts : List Token} (d : Derives core s (if b then in_order (child_form c) xs else Provided ByRule false (Fixed phrases.Never)) ts) → AllGood d → s.minify ≡ c.minify →
     (rest : ParseTree) → InChildren n rest → InChildren n (derived_parse d rest)
 unfolding is_met
 children_by true n c xs d o m rest r = children_listed n c xs d o m rest r
 children_by false n c xs (provided h d) o m rest r = absurd (true≢false (sym h))
 
-children_good : {s : Settings} (n : Nonterminal) (c : Parameters) (xs : List (JSXElementChild AnyNode)) {ts : List Token} (d : Derives true s (children_form c xs) ts) → AllGood d → s.minify ≡ c.minify → (rest : ParseTree) → InChildren n rest → InChildren n (derived_parse d rest)
+children_good : {s : Settings} (n : Nonterminal) (c : Parameters) (xs : List (JSXElementChild AnyNode)) {ts : List Token} (d : Derives core s (children_form c xs) ts) → AllGood d → s.minify ≡ c.minify → (rest : ParseTree) → InChildren n rest → InChildren n (derived_parse d rest)
 unfolding children_form
 children_good n c xs d o m rest r = children_by (is_parted false xs) n c xs d o m rest r
 
@@ -307,7 +308,7 @@ closed_tag : (n : Nonterminal) → InElement ClosingTag n (Read tokens.tag_close
 unfolding tokens.tag_close
 closed_tag n = (shifted refl (ended JSXElement n), shifted refl (ended JSXElement n))
 
-closing_good : {s : Settings} (n : Nonterminal) (c : Parameters) (x : JSXClosingElement AnyNode) {ts : List Token} (d : Derives true s (closing_form c x) ts) → AllGood d → InChildren n (derived_parse d End)
+closing_good : {s : Settings} (n : Nonterminal) (c : Parameters) (x : JSXClosingElement AnyNode) {ts : List Token} (d : Derives core s (closing_form c x) ts) → AllGood d → InChildren n (derived_parse d End)
 unfolding closing_form open_mark AllGood derived_parse read_phrase
 closing_good n c x (both (fixed g) (both (fixed h) (both k (fixed i)))) (y, (z, (o, w))) = (closing_then n (element_name_good of_closing n c x.name k o (closed_tag n).1), begins_tag _)
 
@@ -316,12 +317,12 @@ self_closed : (n : Nonterminal) → InElement SelfClosing n (Read tokens.tag_clo
 unfolding tokens.tag_close
 self_closed n = shifted refl (ended JSXElement n)
 
-no_children : {s : Settings} (c : Parameters) {ts : List Token} (d : Derives true s (unclosed_form c []) ts) (rest : ParseTree) → derived_parse d rest ≡ rest
+no_children : {s : Settings} (c : Parameters) {ts : List Token} (d : Derives core s (unclosed_form c []) ts) (rest : ParseTree) → derived_parse d rest ≡ rest
 unfolding unclosed_form children_form ends_in_text is_parted in_order derived_parse read_phrase
 no_children c (fixed g) rest = refl
 
 -- what stands behind the tag
-rest_good : {s : Settings} (n : Nonterminal) (c : Parameters) (b : Bool) (xs : List (JSXElementChild AnyNode)) (o : Option (JSXClosingElement AnyNode)) → is_closed b xs o ≡ true → {ts : List Token} (d : Derives true s (element_rest_form c xs o) ts) → AllGood d →
+rest_good : {s : Settings} (n : Nonterminal) (c : Parameters) (b : Bool) (xs : List (JSXElementChild AnyNode)) (o : Option (JSXClosingElement AnyNode)) → is_closed b xs o ≡ true → {ts : List Token} (d : Derives core s (element_rest_form c xs o) ts) → AllGood d →
     s.minify ≡ c.minify → (b ≡ true → InElement SelfClosing n (Read tokens.tag_close (derived_parse d End))) × (b ≡ false → InElement Children n (derived_parse d End))
 unfolding is_closed element_rest_form AllGood derived_parse
 rest_good n c true [] None h d o m = (λ e. subst (λ z. InElement SelfClosing n (Read tokens.tag_close z)) (sym (no_children c d End)) (self_closed n), λ e. absurd (true≢false e))
@@ -330,7 +331,7 @@ rest_good n c true xs (Some x) h d o m = absurd (true≢false (sym h))
 rest_good n c false xs None h d o m = absurd (true≢false (sym h))
 rest_good n c false xs (Some x) h (both d e) (o, q) m = (λ i. absurd (true≢false (sym i)), λ i. (children_good n c xs d o m _ (closing_good n c x e q)).0)
 
-value_good : {s : Settings} (n : Nonterminal) (c : Parameters) (x : JSXAttrValue AnyNode) {ts : List Token} (d : Derives true s (attr_value_form c x) ts) → AllGood d → s.minify ≡ c.minify → (rest : ParseTree) → BehindAttribute n rest →
+value_good : {s : Settings} (n : Nonterminal) (c : Parameters) (x : JSXAttrValue AnyNode) {ts : List Token} (d : Derives core s (attr_value_form c x) ts) → AllGood d → s.minify ≡ c.minify → (rest : ParseTree) → BehindAttribute n rest →
     InElement AttributeValue n (derived_parse d rest)
 unfolding attr_value_form container_form open_mark AllGood PlacedGood derived_parse read_phrase placed is_inlined
 value_good {s = s} n c (attr_values.Lit x) (fixed {ts = ts} g) o m rest b = lit_good s n x ts g (goes_on_in b)
@@ -338,19 +339,19 @@ value_good n c (attr_values.JSXExprContainer x) (provided i (both (fixed g) (bot
 value_good n c (attr_values.JSXElement x) (part a sa d) o m rest b = value_element n a (with_in c) (out-AnyNode x.node.value) d (o m) rest b
 value_good n c (attr_values.JSXFragment x) (part a sa d) o m rest b = value_element n a (with_in c) (out-AnyNode x.node.value) d (o m) rest b
 
-init_good : {s : Settings} (n : Nonterminal) (c : Parameters) (x : Option (JSXAttrValue AnyNode)) {ts : List Token} (d : Derives true s (attr_init_form c x) ts) → AllGood d → s.minify ≡ c.minify → (rest : ParseTree) → BehindAttribute n rest →
+init_good : {s : Settings} (n : Nonterminal) (c : Parameters) (x : Option (JSXAttrValue AnyNode)) {ts : List Token} (d : Derives core s (attr_init_form c x) ts) → AllGood d → s.minify ≡ c.minify → (rest : ParseTree) → BehindAttribute n rest →
     InElement InTag n (derived_parse d rest)
 unfolding attr_init_form AllGood derived_parse read_phrase
 init_good n c None (fixed g) o m rest b = goes_on_in b
 init_good n c (Some x) (both (fixed g) d) (y, o) m rest b = equals_then n (value_good n c x d o m rest b)
 
-attribute_good : {s : Settings} (n : Nonterminal) (c : Parameters) (x : JSXAttrOrSpread AnyNode) {ts : List Token} (d : Derives true s (attr_form c x) ts) → AllGood d → s.minify ≡ c.minify → (rest : ParseTree) → BehindAttribute n rest →
+attribute_good : {s : Settings} (n : Nonterminal) (c : Parameters) (x : JSXAttrOrSpread AnyNode) {ts : List Token} (d : Derives core s (attr_form c x) ts) → AllGood d → s.minify ≡ c.minify → (rest : ParseTree) → BehindAttribute n rest →
     BehindAttribute n (derived_parse d rest)
 unfolding attr_form spread_form AllGood PlacedGood derived_parse read_phrase placed is_inlined
 attribute_good {s = s} n c (attrs.JSXAttr x) (both (fixed {ts = ts} g) d) (y, o) m rest b = attribute_name s n x.name ts g (init_good n c x.value d o m rest b)
 attribute_good n c (attrs.SpreadElement x) (both (fixed g) (both (both (fixed h) (part a sa d)) (fixed i))) (y, ((z, o), w)) m rest b = spread_attribute n (at_place _ _ sa (o m)) (goes_on_in b)
 
-attributes_good : {s : Settings} (n : Nonterminal) (c : Parameters) (xs : List (JSXAttrOrSpread AnyNode)) {ts : List Token} (d : Derives true s (in_order (attr_form c) xs) ts) → AllGood d → s.minify ≡ c.minify → (rest : ParseTree) → BehindAttribute n rest →
+attributes_good : {s : Settings} (n : Nonterminal) (c : Parameters) (xs : List (JSXAttrOrSpread AnyNode)) {ts : List Token} (d : Derives core s (in_order (attr_form c) xs) ts) → AllGood d → s.minify ≡ c.minify → (rest : ParseTree) → BehindAttribute n rest →
     BehindAttribute n (derived_parse d rest)
 unfolding in_order AllGood derived_parse read_phrase
 attributes_good n c [] (fixed g) o m rest b = b
@@ -363,7 +364,7 @@ unfolding open_mark read_phrase
 open_read s true ts g rest = refl
 open_read s false ts g rest = refl
 
-pub element_read : {s : Settings} (c : Parameters) (b : Bool) (x : elements.JSXElement AnyNode) {ts : List Token} (d : Derives true s (element_form c b x) ts) → AllGood d → s.minify ≡ c.minify → ElementFit b (derived_parse d)
+pub element_read : {s : Settings} (c : Parameters) (b : Bool) (x : elements.JSXElement AnyNode) {ts : List Token} (d : Derives core s (element_form c b x) ts) → AllGood d → s.minify ≡ c.minify → ElementFit b (derived_parse d)
 unfolding element_form opening_form is_met AllGood derived_parse read_phrase
 element_read {s = s} c b x (provided h (both (both (fixed {ts = ts} g) (both k (both t (both a (both (fixed {ts = us} j) (fixed i)))))) r)) ((y, (z, (u, (o, (v, w))))), q) m = record {
   inner = λ rest. derived_parse k (derived_parse t (derived_parse a (read_phrase s (self_close x.opening.self_closing) us j (Read tokens.tag_close (derived_parse r rest)))));
@@ -388,7 +389,7 @@ fragment_closed : (s : Settings) (n : Nonterminal) (ts : List Token) (g : Genera
 unfolding jsx_closing_fragment open_mark read_phrase
 fragment_closed s n ts g = (closing_then n (closed_tag n).0, begins_tag _)
 
-pub fragment_read : {s : Settings} (c : Parameters) (b : Bool) (x : JSXFragment AnyNode) {ts : List Token} (d : Derives true s (fragment_form c b x) ts) → AllGood d → s.minify ≡ c.minify → ElementFit b (derived_parse d)
+pub fragment_read : {s : Settings} (c : Parameters) (b : Bool) (x : JSXFragment AnyNode) {ts : List Token} (d : Derives core s (fragment_form c b x) ts) → AllGood d → s.minify ≡ c.minify → ElementFit b (derived_parse d)
 unfolding fragment_form AllGood derived_parse
 fragment_read {s = s} c b x (both (fixed {ts = ts} g) (both d (fixed {ts = us} h))) (y, (o, z)) m = record {
   inner = λ rest. Read tokens.tag_close (derived_parse d (read_phrase s jsx_closing_fragment us h rest));
@@ -396,7 +397,7 @@ fragment_read {s = s} c b x (both (fixed {ts = ts} g) (both d (fixed {ts = us} h
   good = λ n. tag_ends b n (children_good n c x.children.items d o m _ (fragment_closed s n us h)).0;
 }
 
-pub element_in_link : {s : Settings} (k : Bool) (c : Parameters) (y : AnyNode-F AnyNode) {ts : List Token} (d : Derives true s (node_form k c y Element) ts) → AllGood d → s.minify ≡ c.minify → ElementFit false (derived_parse d)
+pub element_in_link : {s : Settings} (k : Bool) (c : Parameters) (y : AnyNode-F AnyNode) {ts : List Token} (d : Derives core s (node_form k c y Element) ts) → AllGood d → s.minify ≡ c.minify → ElementFit false (derived_parse d)
 unfolding node_form part_form stmt_part_form jsx_part_form
 element_in_link k c (nodes.JSXPart (jsx_parts.JSXElement x)) d o m = element_read c false x.value d o m
 element_in_link k c (nodes.JSXPart (jsx_parts.JSXFragment x)) d o m = fragment_read c false x d o m

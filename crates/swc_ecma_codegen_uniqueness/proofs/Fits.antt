@@ -12,9 +12,10 @@ use Rattle.swc_ecma_codegen_syntax.specs.declared.nonterminals.Nonterminal.{Nont
 use Rattle.swc_ecma_codegen_syntax.specs.declared.nonterminals.Nonterminal.TheVariants as nt
 use Rattle.swc_ecma_codegen_syntax.specs.declared.parameters.Parameters.{Parameters}
 use Rattle.swc_ecma_codegen_syntax.specs.Nonterminals.{takes, is_optional}
-use Rattle.swc_ecma_codegen_syntax.specs.Forms.{Form, stands as stands_there, is_met}
-use Rattle.swc_ecma_codegen_syntax.specs.NodeForms.{missing_form, node_nonterminal}
-use Rattle.swc_ecma_codegen_syntax.specs.Derives.{Derives, fixed, part, simple, restricted, lone, lone_in_parentheses, both, provided, closed, comma_closed, followed, bare}
+use Rattle.swc_ecma_codegen_syntax.specs.Forms.{Form, Provided, Cure, ByPlace, ByRule, ByScope, ByCore, stands as stands_there, is_met}
+use Rattle.swc_ecma_codegen_syntax.specs.NodeForms.{node_nonterminal}
+use Rattle.swc_ecma_codegen_syntax.specs.Derives.{Derives, fixed, part, simple, shaped, restricted, lone, lone_in_parentheses, both, provided, closed, comma_closed, followed, bare}
+use Rattle.swc_ecma_codegen_syntax.specs.Verdicts.{core}
 use Rattle.swc_ecma_codegen_uniqueness.specs.ParseTrees.{Variant, ParseTree, End, Read, JSXElement, node_variant}
 use Rattle.swc_ecma_codegen_uniqueness.specs.Parses.{is_inlined}
 use Rattle.swc_ecma_codegen_uniqueness.proofs.Controls.{Control, OpenTag, InTag, ChildTag, ClosingTag, ClosingName, Statement as AtStatement, Where}
@@ -111,12 +112,13 @@ InlinedGood TagObject block element object inside = object
 InlinedGood role block element object inside = inside
 
 -- Each node right below is read as it is, where the settings minify as its parameters say.
-unfoldable pub AllGood : {s : Settings} {a : Form AnyNode} {ts : List Token} → Derives true s a ts → Type 0
+unfoldable pub AllGood : {s : Settings} {a : Form AnyNode} {ts : List Token} → Derives core s a ts → Type 0
 AllGood (fixed g) = Unit {0}
 AllGood {s = s} (part {c = c} {role = role} {n = n} called st d) =
     PlacedGood (is_inlined role (out-AnyNode n)) (s.minify ≡ c.minify → NodeFit role c (node_variant (out-AnyNode n) role) (node_nonterminal called c (out-AnyNode n) role) (derived_parse d End))
     (InlinedGood role (s.minify ≡ c.minify → BlockFit (derived_parse d)) (s.minify ≡ c.minify → ElementFit false (derived_parse d)) (ObjectFit (derived_parse d)) (AllGood d))
 AllGood (simple h d) = AllGood d
+AllGood (shaped h d) = AllGood d
 AllGood (restricted h d) = AllGood d
 AllGood (lone h d) = AllGood d
 AllGood (lone_in_parentheses d) = AllGood d
@@ -130,7 +132,10 @@ AllGood (bare d) = AllGood d
 pub moved : {a b : Nonterminal} {variant : Variant} {p : ParseTree} → a ≡ b → Operand a variant p → Operand b variant p
 moved {variant = variant} {p = p} e o = subst (λ z. Operand z variant p) e o
 
--- what has no production derives nothing
-pub no_form : {s : Settings} {ts : List Token} → Derives true s missing_form ts → ⊥
+-- what stands on a condition that fails derives nothing in the core
+pub no_form : {s : Settings} {cure : Cure} {a : Form AnyNode} {ts : List Token} → Derives core s (Provided cure false a) ts → ⊥
 unfolding is_met
-no_form (provided h d) = true≢false (sym h)
+no_form {cure = ByPlace} (provided h d) = true≢false (sym h)
+no_form {cure = ByRule} (provided h d) = true≢false (sym h)
+no_form {cure = ByScope} (provided h d) = true≢false (sym h)
+no_form {cure = ByCore} (provided h d) = true≢false (sym h)

@@ -5,7 +5,8 @@ use Rattle.swc_ecma_codegen_grammar.specs.Phrases.{Phrase, Never, Nothing, One, 
 use Rattle.swc_ecma_codegen_grammar.specs.Settings.{Settings}
 use Rattle.swc_ecma_codegen_grammar.specs.Tokens.{Token}
 use Rattle.swc_ecma_codegen_syntax.specs.Forms.{Form}
-use Rattle.swc_ecma_codegen_syntax.specs.Derives.{Derives, fixed, part, simple, restricted, lone, lone_in_parentheses, both, provided, closed, comma_closed, followed, bare}
+use Rattle.swc_ecma_codegen_syntax.specs.Derives.{Derives, fixed, part, simple, shaped, restricted, lone, lone_in_parentheses, both, provided, closed, comma_closed, followed, bare}
+use Rattle.swc_ecma_codegen_syntax.specs.Verdicts.{core}
 use Rattle.swc_ecma_codegen_uniqueness.specs.ParseTrees.{Variant, ParseTree, Read, Optional, node_variant}
 use Rattle.swc_ecma_codegen_uniqueness.specs.Parses.{read_all, placed, is_inlined}
 use Rattle.swc_ecma_codegen_uniqueness.proofs.Machine.{joined}
@@ -39,11 +40,12 @@ unfolding placed
 placed_joined true variant f h m rest = h m rest
 placed_joined false variant f h m rest = refl
 
-pub derived_joined : {s : Settings} {a : Form AnyNode} {ts : List Token} (d : Derives true s a ts) (m rest : ParseTree) → joined (derived_parse d m) rest ≡ derived_parse d (joined m rest)
+pub derived_joined : {s : Settings} {a : Form AnyNode} {ts : List Token} (d : Derives core s a ts) (m rest : ParseTree) → joined (derived_parse d m) rest ≡ derived_parse d (joined m rest)
 unfolding derived_parse
 derived_joined {s = s} (fixed {p = p} {ts = ts} g) m rest = phrase_joined s p ts g m rest
 derived_joined (part {role = role} {n = n} called st d) m rest = placed_joined (is_inlined role (out-AnyNode n)) (node_variant (out-AnyNode n) role) (derived_parse d) (derived_joined d) m rest
 derived_joined (simple h d) m rest = derived_joined d m rest
+derived_joined (shaped h d) m rest = derived_joined d m rest
 derived_joined (restricted h d) m rest = derived_joined d m rest
 derived_joined (lone h d) m rest = derived_joined d m rest
 derived_joined (lone_in_parentheses d) m rest = ap (Optional open_parenthesis) (derived_joined d (Optional close_parenthesis m) rest)

@@ -24,6 +24,7 @@ use Rattle.swc_ecma_codegen_syntax.specs.MemberForms.{computed_form}
 use Rattle.swc_ecma_codegen_syntax.specs.NodeForms.{node_form, part_form, stmt_part_form, jsx_part_form}
 use Rattle.swc_ecma_codegen_syntax.specs.ObjectForms.{prop_name_form}
 use Rattle.swc_ecma_codegen_syntax.specs.Derives.{Derives, fixed, part, both, provided}
+use Rattle.swc_ecma_codegen_syntax.specs.Verdicts.{core}
 use Rattle.swc_ecma_codegen_uniqueness.specs.ParseTrees.{ParseTree, Read}
 use Rattle.swc_ecma_codegen_uniqueness.specs.Parses.{placed, is_inlined}
 use Rattle.swc_ecma_codegen_uniqueness.proofs.Classes.{class}
@@ -47,7 +48,7 @@ word_key s bytes = either_key (is_quoted s (spelled_name bytes)) _ _
 literal_then : {f : ParseTree → ParseTree} {Before Behind : ParseTree → Type 0} (k : Keyed Before Behind) → IsLiteral f → (m : ParseTree) → Behind m → Before (f m)
 literal_then {Before = Before} k l m g = subst (λ z. Before z) (sym (l.is m)) (k.token l.token m (ap is_key l.literal) g)
 
-pub key_good : {s : Settings} {Before Behind : ParseTree → Type 0} (k : Keyed Before Behind) (c : Parameters) (n : PropName AnyNode) {ts : List Token} (d : Derives true s (prop_name_form c n) ts) → AllGood d → s.minify ≡ c.minify → (m : ParseTree) → Behind m →
+pub key_good : {s : Settings} {Before Behind : ParseTree → Type 0} (k : Keyed Before Behind) (c : Parameters) (n : PropName AnyNode) {ts : List Token} (d : Derives core s (prop_name_form c n) ts) → AllGood d → s.minify ≡ c.minify → (m : ParseTree) → Behind m →
     Before (derived_parse d m)
 unfolding prop_name_form computed_form number is_met AllGood PlacedGood derived_parse read_phrase placed is_inlined
 key_good {s = s} k c (prop_names.Ident n) (fixed g) o e m h = k.token (key_token s (string_bytes n.sym)) m (word_key s (string_bytes n.sym)) h
@@ -60,7 +61,7 @@ key_good k c (prop_names.Computed n) (both (fixed g) (both (part a sa d) (fixed 
 pub named_then : (b : Bool) (text : List ℕ) {m : ParseTree} → InObject AfterKey m → InProperties b (Read (tokens.name text) m)
 named_then b text {m = m} g = (object_key (property_place b)).token (tokens.name text) m (of_name is_key text refl refl) g
 
-key_in : {s : Settings} {Before Behind : ParseTree → Type 0} (k : Keyed Before Behind) (called : Bool) (c : Parameters) (y : AnyNode-F AnyNode) {ts : List Token} (d : Derives true s (node_form called c y PropertyName) ts) → AllGood d → s.minify ≡ c.minify → (m : ParseTree) → Behind m →
+key_in : {s : Settings} {Before Behind : ParseTree → Type 0} (k : Keyed Before Behind) (called : Bool) (c : Parameters) (y : AnyNode-F AnyNode) {ts : List Token} (d : Derives core s (node_form called c y PropertyName) ts) → AllGood d → s.minify ≡ c.minify → (m : ParseTree) → Behind m →
     Before (derived_parse d m)
 unfolding node_form part_form stmt_part_form jsx_part_form
 key_in k called c (nodes.ExprPart (expr_parts.PropName n)) d o e m h = key_good k c n d o e m h
@@ -69,7 +70,7 @@ key_in k called c (nodes.JSXPart (jsx_parts.JSXElement n)) d o e m h = absurd (n
 key_in k called c y d o e m h = absurd (no_form d)
 
 -- a key that a link holds
-pub own_key_good : {s : Settings} {Before Behind : ParseTree → Type 0} (k : Keyed Before Behind) (place : Nonterminal) (c : Parameters) (x : PropNameBox AnyNode) {ts : List Token} (d : Derives true s (Part place c PropertyName x.node.value) ts) → AllGood d → s.minify ≡ c.minify → (m : ParseTree) → Behind m →
+pub own_key_good : {s : Settings} {Before Behind : ParseTree → Type 0} (k : Keyed Before Behind) (place : Nonterminal) (c : Parameters) (x : PropNameBox AnyNode) {ts : List Token} (d : Derives core s (Part place c PropertyName x.node.value) ts) → AllGood d → s.minify ≡ c.minify → (m : ParseTree) → Behind m →
     Before (derived_parse d m)
 unfolding AllGood PlacedGood derived_parse placed is_inlined
 own_key_good k place c x (part a sa d) o e m h = key_in k a c (out-AnyNode x.node.value) d o e m h

@@ -33,7 +33,8 @@ use Rattle.swc_ecma_codegen_syntax.specs.PatForms.{pat_nonterminal}
 use Rattle.swc_ecma_codegen_syntax.specs.TargetForms.{target_nonterminal}
 use Rattle.swc_ecma_codegen_syntax.specs.ExprForms.{expr_form, expr_nonterminal, call_or_member}
 use Rattle.swc_ecma_codegen_syntax.specs.NodeForms.{node_form, node_nonterminal, part_form, part_nonterminal, stmt_part_form, jsx_part_form}
-use Rattle.swc_ecma_codegen_syntax.specs.Derives.{Derives, fixed, part, simple, restricted, lone, lone_in_parentheses, both, provided, closed, comma_closed, followed, bare}
+use Rattle.swc_ecma_codegen_syntax.specs.Derives.{Derives, fixed, part, simple, shaped, restricted, lone, lone_in_parentheses, both, provided, closed, comma_closed, followed, bare}
+use Rattle.swc_ecma_codegen_syntax.specs.Verdicts.{core}
 use Rattle.swc_ecma_codegen_uniqueness.specs.ParseTrees.{Variant, ParseTree, End, Read, This, Bin, Member, New, TaggedTpl, PrivateName, expr_variant, simple_target_variant, target_pat_variant, target_variant, pat_variant, part_variant, element_variant, child_variant, node_variant}
 use Rattle.swc_ecma_codegen_uniqueness.specs.Parses.{placed, is_inlined, is_inlined_pattern}
 use Rattle.swc_ecma_codegen_uniqueness.proofs.Classes.{Level, Power}
@@ -67,7 +68,7 @@ private_good : (text : List ℕ) → Good (Whole PrivateName nt.PrivateIdentifie
 unfolding tokens.private_name
 private_good text = atom (tokens.private_name text) PrivateName nt.PrivateIdentifier refl refl refl
 
-expr_good : {s : Settings} (keeps called : Bool) (c : Parameters) (n : Expr AnyNode) {ts : List Token} (d : Derives true s (expr_form keeps called c n) ts) → AllGood d → s.minify ≡ c.minify →
+expr_good : {s : Settings} (keeps called : Bool) (c : Parameters) (n : Expr AnyNode) {ts : List Token} (d : Derives core s (expr_form keeps called c n) ts) → AllGood d → s.minify ≡ c.minify →
     Good (Whole (expr_variant n) (expr_nonterminal keeps called c n)) (derived_parse d End)
 unfolding expr_form expr_nonterminal expr_variant this_expr private_name meta_prop_expr AllGood PlacedGood derived_parse read_phrase placed is_inlined is_met
 expr_good keeps called c (exprs.This n) (fixed g) o m = this_good
@@ -157,14 +158,14 @@ fit {c = c} {variant = variant} {p = p} a g f = subst (λ z. Fit c variant z p) 
 
 -- ---- a node in a role
 
-expr_fit : {s : Settings} (keeps called : Bool) (c : Parameters) (n : Expr AnyNode) {ts : List Token} (d : Derives true s (expr_form keeps called c n) ts) → AllGood d → s.minify ≡ c.minify →
+expr_fit : {s : Settings} (keeps called : Bool) (c : Parameters) (n : Expr AnyNode) {ts : List Token} (d : Derives core s (expr_form keeps called c n) ts) → AllGood d → s.minify ≡ c.minify →
     Fit c (expr_variant n) (cover (expr_nonterminal keeps called c n)) (derived_parse d End)
 expr_fit keeps called c n d o m = let g = expr_good keeps called c n d o m in fit (expr_agrees keeps called c n) g (λ f. expr_free keeps called c n d o m f g)
 
 abbrev FitIn : Role → Bool → Parameters → AnyNode-F AnyNode → ParseTree → Type 0
 FitIn role k c y inside = NodeFit role c (node_variant y role) (node_nonterminal k c y role) inside
 
-in_expression : {s : Settings} (k : Bool) (c : Parameters) (y : AnyNode-F AnyNode) {ts : List Token} (d : Derives true s (node_form k c y Expression) ts) → AllGood d → s.minify ≡ c.minify → FitIn Expression k c y (derived_parse d End)
+in_expression : {s : Settings} (k : Bool) (c : Parameters) (y : AnyNode-F AnyNode) {ts : List Token} (d : Derives core s (node_form k c y Expression) ts) → AllGood d → s.minify ≡ c.minify → FitIn Expression k c y (derived_parse d End)
 unfolding node_form node_nonterminal node_variant part_form stmt_part_form jsx_part_form
 in_expression k c (nodes.Expr n) d o m = expr_fit false k c n d o m
 in_expression k c (nodes.ExprPart (expr_parts.Tpl n)) d o m = absurd (no_form d)
@@ -172,7 +173,7 @@ in_expression k c (nodes.StmtPart (stmt_parts.Function n)) d o m = absurd (no_fo
 in_expression k c (nodes.JSXPart (jsx_parts.JSXElement n)) d o m = absurd (no_form d)
 in_expression k c y d o m = absurd (no_form d)
 
-in_callee : {s : Settings} (k : Bool) (c : Parameters) (y : AnyNode-F AnyNode) {ts : List Token} (d : Derives true s (node_form k c y Callee) ts) → AllGood d → s.minify ≡ c.minify → FitIn Callee k c y (derived_parse d End)
+in_callee : {s : Settings} (k : Bool) (c : Parameters) (y : AnyNode-F AnyNode) {ts : List Token} (d : Derives core s (node_form k c y Callee) ts) → AllGood d → s.minify ≡ c.minify → FitIn Callee k c y (derived_parse d End)
 unfolding node_form node_nonterminal node_variant part_form stmt_part_form jsx_part_form
 in_callee k c (nodes.Expr n) d o m = expr_fit true k c n d o m
 in_callee k c (nodes.ExprPart (expr_parts.Tpl n)) d o m = absurd (no_form d)
@@ -181,13 +182,13 @@ in_callee k c (nodes.JSXPart (jsx_parts.JSXElement n)) d o m = absurd (no_form d
 in_callee k c y d o m = absurd (no_form d)
 
 -- the value of a field, which is no sequence
-field_good : {s : Settings} (k : Bool) (c : Parameters) (n : Expr AnyNode) {ts : List Token} (d : Derives true s (field_expr_form (expr_form false k c n) n) ts) → AllGood d → s.minify ≡ c.minify →
+field_good : {s : Settings} (k : Bool) (c : Parameters) (n : Expr AnyNode) {ts : List Token} (d : Derives core s (field_expr_form (expr_form false k c n) n) ts) → AllGood d → s.minify ≡ c.minify →
     is_sequence (expr_nonterminal false k c n) ≡ false → Fit c (expr_variant n) (cover (expr_nonterminal false k c n)) (derived_parse d End)
 unfolding field_expr_form expr_nonterminal
 field_good k c (exprs.Seq n) d o m h = absurd (true≢false h)
 field_good k c n d o m h = expr_fit false k c n d o m
 
-in_field : {s : Settings} (k : Bool) (c : Parameters) (y : AnyNode-F AnyNode) {ts : List Token} (d : Derives true s (node_form k c y FieldValue) ts) → AllGood d → s.minify ≡ c.minify → FitIn FieldValue k c y (derived_parse d End)
+in_field : {s : Settings} (k : Bool) (c : Parameters) (y : AnyNode-F AnyNode) {ts : List Token} (d : Derives core s (node_form k c y FieldValue) ts) → AllGood d → s.minify ≡ c.minify → FitIn FieldValue k c y (derived_parse d End)
 unfolding node_form node_nonterminal node_variant part_form stmt_part_form jsx_part_form
 in_field k c (nodes.Expr n) d o m = field_good k c n d o m
 in_field k c (nodes.ExprPart (expr_parts.Tpl n)) d o m = absurd (no_form d)
@@ -196,7 +197,7 @@ in_field k c (nodes.JSXPart (jsx_parts.JSXElement n)) d o m = absurd (no_form d)
 in_field k c y d o m = absurd (no_form d)
 
 -- what is assigned to, and a pattern
-in_target : {s : Settings} (k : Bool) (c : Parameters) (y : AnyNode-F AnyNode) {ts : List Token} (d : Derives true s (node_form k c y AssignmentTarget) ts) → AllGood d → s.minify ≡ c.minify → FitIn AssignmentTarget k c y (derived_parse d End)
+in_target : {s : Settings} (k : Bool) (c : Parameters) (y : AnyNode-F AnyNode) {ts : List Token} (d : Derives core s (node_form k c y AssignmentTarget) ts) → AllGood d → s.minify ≡ c.minify → FitIn AssignmentTarget k c y (derived_parse d End)
 unfolding node_form node_nonterminal node_variant part_form part_nonterminal part_variant stmt_part_form jsx_part_form
 in_target k c (nodes.ExprPart (expr_parts.AssignTarget n)) d o m =
     let g = target_good k c n d o m in subst (λ z. Fit c (target_variant n) z (derived_parse d End)) (sym (target_covered n)) (fit_at (target_signs n) g (λ f. target_free g))
@@ -204,7 +205,7 @@ in_target k c (nodes.StmtPart (stmt_parts.Function n)) d o m = absurd (no_form d
 in_target k c (nodes.JSXPart (jsx_parts.JSXElement n)) d o m = absurd (no_form d)
 in_target k c y d o m = absurd (no_form d)
 
-in_pattern : {s : Settings} (k : Bool) (c : Parameters) (y : AnyNode-F AnyNode) {ts : List Token} (d : Derives true s (node_form k c y Pattern) ts) → AllGood d → s.minify ≡ c.minify → is_inlined Pattern y ≡ false →
+in_pattern : {s : Settings} (k : Bool) (c : Parameters) (y : AnyNode-F AnyNode) {ts : List Token} (d : Derives core s (node_form k c y Pattern) ts) → AllGood d → s.minify ≡ c.minify → is_inlined Pattern y ≡ false →
     FitIn Pattern k c y (derived_parse d End)
 unfolding node_form node_nonterminal node_variant part_form part_nonterminal part_variant stmt_part_form jsx_part_form is_inlined is_inlined_pattern
 in_pattern k c (nodes.ExprPart (expr_parts.Pat n)) d o m i = let g = pat_good k c n d o m i in fit_at (pat_signs n) g (λ f. pat_free k c n d o m i g)
@@ -212,7 +213,7 @@ in_pattern k c (nodes.StmtPart (stmt_parts.Function n)) d o m i = absurd (no_for
 in_pattern k c (nodes.JSXPart (jsx_parts.JSXElement n)) d o m i = absurd (no_form d)
 in_pattern k c y d o m i = absurd (no_form d)
 
-in_statement : {s : Settings} (k : Bool) (c : Parameters) (y : AnyNode-F AnyNode) {ts : List Token} (d : Derives true s (node_form k c y Statement) ts) → AllGood d → s.minify ≡ c.minify → FitIn Statement k c y (derived_parse d End)
+in_statement : {s : Settings} (k : Bool) (c : Parameters) (y : AnyNode-F AnyNode) {ts : List Token} (d : Derives core s (node_form k c y Statement) ts) → AllGood d → s.minify ≡ c.minify → FitIn Statement k c y (derived_parse d End)
 unfolding node_form node_nonterminal node_variant part_form stmt_part_form jsx_part_form
 in_statement k c (nodes.Stmt n) d o m = record { good = stmt_good c n d o m }
 in_statement k c (nodes.ExprPart (expr_parts.Tpl n)) d o m = absurd (no_form d)
@@ -221,7 +222,7 @@ in_statement k c (nodes.JSXPart (jsx_parts.JSXElement n)) d o m = absurd (no_for
 in_statement k c y d o m = absurd (no_form d)
 
 -- a member of a class
-in_class : {s : Settings} (k : Bool) (c : Parameters) (y : AnyNode-F AnyNode) {ts : List Token} (d : Derives true s (node_form k c y MemberOfClass) ts) → AllGood d → s.minify ≡ c.minify → FitIn MemberOfClass k c y (derived_parse d End)
+in_class : {s : Settings} (k : Bool) (c : Parameters) (y : AnyNode-F AnyNode) {ts : List Token} (d : Derives core s (node_form k c y MemberOfClass) ts) → AllGood d → s.minify ≡ c.minify → FitIn MemberOfClass k c y (derived_parse d End)
 unfolding node_form node_nonterminal node_variant part_form stmt_part_form jsx_part_form element_variant
 in_class k c (nodes.StmtPart (stmt_parts.ClassMember n)) d o m = record { good = element_good c n.value d o m }
 in_class k c (nodes.ExprPart (expr_parts.Tpl n)) d o m = absurd (no_form d)
@@ -229,7 +230,7 @@ in_class k c (nodes.JSXPart (jsx_parts.JSXElement n)) d o m = absurd (no_form d)
 in_class k c y d o m = absurd (no_form d)
 
 -- an element between tags
-in_children : {s : Settings} (k : Bool) (c : Parameters) (y : AnyNode-F AnyNode) {ts : List Token} (d : Derives true s (node_form k c y Child) ts) → AllGood d → s.minify ≡ c.minify → FitIn Child k c y (derived_parse d End)
+in_children : {s : Settings} (k : Bool) (c : Parameters) (y : AnyNode-F AnyNode) {ts : List Token} (d : Derives core s (node_form k c y Child) ts) → AllGood d → s.minify ≡ c.minify → FitIn Child k c y (derived_parse d End)
 unfolding node_form node_nonterminal node_variant part_form stmt_part_form jsx_part_form child_variant
 in_children k c (nodes.JSXPart (jsx_parts.JSXElement n)) d o m = record { good = child_good (element_read c true n.value d o m) }
 in_children k c (nodes.JSXPart (jsx_parts.JSXFragment n)) d o m = record { good = child_good (fragment_read c true n d o m) }
@@ -237,7 +238,7 @@ in_children k c (nodes.ExprPart (expr_parts.Tpl n)) d o m = absurd (no_form d)
 in_children k c (nodes.StmtPart (stmt_parts.Function n)) d o m = absurd (no_form d)
 in_children k c y d o m = absurd (no_form d)
 
-node_good : {s : Settings} (k : Bool) (c : Parameters) (y : AnyNode-F AnyNode) (role : Role) {ts : List Token} (d : Derives true s (node_form k c y role) ts) → AllGood d → s.minify ≡ c.minify → is_inlined role y ≡ false →
+node_good : {s : Settings} (k : Bool) (c : Parameters) (y : AnyNode-F AnyNode) (role : Role) {ts : List Token} (d : Derives core s (node_form k c y role) ts) → AllGood d → s.minify ≡ c.minify → is_inlined role y ≡ false →
     FitIn role k c y (derived_parse d End)
 node_good k c y Expression d o m i = in_expression k c y d o m
 node_good k c y Callee d o m i = in_callee k c y d o m
@@ -252,24 +253,25 @@ node_good k c y role d o m i = tt
 -- ---- a derivation
 
 -- a block has no node of its own, nor has an element that isn't between tags
-inlined_good : {s : Settings} (role : Role) (k : Bool) (c : Parameters) (y : AnyNode-F AnyNode) {ts : List Token} (d : Derives true s (node_form k c y role) ts) → AllGood d →
+inlined_good : {s : Settings} (role : Role) (k : Bool) (c : Parameters) (y : AnyNode-F AnyNode) {ts : List Token} (d : Derives core s (node_form k c y role) ts) → AllGood d →
     InlinedGood role (s.minify ≡ c.minify → BlockFit (derived_parse d)) (s.minify ≡ c.minify → ElementFit false (derived_parse d)) (ObjectFit (derived_parse d)) (AllGood d)
 inlined_good Block k c y d o = λ m. block_in k c y d o m
 inlined_good Element k c y d o = λ m. element_in_link k c y d o m
 inlined_good TagObject k c y d o = object_in k c y d o
 inlined_good role k c y d o = o
 
-placed_good : {s : Settings} (b k : Bool) (c : Parameters) (y : AnyNode-F AnyNode) (role : Role) {ts : List Token} (d : Derives true s (node_form k c y role) ts) → is_inlined role y ≡ b → AllGood d →
+placed_good : {s : Settings} (b k : Bool) (c : Parameters) (y : AnyNode-F AnyNode) (role : Role) {ts : List Token} (d : Derives core s (node_form k c y role) ts) → is_inlined role y ≡ b → AllGood d →
     PlacedGood b (s.minify ≡ c.minify → FitIn role k c y (derived_parse d End)) (InlinedGood role (s.minify ≡ c.minify → BlockFit (derived_parse d)) (s.minify ≡ c.minify → ElementFit false (derived_parse d)) (ObjectFit (derived_parse d)) (AllGood d))
 unfolding PlacedGood
 placed_good true k c y role d i o = inlined_good role k c y d o
 placed_good false k c y role d i o = λ m. node_good k c y role d o m i
 
-pub all_good : {s : Settings} {a : Form AnyNode} {ts : List Token} (d : Derives true s a ts) → AllGood d
+pub all_good : {s : Settings} {a : Form AnyNode} {ts : List Token} (d : Derives core s a ts) → AllGood d
 unfolding AllGood
 all_good (fixed g) = tt
 all_good (part {c = c} {role = role} {n = n} called st d) = placed_good (is_inlined role (out-AnyNode n)) called c (out-AnyNode n) role d refl (all_good d)
 all_good (simple h d) = all_good d
+all_good (shaped h d) = all_good d
 all_good (restricted h d) = all_good d
 all_good (lone h d) = all_good d
 all_good (lone_in_parentheses d) = all_good d

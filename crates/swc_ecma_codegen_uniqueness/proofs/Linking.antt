@@ -42,6 +42,7 @@ use Rattle.swc_ecma_codegen_syntax.specs.TemplateForms.{tpl_rest_form, tpl_parts
 use Rattle.swc_ecma_codegen_syntax.specs.ExprForms.{call_or_member}
 use Rattle.swc_ecma_codegen_syntax.specs.NodeForms.{node_form, part_form, stmt_part_form, jsx_part_form}
 use Rattle.swc_ecma_codegen_syntax.specs.Derives.{Derives, fixed, part, both, provided}
+use Rattle.swc_ecma_codegen_syntax.specs.Verdicts.{core}
 use Rattle.swc_ecma_codegen_uniqueness.specs.ParseTrees.{Variant, ParseTree, End, Read, Node, Member, Call, SuperProp as a_super, Tpl as a_template, TaggedTpl as a_tag, OptChain}
 use Rattle.swc_ecma_codegen_uniqueness.specs.Parses.{placed, is_inlined}
 use Rattle.swc_ecma_codegen_uniqueness.proofs.Classes.{First, class}
@@ -56,25 +57,25 @@ use Rattle.swc_ecma_codegen_uniqueness.proofs.Lists.{no_types, argued_as, argued
 
 -- ---- members and what `super` has
 
-pub member_good : {s : Settings} (called : Bool) (c : Parameters) (n : MemberExpr AnyNode) {ts : List Token} (d : Derives true s (member_form (call_or_member called) c n) ts) → AllGood d → s.minify ≡ c.minify →
+pub member_good : {s : Settings} (called : Bool) (c : Parameters) (n : MemberExpr AnyNode) {ts : List Token} (d : Derives core s (member_form (call_or_member called) c n) ts) → AllGood d → s.minify ≡ c.minify →
     Good (Whole Member (call_or_member called)) (derived_parse d End)
 unfolding member_form AllGood PlacedGood derived_parse placed is_inlined
 member_good true c n (both (part a sa d) e) (o, q) m = let x = at_place _ _ sa (o m) in prop_good Member c n.prop e q m of_call (chained_not _ Member (plain_call x)) x
 member_good false c n (both (part a sa d) e) (o, q) m = let x = at_place _ _ sa (o m) in prop_good Member c n.prop e q m a_member (chained_not _ Member (plain_member x)) x
 
 -- the same of what is assigned to
-pub target_member_good : {s : Settings} (c : Parameters) (n : MemberExpr AnyNode) {ts : List Token} (d : Derives true s (member_form nt.CallOrMember c n) ts) → AllGood d → s.minify ≡ c.minify →
+pub target_member_good : {s : Settings} (c : Parameters) (n : MemberExpr AnyNode) {ts : List Token} (d : Derives core s (member_form nt.CallOrMember c n) ts) → AllGood d → s.minify ≡ c.minify →
     Good (Whole Member nt.LeftHandSideExpression) (derived_parse d End)
 unfolding member_form AllGood PlacedGood derived_parse placed is_inlined
 target_member_good c n (both (part a sa d) e) (o, q) m = let x = at_place _ _ sa (o m) in prop_good Member c n.prop e q m a_target (chained_not _ Member (plain_callee x)) x
 
-super_by : {s : Settings} (n : Nonterminal) → is_place n ≡ false → (c : Parameters) (prop : SuperProp AnyNode) {ts us : List Token} (g : Derives true s (Fixed (phrases.word (codes "super"))) us) (d : Derives true s (super_form c prop) ts) → AllGood d →
+super_by : {s : Settings} (n : Nonterminal) → is_place n ≡ false → (c : Parameters) (prop : SuperProp AnyNode) {ts us : List Token} (g : Derives core s (Fixed (phrases.word (codes "super"))) us) (d : Derives core s (super_form c prop) ts) → AllGood d →
     s.minify ≡ c.minify → Good (Whole a_super n) (derived_parse g (derived_parse d End))
 unfolding super_form computed_form ident_name AllGood PlacedGood derived_parse read_phrase placed is_inlined
 super_by n h c (super_props.Ident x) (fixed k) (fixed g) o m = super_named _ n h (name_is_name _)
 super_by n h c (super_props.Computed x) (fixed k) (both (fixed g) (both (part a sa d) (fixed e))) (y, (o, z)) m = super_indexed n h (at_place _ _ sa (o m))
 
-pub super_good : {s : Settings} (n : Nonterminal) → is_place n ≡ false → (c : Parameters) (x : SuperPropExpr AnyNode) {ts : List Token} (d : Derives true s (super_prop_form c x) ts) → AllGood d → s.minify ≡ c.minify →
+pub super_good : {s : Settings} (n : Nonterminal) → is_place n ≡ false → (c : Parameters) (x : SuperPropExpr AnyNode) {ts : List Token} (d : Derives core s (super_prop_form c x) ts) → AllGood d → s.minify ≡ c.minify →
     Good (Whole a_super n) (derived_parse d End)
 unfolding super_prop_form AllGood derived_parse
 super_good n h c x (both g d) (y, o) m = super_by n h c x.prop g d o m
@@ -90,7 +91,7 @@ pub part_rest : {mode : Mode} {place : Nonterminal} {z : Variant} {p r m : Parse
 part_rest {mode = mode} {z = z} {p = p} o e g = subst (λ w. Good mode (Node z p w)) (sym e) g
 
 rest_good : {s : Settings} (variant : Variant) (n : Nonterminal) (c : Parameters) (with_tag : Bool) (es : List (ExprBox AnyNode)) (qs : List TplElement) {ts : List Token} → is_tag variant ≡ with_tag →
-    length qs ≡ length es → (d : Derives true s (tpl_rest_form (expr_part nt.Expression (with_in c)) with_tag es qs) ts) → AllGood d → s.minify ≡ c.minify →
+    length qs ≡ length es → (d : Derives core s (tpl_rest_form (expr_part nt.Expression (with_in c)) with_tag es qs) ts) → AllGood d → s.minify ≡ c.minify →
     Good (Rest (template variant (is_some_listed qs)) variant n) (derived_parse d End)
 unfolding tpl_rest_form tpl_element part_phrase part_kind is_some_listed token_of AllGood PlacedGood derived_parse read_phrase placed is_inlined
 rest_good variant n c with_tag [] [] y h (fixed g) o m = ended variant n
@@ -109,25 +110,25 @@ pub record Templated (variant : Variant) (n : Nonterminal) (m : ParseTree) : Typ
   pub good : Good (Rest (template variant opens) variant n) rest
 
 parts_good : {s : Settings} (variant : Variant) (n : Nonterminal) (c : Parameters) (with_tag : Bool) (es : List (ExprBox AnyNode)) (qs : List TplElement) {ts : List Token} → is_tag variant ≡ with_tag →
-    length qs ≡ length es + 1 → (d : Derives true s (tpl_parts_form (expr_part nt.Expression (with_in c)) with_tag es qs) ts) → AllGood d → s.minify ≡ c.minify → Templated variant n (derived_parse d End)
+    length qs ≡ length es + 1 → (d : Derives core s (tpl_parts_form (expr_part nt.Expression (with_in c)) with_tag es qs) ts) → AllGood d → s.minify ≡ c.minify → Templated variant n (derived_parse d End)
 unfolding tpl_parts_form tpl_element part_phrase part_kind token_of Generates AllGood derived_parse read_phrase
 parts_good variant n c with_tag es [] y h (fixed g) o m = absurd g
 parts_good variant n c with_tag es (q ∷ qs) y h (both (fixed g) f) (x, r) m =
     record { first = _; opens = is_some_listed qs; rest = derived_parse f End; is = where_read _ _ _ _ g (derived_parse f End); begins = ap (λ b. First b (is_some_listed qs)) (sym y); good = rest_good variant n c with_tag es qs y (omega (arith, h)) f r m }
 
 counted_good : {s : Settings} (variant : Variant) (n : Nonterminal) (c : Parameters) (with_tag b : Bool) (es : List (ExprBox AnyNode)) (qs : List TplElement) {ts : List Token} → is_tag variant ≡ with_tag → is_counted es qs ≡ b →
-    (d : Derives true s (if b then tpl_parts_form (expr_part nt.Expression (with_in c)) with_tag es qs else Provided ByRule false (Fixed phrases.Never)) ts) → AllGood d → s.minify ≡ c.minify → Templated variant n (derived_parse d End)
+    (d : Derives core s (if b then tpl_parts_form (expr_part nt.Expression (with_in c)) with_tag es qs else Provided ByRule false (Fixed phrases.Never)) ts) → AllGood d → s.minify ≡ c.minify → Templated variant n (derived_parse d End)
 unfolding is_met
 counted_good variant n c with_tag true es qs y e d o m = parts_good variant n c with_tag es qs y (eqb-true (length qs) (length es + 1) e) d o m
 counted_good variant n c with_tag false es qs y e (provided h d) o m = absurd (true≢false (sym h))
 
-tpl_good : {s : Settings} (variant : Variant) (n : Nonterminal) (c : Parameters) (with_tag : Bool) (x : Tpl AnyNode) {ts : List Token} → is_tag variant ≡ with_tag → (d : Derives true s (tpl_form c with_tag x) ts) → AllGood d → s.minify ≡ c.minify →
+tpl_good : {s : Settings} (variant : Variant) (n : Nonterminal) (c : Parameters) (with_tag : Bool) (x : Tpl AnyNode) {ts : List Token} → is_tag variant ≡ with_tag → (d : Derives core s (tpl_form c with_tag x) ts) → AllGood d → s.minify ≡ c.minify →
     Templated variant n (derived_parse d End)
 unfolding tpl_form
 tpl_good variant n c with_tag x y d o m = counted_good variant n c with_tag (is_counted x.exprs.items x.quasis.items) x.exprs.items x.quasis.items y refl d o m
 
 -- in the place of a template stands one
-tagged_in : {s : Settings} (n : Nonterminal) (k : Bool) (c : Parameters) (y : AnyNode-F AnyNode) {ts : List Token} (d : Derives true s (node_form k c y TaggedTemplate) ts) → AllGood d → s.minify ≡ c.minify →
+tagged_in : {s : Settings} (n : Nonterminal) (k : Bool) (c : Parameters) (y : AnyNode-F AnyNode) {ts : List Token} (d : Derives core s (node_form k c y TaggedTemplate) ts) → AllGood d → s.minify ≡ c.minify →
     Templated a_tag n (derived_parse d End)
 unfolding node_form part_form stmt_part_form jsx_part_form is_met
 tagged_in n k c (nodes.ExprPart (expr_parts.Tpl x)) d o m = tpl_good a_tag n c true x refl d o m
@@ -135,7 +136,7 @@ tagged_in n k c (nodes.StmtPart (stmt_parts.BlockStmt x)) d o m = absurd (no_for
 tagged_in n k c (nodes.JSXPart (jsx_parts.JSXElement x)) d o m = absurd (no_form d)
 tagged_in n k c y d o m = absurd (no_form d)
 
-template_in : {s : Settings} (n : Nonterminal) (k : Bool) (c : Parameters) (y : AnyNode-F AnyNode) {ts : List Token} (d : Derives true s (node_form k c y Template) ts) → AllGood d → s.minify ≡ c.minify →
+template_in : {s : Settings} (n : Nonterminal) (k : Bool) (c : Parameters) (y : AnyNode-F AnyNode) {ts : List Token} (d : Derives core s (node_form k c y Template) ts) → AllGood d → s.minify ≡ c.minify →
     Templated a_template n (derived_parse d End)
 unfolding node_form part_form stmt_part_form jsx_part_form is_met
 template_in n k c (nodes.ExprPart (expr_parts.Tpl x)) d o m = tpl_good a_template n c false x refl d o m
@@ -143,7 +144,7 @@ template_in n k c (nodes.StmtPart (stmt_parts.BlockStmt x)) d o m = absurd (no_f
 template_in n k c (nodes.JSXPart (jsx_parts.JSXElement x)) d o m = absurd (no_form d)
 template_in n k c y d o m = absurd (no_form d)
 
-pub template_good : {s : Settings} (k : Bool) (c : Parameters) (x : AnyNode) {ts : List Token} (d : Derives true s (node_form k c (out-AnyNode x) Template) ts) → AllGood d → s.minify ≡ c.minify →
+pub template_good : {s : Settings} (k : Bool) (c : Parameters) (x : AnyNode) {ts : List Token} (d : Derives core s (node_form k c (out-AnyNode x) Template) ts) → AllGood d → s.minify ≡ c.minify →
     Good (Whole a_template nt.PrimaryExpression) (derived_parse d End)
 template_good k c x d o m =
     let t = template_in nt.PrimaryExpression k c (out-AnyNode x) d o m in
@@ -152,7 +153,7 @@ template_good k c x d o m =
 tag_of : {n place : Nonterminal} {z : Variant} {p m : ParseTree} → Linked n place → Operand place z p → Templated a_tag n m → Good (Whole a_tag n) (Node z p m)
 tag_of {n = n} {z = z} {p = p} a o t = subst (λ r. Good (Whole a_tag n) (Node z p r)) (sym t.is) (tagged t.first t.opens a t.begins o t.good)
 
-pub tag_good : {s : Settings} (called : Bool) (c : Parameters) (n : TaggedTpl AnyNode) {ts : List Token} (d : Derives true s (tagged_form (call_or_member called) c n) ts) → AllGood d → s.minify ≡ c.minify →
+pub tag_good : {s : Settings} (called : Bool) (c : Parameters) (n : TaggedTpl AnyNode) {ts : List Token} (d : Derives core s (tagged_form (call_or_member called) c n) ts) → AllGood d → s.minify ≡ c.minify →
     Good (Whole a_tag (call_or_member called)) (derived_parse d End)
 unfolding tagged_form AllGood PlacedGood derived_parse placed is_inlined
 tag_good true c n (both (part a sa d) (both t (part b sb e))) (o, (x, q)) m =
@@ -164,7 +165,7 @@ tag_good false c n (both (part a sa d) (both t (part b sb e))) (o, (x, q)) m =
 
 -- ---- optional chains
 
-on_chain : {s : Settings} {z : Variant} {p : ParseTree} (c : Parameters) (prop : MemberProp AnyNode) {ts us : List Token} (g : Derives true s (Fixed (chain_mark false prop)) us) (d : Derives true s (chain_prop_form c prop) ts) → AllGood d →
+on_chain : {s : Settings} {z : Variant} {p : ParseTree} (c : Parameters) (prop : MemberProp AnyNode) {ts us : List Token} (g : Derives core s (Fixed (chain_mark false prop)) us) (d : Derives core s (chain_prop_form c prop) ts) → AllGood d →
     s.minify ≡ c.minify → Operand nt.OptionalExpression z p → Good (Whole OptChain nt.OptionalExpression) (Node z p (derived_parse g (derived_parse d End)))
 unfolding chain_mark chain_prop_form computed_form ident_name private_name AllGood PlacedGood derived_parse read_phrase placed is_inlined
 on_chain {z = z} c (member_props.Ident n) (fixed k) (fixed g) o m x = member_named _ OptChain of_chain (name_is_name _) (chained_so z Member (of_a_chain x)) x
@@ -172,20 +173,20 @@ on_chain {z = z} c (member_props.PrivateName n) (fixed k) (fixed g) o m x = memb
 on_chain {z = z} c (member_props.Computed n) (fixed k) (both (fixed g) (both (part a sa d) (fixed e))) (y, (o, v)) m x =
     member_indexed OptChain of_chain (chained_so z Member (of_a_chain x)) x (at_place _ _ sa (o m))
 
-to_chain : {s : Settings} {z : Variant} {p : ParseTree} (c : Parameters) (prop : MemberProp AnyNode) {ts us : List Token} (g : Derives true s (Fixed (chain_mark true prop)) us) (d : Derives true s (chain_prop_form c prop) ts) → AllGood d →
+to_chain : {s : Settings} {z : Variant} {p : ParseTree} (c : Parameters) (prop : MemberProp AnyNode) {ts us : List Token} (g : Derives core s (Fixed (chain_mark true prop)) us) (d : Derives core s (chain_prop_form c prop) ts) → AllGood d →
     s.minify ≡ c.minify → Operand nt.ChainBase z p → Good (Whole OptChain nt.OptionalExpression) (Node z p (derived_parse g (derived_parse d End)))
 unfolding chain_mark chain_prop_form computed_form ident_name private_name AllGood PlacedGood derived_parse read_phrase placed is_inlined
 to_chain c (member_props.Ident n) (fixed k) (fixed g) o m x = chain_named _ a_chain (name_is_name _) x
 to_chain c (member_props.PrivateName n) (fixed k) (fixed g) o m x = chain_named _ a_chain (private_is_name _) x
 to_chain c (member_props.Computed n) (fixed k) (both (fixed g) (both (part a sa d) (fixed e))) (y, (o, v)) m x = chain_indexed a_chain x (at_place _ _ sa (o m))
 
-chain_member_good : {s : Settings} (c : Parameters) (optional : Bool) (n : MemberExpr AnyNode) {ts : List Token} (d : Derives true s (chain_member_form c optional n) ts) → AllGood d → s.minify ≡ c.minify →
+chain_member_good : {s : Settings} (c : Parameters) (optional : Bool) (n : MemberExpr AnyNode) {ts : List Token} (d : Derives core s (chain_member_form c optional n) ts) → AllGood d → s.minify ≡ c.minify →
     Good (Whole OptChain nt.OptionalExpression) (derived_parse d End)
 unfolding chain_member_form AllGood PlacedGood derived_parse placed is_inlined
 chain_member_good c true n (both (part a sa d) (both g e)) (o, (x, q)) m = to_chain c n.prop g e q m (at_place _ _ sa (o m))
 chain_member_good c false n (both (part a sa d) (both g e)) (o, (x, q)) m = on_chain c n.prop g e q m (at_place _ _ sa (o m))
 
-chain_member_in : {s : Settings} (k : Bool) (c : Parameters) (optional : Bool) (y : AnyNode-F AnyNode) {ts : List Token} (d : Derives true s (node_form k c y (ChainMember optional)) ts) → AllGood d → s.minify ≡ c.minify →
+chain_member_in : {s : Settings} (k : Bool) (c : Parameters) (optional : Bool) (y : AnyNode-F AnyNode) {ts : List Token} (d : Derives core s (node_form k c y (ChainMember optional)) ts) → AllGood d → s.minify ≡ c.minify →
     Good (Whole OptChain nt.OptionalExpression) (derived_parse d End)
 unfolding node_form part_form stmt_part_form jsx_part_form is_met
 chain_member_in k c optional (nodes.MemberExpr n) d o m = chain_member_good c optional n d o m
@@ -194,7 +195,7 @@ chain_member_in k c optional (nodes.StmtPart (stmt_parts.BlockStmt n)) d o m = a
 chain_member_in k c optional (nodes.JSXPart (jsx_parts.JSXElement n)) d o m = absurd (no_form d)
 chain_member_in k c optional y d o m = absurd (no_form d)
 
-chain_call_good : {s : Settings} (c : Parameters) (optional : Bool) (n : OptCall AnyNode) {ts : List Token} (d : Derives true s (chain_call_form c optional n) ts) → AllGood d → s.minify ≡ c.minify →
+chain_call_good : {s : Settings} (c : Parameters) (optional : Bool) (n : OptCall AnyNode) {ts : List Token} (d : Derives core s (chain_call_form c optional n) ts) → AllGood d → s.minify ≡ c.minify →
     Good (Whole OptChain nt.OptionalExpression) (derived_parse d End)
 unfolding chain_call_form call_mark AllGood PlacedGood derived_parse read_phrase placed is_inlined
 chain_call_good c true n (both (part a sa d) (both (fixed g) (both t e))) (o, (x, (y, q))) m =
@@ -205,7 +206,7 @@ chain_call_good c false n (both (part a sa d) (both (fixed g) (both t e))) (o, (
     let v = at_place _ _ sa (o m) in
     argued_call calls_on (chained_so _ Call (of_a_chain v)) v (argued_as (no_types c n.type_args t (derived_parse e End)) r)
 
-chain_call_in : {s : Settings} (k : Bool) (c : Parameters) (optional : Bool) (y : AnyNode-F AnyNode) {ts : List Token} (d : Derives true s (node_form k c y (ChainCall optional)) ts) → AllGood d → s.minify ≡ c.minify →
+chain_call_in : {s : Settings} (k : Bool) (c : Parameters) (optional : Bool) (y : AnyNode-F AnyNode) {ts : List Token} (d : Derives core s (node_form k c y (ChainCall optional)) ts) → AllGood d → s.minify ≡ c.minify →
     Good (Whole OptChain nt.OptionalExpression) (derived_parse d End)
 unfolding node_form part_form stmt_part_form jsx_part_form is_met
 chain_call_in k c optional (nodes.ExprPart (expr_parts.OptCall n)) d o m = chain_call_good c optional n d o m
@@ -213,12 +214,12 @@ chain_call_in k c optional (nodes.StmtPart (stmt_parts.BlockStmt n)) d o m = abs
 chain_call_in k c optional (nodes.JSXPart (jsx_parts.JSXElement n)) d o m = absurd (no_form d)
 chain_call_in k c optional y d o m = absurd (no_form d)
 
-chain_base_good : {s : Settings} (c : Parameters) (optional : Bool) (base : OptChainBase AnyNode) {ts : List Token} (d : Derives true s (chain_base_form c optional base) ts) → AllGood d → s.minify ≡ c.minify →
+chain_base_good : {s : Settings} (c : Parameters) (optional : Bool) (base : OptChainBase AnyNode) {ts : List Token} (d : Derives core s (chain_base_form c optional base) ts) → AllGood d → s.minify ≡ c.minify →
     Good (Whole OptChain nt.OptionalExpression) (derived_parse d End)
 unfolding chain_base_form AllGood PlacedGood derived_parse placed is_inlined
 chain_base_good c optional (chain_bases.Member n) (part a sa d) o m = chain_member_in a c optional (out-AnyNode n.node.value) d o m
 chain_base_good c optional (chain_bases.Call n) (part a sa d) o m = chain_call_in a c optional (out-AnyNode n.node.value) d o m
 
-pub chain_good : {s : Settings} (c : Parameters) (n : OptChainExpr AnyNode) {ts : List Token} (d : Derives true s (opt_chain_form c n) ts) → AllGood d → s.minify ≡ c.minify → Good (Whole OptChain nt.OptionalExpression) (derived_parse d End)
+pub chain_good : {s : Settings} (c : Parameters) (n : OptChainExpr AnyNode) {ts : List Token} (d : Derives core s (opt_chain_form c n) ts) → AllGood d → s.minify ≡ c.minify → Good (Whole OptChain nt.OptionalExpression) (derived_parse d End)
 unfolding opt_chain_form
 chain_good c n d o m = chain_base_good c n.optional n.base d o m

@@ -32,6 +32,7 @@ use Rattle.swc_ecma_codegen_syntax.specs.Forms.{is_met, each_after, listed, elem
 use Rattle.swc_ecma_codegen_syntax.specs.MemberForms.{type_args_form, computed_form, prop_form}
 use Rattle.swc_ecma_codegen_syntax.specs.CallForms.{argument_form, elements_form, array_form, arguments_form, callee_form, call_form, is_evaluation, drops_arguments, has_arguments, new_nonterminal, new_parameters, listed_form, new_arguments_form, new_form}
 use Rattle.swc_ecma_codegen_syntax.specs.Derives.{Derives, fixed, part, both, provided}
+use Rattle.swc_ecma_codegen_syntax.specs.Verdicts.{core}
 use Rattle.swc_ecma_codegen_uniqueness.specs.ParseTrees.{Variant, ParseTree, End, Read, Node, Array, Member, Call, New}
 use Rattle.swc_ecma_codegen_uniqueness.specs.Parses.{placed, is_inlined, read_all}
 use Rattle.swc_ecma_codegen_uniqueness.proofs.Controls.{Control, Arguments}
@@ -47,7 +48,7 @@ use Rattle.swc_ecma_codegen_uniqueness.proofs.Classes.{class}
 
 -- ---- types have no production
 
-pub no_types : {s : Settings} (c : Parameters) (o : Option (TsTypeParamInstantiationBox AnyNode)) {ts : List Token} (d : Derives true s (type_args_form c o) ts) (rest : ParseTree) → derived_parse d rest ≡ rest
+pub no_types : {s : Settings} (c : Parameters) (o : Option (TsTypeParamInstantiationBox AnyNode)) {ts : List Token} (d : Derives core s (type_args_form c o) ts) (rest : ParseTree) → derived_parse d rest ≡ rest
 unfolding type_args_form is_met derived_parse read_phrase
 no_types c None (fixed g) rest = refl
 no_types c (Some n) (provided h d) rest = absurd (true≢false (sym h))
@@ -60,20 +61,20 @@ unfolding spread_mark read_phrase
 spread_then s k variant n None ts g e q h = h
 spread_then s k variant n (Some span) ts g e q h = dots_then k variant n e q h
 
-argument_then : {s : Settings} (variant : Variant) (n : Nonterminal) (c : Parameters) (x : ExprOrSpread AnyNode) {ts : List Token} (d : Derives true s (argument_form c x) ts) → AllGood d → s.minify ≡ c.minify →
+argument_then : {s : Settings} (variant : Variant) (n : Nonterminal) (c : Parameters) (x : ExprOrSpread AnyNode) {ts : List Token} (d : Derives core s (argument_form c x) ts) → AllGood d → s.minify ≡ c.minify →
     (rest : ParseTree) → After (Arguments variant) nt.AssignmentExpression variant n rest → Good (Rest (Arguments variant) variant n) (derived_parse d rest)
 unfolding argument_form AllGood PlacedGood derived_parse placed is_inlined punctuator
 argument_then variant n c x (both (fixed g) (part a sa d)) (y, o) m rest after =
     spread_then _ (Arguments variant) variant n x.spread _ g refl refl (part_then (Arguments variant) rest (takes_self nt.AssignmentExpression) (at_place _ _ sa (o m)) after)
 
-arguments_after : {s : Settings} (variant : Variant) (n : Nonterminal) (c : Parameters) (xs : List (ExprOrSpread AnyNode)) {ts : List Token} (d : Derives true s (each_after (codes ",") (argument_form c) xs) ts) → AllGood d →
+arguments_after : {s : Settings} (variant : Variant) (n : Nonterminal) (c : Parameters) (xs : List (ExprOrSpread AnyNode)) {ts : List Token} (d : Derives core s (each_after (codes ",") (argument_form c) xs) ts) → AllGood d →
     s.minify ≡ c.minify → (rest : ParseTree) → After (Arguments variant) nt.AssignmentExpression variant n rest → After (Arguments variant) nt.AssignmentExpression variant n (derived_parse d rest)
 unfolding each_after AllGood derived_parse read_phrase
 arguments_after variant n c [] (fixed g) o m rest after = after
 arguments_after variant n c (x ∷ xs) (both (fixed g) (both d e)) (y, (o, q)) m rest after =
     argument_next variant n (argument_then variant n c x d o m (derived_parse e rest) (arguments_after variant n c xs e q m rest after))
 
-arguments_listed : {s : Settings} (variant : Variant) (n : Nonterminal) (c : Parameters) (xs : List (ExprOrSpread AnyNode)) {ts : List Token} (d : Derives true s (listed (codes ",") (argument_form c) xs) ts) → AllGood d →
+arguments_listed : {s : Settings} (variant : Variant) (n : Nonterminal) (c : Parameters) (xs : List (ExprOrSpread AnyNode)) {ts : List Token} (d : Derives core s (listed (codes ",") (argument_form c) xs) ts) → AllGood d →
     s.minify ≡ c.minify → Good (Rest (Arguments variant) variant n) (derived_parse d (Read (punctuator (codes ")")) End))
 unfolding listed AllGood derived_parse read_phrase
 arguments_listed variant n c [] (fixed g) o m = no_arguments variant n
@@ -89,7 +90,7 @@ pub record Argued (variant : Variant) (n : Nonterminal) (m : ParseTree) : Type 0
 pub argued_as : {variant : Variant} {n : Nonterminal} {r m : ParseTree} → r ≡ m → Argued variant n m → Argued variant n r
 argued_as e a = record { inside = a.inside; is = e ∙ a.is; good = a.good }
 
-pub arguments_good : {s : Settings} (variant : Variant) (n : Nonterminal) (c : Parameters) (xs : List (ExprOrSpread AnyNode)) {ts : List Token} (d : Derives true s (arguments_form c xs) ts) → AllGood d → s.minify ≡ c.minify →
+pub arguments_good : {s : Settings} (variant : Variant) (n : Nonterminal) (c : Parameters) (xs : List (ExprOrSpread AnyNode)) {ts : List Token} (d : Derives core s (arguments_form c xs) ts) → AllGood d → s.minify ≡ c.minify →
     Argued variant n (derived_parse d End)
 unfolding arguments_form AllGood derived_parse read_phrase
 arguments_good variant n c xs (both (fixed g) (both d (fixed h))) (x, (o, y)) m =
@@ -107,7 +108,7 @@ unfolding spread_mark read_phrase
 spread_or_not s b None ts g h = h b
 spread_or_not s b (Some span) ts g h = spread_element b h
 
-element_good : {s : Settings} (b : Bool) (c : Parameters) (x : ExprOrSpread AnyNode) {ts : List Token} (d : Derives true s (element (argument_form c) (Some x)) ts) → AllGood d → s.minify ≡ c.minify → (rest : ParseTree) → BehindElement rest →
+element_good : {s : Settings} (b : Bool) (c : Parameters) (x : ExprOrSpread AnyNode) {ts : List Token} (d : Derives core s (element (argument_form c) (Some x)) ts) → AllGood d → s.minify ≡ c.minify → (rest : ParseTree) → BehindElement rest →
     InElements b (derived_parse d rest)
 unfolding element argument_form AllGood PlacedGood derived_parse placed is_inlined
 element_good b c x (both (fixed g) (part a sa d)) (y, o) m rest behind = spread_or_not _ b x.spread _ g (λ k. element_then k (at_place _ _ sa (o m)) behind)
@@ -116,8 +117,8 @@ element_good b c x (both (fixed g) (part a sa d)) (y, o) m rest behind = spread_
 abbrev pub behind_comma : {m : ParseTree} → BehindHole m → BehindElement (Read (punctuator (codes ",")) m) × BehindHole (Read (punctuator (codes ",")) m)
 behind_comma h = (element_next (h true), hole_then (h false))
 
-elements_from : {s : Settings} (c : Parameters) (x : Option (ExprOrSpread AnyNode)) (xs : List (Option (ExprOrSpread AnyNode))) {ts us : List Token} (d : Derives true s (element (argument_form c) x) ts)
-    (e : Derives true s (each_after (codes ",") (element (argument_form c)) xs) us) → AllGood d → AllGood e → s.minify ≡ c.minify → (rest : ParseTree) → BehindLast (last_is_hole (x ∷ xs)) rest → BehindHole (derived_parse d (derived_parse e rest))
+elements_from : {s : Settings} (c : Parameters) (x : Option (ExprOrSpread AnyNode)) (xs : List (Option (ExprOrSpread AnyNode))) {ts us : List Token} (d : Derives core s (element (argument_form c) x) ts)
+    (e : Derives core s (each_after (codes ",") (element (argument_form c)) xs) us) → AllGood d → AllGood e → s.minify ≡ c.minify → (rest : ParseTree) → BehindLast (last_is_hole (x ∷ xs)) rest → BehindHole (derived_parse d (derived_parse e rest))
 unfolding each_after element last_is_hole AllGood derived_parse read_phrase
 elements_from c None [] (fixed g) (fixed h) o q m rest behind b = behind b
 elements_from c (Some x) [] d (fixed h) o q m rest behind b = element_good b c x d o m rest behind
@@ -130,7 +131,7 @@ abbrev pub BehindAll : {A : Type 0} → List (Option A) → ParseTree → Type 0
 BehindAll [] m = InElements false m
 BehindAll (x ∷ xs) m = BehindLast (last_is_hole (x ∷ xs)) m
 
-elements_listed : {s : Settings} (c : Parameters) (xs : List (Option (ExprOrSpread AnyNode))) {ts : List Token} (d : Derives true s (listed (codes ",") (element (argument_form c)) xs) ts) → AllGood d → s.minify ≡ c.minify →
+elements_listed : {s : Settings} (c : Parameters) (xs : List (Option (ExprOrSpread AnyNode))) {ts : List Token} (d : Derives core s (listed (codes ",") (element (argument_form c)) xs) ts) → AllGood d → s.minify ≡ c.minify →
     (rest : ParseTree) → BehindAll xs rest → InElements false (derived_parse d rest)
 unfolding listed AllGood derived_parse read_phrase
 elements_listed c [] (fixed g) o m rest behind = behind
@@ -147,13 +148,13 @@ unfolding punctuator
 element_closed [] h = no_elements
 element_closed (x ∷ xs) h = subst (λ z. BehindLast z (Read (punctuator (codes "]")) End)) (sym h) elements_closed
 
-elements_good : {s : Settings} (c : Parameters) (hole : Bool) (xs : List (Option (ExprOrSpread AnyNode))) {ts : List Token} → last_is_hole xs ≡ hole → (d : Derives true s (elements_form c hole xs) ts) → AllGood d → s.minify ≡ c.minify →
+elements_good : {s : Settings} (c : Parameters) (hole : Bool) (xs : List (Option (ExprOrSpread AnyNode))) {ts : List Token} → last_is_hole xs ≡ hole → (d : Derives core s (elements_form c hole xs) ts) → AllGood d → s.minify ≡ c.minify →
     InElements false (derived_parse d (Read (punctuator (codes "]")) End))
 unfolding elements_form AllGood derived_parse read_phrase
 elements_good c true xs h (both d (fixed g)) (o, x) m = elements_listed c xs d o m (Read (punctuator (codes ",")) (Read (punctuator (codes "]")) End)) (hole_closed xs h)
 elements_good c false xs h d o m = elements_listed c xs d o m (Read (punctuator (codes "]")) End) (element_closed xs h)
 
-pub array_good : {s : Settings} (c : Parameters) (n : ArrayLit AnyNode) {ts : List Token} (d : Derives true s (array_form c n) ts) → AllGood d → s.minify ≡ c.minify → Good (Whole Array nt.PrimaryExpression) (derived_parse d End)
+pub array_good : {s : Settings} (c : Parameters) (n : ArrayLit AnyNode) {ts : List Token} (d : Derives core s (array_form c n) ts) → AllGood d → s.minify ≡ c.minify → Good (Whole Array nt.PrimaryExpression) (derived_parse d End)
 unfolding array_form AllGood derived_parse read_phrase
 array_good c n (both (fixed g) (both d (fixed h))) (x, (o, y)) m = array (elements_good c (last_is_hole n.elems.items) n.elems.items refl d o m)
 
@@ -166,7 +167,7 @@ pub private_is_name : (at : List ℕ) → IsName (tokens.private_name at)
 unfolding tokens.private_name
 private_is_name at = (λ s. refl, refl, refl)
 
-pub prop_good : {s : Settings} (variant : Variant) {n place : Nonterminal} {z : Variant} {p : ParseTree} (c : Parameters) (prop : MemberProp AnyNode) {ts : List Token} (d : Derives true s (prop_form c prop) ts) → AllGood d → s.minify ≡ c.minify →
+pub prop_good : {s : Settings} (variant : Variant) {n place : Nonterminal} {z : Variant} {p : ParseTree} (c : Parameters) (prop : MemberProp AnyNode) {ts : List Token} (d : Derives core s (prop_form c prop) ts) → AllGood d → s.minify ≡ c.minify →
     Linked n place → chained z Member ≡ variant → Operand place z p → Good (Whole variant n) (Node z p (derived_parse d End))
 unfolding prop_form computed_form ident_name private_name AllGood PlacedGood derived_parse read_phrase placed is_inlined
 prop_good variant c (member_props.Ident n) (fixed g) o m a w x = member_named _ variant a (name_is_name _) w x
@@ -183,7 +184,7 @@ unfolding import_phase is_evaluation read_phrase
 import_read s phases.Evaluation ts g m h = refl
 import_read s phase ts g m h = absurd (true≢false (sym h))
 
-callee_good : {s : Settings} (c : Parameters) (callee : Called AnyNode) (xs : List (ExprOrSpread AnyNode)) {ts : List Token} (d : Derives true s (callee_form c callee xs) ts) → AllGood d → s.minify ≡ c.minify →
+callee_good : {s : Settings} (c : Parameters) (callee : Called AnyNode) (xs : List (ExprOrSpread AnyNode)) {ts : List Token} (d : Derives core s (callee_form c callee xs) ts) → AllGood d → s.minify ≡ c.minify →
     (m : ParseTree) → Argued Call nt.CallExpression m → Good (Whole Call nt.CallExpression) (derived_parse d m)
 unfolding callee_form import_callee is_met AllGood PlacedGood derived_parse read_phrase placed is_inlined Generates
 callee_good c (callees.Super n) xs (fixed g) o m r a = subst (λ z. Good (Whole Call nt.CallExpression) (Read (word (codes "super")) z)) (sym a.is) (super_called a.good)
@@ -192,7 +193,7 @@ callee_good c (callees.Import n) xs (provided h (provided k (fixed g))) o m r a 
 callee_good c (callees.Expr n) xs (part b sb d) o m r a =
     let x = at_place _ _ sb (o m) in argued_call calls (chained_not _ Call (plain_callee x)) x a
 
-pub call_good : {s : Settings} (c : Parameters) (n : CallExpr AnyNode) {ts : List Token} (d : Derives true s (call_form c n) ts) → AllGood d → s.minify ≡ c.minify → Good (Whole Call nt.CallExpression) (derived_parse d End)
+pub call_good : {s : Settings} (c : Parameters) (n : CallExpr AnyNode) {ts : List Token} (d : Derives core s (call_form c n) ts) → AllGood d → s.minify ≡ c.minify → Good (Whole Call nt.CallExpression) (derived_parse d End)
 unfolding call_form AllGood derived_parse
 call_good c n (both d (both t e)) (o, (x, q)) m =
     subst (λ z. Good (Whole Call nt.CallExpression) (derived_parse d z)) (sym (no_types c n.type_args t (derived_parse e End)))
@@ -213,7 +214,7 @@ new_chosen false true e o = absurd (true≢false (sym e))
 argued_new : {z : Variant} {p m : ParseTree} → Operand nt.MemberExpression z p → Argued New nt.MemberExpression m → Good (Whole New nt.MemberExpression) (Read (word (codes "new")) (Node z p m))
 argued_new {z = z} {p = p} o a = subst (λ r. Good (Whole New nt.MemberExpression) (Read (word (codes "new")) (Node z p r))) (sym a.is) (new_with o a.good)
 
-new_listed : {s : Settings} (c : Parameters) (keeps : Bool) (xs : List (ExprOrSpread AnyNode)) {z : Variant} {p : ParseTree} {ts : List Token} (d : Derives true s (listed_form c keeps xs) ts) → AllGood d → s.minify ≡ c.minify →
+new_listed : {s : Settings} (c : Parameters) (keeps : Bool) (xs : List (ExprOrSpread AnyNode)) {z : Variant} {p : ParseTree} {ts : List Token} (d : Derives core s (listed_form c keeps xs) ts) → AllGood d → s.minify ≡ c.minify →
     Operand (new_of (not (drops_arguments c keeps xs))) z p → (r : ParseTree) → r ≡ derived_parse d End → Good (Whole New (new_of (not (drops_arguments c keeps xs)))) (Read (word (codes "new")) (Node z p r))
 unfolding listed_form drops_arguments AllGood derived_parse read_phrase chosen
 new_listed {s = s} c false [] {z = z} {p = p} (fixed g) o m x r e =
@@ -222,7 +223,7 @@ new_listed c true [] d o m x r e = argued_new x (argued_as e (arguments_good New
 new_listed c false (y ∷ xs) d o m x r e = argued_new x (argued_as e (arguments_good New nt.MemberExpression c (y ∷ xs) d o m))
 new_listed c true (y ∷ xs) d o m x r e = argued_new x (argued_as e (arguments_good New nt.MemberExpression c (y ∷ xs) d o m))
 
-new_by : {s : Settings} {Z : Type 0} (c : Parameters) (keeps : Bool) (args : Option (Vec (ExprOrSpread AnyNode) Z)) {z : Variant} {p : ParseTree} {ts : List Token} (d : Derives true s (new_arguments_form c keeps args) ts) → AllGood d → s.minify ≡ c.minify →
+new_by : {s : Settings} {Z : Type 0} (c : Parameters) (keeps : Bool) (args : Option (Vec (ExprOrSpread AnyNode) Z)) {z : Variant} {p : ParseTree} {ts : List Token} (d : Derives core s (new_arguments_form c keeps args) ts) → AllGood d → s.minify ≡ c.minify →
     Operand (new_of (has_arguments c keeps args)) z p → (r : ParseTree) → r ≡ derived_parse d End → Good (Whole New (new_of (has_arguments c keeps args))) (Read (word (codes "new")) (Node z p r))
 unfolding new_arguments_form has_arguments AllGood derived_parse read_phrase
 new_by c keeps None {z = z} {p = p} (fixed g) o m x r e = subst (λ w. Good (Whole New nt.NewExpression) (Read (word (codes "new")) (Node z p w))) (sym e) (new_alone x)
@@ -236,7 +237,7 @@ new_minify : (s : Settings) (b : Bool) (c : Parameters) → s.minify ≡ c.minif
 new_minify s true c m = m
 new_minify s false c m = m
 
-pub new_good : {s : Settings} (c : Parameters) (keeps : Bool) (n : NewExpr AnyNode) {ts : List Token} (d : Derives true s (new_form c keeps n) ts) → AllGood d → s.minify ≡ c.minify → Good (Whole New (new_nonterminal c keeps n)) (derived_parse d End)
+pub new_good : {s : Settings} (c : Parameters) (keeps : Bool) (n : NewExpr AnyNode) {ts : List Token} (d : Derives core s (new_form c keeps n) ts) → AllGood d → s.minify ≡ c.minify → Good (Whole New (new_nonterminal c keeps n)) (derived_parse d End)
 unfolding new_form new_nonterminal new_parameters AllGood PlacedGood derived_parse read_phrase placed is_inlined
 new_good {s = s} c keeps n (both (fixed g) (both (part a sa d) (both t e))) (x, (o, (y, q))) m =
     new_by c keeps n.args e q m (moved (new_covered (has_arguments c keeps n.args)) (at_place _ _ sa (o (new_minify s (has_arguments c keeps n.args) c m)))) (derived_parse t (derived_parse e End)) (no_types c n.type_args t (derived_parse e End))

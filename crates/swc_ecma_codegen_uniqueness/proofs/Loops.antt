@@ -30,8 +30,9 @@ use Rattle.swc_ecma_codegen_syntax.specs.Forms.{is_met}
 use Rattle.swc_ecma_codegen_syntax.specs.Nonterminals.{takes, is_in_left, is_relational, is_shift, is_additive, is_multiplicative, is_exponentiation, is_unary, is_update, is_left_hand_side}
 use Rattle.swc_ecma_codegen_syntax.specs.NodeForms.{node_form, part_form, stmt_part_form, jsx_part_form}
 use Rattle.swc_ecma_codegen_syntax.specs.Parameters.{of_for, of_loop, of_targets}
-use Rattle.swc_ecma_codegen_syntax.specs.StmtForms.{optional_form, for_init_form, for_form, head_form, for_in_form, of_start, for_of_form}
+use Rattle.swc_ecma_codegen_syntax.specs.StmtForms.{optional_form, for_init_form, for_form, initializes_in, head_form, for_in_form, of_start, for_of_form}
 use Rattle.swc_ecma_codegen_syntax.specs.Derives.{Derives, fixed, part, restricted, both, provided}
+use Rattle.swc_ecma_codegen_syntax.specs.Verdicts.{core}
 use Rattle.swc_ecma_codegen_uniqueness.specs.ParseTrees.{Variant, ParseTree, End, Read, Node, ForStmt, ForInStmt, ForOfStmt}
 use Rattle.swc_ecma_codegen_uniqueness.specs.Parses.{placed, is_inlined}
 use Rattle.swc_ecma_codegen_uniqueness.proofs.Classes.{Semicolon, class}
@@ -49,19 +50,19 @@ use Rattle.swc_ecma_codegen_uniqueness.proofs.Variables.{of_head, Single, behind
 
 -- ---- `for (a; b; c) {}`
 
-update_good : {s : Settings} (n : Nonterminal) (c : Parameters) (o : Option (ExprBox AnyNode)) {ts : List Token} (d : Derives true s (optional_form c o) ts) → AllGood d → s.minify ≡ c.minify → (m : ParseTree) → Good (Rest (Statement (OfLoop ForStmt)) ForStmt n) m →
+update_good : {s : Settings} (n : Nonterminal) (c : Parameters) (o : Option (ExprBox AnyNode)) {ts : List Token} (d : Derives core s (optional_form c o) ts) → AllGood d → s.minify ≡ c.minify → (m : ParseTree) → Good (Rest (Statement (OfLoop ForStmt)) ForStmt n) m →
     Good (Rest ForUpdate ForStmt n) (derived_parse d (Read (punctuator (codes ")")) m))
 unfolding optional_form AllGood PlacedGood derived_parse read_phrase placed is_inlined punctuator
 update_good n c None (fixed g) o m rest r = shifted refl r
 update_good n c (Some x) (part a sa d) o m rest r = part_then ForUpdate (Read (punctuator (codes ")")) rest) (takes_self nt.Expression) (at_place _ _ sa (o m)) (takes_self nt.Expression, λ z. refl, r)
 
-test_good : {s : Settings} (n : Nonterminal) (c : Parameters) (o : Option (ExprBox AnyNode)) {ts : List Token} (d : Derives true s (optional_form c o) ts) → AllGood d → s.minify ≡ c.minify → (m : ParseTree) → Good (Rest ForUpdate ForStmt n) m →
+test_good : {s : Settings} (n : Nonterminal) (c : Parameters) (o : Option (ExprBox AnyNode)) {ts : List Token} (d : Derives core s (optional_form c o) ts) → AllGood d → s.minify ≡ c.minify → (m : ParseTree) → Good (Rest ForUpdate ForStmt n) m →
     Good (Rest ForTest ForStmt n) (derived_parse d (Read (punctuator (codes ";")) m))
 unfolding optional_form AllGood PlacedGood derived_parse read_phrase placed is_inlined punctuator
 test_good n c None (fixed g) o m rest r = shifted refl r
 test_good n c (Some x) (part a sa d) o m rest r = part_then ForTest (Read (punctuator (codes ";")) rest) (takes_self nt.Expression) (at_place _ _ sa (o m)) (takes_self nt.Expression, λ z. refl, r)
 
-vars_in : {s : Settings} (n : Nonterminal) (k : Bool) (c : Parameters) (y : AnyNode-F AnyNode) {ts : List Token} (d : Derives true s (node_form k c y VariableDeclaration) ts) → AllGood d → s.minify ≡ c.minify → (m : ParseTree) → Good (Rest ForTest ForStmt n) m →
+vars_in : {s : Settings} (n : Nonterminal) (k : Bool) (c : Parameters) (y : AnyNode-F AnyNode) {ts : List Token} (d : Derives core s (node_form k c y VariableDeclaration) ts) → AllGood d → s.minify ≡ c.minify → (m : ParseTree) → Good (Rest ForTest ForStmt n) m →
     Good (Rest ForHead ForStmt n) (derived_parse d (Read (punctuator (codes ";")) m))
 unfolding node_form part_form stmt_part_form jsx_part_form
 vars_in n k c (nodes.StmtPart (stmt_parts.VarDecl x)) d o m rest r = vars_begin (decl_read (of_head ForStmt n) c x d o m (Read (punctuator (codes ";")) rest) (behind_semicolon ForStmt n r))
@@ -69,7 +70,7 @@ vars_in n k c (nodes.ExprPart (expr_parts.Tpl x)) d o m rest r = absurd (no_form
 vars_in n k c (nodes.JSXPart (jsx_parts.JSXElement x)) d o m rest r = absurd (no_form d)
 vars_in n k c y d o m rest r = absurd (no_form d)
 
-init_good : {s : Settings} (n : Nonterminal) (c : Parameters) (o : Option (VarDeclOrExpr AnyNode)) {ts : List Token} (d : Derives true s (for_init_form c o) ts) → AllGood d → s.minify ≡ c.minify → (m : ParseTree) → Good (Rest ForTest ForStmt n) m →
+init_good : {s : Settings} (n : Nonterminal) (c : Parameters) (o : Option (VarDeclOrExpr AnyNode)) {ts : List Token} (d : Derives core s (for_init_form c o) ts) → AllGood d → s.minify ≡ c.minify → (m : ParseTree) → Good (Rest ForTest ForStmt n) m →
     Good (Rest ForHead ForStmt n) (derived_parse d (Read (punctuator (codes ";")) m))
 unfolding for_init_form AllGood PlacedGood derived_parse read_phrase placed is_inlined punctuator
 init_good n c None (fixed g) o m rest r = shifted refl r
@@ -79,7 +80,7 @@ init_good n c (Some (inits.Expr x)) (restricted h (part a sa d)) o m rest r =
     let w = at_place _ _ sa f in
     heading (or_left _ _ w.taken) (f.free refl) w.good (ended_by Semicolon w.of w.taken) refl r
 
-pub for_good : {s : Settings} (c : Parameters) (n : for_stmts.ForStmt AnyNode) {ts : List Token} (d : Derives true s (for_form c n) ts) → AllGood d → s.minify ≡ c.minify → Good (Whole ForStmt (item_of (follower c))) (derived_parse d End)
+pub for_good : {s : Settings} (c : Parameters) (n : for_stmts.ForStmt AnyNode) {ts : List Token} (d : Derives core s (for_form c n) ts) → AllGood d → s.minify ≡ c.minify → Good (Whole ForStmt (item_of (follower c))) (derived_parse d End)
 unfolding for_form AllGood PlacedGood derived_parse read_phrase placed is_inlined
 for_good c n (both (fixed g) (both (fixed h) (both i (both (fixed j) (both t (both (fixed k) (both u (both (fixed l) (part a sa d))))))))) (x, (y, (o, (z, (p, (w, (q, (v, r)))))))) m =
     for_begun (follower c) ForStmt
@@ -95,13 +96,13 @@ record Behind (v : Variant) (n : Nonterminal) (t : Token) (m : ParseTree) : Type
   splices : (s : Variant) → decide ForVars (Some s) t ≡ Splice
   named : Good (Rest (passed_to ForVars (class t)) v n) m
 
-single_in : {s : Settings} (v : Variant) (n : Nonterminal) (k : Bool) (c : Parameters) (y : AnyNode-F AnyNode) {ts : List Token} (d : Derives true s (node_form k (of_loop c) y VariableDeclaration) ts) → AllGood d → s.minify ≡ c.minify → (t : Token) (m : ParseTree) →
+single_in : {s : Settings} (v : Variant) (n : Nonterminal) (k initializes : Bool) (c : Parameters) (y : AnyNode-F AnyNode) {ts : List Token} (d : Derives core s (node_form k (of_loop initializes c) y VariableDeclaration) ts) → AllGood d → s.minify ≡ c.minify → (t : Token) (m : ParseTree) →
     Single v n t m → Good (Rest ForHead v n) (derived_parse d (Read t m))
 unfolding node_form part_form stmt_part_form jsx_part_form
-single_in v n k c (nodes.StmtPart (stmt_parts.VarDecl x)) d o m t rest r = vars_begin (single_read v n c x d o m t rest r)
-single_in v n k c (nodes.ExprPart (expr_parts.Tpl x)) d o m t rest r = absurd (no_form d)
-single_in v n k c (nodes.JSXPart (jsx_parts.JSXElement x)) d o m t rest r = absurd (no_form d)
-single_in v n k c y d o m t rest r = absurd (no_form d)
+single_in v n k b c (nodes.StmtPart (stmt_parts.VarDecl x)) d o m t rest r = vars_begin (single_read v n b c x d o m t rest r)
+single_in v n k b c (nodes.ExprPart (expr_parts.Tpl x)) d o m t rest r = absurd (no_form d)
+single_in v n k b c (nodes.JSXPart (jsx_parts.JSXElement x)) d o m t rest r = absurd (no_form d)
+single_in v n k b c y d o m t rest r = absurd (no_form d)
 
 expression_left : takes nt.Expression nt.LeftHandSideExpression ≡ true
 expression_left = takes_on nt.Expression nt.AssignmentExpression nt.LeftHandSideExpression assignment_taken left_assigned
@@ -110,10 +111,10 @@ head_then : (v : Variant) (n : Nonterminal) (t : Token) {w : Variant} {p m : Par
 head_then v n t {w = w} o b =
     heading (or_left _ _ (takes_on nt.Expression nt.LeftHandSideExpression o.of expression_left o.taken)) (operand_free o) o.good (ended_by (class t) o.of (takes_on (left (class t)) nt.LeftHandSideExpression o.of b.ends o.taken)) (b.shifts w) b.good
 
-head_good : {s : Settings} (v : Variant) (n : Nonterminal) (lookahead : Lookahead) (c : Parameters) (x : heads.ForHead AnyNode) {ts : List Token} (d : Derives true s (head_form lookahead c x) ts) → AllGood d → s.minify ≡ c.minify → (t : Token) (m : ParseTree) →
+head_good : {s : Settings} (v : Variant) (n : Nonterminal) (lookahead : Lookahead) (c : Parameters) (x : heads.ForHead AnyNode) {ts : List Token} (d : Derives core s (head_form lookahead c x) ts) → AllGood d → s.minify ≡ c.minify → (t : Token) (m : ParseTree) →
     Behind v n t m → Good (Rest ForHead v n) (derived_parse d (Read t m))
 unfolding head_form is_met AllGood PlacedGood derived_parse placed is_inlined
-head_good v n lookahead c (head_variants.VarDecl x) (part a sa d) o m t rest b = single_in v n a c (out-AnyNode x.node.value) d o m t rest (b.ends, b.splices, b.named)
+head_good v n lookahead c (head_variants.VarDecl x) (part a sa d) o m t rest b = single_in v n a (initializes_in lookahead c) c (out-AnyNode x.node.value) d o m t rest (b.ends, b.splices, b.named)
 head_good v n lookahead c (head_variants.UsingDecl x) d o m t rest b = absurd (no_form d)
 head_good v n lookahead c (head_variants.Pat x) (restricted h d) o m t rest b =
     let w = covered_at nt.PatternTarget no_rest_target (of_targets c) x.node.value d o m in
@@ -135,7 +136,7 @@ of_value : (n : Nonterminal) {v : Variant} {p m : ParseTree} → Operand nt.Assi
 unfolding punctuator
 of_value n {m = m} o g = part_then ForOf (Read (punctuator (codes ")")) m) (takes_self nt.AssignmentExpression) o (assignment_taken, λ z. refl, g)
 
-pub for_in_good : {s : Settings} (c : Parameters) (n : for_in_stmts.ForInStmt AnyNode) {ts : List Token} (d : Derives true s (for_in_form c n) ts) → AllGood d → s.minify ≡ c.minify → Good (Whole ForInStmt (item_of (follower c))) (derived_parse d End)
+pub for_in_good : {s : Settings} (c : Parameters) (n : for_in_stmts.ForInStmt AnyNode) {ts : List Token} (d : Derives core s (for_in_form c n) ts) → AllGood d → s.minify ≡ c.minify → Good (Whole ForInStmt (item_of (follower c))) (derived_parse d End)
 unfolding for_in_form AllGood PlacedGood derived_parse read_phrase placed is_inlined
 for_in_good c n (both (fixed g) (both (fixed h) (both k (both (fixed i) (both (part a sa d) (both (fixed j) (part b sb e))))))) (x, (y, (o, (z, (p, (w, q)))))) m =
     for_begun (follower c) ForInStmt
@@ -147,7 +148,7 @@ unfolding word_if read_phrase
 await_begun s b true ts g r = for_await_begun b ForOfStmt r
 await_begun s b false ts g r = for_begun b ForOfStmt r
 
-pub for_of_good : {s : Settings} (c : Parameters) (n : for_of_stmts.ForOfStmt AnyNode) {ts : List Token} (d : Derives true s (for_of_form c n) ts) → AllGood d → s.minify ≡ c.minify → Good (Whole ForOfStmt (item_of (follower c))) (derived_parse d End)
+pub for_of_good : {s : Settings} (c : Parameters) (n : for_of_stmts.ForOfStmt AnyNode) {ts : List Token} (d : Derives core s (for_of_form c n) ts) → AllGood d → s.minify ≡ c.minify → Good (Whole ForOfStmt (item_of (follower c))) (derived_parse d End)
 unfolding for_of_form is_met AllGood PlacedGood derived_parse read_phrase placed is_inlined
 for_of_good {s = s} c n (provided l (both (fixed g) (both (fixed {ts = ts} h) (both (fixed i) (both k (both (fixed j) (both (part a sa d) (both (fixed f) (part b sb e))))))))) (x, (u, (y, (o, (z, (p, (w, q))))))) m =
     await_begun s (follower c) n.is_await ts h

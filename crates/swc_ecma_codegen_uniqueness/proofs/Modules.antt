@@ -51,6 +51,7 @@ use Rattle.swc_ecma_codegen_syntax.specs.NameForms.{has_no_escape}
 use Rattle.swc_ecma_codegen_syntax.specs.Nonterminals.{takes}
 use Rattle.swc_ecma_codegen_syntax.specs.NodeForms.{node_form, part_form, stmt_part_form, jsx_part_form}
 use Rattle.swc_ecma_codegen_syntax.specs.Derives.{Derives, fixed, part, restricted, both, provided}
+use Rattle.swc_ecma_codegen_syntax.specs.Verdicts.{core}
 use Rattle.swc_ecma_codegen_uniqueness.specs.ParseTrees.{Variant, ParseTree, End, Read, Node, Class as AClass, Fn, VarDecl, Foreign, tokens_of}
 use Rattle.swc_ecma_codegen_uniqueness.specs.Parses.{placed, is_inlined, is_empty_variant}
 use Rattle.swc_ecma_codegen_uniqueness.proofs.Classes.{Class, Infix, Times, OpenBrace, NameToken, LiteralToken, FunctionWord, ClassWord, AsyncWord, Semi, Semicolon, class, Over, Assigns, Later, First, Line, Slashed, Jsx, KeyToken, Strange}
@@ -278,7 +279,7 @@ unfolding import_phase is_evaluation read_phrase
 no_phase s phases.Evaluation ts g h m = refl
 no_phase s phase ts g h m = absurd (true≢false (sym h))
 
-no_attributes : {s : Settings} (c : Parameters) (o : Option (ObjectLitBox AnyNode)) {ts : List Token} (d : Derives true s (attributes_form c o) ts) (rest : ParseTree) → derived_parse d rest ≡ rest
+no_attributes : {s : Settings} (c : Parameters) (o : Option (ObjectLitBox AnyNode)) {ts : List Token} (d : Derives core s (attributes_form c o) ts) (rest : ParseTree) → derived_parse d rest ≡ rest
 unfolding attributes_form is_met derived_parse read_phrase
 no_attributes c None (fixed g) rest = refl
 no_attributes c (Some n) (provided h d) rest = absurd (true≢false (sym h))
@@ -309,7 +310,7 @@ pub record Item (m : ParseTree) : Type 0 where
 as_item : {v : Variant} {p m : ParseTree} → is_empty_variant v ≡ false → p ≡ m → Good (Whole v (item_of AnEmpty)) m → Item p
 as_item {v = v} i e g = record { variant = v; solid = i; good = subst (λ z. Good (Whole v (item_of AnEmpty)) z) (sym e) g }
 
-import_good : {s : Settings} (c : Parameters) (n : ImportDecl AnyNode) {ts : List Token} (d : Derives true s (import_form c n) ts) → Item (derived_parse d End)
+import_good : {s : Settings} (c : Parameters) (n : ImportDecl AnyNode) {ts : List Token} (d : Derives core s (import_form c n) ts) → Item (derived_parse d End)
 unfolding import_form is_met derived_parse read_phrase
 import_good {s = s} c n (provided h (provided k (both (fixed g) (both (fixed {ts = ts} i) (both (fixed {ts = us} j) (both (fixed {ts = vs} l) (both (fixed {ts = ws} q) (both a (fixed e))))))))) =
     let x = and_parts (not n.type_only) _ h in
@@ -353,21 +354,21 @@ export_clause_good s (exported.Namespace n ∷ x ∷ xs) ts (us, vs, (ws, zs, g,
 export_clause_good s (exported.Named n ∷ xs) ts g h m r = export_braces_good s (exported.Named n ∷ xs) ts g h m r
 export_clause_good s (exported.Default n ∷ xs) ts g h m r = export_braces_good s (exported.Default n ∷ xs) ts g h m r
 
-from_good : {s : Settings} (c : Parameters) (o : Option (ObjectLitBox AnyNode)) (src : Option Str) {ts : List Token} (d : Derives true s (from_form c o src) ts) (m : ParseTree) → InClause Clause m → InClause Clause (derived_parse d m)
+from_good : {s : Settings} (c : Parameters) (o : Option (ObjectLitBox AnyNode)) (src : Option Str) {ts : List Token} (d : Derives core s (from_form c o src) ts) (m : ParseTree) → InClause Clause m → InClause Clause (derived_parse d m)
 unfolding from_form derived_parse read_phrase Generates
 from_good {s = s} c o (Some n) (both (fixed g) (both (fixed {ts = ts} i) a)) m r =
     stands_in among (from_then (string_good s n ts i _ (subst (λ z. InClause Clause z) (sym (no_attributes c o a m)) r)))
 from_good c None None (fixed g) m r = r
 from_good c (Some x) None (fixed g) m r = absurd g
 
-export_named_good : {s : Settings} (c : Parameters) (n : NamedExport AnyNode) {ts : List Token} (d : Derives true s (export_named_form c n) ts) → Item (derived_parse d End)
+export_named_good : {s : Settings} (c : Parameters) (n : NamedExport AnyNode) {ts : List Token} (d : Derives core s (export_named_form c n) ts) → Item (derived_parse d End)
 unfolding export_named_form is_met derived_parse read_phrase
 export_named_good {s = s} c n (provided h (provided k (both (fixed g) (both (fixed {ts = ts} i) (both (fixed {ts = us} j) (both f (fixed e))))))) =
     let x = and_parts (not n.type_only) (are_plain_exports n.specifiers.items) h in
     as_item foreign_solid (ap (Read (word (codes "export"))) (no_type s n.type_only ts i x.0 _))
     (export_item (behind_export (export_clause_good s n.specifiers.items us j x.1 _ (from_good c n.with n.src f (Read ending End) clause_ends))))
 
-export_all_good : {s : Settings} (c : Parameters) (n : ExportAll AnyNode) {ts : List Token} (d : Derives true s (export_all_form c n) ts) → Item (derived_parse d End)
+export_all_good : {s : Settings} (c : Parameters) (n : ExportAll AnyNode) {ts : List Token} (d : Derives core s (export_all_form c n) ts) → Item (derived_parse d End)
 unfolding export_all_form is_met derived_parse read_phrase punctuator
 export_all_good {s = s} c n (provided h (both (fixed g) (both (fixed {ts = ts} i) (both (fixed j) (both (fixed l) (both (fixed {ts = us} q) (both a (fixed e)))))))) =
     as_item foreign_solid (ap (Read (word (codes "export"))) (no_type s n.type_only ts i h _))
@@ -387,7 +388,7 @@ unfolding word tokens.same_line
 function_exported true g = shifted refl (shifted refl (shifted refl g))
 function_exported false g = shifted refl g
 
-tail_by : {s : Settings} (c : Parameters) (n : Decl AnyNode) {ts : List Token} (d : Derives true s (exported_tail_form c n) ts) → AllGood d → s.minify ≡ c.minify → Exported (derived_parse d End)
+tail_by : {s : Settings} (c : Parameters) (n : Decl AnyNode) {ts : List Token} (d : Derives core s (exported_tail_form c n) ts) → AllGood d → s.minify ≡ c.minify → Exported (derived_parse d End)
 unfolding exported_tail_form decl_form AllGood derived_parse word
 tail_by c (decls.Class n) d o m = let k = class_rest_read (item_of AnEmpty) c n d o m in record { variant = AClass; solid = class_solid; good = subst (λ z. Good (Rest AfterExport AClass (item_of AnEmpty)) z) (sym k.is) (shifted refl k.good) }
 tail_by c (decls.Fn n) d o m = let k = fn_decl_read (item_of AnEmpty) (head_at c.position) c n d o m in record { variant = Fn; solid = function_solid; good = subst (λ z. Good (Rest AfterExport Fn (item_of AnEmpty)) z) (sym k.is) (function_exported k.is_async k.good) }
@@ -396,26 +397,26 @@ tail_by c (decls.Var n) (both d e) (o, x) m =
     record { variant = VarDecl; solid = variables_solid; good = subst (λ z. Good (Rest AfterExport VarDecl (item_of AnEmpty)) z) (sym k.is) (shifted (ap (without AfterExport) k.var) (subst (λ l. Good (Rest (shifted_to AfterExport l) VarDecl (item_of AnEmpty)) k.rest) (sym k.var) k.good)) }
 tail_by c n d o m = absurd (no_form d)
 
-tail_in : {s : Settings} (k : Bool) (c : Parameters) (y : AnyNode-F AnyNode) {ts : List Token} (d : Derives true s (node_form k c y ExportedTail) ts) → AllGood d → s.minify ≡ c.minify → Exported (derived_parse d End)
+tail_in : {s : Settings} (k : Bool) (c : Parameters) (y : AnyNode-F AnyNode) {ts : List Token} (d : Derives core s (node_form k c y ExportedTail) ts) → AllGood d → s.minify ≡ c.minify → Exported (derived_parse d End)
 unfolding node_form part_form stmt_part_form jsx_part_form
 tail_in k c (nodes.StmtPart (stmt_parts.Decl n)) d o m = tail_by c n d o m
 tail_in k c (nodes.ExprPart (expr_parts.Tpl x)) d o m = absurd (no_form d)
 tail_in k c (nodes.JSXPart (jsx_parts.JSXElement x)) d o m = absurd (no_form d)
 tail_in k c y d o m = absurd (no_form d)
 
-head_by : {s : Settings} (c : Parameters) (n : Decl AnyNode) {ts : List Token} (d : Derives true s (exported_head_form c n) ts) (rest : ParseTree) → derived_parse d rest ≡ rest
+head_by : {s : Settings} (c : Parameters) (n : Decl AnyNode) {ts : List Token} (d : Derives core s (exported_head_form c n) ts) (rest : ParseTree) → derived_parse d rest ≡ rest
 unfolding exported_head_form derived_parse read_phrase
 head_by c (decls.Class n) d rest = no_class_decorators c n.class.node.value d rest
 head_by c n (fixed g) rest = refl
 
-head_in : {s : Settings} (k : Bool) (c : Parameters) (y : AnyNode-F AnyNode) {ts : List Token} (d : Derives true s (node_form k c y ExportedHead) ts) (rest : ParseTree) → derived_parse d rest ≡ rest
+head_in : {s : Settings} (k : Bool) (c : Parameters) (y : AnyNode-F AnyNode) {ts : List Token} (d : Derives core s (node_form k c y ExportedHead) ts) (rest : ParseTree) → derived_parse d rest ≡ rest
 unfolding node_form part_form stmt_part_form jsx_part_form
 head_in k c (nodes.StmtPart (stmt_parts.Decl n)) d rest = head_by c n d rest
 head_in k c (nodes.ExprPart (expr_parts.Tpl x)) d rest = absurd (no_form d)
 head_in k c (nodes.JSXPart (jsx_parts.JSXElement x)) d rest = absurd (no_form d)
 head_in k c y d rest = absurd (no_form d)
 
-export_decl_good : {s : Settings} (c : Parameters) (n : ExportDecl AnyNode) {ts : List Token} (d : Derives true s (export_decl_form c n) ts) → AllGood d → s.minify ≡ c.minify → Item (derived_parse d End)
+export_decl_good : {s : Settings} (c : Parameters) (n : ExportDecl AnyNode) {ts : List Token} (d : Derives core s (export_decl_form c n) ts) → AllGood d → s.minify ≡ c.minify → Item (derived_parse d End)
 unfolding export_decl_form AllGood PlacedGood derived_parse read_phrase placed is_inlined
 export_decl_good c n (both (part a sa d) (both (fixed g) (part b sb e))) (x, (y, o)) m =
     let t = tail_in b c (out-AnyNode n.decl.node.value) e o m in as_item t.solid (head_in a c (out-AnyNode n.decl.node.value) d _) (export_item t.good)
@@ -468,7 +469,7 @@ unfolding word tokens.same_line
 function_default true g = merged _ _ _ refl refl refl refl refl g
 function_default false g = shifted refl g
 
-export_value_good : {s : Settings} (c : Parameters) (n : ExportDefaultExpr AnyNode) {ts : List Token} (d : Derives true s (export_default_form c n) ts) → AllGood d → s.minify ≡ c.minify → Item (derived_parse d End)
+export_value_good : {s : Settings} (c : Parameters) (n : ExportDefaultExpr AnyNode) {ts : List Token} (d : Derives core s (export_default_form c n) ts) → AllGood d → s.minify ≡ c.minify → Item (derived_parse d End)
 unfolding export_default_form is_met AllGood PlacedGood derived_parse read_phrase placed is_inlined tokens_of ending
 export_value_good c n (both (fixed g) (both (fixed i) (both (restricted {ts = ts} h (part a sa d)) (fixed j)))) (x, (y, (o, z))) m =
     let v = at_place _ _ sa (o m) in
@@ -476,7 +477,7 @@ export_value_good c n (both (fixed g) (both (fixed i) (both (restricted {ts = ts
     (default_then (default_value v
     (may_be_default ending (derived_parse d End) ts (λ us. tokens_before d End us) v.good (or_left _ _ (expression_taken v)) (ended_by Semi v.of (expression_taken v)) refl (not_excluded _ h))))
 
-default_decl_good : {s : Settings} (c : Parameters) (n : DefaultDecl AnyNode) (us vs : List Token) {ts : List Token} (g : Generates s (phrases.word (codes "export")) us) (i : Generates s (phrases.word (codes "default")) vs) (d : Derives true s (default_form c n) ts) → AllGood d →
+default_decl_good : {s : Settings} (c : Parameters) (n : DefaultDecl AnyNode) (us vs : List Token) {ts : List Token} (g : Generates s (phrases.word (codes "export")) us) (i : Generates s (phrases.word (codes "default")) vs) (d : Derives core s (default_form c n) ts) → AllGood d →
     s.minify ≡ c.minify → Item (read_phrase s (phrases.word (codes "export")) us g (read_phrase s (phrases.word (codes "default")) vs i (derived_parse d End)))
 unfolding default_form read_phrase is_met word
 default_decl_good c (default_decls.Class n) us vs g i d o m =
@@ -487,7 +488,7 @@ default_decl_good c (default_decls.TsInterfaceDecl n) us vs g i d o m = absurd (
 
 -- ---- all of them
 
-module_decl_good : {s : Settings} (c : Parameters) (n : ModuleDecl AnyNode) {ts : List Token} (d : Derives true s (module_decl_form c n) ts) → AllGood d → s.minify ≡ c.minify → Item (derived_parse d End)
+module_decl_good : {s : Settings} (c : Parameters) (n : ModuleDecl AnyNode) {ts : List Token} (d : Derives core s (module_decl_form c n) ts) → AllGood d → s.minify ≡ c.minify → Item (derived_parse d End)
 unfolding module_decl_form default_decl_form AllGood derived_parse
 module_decl_good c (module_decls.Import n) d o m = import_good c n d
 module_decl_good c (module_decls.ExportDecl n) d o m = export_decl_good c n d o m
@@ -497,7 +498,7 @@ module_decl_good c (module_decls.ExportDefaultExpr n) d o m = export_value_good 
 module_decl_good c (module_decls.ExportAll n) d o m = export_all_good c n d
 module_decl_good c n d o m = absurd (no_form d)
 
-pub module_item : {s : Settings} (k : Bool) (c : Parameters) (y : AnyNode-F AnyNode) {ts : List Token} (d : Derives true s (node_form k c y ModuleDeclaration) ts) → AllGood d → s.minify ≡ c.minify → Item (derived_parse d End)
+pub module_item : {s : Settings} (k : Bool) (c : Parameters) (y : AnyNode-F AnyNode) {ts : List Token} (d : Derives core s (node_form k c y ModuleDeclaration) ts) → AllGood d → s.minify ≡ c.minify → Item (derived_parse d End)
 unfolding node_form part_form stmt_part_form jsx_part_form
 module_item k c (nodes.StmtPart (stmt_parts.ModuleDecl n)) d o m = module_decl_good c n.value d o m
 module_item k c (nodes.ExprPart (expr_parts.Tpl x)) d o m = absurd (no_form d)

@@ -41,6 +41,7 @@ use Rattle.swc_ecma_codegen_syntax.specs.MemberForms.{expr_part}
 use Rattle.swc_ecma_codegen_syntax.specs.ExprForms.{unary_form, update_form, bin_form, cond_form, assign_form, yield_arg_form, yield_rest_form, yield_form, await_form, seq_form, paren_form, binary_nonterminal, left_nonterminal, right_nonterminal, target_of, expr_nonterminal}
 use Rattle.swc_ecma_codegen_syntax.specs.NodeForms.{node_nonterminal, is_simple, is_simple_node, is_simple_expr}
 use Rattle.swc_ecma_codegen_syntax.specs.Derives.{Derives, fixed, part, simple, both, provided, bare}
+use Rattle.swc_ecma_codegen_syntax.specs.Verdicts.{core}
 use Rattle.swc_ecma_codegen_syntax.proofs.TreeFacts.{simple_of}
 use Rattle.swc_ecma_codegen_uniqueness.specs.ParseTrees.{Variant, ParseTree, End, Read, Unary, Update, Bin, Assign, Cond, Seq, Yield, Await, Paren}
 use Rattle.swc_ecma_codegen_uniqueness.specs.Parses.{placed, is_inlined}
@@ -150,12 +151,12 @@ simple_is_left = ind-AnyNode SimpleLeft (λ x y q. subst (λ z. SimpleLeft (roll
 
 -- ---- expressions
 
-pub unary_good : {s : Settings} (c : Parameters) (n : UnaryExpr AnyNode) {ts : List Token} (d : Derives true s (unary_form c n) ts) → AllGood d → s.minify ≡ c.minify → Good (Whole Unary nt.UnaryExpression) (derived_parse d End)
+pub unary_good : {s : Settings} (c : Parameters) (n : UnaryExpr AnyNode) {ts : List Token} (d : Derives core s (unary_form c n) ts) → AllGood d → s.minify ≡ c.minify → Good (Whole Unary nt.UnaryExpression) (derived_parse d End)
 unfolding unary_form AllGood PlacedGood derived_parse read_phrase placed is_inlined
 unary_good c n (both (fixed g) (part called st d)) (x, o) m = prefixed (unary_op n.op) OfUnary (unary_starts n.op) refl (unary_start n.op) (at_place _ _ st (o m))
 
 update_by : {s : Settings} (prefix : Bool) (op : UpdateOp) (c : Parameters) (x : AnyNode) {ts : List Token}
-    (d : Derives true s (if prefix then Both (Fixed (One (update_op op))) (Simple true nt.UnaryExpression (with_in c) x) else Both (Simple true nt.LeftHandSideExpression (with_in c) x) (Both (Fixed phrases.same_line) (Fixed (One (update_op op))))) ts) →
+    (d : Derives core s (if prefix then Both (Fixed (One (update_op op))) (Simple true nt.UnaryExpression (with_in c) x) else Both (Simple true nt.LeftHandSideExpression (with_in c) x) (Both (Fixed phrases.same_line) (Fixed (One (update_op op))))) ts) →
     AllGood d → s.minify ≡ c.minify → Good (Whole Update nt.UpdateExpression) (derived_parse d End)
 unfolding AllGood PlacedGood derived_parse read_phrase placed is_inlined
 update_by true op c x (both (fixed g) (simple h (part called st d))) (y, o) m =
@@ -163,20 +164,20 @@ update_by true op c x (both (fixed g) (simple h (part called st d))) (y, o) m =
     (in_place (cover_taken nt.LeftHandSideExpression _ (simple_is_left x c.is_strict called (with_in c) (and_parts _ _ h).0)) (o m))
 update_by false op c x (both (simple h (part called st d)) (both (fixed g) (fixed k))) (o, y) m = stepped (update_op op) (update_twice op) (at_place _ _ st (o m))
 
-pub update_good : {s : Settings} (c : Parameters) (n : UpdateExpr AnyNode) {ts : List Token} (d : Derives true s (update_form c n) ts) → AllGood d → s.minify ≡ c.minify → Good (Whole Update nt.UpdateExpression) (derived_parse d End)
+pub update_good : {s : Settings} (c : Parameters) (n : UpdateExpr AnyNode) {ts : List Token} (d : Derives core s (update_form c n) ts) → AllGood d → s.minify ≡ c.minify → Good (Whole Update nt.UpdateExpression) (derived_parse d End)
 unfolding update_form
 update_good c n d o m = update_by n.prefix n.op c n.arg.node.value d o m
 
 pub renamed : {variant : Variant} {p : ParseTree} {a b : Nonterminal} → a ≡ b → Good (Whole variant b) p → Good (Whole variant a) p
 renamed {variant = variant} {p = p} e g = subst (λ z. Good (Whole variant z) p) (sym e) g
 
-pub bin_good : {s : Settings} (c : Parameters) (n : BinExpr AnyNode) {ts : List Token} (d : Derives true s (bin_form c n) ts) → AllGood d → s.minify ≡ c.minify → Good (Whole Bin (binary_nonterminal n.op)) (derived_parse d End)
+pub bin_good : {s : Settings} (c : Parameters) (n : BinExpr AnyNode) {ts : List Token} (d : Derives core s (bin_form c n) ts) → AllGood d → s.minify ≡ c.minify → Good (Whole Bin (binary_nonterminal n.op)) (derived_parse d End)
 unfolding bin_form AllGood PlacedGood derived_parse read_phrase placed is_inlined
 bin_good c n (provided h (both (part called st d) (both (fixed g) (part k sk e)))) (o, (x, q)) m =
     renamed (binary_made n.op)
     (binary (binary_op n.op) (level n.op) (binary_class n.op) (moved (binary_left n.op) (at_place _ _ st (o m))) (moved (binary_right n.op) (at_place _ _ sk (q m))))
 
-pub cond_good : {s : Settings} (c : Parameters) (n : CondExpr AnyNode) {ts : List Token} (d : Derives true s (cond_form c n) ts) → AllGood d → s.minify ≡ c.minify → Good (Whole Cond nt.ConditionalExpression) (derived_parse d End)
+pub cond_good : {s : Settings} (c : Parameters) (n : CondExpr AnyNode) {ts : List Token} (d : Derives core s (cond_form c n) ts) → AllGood d → s.minify ≡ c.minify → Good (Whole Cond nt.ConditionalExpression) (derived_parse d End)
 unfolding cond_form AllGood PlacedGood derived_parse read_phrase placed is_inlined
 cond_good c n (both (part a sa d) (both (fixed g) (both (part b sb e) (both (fixed h) (part k sk f))))) (o, (x, (p, (y, q)))) m =
     conditional (at_place _ _ sa (o m)) (at_place _ _ sb (p m)) (at_place _ _ sk (q m))
@@ -186,7 +187,7 @@ unfolding target_of
 target_covered assigns.Assign = refl
 target_covered op = refl
 
-pub assign_good : {s : Settings} (c : Parameters) (n : AssignExpr AnyNode) {ts : List Token} (d : Derives true s (assign_form c n) ts) → AllGood d → s.minify ≡ c.minify → Good (Whole Assign nt.AssignmentExpression) (derived_parse d End)
+pub assign_good : {s : Settings} (c : Parameters) (n : AssignExpr AnyNode) {ts : List Token} (d : Derives core s (assign_form c n) ts) → AllGood d → s.minify ≡ c.minify → Good (Whole Assign nt.AssignmentExpression) (derived_parse d End)
 unfolding assign_form AllGood PlacedGood derived_parse read_phrase placed is_inlined
 assign_good c n (both (part a sa d) (both (fixed g) (part b sb e))) (o, (x, p)) m =
     assigned (assign_op n.op) (sign_of n.op) (assign_class n.op) (moved (target_covered n.op) (at_place _ _ sa (o m))) (at_place _ _ sb (p m))
@@ -194,40 +195,40 @@ assign_good c n (both (part a sa d) (both (fixed g) (part b sb e))) (o, (x, p)) 
 -- ---- `yield`, `await`
 
 yield_by : {s : Settings} (c : Parameters) (delegate : Bool) (arg : Option (ExprBox AnyNode)) {ts : List Token}
-    (d : Derives true s (yield_rest_form c delegate arg) ts) → AllGood d → s.minify ≡ c.minify → Good (Whole Yield nt.AssignmentExpression) (Read (word (codes "yield")) (derived_parse d End))
+    (d : Derives core s (yield_rest_form c delegate arg) ts) → AllGood d → s.minify ≡ c.minify → Good (Whole Yield nt.AssignmentExpression) (Read (word (codes "yield")) (derived_parse d End))
 unfolding yield_rest_form yield_arg_form is_met AllGood PlacedGood derived_parse read_phrase placed is_inlined
 yield_by c true None (both (fixed h) (both (fixed k) (provided e d))) o m = absurd (true≢false (sym e))
 yield_by c true (Some x) (both (fixed h) (both (fixed k) (bare (part a sa d)))) (y, (z, o)) m = yield_star (at_place _ _ sa (o m))
 yield_by c false None (fixed h) o m = yield_bare
 yield_by c false (Some x) (both (fixed h) (bare (part a sa d))) (y, o) m = yield_part (at_place _ _ sa (o m))
 
-pub yield_good : {s : Settings} (c : Parameters) (n : YieldExpr AnyNode) {ts : List Token} (d : Derives true s (yield_form c n) ts) → AllGood d → s.minify ≡ c.minify → Good (Whole Yield nt.AssignmentExpression) (derived_parse d End)
+pub yield_good : {s : Settings} (c : Parameters) (n : YieldExpr AnyNode) {ts : List Token} (d : Derives core s (yield_form c n) ts) → AllGood d → s.minify ≡ c.minify → Good (Whole Yield nt.AssignmentExpression) (derived_parse d End)
 unfolding yield_form AllGood derived_parse read_phrase
 yield_good c n (provided h (both (fixed g) d)) (x, o) m = yield_by c n.delegate n.arg d o m
 
-pub await_good : {s : Settings} (c : Parameters) (n : AwaitExpr AnyNode) {ts : List Token} (d : Derives true s (await_form c n) ts) → AllGood d → s.minify ≡ c.minify → Good (Whole Await nt.UnaryExpression) (derived_parse d End)
+pub await_good : {s : Settings} (c : Parameters) (n : AwaitExpr AnyNode) {ts : List Token} (d : Derives core s (await_form c n) ts) → AllGood d → s.minify ≡ c.minify → Good (Whole Await nt.UnaryExpression) (derived_parse d End)
 unfolding await_form AllGood PlacedGood derived_parse read_phrase placed is_inlined word
 await_good c n (provided h (both (fixed g) (part a sa d))) (x, o) m = prefixed (word (codes "await")) OfAwait refl refl refl (at_place _ _ sa (o m))
 
 -- ---- sequences
 
-seq_on : {s : Settings} (c : Parameters) (x : ExprBox AnyNode) (xs : List (ExprBox AnyNode)) {ts us : List Token} (d : Derives true s (expr_part nt.AssignmentExpression c x) ts)
-    (e : Derives true s (each_after (codes ",") (expr_part nt.AssignmentExpression c) xs) us) → AllGood d → AllGood e → s.minify ≡ c.minify → Good (Rest Listed Seq nt.Expression) (derived_parse d (derived_parse e End))
+seq_on : {s : Settings} (c : Parameters) (x : ExprBox AnyNode) (xs : List (ExprBox AnyNode)) {ts us : List Token} (d : Derives core s (expr_part nt.AssignmentExpression c x) ts)
+    (e : Derives core s (each_after (codes ",") (expr_part nt.AssignmentExpression c) xs) us) → AllGood d → AllGood e → s.minify ≡ c.minify → Good (Rest Listed Seq nt.Expression) (derived_parse d (derived_parse e End))
 unfolding each_after AllGood PlacedGood derived_parse read_phrase placed is_inlined
 seq_on c x [] (part a sa d) (fixed g) o q m = listed_last (at_place _ _ sa (o m))
 seq_on c x (y ∷ ys) (part a sa d) (both (fixed g) (both e f)) o (z, (q, r)) m = listed_next (at_place _ _ sa (o m)) (seq_on c y ys e f q r m)
 
-seq_by : {s : Settings} (c : Parameters) (xs : List (ExprBox AnyNode)) {ts : List Token} (d : Derives true s (some_listed (codes ",") (expr_part nt.AssignmentExpression c) xs) ts) → AllGood d → s.minify ≡ c.minify →
+seq_by : {s : Settings} (c : Parameters) (xs : List (ExprBox AnyNode)) {ts : List Token} (d : Derives core s (some_listed (codes ",") (expr_part nt.AssignmentExpression c) xs) ts) → AllGood d → s.minify ≡ c.minify →
     Good (Whole Seq nt.Expression) (derived_parse d End)
 unfolding some_listed each_after is_met AllGood PlacedGood derived_parse read_phrase placed is_inlined
 seq_by c [] (provided h d) o m = absurd (true≢false (sym h))
 seq_by c (x ∷ []) (provided h d) o m = absurd (true≢false (sym h))
 seq_by c (x ∷ y ∷ xs) (both (part a sa d) (both (fixed g) (both e f))) (o, (z, (q, r))) m = listed_first (at_place _ _ sa (o m)) (seq_on c y xs e f q r m)
 
-pub seq_good : {s : Settings} (c : Parameters) (n : SeqExpr AnyNode) {ts : List Token} (d : Derives true s (seq_form c n) ts) → AllGood d → s.minify ≡ c.minify → Good (Whole Seq nt.Expression) (derived_parse d End)
+pub seq_good : {s : Settings} (c : Parameters) (n : SeqExpr AnyNode) {ts : List Token} (d : Derives core s (seq_form c n) ts) → AllGood d → s.minify ≡ c.minify → Good (Whole Seq nt.Expression) (derived_parse d End)
 unfolding seq_form
 seq_good c n d o m = seq_by c n.exprs.items d o m
 
-pub paren_good : {s : Settings} (c : Parameters) (n : ParenExpr AnyNode) {ts : List Token} (d : Derives true s (paren_form c n) ts) → AllGood d → s.minify ≡ c.minify → Good (Whole Paren nt.PrimaryExpression) (derived_parse d End)
+pub paren_good : {s : Settings} (c : Parameters) (n : ParenExpr AnyNode) {ts : List Token} (d : Derives core s (paren_form c n) ts) → AllGood d → s.minify ≡ c.minify → Good (Whole Paren nt.PrimaryExpression) (derived_parse d End)
 unfolding paren_form AllGood PlacedGood derived_parse read_phrase placed is_inlined
 paren_good c n (both (fixed g) (both (part a sa d) (fixed h))) (x, (o, y)) m = parenthesized nt.PrimaryExpression refl (at_place _ _ sa (o m))

@@ -39,7 +39,7 @@ use Rattle.swc_ecma_codegen_grammar.specs.declared.roles.Role.TheVariants.{Expre
 use Rattle.swc_ecma_codegen_syntax.specs.declared.nonterminals.Nonterminal.TheVariants as nt
 use Rattle.swc_ecma_codegen_syntax.specs.declared.parameters.Parameters.{Parameters}
 use Rattle.swc_ecma_codegen_syntax.specs.Parameters.{before, of_targets}
-use Rattle.swc_ecma_codegen_syntax.specs.Forms.{Form, Fixed, Part, Simple, Restricted, Lone, Both, Provided, Closed, Bare, Followed, map_form}
+use Rattle.swc_ecma_codegen_syntax.specs.Forms.{Form, Fixed, Part, Simple, Shaped, Restricted, Lone, Both, Provided, Closed, Bare, Followed, map_form}
 use Rattle.swc_ecma_codegen_syntax.specs.MemberForms.{member_form, tagged_form}
 use Rattle.swc_ecma_codegen_syntax.specs.PatForms.{pat_element_form, pat_elements_after, pat_elements_form, closing_form, elements_end_form, array_pat_form, pat_prop_form, pat_props_after, pat_props_form, object_pat_form, pat_form}
 use Rattle.swc_ecma_codegen_syntax.specs.ClassForms.{field_expr_form}
@@ -47,7 +47,8 @@ use Rattle.swc_ecma_codegen_syntax.specs.ExprForms.{expr_form}
 use Rattle.swc_ecma_codegen_syntax.specs.StmtForms.{is_empty, is_empty_node}
 use Rattle.swc_ecma_codegen_syntax.specs.TargetForms.{target_pat_form, target_form}
 use Rattle.swc_ecma_codegen_syntax.specs.NodeForms.{node_form, part_form}
-use Rattle.swc_ecma_codegen_syntax.specs.Derives.{Derives, fixed, part, simple, restricted, lone, lone_in_parentheses, both, provided, closed, comma_closed, followed, bare}
+use Rattle.swc_ecma_codegen_syntax.specs.Derives.{Derives, fixed, part, simple, shaped, restricted, lone, lone_in_parentheses, both, provided, closed, comma_closed, followed, bare}
+use Rattle.swc_ecma_codegen_syntax.specs.Verdicts.{core}
 use Rattle.swc_ecma_codegen_syntax.proofs.TreeFacts.{node_mapped}
 use Rattle.swc_ecma_codegen_uniqueness.specs.ParseTrees.{Variant, ParseTree, End, Read, Optional, Node, settled, expr_variant, simple_target_variant, target_pat_variant, target_variant, pat_variant, decl_variant, stmt_variant, part_variant, member_variant, element_variant, child_variant, node_variant}
 use Rattle.swc_ecma_codegen_uniqueness.specs.Parses.{phrase_tokens, read_all, is_inlined_pat, is_inlined_pattern, is_inlined, placed, is_empty_variant, is_empty_parse, form_parse, node_parse, parse, expr_before}
@@ -60,6 +61,7 @@ unfolding form_parse map_form
 form_parse_mapped g f s (Fixed p) rest = refl
 form_parse_mapped g f s (Part place c role n) rest = refl
 form_parse_mapped g f s (Simple named place c n) rest = refl
+form_parse_mapped g f s (Shaped shape place c role n) rest = refl
 form_parse_mapped g f s (Restricted lookahead place c as_pattern n) rest = refl
 form_parse_mapped g f s (Lone place c n) rest = refl
 form_parse_mapped g f s (Both a b) rest = ap (form_parse f s (map_form g a)) (form_parse_mapped g f s b rest) ∙ form_parse_mapped g f s a (form_parse (λ x. f (g x)) s b rest)
@@ -321,7 +323,7 @@ unfolding placed settled
 placed_settled true variant f g h rest = h rest
 placed_settled false variant f g h rest = ap (λ z. Node variant z (settled rest)) (h End)
 
-pub derived_settled : {s : Settings} {a : Form AnyNode} {ts : List Token} (d : Derives true s a ts) (rest : ParseTree) → settled (derived_parse d rest) ≡ form_parse (parse s) s a (settled rest)
+pub derived_settled : {s : Settings} {a : Form AnyNode} {ts : List Token} (d : Derives core s a ts) (rest : ParseTree) → settled (derived_parse d rest) ≡ form_parse (parse s) s a (settled rest)
 unfolding derived_parse form_parse node_parse settled
 derived_settled {s = s} (fixed {p = p} {ts = ts} g) rest = phrase_settled s p ts g rest
 derived_settled {s = s} (part {c = c} {role = role} {n = n} called st d) rest =
@@ -329,6 +331,7 @@ derived_settled {s = s} (part {c = c} {role = role} {n = n} called st d) rest =
     (λ r. derived_settled d r ∙ forms_same (parse s) s called c (out-AnyNode n) role (settled r)) rest
     ∙ sym (parse_at s n role c (settled rest))
 derived_settled (simple x d) rest = derived_settled d rest
+derived_settled (shaped x d) rest = derived_settled d rest
 derived_settled (restricted x d) rest = derived_settled d rest
 derived_settled (lone x d) rest = derived_settled d rest
 derived_settled (lone_in_parentheses d) rest = derived_settled d (Optional close_parenthesis rest)

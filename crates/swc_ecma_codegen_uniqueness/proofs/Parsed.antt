@@ -5,7 +5,8 @@ use Rattle.swc_ecma_codegen_grammar.specs.Phrases.{Phrase, Never, Nothing, One, 
 use Rattle.swc_ecma_codegen_grammar.specs.Settings.{Settings}
 use Rattle.swc_ecma_codegen_grammar.specs.Tokens.{Token}
 use Rattle.swc_ecma_codegen_syntax.specs.Forms.{Form}
-use Rattle.swc_ecma_codegen_syntax.specs.Derives.{Derives, fixed, part, simple, restricted, lone, lone_in_parentheses, both, provided, closed, comma_closed, followed, bare}
+use Rattle.swc_ecma_codegen_syntax.specs.Derives.{Derives, fixed, part, simple, shaped, restricted, lone, lone_in_parentheses, both, provided, closed, comma_closed, followed, bare}
+use Rattle.swc_ecma_codegen_syntax.specs.Verdicts.{Grammar, core}
 use Rattle.swc_ecma_codegen_uniqueness.specs.ParseTrees.{Variant, ParseTree, End, Optional, tokens_of, AreCommasAndParentheses, node_variant}
 use Rattle.swc_ecma_codegen_uniqueness.specs.Parses.{placed, is_inlined, read_all}
 use Rattle.swc_ecma_codegen_uniqueness.proofs.Reading.{read_phrase, derived_parse}
@@ -43,11 +44,12 @@ unfolding tokens_of placed
 placed_tokens true variant inside ts h rest us = h rest us
 placed_tokens false variant inside ts h rest us = h End (tokens_of rest us)
 
-pub tokens_before : {places : Bool} {s : Settings} {a : Form AnyNode} {ts : List Token} (d : Derives places s a ts) (rest : ParseTree) (us : List Token) → tokens_of (derived_parse d rest) us ≡ ts ++ tokens_of rest us
+pub tokens_before : {grammar : Grammar} {s : Settings} {a : Form AnyNode} {ts : List Token} (d : Derives grammar s a ts) (rest : ParseTree) (us : List Token) → tokens_of (derived_parse d rest) us ≡ ts ++ tokens_of rest us
 unfolding tokens_of derived_parse
 tokens_before {s = s} (fixed {p = p} {ts = ts} g) rest us = phrase_tokens s p ts g rest us
 tokens_before (part {role = role} {n = n} {ts = ts} called stands d) rest us = placed_tokens (is_inlined role (out-AnyNode n)) (node_variant (out-AnyNode n) role) (derived_parse d) ts (tokens_before d) rest us
 tokens_before (simple h d) rest us = tokens_before d rest us
+tokens_before (shaped h d) rest us = tokens_before d rest us
 tokens_before (restricted h d) rest us = tokens_before d rest us
 tokens_before (lone h d) rest us = tokens_before d rest us
 tokens_before (lone_in_parentheses {ts = ts} d) rest us =
@@ -89,11 +91,12 @@ unfolding placed AreCommasAndParentheses
 placed_allowed true variant inside h rest k = h rest k
 placed_allowed false variant inside h rest k = (h End tt, k)
 
-pub derived_allowed : {s : Settings} {a : Form AnyNode} {ts : List Token} (d : Derives true s a ts) (rest : ParseTree) → AreCommasAndParentheses rest → AreCommasAndParentheses (derived_parse d rest)
+pub derived_allowed : {s : Settings} {a : Form AnyNode} {ts : List Token} (d : Derives core s a ts) (rest : ParseTree) → AreCommasAndParentheses rest → AreCommasAndParentheses (derived_parse d rest)
 unfolding derived_parse AreCommasAndParentheses
 derived_allowed {s = s} (fixed {p = p} {ts = ts} g) rest k = phrase_allowed s p ts g rest k
 derived_allowed (part {role = role} {n = n} called stands d) rest k = placed_allowed (is_inlined role (out-AnyNode n)) (node_variant (out-AnyNode n) role) (derived_parse d) (derived_allowed d) rest k
 derived_allowed (simple h d) rest k = derived_allowed d rest k
+derived_allowed (shaped h d) rest k = derived_allowed d rest k
 derived_allowed (restricted h d) rest k = derived_allowed d rest k
 derived_allowed (lone h d) rest k = derived_allowed d rest k
 derived_allowed (lone_in_parentheses d) rest k = (inr (inl refl), derived_allowed d (Optional close_parenthesis rest) (inr (inr refl), k))

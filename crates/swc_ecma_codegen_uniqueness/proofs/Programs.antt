@@ -16,8 +16,8 @@ use Rattle.swc_ecma_codegen_syntax.specs.declared.nonterminals.Nonterminal.TheVa
 use Rattle.swc_ecma_codegen_syntax.specs.declared.parameters.Parameters.{Parameters}
 use Rattle.swc_ecma_codegen_syntax.specs.Parameters.{in_list, of_module, of_script}
 use Rattle.swc_ecma_codegen_syntax.specs.ModuleForms.{item_form, is_empty_item, begins_empty_item, items_form, module_form, script_form, program_form}
-use Rattle.swc_ecma_codegen_syntax.specs.Derives.{Derives, DerivesProgram, bare_phrase, program_verdict, fixed, part, both}
-use Rattle.swc_ecma_codegen_syntax.specs.Verdicts.{holds}
+use Rattle.swc_ecma_codegen_syntax.specs.Derives.{Derives, DerivesCoreProgram, bare_phrase, program_verdict, fixed, part, both}
+use Rattle.swc_ecma_codegen_syntax.specs.Verdicts.{core, holds_in}
 use Rattle.swc_ecma_codegen_syntax.proofs.RootLaws.{program_complete}
 use Rattle.swc_ecma_codegen_uniqueness.specs.ParseTrees.{ParseTree, End, Read, Optional, Node, BlockStmt, AreCommasAndParentheses, settled, tokens_of}
 use Rattle.swc_ecma_codegen_uniqueness.specs.Parses.{placed, is_inlined, is_empty_variant, program_parse}
@@ -45,7 +45,7 @@ InProgram empty m = InItems (InList BlockStmt) BlockStmt nt.Statement empty m
 solid : (b : Bool) → b ≡ false → b ≡ true → false ≡ true
 solid b h k = sym h ∙ k
 
-items_good : {s : Settings} (c : Parameters) (xs : List (ModuleItem AnyNode)) {ts : List Token} (d : Derives true s (items_form c xs) ts) → AllGood d → s.minify ≡ c.minify → (rest : ParseTree) → InProgram false rest → InProgram (begins_empty_item xs) (derived_parse d rest)
+items_good : {s : Settings} (c : Parameters) (xs : List (ModuleItem AnyNode)) {ts : List Token} (d : Derives core s (items_form c xs) ts) → AllGood d → s.minify ≡ c.minify → (rest : ParseTree) → InProgram false rest → InProgram (begins_empty_item xs) (derived_parse d rest)
 unfolding items_form item_form begins_empty_item is_empty_item AllGood PlacedGood derived_parse read_phrase placed is_inlined
 items_good c [] (fixed g) o m rest r = r
 items_good c (module_items.Stmt x ∷ xs) (both d e) (o, q) m rest r = item_good (InList BlockStmt) BlockStmt nt.Statement (begins_empty_item xs) c x refl d o m (derived_parse e rest) (items_good c xs e q m rest r)
@@ -62,7 +62,7 @@ first_line s (Some text) ts g {m = m} h = subst (λ z. Good (Rest (Statement (In
 abbrev pub brace : Token
 brace = punctuator (codes "}")
 
-pub program_good : {s : Settings} (b : Bool) (n : Program AnyNode) {ts : List Token} (d : Derives true s (program_form b n) ts) → AllGood d → s.minify ≡ b → Good (Rest (Statement (InList BlockStmt)) BlockStmt nt.Statement) (derived_parse d (Read brace End))
+pub program_good : {s : Settings} (b : Bool) (n : Program AnyNode) {ts : List Token} (d : Derives core s (program_form b n) ts) → AllGood d → s.minify ≡ b → Good (Rest (Statement (InList BlockStmt)) BlockStmt nt.Statement) (derived_parse d (Read brace End))
 unfolding program_form script_form module_form AllGood derived_parse
 program_good {s = s} b (programs.Script n) (both (fixed {ts = ts} g) d) (x, o) m =
     first_line s n.shebang ts g (list_good (InList BlockStmt) BlockStmt nt.Statement (record of_script { minify = b }) n.body.items refl d o m (Read brace End) (list_end (InList BlockStmt) BlockStmt nt.Statement refl End (ended BlockStmt nt.Statement))).0
@@ -91,14 +91,14 @@ abbrev inside_of : ParseTree → ParseTree
 inside_of (Node s p q) = p
 inside_of p = End
 
-program_settled : {s : Settings} (n : Program AnyNode) {ts : List Token} (d : DerivesProgram true s n ts) → settled (derived_parse d End) ≡ program_parse s n
+program_settled : {s : Settings} (n : Program AnyNode) {ts : List Token} (d : DerivesCoreProgram s n ts) → settled (derived_parse d End) ≡ program_parse s n
 unfolding settled
 program_settled n d = derived_settled d End
 
-whole : {s : Settings} (n : Program AnyNode) {ts : List Token} (d : DerivesProgram true s n ts) → without_last (derived_parse d (Read brace End)) ≡ derived_parse d End
+whole : {s : Settings} (n : Program AnyNode) {ts : List Token} (d : DerivesCoreProgram s n ts) → without_last (derived_parse d (Read brace End)) ≡ derived_parse d End
 whole n d = ap without_last (sym (derived_joined d End (Read brace End))) ∙ last_gone (derived_parse d End) brace
 
-pub one_program : (s t : Settings) (a b : Program AnyNode) (ts : List Token) → DerivesProgram true s a ts → DerivesProgram true t b ts → program_parse s a ≡ program_parse t b
+pub one_program : (s t : Settings) (a b : Program AnyNode) (ts : List Token) → DerivesCoreProgram s a ts → DerivesCoreProgram t b ts → program_parse s a ≡ program_parse t b
 unfolding punctuator tokens_of
 one_program s t a b ts d e =
     let same = one_rest (Statement (InList BlockStmt)) (punctuator (codes ")")) BlockStmt nt.Statement (derived_parse d (Read brace End)) (derived_parse e (Read brace End)) refl refl
@@ -118,7 +118,7 @@ last_named (Read t (Node s p q)) = ap (Read (as_name t)) (last_named (Node s p q
 last_named (Optional t p) = ap (Optional (as_name t)) (last_named p)
 last_named (Node s p q) = ap (Node s (with_names p)) (last_named q)
 
-pub one_program_named : (s t : Settings) (a b : Program AnyNode) (ts us : List Token) → DerivesProgram true s a ts → DerivesProgram true t b us → as_names ts ≡ as_names us → with_names (program_parse s a) ≡ with_names (program_parse t b)
+pub one_program_named : (s t : Settings) (a b : Program AnyNode) (ts us : List Token) → DerivesCoreProgram s a ts → DerivesCoreProgram t b us → as_names ts ≡ as_names us → with_names (program_parse s a) ≡ with_names (program_parse t b)
 unfolding punctuator tokens_of
 one_program_named s t a b ts us d e h =
     let same = rest_named (Statement (InList BlockStmt)) (punctuator (codes ")")) BlockStmt nt.Statement (derived_parse d (Read brace End)) (derived_parse e (Read brace End)) refl refl
@@ -128,15 +128,15 @@ one_program_named s t a b ts us d e h =
     ap with_names (sym (whole a d)) ∙ last_named (derived_parse d (Read brace End)) ∙ ap without_last same ∙ sym (last_named (derived_parse e (Read brace End))) ∙ ap with_names (whole b e) in
     ap with_names (sym (program_settled a d)) ∙ settled_named (derived_parse d End) ∙ ap settled ended ∙ sym (settled_named (derived_parse e End)) ∙ ap with_names (program_settled b e)
 
-pub kept_program_named : (s t : Settings) (a b : Program AnyNode) (ts us : List Token) → holds true (program_verdict a) ≡ true → holds true (program_verdict b) ≡ true → Generates s (bare_phrase (program_phrase a)) ts →
+pub kept_program_named : (s t : Settings) (a b : Program AnyNode) (ts us : List Token) → holds_in core (program_verdict a) ≡ true → holds_in core (program_verdict b) ≡ true → Generates s (bare_phrase (program_phrase a)) ts →
     Generates t (bare_phrase (program_phrase b)) us → as_names ts ≡ as_names us → with_names (program_parse s a) ≡ with_names (program_parse t b)
-kept_program_named s t a b ts us h k x y e = one_program_named s t a b ts us (program_complete true a _ refl h s ts x) (program_complete true b _ refl k t us y) e
+kept_program_named s t a b ts us h k x y e = one_program_named s t a b ts us (program_complete core a _ refl h s ts x) (program_complete core b _ refl k t us y) e
 
-pub kept_program : (s t : Settings) (a b : Program AnyNode) (ts : List Token) → holds true (program_verdict a) ≡ true → holds true (program_verdict b) ≡ true → Generates s (bare_phrase (program_phrase a)) ts →
+pub kept_program : (s t : Settings) (a b : Program AnyNode) (ts : List Token) → holds_in core (program_verdict a) ≡ true → holds_in core (program_verdict b) ≡ true → Generates s (bare_phrase (program_phrase a)) ts →
     Generates t (bare_phrase (program_phrase b)) ts → program_parse s a ≡ program_parse t b
-kept_program s t a b ts h k x y = one_program s t a b ts (program_complete true a _ refl h s ts x) (program_complete true b _ refl k t ts y)
+kept_program s t a b ts h k x y = one_program s t a b ts (program_complete core a _ refl h s ts x) (program_complete core b _ refl k t ts y)
 
-pub program_tokens : (s : Settings) (a : Program AnyNode) (ts : List Token) → DerivesProgram true s a ts →
+pub program_tokens : (s : Settings) (a : Program AnyNode) (ts : List Token) → DerivesCoreProgram s a ts →
     (p : ParseTree) × (settled p ≡ program_parse s a) × AreCommasAndParentheses p × ((us : List Token) → tokens_of p us ≡ ts ++ us)
 unfolding tokens_of AreCommasAndParentheses
 program_tokens s a ts d = (derived_parse d End, program_settled a d, derived_allowed d End tt, λ us. tokens_before d End us)

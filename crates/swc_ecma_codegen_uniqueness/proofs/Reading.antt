@@ -1,5 +1,5 @@
 -- What a derivation makes of a list of tokens: a parse tree, in which what syntax leaves open is marked.
-use Rattle.std.proofs.Common.{Bool, List, inl, inr}
+use Rattle.std.proofs.Common.{List, inl, inr}
 use Rattle.swc_ecma_codegen_tree.specs.declared.links.AnyNode.{AnyNode, out-AnyNode}
 use Rattle.swc_ecma_codegen_grammar.specs.Keys.{key_token}
 use Rattle.std.specs.Str.{chars}
@@ -10,7 +10,8 @@ use Rattle.swc_ecma_codegen_grammar.specs.Settings.{Settings}
 use Rattle.swc_ecma_codegen_grammar.specs.Tokens.{Token}
 use Rattle.swc_ecma_codegen_grammar.specs.Tokens as tokens
 use Rattle.swc_ecma_codegen_syntax.specs.Forms.{Form}
-use Rattle.swc_ecma_codegen_syntax.specs.Derives.{Derives, fixed, part, simple, restricted, lone, lone_in_parentheses, both, provided, closed, comma_closed, followed, bare}
+use Rattle.swc_ecma_codegen_syntax.specs.Derives.{Derives, fixed, part, simple, shaped, restricted, lone, lone_in_parentheses, both, provided, closed, comma_closed, followed, bare}
+use Rattle.swc_ecma_codegen_syntax.specs.Verdicts.{Grammar}
 use Rattle.swc_ecma_codegen_uniqueness.specs.ParseTrees.{ParseTree, Read, Optional, node_variant}
 use Rattle.swc_ecma_codegen_uniqueness.specs.Parses.{placed, is_inlined, read_all}
 
@@ -28,10 +29,11 @@ read_phrase s (CommaBefore close) ts g rest = elim g [ inl e ↦ Read (closing_t
 read_phrase s (OptionalParentheses round a) ts g rest = elim g [ inl x ↦ read_phrase s a ts x rest | inr x ↦ Optional open_parenthesis (read_phrase s a x.0 x.1 (Optional close_parenthesis rest)) ]
 read_phrase s (Chosen choice) ts g rest = read_all (chosen s choice) rest
 
-unfoldable pub derived_parse : {places : Bool} {s : Settings} {a : Form AnyNode} {ts : List Token} → Derives places s a ts → ParseTree → ParseTree
+unfoldable pub derived_parse : {grammar : Grammar} {s : Settings} {a : Form AnyNode} {ts : List Token} → Derives grammar s a ts → ParseTree → ParseTree
 derived_parse {s = s} (fixed {p = p} {ts = ts} g) rest = read_phrase s p ts g rest
 derived_parse (part {role = role} {n = n} called stands d) rest = placed (is_inlined role (out-AnyNode n)) (node_variant (out-AnyNode n) role) (derived_parse d) rest
 derived_parse (simple h d) rest = derived_parse d rest
+derived_parse (shaped h d) rest = derived_parse d rest
 derived_parse (restricted h d) rest = derived_parse d rest
 derived_parse (lone h d) rest = derived_parse d rest
 derived_parse (lone_in_parentheses d) rest = Optional open_parenthesis (derived_parse d (Optional close_parenthesis rest))

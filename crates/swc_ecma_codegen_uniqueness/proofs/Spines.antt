@@ -24,6 +24,7 @@ use Rattle.swc_ecma_codegen_syntax.specs.MemberForms.{expr_part}
 use Rattle.swc_ecma_codegen_syntax.specs.Nonterminals.{is_member, is_new, is_call, is_callee, is_chained, is_left_hand_side, is_update, is_unary, is_exponentiation, is_multiplicative, is_additive, is_shift, is_relational, is_in_left, is_equality, is_bitwise_and, is_bitwise_xor, is_bitwise_or, is_logical_and, is_logical_or, is_coalesce_head, is_short_circuit, is_conditional, is_assignment, is_expression, is_assignment_target, is_pattern_target, is_pattern_element, is_last_element, is_coalesce, is_private, is_optional, is_primary, is_template, is_property_name, is_chain_link, is_assignment_pattern, is_pattern_name, is_rest, is_statement, is_hoistable_declaration, is_block, is_variable_declarations, is_declaration, is_statement_list_item, is_labelled_item, is_module_declaration, is_exported_head, is_function_head, is_generator_head, is_async_function_head, is_async_generator_head, is_function_tail, is_getter_tail, is_setter_tail, is_method_head, is_decorator_list, is_class_head, is_class_tail, is_class_element, is_constructor_name, is_any_function_head, is_head_without_yield, is_head_without_await, is_any_property_name, is_jsx_element, is_jsx_object, is_uncovered, takes}
 use Rattle.swc_ecma_codegen_syntax.specs.PatForms.{assign_pat_form, pat_form, pat_nonterminal}
 use Rattle.swc_ecma_codegen_syntax.specs.Derives.{Derives, fixed, part, both, provided}
+use Rattle.swc_ecma_codegen_syntax.specs.Verdicts.{core}
 use Rattle.swc_ecma_codegen_uniqueness.specs.ParseTrees.{Variant, ParseTree, End}
 use Rattle.swc_ecma_codegen_uniqueness.specs.Parses.{placed, is_inlined, is_inlined_pat}
 use Rattle.swc_ecma_codegen_uniqueness.proofs.Classes.{Comparing, class}
@@ -44,7 +45,7 @@ op_free binaries.In true h f = absurd (true≢false f)
 op_free binaries.In false h f = absurd (true≢false (sym h))
 op_free op b h f = refl
 
-seq_free : {s : Settings} (c : Parameters) (xs : List (ExprBox AnyNode)) {ts : List Token} (d : Derives true s (some_listed (codes ",") (expr_part nt.AssignmentExpression c) xs) ts) → AllGood d → s.minify ≡ c.minify → c.has_in ≡ false →
+seq_free : {s : Settings} (c : Parameters) (xs : List (ExprBox AnyNode)) {ts : List Token} (d : Derives core s (some_listed (codes ",") (expr_part nt.AssignmentExpression c) xs) ts) → AllGood d → s.minify ≡ c.minify → c.has_in ≡ false →
     spine_free (derived_parse d End) ≡ true
 unfolding some_listed each_after is_met AllGood PlacedGood derived_parse read_phrase placed is_inlined punctuator
 seq_free c [] (provided h d) o m f = absurd (true≢false (sym h))
@@ -62,7 +63,7 @@ unfolding is_member is_new is_call is_callee is_chained is_left_hand_side is_upd
 new_low true = refl
 new_low false = refl
 
-pub expr_free : {s : Settings} (keeps called : Bool) (c : Parameters) (n : Expr AnyNode) {ts : List Token} (d : Derives true s (expr_form keeps called c n) ts) → AllGood d → s.minify ≡ c.minify → c.has_in ≡ false → {v : Variant} →
+pub expr_free : {s : Settings} (keeps called : Bool) (c : Parameters) (n : Expr AnyNode) {ts : List Token} (d : Derives core s (expr_form keeps called c n) ts) → AllGood d → s.minify ≡ c.minify → c.has_in ≡ false → {v : Variant} →
     Good (Whole v (expr_nonterminal keeps called c n)) (derived_parse d End) → spine_free (derived_parse d End) ≡ true
 unfolding is_member is_new is_call is_callee is_chained is_left_hand_side is_update is_unary is_exponentiation is_multiplicative is_additive is_shift is_relational is_in_left is_equality is_bitwise_and is_bitwise_xor is_bitwise_or is_logical_and is_logical_or is_coalesce_head is_short_circuit is_conditional is_assignment is_expression is_assignment_target is_pattern_target is_pattern_element is_last_element is_coalesce is_private is_optional is_primary is_template is_property_name is_chain_link is_assignment_pattern is_pattern_name is_rest is_statement is_hoistable_declaration is_block is_variable_declarations is_declaration is_statement_list_item is_labelled_item is_module_declaration is_exported_head is_function_head is_generator_head is_async_function_head is_async_generator_head is_function_tail is_getter_tail is_setter_tail is_method_head is_decorator_list is_class_head is_class_tail is_class_element is_constructor_name is_any_function_head is_head_without_yield is_head_without_await is_any_property_name is_jsx_element is_jsx_object is_uncovered takes expr_form expr_nonterminal new_nonterminal bin_form cond_form assign_form yield_form seq_form private_name is_met AllGood PlacedGood derived_parse read_phrase placed is_inlined punctuator word
 expr_free keeps called c (exprs.Bin n) (provided h (both (part a sa d) (both (fixed g) e))) (o, q) m f r = not_within _ _ (op_free n.op c.has_in h f) ((o m).free f)
@@ -84,7 +85,7 @@ left_low = refl
 pub target_free : {v : Variant} {p : ParseTree} → Good (Whole v nt.LeftHandSideExpression) p → spine_free p ≡ true
 target_free g = low_free g left_low
 
-pub pat_free : {s : Settings} (comma : Bool) (c : Parameters) (n : Pat AnyNode) {ts : List Token} (d : Derives true s (pat_form comma c n) ts) → AllGood d → s.minify ≡ c.minify → is_inlined_pat n ≡ false → {v : Variant} → Good (Whole v (cover (pat_nonterminal n))) (derived_parse d End) →
+pub pat_free : {s : Settings} (comma : Bool) (c : Parameters) (n : Pat AnyNode) {ts : List Token} (d : Derives core s (pat_form comma c n) ts) → AllGood d → s.minify ≡ c.minify → is_inlined_pat n ≡ false → {v : Variant} → Good (Whole v (cover (pat_nonterminal n))) (derived_parse d End) →
     spine_free (derived_parse d End) ≡ true
 unfolding pat_form assign_pat_form pat_nonterminal is_inlined_pat AllGood PlacedGood derived_parse read_phrase placed is_inlined punctuator
 pat_free comma c (pats.Assign n) (both d (both (fixed g) e)) (o, q) m i r = let v = covered_at nt.PatternTarget no_rest_target c n.left.node.value d o m in ap spine_free (v.is _) ∙ operand_free v.operand

@@ -29,12 +29,13 @@ use Rattle.swc_ecma_codegen_grammar.specs.declared.roles.Role.TheVariants.{Block
 use Rattle.swc_ecma_codegen_syntax.specs.declared.nonterminals.Nonterminal.{Nonterminal}
 use Rattle.swc_ecma_codegen_syntax.specs.declared.nonterminals.Nonterminal.TheVariants as nt
 use Rattle.swc_ecma_codegen_syntax.specs.declared.parameters.Parameters.{Parameters}
-use Rattle.swc_ecma_codegen_syntax.specs.Parameters.{of_bindings, of_declarations, in_list}
+use Rattle.swc_ecma_codegen_syntax.specs.Parameters.{of_bindings, of_declarations, in_list, in_block}
 use Rattle.swc_ecma_codegen_syntax.specs.Forms.{Form, Fixed, is_met, in_order}
 use Rattle.swc_ecma_codegen_syntax.specs.DeclForms.{var_decl_form, head_at, decl_form}
 use Rattle.swc_ecma_codegen_syntax.specs.StmtForms.{expr_stmt_form, with_form, return_rest_form, return_form, labeled_form, jump_form, break_form, continue_form, branches_form, if_form, switch_form, throw_form, try_form, while_form, do_while_form, stmt_form, is_empty, is_empty_node, begins_empty, list_form, block_form, finalizer_form, catch_param_form, handler_form, catch_form, clause_item_form, clause_list_form, case_test_form, case_form}
 use Rattle.swc_ecma_codegen_syntax.specs.NodeForms.{node_form, part_form, stmt_part_form, jsx_part_form}
 use Rattle.swc_ecma_codegen_syntax.specs.Derives.{Derives, fixed, part, restricted, both, provided, bare, followed}
+use Rattle.swc_ecma_codegen_syntax.specs.Verdicts.{core}
 use Rattle.swc_ecma_codegen_uniqueness.specs.ParseTrees.{Variant, ParseTree, End, Read, Node, BlockStmt, DebuggerStmt, WithStmt, ReturnStmt, LabeledStmt, BreakStmt, ContinueStmt, IfStmt, ThrowStmt, WhileStmt, VarDecl, ExprStmt, tokens_of, decl_variant, stmt_variant, part_variant, node_variant, DoWhileStmt, TryStmt, SwitchStmt}
 use Rattle.swc_ecma_codegen_uniqueness.specs.Parses.{placed, is_inlined, is_empty_variant, read_all}
 use Rattle.swc_ecma_codegen_uniqueness.proofs.Classes.{Semi, class}
@@ -60,7 +61,7 @@ use Rattle.swc_ecma_codegen_uniqueness.proofs.Loops.{for_good, for_in_good, for_
 
 -- ---- declarations of variables
 
-var_good : {s : Settings} (b : Follower) (c : Parameters) (n : var_decls.VarDecl AnyNode) {ts us : List Token} (d : Derives true s (var_decl_form c n) ts) (e : Derives true s (Fixed phrases.ending) us) → AllGood d → s.minify ≡ c.minify →
+var_good : {s : Settings} (b : Follower) (c : Parameters) (n : var_decls.VarDecl AnyNode) {ts us : List Token} (d : Derives core s (var_decl_form c n) ts) (e : Derives core s (Fixed phrases.ending) us) → AllGood d → s.minify ≡ c.minify →
     Good (Whole VarDecl (item_of b)) (derived_parse d (derived_parse e End))
 var_good b c n d e o m =
     let r = vars_read (item_of b) c n d e o m in subst (λ z. Good (Whole VarDecl (item_of b)) z) (sym r.is) (declarators_begun r.token b (ap is_keyword r.var) (ap started r.var) r.good)
@@ -71,39 +72,39 @@ not_so : (b : Bool) → (not true || not b) ≡ true → b ≡ false
 not_so true h = absurd (true≢false (sym h))
 not_so false h = refl
 
-if_by : {s : Settings} (c : Parameters) (cons : StmtBox AnyNode) (alt : Option (StmtBox AnyNode)) {v : Variant} {p : ParseTree} {ts : List Token} → Operand nt.Expression v p → (d : Derives true s (branches_form c cons alt) ts) → AllGood d → s.minify ≡ c.minify →
+if_by : {s : Settings} (c : Parameters) (cons : StmtBox AnyNode) (alt : Option (StmtBox AnyNode)) {v : Variant} {p : ParseTree} {ts : List Token} → Operand nt.Expression v p → (d : Derives core s (branches_form c cons alt) ts) → AllGood d → s.minify ≡ c.minify →
     Good (Whole IfStmt (item_of (follower c))) (Read (word (codes "if")) (Read (punctuator (codes "(")) (Node v p (Read (punctuator (codes ")")) (derived_parse d End)))))
 unfolding branches_form is_met AllGood PlacedGood derived_parse read_phrase placed is_inlined
 if_by c cons None w (provided h (both (part a sa d) (fixed g))) (o, x) m = if_alone (follower c) (no_else c.before_else c.before_empty (not_so c.before_else h)) w (o m).good
 if_by c cons (Some alt) w (both (part a sa d) (both (fixed g) (part b sb e))) (o, (x, q)) m = if_else (follower c) w (o m).good (q m).good
 
-return_by : {s : Settings} (b : Follower) (c : Parameters) (arg : Option (ExprBox AnyNode)) {ts : List Token} (d : Derives true s (return_rest_form c arg) ts) → AllGood d → s.minify ≡ c.minify →
+return_by : {s : Settings} (b : Follower) (c : Parameters) (arg : Option (ExprBox AnyNode)) {ts : List Token} (d : Derives core s (return_rest_form c arg) ts) → AllGood d → s.minify ≡ c.minify →
     Good (Whole ReturnStmt (item_of b)) (Read (word (codes "return")) (derived_parse d End))
 unfolding return_rest_form AllGood PlacedGood derived_parse read_phrase placed is_inlined word same_line
 return_by b c None (fixed g) o m = word_alone (word (codes "return")) ReturnStmt b refl refl
 return_by b c (Some n) (both (fixed g) (both (bare (part a sa d)) (fixed h))) (x, (o, y)) m = word_valued (word (codes "return")) ReturnStmt b refl refl refl (at_place _ _ sa (o m))
 
-jump_by : {s : Settings} (b : Follower) (t : Token) (variant : Variant) (c : Parameters) (label : Option Ident) {ts : List Token} (d : Derives true s (jump_form c label) ts) → is_keyword (class t) ≡ true → start t ≡ AfterWord variant →
+jump_by : {s : Settings} (b : Follower) (t : Token) (variant : Variant) (c : Parameters) (label : Option Ident) {ts : List Token} (d : Derives core s (jump_form c label) ts) → is_keyword (class t) ≡ true → start t ≡ AfterWord variant →
     shift (AfterWord variant) None same_line ≡ Jump variant → Good (Whole variant (item_of b)) (Read t (derived_parse d End))
 unfolding jump_form derived_parse read_phrase tokens.name
 jump_by b t variant c None (fixed g) k e i = word_alone t variant b k e
 jump_by b t variant c (Some n) (both (fixed g) (both d (fixed h))) k e i =
     subst (λ z. Good (Whole variant (item_of b)) (Read t (Read same_line z))) (sym (name_read c n d (Read ending End))) (word_labelled t (tokens.name _) variant b k e i (ap (without (Jump variant)) (name_free c n d)))
 
-expr_good : {s : Settings} (b : Follower) (c : Parameters) (n : expr_stmts.ExprStmt AnyNode) {ts : List Token} (d : Derives true s (expr_stmt_form c n) ts) → AllGood d → s.minify ≡ c.minify → Good (Whole ExprStmt (item_of b)) (derived_parse d End)
+expr_good : {s : Settings} (b : Follower) (c : Parameters) (n : expr_stmts.ExprStmt AnyNode) {ts : List Token} (d : Derives core s (expr_stmt_form c n) ts) → AllGood d → s.minify ≡ c.minify → Good (Whole ExprStmt (item_of b)) (derived_parse d End)
 unfolding expr_stmt_form is_met AllGood PlacedGood derived_parse read_phrase placed is_inlined tokens_of ending
 expr_good b c n (both (restricted {ts = ts} h (part a sa d)) (fixed g)) (o, x) m =
     let v = at_place _ _ sa (o m) in
     expression_stated b v (may_stand ending (derived_parse d End) ts (λ us. tokens_before d End us) v.good (or_left _ _ v.taken) (ended_by Semi v.of v.taken) refl (not_excluded _ h))
 
-decl_good : {s : Settings} (b : Follower) (c : Parameters) (n : Decl AnyNode) {ts : List Token} (d : Derives true s (decl_form c n) ts) → AllGood d → s.minify ≡ c.minify → Good (Whole (decl_variant n) (item_of b)) (derived_parse d End)
+decl_good : {s : Settings} (b : Follower) (c : Parameters) (n : Decl AnyNode) {ts : List Token} (d : Derives core s (decl_form c n) ts) → AllGood d → s.minify ≡ c.minify → Good (Whole (decl_variant n) (item_of b)) (derived_parse d End)
 unfolding decl_form decl_variant AllGood derived_parse
 decl_good b c (decls.Var n) (both d e) (o, x) m = var_good b (of_declarations c) n d e o m
 decl_good b c (decls.Fn n) d o m = fn_decl_good b (head_at c.position) c n d o m
 decl_good b c (decls.Class n) d o m = class_decl_good b c n d o m
 decl_good b c n d o m = absurd (no_form d)
 
-labeled_good : {s : Settings} (c : Parameters) (n : labeled.LabeledStmt AnyNode) {ts : List Token} (d : Derives true s (labeled_form c n) ts) → AllGood d → s.minify ≡ c.minify → Good (Whole LabeledStmt (item_of (follower c))) (derived_parse d End)
+labeled_good : {s : Settings} (c : Parameters) (n : labeled.LabeledStmt AnyNode) {ts : List Token} (d : Derives core s (labeled_form c n) ts) → AllGood d → s.minify ≡ c.minify → Good (Whole LabeledStmt (item_of (follower c))) (derived_parse d End)
 unfolding labeled_form AllGood PlacedGood derived_parse read_phrase placed is_inlined tokens.name tokens_of
 labeled_good c n (both k (both (fixed g) (part a sa d))) (x, (y, o)) m =
     subst (λ z. Good (Whole LabeledStmt (item_of (follower c))) z) (sym (name_read c n.label k _))
@@ -117,7 +118,7 @@ do_left b true e = do_ended b
 do_left b false e = do_ends b e
 
 -- `finally`, or nothing behind `catch`
-finalizer_good : {s : Settings} (b : Follower) (c : Parameters) (o : Option (BlockStmtBox AnyNode)) {ts : List Token} (d : Derives true s (finalizer_form c o) ts) → AllGood d → s.minify ≡ c.minify →
+finalizer_good : {s : Settings} (b : Follower) (c : Parameters) (o : Option (BlockStmtBox AnyNode)) {ts : List Token} (d : Derives core s (finalizer_form c o) ts) → AllGood d → s.minify ≡ c.minify →
     (is_some o ≡ true → Good (Rest BehindTry TryStmt (item_of b)) (derived_parse d End)) × Good (Rest BehindCatch TryStmt (item_of b)) (derived_parse d End)
 unfolding finalizer_form AllGood PlacedGood derived_parse read_phrase placed is_inlined
 finalizer_good b c None (fixed g) o m = ((λ h. absurd (true≢false (sym h))), try_ends b)
@@ -127,7 +128,7 @@ finalizer_good b c (Some n) (both (fixed g) (part a sa d)) (x, o) m =
     let e : Read (word (codes "finally")) (Read (punctuator (codes "{")) (v.inner End)) ≡ Read (word (codes "finally")) (derived_parse d End) = ap (Read (word (codes "finally"))) (sym (v.is End)) in
     ((λ h. subst (λ z. Good (Rest BehindTry TryStmt (item_of b)) z) e r.0), subst (λ z. Good (Rest BehindCatch TryStmt (item_of b)) z) e r.1)
 
-catch_good : {s : Settings} (n : Nonterminal) (c : Parameters) (o : Option (PatBox AnyNode)) {ts : List Token} (d : Derives true s (catch_param_form c o) ts) → AllGood d → s.minify ≡ c.minify → {m : ParseTree} →
+catch_good : {s : Settings} (n : Nonterminal) (c : Parameters) (o : Option (PatBox AnyNode)) {ts : List Token} (d : Derives core s (catch_param_form c o) ts) → AllGood d → s.minify ≡ c.minify → {m : ParseTree} →
     Good (Rest (Statement InCatch) TryStmt n) m → Good (Rest AfterCatch TryStmt n) (derived_parse d (Read (punctuator (codes "{")) m))
 unfolding catch_param_form AllGood derived_parse read_phrase
 catch_good n c None (fixed g) o m r = catch_block n r
@@ -135,7 +136,7 @@ catch_good n c (Some x) (both (fixed g) (both d (fixed h))) (y, (o, z)) m {m = r
     let v = covered_at nt.PatternTarget no_rest_target (of_bindings c) x.node.value d o m in
     subst (λ w. Good (Rest AfterCatch TryStmt n) (Read (punctuator (codes "(")) w)) (sym (v.is (Read (punctuator (codes ")")) (Read (punctuator (codes "{")) rest)))) (catch_parameter n v.operand r)
 
-handler_good : {s : Settings} (b : Follower) (c : Parameters) (o : Option (CatchClause AnyNode)) (p : Option (BlockStmtBox AnyNode)) {ts us : List Token} → (is_some o || is_some p) ≡ true → (d : Derives true s (handler_form c o) ts) (e : Derives true s (finalizer_form c p) us) →
+handler_good : {s : Settings} (b : Follower) (c : Parameters) (o : Option (CatchClause AnyNode)) (p : Option (BlockStmtBox AnyNode)) {ts us : List Token} → (is_some o || is_some p) ≡ true → (d : Derives core s (handler_form c o) ts) (e : Derives core s (finalizer_form c p) us) →
     AllGood d → AllGood e → s.minify ≡ c.minify → Good (Rest BehindTry TryStmt (item_of b)) (derived_parse d (derived_parse e End))
 unfolding handler_form catch_form AllGood PlacedGood derived_parse read_phrase placed is_inlined
 handler_good b c None p h (fixed g) e o q m = (finalizer_good b c p e q m).0 h
@@ -177,30 +178,30 @@ clause_read n empty y g rest r = (
   λ us. let k = item_heads InClause g (item_stands (follower_by false empty) InClause) (tokens_of rest us) in (k.0, k.1, k.2, (k.3.0, λ e. node_marks y (k.3.1 e))),
 )
 
-clause_good : {s : Settings} (n : Nonterminal) (c : Parameters) (x : StmtBox AnyNode) (xs : List (StmtBox AnyNode)) {ts : List Token} (d : Derives true s (clause_item_form c x xs) ts) → AllGood d → s.minify ≡ c.minify → (rest : ParseTree) → InCases n (clause_empty xs) rest →
+clause_good : {s : Settings} (n : Nonterminal) (c : Parameters) (x : StmtBox AnyNode) (xs : List (StmtBox AnyNode)) {ts : List Token} (d : Derives core s (clause_item_form c x xs) ts) → AllGood d → s.minify ≡ c.minify → (rest : ParseTree) → InCases n (clause_empty xs) rest →
     InCases n (is_empty_node (out-AnyNode x.node.value)) (derived_parse d rest)
 unfolding clause_item_form AllGood PlacedGood derived_parse placed is_inlined
 clause_good n c x [] (part a sa d) o m rest r = clause_read n false (out-AnyNode x.node.value) (o m).good rest r
 clause_good n c x (y ∷ ys) (followed (part a sa d)) o m rest r = clause_read n (is_empty_node (out-AnyNode y.node.value)) (out-AnyNode x.node.value) (o m).good rest r
 
-clauses_good : {s : Settings} (n : Nonterminal) (c : Parameters) (xs : List (StmtBox AnyNode)) {ts : List Token} (d : Derives true s (clause_list_form c xs) ts) → AllGood d → s.minify ≡ c.minify → (rest : ParseTree) → InCases n false rest → InCases n (clause_empty xs) (derived_parse d rest)
+clauses_good : {s : Settings} (n : Nonterminal) (c : Parameters) (xs : List (StmtBox AnyNode)) {ts : List Token} (d : Derives core s (clause_list_form c xs) ts) → AllGood d → s.minify ≡ c.minify → (rest : ParseTree) → InCases n false rest → InCases n (clause_empty xs) (derived_parse d rest)
 unfolding clause_list_form AllGood derived_parse read_phrase
 clauses_good n c [] (fixed g) o m rest r = r
 clauses_good n c (x ∷ xs) (both d e) (o, q) m rest r = clause_good n c x xs d o m (derived_parse e rest) (clauses_good n c xs e q m rest r)
 
-case_good : {s : Settings} (n : Nonterminal) (c : Parameters) (o : Option (ExprBox AnyNode)) {ts : List Token} (d : Derives true s (case_test_form c o) ts) → AllGood d → s.minify ≡ c.minify → (m : ParseTree) (empty : Bool) → InCases n empty m →
+case_good : {s : Settings} (n : Nonterminal) (c : Parameters) (o : Option (ExprBox AnyNode)) {ts : List Token} (d : Derives core s (case_test_form c o) ts) → AllGood d → s.minify ≡ c.minify → (m : ParseTree) (empty : Bool) → InCases n empty m →
     InCases n false (derived_parse d (Read (punctuator (codes ":")) m))
 unfolding case_test_form AllGood PlacedGood derived_parse read_phrase placed is_inlined
 case_good n c None (fixed g) o m rest empty r = default_then n r.0
 case_good n c (Some x) (both (fixed g) (part a sa d)) (y, o) m rest empty r = case_then n (at_place _ _ sa (o m)) r.0
 
-cases_good : {s : Settings} (n : Nonterminal) (c : Parameters) (xs : List (SwitchCase AnyNode)) {ts : List Token} (d : Derives true s (in_order (case_form c) xs) ts) → AllGood d → s.minify ≡ c.minify → {rest : ParseTree} → InCases n false rest → InCases n false (derived_parse d rest)
+cases_good : {s : Settings} (n : Nonterminal) (c : Parameters) (xs : List (SwitchCase AnyNode)) {ts : List Token} (d : Derives core s (in_order (case_form c) xs) ts) → AllGood d → s.minify ≡ c.minify → {rest : ParseTree} → InCases n false rest → InCases n false (derived_parse d rest)
 unfolding in_order case_form AllGood derived_parse read_phrase
 cases_good n c [] (fixed g) o m r = r
 cases_good n c (x ∷ xs) (both (both k (both (fixed h) d)) e) ((y, (z, o)), q) m {rest = rest} r =
     case_good n c x.test k y m (derived_parse d (derived_parse e rest)) (clause_empty x.cons.items) (clauses_good n c x.cons.items d o m (derived_parse e rest) (cases_good n c xs e q m r))
 
-pub stmt_good : {s : Settings} (c : Parameters) (n : Stmt AnyNode) {ts : List Token} (d : Derives true s (stmt_form c n) ts) → AllGood d → s.minify ≡ c.minify → Good (Whole (stmt_variant n) (item_of (follower c))) (derived_parse d End)
+pub stmt_good : {s : Settings} (c : Parameters) (n : Stmt AnyNode) {ts : List Token} (d : Derives core s (stmt_form c n) ts) → AllGood d → s.minify ≡ c.minify → Good (Whole (stmt_variant n) (item_of (follower c))) (derived_parse d End)
 unfolding stmt_form stmt_variant with_form return_form break_form continue_form if_form switch_form throw_form try_form while_form do_while_form empty_stmt debugger_stmt is_met AllGood PlacedGood derived_parse read_phrase chosen placed is_inlined word same_line
 stmt_good c (stmts.Block n) (part a sa d) o m =
     let v = o m in
@@ -239,7 +240,7 @@ abbrev pub InItems : Where → Variant → Nonterminal → Bool → ParseTree �
 InItems place variant n empty m = Good (Rest (Statement place) variant n) m × Heads (Follows place empty) m
 
 -- `empty`: an empty statement stands right behind; `own`: it is one itself
-pub item_taken : {s : Settings} {a : Form AnyNode} {ts : List Token} (place : Where) (variant : Variant) (n : Nonterminal) (empty own : Bool) {v : Variant} → is_list place ≡ true → (d : Derives true s a ts) →
+pub item_taken : {s : Settings} {a : Form AnyNode} {ts : List Token} (place : Where) (variant : Variant) (n : Nonterminal) (empty own : Bool) {v : Variant} → is_list place ≡ true → (d : Derives core s a ts) →
     Good (Whole v (item_of (follower_by false empty))) (derived_parse d End) → (is_empty_variant v ≡ true → own ≡ true) → (rest : ParseTree) → InItems place variant n empty rest → InItems place variant n own (derived_parse d rest)
 item_taken place variant n empty own i d g w rest r =
     let same = sym (derived_joined d End rest) in (
@@ -249,11 +250,11 @@ item_taken place variant n empty own i d g w rest r =
           (k.0, k.1, ap (λ z. tokens_of z us) same ∙ joined_tokens (derived_parse d End) rest us ∙ k.2, (k.3.0, λ e. w (k.3.1 e))),
     )
 
-pub item_good : {s : Settings} (place : Where) (variant : Variant) (n : Nonterminal) (empty : Bool) (c : Parameters) (x : Stmt AnyNode) {ts : List Token} → is_list place ≡ true → (d : Derives true s (stmt_form (in_list empty c) x) ts) → AllGood d → s.minify ≡ c.minify →
+pub item_good : {s : Settings} (place : Where) (variant : Variant) (n : Nonterminal) (empty : Bool) (c : Parameters) (x : Stmt AnyNode) {ts : List Token} → is_list place ≡ true → (d : Derives core s (stmt_form (in_list empty c) x) ts) → AllGood d → s.minify ≡ c.minify →
     (rest : ParseTree) → InItems place variant n empty rest → InItems place variant n (is_empty x) (derived_parse d rest)
 item_good place variant n empty c x i d o m rest r = item_taken place variant n empty (is_empty x) i d (stmt_good (in_list empty c) x d o m) (stmt_marks x) rest r
 
-pub list_good : {s : Settings} (place : Where) (variant : Variant) (n : Nonterminal) (c : Parameters) (xs : List (Stmt AnyNode)) {ts : List Token} → is_list place ≡ true → (d : Derives true s (list_form c xs) ts) → AllGood d → s.minify ≡ c.minify → (rest : ParseTree) →
+pub list_good : {s : Settings} (place : Where) (variant : Variant) (n : Nonterminal) (c : Parameters) (xs : List (Stmt AnyNode)) {ts : List Token} → is_list place ≡ true → (d : Derives core s (list_form c xs) ts) → AllGood d → s.minify ≡ c.minify → (rest : ParseTree) →
     InItems place variant n false rest → InItems place variant n (begins_empty xs) (derived_parse d rest)
 unfolding list_form begins_empty AllGood derived_parse read_phrase
 list_good place variant n c [] i (fixed g) o m rest r = r
@@ -262,15 +263,15 @@ list_good place variant n c (x ∷ xs) i (both d e) (o, q) m rest r = item_good 
 pub list_end : (place : Where) (variant : Variant) (n : Nonterminal) → is_list place ≡ true → (rest : ParseTree) → Good (Rest (closing place) variant n) rest → InItems place variant n false (Read (punctuator (codes "}")) rest)
 list_end place variant n i rest g = (no_items place variant n i g, end_heads place rest i)
 
-block_of : {s : Settings} (c : Parameters) (x : blocks.BlockStmt AnyNode) {ts : List Token} (d : Derives true s (block_form c x) ts) → AllGood d → s.minify ≡ c.minify → BlockFit (derived_parse d)
+block_of : {s : Settings} (c : Parameters) (x : blocks.BlockStmt AnyNode) {ts : List Token} (d : Derives core s (block_form c x) ts) → AllGood d → s.minify ≡ c.minify → BlockFit (derived_parse d)
 unfolding block_form AllGood derived_parse read_phrase
 block_of c x (both (fixed g) (both d (fixed h))) (y, (o, z)) m = record {
   inner = λ rest. derived_parse d (Read (punctuator (codes "}")) rest);
   is = λ rest. refl;
-  good = λ place i variant n rest g. (list_good place variant n c x.stmts.items i d o m (Read (punctuator (codes "}")) rest) (list_end place variant n i rest g)).0;
+  good = λ place i variant n rest g. (list_good place variant n (in_block c) x.stmts.items i d o m (Read (punctuator (codes "}")) rest) (list_end place variant n i rest g)).0;
 }
 
-pub block_in : {s : Settings} (k : Bool) (c : Parameters) (y : AnyNode-F AnyNode) {ts : List Token} (d : Derives true s (node_form k c y Block) ts) → AllGood d → s.minify ≡ c.minify → BlockFit (derived_parse d)
+pub block_in : {s : Settings} (k : Bool) (c : Parameters) (y : AnyNode-F AnyNode) {ts : List Token} (d : Derives core s (node_form k c y Block) ts) → AllGood d → s.minify ≡ c.minify → BlockFit (derived_parse d)
 unfolding node_form part_form stmt_part_form jsx_part_form
 block_in k c (nodes.StmtPart (stmt_parts.BlockStmt x)) d o m = block_of c x d o m
 block_in k c (nodes.ExprPart (expr_parts.Tpl x)) d o m = absurd (no_form d)

@@ -12,7 +12,7 @@ use Rattle.swc_ecma_codegen_grammar.specs.Tokens.{Token, ending, punctuator}
 use Rattle.swc_ecma_codegen_grammar.specs.Trivia.{Remark}
 use Rattle.swc_ecma_codegen_syntax.specs.declared.nonterminals.Nonterminal.TheVariants as nt
 use Rattle.swc_ecma_codegen_syntax.specs.declared.parameters.Parameters.{Parameters}
-use Rattle.swc_ecma_codegen_syntax.specs.Derives.{DerivesExpr, DerivesProgram}
+use Rattle.swc_ecma_codegen_syntax.specs.Derives.{DerivesCoreExpr, DerivesCoreProgram}
 use Rattle.swc_ecma_codegen_uniqueness.specs.ParseTrees.{End, Read, BlockStmt, tokens_of}
 use Rattle.swc_ecma_codegen_uniqueness.specs.Parses.{expr_parse, program_parse}
 use Rattle.swc_ecma_codegen_uniqueness.specs.Parting.{Parting}
@@ -39,13 +39,13 @@ parenthesis = punctuator (codes ")")
 abbrev begun : Control → Frame
 begun c = record { control = c; so_far = λ rest. rest; other = λ rest. rest }
 
-program_leads : {s : Settings} (n : Program AnyNode) {ts : List Token} → DerivesProgram true s n ts → Leads in_program (brace ∷ parenthesis ∷ []) ts
+program_leads : {s : Settings} (n : Program AnyNode) {ts : List Token} → DerivesCoreProgram s n ts → Leads in_program (brace ∷ parenthesis ∷ []) ts
 unfolding punctuator tokens_of
 program_leads {s = s} n d =
     ap (λ us. is_fail (run us (from in_program))) (sym (tokens_before d (Read brace End) (parenthesis ∷ [])))
     ∙ ap is_fail (reads (program_good s.minify n d (all_good d) refl) (λ rest. rest) (λ rest. rest) (begun InParen) [] parenthesis [] refl)
 
-pub one_text : (s t : Settings) (a b : Program AnyNode) (xs ys : List Token) (text : List ℕ) (cs ds : List Remark) → DerivesProgram true s a xs → DerivesProgram true t b ys → Reads text xs cs → Reads text ys ds →
+pub one_text : (s t : Settings) (a b : Program AnyNode) (xs ys : List Token) (text : List ℕ) (cs ds : List Remark) → DerivesCoreProgram s a xs → DerivesCoreProgram t b ys → Reads text xs cs → Reads text ys ds →
     ((as_names xs ≡ as_names ys) × (with_names (program_parse s a) ≡ with_names (program_parse t b))) ⊎ Parting (as_names xs) (as_names ys)
 unfolding punctuator as_names named_by
 one_text s t a b xs ys text cs ds d e h k = elim (one_list in_program brace (parenthesis ∷ []) xs ys text cs ds refl refl refl (program_leads a d) (program_leads b e) h k) [
@@ -55,7 +55,7 @@ one_text s t a b xs ys text cs ds d e h k = elim (one_list in_program brace (par
 
 -- ---- expressions
 
-pub one_text_of_exprs : (s t : Settings) (c e : Parameters) (a b : Expr AnyNode) (xs ys : List Token) (text : List ℕ) (cs ds : List Remark) → DerivesExpr true s nt.Expression c a xs → DerivesExpr true t nt.Expression e b ys → Reads text xs cs →
+pub one_text_of_exprs : (s t : Settings) (c e : Parameters) (a b : Expr AnyNode) (xs ys : List Token) (text : List ℕ) (cs ds : List Remark) → DerivesCoreExpr s nt.Expression c a xs → DerivesCoreExpr t nt.Expression e b ys → Reads text xs cs →
     Reads text ys ds → ((as_names xs ≡ as_names ys) × (with_names (expr_parse s c a) ≡ with_names (expr_parse t e b))) ⊎ Parting (as_names xs) (as_names ys)
 unfolding punctuator as_names named_by
 one_text_of_exprs s t c e a b xs ys text cs ds x y h k = elim (one_list (InParen ∷ []) parenthesis [] xs ys text cs ds refl refl refl (expr_runs a x) (expr_runs b y) h k) [
@@ -66,7 +66,7 @@ one_text_of_exprs s t c e a b xs ys text cs ds x y h k = elim (one_list (InParen
 -- ---- goals of the lexical grammar, by the tokens before
 
 abbrev Next : Settings → Program AnyNode → List Token → Token → List Token → Type 0
-Next s a xs x ys = DerivesProgram true s a (xs ++ (x ∷ ys))
+Next s a xs x ys = DerivesCoreProgram s a (xs ++ (x ∷ ys))
 
 one_next : (s t : Settings) (a b : Program AnyNode) (xs ys zs : List Token) (x y : Token) → Rivals (class y) (class x) → Next s a xs x ys → Next t b xs y zs → ⊥
 one_next s t a b xs ys zs x y r d e = none_part in_program (brace ∷ parenthesis ∷ []) (xs ++ (y ∷ zs)) (xs ++ (x ∷ ys)) xs zs ys y x (program_leads b e) (program_leads a d) refl refl r

@@ -21,9 +21,10 @@ use Rattle.swc_ecma_codegen_syntax.specs.declared.parameters.Parameters.{Paramet
 use Rattle.swc_ecma_codegen_syntax.specs.Nonterminals.{takes}
 use Rattle.swc_ecma_codegen_syntax.specs.Parameters.{of_bindings, of_loop}
 use Rattle.swc_ecma_codegen_syntax.specs.Forms.{Fixed, is_met, each_after}
-use Rattle.swc_ecma_codegen_syntax.specs.DeclForms.{is_const, is_valued, is_single, value_form, declarator_form, declarators_form, var_decl_form}
+use Rattle.swc_ecma_codegen_syntax.specs.DeclForms.{is_const, is_single, of_kind, value_form, declarator_form, declarators_form, var_decl_form}
 use Rattle.swc_ecma_codegen_syntax.specs.PatForms.{pat_form, pat_nonterminal}
 use Rattle.swc_ecma_codegen_syntax.specs.Derives.{Derives, fixed, part, both, provided}
+use Rattle.swc_ecma_codegen_syntax.specs.Verdicts.{core}
 use Rattle.swc_ecma_codegen_uniqueness.specs.ParseTrees.{Variant, ParseTree, End, Read, VarDecl}
 use Rattle.swc_ecma_codegen_uniqueness.specs.Parses.{placed, is_inlined}
 use Rattle.swc_ecma_codegen_uniqueness.proofs.Classes.{VarWord, class}
@@ -128,14 +129,14 @@ behind_semicolon v n g = record { token = _; rest = _; is = refl; ends = assignm
 -- ---- declarations
 
 declarator_by : {s : Settings} (p : VarPlace) (c : Parameters) (x : VarDeclarator AnyNode) {ts us : List Token} → takes nt.PatternTarget (pat_nonterminal x.name) ≡ true →
-    (d : Derives true s (pat_form false (of_bindings c) x.name) ts) (o : Option (ExprBox AnyNode)) (e : Derives true s (value_form c o) us) → AllGood d → AllGood e → s.minify ≡ c.minify → (m : ParseTree) → BehindVar p m →
+    (d : Derives core s (pat_form false (of_bindings c) x.name) ts) (o : Option (ExprBox AnyNode)) (e : Derives core s (value_form c o) us) → AllGood d → AllGood e → s.minify ≡ c.minify → (m : ParseTree) → BehindVar p m →
     InVars p (derived_parse d (derived_parse e m))
 unfolding value_form AllGood PlacedGood derived_parse read_phrase placed is_inlined punctuator
 declarator_by p c x h d None (fixed g) o q m rest behind =
     name_then p behind.token (cover (pat_nonterminal x.name)) (cover_taken nt.PatternTarget (pat_nonterminal x.name) h)
     (pat_good false (of_bindings c) x.name d o m (not_inlined (of_bindings c) x.name (target_element _ h) refl d)) (takes_on (left (class behind.token)) nt.AssignmentExpression nt.LeftHandSideExpression behind.ends left_assigned) behind.spliced behind.named
     (ap (derived_parse d) behind.is ∙ sym (derived_joined d End (Read behind.token behind.rest)))
-declarator_by p c x h d (Some v) (both (fixed g) (part a sa e)) o (y, q) m rest behind =
+declarator_by p c x h d (Some v) (provided u (both (fixed g) (part a sa e))) o (y, q) m rest behind =
     let w = at_place _ _ sa (q m) in
     let i = equals p.at in
     name_then p (punctuator (codes "=")) (cover (pat_nonterminal x.name)) (cover_taken nt.PatternTarget (pat_nonterminal x.name) h)
@@ -143,19 +144,19 @@ declarator_by p c x h d (Some v) (both (fixed g) (part a sa e)) o (y, q) m rest 
     (left_at i.1 (part_then p.values rest (values_wait p.at) w (subst (λ z. After p.values nt.AssignmentExpression p.variant p.of z) (sym behind.is) (behind.ends, behind.passes, behind.valued))))
     (sym (derived_joined d End _))
 
-declarator_good : {s : Settings} (p : VarPlace) (c : Parameters) (constant : Bool) (x : VarDeclarator AnyNode) {ts : List Token} (d : Derives true s (declarator_form c constant x) ts) → AllGood d → s.minify ≡ c.minify → (m : ParseTree) → BehindVar p m →
+declarator_good : {s : Settings} (p : VarPlace) (c : Parameters) (constant : Bool) (x : VarDeclarator AnyNode) {ts : List Token} (d : Derives core s (declarator_form c constant x) ts) → AllGood d → s.minify ≡ c.minify → (m : ParseTree) → BehindVar p m →
     InVars p (derived_parse d m)
 unfolding declarator_form is_met AllGood derived_parse
 declarator_good p c constant x (provided h (provided k (both d e))) (o, q) m rest behind = declarator_by p c x (and_parts _ _ k).1 d x.init e o q m rest behind
 
-declarators_after : {s : Settings} (p : VarPlace) (c : Parameters) (constant : Bool) (xs : List (VarDeclarator AnyNode)) {ts : List Token} (d : Derives true s (each_after (codes ",") (declarator_form c constant) xs) ts) → AllGood d → s.minify ≡ c.minify →
+declarators_after : {s : Settings} (p : VarPlace) (c : Parameters) (constant : Bool) (xs : List (VarDeclarator AnyNode)) {ts : List Token} (d : Derives core s (each_after (codes ",") (declarator_form c constant) xs) ts) → AllGood d → s.minify ≡ c.minify →
     (m : ParseTree) → BehindVar p m → BehindVar p (derived_parse d m)
 unfolding each_after AllGood derived_parse read_phrase
 declarators_after p c constant [] (fixed g) o m rest behind = behind
 declarators_after p c constant (x ∷ xs) (both (fixed g) (both d e)) (y, (o, q)) m rest behind =
     behind_comma p (declarator_good p c constant x d o m (derived_parse e rest) (declarators_after p c constant xs e q m rest behind))
 
-declarators_good : {s : Settings} (p : VarPlace) (c : Parameters) (constant : Bool) (xs : List (VarDeclarator AnyNode)) {ts : List Token} (d : Derives true s (declarators_form c constant xs) ts) → AllGood d → s.minify ≡ c.minify →
+declarators_good : {s : Settings} (p : VarPlace) (c : Parameters) (constant : Bool) (xs : List (VarDeclarator AnyNode)) {ts : List Token} (d : Derives core s (declarators_form c constant xs) ts) → AllGood d → s.minify ≡ c.minify →
     (m : ParseTree) → BehindVar p m → InVars p (derived_parse d m)
 unfolding declarators_form AllGood derived_parse read_phrase Generates
 declarators_good p c constant [] (fixed g) o m rest behind = absurd g
@@ -175,18 +176,18 @@ var_word s p Var ts g m h = record { token = word (codes "var"); rest = m; is = 
 var_word s p Let ts g m h = record { token = word (codes "let"); rest = m; is = refl; var = refl; good = h }
 var_word s p Const ts g m h = record { token = word (codes "const"); rest = m; is = refl; var = refl; good = h }
 
-no_declare : {s : Settings} (b : Bool) {ts : List Token} → not b ≡ true → (d : Derives true s (Fixed (declare_word b)) ts) (rest : ParseTree) → derived_parse d rest ≡ rest
+no_declare : {s : Settings} (b : Bool) {ts : List Token} → not b ≡ true → (d : Derives core s (Fixed (declare_word b)) ts) (rest : ParseTree) → derived_parse d rest ≡ rest
 unfolding declare_word word_if derived_parse read_phrase
 no_declare true h d rest = absurd (true≢false (sym h))
 no_declare false h (fixed g) rest = refl
 
-pub decl_read : {s : Settings} (p : VarPlace) (c : Parameters) (n : var_decls.VarDecl AnyNode) {ts : List Token} (d : Derives true s (var_decl_form c n) ts) → AllGood d → s.minify ≡ c.minify → (m : ParseTree) → BehindVar p m → VarsRead p (derived_parse d m)
+pub decl_read : {s : Settings} (p : VarPlace) (c : Parameters) (n : var_decls.VarDecl AnyNode) {ts : List Token} (d : Derives core s (var_decl_form c n) ts) → AllGood d → s.minify ≡ c.minify → (m : ParseTree) → BehindVar p m → VarsRead p (derived_parse d m)
 unfolding var_decl_form is_met AllGood derived_parse
 decl_read p c n (provided h (provided k (both w (both (fixed g) d)))) (x, (y, o)) m rest behind =
-    let r = var_word _ p n.kind _ g _ (declarators_good p c (is_const n.kind) n.decls.items d o m rest behind) in
+    let r = var_word _ p n.kind _ g _ (declarators_good p (of_kind n.kind c) (is_const n.kind) n.decls.items d o m rest behind) in
     record { token = r.token; rest = r.rest; is = no_declare n.declare h w _ ∙ r.is; var = r.var; good = r.good }
 
-pub vars_read : {s : Settings} (at : Nonterminal) (c : Parameters) (n : var_decls.VarDecl AnyNode) {ts us : List Token} (d : Derives true s (var_decl_form c n) ts) (e : Derives true s (Fixed phrases.ending) us) → AllGood d → s.minify ≡ c.minify →
+pub vars_read : {s : Settings} (at : Nonterminal) (c : Parameters) (n : var_decls.VarDecl AnyNode) {ts us : List Token} (d : Derives core s (var_decl_form c n) ts) (e : Derives core s (Fixed phrases.ending) us) → AllGood d → s.minify ≡ c.minify →
     VarsRead (of_statement at) (derived_parse d (derived_parse e End))
 unfolding derived_parse read_phrase
 vars_read at c n d (fixed g) o m = decl_read (of_statement at) c n d o m (Read ending End) (behind_ending at)
@@ -196,27 +197,27 @@ vars_read at c n d (fixed g) o m = decl_read (of_statement at) c n d o m (Read e
 abbrev pub Single : Variant → Nonterminal → Token → ParseTree → Type 0
 Single v n t m = (takes (left (class t)) nt.LeftHandSideExpression ≡ true) × ((s : Variant) → decide ForVars (Some s) t ≡ Splice) × Good (Rest (passed_to ForVars (class t)) v n) m
 
-single_by : {s : Settings} (v : Variant) (n : Nonterminal) (c : Parameters) (x : VarDeclarator AnyNode) {ts us : List Token} → takes nt.PatternTarget (pat_nonterminal x.name) ≡ true → (d : Derives true s (pat_form false (of_bindings c) x.name) ts)
-    (o : Option (ExprBox AnyNode)) (e : Derives true s (value_form c o) us) → not (is_some o) ≡ true → AllGood d → s.minify ≡ c.minify → (t : Token) (m : ParseTree) → Single v n t m → InVars (of_head v n) (derived_parse d (derived_parse e (Read t m)))
-unfolding value_form derived_parse read_phrase
+single_by : {s : Settings} (v : Variant) (n : Nonterminal) (c : Parameters) (x : VarDeclarator AnyNode) {ts us : List Token} → takes nt.PatternTarget (pat_nonterminal x.name) ≡ true → (d : Derives core s (pat_form false (of_bindings c) x.name) ts)
+    (o : Option (ExprBox AnyNode)) (e : Derives core s (value_form c o) us) → c.is_loop_head ≡ true → AllGood d → s.minify ≡ c.minify → (t : Token) (m : ParseTree) → Single v n t m → InVars (of_head v n) (derived_parse d (derived_parse e (Read t m)))
+unfolding value_form is_met derived_parse read_phrase
 single_by v n c x h d None (fixed g) i o m t rest (a, b, r) =
     name_then (of_head v n) t (cover (pat_nonterminal x.name)) (cover_taken nt.PatternTarget (pat_nonterminal x.name) h)
     (pat_good false (of_bindings c) x.name d o m (not_inlined (of_bindings c) x.name (target_element _ h) refl d)) a b r (sym (derived_joined d End (Read t rest)))
-single_by v n c x h d (Some e) f i o m t rest r = absurd (true≢false (sym i))
+single_by v n c x h d (Some e) (provided u f) i o m t rest r = absurd (true≢false (sym u ∙ ap not i))
 
-single_good : {s : Settings} (v : Variant) (n : Nonterminal) (c : Parameters) (constant : Bool) (xs : List (VarDeclarator AnyNode)) {ts : List Token} → length xs ≡ 1 → (d : Derives true s (declarators_form (of_loop c) constant xs) ts) → AllGood d →
+single_good : {s : Settings} (v : Variant) (n : Nonterminal) (initializes : Bool) (c : Parameters) (kind : VarDeclKind) (constant : Bool) (xs : List (VarDeclarator AnyNode)) {ts : List Token} → length xs ≡ 1 → (d : Derives core s (declarators_form (of_kind kind (of_loop initializes c)) constant xs) ts) → AllGood d →
     s.minify ≡ c.minify → (t : Token) (m : ParseTree) → Single v n t m → InVars (of_head v n) (derived_parse d (Read t m))
-unfolding declarators_form declarator_form is_valued each_after is_met AllGood derived_parse read_phrase Generates
-single_good v n c constant [] h (fixed g) o m t rest r = absurd g
-single_good v n c constant (x ∷ []) h (both (provided i (provided k (both d e))) (fixed g)) ((o, p), q) m t rest r =
-    let a = and_parts _ _ k in single_by v n (of_loop c) x a.1 d x.init e a.0 o m t rest r
-single_good v n c constant (x ∷ y ∷ xs) h d o m t rest r = absurd (omega (arith, h))
+unfolding declarators_form declarator_form each_after is_met AllGood derived_parse read_phrase Generates
+single_good v n b c kind constant [] h (fixed g) o m t rest r = absurd g
+single_good v n b c kind constant (x ∷ []) h (both (provided i (provided k (both d e))) (fixed g)) ((o, p), q) m t rest r =
+    single_by v n (of_kind kind (of_loop b c)) x (and_parts _ _ k).1 d x.init e refl o m t rest r
+single_good v n b c kind constant (x ∷ y ∷ xs) h d o m t rest r = absurd (omega (arith, h))
 
-pub single_read : {s : Settings} (v : Variant) (n : Nonterminal) (c : Parameters) (x : var_decls.VarDecl AnyNode) {ts : List Token} (d : Derives true s (var_decl_form (of_loop c) x) ts) → AllGood d → s.minify ≡ c.minify → (t : Token) (m : ParseTree) →
+pub single_read : {s : Settings} (v : Variant) (n : Nonterminal) (initializes : Bool) (c : Parameters) (x : var_decls.VarDecl AnyNode) {ts : List Token} (d : Derives core s (var_decl_form (of_loop initializes c) x) ts) → AllGood d → s.minify ≡ c.minify → (t : Token) (m : ParseTree) →
     Single v n t m → VarsRead (of_head v n) (derived_parse d (Read t m))
 unfolding var_decl_form is_single is_met AllGood derived_parse
-single_read v n c x (provided h (provided k (both w (both (fixed g) d)))) (y, (z, o)) m t rest i =
-    let r = var_word _ (of_head v n) x.kind _ g _ (single_good v n c (is_const x.kind) x.decls.items (eqb-true (length x.decls.items) 1 k) d o m t rest i) in
+single_read v n b c x (provided h (provided k (both w (both (fixed g) d)))) (y, (z, o)) m t rest i =
+    let r = var_word _ (of_head v n) x.kind _ g _ (single_good v n b c x.kind (is_const x.kind) x.decls.items (eqb-true (length x.decls.items) 1 k) d o m t rest i) in
     record { token = r.token; rest = r.rest; is = no_declare x.declare h w _ ∙ r.is; var = r.var; good = r.good }
 
 -- behind `for (`

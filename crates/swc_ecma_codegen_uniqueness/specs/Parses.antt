@@ -21,7 +21,7 @@ use Rattle.swc_ecma_codegen_grammar.specs.declared.roles.Role.{Role}
 use Rattle.swc_ecma_codegen_grammar.specs.declared.roles.Role.TheVariants.{Expression, Pattern, Statement, Block, Function, FunctionHead, MethodHead, MethodDecorators, MethodTail, AccessorTail, ClassHead, ClassWord, ClassTail, ModuleDeclaration, ExportedHead, ExportedTail, VariableDeclaration, Element, TagObject, PropertyName, ChainMember, ChainCall, Template, TaggedTemplate}
 use Rattle.swc_ecma_codegen_syntax.specs.declared.parameters.Parameters.{Parameters}
 use Rattle.swc_ecma_codegen_syntax.specs.Parameters.{before}
-use Rattle.swc_ecma_codegen_syntax.specs.Forms.{Form, Fixed, Part, Simple, Restricted, Lone, Both, Provided, Closed, Bare, Followed, role_in}
+use Rattle.swc_ecma_codegen_syntax.specs.Forms.{Form, Fixed, Part, Simple, Shaped, Restricted, Lone, Both, Provided, Closed, Bare, Followed, role_in}
 use Rattle.swc_ecma_codegen_syntax.specs.ModuleForms.{program_form}
 use Rattle.swc_ecma_codegen_syntax.specs.NodeForms.{node_form}
 use Rattle.swc_ecma_codegen_uniqueness.specs.ParseTrees.{Variant, EmptyStmt, ParseTree, End, Read, Node, node_variant}
@@ -100,6 +100,7 @@ unfoldable pub form_parse : {X : Type 0} → (X → Role → Parameters → Pars
 form_parse f s (Fixed p) rest = read_all (phrase_tokens s p) rest
 form_parse f s (Part place c role n) rest = f n role c rest
 form_parse f s (Simple named place c n) rest = f n Expression c rest
+form_parse f s (Shaped shape place c role n) rest = f n role c rest
 form_parse f s (Restricted lookahead place c as_pattern n) rest = f n (role_in as_pattern) c rest
 form_parse f s (Lone place c n) rest = f n Pattern c rest
 form_parse f s (Both a b) rest = form_parse f s a (form_parse f s b rest)

@@ -135,7 +135,8 @@ pub(crate) fn is_method_tail<N: Fits>(node: &Function<N>) -> bool
         && is_body(&node.body)
 }
 
-/// The same of a getter or a setter, which is neither async nor a generator.
+/// Whether the rest of a getter or a setter, which is neither async nor a generator, is
+/// well-formed.
 #[tactic(auto, using(crate::proofs::ClassesPossible::accessor_tail_possible))]
 pub(crate) fn is_accessor_tail<N: Fits>(node: &Function<N>) -> bool
     ensures { result ≡ is_possible (accessor_tail N.reads node.now) }
@@ -200,7 +201,8 @@ fn is_prop_value<N: Fits>(value: &Option<ExprBox<N>>) -> bool
     }
 }
 
-/// Whether the type of a field is well-formed, or there is none: one that is said to have a value has a type.
+/// Whether the type of a field is well-formed, or there is none: one that is said to have a value
+/// has a type.
 #[tactic(auto, using(crate::proofs::Annotations::field_none_possible, crate::proofs::Annotations::field_some_possible))]
 fn is_field_annotation<N: Fits>(definite: bool, ty: &Option<TsTypeAnnBox<N>>) -> bool
     ensures { result ≡ is_possible (field_annotation N.reads definite ty.now) }

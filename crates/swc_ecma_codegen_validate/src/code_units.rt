@@ -37,7 +37,8 @@ fn braced_unit(text: &str) -> Option<(u32, &str)>
     Some((unit, after_first(rest, '}')?))
 }
 
-/// What follows the `u` of a written surrogate escape, as `d83d` or `{d83d}`: its unit, and the rest of the text.
+/// What follows the `u` of a written surrogate escape, as `d83d` or `{d83d}`: its unit, and the
+/// rest of the text.
 #[tactic(auto, unfolding(swc_ecma_codegen_grammar::specs::CodeUnits::begins_like, swc_ecma_codegen_grammar::specs::CodeUnits::short_escape, swc_ecma_codegen_grammar::specs::CodeUnits::long_escape, swc_ecma_codegen_grammar::specs::CodeUnits::escape_length, swc_ecma_codegen_grammar::specs::CodeUnits::escape_unit))]
 fn unicode_unit(text: &str) -> Option<(u32, &str)>
     ensures some { IfSome result (λ found.

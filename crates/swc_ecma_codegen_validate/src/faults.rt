@@ -23,7 +23,8 @@ use std::alloc::{AllocError, Global};
 use swc_ecma_codegen_grammar::roles::Role;
 use swc_ecma_codegen_tree::{Link, Program};
 
-/// A step from a node to one below it, as in the JSON of a tree: `body`, or the fourth of a list, counted from 0.
+/// A step from a node to one below it, as in the JSON of a tree: `body`, or the fourth of a list,
+/// counted from 0.
 #[derive(Clone, Copy, Debug, PartialEq, Eq)]
 pub enum Step {
     Field(&'static str),
@@ -39,7 +40,8 @@ pub struct Fault {
     pub rule: &'static str,
 }
 
-/// A rule that is broken, and the way from its node up to where the search stands: the last step comes first.
+/// A rule that is broken, and the way from its node up to where the search stands: the last step
+/// comes first.
 #[derive(Drop)]
 pub(crate) struct Broken {
     way_up: Vec<Step>,
@@ -58,7 +60,7 @@ impl Broken {
         }
     }
 
-    /// The same, as seen from the node that this step leads from.
+    /// The broken rule, as seen from the node that this step leads from.
     pub(crate) fn below(self, step: Step) -> Result<Broken, AllocError>
         ensures path { IfOk result (λ b. path_of b ≡ place_of step ∷ path_of self) }
         ensures rule { IfOk result (λ b. b.rule ≡ self.rule) }
@@ -206,7 +208,8 @@ pub(crate) fn under_four<A: FindsFault, B: FindsFault, C: FindsFault, D: FindsFa
     }
 }
 
-/// The first fault that one of these finds, in their order. None is looked for behind the first one that is found.
+/// The first fault that one of these finds, in their order. None is looked for behind the first one
+/// that is found.
 macro_rules! in_turn {
     ($found:expr,) => {
         $found
@@ -289,12 +292,13 @@ impl<T: FindsFault> FindsFault for Vec<T> {
     }
 }
 
-/// Why a program isn't well-formed: the way to the first node whose own rule is broken, and that rule. `None` where the
-/// program is well-formed.
+/// Why a program isn't well-formed: the way to the first node whose own rule is broken, and that
+/// rule. `None` where the program is well-formed.
 ///
-/// Of `a + (b c)`, where `b c` is one name, the path is `body`, 0, `expr`, `right`, and the rule is `a name holds a character
-/// that no name may`. A node's own rules are looked at before its fields, and these in the order in which they are written.
-/// Takes memory for the path alone, and fails only where this is refused.
+/// Of `a + (b c)`, where `b c` is one name, the path is `body`, 0, `expr`, `right`, and the rule is
+/// `a name holds a character that no name may`. A node's own rules are looked at before its fields,
+/// and these in the order in which they are written. Takes memory for the path alone, and fails
+/// only where this is refused.
 #[tactic(auto, using(crate::proofs::FitsTree::program_is_well_formed), unfolding(crate::specs::TreeRules::found_in_program))]
 pub fn first_fault(alloc: Global, program: &Program) -> Result<Option<Fault>, AllocError>
     ensures exact { IfOk result (λ found. is_some found ≡ not (is_well_formed program.now)) }

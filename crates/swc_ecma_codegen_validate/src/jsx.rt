@@ -24,7 +24,7 @@ pub(crate) fn is_tag_ident(name: &Ident) -> bool
     !name.optional && is_tag_name(&name.sym)
 }
 
-/// The same of a name of an attribute, and of what stands after a dot or a colon.
+/// Whether a name may stand in a tag as that of an attribute, or after a dot or a colon.
 #[tactic(auto, unfolding(swc_ecma_codegen_grammar::specs::JsxPhrases::tag_ident_name, swc_ecma_codegen_grammar::specs::Phrases::is_possible))]
 pub(crate) fn is_tag_ident_name(name: &IdentName) -> bool
     ensures { result ≡ is_possible (tag_ident_name name.now) }

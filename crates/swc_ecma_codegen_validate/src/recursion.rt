@@ -34,10 +34,11 @@ impl Fits for AnyNode {
     }
 }
 
-/// Whether a program is well-formed: whether its syntax has a list of tokens for it. Takes no memory.
+/// Whether a program is well-formed: whether its syntax has a list of tokens for it. Takes no
+/// memory.
 ///
-/// This call and the three below are generic in what links hold. In a whole tree that is `AnyNode`, whose `reads` is
-/// `phrase`: there the clause says `is_well_formed program.now`.
+/// This call and the three below are generic in what links hold. In a whole tree that is `AnyNode`,
+/// whose `reads` is `phrase`: there the clause says `is_well_formed program.now`.
 pub fn is_well_formed<N: Fits>(program: &Program<N>) -> bool
     ensures { result ≡ is_possible (a_program N.reads program.now) }
 {

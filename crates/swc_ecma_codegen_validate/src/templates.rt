@@ -37,7 +37,8 @@ fn next(escaped: bool, c: char, more: &str) -> Option<bool>
     }
 }
 
-/// Whether a raw ends where its part does: it holds neither a bare back quote nor a bare `${`, and no backslash is last.
+/// Whether a raw ends where its part does: it holds neither a bare back quote nor a bare `${`, and
+/// no backslash is last.
 #[tactic(auto, unfolding(crate::specs::TemplateStates::inside))]
 fn is_inside(raw: &str) -> bool
     ensures { result ≡ inside false (chars raw.now) }
@@ -118,7 +119,8 @@ fn has_cooked_value(raw: &str) -> bool
     matches!(place, Place::Between)
 }
 
-/// Whether a raw is the inside of a part of a template: without malformed escapes, unless the template has a tag.
+/// Whether a raw is the inside of a part of a template: without malformed escapes, unless the
+/// template has a tag.
 #[tactic(auto, unfolding(crate::specs::TemplateStates::is_element))]
 pub(crate) fn is_element(tagged: bool, element: &TplElement) -> bool
     ensures { result ≡ is_element tagged element.now }

@@ -1,4 +1,4 @@
--- One map of classes and their members behind another is one map. Made by scripts/make-visit-files.
+-- One map of classes and their members behind another is one map. Made by scripts/dev/make-visit-files.
 use Rattle.std.proofs.Common.{◌≡◌, refl, ap}
 use Rattle.swc_ecma_codegen_tree.specs.declared.classes.AutoAccessor.{AutoAccessor}
 use Rattle.swc_ecma_codegen_tree.specs.declared.classes.Class.{Class}

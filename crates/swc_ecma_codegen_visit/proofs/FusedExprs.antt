@@ -1,4 +1,4 @@
--- One map of expressions behind another is one map. Made by scripts/make-visit-files.
+-- One map of expressions behind another is one map. Made by scripts/dev/make-visit-files.
 use Rattle.std.proofs.Common.{◌≡◌, refl, ap}
 use Rattle.std.specs.formers.vec.Vec.{mapped as vec_mapped}
 use Rattle.swc_ecma_codegen_tree.specs.declared.exprs.ArrayLit.{ArrayLit}

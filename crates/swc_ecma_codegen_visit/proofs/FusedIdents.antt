@@ -1,4 +1,4 @@
--- One map of bound names behind another is one map. Made by scripts/make-visit-files.
+-- One map of bound names behind another is one map. Made by scripts/dev/make-visit-files.
 use Rattle.std.proofs.Common.{◌≡◌, refl}
 use Rattle.swc_ecma_codegen_tree.specs.declared.idents.BindingIdent.{BindingIdent}
 use Rattle.swc_ecma_codegen_tree.specs.declared.idents.Ident.{Ident}

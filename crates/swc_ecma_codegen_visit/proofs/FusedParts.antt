@@ -1,4 +1,4 @@
--- One map of what stands in the sums of sorts behind another is one map. Made by scripts/make-visit-files.
+-- One map of what stands in the sums of sorts behind another is one map. Made by scripts/dev/make-visit-files.
 use Rattle.std.proofs.Common.{◌≡◌, ap}
 use Rattle.swc_ecma_codegen_tree.specs.declared.parts.ExprPart.{ExprPart}
 use Rattle.swc_ecma_codegen_tree.specs.declared.idents.Ident.{Ident}

@@ -1,4 +1,4 @@
--- One map of declarations of TypeScript behind another is one map. Made by scripts/make-visit-files.
+-- One map of declarations of TypeScript behind another is one map. Made by scripts/dev/make-visit-files.
 use Rattle.std.proofs.Common.{◌≡◌, refl}
 use Rattle.swc_ecma_codegen_tree.specs.declared.idents.Ident.{Ident}
 use Rattle.swc_ecma_codegen_tree.specs.declared.ts_decls.TsEnumDecl.{TsEnumDecl}

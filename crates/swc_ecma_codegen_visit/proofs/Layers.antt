@@ -1,4 +1,4 @@
--- The map by cases is the map that the kit derives for the one recursive type. Made by scripts/make-visit-files.
+-- The map by cases is the map that the kit derives for the one recursive type. Made by scripts/dev/make-visit-files.
 use Rattle.std.proofs.Common.{◌≡◌, refl}
 use Rattle.swc_ecma_codegen_tree.specs.declared.links.AnyNode.{AnyNode-F, map-AnyNode}
 use Rattle.swc_ecma_codegen_tree.specs.declared.links.AnyNode.TheOpen as nodes

@@ -1,4 +1,4 @@
--- Where the map of declarations and functions is another map of the same type, with names as they are. Made by scripts/make-visit-files.
+-- Where the map of declarations and functions is another map of the same type, with names as they are. Made by scripts/dev/make-visit-files.
 use Rattle.std.proofs.Common.{◌≡◌, ap, ◌∙◌, Option}
 use Rattle.std.specs.Prelude.{Box}
 use Rattle.std.specs.declared.alloc.Global.{Global}

@@ -1,4 +1,4 @@
--- Where the map of bound names is another map of the same type, with names as they are. Made by scripts/make-visit-files.
+-- Where the map of bound names is another map of the same type, with names as they are. Made by scripts/dev/make-visit-files.
 use Rattle.std.proofs.Common.{◌≡◌, ◌∙◌, Option}
 use Rattle.swc_ecma_codegen_tree.specs.declared.idents.BindingIdent.{BindingIdent}
 use Rattle.swc_ecma_codegen_tree.specs.Links.{TsTypeAnnBox}

@@ -1,4 +1,4 @@
--- Where the map of types of TypeScript is another map of the same type, with names as they are. Made by scripts/make-visit-files.
+-- Where the map of types of TypeScript is another map of the same type, with names as they are. Made by scripts/dev/make-visit-files.
 use Rattle.std.proofs.Common.{◌≡◌, refl, ap, ◌∙◌, Option}
 use Rattle.std.specs.Prelude.{Box}
 use Rattle.std.specs.declared.alloc.Global.{Global}

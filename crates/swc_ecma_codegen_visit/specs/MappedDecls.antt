@@ -1,4 +1,4 @@
--- Maps of declarations and functions: of each type, over names and what links hold as something else. Made by scripts/make-visit-files.
+-- Maps of declarations and functions: of each type, over names and what links hold as something else. Made by scripts/dev/make-visit-files.
 use Rattle.std.specs.formers.vec.Vec.{mapped as vec_mapped}
 use Rattle.swc_ecma_codegen_tree.specs.declared.decls.ClassDecl.{ClassDecl}
 use Rattle.swc_ecma_codegen_tree.specs.declared.decls.Decl.{Decl}

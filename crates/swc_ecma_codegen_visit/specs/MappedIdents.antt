@@ -1,4 +1,4 @@
--- Maps of bound names: of each type, over names and what links hold as something else. Made by scripts/make-visit-files.
+-- Maps of bound names: of each type, over names and what links hold as something else. Made by scripts/dev/make-visit-files.
 use Rattle.swc_ecma_codegen_tree.specs.declared.idents.BindingIdent.{BindingIdent}
 use Rattle.swc_ecma_codegen_tree.specs.declared.idents.Ident.{Ident}
 use Rattle.swc_ecma_codegen_visit.specs.Mapping.{map_link, map_option}

@@ -1,4 +1,4 @@
--- Maps of what stands in the sums of sorts: of each type, over names and what links hold as something else. Made by scripts/make-visit-files.
+-- Maps of what stands in the sums of sorts: of each type, over names and what links hold as something else. Made by scripts/dev/make-visit-files.
 use Rattle.swc_ecma_codegen_tree.specs.declared.parts.ExprPart.{ExprPart}
 use Rattle.swc_ecma_codegen_tree.specs.declared.idents.Ident.{Ident}
 use Rattle.swc_ecma_codegen_tree.specs.declared.parts.JSXPart.{JSXPart}

@@ -1,4 +1,4 @@
--- Maps of declarations of TypeScript: of each type, over names and what links hold as something else. Made by scripts/make-visit-files.
+-- Maps of declarations of TypeScript: of each type, over names and what links hold as something else. Made by scripts/dev/make-visit-files.
 use Rattle.std.specs.formers.vec.Vec.{mapped as vec_mapped}
 use Rattle.swc_ecma_codegen_tree.specs.declared.idents.Ident.{Ident}
 use Rattle.swc_ecma_codegen_tree.specs.declared.ts_decls.TsEnumDecl.{TsEnumDecl}

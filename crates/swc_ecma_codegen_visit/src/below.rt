@@ -47,10 +47,12 @@ pub trait Below<N, C>: Sized {
 
 /// A node of any type, with its names and links.
 pub trait Links<N>: Sized {
-    /// The node, with the first function of each of its names and the second of what each of its links holds.
+    /// The node, with the first function of each of its names and the second of what each of its
+    /// links holds.
     ghost mapped: { (Ident → Ident) → (N → N) → Self → Self };
 
-    /// Goes through its names and links, one after another: through those of `a ? b : c` from `a` to `c`. Nothing else of it changes.
+    /// Goes through its names and links, one after another: through those of `a ? b : c` from `a`
+    /// to `c`. Nothing else of it changes.
     fn links_mut<C, B: Below<N, C>>(&mut self, below: &B, change: &mut C) -> Result<(), Stop>
         ensures { OnOk result
             (mapped B.ident_before B.before self.old ≡ mapped B.ident_after B.after self.new) };

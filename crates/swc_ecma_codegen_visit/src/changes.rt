@@ -95,8 +95,9 @@ impl<'a, C: ChangeNode> Change<AnyNode> for EachNode<'a, C> {
     }
 }
 
-/// Changes each name of a program: the bound and the assigned ones, labels, those of functions, classes, types and elements of JSX.
-/// Names of properties are no `Ident`, but `{ a }` has one that is a key too.
+/// Changes each name of a program: the bound and the assigned ones, labels, those of functions,
+/// classes, types and elements of JSX. Names of properties are no `Ident`, but `{ a }` has one that
+/// is a key too.
 pub fn change_idents<C: ChangeIdent>(
     alloc: Global,
     program: &mut Program,
@@ -108,8 +109,9 @@ pub fn change_idents<C: ChangeIdent>(
     change_program(alloc, program, &mut each)
 }
 
-/// Changes each node of a program that a link holds: each `Expr`, each block, the statement that is the body of another, ..
-/// What stands in place isn't told of: a statement in a list, the pattern that a `let` declares.
+/// Changes each node of a program that a link holds: each `Expr`, each block, the statement that is
+/// the body of another, .. What stands in place isn't told of: a statement in a list, the pattern
+/// that a `let` declares.
 pub fn change_nodes<C: ChangeNode>(
     alloc: Global,
     program: &mut Program,

@@ -1,4 +1,4 @@
-//! Links and names of classes and their members. Made by scripts/make-visit-files.
+//! Links and names of classes and their members. Made by scripts/dev/make-visit-files.
 
 ghost use Rattle.swc_ecma_codegen_visit.specs.MappedClasses.{map_class, map_ts_param_prop_param};
 ghost use Rattle.swc_ecma_codegen_visit.specs.MappedClasses.{map_ts_param_prop};

@@ -52,8 +52,8 @@ impl Change<AnyNode> for Count {
     }
 }
 
-/// Whether more than `depth` links lie below one another in a tree. These levels are one more, so that the count is told of the
-/// first link that lies too deep.
+/// Whether more than `depth` links lie below one another in a tree. These levels are one more, so
+/// that the count is told of the first link that lies too deep.
 fn is_cut<T: Links<AnyNode>>(levels: &Depth, depth: usize, node: &mut T) -> Result<bool, Stop>
     ensures { OnOk result
         (T.mapped (λ n. n) (λ n. n) node.old ≡ T.mapped (λ n. n) (λ n. n) node.new) }
@@ -66,9 +66,10 @@ fn is_cut<T: Links<AnyNode>>(levels: &Depth, depth: usize, node: &mut T) -> Resu
     Ok(count.is_cut)
 }
 
-/// Whether more than `depth` links lie below one another in a tree. In the program `a + b;` two do: the statement's link to the
-/// sum, and the sum's link to `a`. The tree stays as it is: its names and what its links hold are the same, and a law such as
-/// `same_program` of proofs/MapLaws says that then it is the same. It takes a box more than `depth` while it runs.
+/// Whether more than `depth` links lie below one another in a tree. In the program `a + b;` two do:
+/// the statement's link to the sum, and the sum's link to `a`. The tree stays as it is: its names
+/// and what its links hold are the same, and a law such as `same_program` of proofs/MapLaws says
+/// that then it is the same. It takes a box more than `depth` while it runs.
 pub fn is_deeper_than<T: Links<AnyNode>>(
     alloc: Global,
     node: &mut T,
@@ -105,9 +106,10 @@ fn program_levels(alloc: Global, program: &mut Program) -> Result<Depth, Stop>
     Err(Stop::TooDeep)
 }
 
-/// Changes the names and links of a whole program. How many links lie below one another is counted first. Besides what `change`
-/// takes, this takes 17 boxes, or, where more than 16 links lie below one another, no more than two for each of them.
-/// `Stop::TooDeep` is only for a change that puts deeper nodes in place and then goes on below them.
+/// Changes the names and links of a whole program. How many links lie below one another is counted
+/// first. Besides what `change` takes, this takes 17 boxes, or, where more than 16 links lie below
+/// one another, no more than two for each of them. `Stop::TooDeep` is only for a change that puts
+/// deeper nodes in place and then goes on below them.
 pub fn change_program<C: Change<AnyNode>>(
     alloc: Global,
     program: &mut Program,

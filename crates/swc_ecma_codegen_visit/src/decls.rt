@@ -1,4 +1,4 @@
-//! Links and names of declarations and functions. Made by scripts/make-visit-files.
+//! Links and names of declarations and functions. Made by scripts/dev/make-visit-files.
 
 ghost use Rattle.swc_ecma_codegen_visit.specs.MappedDecls.{map_decorator, map_param};
 ghost use Rattle.swc_ecma_codegen_visit.specs.MappedDecls.{map_class_decl, map_fn_decl};

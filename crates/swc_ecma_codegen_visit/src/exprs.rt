@@ -1,4 +1,4 @@
-//! Links and names of expressions. Made by scripts/make-visit-files.
+//! Links and names of expressions. Made by scripts/dev/make-visit-files.
 
 ghost use Rattle.swc_ecma_codegen_visit.specs.MappedExprs.{map_computed_prop_name, map_prop_name};
 ghost use Rattle.swc_ecma_codegen_visit.specs.MappedExprs.{map_expr_or_spread, map_array_lit};

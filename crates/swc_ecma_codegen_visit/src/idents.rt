@@ -1,4 +1,4 @@
-//! Links and names of bound names. Made by scripts/make-visit-files.
+//! Links and names of bound names. Made by scripts/dev/make-visit-files.
 
 ghost use Rattle.swc_ecma_codegen_visit.specs.MappedIdents.{map_binding_ident};
 

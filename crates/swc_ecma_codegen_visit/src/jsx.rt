@@ -1,4 +1,4 @@
-//! Links and names of JSX. Made by scripts/make-visit-files.
+//! Links and names of JSX. Made by scripts/dev/make-visit-files.
 
 ghost use Rattle.swc_ecma_codegen_visit.specs.MappedJsx.{map_jsx_element_name, map_jsx_expr};
 ghost use Rattle.swc_ecma_codegen_visit.specs.MappedJsx.{map_jsx_expr_container};

@@ -1,8 +1,10 @@
-//! Whole trees, changed in place: each name ([`change_idents`]), each node ([`change_nodes`]), or both, as a [`Change`] says
-//! ([`change_program`], [`change_links`]). A clause says what such a change makes of a program.
+//! Whole trees, changed in place: each name ([`change_idents`]), each node ([`change_nodes`]), or
+//! both, as a [`Change`] says ([`change_program`], [`change_links`]). A clause says what such a
+//! change makes of a program.
 //!
-//! [`Links`] goes through the names and links of a node of any type, and [`Below`] is what is told of these. A walk goes down no
-//! further than a [`Depth`] says, since what a change puts in a link's place may be deeper than what was there.
+//! [`Links`] goes through the names and links of a node of any type, and [`Below`] is what is told
+//! of these. A walk goes down no further than a [`Depth`] says, since what a change puts in a
+//! link's place may be deeper than what was there.
 #![tactic(auto)]
 
 mod below;

@@ -13,7 +13,8 @@ ghost use Rattle.swc_ecma_codegen_visit.specs.MappedExprs.{map_expr};
 ghost use Rattle.swc_ecma_codegen_visit.specs.MappedModules.{map_module_item, map_program};
 ghost use Rattle.swc_ecma_codegen_visit.specs.MappedStmts.{map_stmt};
 
-/// A node over what its links hold as something else, said by cases, is what the kit derives of the type.
+/// A node over what its links hold as something else, said by cases, is what the kit derives of the
+/// type.
 pub fn layers_are_mapped()
     ensures { (f : AnyNode → AnyNode) (n : AnyNode-F AnyNode)
         → map_layer (λ x. x) f n ≡ map-AnyNode AnyNode AnyNode f n }

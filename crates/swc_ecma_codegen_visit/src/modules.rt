@@ -1,4 +1,4 @@
-//! Links and names of modules, scripts and namespaces. Made by scripts/make-visit-files.
+//! Links and names of modules, scripts and namespaces. Made by scripts/dev/make-visit-files.
 
 ghost use Rattle.swc_ecma_codegen_visit.specs.MappedModules.{map_module_export_name};
 ghost use Rattle.swc_ecma_codegen_visit.specs.MappedModules.{map_import_named_specifier};

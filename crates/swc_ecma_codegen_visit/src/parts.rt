@@ -1,4 +1,4 @@
-//! Links and names of what stands in the sums of sorts. Made by scripts/make-visit-files.
+//! Links and names of what stands in the sums of sorts. Made by scripts/dev/make-visit-files.
 
 ghost use Rattle.swc_ecma_codegen_visit.specs.MappedParts.{map_expr_part, map_stmt_part};
 ghost use Rattle.swc_ecma_codegen_visit.specs.MappedParts.{map_jsx_part, map_ts_part};

@@ -1,4 +1,4 @@
-//! Links and names of patterns. Made by scripts/make-visit-files.
+//! Links and names of patterns. Made by scripts/dev/make-visit-files.
 
 ghost use Rattle.swc_ecma_codegen_visit.specs.MappedPats.{map_assign_pat, map_array_pat};
 ghost use Rattle.swc_ecma_codegen_visit.specs.MappedPats.{map_rest_pat, map_key_value_pat_prop};

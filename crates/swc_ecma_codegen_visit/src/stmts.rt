@@ -1,4 +1,4 @@
-//! Links and names of statements. Made by scripts/make-visit-files.
+//! Links and names of statements. Made by scripts/dev/make-visit-files.
 
 ghost use Rattle.swc_ecma_codegen_visit.specs.MappedStmts.{map_with_stmt, map_return_stmt};
 ghost use Rattle.swc_ecma_codegen_visit.specs.MappedStmts.{map_labeled_stmt, map_break_stmt};

@@ -1,4 +1,4 @@
-//! Links and names of declarations of TypeScript. Made by scripts/make-visit-files.
+//! Links and names of declarations of TypeScript. Made by scripts/dev/make-visit-files.
 
 ghost use Rattle.swc_ecma_codegen_visit.specs.MappedTsDecls.{map_ts_expr_with_type_args};
 ghost use Rattle.swc_ecma_codegen_visit.specs.MappedTsDecls.{map_ts_interface_decl};

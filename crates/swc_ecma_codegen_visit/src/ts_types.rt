@@ -1,4 +1,4 @@
-//! Links and names of types of TypeScript. Made by scripts/make-visit-files.
+//! Links and names of types of TypeScript. Made by scripts/dev/make-visit-files.
 
 ghost use Rattle.swc_ecma_codegen_visit.specs.MappedTsTypes.{map_ts_index_signature};
 ghost use Rattle.swc_ecma_codegen_visit.specs.MappedTsTypes.{map_ts_fn_type};

@@ -25,7 +25,8 @@ pub trait Change<N>: Sized {
     fn at_ident(&mut self, ident: &mut Ident) -> Result<(), Stop>
         ensures { OnOk result (old_ident ident.old ≡ new_ident ident.new) };
 
-    /// Changes what a link holds. It goes on with what is below by `node.links_mut(below, self)`, before or after its own change, or not at all.
+    /// Changes what a link holds. It goes on with what is below by `node.links_mut(below, self)`,
+    /// before or after its own change, or not at all.
     fn at_link<B: Below<N, Self>>(&mut self, below: &B, node: &mut N) -> Result<(), Stop>
         requires ident_before { B.ident_before ≡ old_ident }
         requires ident_after { B.ident_after ≡ new_ident }
@@ -34,7 +35,8 @@ pub trait Change<N>: Sized {
         ensures { OnOk result (old node.old ≡ new node.new) };
 }
 
-/// How many links may still lie below one another. It gets shorter at each link, so that each walk ends.
+/// How many links may still lie below one another. It gets shorter at each link, so that each walk
+/// ends.
 #[derive(Drop)]
 pub enum Depth {
     Out,
@@ -107,7 +109,8 @@ impl Links<AnyNode> for AnyNode {
     }
 }
 
-/// Changes the names and links of a tree, in which no more than `depth` links lie below one another: `Stop::TooDeep` where more do.
+/// Changes the names and links of a tree, in which no more than `depth` links lie below one
+/// another: `Stop::TooDeep` where more do.
 pub fn change_links<T: Links<AnyNode>, C: Change<AnyNode>>(
     alloc: Global,
     node: &mut T,

@@ -1,6 +1,6 @@
 'use strict';
-// Ways to a running program: each sends a line and has the answer's line. Where the program ends, what was asked of it fails, and the channel
-// is of no more use (`isOver`).
+// Ways to a running program: each sends a line, as bytes with a line feed at their end, and has the answer's, as bytes or as a text. Where the
+// program ends, what was asked of it fails, and the channel is of no more use (`isOver`).
 const { spawn, spawnSync } = require('child_process');
 const fs = require('fs');
 const os = require('os');
@@ -35,7 +35,7 @@ class Service {
     let rest = chunk;
     for (let at = rest.indexOf(LINE_FEED); at >= 0; at = rest.indexOf(LINE_FEED)) {
       this.parts.push(rest.subarray(0, at));
-      const line = Buffer.concat(this.parts).toString('utf8');
+      const line = Buffer.concat(this.parts);
       this.parts = [];
       rest = rest.subarray(at + 1);
       this.waiting.shift().resolve(line);
@@ -49,7 +49,7 @@ class Service {
     this.hold(true);
     return new Promise((resolve, reject) => {
       this.waiting.push({ resolve, reject });
-      this.run.stdin.write(`${line}\n`);
+      this.run.stdin.write(line);
     });
   }
 
@@ -66,7 +66,7 @@ class Spawning {
   }
 
   answer(line) {
-    const { stdout, error, status, signal } = spawnSync(this.program, [], { input: `${line}\n`, encoding: 'utf8', maxBuffer: Infinity, stdio: ['pipe', 'pipe', 'inherit'] });
+    const { stdout, error, status, signal } = spawnSync(this.program, [], { input: line, encoding: 'utf8', maxBuffer: Infinity, stdio: ['pipe', 'pipe', 'inherit'] });
     if (error && error.code !== 'EPIPE') throw ended(error.message);
     if (!stdout.endsWith('\n')) throw ended(signal || `status ${status}`);
     return stdout;
@@ -91,13 +91,12 @@ class Pipes {
     } finally {
       fs.rmSync(folder, { recursive: true });
     }
-    this.chunk = Buffer.allocUnsafe(1 << 20);
+    this.line = Buffer.allocUnsafe(1 << 20);
   }
 
   answer(line) {
     try {
-      const bytes = Buffer.from(`${line}\n`);
-      for (let at = 0; at < bytes.length;) at += fs.writeSync(this.to, bytes, at);
+      for (let at = 0; at < line.length;) at += fs.writeSync(this.to, line, at);
       return this.read();
     } catch (error) {
       this.end();
@@ -105,13 +104,14 @@ class Pipes {
     }
   }
 
+  // An answer, which stands here until the next one does.
   read() {
-    const parts = [];
-    for (;;) {
-      const size = fs.readSync(this.from, this.chunk, 0, this.chunk.length);
-      if (size === 0) throw ended('its output was closed');
-      if (this.chunk[size - 1] === LINE_FEED) return Buffer.concat([...parts, this.chunk.subarray(0, size)]).toString('utf8');
-      parts.push(Buffer.from(this.chunk.subarray(0, size)));
+    for (let size = 0; ;) {
+      if (size === this.line.length) this.line = Buffer.concat([this.line], 2 * size);
+      const more = fs.readSync(this.from, this.line, size, this.line.length - size);
+      if (more === 0) throw ended('its output was closed');
+      size += more;
+      if (this.line[size - 1] === LINE_FEED) return this.line.subarray(0, size);
     }
   }
 
@@ -140,7 +140,8 @@ class Threaded {
   answer(line) {
     const { receiveMessageOnPort } = require('worker_threads');
     Atomics.store(this.signal, 0, 0);
-    this.port.postMessage(line);
+    const copy = new Uint8Array(line);
+    this.port.postMessage(copy, [copy.buffer]);
     this.sleep();
     const { message } = receiveMessageOnPort(this.port);
     if (message.error === undefined) return message.line;

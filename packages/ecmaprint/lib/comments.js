@@ -22,14 +22,18 @@ class Comments {
     if (!this.wants(comment.value)) return;
     const kind = isLine(comment) && !LINE_END.test(comment.value) ? 'Line' : 'Block';
     if (kind === 'Block' && comment.value.includes('*/')) throw new NoTree('a comment holds `*/`, which ends it', entry.node);
-    this.records.push({ side, at, kind, text: wellFormed(comment.value), statement: entry.statement, node: entry.node });
+    this.records.push({ side, at, kind, text: wellFormed(comment.value), round: entry.round, statement: entry.statement, node: entry.node });
   }
 
-  // As a request has them.
-  maps() {
-    const maps = { leading: {}, trailing: {} };
-    for (const { side, at, kind, text } of this.records) (maps[side][at] = maps[side][at] || []).push({ kind, text });
-    return maps;
+  // As a request has them: in JSON, by their positions.
+  written() {
+    const sides = { leading: new Map(), trailing: new Map() };
+    for (const { side, at, kind, text } of this.records) {
+      const comment = `{"kind":"${kind}","text":${JSON.stringify(text)}}`, before = sides[side].get(at);
+      sides[side].set(at, before === undefined ? comment : `${before},${comment}`);
+    }
+    const [leading, trailing] = [sides.leading, sides.trailing].map((lists) => Array.from(lists, ([at, list]) => `"${at}":[${list}]`).join());
+    return `{"leading":{${leading}},"trailing":{${trailing}}}`;
   }
 
   // The comments that an answer has left.
@@ -46,11 +50,11 @@ class Comments {
   // Puts what was left before the statement that it stands in, or the next one round that. The answer is whether anything went anywhere.
   lift(left) {
     const lifted = this.among(left).filter((record) => {
+      const { round } = record, { source } = this, isThere = (node) => record.side === 'leading' && source.spanOf(node).lo === record.at;
       let { statement } = record;
-      const isThere = ({ node }) => record.side === 'leading' && this.source.spanOf(node).lo === record.at;
-      while (statement !== null && isThere(statement)) statement = statement.outer;
-      if (statement === null) return false;
-      Object.assign(record, { side: 'leading', at: this.source.spanOf(statement.node).lo, statement: statement.outer });
+      while (statement >= 0 && isThere(round[statement])) statement = statementFrom(statement - 1, round, source);
+      if (statement < 0) return false;
+      Object.assign(record, { side: 'leading', at: source.spanOf(round[statement]).lo, statement: statementFrom(statement - 1, round, source) });
       return true;
     });
     return lifted.length > 0;
@@ -59,9 +63,9 @@ class Comments {
 
 const METHODS = ['ObjectMethod', 'ClassMethod', 'ClassPrivateMethod', 'TSDeclareMethod'];
 
-// Whether a comment that ends a line may not stand before or behind a node: another program would be read, or none.
-function isBound({ node, parent, key }, isBehind) {
-  const { type } = parent || {};
+// Whether a comment that ends a line may not stand before or behind a node in another: another program would be read, or none.
+function isBound(node, parent, isBehind) {
+  const { type } = parent, key = keyIn(parent, node);
   if (type === 'BreakStatement' || type === 'ContinueStatement' || type === 'TSTypePredicate') return true;
   if (type === 'UpdateExpression') return isBehind && !parent.prefix;
   if (type === 'TSNonNullExpression') return isBehind;
@@ -85,7 +89,9 @@ const TAILS = {
   SwitchCase: ({ consequent }) => consequent[consequent.length - 1],
 };
 
-const IS_STATEMENT = /Statement$|Declaration$|^Class(?:Private|Accessor)?(?:Method|Property)$/;
+const STATEMENTS = new Set([...TYPES.keys()].filter((type) => type !== 'BlockStatement' && /Statement$|Declaration$|^Class(?:Private|Accessor)?(?:Method|Property)$/.test(type)));
+
+const partIn = (table, node) => (table[node.type] === undefined ? null : table[node.type](node));
 
 // The comments of a node that has them in one list, as recast does.
 function sorted({ comments, leadingComments, innerComments, trailingComments }) {
@@ -110,7 +116,7 @@ const partsOf = (node) => TYPES.get(node.type).held.flatMap(({ name }) => listOf
 // The name of the member of a node that holds another.
 const keyIn = (parent, node) => TYPES.get(parent.type).held.find(({ name }) => listOf(parent[name]).includes(node)).name;
 
-const isStatement = (node, parent) => IS_STATEMENT.test(node.type) && node.type !== 'BlockStatement' && !(parent && parent.declaration === node);
+const isStatement = (node, parent) => STATEMENTS.has(node.type) && !(parent && parent.declaration === node);
 
 // Nodes that have no position in the tree: comments at them stand at the first and the last node in them.
 const UNPLACED = new Set([
@@ -123,13 +129,13 @@ function markPlace(source, node) {
   if (UNPLACED.has(node.type)) partsOf(node).forEach((part) => markPlace(source, part));
 }
 
-// Marks the nodes at which the comments of one may stand: itself, and the statements round it.
-function markRound(source, { node, above }) {
-  above.forEach((each, at) => {
-    if (isStatement(each, above[at - 1])) source.mark(each);
-  });
+// Marks the nodes at which the comments of the last of some nodes may stand: itself, and the statements round it.
+function markRound(source, round) {
+  const last = round.length - 1, node = round[last], head = partIn(HEADS, node), tail = partIn(TAILS, node);
+  for (let at = 0; at < last; at++) if (isStatement(round[at], round[at - 1])) source.mark(round[at]);
   markPlace(source, node);
-  for (const part of [HEADS, TAILS].map((table) => table[node.type] && table[node.type](node))) if (part) markPlace(source, part);
+  if (head) markPlace(source, head);
+  if (tail) markPlace(source, tail);
   if (node.body && !Array.isArray(node.body)) source.mark(node.body);
 }
 
@@ -144,20 +150,22 @@ function edgeOf(node, source, isLast) {
   return null;
 }
 
-// The statements round a node, from the innermost on: itself, where it is one.
-function statementsOf(node, above, source) {
-  return [...above, node].reduce((outer, each, at) => (at === 0 || (isStatement(each, above[at - 1]) && source.spanOf(each)) ? { node: each, outer } : outer), null);
+// The number of the innermost statement among some nodes, each in the one before it, from this number on outwards; the first is the program.
+function statementFrom(most, round, source) {
+  let at = most;
+  while (at > 0 && !(isStatement(round[at], round[at - 1]) && source.spanOf(round[at]))) at--;
+  return at;
 }
 
-// A node with its comments, and with what tells where they stand.
-function entryOf({ node, above }, source, hung) {
-  const parent = above.length > 0 ? above[above.length - 1] : null;
-  return { node, parent, key: parent && keyIn(parent, node), statement: statementsOf(node, above, source), comments: commentsAt(node, hung) };
+// The last of some nodes with its comments, and with what tells where they stand.
+function entryOf(round, source, hung) {
+  const last = round.length - 1, node = round[last];
+  return { node, round, statement: statementFrom(last, round, source), comments: commentsAt(node, hung) };
 }
 
 // The positions before and behind a node.
 function endsOf({ node }, source) {
-  const head = HEADS[node.type] && HEADS[node.type](node), tail = TAILS[node.type] && TAILS[node.type](node);
+  const head = partIn(HEADS, node), tail = partIn(TAILS, node);
   return { before: (head && edgeOf(head, source, false)) || edgeOf(node, source, false), behind: (tail && edgeOf(tail, source, true)) || edgeOf(node, source, true) };
 }
 
@@ -170,10 +178,10 @@ function insideOf({ node }, behind, source) {
 
 // Puts the comments of a node. `leads` tells before which node a comment stands: Babel hangs each on both of its neighbours.
 function putThose(entry, placed, leads) {
-  const { node, statement, comments } = entry, { source } = placed, { before, behind } = endsOf(entry, source);
-  const outside = source.spanOf(statement.node).lo, isOwn = statement.node === node;
+  const { node, round, statement, comments } = entry, { source } = placed, { before, behind } = endsOf(entry, source);
+  const outside = source.spanOf(round[statement]).lo, isOwn = round[statement] === node;
   const put = (side, at, comment, isBehind) => {
-    const mayNot = at === null || (!isOwn && endsLine(comment) && isBound(entry, isBehind));
+    const mayNot = at === null || (!isOwn && endsLine(comment) && isBound(node, round[round.length - 2], isBehind));
     placed.put(mayNot ? 'leading' : side, mayNot ? outside : at, comment, entry);
   };
   for (const each of comments.leadingComments || []) put('leading', before ? before.lo : null, each, false);

@@ -1,7 +1,7 @@
 'use strict';
 // The tree of an AST whose nodes have numbers for positions. So a comment stands at its own node alone, a position that was recorded leads
 // back to its node, and nodes that were made or moved have positions too.
-const { AstTree, made, programIn } = require('./tree_of/ast_tree.js');
+const { AstTree, write, programIn } = require('./tree_of/ast_tree.js');
 const { check } = require('./tree_of/check.js');
 const { babelOf, isEstree } = require('./tree_of/estree.js');
 const { markComments, commentsOf } = require('./comments.js');
@@ -124,16 +124,18 @@ function readable(ast, code) {
   return { program: read, hung, ...check(read, hung) };
 }
 
-// The tree of an AST, with its comments where they are wanted (by a function of their texts), and positions everywhere or where they are needed.
-function built(ast, { wants = null, everywhere = null, isMinified = false, isShort = true, code, keepsFunctionParentheses }) {
+// Writes the tree of an AST behind the beginning of a text, with its comments where they are wanted (by a function of their texts), and
+// positions everywhere or where they are needed.
+function built(ast, { begin = '', wants = null, everywhere = null, isMinified = false, isShort = true, code, keepsFunctionParentheses }) {
   const { program, hung, commented, cases, levels } = readable(ast, code), source = new NumberedTree({ everywhere, isShort, keepsFunctionParentheses });
   const hasComments = wants !== null && commented.length > 0;
   markCases(cases, source, isMinified);
   source.mark(program);
   if (hasComments) markComments(commented, source);
-  const tree = made(source, program);
+  source.put(begin);
+  write(source, program);
   const comments = hasComments ? commentsOf(commented, source, { wants, hung }) : null;
-  return { tree, source, comments, levels };
+  return { source, comments, levels };
 }
 
 module.exports = { built };

@@ -1,5 +1,5 @@
 'use strict';
-// From an AST to requests, and from their answers to a text.
+// From an AST to requests, and from their answers to a text. A request is a line: bytes of UTF-8 with a line feed at their end.
 const { NoTree } = require('./tree_of/files.js');
 const { flat } = require('./tree_of/flat.js');
 const { pathTo, endless } = require('./tree_of/paths.js');
@@ -10,6 +10,14 @@ const { mapOf, composed } = require('./source_map.js');
 const { standing } = require('./standing.js');
 
 const MOST_LEVELS = 60; // of an AST: JSON may nest 127 deep, and a node is mostly two levels of it or three
+
+const BEGIN = '{"tree":'; // of a request
+
+// What is said of a refusal for which the program has no words.
+const NO_WORDS = {
+  'not a derivation': 'no parentheses make the text read as this AST',
+  'too deep': 'parentheses are missing, and the AST nests too deep for the program to put them in',
+};
 
 const STACK = /call stack|nests without an end/;
 
@@ -43,35 +51,45 @@ class Call {
     if (ast === null || typeof ast !== 'object' || typeof ast.type !== 'string') throw new NoTree('no AST: it has no `type`');
     this.stand = standing(ast);
     const isMinified = isMinifying(options, code);
-    const { tree, source, comments, levels } = built(this.stand.ast, {
-      wants: wanted(options), everywhere: options.sourceMaps ? 'places' : null, isMinified, isShort: this.isShort, code, keepsFunctionParentheses: !!options.retainFunctionParens,
+    const { source, comments, levels } = built(this.stand.ast, {
+      begin: BEGIN, wants: wanted(options), everywhere: options.sourceMaps ? 'places' : null, isMinified, isShort: this.isShort, code,
+      keepsFunctionParentheses: !!options.retainFunctionParens,
     });
-    Object.assign(this, { source, comments, tree });
+    Object.assign(this, { source, comments, treeEnd: source.size });
     this.asked = { config: configOf(options, { asserts: source.asserts, isMinified }), parenthesize: options.parenthesize !== false, any: options.any === true };
     if (!isMinified) this.asked.source = source.line();
     if (options.sourceMaps) this.asked.positions = true;
     this.line = levels > MOST_LEVELS ? this.flattened() : this.nested();
   }
 
-  // The request with its tree.
+  // The request with its tree, which was written.
   nested() {
-    return this.request('tree', this.tree);
+    const { source } = this;
+    source.size = this.treeEnd;
+    source.putAny(`,${this.settings()}\n`);
+    return source.bytes.subarray(0, source.size);
   }
 
   // That with the flat form, for a tree that nests too deep for the other.
   flattened() {
     this.isFlat = true;
-    return this.request('flat', JSON.stringify(flat(JSON.parse(this.tree))));
+    return Buffer.from(`{"flat":${JSON.stringify(flat(this.tree()))},${this.settings()}\n`);
   }
 
-  request(form, program) {
-    const comments = this.comments && this.comments.records.length > 0 ? { comments: this.comments.maps() } : {};
-    return `${JSON.stringify({ ...this.asked, ...comments }).slice(0, -1)},"${form}":${program}}`;
+  tree() {
+    this.source.size = this.treeEnd;
+    return JSON.parse(this.source.written().slice(BEGIN.length));
+  }
+
+  // All that a request has but its tree: the end of an object.
+  settings() {
+    const hasComments = this.comments && this.comments.records.length > 0, settings = JSON.stringify(this.asked).slice(1);
+    return hasComments ? `"comments":${this.comments.written()},${settings}` : settings;
   }
 
   // Takes an answer's line. The result is the next request's line; nothing where none is needed.
   next(line) {
-    this.answer = JSON.parse(line);
+    this.answer = JSON.parse(line.toString());
     const { error, left } = this.answer;
     try {
       if (error) return this.mended(error);
@@ -84,6 +102,7 @@ class Call {
 
   // The same in the whole form.
   inWholeForm() {
+    this.source.release();
     Object.assign(this, { isShort: false, isFlat: false });
     this.begin();
     return this.line;
@@ -101,6 +120,7 @@ class Call {
 
   result() {
     const { answer, options, code, source } = this;
+    source.release();
     if (answer.error) throw this.refused(answer.error);
     const text = this.stand.textOf(answer.code.endsWith('\n') ? answer.code.slice(0, -1) : answer.code);
     const map = options.sourceMaps ? mapOf({ code: text, positions: this.stand.positionsOf(answer.positions) }, source, options, code) : null;
@@ -121,15 +141,15 @@ class Call {
 
   // An error of the program, at the node that its path through the tree leads to.
   refused({ kind, path: treePath = null, rule, message, cause, reason }) {
-    const words = rule || reason || message || cause || 'no parentheses make the text read as this AST';
+    const words = rule || reason || message || cause || NO_WORDS[kind] || kind;
     const node = treePath === null ? null : this.nodeOnPath(treePath), from = node && (node._from || node);
     return new PrintError(kind, words, { path: from && pathTo(this.ast, from), node: from, code: this.code, treePath });
   }
 
   // The innermost node on a path through the tree that has a place in the AST.
   nodeOnPath(steps) {
-    const { source, tree } = built(this.stand.ast, { everywhere: 'all' });
-    let value = { Program: JSON.parse(tree) }, found = null;
+    const { source } = built(this.stand.ast, { everywhere: 'all' });
+    let value = { Program: JSON.parse(source.written()) }, found = null;
     const enter = () => {
       for (;;) {
         if (value === null || typeof value !== 'object' || Array.isArray(value)) return;

@@ -11,6 +11,6 @@ function tell(message) {
   Atomics.notify(signal, 0);
 }
 
-port.on('message', (line) => service.answer(line).then((answer) => tell({ line: answer }), (error) => tell({ error: error.message })));
+port.on('message', (line) => service.answer(line).then((answer) => tell({ line: answer.toString() }), (error) => tell({ error: error.message })));
 // a sign of life for the one that sleeps
 setInterval(() => Atomics.add(signal, 1, 1), 1000).unref();

@@ -29,7 +29,7 @@ const count = () => execFileSync('wc', ['-l', starts], { encoding: 'utf8' }).tri
 for (const sync of ['pipes', 'thread', 'spawn']) {
   test(`a call that waits, by ${sync}`, () => {
     writeFileSync(starts, '');
-    const printer = new Printer({ program: counted, sync });
+    const printer = new Printer({ program: counted, sync, isShort: false });
     for (let call = 0; call < 5; call++) assert.strictEqual(printer.printSync(ast).code, 'a;');
     assert.strictEqual(count(), sync === 'spawn' ? '5' : '1');
     printer.end();

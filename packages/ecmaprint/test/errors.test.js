@@ -1,10 +1,13 @@
 'use strict';
 // Bad input: an error with the path, and the next call works.
 const assert = require('node:assert');
+const { mkdtempSync, rmSync, writeFileSync } = require('fs');
+const { tmpdir } = require('os');
+const { join } = require('path');
 const { test, after } = require('node:test');
 const t = require('@babel/types');
 const { babel, typescript, estree } = require('./support.js');
-const { print, printSync, PrintError, end } = require('..');
+const { Printer, print, printSync, PrintError, end } = require('..');
 
 after(end);
 
@@ -79,6 +82,15 @@ test('an AST that is deeper than JSON may be is printed', () => {
   let ast = t.identifier('a');
   for (let level = 0; level < 500; level++) ast = t.unaryExpression('!', ast);
   assert.strictEqual(printSync(ast).code, `${'!'.repeat(500)}a`);
+});
+
+test('a refusal that the program tells without words', () => {
+  const folder = mkdtempSync(join(tmpdir(), 'ecmaprint-errors-')), program = join(folder, 'refusing');
+  after(() => rmSync(folder, { recursive: true }));
+  writeFileSync(program, '#!/bin/sh\nwhile read line; do echo \'{"error":{"kind":"too deep"}}\'; done\n', { mode: 0o755 });
+  const printer = new Printer({ program });
+  assert.throws(() => printer.printSync(babel('a')), { kind: 'too deep', code: 'ECMAPRINT_TOO_DEEP', reason: /^parentheses are missing/ });
+  printer.end();
 });
 
 test('one node in many places is no cycle', () => {

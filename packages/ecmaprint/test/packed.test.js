@@ -14,7 +14,7 @@ const hasNpm = spawnSync('npm', ['--version']).status === 0;
 test('the tarballs print in an empty folder', { skip: hasNpm ? false : 'no npm here', timeout: 600000 }, () => {
   const folder = mkdtempSync(join(tmpdir(), 'ecmaprint-empty-'));
   try {
-    const made = execFileSync(join(TOP, 'scripts/pack'), [programPath()], { encoding: 'utf8' }).trim().split('\n').map((path) => join(TOP, path));
+    const made = execFileSync(join(TOP, 'scripts/dev/pack'), [programPath()], { encoding: 'utf8' }).trim().split('\n').map((path) => join(TOP, path));
     assert.strictEqual(made.length, 5);
     const few = made.filter((path) => /\/ecmaprint-(?:\d|linux)/.test(path));
     execFileSync('npm', ['install', '--offline', '--no-audit', '--no-fund', ...few], { cwd: folder, stdio: ['ignore', 'ignore', 'inherit'] });

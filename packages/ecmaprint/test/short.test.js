@@ -6,7 +6,7 @@ const { tmpdir } = require('os');
 const { join } = require('path');
 const { test, after } = require('node:test');
 const { REAL, TEXTS, babel, read } = require('./support.js');
-const { AstTree, made } = require('../lib/tree_of/ast_tree.js');
+const { AstTree, write } = require('../lib/tree_of/ast_tree.js');
 const { COMMENTS, SILENT, TYPES } = require('../lib/tree_of/members.js');
 const { UNPLACED } = require('../lib/comments.js');
 const { Spawning } = require('../lib/channels.js');
@@ -24,7 +24,11 @@ const PROGRAMS = [
   ...REAL.map((file) => babel(read(file), [], { allowReturnOutsideFunction: true })),
 ];
 
-const treeOf = (program, isShort) => JSON.parse(made(new AstTree({ positions: 'none', isShort }), program));
+function treeOf(program, isShort) {
+  const source = new AstTree({ positions: 'none', isShort });
+  write(source, program);
+  return JSON.parse(source.written());
+}
 const isNowhere = (value) => value !== null && typeof value === 'object' && value.lo === 0 && value.hi === 0;
 
 // Spellings that the short form leaves out: the program prints the same without them.

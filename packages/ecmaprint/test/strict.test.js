@@ -63,5 +63,5 @@ test('a member that no type has is refused, with its name, and one that says not
 });
 
 test('the table of links is that of the sources', () => {
-  execFileSync(join(__dirname, '../../../scripts/make-links'), ['--check']);
+  execFileSync(join(__dirname, '../../../scripts/dev/make-links'), ['--check']);
 });

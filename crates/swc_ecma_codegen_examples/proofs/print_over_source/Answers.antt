@@ -2,7 +2,7 @@ use Rattle.std.proofs.Common.{◌≡◌, [], false, subst, IfOk}
 use Rattle.std.specs.String.{string_bytes}
 use Rattle.swc_ecma_codegen_grammar.specs.Comments.{maps_in, no_maps}
 use Rattle.swc_ecma_codegen_source.specs.SourceTexts.{lines_of}
-use Rattle.swc_ecma_codegen_util.specs.Defaults.{default_config}
+use Rattle.swc_ecma_codegen_settings.specs.Defaults.{default_config}
 use Rattle.swc_ecma_codegen_tokens.proofs.Commenting.NoneTaken.{no_maps_bare, no_maps_closed, same_remarks}
 use Rattle.swc_ecma_codegen_tokens.specs.Run.{start}
 use Rattle.swc_ecma_codegen_tokens.specs.Written.{ReadsAs, taken_remarks}

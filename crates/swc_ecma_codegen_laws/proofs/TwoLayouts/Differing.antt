@@ -2,7 +2,7 @@
 use Rattle.std.proofs.Common.{◌≡◌, Bool, true, false, ◌&&◌, ◌||◌, [], ◌∷◌, ◌++◌, codes, refl, sym, ap, subst, append_assoc, append-nil, inl, inr}
 use Rattle.std.proofs.lemmas.Bool.{cases_Bool, true≢false}
 use Rattle.swc_ecma_codegen_grammar.specs.Phrases.{Closing}
-use Rattle.swc_ecma_codegen_util.specs.declared.config.Config.{Config}
+use Rattle.swc_ecma_codegen_settings.specs.declared.config.Config.{Config}
 use Rattle.swc_ecma_codegen_laws.specs.Layouts.{Tokens, Allowed, IsOneLiteral, Differ, no_more, token, literal, first_comma, second_comma, parameter, arguments, closing, is_brace, mark, new_word}
 
 pub differ_same : {allowed : Allowed} (xs : Tokens) → Differ allowed xs xs

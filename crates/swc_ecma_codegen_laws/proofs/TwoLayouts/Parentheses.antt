@@ -8,7 +8,7 @@ use Rattle.swc_ecma_codegen_grammar.specs.declared.kinds.Kind.{Kind}
 use Rattle.swc_ecma_codegen_grammar.specs.declared.kinds.Kind.TheVariants as kinds
 use Rattle.swc_ecma_codegen_grammar.specs.declared.kinds.TemplatePart.{TemplatePart}
 use Rattle.swc_ecma_codegen_tree.specs.declared.lits.BigInt.{BigInt}
-use Rattle.swc_ecma_codegen_util.specs.declared.config.Config.{Config}
+use Rattle.swc_ecma_codegen_settings.specs.declared.config.Config.{Config}
 use Rattle.swc_ecma_codegen_tokens.specs.Literals.{signed}
 use Rattle.swc_ecma_codegen_tokens.specs.Lits.{big_int_text, prints_big_raw}
 use Rattle.swc_ecma_codegen_laws.specs.Layouts.{Tokens, DifferByLayout, DifferInCommas, IsOneLiteral, LeavesArguments, begins_arrow, big_integer, holds_new_or_arrow, is_mark, is_new, is_parenthesis, is_punctuator, is_word, mark, new_word, opens, parentheses, without_commas, no_more, token, literal, first_comma, second_comma, parameter, arguments, string, number, number_before_dot, big_int, template_part}

@@ -20,16 +20,16 @@ use Rattle.swc_ecma_codegen_emit.specs.Tree.{any_items}
 use Rattle.swc_ecma_codegen_emit.specs.declared.nodes.Context.TheVariants.{Plain}
 use Rattle.swc_ecma_codegen_emit.proofs.Unbroken.{unbroken}
 use Rattle.swc_ecma_codegen_laws.specs.Layouts.{DifferByLayout, DifferInCommas, IsWhole, Tokens, laid_out, over, stop_of, tokens_in, tokens_of}
-use Rattle.swc_ecma_codegen_laws.proofs.AnyExprWords.{expr_holds}
+use Rattle.swc_ecma_codegen_laws.proofs.AnyExprLifted.{expr_holds}
 use Rattle.swc_ecma_codegen_laws.proofs.BreakSteps.{on}
 use Rattle.swc_ecma_codegen_laws.proofs.TwoLayouts.Differing.{differ_equal}
 use Rattle.swc_ecma_codegen_laws.proofs.TwoLayouts.AllWords.{layout_words}
 use Rattle.swc_ecma_codegen_laws.proofs.TwoLayouts.Words.{always_begin_lines, always_end_lines}
-use Rattle.swc_ecma_codegen_laws.proofs.LinedNodes.{expr_lined, placed_node_lined}
-use Rattle.swc_ecma_codegen_laws.proofs.ModulesWords.{module_item_holds}
-use Rattle.swc_ecma_codegen_laws.proofs.NodeWords.{in_trees, tree_holds}
+use Rattle.swc_ecma_codegen_laws.proofs.LengthOfRoots.{expr_lined, placed_node_lined}
+use Rattle.swc_ecma_codegen_laws.proofs.ModulesLifted.{module_item_holds}
+use Rattle.swc_ecma_codegen_laws.proofs.NodesLifted.{in_trees, tree_holds}
 use Rattle.swc_ecma_codegen_laws.proofs.RootWords.{lined_program, plain_program, program_holds, program_parts}
-use Rattle.swc_ecma_codegen_laws.proofs.StmtsWords.{stmt_holds}
+use Rattle.swc_ecma_codegen_laws.proofs.StmtsLifted.{stmt_holds}
 use Rattle.swc_ecma_codegen_laws.proofs.TwoLayouts.Emissions.{TwoLayouts, Both, Fits, IsAlike, Writes, bare, both_within, ends_with, first_env, second_env, whole_steps, writes_more, writes_then, writes_within}
 
 -- ---- roots

@@ -3,7 +3,7 @@ use Rattle.std.proofs.Common.{◌≡◌, inl, inr, ℕ, Bool, true, false, cond,
 use Rattle.std.specs.Str.{chars}
 use Rattle.std.proofs.lemmas.Bool.{cases_Bool}
 use Rattle.swc_ecma_codegen_common.specs.declared.errors.Refusal.{Refusal}
-use Rattle.swc_ecma_codegen_util.specs.declared.config.Config.{Config}
+use Rattle.swc_ecma_codegen_settings.specs.declared.config.Config.{Config}
 use Rattle.swc_ecma_codegen_grammar.specs.declared.kinds.Kind.TheVariants.{Punctuator}
 use Rattle.swc_ecma_codegen_grammar.specs.GapRules as rules
 use Rattle.swc_ecma_codegen_grammar.specs.GapRules.{last_after}

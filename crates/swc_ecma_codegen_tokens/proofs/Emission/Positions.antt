@@ -8,7 +8,7 @@ use Rattle.swc_ecma_codegen_spans.specs.Spans.{dummy_span}
 use Rattle.swc_ecma_codegen_grammar.specs.declared.kinds.Kind.{Kind}
 use Rattle.swc_ecma_codegen_grammar.specs.GapRules.{fuses, Separated}
 use Rattle.swc_ecma_codegen_grammar.specs.Phrases.{PlacedName}
-use Rattle.swc_ecma_codegen_util.specs.declared.config.Config.{Config}
+use Rattle.swc_ecma_codegen_settings.specs.declared.config.Config.{Config}
 use Rattle.std.specs.List.{repeat}
 use Rattle.swc_ecma_codegen_text_writer.proofs.Flows.{appended_leaves, appended_text, appended_pairs, appended_place, recorded_out}
 use Rattle.swc_ecma_codegen_text_writer.specs.Places.{Place, after_text}

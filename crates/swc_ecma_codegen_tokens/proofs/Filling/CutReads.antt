@@ -13,7 +13,7 @@ use Rattle.swc_ecma_codegen_text_writer.specs.Filling as filling
 use Rattle.swc_ecma_codegen_text_writer.specs.Filling.{segments_of, part_text}
 use Rattle.swc_ecma_codegen_text_writer.specs.Runs.{texts_in}
 use Rattle.swc_ecma_codegen_text_writer.specs.Sheet.{Segment, no_segment, text_in, Cutting, holds_semicolons}
-use Rattle.swc_ecma_codegen_util.specs.declared.config.Config.{Config}
+use Rattle.swc_ecma_codegen_settings.specs.declared.config.Config.{Config}
 use Rattle.swc_ecma_codegen_tokens.specs.Run.{State}
 use Rattle.swc_ecma_codegen_tokens.specs.Settings.{settings_of}
 use Rattle.swc_ecma_codegen_tokens.specs.Written.{IsLineEnd, IsNew, IsAtMargin, ReadsAs, without_joints}

@@ -11,7 +11,7 @@ use Rattle.swc_ecma_codegen_grammar.specs.Trivia.{Remark}
 use Rattle.swc_ecma_codegen_text_writer.specs.Recorded.{RecordsTruly}
 use Rattle.swc_ecma_codegen_text_writer.specs.Sheet.{Sheet, Segment, no_segment, with_text, text_in, Flow, Cutting, pointed, started}
 use Rattle.swc_ecma_codegen_text_writer.proofs.Cuts.{Grows, NoteAt, GoOn, LinesGoOn, grows_as, grows_first, started_grows, pointed_grows, on_case}
-use Rattle.swc_ecma_codegen_util.specs.declared.config.Config.{Config}
+use Rattle.swc_ecma_codegen_settings.specs.declared.config.Config.{Config}
 use Rattle.swc_ecma_codegen_tokens.specs.Named.{EachName, StandsAfter}
 use Rattle.swc_ecma_codegen_tokens.specs.Run.{State, Step, run}
 use Rattle.swc_ecma_codegen_grammar.specs.Settings.{Settings}

@@ -23,7 +23,7 @@ use Rattle.swc_ecma_codegen_text_writer.proofs.Noted.{kept_pairs, position_has}
 use Rattle.swc_ecma_codegen_text_writer.proofs.Reaching.{after_both}
 use Rattle.swc_ecma_codegen_text_writer.proofs.Released.{released_parts, parts_add, parts_segments, released_append, texts_append, segments_append}
 use Rattle.swc_ecma_codegen_text_writer.proofs.Twins.{text-more}
-use Rattle.swc_ecma_codegen_util.specs.declared.config.Config.{Config}
+use Rattle.swc_ecma_codegen_settings.specs.declared.config.Config.{Config}
 use Rattle.swc_ecma_codegen_tokens.specs.Named.{IsRecorded, StandsAfter}
 use Rattle.swc_ecma_codegen_tokens.specs.Targets.{written_as}
 use Rattle.swc_ecma_codegen_tokens.specs.Written.{IsLineEnd, without_joints}

@@ -6,7 +6,7 @@ use Rattle.swc_ecma_codegen_grammar.specs.GapRules.{Separated, fuses}
 use Rattle.swc_ecma_codegen_grammar.specs.Phrases.{PlacedName}
 use Rattle.swc_ecma_codegen_text_writer.specs.Sheet.{Sheet, Segment, with_text, text_in, Flow, Cutting, Space, Comment, appended, effect}
 use Rattle.swc_ecma_codegen_text_writer.proofs.Cuts.{NoteAt, GoOn, LinesGoOn, still_last, followed, longer_refl, longer_trans, longer_text, on_same, on_then, effect_on, appended_last}
-use Rattle.swc_ecma_codegen_util.specs.declared.config.Config.{Config}
+use Rattle.swc_ecma_codegen_settings.specs.declared.config.Config.{Config}
 use Rattle.swc_ecma_codegen_tokens.specs.Run.{State, Step, Guard, Token, Plain, Ends, Remake, Take, CommentText, put, run}
 use Rattle.swc_ecma_codegen_tokens.specs.Targets.{written_as}
 

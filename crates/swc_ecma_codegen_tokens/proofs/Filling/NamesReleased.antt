@@ -13,7 +13,7 @@ use Rattle.swc_ecma_codegen_text_writer.proofs.Cuts.{GoOn, still_last, followed,
 use Rattle.swc_ecma_codegen_text_writer.proofs.Reaching.{after_both}
 use Rattle.swc_ecma_codegen_text_writer.proofs.Released.{released_parts, parts_add, released_append}
 use Rattle.swc_ecma_codegen_text_writer.proofs.Twins.{text-more, text-none}
-use Rattle.swc_ecma_codegen_util.specs.declared.config.Config.{Config}
+use Rattle.swc_ecma_codegen_settings.specs.declared.config.Config.{Config}
 use Rattle.swc_ecma_codegen_tokens.specs.Named.{IsRecorded, NamesStand, RecordsNames}
 use Rattle.swc_ecma_codegen_tokens.specs.Targets.{written_as}
 use Rattle.swc_ecma_codegen_tokens.proofs.Filling.FilledNames.{Among, among, part_more, ended_place, note_recorded}

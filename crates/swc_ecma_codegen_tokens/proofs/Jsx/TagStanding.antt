@@ -13,7 +13,7 @@ use Rattle.swc_ecma_codegen_grammar.specs.Trivia.{Piece}
 use Rattle.swc_ecma_codegen_text_writer.specs.Sheet.{Sheet, pointed, started, appended, effect, fills_lines}
 use Rattle.swc_ecma_codegen_text_writer.proofs.Sheets.{effect_keeps_positions}
 use Rattle.swc_ecma_codegen_text_writer.proofs.Stays.{pointed_stays}
-use Rattle.swc_ecma_codegen_util.specs.declared.config.Config.{Config}
+use Rattle.swc_ecma_codegen_settings.specs.declared.config.Config.{Config}
 use Rattle.swc_ecma_codegen_tokens.specs.Named.{IsRecorded}
 use Rattle.swc_ecma_codegen_tokens.specs.Run.{State, put, run, spelling, after_plain}
 use Rattle.swc_ecma_codegen_tokens.specs.Targets.{written_as}

@@ -19,7 +19,7 @@ use Rattle.swc_ecma_codegen_grammar.specs.Tokens as lexical
 use Rattle.swc_ecma_codegen_grammar.specs.Tokens.{has_shape, token_of, value_of}
 use Rattle.swc_ecma_codegen_grammar.specs.declared.kinds.Kind.TheVariants.{JsxString}
 use Rattle.swc_ecma_codegen_grammar.proofs.Quotes.{quote_utf8, quoted_string}
-use Rattle.swc_ecma_codegen_util.specs.declared.config.Config.{Config}
+use Rattle.swc_ecma_codegen_settings.specs.declared.config.Config.{Config}
 use Rattle.swc_ecma_codegen_text_writer.specs.Sheet.{Sheet}
 use Rattle.swc_ecma_codegen_tokens.specs.Adds.{AddsOn}
 use Rattle.swc_ecma_codegen_tokens.specs.Ascii.{is_tag_kind, is_kept, is_other, is_other_value, keeps_other, keeps_tokens, are_ascii_or_kept}

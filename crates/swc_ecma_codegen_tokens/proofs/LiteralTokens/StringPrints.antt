@@ -12,7 +12,7 @@ use Rattle.swc_ecma_codegen_common.specs.declared.positions.BytePos.{BytePos}
 use Rattle.swc_ecma_codegen_common.specs.declared.positions.Span.{Span}
 use Rattle.swc_ecma_codegen_common.specs.declared.versions.EsVersion.{EsVersion}
 use Rattle.swc_ecma_codegen_tree.specs.declared.lits.Str as strs
-use Rattle.swc_ecma_codegen_util.specs.declared.config.Config.{Config}
+use Rattle.swc_ecma_codegen_settings.specs.declared.config.Config.{Config}
 use Rattle.swc_ecma_codegen_grammar.specs.declared.kinds.Kind.TheVariants.{Str}
 use Rattle.swc_ecma_codegen_grammar.specs.CodeUnits.{units, units_after, utf16}
 use Rattle.swc_ecma_codegen_grammar.specs.LitPhrases as phrases

@@ -4,12 +4,12 @@ use Rattle.std.specs.Prelude.{is_some}
 use Rattle.swc_ecma_codegen_common.specs.declared.errors.Refusal.{Refusal}
 use Rattle.swc_ecma_codegen_common.specs.declared.positions.Span.{Span}
 use Rattle.swc_ecma_codegen_grammar.specs.CommentMaps.{Maps}
-use Rattle.swc_ecma_codegen_grammar.specs.Comments.{maps_in, no_maps}
+use Rattle.swc_ecma_codegen_grammar.specs.Comments.{maps_in}
 use Rattle.swc_ecma_codegen_text_writer.specs.Sheet.{Commit, is_settled}
 use Rattle.swc_ecma_codegen_text_writer.proofs.AsStrings.{commit_is}
 use Rattle.swc_ecma_codegen_tokens.specs.Run.{Plan, Part, State, Plain, Follows, Does, DoesTaking, with_source, put, after_plain}
 use Rattle.swc_ecma_codegen_tokens.specs.Words.{name, name_text, question, commit_pending_semi, start_of}
-use Rattle.swc_ecma_codegen_tokens.proofs.Commenting.NoComments.{idle, silent_leading}
+use Rattle.swc_ecma_codegen_tokens.proofs.Commenting.NoComments.{idle, leading_at}
 use Rattle.swc_ecma_codegen_tokens.proofs.Emission.NoPositions.{unkept_position}
 
 -- two parts in order
@@ -32,12 +32,14 @@ unfolding with_source
 unplaced span part a b (Ok u) none h = λ lines maps rest c r f. unkept_position span.lo (part rest) (with_source lines maps a) c r none (h lines maps rest c r f)
 unplaced span part a b (Err e) none h = λ lines maps rest. unkept_position span.lo (part rest) (with_source lines maps a) (with_source lines maps b) (Err e) none (h lines maps rest)
 
-pub alone : {C : Type 0} (m : C → Maps) (notes : Option C) (span : Span) (t : List ℕ) (a b : State) (r : Result (Unit {0}) Refusal) → is_some notes ≡ false → is_settled a.sheet.semicolons ≡ true → Does (name_text span t) a b r → DoesTaking (name span t false) (maps_in m notes) (maps_in m notes) a b r
-unfolding maps_in with_source name question
-alone m None span t a b (Ok u) bare settled h = λ lines rest c r f.
-    silent_leading span.lo (commit_pending_semi (name_text span t rest)) (with_source lines no_maps a) c r refl
-    (silent_commit (name_text span t rest) (with_source lines no_maps a) c r settled (h lines no_maps rest c r f))
-alone m None span t a b (Err e) bare settled h = λ lines rest.
-    silent_leading span.lo (commit_pending_semi (name_text span t rest)) (with_source lines no_maps a) (with_source lines no_maps b) (Err e) refl
-    (silent_commit (name_text span t rest) (with_source lines no_maps a) (with_source lines no_maps b) (Err e) settled (h lines no_maps rest))
-alone m (Some n) span t a b r bare settled h = absurd (let z : true ≡ false = bare in cc)
+pub alone : {C : Type 0} (m : C → Maps) (notes : Option C) (span : Span) (t : List ℕ) (a b : State) (r : Result (Unit {0}) Refusal) → is_some ((maps_in m notes).leading span.lo.0) ≡ false → is_settled a.sheet.semicolons ≡ true → Does (name_text span t) a b r
+    → DoesTaking (name span t false) (maps_in m notes) (maps_in m notes) a b r
+unfolding with_source name question
+alone m notes span t a b (Ok u) bare settled h = λ lines rest c r f.
+    let maps : Maps = maps_in m notes in
+    leading_at span.lo (commit_pending_semi (name_text span t rest)) (with_source lines maps a) c r bare
+    (silent_commit (name_text span t rest) (with_source lines maps a) c r settled (h lines maps rest c r f))
+alone m notes span t a b (Err e) bare settled h = λ lines rest.
+    let maps : Maps = maps_in m notes in
+    leading_at span.lo (commit_pending_semi (name_text span t rest)) (with_source lines maps a) (with_source lines maps b) (Err e) bare
+    (silent_commit (name_text span t rest) (with_source lines maps a) (with_source lines maps b) (Err e) settled (h lines maps rest))

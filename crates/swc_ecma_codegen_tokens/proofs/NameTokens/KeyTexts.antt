@@ -23,7 +23,7 @@ use Rattle.swc_ecma_codegen_grammar.specs.Tokens.{Units, token_of, value_of}
 use Rattle.swc_ecma_codegen_grammar.specs.ValidNames.{turned}
 use Rattle.swc_ecma_codegen_grammar.proofs.StrictStrings.{strict_means_the_same}
 use Rattle.swc_ecma_codegen_grammar.proofs.Tables.{eq_of_same}
-use Rattle.swc_ecma_codegen_util.specs.declared.config.Config.{Config}
+use Rattle.swc_ecma_codegen_settings.specs.declared.config.Config.{Config}
 use Rattle.swc_ecma_codegen_literals.specs.AsciiNames.{is_ascii_text, is_quoted_key, is_out_of_target, name_escapes, ascii_name, wants_quotes}
 use Rattle.swc_ecma_codegen_literals.specs.StringTexts.{up_to_es5}
 use Rattle.swc_ecma_codegen_literals.proofs.NameBridge.{named_word}

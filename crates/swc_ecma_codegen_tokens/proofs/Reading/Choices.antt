@@ -13,7 +13,7 @@ use Rattle.swc_ecma_codegen_grammar.specs.Settings.{is_up_to_es5}
 use Rattle.swc_ecma_codegen_grammar.specs.Texts.{is_same, is_among}
 use Rattle.swc_ecma_codegen_grammar.specs.Tokens.{Token}
 use Rattle.swc_ecma_codegen_grammar.specs.Tokens as lexical
-use Rattle.swc_ecma_codegen_util.specs.declared.config.Config.{Config}
+use Rattle.swc_ecma_codegen_settings.specs.declared.config.Config.{Config}
 use Rattle.std.specs.Str.{chars, is_utf8}
 use Rattle.swc_ecma_codegen_tokens.specs.Choices.{optional_parentheses, empty_arguments, loop_ending, attributes_word}
 use Rattle.swc_ecma_codegen_tokens.specs.Escapes.{is_spelled_anew, may_make_text}

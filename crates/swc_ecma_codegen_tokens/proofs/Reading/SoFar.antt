@@ -14,7 +14,7 @@ use Rattle.swc_ecma_codegen_grammar.specs.GapRules.{Start, allows}
 use Rattle.swc_ecma_codegen_grammar.specs.declared.kinds.Kind.TheVariants.{Ending}
 use Rattle.swc_ecma_codegen_grammar.proofs.Dropped.{keeps_reduced, none_fuse_reduced, tokens_reduced, without_last_gap}
 use Rattle.swc_ecma_codegen_grammar.specs.Settings.{Settings}
-use Rattle.swc_ecma_codegen_util.specs.declared.config.Config.{Config}
+use Rattle.swc_ecma_codegen_settings.specs.declared.config.Config.{Config}
 use Rattle.swc_ecma_codegen_tokens.specs.Settings.{settings_of}
 use Rattle.swc_ecma_codegen_grammar.specs.Phrases.{Phrase, Nothing, One, NameOf, Generates, is_possible, ◌>◌, mark}
 use Rattle.swc_ecma_codegen_grammar.specs.SpelledNames.{is_well_formed_name}

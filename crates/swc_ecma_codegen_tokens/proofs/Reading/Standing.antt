@@ -20,7 +20,7 @@ use Rattle.swc_ecma_codegen_text_writer.specs.Sheet.{no_segment, with_text, Cutt
 use Rattle.swc_ecma_codegen_text_writer.proofs.Pairs.{after_both, started_records}
 use Rattle.swc_ecma_codegen_text_writer.proofs.Sheets.{effect_keeps_positions}
 use Rattle.swc_ecma_codegen_text_writer.proofs.Stays.{started_stays, pointed_stays}
-use Rattle.swc_ecma_codegen_util.specs.declared.config.Config.{Config}
+use Rattle.swc_ecma_codegen_settings.specs.declared.config.Config.{Config}
 use Rattle.swc_ecma_codegen_tokens.specs.Named.{IsRecorded, StandsAfter, EachName}
 use Rattle.swc_ecma_codegen_tokens.specs.Run.{State, put, run, spelling, after_plain}
 use Rattle.swc_ecma_codegen_tokens.specs.Settings.{settings_of}

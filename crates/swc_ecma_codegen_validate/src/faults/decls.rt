@@ -380,7 +380,7 @@ pub(crate) fn method_fault<N: FaultIn>(alloc: Global, node: &Function<N>) -> Fou
     within!(node, alloc; type_params params return_type body)
 }
 
-/// The same of a getter or a setter.
+/// What is wrong with the function of a getter or a setter.
 #[tactic(auto, unfolding(crate::specs::DeclRules::accessor_tail, crate::specs::Rules::findings))]
 pub(crate) fn accessor_fault<N: FaultIn>(alloc: Global, node: &Function<N>) -> Found
     ensures { IfOk result (Finds (findings N.found_as (accessor_tail node.now))) }

@@ -449,7 +449,7 @@ fn quasis_fault(alloc: Global, tagged: bool, quasis: &[TplElement]) -> Found
     Ok(None)
 }
 
-/// The same, as from the template.
+/// The first part of a template that isn't well-formed, as from the template.
 #[tactic(auto, unfolding(crate::specs::ExprRules::elements, crate::specs::Rules::findings))]
 pub(crate) fn elements_fault<N: FaultIn>(
     alloc: Global,

@@ -247,7 +247,7 @@ fn tag_fault(alloc: Global, name: &Ident) -> Found
     }
 }
 
-/// The same of a name that is a field of another.
+/// What is wrong with a name that is a field of another in a tag.
 fn tag_part_fault(alloc: Global, field: &'static str, name: &IdentName) -> Found
     ensures { IfOk result (Finds (below (Named field.now)
         (by_rule (is_possible (tag_ident_name name.now))

@@ -94,7 +94,7 @@ fn expr_fault<N: FaultIn>(alloc: Global, node: &Expr<N>, role: Role) -> Found
     }
 }
 
-/// The same of a statement.
+/// What is wrong with a statement in this role.
 #[tactic(auto, unfolding(crate::specs::TreeRules::stmt_in_role, crate::specs::Rules::findings))]
 fn stmt_fault<N: FaultIn>(alloc: Global, node: &Stmt<N>, role: Role) -> Found
     ensures { IfOk result (Finds (findings N.found_as (stmt_in_role node.now role))) }
@@ -105,7 +105,7 @@ fn stmt_fault<N: FaultIn>(alloc: Global, node: &Stmt<N>, role: Role) -> Found
     }
 }
 
-/// The same of `a.b`.
+/// What is wrong with `a.b` in this role.
 #[tactic(auto, unfolding(crate::specs::TreeRules::member_in_role, crate::specs::Rules::findings))]
 fn member_fault<N: FaultIn>(alloc: Global, node: &MemberExpr<N>, role: Role) -> Found
     ensures { IfOk result (Finds (findings N.found_as (member_in_role node.now role))) }

@@ -58,119 +58,124 @@ const isText = (statement) => statement.type === 'ExpressionStatement' && statem
 const isDirective = (node, statement) => !Array.isArray(node.directives)
   && (typeof statement.directive === 'string' || (statement.start === undefined && !statement.range));
 
-// The statements at the beginning of a body that are strings and no directives: each gets parentheses.
-function guardedIn(node) {
-  const end = node.body.findIndex((each) => !isText(each));
-  return node.body.slice(0, end < 0 ? node.body.length : end).filter((each) => !isDirective(node, each));
-}
+const isTyped = ({ type }) => type === 'TSAsExpression' || type === 'TSSatisfiesExpression' || type === 'TSTypeAssertion';
 
-// Methods of a tree's class, round those that it has (`of`).
-const METHODS = (of) => ({
+// A class of trees with these parentheses.
+const mended = (Base) => class extends Base {
+  constructor(...given) {
+    super(...given);
+    this.loose = 0; // in how many parts it is that the program puts no parentheses in
+    this.keepsFunctionParentheses = false;
+    this.guarded = new Set(); // statements whose strings would be directives
+    this.around = null; // the type that another stands in
+  }
+
   expr(node) {
     const isKept = this.keepsFunctionParentheses && node.type === 'FunctionExpression' && node.extra && node.extra.parenthesized;
-    return isKept || (this.loose > 0 && !isBare(node)) ? this.parenthesized(node) : of.expr.call(this, node);
-  },
+    return isKept || (this.loose > 0 && !isBare(node)) ? this.parenthesized(node) : super.expr(node);
+  }
 
   // An expression in a pair of parentheses: its own, where it has one.
   parenthesized(node) {
-    if (node.type === 'ParenthesizedExpression') return of.expr.call(this, node);
+    if (node.type === 'ParenthesizedExpression') return super.expr(node);
     this.open();
-    of.expr.call(this, node);
+    super.expr(node);
     return this.close();
-  },
+  }
 
   type(node) {
     const { around } = this, isWrapped = isLoose(around, node);
     this.around = node;
     if (isWrapped) this.put('{"TsParenthesizedType":{"type_ann":');
-    of.type.call(this, node);
+    super.type(node);
     if (isWrapped) this.close();
     this.around = around;
-  },
+  }
 
   // In namespaces and decorators the program puts no parentheses, so more than needed stand there.
   loosely(make) {
     this.loose++;
     make();
     this.loose--;
-  },
+  }
 
   namespaceBody(node) {
-    this.loosely(() => of.namespaceBody.call(this, node));
-  },
+    this.loosely(() => super.namespaceBody(node));
+  }
 
   decorator(node) {
-    this.loosely(() => (isPlainDecorator(node) ? of.decorator.call(this, node) : this.holding(node)));
-  },
+    this.loosely(() => (isPlainDecorator(node) ? super.decorator(node) : this.holding(node)));
+  }
 
   // A node with its expression in parentheses.
   holding(node) {
     this.put('{"expr":');
     this.parenthesized(node.expression);
-    this.put(`${this.at(node)}}`);
-  },
+    this.putEnd(node, '}');
+  }
 
   // (of `a < b > (c)` TypeScript reads a call, with a type argument)
   wrapsLeft(outer, inner) {
     return this.loose > 0 || (outer.operator === '>' && inner.operator === '<');
-  },
+  }
 
   object(node) {
     if (this.loose > 0 && node.type === 'MemberExpression' && /^Optional/.test(node.object.type)) this.parenthesized(node.object);
-    else of.object.call(this, node);
-  },
+    else super.object(node);
+  }
 
   callee(node) {
-    if (this.loose > 0 && /^Optional/.test(node.type)) this.within('Expr', 'parenthesized', node);
-    else of.callee.call(this, node);
-  },
+    if (this.loose > 0 && /^Optional/.test(node.type)) this.within('{"Expr":', 'parenthesized', node);
+    else super.callee(node);
+  }
 
   newCallee(node) {
     if (this.loose > 0 && node.type !== 'Identifier') this.parenthesized(node);
-    else of.newCallee.call(this, node);
-  },
+    else super.newCallee(node);
+  }
 
   // `declare const a = -1` is no declaration with parentheses
   initializer(node) {
-    if (this.loose > 0 && node.type === 'UnaryExpression') of.expr.call(this, node);
-    else of.initializer.call(this, node);
-  },
+    if (this.loose > 0 && node.type === 'UnaryExpression') super.expr(node);
+    else super.initializer(node);
+  }
 
   // `(a as b) = c`
   simpleTarget(node) {
-    if (/^TS(?:As|Satisfies)Expression$|^TSTypeAssertion$/.test(node.type)) this.parenthesized(node);
-    else of.simpleTarget.call(this, node);
-  },
+    if (isTyped(node)) this.parenthesized(node);
+    else super.simpleTarget(node);
+  }
 
   // `for ((async) of a)`, `for ((let) in a)`
   forHead(node) {
-    if (node.type !== 'Identifier' || (node.name !== 'async' && node.name !== 'let')) return of.forHead.call(this, node);
+    if (node.type !== 'Identifier' || (node.name !== 'async' && node.name !== 'let')) return super.forHead(node);
     this.put('{"Pat":{"Expr":');
     this.parenthesized(node);
     return this.put('}}');
-  },
+  }
+
+  // Notes the statements at the beginning of a body that are strings and no directives: each gets parentheses.
+  guard(node) {
+    for (const each of node.body) {
+      if (!isText(each)) return;
+      if (!isDirective(node, each)) this.guarded.add(each);
+    }
+  }
 
   body(begin, node) {
-    guardedIn(node).forEach((each) => this.guarded.add(each));
-    of.body.call(this, begin, node);
-  },
+    this.guard(node);
+    super.body(begin, node);
+  }
 
   moduleBody(begin, node) {
-    guardedIn(node).forEach((each) => this.guarded.add(each));
-    of.moduleBody.call(this, begin, node);
-  },
+    this.guard(node);
+    super.moduleBody(begin, node);
+  }
 
   expressionStatement(node) {
     if (this.guarded.size > 0 && this.guarded.has(node)) this.holding(node);
-    else of.expressionStatement.call(this, node);
-  },
-});
+    else super.expressionStatement(node);
+  }
+};
 
-// Gives a class of trees these methods.
-function mendedIn(prototype) {
-  const names = Object.keys(METHODS({}));
-  const of = Object.fromEntries(names.map((name) => [name, prototype[name]]));
-  Object.assign(prototype, METHODS(of));
-}
-
-module.exports = { mendedIn };
+module.exports = { mended };

@@ -3,10 +3,10 @@
 const { NoTree } = require('./files.js');
 const { check, isNode } = require('./check.js');
 const { babelOf } = require('./estree.js');
-const { quoted } = require('./json_text.js');
+const { mended } = require('./ast_parentheses.js');
 const { deepest } = require('./levels.js');
 const { NOWHERE } = require('./source.js');
-const { decoded, rawOf, referenced } = require('./spellings.js');
+const { attributeRawOf, decoded, rawOf, referenced } = require('./spellings.js');
 const { Tree, MOST_LEVELS } = require('./tree.js');
 
 // What stands for a number that no literal spells, as plugins make them.
@@ -15,14 +15,10 @@ const isUnusual = ({ type, value }) => (type === 'NumericLiteral' ? !(value > 0 
 // A string that is printed as it is spelled, with its spelling or without.
 const PLAIN_STRING = /^"[\w $!#%()*+,\-./:;<=>?@[\]^{|}~]*"$/;
 
-class AstTree extends Tree {
+class AstTree extends mended(Tree) {
   // Positions are those of the AST, from 1, where `positions` is 'own'; else none.
   constructor({ positions = 'own', nowhere = false, isShort = false } = {}) {
     super('', { nowhere: nowhere || positions === 'none', splits: true, isShort });
-    this.here = null; // the node that is gone through
-    this.loose = 0; // in how many parts it is that the program puts no parentheses in
-    this.keepsFunctionParentheses = false;
-    this.guarded = new Set(); // statements whose strings would be directives
   }
 
   span(node) {
@@ -49,7 +45,8 @@ class AstTree extends Tree {
   string(node) {
     const raw = rawOf(node), isNone = raw === null || (this.isShort && PLAIN_STRING.test(raw));
     this.warnOfSurrogate(node, node.value);
-    this.put(`{"value":${quoted(node.value)}${isNone ? this.none(',"raw":') : `,"raw":${quoted(raw)}`}${this.at(node)}}`);
+    this.putString(node.value, isNone ? null : raw);
+    this.putEnd(node, '}');
   }
 
   // Babel's value of a directive is its spelling.
@@ -57,7 +54,8 @@ class AstTree extends Tree {
     const { value, extra } = node;
     const isGiven = extra && typeof extra.raw === 'string' && (extra.rawValue === undefined || extra.rawValue === value);
     const quote = /(^|[^\\])(\\\\)*"/.test(value) ? "'" : '"', raw = isGiven ? extra.raw : `${quote}${value}${quote}`;
-    this.put(`{"value":${quoted(decoded(raw))},"raw":${quoted(raw)}${this.at(node)}}`);
+    this.putString(decoded(raw), raw);
+    this.putEnd(node, '}');
   }
 
   literal(node) {
@@ -108,13 +106,15 @@ class AstTree extends Tree {
   }
 
   jsxString(node) {
-    const given = rawOf(node), raw = given === null ? `"${referenced(node.value, /[&"]/g)}"` : given;
-    this.put(`{"value":${quoted(node.value)},"raw":${quoted(raw)}${this.at(node)}}`);
+    const given = attributeRawOf(node), raw = given === null ? `"${referenced(node.value, /[&"]/g)}"` : given;
+    this.putString(node.value, raw);
+    this.putEnd(node, '}');
   }
 
   jsxText(node) {
-    const given = rawOf(node), spelled = quoted(given === null ? referenced(node.value, /[&<>{}]/g) : referenced(given, /[>}]/g));
-    this.put(`{"value":${spelled},"raw":${spelled}${this.at(node)}}`);
+    const given = rawOf(node), spelled = given === null ? referenced(node.value, /[&<>{}]/g) : referenced(given, /[>}]/g);
+    this.putString(spelled, spelled);
+    this.putEnd(node, '}');
   }
 
   // (whether `new A` has no arguments, or an empty list, no AST tells)
@@ -123,14 +123,6 @@ class AstTree extends Tree {
   }
 }
 
-// Methods of a tree, each of which keeps the node that it goes through.
-const kept = (method) => function keeping(node) {
-  this.here = node;
-  return method.call(this, node);
-};
-for (const name of ['expr', 'stmt', 'pat', 'type', 'moduleItem', 'classMember', 'property', 'jsxChild']) AstTree.prototype[name] = kept(Tree.prototype[name]);
-require('./ast_parentheses.js').mendedIn(AstTree.prototype);
-
 // The program of an AST: of a file, as Babel has it, or of a program.
 function programIn(value) {
   const program = isNode(value) && value.type === 'File' ? value.program : value;
@@ -138,14 +130,32 @@ function programIn(value) {
   return program;
 }
 
-// The JSON of a program that was checked, by one that writes it. Errors of nodes that lack what their types have tell which.
-function made(source, program) {
+// Where a tree can't be written: the node that is gone through then.
+function faultyNode(source, program) {
+  let here = null;
+  for (const name of ['expr', 'stmt', 'pat', 'type', 'moduleItem', 'classMember', 'property', 'jsxChild']) {
+    const method = source[name];
+    source[name] = (node) => {
+      here = node;
+      return method.call(source, node);
+    };
+  }
   try {
     source.program({ program });
-    return source.written();
+  } catch (error) {
+    // (it is known)
+  }
+  return here;
+}
+
+// Writes a program that was checked. Errors of nodes that lack what their types have tell which.
+function write(source, program) {
+  try {
+    source.program({ program });
   } catch (error) {
     if (!(error instanceof TypeError)) throw error;
-    throw new NoTree(`${source.here ? source.here.type : 'Program'} lacks a part that its type has: ${error.message}`, source.here);
+    const node = faultyNode(source, program);
+    throw new NoTree(`${node ? node.type : 'Program'} lacks a part that its type has: ${error.message}`, node);
   }
 }
 
@@ -153,10 +163,11 @@ function made(source, program) {
 function treeOfAst(value, options) {
   const source = new AstTree(options), program = babelOf(programIn(value), { marks: true });
   check(program);
-  const tree = JSON.parse(made(source, program));
+  write(source, program);
+  const tree = JSON.parse(source.written());
   const { levels } = deepest(tree, MOST_LEVELS);
   if (levels > MOST_LEVELS && !options.flat) source.warn(null, `the JSON nests ${levels} levels deep, past the ${MOST_LEVELS} that ecmagen reads`);
   return { tree, warnings: source.warnings };
 }
 
-module.exports = { AstTree, made, programIn, treeOfAst };
+module.exports = { AstTree, write, programIn, treeOfAst };

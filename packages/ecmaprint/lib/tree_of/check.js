@@ -19,8 +19,8 @@ function sortOf(type) {
 
 const nameOf = (value) => (isNode(value) ? value.type : value === null ? 'null' : Array.isArray(value) ? 'a list' : typeof value === 'object' ? 'an object without a type' : typeof value);
 
-// Refuses a node's value, where it isn't of the sort that its type says.
-function refuseValue(node, value, { name, values, mayMiss }) {
+// Refuses a node's value, where it is of none of the sorts that its type says.
+function checkValue(node, value, { name, values, mayMiss }) {
   if (value === undefined || value === null) {
     if (!mayMiss && !values.includes('null')) throw new NoTree(`${node.type} has no \`${name}\``, node);
   } else if (!values.includes(typeof value) && values[0] !== 'any') {
@@ -46,33 +46,45 @@ function checkList(list, member, node, waiting) {
   }
 }
 
-// Refuses a member of a node that nothing reads. The answer is whether comments hang on the node. Nodes of a type mostly have the same members
-// in the same order, so that `order` of the last such node tells most of them.
-function checkNames(node, type) {
-  const names = Object.keys(node), { order } = type;
-  let hasComments = false, isOther = false;
-  for (let at = 0; at < names.length; at++) {
-    const name = names[at];
-    if (name === order[at]) continue;
-    isOther = true;
-    if (type.names.has(name) || name[0] === '_' || isNone(node[name])) continue;
-    if (!COMMENTS.includes(name)) throw new NoTree(`${node.type} can't be printed with its \`${name}\``, node, [name]);
-    hasComments = hasComments || name !== 'comments' || node.type !== 'Program';
+// Nodes of a type with the same members in the same order have a shape: which of their members hold values and nodes, which are comments, and
+// which nothing reads.
+class Shape {
+  constructor(type, names) {
+    const others = names.filter((name) => !type.names.has(name) && name[0] !== '_'), isThere = ({ name }) => names.includes(name);
+    this.names = names;
+    this.values = type.values.filter((member) => isThere(member) || !member.mayMiss);
+    this.held = type.held.filter((member) => isThere(member) || !member.mayMiss).reverse();
+    this.comments = others.filter((name) => COMMENTS.includes(name));
+    this.unread = others.filter((name) => !COMMENTS.includes(name));
   }
-  if (isOther && names.every((name) => type.names.has(name))) type.order = names;
-  return hasComments;
 }
 
-function checkValues(node, values) {
-  for (let at = 0; at < values.length; at++) {
-    const member = values[at], value = node[member.name];
-    if (typeof value !== member.sort) refuseValue(node, value, member);
+const MOST_SHAPES = 1000; // of a type: an AST may have members at random
+
+// The shape of a node. The last one with so many members is mostly the one.
+function shapeOf(node, type) {
+  const names = Object.keys(node), { shapes } = type, last = shapes.latest[names.length];
+  let at = last === undefined ? -1 : 0;
+  while (at >= 0 && at < names.length) at = names[at] === last.names[at] ? at + 1 : -1;
+  if (at >= 0) return last;
+  const key = names.join();
+  if (!shapes.known.has(key)) {
+    if (shapes.known.size === MOST_SHAPES) shapes.known.clear();
+    shapes.known.set(key, new Shape(type, names));
   }
+  shapes.latest[names.length] = shapes.known.get(key);
+  return shapes.latest[names.length];
+}
+
+// Refuses a member of a node that nothing reads. The answer is whether comments hang on the node.
+function checkOthers(node, { comments, unread }) {
+  for (const name of unread) if (!isNone(node[name])) throw new NoTree(`${node.type} can't be printed with its \`${name}\``, node, [name]);
+  return comments.some((name) => !isNone(node[name]) && (name !== 'comments' || node.type !== 'Program'));
 }
 
 // Adds the nodes that a node holds to a list, the last of the text first.
-function checkHeld(node, held, waiting) {
-  for (let at = held.length - 1; at >= 0; at--) {
+function addHeld(node, held, waiting) {
+  for (let at = 0; at < held.length; at++) {
     const member = held[at], value = node[member.name];
     if ((value === undefined || value === null) && member.mayMiss) continue;
     if (member.isList) checkList(value, member, node, waiting);
@@ -84,33 +96,31 @@ function checkHeld(node, held, waiting) {
 }
 
 const MOST_LEVELS = 50000; // far more than anything that is printed has
-const END = null; // of what one node holds
 
-// Throws where a node, or one below it, isn't read whole. The answer is how deep they nest, which nodes have comments, each with those round it
-// from the outermost on, and which cases of a `switch` have one statement. `hung` has the comments of nodes, where they don't hang there.
+// Throws where a node, or one below it, isn't read whole. The answer is how deep they nest, which nodes have comments, each as the last of those
+// round it from the outermost on, and which cases of a `switch` have one statement. `hung` has the comments of nodes, where they don't hang there.
 function check(top, hung = null) {
-  const waiting = [top], onWay = [], commented = [], cases = [];
-  let level = 0, levels = 0;
+  const waiting = [top], levelsOf = [0], onWay = [], commented = [], cases = [];
+  let deepest = 0;
   while (waiting.length > 0) {
-    const node = waiting.pop();
-    if (node === END) {
-      level--;
-      continue;
-    }
-    const type = TYPES.get(node.type);
+    const node = waiting.pop(), level = levelsOf[waiting.length], type = TYPES.get(node.type);
     if (type === undefined) throw new NoTree(sortOf(node.type), node);
-    const hasComments = checkNames(node, type);
-    if (hung === null ? hasComments : hung.has(node)) commented.push({ node, above: onWay.slice(0, level) });
-    if (type.values.length > 0) checkValues(node, type.values);
-    if (type.held.length === 0) continue;
-    onWay[level++] = node;
-    if (level > levels) levels = level;
-    if (level > MOST_LEVELS) throw new RangeError('the AST nests without an end');
-    waiting.push(END);
-    checkHeld(node, type.held, waiting);
+    const shape = shapeOf(node, type), { values, held } = shape;
+    const hasComments = (shape.unread.length > 0 || shape.comments.length > 0) && checkOthers(node, shape);
+    if (hung === null ? hasComments : hung.has(node)) commented.push([...onWay.slice(0, level), node]);
+    for (let at = 0; at < values.length; at++) {
+      if (typeof node[values[at].name] !== values[at].sort) checkValue(node, node[values[at].name], values[at]);
+    }
+    if (held.length === 0) continue;
+    onWay[level] = node;
+    if (level >= deepest) deepest = level + 1;
+    if (level >= MOST_LEVELS) throw new RangeError('the AST nests without an end');
+    const before = waiting.length;
+    addHeld(node, held, waiting);
+    for (let at = before; at < waiting.length; at++) levelsOf[at] = level + 1;
     if (type.isCase && node.consequent.length === 1) cases.push(node);
   }
-  return { levels, commented, cases };
+  return { levels: deepest, commented, cases };
 }
 
 module.exports = { check, isNode, isNone, nameOf };

@@ -21,7 +21,11 @@ const isConst = (type) => type.type === 'TSTypeReference' && type.typeName.name 
 
 // What each of Babel's types is in the tree.
 const EXPRESSIONS = {
-  Identifier: (tree, node) => tree.put(`{"Ident":{${tree.plainName(node)}${tree.no(',"optional":')}}}`),
+  Identifier: (tree, node) => {
+    tree.putNamed('{"Ident":{"sym":', node);
+    tree.putFlag(',"optional":', false);
+    tree.put('}}');
+  },
   MemberExpression: (tree, node) => {
     tree.put(node.object.type === 'Super' ? '{"SuperProp":' : '{"Member":');
     tree.member(node);
@@ -33,18 +37,18 @@ const EXPRESSIONS = {
     tree.put('}');
   },
   ThisExpression: (tree, node) => tree.put(`{"This":{${tree.only(node)}}}`),
-  PrivateName: (tree, node) => tree.within('PrivateName', 'privateName', node),
-  TemplateLiteral: (tree, node) => tree.within('Tpl', 'template', node),
-  TaggedTemplateExpression: (tree, node) => tree.within('TaggedTpl', 'tagged', node),
+  PrivateName: (tree, node) => tree.within('{"PrivateName":', 'privateName', node),
+  TemplateLiteral: (tree, node) => tree.within('{"Tpl":', 'template', node),
+  TaggedTemplateExpression: (tree, node) => tree.within('{"TaggedTpl":', 'tagged', node),
   ArrayExpression: (tree, node) => {
     tree.put('{"Array":{"elems":');
     tree.listed(node.elements, 'argument');
-    tree.put(`${tree.at(node)}}}`);
+    tree.putEnd(node, '}}');
   },
   ObjectExpression: (tree, node) => {
     tree.put('{"Object":{"props":');
     tree.listed(node.properties, 'property');
-    tree.put(`${tree.at(node)}}}`);
+    tree.putEnd(node, '}}');
   },
   FunctionExpression: (tree, node) => {
     tree.put('{"Fn":{"function":');
@@ -58,25 +62,30 @@ const EXPRESSIONS = {
     tree.optional(',"ident":', node.id, 'ident');
     tree.put('}}');
   },
-  ArrowFunctionExpression: (tree, node) => tree.within('Arrow', 'arrow', node),
+  ArrowFunctionExpression: (tree, node) => tree.within('{"Arrow":', 'arrow', node),
   UnaryExpression: (tree, node) => {
-    tree.put(`{"Unary":{"op":"${tree.operator(UNARY, node)}","arg":`);
+    tree.putOperator('{"Unary":{"op":"', UNARY, node);
+    tree.put('","arg":');
     tree.expr(node.argument);
-    tree.put(`${tree.at(node)}}}`);
+    tree.putEnd(node, '}}');
   },
   UpdateExpression: (tree, node) => {
-    tree.put(`{"Update":{"op":"${tree.operator(UPDATE, node)}"${tree.flag(',"prefix":', node.prefix)},"arg":`);
+    tree.putOperator('{"Update":{"op":"', UPDATE, node);
+    tree.put('"');
+    tree.putFlag(',"prefix":', node.prefix);
+    tree.put(',"arg":');
     tree.expr(node.argument);
-    tree.put(`${tree.at(node)}}}`);
+    tree.putEnd(node, '}}');
   },
   BinaryExpression: (tree, node) => tree.binary(node),
   LogicalExpression: (tree, node) => tree.binary(node),
   AssignmentExpression: (tree, node) => {
-    tree.put(`{"Assign":{"op":"${tree.operator(ASSIGNMENT, node)}","left":`);
+    tree.putOperator('{"Assign":{"op":"', ASSIGNMENT, node);
+    tree.put('","left":');
     tree.target(node.left);
     tree.put(',"right":');
     tree.expr(node.right);
-    tree.put(`${tree.at(node)}}}`);
+    tree.putEnd(node, '}}');
   },
   ConditionalExpression: (tree, node) => {
     tree.put('{"Cond":{"test":');
@@ -85,17 +94,17 @@ const EXPRESSIONS = {
     tree.expr(node.consequent);
     tree.put(',"alt":');
     tree.expr(node.alternate);
-    tree.put(`${tree.at(node)}}}`);
+    tree.putEnd(node, '}}');
   },
   SequenceExpression: (tree, node) => {
     tree.put('{"Seq":{"exprs":');
     tree.listed(node.expressions, 'expr');
-    tree.put(`${tree.at(node)}}}`);
+    tree.putEnd(node, '}}');
   },
-  ParenthesizedExpression: (tree, node) => tree.within('Paren', 'parentheses', node),
-  OptionalMemberExpression: (tree, node) => tree.within('OptChain', 'optChain', node),
-  OptionalCallExpression: (tree, node) => tree.within('OptChain', 'optChain', node),
-  NewExpression: (tree, node) => tree.within('New', 'newExpr', node),
+  ParenthesizedExpression: (tree, node) => tree.within('{"Paren":', 'parentheses', node),
+  OptionalMemberExpression: (tree, node) => tree.within('{"OptChain":', 'optChain', node),
+  OptionalCallExpression: (tree, node) => tree.within('{"OptChain":', 'optChain', node),
+  NewExpression: (tree, node) => tree.within('{"New":', 'newExpr', node),
   YieldExpression: (tree, node) => {
     const place = tree.at(node), marked = tree.flag(',"delegate":', node.delegate) + place;
     if (node.argument) {
@@ -107,26 +116,26 @@ const EXPRESSIONS = {
   AwaitExpression: (tree, node) => {
     tree.put('{"Await":{"arg":');
     tree.expr(node.argument);
-    tree.put(`${tree.at(node)}}}`);
+    tree.putEnd(node, '}}');
   },
   MetaProperty: (tree, node) => {
     const words = `${node.meta.name}.${node.property.name}`, kind = META[words] || tree.refuse(node, `printed: \`${words}\` has no place in the tree`);
     tree.put(`{"MetaProp":{"kind":"${kind}"${tree.at(node)}}}`);
   },
-  JSXElement: (tree, node) => tree.within('JSXElement', 'jsxElement', node),
-  JSXFragment: (tree, node) => tree.within('JSXFragment', 'jsxFragment', node),
-  TSAsExpression: (tree, node) => (isConst(node.typeAnnotation) ? tree.within('TsConstAssertion', 'parentheses', node) : tree.within('TsAs', 'typed', node)),
-  TSSatisfiesExpression: (tree, node) => tree.within('TsSatisfies', 'typed', node),
-  TSTypeAssertion: (tree, node) => (isConst(node.typeAnnotation) ? tree.within('TsConstAssertion', 'parentheses', node) : tree.within('TsTypeAssertion', 'typed', node)),
-  TSNonNullExpression: (tree, node) => tree.within('TsNonNull', 'parentheses', node),
-  TSInstantiationExpression: (tree, node) => tree.within('TsInstantiation', 'instantiation', node),
+  JSXElement: (tree, node) => tree.within('{"JSXElement":', 'jsxElement', node),
+  JSXFragment: (tree, node) => tree.within('{"JSXFragment":', 'jsxFragment', node),
+  TSAsExpression: (tree, node) => (isConst(node.typeAnnotation) ? tree.within('{"TsConstAssertion":', 'parentheses', node) : tree.within('{"TsAs":', 'typed', node)),
+  TSSatisfiesExpression: (tree, node) => tree.within('{"TsSatisfies":', 'typed', node),
+  TSTypeAssertion: (tree, node) => (isConst(node.typeAnnotation) ? tree.within('{"TsConstAssertion":', 'parentheses', node) : tree.within('{"TsTypeAssertion":', 'typed', node)),
+  TSNonNullExpression: (tree, node) => tree.within('{"TsNonNull":', 'parentheses', node),
+  TSInstantiationExpression: (tree, node) => tree.within('{"TsInstantiation":', 'instantiation', node),
 };
 
 // What each may be as a property of an object.
 const PROPERTIES = {
-  ObjectProperty: (tree, node) => tree.within('Prop', 'valueProperty', node),
-  ObjectMethod: (tree, node) => tree.within('Prop', 'methodProperty', node),
-  SpreadElement: (tree, node) => tree.within('Spread', 'spread', node),
+  ObjectProperty: (tree, node) => tree.within('{"Prop":', 'valueProperty', node),
+  ObjectMethod: (tree, node) => tree.within('{"Prop":', 'methodProperty', node),
+  SpreadElement: (tree, node) => tree.within('{"Spread":', 'spread', node),
 };
 
 const expressions = {
@@ -136,8 +145,9 @@ const expressions = {
     else if (!this.literal(node)) this.refuse(node, 'an expression');
   },
 
-  operator(names, node) {
-    return names[node.operator] || this.refuse(node, `the operator ${node.operator}`);
+  putOperator(begin, names, node) {
+    this.put(begin);
+    this.put(names[node.operator] || this.refuse(node, `the operator ${node.operator}`));
   },
 
   // Left operands are often many, so they are gone through in a loop, from the outermost to the innermost and back.
@@ -146,7 +156,8 @@ const expressions = {
     let innermost = node;
     for (let outer = null; isBinary(innermost); innermost = innermost.left) {
       if (outer !== null && this.wrapsLeft(outer, innermost)) this.open();
-      this.put(`{"Bin":{"op":"${this.operator(BINARY, innermost)}","left":`);
+      this.putOperator('{"Bin":{"op":"', BINARY, innermost);
+      this.put('","left":');
       chain.push(innermost);
       outer = innermost;
     }
@@ -154,7 +165,7 @@ const expressions = {
     for (let at = chain.length - 1; at >= 0; at--) {
       this.put(',"right":');
       this.expr(chain[at].right);
-      this.put(`${this.at(chain[at])}}}`);
+      this.putEnd(chain[at], '}}');
       if (at > 0 && this.wrapsLeft(chain[at - 1], chain[at])) this.close();
     }
   },
@@ -170,14 +181,15 @@ const expressions = {
   },
 
   close() {
-    this.put(`${this.placed(this.unplaced())}}}`);
+    this.putPlaced(this.unplaced());
+    this.put('}}');
   },
 
   // An expression with nothing but its span, as in parentheses.
   parentheses(node) {
     this.put('{"expr":');
     this.expr(node.expression);
-    this.put(`${this.at(node)}}`);
+    this.putEnd(node, '}');
   },
 
   // An argument, or an element of an array, which may be a hole.
@@ -186,7 +198,7 @@ const expressions = {
     else if (node.type !== 'SpreadElement') {
       this.put('{"expr":');
       this.expr(node);
-      this.put(`${this.none(',"spread":')}}`);
+      this.put(this.isShort ? '}' : ',"spread":null}');
     } else {
       this.put('{"expr":');
       this.expr(node.argument);
@@ -213,7 +225,7 @@ const expressions = {
     this.put(',"tpl":');
     this.template(node.quasi);
     this.optional(',"type_params":', node.typeParameters, 'typeArguments');
-    this.put(`${this.at(node)}}`);
+    this.putEnd(node, '}');
   },
 
   call(node) {
@@ -221,7 +233,7 @@ const expressions = {
     this.callee(node.callee);
     this.list(',"args":', node.arguments, 'argument');
     this.optional(',"type_args":', node.typeParameters, 'typeArguments');
-    this.put(`${this.at(node)}}`);
+    this.putEnd(node, '}');
   },
 
   callee(node) {
@@ -250,7 +262,7 @@ const expressions = {
       this.listed(node.arguments, 'argument');
     }
     this.optional(',"type_args":', node.typeParameters, 'typeArguments');
-    this.put(`${this.at(node)}}`);
+    this.putEnd(node, '}');
   },
 
   // Of an object, or of `super`.
@@ -261,7 +273,7 @@ const expressions = {
     else this.object(node);
     this.put(',"prop":');
     this.memberProp(node);
-    this.put(`${this.at(node)}}`);
+    this.putEnd(node, '}');
   },
 
   object(node) {
@@ -270,19 +282,25 @@ const expressions = {
 
   memberProp(node) {
     const { property } = node;
-    if (!node.computed && property.type === 'PrivateName') return this.within('PrivateName', 'privateName', property);
-    if (!node.computed) return this.put(`{"Ident":{${this.plainName(property)}}}`);
+    if (!node.computed && property.type === 'PrivateName') return this.within('{"PrivateName":', 'privateName', property);
+    if (!node.computed) {
+      this.putNamed('{"Ident":{"sym":', property);
+      return this.put('}}');
+    }
     const open = Math.max(this.before('[', property.start), node.object.end);
     this.put('{"Computed":{"expr":');
     this.expr(property);
-    return this.put(`${this.placed(this.between(open, node.end))}}}`);
+    this.putPlaced(this.between(open, node.end));
+    return this.put('}}');
   },
 
   optChain(node) {
     this.put('{"base":');
-    if (node.type === 'OptionalMemberExpression') this.within('Member', 'member', node);
-    else this.within('Call', 'optCall', node);
-    this.put(`${this.at(node)}${this.flag(',"optional":', node.optional)}}`);
+    if (node.type === 'OptionalMemberExpression') this.within('{"Member":', 'member', node);
+    else this.within('{"Call":', 'optCall', node);
+    this.putPlaced(this.span(node));
+    this.putFlag(',"optional":', node.optional);
+    this.put('}');
   },
 
   optCall(node) {
@@ -290,7 +308,7 @@ const expressions = {
     this.expr(node.callee);
     this.list(',"args":', node.arguments, 'argument');
     this.optional(',"type_args":', node.typeParameters, 'typeArguments');
-    this.put(`${this.at(node)}}`);
+    this.putEnd(node, '}');
   },
 
   property(node) {
@@ -316,7 +334,7 @@ const expressions = {
         return this.put('}}');
       }
     }
-    if (this.isShorthand(node, value)) return this.within('Shorthand', 'ident', value);
+    if (this.isShorthand(node, value)) return this.within('{"Shorthand":', 'ident', value);
     this.put('{"KeyValue":{"key":');
     this.propName(node.key, node.computed, node.start);
     this.put(',"value":');
@@ -345,7 +363,7 @@ const expressions = {
     this.put(',"body":');
     this.block(node.body);
     this.optional(',"type_ann":', node.returnType, 'typeAnnotation');
-    this.put(`${this.at(node)}}}`);
+    this.putEnd(node, '}}');
   },
 
   setter(node) {
@@ -358,7 +376,7 @@ const expressions = {
     this.pat(param);
     this.put(',"body":');
     this.block(node.body);
-    this.put(`${this.at(node)}}}`);
+    this.putEnd(node, '}}');
   },
 };
 

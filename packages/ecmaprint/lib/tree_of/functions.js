@@ -8,15 +8,15 @@ const MEMBERS = {
   ClassMethod: (tree, node) => tree.method(node),
   ClassPrivateMethod: (tree, node) => tree.method(node),
   TSDeclareMethod: (tree, node) => tree.method(node),
-  ClassProperty: (tree, node) => tree.within('ClassProp', 'field', node),
-  ClassPrivateProperty: (tree, node) => tree.within('PrivateProp', 'privateField', node),
-  ClassAccessorProperty: (tree, node) => tree.within('AutoAccessor', 'accessor', node),
+  ClassProperty: (tree, node) => tree.within('{"ClassProp":', 'field', node),
+  ClassPrivateProperty: (tree, node) => tree.within('{"PrivateProp":', 'privateField', node),
+  ClassAccessorProperty: (tree, node) => tree.within('{"AutoAccessor":', 'accessor', node),
   StaticBlock: (tree, node) => {
     tree.put('{"StaticBlock":{"body":{"stmts":');
     tree.listed(node.body, 'stmt');
     tree.put(`${tree.placed(tree.between(tree.text.indexOf('{', node.start), node.end))}}${tree.at(node)}}}`);
   },
-  TSIndexSignature: (tree, node) => tree.within('TsIndexSignature', 'indexSignature', node),
+  TSIndexSignature: (tree, node) => tree.within('{"TsIndexSignature":', 'indexSignature', node),
 };
 
 const functions = {
@@ -34,17 +34,18 @@ const functions = {
     this.undecorated(node);
     if (node.type === 'AssignmentPattern') this.lists(',"decorators":', node.decorators, 'decorator', node.left.decorators, 'decorator');
     else this.decorators(node);
-    this.put(`${this.at(node)}}`);
+    this.putEnd(node, '}');
   },
 
   // The end of a function, with its marks and types. (Only a method has decorators: its own)
   signature(node, decorated) {
-    this.put(`${this.flag(',"is_generator":', node.generator)}${this.flag(',"is_async":', node.async)}`);
+    this.putFlag(',"is_generator":', node.generator);
+    this.putFlag(',"is_async":', node.async);
     if (decorated === 'own') this.decorators(node);
     else if (decorated === 'none') this.put(this.empty(',"decorators":'));
     this.optional(',"type_params":', node.typeParameters, 'typeParams');
     this.optional(',"return_type":', node.returnType, 'typeAnnotation');
-    this.put(`${this.at(node)}}`);
+    this.putEnd(node, '}');
   },
 
   function(node, decorated = 'none') {
@@ -60,7 +61,8 @@ const functions = {
     this.put('{"params":');
     this.listed(node.params, 'pat');
     this.put(',"body":');
-    this.within(...(node.body.type === 'BlockStatement' ? ['BlockStmt', 'block', node.body] : ['Expr', 'expr', node.body]));
+    if (node.body.type === 'BlockStatement') this.within('{"BlockStmt":', 'block', node.body);
+    else this.within('{"Expr":', 'expr', node.body);
     this.signature(node, 'never');
   },
 
@@ -69,11 +71,11 @@ const functions = {
     this.listed(node.body.body, 'classMember');
     this.decorators(node);
     this.optional(',"super_class":', node.superClass, 'expr');
-    this.put(this.flag(',"is_abstract":', node.abstract));
+    this.putFlag(',"is_abstract":', node.abstract);
     this.optional(',"type_params":', node.typeParameters, 'typeParams');
     this.optional(',"super_type_params":', node.superTypeParameters, 'typeArguments');
     this.list(',"implements":', node.implements, 'heritage');
-    this.put(`${this.at(node)}}`);
+    this.putEnd(node, '}');
   },
 
   classMember(node) {
@@ -95,27 +97,35 @@ const functions = {
   },
 
   constructorParam(node) {
-    return node.type === 'TSParameterProperty' ? this.within('TsParamProp', 'paramProp', node) : this.within('Param', 'param', node);
+    return node.type === 'TSParameterProperty' ? this.within('{"TsParamProp":', 'paramProp', node) : this.within('{"Param":', 'param', node);
   },
 
   method(node) {
-    if (node.kind === 'constructor') return this.within('Constructor', 'classConstructor', node);
+    if (node.kind === 'constructor') return this.within('{"Constructor":', 'classConstructor', node);
     const isPrivate = node.key.type === 'PrivateName', kind = KINDS[node.kind] || this.refuse(node, `a member of the kind ${node.kind}`);
     if (isPrivate) this.without(node, 'computed');
     this.put(isPrivate ? '{"PrivateMethod":{"key":' : '{"Method":{"key":');
     if (isPrivate) this.privateName(node.key);
     else this.propName(node.key, node.computed, node.start);
-    this.put(`,"kind":"${kind}","function":`);
+    this.put(',"kind":"');
+    this.put(kind);
+    this.put('","function":');
     this.function(node, 'own');
-    this.put(`${this.flag(',"is_static":', node.static)}${this.accessibility(node)}${this.flag(',"is_abstract":', node.abstract)}`);
-    return this.put(`${this.flag(',"is_optional":', node.optional)}${this.flag(',"is_override":', node.override)}${this.at(node)}}}`);
+    this.putFlag(',"is_static":', node.static);
+    this.put(this.accessibility(node));
+    this.putFlag(',"is_abstract":', node.abstract);
+    this.putFlag(',"is_optional":', node.optional);
+    this.putFlag(',"is_override":', node.override);
+    return this.putEnd(node, '}}');
   },
 
   // What all fields have behind their keys.
   fieldParts(node) {
     this.optional(',"value":', node.value, 'expr');
     this.optional(',"type_ann":', node.typeAnnotation, 'typeAnnotation');
-    this.put(`${this.flag(',"is_static":', node.static)}${this.flag(',"is_override":', node.override)}${this.flag(',"definite":', node.definite)}`);
+    this.putFlag(',"is_static":', node.static);
+    this.putFlag(',"is_override":', node.override);
+    this.putFlag(',"definite":', node.definite);
     this.decorators(node);
     this.put(`${this.accessibility(node)}${this.at(node)}`);
   },
@@ -124,27 +134,33 @@ const functions = {
     this.put('{"key":');
     this.propName(node.key, node.computed, node.start);
     this.fieldParts(node);
-    this.put(`${this.flag(',"is_abstract":', node.abstract)}${this.flag(',"is_optional":', node.optional)}`);
-    this.put(`${this.flag(',"readonly":', node.readonly)}${this.flag(',"declare":', node.declare)}}`);
+    this.putFlag(',"is_abstract":', node.abstract);
+    this.putFlag(',"is_optional":', node.optional);
+    this.putFlag(',"readonly":', node.readonly);
+    this.putFlag(',"declare":', node.declare);
+    this.put('}');
   },
 
   privateField(node) {
     this.put('{"key":');
     this.privateName(node.key);
     this.fieldParts(node);
-    this.put(`${this.flag(',"is_optional":', node.optional)}${this.flag(',"readonly":', node.readonly)}}`);
+    this.putFlag(',"is_optional":', node.optional);
+    this.putFlag(',"readonly":', node.readonly);
+    this.put('}');
   },
 
   accessor(node) {
     this.put('{"key":');
-    if (node.key.type === 'PrivateName') this.within('Private', 'privateName', node.key);
+    if (node.key.type === 'PrivateName') this.within('{"Private":', 'privateName', node.key);
     else {
       this.put('{"Public":');
       this.propName(node.key, node.computed, node.start);
       this.put('}');
     }
     this.fieldParts(node);
-    this.put(`${this.flag(',"is_abstract":', node.abstract)}}`);
+    this.putFlag(',"is_abstract":', node.abstract);
+    this.put('}');
   },
 
   // `private a` among the parameters of a constructor.
@@ -153,10 +169,13 @@ const functions = {
     this.without(parameter, 'decorators');
     if (parameter.type === 'AssignmentPattern') this.without(parameter.left, 'decorators');
     this.put('{"param":');
-    this.within(...(parameter.type === 'Identifier' ? ['Ident', 'binding', parameter] : ['Assign', 'assignPat', parameter]));
-    this.put(`${this.accessibility(node)}${this.flag(',"is_override":', node.override)}${this.flag(',"readonly":', node.readonly)}`);
+    if (parameter.type === 'Identifier') this.within('{"Ident":', 'binding', parameter);
+    else this.within('{"Assign":', 'assignPat', parameter);
+    this.put(this.accessibility(node));
+    this.putFlag(',"is_override":', node.override);
+    this.putFlag(',"readonly":', node.readonly);
     this.decorators(node);
-    this.put(`${this.at(node)}}`);
+    this.putEnd(node, '}');
   },
 };
 

@@ -1,9 +1,12 @@
 'use strict';
 // Elements and fragments of JSX.
-const { quoted } = require('./json_text.js');
 
 const NAMES = {
-  JSXIdentifier: (tree, node) => tree.put(`{"Ident":{"sym":${quoted(node.name)}${tree.at(node)}${tree.no(',"optional":')}}}`),
+  JSXIdentifier: (tree, node) => {
+    tree.putNamed('{"Ident":{"sym":', node);
+    tree.putFlag(',"optional":', false);
+    tree.put('}}');
+  },
   JSXMemberExpression: (tree, node) => {
     tree.put('{"JSXMemberExpr":{"obj":');
     tree.tagName(node.object);
@@ -26,15 +29,15 @@ const VALUES = {
     tree.jsxString(node);
     tree.put('}}');
   },
-  JSXExpressionContainer: (tree, node) => tree.within('JSXExprContainer', 'jsxContainer', node),
-  JSXElement: (tree, node) => tree.within('JSXElement', 'jsxElement', node),
-  JSXFragment: (tree, node) => tree.within('JSXFragment', 'jsxFragment', node),
+  JSXExpressionContainer: (tree, node) => tree.within('{"JSXExprContainer":', 'jsxContainer', node),
+  JSXElement: (tree, node) => tree.within('{"JSXElement":', 'jsxElement', node),
+  JSXFragment: (tree, node) => tree.within('{"JSXFragment":', 'jsxFragment', node),
 };
 
 const CHILDREN = {
-  JSXText: (tree, node) => tree.within('JSXText', 'jsxText', node),
+  JSXText: (tree, node) => tree.within('{"JSXText":', 'jsxText', node),
   JSXExpressionContainer: VALUES.JSXExpressionContainer,
-  JSXSpreadChild: (tree, node) => tree.within('JSXSpreadChild', 'parentheses', node),
+  JSXSpreadChild: (tree, node) => tree.within('{"JSXSpreadChild":', 'parentheses', node),
   JSXElement: VALUES.JSXElement,
   JSXFragment: VALUES.JSXFragment,
 };
@@ -45,7 +48,7 @@ const jsx = {
     this.jsxOpening(node.openingElement);
     this.list(',"children":', node.children, 'jsxChild');
     this.optional(',"closing":', node.closingElement, 'jsxClosing');
-    this.put(`${this.at(node)}}`);
+    this.putEnd(node, '}');
   },
 
   jsxOpening(node) {
@@ -54,19 +57,19 @@ const jsx = {
     this.list(',"attrs":', node.attributes, 'jsxAttribute');
     this.put(this.flag(',"self_closing":', node.selfClosing));
     this.optional(',"type_args":', node.typeParameters, 'typeArguments');
-    this.put(`${this.at(node)}}`);
+    this.putEnd(node, '}');
   },
 
   jsxClosing(node) {
     this.put('{"name":');
     this.tagName(node.name);
-    this.put(`${this.at(node)}}`);
+    this.putEnd(node, '}');
   },
 
   jsxFragment(node) {
     this.put(`{"opening":{${this.only(node.openingFragment)}},"closing":{${this.only(node.closingFragment)}}`);
     this.list(',"children":', node.children, 'jsxChild');
-    this.put(`${this.at(node)}}`);
+    this.putEnd(node, '}');
   },
 
   tagName(node) {
@@ -74,16 +77,17 @@ const jsx = {
   },
 
   tagIdentName(node) {
-    this.put(`{"sym":${quoted(node.name)}${this.at(node)}}`);
+    this.putNamed('{"sym":', node);
+    this.put('}');
   },
 
   jsxAttribute(node) {
-    if (node.type === 'JSXSpreadAttribute') return this.within('SpreadElement', 'spread', node);
+    if (node.type === 'JSXSpreadAttribute') return this.within('{"SpreadElement":', 'spread', node);
     this.put('{"JSXAttr":{"name":');
     if (node.name.type === 'JSXNamespacedName') this.tagName(node.name);
-    else this.within('Ident', 'tagIdentName', node.name);
+    else this.within('{"Ident":', 'tagIdentName', node.name);
     this.optional(',"value":', node.value, 'jsxValue');
-    return this.put(`${this.at(node)}}}`);
+    return this.putEnd(node, '}}');
   },
 
   jsxValue(node) {
@@ -93,22 +97,24 @@ const jsx = {
 
   // The string of an attribute: no backslash escapes anything in it.
   jsxString(node) {
-    this.put(`{"value":${quoted(node.value)},"raw":${quoted(this.spelled(node))}${this.at(node)}}`);
+    this.putString(node.value, this.spelled(node));
+    this.putEnd(node, '}');
   },
 
   // A text between tags is printed by its value, so that is the text as it is spelled: of `&amp;lt;` a decoded `&lt;` would be printed, and
   // read as `<`. Babel takes `>` and `}`, too, which the grammar of JSX has as references alone.
   jsxText(node) {
-    const spelled = quoted(this.spelled(node).replace(/>/g, '&gt;').replace(/\}/g, '&#125;'));
-    this.put(`{"value":${spelled},"raw":${spelled}${this.at(node)}}`);
+    const spelled = this.spelled(node).replace(/>/g, '&gt;').replace(/\}/g, '&#125;');
+    this.putString(spelled, spelled);
+    this.putEnd(node, '}');
   },
 
   jsxContainer(node) {
     const { expression } = node;
     this.put('{"expr":');
     if (expression.type === 'JSXEmptyExpression') this.put(`{"JSXEmptyExpr":{${this.only(expression)}}}`);
-    else this.within('Expr', 'expr', expression);
-    this.put(`${this.at(node)}}`);
+    else this.within('{"Expr":', 'expr', expression);
+    this.putEnd(node, '}');
   },
 
   jsxChild(node) {

@@ -17,9 +17,9 @@ function endOfName(tree, name, start) {
 }
 
 const LITERALS = {
-  StringLiteral: (tree, node) => tree.within('Str', 'string', node),
-  NumericLiteral: (tree, node) => tree.within('Num', 'number', node),
-  BigIntLiteral: (tree, node) => tree.within('BigInt', 'bigInteger', node),
+  StringLiteral: (tree, node) => tree.within('{"Str":', 'string', node),
+  NumericLiteral: (tree, node) => tree.within('{"Num":', 'number', node),
+  BigIntLiteral: (tree, node) => tree.within('{"BigInt":', 'bigInteger', node),
   BooleanLiteral: (tree, node) => tree.put(`{"Bool":${tree.boolean(node)}}`),
   NullLiteral: (tree, node) => tree.put(`{"Null":{${tree.only(node)}}}`),
   RegExpLiteral: (tree, node) => tree.put(`{"Regex":{"exp":${quoted(node.pattern)},"flags":${quoted(node.flags)}${tree.at(node)}}}`),
@@ -30,8 +30,8 @@ const numberText = ({ value, raw }, none) => JSON.stringify({ value, raw: raw ==
 
 const leaves = {
   // What a method writes, as the one variant of an enum.
-  within(name, method, node) {
-    this.put(`{"${name}":`);
+  within(begin, method, node) {
+    this.put(begin);
     this[method](node);
     this.put('}');
   },
@@ -40,35 +40,47 @@ const leaves = {
     return this.between(start, endOfName(this, name, start) || end);
   },
 
-  // A name with neither a type nor a `?`, and its members.
-  plainName(node) {
+  // A name with neither a type nor a `?`, behind its beginning.
+  putNamed(begin, node) {
     if (node.typeAnnotation || node.optional || node.decorators) this.without(node, 'typeAnnotation', 'optional', 'decorators');
-    return `"sym":${quoted(node.name)}${this.at(node)}`;
+    this.put(begin);
+    this.putText(node.name);
+    this.putPlaced(this.span(node));
   },
 
   ident(node) {
-    this.put(`{${this.plainName(node)}${this.no(',"optional":')}}`);
+    this.putNamed('{"sym":', node);
+    this.putFlag(',"optional":', false);
+    this.put('}');
   },
 
   identName(node) {
-    this.put(`{${this.plainName(node)}}`);
+    this.putNamed('{"sym":', node);
+    this.put('}');
   },
 
   privateName(node) {
-    this.put(`{"name":${quoted(node.id.name)}${this.at(node)}}`);
+    this.put('{"name":');
+    this.putText(node.id.name);
+    this.putEnd(node, '}');
   },
 
   // A name that is bound, with its type and its `?`.
   binding(node) {
     const span = node.typeAnnotation || node.optional ? this.nameSpan(node.name, node.start, node.end, node) : this.span(node);
-    this.put(`{"id":{"sym":${quoted(node.name)}${this.placed(span)}${this.flag(',"optional":', node.optional)}}`);
+    this.put('{"id":{"sym":');
+    this.putText(node.name);
+    this.putPlaced(span);
+    this.putFlag(',"optional":', node.optional);
+    this.put('}');
     this.optional(',"type_ann":', node.typeAnnotation, 'typeAnnotation');
     this.put('}');
   },
 
   string(node) {
     this.warnOfSurrogate(node, node.value);
-    this.put(`{"value":${quoted(node.value)},"raw":${quoted(this.spelled(node))}${this.at(node)}}`);
+    this.putString(node.value, this.spelled(node));
+    this.putEnd(node, '}');
   },
 
   // A string that spells a surrogate's escape in plain characters has no form in the tree; a sum of two strings has: `("\\" + "ud800")`.
@@ -94,7 +106,19 @@ const leaves = {
   directiveString(node) {
     const value = node.extra && node.extra.expressionValue !== undefined ? node.extra.expressionValue : node.value;
     this.warnOfSurrogate(node, value);
-    this.put(`{"value":${quoted(value)},"raw":${quoted(this.spelled(node))}${this.at(node)}}`);
+    this.putString(value, this.spelled(node));
+    this.putEnd(node, '}');
+  },
+
+  // The beginning of a string: its value and its raw, which may be null.
+  putString(value, raw) {
+    this.put('{"value":');
+    this.putText(value);
+    if (raw === null) this.put(this.none(',"raw":'));
+    else {
+      this.put(',"raw":');
+      this.putText(raw);
+    }
   },
 
   boolean(node) {
@@ -104,7 +128,13 @@ const leaves = {
 
   // A number by its spelling, or by nothing but its value; `double` is what an engine reads. With `isNegative` the sign is the number's own.
   numberAt(place, spelling, double, { isSpelled = true, isNegative = false } = {}) {
-    if (this.isShort && isSpelled && !isNegative && SHORT_INTEGER.test(spelling)) return this.put(`{"value":{"Finite":{"digits":"${spelling}","exponent":0}}${place}}`);
+    if (this.isShort && isSpelled && !isNegative && SHORT_INTEGER.test(spelling)) {
+      this.put('{"value":{"Finite":{"digits":"');
+      this.put(spelling);
+      this.put('","exponent":0}}');
+      this.put(place);
+      return this.put('}');
+    }
     const { value, raw } = numberOf(spelling, double), none = this.isShort ? undefined : null;
     if (value.Finite) value.Finite.negative = isNegative || (this.isShort ? undefined : false);
     return this.put(`{${numberText({ value, raw: isSpelled && !isNegative ? raw : null }, none)}${place}}`);
@@ -129,7 +159,7 @@ const leaves = {
   literal(node) {
     const made = LITERALS[node.type];
     if (made === undefined) return false;
-    if (this.splits && node.type === 'StringLiteral' && SPELLED_SURROGATE.test(node.value)) this.within('Paren', 'sum', node);
+    if (this.splits && node.type === 'StringLiteral' && SPELLED_SURROGATE.test(node.value)) this.within('{"Paren":', 'sum', node);
     else {
       this.put('{"Lit":');
       made(this, node);
@@ -140,14 +170,16 @@ const leaves = {
 
   quasi(node) {
     if (node.value === null || typeof node.value !== 'object' || typeof node.value.raw !== 'string') this.refuse(node, 'a part of a template: its `value` has no `raw`');
-    this.put(`{"raw":${quoted(node.value.raw)}${this.at(node)}}`);
+    this.put('{"raw":');
+    this.putText(node.value.raw);
+    this.putEnd(node, '}');
   },
 
   template(node) {
     this.put('{"quasis":');
     this.listed(node.quasis, 'quasi');
     this.list(',"exprs":', node.expressions, 'expr');
-    this.put(`${this.at(node)}}`);
+    this.putEnd(node, '}');
   },
 
   // `[a]`, whose brackets stand behind `from`
@@ -160,15 +192,18 @@ const leaves = {
 
   propName(node, isComputed, from) {
     if (isComputed) return this.computedName(node, from);
-    if (node.type === 'Identifier') return this.put(`{"Ident":{${this.plainName(node)}}}`);
+    if (node.type === 'Identifier') {
+      this.putNamed('{"Ident":{"sym":', node);
+      return this.put('}}');
+    }
     if (node.type === 'StringLiteral' && this.splits && SPELLED_SURROGATE.test(node.value)) {
       this.put('{"Computed":{"expr":{"Paren":');
       this.sum(node);
       return this.put(`}${this.placed(this.unplaced())}}}`);
     }
-    if (node.type === 'StringLiteral') return this.within('Str', 'string', node);
-    if (node.type === 'NumericLiteral') return this.within('Num', 'number', node);
-    if (node.type === 'BigIntLiteral') return this.within('BigInt', 'bigInteger', node);
+    if (node.type === 'StringLiteral') return this.within('{"Str":', 'string', node);
+    if (node.type === 'NumericLiteral') return this.within('{"Num":', 'number', node);
+    if (node.type === 'BigIntLiteral') return this.within('{"BigInt":', 'bigInteger', node);
     return this.refuse(node, 'a name of a property');
   },
 };

@@ -224,12 +224,12 @@ function memberOf(text) {
   return { name, sort: 'node', types: types ? types.split('|') : null, mayMiss: !!optional || list === '*~', isList: !!list, hasHoles: list === '*?' };
 }
 
-// The members of each type: of values, of nodes, and the names of all that may be there. (check.js keeps the names of a node in `order`)
+// The members of each type: of values, of nodes, and the names of all that may be there. (check.js keeps shapes of nodes in `shapes`)
 const TYPES = new Map(Object.entries(MEMBERS).map(([type, text]) => {
   const members = text === '' ? [] : text.split(' ').map(memberOf);
   const values = members.filter(({ sort }) => sort !== 'node'), held = members.filter(({ sort }) => sort === 'node');
   const names = new Set([...members.map(({ name }) => name), ...SILENT, ...(LEFT_OVER[type] || [])]);
-  return [type, { values, held, names, order: [], isCase: type === 'SwitchCase' }];
+  return [type, { values, held, names, shapes: { known: new Map(), latest: [] }, isCase: type === 'SwitchCase' }];
 }));
 
 // Comments that hang on a node; recast has them in one list. (That of a program has all comments, wherever they hang)

@@ -19,38 +19,38 @@ const DEFAULTS = {
   FunctionDeclaration: byDefault('Fn', 'function'),
   TSDeclareFunction: byDefault('Fn', 'function'),
   ClassDeclaration: byDefault('Class', 'class'),
-  TSInterfaceDeclaration: (tree, node) => tree.within('TsInterfaceDecl', 'interface', node),
+  TSInterfaceDeclaration: (tree, node) => tree.within('{"TsInterfaceDecl":', 'interface', node),
 };
 
 const ITEMS = {
-  ImportDeclaration: (tree, node) => tree.within('Import', 'importDecl', node),
-  ExportNamedDeclaration: (tree, node) => (node.declaration ? tree.within('ExportDecl', 'exportDecl', node) : tree.within('ExportNamed', 'exportNamed', node)),
+  ImportDeclaration: (tree, node) => tree.within('{"Import":', 'importDecl', node),
+  ExportNamedDeclaration: (tree, node) => (node.declaration ? tree.within('{"ExportDecl":', 'exportDecl', node) : tree.within('{"ExportNamed":', 'exportNamed', node)),
   ExportAllDeclaration: (tree, node) => {
     tree.put('{"ExportAll":{"src":');
     tree.string(node.source);
     tree.put(tree.ofTypes(',"type_only":', node, node.exportKind));
     tree.attributes(node);
-    tree.put(`${tree.at(node)}}}`);
+    tree.putEnd(node, '}}');
   },
   ExportDefaultDeclaration: (tree, node) => {
     const { declaration } = node, made = DEFAULTS[declaration.type];
     tree.put(made ? '{"ExportDefaultDecl":{"decl":' : '{"ExportDefaultExpr":{"expr":');
     if (made) made(tree, declaration);
     else tree.expr(declaration);
-    tree.put(`${tree.at(node)}}}`);
+    tree.putEnd(node, '}}');
   },
   TSImportEqualsDeclaration: (tree, node) => {
     tree.put('{"TsImportEquals":{"id":');
     tree.ident(node.id);
     tree.put(`${tree.flag(',"is_export":', node.isExport)}${tree.ofTypes(',"is_type_only":', node, node.importKind)},"module_ref":`);
     tree.moduleRef(node.moduleReference);
-    tree.put(`${tree.at(node)}}}`);
+    tree.putEnd(node, '}}');
   },
-  TSExportAssignment: (tree, node) => tree.within('TsExportAssignment', 'parentheses', node),
+  TSExportAssignment: (tree, node) => tree.within('{"TsExportAssignment":', 'parentheses', node),
   TSNamespaceExportDeclaration: (tree, node) => {
     tree.put('{"TsNamespaceExport":{"id":');
     tree.ident(node.id);
-    tree.put(`${tree.at(node)}}}`);
+    tree.putEnd(node, '}}');
   },
 };
 
@@ -64,7 +64,7 @@ const modules = {
   },
 
   moduleDirective(node) {
-    this.within('Stmt', 'directive', node);
+    this.within('{"Stmt":', 'directive', node);
   },
 
   moduleBody(begin, node) {
@@ -72,7 +72,7 @@ const modules = {
   },
 
   exportName(node) {
-    return node.type === 'StringLiteral' ? this.within('Str', 'string', node) : this.within('Ident', 'ident', node);
+    return node.type === 'StringLiteral' ? this.within('{"Str":', 'string', node) : this.within('{"Ident":', 'ident', node);
   },
 
   // Whether both names of a specifier are one name in the text.
@@ -92,7 +92,7 @@ const modules = {
     this.list(',"specifiers":', node.specifiers, 'importSpecifier');
     this.put(`,"phase":"${phase}"${this.ofTypes(',"type_only":', node, node.importKind)}`);
     this.attributes(node);
-    this.put(`${this.at(node)}}`);
+    this.putEnd(node, '}');
   },
 
   importSpecifier(node) {
@@ -103,7 +103,7 @@ const modules = {
       this.otherName(',"imported":', node.imported, node.local);
       this.put(this.ofTypes(',"is_type_only":', node, node.importKind));
     }
-    this.put(`${this.at(node)}}}`);
+    this.putEnd(node, '}}');
   },
 
   exportSpecifier(node) {
@@ -119,7 +119,7 @@ const modules = {
       this.otherName(',"exported":', node.exported, node.local);
       this.put(this.ofTypes(',"is_type_only":', node, node.exportKind));
     }
-    this.put(`${this.at(node)}}}`);
+    this.putEnd(node, '}}');
   },
 
   ofTypes(begin, node, kind) {
@@ -130,7 +130,7 @@ const modules = {
     this.without(node, 'specifiers', 'source', 'attributes', 'assertions');
     this.put('{"decl":');
     if (!this.decl(node.declaration)) this.refuse(node.declaration, 'a declaration');
-    this.put(`${this.at(node)}}`);
+    this.putEnd(node, '}');
   },
 
   exportNamed(node) {
@@ -139,7 +139,7 @@ const modules = {
     this.optional(',"src":', node.source, 'string');
     this.put(this.ofTypes(',"type_only":', node, node.exportKind));
     this.attributes(node);
-    this.put(`${this.at(node)}}`);
+    this.putEnd(node, '}');
   },
 
   // `{ type: 'json' }` of an import or export, as an object.
@@ -163,10 +163,10 @@ const modules = {
   },
 
   moduleRef(node) {
-    if (node.type !== 'TSExternalModuleReference') return this.within('TsEntityName', 'entity', node);
+    if (node.type !== 'TSExternalModuleReference') return this.within('{"TsEntityName":', 'entity', node);
     this.put('{"TsExternalModuleRef":{"expr":');
     this.string(node.expression);
-    return this.put(`${this.at(node)}}}`);
+    return this.putEnd(node, '}}');
   },
 
   namespace(node) {
@@ -174,11 +174,11 @@ const modules = {
     this.exportName(node.id);
     this.put(`${this.flag(',"declare":', node.declare)}${this.flag(',"global":', node.global)}`);
     this.optional(',"body":', node.body, 'namespaceBody');
-    this.put(`${this.at(node)}}`);
+    this.putEnd(node, '}');
   },
 
   namespaceBody(node) {
-    if (node.type === 'TSModuleDeclaration') return this.within('TsNamespaceDecl', 'innerNamespace', node);
+    if (node.type === 'TSModuleDeclaration') return this.within('{"TsNamespaceDecl":', 'innerNamespace', node);
     this.put('{"TsModuleBlock":{');
     return this.bodyEnd('"body":', 'moduleBody', node, this.at(node));
   },
@@ -189,7 +189,7 @@ const modules = {
     this.ident(node.id);
     this.put(`${this.no(',"declare":')},"body":`);
     this.namespaceBody(node.body);
-    this.put(`${this.at(node)}}`);
+    this.putEnd(node, '}');
   },
 
   // The end of an object with a body that may be empty, and other members.

@@ -8,22 +8,22 @@ const TARGETS = {
   Identifier: (tree, node) => {
     tree.put('{"Ident":{"id":');
     tree.ident(node);
-    tree.put(`${tree.none(',"type_ann":')}}}`);
+    tree.put(tree.isShort ? '}}' : ',"type_ann":null}}');
   },
   MemberExpression: asExpression,
   ParenthesizedExpression: asExpression,
   OptionalMemberExpression: asExpression,
   OptionalCallExpression: asExpression,
-  TSAsExpression: (tree, node) => tree.within('TsAs', 'typed', node),
-  TSSatisfiesExpression: (tree, node) => tree.within('TsSatisfies', 'typed', node),
-  TSTypeAssertion: (tree, node) => tree.within('TsTypeAssertion', 'typed', node),
+  TSAsExpression: (tree, node) => tree.within('{"TsAs":', 'typed', node),
+  TSSatisfiesExpression: (tree, node) => tree.within('{"TsSatisfies":', 'typed', node),
+  TSTypeAssertion: (tree, node) => tree.within('{"TsTypeAssertion":', 'typed', node),
   TSNonNullExpression: asExpression,
   TSInstantiationExpression: asExpression,
   // a call may be a target by old rules, and has no other place among them
   CallExpression: (tree, node) => {
     tree.put('{"Paren":{"expr":');
     tree.expr(node);
-    tree.put(`${tree.at(node)}}}`);
+    tree.putEnd(node, '}}');
   },
 };
 
@@ -33,10 +33,10 @@ const PATTERNS = {
     tree.binding(node);
     tree.put('}');
   },
-  ArrayPattern: (tree, node) => tree.within('Array', 'arrayPat', node),
-  ObjectPattern: (tree, node) => tree.within('Object', 'objectPat', node),
-  RestElement: (tree, node) => tree.within('Rest', 'restPat', node),
-  AssignmentPattern: (tree, node) => tree.within('Assign', 'assignPat', node),
+  ArrayPattern: (tree, node) => tree.within('{"Array":', 'arrayPat', node),
+  ObjectPattern: (tree, node) => tree.within('{"Object":', 'objectPat', node),
+  RestElement: (tree, node) => tree.within('{"Rest":', 'restPat', node),
+  AssignmentPattern: (tree, node) => tree.within('{"Assign":', 'assignPat', node),
 };
 
 const patterns = {
@@ -49,7 +49,7 @@ const patterns = {
   undecorated(node) {
     const made = PATTERNS[node.type];
     if (made) made(this, node);
-    else this.within('Expr', 'expr', node);
+    else this.within('{"Expr":', 'expr', node);
   },
 
   // An element of an array pattern, which may be a hole.
@@ -60,9 +60,9 @@ const patterns = {
 
   // The end of a pattern, with its `?` and its type.
   typedEnd(node) {
-    this.put(this.flag(',"optional":', node.optional));
+    this.putFlag(',"optional":', node.optional);
     this.optional(',"type_ann":', node.typeAnnotation, 'typeAnnotation');
-    this.put(`${this.at(node)}}`);
+    this.putEnd(node, '}');
   },
 
   arrayPat(node) {
@@ -83,7 +83,7 @@ const patterns = {
     this.pat(node.argument);
     this.put(this.token(',"dot3_token":', this.between(node.start, node.start + 3)));
     this.optional(',"type_ann":', node.typeAnnotation, 'typeAnnotation');
-    this.put(`${this.at(node)}}`);
+    this.putEnd(node, '}');
   },
 
   // (the decorators of `@a b = 1` are those of `b`)
@@ -93,11 +93,11 @@ const patterns = {
     this.undecorated(node.left);
     this.put(',"right":');
     this.expr(node.right);
-    this.put(`${this.at(node)}}`);
+    this.putEnd(node, '}');
   },
 
   patProp(node) {
-    if (node.type === 'RestElement') return this.within('Rest', 'restPat', node);
+    if (node.type === 'RestElement') return this.within('{"Rest":', 'restPat', node);
     this.without(node, 'decorators');
     const { value } = node, hasDefault = value.type === 'AssignmentPattern', name = hasDefault ? value.left : value;
     if (this.isShorthand(node, name)) return this.shorthandPat(node, name, hasDefault ? value : null);
@@ -115,12 +115,12 @@ const patterns = {
     this.put('{"Assign":{"key":');
     this.binding(name);
     this.optional(',"value":', assigned && assigned.right, 'expr');
-    this.put(`${this.at(node)}}}`);
+    this.putEnd(node, '}}');
   },
 
   target(node) {
-    if (node.type === 'ArrayPattern' || node.type === 'ObjectPattern') return this.within('Pat', 'pat', node);
-    return this.within('Simple', 'simpleTarget', node);
+    if (node.type === 'ArrayPattern' || node.type === 'ObjectPattern') return this.within('{"Pat":', 'pat', node);
+    return this.within('{"Simple":', 'simpleTarget', node);
   },
 
   simpleTarget(node) {

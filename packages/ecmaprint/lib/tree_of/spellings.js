@@ -35,9 +35,26 @@ function rawOf({ type, value, extra }) {
   }
 }
 
+// The spelling that an AST gives of an attribute's string in JSX, where references stand and nothing is escaped.
+function attributeRawOf({ value, extra }) {
+  if (!extra || typeof extra.raw !== 'string') return null;
+  const { raw, rawValue } = extra;
+  if (rawValue !== undefined) return rawValue === value ? raw : null;
+  return /^(["'])[^]*\1$/.test(raw) && raw.length > 1 && dereferenced(raw.slice(1, -1)) === value ? raw : null;
+}
+
+const NAMED = { amp: '&', lt: '<', gt: '>', quot: '"', apos: "'" };
+
+// What a text with references means. Of the names of HTML these five are looked up: a text with others is spelled anew.
+const dereferenced = (text) => text.replace(/&(?:#x([\da-f]{1,6})|#(\d{1,7})|(\w+));/gi, (all, hex, decimal, name) => {
+  const code = hex ? parseInt(hex, 16) : decimal ? Number(decimal) : null;
+  if (code !== null) return code > 0x10ffff ? all : String.fromCodePoint(code);
+  return Object.hasOwn(NAMED, name) ? NAMED[name] : all;
+});
+
 const REFERENCES = { '&': '&amp;', '<': '&lt;', '>': '&gt;', '{': '&#123;', '}': '&#125;', '"': '&quot;' };
 
 // A text of JSX with references for these marks.
 const referenced = (text, marks) => text.replace(marks, (mark) => REFERENCES[mark]);
 
-module.exports = { decoded, rawOf, referenced };
+module.exports = { attributeRawOf, decoded, rawOf, referenced };

@@ -4,27 +4,28 @@
 const KINDS = { var: 'Var', let: 'Let', const: 'Const' };
 
 // What a node is that holds an expression, and perhaps a statement.
-const ofExpression = (name, begin, part) => (tree, node) => {
-  tree.put(`{"${name}":{"${begin}":`);
+const ofExpression = (begin, part) => (tree, node) => {
+  tree.put(begin);
   tree.expr(node[part]);
-  tree.put(`${tree.at(node)}}}`);
+  tree.putEnd(node, '}}');
 };
 
-const ofBody = (name, begin, part) => (tree, node) => {
-  tree.put(`{"${name}":{"${begin}":`);
+const ofBody = (begin, part) => (tree, node) => {
+  tree.put(begin);
   tree.expr(node[part]);
   tree.put(',"body":');
   tree.stmt(node.body);
-  tree.put(`${tree.at(node)}}}`);
+  tree.putEnd(node, '}}');
 };
 
 // An object with one part that may be missing.
-const ofOptional = (name, begin, part, method) => (tree, node) => {
+const ofOptional = (begin, member, part, method) => (tree, node) => {
+  tree.put(begin);
   if (node[part]) {
-    tree.put(`{"${name}":{"${begin}":`);
+    tree.put(member);
     tree[method](node[part]);
-    tree.put(`${tree.at(node)}}}`);
-  } else tree.put(`{"${name}":{${(tree.none(`,"${begin}":`) + tree.at(node)).slice(1)}}}`);
+    tree.putEnd(node, '}}');
+  } else tree.put(`${(tree.none(`,${member}`) + tree.at(node)).slice(1)}}}`);
 };
 
 const STATEMENTS = {
@@ -40,97 +41,101 @@ const STATEMENTS = {
     tree.expressionStatement(node);
     tree.put('}');
   },
-  WithStatement: ofBody('With', 'obj', 'object'),
-  ReturnStatement: ofOptional('Return', 'arg', 'argument', 'expr'),
-  ThrowStatement: ofExpression('Throw', 'arg', 'argument'),
+  WithStatement: ofBody('{"With":{"obj":', 'object'),
+  ReturnStatement: ofOptional('{"Return":{', '"arg":', 'argument', 'expr'),
+  ThrowStatement: ofExpression('{"Throw":{"arg":', 'argument'),
   LabeledStatement: (tree, node) => {
     tree.put('{"Labeled":{"label":');
     tree.ident(node.label);
     tree.put(',"body":');
     tree.stmt(node.body);
-    tree.put(`${tree.at(node)}}}`);
+    tree.putEnd(node, '}}');
   },
-  BreakStatement: ofOptional('Break', 'label', 'label', 'ident'),
-  ContinueStatement: ofOptional('Continue', 'label', 'label', 'ident'),
+  BreakStatement: ofOptional('{"Break":{', '"label":', 'label', 'ident'),
+  ContinueStatement: ofOptional('{"Continue":{', '"label":', 'label', 'ident'),
   IfStatement: (tree, node) => {
     tree.put('{"If":{"test":');
     tree.expr(node.test);
     tree.put(',"cons":');
     tree.stmt(node.consequent);
     tree.optional(',"alt":', node.alternate, 'stmt');
-    tree.put(`${tree.at(node)}}}`);
+    tree.putEnd(node, '}}');
   },
   SwitchStatement: (tree, node) => {
     tree.put('{"Switch":{"discriminant":');
     tree.expr(node.discriminant);
     tree.list(',"cases":', node.cases, 'switchCase');
-    tree.put(`${tree.at(node)}}}`);
+    tree.putEnd(node, '}}');
   },
   TryStatement: (tree, node) => {
     tree.put('{"Try":{"block":');
     tree.block(node.block);
     tree.optional(',"handler":', node.handler, 'handler');
     tree.optional(',"finalizer":', node.finalizer, 'block');
-    tree.put(`${tree.at(node)}}}`);
+    tree.putEnd(node, '}}');
   },
-  WhileStatement: ofBody('While', 'test', 'test'),
-  DoWhileStatement: ofBody('DoWhile', 'test', 'test'),
+  WhileStatement: ofBody('{"While":{"test":', 'test'),
+  DoWhileStatement: ofBody('{"DoWhile":{"test":', 'test'),
   ForStatement: (tree, node) => {
     tree.put('{"For":{"body":');
     tree.stmt(node.body);
     tree.optional(',"init":', node.init, 'forInit');
     tree.optional(',"test":', node.test, 'expr');
     tree.optional(',"update":', node.update, 'expr');
-    tree.put(`${tree.at(node)}}}`);
+    tree.putEnd(node, '}}');
   },
-  ForInStatement: (tree, node) => tree.within('ForIn', 'forParts', node),
-  ForOfStatement: (tree, node) => tree.within('ForOf', 'forParts', node),
+  ForInStatement: (tree, node) => tree.within('{"ForIn":', 'forParts', node),
+  ForOfStatement: (tree, node) => tree.within('{"ForOf":', 'forParts', node),
 };
 
 const functionDeclaration = (tree, node) => {
   tree.put('{"Fn":{"ident":');
   tree.declaredName(node);
-  tree.put(`${tree.flag(',"declare":', node.declare)},"function":`);
+  tree.putFlag(',"declare":', node.declare);
+  tree.put(',"function":');
   tree.function(node);
   tree.put('}}');
 };
 
 const DECLARATIONS = {
-  VariableDeclaration: (tree, node) => (node.kind === 'using' ? tree.within('Using', 'usingDecl', node) : tree.within('Var', 'varDecl', node)),
+  VariableDeclaration: (tree, node) => (node.kind === 'using' ? tree.within('{"Using":', 'usingDecl', node) : tree.within('{"Var":', 'varDecl', node)),
   FunctionDeclaration: functionDeclaration,
   TSDeclareFunction: functionDeclaration,
   ClassDeclaration: (tree, node) => {
     tree.put('{"Class":{"ident":');
     tree.declaredName(node);
-    tree.put(`${tree.flag(',"declare":', node.declare)},"class":`);
+    tree.putFlag(',"declare":', node.declare);
+    tree.put(',"class":');
     tree.class(node);
     tree.put('}}');
   },
-  TSInterfaceDeclaration: (tree, node) => tree.within('TsInterface', 'interface', node),
+  TSInterfaceDeclaration: (tree, node) => tree.within('{"TsInterface":', 'interface', node),
   TSTypeAliasDeclaration: (tree, node) => {
     tree.put('{"TsTypeAlias":{"id":');
     tree.ident(node.id);
-    tree.put(`${tree.flag(',"declare":', node.declare)}`);
+    tree.putFlag(',"declare":', node.declare);
     tree.optional(',"type_params":', node.typeParameters, 'typeParams');
     tree.put(',"type_ann":');
     tree.type(node.typeAnnotation);
-    tree.put(`${tree.at(node)}}}`);
+    tree.putEnd(node, '}}');
   },
   TSEnumDeclaration: (tree, node) => {
     tree.put('{"TsEnum":{"id":');
     tree.ident(node.id);
-    tree.put(`${tree.flag(',"declare":', node.declare)}${tree.flag(',"is_const":', node.const)}`);
+    tree.putFlag(',"declare":', node.declare);
+    tree.putFlag(',"is_const":', node.const);
     tree.list(',"members":', node.members, 'enumMember');
-    tree.put(`${tree.at(node)}}}`);
+    tree.putEnd(node, '}}');
   },
-  TSModuleDeclaration: (tree, node) => tree.within('TsModule', 'namespace', node),
+  TSModuleDeclaration: (tree, node) => tree.within('{"TsModule":', 'namespace', node),
 };
 
 const statements = {
   directive(node) {
     this.put('{"Expr":{"expr":{"Lit":{"Str":');
     this.directiveString(node.value);
-    this.put(`}}${this.at(node)}}}`);
+    this.put('}}');
+    this.putEnd(node, '}}');
   },
 
   expressionStatement(node) {
@@ -146,7 +151,7 @@ const statements = {
     if (node.body.length > 0 || (node.directives && node.directives.length > 0)) {
       this.put('{');
       this.body('"stmts":', node);
-      this.put(`${this.at(node)}}`);
+      this.putEnd(node, '}');
     } else this.put(`{${(this.empty(',"stmts":') + this.at(node)).slice(1)}}`);
   },
 
@@ -165,14 +170,15 @@ const statements = {
     this.put('{"cons":');
     this.listed(node.consequent, 'stmt');
     this.optional(',"test":', node.test, 'expr');
-    this.put(`${place}}`);
+    this.put(place);
+    this.put('}');
   },
 
   handler(node) {
     this.put('{"body":');
     this.block(node.body);
     this.optional(',"param":', node.param, 'pat');
-    this.put(`${this.at(node)}}`);
+    this.putEnd(node, '}');
   },
 
   // (without one it may only be the default of a module)
@@ -182,7 +188,7 @@ const statements = {
 
   // (`using` has no place in the head of a `for` without `of`)
   forInit(node) {
-    return node.type === 'VariableDeclaration' ? this.within('VarDecl', 'varDecl', node) : this.within('Expr', 'expr', node);
+    return node.type === 'VariableDeclaration' ? this.within('{"VarDecl":', 'varDecl', node) : this.within('{"Expr":', 'expr', node);
   },
 
   forParts(node) {
@@ -192,19 +198,21 @@ const statements = {
     this.expr(node.right);
     this.put(',"body":');
     this.stmt(node.body);
-    this.put(`${node.type === 'ForOfStatement' ? this.flag(',"is_await":', node.await) : ''}${this.at(node)}}`);
+    if (node.type === 'ForOfStatement') this.putFlag(',"is_await":', node.await);
+    this.putEnd(node, '}');
   },
 
   forHead(node) {
-    if (node.type !== 'VariableDeclaration') return this.within('Pat', 'pat', node);
-    return node.kind === 'using' ? this.within('UsingDecl', 'usingDecl', node) : this.within('VarDecl', 'varDecl', node);
+    if (node.type !== 'VariableDeclaration') return this.within('{"Pat":', 'pat', node);
+    return node.kind === 'using' ? this.within('{"UsingDecl":', 'usingDecl', node) : this.within('{"VarDecl":', 'varDecl', node);
   },
 
   declarator(node) {
     this.put('{"name":');
     this.pat(node.id);
     this.optional(',"init":', node.init, 'initializer');
-    this.put(`${this.flag(',"definite":', node.definite)}${this.at(node)}}`);
+    this.putFlag(',"definite":', node.definite);
+    this.putEnd(node, '}');
   },
 
   initializer(node) {
@@ -213,9 +221,13 @@ const statements = {
 
   varDecl(node) {
     const kind = KINDS[node.kind] || this.refuse(node, `printed here: \`${node.kind}\` has no place`);
-    this.put(`{"kind":"${kind}"${this.flag(',"declare":', node.declare)},"decls":`);
+    this.put('{"kind":"');
+    this.put(kind);
+    this.put('"');
+    this.putFlag(',"declare":', node.declare);
+    this.put(',"decls":');
     this.listed(node.declarations, 'declarator');
-    this.put(`${this.at(node)}}`);
+    this.putEnd(node, '}');
   },
 
   usingDecl(node) {

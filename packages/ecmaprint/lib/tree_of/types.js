@@ -10,7 +10,7 @@ const MARK = /(?:in|out|const)(?:\s|\/\*[^]*?\*\/|\/\/.*)+/y;
 const plain = (name) => (tree, node) => {
   tree.put(`{"${name}":{"type_ann":`);
   tree.type(node.typeAnnotation);
-  tree.put(`${tree.at(node)}}}`);
+  tree.putEnd(node, '}}');
 };
 
 // Types in a list: `begin` has the names of the variants, and `end` as many braces.
@@ -36,28 +36,28 @@ const TYPES = {
     tree.put('{"TsTypeRef":{"type_name":');
     tree.entity(node.typeName);
     tree.optional(',"type_params":', node.typeParameters, 'typeArguments');
-    tree.put(`${tree.at(node)}}}`);
+    tree.putEnd(node, '}}');
   },
   TSTypeQuery: (tree, node) => {
     tree.put('{"TsTypeQuery":{"expr_name":');
     tree.queried(node.exprName);
     tree.optional(',"type_args":', node.typeParameters, 'typeArguments');
-    tree.put(`${tree.at(node)}}}`);
+    tree.putEnd(node, '}}');
   },
   TSTypeLiteral: (tree, node) => {
     tree.put('{"TsTypeLit":{"members":');
     tree.listed(node.members, 'typeElement');
-    tree.put(`${tree.at(node)}}}`);
+    tree.putEnd(node, '}}');
   },
   TSArrayType: (tree, node) => {
     tree.put('{"TsArrayType":{"elem_type":');
     tree.type(node.elementType);
-    tree.put(`${tree.at(node)}}}`);
+    tree.putEnd(node, '}}');
   },
   TSTupleType: (tree, node) => {
     tree.put('{"TsTupleType":{"elem_types":');
     tree.listed(node.elementTypes, 'tupleElement');
-    tree.put(`${tree.at(node)}}}`);
+    tree.putEnd(node, '}}');
   },
   TSOptionalType: plain('TsOptionalType'),
   TSRestType: plain('TsRestType'),
@@ -73,24 +73,25 @@ const TYPES = {
     tree.type(node.trueType);
     tree.put(',"false_type":');
     tree.type(node.falseType);
-    tree.put(`${tree.at(node)}}}`);
+    tree.putEnd(node, '}}');
   },
   TSInferType: (tree, node) => {
     tree.put('{"TsInferType":{"type_param":');
     tree.typeParam(node.typeParameter);
-    tree.put(`${tree.at(node)}}}`);
+    tree.putEnd(node, '}}');
   },
   TSTypeOperator: (tree, node) => {
-    tree.put(`{"TsTypeOperator":{"op":"${tree.operator(OPERATORS, node)}","type_ann":`);
+    tree.putOperator('{"TsTypeOperator":{"op":"', OPERATORS, node);
+    tree.put('","type_ann":');
     tree.type(node.typeAnnotation);
-    tree.put(`${tree.at(node)}}}`);
+    tree.putEnd(node, '}}');
   },
   TSIndexedAccessType: (tree, node) => {
     tree.put('{"TsIndexedAccessType":{"obj_type":');
     tree.type(node.objectType);
     tree.put(',"index_type":');
     tree.type(node.indexType);
-    tree.put(`${tree.at(node)}}}`);
+    tree.putEnd(node, '}}');
   },
   TSMappedType: (tree, node) => {
     tree.put('{"TsMappedType":{"type_param":');
@@ -98,49 +99,49 @@ const TYPES = {
     tree.put(`${tree.sign(',"readonly":', node, node.readonly)}${tree.sign(',"optional":', node, node.optional)}`);
     tree.optional(',"name_type":', node.nameType, 'type');
     tree.optional(',"type_ann":', node.typeAnnotation, 'type');
-    tree.put(`${tree.at(node)}}}`);
+    tree.putEnd(node, '}}');
   },
   TSLiteralType: (tree, node) => {
     tree.put('{"TsLitType":{"lit":');
     tree.literalType(node.literal);
-    tree.put(`${tree.at(node)}}}`);
+    tree.putEnd(node, '}}');
   },
   TSTypePredicate: (tree, node) => {
     tree.put('{"TsTypePredicate":{"param_name":');
     tree.predicateName(node.parameterName);
     tree.put(tree.flag(',"asserts":', node.asserts));
     tree.optional(',"type_ann":', node.typeAnnotation, 'typeAnnotation');
-    tree.put(`${tree.at(node)}}}`);
+    tree.putEnd(node, '}}');
   },
-  TSImportType: (tree, node) => tree.within('TsImportType', 'importType', node),
+  TSImportType: (tree, node) => tree.within('{"TsImportType":', 'importType', node),
 };
 
 const LITERALS = {
-  NumericLiteral: (tree, node) => tree.within('Number', 'number', node),
-  StringLiteral: (tree, node) => tree.within('Str', 'string', node),
+  NumericLiteral: (tree, node) => tree.within('{"Number":', 'number', node),
+  StringLiteral: (tree, node) => tree.within('{"Str":', 'string', node),
   BooleanLiteral: (tree, node) => tree.put(`{"Bool":${tree.boolean(node)}}`),
-  BigIntLiteral: (tree, node) => tree.within('BigInt', 'bigInteger', node),
+  BigIntLiteral: (tree, node) => tree.within('{"BigInt":', 'bigInteger', node),
   TemplateLiteral: (tree, node) => {
     tree.put('{"Tpl":{"quasis":');
     tree.listed(node.quasis, 'quasi');
     tree.list(',"types":', node.expressions, 'type');
-    tree.put(`${tree.at(node)}}}`);
+    tree.putEnd(node, '}}');
   },
   UnaryExpression: (tree, node) => tree.negative(node),
 };
 
 const ELEMENTS = {
-  TSCallSignatureDeclaration: (tree, node) => tree.within('TsCallSignatureDecl', 'functionType', node),
-  TSConstructSignatureDeclaration: (tree, node) => tree.within('TsConstructSignatureDecl', 'functionType', node),
+  TSCallSignatureDeclaration: (tree, node) => tree.within('{"TsCallSignatureDecl":', 'functionType', node),
+  TSConstructSignatureDeclaration: (tree, node) => tree.within('{"TsConstructSignatureDecl":', 'functionType', node),
   TSPropertySignature: (tree, node) => {
     tree.put('{"TsPropertySignature":{');
     tree.signatureKey(node);
     tree.put(`${tree.flag(',"readonly":', node.readonly)}${tree.flag(',"optional":', node.optional)}`);
     tree.optional(',"type_ann":', node.typeAnnotation, 'typeAnnotation');
-    tree.put(`${tree.at(node)}}}`);
+    tree.putEnd(node, '}}');
   },
   TSMethodSignature: (tree, node) => tree.methodSignature(node),
-  TSIndexSignature: (tree, node) => tree.within('TsIndexSignature', 'indexSignature', node),
+  TSIndexSignature: (tree, node) => tree.within('{"TsIndexSignature":', 'indexSignature', node),
 };
 
 const types = {
@@ -161,7 +162,7 @@ const types = {
     if (node.type !== 'TSTypeAnnotation') this.refuse(node, 'a type');
     this.put('{"type_ann":');
     this.type(node.typeAnnotation);
-    this.put(`${this.at(node)}}`);
+    this.putEnd(node, '}');
   },
 
   // An expression with a type: `a as b`.
@@ -170,7 +171,7 @@ const types = {
     this.expr(node.expression);
     this.put(',"type_ann":');
     this.type(node.typeAnnotation);
-    this.put(`${this.at(node)}}`);
+    this.putEnd(node, '}');
   },
 
   instantiation(node) {
@@ -178,19 +179,19 @@ const types = {
     this.expr(node.expression);
     this.put(',"type_args":');
     this.typeArguments(node.typeParameters);
-    this.put(`${this.at(node)}}`);
+    this.putEnd(node, '}');
   },
 
   typeParams(node) {
     this.put('{"params":');
     this.listed(node.params, 'typeParam');
-    this.put(`${this.at(node)}}`);
+    this.putEnd(node, '}');
   },
 
   typeArguments(node) {
     this.put('{"params":');
     this.listed(node.params, 'type');
-    this.put(`${this.at(node)}}`);
+    this.putEnd(node, '}');
   },
 
   // Its name stands behind the words `in`, `out` and `const`.
@@ -206,7 +207,7 @@ const types = {
     this.put(`${this.flag(',"is_in":', node.in)}${this.flag(',"is_out":', node.out)}${this.flag(',"is_const":', node.const)}`);
     this.optional(',"constraint":', node.constraint, 'type');
     this.optional(',"default":', node.default, 'type');
-    this.put(`${this.at(node)}}`);
+    this.putEnd(node, '}');
   },
 
   entity(node) {
@@ -215,9 +216,9 @@ const types = {
       this.entity(node.left);
       this.put(',"right":');
       this.identName(node.right);
-      this.put(`${this.at(node)}}}`);
+      this.putEnd(node, '}}');
     } else if (node.type === 'ThisExpression') this.put(`{"Ident":{"sym":"this"${this.at(node)}${this.no(',"optional":')}}}`);
-    else this.within('Ident', 'ident', node);
+    else this.within('{"Ident":', 'ident', node);
   },
 
   // The same as an expression, as behind `implements`.
@@ -234,11 +235,11 @@ const types = {
     this.put('{"expr":');
     this.entityExpr(node.expression);
     this.optional(',"type_args":', node.typeParameters, 'typeArguments');
-    this.put(`${this.at(node)}}`);
+    this.putEnd(node, '}');
   },
 
   queried(node) {
-    return node.type === 'TSImportType' ? this.within('Import', 'importType', node) : this.within('TsEntityName', 'entity', node);
+    return node.type === 'TSImportType' ? this.within('{"Import":', 'importType', node) : this.within('{"TsEntityName":', 'entity', node);
   },
 
   importType(node) {
@@ -246,11 +247,11 @@ const types = {
     this.string(node.argument);
     this.optional(',"qualifier":', node.qualifier, 'entity');
     this.optional(',"type_args":', node.typeParameters, 'typeArguments');
-    this.put(`${this.at(node)}}`);
+    this.putEnd(node, '}');
   },
 
   predicateName(node) {
-    return node.type === 'TSThisType' ? this.put(`{"TsThisType":{${this.only(node)}}}`) : this.within('Ident', 'ident', node);
+    return node.type === 'TSThisType' ? this.put(`{"TsThisType":{${this.only(node)}}}`) : this.within('{"Ident":', 'ident', node);
   },
 
   // A parameter of a type is a name, a pattern or a rest.
@@ -309,7 +310,7 @@ const types = {
       this.put(',"param":');
       this.typedParam(node.parameters[0]);
     }
-    if (kind === 'get' || kind === 'set') this.put(`${this.at(node)}}`);
+    if (kind === 'get' || kind === 'set') this.putEnd(node, '}');
     else this.functionType(node, this.flag(',"optional":', node.optional), true);
     this.put('}');
   },
@@ -324,7 +325,7 @@ const types = {
       this.without(label, 'typeAnnotation', 'optional', 'decorators');
       this.put(`,"label":{"Ident":{"id":{"sym":${quoted(label.name)}${this.at(label)}${this.flag(',"optional":', node.optional)}}${this.none(',"type_ann":')}}}`);
     }
-    return this.put(`${this.at(node)}}`);
+    return this.putEnd(node, '}');
   },
 
   // `...a: b` of a tuple
@@ -336,7 +337,7 @@ const types = {
     this.put(`${this.none(',"type_ann":')}}}${this.token(',"dot3_token":', this.between(node.start, node.start + 3))}${this.none(',"type_ann":')}`);
     this.put(`${this.placed(this.between(node.start, label.end))}}},"ty":`);
     this.type(elementType);
-    this.put(`${this.at(node)}}`);
+    this.putEnd(node, '}');
   },
 
   literalType(node) {
@@ -348,8 +349,8 @@ const types = {
   negative(node) {
     const { argument } = node, isBig = argument.type === 'BigIntLiteral';
     if (node.operator !== '-' || !(isBig || argument.type === 'NumericLiteral')) this.refuse(node, 'a type but for the minus of a number');
-    if (isBig) this.within('BigInt', 'negativeBigInteger', node);
-    else this.within('Number', 'negativeNumber', node);
+    if (isBig) this.within('{"BigInt":', 'negativeBigInteger', node);
+    else this.within('{"Number":', 'negativeNumber', node);
   },
 
   negativeNumber(node) {
@@ -364,7 +365,7 @@ const types = {
     this.put('{"id":');
     this.exportName(node.id);
     this.optional(',"init":', node.initializer, 'expr');
-    this.put(`${this.at(node)}}`);
+    this.putEnd(node, '}');
   },
 };
 

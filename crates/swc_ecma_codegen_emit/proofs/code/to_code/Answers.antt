@@ -1,7 +1,7 @@
 use Rattle.std.proofs.Common.{[], false, sym, subst}
 use Rattle.std.proofs.lemmas.Result.{IfOk-weaker}
 use Rattle.swc_ecma_codegen_grammar.specs.Comments.{maps_in}
-use Rattle.swc_ecma_codegen_util.specs.Defaults.{default_config}
+use Rattle.swc_ecma_codegen_settings.specs.Defaults.{default_config}
 use Rattle.swc_ecma_codegen_tokens.specs.Written.{ReadsAs}
 use Rattle.swc_ecma_codegen_emit.specs.Roots.{root_phrase}
 use Rattle.swc_ecma_codegen_emit.proofs.TreeMade.{code_reads}

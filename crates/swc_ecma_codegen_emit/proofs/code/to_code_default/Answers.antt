@@ -1,7 +1,7 @@
 use Rattle.std.proofs.Common.{refl, false, ◌≡◌, [], ◌∷◌, ◌∙◌, ap, rules, string_bytes, subst, sym}
 use Rattle.std.proofs.lemmas.Str.{IsUtf8-from_is_utf8, is_utf8-from_IsUtf8, IsUtf8-nil}
 use Rattle.std.specs.Str.{is_utf8}
-use Rattle.swc_ecma_codegen_util.specs.Defaults.{default_config}
+use Rattle.swc_ecma_codegen_settings.specs.Defaults.{default_config}
 use Rattle.swc_ecma_codegen_text_writer.specs.Contents.{or_empty}
 use Rattle.swc_ecma_codegen_text_writer.specs.Sheet.{Sheet}
 use Rattle.swc_ecma_codegen_text_writer.specs.View.{sheet_of, new_sheet}

@@ -6,5 +6,5 @@ use Rattle.swc_ecma_codegen_requests.proofs.answers.fault_line.Goals as goal
 
 pub returns : goal.returns
 returns c =
-    let id = option_map view c.args.id in
-    IfOk-weaker c.line_of.result _ _ (λ answer line. (view c.in_ok-told.told, c.in_ok-told.ensures, subst (λ members. IsLineOf id members (string_bytes answer)) c.in_ok-members.ensures line)) c.line_of.ensures
+    let id = option_map string_bytes c.args.id in
+    IfOk-weaker c.line_of.result _ _ (λ answer line. (view c.in_ok-told.told, c.in_ok-told.ensures, subst (λ members. IsLineOf id members answer.items) c.in_ok-members.ensures line)) c.line_of.ensures

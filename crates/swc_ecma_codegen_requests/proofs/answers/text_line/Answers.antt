@@ -15,7 +15,7 @@ returns-in_ok-members-in-Ok c =
     let (r, prepared, by) = c.in-Ok.ensures.made in
     let part = program_part r in
     let end = printed part (start_by manner) in
-    let id = option_map view c.args.id in
+    let id = option_map string_bytes c.args.id in
     let positions = if_asked manner.positions end.sheet.pairs in
     let left = left_by (option_map places_in manner.comments) (maps_left part (start_by manner)) in
     let same : members_view c.in_ok-members-in-Ok.members.entries ≡ text_members end.sheet.text positions left =
@@ -23,7 +23,7 @@ returns-in_ok-members-in-Ok c =
     ∙ ap (λ code. text_members code (option_map (λ list. list.items) c.in-Ok.made.positions) (option_map view c.in-Ok.made.left)) by.code
     ∙ ap (λ ps. text_members end.sheet.text ps (option_map view c.in-Ok.made.left)) by.positions
     ∙ ap (text_members end.sheet.text positions) by.left in
-    IfOk-weaker c.line_of.result _ _ (λ answer line. a_text r prepared (record { whole = by.whole; line = subst (λ members. IsLineOf id members (string_bytes answer)) same line })) c.line_of.ensures
+    IfOk-weaker c.line_of.result _ _ (λ answer line. a_text r prepared (record { whole = by.whole; line = subst (λ members. IsLineOf id members answer.items) same line })) c.line_of.ensures
 
 pub returns-in-Err : goal.returns-in-Err
 returns-in-Err c = IfOk-weaker c.fault_line.result _ _ (λ answer told. a_fault c.in-Err.fault c.in-Err.ensures.why told) c.fault_line.ensures

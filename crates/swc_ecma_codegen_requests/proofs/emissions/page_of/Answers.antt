@@ -14,7 +14,7 @@ returns-in-Ok-clause-made g c =
     let end = c.in-Ok.ensures.sheet in
     record {
       whole = c.in-Ok.ensures.printed;
-      utf8 = IsUtf8-from_is_utf8 _ (c.of_writer.ensures.whole ∙ ap (λ (s : Sheet). s.whole) end ∙ printed_whole lines maps c.args.config part);
+      utf8 = IsUtf8-from_is_utf8 _ (c.of_writer.ensures.whole ∙ ap (λ (s : Sheet). s.whole) end ∙ printed_whole c.args.layout lines maps c.args.config part);
       text_is = c.of_writer.ensures.text ∙ ap (λ (s : Sheet). s.text) end;
       pairs_are = c.of_writer.ensures.positions ∙ ap (λ (s : Sheet). s.pairs) end;
       left_are = ap (maps_in g.C.Comments.maps) c.of_writer.ensures.comments ∙ c.in-Ok.ensures.left;

@@ -9,6 +9,6 @@ use Rattle.swc_ecma_codegen_requests.proofs.remarks.maps_of.Goals as goal
 pub returns-clause-maps : goal.returns-clause-maps
 returns-clause-maps c =
     let begun : maps_in c.new-maps.result ≡ no_maps = is_empty c.new-maps.result c.new-maps.ensures.leading c.new-maps.ensures.trailing in
-    let before : maps_in c.add_all.new.maps ≡ with_all Before c.args.comments.leading.entries (maps_in c.new-maps.result) = search rules in
-    let after : maps_in c.add_all-2.new.maps ≡ with_all After c.args.comments.trailing.entries (maps_in c.add_all.new.maps) = search rules in
-    after ∙ ap (with_all After c.args.comments.trailing.entries) (before ∙ ap (with_all Before c.args.comments.leading.entries) begun)
+    let before : maps_in c.add_all.new.maps ≡ with_all Before c.args.comments.leading.0.entries (maps_in c.new-maps.result) = search rules in
+    let after : maps_in c.add_all-2.new.maps ≡ with_all After c.args.comments.trailing.0.entries (maps_in c.add_all.new.maps) = search rules in
+    after ∙ ap (with_all After c.args.comments.trailing.0.entries) (before ∙ ap (with_all Before c.args.comments.leading.0.entries) begun)

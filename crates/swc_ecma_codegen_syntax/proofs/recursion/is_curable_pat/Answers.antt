@@ -1,13 +1,13 @@
 use Rattle.std.proofs.Common.{false, ◌∙◌, ap}
-use Rattle.swc_ecma_codegen_syntax.specs.Verdicts.{holds}
+use Rattle.swc_ecma_codegen_syntax.specs.Verdicts.{full, holds}
 use Rattle.swc_ecma_codegen_syntax.proofs.Wholes.{pat_sound, pat_complete, pat_exactly}
 use Rattle.swc_ecma_codegen_syntax.proofs.recursion.is_curable_pat.Goals as goal
 
 pub returns-clause-sound : goal.returns-clause-sound
-returns-clause-sound g c = pat_sound false c.args.place c.args.parameters (g.N.WholeTree.pat_in c.args.pat.now) c.is_curable.result (c.is_curable.ensures ∙ ap (holds false) c.verdict_pat.ensures)
+returns-clause-sound g c = pat_sound (full false) c.args.place c.args.parameters (g.N.WholeTree.pat_in c.args.pat.now) c.is_curable.result (c.is_curable.ensures ∙ ap (holds false) c.verdict_pat.ensures)
 
 pub returns-clause-complete : goal.returns-clause-complete
-returns-clause-complete g c = pat_complete false c.args.place c.args.parameters (g.N.WholeTree.pat_in c.args.pat.now) c.is_curable.result (c.is_curable.ensures ∙ ap (holds false) c.verdict_pat.ensures)
+returns-clause-complete g c = pat_complete (full false) c.args.place c.args.parameters (g.N.WholeTree.pat_in c.args.pat.now) c.is_curable.result (c.is_curable.ensures ∙ ap (holds false) c.verdict_pat.ensures)
 
 pub returns-clause-exactly : goal.returns-clause-exactly
-returns-clause-exactly g c = pat_exactly false c.args.place c.args.parameters (g.N.WholeTree.pat_in c.args.pat.now) c.is_curable.result (c.is_curable.ensures ∙ ap (holds false) c.verdict_pat.ensures)
+returns-clause-exactly g c = pat_exactly (full false) c.args.place c.args.parameters (g.N.WholeTree.pat_in c.args.pat.now) c.is_curable.result (c.is_curable.ensures ∙ ap (holds false) c.verdict_pat.ensures)

@@ -1,5 +1,5 @@
 use Rattle.std.proofs.Common.{◌+◌, subst, sym}
-use Rattle.swc_ecma_codegen_util.specs.declared.config.Config.{Config}
+use Rattle.swc_ecma_codegen_settings.specs.declared.config.Config.{Config}
 use Rattle.swc_ecma_codegen_tokens.specs.Lists as lists
 use Rattle.swc_ecma_codegen_emit.specs.Standing.{HasLevels, MakesShallower, standing_of}
 use Rattle.swc_ecma_codegen_emit.proofs.Standings.{keeps_levels}

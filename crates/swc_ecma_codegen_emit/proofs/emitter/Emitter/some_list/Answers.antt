@@ -1,5 +1,5 @@
 use Rattle.std.proofs.Common.{◌≡◌, ◌+◌, None, ap, map, subst}
-use Rattle.swc_ecma_codegen_util.specs.declared.config.Config.{Config}
+use Rattle.swc_ecma_codegen_settings.specs.declared.config.Config.{Config}
 use Rattle.swc_ecma_codegen_tokens.specs.Run.{Plan}
 use Rattle.swc_ecma_codegen_tokens.specs.Lists as lists
 use Rattle.swc_ecma_codegen_emit.specs.Standing.{Standing, Leads, standing_of}

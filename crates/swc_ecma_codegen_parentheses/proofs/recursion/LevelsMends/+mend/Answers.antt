@@ -7,7 +7,7 @@ pub expr-returns-in-More : goal.expr-returns-in-More
 expr-returns-in-More g t c = on_ok_weaker c.change_expr.result (one_level_linked g.C.Change.changed c.args.self.now c.deref.result.now c.in-More.fewer c.args.usage c.args.link.now c.change_expr.new.link c.in-More.is c.deref.ensures) c.change_expr.ensures
 
 pub pat-returns-in-More : goal.pat-returns-in-More
-pat-returns-in-More g t c = on_ok_weaker c.change_pat.result (one_level_linked g.C.Change.changed c.args.self.now c.deref.result.now c.in-More.fewer usages.Value c.args.link.now c.change_pat.new.link c.in-More.is c.deref.ensures) c.change_pat.ensures
+pat-returns-in-More g t c = on_ok_weaker c.change_pat.result (one_level_linked g.C.Change.changed c.args.self.now c.deref.result.now c.in-More.fewer c.args.usage c.args.link.now c.change_pat.new.link c.in-More.is c.deref.ensures) c.change_pat.ensures
 
 pub tpl-returns-in-More : goal.tpl-returns-in-More
 tpl-returns-in-More g t c = on_ok_weaker c.change_tpl.result (one_level_linked g.C.Change.changed c.args.self.now c.deref.result.now c.in-More.fewer usages.Value c.args.link.now c.change_tpl.new.link c.in-More.is c.deref.ensures) c.change_tpl.ensures

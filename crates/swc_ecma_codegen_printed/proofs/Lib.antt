@@ -1,2 +1,0 @@
-pub mod Derived
-pub mod Printed

@@ -1,8 +1,0 @@
-use Rattle.swc_ecma_codegen_printed.proofs.Derived.{printed_derived, text_derived}
-use Rattle.swc_ecma_codegen_printed.proofs.laws.printed_programs_are_derived.Goals as goal
-
-pub returns-clause-emissions : goal.returns-clause-emissions
-returns-clause-emissions c = printed_derived
-
-pub returns-clause-texts : goal.returns-clause-texts
-returns-clause-texts c = text_derived
