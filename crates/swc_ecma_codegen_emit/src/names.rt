@@ -1,9 +1,10 @@
 //! Names: a name, the key of a property, a private name.
 
-ghost use Rattle.std.specs.Prelude.{◌≡◌, is_some, true, false};
+ghost use Rattle.std.specs.Prelude.{◌≡◌, true, false};
 ghost use Rattle.swc_ecma_codegen_grammar.specs.Comments.{maps_in};
 ghost use Rattle.swc_ecma_codegen_tokens.specs.Starts.{begins_name};
 ghost use Rattle.swc_ecma_codegen_tokens.specs.PrivateNames.{private_name};
+ghost use Rattle.swc_ecma_codegen_emit.specs.Commented.{has_comment_at};
 ghost use Rattle.swc_ecma_codegen_emit.specs.Standing.{Performs};
 ghost use Rattle.swc_ecma_codegen_tokens.specs.Words.{name};
 ghost use Rattle.swc_ecma_codegen_tokens.specs.Keys.{key};
@@ -38,6 +39,7 @@ impl<W: WriteJs, S: SourceMapper, C: Comments> Emitter<'_, W, S, C> {
     /// Writes a name with its comments. Never inlined, since what it calls is: so a name takes one
     /// call. Mostly it is a text alone.
     #[inline(never)]
+    #[tactic(auto, unfolding(crate::specs::Commented::has_comment_at))]
     pub(crate) fn name(&mut self, span: Span, sym: &str, optional: bool)
         ensures items { Performs (name span sym.now optional)
             S.lines C.maps W.sheet self.old self.new }
@@ -54,10 +56,10 @@ impl<W: WriteJs, S: SourceMapper, C: Comments> Emitter<'_, W, S, C> {
     /// Writes a name where no positions are kept, no comments stand before it, and no `?` is
     /// written.
     #[inline(never)]
-    #[tactic(auto, using(crate::proofs::Standings::refused_makes))]
+    #[tactic(auto, using(crate::proofs::Standings::refused_makes), unfolding(crate::specs::Commented::has_comment_at))]
     fn name_alone(&mut self, span: Span, sym: &str, optional: bool)
         requires unplaced { (W.sheet self.old.wr).keeps_positions ≡ false }
-        requires uncommented { is_some ((maps_in C.maps self.old.comments).leading span.lo.0) ≡ false }
+        requires uncommented { has_comment_at span (maps_in C.maps self.old.comments) ≡ false }
         requires single { optional ≡ false }
         requires begins { begins_name sym.now ≡ true }
         ensures items { Performs (name span sym.now optional)
