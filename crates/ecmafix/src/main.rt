@@ -1,4 +1,5 @@
-//! Prints a tree of ECMAScript with the parentheses that it lacks: standard input is its JSON, standard output its text.
+//! Prints a tree of ECMAScript with the parentheses that it lacks: standard input is its JSON,
+//! standard output its text.
 #![tactic(auto)]
 
 mod tool;

@@ -1,5 +1,5 @@
-//! Prints trees of ECMAScript by requests: each line of standard input is one, as JSON, and each line of standard output
-//! its answer.
+//! Prints trees of ECMAScript by requests: each line of standard input is one, as JSON, and each
+//! line of standard output its answer.
 #![tactic(auto)]
 
 use std::io::BufReader;

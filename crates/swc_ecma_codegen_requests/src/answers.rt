@@ -22,13 +22,15 @@ use swc_ecma_codegen_json::{FlatTree, Short, Tree};
 use swc_ecma_codegen_tree::Program;
 use swc_ecma_codegen_validate::first_fault;
 
-/// How many links may lie below one another in a flat form: 8 MiB of stack print so many levels of any kind.
+/// How many links may lie below one another in a flat form: 8 MiB of stack print so many levels of
+/// any kind.
 const LEVELS: u32 = 8000;
 
 /// A request to print a program.
 type Asked = Request<Short<Tree>, Short<FlatTree<LEVELS>>>;
 
-/// The answer to a line, with an LF at its end. Want of memory for the answer itself is the only error.
+/// The answer to a line, with an LF at its end. Want of memory for the answer itself is the only
+/// error.
 pub(crate) fn answer_to(alloc: Global, line: &[u8]) -> Result<Vec<u8>, AllocError>
     ensures { IfOk result (λ answer. IsAnswer line.now answer.items) }
 {
@@ -156,7 +158,8 @@ fn checked(
     }
 }
 
-/// A program as it is printed: if it is well-formed or any is to be printed, with its parentheses where they are asked for.
+/// A program as it is printed: if it is well-formed or any is to be printed, with its parentheses
+/// where they are asked for.
 #[tactic(auto, unfolding(crate::specs::Answers::Becomes))]
 fn prepare(alloc: Global, preparation: Preparation, tree: Tree) -> Result<Tree, Fault>
     ensures prepared { IfOk result (λ r. IsPrepared preparation tree.0 r.0) }
@@ -175,7 +178,8 @@ fn prepare(alloc: Global, preparation: Preparation, tree: Tree) -> Result<Tree, 
     }
 }
 
-/// Whether a program may be printed, since it is well-formed or any is to be; and else why it isn't well-formed.
+/// Whether a program may be printed, since it is well-formed or any is to be; and else why it isn't
+/// well-formed.
 fn check(alloc: Global, any: bool, program: &Program) -> Result<(), Fault>
     ensures fine { OnOk result (MayPrint any program.now) }
     ensures why { IfErr result (λ fault. (any ≡ false) × IsBroken program.now fault) }

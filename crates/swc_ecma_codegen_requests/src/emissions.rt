@@ -1,4 +1,5 @@
-//! The emission that a request asks for. A function for whatever can be printed costs a check less than one for a program.
+//! The emission that a request asks for. A function for whatever can be printed costs a check less
+//! than one for a program.
 
 ghost use Rattle.std.specs.Prelude.{◌≡◌, ◌⊎◌, IfOk, IfErr, option_map, string_bytes};
 ghost use Rattle.std.specs.Str.{is_utf8, IsUtf8};
@@ -38,7 +39,8 @@ pub(crate) struct Manner {
     pub(crate) positions: bool,
 }
 
-/// What was printed: the text, the positions if they were asked for, and the comments that are left where there were any.
+/// What was printed: the text, the positions if they were asked for, and the comments that are left
+/// where there were any.
 #[derive(Drop)]
 pub(crate) struct Printed {
     pub(crate) code: String,
@@ -195,7 +197,8 @@ fn page_of<P: Node, S: SourceMapper, C: Comments + Drop>(
     comments: Option<C>,
     tree: &P,
 ) -> Result<Page<C>, Error>
-    // The text, the positions and the comments that are left are those of the tree, over this source text, with these comments and settings.
+    // The text, the positions and the comments that are left are those of the tree, over this
+    // source text, with these comments and settings.
     ensures made { IfOk result (λ page. IsMadeOf (P.part tree.now)
         (start_on (sheet_by layout) (S.lines source.now) (maps_in C.maps comments) config)
         page.text.items page.positions.items (maps_in C.maps page.comments)) }

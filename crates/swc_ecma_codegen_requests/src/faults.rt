@@ -26,7 +26,8 @@ pub(crate) enum Fault {
     Memory,
     /// The program isn't well-formed, and should be.
     NotWellFormed(TreeFault),
-    /// The program's text would be read as another tree, or as none, and should not: no parentheses mend it.
+    /// The program's text would be read as another tree, or as none, and should not: no parentheses
+    /// mend it.
     NotADerivation,
     /// The program lacks parentheses, and is deeper than these are put in.
     TooDeep,

@@ -122,7 +122,8 @@ fn value_in(alloc: Global, text: &str) -> Result<Option<Value>, AllocError>
     }
 }
 
-/// The text of the value of `id` in the object that a line is; none where the line is no text, or breaks before it.
+/// The text of the value of `id` in the object that a line is; none where the line is no text, or
+/// breaks before it.
 fn member_text<'a>(alloc: Global, line: &'a [u8]) -> Result<Option<&'a str>, AllocError>
     ensures { IfOk result (λ part. IfSome part (λ part. IsPartOf line.now part.now)) }
 {

@@ -36,8 +36,8 @@ use std::io::{BufRead, ErrorKind, Write};
 /// The longest line that is served, in bytes: 2 ^ 31.
 const MOST_BYTES: usize = 2147483648;
 
-/// Answers each line of `input`, in order, by a line to `out`, which is flushed before the next line is read. Ends where
-/// `input` ends.
+/// Answers each line of `input`, in order, by a line to `out`, which is flushed before the next
+/// line is read. Ends where `input` ends.
 ///
 /// A line is a request in JSON:
 ///
@@ -46,16 +46,17 @@ const MOST_BYTES: usize = 2147483648;
 /// ```
 ///
 /// The program is `tree`, as a [`Tree`](swc_ecma_codegen_json::Tree) is read, or `flat`, as a
-/// [`FlatTree`](swc_ecma_codegen_json::FlatTree) of at most 8,000 levels, both in the [short form](swc_ecma_codegen_json::Short):
-/// members that have a default may be left out. All but the program may be left out too. No object has another member, nor
-/// one twice.
+/// [`FlatTree`](swc_ecma_codegen_json::FlatTree) of at most 8,000 levels, both in the
+/// [short form](swc_ecma_codegen_json::Short): members that have a default may be left out. All but
+/// the program may be left out too. No object has another member, nor one twice.
 ///
-/// - `source` is the text that the program was read from, whose first byte stands at the position `first`, or at 1. Lists
-///   that keep their lines have those of the text.
-/// - `config` has the settings of [`Config`](swc_ecma_codegen_settings::config::Config) by their names, `target` as `"es2015"`; one that is left
-///   out is as in `Config::default()`. `indent` is what a level of indentation writes, a number of blanks or a text of blanks or
-///   tabs, ten at most, and `new_line` what ends a line, `"\n"` or `"\r\n"`; four blanks and LF unless they are given. With `minify`
-///   semicolons that aren't needed are left out.
+/// - `source` is the text that the program was read from, whose first byte stands at the position
+///   `first`, or at 1. Lists that keep their lines have those of the text.
+/// - `config` has the settings of [`Config`](swc_ecma_codegen_settings::config::Config) by their
+///   names, `target` as `"es2015"`; one that is left out is as in `Config::default()`. `indent` is
+///   what a level of indentation writes, a number of blanks or a text of blanks or tabs, ten at
+///   most, and `new_line` what ends a line, `"\n"` or `"\r\n"`; four blanks and LF unless they are
+///   given. With `minify` semicolons that aren't needed are left out.
 /// - `comments` are by the positions that they stand before and after, each as
 ///   `{"kind":"Line","text":" a","span":{"lo":1,"hi":5}}`, or a `Block`. None holds its own end.
 /// - With `positions` the answer tells where what stands in the source was written.
@@ -69,8 +70,8 @@ const MOST_BYTES: usize = 2147483648;
 /// {"id":7,"code":"a;","left":{"leading":{},"trailing":{}},"positions":[[1,0,0]]}
 /// ```
 ///
-/// Of a position come the line and the column in the text, from 0, columns in UTF-16 units. `left` has the comments that
-/// weren't written. Or an answer tells of an error:
+/// Of a position come the line and the column in the text, from 0, columns in UTF-16 units. `left`
+/// has the comments that weren't written. Or an answer tells of an error:
 ///
 /// | `error` | Why |
 /// |---|---|
@@ -82,8 +83,9 @@ const MOST_BYTES: usize = 2147483648;
 /// | `{"kind":"too deep"}` | `parenthesize` is asked for, parentheses are missing, and more than 4,000 links lie below one another |
 /// | `{"kind":"refused","cause":"name out of target"}` | the emission was refused; or there was no memory for the request: `"memory"` |
 ///
-/// The error is that of `input` or of `out`, which then took a beginning of an answer; `OutOfMemory` where there is none for a line or its
-/// answer; `InvalidData` where a line is longer than 2 ^ 31 bytes.
+/// The error is that of `input` or of `out`, which then took a beginning of an answer;
+/// `OutOfMemory` where there is none for a line or its answer; `InvalidData` where a line is longer
+/// than 2 ^ 31 bytes.
 pub fn serve<R: BufRead, W: Write>(alloc: Global, input: &mut R, out: &mut W) -> io::Result<()>
     ensures served { OnOk result (IfSome (R.remaining input.old)
         (λ all. Served all (Some []) (W.contents out.old) (W.contents out.new))) }

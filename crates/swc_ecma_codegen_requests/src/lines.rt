@@ -9,8 +9,9 @@ use memchr::memchr;
 use std::io;
 use std::io::{BufRead, ErrorKind};
 
-/// Appends the next line to `line`, with its LF where it has one, and says how many bytes that are: none at the end. It does
-/// what `read_until` of `b'\n'` does; the LF is looked for by many bytes at once.
+/// Appends the next line to `line`, with its LF where it has one, and says how many bytes that are:
+/// none at the end. It does what `read_until` of `b'\n'` does; the LF is looked for by many bytes
+/// at once.
 pub(crate) fn read_line<R: BufRead>(input: &mut R, line: &mut Vec<u8>) -> io::Result<usize>
     ensures count { IfOk result (λ n. vec_len line.new ≡ vec_len line.old + n) }
     ensures bytes { OnOk result (IfSome (R.remaining input.old)
@@ -28,7 +29,8 @@ pub(crate) fn read_line<R: BufRead>(input: &mut R, line: &mut Vec<u8>) -> io::Re
     Err(io::Error::from(ErrorKind::Other))
 }
 
-/// Appends the bytes that the reader shows, up to the first LF and with it. Says whether it met that, or the end.
+/// Appends the bytes that the reader shows, up to the first LF and with it. Says whether it met
+/// that, or the end.
 fn append_through<R: BufRead>(input: &mut R, line: &mut Vec<u8>) -> io::Result<bool>
     ensures grows { vec_len line.old ≤ vec_len line.new }
     ensures appends { StartsWith line.new.items line.old.items }

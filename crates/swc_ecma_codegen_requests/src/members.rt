@@ -86,7 +86,8 @@ pub(crate) fn fault_members(alloc: Global, fault: Value) -> Result<Map<String, V
     Ok(members)
 }
 
-/// The line of an answer: its members, and first what its request is known by, if that is known: `{"id":7,"code":"a;\n"}`.
+/// The line of an answer: its members, and first what its request is known by, if that is known:
+/// `{"id":7,"code":"a;\n"}`.
 pub(crate) fn line_of(
     alloc: Global,
     id: Option<String>,

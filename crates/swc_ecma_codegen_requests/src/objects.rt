@@ -3,7 +3,8 @@
 use serde::{Deserialize, DeserializeOwned, Deserializer, Format, Kind};
 use std::alloc::Global;
 
-/// What is read of an object. An array of its members' values, which serde takes for a struct too, is refused.
+/// What is read of an object. An array of its members' values, which serde takes for a struct too,
+/// is refused.
 #[derive(Drop, Debug, Clone, Copy, Default, PartialEq, Eq)]
 pub(crate) struct Object<T>(pub(crate) T);
 

@@ -41,7 +41,8 @@ impl Place {
     }
 }
 
-/// The way to what begins at a byte of a text, or holds it. Of a member's name it is the way to the member.
+/// The way to what begins at a byte of a text, or holds it. Of a member's name it is the way to the
+/// member.
 pub(crate) fn place_of(alloc: Global, text: &str, at: usize) -> Result<Place, AllocError> {
     let mut scratch = Scratch::new(alloc);
     let mut reader = Reader::new(text, &mut scratch)?;

@@ -184,7 +184,8 @@ fn sides_value(
     json!(in alloc; {"leading": leading, "trailing": trailing})
 }
 
-/// The comments on one side of these positions, taken out: a member for each position that has some.
+/// The comments on one side of these positions, taken out: a member for each position that has
+/// some.
 fn left_on(
     alloc: Global,
     side: Side,

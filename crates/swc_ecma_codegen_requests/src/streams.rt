@@ -32,7 +32,8 @@ fn write_whole<W: Write>(answer: &[u8], out: &mut W) -> io::Result<()>
     Err(io::Error::from(ErrorKind::WriteZero))
 }
 
-/// Writes a beginning of some bytes, and says how long it is: nothing where the call was interrupted.
+/// Writes a beginning of some bytes, and says how long it is: nothing where the call was
+/// interrupted.
 #[tactic(auto, using(crate::proofs::Kept::kept_appends))]
 fn write_some<W: Write>(bytes: &[u8], out: &mut W) -> io::Result<usize>
     ensures taken { IfOk result (λ n. (n ≤ length bytes.now)

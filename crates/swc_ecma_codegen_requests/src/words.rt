@@ -14,8 +14,9 @@ const HELP: &str =
 /// What `--version` tells.
 const VERSION: &str = "ecmaprint 1.0.0 (swc_ecma_codegen 0.154.4 in Rattle)\n";
 
-/// Answers the words behind the program's name, and gives the status; none where there are no words, and lines are to be
-/// served. `--help` and `--version` are told to `out`; each other word is wrong, which `err` tells.
+/// Answers the words behind the program's name, and gives the status; none where there are no
+/// words, and lines are to be served. `--help` and `--version` are told to `out`; each other word
+/// is wrong, which `err` tells.
 pub fn answer_words<O: Write, E: Write>(words: &[String], out: &mut O, err: &mut E) -> Option<u8>
     ensures none { words.now ≡ [] → (result ≡ None) × (out.new ≡ out.old) × (err.new ≡ err.old) }
     ensures some { words.now ≢ [] → result ≢ None }

@@ -2,7 +2,8 @@
 //! proof cites the function, and a program has no need to call it.
 //!
 //! They speak of the core of the grammar, of which `is_core` of `swc_ecma_codegen_syntax` tells:
-//! ECMA-262, 2024, with its section B.3.3 and with JSX, but for names that are spelled with escapes.
+//! ECMA-262, 2024, with its section B.3.3 and with JSX, but for names that are spelled with
+//! escapes.
 
 ghost use Rattle.std.specs.Prelude.{◌≡◌, ◌⊎◌, ℕ, true, false, List, ◌∷◌, ◌++◌, codes};
 ghost use Rattle.swc_ecma_codegen_tree.specs.declared.exprs.Expr.{Expr};
