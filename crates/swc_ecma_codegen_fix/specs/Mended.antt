@@ -4,7 +4,7 @@ use Rattle.swc_ecma_codegen_tree.specs.declared.links.AnyNode.{AnyNode}
 use Rattle.swc_ecma_codegen_tree.specs.declared.programs.Program.{Program}
 use Rattle.swc_ecma_codegen_syntax.specs.Derives.{program_verdict}
 use Rattle.swc_ecma_codegen_syntax.specs.Verdicts.{holds}
-use Rattle.swc_ecma_codegen_parentheses.specs.Bare.{BareProgramTree}
+use Rattle.swc_ecma_codegen_parentheses.specs.Bare.{bare_program}
 use Rattle.swc_ecma_codegen_parentheses.specs.Roots.{SameProgramTree}
 
 -- Of the program p the program r is printed. With any it may be one that no parentheses mend.
@@ -22,7 +22,7 @@ pub record IsMended (any : Bool) (p r : Program AnyNode) : Type 0 where
 
 -- Of p without its parentheses the program r is printed.
 abbrev pub HasFewest : Bool → Program AnyNode → Program AnyNode → Type 0
-HasFewest any p r = (bare : Program AnyNode) × BareProgramTree p bare × IsMended any bare r
+HasFewest any p r = IsMended any (bare_program p) r
 
 -- what is printed of a program, where the fewest parentheses may be asked for
 unfoldable pub IsFixed : Bool → Bool → Program AnyNode → Program AnyNode → Type 0

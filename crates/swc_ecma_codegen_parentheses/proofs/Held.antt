@@ -25,9 +25,3 @@ pub found_or_kept : {K X : Type 0} {R : X → X → Type 0} (m : Usage → X →
 unfolding where_found linked_as
 found_or_kept m usage if_found if_kept true a b said = if_found a.node.value b.node.value said
 found_or_kept m usage if_found if_kept false a b same = if_kept a.node.value b.node.value (ap (λ (l : Link _ _). l.node.value) same)
-
--- The same where one was found.
-pub where_one_is_found : {K X : Type 0} (R : X → X → Type 0) (m : Usage → X → X → Type 0) (usage : Usage) → ((a b : X) → R a b → m usage a b)
-    → (found : Bool) (a b : Link K X) → found ≡ true → where_found found R a b → linked_as usage m a b
-unfolding where_found linked_as
-where_one_is_found R m usage if_found found a b is said = if_found a.node.value b.node.value (subst (λ f. where_found f R a b) is said)

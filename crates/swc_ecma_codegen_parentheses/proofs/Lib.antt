@@ -1,5 +1,9 @@
+pub mod BareLaws
+pub mod BareRoots
 pub mod Held
 pub mod InPlace
 pub mod Needed
 pub mod OperandParts
+pub mod OtherNodes
+pub mod OtherPairs
 pub mod Verdicts

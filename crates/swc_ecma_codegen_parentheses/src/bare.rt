@@ -1,151 +1,184 @@
-//! Parentheses are taken away that stand round an expression.
+//! Nodes whose links are freed from parentheses.
 
-ghost use Rattle.std.specs.Prelude.{◌≡◌, IfNone, IfOk, IfSome, false, true};
+ghost use Rattle.std.specs.Prelude.{◌≡◌};
 ghost use Rattle.std.specs.Result.{OnOk};
-ghost use Rattle.swc_ecma_codegen_parentheses.specs.Bare.{BareExpr, BareTarget, PropertyOut, Stands, TakenOut, is_bare_target, is_property, is_string, stays, target_of};
+ghost use Rattle.std.specs.formers.vec.Vec.{mapped as vec_mapped};
+ghost use Rattle.swc_ecma_codegen_parentheses.specs.declared.opens.Standing.TheVariants.{Value};
+ghost use Rattle.swc_ecma_codegen_parentheses.specs.Bare.{open_expr_part, open_item, open_namespace_body, open_pat, open_program, open_stmt, open_stmt_part, open_target, open_ts_part, property_out};
 
-use crate::lends::Lends;
-use crate::mends::{Mend, Mends, Stop, Usage};
-use crate::places::Place;
-use std::alloc::Global;
-use std::mem;
-use swc_ecma_codegen_common::DUMMY_SP;
-use swc_ecma_codegen_tree::{AssignTarget, Expr, Holds, Invalid, Lit, SimpleAssignTarget};
+use crate::opens::{Opens, Standing};
+use swc_ecma_codegen_tree::{
+    AssignTarget, ExprPart, Ident, ModuleItem, Pat, Program, SimpleAssignTarget, Stmt, StmtPart,
+    TsNamespaceBody, TsPart,
+};
+use swc_ecma_codegen_visit::{Below, Links, Stop};
 
-/// Goes on where a link holds a node of its sort.
-pub(crate) fn found(is_found: bool) -> Result<(), Stop>
-    ensures { OnOk result (is_found ≡ true) }
-{
-    if is_found { Ok(()) } else { Err(Stop::Stray) }
-}
+/// Takes what each link holds out of parentheses, and goes no further.
+#[derive(Drop)]
+struct Opening {}
 
-/// Whether an expression is a string.
-fn is_string<N>(expr: &Expr<N>) -> bool
-    ensures { result ≡ is_string expr.now }
-{
-    matches!(expr, Expr::Lit(Lit::Str(_)))
-}
+impl<N: Opens> Below<N, Opening> for Opening {
+    ghost ident_before = { λ n. n };
 
-/// Whether an expression is a property, as `a.b`.
-fn is_property<N>(expr: &Expr<N>) -> bool
-    ensures { result ≡ is_property expr.now }
-{
-    matches!(expr, Expr::Member(_) | Expr::SuperProp(_))
-}
+    ghost ident_after = { λ n. n };
 
-/// Whether a pair of parentheses stays by what stands in it: `("use strict")` as a statement is no directive, and `(a) = function () {}` gives the
-/// function no name. A property stands in a pattern without them: `[(a.b)] = c` is `[a.b] = c`.
-fn stays<N>(usage: Usage, inside: &Expr<N>) -> bool
-    ensures { result ≡ stays usage inside.now }
-{
-    match usage {
-        Usage::Statement => is_string(inside),
-        Usage::Target => !is_property(inside),
-        Usage::Value
-        | Usage::Head(_)
-        | Usage::Operand(_)
-        | Usage::Part(_, _)
-        | Usage::Called(_, _, _)
-        | Usage::CalledByNew(_, _)
-        | Usage::Link(_) => false,
+    ghost before = { N.opened Value };
+
+    ghost after = { λ n. n };
+
+    fn ident(&self, _: &mut Opening, _: &mut Ident) -> Result<(), Stop> {
+        Ok(())
+    }
+
+    fn held(&self, _: &mut Opening, node: &mut N) -> Result<(), Stop> {
+        node.open_pair(Standing::Value);
+        Ok(())
     }
 }
 
-/// The expression in parentheses, taken out of them, unless they stay.
-fn taken_out<N: Lends>(expr: &mut Expr<N>, usage: Usage) -> Result<Option<Expr<N>>, Stop>
-    ensures some { IfOk result (λ taken. IfSome taken
-        (TakenOut (⟦<N as Holds<Expr<N>>>⟧.node_in) usage expr.old)) }
-    ensures none { IfOk result (λ taken. IfNone taken (expr.new ≡ expr.old)) }
-    ensures stands { IfOk result (λ taken. IfNone taken
-        (Stands (⟦<N as Holds<Expr<N>>>⟧.node_in) usage expr.old)) }
+/// Takes what the links of a node hold out of parentheses, where each is a value.
+pub(crate) fn open_values<N: Opens, T: Links<N>>(node: &mut T) -> Result<(), Stop>
+    ensures { OnOk result
+        (T.mapped (λ n. n) (N.opened Value) node.old ≡ T.mapped (λ n. n) (λ n. n) node.new) }
 {
-    match expr {
-        Expr::Paren(pair) => match pair.expr.get_mut() {
-            Some(inside) => {
-                if stays(usage, inside) {
-                    return Ok(None);
-                }
-                let nothing = Expr::Invalid(Invalid { span: DUMMY_SP });
-                Ok(Some(mem::replace(inside, nothing)))
+    node.links_mut(&Opening {}, &mut Opening {})
+}
+
+/// A statement or an item, which stands in a list.
+pub(crate) trait InList: Sized {
+    /// The same with what its links hold out of parentheses.
+    ghost opened: { Self → Self };
+
+    /// Takes what its links hold out of parentheses.
+    fn open_links(&mut self) -> Result<(), Stop>
+        ensures { OnOk result (self.new ≡ opened self.old) };
+}
+
+impl<N: Opens> InList for Stmt<N> {
+    ghost opened = { open_stmt N.opened };
+
+    fn open_links(&mut self) -> Result<(), Stop> {
+        match self {
+            Stmt::Expr(node) => {
+                node.expr.target_mut().open_pair(Standing::Statement);
+                Ok(())
             }
-            None => Err(Stop::Stray),
-        },
-        _ => Ok(None),
-    }
-}
-
-/// Takes parentheses out of an expression, and away that stand round it.
-pub(crate) fn bare_expr<N: Lends, M: Mends<N>>(
-    mender: &M,
-    alloc: Global,
-    expr: &mut Expr<N>,
-    place: Place,
-    usage: Usage,
-) -> Result<(), Stop>
-    ensures { OnOk result (BareExpr
-        (⟦<N as Holds<Expr<N>>>⟧.node_in) (M.mended mender.now) usage expr.old expr.new) }
-{
-    expr.mend(mender, alloc, place)?;
-    match taken_out(expr, usage)? {
-        Some(inside) => {
-            *expr = inside;
-            Ok(())
+            _ => open_values::<N, Stmt<N>>(self),
         }
-        None => Ok(()),
     }
 }
 
-/// A property as a target.
-fn target_of<N: Drop>(expr: Expr<N>) -> Option<AssignTarget<N>>
-    ensures { result ≡ target_of expr }
+impl<N: Opens> InList for ModuleItem<N> {
+    ghost opened = { open_item N.opened };
+
+    fn open_links(&mut self) -> Result<(), Stop> {
+        match self {
+            ModuleItem::Stmt(node) => node.open_links(),
+            ModuleItem::ModuleDecl(node) => {
+                node.target_mut().open_pair(Standing::Value);
+                Ok(())
+            }
+        }
+    }
+}
+
+/// Takes what the links of each in a list hold out of parentheses.
+fn open_each<T: InList>(list: &mut Vec<T>) -> Result<(), Stop>
+    ensures { OnOk result (list.new ≡ vec_mapped T.opened list.old) }
 {
-    match expr {
-        Expr::Member(node) => Some(AssignTarget::Simple(SimpleAssignTarget::Member(node))),
-        Expr::SuperProp(node) => Some(AssignTarget::Simple(SimpleAssignTarget::SuperProp(node))),
-        _ => None,
+    for node in list.iter_mut() {
+        node.open_links()?;
     }
+    Ok(())
 }
 
-/// The property that stands in parentheses where it is assigned to, taken out of them: `a.b` of `(a.b) = c`.
-fn property_out<N: Lends>(target: &mut AssignTarget<N>) -> Result<Option<AssignTarget<N>>, Stop>
-    ensures some { IfOk result (λ taken. IfSome taken
-        (PropertyOut (⟦<N as Holds<Expr<N>>>⟧.node_in) target.old)) }
-    ensures none { IfOk result (λ taken. IfNone taken (target.new ≡ target.old)) }
-    ensures stands { IfOk result (λ taken. IfNone taken
-        (is_bare_target (⟦<N as Holds<Expr<N>>>⟧.node_in) target.old ≡ true)) }
+/// The property in a pair of parentheses in the place of the pair: `a.b` of `(a.b) = c`.
+fn property_out<N: Opens + Drop>(target: &mut AssignTarget<N>)
+    ensures { target.new ≡ property_out N.property target.old }
 {
     match target {
-        AssignTarget::Simple(SimpleAssignTarget::Paren(pair)) => match pair.expr.get_mut() {
-            Some(inside) => {
-                if is_property(inside) {
-                    let nothing = Expr::Invalid(Invalid { span: DUMMY_SP });
-                    Ok(target_of(mem::replace(inside, nothing)))
-                } else {
-                    Ok(None)
+        AssignTarget::Simple(SimpleAssignTarget::Paren(pair)) => {
+            if pair.expr.target().is_property() {
+                match pair.expr.replace_target(N::nothing()).into_target() {
+                    Some(property) => *target = property,
+                    None => {}
                 }
             }
-            None => Err(Stop::Stray),
-        },
-        _ => Ok(None),
+        }
+        _ => {}
     }
 }
 
-/// Takes parentheses out of what is assigned to, and away that stand round a property.
-pub(crate) fn bare_target<N: Lends, M: Mends<N>>(
-    mender: &M,
-    alloc: Global,
-    target: &mut AssignTarget<N>,
-    place: Place,
-) -> Result<(), Stop>
-    ensures { OnOk result (BareTarget
-        (⟦<N as Holds<Expr<N>>>⟧.node_in) (M.mended mender.now) target.old target.new) }
+/// Takes what the links of a target hold out of parentheses, and a property that it is itself.
+#[tactic(auto, using(crate::proofs::OtherNodes::target_left))]
+fn open_target<N: Opens + Drop>(target: &mut AssignTarget<N>) -> Result<(), Stop>
+    ensures { OnOk result (target.new ≡ open_target N.opened N.property target.old) }
 {
-    target.mend(mender, alloc, place)?;
-    match property_out(target)? {
-        Some(property) => {
-            *target = property;
+    open_values::<N, AssignTarget<N>>(target)?;
+    property_out(target);
+    Ok(())
+}
+
+/// Takes what the links of a pattern hold out of parentheses.
+fn open_pat<N: Opens>(pat: &mut Pat<N>) -> Result<(), Stop>
+    ensures { OnOk result (pat.new ≡ open_pat N.opened pat.old) }
+{
+    match pat {
+        Pat::Expr(link) => {
+            link.target_mut().open_pair(Standing::Target);
             Ok(())
         }
-        None => Ok(()),
+        _ => open_values::<N, Pat<N>>(pat),
+    }
+}
+
+/// Takes what the links of a part of an expression hold out of parentheses.
+pub(crate) fn open_expr_part<N: Opens + Drop>(part: &mut ExprPart<N>) -> Result<(), Stop>
+    ensures { OnOk result (part.new ≡ open_expr_part N.opened N.property part.old) }
+{
+    match part {
+        ExprPart::Pat(pat) => open_pat(pat),
+        ExprPart::AssignTarget(target) => open_target(target),
+        _ => open_values::<N, ExprPart<N>>(part),
+    }
+}
+
+/// Takes what the links of a part of a statement hold out of parentheses.
+pub(crate) fn open_stmt_part<N: Opens>(part: &mut StmtPart<N>) -> Result<(), Stop>
+    ensures { OnOk result (part.new ≡ open_stmt_part N.opened part.old) }
+{
+    match part {
+        StmtPart::BlockStmt(block) => open_each(&mut block.stmts),
+        _ => open_values::<N, StmtPart<N>>(part),
+    }
+}
+
+/// Takes what the links of the body of a namespace hold out of parentheses.
+fn open_namespace_body<N: Opens>(body: &mut TsNamespaceBody<N>) -> Result<(), Stop>
+    ensures { OnOk result (body.new ≡ open_namespace_body N.opened body.old) }
+{
+    match body {
+        TsNamespaceBody::TsModuleBlock(block) => open_each(&mut block.body),
+        _ => open_values::<N, TsNamespaceBody<N>>(body),
+    }
+}
+
+/// Takes what the links of a part of TypeScript hold out of parentheses.
+pub(crate) fn open_ts_part<N: Opens>(part: &mut TsPart<N>) -> Result<(), Stop>
+    ensures { OnOk result (part.new ≡ open_ts_part N.opened part.old) }
+{
+    match part {
+        TsPart::TsNamespaceBody(body) => open_namespace_body(body),
+        _ => open_values::<N, TsPart<N>>(part),
+    }
+}
+
+/// Takes what the links of a program hold out of parentheses.
+pub(crate) fn open_program<N: Opens>(program: &mut Program<N>) -> Result<(), Stop>
+    ensures { OnOk result (program.new ≡ open_program N.opened program.old) }
+{
+    match program {
+        Program::Module(module) => open_each(&mut module.body),
+        Program::Script(script) => open_each(&mut script.body),
     }
 }

@@ -1,4 +1,4 @@
-//! What is changed where a link holds it: parentheses are put in there, or taken away.
+//! What is changed where a link holds it: parentheses are put in there.
 
 ghost use Rattle.std.specs.Result.{OnOk};
 ghost use Rattle.swc_ecma_codegen_parentheses.specs.declared.mends.Usage.{Usage};

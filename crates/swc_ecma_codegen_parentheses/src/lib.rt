@@ -4,6 +4,7 @@
 mod added;
 mod bare;
 mod bare_roots;
+mod bare_trees;
 mod changes;
 mod classes;
 mod depths;
@@ -19,6 +20,7 @@ mod members;
 mod mends;
 mod modules;
 mod objects;
+mod opens;
 mod operands;
 mod operators;
 mod pats;
@@ -26,7 +28,6 @@ mod places;
 mod recursion;
 mod roots;
 mod stmts;
-mod taken;
 mod ts_decls;
 mod ts_exprs;
 mod within;
@@ -35,6 +36,7 @@ pub use crate::bare_roots::{
     NotBare, without_parentheses, without_parentheses_expr, without_parentheses_item,
     without_parentheses_stmt,
 };
+pub use crate::bare_trees::no_other_pair_stands;
 pub use crate::depths::MAX_DEPTH;
 pub use crate::roots::{
     Unmended, parenthesize, parenthesize_expr, parenthesize_item, parenthesize_stmt,

@@ -22,8 +22,6 @@ pub(crate) enum Stop {
     OutOfMemory,
     /// More links lie below one another than are gone down.
     TooDeep,
-    /// A link holds no node of its sort.
-    Stray,
     /// A pair of parentheses was put in that could be left out.
     Needless,
 }

@@ -127,7 +127,7 @@ pub fn parenthesize(alloc: Global, program: Program) -> Result<Program, Unmended
     }
     match mend_program(alloc, &mut program) {
         Err(Stop::OutOfMemory) => Err(Unmended::OutOfMemory),
-        Err(Stop::TooDeep | Stop::Stray | Stop::Needless) => Err(Unmended::Stopped(program)),
+        Err(Stop::TooDeep | Stop::Needless) => Err(Unmended::Stopped(program)),
         Ok(()) if is_mended(before, verdict(&program)) => Ok(program),
         Ok(()) => Err(Unmended::Left(program)),
     }
@@ -163,7 +163,7 @@ pub fn parenthesize_item(
     let place = Place::of(Nonterminal::Expression, parameters);
     match mend_item(alloc, &mut item, place) {
         Err(Stop::OutOfMemory) => Err(Unmended::OutOfMemory),
-        Err(Stop::TooDeep | Stop::Stray | Stop::Needless) => Err(Unmended::Stopped(item)),
+        Err(Stop::TooDeep | Stop::Needless) => Err(Unmended::Stopped(item)),
         Ok(()) if is_mended(before, verdict_item(&item, parameters)) => Ok(item),
         Ok(()) => Err(Unmended::Left(item)),
     }
@@ -196,7 +196,7 @@ pub fn parenthesize_stmt(
     let at = Place::of(place, parameters);
     match mend_whole_stmt(alloc, &mut stmt, at) {
         Err(Stop::OutOfMemory) => Err(Unmended::OutOfMemory),
-        Err(Stop::TooDeep | Stop::Stray | Stop::Needless) => Err(Unmended::Stopped(stmt)),
+        Err(Stop::TooDeep | Stop::Needless) => Err(Unmended::Stopped(stmt)),
         Ok(()) if is_mended(before, verdict_stmt(&stmt, place, parameters)) => Ok(stmt),
         Ok(()) => Err(Unmended::Left(stmt)),
     }
@@ -227,7 +227,7 @@ pub fn parenthesize_expr(
     let mut expr = expr;
     match mend_whole_expr(alloc, &mut expr, place, parameters) {
         Err(Stop::OutOfMemory) => Err(Unmended::OutOfMemory),
-        Err(Stop::TooDeep | Stop::Stray | Stop::Needless) => Err(Unmended::Stopped(expr)),
+        Err(Stop::TooDeep | Stop::Needless) => Err(Unmended::Stopped(expr)),
         Ok(()) if is_mended(before, verdict_expr(&expr, place, parameters)) => Ok(expr),
         Ok(()) => Err(Unmended::Left(expr)),
     }

@@ -1,8 +1,0 @@
-use Rattle.std.proofs.lemmas.Result.{on_ok_weaker}
-use Rattle.swc_ecma_codegen_parentheses.specs.declared.mends.Usage.TheVariants as usages
-use Rattle.swc_ecma_codegen_parentheses.specs.Whole.{as_part, jsx_element}
-use Rattle.swc_ecma_codegen_parentheses.proofs.Held.{where_one_is_found}
-use Rattle.swc_ecma_codegen_parentheses.proofs.taken.TakenChange.jsx_element.Goals as goal
-
-pub returns : goal.returns
-returns g c = on_ok_weaker c.found.result (λ is. where_one_is_found _ _ usages.Value (λ a b said. as_part (jsx_element said)) c.in_ok-mend_linked_jsx_element.field-0 c.args.link.now c.mend_linked_jsx_element.new.link is c.in_ok-mend_linked_jsx_element.ensures) c.found.ensures

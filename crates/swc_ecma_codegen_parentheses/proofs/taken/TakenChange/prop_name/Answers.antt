@@ -1,8 +1,0 @@
-use Rattle.std.proofs.lemmas.Result.{on_ok_weaker}
-use Rattle.swc_ecma_codegen_parentheses.specs.declared.mends.Usage.TheVariants as usages
-use Rattle.swc_ecma_codegen_parentheses.specs.Whole.{as_part, prop_name}
-use Rattle.swc_ecma_codegen_parentheses.proofs.Held.{where_one_is_found}
-use Rattle.swc_ecma_codegen_parentheses.proofs.taken.TakenChange.prop_name.Goals as goal
-
-pub returns : goal.returns
-returns g c = on_ok_weaker c.found.result (λ is. where_one_is_found _ _ usages.Value (λ a b said. as_part (prop_name said)) c.in_ok-mend_linked_prop_name.field-0 c.args.link.now c.mend_linked_prop_name.new.link is c.in_ok-mend_linked_prop_name.ensures) c.found.ensures
