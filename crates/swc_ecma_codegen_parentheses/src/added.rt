@@ -22,7 +22,8 @@ use swc_ecma_codegen_tree::{
     ModuleDeclBox, OptCallBox, PatBox, PropNameBox, Stmt, StmtBox, StmtPart, TplBox, VarDeclBox,
 };
 
-/// Parentheses are put round an expression or a name where they are missing, and a block round an `if`.
+/// Parentheses are put round an expression or a name where they are missing, and a block round an
+/// `if`.
 pub(crate) enum Added {}
 
 impl<N: Lends> Change<N> for Added {

@@ -160,7 +160,8 @@ pub(crate) trait Change<N>: Sized {
         ensures { OnOk result (linked (changed (M.mended mender.now)) link.old link.new) };
 }
 
-/// The change of the expression that a link holds. A cycle of calls may not call a bound's function itself.
+/// The change of the expression that a link holds. A cycle of calls may not call a bound's function
+/// itself.
 pub(crate) fn change_expr<N, C: Change<N>, M: Mends<N>>(
     mender: &M,
     alloc: Global,

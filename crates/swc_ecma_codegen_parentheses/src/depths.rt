@@ -8,10 +8,12 @@ use std::alloc::Global;
 use swc_ecma_codegen_tree::{ModuleItem, Program};
 use swc_ecma_codegen_visit::is_deeper_than;
 
-/// How many links are gone down at most, one below another. In `a + b;` these are two: the statement's link to the sum, and the sum's to `a`.
+/// How many links are gone down at most, one below another. In `a + b;` these are two: the
+/// statement's link to the sum, and the sum's to `a`.
 ///
-/// The stack of a main thread has 8 MiB. A link of `a.b.c.d` takes 1,610 bytes of it, and no kind of link was found that takes more. So there is room for
-/// 5,200 links; what calls this gets the rest.
+/// The stack of a main thread has 8 MiB. A link of `a.b.c.d` takes 1,610 bytes of it, and no kind
+/// of link was found that takes more. So there is room for 5,200 links; what calls this gets the
+/// rest.
 pub const MAX_DEPTH: usize = 4_000;
 
 /// Whether a program has more links below one another than are gone down.

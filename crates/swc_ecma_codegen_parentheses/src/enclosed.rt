@@ -105,7 +105,8 @@ fn is_barred(usage: Usage, name: &str) -> bool
     }
 }
 
-/// Whether a pattern is a name that it may not be where it is used so. A name with a type stays, since none stands in parentheses.
+/// Whether a pattern is a name that it may not be where it is used so. A name with a type stays,
+/// since none stands in parentheses.
 fn is_barred_name<N>(pat: &Pat<N>, usage: Usage) -> bool
     ensures { result ≡ true → is_barred_name usage pat.now ≡ true }
 {
@@ -161,7 +162,8 @@ fn takes_else<N>(stmt: &Stmt<N>, place: Place) -> bool
     }
 }
 
-/// Puts parentheses into a statement, and a block round it where it would take an `else` of another.
+/// Puts parentheses into a statement, and a block round it where it would take an `else` of
+/// another.
 #[tactic(auto, using(crate::specs::Enclosed::unblocked))]
 pub(crate) fn mend_stmt<N: Lends, M: Mends<N>>(
     mender: &M,

@@ -15,7 +15,8 @@ use swc_ecma_codegen_tree::{
     AssignTarget, AssignTargetBox, Callee, Expr, ExprBox, NewExpr, SimpleAssignTarget,
 };
 
-/// What a member or a tag is, by what it stands behind: that is asked only where it counts, behind `new`.
+/// What a member or a tag is, by what it stands behind: that is asked only where it counts, behind
+/// `new`.
 fn call_or_member<N: Answers>(object: &ExprBox<N>, place: Nonterminal) -> Nonterminal {
     if takes(place, Nonterminal::CallExpression) == takes(place, Nonterminal::MemberExpression) {
         return Nonterminal::MemberExpression;
@@ -37,7 +38,8 @@ fn new_nonterminal<N>(node: &NewExpr<N>, place: Place) -> Nonterminal {
     }
 }
 
-/// What `a!` is: a chain where `a` is one, which goes on behind it as `a?.b!.c` does, and a call where `a` is one.
+/// What `a!` is: a chain where `a` is one, which goes on behind it as `a?.b!.c` does, and a call
+/// where `a` is one.
 fn non_null<N: Lends>(operand: &ExprBox<N>, place: Nonterminal) -> Nonterminal {
     match operand.get() {
         Some(Expr::OptChain(_)) => Nonterminal::OptionalExpression,
@@ -45,7 +47,8 @@ fn non_null<N: Lends>(operand: &ExprBox<N>, place: Nonterminal) -> Nonterminal {
     }
 }
 
-/// The nonterminal whose production derives an expression. That of TypeScript's is one of the same level, by docs/LEVELS.md.
+/// The nonterminal whose production derives an expression. That of TypeScript's is one of the same
+/// level, by docs/LEVELS.md.
 fn nonterminal<N: Lends>(expr: &Expr<N>, place: Place) -> Nonterminal {
     match expr {
         Expr::Unary(_) | Expr::Await(_) | Expr::TsTypeAssertion(_) => Nonterminal::UnaryExpression,
@@ -69,7 +72,8 @@ fn nonterminal<N: Lends>(expr: &Expr<N>, place: Place) -> Nonterminal {
     }
 }
 
-/// Whether a target begins with another node: `{a} = b` is enclosed whole, and of `{}.a = b` the object alone.
+/// Whether a target begins with another node: `{a} = b` is enclosed whole, and of `{}.a = b` the
+/// object alone.
 fn begins_with_object<N: Lends>(target: &AssignTargetBox<N>) -> bool {
     matches!(
         target.get(),
@@ -91,7 +95,8 @@ fn begins_with_other<N: Lends>(expr: &Expr<N>) -> bool {
     }
 }
 
-/// Whether an expression has an operator where it is none, or ends with an element of JSX or a type that what stands behind goes on with.
+/// Whether an expression has an operator where it is none, or ends with an element of JSX or a type
+/// that what stands behind goes on with.
 fn clashes<N>(expr: &Expr<N>, place: Place) -> bool {
     match expr {
         Expr::Bin(node) => matches!(node.op, BinaryOp::In) && !place.has_in,

@@ -1,5 +1,6 @@
-//! What links hold, of whatever type: all but the roots of the pass is generic in it. A proof about `AnyNode` itself
-//! compares all types of the tree, and takes the prover more than a minute for each function.
+//! What links hold, of whatever type: all but the roots of the pass is generic in it. A proof about
+//! `AnyNode` itself compares all types of the tree, and takes the prover more than a minute for
+//! each function.
 
 ghost use Rattle.std.specs.Prelude.{◌≡◌, ◌&&◌, false, true};
 ghost use Rattle.swc_ecma_codegen_grammar.specs.declared.roles.Role.TheVariants.{Expression};
@@ -21,7 +22,8 @@ pub(crate) trait Lends: HoldsMut<Expr<Self>>
     + Answers
     + Spanned
     + Drop {
-    /// Whether it is an expression that the nonterminal with these parameters doesn't derive without parentheses round it.
+    /// Whether it is an expression that the nonterminal with these parameters doesn't derive
+    /// without parentheses round it.
     fn lacks_parentheses(&self, nonterminal: Nonterminal, parameters: Parameters) -> bool
         ensures { result ≡ true →
             derives nonterminal (Self.answers self.now Expression parameters).facts ≡ false };

@@ -1,5 +1,6 @@
-//! Which expressions stand where, by how strongly their operators bind: the levels of docs/LEVELS.md. What comes of
-//! them is asked by the verdict of `_syntax` once the pass is over, so a wrong one makes no wrong tree.
+//! Which expressions stand where, by how strongly their operators bind: the levels of
+//! docs/LEVELS.md. What comes of them is asked by the verdict of `_syntax` once the pass is over,
+//! so a wrong one makes no wrong tree.
 
 ghost use Rattle.std.specs.Prelude.{◌≡◌};
 ghost use Rattle.swc_ecma_codegen_syntax.specs.ExprForms.{binary_nonterminal, left_nonterminal, right_nonterminal};

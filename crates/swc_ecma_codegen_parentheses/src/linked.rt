@@ -1,5 +1,6 @@
-//! What links hold that is changed in no way of its own. Each sort has a function, since what calls `mend_linked` itself names
-//! how all types of the tree are dropped, which takes the prover half a minute.
+//! What links hold that is changed in no way of its own. Each sort has a function, since what calls
+//! `mend_linked` itself names how all types of the tree are dropped, which takes the prover half a
+//! minute.
 
 ghost use Rattle.std.specs.Option.{option_and_then};
 ghost use Rattle.std.specs.Prelude.{IfOk};

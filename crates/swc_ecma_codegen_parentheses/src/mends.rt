@@ -31,7 +31,8 @@ pub(crate) enum Stop {
 pub(crate) enum Usage {
     /// Its value is.
     Value,
-    /// It is a statement, as `"use strict"`, which is a directive, and `("use strict")`, which is none.
+    /// It is a statement, as `"use strict"`, which is a directive, and `("use strict")`, which is
+    /// none.
     Statement,
     /// It is assigned to, as `a` in `[a] = b`.
     Target,
@@ -41,11 +42,13 @@ pub(crate) enum Usage {
     Operand(Operand),
     /// The same, where this nonterminal stands in this context.
     Part(Nonterminal, Context),
-    /// It is called, or has a property, where this nonterminal stands in this context, with `[` right behind it or not.
+    /// It is called, or has a property, where this nonterminal stands in this context, with `[`
+    /// right behind it or not.
     Called(Nonterminal, bool, Context),
     /// It is called by `new`, where this nonterminal stands in this context.
     CalledByNew(Nonterminal, Context),
-    /// It is a link of a chain, or what is assigned to, and no expression. What stands in it stands in this context.
+    /// It is a link of a chain, or what is assigned to, and no expression. What stands in it stands
+    /// in this context.
     Link(Context),
 }
 

@@ -22,7 +22,8 @@ impl<N: Answers, M: Mends<N>> Mend<N, M> for SpreadElement<N> {
     }
 }
 
-/// Goes on to a name in brackets, where this nonterminal stands in them: `[a]` of `{ [a]: b }` and of `b[a]`.
+/// Goes on to a name in brackets, where this nonterminal stands in them: `[a]` of `{ [a]: b }` and
+/// of `b[a]`.
 #[tactic(auto, unfolding(crate::specs::SameObjects::same_computed_prop_name))]
 pub(crate) fn mend_computed<N, M: Mends<N>>(
     mender: &M,

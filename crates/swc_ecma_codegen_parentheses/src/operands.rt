@@ -1,4 +1,5 @@
-//! Operands of operators, and what is called or has a property: which nonterminal stands there, and in which context.
+//! Operands of operators, and what is called or has a property: which nonterminal stands there, and
+//! in which context.
 
 ghost use Rattle.std.specs.Prelude.{◌≡◌, ◌&&◌, false, true};
 ghost use Rattle.swc_ecma_codegen_grammar.specs.declared.roles.Role.TheVariants.{Callee, Expression};
@@ -121,7 +122,8 @@ pub(crate) enum Operand {
     NewEmpty,
     /// `a` of `new a(b)`.
     NewCalled,
-    /// `a?.b` of `a?.b.c`, and `a` of `a?.b`, with what stands behind: the link. With `?.` or without.
+    /// `a?.b` of `a?.b.c`, and `a` of `a?.b`, with what stands behind: the link. With `?.` or
+    /// without.
     Chain(bool),
     /// `a` of `a = b`.
     Assigned,
@@ -285,7 +287,8 @@ impl Usage {
         Usage::Part(Nonterminal::Expression, context)
     }
 
-    /// The same with the nonterminal and the context that an operand stands in, by those of the whole.
+    /// The same with the nonterminal and the context that an operand stands in, by those of the
+    /// whole.
     #[tactic(auto, unfolding(crate::specs::Operands::within))]
     pub(crate) fn within(self, whole: Context) -> Usage
         ensures { result ≡ within whole self }
@@ -315,7 +318,8 @@ impl Usage {
         }
     }
 
-    /// Whether parentheses can't be left out round what a link holds that is used so: as a statement or an operand it would lack them.
+    /// Whether parentheses can't be left out round what a link holds that is used so: as a
+    /// statement or an operand it would lack them.
     #[tactic(auto, unfolding(crate::specs::Needed::needs))]
     pub(crate) fn needs_parentheses<N: Lends>(self, link: &ExprBox<N>) -> bool
         ensures { result ≡ true → needs N.answers self link.now.node.value }
@@ -339,7 +343,8 @@ impl Usage {
     }
 }
 
-/// Whether parentheses can't be left out round what a link holds, where this nonterminal stands in this context.
+/// Whether parentheses can't be left out round what a link holds, where this nonterminal stands in
+/// this context.
 #[tactic(auto, using(crate::proofs::Needed::forbidden, crate::proofs::Needed::underived))]
 fn are_needed<N: Lends>(link: &ExprBox<N>, nonterminal: Nonterminal, context: Context) -> bool
     ensures { result ≡ true → (meets context.lookahead
@@ -354,7 +359,8 @@ fn are_needed<N: Lends>(link: &ExprBox<N>, nonterminal: Nonterminal, context: Co
     }
 }
 
-/// Whether parentheses can't be left out round what `new` calls, in a text with `()` or in one that is minified.
+/// Whether parentheses can't be left out round what `new` calls, in a text with `()` or in one that
+/// is minified.
 #[tactic(auto, using(crate::proofs::Needed::underived, crate::proofs::Needed::underived_first))]
 fn are_needed_by_new<N: Lends>(
     link: &ExprBox<N>,
@@ -411,7 +417,8 @@ fn is_chain(nonterminal: Nonterminal) -> bool
     matches!(nonterminal, Nonterminal::OptionalExpression)
 }
 
-/// Whether the object of a property, or what is called, can be such a node, where this nonterminal stands.
+/// Whether the object of a property, or what is called, can be such a node, where this nonterminal
+/// stands.
 fn takes_object(place: Nonterminal, nonterminal: Nonterminal) -> bool
     ensures { result ≡ false → takes place nonterminal ≡ false }
 {

@@ -154,7 +154,8 @@ impl Place {
         }
     }
 
-    /// The same of a part that begins what stands there, where only this part tells what that begins with.
+    /// The same of a part that begins what stands there, where only this part tells what that
+    /// begins with.
     pub(crate) fn told(self, begins: Beginning) -> Place {
         match self.lookahead {
             Some(lookahead) => self.restricted(lookahead, begins),

@@ -19,7 +19,8 @@ use swc_ecma_codegen_tree::{
     StmtBox, TplBox, VarDeclBox,
 };
 
-/// How many links may still lie below one another, for one change. It gets shorter at each link, so that the pass ends.
+/// How many links may still lie below one another, for one change. It gets shorter at each link, so
+/// that the pass ends.
 #[derive(Drop)]
 pub(crate) enum Levels<N, C> {
     Out(PhantomData<(N, C)>),

@@ -26,8 +26,9 @@ pub enum Unmended<T> {
     OutOfMemory,
     /// More than `MAX_DEPTH` links lie below one another. The tree is given back as it was.
     TooDeep(T),
-    /// The pass stopped: a pair that it had put in could be left out, which no test has met; or `parenthesize_stmt` or `parenthesize_expr` was given what is
-    /// too deep. The tree is given back with the parentheses that it got.
+    /// The pass stopped: a pair that it had put in could be left out, which no test has met; or
+    /// `parenthesize_stmt` or `parenthesize_expr` was given what is too deep. The tree is given
+    /// back with the parentheses that it got.
     Stopped(T),
     /// Parentheses are missing still. The tree is given back with those that it got.
     Left(T),
@@ -92,16 +93,20 @@ fn mend_whole_expr(
     mend_expr::<AnyNode, Levels<AnyNode, Added>>(&levels, alloc, expr, at, usage)
 }
 
-/// A program with parentheses where the syntactic grammar of ECMA-262 needs them, whatever the settings of the emission are, and with
-/// braces round an `if` that would take the `else` of another. A program that lacks none is given back as it is.
+/// A program with parentheses where the syntactic grammar of ECMA-262 needs them, whatever the
+/// settings of the emission are, and with braces round an `if` that would take the `else` of
+/// another. A program that lacks none is given back as it is.
 ///
-/// `(a + b) * c` without its parentheses gets them, and `({}).a;` as a statement too. A pair has the span of what it encloses. All else of
-/// the tree stays: spans, spellings, and parentheses that were there. What parentheses don't mend, as `a() = b`, stays as wrong as it was; `keeps_structure`
-/// of the result tells. A tree of more than `MAX_DEPTH` links below one another is refused, if it lacks parentheses, before any are put in. Takes memory
-/// for new nodes, and for `MAX_DEPTH` levels, which it gives back.
+/// `(a + b) * c` without its parentheses gets them, and `({}).a;` as a statement too. A pair has
+/// the span of what it encloses. All else of the tree stays: spans, spellings, and parentheses that
+/// were there. What parentheses don't mend, as `a() = b`, stays as wrong as it was;
+/// `keeps_structure` of the result tells. A tree of more than `MAX_DEPTH` links below one another
+/// is refused, if it lacks parentheses, before any are put in. Takes memory for new nodes, and for
+/// `MAX_DEPTH` levels, which it gives back.
 ///
-/// A tree with TypeScript gets them too, as `(a as T).b` does, by the levels of docs/LEVELS.md. No grammar of it is cited, so of such a tree, and of
-/// one with decorators, the clauses say no more than that it is the same but for parentheses and blocks. Types, decorators and the bodies of
+/// A tree with TypeScript gets them too, as `(a as T).b` does, by the levels of docs/LEVELS.md. No
+/// grammar of it is cited, so of such a tree, and of one with decorators, the clauses say no more
+/// than that it is the same but for parentheses and blocks. Types, decorators and the bodies of
 /// namespaces are not gone into.
 #[tactic(auto, using(crate::proofs::Verdicts::kept), unfolding(crate::specs::Roots::IfLeft, crate::specs::Roots::IfTooDeep))]
 pub fn parenthesize(alloc: Global, program: Program) -> Result<Program, Unmended<Program>>
@@ -133,7 +138,8 @@ pub fn parenthesize(alloc: Global, program: Program) -> Result<Program, Unmended
     }
 }
 
-/// An item of a module with these parameters, as `Parameters::module()`, with its parentheses. See `parenthesize`.
+/// An item of a module with these parameters, as `Parameters::module()`, with its parentheses. See
+/// `parenthesize`.
 #[tactic(auto, using(crate::proofs::Verdicts::kept), unfolding(crate::specs::Roots::IfLeft, crate::specs::Roots::IfTooDeep))]
 pub fn parenthesize_item(
     alloc: Global,
@@ -169,9 +175,10 @@ pub fn parenthesize_item(
     }
 }
 
-/// A statement where this nonterminal with these parameters stands, with its parentheses: Statement, or StatementListItem where a declaration
-/// may stand. See `parenthesize`. How deep it is isn't asked before: one that is too deep is answered by `Stopped`, with the parentheses that it got until
-/// then.
+/// A statement where this nonterminal with these parameters stands, with its parentheses:
+/// Statement, or StatementListItem where a declaration may stand. See `parenthesize`. How deep it
+/// is isn't asked before: one that is too deep is answered by `Stopped`, with the parentheses that
+/// it got until then.
 #[tactic(auto, using(crate::proofs::Verdicts::kept), unfolding(crate::specs::Roots::IfLeft))]
 pub fn parenthesize_stmt(
     alloc: Global,
@@ -202,8 +209,9 @@ pub fn parenthesize_stmt(
     }
 }
 
-/// An expression where this nonterminal with these parameters stands, with its parentheses, round it too. See `parenthesize`; here
-/// `parameters.minify` has to be that of the settings. How deep it is isn't asked before either.
+/// An expression where this nonterminal with these parameters stands, with its parentheses, round
+/// it too. See `parenthesize`; here `parameters.minify` has to be that of the settings. How deep it
+/// is isn't asked before either.
 #[tactic(auto, using(crate::proofs::Verdicts::kept), unfolding(crate::specs::Roots::IfLeft))]
 pub fn parenthesize_expr(
     alloc: Global,

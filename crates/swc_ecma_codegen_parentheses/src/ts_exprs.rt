@@ -1,7 +1,8 @@
 //! Expressions of TypeScript.
 //!
-//! No grammar says where they stand: these are the levels of docs/LEVELS.md, and what Babel reads. A type goes on where it can: behind
-//! `a as T` no `<`, `|` and `&` is an operator. Behind `a<T>` no operator is read but one that begins no expression, so it stands alone.
+//! No grammar says where they stand: these are the levels of docs/LEVELS.md, and what Babel reads.
+//! A type goes on where it can: behind `a as T` no `<`, `|` and `&` is an operator. Behind `a<T>`
+//! no operator is read but one that begins no expression, so it stands alone.
 
 ghost use Rattle.swc_ecma_codegen_parentheses.specs.SameTsExprs.{same_ts_as_expr, same_ts_satisfies_expr, same_ts_non_null_expr, same_ts_type_assertion, same_ts_const_assertion, same_ts_instantiation};
 
@@ -15,7 +16,8 @@ use swc_ecma_codegen_tree::{
     TsTypeAssertion,
 };
 
-/// Where an operand stands that begins what stands in `whole`: what that begins with was told without it.
+/// Where an operand stands that begins what stands in `whole`: what that begins with was told
+/// without it.
 fn beginning<N: Answers>(operand: &ExprBox<N>, within: Place, whole: Place) -> Place {
     within
         .beginning(whole)
