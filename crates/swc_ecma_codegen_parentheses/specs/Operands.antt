@@ -129,4 +129,5 @@ stands_in (usages.Called place before_bracket at) c = c ≡ at
 stands_in (usages.CalledByNew place at) c = c ≡ at
 stands_in (usages.Link at) c = c ≡ at
 stands_in usages.Statement c = c ≡ restricted StatementStart of_script
+stands_in usages.Decorator c = c ≡ free of_script
 stands_in usage c = ⊤

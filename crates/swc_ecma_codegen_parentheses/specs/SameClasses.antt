@@ -20,19 +20,22 @@ use Rattle.swc_ecma_codegen_tree.specs.declared.classes.TsParamPropParam.TheVari
 use Rattle.swc_ecma_codegen_parentheses.specs.declared.mends.Usage.{Usage}
 use Rattle.swc_ecma_codegen_syntax.specs.declared.nonterminals.Nonterminal.TheVariants as nt
 use Rattle.swc_ecma_codegen_parentheses.specs.Lists.{Pairwise, bracketed, linked, optionally}
-use Rattle.swc_ecma_codegen_parentheses.specs.SameDecls.{same_param}
+use Rattle.swc_ecma_codegen_parentheses.specs.SameDecls.{same_decorators, same_param}
 use Rattle.swc_ecma_codegen_parentheses.specs.SamePats.{same_assign_pat}
 
 unfoldable pub same_class : {X : Type 0} → (Usage → X → X → Type 0) → Class X → Class X → Type 0
 same_class m n r =
-    (r ≡ record n { body = r.body; super_class = r.super_class }) × (Pairwise (linked m) n.body.items r.body.items × optionally (bracketed nt.LeftHandSideExpression m) n.super_class r.super_class)
+    (r ≡ record n { decorators = r.decorators; body = r.body; super_class = r.super_class }) × (same_decorators m n.decorators.items r.decorators.items ×
+    (Pairwise (linked m) n.body.items r.body.items × optionally (bracketed nt.LeftHandSideExpression m) n.super_class r.super_class))
 
 unfoldable pub same_ts_param_prop_param : {X : Type 0} → (Usage → X → X → Type 0) → TsParamPropParam X → TsParamPropParam X → Type 0
 same_ts_param_prop_param m (ts_param_prop_params.Assign n) (ts_param_prop_params.Assign r) = same_assign_pat m n r
 same_ts_param_prop_param m n r = n ≡ r
 
 unfoldable pub same_ts_param_prop : {X : Type 0} → (Usage → X → X → Type 0) → TsParamProp X → TsParamProp X → Type 0
-same_ts_param_prop m n r = (r ≡ record n { param = r.param }) × same_ts_param_prop_param m n.param r.param
+same_ts_param_prop m n r =
+    (r ≡ record n { decorators = r.decorators; param = r.param }) × (same_decorators m n.decorators.items r.decorators.items ×
+    same_ts_param_prop_param m n.param r.param)
 
 unfoldable pub same_param_or_ts_param_prop : {X : Type 0} → (Usage → X → X → Type 0) → ParamOrTsParamProp X → ParamOrTsParamProp X → Type 0
 same_param_or_ts_param_prop m (param_or_ts_param_props.Param n) (param_or_ts_param_props.Param r) = same_param m n r
@@ -51,10 +54,14 @@ unfoldable pub same_private_method : {X : Type 0} → (Usage → X → X → Typ
 same_private_method m n r = (r ≡ record n { function = r.function }) × linked m n.function r.function
 
 unfoldable pub same_class_prop : {X : Type 0} → (Usage → X → X → Type 0) → ClassProp X → ClassProp X → Type 0
-same_class_prop m n r = (r ≡ record n { key = r.key; value = r.value }) × (linked m n.key r.key × optionally (bracketed nt.AssignmentExpression m) n.value r.value)
+same_class_prop m n r =
+    (r ≡ record n { key = r.key; value = r.value; decorators = r.decorators }) × (same_decorators m n.decorators.items r.decorators.items ×
+    (linked m n.key r.key × optionally (bracketed nt.AssignmentExpression m) n.value r.value))
 
 unfoldable pub same_private_prop : {X : Type 0} → (Usage → X → X → Type 0) → PrivateProp X → PrivateProp X → Type 0
-same_private_prop m n r = (r ≡ record n { value = r.value }) × optionally (bracketed nt.AssignmentExpression m) n.value r.value
+same_private_prop m n r =
+    (r ≡ record n { value = r.value; decorators = r.decorators }) × (same_decorators m n.decorators.items r.decorators.items ×
+    optionally (bracketed nt.AssignmentExpression m) n.value r.value)
 
 unfoldable pub same_static_block : {X : Type 0} → (Usage → X → X → Type 0) → StaticBlock X → StaticBlock X → Type 0
 same_static_block m n r = (r ≡ record n { body = r.body }) × linked m n.body r.body
@@ -64,7 +71,9 @@ same_key m (keys.Public n) (keys.Public r) = linked m n r
 same_key m n r = n ≡ r
 
 unfoldable pub same_auto_accessor : {X : Type 0} → (Usage → X → X → Type 0) → AutoAccessor X → AutoAccessor X → Type 0
-same_auto_accessor m n r = (r ≡ record n { key = r.key; value = r.value }) × (same_key m n.key r.key × optionally (bracketed nt.AssignmentExpression m) n.value r.value)
+same_auto_accessor m n r =
+    (r ≡ record n { key = r.key; value = r.value; decorators = r.decorators }) × (same_decorators m n.decorators.items r.decorators.items ×
+    (same_key m n.key r.key × optionally (bracketed nt.AssignmentExpression m) n.value r.value))
 
 unfoldable pub same_class_member : {X : Type 0} → (Usage → X → X → Type 0) → ClassMember X → ClassMember X → Type 0
 same_class_member m (class_members.Constructor n) (class_members.Constructor r) = same_constructor m n r

@@ -1,8 +1,9 @@
 -- Declarations and functions that are the same but for what their links hold: that stands in the relation `m`.
-use Rattle.std.specs.Prelude.{◌≡◌}
+use Rattle.std.specs.Prelude.{◌≡◌, List}
 use Rattle.swc_ecma_codegen_tree.specs.declared.decls.ClassDecl.{ClassDecl}
 use Rattle.swc_ecma_codegen_tree.specs.declared.decls.Decl.{Decl}
 use Rattle.swc_ecma_codegen_tree.specs.declared.decls.Decl.TheVariants as decls
+use Rattle.swc_ecma_codegen_tree.specs.declared.decls.Decorator.{Decorator}
 use Rattle.swc_ecma_codegen_tree.specs.declared.decls.FnDecl.{FnDecl}
 use Rattle.swc_ecma_codegen_tree.specs.declared.decls.Function.{Function}
 use Rattle.swc_ecma_codegen_tree.specs.declared.decls.Param.{Param}
@@ -40,9 +41,17 @@ same_decl m (decls.Using n) (decls.Using r) = same_using_decl (λ u. m (within d
 same_decl m (decls.TsEnum n) (decls.TsEnum r) = same_ts_enum_decl m n.value r.value
 same_decl m n r = n ≡ r
 
+-- `@a`
+unfoldable pub same_decorator : {X : Type 0} → (Usage → X → X → Type 0) → Decorator X → Decorator X → Type 0
+same_decorator m n r = (r ≡ record n { expr = r.expr }) × linked_as usages.Decorator m n.expr r.expr
+
+abbrev pub same_decorators : {X : Type 0} → (Usage → X → X → Type 0) → List (Decorator X) → List (Decorator X) → Type 0
+same_decorators m n r = Pairwise (same_decorator m) n r
+
 unfoldable pub same_param : {X : Type 0} → (Usage → X → X → Type 0) → Param X → Param X → Type 0
-same_param m n r = (r ≡ record n { pat = r.pat }) × same_pat m n.pat r.pat
+same_param m n r = (r ≡ record n { decorators = r.decorators; pat = r.pat }) × (same_decorators m n.decorators.items r.decorators.items × same_pat m n.pat r.pat)
 
 unfoldable pub same_function : {X : Type 0} → (Usage → X → X → Type 0) → Function X → Function X → Type 0
 same_function m n r =
-    (r ≡ record n { params = r.params; body = r.body }) × (Pairwise (same_param m) n.params.items r.params.items × optionally (linked m) n.body r.body)
+    (r ≡ record n { decorators = r.decorators; params = r.params; body = r.body }) × (same_decorators m n.decorators.items r.decorators.items ×
+    (Pairwise (same_param m) n.params.items r.params.items × optionally (linked m) n.body r.body))

@@ -37,6 +37,7 @@ impl<N: Answers, M: Mends<N>> Mend<N, M> for Class<N> {
 
     #[tactic(auto, unfolding(crate::specs::SameClasses::same_class))]
     fn mend(&mut self, mender: &M, alloc: Global, place: Place) -> Result<(), Stop> {
+        self.decorators.mend(mender, alloc, place)?;
         self.body.mend(mender, alloc, place)?;
         let nonterminal = Nonterminal::LeftHandSideExpression;
         mend_optional(mender, alloc, &mut self.super_class, place, nonterminal)
@@ -60,6 +61,7 @@ impl<N: Answers, M: Mends<N>> Mend<N, M> for TsParamProp<N> {
 
     #[tactic(auto, unfolding(crate::specs::SameClasses::same_ts_param_prop))]
     fn mend(&mut self, mender: &M, alloc: Global, place: Place) -> Result<(), Stop> {
+        self.decorators.mend(mender, alloc, place)?;
         self.param.mend(mender, alloc, place)
     }
 }
@@ -110,6 +112,7 @@ impl<N: Answers, M: Mends<N>> Mend<N, M> for ClassProp<N> {
 
     #[tactic(auto, unfolding(crate::specs::SameClasses::same_class_prop))]
     fn mend(&mut self, mender: &M, alloc: Global, place: Place) -> Result<(), Stop> {
+        self.decorators.mend(mender, alloc, place)?;
         self.key.mend(mender, alloc, place)?;
         let nonterminal = Nonterminal::AssignmentExpression;
         mend_optional(mender, alloc, &mut self.value, place, nonterminal)
@@ -121,6 +124,7 @@ impl<N: Answers, M: Mends<N>> Mend<N, M> for PrivateProp<N> {
 
     #[tactic(auto, unfolding(crate::specs::SameClasses::same_private_prop))]
     fn mend(&mut self, mender: &M, alloc: Global, place: Place) -> Result<(), Stop> {
+        self.decorators.mend(mender, alloc, place)?;
         let nonterminal = Nonterminal::AssignmentExpression;
         mend_optional(mender, alloc, &mut self.value, place, nonterminal)
     }
@@ -152,6 +156,7 @@ impl<N: Answers, M: Mends<N>> Mend<N, M> for AutoAccessor<N> {
 
     #[tactic(auto, unfolding(crate::specs::SameClasses::same_auto_accessor))]
     fn mend(&mut self, mender: &M, alloc: Global, place: Place) -> Result<(), Stop> {
+        self.decorators.mend(mender, alloc, place)?;
         self.key.mend(mender, alloc, place)?;
         let nonterminal = Nonterminal::AssignmentExpression;
         mend_optional(mender, alloc, &mut self.value, place, nonterminal)

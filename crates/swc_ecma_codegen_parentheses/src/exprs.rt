@@ -113,7 +113,8 @@ pub(crate) fn wants_parentheses<N: Lends>(expr: &Expr<N>, place: Place) -> bool 
     let may_stand = takes(place.nonterminal, Nonterminal::PrimaryExpression)
         && takes(Nonterminal::Expression, part);
     let is_excluded = place.is_restricted && !begins_with_other(expr);
-    may_stand && (!takes(place.nonterminal, part) || clashes(expr, place) || is_excluded)
+    let is_unfit = place.has_other_shape || clashes(expr, place) || is_excluded;
+    may_stand && (!takes(place.nonterminal, part) || is_unfit)
 }
 
 impl<N: Answers, M: Mends<N>> Mend<N, M> for Expr<N> {

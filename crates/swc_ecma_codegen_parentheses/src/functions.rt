@@ -1,15 +1,17 @@
 //! Functions.
 
-ghost use Rattle.swc_ecma_codegen_parentheses.specs.SameDecls.{same_fn_decl, same_param, same_function};
+ghost use Rattle.swc_ecma_codegen_parentheses.specs.SameDecls.{same_decorator, same_fn_decl, same_param, same_function};
 ghost use Rattle.swc_ecma_codegen_parentheses.specs.SameExprs.{same_fn_expr, same_block_stmt_or_expr, same_arrow_expr};
 
 use crate::mends::{Mend, Mends, Stop, Usage};
-use crate::operands::Operand;
+use crate::operands::{Operand, is_decorator};
 use crate::places::Place;
 use std::alloc::Global;
 use swc_ecma_codegen_grammar::roles::Role;
 use swc_ecma_codegen_syntax::{Answers, Lookahead, Nonterminal};
-use swc_ecma_codegen_tree::{ArrowExpr, BlockStmtOrExpr, FnDecl, FnExpr, Function, Param};
+use swc_ecma_codegen_tree::{
+    ArrowExpr, BlockStmtOrExpr, Decorator, FnDecl, FnExpr, Function, Param,
+};
 
 impl<N: Answers, M: Mends<N>> Mend<N, M> for FnExpr<N> {
     ghost same = { same_fn_expr };
@@ -56,11 +58,22 @@ impl<N: Answers, M: Mends<N>> Mend<N, M> for FnDecl<N> {
     }
 }
 
+impl<N: Answers, M: Mends<N>> Mend<N, M> for Decorator<N> {
+    ghost same = { same_decorator };
+
+    #[tactic(auto, unfolding(crate::specs::SameDecls::same_decorator))]
+    fn mend(&mut self, mender: &M, alloc: Global, place: Place) -> Result<(), Stop> {
+        let within = place.behind_at(is_decorator(&self.expr));
+        mender.expr(alloc, &mut self.expr, within, Usage::Decorator)
+    }
+}
+
 impl<N: Answers, M: Mends<N>> Mend<N, M> for Param<N> {
     ghost same = { same_param };
 
     #[tactic(auto, unfolding(crate::specs::SameDecls::same_param))]
     fn mend(&mut self, mender: &M, alloc: Global, place: Place) -> Result<(), Stop> {
+        self.decorators.mend(mender, alloc, place)?;
         self.pat.mend(mender, alloc, place)
     }
 }
@@ -70,6 +83,7 @@ impl<N: Answers, M: Mends<N>> Mend<N, M> for Function<N> {
 
     #[tactic(auto, unfolding(crate::specs::SameDecls::same_function))]
     fn mend(&mut self, mender: &M, alloc: Global, place: Place) -> Result<(), Stop> {
+        self.decorators.mend(mender, alloc, place)?;
         self.params.mend(mender, alloc, place)?;
         self.body.mend(mender, alloc, place)
     }

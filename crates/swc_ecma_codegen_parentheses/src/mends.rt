@@ -38,6 +38,9 @@ pub(crate) enum Usage {
     Target,
     /// The head of a loop assigns to it, and may not begin so, as `a` in `for (a of b) {}`.
     Head(Lookahead),
+    /// It is a decorator: names with dots between, a call of such, or any expression in
+    /// parentheses, as `(a + b)` in `@(a + b) class C {}`.
+    Decorator,
     /// It is an operand of the node that has the link.
     Operand(Operand),
     /// The same, where this nonterminal stands in this context.

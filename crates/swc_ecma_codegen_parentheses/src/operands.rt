@@ -7,7 +7,9 @@ ghost use Rattle.swc_ecma_codegen_parentheses.specs.Needed.{behind, derives, mee
 ghost use Rattle.swc_ecma_codegen_parentheses.specs.Operands.{before_bracket, declared, declared_in_head, free, in_brackets, in_for_head, object_nonterminal, operand_chain, operand_context, operand_lookahead, operand_nonterminal, operand_parameters, restricted, stands_in, under, used, within};
 ghost use Rattle.swc_ecma_codegen_syntax.specs.Parameters.{of_for, of_script};
 ghost use Rattle.swc_ecma_codegen_syntax.specs.Nonterminals.{takes};
-ghost use Rattle.swc_ecma_codegen_syntax.specs.Summary.{begins_in};
+ghost use Rattle.swc_ecma_codegen_syntax.specs.Shapes.{fits};
+ghost use Rattle.swc_ecma_codegen_syntax.specs.Summary.{begins_in, shape_in};
+ghost use Rattle.swc_ecma_codegen_syntax.specs.declared.verdicts.Shape.TheVariants.{Decorator as DecoratorShape};
 ghost use Rattle.swc_ecma_codegen_syntax.specs.declared.lookahead.Lookahead.TheVariants.{StatementStart};
 ghost use Rattle.swc_ecma_codegen_syntax.specs.declared.nonterminals.Nonterminal.TheVariants.{CallOrMember, ChainBase, OptionalExpression};
 
@@ -17,7 +19,7 @@ use crate::mends::Usage;
 use crate::places::Place;
 use swc_ecma_codegen_common::BinaryOp;
 use swc_ecma_codegen_grammar::roles::Role;
-use swc_ecma_codegen_syntax::{Answers, Beginning, Lookahead, Nonterminal, Parameters};
+use swc_ecma_codegen_syntax::{Answers, Beginning, Lookahead, Nonterminal, Parameters, Shape};
 use swc_ecma_codegen_tree::ExprBox;
 
 /// What a place gives the expression that stands there.
@@ -310,6 +312,7 @@ impl Usage {
             | Usage::CalledByNew(_, context)
             | Usage::Link(context) => context,
             Usage::Statement => Context::of_statement(),
+            Usage::Decorator => Context::declared(),
             _ => Context {
                 parameters: place.parameters(),
                 lookahead: place.lookahead,
@@ -319,8 +322,8 @@ impl Usage {
     }
 
     /// Whether parentheses can't be left out round what a link holds that is used so: as a
-    /// statement or an operand it would lack them.
-    #[tactic(auto, unfolding(crate::specs::Needed::needs))]
+    /// statement, an operand or a decorator it would lack them.
+    #[tactic(auto, using(crate::proofs::Needed::not_true), unfolding(crate::specs::Needed::needs))]
     pub(crate) fn needs_parentheses<N: Lends>(self, link: &ExprBox<N>) -> bool
         ensures { result ≡ true → needs N.answers self link.now.node.value }
     {
@@ -338,9 +341,17 @@ impl Usage {
                 context.parameters,
             ),
             Usage::Statement => are_needed(link, Nonterminal::Expression, Context::of_statement()),
+            Usage::Decorator => !is_decorator(link),
             _ => true,
         }
     }
+}
+
+/// Whether what a link holds may stand behind `@` as it is.
+pub(crate) fn is_decorator<N: Answers>(link: &ExprBox<N>) -> bool
+    ensures { result ≡ fits DecoratorShape (shape_in N.answers link.now.node.value) }
+{
+    Shape::Decorator.fits(link.target().shape())
 }
 
 /// Whether parentheses can't be left out round what a link holds, where this nonterminal stands in

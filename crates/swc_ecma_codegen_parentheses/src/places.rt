@@ -24,6 +24,8 @@ pub(crate) struct Place {
     pub(crate) is_called: bool,
     /// `new` calls it with `()`. Both `()` of `new new A()()` go where it is minified.
     pub(crate) is_called_by_empty_new: bool,
+    /// What stands there isn't of the shape that is asked for, as `a + b` of `@(a + b) class C {}`.
+    pub(crate) has_other_shape: bool,
     /// The emission may be one that minifies.
     pub(crate) may_minify: bool,
     /// It is one for sure.
@@ -43,6 +45,7 @@ impl Place {
             is_restricted: false,
             is_called: false,
             is_called_by_empty_new: false,
+            has_other_shape: false,
             may_minify: true,
             must_minify: false,
         }
@@ -60,6 +63,7 @@ impl Place {
             is_restricted: false,
             is_called: false,
             is_called_by_empty_new: false,
+            has_other_shape: false,
             may_minify: parameters.minify,
             must_minify: parameters.minify,
         }
@@ -82,6 +86,7 @@ impl Place {
             is_restricted: false,
             is_called: false,
             is_called_by_empty_new: false,
+            has_other_shape: false,
             ..self
         }
     }
@@ -185,6 +190,14 @@ impl Place {
         Place {
             has_in: false,
             ..self.bracketed(Nonterminal::Expression)
+        }
+    }
+
+    /// That of a decorator, by whether it is of the shape that stands behind `@`.
+    pub(crate) fn behind_at(self, is_of_shape: bool) -> Place {
+        Place {
+            has_other_shape: !is_of_shape,
+            ..self.bracketed(Nonterminal::LeftHandSideExpression)
         }
     }
 

@@ -105,9 +105,8 @@ fn mend_whole_expr(
 /// `MAX_DEPTH` levels, which it gives back.
 ///
 /// A tree with TypeScript gets them too, as `(a as T).b` does, by the levels of docs/LEVELS.md. No
-/// grammar of it is cited, so of such a tree, and of one with decorators, the clauses say no more
-/// than that it is the same but for parentheses and blocks. Types, decorators and the bodies of
-/// namespaces are not gone into.
+/// grammar of it is cited, so of such a tree the clauses say no more than that it is the same but
+/// for parentheses and blocks. Types and the bodies of namespaces are not gone into.
 #[tactic(auto, using(crate::proofs::Verdicts::kept), unfolding(crate::specs::Roots::IfLeft, crate::specs::Roots::IfTooDeep))]
 pub fn parenthesize(alloc: Global, program: Program) -> Result<Program, Unmended<Program>>
     ensures parenthesized { IfOk result (λ r. (program_verdict r).parenthesized ≡ true) }
