@@ -1,0 +1,5 @@
+mod Digits
+mod Encoding
+mod Fields
+mod Goes
+mod Parts
