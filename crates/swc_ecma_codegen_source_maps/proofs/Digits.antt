@@ -1,12 +1,12 @@
 -- What the digits of a number say.
-use Rattle.std.proofs.Common.{◌≡◌, ◌∙◌, ℕ, ◌+◌, ◌-◌, ◌*◌, ◌/◌, ◌%◌, ◌<◌, ◌≤◌, Bool, true, false, eqb, ltb, cond, List, [], ◌∷◌, ◌++◌, Some, None, refl, sym, ap, subst, arith, append_assoc, append-nil, lt-ltb, ne_eqb}
+use Rattle.std.proofs.Common.{◌≡◌, ◌∙◌, ℕ, ◌+◌, ◌-◌, ◌*◌, ◌/◌, ◌%◌, ◌<◌, false, eqb, ltb, cond, List, [], ◌∷◌, ◌++◌, Some, sym, ap, subst, arith, append_assoc, append-nil, lt-ltb, ne_eqb}
 use Rattle.std.specs.Option.{option_and_then}
 use Rattle.std.specs.Result.{is_ok, OnOk}
 use Rattle.std.specs.Prelude.{Result, Ok, Err}
 use Rattle.std.proofs.lemmas.Bool.Decides.{nat_tests}
 use Rattle.std.proofs.lemmas.Option.{none-some}
 use Rattle.swc_ecma_codegen_source_maps.specs.Mappings.{digit_value, lowest_bits, numbers, with_digit}
-use Rattle.swc_ecma_codegen_source_maps.specs.Pieces.{Grows, IsUnmarked, SaysNumber}
+use Rattle.swc_ecma_codegen_source_maps.specs.Pieces.{Grows, SaysNumber}
 
 -- a digit is neither `,` nor `;`
 pub digit_unmarked : (c d : ℕ) → digit_value c ≡ Some d → (eqb c 44 ≡ false) × (eqb c 59 ≡ false)

@@ -1,15 +1,14 @@
 -- What the fields of a segment say.
-use Rattle.std.proofs.Common.{◌≡◌, ◌∙◌, ℕ, ◌+◌, ◌-◌, ◌*◌, ◌/◌, ◌%◌, ◌<◌, ◌≤◌, Bool, true, false, ◌&&◌, eqb, ltb, leb, cond, List, [], ◌∷◌, ◌++◌, Option, Some, None, refl, sym, ap, arith, inl, inr, append_assoc, append-nil, le-leb}
+use Rattle.std.proofs.Common.{◌≡◌, ◌∙◌, ℕ, ◌+◌, ◌-◌, ◌*◌, ◌<◌, ◌≤◌, true, false, ltb, leb, cond, List, [], ◌∷◌, ◌++◌, Option, Some, None, refl, sym, ap, arith, inl, inr, append_assoc, append-nil, le-leb}
 use Rattle.std.specs.Option.{option_and_then, option_map, IfSome}
 use Rattle.std.specs.List.{list_all}
 use Rattle.std.proofs.lemmas.Bool.{and_parts, cases_lt, ltb-true}
 use Rattle.std.proofs.lemmas.Bool.Decides.{nat_tests}
 use Rattle.std.proofs.lemmas.Option.{option_and_then_some}
-use Rattle.swc_ecma_codegen_common.specs.declared.positions.LineCol.{LineCol}
 use Rattle.swc_ecma_codegen_source_maps.specs.declared.mappings.Mapping.{Mapping}
 use Rattle.swc_ecma_codegen_source_maps.specs.declared.mappings.Original.{Original}
 use Rattle.swc_ecma_codegen_source_maps.specs.Encodable.{fields, is_small, name_fields, original_fields}
-use Rattle.swc_ecma_codegen_source_maps.specs.Mappings.{fields_in, mapping_of, moved, moved_all, numbers}
+use Rattle.swc_ecma_codegen_source_maps.specs.Mappings.{mapping_of, moved, moved_all, numbers}
 use Rattle.swc_ecma_codegen_source_maps.specs.Pieces.{distance, Grows, IsMappingSmall, IsOriginalSmall, IsUnmarked, SaysFields, SaysNumber}
 
 forward : (from to : ℕ) → from ≤ to → to < 2147483648 → moved (2 * (to - from)) from ≡ Some to

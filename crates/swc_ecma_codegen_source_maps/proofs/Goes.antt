@@ -1,13 +1,13 @@
 -- How a text of mappings goes on.
-use Rattle.std.proofs.Common.{◌≡◌, ◌∙◌, ℕ, ◌+◌, ◌<◌, ◌≤◌, Bool, true, false, eqb, List, [], ◌∷◌, ◌++◌, length, drop, get_or, Option, Some, refl, sym, ap, subst, arith, append_assoc, append-nil}
+use Rattle.std.proofs.Common.{◌≡◌, ◌∙◌, ℕ, ◌+◌, ◌<◌, ◌≤◌, Bool, true, false, List, [], ◌∷◌, ◌++◌, length, drop, get_or, Option, Some, refl, sym, ap, subst, arith, append_assoc, append-nil}
 use Rattle.std.proofs.Math.ListN.{drop_of_length-le}
 use Rattle.std.proofs.lemmas.List.{drop_more}
 use Rattle.std.specs.Option.{option_and_then, option_map}
 use Rattle.swc_ecma_codegen_source_maps.specs.declared.mappings.Mapping.{Mapping}
 use Rattle.swc_ecma_codegen_source_maps.specs.declared.mappings.Reached.{Reached}
 use Rattle.swc_ecma_codegen_source_maps.specs.Encodable.{fields}
-use Rattle.swc_ecma_codegen_source_maps.specs.Mappings.{Item, decoded, fields_in, items, line_end, mapping_of, mappings_from, segment}
-use Rattle.swc_ecma_codegen_source_maps.specs.Pieces.{FollowsSegment, GoesOn, GoesOnIn, Grows, IsUnmarked, Leads, SaysFields, SaysMapping, comma, fields_before}
+use Rattle.swc_ecma_codegen_source_maps.specs.Mappings.{Item, decoded, items, line_end, mapping_of, mappings_from}
+use Rattle.swc_ecma_codegen_source_maps.specs.Pieces.{FollowsSegment, GoesOn, GoesOnIn, Grows, Leads, SaysFields, SaysMapping, comma, fields_before}
 use Rattle.swc_ecma_codegen_source_maps.proofs.Fields.{mapping_of_fields}
 use Rattle.swc_ecma_codegen_source_maps.proofs.Parts.{segment_alone, segment_then_comma, segment_then_line}
 

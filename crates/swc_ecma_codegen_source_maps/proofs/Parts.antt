@@ -1,7 +1,7 @@
 -- The parts of a text between marks, and the items that they are.
-use Rattle.std.proofs.Common.{◌≡◌, ◌∙◌, ℕ, Bool, true, false, eqb, cond, List, [], ◌∷◌, ◌++◌, map, refl, sym, ap, eq-eqb}
+use Rattle.std.proofs.Common.{◌≡◌, ◌∙◌, ℕ, Bool, false, eqb, cond, List, [], ◌∷◌, ◌++◌, map, refl, sym, ap, eq-eqb}
 use Rattle.std.specs.List.{flat_map}
-use Rattle.swc_ecma_codegen_source_maps.specs.Mappings.{Item, begun_by, items, line_end, line_items, parts, segment}
+use Rattle.swc_ecma_codegen_source_maps.specs.Mappings.{begun_by, items, line_end, line_items, parts, segment}
 use Rattle.swc_ecma_codegen_source_maps.specs.Pieces.{IsUnmarked}
 
 -- a mark isn't among these

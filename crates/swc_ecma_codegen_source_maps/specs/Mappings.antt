@@ -2,9 +2,7 @@
 use Rattle.std.specs.Prelude.{ℕ, ◌+◌, ◌-◌, ◌*◌, ◌/◌, ◌%◌, ◌&&◌, ◌==◌, nat_lt, nat_le, if◌then◌else◌, List, [], ◌∷◌, ◌++◌, length, drop, map, Option, Some, None}
 use Rattle.std.specs.List.{flat_map}
 use Rattle.std.specs.Option.{option_and_then, option_map}
-use Rattle.swc_ecma_codegen_common.specs.declared.positions.LineCol.{LineCol}
 use Rattle.swc_ecma_codegen_source_maps.specs.declared.mappings.Mapping.{Mapping}
-use Rattle.swc_ecma_codegen_source_maps.specs.declared.mappings.Original.{Original}
 
 -- ---- digits and numbers
 

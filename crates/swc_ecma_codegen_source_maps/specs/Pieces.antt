@@ -1,10 +1,10 @@
 -- What a piece of a text of mappings says, whatever follows.
-use Rattle.std.specs.Prelude.{◌≡◌, ℕ, ◌+◌, ◌-◌, ◌*◌, ◌<◌, ◌==◌, nat_le, Bool, true, false, if◌then◌else◌, List, [], ◌∷◌, ◌++◌, length, drop, Option, Some, None}
+use Rattle.std.specs.Prelude.{◌≡◌, ℕ, ◌+◌, ◌-◌, ◌*◌, ◌<◌, ◌==◌, nat_le, Bool, true, false, if◌then◌else◌, List, [], ◌∷◌, ◌++◌, Some}
 use Rattle.std.specs.Option.{IfSome}
 use Rattle.swc_ecma_codegen_source_maps.specs.declared.mappings.Mapping.{Mapping}
 use Rattle.swc_ecma_codegen_source_maps.specs.declared.mappings.Original.{Original}
 use Rattle.swc_ecma_codegen_source_maps.specs.declared.mappings.Reached.{Reached}
-use Rattle.swc_ecma_codegen_source_maps.specs.Mappings.{Item, decoded, fields_in, items, mappings_from, numbers, segment}
+use Rattle.swc_ecma_codegen_source_maps.specs.Mappings.{Item, fields_in, items, mappings_from, numbers, segment}
 
 -- a text grew by a piece, of which this holds
 abbrev pub Grows : (List ℕ → Type 0) → List ℕ → List ℕ → Type 0
