@@ -12,7 +12,8 @@ use crate::numbers::{distance, push_number};
 use std::alloc::{AllocError, Global};
 use swc_ecma_codegen_common::LineCol;
 
-/// Where something stands in a text, and where it came from. Lines and columns are counted from 0, columns in UTF-16 units.
+/// Where something stands in a text, and where it came from. Lines and columns are counted from 0,
+/// columns in UTF-16 units.
 #[derive(Debug, Clone, Copy, PartialEq, Eq)]
 pub struct Mapping {
     pub generated: LineCol,
@@ -43,7 +44,8 @@ struct Reached {
     name: u32,
 }
 
-/// Whether each line is the last one's or a later one, and each number is below 2^31: then `encode_mappings` writes them.
+/// Whether each line is the last one's or a later one, and each number is below 2^31: then
+/// `encode_mappings` writes them.
 pub fn is_encodable(mappings: &[Mapping]) -> bool
     ensures { result ≡ encodable.is_encodable mappings.now }
 {
@@ -97,7 +99,8 @@ fn is_small(number: u32) -> bool
     number < 2147483648
 }
 
-/// The text of mappings: the field `mappings` of a source map, version 3. `AAAA,CACC;AACA` are three. It decodes as exactly these.
+/// The text of mappings: the field `mappings` of a source map, version 3. `AAAA,CACC;AACA` are
+/// three. It decodes as exactly these.
 pub fn encode_mappings(alloc: Global, mappings: &[Mapping]) -> Result<String, AllocError>
     requires { encodable.is_encodable mappings.now ≡ true }
     ensures { IfOk result (λ text. decoded (string_bytes text) ≡ Some mappings.now) }
@@ -110,7 +113,8 @@ pub fn encode_mappings(alloc: Global, mappings: &[Mapping]) -> Result<String, Al
     Ok(text)
 }
 
-/// Writes a mapping behind others: the ends of lines before it, a `,` if its line has begun, and its segment.
+/// Writes a mapping behind others: the ends of lines before it, a `,` if its line has begun, and
+/// its segment.
 fn push_mapping(
     text: &mut String,
     reached: Reached,

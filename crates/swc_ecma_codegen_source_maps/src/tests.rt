@@ -42,7 +42,8 @@ fn no_mappings_are_no_text(rt: HostRuntime) -> Result<(), AllocError> {
     Ok(())
 }
 
-/// Two sources, two names, an empty line, steps back, and a place that came from none. The text is that of the library source-map.
+/// Two sources, two names, an empty line, steps back, and a place that came from none. The text is
+/// that of the library source-map.
 #[test]
 fn mappings_are_written_as_source_map_does(rt: HostRuntime) -> Result<(), AllocError> {
     let mappings = [
@@ -69,7 +70,8 @@ fn mappings_are_written_as_source_map_does(rt: HostRuntime) -> Result<(), AllocE
     Ok(())
 }
 
-/// The largest numbers, and steps back from them, as source-map writes them; larger ones are refused, and lines that fall.
+/// The largest numbers, and steps back from them, as source-map writes them; larger ones are
+/// refused, and lines that fall.
 #[test]
 fn numbers_are_below_two_to_the_31(rt: HostRuntime) -> Result<(), AllocError> {
     let alloc = rt.alloc();
