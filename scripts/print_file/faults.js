@@ -55,12 +55,9 @@ const withHint = (message, hint) => (hint === null ? message : `${message}\nhint
 // The same error as a fault, in words.
 function unparsed(error, text, options) {
   const fault = located(error, options.path);
-  if (fault instanceof Fault && error.loc) {
-    const hint = error instanceof SyntaxError ? hintFor(text, options, error.loc) : null;
-    return new Fault(withHint(`${fault.message}\n${frameOf(text, error.loc)}`, hint));
-  }
-  const isOfBabel = !(fault instanceof Fault) && /@babel\/parser/.test(error.stack);
-  return isOfBabel ? new Fault(`${titleOf(options.path)}: Babel's parser fails: ${error.message}`) : fault;
+  if (!(fault instanceof Fault) || !error.loc) return fault;
+  const hint = error instanceof SyntaxError ? hintFor(text, options, error.loc) : null;
+  return new Fault(withHint(`${fault.message}\n${frameOf(text, error.loc)}`, hint));
 }
 
 const HINTS = {

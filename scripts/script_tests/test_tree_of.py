@@ -131,6 +131,15 @@ class Kinds(unittest.TestCase):
                 file.write(b"a;\n'\xff'")
             self.assertEqual(run("tree-of", path).stderr, f"{path}:2: byte 5 is not UTF-8\n")
 
+    def test_what_no_tree_has_is_a_line(self):
+        for words, text, told in (
+            ((), "for (using x = y;;) ;", "standard input:1:6: VariableDeclaration is not printed here: `using` has no place\n"),
+            (("--ts",), "class A { constructor?() {} }", "standard input:1:11: ClassMethod can't be printed with its `optional` here\n"),
+            (("--ts",), "new <any>Foo;", "standard input: Babel's parser fails: Cannot read properties of undefined (reading 'type')\n"),
+        ):
+            ran = run("tree-of", *words, "-", given=text)
+            self.assertEqual((ran.returncode, ran.stdout, ran.stderr), (1, "", told))
+
 
 if __name__ == "__main__":
     unittest.main()

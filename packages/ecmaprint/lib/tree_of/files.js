@@ -65,6 +65,7 @@ function located(error, path) {
   }
   if (error instanceof NoTree) return new Fault(`${titleOf(path)}: ${error.message}`);
   if (error instanceof RangeError && /call stack/.test(error.message)) return new Fault(`${titleOf(path)}: it nests too deep for the stack here (ulimit -s)`);
+  if (/@babel\/parser/.test(error.stack)) return new Fault(`${titleOf(path)}: Babel's parser fails: ${error.message}`);
   return error;
 }
 
