@@ -7,12 +7,15 @@ const { edited, startsOf } = require('./edits.js');
 
 const LINE_END = /\r\n|[\n\r\u2028\u2029]/;
 const BLANK = /[ \t\r\n]/;
-const UNIT = '    '; // of the program's indentation
+const BLANKS = 4; // of a level, unless others are asked for
 const CLOSERS = ['}', ']', ')'];
 // behind these a line end means nothing
 const OPENERS = ['{', '(', '[', ',', ';', ':'];
 
 const spelled = ({ kind, text }) => (kind === 'Line' ? `//${text}` : `/*${text}*/`);
+
+// What a level of indentation is in a text with these settings, and what ends its lines.
+const layoutOf = ({ indent = BLANKS, new_line: lineEnd = '\n' }) => ({ unit: typeof indent === 'number' ? ' '.repeat(indent) : indent, lineEnd });
 
 // The blanks that a line begins with.
 const blanksAt = (text, start) => /^[ \t]*/.exec(text.slice(start, start + 1000))[0];
@@ -116,8 +119,8 @@ function reindented({ comment, blanks }, indentation) {
 }
 
 class Layout {
-  constructor(text, isMoved) {
-    Object.assign(this, { text, isMoved });
+  constructor(text, isMoved, { unit, lineEnd }) {
+    Object.assign(this, { text, isMoved, unit, lineEnd });
   }
 
   // The blanks of the line in which a place of the text stands.
@@ -133,7 +136,7 @@ class Layout {
     const hasLineEnd = start === 0 || LINE_END.test(text.slice(start, end)) || comments.some(({ comment }) => comment.kind === 'Line');
     const following = next === '' ? '' : this.indentationAt(beginsLine ? end : isInner || !LINE_END.test(head) ? start : comments[0].start);
     const isDeeper = isInner || (!beginsLine && !LINE_END.test(head) && ['{', '[', '('].includes(previous));
-    return { previous, next, head, beginsLine, isInner, hasLineEnd, following, own: isDeeper ? following + UNIT : following };
+    return { previous, next, head, beginsLine, isInner, hasLineEnd, following, own: isDeeper ? following + this.unit : following };
   }
 
   // Whether the first comment of a gap stands in the line of the token before it, as in its source.
@@ -151,14 +154,14 @@ class Layout {
     comments.forEach((each, index) => {
       const staysInLine = index === 0 ? isBehind : !isEnded && each.isBehind;
       if (index === 0 && staysInLine) text = LINE_END.test(gap.head) || (gap.head === '' && gap.previous !== '(') ? ' ' : gap.head;
-      else if (index > 0 || start > 0) text += staysInLine ? ' ' : `\n${gap.own}`;
+      else if (index > 0 || start > 0) text += staysInLine ? ' ' : `${this.lineEnd}${gap.own}`;
       places.push([each.comment, text.length]);
       text += reindented(each, index === 0 && staysInLine ? this.indentationAt(start) : gap.own);
       isEnded = each.comment.kind === 'Line' || each.endsLine;
     });
-    if (gap.next === '') return { text: `${text}\n`, places };
+    if (gap.next === '') return { text: `${text}${this.lineEnd}`, places };
     const staysInLine = !isEnded && (gap.isInner ? isBehind : !gap.beginsLine);
-    return { text: text + (staysInLine ? ' ' : `\n${gap.following}`), places };
+    return { text: text + (staysInLine ? ' ' : `${this.lineEnd}${gap.following}`), places };
   }
 
   edits(gaps) {
@@ -170,9 +173,9 @@ class Layout {
 }
 
 // A text and its positions with the lines that its comments have in their source, those that were left among them.
-function withLines(page, { comments, left, isMoved }, source) {
+function withLines(page, { comments, left, isMoved }, source, layout) {
   const places = new Places(page, comments, source);
-  const edits = new Layout(page.text, isMoved).edits(gapsOf(page.text, places.printed(comments), places.left(left)));
+  const edits = new Layout(page.text, isMoved, layout).edits(gapsOf(page.text, places.printed(comments), places.left(left)));
   return edited(page, edits.map(({ places: placed, ...edit }) => ({ ...edit, marks: placed.flatMap(([{ kind, span, text }, at]) => (
     kind === 'Line' ? [[span.lo, at], [span.hi, at + text.length + 2]] : [[span.lo, at]])) })));
 }
@@ -183,4 +186,4 @@ function withPlaces(page, { comments, left }, source) {
   return left.filter((comment) => places.tokenFor(comment) !== undefined);
 }
 
-module.exports = { withLines, withPlaces };
+module.exports = { layoutOf, withLines, withPlaces };

@@ -19,6 +19,13 @@ function filtered(comments, passes) {
 // All comments of both maps, in order of the source.
 const listed = (comments) => SIDES.flatMap((side) => Object.values(comments[side]).flat()).sort((one, other) => one.span.lo - other.span.lo);
 
+// Both maps, with the lines of comments ended as those of the text.
+function withLineEnds(comments, { endOfLine }) {
+  if (endOfLine !== 'crlf') return comments;
+  listed(comments).forEach((comment) => Object.assign(comment, { text: comment.text.replace(/\r?\n/g, '\r\n') }));
+  return comments;
+}
+
 // The comments that a run asks for. A file's map has another name then, so a comment that names it goes.
 function wanted(comments, { comments: which, map }) {
   if (which === 'none') return null;
@@ -129,4 +136,4 @@ function warningsOf(left, source) {
   });
 }
 
-module.exports = { Moves, listed, unsafeMinified, wanted, warningsOf };
+module.exports = { Moves, listed, unsafeMinified, wanted, warningsOf, withLineEnds };

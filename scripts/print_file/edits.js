@@ -24,8 +24,10 @@ function edited({ text, positions }, edits) {
   const whole = [...parts, text.slice(at)].join(''), starts = startsOf(text), freshStarts = startsOf(whole);
   const placeOf = (position, line, column) => {
     if (marked.has(position)) return marked.get(position);
-    const passed = countUpTo(ends, starts[line] + column);
-    return starts[line] + column + (passed === 0 ? 0 : moves[passed - 1]);
+    const place = starts[line] + column, passed = countUpTo(ends, place), edit = edits[passed];
+    // (the end of a comment whose lines are shorter now stays behind it)
+    const most = edit && edit.start <= place ? edit.start + edit.text.trimEnd().length : place;
+    return Math.min(place, most) + (passed === 0 ? 0 : moves[passed - 1]);
   };
   return {
     text: whole,

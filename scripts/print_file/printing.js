@@ -1,16 +1,16 @@
 'use strict';
 // The printing of a file: what its text is, or why it has none.
 const { byName, flat, textOf, titleOf, treeOf } = require('./trees.js');
-const { Moves, listed, unsafeMinified, wanted, warningsOf } = require('./comments.js');
-const { withLines, withPlaces } = require('./comment_lines.js');
-const { withIndentation } = require('./indentation.js');
+const { Moves, listed, unsafeMinified, wanted, warningsOf, withLineEnds } = require('./comments.js');
+const { layoutOf, withLines, withPlaces } = require('./comment_lines.js');
 const { unparsed, unprinted } = require('./faults.js');
 const { withMap } = require('./maps.js');
 
 function parsedFile(options) {
   const text = textOf(options.path);
   try {
-    return treeOf(text, { ...options, flat: true });
+    const file = treeOf(text, { ...options, flat: true });
+    return { ...file, comments: withLineEnds(file.comments, options) };
   } catch (error) {
     throw unparsed(error, text, options);
   }
@@ -32,16 +32,14 @@ async function answered(file, options, printer) {
     next = moves.next(comments, others);
     if (next !== null) continue;
     const told = { comments: listed(file.comments), left: put, isMoved };
-    return { ...(hasLines ? withLines(page, told, source) : page), warnings: warningsOf(others, source) };
+    return { ...(hasLines ? withLines(page, told, source, layoutOf(config)) : page), warnings: warningsOf(others, source) };
   }
 }
 
 // The texts that a file's printing makes, each with the file that it goes to (none for standard output), and what is told on standard error.
 async function printed({ path, target }, run, printer) {
   const options = { ...run, path, target, ...byName(path), ...run.ofFile };
-  const file = parsedFile(options), { warnings, ...page } = await answered(file, options, printer);
-  const isUsual = options.indent === undefined && options.endOfLine !== 'crlf';
-  const { text, positions } = isUsual ? page : withIndentation(page, options, options);
+  const file = parsedFile(options), { warnings, text, positions } = await answered(file, options, printer);
   const own = file.warnings.filter((warning) => !(options.any && /--any/.test(warning)));
   const told = [...own, ...warnings].map((warning) => `${titleOf(path)}:${warning}`);
   if (options.positions) told.push(...positions.map((each) => each.join(' ')));

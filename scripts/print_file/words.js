@@ -153,7 +153,7 @@ const OF_FILE = {
 // The settings of a request, by the options that ask for them.
 const CONFIG = {
   minify: 'minify', omitLastSemi: 'omit_last_semi', asciiOnly: 'ascii_only', assert: 'emit_assert_for_import_attributes',
-  inlineScript: 'inline_script', target: 'target', maxLine: 'max_line',
+  inlineScript: 'inline_script', target: 'target', maxLine: 'max_line', indent: 'indent',
 };
 
 // The options of a run, with the config of its requests.
@@ -170,6 +170,7 @@ function asked(words) {
   const ofFile = Object.assign({}, ...Object.keys(OF_FILE).filter((name) => given[name]).map((name) => OF_FILE[name]));
   const config = {};
   for (const name in CONFIG) if (given[name] !== undefined) config[CONFIG[name]] = given[name];
+  if (given.endOfLine === 'crlf') config.new_line = '\r\n';
   const comments = given.comments || (given.write || given.check ? 'all' : 'none');
   return { ...given, files, ofFile, config, comments };
 }
