@@ -41,6 +41,10 @@ export interface PrintOptions {
   /** How many columns a line has at most, where the grammar lets it end. */
   maxLine?: number;
   omitLastSemi?: boolean;
+  /** What a level of indentation is: a number of blanks from 0 to 10, or as many blanks or tabs; four blanks unless it is given. */
+  indent?: number | string;
+  /** What ends a line (`lf` unless it is given). Templates and text of JSX keep their own line ends. */
+  endOfLine?: 'lf' | 'crlf';
   /** No `</script` in strings. */
   inlineScript?: boolean;
   /** `assert` before the attributes of imports; as the AST says unless this is given. */

@@ -11,8 +11,9 @@ const lineOf = (node, end) => (node && node.loc && node.loc[end] ? node.loc[end]
 
 // The comments that were put somewhere, each with the statements round it.
 class Comments {
-  constructor(source, wants) {
-    Object.assign(this, { source, wants, records: [], seen: new Set() });
+  // `hasCrLf` says that CR LF ends the lines of the text, and of its comments.
+  constructor(source, { wants, hasCrLf }) {
+    Object.assign(this, { source, wants, hasCrLf, records: [], seen: new Set() });
   }
 
   put(side, at, comment, entry) {
@@ -22,7 +23,8 @@ class Comments {
     if (!this.wants(comment.value)) return;
     const kind = isLine(comment) && !LINE_END.test(comment.value) ? 'Line' : 'Block';
     if (kind === 'Block' && comment.value.includes('*/')) throw new NoTree('a comment holds `*/`, which ends it', entry.node);
-    this.records.push({ side, at, kind, text: wellFormed(comment.value), round: entry.round, statement: entry.statement, node: entry.node });
+    const value = this.hasCrLf ? comment.value.replace(/\r?\n/g, '\r\n') : comment.value;
+    this.records.push({ side, at, kind, text: wellFormed(value), round: entry.round, statement: entry.statement, node: entry.node });
   }
 
   // As a request has them: in JSON, by their positions.
@@ -199,8 +201,8 @@ function markComments(commented, source) {
 }
 
 // The comments of a program that are wanted (by a function of their texts). They hang on the nodes that check.js found, or as `hung` says.
-function commentsOf(commented, source, { wants, hung }) {
-  const placed = new Comments(source, wants), leads = new Map(), entries = commented.map((each) => entryOf(each, source, hung));
+function commentsOf(commented, source, { hung, ...options }) {
+  const placed = new Comments(source, options), leads = new Map(), entries = commented.map((each) => entryOf(each, source, hung));
   for (const { node, comments } of entries) for (const each of comments.leadingComments || []) leads.set(each, node);
   for (const entry of entries) putThose(entry, placed, leads);
   return placed;

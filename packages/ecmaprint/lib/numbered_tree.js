@@ -126,7 +126,7 @@ function readable(ast, code) {
 
 // Writes the tree of an AST behind the beginning of a text, with its comments where they are wanted (by a function of their texts), and
 // positions everywhere or where they are needed.
-function built(ast, { begin = '', wants = null, everywhere = null, isMinified = false, isShort = true, code, keepsFunctionParentheses }) {
+function built(ast, { begin = '', wants = null, everywhere = null, isMinified = false, isShort = true, code, keepsFunctionParentheses, hasCrLf = false }) {
   const { program, hung, commented, cases, levels } = readable(ast, code), source = new NumberedTree({ everywhere, isShort, keepsFunctionParentheses });
   const hasComments = wants !== null && commented.length > 0;
   markCases(cases, source, isMinified);
@@ -134,7 +134,7 @@ function built(ast, { begin = '', wants = null, everywhere = null, isMinified = 
   if (hasComments) markComments(commented, source);
   source.put(begin);
   write(source, program);
-  const comments = hasComments ? commentsOf(commented, source, { wants, hung }) : null;
+  const comments = hasComments ? commentsOf(commented, source, { wants, hung, hasCrLf }) : null;
   return { source, comments, levels };
 }
 

@@ -7,6 +7,7 @@ const TARGETS = ['es3', 'es5', 'es2015', 'es2016', 'es2017', 'es2018', 'es2019',
 // What is asked of each option's value, in words where it isn't met.
 const is = (type) => [(value) => typeof value === type, type === 'object' ? 'an object' : `a ${type}`];
 const boolean = is('boolean'), string = is('string');
+const isIndentation = (value) => (typeof value === 'string' ? /^(?: {0,10}|\t{0,10})$/.test(value) : Number.isInteger(value) && value >= 0 && value <= 10);
 const OPTIONS = {
   minify: boolean,
   minified: boolean,
@@ -23,6 +24,8 @@ const OPTIONS = {
   asciiOnly: boolean,
   maxLine: [(value) => Number.isInteger(value) && value > 0 && value < 2 ** 32, 'a number of columns'],
   omitLastSemi: boolean,
+  indent: [isIndentation, 'a number of blanks from 0 to 10, or a text of as many blanks or tabs'],
+  endOfLine: [(value) => value === 'lf' || value === 'crlf', "'lf' or 'crlf'"],
   inlineScript: boolean,
   importAssertions: boolean,
   parenthesize: boolean,
@@ -66,7 +69,7 @@ function wanted({ comments = true, shouldPrintComment }) {
   return typeof comments === 'function' ? comments : comments ? () => true : null;
 }
 
-const SETTINGS = { asciiOnly: 'ascii_only', omitLastSemi: 'omit_last_semi', inlineScript: 'inline_script', target: 'target', maxLine: 'max_line' };
+const SETTINGS = { asciiOnly: 'ascii_only', omitLastSemi: 'omit_last_semi', inlineScript: 'inline_script', target: 'target', maxLine: 'max_line', indent: 'indent' };
 
 // Whether the text is to be as short as it can be.
 function isMinifying({ minify, minified, compact }, code) {
@@ -78,6 +81,7 @@ function configOf(options, { asserts, isMinified }) {
   const { importAssertions } = options, config = {};
   if (isMinified) config.minify = true;
   for (const name in SETTINGS) if (options[name] !== undefined && options[name] !== null) config[SETTINGS[name]] = options[name];
+  if (options.endOfLine === 'crlf') config.new_line = '\r\n';
   if (importAssertions || (asserts && importAssertions !== false)) config.emit_assert_for_import_attributes = true;
   return config;
 }

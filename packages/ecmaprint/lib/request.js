@@ -19,6 +19,9 @@ const NO_WORDS = {
   'too deep': 'parentheses are missing, and the AST nests too deep for the program to put them in',
 };
 
+// A text without the line end behind its last line.
+const withoutLineEnd = (text) => (text.endsWith('\n') ? text.slice(0, text.endsWith('\r\n') ? -2 : -1) : text);
+
 const STACK = /call stack|nests without an end/;
 
 // An error of an AST that isn't printed, at its node.
@@ -53,7 +56,7 @@ class Call {
     const isMinified = isMinifying(options, code);
     const { source, comments, levels } = built(this.stand.ast, {
       begin: BEGIN, wants: wanted(options), everywhere: options.sourceMaps ? 'places' : null, isMinified, isShort: this.isShort, code,
-      keepsFunctionParentheses: !!options.retainFunctionParens,
+      keepsFunctionParentheses: !!options.retainFunctionParens, hasCrLf: options.endOfLine === 'crlf',
     });
     Object.assign(this, { source, comments, treeEnd: source.size });
     this.asked = { config: configOf(options, { asserts: source.asserts, isMinified }), parenthesize: options.parenthesize !== false, any: options.any === true };
@@ -122,7 +125,7 @@ class Call {
     const { answer, options, code, source } = this;
     source.release();
     if (answer.error) throw this.refused(answer.error);
-    const text = this.stand.textOf(answer.code.endsWith('\n') ? answer.code.slice(0, -1) : answer.code);
+    const text = this.stand.textOf(withoutLineEnd(answer.code));
     const map = options.sourceMaps ? mapOf({ code: text, positions: this.stand.positionsOf(answer.positions) }, source, options, code) : null;
     const found = map && map.toJSON(), whole = found && options.inputSourceMap ? composed(found, options.inputSourceMap, options.sourceFileName) : found;
     return {

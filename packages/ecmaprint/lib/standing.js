@@ -13,7 +13,7 @@ const assigned = (left, right) => ({ type: 'ExpressionStatement', expression: { 
 const shifted = (columns) => (positions) => positions
   .map(([position, line, column]) => [position, line, line === 0 ? column - columns : column]).filter(([, line, column]) => line > 0 || column >= 0);
 
-const COMMENTS = /^(?:\/\*[^]*?\*\/\s*|\/\/.*\n\s*)*/;
+const COMMENTS = /^(?:\/\*[^]*?\*\/\s*|\/\/.*\r?\n\s*)*/;
 
 // A node in a statement, of whose text the beginning (behind comments that went there) and the end match these.
 function within(statement, before, after) {

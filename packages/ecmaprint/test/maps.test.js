@@ -36,8 +36,8 @@ test('names of real files are at their places, pretty and minified', () => {
 
 test('names beyond ASCII, CR LF, tabs, U+2028 in strings', () => {
   const code = 'let é = 1;\r\n\tlet 𝒳𝒴 = é, y = "\u2028";\r\n\t/* ü */ f(y, é, 𝒳𝒴);\r\n`\u2028${y}`; é;', ast = babel(code);
-  for (const minify of [false, true]) {
-    const { code: text, map } = printSync(ast, { minify, sourceMaps: true, sourceFileName: 'a.js' }, code), { found, named } = wrong(map, text);
+  for (const options of [{}, { minify: true }, { indent: '\t', endOfLine: 'crlf' }]) {
+    const { code: text, map } = printSync(ast, { ...options, sourceMaps: true, sourceFileName: 'a.js' }, code), { found, named } = wrong(map, text);
     assert.deepStrictEqual(found, [], text);
     assert.ok(named >= 8, String(named));
   }

@@ -60,6 +60,17 @@ test('settings of the text', () => {
   assert.match(text(babel('a = "\u{1F600}"'), { target: 'es5', asciiOnly: true }), /\\uD83D\\uDE00/i);
 });
 
+test('indent and endOfLine', () => {
+  const code = 'class A {\n  // a\n  b() { /* c\n d */ e(`f\n${g}`); }\n}', ast = babel(code);
+  const lines = (unit, end) => ['class A {', `${unit}// a`, `${unit}b() {`, `${unit}${unit}/* c`, ` d */ e(\`f\n\${g}\`);`, `${unit}}`, '}'].join(end);
+  assert.strictEqual(text(ast), lines('    ', '\n'));
+  for (const [indent, unit] of [[0, ''], [2, '  '], ['\t', '\t'], ['   ', '   ']]) assert.strictEqual(text(ast, { indent }), lines(unit, '\n'));
+  assert.strictEqual(text(ast, { indent: '\t', endOfLine: 'crlf' }), lines('\t', '\r\n'));
+  assert.strictEqual(text(babel('// a\n({ b: 1 })').program.body[0].expression, { endOfLine: 'crlf' }), '{\r\n    b: 1\r\n}');
+  for (const indent of [11, -1, 1.5, ' \t', 'x', true]) assert.throws(() => printSync(ast, { indent }), { kind: 'bad option', reason: /`indent` is a number of blanks/ });
+  assert.throws(() => printSync(ast, { endOfLine: '\r' }), { kind: 'bad option' });
+});
+
 test('attributes of imports have the word that the AST has, or the one that is asked for', () => {
   const ast = babel('import a from "a" assert { type: "json" };', ['importAssertions']);
   assert.match(text(ast), / assert \{/);
