@@ -63,22 +63,80 @@ class Comments {
   }
 }
 
+// Where a comment behind a node is, in another type of node, before a token before which no line may end.
+const BOUND_BEHIND = {
+  UpdateExpression: ({ prefix }) => !prefix,
+  ArrowFunctionExpression: (_, key) => key === 'returnType',
+  TSNonNullExpression: () => true,
+  TSAsExpression: (_, key) => key === 'expression',
+  TSSatisfiesExpression: (_, key) => key === 'expression',
+  TSArrayType: () => true,
+  TSIndexedAccessType: (_, key) => key === 'objectType',
+  TSConditionalType: (_, key) => key === 'checkType',
+  TSTypeQuery: ({ typeParameters }, key) => key === 'exprName' && !!typeParameters,
+  TSTypeReference: ({ typeParameters }, key) => key === 'typeName' && !!typeParameters,
+};
+
+const GIVE_BACK = new Set(['ReturnStatement', 'ThrowStatement', 'YieldExpression']);
+// Types in whose first part the program sees no comment when it gives parentheses to what `return` gives back.
+const UNSEEN = new Set([
+  'UpdateExpression', 'TaggedTemplateExpression', 'TSAsExpression', 'TSSatisfiesExpression', 'TSNonNullExpression', 'TSInstantiationExpression',
+]);
 const METHODS = ['ObjectMethod', 'ClassMethod', 'ClassPrivateMethod', 'TSDeclareMethod'];
 
 // Whether a comment that ends a line may not stand before or behind a node in another: another program would be read, or none.
 function isBound(node, parent, isBehind) {
   const { type } = parent, key = keyIn(parent, node);
   if (type === 'BreakStatement' || type === 'ContinueStatement' || type === 'TSTypePredicate') return true;
-  if (type === 'UpdateExpression') return isBehind && !parent.prefix;
-  if (type === 'TSNonNullExpression') return isBehind;
-  if (type === 'TSAsExpression' || type === 'TSSatisfiesExpression') return isBehind && key === 'expression';
-  if (type === 'ArrowFunctionExpression') return key === 'params' && parent.params.length === 1 && node.type === 'Identifier';
-  if (isBehind) return false;
+  if (type === 'ArrowFunctionExpression' && key === 'params') return parent.params.length === 1 && node.type === 'Identifier';
+  if (isBehind) return BOUND_BEHIND[type] !== undefined && BOUND_BEHIND[type](parent, key);
+  if (type === 'ArrowFunctionExpression') return key === 'typeParameters' && !!parent.async;
+  if (type === 'TSParameterProperty') return key === 'parameter';
+  if (type === 'TSTypeQuery' || type === 'TSTypeReference') return key === 'typeParameters';
   if (type === 'TSTypeAliasDeclaration' || type === 'TSInterfaceDeclaration' || type === 'TSModuleDeclaration' || type === 'VariableDeclarator') return key === 'id';
   if (METHODS.includes(type)) {
     return key === 'key' && (parent.async || parent.kind === 'get' || parent.kind === 'set' || !!parent.accessibility || !!parent.abstract || !!parent.override);
   }
   return key === 'key' && /^Class(?:Private|Accessor)?Property$|^TS(?:Method|Property)Signature$/.test(type);
+}
+
+// Types whose text begins with that of their first part.
+const BEGIN_WITH_PART = new Set([
+  'MemberExpression', 'OptionalMemberExpression', 'CallExpression', 'OptionalCallExpression', 'TaggedTemplateExpression', 'BinaryExpression',
+  'LogicalExpression', 'AssignmentExpression', 'ConditionalExpression', 'SequenceExpression', 'UpdateExpression', 'TSAsExpression',
+  'TSSatisfiesExpression', 'TSNonNullExpression', 'TSInstantiationExpression', 'TSQualifiedName', 'TSTypeReference', 'TSArrayType',
+  'TSIndexedAccessType', 'TSUnionType', 'TSIntersectionType', 'TSConditionalType', 'AssignmentPattern',
+]);
+
+// Types whose text ends with that of their last part.
+const END_WITH_PART = new Set([
+  'MemberExpression', 'OptionalMemberExpression', 'BinaryExpression', 'LogicalExpression', 'AssignmentExpression', 'ConditionalExpression',
+  'SequenceExpression', 'UnaryExpression', 'UpdateExpression', 'AwaitExpression', 'YieldExpression', 'ArrowFunctionExpression', 'TSAsExpression',
+  'TSSatisfiesExpression', 'TSTypeAssertion', 'TSQualifiedName', 'TSTypeReference', 'TSTypeAnnotation', 'TSTypeOperator', 'TSTypeQuery',
+  'TSUnionType', 'TSIntersectionType', 'TSFunctionType', 'TSConstructorType', 'TSConditionalType', 'TSInferType', 'TSTypeParameter',
+  'TSTypePredicate', 'AssignmentPattern', 'PrivateName',
+]);
+
+// Whether a node's text begins that of the one that holds it, or with `isBehind` ends it.
+function isAtEdge(node, parent, isBehind) {
+  const parts = partsOf(parent);
+  if (isBehind) return END_WITH_PART.has(parent.type) && parts[parts.length - 1] === node;
+  return BEGIN_WITH_PART.has(parent.type) && parts[0] === node && !parent.prefix;
+}
+
+// Whether a comment that ends a line may not stand before or behind the last of some nodes, each in the one before it. What holds for a node
+// holds for the first or the last part in it too.
+function mayNotEndLine(round, statement, isBehind) {
+  let isUnseen = false;
+  for (let at = round.length - 1; at > statement; at--) {
+    const node = round[at], parent = round[at - 1];
+    if (isBound(node, parent, isBehind)) return true;
+    // (the program puts parentheses round what else `return` gives back)
+    if (!isBehind && isUnseen && GIVE_BACK.has(parent.type)) return true;
+    if (!isAtEdge(node, parent, isBehind)) return false;
+    isUnseen = isUnseen || UNSEEN.has(parent.type);
+  }
+  return false;
 }
 
 // The part of a node at which the program asks for the comments before it, or behind it, where that isn't the node itself.
@@ -91,7 +149,8 @@ const TAILS = {
   SwitchCase: ({ consequent }) => consequent[consequent.length - 1],
 };
 
-const STATEMENTS = new Set([...TYPES.keys()].filter((type) => type !== 'BlockStatement' && /Statement$|Declaration$|^Class(?:Private|Accessor)?(?:Method|Property)$/.test(type)));
+const STATEMENTS = new Set([...TYPES.keys()].filter((type) => (
+  !/^BlockStatement$|TypeParameterDeclaration$/.test(type) && /Statement$|Declaration$|^Class(?:Private|Accessor)?(?:Method|Property)$/.test(type))));
 
 const partIn = (table, node) => (table[node.type] === undefined ? null : table[node.type](node));
 
@@ -183,7 +242,7 @@ function putThose(entry, placed, leads) {
   const { node, round, statement, comments } = entry, { source } = placed, { before, behind } = endsOf(entry, source);
   const outside = source.spanOf(round[statement]).lo, isOwn = round[statement] === node;
   const put = (side, at, comment, isBehind) => {
-    const mayNot = at === null || (!isOwn && endsLine(comment) && isBound(node, round[round.length - 2], isBehind));
+    const mayNot = at === null || (!isOwn && endsLine(comment) && mayNotEndLine(round, statement, isBehind));
     placed.put(mayNot ? 'leading' : side, mayNot ? outside : at, comment, entry);
   };
   for (const each of comments.leadingComments || []) put('leading', before ? before.lo : null, each, false);

@@ -31,11 +31,17 @@ test('comments of lists alone, with and without lines', () => {
 });
 
 test('a comment that ends a line stands where one may end', () => {
-  const cases = [
-    ['x++', 'argument'], ['async a => b', 'params.0'], ['for (;;) { break }', null], ['a as b', 'expression'], ['a!', 'expression'], ['type A = B', 'id'],
-    ['interface A {}', 'id'], ['namespace A {}', 'id'], ['class A { async m() {} get n() {} set o(p) {} static q = 1; r }', null], ['x = { async m() {}, get n() {} }', null],
-    ['a: for (;;) { break a; continue a }', null], ['function f() { return a; throw b }', null], ['function* f() { yield a; yield* b }', null], ['let a = 1', null],
-    ['f(a => b, (c) => d)', null], ['a ? b : c', null], ['if (a) b; else c', null], ['new A(b)', null], ['a?.b?.[c]', null], ['`a${b}c`', null], ['import("a")', null],
+  const codes = [
+    'x++', 'x.y++', 'x[y]--', '++x', 'async a => b', 'async <T>(a) => b', 'f = (a): b.c => d', 'f(a => b, (c) => d)', 'for (;;) { break }', 'a: for (;;) { break a; continue a }',
+    'a as b', 'a.b as c', 'a + b.c as d as e', 'a satisfies b', 'a!', 'a.b!.c', 'f(a)!', 'type A = B', 'type A = B.C[][D]', 'type A = B.C extends D ? E : F', 'type A = keyof B[]',
+    'let a: typeof b.c<d>', 'let a: A.B<C>', 'let a: import("b").C<D>', 'class A implements B.C<D> {}', 'interface A extends B.C<D> {}',
+    'interface A {}', 'namespace A {}', 'namespace A.B {}', 'interface A { readonly b: C; get d(): E; f(): G; new <H>(): I; [j: K]: L }',
+    'class A { async m() {} get n() {} set o(p) {} static q = 1; r; declare readonly s; private static t?: U = 1; async *#v() {} [w] = 1; static { x } }',
+    'class A { constructor(private readonly a, protected b = 1, c?) {} }', 'abstract class A { abstract b(): void; abstract c }', 'x = { async m() {}, get n() {}, async *[o]() {} }',
+    'function f(a): asserts a is b.c {}', 'function f(a): a is b | c {}', 'let a = 1', 'let { a, b: [c] } = d', 'let a!: B', 'export default async (a) => b',
+    ...['a', 'a++', 'a.b', 'a.b++', 'a => b', 'async a => b', 'a as b', 'a satisfies b', 'a!', 'a(b)', 'a`b`', 'a?.b', 'a?.[b]', 'a?.(b)', 'a<b>', 'a + b++', 'a ? b : c', 'a = b', 'a, b', 'new a', '!a', 'function () {}', 'class {}', '[a]'].flatMap(
+      (each) => [`function f() { return ${each} }`, `function* f() { yield ${each} }`, `throw ${each}`]),
+    'function* f() { yield* b }', 'async () => { for await (a of b) await c }', 'if (a) b; else c', 'new A(b)', 'a?.b?.[c]', '`a${b}c`', 'import("a")', 'export { a as b } from "c"', 'import d, { e as f } from "g"',
   ];
   const all = (value, found = []) => {
     if (Array.isArray(value)) value.forEach((each) => all(each, found));
@@ -45,7 +51,7 @@ test('a comment that ends a line stands where one may end', () => {
     }
     return found;
   };
-  for (const [code] of cases) {
+  for (const code of codes) {
     const count = all(typescript(code).program).length;
     for (let at = 1; at < count; at++) {
       for (const side of ['leadingComments', 'trailingComments', 'innerComments']) {
