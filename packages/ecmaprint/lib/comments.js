@@ -94,6 +94,7 @@ function isBound(node, parent, isBehind) {
   if (type === 'TSParameterProperty') return key === 'parameter';
   if (type === 'TSTypeQuery' || type === 'TSTypeReference') return key === 'typeParameters';
   if (type === 'TSTypeAliasDeclaration' || type === 'TSInterfaceDeclaration' || type === 'TSModuleDeclaration' || type === 'VariableDeclarator') return key === 'id';
+  if (type === 'VariableDeclaration') return parent.declarations[0] === node && parent.kind.endsWith('using');
   if (METHODS.includes(type)) {
     return key === 'key' && (parent.async || parent.kind === 'get' || parent.kind === 'set' || !!parent.accessibility || !!parent.abstract || !!parent.override);
   }

@@ -2,6 +2,7 @@
 // Comments: none is lost, and none makes another program.
 const assert = require('node:assert');
 const { test, after } = require('node:test');
+const { parse } = require('@babel/parser');
 const t = require('@babel/types');
 const { REAL, babel, typescript, estree, read, difference } = require('./support.js');
 const { printSync, end } = require('..');
@@ -66,6 +67,12 @@ test('a comment that ends a line stands where one may end', () => {
       }
     }
   }
+});
+
+test('a comment that ends a line stands before `using`', () => {
+  const ast = parse('{ using a = b }', { plugins: ['explicitResourceManagement'] });
+  ast.program.body[0].body[0].declarations[0].leadingComments = [{ type: 'CommentLine', value: ' c' }];
+  assert.strictEqual(printSync(ast).code, '{\n    // c\n    using a = b;\n}');
 });
 
 test('comments that were taken off, and those of recast', () => {
